@@ -1,0 +1,7 @@
+pub mod Rules
+pub mod Marks
+pub mod Faults
+pub mod Words
+pub mod Texts
+pub mod Answers
+pub mod Ends

@@ -1,0 +1,55 @@
+-- What the instructions of a block do to a value.
+use Rattle.std.specs.Prelude.{ℕ, ◌<◌, ◌==◌, Bool, true, false, if◌then◌else◌, List, [], ◌∷◌, ◌++◌, map, count_by, filter, replicate, Contains}
+use Rattle.std.specs.List.{flat_map}
+use Rattle.sil_ast.specs.declared.function.Block.{Block}
+use Rattle.sil_ast.specs.declared.inst.Inst.{Inst}
+use Rattle.sil_ast.specs.declared.op.Op.{Op}
+use Rattle.sil_ast.specs.declared.op.Op.TheVariants as op
+use Rattle.mark_patterns.specs.declared.pattern.MarkSort.{MarkSort}
+use Rattle.mark_patterns.specs.declared.pattern.MarkSort.TheVariants.{End, Use, Begin}
+
+-- the instructions of a block, with its terminator last: its points, in order
+abbrev pub points_of : Block → List Inst
+points_of b = b.insts ++ b.terminator ∷ []
+
+-- whether an instruction consumes its operands
+abbrev pub consumes : Op → Bool
+consumes op.DestroyValue = true
+consumes op.Return = true
+consumes _ = false
+
+-- whether an instruction's result is an owned value
+abbrev pub makes_owned : Op → Bool
+makes_owned op.AllocRef = true
+makes_owned op.CopyValue = true
+makes_owned _ = false
+
+abbrev pub is_return : Op → Bool
+is_return op.Return = true
+is_return _ = false
+
+abbrev pub returns_at : Inst → Bool
+returns_at i = is_return i.op
+
+-- how many operands of an instruction are the value, and how many of its results
+abbrev pub operands_that_are : ℕ → Inst → ℕ
+operands_that_are s i = count_by (λ o. o.value.0 == s) i.operands
+
+abbrev pub results_that_are : ℕ → Inst → ℕ
+results_that_are s i = count_by (λ v. v.0 == s) i.results
+
+-- the sort of mark that an operand is
+abbrev pub operand_mark : Inst → MarkSort
+operand_mark i = if consumes i.op then End else Use
+
+-- ends come before uses, and uses before a begin
+abbrev pub marks_of : ℕ → Inst → List MarkSort
+marks_of s i = replicate (operands_that_are s i) (operand_mark i) ++ replicate (results_that_are s i) Begin
+
+-- the owned values that an instruction makes
+abbrev pub owned_by : Inst → List ℕ
+owned_by i = if makes_owned i.op then map (λ v. v.0) i.results else []
+
+-- an instruction of the block makes the value, as an owned one
+abbrev pub IsOwned : Block → ℕ → Type 0
+IsOwned b s = Contains (flat_map owned_by b.insts) s
