@@ -1,2 +1,5 @@
+pub mod Meaning
 pub mod Names
+pub mod Replay
 pub mod Resolved
+pub mod SimpleParts

@@ -1,0 +1,63 @@
+//! A list that is built from its end to its front, as the second pass of the reader meets the parts of a text.
+
+ghost use Rattle.std.specs.Prelude.{◌≡◌, [], ◌∷◌, ◌<◌, length, OnOk};
+
+use sil_ast::{Exhausted, List};
+use std::alloc::Global;
+use std::marker::Model;
+
+/// A list that grows at its front. To a contract it is the list of its elements, front first.
+#[derive(Drop)]
+pub(crate) struct Prepended<T> {
+    /// The last element comes first.
+    backwards: Vec<T>,
+}
+
+impl<T> Model for Prepended<T> {
+    ghost use Rattle.std.specs.Prelude.{List, reverse};
+    ghost use Rattle.std.specs.Coded.{coded_list};
+
+    ghost Value = { List T };
+
+    ghost coded = { coded_list T.code };
+
+    ghost view = { λ list. reverse list.backwards.items };
+}
+
+impl<T> Prepended<T> {
+    /// The empty list, which takes no memory.
+    pub(crate) fn new(alloc: Global) -> Prepended<T>
+        ensures { result ≡ [] }
+    {
+        Prepended {
+            backwards: Vec::new(alloc),
+        }
+    }
+
+    /// Takes the first element away.
+    pub(crate) fn pop_front(&mut self) -> T
+        requires { 0 < length self.old }
+        ensures { self.old ≡ result ∷ self.new }
+    {
+        self.backwards.pop().unwrap()
+    }
+
+    /// The elements in order, in the same memory.
+    pub(crate) fn into_list(self) -> List<T>
+        ensures { result ≡ self }
+    {
+        let Prepended { mut backwards } = self;
+        backwards.reverse();
+        List::from_vec(backwards)
+    }
+}
+
+impl<T: Drop> Prepended<T> {
+    /// Puts `item` before the others.
+    pub(crate) fn push_front(&mut self, item: T) -> Result<(), Exhausted>
+        ensures { OnOk result (self.new ≡ item ∷ self.old) }
+    {
+        self.backwards.push(item)?;
+        Ok(())
+    }
+}
