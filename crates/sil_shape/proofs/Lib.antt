@@ -6,3 +6,4 @@ pub mod Computed
 pub mod Ahead
 pub mod TurnLemmas
 pub mod Reached
+pub mod NameLemmas

@@ -5,3 +5,5 @@ pub mod Values
 pub mod Refusal
 pub mod Choice
 pub mod Turns
+pub mod Spelling
+pub mod BuiltinNames
