@@ -12,3 +12,5 @@ pub mod machine;
 pub mod spelling;
 mod starts;
 pub mod steps;
+#[cfg(test)]
+mod tests;
