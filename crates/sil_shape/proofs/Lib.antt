@@ -7,3 +7,4 @@ pub mod Ahead
 pub mod TurnLemmas
 pub mod Reached
 pub mod NameLemmas
+pub mod GoesOnLemmas

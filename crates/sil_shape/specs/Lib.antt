@@ -7,3 +7,4 @@ pub mod Choice
 pub mod Turns
 pub mod Spelling
 pub mod BuiltinNames
+pub mod Unsupported

@@ -14,3 +14,4 @@ mod starts;
 pub mod steps;
 #[cfg(test)]
 mod tests;
+pub mod unsupported;
