@@ -21,7 +21,7 @@ use Rattle.sil_shape.specs.Accepts.{keyword_number, at_number, mark_number, clas
 unfoldable pub all_looks : List (Option Class)
 all_looks = None ∷ Some (c.Word k.Other) ∷ Some (c.Word k.SilStage) ∷ Some (c.Word k.Raw) ∷ Some (c.Word k.Canonical) ∷ Some (c.Word k.Import) ∷ Some (c.Word k.Final) ∷ Some (c.Word k.Class) ∷ Some (c.Word k.Struct) ∷ Some (c.Word k.Enum) ∷ Some (c.Word k.Sil) ∷ Some (c.Word k.SilVtable) ∷ Some (c.Word k.Deinit) ∷ Some (c.Word k.Init) ∷ Some (c.Word k.Weak) ∷ Some (c.Word k.Unowned) ∷ Some (c.Word k.Var) ∷ Some (c.Word k.Let) ∷ Some (c.Word k.Get) ∷ Some (c.Word k.Set) ∷ Some (c.Word k.Case) ∷ Some (c.Word k.Builtin) ∷ Some (c.Word k.Optional) ∷ Some (c.Word k.Int1) ∷ Some (c.Word k.Int8) ∷ Some (c.Word k.Int16) ∷ Some (c.Word k.Int32) ∷ Some (c.Word k.Int64) ∷ Some (c.Word k.Hidden) ∷ Some (c.Word k.Private) ∷ Some (c.Word k.Shared) ∷ Some (c.Word k.Public) ∷ Some (c.Word k.Thin) ∷ Some (c.Word k.Method) ∷ Some (c.Word k.IntegerLiteral) ∷ Some (c.Word k.FunctionRef) ∷ Some (c.Word k.BuiltinMnemonic) ∷ Some (c.Word k.CondFail) ∷ Some (c.Word k.AllocRef) ∷ Some (c.Word k.AllocStack) ∷ Some (c.Word k.DeallocStack) ∷ Some (c.Word k.CopyValue) ∷ Some (c.Word k.DestroyValue) ∷ Some (c.Word k.MoveValue) ∷ Some (c.Word k.BeginBorrow) ∷ Some (c.Word k.EndBorrow) ∷ Some (c.Word k.Load) ∷ Some (c.Word k.Store) ∷ Some (c.Word k.To) ∷ Some (c.Word k.LoadBorrow) ∷ Some (c.Word k.DestroyAddr) ∷ Some (c.Word k.LoadWeak) ∷ Some (c.Word k.StoreWeak) ∷ Some (c.Word k.LoadUnowned) ∷ Some (c.Word k.StoreUnowned) ∷ Some (c.Word k.Tuple) ∷ Some (c.Word k.StructExtract) ∷ Some (c.Word k.TupleExtract) ∷ Some (c.Word k.DestructureStruct) ∷ Some (c.Word k.DestructureTuple) ∷ Some (c.Word k.StructElementAddr) ∷ Some (c.Word k.TupleElementAddr) ∷ Some (c.Word k.RefElementAddr) ∷ Some (c.Word k.Apply) ∷ Some (c.Word k.DebugValue) ∷ Some (c.Word k.StrongRetain) ∷ Some (c.Word k.StrongRelease) ∷ Some (c.Word k.RetainValue) ∷ Some (c.Word k.ReleaseValue) ∷ Some (c.Word k.Br) ∷ Some (c.Word k.CondBr) ∷ Some (c.Word k.SwitchEnum) ∷ Some (c.Word k.Return) ∷ Some (c.Word k.Unreachable) ∷ Some (c.Word k.Default) ∷ Some (c.Word k.Enumelt) ∷ Some (c.Word k.Lexical) ∷ Some (c.Word k.VarDecl) ∷ Some (c.Word k.Copy) ∷ Some (c.Word k.Take) ∷ Some (c.Word k.Trivial) ∷ Some (c.Word k.Assign) ∷ Some (c.Word k.Initialization) ∷ Some (c.Word k.Name) ∷ Some (c.Word k.Argno) ∷ Some (c.Word k.Expr) ∷ Some (c.Word k.OpDeref) ∷ Some (c.Word k.Destroyer) ∷ Some (c.At a.Other) ∷ Some (c.At a.HasStorage) ∷ Some (c.At a.SilWeak) ∷ Some (c.At a.SilUnowned) ∷ Some (c.At a.Convention) ∷ Some (c.At a.Owned) ∷ Some (c.At a.Guaranteed) ∷ Some (c.At a.Inout) ∷ Some (c.Mark m.LeftBrace) ∷ Some (c.Mark m.RightBrace) ∷ Some (c.Mark m.LeftParen) ∷ Some (c.Mark m.RightParen) ∷ Some (c.Mark m.LeftBracket) ∷ Some (c.Mark m.RightBracket) ∷ Some (c.Mark m.Less) ∷ Some (c.Mark m.Greater) ∷ Some (c.Mark m.Comma) ∷ Some (c.Mark m.Colon) ∷ Some (c.Mark m.Dot) ∷ Some (c.Mark m.Question) ∷ Some (c.Mark m.Star) ∷ Some (c.Mark m.Equals) ∷ Some (c.Mark m.Bang) ∷ Some (c.Mark m.Dollar) ∷ Some (c.Mark m.Hash) ∷ Some (c.Mark m.Arrow) ∷ Some c.Percent ∷ Some c.Number ∷ Some c.BuiltinText ∷ Some c.OtherText ∷ []
 
-pub each_look : (Option Class → Bool) → Bool
+unfoldable pub each_look : (Option Class → Bool) → Bool
 each_look f = list_all f all_looks
 
 unfoldable pub production_number : Production → ℕ

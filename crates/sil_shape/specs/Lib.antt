@@ -5,3 +5,6 @@ pub mod Values
 pub mod Refusal
 pub mod Choice
 pub mod Turns
+pub mod Spelling
+pub mod BuiltinNames
+pub mod Unsupported

@@ -4,7 +4,7 @@
 use crate::classes::Class;
 
 /// What one token is asked to be.
-#[derive(Clone, Copy, Debug, PartialEq, Eq)]
+#[derive(Clone, Copy)]
 pub enum Terminal {
     AnyWord,
     /// any word but `Builtin` and `Optional`
@@ -15,7 +15,7 @@ pub enum Terminal {
 }
 
 /// A part of a text that the grammar names.
-#[derive(Clone, Copy, Debug, PartialEq, Eq)]
+#[derive(Clone, Copy)]
 pub enum Nonterminal {
     Module,
     Stage,
@@ -101,14 +101,14 @@ pub enum Nonterminal {
 }
 
 /// One place in what a production writes: a token, or a part.
-#[derive(Clone, Copy, Debug, PartialEq, Eq)]
+#[derive(Clone, Copy)]
 pub enum Symbol {
     Read(Terminal),
     Part(Nonterminal),
 }
 
 /// One way to write a part.
-#[derive(Clone, Copy, Debug, PartialEq, Eq)]
+#[derive(Clone, Copy)]
 pub enum Production {
     // modules and their parts
     WholeModule,

@@ -4,9 +4,14 @@
 
 pub mod alternatives;
 pub mod bodies;
+pub mod builtin_names;
 mod choice;
 pub mod classes;
 pub mod grammar;
 pub mod machine;
+pub mod spelling;
 mod starts;
 pub mod steps;
+#[cfg(test)]
+mod tests;
+pub mod unsupported;
