@@ -1,0 +1,78 @@
+-- The steps of a derivation are replayed from the last to the first: there is a token at each step that takes one,
+-- and there are the values of its body at each production.
+use Rattle.std.proofs.Common.{◌≡◌, ℕ, suc, ◌+◌, ◌-◌, ◌<◌, ◌≤◌, List, [], ◌∷◌, length, take, drop, get_or, refl, ap, sym, subst, ◌∙◌, arith, add-one}
+use Rattle.std.proofs.Math.ListN.{get_or-map}
+use Rattle.std.proofs.lemmas.List.{drop_more, drop-drop, length-drop, length-map}
+use Rattle.sil_lexer.specs.declared.token.Token.{Token}
+use Rattle.sil_lexer.specs.declared.token.TokenKind.TheVariants.{Word}
+use Rattle.sil_lexer.specs.Lexes.{Lexeme}
+use Rattle.sil_lexer.specs.Lexing.{Lexing, lexeme_of, lexemes_of}
+use Rattle.sil_shape.specs.declared.grammar.Production.{Production}
+use Rattle.sil_shape.specs.declared.steps.Step.{Step}
+use Rattle.sil_shape.specs.declared.steps.Step.TheVariants.{Take, Expand}
+use Rattle.sil_shape.specs.Grammar.{body}
+use Rattle.sil_shape.specs.Values.{takes_of, values_left, IsEnough}
+use Rattle.sil_shape.proofs.ValuesLemmas.{takes_of-split, IsEnough-drop}
+use Rattle.sil_grammar.specs.declared.value.Value.{Value}
+use Rattle.sil_grammar.specs.Replay.{reduced, replay, leaf, IsLeafAt}
+
+pub drop_next : {X : Type 0} (i : ℕ) (xs : List X) {all rest : List X} {x : X} → all ≡ drop i xs → all ≡ x ∷ rest → rest ≡ drop (i + 1) xs
+drop_next i xs {rest = rest} {x = x} e f =
+    let g : drop 1 (drop i xs) ≡ rest = ap (drop 1) (sym e ∙ f) in
+    sym g ∙ drop-drop 1 i xs
+
+length-reduced : (p : Production) (values : List Value) → length (reduced p values) ≡ length values - length (body p) + 1
+unfolding reduced
+length-reduced p values = omega (arith, length-drop (length (body p)) values)
+
+pub length-replay : (steps : List Step) (lexemes : List Lexeme) → length (replay steps lexemes) ≡ values_left steps
+length-replay [] lexemes = refl
+length-replay (Take ∷ steps) [] = omega (arith, length-replay steps [])
+length-replay (Take ∷ steps) (l ∷ lexemes) = omega (arith, length-replay steps lexemes)
+length-replay (Expand p ∷ steps) lexemes = omega (arith, length-replay steps lexemes, length-reduced p (replay steps lexemes))
+
+-- what stands before the place n, and what is behind it
+pub drop_last : {X : Type 0} (xs : List X) (n : ℕ) (d : X) → 0 < n → n ≤ length xs → drop (n - 1) xs ≡ get_or xs (n - 1) d ∷ drop n xs
+drop_last xs n d above below =
+    let e : n - 1 + 1 ≡ n = omega arith in
+    subst (λ k. drop (n - 1) xs ≡ get_or xs (n - 1) d ∷ drop k xs) e (drop_more xs (n - 1) d (omega arith))
+
+drop_step : (steps : List Step) (n : ℕ) (d step : Step) → 0 < n → n ≤ length steps → get_or steps (n - 1) d ≡ step → drop (n - 1) steps ≡ step ∷ drop n steps
+drop_step steps n d step above below is = drop_last steps n d above below ∙ ap (λ s. s ∷ drop n steps) is
+
+-- where a production is expanded, the values of its body are there
+pub enough_there : (steps : List Step) (lexemes : List Lexeme) (n : ℕ) (d : Step) (p : Production) → IsEnough steps → 0 < n → n ≤ length steps
+    → get_or steps (n - 1) d ≡ Expand p → length (body p) ≤ length (replay (drop n steps) lexemes)
+enough_there steps lexemes n d p enough above below is =
+    let h = subst IsEnough (drop_step steps n d (Expand p) above below is) (IsEnough-drop (n - 1) steps enough) in
+    omega (arith, h.0, length-replay (drop n steps) lexemes)
+
+-- where a token is taken, one more is taken from there on than behind it, and not more than all of them
+pub record TakesOne (steps : List Step) (n : ℕ) : Type 0 where
+  pub one_more : takes_of (drop (n - 1) steps) ≡ takes_of (drop n steps) + 1
+  pub among : takes_of (drop (n - 1) steps) ≤ takes_of steps
+
+pub token_there : (steps : List Step) (n : ℕ) (d : Step) → 0 < n → n ≤ length steps → get_or steps (n - 1) d ≡ Take → TakesOne steps n
+token_there steps n d above below is = record {
+  one_more = ap takes_of (drop_step steps n d Take above below is);
+  among = omega (arith, takes_of-split (n - 1) steps);
+}
+
+some_token : Token
+some_token = record { kind = Word; place = record { offset = 0; line = 0; column = 0 }; length = 0 }
+
+-- the token before a place stands for a value, before the values that are replayed from that place on
+pub replay_taken : (text : List ℕ) (lexing : Lexing) (steps : List Step) (n : ℕ) (d : Step) (token : ℕ) (value : Value) (values : List Value)
+    → 0 < n → n ≤ length steps → get_or steps (n - 1) d ≡ Take → 0 < token → token ≤ length lexing.tokens → IsLeafAt text lexing (token - 1) value
+    → values ≡ replay (drop n steps) (drop token (lexemes_of text lexing))
+    → value ∷ values ≡ replay (drop (n - 1) steps) (drop (token - 1) (lexemes_of text lexing))
+replay_taken text lexing steps n d token value values above below is some few leaf_is are =
+    let f : Token → Lexeme = lexeme_of text in
+    let some_lexeme : Lexeme = f some_token in
+    let lexemes : List Lexeme = lexemes_of text lexing in
+    let few_lexemes : token ≤ length lexemes = simp length-map few in
+    let at : get_or lexemes (token - 1) some_lexeme ≡ f (get_or lexing.tokens (token - 1) some_token) = get_or-map f lexing.tokens (token - 1) some_token in
+    let there : drop (token - 1) lexemes ≡ get_or lexemes (token - 1) some_lexeme ∷ drop token lexemes = drop_last {X = Lexeme} lexemes token some_lexeme some few_lexemes in
+    let here : value ≡ leaf (get_or lexemes (token - 1) some_lexeme) = leaf_is some_token ∙ ap leaf (sym at) in
+    let behind : drop (n - 1) steps ≡ Take ∷ drop n steps = drop_step steps n d Take above below is in
+    rw (behind, there) (cc)
