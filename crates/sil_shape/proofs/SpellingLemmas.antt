@@ -1,5 +1,5 @@
 -- A spelling is read as what it spells, and nothing else is.
-use Rattle.std.proofs.Common.{rules, ◌≡◌, ◌≢◌, ℕ, List, [], ◌∷◌, length, refl, ap, sym, subst, ◌∙◌, Bool, true, false, bytes_eq, inl, inr, ◌⊎◌}
+use Rattle.std.proofs.Common.{rules, ◌≡◌, ℕ, List, [], ◌∷◌, length, refl, ap, sym, ◌∙◌, Bool, true, false, bytes_eq, inl, inr, ◌⊎◌}
 use Rattle.std.specs.Prelude.{Option, Some, None, cond, find, unwrap_or, IfSome}
 use Rattle.std.proofs.lemmas.Slice.Eq.{bytes_eq-Decides}
 use Rattle.sil_shape.specs.declared.classes.Keyword.{Keyword}
