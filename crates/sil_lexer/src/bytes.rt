@@ -39,42 +39,46 @@ pub(crate) fn is_mark(b: u8) -> bool
 pub(crate) fn name_length(bytes: &[u8]) -> usize
     ensures { result ≡ prefix_len is_name_byte bytes.now }
 {
-    let mut n = 0;
-    while n < bytes.len() && is_name_byte(bytes[n]) {
-        n += 1;
+    for (i, b) in bytes.iter().enumerate() {
+        if !is_name_byte(*b) {
+            return i;
+        }
     }
-    n
+    bytes.len()
 }
 
 /// How many digits stand at the front.
 pub(crate) fn digits_length(bytes: &[u8]) -> usize
     ensures { result ≡ prefix_len is_ascii_digit bytes.now }
 {
-    let mut n = 0;
-    while n < bytes.len() && bytes[n].is_ascii_digit() {
-        n += 1;
+    for (i, b) in bytes.iter().enumerate() {
+        if !b.is_ascii_digit() {
+            return i;
+        }
     }
-    n
+    bytes.len()
 }
 
 /// How many bytes of a text between quotes stand at the front.
 pub(crate) fn text_length(bytes: &[u8]) -> usize
     ensures { result ≡ prefix_len is_text_byte bytes.now }
 {
-    let mut n = 0;
-    while n < bytes.len() && is_text_byte(bytes[n]) {
-        n += 1;
+    for (i, b) in bytes.iter().enumerate() {
+        if !is_text_byte(*b) {
+            return i;
+        }
     }
-    n
+    bytes.len()
 }
 
 /// How many bytes stand before the first line feed.
 pub(crate) fn line_length(bytes: &[u8]) -> usize
     ensures { result ≡ prefix_len is_in_line bytes.now }
 {
-    let mut n = 0;
-    while n < bytes.len() && bytes[n] != b'\n' {
-        n += 1;
+    for (i, b) in bytes.iter().enumerate() {
+        if *b == b'\n' {
+            return i;
+        }
     }
-    n
+    bytes.len()
 }
