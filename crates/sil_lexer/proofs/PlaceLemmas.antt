@@ -40,3 +40,11 @@ place_of-line text o (suc n) inside no_feeds =
     let before = place_of-line text o n (omega arith) (λ k below. no_feeds k (omega arith)) in
     let column : (place_of text o).column + n + 1 ≡ (place_of text o).column + suc n = omega arith in
     ap (place_of text) more ∙ last ∙ ap (λ p. ahead_of p 1) before ∙ (λ i. record { offset = sym more i; line = (place_of text o).line; column = column i })
+
+-- a place stays exact along bytes of one line
+pub place_ahead : (text : List ℕ) (at : Place) (n : ℕ) → IsPlaceIn text at → at.offset + n ≤ length text
+    → ((k : ℕ) → k < n → is_line_feed (get_or (drop at.offset text) k 0) ≡ false) → IsPlaceIn text (ahead_of at n)
+place_ahead text at n placed inside no_feeds = record {
+  inside = inside;
+  exact = ap (λ p. ahead_of p n) placed.exact ∙ sym (place_of-line text at.offset n inside (λ k below. sym (ap is_line_feed (get_or-drop at.offset text k 0)) ∙ no_feeds k below));
+}

@@ -1,6 +1,6 @@
 //! Which bytes stand where in a token, and how many of a kind stand at the front.
 
-ghost use Rattle.std.specs.Prelude.{◌≡◌};
+ghost use Rattle.std.specs.Prelude.{◌≡◌, ◌≤◌, length};
 ghost use Rattle.std.specs.List.{prefix_len};
 ghost use Rattle.std.specs.Char.{is_ascii_digit};
 ghost use Rattle.sil_lexer.specs.Bytes.{is_blank, is_in_line, is_mark, is_name_byte, is_text_byte, is_word_start};
@@ -37,7 +37,8 @@ pub(crate) fn is_mark(b: u8) -> bool
 
 /// How many bytes of a name stand at the front.
 pub(crate) fn name_length(bytes: &[u8]) -> usize
-    ensures { result ≡ prefix_len is_name_byte bytes.now }
+    ensures value { result ≡ prefix_len is_name_byte bytes.now }
+    ensures within { result ≤ length bytes.now }
 {
     for (i, b) in bytes.iter().enumerate() {
         if !is_name_byte(*b) {
@@ -49,7 +50,8 @@ pub(crate) fn name_length(bytes: &[u8]) -> usize
 
 /// How many digits stand at the front.
 pub(crate) fn digits_length(bytes: &[u8]) -> usize
-    ensures { result ≡ prefix_len is_ascii_digit bytes.now }
+    ensures value { result ≡ prefix_len is_ascii_digit bytes.now }
+    ensures within { result ≤ length bytes.now }
 {
     for (i, b) in bytes.iter().enumerate() {
         if !b.is_ascii_digit() {
@@ -61,7 +63,8 @@ pub(crate) fn digits_length(bytes: &[u8]) -> usize
 
 /// How many bytes of a text between quotes stand at the front.
 pub(crate) fn text_length(bytes: &[u8]) -> usize
-    ensures { result ≡ prefix_len is_text_byte bytes.now }
+    ensures value { result ≡ prefix_len is_text_byte bytes.now }
+    ensures within { result ≤ length bytes.now }
 {
     for (i, b) in bytes.iter().enumerate() {
         if !is_text_byte(*b) {
@@ -73,7 +76,8 @@ pub(crate) fn text_length(bytes: &[u8]) -> usize
 
 /// How many bytes stand before the first line feed.
 pub(crate) fn line_length(bytes: &[u8]) -> usize
-    ensures { result ≡ prefix_len is_in_line bytes.now }
+    ensures value { result ≡ prefix_len is_in_line bytes.now }
+    ensures within { result ≤ length bytes.now }
 {
     for (i, b) in bytes.iter().enumerate() {
         if *b == b'\n' {

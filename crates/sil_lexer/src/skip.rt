@@ -1,6 +1,6 @@
 //! The way over blanks and comments.
 
-ghost use Rattle.std.specs.Prelude.{drop, IsFalse, IsTrue, MatchOption};
+ghost use Rattle.std.specs.Prelude.{◌+◌, ◌≤◌, length, drop, IsFalse, IsTrue, MatchOption};
 ghost use Rattle.sil_lexer.specs.Places.{IsInLimit, IsPlaceIn};
 ghost use Rattle.sil_lexer.specs.Lexes.{begins_comment, begins_skipped};
 ghost use Rattle.sil_lexer.specs.Scan.{SkipsOne, SkipsTo};
@@ -44,6 +44,7 @@ fn skip_one(text: &[u8], at: Place) -> Option<Place>
 fn skip_comment(text: &[u8], at: Place) -> Place
     requires limit { IsInLimit text.now }
     requires placed { IsPlaceIn text.now at }
+    requires room { at.offset + 2 ≤ length text.now }
     requires comment { IsTrue (begins_comment (drop at.offset text.now)) }
     ensures { SkipsOne text.now at result }
 {
