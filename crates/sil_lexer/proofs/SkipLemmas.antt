@@ -10,7 +10,7 @@ use Rattle.sil_lexer.specs.Bytes.{is_blank, is_in_line, is_line_feed}
 use Rattle.sil_lexer.specs.Places.{ahead_of, IsPlaceIn}
 use Rattle.sil_lexer.specs.Lexes.{Skips, nothing, blank, comment, last_comment, begins_comment}
 use Rattle.sil_lexer.proofs.PlaceLemmas.{place_ahead}
-use Rattle.sil_lexer.proofs.RunLemmas.{run_passes}
+use Rattle.sil_lexer.proofs.RunLemmas.{run_passes, split_at}
 
 -- what is skipped before what is skipped is skipped
 pub skips_on : (a b c : List ℕ) → Skips a b → Skips b c → Skips a c
@@ -28,8 +28,7 @@ pub comment_before : (line rest : List ℕ) → prefix_len is_in_line line < len
 comment_before line rest ends next =
     let n = prefix_len is_in_line line in
     let is_feed : get_or line n 0 ≡ 10 = eqb-true _ _ (not-false _ (prefix_len_stops is_in_line line 0 ends)) in
-    let split : take n line ++ 10 ∷ drop (n + 1) line ≡ line =
-    ap (λ b. take n line ++ b ∷ drop (n + 1) line) (sym is_feed) ∙ ap (λ bs. take n line ++ bs) (sym (drop_more line n 0 ends)) ∙ take-append-drop n line in
+    let split : take n line ++ 10 ∷ drop (n + 1) line ≡ line = ap (λ b. take n line ++ b ∷ drop (n + 1) line) (sym is_feed) ∙ split_at line n ends in
     subst (λ bs. Skips (47 ∷ 47 ∷ bs) rest) split (comment (take n line) (drop (n + 1) line) rest (run_passes is_in_line line) next)
 
 -- a comment that the end cuts
