@@ -2,3 +2,4 @@ pub mod PlaceLemmas
 pub mod RunLemmas
 pub mod SkipLemmas
 pub mod SpellLemmas
+pub mod StopLemmas
