@@ -3,3 +3,4 @@ pub mod RunLemmas
 pub mod SkipLemmas
 pub mod SpellLemmas
 pub mod StopLemmas
+pub mod LexLemmas
