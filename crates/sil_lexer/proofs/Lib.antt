@@ -4,3 +4,4 @@ pub mod SkipLemmas
 pub mod SpellLemmas
 pub mod StopLemmas
 pub mod LexLemmas
+pub mod FrontLemmas
