@@ -28,7 +28,7 @@ front_of (b ∷ bytes) =
     (Mark, 1))))))
 
 -- a run and what goes on behind it
-run_goes_on : (p : ℕ → Bool) (run after : List ℕ) → list_all p run ≡ true → prefix_len p (run ++ after) ≡ length run + prefix_len p after
+pub run_goes_on : (p : ℕ → Bool) (run after : List ℕ) → list_all p run ≡ true → prefix_len p (run ++ after) ≡ length run + prefix_len p after
 run_goes_on p [] after pass = sym (zero-add (prefix_len p after))
 run_goes_on p (b ∷ run) after pass =
     let parts = and_parts (p b) (list_all p run) pass in
@@ -102,7 +102,7 @@ front-spelling kind spelling after arrow =
     let none = none_continued after in
     same_kind Mark _ _ (omega arith)
 
-ended_run : (p : ℕ → Bool) (after : List ℕ) → begins_with p after ≡ false → prefix_len p after ≡ 0
+pub ended_run : (p : ℕ → Bool) (after : List ℕ) → begins_with p after ≡ false → prefix_len p after ≡ 0
 ended_run p [] ended = refl
 ended_run p (b ∷ after) ended = rw ended refl
 

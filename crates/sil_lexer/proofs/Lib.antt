@@ -5,3 +5,4 @@ pub mod SpellLemmas
 pub mod StopLemmas
 pub mod LexLemmas
 pub mod FrontLemmas
+pub mod UniqueLemmas

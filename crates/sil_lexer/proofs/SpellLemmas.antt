@@ -19,7 +19,7 @@ abbrev pub Takes : TokenKind → ℕ → List ℕ → Type 0
 Takes kind n rest = IsSpelled kind (take n rest) (drop n rest)
 
 -- no spelling is empty
-spelling_some : (kind : TokenKind) (spelling : List ℕ) → Spells kind spelling → 0 < length spelling
+pub spelling_some : (kind : TokenKind) (spelling : List ℕ) → Spells kind spelling → 0 < length spelling
 spelling_some kind spelling (word _ _ _ _) = omega arith
 spelling_some kind spelling (at_name _ _ _) = omega arith
 spelling_some kind spelling (percent _ _ _) = omega arith
