@@ -9,7 +9,7 @@ use Rattle.sil_ast.specs.declared.function.Form.TheVariants.{Ossa}
 use Rattle.sil_ast.specs.declared.function.Function.{Function}
 use Rattle.sil_ast.specs.declared.function.Linkage.TheVariants as linkage
 use Rattle.sil_ast.specs.declared.inst.Inst.{Inst}
-use Rattle.sil_ast.specs.declared.inst.Operand.{Operand}
+use Rattle.sil_ast.specs.declared.operands.Operand.{Operand}
 use Rattle.sil_ast.specs.declared.module.Module.{Module}
 use Rattle.sil_ast.specs.declared.op.Op.{Op}
 use Rattle.sil_ast.specs.declared.op.Op.TheVariants as op
@@ -54,8 +54,8 @@ HasType types x t = slice_get types x.0 ≡ Some t
 -- an instruction of a simple function, among these classes and types of values
 pub data IsSimpleInst (classes : List (List ℕ)) (types : List TypeName) : Inst → Type 0 where
   object : (v : ValueId) (c : List ℕ) → Contains classes c → IsSimpleInst classes types (alloc_ref v (Named c))
-  copy : (v x : ValueId) (c : List ℕ) → HasType types x (Named c) → IsSimpleInst classes types (copy_value v x (Named c))
-  destroy : (x : ValueId) (c : List ℕ) → HasType types x (Named c) → IsSimpleInst classes types (destroy_value x (Named c))
+  copy : (v x : ValueId) (c : List ℕ) → Contains classes c → HasType types x (Named c) → IsSimpleInst classes types (copy_value v x (Named c))
+  destroy : (x : ValueId) (c : List ℕ) → Contains classes c → HasType types x (Named c) → IsSimpleInst classes types (destroy_value x (Named c))
   unit : (v : ValueId) → IsSimpleInst classes types (unit_value v)
 
 -- the block returns a value of the type `()`

@@ -1,0 +1,7 @@
+//! Simple modules: classes without members, and functions of one block that make, copy and destroy objects.
+//! It says which modules are simple, and knows of no text and no rule.
+#![tactic(auto)]
+
+mod instructions;
+
+
