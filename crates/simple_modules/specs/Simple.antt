@@ -38,9 +38,12 @@ result_types i = result_types_by i.op i
 abbrev pub value_types : Block → List TypeName
 value_types b = flat_map result_types b.insts
 
+abbrev pub results_of : Inst → List ValueId
+results_of i = i.results
+
 -- the values that a block defines, in order
 abbrev pub defined_values : Block → List ValueId
-defined_values b = flat_map (λ i. i.results) b.insts
+defined_values b = flat_map results_of b.insts
 
 -- the numbers go up by one, from n
 abbrev pub AreCountedFrom : ℕ → List ValueId → Type 0

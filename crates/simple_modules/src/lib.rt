@@ -3,5 +3,6 @@
 #![tactic(auto)]
 
 mod instructions;
+mod values;
 
 
