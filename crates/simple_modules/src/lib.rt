@@ -2,6 +2,7 @@
 //! It says which modules are simple, and knows of no text and no rule.
 #![tactic(auto)]
 
+mod functions;
 mod instructions;
 mod values;
 
