@@ -13,10 +13,15 @@ use sil_ast::{
 use std::alloc::Global;
 
 const MAX_INSTRUCTIONS: usize = 4096;
+
 const MAX_VALUES: u64 = 1024;
 
 /// Whether every function is a simple one, among the names of classes.
-pub(crate) fn are_simple_functions(alloc: Global, classes: &IndexSet<Text>, functions: &[Function]) -> Result<bool, Exhausted>
+pub(crate) fn are_simple_functions(
+    alloc: Global,
+    classes: &IndexSet<Text>,
+    functions: &[Function],
+) -> Result<bool, Exhausted>
     ensures { IfOk result (λ yes. IsTrue yes ↔ AllSimpleFunctions classes.now.keys functions.now) }
 {
     for function in functions {
@@ -27,7 +32,11 @@ pub(crate) fn are_simple_functions(alloc: Global, classes: &IndexSet<Text>, func
     Ok(true)
 }
 
-fn is_simple_function(alloc: Global, classes: &IndexSet<Text>, function: &Function) -> Result<bool, Exhausted>
+fn is_simple_function(
+    alloc: Global,
+    classes: &IndexSet<Text>,
+    function: &Function,
+) -> Result<bool, Exhausted>
     ensures { IfOk result (λ yes. IsTrue yes ↔ IsSimpleFunction classes.now.keys function.now) }
 {
     if function.form != Form::Ossa || function.linkage != Linkage::Plain {
@@ -50,7 +59,11 @@ fn is_plain_signature(signature: &Signature) -> bool
         && signature.results.is_empty()
 }
 
-fn is_simple_block(alloc: Global, classes: &IndexSet<Text>, block: &Block) -> Result<bool, Exhausted>
+fn is_simple_block(
+    alloc: Global,
+    classes: &IndexSet<Text>,
+    block: &Block,
+) -> Result<bool, Exhausted>
     ensures { IfOk result (λ yes. IsTrue yes ↔ IsSimpleBlock classes.now.keys block.now) }
 {
     let insts = block.insts.as_slice();

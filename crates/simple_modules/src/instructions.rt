@@ -18,9 +18,7 @@ pub(crate) fn is_simple_inst(classes: &IndexSet<Text>, types: &[TypeName], inst:
     }
     match inst.op {
         Op::AllocRef => {
-            inst.results.len() == 1
-                && inst.operands.is_empty()
-                && names_class(classes, &inst.ty)
+            inst.results.len() == 1 && inst.operands.is_empty() && names_class(classes, &inst.ty)
         }
         Op::CopyValue => {
             inst.results.len() == 1
@@ -32,9 +30,7 @@ pub(crate) fn is_simple_inst(classes: &IndexSet<Text>, types: &[TypeName], inst:
                 && inst.ty.is_none()
                 && takes_object(classes, types, inst.operands.as_slice())
         }
-        Op::Tuple => {
-            inst.results.len() == 1 && inst.operands.is_empty() && inst.ty.is_none()
-        }
+        Op::Tuple => { inst.results.len() == 1 && inst.operands.is_empty() && inst.ty.is_none() }
         _ => false,
     }
 }

@@ -4,6 +4,7 @@
 
 mod functions;
 mod instructions;
+mod module;
 mod values;
 
-
+pub use module::is_simple;

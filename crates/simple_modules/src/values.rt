@@ -19,7 +19,11 @@ pub(crate) fn value_types(alloc: Global, insts: &[Inst]) -> Result<List<TypeName
     Ok(types)
 }
 
-fn push_result_types(alloc: Global, types: &mut List<TypeName>, inst: &Inst) -> Result<(), Exhausted>
+fn push_result_types(
+    alloc: Global,
+    types: &mut List<TypeName>,
+    inst: &Inst,
+) -> Result<(), Exhausted>
     ensures { OnOk result (types.new ≡ types.old ++ result_types inst.now) }
 {
     match inst.op {
@@ -30,7 +34,11 @@ fn push_result_types(alloc: Global, types: &mut List<TypeName>, inst: &Inst) -> 
     }
 }
 
-fn push_written_types(alloc: Global, types: &mut List<TypeName>, operands: &[Operand]) -> Result<(), Exhausted>
+fn push_written_types(
+    alloc: Global,
+    types: &mut List<TypeName>,
+    operands: &[Operand],
+) -> Result<(), Exhausted>
     ensures { OnOk result (types.new ≡ types.old ++ written_types operands.now) }
 {
     for operand in operands {
@@ -39,7 +47,11 @@ fn push_written_types(alloc: Global, types: &mut List<TypeName>, operands: &[Ope
     Ok(())
 }
 
-fn push_type(alloc: Global, types: &mut List<TypeName>, ty: &Option<TypeName>) -> Result<(), Exhausted>
+fn push_type(
+    alloc: Global,
+    types: &mut List<TypeName>,
+    ty: &Option<TypeName>,
+) -> Result<(), Exhausted>
     ensures { OnOk result (types.new ≡ types.old ++ option_to_list ty.now) }
 {
     match ty {
@@ -51,7 +63,7 @@ fn push_type(alloc: Global, types: &mut List<TypeName>, ty: &Option<TypeName>) -
 /// How many values the instructions make, if these are numbered in order from 0.
 pub(crate) fn count_values(insts: &[Inst]) -> Option<u64>
     ensures { MatchOption result (AreCountedFrom 0 (flat_map results_of insts.now) → ⊥)
-                (λ n. AreCountedFrom 0 (flat_map results_of insts.now) × (n ≡ length (flat_map results_of insts.now))) }
+        (λ n. AreCountedFrom 0 (flat_map results_of insts.now) × (n ≡ length (flat_map results_of insts.now))) }
 {
     let mut next = 0;
     for inst in insts {
@@ -64,7 +76,7 @@ pub(crate) fn count_values(insts: &[Inst]) -> Option<u64>
 fn count_from(next: u64, values: &[ValueId]) -> Option<u64>
     requires { next ≤ 2 ^ 32 }
     ensures { MatchOption result (AreCountedFrom next values.now → ⊥)
-                (λ n. AreCountedFrom next values.now × (n ≡ next + length values.now) × (n ≤ 2 ^ 32)) }
+        (λ n. AreCountedFrom next values.now × (n ≡ next + length values.now) × (n ≤ 2 ^ 32)) }
 {
     let mut next = next;
     for value in values {

@@ -1,4 +1,3 @@
-use Rattle.std.proofs.Common.{◌≡◌, ◌↔◌, true, Contains, subst, sym}
 use Rattle.simple_modules.proofs.NameLists.{found_iff_contained}
 use Rattle.simple_modules.proofs.instructions.contains.Goals as goal
 

@@ -1,4 +1,4 @@
-use Rattle.std.proofs.Common.{◌≡◌, ◌↔◌, ◌+◌, ◌≤◌, ◌^◌, length, drop}
+use Rattle.std.proofs.Common.{◌≡◌, ◌↔◌, ◌+◌, ◌≤◌, ◌^◌, drop}
 use Rattle.simple_modules.specs.Simple.{AreCountedFrom}
 use Rattle.simple_modules.proofs.values.count_from.Given as goal
 
