@@ -1,12 +1,9 @@
 -- The steps of a derivation are replayed from the last to the first: there is a token at each step that takes one,
 -- and there are the values of its body at each production.
 use Rattle.std.proofs.Common.{◌≡◌, ℕ, suc, ◌+◌, ◌-◌, ◌<◌, ◌≤◌, List, [], ◌∷◌, length, take, drop, get_or, refl, ap, sym, subst, ◌∙◌, arith, add-one}
-use Rattle.std.proofs.Math.ListN.{get_or-map}
 use Rattle.std.proofs.lemmas.List.{drop_more, drop-drop, length-drop, length-map}
-use Rattle.sil_lexer.specs.declared.token.Token.{Token}
-use Rattle.sil_lexer.specs.declared.token.TokenKind.TheVariants.{Word}
 use Rattle.sil_lexer.specs.Lexes.{Lexeme}
-use Rattle.sil_lexer.specs.Lexing.{Lexing, lexeme_of, lexemes_of}
+use Rattle.sil_lexer.specs.Lexing.{Lexing, lexemes_of}
 use Rattle.sil_shape.specs.declared.grammar.Production.{Production}
 use Rattle.sil_shape.specs.declared.steps.Step.{Step}
 use Rattle.sil_shape.specs.declared.steps.Step.TheVariants.{Take, Expand}
@@ -15,6 +12,7 @@ use Rattle.sil_shape.specs.Values.{takes_of, values_left, IsEnough}
 use Rattle.sil_shape.proofs.ValuesLemmas.{takes_of-split, IsEnough-drop}
 use Rattle.sil_grammar.specs.declared.value.Value.{Value}
 use Rattle.sil_grammar.specs.Replay.{reduced, replay, leaf, IsLeafAt}
+use Rattle.sil_grammar.proofs.LexemeLemmas.{some_token, some_lexeme, lexeme_at}
 
 pub drop_next : {X : Type 0} (i : ℕ) (xs : List X) {all rest : List X} {x : X} → all ≡ drop i xs → all ≡ x ∷ rest → rest ≡ drop (i + 1) xs
 drop_next i xs {rest = rest} {x = x} e f =
@@ -58,21 +56,15 @@ token_there steps n d above below is = record {
   among = omega (arith, takes_of-split (n - 1) steps);
 }
 
-some_token : Token
-some_token = record { kind = Word; place = record { offset = 0; line = 0; column = 0 }; length = 0 }
-
 -- the token before a place stands for a value, before the values that are replayed from that place on
 pub replay_taken : (text : List ℕ) (lexing : Lexing) (steps : List Step) (n : ℕ) (d : Step) (token : ℕ) (value : Value) (values : List Value)
     → 0 < n → n ≤ length steps → get_or steps (n - 1) d ≡ Take → 0 < token → token ≤ length lexing.tokens → IsLeafAt text lexing (token - 1) value
     → values ≡ replay (drop n steps) (drop token (lexemes_of text lexing))
     → value ∷ values ≡ replay (drop (n - 1) steps) (drop (token - 1) (lexemes_of text lexing))
 replay_taken text lexing steps n d token value values above below is some few leaf_is are =
-    let f : Token → Lexeme = lexeme_of text in
-    let some_lexeme : Lexeme = f some_token in
     let lexemes : List Lexeme = lexemes_of text lexing in
     let few_lexemes : token ≤ length lexemes = simp length-map few in
-    let at : get_or lexemes (token - 1) some_lexeme ≡ f (get_or lexing.tokens (token - 1) some_token) = get_or-map f lexing.tokens (token - 1) some_token in
-    let there : drop (token - 1) lexemes ≡ get_or lexemes (token - 1) some_lexeme ∷ drop token lexemes = drop_last {X = Lexeme} lexemes token some_lexeme some few_lexemes in
-    let here : value ≡ leaf (get_or lexemes (token - 1) some_lexeme) = leaf_is some_token ∙ ap leaf (sym at) in
+    let there : drop (token - 1) lexemes ≡ get_or lexemes (token - 1) (some_lexeme text) ∷ drop token lexemes = drop_last {X = Lexeme} lexemes token (some_lexeme text) some few_lexemes in
+    let here : value ≡ leaf (get_or lexemes (token - 1) (some_lexeme text)) = leaf_is some_token ∙ ap leaf (sym (lexeme_at text lexing (token - 1))) in
     let behind : drop (n - 1) steps ≡ Take ∷ drop n steps = drop_step steps n d Take above below is in
     rw (behind, there) (cc)

@@ -1,1 +1,4 @@
 pub mod BuildLemmas
+pub mod DerivedOnce
+pub mod LexemeLemmas
+pub mod SpelledOnce

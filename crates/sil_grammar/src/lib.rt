@@ -1,11 +1,19 @@
-//! Reads a module from its text.
+//! Reads a module from its text: which module a text spells, and where a text goes wrong that spells none.
+//! It knows of no rule that a module has to keep.
 #![tactic(auto)]
 
 mod build;
 mod build_code;
 mod build_module;
 mod build_types;
+mod classes;
+mod names;
 mod prepended;
+mod reader;
+mod refusal;
 mod simple_parts;
 mod value;
 mod written;
+
+pub use reader::{read, spelled_once};
+pub use refusal::ReadRefusal;

@@ -34,6 +34,12 @@ impl<T> Prepended<T> {
         }
     }
 
+    pub(crate) fn len(&self) -> usize
+        ensures { result ≡ length self.now }
+    {
+        self.backwards.len()
+    }
+
     /// Takes the first element away.
     pub(crate) fn pop_front(&mut self) -> T
         requires { 0 < length self.old }

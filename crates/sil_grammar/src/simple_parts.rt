@@ -1,8 +1,7 @@
 //! Which productions a simple module may use.
 
-ghost use Rattle.std.specs.Prelude.{◌≡◌, IsFalse, MatchOption, length};
-ghost use Rattle.std.specs.List.{list_all};
-ghost use Rattle.sil_grammar.specs.SimpleParts.{is_simple_part, is_simple_step, UseSimpleParts};
+ghost use Rattle.std.specs.Prelude.{◌≡◌, MatchOption};
+ghost use Rattle.sil_grammar.specs.SimpleParts.{is_simple_part, UseSimpleParts};
 
 use sil_shape::grammar::Production;
 use sil_shape::steps::Step;
@@ -64,7 +63,7 @@ fn is_simple_part(production: Production) -> bool
 
 /// How many tokens stand before the first part that no simple module has, if there is such a part.
 pub(crate) fn first_other_part(steps: &[Step]) -> Option<usize>
-    ensures { MatchOption result (UseSimpleParts steps.now) (λ _. IsFalse (list_all is_simple_step steps.now)) }
+    ensures { MatchOption result (UseSimpleParts steps.now) (λ _. UseSimpleParts steps.now → ⊥) }
 {
     let mut token = 0;
     for step in steps {

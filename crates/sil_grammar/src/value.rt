@@ -1,10 +1,11 @@
 //! What a part of a text stands for while the module is built from its end to its beginning.
 
-ghost use Rattle.std.specs.Prelude.{◌≡◌, [], ◌∷◌, ◌<◌, IfOk, None, drop, length};
+ghost use Rattle.std.specs.Prelude.{◌≡◌, [], ◌∷◌, ◌<◌, IfOk, None, length};
 ghost use Rattle.sil_ast.specs.declared.op.Op.TheVariants.{Unreachable};
 ghost use Rattle.sil_grammar.specs.declared.value.Value.{Value};
 ghost use Rattle.sil_grammar.specs.Meaning.{name_of, stage_of, imports_of, items_of, item_of, names_of, code_of, inst_of, operand_of, type_of, inst, leaf_of};
 
+use crate::classes::without_sigil;
 use crate::prepended::Prepended;
 use crate::written::{WrittenCode, WrittenInst, WrittenItem, WrittenModule, WrittenOperand};
 use sil_ast::{Exhausted, Imports, List, Op, Stage, Text, TypeName};
@@ -42,12 +43,6 @@ pub(crate) fn skip(values: &mut Prepended<Value>)
 /// Drops a value. (In an arm of a `match` the drop would be written out for each variant.)
 pub(crate) fn discard(value: Value) {
     drop(value);
-}
-
-fn without_sigil(spelling: &[u8]) -> &[u8]
-    ensures { result.now ≡ drop 1 spelling.now }
-{
-    if spelling.is_empty() { spelling } else { &spelling[1..] }
 }
 
 /// What a token stands for.

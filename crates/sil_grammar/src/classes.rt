@@ -1,0 +1,81 @@
+//! The classes of the tokens of a text, by which its shape is found.
+
+ghost use Rattle.std.specs.Prelude.{◌≡◌, ◌-◌, ◌<◌, drop, length, map, slice_range, IfOk};
+ghost use Rattle.sil_lexer.specs.Lexing.{IsLexingOf, lexemes_of};
+ghost use Rattle.sil_shape.specs.BuiltinNames.{is_builtin_name};
+ghost use Rattle.sil_shape.specs.Spelling.{mark_of};
+ghost use Rattle.sil_grammar.specs.Classes.{class_by, inside_quotes, mark_class, text_class, token_class, IsClassAt};
+
+use sil_ast::Exhausted;
+use sil_lexer::{TokenKind, Tokens};
+use sil_shape::builtin_names::is_builtin_name;
+use sil_shape::classes::Class;
+use sil_shape::spelling::{at_word, keyword, mark};
+use std::alloc::Global;
+
+/// What is behind the first byte.
+pub(crate) fn without_sigil(spelling: &[u8]) -> &[u8]
+    ensures { result.now ≡ drop 1 spelling.now }
+{
+    if spelling.is_empty() { spelling } else { &spelling[1..] }
+}
+
+fn without_quotes(spelling: &[u8]) -> &[u8]
+    ensures { result.now ≡ inside_quotes spelling.now }
+{
+    if spelling.len() < 2 { &[] } else { &spelling[1..spelling.len() - 1] }
+}
+
+fn text_class(content: &[u8]) -> Class
+    ensures { result ≡ text_class (is_builtin_name content.now) }
+{
+    if is_builtin_name(content) { Class::BuiltinText } else { Class::OtherText }
+}
+
+fn mark_class(spelling: &[u8]) -> Class
+    ensures { result ≡ mark_class (mark_of spelling.now) }
+{
+    match mark(spelling) {
+        Some(mark) => Class::Mark(mark),
+        None => Class::OtherText,
+    }
+}
+
+#[tactic(auto, unfolding(crate::specs::Classes::class_by))]
+fn class_by(kind: TokenKind, spelling: &[u8]) -> Class
+    ensures { result ≡ class_by kind spelling.now }
+{
+    match kind {
+        TokenKind::Word => Class::Word(keyword(spelling)),
+        TokenKind::AtName => Class::At(at_word(without_sigil(spelling))),
+        TokenKind::Percent => Class::Percent,
+        TokenKind::Number => Class::Number,
+        TokenKind::Text => text_class(without_quotes(spelling)),
+        TokenKind::Mark => mark_class(spelling),
+    }
+}
+
+/// The class of the token at `i`.
+fn class_at(text: &[u8], tokens: &Tokens, i: usize) -> Class
+    requires lexed { IsLexingOf text.now tokens.now }
+    requires in_range { i < length tokens.now.tokens }
+    ensures { IsClassAt text.now tokens.now i result }
+{
+    class_by(tokens.kind(i), tokens.text(text, i))
+}
+
+/// The class of each token, in order.
+pub(crate) fn classes_of(
+    alloc: Global,
+    text: &[u8],
+    tokens: &Tokens,
+) -> Result<Vec<Class>, Exhausted>
+    requires { IsLexingOf text.now tokens.now }
+    ensures { IfOk result (λ classes. classes.items ≡ map token_class (lexemes_of text.now tokens.now)) }
+{
+    let mut classes = Vec::with_capacity(alloc, tokens.len())?;
+    for i in 0..tokens.len() {
+        classes.push(class_at(text, tokens, i))?;
+    }
+    Ok(classes)
+}
