@@ -1,0 +1,49 @@
+//! What an instruction says for a debugger.
+
+use crate::exhausted::Exhausted;
+use crate::same::Same;
+use crate::text::Text;
+use crate::try_clone::TryClone;
+use std::alloc::Global;
+
+/// The variable that an instruction shows: `, let, name "x", argno 1, expr op_deref`, each part optional.
+#[derive(Drop)]
+pub struct Debug {
+    pub binding: Option<Binding>,
+    pub name: Option<Text>,
+    pub argno: Option<u16>,
+    pub deref: bool,
+}
+
+/// `let` or `var`.
+#[derive(Clone, Copy, Debug, PartialEq, Eq)]
+pub enum Binding {
+    Let,
+    Var,
+}
+
+impl TryClone for Debug {
+    fn try_clone(&self, alloc: Global) -> Result<Debug, Exhausted> {
+        Ok(Debug {
+            binding: self.binding,
+            name: self.name.try_clone(alloc)?,
+            argno: self.argno,
+            deref: self.deref,
+        })
+    }
+}
+
+impl Same for Debug {
+    fn same(&self, other: &Debug) -> bool {
+        self.binding.same(&other.binding)
+            && self.name.same(&other.name)
+            && self.argno.same(&other.argno)
+            && self.deref == other.deref
+    }
+}
+
+impl Same for Binding {
+    fn same(&self, other: &Binding) -> bool {
+        self == other
+    }
+}

@@ -1,0 +1,142 @@
+//! Functions and their blocks.
+
+use crate::exhausted::Exhausted;
+use crate::inst::Inst;
+use crate::list::List;
+use crate::place::ValueId;
+use crate::same::Same;
+use crate::signature::Signature;
+use crate::text::Text;
+use crate::try_clone::TryClone;
+use crate::type_name::TypeName;
+use std::alloc::Global;
+
+/// A function: `sil hidden [ossa] @main : $@convention(thin) () -> () { bb0: .. }`. One that is external has no blocks.
+#[derive(Drop)]
+pub struct Function {
+    pub name: Text,
+    pub form: Form,
+    pub linkage: Linkage,
+    /// The words in brackets, `ossa` left out.
+    pub attributes: List<Text>,
+    pub signature: Signature,
+    pub blocks: List<Block>,
+}
+
+/// The form of a function: with `[ossa]`, with a body and no `[ossa]`, or with no body.
+#[derive(Clone, Copy, Debug, PartialEq, Eq)]
+pub enum Form {
+    Ossa,
+    Lowered,
+    External,
+}
+
+/// The word before a function's name: none, `hidden`, `private`, `shared` or `public`.
+#[derive(Clone, Copy, Debug, PartialEq, Eq)]
+pub enum Linkage {
+    Plain,
+    Hidden,
+    Private,
+    Shared,
+    Public,
+}
+
+/// A block: `bb1(%2 : @owned $Node):`, its instructions, and the terminator with which it ends.
+#[derive(Drop)]
+pub struct Block {
+    pub args: List<BlockArg>,
+    pub insts: List<Inst>,
+    pub terminator: Inst,
+}
+
+/// An argument of a block: `%2 : @owned $Node`.
+#[derive(Drop)]
+pub struct BlockArg {
+    pub value: ValueId,
+    pub kind: ArgKind,
+    pub ty: TypeName,
+}
+
+/// How a block's argument is annotated: not, `@owned` or `@guaranteed`.
+#[derive(Clone, Copy, Debug, PartialEq, Eq)]
+pub enum ArgKind {
+    Plain,
+    Owned,
+    Guaranteed,
+}
+
+impl TryClone for Function {
+    fn try_clone(&self, alloc: Global) -> Result<Function, Exhausted> {
+        Ok(Function {
+            name: self.name.try_clone(alloc)?,
+            form: self.form,
+            linkage: self.linkage,
+            attributes: self.attributes.try_clone(alloc)?,
+            signature: self.signature.try_clone(alloc)?,
+            blocks: self.blocks.try_clone(alloc)?,
+        })
+    }
+}
+
+impl TryClone for Block {
+    fn try_clone(&self, alloc: Global) -> Result<Block, Exhausted> {
+        Ok(Block {
+            args: self.args.try_clone(alloc)?,
+            insts: self.insts.try_clone(alloc)?,
+            terminator: self.terminator.try_clone(alloc)?,
+        })
+    }
+}
+
+impl TryClone for BlockArg {
+    fn try_clone(&self, alloc: Global) -> Result<BlockArg, Exhausted> {
+        Ok(BlockArg {
+            value: self.value,
+            kind: self.kind,
+            ty: self.ty.try_clone(alloc)?,
+        })
+    }
+}
+
+impl Same for Function {
+    fn same(&self, other: &Function) -> bool {
+        self.name.same(&other.name)
+            && self.form == other.form
+            && self.linkage == other.linkage
+            && self.attributes.same(&other.attributes)
+            && self.signature.same(&other.signature)
+            && self.blocks.same(&other.blocks)
+    }
+}
+
+impl Same for Block {
+    fn same(&self, other: &Block) -> bool {
+        self.args.same(&other.args)
+            && self.insts.same(&other.insts)
+            && self.terminator.same(&other.terminator)
+    }
+}
+
+impl Same for BlockArg {
+    fn same(&self, other: &BlockArg) -> bool {
+        self.value == other.value && self.kind == other.kind && self.ty.same(&other.ty)
+    }
+}
+
+impl Same for Form {
+    fn same(&self, other: &Form) -> bool {
+        self == other
+    }
+}
+
+impl Same for Linkage {
+    fn same(&self, other: &Linkage) -> bool {
+        self == other
+    }
+}
+
+impl Same for ArgKind {
+    fn same(&self, other: &ArgKind) -> bool {
+        self == other
+    }
+}

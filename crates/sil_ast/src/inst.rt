@@ -1,0 +1,140 @@
+//! Instructions and terminators, each with the parts that its form has.
+
+ghost use Rattle.std.specs.Prelude.{◌≡◌, ◌↔◌, IsTrue};
+
+use crate::debug::Debug;
+use crate::exhausted::Exhausted;
+use crate::list::List;
+use crate::member::Member;
+use crate::op::Op;
+use crate::operands::{Operand, Operands};
+use crate::place::{BlockId, FuncId, ValueId};
+use crate::same::Same;
+use crate::signature::Signature;
+use crate::text::Text;
+use crate::try_clone::TryClone;
+use crate::type_name::TypeName;
+use std::alloc::Global;
+
+/// An instruction or a terminator: `%2 = load [copy] %1 : $*Node`. A part that its form lacks is empty, `None`, `Plain` or `false`.
+#[derive(Drop)]
+pub struct Inst {
+    pub op: Op,
+    /// The values that it defines, from left to right.
+    pub results: List<ValueId>,
+    /// All operands in the order of the text, a callee first. The arguments of edges stand in `edges`.
+    pub operands: Operands,
+    /// The type that stands for itself: `$T` of `alloc_ref $T`, or of `builtin "..."(..) : $T`.
+    pub ty: Option<TypeName>,
+    /// The signature of `function_ref` and `apply`.
+    pub signature: Option<Signature>,
+    /// `@f` of `function_ref @f`.
+    pub function: Option<FuncId>,
+    pub member: Option<Member>,
+    /// A literal as the signed residue of its width, or the number of a tuple's element, from 0.
+    pub number: Option<i64>,
+    /// The name of a builtin, or the message of `cond_fail`.
+    pub text: Option<Text>,
+    pub qualifier: Qualifier,
+    /// `[lexical]`
+    pub lexical: bool,
+    /// `[var_decl]`
+    pub var_decl: bool,
+    pub debug: Debug,
+    /// Where a terminator goes, from left to right.
+    pub edges: List<Edge>,
+}
+
+/// The word in brackets at a load or a store: `[copy]`, `[take]`, `[trivial]`, `[init]`, `[assign]`, or none.
+#[derive(Clone, Copy, Debug, PartialEq, Eq)]
+pub enum Qualifier {
+    Plain,
+    Copy,
+    Take,
+    Trivial,
+    Init,
+    Assign,
+}
+
+/// Where a terminator goes: `bb2(%1 : $Node)`, or a case of `switch_enum`, `case #Answer.yes!enumelt: bb2`, or its `default bb3`.
+#[derive(Drop)]
+pub struct Edge {
+    pub block: BlockId,
+    pub args: List<Operand>,
+    pub case_of: Option<Member>,
+}
+
+impl TryClone for Inst {
+    fn try_clone(&self, alloc: Global) -> Result<Inst, Exhausted> {
+        Ok(Inst {
+            op: self.op,
+            results: self.results.try_clone(alloc)?,
+            operands: self.operands.try_clone(alloc)?,
+            ty: self.ty.try_clone(alloc)?,
+            signature: self.signature.try_clone(alloc)?,
+            function: self.function,
+            member: self.member.try_clone(alloc)?,
+            number: self.number,
+            text: self.text.try_clone(alloc)?,
+            qualifier: self.qualifier,
+            lexical: self.lexical,
+            var_decl: self.var_decl,
+            debug: self.debug.try_clone(alloc)?,
+            edges: self.edges.try_clone(alloc)?,
+        })
+    }
+}
+
+impl TryClone for Edge {
+    fn try_clone(&self, alloc: Global) -> Result<Edge, Exhausted> {
+        Ok(Edge {
+            block: self.block,
+            args: self.args.try_clone(alloc)?,
+            case_of: self.case_of.try_clone(alloc)?,
+        })
+    }
+}
+
+impl Same for Inst {
+    fn same(&self, other: &Inst) -> bool {
+        same_words(self, other) && same_uses(self, other) && same_parts(self, other)
+    }
+}
+
+fn same_words(a: &Inst, b: &Inst) -> bool
+    ensures { IsTrue result ↔ ((a.now.op ≡ b.now.op) × (a.now.qualifier ≡ b.now.qualifier) × (a.now.lexical ≡ b.now.lexical) × (a.now.var_decl ≡ b.now.var_decl)) }
+{
+    a.op == b.op && a.qualifier == b.qualifier && a.lexical == b.lexical && a.var_decl == b.var_decl
+}
+
+fn same_uses(a: &Inst, b: &Inst) -> bool
+    ensures { IsTrue result ↔ ((a.now.results ≡ b.now.results) × (a.now.operands ≡ b.now.operands) × (a.now.edges ≡ b.now.edges)) }
+{
+    a.results.same(&b.results) && a.operands.same(&b.operands) && a.edges.same(&b.edges)
+}
+
+fn same_parts(a: &Inst, b: &Inst) -> bool
+    ensures { IsTrue result ↔ ((a.now.ty ≡ b.now.ty) × (a.now.signature ≡ b.now.signature) × (a.now.function ≡ b.now.function) × (a.now.member ≡ b.now.member) × (a.now.number ≡ b.now.number) × (a.now.text ≡ b.now.text) × (a.now.debug ≡ b.now.debug)) }
+{
+    a.ty.same(&b.ty)
+        && a.signature.same(&b.signature)
+        && a.function.same(&b.function)
+        && a.member.same(&b.member)
+        && a.number.same(&b.number)
+        && a.text.same(&b.text)
+        && a.debug.same(&b.debug)
+}
+
+impl Same for Edge {
+    fn same(&self, other: &Edge) -> bool {
+        self.block == other.block
+            && self.args.same(&other.args)
+            && self.case_of.same(&other.case_of)
+    }
+}
+
+impl Same for Qualifier {
+    fn same(&self, other: &Qualifier) -> bool {
+        self == other
+    }
+}

@@ -1,0 +1,106 @@
+//! The signatures of functions.
+
+use crate::exhausted::Exhausted;
+use crate::list::List;
+use crate::same::Same;
+use crate::try_clone::TryClone;
+use crate::type_name::TypeName;
+use std::alloc::Global;
+
+/// What a function takes and gives: `@convention(thin) (@owned Node, Int) -> @owned Node`.
+#[derive(Drop)]
+pub struct Signature {
+    pub convention: Convention,
+    pub params: List<Param>,
+    pub results: List<Given>,
+}
+
+/// `@convention(thin)` or `@convention(method)`.
+#[derive(Clone, Copy, Debug, PartialEq, Eq)]
+pub enum Convention {
+    Thin,
+    Method,
+}
+
+/// A parameter: `@guaranteed Node`.
+#[derive(Drop)]
+pub struct Param {
+    pub passing: Passing,
+    pub ty: TypeName,
+}
+
+/// How a parameter is passed: plainly, `@owned`, `@guaranteed` or `@inout`.
+#[derive(Clone, Copy, Debug, PartialEq, Eq)]
+pub enum Passing {
+    Plain,
+    Owned,
+    Guaranteed,
+    Inout,
+}
+
+/// A result: `Int`, or `@owned Node`.
+#[derive(Drop)]
+pub struct Given {
+    pub owned: bool,
+    pub ty: TypeName,
+}
+
+impl TryClone for Signature {
+    fn try_clone(&self, alloc: Global) -> Result<Signature, Exhausted> {
+        Ok(Signature {
+            convention: self.convention,
+            params: self.params.try_clone(alloc)?,
+            results: self.results.try_clone(alloc)?,
+        })
+    }
+}
+
+impl TryClone for Param {
+    fn try_clone(&self, alloc: Global) -> Result<Param, Exhausted> {
+        Ok(Param {
+            passing: self.passing,
+            ty: self.ty.try_clone(alloc)?,
+        })
+    }
+}
+
+impl TryClone for Given {
+    fn try_clone(&self, alloc: Global) -> Result<Given, Exhausted> {
+        Ok(Given {
+            owned: self.owned,
+            ty: self.ty.try_clone(alloc)?,
+        })
+    }
+}
+
+impl Same for Signature {
+    fn same(&self, other: &Signature) -> bool {
+        self.convention == other.convention
+            && self.params.same(&other.params)
+            && self.results.same(&other.results)
+    }
+}
+
+impl Same for Param {
+    fn same(&self, other: &Param) -> bool {
+        self.passing == other.passing && self.ty.same(&other.ty)
+    }
+}
+
+impl Same for Given {
+    fn same(&self, other: &Given) -> bool {
+        self.owned == other.owned && self.ty.same(&other.ty)
+    }
+}
+
+impl Same for Convention {
+    fn same(&self, other: &Convention) -> bool {
+        self == other
+    }
+}
+
+impl Same for Passing {
+    fn same(&self, other: &Passing) -> bool {
+        self == other
+    }
+}
