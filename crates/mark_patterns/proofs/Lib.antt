@@ -3,3 +3,4 @@ pub mod HeldMarks
 pub mod Reading
 pub mod Breaks
 pub mod Trails
+pub mod Incremental
