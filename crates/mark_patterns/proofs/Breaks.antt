@@ -1,5 +1,5 @@
 -- In the state that the marks before leave, an item breaks the automaton exactly where it breaks the pattern, for the same reason.
-use Rattle.std.proofs.Common.{◌≡◌, List, [], ◌∷◌, ◌++◌, refl, sym, ap, ◌∙◌, ◌⊎◌, inl, inr, Bool, true, false}
+use Rattle.std.proofs.Common.{◌≡◌, List, [], ◌∷◌, ◌++◌, refl, sym, ap, ◌∙◌, inl, inr, Bool, true, false}
 use Rattle.std.specs.Prelude.{◌↔◌, IsTrue}
 use Rattle.mark_patterns.specs.declared.pattern.MarkSort.{MarkSort}
 use Rattle.mark_patterns.specs.declared.pattern.MarkSort.TheVariants.{End, Use, Begin}
@@ -7,7 +7,7 @@ use Rattle.mark_patterns.specs.declared.pattern.Break.{Break}
 use Rattle.mark_patterns.specs.declared.pattern.Break.TheVariants.{ReturnInside}
 use Rattle.mark_patterns.specs.declared.automaton.Step.{Step}
 use Rattle.mark_patterns.specs.declared.automaton.Step.TheVariants.{Go, Bad}
-use Rattle.mark_patterns.specs.Pattern.{AreRuns, IsHeld, IsLawful, break_of, FirstBreak}
+use Rattle.mark_patterns.specs.Pattern.{AreRuns, IsLawful, break_of, FirstBreak}
 use Rattle.mark_patterns.specs.Automaton.{mark_step, run_steps, marks_step, return_step, item_step, LeavesHeld}
 use Rattle.mark_patterns.specs.Laws.{IsOutOfPlace, BreaksOutOfPlace, BreaksWithPattern, GoesWithPattern}
 use Rattle.mark_patterns.proofs.Runs.{go-bad, same_Bad, run_on, run_breaks, bad_at}

@@ -1,5 +1,5 @@
 -- Lemmas for a check that keeps the state of the automaton, and steps it at each mark or item.
-use Rattle.std.proofs.Common.{◌≡◌, ℕ, ◌+◌, ◌<◌, ◌≤◌, List, [], ◌∷◌, ◌++◌, length, get_or, take, drop, refl, sym, ap, ◌∙◌, Bool, false, subst, arith, take-append-drop, length-take}
+use Rattle.std.proofs.Common.{◌≡◌, ℕ, ◌+◌, ◌<◌, ◌≤◌, List, [], ◌∷◌, ◌++◌, length, get_or, take, drop, sym, ap, ◌∙◌, Bool, false, subst, arith, take-append-drop, length-take}
 use Rattle.std.proofs.lemmas.List.{take_more, take_all, drop_more}
 use Rattle.mark_patterns.specs.declared.pattern.MarkSort.{MarkSort}
 use Rattle.mark_patterns.specs.declared.pattern.Break.{Break}
@@ -7,9 +7,9 @@ use Rattle.mark_patterns.specs.declared.automaton.Step.{Step}
 use Rattle.mark_patterns.specs.declared.automaton.Step.TheVariants.{Go, Bad}
 use Rattle.mark_patterns.specs.Pattern.{FirstBreak}
 use Rattle.mark_patterns.specs.Along.{KeepsPattern, IsFirstBreak}
-use Rattle.mark_patterns.specs.Automaton.{mark_step, and_then, run_steps, marks_step, item_step, step_along, items_step, LeavesHeld}
+use Rattle.mark_patterns.specs.Automaton.{mark_step, and_then, run_steps, item_step, step_along, items_step, LeavesHeld}
 use Rattle.mark_patterns.specs.Laws.{StepsByMarks, StepsByItems}
-use Rattle.mark_patterns.proofs.Runs.{run_steps-append, run_on, run_breaks}
+use Rattle.mark_patterns.proofs.Runs.{run_steps-append, run_breaks}
 use Rattle.mark_patterns.proofs.Breaks.{breaks_with_pattern, goes_with_pattern}
 use Rattle.mark_patterns.proofs.Trails.{bad_first_break, reads_kept}
 

@@ -1,6 +1,6 @@
 -- Along a list of items the automaton reads exactly what keeps the pattern, and stops exactly at the first break.
 use Rattle.std.proofs.Common.{◌≡◌, ℕ, List, [], ◌∷◌, ◌++◌, length, refl, sym, ap, ◌∙◌, ◌⊎◌, inl, inr, Bool, false, append_assoc, subst}
-use Rattle.std.specs.Prelude.{◌↔◌, flat_map}
+use Rattle.std.specs.Prelude.{flat_map}
 use Rattle.std.proofs.lemmas.List.{append-nil}
 use Rattle.std.proofs.lemmas.Grind.{flat_map-append}
 use Rattle.mark_patterns.specs.declared.pattern.MarkSort.{MarkSort}
@@ -9,7 +9,7 @@ use Rattle.mark_patterns.specs.declared.automaton.Step.{Step}
 use Rattle.mark_patterns.specs.declared.automaton.Step.TheVariants.{Go, Bad}
 use Rattle.mark_patterns.specs.Pattern.{IsLawful}
 use Rattle.mark_patterns.specs.Along.{ends_with, IsLawfulAlong, KeepsPattern, IsFirstBreak}
-use Rattle.mark_patterns.specs.Automaton.{mark_step, run_steps, marks_step, item_step, step_along, items_step}
+use Rattle.mark_patterns.specs.Automaton.{mark_step, run_steps, marks_step, step_along, items_step}
 use Rattle.mark_patterns.specs.Laws.{ReadsKept, StopsAtFirstBreak, IsFirstBreakUnique, IsKeptWithoutBreak}
 use Rattle.mark_patterns.proofs.Runs.{BadAt, go-bad, run_on, run_split, bad_at, bad_run, bad_at_unique}
 use Rattle.mark_patterns.proofs.Reading.{return_go, reads_lawful}

@@ -1,5 +1,5 @@
 -- The automaton of two states, held and not held, that decides the pattern.
-use Rattle.std.specs.Prelude.{◌≡◌, ◌↔◌, List, fold, Bool, true, false, IsTrue}
+use Rattle.std.specs.Prelude.{◌↔◌, List, fold, Bool, true, false, IsTrue}
 use Rattle.mark_patterns.specs.declared.pattern.MarkSort.{MarkSort}
 use Rattle.mark_patterns.specs.declared.pattern.MarkSort.TheVariants.{End, Use, Begin}
 use Rattle.mark_patterns.specs.declared.pattern.Break.TheVariants.{UseOutside, EndOutside, ReturnInside, BeginInside}

@@ -1,5 +1,5 @@
 -- The laws that tie the automaton to the pattern.
-use Rattle.std.specs.Prelude.{◌≡◌, ◌↔◌, ℕ, List, [], ◌∷◌, ◌++◌, Bool, false, IsTrue}
+use Rattle.std.specs.Prelude.{◌≡◌, ◌↔◌, ℕ, List, [], ◌∷◌, ◌++◌, Bool, false}
 use Rattle.mark_patterns.specs.declared.pattern.MarkSort.{MarkSort}
 use Rattle.mark_patterns.specs.declared.pattern.MarkSort.TheVariants.{End, Use, Begin}
 use Rattle.mark_patterns.specs.declared.pattern.Break.{Break}
