@@ -7,8 +7,8 @@ use Rattle.mark_patterns.specs.declared.pattern.Break.{Break}
 use Rattle.mark_patterns.specs.declared.pattern.Break.TheVariants.{ReturnInside}
 use Rattle.mark_patterns.specs.declared.automaton.Step.{Step}
 use Rattle.mark_patterns.specs.declared.automaton.Step.TheVariants.{Go, Bad}
-use Rattle.mark_patterns.specs.Pattern.{AreRuns, IsLawful, break_of, FirstBreak}
-use Rattle.mark_patterns.specs.Automaton.{mark_step, run_steps, marks_step, return_step, item_step, LeavesHeld}
+use Rattle.mark_patterns.specs.Pattern.{AreRuns, IsLawful, break_of, FirstBreak, LeavesHeld}
+use Rattle.mark_patterns.specs.Automaton.{mark_step, run_steps, marks_step, return_step, item_step}
 use Rattle.mark_patterns.specs.Laws.{IsOutOfPlace, BreaksOutOfPlace, BreaksWithPattern, GoesWithPattern}
 use Rattle.mark_patterns.proofs.Runs.{go-bad, same_Bad, run_on, run_breaks, bad_at}
 use Rattle.mark_patterns.proofs.Reading.{runs_read, read_leaves, leaves_read, return_go, go_return, lawful_leaves, false_not_held}

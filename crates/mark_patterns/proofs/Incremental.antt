@@ -5,9 +5,9 @@ use Rattle.mark_patterns.specs.declared.pattern.MarkSort.{MarkSort}
 use Rattle.mark_patterns.specs.declared.pattern.Break.{Break}
 use Rattle.mark_patterns.specs.declared.automaton.Step.{Step}
 use Rattle.mark_patterns.specs.declared.automaton.Step.TheVariants.{Go, Bad}
-use Rattle.mark_patterns.specs.Pattern.{FirstBreak}
+use Rattle.mark_patterns.specs.Pattern.{FirstBreak, LeavesHeld}
 use Rattle.mark_patterns.specs.Along.{KeepsPattern, IsFirstBreak}
-use Rattle.mark_patterns.specs.Automaton.{mark_step, and_then, run_steps, item_step, step_along, items_step, LeavesHeld}
+use Rattle.mark_patterns.specs.Automaton.{mark_step, and_then, run_steps, item_step, step_along, items_step}
 use Rattle.mark_patterns.specs.Laws.{StepsByMarks, StepsByItems}
 use Rattle.mark_patterns.proofs.Runs.{run_steps-append, run_breaks}
 use Rattle.mark_patterns.proofs.Breaks.{breaks_with_pattern, goes_with_pattern}

@@ -6,10 +6,10 @@ use Rattle.mark_patterns.specs.declared.pattern.MarkSort.TheVariants.{End, Use, 
 use Rattle.mark_patterns.specs.declared.pattern.Break.{Break}
 use Rattle.mark_patterns.specs.declared.automaton.Step.{Step}
 use Rattle.mark_patterns.specs.declared.automaton.Step.TheVariants.{Go, Bad}
-use Rattle.mark_patterns.specs.Pattern.{AreRuns, none, unended, run, IsHeld, IsLawful}
-use Rattle.mark_patterns.specs.Automaton.{mark_step, run_steps, marks_step, return_step, item_step, LeavesHeld}
+use Rattle.mark_patterns.specs.Pattern.{AreRuns, none, unended, run, IsHeld, IsLawful, LeavesHeld}
+use Rattle.mark_patterns.specs.Automaton.{mark_step, run_steps, marks_step, return_step, item_step}
 use Rattle.mark_patterns.specs.Laws.{ReadsRuns, ReadsLawful}
-use Rattle.mark_patterns.proofs.Runs.{go-bad, same_Go, run_steps-Bad, run_on}
+use Rattle.mark_patterns.proofs.Runs.{go-bad, same_Go, run_steps-Bad, run_on, run_split}
 use Rattle.mark_patterns.proofs.HeldMarks.{read_held}
 
 -- what follows a begin in runs
@@ -62,6 +62,21 @@ leaves_read marks held l =
     let r = runs_read l.runs in
     let is = read_held marks r.0 r.1 in
     r.1 ∙ ap Go (same_truth r.0 held (λ t. l.held_is.1 (is.0 t)) (λ t. is.1 (l.held_is.0 t)))
+
+-- no marks leave the subject not held
+pub leaves_nothing : LeavesHeld [] false
+leaves_nothing = read_leaves [] false refl
+
+-- runs leave the subject held or not
+pub runs_leave : (marks : List MarkSort) → AreRuns marks → (held : Bool) × LeavesHeld marks held
+runs_leave marks runs = let r = runs_read runs in (r.0, read_leaves marks r.0 r.1)
+
+-- a front of runs is runs
+pub runs_front : (front rest : List MarkSort) → AreRuns (front ++ rest) → AreRuns front
+runs_front front rest runs =
+    let r = runs_read runs in
+    let between = run_split mark_step (Go false) front rest r.0 r.1 in
+    (read_leaves front between.0 between.1).runs
 
 pub reads_runs : ReadsRuns
 reads_runs marks held = (read_leaves marks held, leaves_read marks held)

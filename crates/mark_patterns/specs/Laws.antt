@@ -4,9 +4,9 @@ use Rattle.mark_patterns.specs.declared.pattern.MarkSort.{MarkSort}
 use Rattle.mark_patterns.specs.declared.pattern.MarkSort.TheVariants.{End, Use, Begin}
 use Rattle.mark_patterns.specs.declared.pattern.Break.{Break}
 use Rattle.mark_patterns.specs.declared.automaton.Step.TheVariants.{Go, Bad}
-use Rattle.mark_patterns.specs.Pattern.{AreRuns, IsHeld, IsLawful, FirstBreak}
+use Rattle.mark_patterns.specs.Pattern.{AreRuns, IsHeld, IsLawful, FirstBreak, LeavesHeld}
 use Rattle.mark_patterns.specs.Along.{KeepsPattern, IsFirstBreak}
-use Rattle.mark_patterns.specs.Automaton.{mark_step, and_then, marks_step, item_step, step_along, items_step, LeavesHeld}
+use Rattle.mark_patterns.specs.Automaton.{mark_step, and_then, marks_step, item_step, step_along, items_step}
 
 -- from the start, the automaton comes to a state exactly where the marks are runs and leave the subject so
 abbrev pub ReadsRuns : Type 0
