@@ -1,11 +1,10 @@
 -- The automaton of two states, held and not held, that decides the pattern.
-use Rattle.std.specs.Prelude.{◌≡◌, ◌↔◌, List, fold, Bool, true, false, IsTrue}
+use Rattle.std.specs.Prelude.{List, fold, Bool, true, false}
 use Rattle.mark_patterns.specs.declared.pattern.MarkSort.{MarkSort}
 use Rattle.mark_patterns.specs.declared.pattern.MarkSort.TheVariants.{End, Use, Begin}
 use Rattle.mark_patterns.specs.declared.pattern.Break.TheVariants.{UseOutside, EndOutside, ReturnInside, BeginInside}
 use Rattle.mark_patterns.specs.declared.automaton.Step.{Step}
 use Rattle.mark_patterns.specs.declared.automaton.Step.TheVariants.{Go, Bad}
-use Rattle.mark_patterns.specs.Pattern.{AreRuns, IsHeld}
 
 -- one mark
 abbrev pub mark_step : Bool → MarkSort → Step
@@ -47,8 +46,3 @@ step_along marks returns held item = item_step held (marks item) (returns item)
 -- all items of a list, from its start
 abbrev pub items_step : {A : Type 0} → (A → List MarkSort) → (A → Bool) → List A → Step
 items_step marks returns items = run_steps (step_along marks returns) (Go false) items
-
--- the marks keep the pattern, and leave the subject held or not
-pub record LeavesHeld (marks : List MarkSort) (held : Bool) : Type 0 where
-  pub runs : AreRuns marks
-  pub held_is : IsTrue held ↔ IsHeld marks

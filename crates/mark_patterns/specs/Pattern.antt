@@ -1,5 +1,5 @@
 -- The pattern of a subject's marks, and its four breaks.
-use Rattle.std.specs.Prelude.{◌≡◌, ◌≢◌, ◌⊎◌, ℕ, List, [], ◌∷◌, ◌++◌, replicate, All, Bool, IsTrue}
+use Rattle.std.specs.Prelude.{◌≡◌, ◌≢◌, ◌⊎◌, ◌↔◌, ℕ, List, [], ◌∷◌, ◌++◌, replicate, All, Bool, IsTrue}
 use Rattle.mark_patterns.specs.declared.pattern.MarkSort.{MarkSort}
 use Rattle.mark_patterns.specs.declared.pattern.MarkSort.TheVariants.{End, Use, Begin}
 use Rattle.mark_patterns.specs.declared.pattern.Break.{Break}
@@ -22,6 +22,11 @@ pub record IsHeld (marks : List MarkSort) : Type 0 where
 pub record IsLawful (marks : List MarkSort) (returned : Bool) : Type 0 where
   pub runs : AreRuns marks
   pub ended : IsTrue returned → ¬ IsHeld marks
+
+-- the marks are runs, and leave the subject held, or not, as the flag says
+pub record LeavesHeld (marks : List MarkSort) (held : Bool) : Type 0 where
+  pub runs : AreRuns marks
+  pub held_is : IsTrue held ↔ IsHeld marks
 
 -- the break of a mark that breaks the pattern
 abbrev pub break_of : MarkSort → Break
