@@ -23,5 +23,5 @@ pub record GivesMore (old new : Option (List ℕ)) (xs piece : List ℕ) (n : �
 pub gives_more : (a b c : Option (List ℕ)) (xs piece : List ℕ) (n : ℕ) → n ≤ length piece → Consumes a b xs → Consumes b c (take n piece) → GivesMore a c xs piece n
 gives_more a b c xs piece n within first second = record {
   taken = Consumes-trans a b c xs (take n piece) first second;
-  count = length-append xs (take n piece) ∙ ap (λ m. length xs + m) (length-take-le n piece within)
+  count = length-append xs (take n piece) ∙ ap (λ m. length xs + m) (length-take-le n piece within);
 }

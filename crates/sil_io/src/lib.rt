@@ -2,6 +2,7 @@
 //! It knows nothing of what the bytes say.
 #![tactic(auto)]
 
+mod copying;
 mod failed;
 mod memory_sink;
 mod memory_source;

@@ -4,9 +4,9 @@
 ghost use Rattle.std.specs.Prelude.{◌≡◌, ℕ, ◌↔◌, ◌<◌, ◌≤◌, [], ◌++◌, Some, IfOk, OnErr, IsErr, IsTrue, MatchResult, length, vec_len, take, drop};
 ghost use Rattle.sil_io.specs.MemorySource.{SourceState, fails_next, next_given, after_giving, after_fault};
 
+use crate::copying::copy_front;
 use crate::failed::Failed;
 use crate::source::Source;
-use crate::steady::copy_front;
 use std::marker::Model;
 
 /// Bytes in memory, given in pieces. Contracts see a `SourceState`.

@@ -55,3 +55,52 @@ impl<R: Read> Source for ReadSource<R> {
         }
     }
 }
+
+#[cfg(test)]
+mod tests {
+    use super::*;
+    use std::io;
+    use std::io::ErrorKind;
+    use std::test::Fail;
+
+    /// Gives three bytes at a time, and fails at the second call.
+    #[derive(Drop)]
+    struct Flaky<'a> {
+        rest: &'a [u8],
+        calls: u8,
+    }
+
+    impl Read for Flaky<'_> {
+        fn read(&mut self, buf: &mut [u8]) -> io::Result<usize> {
+            self.calls = self.calls.saturating_add(1);
+            if self.calls == 2 {
+                return Err(io::Error::from(ErrorKind::Interrupted));
+            }
+            let count = buf.len().min(self.rest.len()).min(3);
+            buf[..count].copy_from_slice(&self.rest[..count]);
+            self.rest = &self.rest[count..];
+            Ok(count)
+        }
+    }
+
+    #[test]
+    fn gives_pieces_and_counts_errors(rt: HostRuntime) -> Result<(), Fail> {
+        let mut source = ReadSource::new(Flaky {
+            rest: b"abcdefg",
+            calls: 0,
+        });
+        let mut buf = [0u8; 4];
+        assert_eq!(rt; source.faults, 0);
+        assert_eq!(rt; source.take(&mut buf), Ok(3));
+        assert_eq!(rt; &buf[..3], b"abc".as_slice());
+        assert_eq!(rt; source.take(&mut buf), Err(Failed));
+        assert_eq!(rt; source.faults, 1);
+        assert_eq!(rt; source.take(&mut buf), Ok(3));
+        assert_eq!(rt; &buf[..3], b"def".as_slice());
+        assert_eq!(rt; source.take(&mut buf), Ok(1));
+        assert_eq!(rt; &buf[..1], b"g".as_slice());
+        assert_eq!(rt; source.take(&mut buf), Ok(0));
+        assert_eq!(rt; source.faults, 1);
+        Ok(())
+    }
+}

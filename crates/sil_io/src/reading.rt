@@ -72,3 +72,61 @@ pub fn read_all<S: Source>(alloc: Global, src: &mut S, limit: usize) -> Result<V
         bytes.extend_from_slice(&piece[..count])?;
     }
 }
+
+#[cfg(test)]
+mod tests {
+    use super::*;
+    use crate::memory_source::MemorySource;
+    use crate::steady::SteadySource;
+    use std::test::Fail;
+
+    const TEXT: &[u8] = b"twenty bytes of text";
+
+    /// A source of the text in such pieces, which fails at one call.
+    fn source(alloc: Global, piece: usize, fails: u64) -> Result<MemorySource, AllocError>
+        requires { 1 ≤ piece }
+    {
+        Ok(MemorySource::new(TEXT.to_vec(alloc)?, piece, [fails].to_vec(alloc)?))
+    }
+
+    #[test]
+    fn reads_to_the_end_or_tells_why_not(rt: HostRuntime) -> Result<(), Fail> {
+        let alloc = rt.alloc();
+        for (piece, calls) in [(1usize, 21u64), (7, 4), (16, 3), (4096, 2)] {
+            assert!(rt; piece >= 1 && piece <= 4096);
+            for fails in 1..calls + 2 {
+                let mut src = source(alloc, piece, fails)?;
+                let first = read_all(alloc, &mut src, 20);
+                if fails > calls {
+                    assert_eq!(rt; first?.as_slice(), TEXT, "{piece} {fails}");
+                } else {
+                    assert_eq!(rt; first.err(), Some(ReadEnd::Fault), "{piece} {fails}");
+                    let given = TEXT.len().min(piece * (fails as usize - 1));
+                    assert_eq!(rt;
+                        read_all(alloc, &mut src, 20)?.as_slice(),
+                        &TEXT[given..],
+                        "{piece} {fails}"
+                    );
+                }
+            }
+            let mut src = source(alloc, piece, 99)?;
+            assert_eq!(rt;
+                read_all(alloc, &mut src, 5).err(),
+                Some(ReadEnd::TooLong),
+                "{piece}"
+            );
+            assert_eq!(rt;
+                read_all(alloc, &mut src, 14)?.as_slice(),
+                b" bytes of text".as_slice(),
+                "{piece}"
+            );
+        }
+        let mut steady = SteadySource::new(TEXT.to_vec(alloc)?);
+        assert_eq!(rt;
+            read_all(alloc, &mut steady, 19).err(),
+            Some(ReadEnd::TooLong)
+        );
+        assert_eq!(rt; read_all(alloc, &mut steady, 0)?.len(), 0);
+        Ok(())
+    }
+}

@@ -2,6 +2,7 @@
 
 ghost use Rattle.std.specs.Prelude.{◌≡◌, ℕ, ◌<◌, ◌≤◌, ◌++◌, List, Some, None, Ok, IfOk, length, vec_len, min, take, drop};
 
+use crate::copying::copy_front;
 use crate::failed::Failed;
 use crate::sink::Sink;
 use crate::source::Source;
@@ -69,14 +70,4 @@ impl Sink for NullSink {
     {
         Ok(bytes.len())
     }
-}
-
-/// Copies as many bytes as `from` has and `to` has room for to the front of `to`, and answers how many.
-pub(crate) fn copy_front(from: &[u8], to: &mut [u8]) -> usize
-    ensures count { result ≡ min (length to.old) (length from.now) }
-    ensures copied { to.new ≡ take result from.now ++ drop result to.old }
-{
-    let count = to.len().min(from.len());
-    to[..count].copy_from_slice(&from[..count]);
-    count
 }

@@ -67,3 +67,59 @@ fn write_and_flush<W: Write>(writer: &mut W, bytes: &[u8]) -> Option<usize>
     writer.flush().ok()?;
     Some(count)
 }
+
+#[cfg(test)]
+mod tests {
+    use super::*;
+    use std::io;
+    use std::io::ErrorKind;
+
+    /// Takes three bytes at a time. The second write fails, the third takes nothing, and the fourth flush fails.
+    #[derive(Drop)]
+    struct Flaky {
+        written: Vec<u8>,
+        writes: u8,
+    }
+
+    impl Write for Flaky {
+        fn write(&mut self, buf: &[u8]) -> io::Result<usize> {
+            self.writes = self.writes.saturating_add(1);
+            match self.writes {
+                2 => Err(io::Error::from(ErrorKind::BrokenPipe)),
+                3 => Ok(0),
+                _ => {
+                    let count = buf.len().min(3);
+                    self.written.extend_from_slice(&buf[..count])?;
+                    Ok(count)
+                }
+            }
+        }
+
+        fn flush(&mut self) -> io::Result<()> {
+            if self.writes == 4 {
+                return Err(io::Error::from(ErrorKind::BrokenPipe));
+            }
+            Ok(())
+        }
+    }
+
+    #[test]
+    fn takes_pieces_and_counts_errors(rt: HostRuntime) {
+        let mut sink = WriteSink::new(Flaky {
+            written: Vec::new(rt.alloc()),
+            writes: 0,
+        });
+        assert_eq!(rt; sink.faults, 0);
+        for (answer, faults, written) in [
+            (Ok(3), 0, b"abc".as_slice()),
+            (Err(Failed), 1, b"abc".as_slice()),
+            (Err(Failed), 2, b"abc".as_slice()),
+            (Err(Failed), 3, b"abcabc".as_slice()),
+            (Ok(3), 3, b"abcabcabc".as_slice()),
+        ] {
+            assert_eq!(rt; sink.put(b"abcd"), answer);
+            assert_eq!(rt; sink.faults, faults);
+            assert_eq!(rt; sink.writer.written.as_slice(), written);
+        }
+    }
+}

@@ -1,7 +1,7 @@
 -- A piece that was taken counts as taken also where the answer is a refusal.
-use Rattle.std.proofs.Common.{◌≡◌, ℕ, ◌≤◌, ◌++◌, length, take, ◌+◌, refl, arith, length-take}
+use Rattle.std.proofs.Common.{◌≡◌, ◌≤◌, length, ◌+◌, refl, arith, length-take}
 use Rattle.std.proofs.lemmas.Result.{err_from_is_err_and}
-use Rattle.sil_io.proofs.Steps.{GivesMore, gives_more}
+use Rattle.sil_io.proofs.Steps.{gives_more}
 use Rattle.sil_io.proofs.reading.read_all.Goals as goal
 
 pub returns-then-count-limit-clause-gives_up : goal.returns-then-count-limit-clause-gives_up
@@ -21,7 +21,7 @@ pieces-preserved g c =
       within = omega (arith, more.count, known, c.pieces.bytes.ok.0);
       taken = rw items more.taken;
       same_count = cc (now.no_fault, c.pieces.invariant.same_count);
-      some_room = c.pieces.invariant.some_room
+      some_room = c.pieces.invariant.some_room;
     }
 
 pub returns-in_err-extend_from_slice-clause-gives_up : goal.returns-in_err-extend_from_slice-clause-gives_up

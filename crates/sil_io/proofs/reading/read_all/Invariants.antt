@@ -8,7 +8,7 @@ invariant-pieces g l = record {
   within : vec_len l.bytes ≤ l.limit;
   taken : Consumes (g.S.Source.left l.initial.src) (g.S.Source.left l.src) l.bytes.items;
   same_count : g.S.Source.faults l.src ≡ g.S.Source.faults l.initial.src;
-  some_room : 1 ≤ vec_len l.chunk
+  some_room : 1 ≤ vec_len l.chunk;
 }
 
 abbrev pub decreases-pieces : goal.decreases-pieces
