@@ -1,0 +1,367 @@
+-- What a text of each part begins with, and what may come after it.
+use Rattle.std.proofs.Common.{ℕ, List, [], ◌∷◌, Bool, true, false}
+use Rattle.sil_shape.specs.declared.classes.Keyword.{Keyword}
+use Rattle.sil_shape.specs.declared.classes.Keyword.TheVariants as k
+use Rattle.sil_shape.specs.declared.classes.AtWord.{AtWord}
+use Rattle.sil_shape.specs.declared.classes.AtWord.TheVariants as a
+use Rattle.sil_shape.specs.declared.classes.Mark.{Mark}
+use Rattle.sil_shape.specs.declared.classes.Mark.TheVariants as m
+use Rattle.sil_shape.specs.declared.classes.Class.{Class}
+use Rattle.sil_shape.specs.declared.classes.Class.TheVariants as c
+use Rattle.sil_shape.specs.declared.grammar.Terminal.{Terminal}
+use Rattle.sil_shape.specs.declared.grammar.Terminal.TheVariants as t
+use Rattle.sil_shape.specs.declared.grammar.Nonterminal.{Nonterminal}
+use Rattle.sil_shape.specs.declared.grammar.Nonterminal.TheVariants as n
+use Rattle.sil_shape.specs.declared.grammar.Production.{Production}
+use Rattle.sil_shape.specs.declared.grammar.Production.TheVariants as p
+use Rattle.sil_shape.specs.Grammar.{word, at, mark}
+
+-- what a text of a part that is not empty begins with
+unfoldable pub first : Nonterminal → List Terminal
+first n.Module = word k.SilStage ∷ word k.Import ∷ word k.Final ∷ word k.Class ∷ word k.Struct ∷ word k.Enum ∷ word k.Sil ∷ word k.SilVtable ∷ []
+first n.Stage = word k.SilStage ∷ []
+first n.StageWord = word k.Raw ∷ word k.Canonical ∷ []
+first n.Imports = word k.Import ∷ []
+first n.Items = word k.Final ∷ word k.Class ∷ word k.Struct ∷ word k.Enum ∷ word k.Sil ∷ word k.SilVtable ∷ []
+first n.Item = word k.Final ∷ word k.Class ∷ word k.Struct ∷ word k.Enum ∷ word k.Sil ∷ word k.SilVtable ∷ []
+first n.Members = word k.Final ∷ word k.Deinit ∷ word k.Init ∷ word k.Weak ∷ word k.Unowned ∷ word k.Var ∷ word k.Let ∷ at a.HasStorage ∷ []
+first n.Member = word k.Final ∷ word k.Deinit ∷ word k.Init ∷ word k.Weak ∷ word k.Unowned ∷ word k.Var ∷ word k.Let ∷ at a.HasStorage ∷ []
+first n.Modified = word k.Final ∷ word k.Weak ∷ word k.Unowned ∷ word k.Var ∷ word k.Let ∷ at a.HasStorage ∷ []
+first n.Variable = word k.Weak ∷ word k.Unowned ∷ word k.Var ∷ word k.Let ∷ []
+first n.Binding = word k.Var ∷ word k.Let ∷ []
+first n.Fields = word k.Var ∷ word k.Let ∷ at a.HasStorage ∷ []
+first n.Field = word k.Var ∷ word k.Let ∷ at a.HasStorage ∷ []
+first n.Accessors = mark m.LeftBrace ∷ []
+first n.Setter = word k.Set ∷ []
+first n.Cases = word k.Case ∷ []
+first n.Payload = mark m.LeftParen ∷ []
+first n.Type = t.AnyWord ∷ at a.SilWeak ∷ at a.SilUnowned ∷ mark m.LeftParen ∷ []
+first n.OpenType = t.AnyWord ∷ at a.SilWeak ∷ at a.SilUnowned ∷ []
+first n.Base = t.AnyWord ∷ []
+first n.BuiltinTail = mark m.Dot ∷ []
+first n.OptionalTail = mark m.Less ∷ []
+first n.Width = word k.Int1 ∷ word k.Int8 ∷ word k.Int16 ∷ word k.Int32 ∷ word k.Int64 ∷ []
+first n.OptionalMarks = mark m.Question ∷ []
+first n.Types = t.AnyWord ∷ at a.SilWeak ∷ at a.SilUnowned ∷ mark m.LeftParen ∷ []
+first n.MoreTypes = mark m.Comma ∷ []
+first n.Linkage = word k.Hidden ∷ word k.Private ∷ word k.Shared ∷ word k.Public ∷ []
+first n.Attributes = mark m.LeftBracket ∷ []
+first n.Body = mark m.LeftBrace ∷ []
+first n.FunctionType = at a.Convention ∷ []
+first n.Convention = word k.Thin ∷ word k.Method ∷ []
+first n.Params = t.AnyWord ∷ at a.SilWeak ∷ at a.SilUnowned ∷ at a.Owned ∷ at a.Guaranteed ∷ at a.Inout ∷ mark m.LeftParen ∷ []
+first n.MoreParams = mark m.Comma ∷ []
+first n.Param = t.AnyWord ∷ at a.SilWeak ∷ at a.SilUnowned ∷ at a.Owned ∷ at a.Guaranteed ∷ at a.Inout ∷ mark m.LeftParen ∷ []
+first n.Results = t.AnyWord ∷ at a.SilWeak ∷ at a.SilUnowned ∷ at a.Owned ∷ mark m.LeftParen ∷ []
+first n.ResultsInside = t.AnyWord ∷ at a.SilWeak ∷ at a.SilUnowned ∷ at a.Owned ∷ mark m.LeftParen ∷ []
+first n.MoreGivens = mark m.Comma ∷ []
+first n.Given = t.AnyWord ∷ at a.SilWeak ∷ at a.SilUnowned ∷ at a.Owned ∷ mark m.LeftParen ∷ []
+first n.Block = t.AnyWord ∷ []
+first n.Blocks = t.AnyWord ∷ []
+first n.BlockArgs = mark m.LeftParen ∷ []
+first n.MoreBlockArgs = mark m.Comma ∷ []
+first n.BlockArg = t.Just c.Percent ∷ []
+first n.Ownership = at a.Owned ∷ at a.Guaranteed ∷ []
+first n.Star = mark m.Star ∷ []
+first n.Code = word k.Struct ∷ word k.Enum ∷ word k.IntegerLiteral ∷ word k.FunctionRef ∷ word k.BuiltinMnemonic ∷ word k.CondFail ∷ word k.AllocRef ∷ word k.AllocStack ∷ word k.DeallocStack ∷ word k.CopyValue ∷ word k.DestroyValue ∷ word k.MoveValue ∷ word k.BeginBorrow ∷ word k.EndBorrow ∷ word k.Load ∷ word k.Store ∷ word k.LoadBorrow ∷ word k.DestroyAddr ∷ word k.LoadWeak ∷ word k.StoreWeak ∷ word k.LoadUnowned ∷ word k.StoreUnowned ∷ word k.Tuple ∷ word k.StructExtract ∷ word k.TupleExtract ∷ word k.DestructureStruct ∷ word k.DestructureTuple ∷ word k.StructElementAddr ∷ word k.TupleElementAddr ∷ word k.RefElementAddr ∷ word k.Apply ∷ word k.DebugValue ∷ word k.StrongRetain ∷ word k.StrongRelease ∷ word k.RetainValue ∷ word k.ReleaseValue ∷ word k.Br ∷ word k.CondBr ∷ word k.SwitchEnum ∷ word k.Return ∷ word k.Unreachable ∷ t.Just c.Percent ∷ mark m.LeftParen ∷ []
+first n.Inst = word k.Struct ∷ word k.Enum ∷ word k.IntegerLiteral ∷ word k.FunctionRef ∷ word k.BuiltinMnemonic ∷ word k.CondFail ∷ word k.AllocRef ∷ word k.AllocStack ∷ word k.DeallocStack ∷ word k.CopyValue ∷ word k.DestroyValue ∷ word k.MoveValue ∷ word k.BeginBorrow ∷ word k.EndBorrow ∷ word k.Load ∷ word k.Store ∷ word k.LoadBorrow ∷ word k.DestroyAddr ∷ word k.LoadWeak ∷ word k.StoreWeak ∷ word k.LoadUnowned ∷ word k.StoreUnowned ∷ word k.Tuple ∷ word k.StructExtract ∷ word k.TupleExtract ∷ word k.DestructureStruct ∷ word k.DestructureTuple ∷ word k.StructElementAddr ∷ word k.TupleElementAddr ∷ word k.RefElementAddr ∷ word k.Apply ∷ word k.DebugValue ∷ word k.StrongRetain ∷ word k.StrongRelease ∷ word k.RetainValue ∷ word k.ReleaseValue ∷ t.Just c.Percent ∷ mark m.LeftParen ∷ []
+first n.Names = t.Just c.Percent ∷ []
+first n.MoreNames = mark m.Comma ∷ []
+first n.Row = word k.Struct ∷ word k.Enum ∷ word k.IntegerLiteral ∷ word k.FunctionRef ∷ word k.BuiltinMnemonic ∷ word k.CondFail ∷ word k.AllocRef ∷ word k.AllocStack ∷ word k.DeallocStack ∷ word k.CopyValue ∷ word k.DestroyValue ∷ word k.MoveValue ∷ word k.BeginBorrow ∷ word k.EndBorrow ∷ word k.Load ∷ word k.Store ∷ word k.LoadBorrow ∷ word k.DestroyAddr ∷ word k.LoadWeak ∷ word k.StoreWeak ∷ word k.LoadUnowned ∷ word k.StoreUnowned ∷ word k.Tuple ∷ word k.StructExtract ∷ word k.TupleExtract ∷ word k.DestructureStruct ∷ word k.DestructureTuple ∷ word k.StructElementAddr ∷ word k.TupleElementAddr ∷ word k.RefElementAddr ∷ word k.Apply ∷ word k.DebugValue ∷ word k.StrongRetain ∷ word k.StrongRelease ∷ word k.RetainValue ∷ word k.ReleaseValue ∷ []
+first n.Terminator = word k.Br ∷ word k.CondBr ∷ word k.SwitchEnum ∷ word k.Return ∷ word k.Unreachable ∷ []
+first n.Operand = t.Just c.Percent ∷ []
+first n.Operands = t.Just c.Percent ∷ []
+first n.MoreOperands = mark m.Comma ∷ []
+first n.BareNames = t.Just c.Percent ∷ []
+first n.Edge = t.AnyWord ∷ []
+first n.EdgeArgs = mark m.LeftParen ∷ []
+first n.SwitchPart = word k.Case ∷ word k.Default ∷ []
+first n.SwitchMore = mark m.Comma ∷ []
+first n.EnumElement = mark m.Hash ∷ []
+first n.ElementSuffix = mark m.Dot ∷ []
+first n.EnumOperand = mark m.Comma ∷ []
+first n.MemberName = mark m.Hash ∷ []
+first n.Flags = mark m.LeftBracket ∷ []
+first n.FirstFlag = word k.Lexical ∷ word k.VarDecl ∷ []
+first n.VarDeclAfter = mark m.LeftBracket ∷ []
+first n.LexicalAfter = mark m.LeftBracket ∷ []
+first n.Qualifier = mark m.LeftBracket ∷ []
+first n.QualifierWord = word k.Init ∷ word k.Copy ∷ word k.Take ∷ word k.Trivial ∷ word k.Assign ∷ []
+first n.TakeFlag = mark m.LeftBracket ∷ []
+first n.InitFlag = mark m.LeftBracket ∷ []
+first n.InitWord = word k.Init ∷ word k.Initialization ∷ []
+first n.Debug = mark m.Comma ∷ []
+first n.DebugPart = word k.Var ∷ word k.Let ∷ word k.Name ∷ word k.Argno ∷ word k.Expr ∷ []
+first n.DebugAfterBinding = mark m.Comma ∷ []
+first n.DebugNamePart = word k.Name ∷ word k.Argno ∷ word k.Expr ∷ []
+first n.DebugAfterName = mark m.Comma ∷ []
+first n.DebugNumberPart = word k.Argno ∷ word k.Expr ∷ []
+first n.DebugAfterNumber = mark m.Comma ∷ []
+first n.DebugDerefPart = word k.Expr ∷ []
+first n.VtableEntry = mark m.Hash ∷ []
+
+-- what may come after a text of it
+unfoldable pub follow : Nonterminal → List Terminal
+follow n.Module = []
+follow n.Stage = word k.Import ∷ word k.Final ∷ word k.Class ∷ word k.Struct ∷ word k.Enum ∷ word k.Sil ∷ word k.SilVtable ∷ []
+follow n.StageWord = word k.Import ∷ word k.Final ∷ word k.Class ∷ word k.Struct ∷ word k.Enum ∷ word k.Sil ∷ word k.SilVtable ∷ []
+follow n.Imports = word k.Final ∷ word k.Class ∷ word k.Struct ∷ word k.Enum ∷ word k.Sil ∷ word k.SilVtable ∷ []
+follow n.Items = []
+follow n.Item = word k.Final ∷ word k.Class ∷ word k.Struct ∷ word k.Enum ∷ word k.Sil ∷ word k.SilVtable ∷ []
+follow n.Members = mark m.RightBrace ∷ []
+follow n.Member = word k.Final ∷ word k.Deinit ∷ word k.Init ∷ word k.Weak ∷ word k.Unowned ∷ word k.Var ∷ word k.Let ∷ at a.HasStorage ∷ mark m.RightBrace ∷ []
+follow n.Modified = word k.Final ∷ word k.Deinit ∷ word k.Init ∷ word k.Weak ∷ word k.Unowned ∷ word k.Var ∷ word k.Let ∷ at a.HasStorage ∷ mark m.RightBrace ∷ []
+follow n.Variable = word k.Final ∷ word k.Deinit ∷ word k.Init ∷ word k.Weak ∷ word k.Unowned ∷ word k.Var ∷ word k.Let ∷ at a.HasStorage ∷ mark m.RightBrace ∷ []
+follow n.Binding = word k.Final ∷ word k.Deinit ∷ word k.Init ∷ word k.Weak ∷ word k.Unowned ∷ word k.Var ∷ word k.Let ∷ at a.HasStorage ∷ mark m.RightBrace ∷ []
+follow n.Fields = mark m.RightBrace ∷ []
+follow n.Field = word k.Var ∷ word k.Let ∷ at a.HasStorage ∷ mark m.RightBrace ∷ []
+follow n.Accessors = word k.Final ∷ word k.Deinit ∷ word k.Init ∷ word k.Weak ∷ word k.Unowned ∷ word k.Var ∷ word k.Let ∷ at a.HasStorage ∷ mark m.RightBrace ∷ []
+follow n.Setter = mark m.RightBrace ∷ []
+follow n.Cases = mark m.RightBrace ∷ []
+follow n.Payload = word k.Case ∷ mark m.RightBrace ∷ []
+follow n.Type = t.AnyWord ∷ at a.HasStorage ∷ t.Just c.Percent ∷ mark m.LeftBrace ∷ mark m.RightBrace ∷ mark m.LeftParen ∷ mark m.RightParen ∷ mark m.Greater ∷ mark m.Comma ∷ []
+follow n.OpenType = t.AnyWord ∷ at a.HasStorage ∷ t.Just c.Percent ∷ mark m.LeftBrace ∷ mark m.RightBrace ∷ mark m.LeftParen ∷ mark m.RightParen ∷ mark m.Greater ∷ mark m.Comma ∷ []
+follow n.Base = t.AnyWord ∷ at a.HasStorage ∷ t.Just c.Percent ∷ mark m.LeftBrace ∷ mark m.RightBrace ∷ mark m.LeftParen ∷ mark m.RightParen ∷ mark m.Greater ∷ mark m.Comma ∷ mark m.Question ∷ []
+follow n.BuiltinTail = t.AnyWord ∷ at a.HasStorage ∷ t.Just c.Percent ∷ mark m.LeftBrace ∷ mark m.RightBrace ∷ mark m.LeftParen ∷ mark m.RightParen ∷ mark m.Greater ∷ mark m.Comma ∷ mark m.Question ∷ []
+follow n.OptionalTail = t.AnyWord ∷ at a.HasStorage ∷ t.Just c.Percent ∷ mark m.LeftBrace ∷ mark m.RightBrace ∷ mark m.LeftParen ∷ mark m.RightParen ∷ mark m.Greater ∷ mark m.Comma ∷ mark m.Question ∷ []
+follow n.Width = t.AnyWord ∷ at a.HasStorage ∷ t.Just c.Percent ∷ mark m.LeftBrace ∷ mark m.RightBrace ∷ mark m.LeftParen ∷ mark m.RightParen ∷ mark m.Greater ∷ mark m.Comma ∷ mark m.Question ∷ []
+follow n.OptionalMarks = t.AnyWord ∷ at a.HasStorage ∷ t.Just c.Percent ∷ mark m.LeftBrace ∷ mark m.RightBrace ∷ mark m.LeftParen ∷ mark m.RightParen ∷ mark m.Greater ∷ mark m.Comma ∷ []
+follow n.Types = mark m.RightParen ∷ []
+follow n.MoreTypes = mark m.RightParen ∷ []
+follow n.Linkage = t.AnyAt ∷ mark m.LeftBracket ∷ []
+follow n.Attributes = t.AnyAt ∷ []
+follow n.Body = word k.Final ∷ word k.Class ∷ word k.Struct ∷ word k.Enum ∷ word k.Sil ∷ word k.SilVtable ∷ []
+follow n.FunctionType = word k.Final ∷ word k.Class ∷ word k.Struct ∷ word k.Enum ∷ word k.Sil ∷ word k.SilVtable ∷ word k.IntegerLiteral ∷ word k.FunctionRef ∷ word k.BuiltinMnemonic ∷ word k.CondFail ∷ word k.AllocRef ∷ word k.AllocStack ∷ word k.DeallocStack ∷ word k.CopyValue ∷ word k.DestroyValue ∷ word k.MoveValue ∷ word k.BeginBorrow ∷ word k.EndBorrow ∷ word k.Load ∷ word k.Store ∷ word k.LoadBorrow ∷ word k.DestroyAddr ∷ word k.LoadWeak ∷ word k.StoreWeak ∷ word k.LoadUnowned ∷ word k.StoreUnowned ∷ word k.Tuple ∷ word k.StructExtract ∷ word k.TupleExtract ∷ word k.DestructureStruct ∷ word k.DestructureTuple ∷ word k.StructElementAddr ∷ word k.TupleElementAddr ∷ word k.RefElementAddr ∷ word k.Apply ∷ word k.DebugValue ∷ word k.StrongRetain ∷ word k.StrongRelease ∷ word k.RetainValue ∷ word k.ReleaseValue ∷ word k.Br ∷ word k.CondBr ∷ word k.SwitchEnum ∷ word k.Return ∷ word k.Unreachable ∷ t.Just c.Percent ∷ mark m.LeftBrace ∷ mark m.LeftParen ∷ []
+follow n.Convention = mark m.RightParen ∷ []
+follow n.Params = mark m.RightParen ∷ []
+follow n.MoreParams = mark m.RightParen ∷ []
+follow n.Param = mark m.RightParen ∷ mark m.Comma ∷ []
+follow n.Results = word k.Final ∷ word k.Class ∷ word k.Struct ∷ word k.Enum ∷ word k.Sil ∷ word k.SilVtable ∷ word k.IntegerLiteral ∷ word k.FunctionRef ∷ word k.BuiltinMnemonic ∷ word k.CondFail ∷ word k.AllocRef ∷ word k.AllocStack ∷ word k.DeallocStack ∷ word k.CopyValue ∷ word k.DestroyValue ∷ word k.MoveValue ∷ word k.BeginBorrow ∷ word k.EndBorrow ∷ word k.Load ∷ word k.Store ∷ word k.LoadBorrow ∷ word k.DestroyAddr ∷ word k.LoadWeak ∷ word k.StoreWeak ∷ word k.LoadUnowned ∷ word k.StoreUnowned ∷ word k.Tuple ∷ word k.StructExtract ∷ word k.TupleExtract ∷ word k.DestructureStruct ∷ word k.DestructureTuple ∷ word k.StructElementAddr ∷ word k.TupleElementAddr ∷ word k.RefElementAddr ∷ word k.Apply ∷ word k.DebugValue ∷ word k.StrongRetain ∷ word k.StrongRelease ∷ word k.RetainValue ∷ word k.ReleaseValue ∷ word k.Br ∷ word k.CondBr ∷ word k.SwitchEnum ∷ word k.Return ∷ word k.Unreachable ∷ t.Just c.Percent ∷ mark m.LeftBrace ∷ mark m.LeftParen ∷ []
+follow n.ResultsInside = mark m.RightParen ∷ []
+follow n.MoreGivens = mark m.RightParen ∷ []
+follow n.Given = mark m.RightParen ∷ mark m.Comma ∷ []
+follow n.Block = t.AnyWord ∷ mark m.RightBrace ∷ []
+follow n.Blocks = mark m.RightBrace ∷ []
+follow n.BlockArgs = mark m.Colon ∷ []
+follow n.MoreBlockArgs = mark m.RightParen ∷ []
+follow n.BlockArg = mark m.RightParen ∷ mark m.Comma ∷ []
+follow n.Ownership = mark m.Dollar ∷ []
+follow n.Star = t.AnyWord ∷ at a.SilWeak ∷ at a.SilUnowned ∷ mark m.LeftParen ∷ []
+follow n.Code = t.AnyWord ∷ mark m.RightBrace ∷ []
+follow n.Inst = word k.Struct ∷ word k.Enum ∷ word k.IntegerLiteral ∷ word k.FunctionRef ∷ word k.BuiltinMnemonic ∷ word k.CondFail ∷ word k.AllocRef ∷ word k.AllocStack ∷ word k.DeallocStack ∷ word k.CopyValue ∷ word k.DestroyValue ∷ word k.MoveValue ∷ word k.BeginBorrow ∷ word k.EndBorrow ∷ word k.Load ∷ word k.Store ∷ word k.LoadBorrow ∷ word k.DestroyAddr ∷ word k.LoadWeak ∷ word k.StoreWeak ∷ word k.LoadUnowned ∷ word k.StoreUnowned ∷ word k.Tuple ∷ word k.StructExtract ∷ word k.TupleExtract ∷ word k.DestructureStruct ∷ word k.DestructureTuple ∷ word k.StructElementAddr ∷ word k.TupleElementAddr ∷ word k.RefElementAddr ∷ word k.Apply ∷ word k.DebugValue ∷ word k.StrongRetain ∷ word k.StrongRelease ∷ word k.RetainValue ∷ word k.ReleaseValue ∷ word k.Br ∷ word k.CondBr ∷ word k.SwitchEnum ∷ word k.Return ∷ word k.Unreachable ∷ t.Just c.Percent ∷ mark m.LeftParen ∷ []
+follow n.Names = mark m.RightParen ∷ []
+follow n.MoreNames = mark m.RightParen ∷ []
+follow n.Row = word k.Struct ∷ word k.Enum ∷ word k.IntegerLiteral ∷ word k.FunctionRef ∷ word k.BuiltinMnemonic ∷ word k.CondFail ∷ word k.AllocRef ∷ word k.AllocStack ∷ word k.DeallocStack ∷ word k.CopyValue ∷ word k.DestroyValue ∷ word k.MoveValue ∷ word k.BeginBorrow ∷ word k.EndBorrow ∷ word k.Load ∷ word k.Store ∷ word k.LoadBorrow ∷ word k.DestroyAddr ∷ word k.LoadWeak ∷ word k.StoreWeak ∷ word k.LoadUnowned ∷ word k.StoreUnowned ∷ word k.Tuple ∷ word k.StructExtract ∷ word k.TupleExtract ∷ word k.DestructureStruct ∷ word k.DestructureTuple ∷ word k.StructElementAddr ∷ word k.TupleElementAddr ∷ word k.RefElementAddr ∷ word k.Apply ∷ word k.DebugValue ∷ word k.StrongRetain ∷ word k.StrongRelease ∷ word k.RetainValue ∷ word k.ReleaseValue ∷ word k.Br ∷ word k.CondBr ∷ word k.SwitchEnum ∷ word k.Return ∷ word k.Unreachable ∷ t.Just c.Percent ∷ mark m.LeftParen ∷ []
+follow n.Terminator = t.AnyWord ∷ mark m.RightBrace ∷ []
+follow n.Operand = t.AnyWord ∷ t.Just c.Percent ∷ mark m.RightBrace ∷ mark m.LeftParen ∷ mark m.RightParen ∷ mark m.Comma ∷ []
+follow n.Operands = mark m.RightParen ∷ []
+follow n.MoreOperands = mark m.RightParen ∷ []
+follow n.BareNames = mark m.RightParen ∷ []
+follow n.Edge = t.AnyWord ∷ mark m.RightBrace ∷ mark m.Comma ∷ []
+follow n.EdgeArgs = t.AnyWord ∷ mark m.RightBrace ∷ mark m.Comma ∷ []
+follow n.SwitchPart = t.AnyWord ∷ mark m.RightBrace ∷ []
+follow n.SwitchMore = t.AnyWord ∷ mark m.RightBrace ∷ []
+follow n.EnumElement = word k.Struct ∷ word k.Enum ∷ word k.IntegerLiteral ∷ word k.FunctionRef ∷ word k.BuiltinMnemonic ∷ word k.CondFail ∷ word k.AllocRef ∷ word k.AllocStack ∷ word k.DeallocStack ∷ word k.CopyValue ∷ word k.DestroyValue ∷ word k.MoveValue ∷ word k.BeginBorrow ∷ word k.EndBorrow ∷ word k.Load ∷ word k.Store ∷ word k.LoadBorrow ∷ word k.DestroyAddr ∷ word k.LoadWeak ∷ word k.StoreWeak ∷ word k.LoadUnowned ∷ word k.StoreUnowned ∷ word k.Tuple ∷ word k.StructExtract ∷ word k.TupleExtract ∷ word k.DestructureStruct ∷ word k.DestructureTuple ∷ word k.StructElementAddr ∷ word k.TupleElementAddr ∷ word k.RefElementAddr ∷ word k.Apply ∷ word k.DebugValue ∷ word k.StrongRetain ∷ word k.StrongRelease ∷ word k.RetainValue ∷ word k.ReleaseValue ∷ word k.Br ∷ word k.CondBr ∷ word k.SwitchEnum ∷ word k.Return ∷ word k.Unreachable ∷ t.Just c.Percent ∷ mark m.LeftParen ∷ mark m.Comma ∷ mark m.Colon ∷ []
+follow n.ElementSuffix = word k.Struct ∷ word k.Enum ∷ word k.IntegerLiteral ∷ word k.FunctionRef ∷ word k.BuiltinMnemonic ∷ word k.CondFail ∷ word k.AllocRef ∷ word k.AllocStack ∷ word k.DeallocStack ∷ word k.CopyValue ∷ word k.DestroyValue ∷ word k.MoveValue ∷ word k.BeginBorrow ∷ word k.EndBorrow ∷ word k.Load ∷ word k.Store ∷ word k.LoadBorrow ∷ word k.DestroyAddr ∷ word k.LoadWeak ∷ word k.StoreWeak ∷ word k.LoadUnowned ∷ word k.StoreUnowned ∷ word k.Tuple ∷ word k.StructExtract ∷ word k.TupleExtract ∷ word k.DestructureStruct ∷ word k.DestructureTuple ∷ word k.StructElementAddr ∷ word k.TupleElementAddr ∷ word k.RefElementAddr ∷ word k.Apply ∷ word k.DebugValue ∷ word k.StrongRetain ∷ word k.StrongRelease ∷ word k.RetainValue ∷ word k.ReleaseValue ∷ word k.Br ∷ word k.CondBr ∷ word k.SwitchEnum ∷ word k.Return ∷ word k.Unreachable ∷ t.Just c.Percent ∷ mark m.LeftParen ∷ mark m.Comma ∷ mark m.Colon ∷ []
+follow n.EnumOperand = word k.Struct ∷ word k.Enum ∷ word k.IntegerLiteral ∷ word k.FunctionRef ∷ word k.BuiltinMnemonic ∷ word k.CondFail ∷ word k.AllocRef ∷ word k.AllocStack ∷ word k.DeallocStack ∷ word k.CopyValue ∷ word k.DestroyValue ∷ word k.MoveValue ∷ word k.BeginBorrow ∷ word k.EndBorrow ∷ word k.Load ∷ word k.Store ∷ word k.LoadBorrow ∷ word k.DestroyAddr ∷ word k.LoadWeak ∷ word k.StoreWeak ∷ word k.LoadUnowned ∷ word k.StoreUnowned ∷ word k.Tuple ∷ word k.StructExtract ∷ word k.TupleExtract ∷ word k.DestructureStruct ∷ word k.DestructureTuple ∷ word k.StructElementAddr ∷ word k.TupleElementAddr ∷ word k.RefElementAddr ∷ word k.Apply ∷ word k.DebugValue ∷ word k.StrongRetain ∷ word k.StrongRelease ∷ word k.RetainValue ∷ word k.ReleaseValue ∷ word k.Br ∷ word k.CondBr ∷ word k.SwitchEnum ∷ word k.Return ∷ word k.Unreachable ∷ t.Just c.Percent ∷ mark m.LeftParen ∷ []
+follow n.MemberName = word k.Struct ∷ word k.Enum ∷ word k.IntegerLiteral ∷ word k.FunctionRef ∷ word k.BuiltinMnemonic ∷ word k.CondFail ∷ word k.AllocRef ∷ word k.AllocStack ∷ word k.DeallocStack ∷ word k.CopyValue ∷ word k.DestroyValue ∷ word k.MoveValue ∷ word k.BeginBorrow ∷ word k.EndBorrow ∷ word k.Load ∷ word k.Store ∷ word k.LoadBorrow ∷ word k.DestroyAddr ∷ word k.LoadWeak ∷ word k.StoreWeak ∷ word k.LoadUnowned ∷ word k.StoreUnowned ∷ word k.Tuple ∷ word k.StructExtract ∷ word k.TupleExtract ∷ word k.DestructureStruct ∷ word k.DestructureTuple ∷ word k.StructElementAddr ∷ word k.TupleElementAddr ∷ word k.RefElementAddr ∷ word k.Apply ∷ word k.DebugValue ∷ word k.StrongRetain ∷ word k.StrongRelease ∷ word k.RetainValue ∷ word k.ReleaseValue ∷ word k.Br ∷ word k.CondBr ∷ word k.SwitchEnum ∷ word k.Return ∷ word k.Unreachable ∷ t.Just c.Percent ∷ mark m.LeftParen ∷ []
+follow n.Flags = t.Just c.Percent ∷ mark m.Dollar ∷ []
+follow n.FirstFlag = t.Just c.Percent ∷ mark m.Dollar ∷ []
+follow n.VarDeclAfter = t.Just c.Percent ∷ mark m.Dollar ∷ []
+follow n.LexicalAfter = t.Just c.Percent ∷ mark m.Dollar ∷ []
+follow n.Qualifier = t.Just c.Percent ∷ []
+follow n.QualifierWord = mark m.RightBracket ∷ []
+follow n.TakeFlag = t.Just c.Percent ∷ []
+follow n.InitFlag = t.Just c.Percent ∷ []
+follow n.InitWord = mark m.RightBracket ∷ []
+follow n.Debug = word k.Struct ∷ word k.Enum ∷ word k.IntegerLiteral ∷ word k.FunctionRef ∷ word k.BuiltinMnemonic ∷ word k.CondFail ∷ word k.AllocRef ∷ word k.AllocStack ∷ word k.DeallocStack ∷ word k.CopyValue ∷ word k.DestroyValue ∷ word k.MoveValue ∷ word k.BeginBorrow ∷ word k.EndBorrow ∷ word k.Load ∷ word k.Store ∷ word k.LoadBorrow ∷ word k.DestroyAddr ∷ word k.LoadWeak ∷ word k.StoreWeak ∷ word k.LoadUnowned ∷ word k.StoreUnowned ∷ word k.Tuple ∷ word k.StructExtract ∷ word k.TupleExtract ∷ word k.DestructureStruct ∷ word k.DestructureTuple ∷ word k.StructElementAddr ∷ word k.TupleElementAddr ∷ word k.RefElementAddr ∷ word k.Apply ∷ word k.DebugValue ∷ word k.StrongRetain ∷ word k.StrongRelease ∷ word k.RetainValue ∷ word k.ReleaseValue ∷ word k.Br ∷ word k.CondBr ∷ word k.SwitchEnum ∷ word k.Return ∷ word k.Unreachable ∷ t.Just c.Percent ∷ mark m.LeftParen ∷ []
+follow n.DebugPart = word k.Struct ∷ word k.Enum ∷ word k.IntegerLiteral ∷ word k.FunctionRef ∷ word k.BuiltinMnemonic ∷ word k.CondFail ∷ word k.AllocRef ∷ word k.AllocStack ∷ word k.DeallocStack ∷ word k.CopyValue ∷ word k.DestroyValue ∷ word k.MoveValue ∷ word k.BeginBorrow ∷ word k.EndBorrow ∷ word k.Load ∷ word k.Store ∷ word k.LoadBorrow ∷ word k.DestroyAddr ∷ word k.LoadWeak ∷ word k.StoreWeak ∷ word k.LoadUnowned ∷ word k.StoreUnowned ∷ word k.Tuple ∷ word k.StructExtract ∷ word k.TupleExtract ∷ word k.DestructureStruct ∷ word k.DestructureTuple ∷ word k.StructElementAddr ∷ word k.TupleElementAddr ∷ word k.RefElementAddr ∷ word k.Apply ∷ word k.DebugValue ∷ word k.StrongRetain ∷ word k.StrongRelease ∷ word k.RetainValue ∷ word k.ReleaseValue ∷ word k.Br ∷ word k.CondBr ∷ word k.SwitchEnum ∷ word k.Return ∷ word k.Unreachable ∷ t.Just c.Percent ∷ mark m.LeftParen ∷ []
+follow n.DebugAfterBinding = word k.Struct ∷ word k.Enum ∷ word k.IntegerLiteral ∷ word k.FunctionRef ∷ word k.BuiltinMnemonic ∷ word k.CondFail ∷ word k.AllocRef ∷ word k.AllocStack ∷ word k.DeallocStack ∷ word k.CopyValue ∷ word k.DestroyValue ∷ word k.MoveValue ∷ word k.BeginBorrow ∷ word k.EndBorrow ∷ word k.Load ∷ word k.Store ∷ word k.LoadBorrow ∷ word k.DestroyAddr ∷ word k.LoadWeak ∷ word k.StoreWeak ∷ word k.LoadUnowned ∷ word k.StoreUnowned ∷ word k.Tuple ∷ word k.StructExtract ∷ word k.TupleExtract ∷ word k.DestructureStruct ∷ word k.DestructureTuple ∷ word k.StructElementAddr ∷ word k.TupleElementAddr ∷ word k.RefElementAddr ∷ word k.Apply ∷ word k.DebugValue ∷ word k.StrongRetain ∷ word k.StrongRelease ∷ word k.RetainValue ∷ word k.ReleaseValue ∷ word k.Br ∷ word k.CondBr ∷ word k.SwitchEnum ∷ word k.Return ∷ word k.Unreachable ∷ t.Just c.Percent ∷ mark m.LeftParen ∷ []
+follow n.DebugNamePart = word k.Struct ∷ word k.Enum ∷ word k.IntegerLiteral ∷ word k.FunctionRef ∷ word k.BuiltinMnemonic ∷ word k.CondFail ∷ word k.AllocRef ∷ word k.AllocStack ∷ word k.DeallocStack ∷ word k.CopyValue ∷ word k.DestroyValue ∷ word k.MoveValue ∷ word k.BeginBorrow ∷ word k.EndBorrow ∷ word k.Load ∷ word k.Store ∷ word k.LoadBorrow ∷ word k.DestroyAddr ∷ word k.LoadWeak ∷ word k.StoreWeak ∷ word k.LoadUnowned ∷ word k.StoreUnowned ∷ word k.Tuple ∷ word k.StructExtract ∷ word k.TupleExtract ∷ word k.DestructureStruct ∷ word k.DestructureTuple ∷ word k.StructElementAddr ∷ word k.TupleElementAddr ∷ word k.RefElementAddr ∷ word k.Apply ∷ word k.DebugValue ∷ word k.StrongRetain ∷ word k.StrongRelease ∷ word k.RetainValue ∷ word k.ReleaseValue ∷ word k.Br ∷ word k.CondBr ∷ word k.SwitchEnum ∷ word k.Return ∷ word k.Unreachable ∷ t.Just c.Percent ∷ mark m.LeftParen ∷ []
+follow n.DebugAfterName = word k.Struct ∷ word k.Enum ∷ word k.IntegerLiteral ∷ word k.FunctionRef ∷ word k.BuiltinMnemonic ∷ word k.CondFail ∷ word k.AllocRef ∷ word k.AllocStack ∷ word k.DeallocStack ∷ word k.CopyValue ∷ word k.DestroyValue ∷ word k.MoveValue ∷ word k.BeginBorrow ∷ word k.EndBorrow ∷ word k.Load ∷ word k.Store ∷ word k.LoadBorrow ∷ word k.DestroyAddr ∷ word k.LoadWeak ∷ word k.StoreWeak ∷ word k.LoadUnowned ∷ word k.StoreUnowned ∷ word k.Tuple ∷ word k.StructExtract ∷ word k.TupleExtract ∷ word k.DestructureStruct ∷ word k.DestructureTuple ∷ word k.StructElementAddr ∷ word k.TupleElementAddr ∷ word k.RefElementAddr ∷ word k.Apply ∷ word k.DebugValue ∷ word k.StrongRetain ∷ word k.StrongRelease ∷ word k.RetainValue ∷ word k.ReleaseValue ∷ word k.Br ∷ word k.CondBr ∷ word k.SwitchEnum ∷ word k.Return ∷ word k.Unreachable ∷ t.Just c.Percent ∷ mark m.LeftParen ∷ []
+follow n.DebugNumberPart = word k.Struct ∷ word k.Enum ∷ word k.IntegerLiteral ∷ word k.FunctionRef ∷ word k.BuiltinMnemonic ∷ word k.CondFail ∷ word k.AllocRef ∷ word k.AllocStack ∷ word k.DeallocStack ∷ word k.CopyValue ∷ word k.DestroyValue ∷ word k.MoveValue ∷ word k.BeginBorrow ∷ word k.EndBorrow ∷ word k.Load ∷ word k.Store ∷ word k.LoadBorrow ∷ word k.DestroyAddr ∷ word k.LoadWeak ∷ word k.StoreWeak ∷ word k.LoadUnowned ∷ word k.StoreUnowned ∷ word k.Tuple ∷ word k.StructExtract ∷ word k.TupleExtract ∷ word k.DestructureStruct ∷ word k.DestructureTuple ∷ word k.StructElementAddr ∷ word k.TupleElementAddr ∷ word k.RefElementAddr ∷ word k.Apply ∷ word k.DebugValue ∷ word k.StrongRetain ∷ word k.StrongRelease ∷ word k.RetainValue ∷ word k.ReleaseValue ∷ word k.Br ∷ word k.CondBr ∷ word k.SwitchEnum ∷ word k.Return ∷ word k.Unreachable ∷ t.Just c.Percent ∷ mark m.LeftParen ∷ []
+follow n.DebugAfterNumber = word k.Struct ∷ word k.Enum ∷ word k.IntegerLiteral ∷ word k.FunctionRef ∷ word k.BuiltinMnemonic ∷ word k.CondFail ∷ word k.AllocRef ∷ word k.AllocStack ∷ word k.DeallocStack ∷ word k.CopyValue ∷ word k.DestroyValue ∷ word k.MoveValue ∷ word k.BeginBorrow ∷ word k.EndBorrow ∷ word k.Load ∷ word k.Store ∷ word k.LoadBorrow ∷ word k.DestroyAddr ∷ word k.LoadWeak ∷ word k.StoreWeak ∷ word k.LoadUnowned ∷ word k.StoreUnowned ∷ word k.Tuple ∷ word k.StructExtract ∷ word k.TupleExtract ∷ word k.DestructureStruct ∷ word k.DestructureTuple ∷ word k.StructElementAddr ∷ word k.TupleElementAddr ∷ word k.RefElementAddr ∷ word k.Apply ∷ word k.DebugValue ∷ word k.StrongRetain ∷ word k.StrongRelease ∷ word k.RetainValue ∷ word k.ReleaseValue ∷ word k.Br ∷ word k.CondBr ∷ word k.SwitchEnum ∷ word k.Return ∷ word k.Unreachable ∷ t.Just c.Percent ∷ mark m.LeftParen ∷ []
+follow n.DebugDerefPart = word k.Struct ∷ word k.Enum ∷ word k.IntegerLiteral ∷ word k.FunctionRef ∷ word k.BuiltinMnemonic ∷ word k.CondFail ∷ word k.AllocRef ∷ word k.AllocStack ∷ word k.DeallocStack ∷ word k.CopyValue ∷ word k.DestroyValue ∷ word k.MoveValue ∷ word k.BeginBorrow ∷ word k.EndBorrow ∷ word k.Load ∷ word k.Store ∷ word k.LoadBorrow ∷ word k.DestroyAddr ∷ word k.LoadWeak ∷ word k.StoreWeak ∷ word k.LoadUnowned ∷ word k.StoreUnowned ∷ word k.Tuple ∷ word k.StructExtract ∷ word k.TupleExtract ∷ word k.DestructureStruct ∷ word k.DestructureTuple ∷ word k.StructElementAddr ∷ word k.TupleElementAddr ∷ word k.RefElementAddr ∷ word k.Apply ∷ word k.DebugValue ∷ word k.StrongRetain ∷ word k.StrongRelease ∷ word k.RetainValue ∷ word k.ReleaseValue ∷ word k.Br ∷ word k.CondBr ∷ word k.SwitchEnum ∷ word k.Return ∷ word k.Unreachable ∷ t.Just c.Percent ∷ mark m.LeftParen ∷ []
+follow n.VtableEntry = mark m.RightBrace ∷ []
+
+-- whether the list may end after it
+unfoldable pub ends : Nonterminal → Bool
+ends n.Module = true
+ends n.Stage = true
+ends n.StageWord = true
+ends n.Imports = true
+ends n.Items = true
+ends n.Item = true
+ends n.Type = true
+ends n.OpenType = true
+ends n.Base = true
+ends n.BuiltinTail = true
+ends n.OptionalTail = true
+ends n.Width = true
+ends n.OptionalMarks = true
+ends n.Body = true
+ends n.FunctionType = true
+ends n.Results = true
+ends _ = false
+
+-- whether its text may be empty
+unfoldable pub nullable : Nonterminal → Bool
+nullable n.Module = true
+nullable n.Stage = true
+nullable n.Imports = true
+nullable n.Items = true
+nullable n.Members = true
+nullable n.Fields = true
+nullable n.Accessors = true
+nullable n.Setter = true
+nullable n.Cases = true
+nullable n.Payload = true
+nullable n.BuiltinTail = true
+nullable n.OptionalTail = true
+nullable n.OptionalMarks = true
+nullable n.Types = true
+nullable n.MoreTypes = true
+nullable n.Linkage = true
+nullable n.Attributes = true
+nullable n.Body = true
+nullable n.Params = true
+nullable n.MoreParams = true
+nullable n.ResultsInside = true
+nullable n.MoreGivens = true
+nullable n.Blocks = true
+nullable n.BlockArgs = true
+nullable n.MoreBlockArgs = true
+nullable n.Ownership = true
+nullable n.Star = true
+nullable n.Names = true
+nullable n.MoreNames = true
+nullable n.Operands = true
+nullable n.MoreOperands = true
+nullable n.BareNames = true
+nullable n.EdgeArgs = true
+nullable n.SwitchMore = true
+nullable n.ElementSuffix = true
+nullable n.EnumOperand = true
+nullable n.Flags = true
+nullable n.VarDeclAfter = true
+nullable n.LexicalAfter = true
+nullable n.Qualifier = true
+nullable n.TakeFlag = true
+nullable n.InitFlag = true
+nullable n.Debug = true
+nullable n.DebugAfterBinding = true
+nullable n.DebugAfterName = true
+nullable n.DebugAfterNumber = true
+nullable n.VtableEntry = true
+nullable _ = false
+
+-- more than the productions that are expanded one after another, with no token taken, to get rid of it
+unfoldable pub weight : Nonterminal → ℕ
+weight n.Module = 5
+weight n.Items = 2
+weight n.Members = 4
+weight n.Member = 3
+weight n.Modified = 3
+weight n.Variable = 2
+weight n.Fields = 3
+weight n.Field = 2
+weight n.Type = 3
+weight n.OpenType = 2
+weight n.Types = 4
+weight n.Params = 5
+weight n.Param = 4
+weight n.Results = 3
+weight n.ResultsInside = 5
+weight n.Given = 4
+weight n.Blocks = 2
+weight n.Code = 3
+weight n.Inst = 2
+weight n.Operands = 2
+weight n.DebugPart = 4
+weight n.DebugNamePart = 3
+weight n.DebugNumberPart = 2
+weight _ = 1
+
+-- a production of each part that leads to an end
+unfoldable pub shortest : Nonterminal → Production
+shortest n.Module = p.WholeModule
+shortest n.Stage = p.StageNone
+shortest n.StageWord = p.Raw
+shortest n.Imports = p.ImportsEnd
+shortest n.Items = p.ItemsEnd
+shortest n.Item = p.PlainClass
+shortest n.Members = p.MembersEnd
+shortest n.Member = p.DeinitMember
+shortest n.Modified = p.ModifiedVariable
+shortest n.Variable = p.StrongVariable
+shortest n.Binding = p.VarBinding
+shortest n.Fields = p.FieldsEnd
+shortest n.Field = p.PlainField
+shortest n.Accessors = p.AccessorsNone
+shortest n.Setter = p.SetterNone
+shortest n.Cases = p.CasesEnd
+shortest n.Payload = p.PayloadNone
+shortest n.Type = p.ParenType
+shortest n.OpenType = p.BaseOpen
+shortest n.Base = p.NamedBase
+shortest n.BuiltinTail = p.BuiltinName
+shortest n.OptionalTail = p.OptionalName
+shortest n.Width = p.Width1
+shortest n.OptionalMarks = p.OptionalMarksEnd
+shortest n.Types = p.TypesNone
+shortest n.MoreTypes = p.MoreTypesEnd
+shortest n.Linkage = p.LinkagePlain
+shortest n.Attributes = p.AttributesEnd
+shortest n.Body = p.BodyNone
+shortest n.FunctionType = p.WholeFunctionType
+shortest n.Convention = p.Thin
+shortest n.Params = p.ParamsNone
+shortest n.MoreParams = p.MoreParamsEnd
+shortest n.Param = p.ParamPlain
+shortest n.Results = p.ResultList
+shortest n.ResultsInside = p.InsideNone
+shortest n.MoreGivens = p.MoreGivensEnd
+shortest n.Given = p.GivenPlain
+shortest n.Block = p.WholeBlock
+shortest n.Blocks = p.BlocksEnd
+shortest n.BlockArgs = p.BlockArgsNone
+shortest n.MoreBlockArgs = p.MoreBlockArgsEnd
+shortest n.BlockArg = p.WholeBlockArg
+shortest n.Ownership = p.OwnershipNone
+shortest n.Star = p.StarNone
+shortest n.Code = p.CodeEnd
+shortest n.Inst = p.InstUnnamed
+shortest n.Names = p.NamesNone
+shortest n.MoreNames = p.MoreNamesEnd
+shortest n.Row = p.RowTuple
+shortest n.Terminator = p.RowUnreachable
+shortest n.Operand = p.WholeOperand
+shortest n.Operands = p.OperandsNone
+shortest n.MoreOperands = p.MoreOperandsEnd
+shortest n.BareNames = p.BareNamesNone
+shortest n.Edge = p.WholeEdge
+shortest n.EdgeArgs = p.EdgeArgsNone
+shortest n.SwitchPart = p.SwitchDefault
+shortest n.SwitchMore = p.SwitchMoreEnd
+shortest n.EnumElement = p.WholeEnumElement
+shortest n.ElementSuffix = p.SuffixNone
+shortest n.EnumOperand = p.EnumOperandNone
+shortest n.MemberName = p.WholeMemberName
+shortest n.Flags = p.FlagsNone
+shortest n.FirstFlag = p.LexicalFirst
+shortest n.VarDeclAfter = p.VarDeclAfterNone
+shortest n.LexicalAfter = p.LexicalAfterNone
+shortest n.Qualifier = p.QualifierNone
+shortest n.QualifierWord = p.QualifierCopy
+shortest n.TakeFlag = p.TakeFlagNone
+shortest n.InitFlag = p.InitFlagNone
+shortest n.InitWord = p.InitShort
+shortest n.Debug = p.DebugNone
+shortest n.DebugPart = p.DebugLet
+shortest n.DebugAfterBinding = p.DebugAfterBindingNone
+shortest n.DebugNamePart = p.DebugName
+shortest n.DebugAfterName = p.DebugAfterNameNone
+shortest n.DebugNumberPart = p.DebugNumber
+shortest n.DebugAfterNumber = p.DebugAfterNumberNone
+shortest n.DebugDerefPart = p.DebugDeref
+shortest n.VtableEntry = p.EntryNone
