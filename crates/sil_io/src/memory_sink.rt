@@ -1,7 +1,7 @@
 //! A sink in memory that takes short pieces, fails at chosen calls and has room for so many bytes.
 //! It stands in for an output that nobody can foresee.
 
-ghost use Rattle.std.specs.Prelude.{◌≡◌, ℕ, ◌↔◌, ◌<◌, ◌≤◌, [], Some, IfOk, IsErr, IsTrue, MatchResult, length, vec_len, take};
+ghost use Rattle.std.specs.Prelude.{◌≡◌, ℕ, ◌↔◌, ◌<◌, ◌≤◌, [], Some, IfOk, IsOk, IsErr, IsTrue, MatchResult, length, vec_len, take};
 ghost use Rattle.std.specs.Vec.{vec_capacity};
 ghost use Rattle.sil_io.specs.MemorySink.{SinkState, refuses_next, next_taken, after_taking, after_refusal};
 
@@ -40,7 +40,8 @@ impl MemorySink {
         fails: Vec<u64>,
     ) -> Result<MemorySink, Exhausted>
         requires { 1 ≤ piece }
-        ensures { IfOk result (λ sink. sink ≡ record { held = []; room = room; piece = piece; fails = fails.items; calls = 0; faults = 0 }) }
+        ensures empty { IfOk result (λ sink. sink ≡ record { held = []; room = room; piece = piece; fails = fails.items; calls = 0; faults = 0 }) }
+        ensures nothing_to_reserve { room ≡ 0 → IsOk result }
     {
         Ok(MemorySink {
             bytes: Vec::with_capacity(alloc, room)?,

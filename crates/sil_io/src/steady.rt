@@ -54,7 +54,10 @@ impl Source for SteadySource {
 pub struct NullSink;
 
 impl NullSink {
-    pub fn new() -> NullSink {
+    /// A sink that has not failed and never will.
+    pub fn new() -> NullSink
+        ensures { ⟦<NullSink as Sink>⟧.faults result ≡ 0 }
+    {
         NullSink
     }
 }
