@@ -1,6 +1,6 @@
 -- What comes next decides the production: the table is right and complete for stacks that fit the grammar.
-use Rattle.std.proofs.Common.{◌≡◌, ℕ, zero, suc, ◌⊎◌, inl, inr, List, [], ◌∷◌, ◌++◌, refl, ap, sym, subst, ◌∙◌, append_assoc, arith, Bool, true, false}
-use Rattle.std.specs.Prelude.{Option, Some, None, ◌&&◌, ◌||◌, ◌==◌}
+use Rattle.std.proofs.Common.{◌≡◌, ℕ, zero, suc, ◌⊎◌, inl, inr, List, [], ◌∷◌, ◌++◌, refl, ap, subst, Bool, true, false}
+use Rattle.std.specs.Prelude.{Option, Some, None, ◌&&◌, ◌||◌}
 use Rattle.std.proofs.lemmas.Bool.{and_parts, and_from, or_cases, or_left, or_right, eq-eqb, false≢true}
 use Rattle.sil_shape.specs.declared.classes.Class.{Class}
 use Rattle.sil_shape.specs.declared.grammar.Terminal.{Terminal}
@@ -18,7 +18,7 @@ use Rattle.sil_shape.specs.declared.steps.Step.TheVariants.{Take, Expand}
 use Rattle.sil_shape.specs.Derivation.{Accepts, Derives, nothing, token, rule}
 use Rattle.sil_shape.proofs.Derived.{Derives-append}
 use Rattle.sil_shape.proofs.Sets.{first, nullable, shortest}
-use Rattle.sil_shape.proofs.Numbered.{each_look, each_look-at, same_production, same_part}
+use Rattle.sil_shape.proofs.Numbered.{each_look-at, same_production, same_part}
 use Rattle.sil_shape.proofs.Computed.{follows, begins_one, begins, vanishes_one, vanishes, implies, comes, fits_one, fits, is_it, is_way, grow, example, computed_first, computed_nullable, computed_follow, computed_choice, computed_way, computed_grow, shortest-way, follows-start}
 
 -- the class that comes next, if any does

@@ -1,12 +1,8 @@
 -- What is computed of the grammar, production by production: its sets are closed, and the next token chooses.
 use Rattle.std.proofs.Common.{◌≡◌, ℕ, zero, suc, ◌+◌, List, [], ◌∷◌, ◌++◌, refl, Bool, true, false}
 use Rattle.std.specs.Prelude.{Option, Some, None, ◌&&◌, ◌||◌, ◌==◌, nat_lt}
-use Rattle.sil_shape.specs.declared.classes.Keyword.{Keyword}
 use Rattle.sil_shape.specs.declared.classes.Keyword.TheVariants as k
-use Rattle.sil_shape.specs.declared.classes.AtWord.{AtWord}
 use Rattle.sil_shape.specs.declared.classes.AtWord.TheVariants as a
-use Rattle.sil_shape.specs.declared.classes.Mark.{Mark}
-use Rattle.sil_shape.specs.declared.classes.Mark.TheVariants as m
 use Rattle.sil_shape.specs.declared.classes.Class.{Class}
 use Rattle.sil_shape.specs.declared.classes.Class.TheVariants as c
 use Rattle.sil_shape.specs.declared.grammar.Terminal.{Terminal}

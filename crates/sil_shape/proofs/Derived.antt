@@ -1,9 +1,8 @@
 -- Derivations one after another.
-use Rattle.std.proofs.Common.{◌≡◌, List, [], ◌∷◌, ◌++◌, append_assoc, refl}
+use Rattle.std.proofs.Common.{◌≡◌, List, [], ◌++◌, append_assoc, refl}
 use Rattle.sil_shape.specs.declared.classes.Class.{Class}
 use Rattle.sil_shape.specs.declared.grammar.Symbol.{Symbol}
 use Rattle.sil_shape.specs.declared.steps.Step.{Step}
-use Rattle.sil_shape.specs.Grammar.{body}
 use Rattle.sil_shape.specs.Derivation.{Derives, nothing, token, rule}
 
 pub Derives-append : {ss rr : List Symbol} {xs ys : List Class} {us vs : List Step}

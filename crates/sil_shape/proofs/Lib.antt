@@ -7,4 +7,5 @@ pub mod Ahead
 pub mod TurnLemmas
 pub mod Reached
 pub mod NameLemmas
+pub mod SpellingLemmas
 pub mod GoesOnLemmas

@@ -1,13 +1,10 @@
 -- All classes, productions and parts, each at a number of its own.
-use Rattle.std.proofs.Common.{◌≡◌, ℕ, zero, suc, List, [], ◌∷◌, refl, ap, sym, subst, ◌∙◌, arith, Bool, true, false}
+use Rattle.std.proofs.Common.{◌≡◌, ℕ, zero, suc, List, [], ◌∷◌, refl, ap, sym, subst, ◌∙◌, Bool, true}
 use Rattle.std.specs.Prelude.{Option, Some, None, ◌==◌, slice_index_or}
 use Rattle.std.proofs.lemmas.Bool.{and_parts, eqb-true}
 use Rattle.std.specs.List.{list_all}
-use Rattle.sil_shape.specs.declared.classes.Keyword.{Keyword}
 use Rattle.sil_shape.specs.declared.classes.Keyword.TheVariants as k
-use Rattle.sil_shape.specs.declared.classes.AtWord.{AtWord}
 use Rattle.sil_shape.specs.declared.classes.AtWord.TheVariants as a
-use Rattle.sil_shape.specs.declared.classes.Mark.{Mark}
 use Rattle.sil_shape.specs.declared.classes.Mark.TheVariants as m
 use Rattle.sil_shape.specs.declared.classes.Class.{Class}
 use Rattle.sil_shape.specs.declared.classes.Class.TheVariants as c

@@ -1,12 +1,8 @@
 -- What a text of each part begins with, and what may come after it.
 use Rattle.std.proofs.Common.{ℕ, List, [], ◌∷◌, Bool, true, false}
-use Rattle.sil_shape.specs.declared.classes.Keyword.{Keyword}
 use Rattle.sil_shape.specs.declared.classes.Keyword.TheVariants as k
-use Rattle.sil_shape.specs.declared.classes.AtWord.{AtWord}
 use Rattle.sil_shape.specs.declared.classes.AtWord.TheVariants as a
-use Rattle.sil_shape.specs.declared.classes.Mark.{Mark}
 use Rattle.sil_shape.specs.declared.classes.Mark.TheVariants as m
-use Rattle.sil_shape.specs.declared.classes.Class.{Class}
 use Rattle.sil_shape.specs.declared.classes.Class.TheVariants as c
 use Rattle.sil_shape.specs.declared.grammar.Terminal.{Terminal}
 use Rattle.sil_shape.specs.declared.grammar.Terminal.TheVariants as t

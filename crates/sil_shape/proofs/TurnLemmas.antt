@@ -1,6 +1,6 @@
 -- Turns of the machine follow one another, and end.
-use Rattle.std.proofs.Common.{◌≡◌, ℕ, zero, suc, ◌+◌, ◌<◌, ◌≤◌, List, [], ◌∷◌, ◌++◌, refl, ap, sym, subst, ◌∙◌, arith, Bool, true, false}
-use Rattle.std.specs.Prelude.{Option, Some, None, ◌&&◌, nat_lt}
+use Rattle.std.proofs.Common.{◌≡◌, ℕ, ◌+◌, ◌<◌, ◌≤◌, List, [], ◌∷◌, ◌++◌, refl, ap, sym, subst, arith, Bool, true, false}
+use Rattle.std.specs.Prelude.{Option, Some, None, ◌&&◌}
 use Rattle.std.proofs.lemmas.Bool.{ltb-true}
 use Rattle.sil_shape.specs.declared.classes.Class.{Class}
 use Rattle.sil_shape.specs.declared.grammar.Nonterminal.{Nonterminal}
@@ -8,10 +8,8 @@ use Rattle.sil_shape.specs.declared.grammar.Symbol.{Symbol}
 use Rattle.sil_shape.specs.declared.grammar.Symbol.TheVariants.{Read, Part}
 use Rattle.sil_shape.specs.declared.grammar.Production.{Production}
 use Rattle.sil_shape.specs.declared.steps.Step.{Step}
-use Rattle.sil_shape.specs.declared.steps.Step.TheVariants.{Expand}
 use Rattle.sil_shape.specs.Grammar.{written, body}
-use Rattle.sil_shape.specs.Choice.{choose}
-use Rattle.sil_shape.specs.Turns.{Turns, stay, turn, Expands, IsToken, IsStuckAt, Refuses}
+use Rattle.sil_shape.specs.Turns.{Turns, turn, Expands, IsToken, IsStuckAt, Refuses}
 use Rattle.sil_shape.specs.Derivation.{Accepts}
 use Rattle.sil_shape.proofs.Sets.{weight}
 use Rattle.sil_shape.proofs.Computed.{lead, weight_one, if_vanishes, vanishes, vanishes_one, computed_weight}

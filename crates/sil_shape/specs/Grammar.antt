@@ -6,7 +6,6 @@ use Rattle.sil_shape.specs.declared.classes.AtWord.{AtWord}
 use Rattle.sil_shape.specs.declared.classes.AtWord.TheVariants as a
 use Rattle.sil_shape.specs.declared.classes.Mark.{Mark}
 use Rattle.sil_shape.specs.declared.classes.Mark.TheVariants as m
-use Rattle.sil_shape.specs.declared.classes.Class.{Class}
 use Rattle.sil_shape.specs.declared.classes.Class.TheVariants as c
 use Rattle.sil_shape.specs.declared.grammar.Terminal.{Terminal}
 use Rattle.sil_shape.specs.declared.grammar.Terminal.TheVariants as t

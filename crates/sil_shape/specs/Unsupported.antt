@@ -1,5 +1,5 @@
 -- When the first bad token is unsupported: it names something of a kind that the grammar knows, and the grammar lacks it.
-use Rattle.std.specs.Prelude.{◌≡◌, ◌⊎◌, ℕ, Bool, true, false, List, [], ◌∷◌, ◌++◌, take, slice_get, Option, Some}
+use Rattle.std.specs.Prelude.{◌≡◌, ◌⊎◌, ℕ, Bool, true, false, List, [], ◌∷◌, ◌++◌, take, slice_get, Some}
 use Rattle.sil_shape.specs.declared.classes.Keyword.{Keyword}
 use Rattle.sil_shape.specs.declared.classes.Keyword.TheVariants as k
 use Rattle.sil_shape.specs.declared.classes.Class.{Class}

@@ -1,6 +1,9 @@
 //! How the words, the names with `@` and the marks of the grammar are spelled, and which class a spelling has.
 
-ghost use Rattle.std.specs.Prelude.{◌≡◌};
+ghost use Rattle.std.specs.Prelude.{◌≡◌, ◌⊎◌, IfSome};
+ghost use Rattle.sil_shape.specs.declared.classes.Keyword.{Keyword};
+ghost use Rattle.sil_shape.specs.declared.classes.AtWord.{AtWord};
+ghost use Rattle.sil_shape.specs.declared.classes.Mark.{Mark};
 ghost use Rattle.sil_shape.specs.Spelling.{spelling, keywords_of_length, known_keyword, keyword_of, at_spelling, at_words, known_at_word, at_word_of, mark_spelling, marks, mark_of};
 
 use crate::classes::{AtWord, Keyword, Mark};
@@ -228,7 +231,11 @@ fn known_keyword(word: &[u8]) -> Option<Keyword>
 /// The keyword that a word spells.
 #[tactic(auto, unfolding(crate::specs::Spelling::keyword_of))]
 pub fn keyword(word: &[u8]) -> Keyword
-    ensures { result ≡ keyword_of word.now }
+    ensures value { result ≡ keyword_of word.now }
+
+    // each spelling is read as what it spells, and no other word is
+    ensures each { (k : Keyword) → spelling k ≡ word.now → result ≡ k }
+    ensures known { (result ≡ Keyword.Other) ⊎ (spelling result ≡ word.now) }
 {
     known_keyword(word).unwrap_or(Keyword::Other)
 }
@@ -299,7 +306,10 @@ fn known_at_word(name: &[u8]) -> Option<AtWord>
 /// The name with `@` that these bytes spell, without the `@`.
 #[tactic(auto, unfolding(crate::specs::Spelling::at_word_of))]
 pub fn at_word(name: &[u8]) -> AtWord
-    ensures { result ≡ at_word_of name.now }
+    ensures value { result ≡ at_word_of name.now }
+
+    ensures each { (a : AtWord) → at_spelling a ≡ name.now → result ≡ a }
+    ensures known { (result ≡ AtWord.Other) ⊎ (at_spelling result ≡ name.now) }
 {
     known_at_word(name).unwrap_or(AtWord::Other)
 }
@@ -307,7 +317,9 @@ pub fn at_word(name: &[u8]) -> AtWord
 /// The mark that these bytes spell, if they spell one.
 #[tactic(auto, unfolding(crate::specs::Spelling::mark_of, crate::specs::Spelling::marks))]
 pub fn mark(bytes: &[u8]) -> Option<Mark>
-    ensures { result ≡ mark_of bytes.now }
+    ensures value { result ≡ mark_of bytes.now }
+
+    ensures known { IfSome result (λ m. mark_spelling m ≡ bytes.now) }
 {
     let marks: &[Mark] = &[
         Mark::LeftBrace,

@@ -4,7 +4,9 @@ use crate::builtin_names::is_builtin_name;
 use crate::classes::Class;
 use crate::machine::{ShapeRefusal, steps_of};
 use crate::spelling::{at_word, keyword, mark};
+use crate::unsupported::is_unsupported;
 use std::alloc::{AllocError, Global};
+use std::process::Abort;
 use std::test::Fail;
 
 fn text_class(bytes: &[u8]) -> Class {
@@ -41,11 +43,13 @@ fn push_classes(classes: &mut Vec<Class>, text: &str) -> Result<(), AllocError> 
     Ok(())
 }
 
-/// The first bad place of a text, if it has one.
-fn first_bad(alloc: Global, classes: &[Class]) -> Result<Option<usize>, Fail> {
+/// The first bad place of a list, if it has one, and whether the token there is unsupported.
+fn first_bad(alloc: Global, classes: &[Class]) -> Result<Option<(usize, bool)>, Fail> {
     match steps_of(alloc, classes) {
         Ok(_steps) => Ok(None),
-        Err(ShapeRefusal::FirstBad(place)) => Ok(Some(place)),
+        Err(ShapeRefusal::FirstBad(place)) => {
+            Ok(Some((place, is_unsupported(alloc, classes, place)?)))
+        }
         Err(ShapeRefusal::Memory) => Err(Fail::from(AllocError)),
     }
 }
@@ -72,7 +76,7 @@ const MODULE: &str = "sil_stage canonical import Builtin import Swift \
     sil_vtable Box { # Box . deinit ! destroyer : @f } sil_vtable Box { } class final { }";
 
 // Each row: the words of a list up to its first bad place, and the words from there on.
-const REFUSED: [(&str, &str); 34] = [
+const REFUSED: [(&str, &str); 32] = [
     ("", "raw"),
     ("sil_stage", "lowered"),
     ("sil_stage raw", "sil_stage raw"),
@@ -84,7 +88,6 @@ const REFUSED: [(&str, &str); 34] = [
     ("class C { init (", "x )"),
     ("struct S { var x :", "}"),
     ("struct S { var x : A { get", "get }"),
-    ("struct S { var x : Builtin .", "Int7 }"),
     ("struct S { var x : A", ". Int64 }"),
     ("struct S { var x : @sil_weak", "@owned C }"),
     ("enum E { case c (", ") }"),
@@ -123,10 +126,6 @@ const REFUSED: [(&str, &str); 34] = [
         "initialization ] %0 : $ * C",
     ),
     (
-        "sil @f : $ @convention ( thin ) ( ) -> ( ) { bb0 : builtin",
-        "&cmp_eq_Int7 ( ) : $ C",
-    ),
-    (
         "sil @f : $ @convention ( thin ) ( ) -> ( ) { bb0 : integer_literal $",
         "* C , 1",
     ),
@@ -143,6 +142,31 @@ const REFUSED: [(&str, &str); 34] = [
         "}",
     ),
     ("sil_vtable C { # C .", "init ! destroyer : @f }"),
+];
+
+// As above; the first bad token is unsupported.
+const UNSUPPORTED: [(&str, &str); 6] = [
+    ("struct S { var x : Builtin .", "Int7 }"),
+    (
+        "sil @f : $ @convention ( thin ) ( ) -> ( ) { bb0 : builtin",
+        "&cmp_eq_Int7 ( ) : $ C",
+    ),
+    (
+        "sil @f : $ @convention ( thin ) ( ) -> ( ) { bb0 :",
+        "alloc_box $ C",
+    ),
+    (
+        "sil @f : $ @convention ( thin ) ( ) -> ( ) { bb0 : %0 =",
+        "class $ C",
+    ),
+    (
+        "sil @f : $ @convention ( thin ) ( ) -> ( ) { bb0 : load %0 : $ C",
+        "sil @g",
+    ),
+    (
+        "sil @f : $ @convention ( thin ) ( ) -> ( ) { bb0 : alloc_ref $ Builtin .",
+        "init",
+    ),
 ];
 
 #[test]
@@ -163,21 +187,28 @@ fn a_module_has_shape(rt: HostRuntime) -> Result<(), Fail> {
     Ok(())
 }
 
-#[test]
-fn a_refusal_has_the_first_bad_place(rt: HostRuntime) -> Result<(), Fail> {
-    let alloc = rt.alloc();
-    for (good, bad) in REFUSED {
+fn assert_refused(
+    rt: &impl Abort,
+    alloc: Global,
+    rows: &[(&str, &str)],
+    unsupported: bool,
+) -> Result<(), Fail> {
+    for (good, bad) in rows {
         let mut classes = Vec::new(alloc);
         push_classes(&mut classes, good)?;
         let place = classes.len();
         push_classes(&mut classes, bad)?;
-        assert_eq!(rt;
-            first_bad(alloc, classes.as_slice())?,
-            Some(place),
-            "{good} | {bad}"
-        );
+        let found = first_bad(alloc, classes.as_slice())?;
+        assert_eq!(rt; found, Some((place, unsupported)), "{good} | {bad}");
     }
     Ok(())
+}
+
+#[test]
+fn a_refusal_has_the_first_bad_place(rt: HostRuntime) -> Result<(), Fail> {
+    let alloc = rt.alloc();
+    assert_refused(&rt, alloc, REFUSED.as_slice(), false)?;
+    assert_refused(&rt, alloc, UNSUPPORTED.as_slice(), true)
 }
 
 #[test]
@@ -192,7 +223,10 @@ fn deep_lists_end_soon(rt: HostRuntime) -> Result<(), Fail> {
         for _ in 0..200000 {
             push_classes(&mut classes, mark)?;
         }
-        assert_eq!(rt; first_bad(alloc, classes.as_slice())?, Some(classes.len()));
+        assert_eq!(rt;
+            first_bad(alloc, classes.as_slice())?,
+            Some((classes.len(), false))
+        );
     }
     Ok(())
 }

@@ -1,4 +1,4 @@
-use Rattle.std.proofs.Common.{◌≡◌, ◌++◌, ◌∷◌, [], ap, refl, ◌∙◌}
+use Rattle.std.proofs.Common.{◌++◌, ◌∷◌, [], ap, refl, ◌∙◌}
 use Rattle.sil_shape.proofs.GoesOnLemmas.{BeginsShape-derived, goes_on_unless}
 use Rattle.sil_shape.proofs.unsupported.goes_on.Goals as goal
 
