@@ -36,6 +36,11 @@ module _ (p : ℕ → Bool) where
   run_some [] first = absurd (false≢true first)
   run_some (b ∷ bytes) first = rw first (omega arith)
 
+  -- a list whose first byte passes is not empty
+  pub first_some : (bytes : List ℕ) → begins_with p bytes ≡ true → 0 < length bytes
+  first_some [] first = absurd (false≢true first)
+  first_some (b ∷ bytes) first = omega arith
+
   -- a run that is not empty has a first byte
   pub run_taken : (bytes : List ℕ) → 0 < prefix_len p bytes
       → (first : ℕ) × (more : List ℕ) × (take (prefix_len p bytes) bytes ≡ first ∷ more) × (list_all p (first ∷ more) ≡ true)

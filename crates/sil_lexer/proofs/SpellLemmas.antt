@@ -10,13 +10,24 @@ use Rattle.sil_ast.specs.declared.place.Place.{Place}
 use Rattle.sil_lexer.specs.declared.token.TokenKind.{TokenKind}
 use Rattle.sil_lexer.specs.declared.token.TokenKind.TheVariants.{Word, AtName, Percent, Number, Text, Mark}
 use Rattle.sil_lexer.specs.Bytes.{is_word_start, is_name_byte, is_text_byte, is_mark}
-use Rattle.sil_lexer.specs.Spelling.{Spells, word, at_name, percent, number, negative, text, mark, arrow, IsSpelled, begins_with, continues, name_length}
+use Rattle.sil_lexer.specs.Spelling.{Spells, word, at_name, percent, number, negative, quoted, mark, arrow, IsSpelled, begins_with, continues, name_length}
 use Rattle.sil_lexer.specs.Scan.{is_sigil, IsTokenAt}
 use Rattle.sil_lexer.proofs.RunLemmas.{run_passes, run_ends, run_some, run_taken, split_at}
 
 -- the first n bytes are a token of the kind
 abbrev pub Takes : TokenKind → ℕ → List ℕ → Type 0
 Takes kind n rest = IsSpelled kind (take n rest) (drop n rest)
+
+-- no spelling is empty
+pub spelling_some : (kind : TokenKind) (spelling : List ℕ) → Spells kind spelling → 0 < length spelling
+spelling_some kind spelling (word _ _ _ _) = omega arith
+spelling_some kind spelling (at_name _ _ _) = omega arith
+spelling_some kind spelling (percent _ _ _) = omega arith
+spelling_some kind spelling (number _ _ _) = omega arith
+spelling_some kind spelling (negative _ _ _) = omega arith
+spelling_some kind spelling (quoted _ _) = omega arith
+spelling_some kind spelling (mark _ _) = omega arith
+spelling_some kind spelling arrow = omega arith
 
 -- what can start a word can stand in one
 start_is_name : (b : ℕ) → is_word_start b ≡ true → is_name_byte b ≡ true
@@ -121,7 +132,7 @@ takes_closed inside some closed =
     let front : take (n + 1) inside ≡ take n inside ++ 34 ∷ [] = take_more inside n 0 some ∙ ap (λ b. take n inside ++ b ∷ []) closed in
     let count : 1 + n ≡ n + 1 = omega arith in
     rw one-add (rw count (record {
-      spelled = subst (λ bs. Spells Text (34 ∷ bs)) (sym front) (text (take n inside) (run_passes is_text_byte inside));
+      spelled = subst (λ bs. Spells Text (34 ∷ bs)) (sym front) (quoted (take n inside) (run_passes is_text_byte inside));
       ended = never_continued (drop (n + 1) inside);
     })) where
     never_continued : (bytes : List ℕ) → begins_with (continues Text) bytes ≡ false
@@ -137,8 +148,10 @@ takes_text rest first n count some closed =
     (subst (Takes Text _) (sym (opened 34 rest first)) (takes_closed (drop 1 rest) (omega arith) (ap (λ m. get_or (drop 1 rest) m 0) (sym count) ∙ byte)))
 
 -- the token that a function found
-pub token_is : (rest : List ℕ) (at : Place) (kind : TokenKind) (n length' : ℕ) → length' ≡ n → 0 < n → n ≤ length rest → Takes kind n rest
+pub token_is : (rest : List ℕ) (at : Place) (kind : TokenKind) (n length' : ℕ) → length' ≡ n → n ≤ length rest → Takes kind n rest
     → name_length kind (take n rest) ≤ 255 → IsTokenAt rest at (record { kind = kind; place = at; length = length' })
-token_is rest at kind n length' same some inside takes short =
+token_is rest at kind n length' same inside takes short =
+    let size = length-take-le n rest inside in
+    let some : 0 < n = omega (arith, spelling_some kind _ takes.spelled) in
     subst (λ m. IsTokenAt rest at (record { kind = kind; place = at; length = m })) (sym same)
     (record { placed = refl; some_byte = some; inside = inside; spelled = takes; short = short })

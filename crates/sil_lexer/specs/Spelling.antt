@@ -18,7 +18,7 @@ pub data Spells : TokenKind → List ℕ → Type 0 where
       → Spells Number (first ∷ more)
   negative : (first : ℕ) (more : List ℕ) → IsTrue (list_all is_ascii_digit (first ∷ more))
       → Spells Number (45 ∷ first ∷ more)
-  text : (inside : List ℕ) → IsTrue (list_all is_text_byte inside) → Spells Text (34 ∷ inside ++ 34 ∷ [])
+  quoted : (inside : List ℕ) → IsTrue (list_all is_text_byte inside) → Spells Text (34 ∷ inside ++ 34 ∷ [])
   mark : (byte : ℕ) → IsTrue (is_mark byte) → Spells Mark (byte ∷ [])
   arrow : Spells Mark (45 ∷ 62 ∷ [])
 
