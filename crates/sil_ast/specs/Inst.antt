@@ -1,4 +1,4 @@
--- The parts of two instructions that are the same, in three groups that are all parts together.
+-- Instructions that agree in some of their parts. The three groups together are all parts.
 use Rattle.std.specs.Prelude.{◌≡◌}
 use Rattle.sil_ast.specs.declared.inst.Inst.{Inst}
 

@@ -17,7 +17,8 @@ use crate::try_clone::TryClone;
 use crate::type_name::TypeName;
 use std::alloc::Global;
 
-/// An instruction or a terminator: `%2 = load [copy] %1 : $*Node`. A part that its form lacks is empty, `None`, `Plain` or `false`.
+/// An instruction or a terminator: `%2 = load [copy] %1 : $*Node`.
+/// A part that it doesn't have is empty, `None`, `Plain` or `false`.
 #[derive(Drop)]
 pub struct Inst {
     pub op: Op,
