@@ -82,51 +82,67 @@ mod tests {
 
     const TEXT: &[u8] = b"twenty bytes of text";
 
-    /// A source of the text in such pieces, which fails at one call.
-    fn source(alloc: Global, piece: usize, fails: u64) -> Result<MemorySource, AllocError>
-        requires { 1 ≤ piece }
-    {
-        Ok(MemorySource::new(TEXT.to_vec(alloc)?, piece, [fails].to_vec(alloc)?))
+    fn shown(answer: &Result<Vec<u8>, ReadEnd>) -> Result<&[u8], ReadEnd> {
+        match answer {
+            Ok(bytes) => Ok(bytes.as_slice()),
+            Err(end) => Err(*end),
+        }
     }
 
+    // Each row reads twice from one source: with its limit, and then with room for all that is left.
     #[test]
     fn reads_to_the_end_or_tells_why_not(rt: HostRuntime) -> Result<(), Fail> {
         let alloc = rt.alloc();
-        for (piece, calls) in [(1usize, 21u64), (7, 4), (16, 3), (4096, 2)] {
-            assert!(rt; piece >= 1 && piece <= 4096);
-            for fails in 1..calls + 2 {
-                let mut src = source(alloc, piece, fails)?;
-                let first = read_all(alloc, &mut src, 20);
-                if fails > calls {
-                    assert_eq!(rt; first?.as_slice(), TEXT, "{piece} {fails}");
-                } else {
-                    assert_eq!(rt; first.err(), Some(ReadEnd::Fault), "{piece} {fails}");
-                    let given = TEXT.len().min(piece * (fails as usize - 1));
-                    assert_eq!(rt;
-                        read_all(alloc, &mut src, 20)?.as_slice(),
-                        &TEXT[given..],
-                        "{piece} {fails}"
-                    );
-                }
-            }
-            let mut src = source(alloc, piece, 99)?;
-            assert_eq!(rt;
-                read_all(alloc, &mut src, 5).err(),
-                Some(ReadEnd::TooLong),
-                "{piece}"
-            );
-            assert_eq!(rt;
-                read_all(alloc, &mut src, 14)?.as_slice(),
-                b" bytes of text".as_slice(),
-                "{piece}"
-            );
+        for (piece, fails, limit, first, second) in [
+            (1, 1, 20, Err(ReadEnd::Fault), Ok(TEXT)),
+            (
+                1,
+                7,
+                20,
+                Err(ReadEnd::Fault),
+                Ok(b" bytes of text".as_slice()),
+            ),
+            (1, 21, 20, Err(ReadEnd::Fault), Ok(b"".as_slice())),
+            (1, 22, 20, Ok(TEXT), Err(ReadEnd::Fault)),
+            (1, 99, 19, Err(ReadEnd::TooLong), Ok(b"".as_slice())),
+            (
+                7,
+                2,
+                20,
+                Err(ReadEnd::Fault),
+                Ok(b"bytes of text".as_slice()),
+            ),
+            (7, 4, 20, Err(ReadEnd::Fault), Ok(b"".as_slice())),
+            (7, 5, 20, Ok(TEXT), Err(ReadEnd::Fault)),
+            (
+                7,
+                99,
+                5,
+                Err(ReadEnd::TooLong),
+                Ok(b" bytes of text".as_slice()),
+            ),
+            (16, 2, 20, Err(ReadEnd::Fault), Ok(b"text".as_slice())),
+            (16, 3, 20, Err(ReadEnd::Fault), Ok(b"".as_slice())),
+            (4096, 1, 20, Err(ReadEnd::Fault), Ok(TEXT)),
+            (4096, 2, 20, Err(ReadEnd::Fault), Ok(b"".as_slice())),
+            (4096, 99, 20, Ok(TEXT), Ok(b"".as_slice())),
+            (
+                4096,
+                99,
+                0,
+                Err(ReadEnd::TooLong),
+                Ok(b"wenty bytes of text".as_slice()),
+            ),
+        ] {
+            assert!(rt; piece >= 1 && limit <= 20);
+            let mut src = MemorySource::new(TEXT.to_vec(alloc)?, piece, [fails].to_vec(alloc)?);
+            let answer = read_all(alloc, &mut src, limit);
+            assert_eq!(rt; shown(&answer), first, "{piece} {fails} {limit}");
+            let answer = read_all(alloc, &mut src, 20);
+            assert_eq!(rt; shown(&answer), second, "{piece} {fails} {limit}");
         }
         let mut steady = SteadySource::new(TEXT.to_vec(alloc)?);
-        assert_eq!(rt;
-            read_all(alloc, &mut steady, 19).err(),
-            Some(ReadEnd::TooLong)
-        );
-        assert_eq!(rt; read_all(alloc, &mut steady, 0)?.len(), 0);
+        assert_eq!(rt; shown(&read_all(alloc, &mut steady, 20)), Ok(TEXT));
         Ok(())
     }
 }
