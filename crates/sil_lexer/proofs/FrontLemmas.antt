@@ -123,8 +123,7 @@ pub one_spelling : (kind other : TokenKind) (spelling after longer rest : List �
     → longer ++ rest ≡ spelling ++ after → (other ≡ kind) × (longer ≡ spelling) × (rest ≡ after)
 one_spelling kind other spelling after longer rest spelled spelled' same =
     let fronts = sym (front-spelled other longer rest spelled') ∙ ap front_of same ∙ front-spelled kind spelling after spelled in
-    let size : length longer ≡ length spelling = ap (λ (f : Front). f.1) fronts in
-    (
+    let size : length longer ≡ length spelling = ap (λ (f : Front). f.1) fronts in (
       ap (λ (f : Front). f.0) fronts,
       sym (take_at longer rest (length spelling) size) ∙ ap (take (length spelling)) same ∙ take_at spelling after (length spelling) refl,
       sym (drop_at longer rest (length spelling) size) ∙ ap (drop (length spelling)) same ∙ drop_at spelling after (length spelling) refl,

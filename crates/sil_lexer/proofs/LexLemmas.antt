@@ -85,13 +85,13 @@ module _ (text : List ℕ) (tokens : List Token) (at : Place) (placed : IsPlaceI
       let whole = take-append-drop n rest in
       let here = token rest (take n rest) (drop n rest) found.kind lexemes stop' (subst (Skips rest) (sym whole) (nothing rest)) is_token.spelled is_token.short after in
       let place : place_before text (take n rest ++ drop n rest) ≡ found.place =
-          ap (place_before text) whole ∙ place_before-rest text rest at placed refl ∙ sym is_token.placed in
+      ap (place_before text) whole ∙ place_before-rest text rest at placed refl ∙ sym is_token.placed in
       let count : found.place.offset + n - found.place.offset ≡ n = omega arith in
       let spelling : take n rest ≡ spelling_of text found =
-          (λ i. take (sym count i) (drop (sym (ap (λ (p : Place). p.offset) is_token.placed) i) text)) in
+      (λ i. take (sym count i) (drop (sym (ap (λ (p : Place). p.offset) is_token.placed) i) text)) in
       let here' = subst (λ (l : Lexeme). Lexes text rest (l ∷ lexemes) stop') (λ i. record { kind = found.kind; place = place i; spelling = spelling i }) here in
       let regroup : map (lexeme_of text) tokens ++ lexeme_of text found ∷ lexemes ≡ map (lexeme_of text) (tokens ++ found ∷ []) ++ lexemes =
-          sym (append_assoc (map (lexeme_of text) tokens) (lexeme_of text found ∷ []) lexemes) ∙ ap (λ ls. ls ++ lexemes) (sym (map_push (lexeme_of text) tokens found)) in
+      sym (append_assoc (map (lexeme_of text) tokens) (lexeme_of text found ∷ []) lexemes) ∙ ap (λ ls. ls ++ lexemes) (sym (map_push (lexeme_of text) tokens found)) in
       subst (λ ls. Lexes text text ls stop') regroup (before (lexeme_of text found ∷ lexemes) stop' here')
 
   -- nothing is left

@@ -103,8 +103,8 @@ pub length_of_sigil_name : (kind : TokenKind) (rest : List ℕ) → begins_with 
 length_of_sigil_name =
     at_sigil (λ kind rest. (n : ℕ) → 1 + n ≤ length rest → name_length kind (take (1 + n) rest) ≡ n)
     (λ name n inside. without_sigil 64 name n inside) (λ name n inside. without_sigil 37 name n inside) where
-    without_sigil : (sigil : ℕ) (name : List ℕ) (n : ℕ) → 1 + n ≤ length (sigil ∷ name) → length (take (1 + n) (sigil ∷ name)) - 1 ≡ n
-    without_sigil sigil name n inside = let size = length-take-le (1 + n) (sigil ∷ name) inside in omega arith
+      without_sigil : (sigil : ℕ) (name : List ℕ) (n : ℕ) → 1 + n ≤ length (sigil ∷ name) → length (take (1 + n) (sigil ∷ name)) - 1 ≡ n
+      without_sigil sigil name n inside = let size = length-take-le (1 + n) (sigil ∷ name) inside in omega arith
 
 pub takes_arrow : (rest : List ℕ) → begins_with (λ b. b == 45) rest ≡ true → 1 < length rest → get_or rest 1 0 ≡ 62 → Takes Mark 2 rest
 takes_arrow [] first some second = absurd (omega arith)
@@ -113,9 +113,9 @@ takes_arrow (a ∷ b ∷ rest) first some second =
     let start : a ≡ 45 = eqb-true a 45 first in
     let spelled : Spells Mark (a ∷ b ∷ []) = subst (λ x. Spells Mark (x ∷ b ∷ [])) (sym start) (subst (λ y. Spells Mark (45 ∷ y ∷ [])) (sym second) arrow) in
     record { spelled = spelled; ended = never_continued rest } where
-    never_continued : (bytes : List ℕ) → begins_with (continues Mark) bytes ≡ false
-    never_continued [] = refl
-    never_continued (c ∷ bytes) = refl
+      never_continued : (bytes : List ℕ) → begins_with (continues Mark) bytes ≡ false
+      never_continued [] = refl
+      never_continued (c ∷ bytes) = refl
 
 pub takes_mark : (rest : List ℕ) → 0 < length rest → is_mark (get_or rest 0 0) ≡ true → Takes Mark 1 rest
 takes_mark [] some is_mark = absurd (omega arith)
@@ -135,9 +135,9 @@ takes_closed inside some closed =
       spelled = subst (λ bs. Spells Text (34 ∷ bs)) (sym front) (quoted (take n inside) (run_passes is_text_byte inside));
       ended = never_continued (drop (n + 1) inside);
     })) where
-    never_continued : (bytes : List ℕ) → begins_with (continues Text) bytes ≡ false
-    never_continued [] = refl
-    never_continued (c ∷ bytes) = refl
+      never_continued : (bytes : List ℕ) → begins_with (continues Text) bytes ≡ false
+      never_continued [] = refl
+      never_continued (c ∷ bytes) = refl
 
 pub takes_text : (rest : List ℕ) → begins_with (λ b. b == 34) rest ≡ true → (n : ℕ) → n ≡ prefix_len is_text_byte (drop 1 rest)
     → 1 + n < length rest → get_or rest (1 + n) 0 ≡ 34 → Takes Text (1 + (1 + n)) rest

@@ -133,7 +133,7 @@ module _ (rest : List ℕ) (at : Place) (n : ℕ) (quote : begins_with (λ b. b 
   pub stops_at_line_end : 1 + n < length rest → get_or rest (1 + n) 0 ≡ 10 → StopsAt rest at (UnclosedText at)
   stops_at_line_end more feed =
       let split : 34 ∷ take n (drop 1 rest) ++ 10 ∷ drop (n + 1) (drop 1 rest) ≡ rest =
-          ap (λ b. 34 ∷ take n (drop 1 rest) ++ b ∷ drop (n + 1) (drop 1 rest)) (sym feed) ∙ text_splits more in
+      ap (λ b. 34 ∷ take n (drop 1 rest) ++ b ∷ drop (n + 1) (drop 1 rest)) (sym feed) ∙ text_splits more in
       subst (λ bs. StopsAt bs at (UnclosedText at)) split
       (stops_here UnclosedText _ at (λ source. unclosed_at_line_end (take n (drop 1 rest)) (drop (n + 1) (drop 1 rest)) bytes_of_text))
 
@@ -141,9 +141,9 @@ module _ (rest : List ℕ) (at : Place) (n : ℕ) (quote : begins_with (λ b. b 
   text_in_line : (k : ℕ) → k < 1 + n → is_line_feed (get_or rest k 0) ≡ false
   text_in_line k below =
       ap (λ bs. is_line_feed (get_or bs k 0)) (opened 34 rest quote) ∙ in_line k (omega (arith, count)) where
-      in_line : (k : ℕ) → k < 1 + prefix_len is_text_byte (drop 1 rest) → is_line_feed (get_or (34 ∷ drop 1 rest) k 0) ≡ false
-      in_line zero below = refl
-      in_line (suc k) below = text_byte_in_line _ (prefix_len_passes is_text_byte (drop 1 rest) k 0 (omega arith))
+        in_line : (k : ℕ) → k < 1 + prefix_len is_text_byte (drop 1 rest) → is_line_feed (get_or (34 ∷ drop 1 rest) k 0) ≡ false
+        in_line zero below = refl
+        in_line (suc k) below = text_byte_in_line _ (prefix_len_passes is_text_byte (drop 1 rest) k 0 (omega arith))
 
   pub stops_at_bad_text_byte : 1 + n < length rest → get_or rest (1 + n) 0 ≢ 10 → get_or rest (1 + n) 0 ≢ 34 → StopsAt rest at (BadByte (ahead_of at (1 + n)))
   stops_at_bad_text_byte more no_feed no_quote source placed is_rest =
@@ -152,10 +152,10 @@ module _ (rest : List ℕ) (at : Place) (n : ℕ) (quote : begins_with (λ b. b 
       let byte = get_or rest (1 + n) 0 in
       let after = drop (n + 1) (drop 1 rest) in
       let fails : is_text_byte byte ≡ false =
-          ap is_text_byte (sym (get_or-drop 1 rest n 0) ∙ ap (λ m. get_or (drop 1 rest) m 0) count) ∙ prefix_len_stops is_text_byte (drop 1 rest) 0 (omega (arith, count)) in
+      ap is_text_byte (sym (get_or-drop 1 rest n 0) ∙ ap (λ m. get_or (drop 1 rest) m 0) count) ∙ prefix_len_stops is_text_byte (drop 1 rest) 0 (omega (arith, count)) in
       let here = place_ahead source at (1 + n) placed (omega arith) (λ k below. ap (λ bs. is_line_feed (get_or bs k 0)) is_rest ∙ text_in_line k below) in
       let behind : drop (at.offset + (1 + n)) source ≡ byte ∷ after =
-          sym (drop-drop (1 + n) at.offset source) ∙ ap (drop (1 + n)) is_rest ∙ sym (drop-drop n 1 rest) ∙ drop_more (drop 1 rest) n 0 (omega arith) ∙ ap (λ b. b ∷ after) (get_or-drop 1 rest n 0) in
+      sym (drop-drop (1 + n) at.offset source) ∙ ap (drop (1 + n)) is_rest ∙ sym (drop-drop n 1 rest) ∙ drop_more (drop 1 rest) n 0 (omega arith) ∙ ap (λ b. b ∷ after) (get_or-drop 1 rest n 0) in
       let place = place_before-rest source (byte ∷ after) (ahead_of at (1 + n)) here behind in
       subst (λ bs. Stops source bs (BadByte (ahead_of at (1 + n)))) (text_splits more)
       (subst (λ p. Stops source (34 ∷ take n (drop 1 rest) ++ byte ∷ after) (BadByte p)) place (bad_text_byte (take n (drop 1 rest)) after byte bytes_of_text fails no_quote no_feed))

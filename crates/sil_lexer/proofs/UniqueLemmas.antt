@@ -195,11 +195,11 @@ one_stop text rest refusal other stops stops' =
     (λ quote. (text_stop text rest refusal stops quote).is_refusal ∙ sym (text_stop text rest other stops' quote).is_refusal)
     (λ plain. both (plain_stop text rest refusal stops plain) (plain_stop text rest other stops' plain))
     (cases_Bool (begins_with is_quote rest)) where
-    both : IsPlainStop text rest refusal → IsPlainStop text rest other → refusal ≡ other
-    both (inl bad) (inl bad') = bad.1 ∙ sym bad'.1
-    both (inl bad) (inr name) = absurd (no_both rest bad.0 name.0)
-    both (inr name) (inl bad) = absurd (no_both rest bad.0 name.0)
-    both (inr name) (inr name') = name.1 ∙ sym name'.1
+      both : IsPlainStop text rest refusal → IsPlainStop text rest other → refusal ≡ other
+      both (inl bad) (inl bad') = bad.1 ∙ sym bad'.1
+      both (inl bad) (inr name) = absurd (no_both rest bad.0 name.0)
+      both (inr name) (inl bad) = absurd (no_both rest bad.0 name.0)
+      both (inr name) (inr name') = name.1 ∙ sym name'.1
 
 -- where a token can be taken there is no refusal
 token_no_stop : (kind : TokenKind) (spelling after : List ℕ) → IsSpelled kind spelling after → name_length kind spelling ≤ 255
@@ -208,17 +208,17 @@ unfolding is_quote
 token_no_stop kind spelling after spelled short text rest refusal same stops =
     ⊎_elim
     (λ quote.
-        let closed = ap text_end (sym same) ∙ text_end-spelling kind spelling after spelled.spelled (ap (begins_with is_quote) same ∙ quote) in
-        false≢true (sym (text_stop text rest refusal stops quote).open_end ∙ ap (begins_with is_quote) closed))
+    let closed = ap text_end (sym same) ∙ text_end-spelling kind spelling after spelled.spelled (ap (begins_with is_quote) same ∙ quote) in
+    false≢true (sym (text_stop text rest refusal stops quote).open_end ∙ ap (begins_with is_quote) closed))
     (λ plain. neither (plain_stop text rest refusal stops plain))
     (cases_Bool (begins_with is_quote rest)) where
-    neither : IsPlainStop text rest refusal → ⊥
-    neither (inl bad) = bad.0.no_token kind spelling after spelled.spelled same
-    neither (inr name) =
-        let one = one_spelling kind name.0.kind spelling after name.0.spelling name.0.after spelled name.0.spelled (name.0.whole ∙ sym same) in
-        let size : name_length name.0.kind name.0.spelling ≡ name_length kind spelling = (λ i. name_length (one.0 i) (one.1 i)) in
-        let long = name.0.long in
-        absurd (omega arith)
+      neither : IsPlainStop text rest refusal → ⊥
+      neither (inl bad) = bad.0.no_token kind spelling after spelled.spelled same
+      neither (inr name) =
+          let one = one_spelling kind name.0.kind spelling after name.0.spelling name.0.after spelled name.0.spelled (name.0.whole ∙ sym same) in
+          let size : name_length name.0.kind name.0.spelling ≡ name_length kind spelling = (λ i. name_length (one.0 i) (one.1 i)) in
+          let long = name.0.long in
+          absurd (omega arith)
 
 stop_some : (text rest : List ℕ) (refusal : LexRefusal) → Stops text rest refusal → rest ≢ []
 stop_some text rest refusal (bad_byte _ none) = none.some_byte

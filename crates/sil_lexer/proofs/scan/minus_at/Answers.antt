@@ -29,7 +29,7 @@ returns c =
     let rest = c.args.rest.now in
     let count = rw take_rest at c.digits_length-digits.ensures.value in
     let other = elim c.else-rest-gt1.branch as (λ _. 1 < length rest → get_or rest 1 0 ≢ 62) [
-    | else-rest-gt1-via-then-rest-gt1+else-rest-eq62 w ↦ λ _. w.if-rest-eq62.false
-    | else-rest-gt1-via-else-rest-gt1 w ↦ λ more. absurd (omega arith)
+      | else-rest-gt1-via-then-rest-gt1+else-rest-eq62 w ↦ λ _. w.if-rest-eq62.false
+      | else-rest-gt1-via-else-rest-gt1 w ↦ λ more. absurd (omega arith)
     ] in
     stops_at_minus c.args.at rest c.requires.first (omega arith) (no_arrow rest other)

@@ -20,8 +20,8 @@ returns-then-end-rest c =
     let within = prefix_len-le-length is_text_byte (drop 1 rest) in
     let some = first_some _ rest c.requires.first in
     elim c.then-end-rest.branch [
-    | then-end-rest-via-then-end-rest w ↦ stops_at_end rest c.args.at n c.requires.first count (omega arith)
-    | then-end-rest-via-else-end-rest+then-rest-end-eq10 w ↦ stops_at_line_end rest c.args.at n c.requires.first count (omega arith) w.if-rest-end-eq10.true
+      | then-end-rest-via-then-end-rest w ↦ stops_at_end rest c.args.at n c.requires.first count (omega arith)
+      | then-end-rest-via-else-end-rest+then-rest-end-eq10 w ↦ stops_at_line_end rest c.args.at n c.requires.first count (omega arith) w.if-rest-end-eq10.true
     ]
 
 pub returns-then-rest-end-ne34 : goal.returns-then-rest-end-ne34
