@@ -6,7 +6,7 @@ use Rattle.mark_patterns.specs.declared.pattern.Break.{Break}
 use Rattle.mark_patterns.specs.declared.automaton.Step.TheVariants.{Go, Bad}
 use Rattle.mark_patterns.specs.Pattern.{AreRuns, IsHeld, IsLawful, FirstBreak}
 use Rattle.mark_patterns.specs.Along.{KeepsPattern, IsFirstBreak}
-use Rattle.mark_patterns.specs.Automaton.{marks_step, item_step, items_step, LeavesHeld}
+use Rattle.mark_patterns.specs.Automaton.{mark_step, and_then, marks_step, item_step, step_along, items_step, LeavesHeld}
 
 -- from the start, the automaton comes to a state exactly where the marks are runs and leave the subject so
 abbrev pub ReadsRuns : Type 0
@@ -35,6 +35,16 @@ BreaksWithPattern = (before marks : List MarkSort) (returns held : Bool) (reason
 abbrev pub GoesWithPattern : Type 0
 GoesWithPattern = (before marks : List MarkSort) (returns held next : Bool) → LeavesHeld before held →
     (item_step held marks returns ≡ Go next) ↔ (LeavesHeld (before ++ marks) next × IsLawful (before ++ marks) returns)
+
+-- one mark more is one step more
+abbrev pub StepsByMarks : Type 0
+StepsByMarks = (held : Bool) (marks : List MarkSort) (mark : MarkSort) →
+    marks_step held (marks ++ mark ∷ []) ≡ and_then mark_step (marks_step held marks) mark
+
+-- one item more is one step more
+abbrev pub StepsByItems : Type 0 → Type 0
+StepsByItems A = (marks : A → List MarkSort) (returns : A → Bool) (items : List A) (item : A) →
+    items_step marks returns (items ++ item ∷ []) ≡ and_then (step_along marks returns) (items_step marks returns items) item
 
 -- the automaton reads the items exactly where each front of them is lawful
 abbrev pub ReadsKept : Type 0 → Type 0

@@ -12,6 +12,9 @@ pub use items::{Item, first_break};
 pub use laws::{
     breaks_where_the_pattern_does, first_break_is_unique, goes_on_where_the_pattern_does,
     kept_where_nothing_breaks, marks_break_out_of_place, reads_items_that_keep_the_pattern,
-    reads_marks_that_are_runs, stops_at_the_first_break,
+    reads_marks_that_are_runs, steps_one_by_one, stops_at_the_first_break,
 };
 pub use pattern::{Break, MarkSort};
+
+#[cfg(test)]
+mod tests;
