@@ -1,7 +1,4 @@
 pub mod Rules
 pub mod Marks
 pub mod Faults
-pub mod Words
-pub mod Texts
-pub mod Answers
-pub mod Ends
+pub mod Lives
