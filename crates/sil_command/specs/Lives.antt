@@ -12,7 +12,6 @@ use Rattle.mark_patterns.specs.declared.pattern.MarkSort.{MarkSort}
 use Rattle.mark_patterns.specs.declared.pattern.MarkSort.TheVariants.{End, Use, Begin}
 use Rattle.mark_patterns.specs.Along.{IsFirstBreak}
 use Rattle.mark_patterns.specs.Automaton.{mark_step, items_step}
-use Rattle.simple_modules.specs.Simple.{defined_values}
 use Rattle.sil_command.specs.declared.fault.Fault.{Fault}
 use Rattle.sil_command.specs.declared.life.Life.{Life}
 use Rattle.sil_command.specs.declared.life.Life.TheVariants.{Unborn, Undefined, Defined, Broken}
@@ -80,13 +79,18 @@ pub record NamesBelow (n : ℕ) (i : Inst) : Type 0 where
   pub operands : All (λ o. o.value.0 < n) i.operands
   pub results : All (λ v. v.0 < n) i.results
 
+-- how many values a block defines
+abbrev pub number_of_values : Block → ℕ
+number_of_values b = sum_by (λ i. length i.results) b.insts
+
 -- the block names no value but those that it defines, and it returns at its end alone
 pub record IsPlainBlock (b : Block) : Type 0 where
-  pub names : All (NamesBelow (length (defined_values b))) (points_of b)
+  pub names : All (NamesBelow (number_of_values b)) b.insts
+  pub last_names : NamesBelow (number_of_values b) b.terminator
   pub no_return : All (λ i. returns_at i ≡ false) b.insts
   pub returns : returns_at b.terminator ≡ true
   pub instruction_limit : length b.insts + 1 ≤ 4096
-  pub value_limit : length (defined_values b) ≤ 1024
+  pub value_limit : number_of_values b ≤ 1024
 
 -- no value is undefined
 abbrev pub NoneUndefined : List Life → Type 0

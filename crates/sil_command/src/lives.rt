@@ -1,11 +1,10 @@
 //! One pass over a block that keeps the state of each value, by its number.
 //! It doesn't tell which states are faults.
 
-ghost use Rattle.std.specs.Prelude.{◌≡◌, ◌+◌, ◌<◌, ◌≤◌, ◌^◌, length, replicate, IfOk, All};
+ghost use Rattle.std.specs.Prelude.{◌≡◌, [], ◌+◌, ◌<◌, ◌≤◌, ◌^◌, length, replicate, IfOk, All};
 ghost use Rattle.mark_patterns.specs.declared.pattern.MarkSort.TheVariants.{Begin};
-ghost use Rattle.simple_modules.specs.Simple.{defined_values};
 ghost use Rattle.sil_command.specs.Marks.{points_of, consumes, operand_mark, operands_equal, results_equal};
-ghost use Rattle.sil_command.specs.Lives.{marks_life, return_life, inst_life, ChangesEach, AreLives, NamesBelow, IsPlainBlock};
+ghost use Rattle.sil_command.specs.Lives.{marks_life, return_life, inst_life, ChangesEach, AreLives, NamesBelow, IsPlainBlock, number_of_values};
 
 use crate::life::Life;
 use mark_patterns::MarkSort;
@@ -15,24 +14,37 @@ use std::alloc::Global;
 /// The states of the block's values behind its `return`, by their numbers.
 pub(crate) fn lives_of(alloc: Global, block: &Block) -> Result<Vec<Life>, Exhausted>
     requires { IsPlainBlock block.now }
-    ensures len { IfOk result (λ lives. length lives.items ≡ length (defined_values block.now)) }
+    ensures len { IfOk result (λ lives. length lives.items ≡ number_of_values block.now) }
     ensures lives { IfOk result (λ lives. AreLives (points_of block.now) lives.items) }
 {
     let mut lives = vec![in alloc; Life::Unborn; value_count(block)]?;
-    for (index, inst) in block.insts.as_slice().iter().enumerate() {
-        take_inst(lives.as_mut_slice(), inst, index as u32);
-    }
-    let last = block.insts.len() as u32;
-    take_inst(lives.as_mut_slice(), &block.terminator, last);
-    take_return(lives.as_mut_slice(), last);
+    take_block(lives.as_mut_slice(), block);
     Ok(lives)
 }
 
 fn value_count(block: &Block) -> usize
-    requires { length (defined_values block.now) ≤ 1024 }
-    ensures { result ≡ length (defined_values block.now) }
+    requires { number_of_values block.now ≤ 1024 }
+    ensures { result ≡ number_of_values block.now }
 {
-    block.insts.as_slice().iter().map(|inst| inst.results.len()).sum()
+    let mut count = 0;
+    for inst in block.insts.as_slice() {
+        count += inst.results.len();
+    }
+    count
+}
+
+fn take_block(lives: &mut [Life], block: &Block)
+    requires plain { IsPlainBlock block.now }
+    requires len { length lives.old ≡ number_of_values block.now }
+    requires unborn { AreLives [] lives.old }
+    ensures { AreLives (points_of block.now) lives.new }
+{
+    for (index, inst) in block.insts.as_slice().iter().enumerate() {
+        take_inst(lives, inst, index as u32);
+    }
+    let last = block.insts.len() as u32;
+    take_inst(lives, &block.terminator, last);
+    take_return(lives, last);
 }
 
 fn take_inst(lives: &mut [Life], inst: &Inst, point: u32)
