@@ -4,3 +4,4 @@ pub mod WholeBlock
 pub mod LeastBroken
 pub mod PlainBlocks
 pub mod Verdicts
+pub mod Functions

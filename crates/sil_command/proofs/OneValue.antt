@@ -51,7 +51,7 @@ broken_stays k p reason marks returns = ap (end_life returns k) (fold_stays (mar
     at true = refl
 
 -- a value that no item marks isn't held
-items_unmarked : (s : ℕ) (items : List Inst) → sum_by (operands_that_are s) items ≡ 0 → sum_by (results_that_are s) items ≡ 0 → items_step (marks_of s) returns_at items ≡ Go false
+pub items_unmarked : (s : ℕ) (items : List Inst) → sum_by (operands_that_are s) items ≡ 0 → sum_by (results_that_are s) items ≡ 0 → items_step (marks_of s) returns_at items ≡ Go false
 items_unmarked s [] o r = refl
 items_unmarked s (i ∷ items) o r =
     let none : operands_that_are s i ≡ 0 = omega (arith, sum_by-cons (operands_that_are s) i items) in

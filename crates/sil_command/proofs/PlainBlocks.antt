@@ -101,3 +101,8 @@ simple_plain classes b h = record {
 
     below : All (λ v. v.0 < number_of_values b) (defined_values b)
     below = All-weaker (λ v. v.0 < 0 + length (defined_values b)) (λ v. v.0 < number_of_values b) (λ v lt. omega (arith, count)) (defined_values b) (counted_below 0 (defined_values b) h.numbered)
+
+pub results_below : (b : Block) (n : ℕ) → IsPlainBlock b → n ≡ number_of_values b → All (λ i. All (λ v. v.0 < n) i.results) b.insts
+results_below b n plain e =
+    All-weaker (NamesBelow (number_of_values b)) (λ i. All (λ v. v.0 < n) i.results)
+      (λ i names. subst (λ m. All (λ v. v.0 < m) i.results) (sym e) names.results) b.insts plain.names

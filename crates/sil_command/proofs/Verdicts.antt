@@ -1,6 +1,6 @@
 -- What the states of a block's values tell of its faults.
 use Rattle.std.proofs.Common.{◌≡◌, ◌≢◌, ℕ, ◌+◌, ◌<◌, ◌≤◌, ◌⊎◌, inl, inr, List, [], ◌∷◌, ◌++◌, length, get_or, refl, sym, ap, ◌∙◌, Bool, true, false, cond, eqb, arith, subst}
-use Rattle.std.specs.Prelude.{Option, Some, None, slice_get, map, Contains, All, count_by, sum_by}
+use Rattle.std.specs.Prelude.{Option, Some, None, MatchOption, slice_get, map, Contains, All, count_by, sum_by}
 use Rattle.std.specs.List.{flat_map}
 use Rattle.std.proofs.lemmas.Bool.{eqb-true}
 use Rattle.std.proofs.lemmas.List.Elements.{All-nil, All-cons, All-head, All-tail, All-push, All-append, All-map, All-same, All-contains}
@@ -23,7 +23,7 @@ use Rattle.sil_command.specs.declared.life.Life.TheVariants.{Unborn, Undefined, 
 use Rattle.sil_command.specs.Rules.{number_of, group_of, rule_of}
 use Rattle.sil_command.specs.Marks.{points_of, marks_of, returns_at, operands_that_are, results_that_are, owned_by, makes_owned, IsOwned}
 use Rattle.sil_command.specs.Faults.{IsFirstUndefined, BreaksAt, Shows, ShowsFault, ComesBefore, IsFirstFault, IsFaultless}
-use Rattle.sil_command.specs.Lives.{IsDefinedFirst, IsLife, AreLives, NamesBelow, IsPlainBlock, number_of_values, NoneUndefined, IsLeastUndefined, NoneBroken, IsLeastBroken}
+use Rattle.sil_command.specs.Lives.{IsDefinedFirst, IsLife, AreLives, NamesBelow, IsPlainBlock, number_of_values, NoneUndefined, IsLeastUndefined, NoneBroken, IsLeastBroken, FindsBroken}
 use Rattle.sil_command.proofs.OneValue.{items_unmarked}
 
 -- a value isn't both defined first and an operand first
@@ -73,13 +73,14 @@ broken_state points s k reason (Broken other p) h b free =
 -- a value that is named is one of the block's
 named_below : {A : Type 0} (name : A → ℕ) (xs : List A) (s n : ℕ) → All (λ x. name x < n) xs → 0 < count_by (λ x. eqb (name x) s) xs → s < n
 named_below name [] s n all lt = absurd (omega arith)
-named_below name (x ∷ xs) s n all lt = at (eqb (name x) s) refl (sum_by-cons (λ x. cond (eqb (name x) s) 1 0) x xs)
+named_below name (x ∷ xs) s n all lt = at (eqb (name x) s) refl (sum_by-cons (λ x. cond (eqb (name x) s) 1 0) x xs) (named_below name xs s n (All-tail (λ x. name x < n) x xs all))
   where
-    at : (b : Bool) → eqb (name x) s ≡ b → count_by (λ x. eqb (name x) s) (x ∷ xs) ≡ cond (eqb (name x) s) 1 0 + count_by (λ x. eqb (name x) s) xs → s < n
-    at true e count = subst (λ m. m < n) (eqb-true (name x) s e) (All-head (λ x. name x < n) x xs all)
-    at false e count =
-        let none : cond (eqb (name x) s) 1 0 ≡ 0 = ap (λ b. cond b 1 0) e in
-        named_below name xs s n (All-tail (λ x. name x < n) x xs all) (omega arith)
+    at : (b : Bool) → eqb (name x) s ≡ b → count_by (λ x. eqb (name x) s) (x ∷ xs) ≡ cond (eqb (name x) s) 1 0 + count_by (λ x. eqb (name x) s) xs →
+        (0 < count_by (λ x. eqb (name x) s) xs → s < n) → s < n
+    at true e count later = subst (λ m. m < n) (eqb-true (name x) s e) (All-head (λ x. name x < n) x xs all)
+    at false e count later =
+        let none : cond {A = ℕ} (eqb (name x) s) 1 0 ≡ 0 = ap (λ (b : Bool). cond {A = ℕ} b 1 0) e in
+        later (omega arith)
 
 All-middle : {A : Type 0} (P : A → Type 0) (xs ys : List A) (x : A) → All P (xs ++ x ∷ ys) → P x
 All-middle P [] ys x all = All-head P x ys all
@@ -139,15 +140,15 @@ module _ (b : Block) (lives : List Life) (plain : IsPlainBlock b) (len : length 
       number = ap number_of least.rule_is
 
       later : (g : Fault) (r : Rule) → g.rule ≡ r → 4 ≡ group_of r → ¬ ComesBefore g f
-      later g r e four (inl lt) = let same : group_of g.rule ≡ group_of r = ap group_of e in omega arith
-      later g r e four (inr p) = let same : group_of g.rule ≡ group_of r = ap group_of e in omega (arith, p.0)
+      later g r e four (inl lt) = let same : group_of g.rule ≡ group_of r = ap group_of e in omega (arith, group)
+      later g r e four (inr p) = let same : group_of g.rule ≡ group_of r = ap group_of e in omega (arith, p.0, group)
 
       same_group : (g : Fault) → g.rule ≡ rule.Undefined → IsFirstUndefined (points_of b) g.subject.0 g.point → ¬ ComesBefore g f
-      same_group g e u (inl lt) = let three : group_of g.rule ≡ 3 = ap group_of e in omega arith
+      same_group g e u (inl lt) = let three : group_of g.rule ≡ 3 = ap group_of e in omega (arith, group)
       same_group g e u (inr (same, inl lt)) =
           let state = shows_undefined g.subject.0 g.point u in
           omega (arith, least.least g.subject.0 state.0 state.1)
-      same_group g e u (inr (same, inr p)) = let n : number_of g.rule ≡ 301 = ap number_of e in omega (arith, p.1)
+      same_group g e u (inr (same, inr p)) = let n : number_of g.rule ≡ 301 = ap number_of e in omega (arith, p.1, number)
 
       by_rule : (g : Fault) (r : Rule) → g.rule ≡ r → Shows b r g.subject.0 g.point → ¬ ComesBefore g f
       by_rule g rule.Undefined e u = same_group g e u
@@ -183,7 +184,7 @@ module _ (b : Block) (lives : List Life) (plain : IsPlainBlock b) (len : length 
     four ReturnInside = refl
     four BeginInside = refl
 
-    pub first_broken : (f : Fault) → IsLeastBroken lives (flat_map owned_by b.insts) f → IsFirstFault b f
+    first_broken : (f : Fault) → IsLeastBroken lives (flat_map owned_by b.insts) f → IsFirstFault b f
     first_broken f least = record { shown = shown; first = λ g shows. first g (shown_break g.rule g.subject.0 g.point shows) }
       where
         shown : ShowsFault b f
@@ -212,10 +213,14 @@ module _ (b : Block) (lives : List Life) (plain : IsPlainBlock b) (len : length 
             let z : number_of f.rule ≡ number_of (rule_of least.reason) = ap number_of least.rule_is in
             omega (arith, p.1, same_reason reason least.reason state.0 f.point g.subject.0 f.subject.0 p.0 state.1 least.broken)
 
-    pub faultless : NoneBroken lives (flat_map owned_by b.insts) → IsFaultless b
+    faultless : NoneBroken lives (flat_map owned_by b.insts) → IsFaultless b
     faultless whole f shows = at (shown_break f.rule f.subject.0 f.point shows)
       where
         at : ShownBreak f.rule f.subject.0 f.point → ⊥
         at (breaks reason e h) =
             let state = shows_broken f.subject.0 f.point reason none h in
             whole f.subject.0 state.0 reason h.owned state.1
+
+    pub judged : (found : Option Fault) → FindsBroken lives (flat_map owned_by b.insts) found → MatchOption found (IsFaultless b) (IsFirstFault b)
+    judged None whole = faultless whole
+    judged (Some f) least = first_broken f least
