@@ -4,6 +4,8 @@
 
 mod answer;
 mod fault;
+mod life;
+mod lives;
 mod one_block;
 mod rule;
 mod texts;
