@@ -51,7 +51,12 @@ fn take_inst(lives: &mut [Life], inst: &Inst, point: u32)
     requires { NamesBelow (length lives.old) inst.now }
     ensures { ChangesEach (inst_life point inst.now) lives.old lives.new }
 {
-    take_operands(lives, inst.operands.as_slice(), operand_mark_of(inst.op), point);
+    take_operands(
+        lives,
+        inst.operands.as_slice(),
+        operand_mark_of(inst.op),
+        point,
+    );
     take_results(lives, inst.results.as_slice(), point);
 }
 
