@@ -1,9 +1,9 @@
 //! One pass over a block that keeps the state of each value, by its number.
 //! It doesn't tell which states are faults.
 
-ghost use Rattle.std.specs.Prelude.{◌≡◌, [], ◌+◌, ◌<◌, ◌≤◌, ◌^◌, length, replicate, IfOk, All};
+ghost use Rattle.std.specs.Prelude.{◌≡◌, [], ◌<◌, ◌≤◌, length, replicate, IfOk, All};
 ghost use Rattle.mark_patterns.specs.declared.pattern.MarkSort.TheVariants.{Begin};
-ghost use Rattle.sil_command.specs.Marks.{points_of, consumes, operand_mark, operands_equal, results_equal};
+ghost use Rattle.sil_command.specs.Marks.{points_of, operand_mark, operands_equal, results_equal};
 ghost use Rattle.sil_command.specs.Lives.{marks_life, return_life, inst_life, ChangesEach, AreLives, NamesBelow, IsPlainBlock, number_of_values};
 
 use crate::life::Life;
