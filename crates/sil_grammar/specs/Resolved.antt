@@ -8,7 +8,7 @@ use Rattle.sil_ast.specs.declared.function.Form.TheVariants.{Ossa}
 use Rattle.sil_ast.specs.declared.function.Function.{Function}
 use Rattle.sil_ast.specs.declared.function.Linkage.TheVariants as linkage
 use Rattle.sil_ast.specs.declared.inst.Inst.{Inst}
-use Rattle.sil_ast.specs.declared.inst.Operand.{Operand}
+use Rattle.sil_ast.specs.declared.operands.Operand.{Operand}
 use Rattle.sil_ast.specs.declared.module.Module.{Module}
 use Rattle.sil_ast.specs.declared.place.ValueId.{ValueId}
 use Rattle.simple_modules.specs.Instructions.{plain_inst, typed}

@@ -1,13 +1,18 @@
 -- The instructions of simple modules, written out: each has its own parts and no other.
-use Rattle.std.specs.Prelude.{ℕ, List, [], ◌∷◌, Option, Some, None, false}
+use Rattle.std.specs.Prelude.{List, [], ◌∷◌, Option, Some, None, false}
+use Rattle.sil_ast.specs.declared.debug.Debug.{Debug}
 use Rattle.sil_ast.specs.declared.inst.Inst.{Inst}
-use Rattle.sil_ast.specs.declared.inst.Operand.{Operand}
+use Rattle.sil_ast.specs.declared.operands.Operand.{Operand}
 use Rattle.sil_ast.specs.declared.inst.Qualifier.TheVariants as qualifier
 use Rattle.sil_ast.specs.declared.op.Op.{Op}
 use Rattle.sil_ast.specs.declared.op.Op.TheVariants as op
 use Rattle.sil_ast.specs.declared.place.ValueId.{ValueId}
 use Rattle.sil_ast.specs.declared.type_name.TypeName.{TypeName}
 use Rattle.sil_ast.specs.declared.type_name.TypeName.TheVariants.{Tuple}
+
+-- an instruction that shows no variable
+abbrev pub no_debug : Debug
+no_debug = record { binding = None; name = None; argno = None; deref = false }
 
 -- an instruction with no part but these
 abbrev pub plain_inst : Op → List ValueId → List Operand → Option TypeName → Inst
@@ -24,7 +29,7 @@ plain_inst o results operands ty = record {
   qualifier = qualifier.Plain;
   lexical = false;
   var_decl = false;
-  debug = record { binding = None; name = None; argno = None; deref = false };
+  debug = no_debug;
   edges = [];
 }
 

@@ -1,2 +1,3 @@
+pub mod ClassNames
 pub mod Instructions
 pub mod Simple

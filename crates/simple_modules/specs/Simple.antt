@@ -1,5 +1,5 @@
 -- Simple modules: classes without members, and functions of one block that make, copy and destroy objects.
-use Rattle.std.specs.Prelude.{◌≡◌, ◌≤◌, ◌+◌, ℕ, List, [], ◌∷◌, ⊤, length, map, Contains, Option, Some, None, slice_get}
+use Rattle.std.specs.Prelude.{◌≡◌, ◌≤◌, ◌+◌, ℕ, List, [], ◌∷◌, ⊤, length, map, Contains, Some, slice_get}
 use Rattle.std.specs.Option.{option_to_list}
 use Rattle.std.specs.List.{flat_map}
 use Rattle.sil_ast.specs.declared.decl.Decl.{Decl}
@@ -9,7 +9,7 @@ use Rattle.sil_ast.specs.declared.function.Form.TheVariants.{Ossa}
 use Rattle.sil_ast.specs.declared.function.Function.{Function}
 use Rattle.sil_ast.specs.declared.function.Linkage.TheVariants as linkage
 use Rattle.sil_ast.specs.declared.inst.Inst.{Inst}
-use Rattle.sil_ast.specs.declared.inst.Operand.{Operand}
+use Rattle.sil_ast.specs.declared.operands.Operand.{Operand}
 use Rattle.sil_ast.specs.declared.module.Module.{Module}
 use Rattle.sil_ast.specs.declared.op.Op.{Op}
 use Rattle.sil_ast.specs.declared.op.Op.TheVariants as op
@@ -38,9 +38,12 @@ result_types i = result_types_by i.op i
 abbrev pub value_types : Block → List TypeName
 value_types b = flat_map result_types b.insts
 
+abbrev pub results_of : Inst → List ValueId
+results_of i = i.results
+
 -- the values that a block defines, in order
 abbrev pub defined_values : Block → List ValueId
-defined_values b = flat_map (λ i. i.results) b.insts
+defined_values b = flat_map results_of b.insts
 
 -- the numbers go up by one, from n
 abbrev pub AreCountedFrom : ℕ → List ValueId → Type 0
@@ -54,8 +57,8 @@ HasType types x t = slice_get types x.0 ≡ Some t
 -- an instruction of a simple function, among these classes and types of values
 pub data IsSimpleInst (classes : List (List ℕ)) (types : List TypeName) : Inst → Type 0 where
   object : (v : ValueId) (c : List ℕ) → Contains classes c → IsSimpleInst classes types (alloc_ref v (Named c))
-  copy : (v x : ValueId) (c : List ℕ) → HasType types x (Named c) → IsSimpleInst classes types (copy_value v x (Named c))
-  destroy : (x : ValueId) (c : List ℕ) → HasType types x (Named c) → IsSimpleInst classes types (destroy_value x (Named c))
+  copy : (v x : ValueId) (c : List ℕ) → Contains classes c → HasType types x (Named c) → IsSimpleInst classes types (copy_value v x (Named c))
+  destroy : (x : ValueId) (c : List ℕ) → Contains classes c → HasType types x (Named c) → IsSimpleInst classes types (destroy_value x (Named c))
   unit : (v : ValueId) → IsSimpleInst classes types (unit_value v)
 
 -- the block returns a value of the type `()`

@@ -1,0 +1,89 @@
+//! The values that the instructions of a block make: their types, and whether they are numbered in order.
+
+ghost use Rattle.std.specs.Prelude.{◌≡◌, ◌↔◌, ◌≤◌, ◌+◌, ◌^◌, ◌++◌, length, IfOk, MatchOption, OnOk};
+ghost use Rattle.std.specs.List.{flat_map};
+ghost use Rattle.std.specs.Option.{option_to_list};
+ghost use Rattle.simple_modules.specs.Simple.{AreCountedFrom, result_types, results_of, written_types};
+
+use sil_ast::{Exhausted, Inst, List, Op, Operand, TryClone, TypeName, ValueId};
+use std::alloc::Global;
+
+/// The type of each value that the instructions make, in order.
+pub(crate) fn value_types(alloc: Global, insts: &[Inst]) -> Result<List<TypeName>, Exhausted>
+    ensures { IfOk result (λ types. types ≡ flat_map result_types insts.now) }
+{
+    let mut types = List::new(alloc);
+    for inst in insts {
+        push_result_types(alloc, &mut types, inst)?;
+    }
+    Ok(types)
+}
+
+fn push_result_types(
+    alloc: Global,
+    types: &mut List<TypeName>,
+    inst: &Inst,
+) -> Result<(), Exhausted>
+    ensures { OnOk result (types.new ≡ types.old ++ result_types inst.now) }
+{
+    match inst.op {
+        Op::AllocRef => push_type(alloc, types, &inst.ty),
+        Op::CopyValue => push_written_types(alloc, types, inst.operands.as_slice()),
+        Op::Tuple => types.push(TypeName::Tuple(List::new(alloc))),
+        _ => Ok(()),
+    }
+}
+
+fn push_written_types(
+    alloc: Global,
+    types: &mut List<TypeName>,
+    operands: &[Operand],
+) -> Result<(), Exhausted>
+    ensures { OnOk result (types.new ≡ types.old ++ written_types operands.now) }
+{
+    for operand in operands {
+        push_type(alloc, types, &operand.ty)?;
+    }
+    Ok(())
+}
+
+fn push_type(
+    alloc: Global,
+    types: &mut List<TypeName>,
+    ty: &Option<TypeName>,
+) -> Result<(), Exhausted>
+    ensures { OnOk result (types.new ≡ types.old ++ option_to_list ty.now) }
+{
+    match ty {
+        Some(ty) => types.push(ty.try_clone(alloc)?),
+        None => Ok(()),
+    }
+}
+
+/// How many values the instructions make, if these are numbered in order from 0.
+pub(crate) fn count_values(insts: &[Inst]) -> Option<u64>
+    ensures { MatchOption result (AreCountedFrom 0 (flat_map results_of insts.now) → ⊥)
+        (λ n. AreCountedFrom 0 (flat_map results_of insts.now) × (n ≡ length (flat_map results_of insts.now))) }
+{
+    let mut next = 0;
+    for inst in insts {
+        next = count_from(next, inst.results.as_slice())?;
+    }
+    Some(next)
+}
+
+// The number after the last, if the values are numbered in order from `next`.
+fn count_from(next: u64, values: &[ValueId]) -> Option<u64>
+    requires { next ≤ 2 ^ 32 }
+    ensures { MatchOption result (AreCountedFrom next values.now → ⊥)
+        (λ n. AreCountedFrom next values.now × (n ≡ next + length values.now) × (n ≤ 2 ^ 32)) }
+{
+    let mut next = next;
+    for value in values {
+        if u64::from(value.0) != next {
+            return None;
+        }
+        next += 1;
+    }
+    Some(next)
+}
