@@ -1,20 +1,19 @@
 -- The least broken value among those looked at so far, and among one more.
 use Rattle.std.proofs.Common.{◌≡◌, ℕ, ◌+◌, ◌<◌, ◌≤◌, ◌⊎◌, inl, inr, List, [], ◌∷◌, ◌++◌, length, get_or, take, refl, sym, ap, ◌∙◌, true, false, cond, arith, subst, append_assoc}
-use Rattle.std.specs.Prelude.{Option, Some, None, slice_get, map, Contains, All}
+use Rattle.std.specs.Prelude.{Option, Some, None, slice_get, map, Contains}
 use Rattle.std.specs.List.{flat_map}
 use Rattle.std.proofs.lemmas.List.{take_more, take_all, append-nil, map-append}
 use Rattle.std.proofs.lemmas.List.Elements.{Contains-append_left, Contains-push, Contains-push_cases}
 use Rattle.std.proofs.lemmas.Grind.{flat_map-append}
-use Rattle.std.proofs.lemmas.Option.{same_Some, slice_get-get_or, get_or_from_slice_get}
 use Rattle.sil_ast.specs.declared.inst.Inst.{Inst}
 use Rattle.sil_ast.specs.declared.place.ValueId.{ValueId}
 use Rattle.mark_patterns.specs.declared.pattern.Break.{Break}
 use Rattle.sil_command.specs.declared.fault.Fault.{Fault}
 use Rattle.sil_command.specs.declared.life.Life.{Life}
-use Rattle.sil_command.specs.declared.life.Life.TheVariants.{Unborn, Undefined, Defined, Broken}
+use Rattle.sil_command.specs.declared.life.Life.TheVariants.{Broken}
 use Rattle.sil_command.specs.Rules.{rule_of}
 use Rattle.sil_command.specs.Marks.{makes_owned, owned_by}
-use Rattle.sil_command.specs.Lives.{NoneBroken, IsLeastBroken, FindsBroken}
+use Rattle.sil_command.specs.Lives.{IsLeastBroken, FindsBroken}
 
 abbrev names : List ValueId → List ℕ
 names vs = map (λ v. v.0) vs

@@ -1,6 +1,6 @@
 -- Lists of states that marks change place by place.
-use Rattle.std.proofs.Common.{◌≡◌, ◌≢◌, ℕ, suc, zero, ◌+◌, ◌<◌, List, [], ◌∷◌, ◌++◌, length, get_or, set, take, refl, sym, ap, ◌∙◌, Bool, true, false, cond, eqb, arith, replicate, subst, eq-eqb}
-use Rattle.std.specs.Prelude.{Option, Some, None, slice_get, count_by, map, fold}
+use Rattle.std.proofs.Common.{◌≡◌, ◌≢◌, ℕ, suc, zero, ◌+◌, ◌<◌, List, [], ◌∷◌, ◌++◌, length, get_or, set, take, refl, sym, ap, ◌∙◌, Bool, true, false, eqb, arith, replicate, subst, eq-eqb}
+use Rattle.std.specs.Prelude.{Option, Some, None, slice_get, count_by}
 use Rattle.std.specs.Option.{option_map}
 use Rattle.std.proofs.lemmas.Bool.{ne_eqb, eqb-true, eqb-false}
 use Rattle.std.proofs.lemmas.Option.{slice_get-get_or, same_Some, none-some}
@@ -62,7 +62,7 @@ pub mark_one : {A : Type 0} (name : A → ℕ) (xs : List A) (j : ℕ) (x e : A)
     ChangesEach (named_life name k mark (take j xs)) old mid → ChangesEach (named_life name k mark (take (j + 1) xs)) old (set mid (name x) after)
 mark_one name xs j x e k mark old mid d after lt is inside now changes =
     subst (λ v. ChangesEach (named_life name k mark (take (j + 1) xs)) old (set mid (name x) v)) (sym now)
-      (change_one old mid (named_life name k mark (take j xs)) (named_life name k mark (take (j + 1) xs)) (name x) (λ life. mark_life k life mark) d inside here others changes)
+    (change_one old mid (named_life name k mark (take j xs)) (named_life name k mark (take (j + 1) xs)) (name x) (λ life. mark_life k life mark) d inside here others changes)
   where
     here : (life : Life) → marks_life k life (replicate (count_by (λ y. eqb (name y) (name x)) (take (j + 1) xs)) mark) ≡
         mark_life k (marks_life k life (replicate (count_by (λ y. eqb (name y) (name x)) (take j xs)) mark)) mark
@@ -100,7 +100,7 @@ pub inst_marks : (old mid new : List Life) (k : ℕ) (mark : MarkSort) (i : Inst
     ChangesEach (inst_life k i) old new
 inst_marks old mid new k mark i e first then =
     changes_same old new _ (inst_life k i) same
-      (changes_twice old mid new (λ s life. marks_life k life (replicate (operands_equal s i.operands) mark)) (λ s life. marks_life k life (replicate (results_equal s i.results) Begin)) first then)
+    (changes_twice old mid new (λ s life. marks_life k life (replicate (operands_equal s i.operands) mark)) (λ s life. marks_life k life (replicate (results_equal s i.results) Begin)) first then)
   where
     same : (s : ℕ) (life : Life) → marks_life k (marks_life k life (replicate (operands_equal s i.operands) mark)) (replicate (results_equal s i.results) Begin) ≡ inst_life k i s life
     same s life =

@@ -1,7 +1,7 @@
 -- What a point more does to the state of one value, and to what that state tells.
-use Rattle.std.proofs.Common.{◌≡◌, ℕ, suc, zero, ◌+◌, ◌<◌, List, [], ◌∷◌, ◌++◌, length, refl, sym, ap, ◌∙◌, Bool, true, false, cond, arith, replicate, subst, append_assoc}
-use Rattle.std.specs.Prelude.{sum_by, fold}
-use Rattle.std.proofs.lemmas.List.Sums.{sum_by-append, sum_by-cons, sum_by_push}
+use Rattle.std.proofs.Common.{◌≡◌, ℕ, suc, zero, ◌<◌, List, [], ◌∷◌, ◌++◌, length, refl, sym, ap, ◌∙◌, Bool, true, false, cond, arith, replicate, subst, append_assoc}
+use Rattle.std.specs.Prelude.{sum_by}
+use Rattle.std.proofs.lemmas.List.Sums.{sum_by-cons, sum_by_push}
 use Rattle.std.proofs.lemmas.List.Folds.{fold_stays}
 use Rattle.sil_ast.specs.declared.inst.Inst.{Inst}
 use Rattle.mark_patterns.specs.declared.automaton.Step.{Step}
@@ -57,9 +57,9 @@ items_unmarked s (i ∷ items) o r =
     let none : operands_that_are s i ≡ 0 = omega (arith, sum_by-cons (operands_that_are s) i items) in
     let free : results_that_are s i ≡ 0 = omega (arith, sum_by-cons (results_that_are s) i items) in
     let rest : items_step (marks_of s) returns_at items ≡ Go false =
-      items_unmarked s items (omega (arith, sum_by-cons (operands_that_are s) i items)) (omega (arith, sum_by-cons (results_that_are s) i items)) in
+    items_unmarked s items (omega (arith, sum_by-cons (operands_that_are s) i items)) (omega (arith, sum_by-cons (results_that_are s) i items)) in
     let marks : marks_of s i ≡ [] =
-      ap (λ n. replicate n (operand_mark i.op) ++ replicate (results_that_are s i) Begin) none ∙ ap (λ n. replicate n Begin) free in
+    ap (λ n. replicate n (operand_mark i.op) ++ replicate (results_that_are s i) Begin) none ∙ ap (λ n. replicate n Begin) free in
     ap (λ now. run_steps (step_along (marks_of s) returns_at) now items) (ap (λ ms. item_step false ms (returns_at i)) marks ∙ unmarked (returns_at i)) ∙ rest
   where
     unmarked : (returns : Bool) → item_step false [] returns ≡ Go false
@@ -140,10 +140,10 @@ point_keeps points i s (Undefined p) h =
     subst (IsLife (points ++ i ∷ []) s) (sym (undefined_stays (length points) p (marks_of s i) (returns_at i))) (undefined_push points i s p h)
 point_keeps points i s (Broken reason p) h =
     subst (IsLife (points ++ i ∷ []) s) (sym (broken_stays (length points) p reason (marks_of s i) (returns_at i)))
-      (defined_push points i s h.0, break_push points i s p reason h.1)
+    (defined_push points i s h.0, break_push points i s p reason h.1)
 point_keeps points i s (Defined held) h =
     subst (IsLife (points ++ i ∷ []) s) (sym (ap (end_life (returns_at i) (length points)) (life_run (length points) (Go held) (marks_of s i)) ∙ end_run (returns_at i) (length points) (marks_step held (marks_of s i))))
-      (point_tells points i s held (defined_push points i s h.0) h.1)
+    (point_tells points i s held (defined_push points i s h.0) h.1)
 point_keeps points i s Unborn h = at (first_mark (length points) s i)
   where
     end_of : Life → Life
@@ -160,16 +160,16 @@ point_keeps points i s Unborn h = at (first_mark (length points) s i)
     at : FirstMark (length points) s i → IsLife (points ++ i ∷ []) s (end_life (returns_at i) (length points) (inst_life (length points) i s Unborn))
     at (none o r e) =
         subst (IsLife (points ++ i ∷ []) s) (sym (ap (end_life (returns_at i) (length points)) e ∙ unborn_ends (returns_at i)))
-          (omega (arith, sum_by_push (operands_that_are s) points i, o, h.0), omega (arith, sum_by_push (results_that_are s) points i, r, h.1))
+        (omega (arith, sum_by_push (operands_that_are s) points i, o, h.0), omega (arith, sum_by_push (results_that_are s) points i, r, h.1))
     at (operand o e) =
         subst (IsLife (points ++ i ∷ []) s) (sym (ap (end_life (returns_at i) (length points)) e ∙ undefined_ends (returns_at i)))
-          (record { before = points; here = i; after = []; parts = refl; place = refl; operand = o; no_operand_before = h.0; not_defined_before = h.1 })
+        (record { before = points; here = i; after = []; parts = refl; place = refl; operand = o; no_operand_before = h.0; not_defined_before = h.1 })
     at (defined o r e) =
         let k : ℕ = length points in
         let first : IsDefinedFirst (points ++ i ∷ []) s = record { before = points; here = i; after = []; parts = refl; defined = r; no_operand_before = h.0; no_operand = o } in
         subst (IsLife (points ++ i ∷ []) s)
-          (sym (ap (end_life (returns_at i) (length points)) (e ∙ life_run (length points) (Go false) (marks_of s i)) ∙ end_run (returns_at i) (length points) (marks_step false (marks_of s i))))
-          (point_tells points i s false first (items_unmarked s points h.0 h.1))
+        (sym (ap (end_life (returns_at i) (length points)) (e ∙ life_run (length points) (Go false) (marks_of s i)) ∙ end_run (returns_at i) (length points) (marks_step false (marks_of s i))))
+        (point_tells points i s false first (items_unmarked s points h.0 h.1))
 
 -- an instruction more that isn't a `return`
 pub inst_keeps : (points : List Inst) (i : Inst) (s : ℕ) (life : Life) → returns_at i ≡ false → IsLife points s life →

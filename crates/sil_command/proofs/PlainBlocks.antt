@@ -1,6 +1,6 @@
 -- A block of a simple function names no value but its own, and returns at its end alone.
-use Rattle.std.proofs.Common.{◌≡◌, ℕ, ◌+◌, ◌<◌, ◌≤◌, List, [], ◌∷◌, ◌++◌, length, get_or, refl, sym, ap, ◌∙◌, false, true, arith, subst, length-append}
-use Rattle.std.specs.Prelude.{Option, Some, None, slice_get, All, sum_by}
+use Rattle.std.proofs.Common.{◌≡◌, ℕ, ◌+◌, ◌<◌, List, [], ◌∷◌, ◌++◌, length, refl, sym, ap, ◌∙◌, false, arith, subst, length-append}
+use Rattle.std.specs.Prelude.{All, sum_by}
 use Rattle.std.specs.List.{flat_map}
 use Rattle.std.proofs.lemmas.List.{get_or_append_left, get_or-append-add}
 use Rattle.std.proofs.lemmas.List.Concat.{length-flat_map}
@@ -11,7 +11,7 @@ use Rattle.sil_ast.specs.declared.function.Block.{Block}
 use Rattle.sil_ast.specs.declared.inst.Inst.{Inst}
 use Rattle.sil_ast.specs.declared.place.ValueId.{ValueId}
 use Rattle.sil_ast.specs.declared.type_name.TypeName.{TypeName}
-use Rattle.simple_modules.specs.Instructions.{return_unit, unit_type}
+use Rattle.simple_modules.specs.Instructions.{unit_type}
 use Rattle.simple_modules.specs.Simple.{IsSimpleInst, object, copy, destroy, unit, IsSimpleReturn, IsSimpleBlock, AllSimpleInsts, AreCountedFrom, HasType, result_types, value_types, defined_values}
 use Rattle.sil_command.specs.Marks.{returns_at}
 use Rattle.sil_command.specs.Lives.{NamesBelow, IsPlainBlock, number_of_values}
@@ -31,7 +31,7 @@ counted_below : (n : ℕ) (vs : List ValueId) → AreCountedFrom n vs → All (�
 counted_below n [] h = All-nil (λ v. v.0 < n + 0)
 counted_below n (v ∷ vs) h =
     All-cons (λ w. w.0 < n + length (v ∷ vs)) v vs (omega (arith, h.0))
-      (All-weaker (λ w. w.0 < (n + 1) + length vs) (λ w. w.0 < n + length (v ∷ vs)) (λ w lt. omega arith) vs (counted_below (n + 1) vs h.1))
+    (All-weaker (λ w. w.0 < (n + 1) + length vs) (λ w. w.0 < n + length (v ∷ vs)) (λ w lt. omega arith) vs (counted_below (n + 1) vs h.1))
 
 -- each instruction makes one value of one type, or none
 one_type : (classes : List (List ℕ)) (types : List TypeName) (i : Inst) → IsSimpleInst classes types i → length (result_types i) ≡ length i.results
@@ -63,8 +63,8 @@ all_names : (classes : List (List ℕ)) (types : List TypeName) (n : ℕ) (insts
 all_names classes types n [] e h below = All-nil (NamesBelow n)
 all_names classes types n (i ∷ insts) e h below =
     All-cons (NamesBelow n) i insts
-      (inst_names classes types n i e h.0 (All-left (λ v. v.0 < n) i.results (flat_map (λ i. i.results) insts) below))
-      (all_names classes types n insts e h.1 (All-right (λ v. v.0 < n) i.results (flat_map (λ i. i.results) insts) below))
+    (inst_names classes types n i e h.0 (All-left (λ v. v.0 < n) i.results (flat_map (λ i. i.results) insts) below))
+    (all_names classes types n insts e h.1 (All-right (λ v. v.0 < n) i.results (flat_map (λ i. i.results) insts) below))
 
 no_return : (classes : List (List ℕ)) (types : List TypeName) (i : Inst) → IsSimpleInst classes types i → returns_at i ≡ false
 no_return classes types _ (object v c among) = refl
@@ -105,4 +105,4 @@ simple_plain classes b h = record {
 pub results_below : (b : Block) (n : ℕ) → IsPlainBlock b → n ≡ number_of_values b → All (λ i. All (λ v. v.0 < n) i.results) b.insts
 results_below b n plain e =
     All-weaker (NamesBelow (number_of_values b)) (λ i. All (λ v. v.0 < n) i.results)
-      (λ i names. subst (λ m. All (λ v. v.0 < m) i.results) (sym e) names.results) b.insts plain.names
+    (λ i names. subst (λ m. All (λ v. v.0 < m) i.results) (sym e) names.results) b.insts plain.names

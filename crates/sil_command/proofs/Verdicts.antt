@@ -1,18 +1,16 @@
 -- What the states of a block's values tell of its faults.
 use Rattle.std.proofs.Common.{◌≡◌, ◌≢◌, ℕ, ◌+◌, ◌<◌, ◌≤◌, ◌⊎◌, inl, inr, List, [], ◌∷◌, ◌++◌, length, get_or, refl, sym, ap, ◌∙◌, Bool, true, false, cond, eqb, arith, subst}
-use Rattle.std.specs.Prelude.{Option, Some, None, MatchOption, slice_get, map, Contains, All, count_by, sum_by}
+use Rattle.std.specs.Prelude.{Option, Some, None, MatchOption, slice_get, map, All, count_by, sum_by}
 use Rattle.std.specs.List.{flat_map}
 use Rattle.std.proofs.lemmas.Bool.{eqb-true}
-use Rattle.std.proofs.lemmas.List.Elements.{All-nil, All-cons, All-head, All-tail, All-push, All-append, All-map, All-same, All-contains}
+use Rattle.std.proofs.lemmas.List.Elements.{All-nil, All-head, All-tail, All-push, All-append, All-map, All-contains}
 use Rattle.std.proofs.lemmas.List.Sums.{sum_by-append, sum_by-cons}
-use Rattle.std.proofs.lemmas.Option.{same_Some, slice_get_cases, slice_get_within}
+use Rattle.std.proofs.lemmas.Option.{same_Some, slice_get_cases}
 use Rattle.sil_ast.specs.declared.function.Block.{Block}
 use Rattle.sil_ast.specs.declared.inst.Inst.{Inst}
-use Rattle.mark_patterns.specs.declared.automaton.Step.TheVariants.{Go, Bad}
 use Rattle.mark_patterns.specs.declared.pattern.Break.{Break}
 use Rattle.mark_patterns.specs.declared.pattern.Break.TheVariants.{UseOutside, EndOutside, ReturnInside, BeginInside}
 use Rattle.mark_patterns.specs.Along.{IsFirstBreak}
-use Rattle.mark_patterns.specs.Automaton.{items_step}
 use Rattle.mark_patterns.proofs.Runs.{go-bad}
 use Rattle.mark_patterns.proofs.Trails.{stops_at_first_break, is_first_break_unique}
 use Rattle.sil_command.specs.declared.rule.Rule.{Rule}
@@ -21,7 +19,7 @@ use Rattle.sil_command.specs.declared.fault.Fault.{Fault}
 use Rattle.sil_command.specs.declared.life.Life.{Life}
 use Rattle.sil_command.specs.declared.life.Life.TheVariants.{Unborn, Undefined, Defined, Broken}
 use Rattle.sil_command.specs.Rules.{number_of, group_of, rule_of}
-use Rattle.sil_command.specs.Marks.{points_of, marks_of, returns_at, operands_that_are, results_that_are, owned_by, makes_owned, IsOwned}
+use Rattle.sil_command.specs.Marks.{points_of, marks_of, returns_at, operands_that_are, results_that_are, owned_by, makes_owned}
 use Rattle.sil_command.specs.Faults.{IsFirstUndefined, BreaksAt, Shows, ShowsFault, ComesBefore, IsFirstFault, IsFaultless}
 use Rattle.sil_command.specs.Lives.{IsDefinedFirst, IsLife, AreLives, NamesBelow, IsPlainBlock, number_of_values, NoneUndefined, IsLeastUndefined, NoneBroken, IsLeastBroken, FindsBroken}
 use Rattle.sil_command.proofs.OneValue.{items_unmarked}
@@ -190,8 +188,8 @@ module _ (b : Block) (lives : List Life) (plain : IsPlainBlock b) (len : length 
         shown : ShowsFault b f
         shown =
             subst (λ r. Shows b r f.subject.0 f.point) (sym least.rule_is)
-              (shows_rule least.reason f.subject.0 f.point
-                (record { owned = least.among; broken = (are f.subject.0 (Broken least.reason f.point) least.broken).1 }))
+            (shows_rule least.reason f.subject.0 f.point
+            (record { owned = least.among; broken = (are f.subject.0 (Broken least.reason f.point) least.broken).1 }))
 
         same_reason : (r q : Break) (p k s t : ℕ) → s ≡ t → slice_get lives s ≡ Some (Broken r p) → slice_get lives t ≡ Some (Broken q k) → number_of (rule_of r) ≡ number_of (rule_of q)
         same_reason r q p k s t e x y =

@@ -1,7 +1,6 @@
 -- The small state that the points of a block leave of a value, and what it tells of the points.
-use Rattle.std.specs.Prelude.{◌≡◌, ℕ, ◌+◌, ◌<◌, ◌≤◌, Bool, true, false, List, [], ◌∷◌, ◌++◌, length, fold, sum_by, All, Contains, Option, Some, None, slice_get}
+use Rattle.std.specs.Prelude.{◌≡◌, ℕ, ◌+◌, ◌<◌, ◌≤◌, true, false, List, ◌∷◌, ◌++◌, length, fold, sum_by, All, Contains, Option, Some, None, slice_get}
 use Rattle.std.specs.Option.{option_map}
-use Rattle.std.specs.List.{flat_map}
 use Rattle.sil_ast.specs.declared.function.Block.{Block}
 use Rattle.sil_ast.specs.declared.inst.Inst.{Inst}
 use Rattle.mark_patterns.specs.declared.automaton.Step.{Step}
@@ -17,7 +16,7 @@ use Rattle.sil_command.specs.declared.life.Life.{Life}
 use Rattle.sil_command.specs.declared.life.Life.TheVariants.{Unborn, Undefined, Defined, Broken}
 use Rattle.sil_command.specs.declared.rule.Rule.TheVariants as rule
 use Rattle.sil_command.specs.Rules.{rule_of}
-use Rattle.sil_command.specs.Marks.{points_of, marks_of, returns_at, operands_that_are, results_that_are, owned_by}
+use Rattle.sil_command.specs.Marks.{marks_of, returns_at, operands_that_are, results_that_are}
 use Rattle.sil_command.specs.Faults.{IsFirstUndefined}
 
 -- where a step of the value's automaton leads, at point k

@@ -1,9 +1,9 @@
 //! One pass over a block that keeps the state of each value, by its number.
 //! It doesn't tell which states are faults.
 
-ghost use Rattle.std.specs.Prelude.{◌≡◌, [], ◌+◌, ◌<◌, ◌≤◌, ◌^◌, length, replicate, IfOk, All};
+ghost use Rattle.std.specs.Prelude.{◌≡◌, [], ◌<◌, ◌≤◌, length, replicate, IfOk, All};
 ghost use Rattle.mark_patterns.specs.declared.pattern.MarkSort.TheVariants.{Begin};
-ghost use Rattle.sil_command.specs.Marks.{points_of, consumes, operand_mark, operands_equal, results_equal};
+ghost use Rattle.sil_command.specs.Marks.{points_of, operand_mark, operands_equal, results_equal};
 ghost use Rattle.sil_command.specs.Lives.{marks_life, return_life, inst_life, ChangesEach, AreLives, NamesBelow, IsPlainBlock, number_of_values};
 
 use crate::life::Life;
@@ -51,7 +51,12 @@ fn take_inst(lives: &mut [Life], inst: &Inst, point: u32)
     requires { NamesBelow (length lives.old) inst.now }
     ensures { ChangesEach (inst_life point inst.now) lives.old lives.new }
 {
-    take_operands(lives, inst.operands.as_slice(), operand_mark_of(inst.op), point);
+    take_operands(
+        lives,
+        inst.operands.as_slice(),
+        operand_mark_of(inst.op),
+        point,
+    );
     take_results(lives, inst.results.as_slice(), point);
 }
 
