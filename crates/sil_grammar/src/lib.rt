@@ -1,0 +1,6 @@
+//! Reads the text of a module.
+#![tactic(auto)]
+
+mod names;
+mod resolved;
+mod written;
