@@ -40,10 +40,10 @@ impl From<AllocError> for ReadEnd {
     }
 }
 
-/// All bytes that are left in `src`, if they are at most `limit`. After a refusal the source has given up the bytes
-/// that were taken, and they are gone.
+/// All bytes that are left in `src`, where they are at most `limit`.
 ///
-/// `Fault` comes only with a fault of the source, and `TooLong` where `limit + 1` bytes were taken.
+/// `Fault` comes only with a fault of the source, `TooLong` exactly where `limit + 1` bytes were taken, and `Memory`
+/// where there was no memory for the bytes. After each of them the bytes that were taken are gone.
 pub fn read_all<S: Source>(alloc: Global, src: &mut S, limit: usize) -> Result<Vec<u8>, ReadEnd>
     requires { limit < usize.MAX }
     ensures all { IfOk result (λ bytes. IfSome (S.left src.old) (λ left. bytes.items ≡ left)) }
