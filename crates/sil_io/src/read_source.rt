@@ -25,6 +25,7 @@ impl<R> Model for ReadSource<R> {
 }
 
 impl<R: Read> ReadSource<R> {
+    /// A source of what `reader` gives, with no fault yet.
     pub fn new(reader: R) -> ReadSource<R>
         ensures { result ≡ record { inner = reader; faults = 0 } }
     {

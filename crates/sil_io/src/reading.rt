@@ -40,10 +40,10 @@ impl From<AllocError> for ReadEnd {
     }
 }
 
-/// All bytes that are left in `src`, if they are at most `limit`. After a refusal the source has given up the bytes
-/// that were taken, and they are gone.
+/// All bytes that are left in `src`, where they are at most `limit`.
 ///
-/// `Fault` comes only with a fault of the source, and `TooLong` where `limit + 1` bytes were taken.
+/// `Fault` comes only with a fault of the source, `TooLong` exactly where `limit + 1` bytes were taken, and `Memory`
+/// where there was no memory for the bytes. After each of them the bytes that were taken are gone.
 pub fn read_all<S: Source>(alloc: Global, src: &mut S, limit: usize) -> Result<Vec<u8>, ReadEnd>
     requires { limit < usize.MAX }
     ensures all { IfOk result (λ bytes. IfSome (S.left src.old) (λ left. bytes.items ≡ left)) }
@@ -78,6 +78,7 @@ mod tests {
     use super::*;
     use crate::memory_source::MemorySource;
     use crate::steady::SteadySource;
+    use std::process::Abort;
     use std::test::Fail;
 
     const TEXT: &[u8] = b"twenty bytes of text";
@@ -89,7 +90,22 @@ mod tests {
         }
     }
 
-    // Each row reads twice from one source: with its limit, and then with room for all that is left.
+    /// Reads with this limit, and then with room for all that is left.
+    fn read_twice(
+        rt: &impl Abort,
+        alloc: Global,
+        mut src: MemorySource,
+        limit: usize,
+        first: Result<&[u8], ReadEnd>,
+        second: Result<&[u8], ReadEnd>,
+    ) {
+        assert!(rt; limit <= 20);
+        let answer = read_all(alloc, &mut src, limit);
+        assert_eq!(rt; shown(&answer), first);
+        let answer = read_all(alloc, &mut src, 20);
+        assert_eq!(rt; shown(&answer), second);
+    }
+
     #[test]
     fn reads_to_the_end_or_tells_why_not(rt: HostRuntime) -> Result<(), Fail> {
         let alloc = rt.alloc();
@@ -134,12 +150,9 @@ mod tests {
                 Ok(b"wenty bytes of text".as_slice()),
             ),
         ] {
-            assert!(rt; piece >= 1 && limit <= 20);
-            let mut src = MemorySource::new(TEXT.to_vec(alloc)?, piece, [fails].to_vec(alloc)?);
-            let answer = read_all(alloc, &mut src, limit);
-            assert_eq!(rt; shown(&answer), first, "{piece} {fails} {limit}");
-            let answer = read_all(alloc, &mut src, 20);
-            assert_eq!(rt; shown(&answer), second, "{piece} {fails} {limit}");
+            assert!(rt; piece >= 1);
+            let src = MemorySource::new(TEXT.to_vec(alloc)?, piece, [fails].to_vec(alloc)?);
+            read_twice(&rt, alloc, src, limit, first, second);
         }
         let mut steady = SteadySource::new(TEXT.to_vec(alloc)?);
         assert_eq!(rt; shown(&read_all(alloc, &mut steady, 20)), Ok(TEXT));

@@ -26,6 +26,7 @@ impl<W> Model for WriteSink<W> {
 }
 
 impl<W: Write> WriteSink<W> {
+    /// A sink that hands on to `writer`, with no fault yet.
     pub fn new(writer: W) -> WriteSink<W>
         ensures { result ≡ record { inner = writer; faults = 0 } }
     {
