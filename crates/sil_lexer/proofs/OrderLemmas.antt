@@ -1,6 +1,6 @@
 -- Tokens are in order, and the stop is behind them.
-use Rattle.std.proofs.Common.{◌≡◌, ℕ, ◌+◌, ◌-◌, ◌≤◌, List, [], ◌∷◌, ◌++◌, length, map, take, drop, refl, sym, ap, ◌∙◌, subst, arith, length-append, length-drop, length-take}
-use Rattle.std.specs.Prelude.{Option, Some, None, All}
+use Rattle.std.proofs.Common.{◌≡◌, ℕ, ◌+◌, ◌-◌, ◌≤◌, List, [], ◌∷◌, ◌++◌, length, map, drop, refl, ap, ◌∙◌, subst, arith, length-append, length-drop, length-take}
+use Rattle.std.specs.Prelude.{Option, All}
 use Rattle.std.proofs.lemmas.List.Elements.{All-head, All-tail}
 use Rattle.sil_ast.specs.declared.place.Place.{Place}
 use Rattle.sil_lexer.specs.declared.token.LexRefusal.{LexRefusal}
