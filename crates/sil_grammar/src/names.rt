@@ -10,7 +10,11 @@ use sil_ast::{Exhausted, Imports, Text, TryClone};
 use std::alloc::Global;
 
 /// Whether no class and no function is defined twice, and no class has a name that the imports declare.
-pub(crate) fn are_items_once(alloc: Global, imports: Imports, items: &[WrittenItem]) -> Result<bool, Exhausted>
+pub(crate) fn are_items_once(
+    alloc: Global,
+    imports: Imports,
+    items: &[WrittenItem],
+) -> Result<bool, Exhausted>
     ensures { IfOk result (λ yes. IsTrue yes ↔ (AreOnce (reserved imports ++ classes_of items.now) × AreOnce (function_names_of items.now))) }
 {
     let mut classes = reserved_names(alloc, imports)?;
@@ -28,7 +32,10 @@ pub(crate) fn are_items_once(alloc: Global, imports: Imports, items: &[WrittenIt
 }
 
 /// The values that code defines, in order, or `None` where a name is defined twice.
-pub(crate) fn defined_names(alloc: Global, code: &WrittenCode) -> Result<Option<IndexSet<Text>>, Exhausted>
+pub(crate) fn defined_names(
+    alloc: Global,
+    code: &WrittenCode,
+) -> Result<Option<IndexSet<Text>>, Exhausted>
     ensures { IfOk result (λ found. MatchOption found (AreOnce (defined_in code.now) → ⊥) (λ names. AreOnce (defined_in code.now) × (names.keys ≡ defined_in code.now))) }
 {
     let mut names = IndexSet::new(alloc);
@@ -81,8 +88,8 @@ fn is_defined(defined: &IndexSet<Text>, name: &Text) -> bool
 // Adds a name at the end, or says that it is there already.
 fn define(alloc: Global, defined: &mut IndexSet<Text>, name: &Text) -> Result<bool, Exhausted>
     ensures { IfOk result (λ is_new. MatchBool is_new
-                ((Contains defined.old.keys name.now → ⊥) × (defined.new.keys ≡ defined.old.keys ++ name.now ∷ []))
-                (Contains defined.old.keys name.now)) }
+        ((Contains defined.old.keys name.now → ⊥) × (defined.new.keys ≡ defined.old.keys ++ name.now ∷ []))
+        (Contains defined.old.keys name.now)) }
 {
     let is_new = defined.insert(name.try_clone(alloc)?)?;
     Ok(is_new)

@@ -54,7 +54,10 @@ fn resolve_classes(alloc: Global, items: &[WrittenItem]) -> Result<List<Decl>, E
     Ok(decls)
 }
 
-fn resolve_functions(alloc: Global, items: &[WrittenItem]) -> Result<Option<List<Function>>, Exhausted>
+fn resolve_functions(
+    alloc: Global,
+    items: &[WrittenItem],
+) -> Result<Option<List<Function>>, Exhausted>
     ensures { IfOk result (λ r. MatchOption r (AreSoundInAll (functions_of items.now) → ⊥) (λ functions. AreSoundInAll (functions_of items.now) × (functions ≡ map resolved_function (functions_of items.now)))) }
 {
     let mut functions = List::new(alloc);
@@ -85,7 +88,11 @@ fn resolve_function(alloc: Global, f: &WrittenFunction) -> Result<Option<Functio
 }
 
 // The function `f`, whose code defines these values.
-fn build_function(alloc: Global, defined: &IndexSet<Text>, f: &WrittenFunction) -> Result<Function, Exhausted>
+fn build_function(
+    alloc: Global,
+    defined: &IndexSet<Text>,
+    f: &WrittenFunction,
+) -> Result<Function, Exhausted>
     requires { defined.now.keys ≡ defined_in f.now.code }
     ensures { IfOk result (λ function. function ≡ resolved_function f.now) }
 {
@@ -139,7 +146,11 @@ fn is_ossa(word: &Text) -> bool
     word.as_slice() == b"ossa".as_slice()
 }
 
-fn build_block(alloc: Global, defined: &IndexSet<Text>, code: &WrittenCode) -> Result<Block, Exhausted>
+fn build_block(
+    alloc: Global,
+    defined: &IndexSet<Text>,
+    code: &WrittenCode,
+) -> Result<Block, Exhausted>
     ensures { IfOk result (λ block. block ≡ resolved_block defined.now.keys code.now) }
 {
     let mut insts = List::new(alloc);
@@ -153,7 +164,11 @@ fn build_block(alloc: Global, defined: &IndexSet<Text>, code: &WrittenCode) -> R
     })
 }
 
-fn build_inst(alloc: Global, defined: &IndexSet<Text>, inst: &WrittenInst) -> Result<Inst, Exhausted>
+fn build_inst(
+    alloc: Global,
+    defined: &IndexSet<Text>,
+    inst: &WrittenInst,
+) -> Result<Inst, Exhausted>
     ensures { IfOk result (λ built. built ≡ resolved_inst defined.now.keys inst.now) }
 {
     Ok(Inst {
@@ -179,7 +194,11 @@ fn build_inst(alloc: Global, defined: &IndexSet<Text>, inst: &WrittenInst) -> Re
     })
 }
 
-fn build_results(alloc: Global, defined: &IndexSet<Text>, name: &Option<Text>) -> Result<List<ValueId>, Exhausted>
+fn build_results(
+    alloc: Global,
+    defined: &IndexSet<Text>,
+    name: &Option<Text>,
+) -> Result<List<ValueId>, Exhausted>
     ensures { IfOk result (λ results. results ≡ map (value_of defined.now.keys) (option_to_list name.now)) }
 {
     let mut results = List::new(alloc);
@@ -189,7 +208,11 @@ fn build_results(alloc: Global, defined: &IndexSet<Text>, name: &Option<Text>) -
     Ok(results)
 }
 
-fn build_operands(alloc: Global, defined: &IndexSet<Text>, operands: &[WrittenOperand]) -> Result<Operands, Exhausted>
+fn build_operands(
+    alloc: Global,
+    defined: &IndexSet<Text>,
+    operands: &[WrittenOperand],
+) -> Result<Operands, Exhausted>
     ensures { IfOk result (λ built. built ≡ map (resolved_operand defined.now.keys) operands.now) }
 {
     let mut built = Operands::new(alloc);
