@@ -1,7 +1,8 @@
 //! The names of a written module: whether each is defined once, and defined at all where it is used.
 
-ghost use Rattle.std.specs.Prelude.{◌≡◌, ◌↔◌, ◌∷◌, [], ◌++◌, map, Contains, IfOk, IsTrue, MatchBool, MatchOption};
+ghost use Rattle.std.specs.Prelude.{◌≡◌, ◌↔◌, ◌∷◌, [], ◌++◌, map, Contains, IfOk, IsTrue, MatchBool};
 ghost use Rattle.std.specs.List.{flat_map};
+ghost use Rattle.std.specs.Option.{SomeIff, option_map};
 ghost use Rattle.sil_grammar.specs.Names.{AreAmong, AreOnce, classes_of, defined_in, function_names_of, name_of, name_used_by, reserved, used_by, used_in};
 
 use crate::written::{WrittenCode, WrittenInst, WrittenItem, WrittenOperand};
@@ -15,7 +16,8 @@ pub(crate) fn are_items_once(
     imports: Imports,
     items: &[WrittenItem],
 ) -> Result<bool, Exhausted>
-    ensures { IfOk result (λ yes. IsTrue yes ↔ (AreOnce (reserved imports ++ classes_of items.now) × AreOnce (function_names_of items.now))) }
+    ensures { IfOk result (λ yes. IsTrue yes ↔
+                (AreOnce (reserved imports ++ classes_of items.now) × AreOnce (function_names_of items.now))) }
 {
     let mut classes = reserved_names(alloc, imports)?;
     let mut functions = IndexSet::new(alloc);
@@ -36,7 +38,8 @@ pub(crate) fn defined_names(
     alloc: Global,
     code: &WrittenCode,
 ) -> Result<Option<IndexSet<Text>>, Exhausted>
-    ensures { IfOk result (λ found. MatchOption found (AreOnce (defined_in code.now) → ⊥) (λ names. AreOnce (defined_in code.now) × (names.keys ≡ defined_in code.now))) }
+    ensures { let names = defined_in code.now in
+              IfOk result (λ found. SomeIff (option_map (λ set. set.keys) found) (AreOnce names) names) }
 {
     let mut names = IndexSet::new(alloc);
     for inst in code.insts.as_slice() {
