@@ -1,0 +1,6 @@
+pub mod Bytes
+pub mod Spelling
+pub mod Places
+pub mod Lexes
+pub mod Lexing
+pub mod Scan

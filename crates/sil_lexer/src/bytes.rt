@@ -1,0 +1,88 @@
+//! Which bytes stand where in a token, and how many of a kind stand at the front.
+
+ghost use Rattle.std.specs.Prelude.{◌≡◌, ◌≤◌, length};
+ghost use Rattle.std.specs.List.{prefix_len};
+ghost use Rattle.std.specs.Char.{is_ascii_digit};
+ghost use Rattle.sil_lexer.specs.Bytes.{is_blank, is_in_line, is_mark, is_name_byte, is_text_byte, is_word_start};
+
+pub(crate) fn is_blank(b: u8) -> bool
+    ensures { result ≡ is_blank b }
+{
+    matches!(b, b' ' | b'\t' | b'\r' | b'\n')
+}
+
+pub(crate) fn is_word_start(b: u8) -> bool
+    ensures { result ≡ is_word_start b }
+{
+    b.is_ascii_alphabetic() || b == b'_'
+}
+
+fn is_name_byte(b: u8) -> bool
+    ensures { result ≡ is_name_byte b }
+{
+    b.is_ascii_alphabetic() || b.is_ascii_digit() || b == b'_' || b == b'$'
+}
+
+fn is_text_byte(b: u8) -> bool
+    ensures { result ≡ is_text_byte b }
+{
+    0x20 <= b && b <= 0x7E && b != b'"' && b != b'\\'
+}
+
+pub(crate) fn is_mark(b: u8) -> bool
+    ensures { result ≡ is_mark b }
+{
+    b"{}()[]<>,:.?*=!$#".contains(&b)
+}
+
+/// How many bytes of a name stand at the front.
+pub(crate) fn name_length(bytes: &[u8]) -> usize
+    ensures value { result ≡ prefix_len is_name_byte bytes.now }
+    ensures within { result ≤ length bytes.now }
+{
+    for (i, b) in bytes.iter().enumerate() {
+        if !is_name_byte(*b) {
+            return i;
+        }
+    }
+    bytes.len()
+}
+
+/// How many digits stand at the front.
+pub(crate) fn digits_length(bytes: &[u8]) -> usize
+    ensures value { result ≡ prefix_len is_ascii_digit bytes.now }
+    ensures within { result ≤ length bytes.now }
+{
+    for (i, b) in bytes.iter().enumerate() {
+        if !b.is_ascii_digit() {
+            return i;
+        }
+    }
+    bytes.len()
+}
+
+/// How many bytes of a text between quotes stand at the front.
+pub(crate) fn text_length(bytes: &[u8]) -> usize
+    ensures value { result ≡ prefix_len is_text_byte bytes.now }
+    ensures within { result ≤ length bytes.now }
+{
+    for (i, b) in bytes.iter().enumerate() {
+        if !is_text_byte(*b) {
+            return i;
+        }
+    }
+    bytes.len()
+}
+
+/// How many bytes stand before the first line feed.
+pub(crate) fn line_length(bytes: &[u8]) -> usize
+    ensures value { result ≡ prefix_len is_in_line bytes.now }
+    ensures within { result ≤ length bytes.now }
+{
+    for (i, b) in bytes.iter().enumerate() {
+        if *b == b'\n' {
+            return i;
+        }
+    }
+    bytes.len()
+}

@@ -1,0 +1,19 @@
+//! Cuts a text into tokens, each with its place and its bytes in the text.
+//! It knows which bytes spell a token, and nothing of the order in which tokens may stand.
+#![tactic(auto)]
+
+mod bytes;
+mod lexer;
+mod place;
+mod scan;
+mod skip;
+mod token;
+mod tokens;
+
+pub use lexer::{LexStop, lex, lexed_in_order, lexed_one_way, longest_taken};
+pub use place::{end_place, place_at};
+pub use token::{LexRefusal, TokenKind};
+pub use tokens::Tokens;
+
+#[cfg(test)]
+mod tests;

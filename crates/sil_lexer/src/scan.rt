@@ -1,0 +1,150 @@
+//! The token at the front of what is left of a text, or why there is none.
+
+ghost use Rattle.std.specs.Prelude.{◌==◌, ◌<◌, length, IsTrue, IsFalse};
+ghost use Rattle.std.specs.Char.{is_ascii_digit};
+ghost use Rattle.sil_lexer.specs.Bytes.{is_word_start};
+ghost use Rattle.sil_lexer.specs.Spelling.{begins_with};
+ghost use Rattle.sil_lexer.specs.Places.{IsInLimit};
+ghost use Rattle.sil_lexer.specs.Lexes.{begins_skipped};
+ghost use Rattle.sil_lexer.specs.Scan.{begins_longer, is_sigil, HasRoom, IsScan};
+
+use crate::bytes::{digits_length, is_mark, is_word_start, name_length, text_length};
+use crate::place::ahead;
+use crate::token::{LexRefusal, Token, TokenKind};
+use sil_ast::Place;
+
+const MAX_NAME_LENGTH: usize = 255;
+
+/// The token at the front of `rest`, which stands at `at` and begins with neither a blank nor a comment.
+pub(crate) fn token_at(rest: &[u8], at: Place) -> Result<Token, LexRefusal>
+    requires limit { IsInLimit rest.now }
+    requires room { HasRoom at rest.now }
+    requires some_byte { 0 < length rest.now }
+    requires no_gap { IsFalse (begins_skipped rest.now) }
+    ensures { IsScan rest.now at result }
+{
+    let first = rest[0];
+    if is_word_start(first) {
+        word_at(rest, at)
+    } else if first == b'%' {
+        sigil_name_at(rest, at, TokenKind::Percent)
+    } else if first == b'@' {
+        sigil_name_at(rest, at, TokenKind::AtName)
+    } else if first.is_ascii_digit() {
+        number_at(rest, at)
+    } else if first == b'-' {
+        minus_at(rest, at)
+    } else if first == b'"' {
+        text_at(rest, at)
+    } else {
+        mark_at(rest, at)
+    }
+}
+
+fn word_at(rest: &[u8], at: Place) -> Result<Token, LexRefusal>
+    requires limit { IsInLimit rest.now }
+    requires first { IsTrue (begins_with is_word_start rest.now) }
+    ensures { IsScan rest.now at result }
+{
+    let length = name_length(rest);
+    if length > MAX_NAME_LENGTH {
+        return Err(LexRefusal::NameTooLong(at));
+    }
+    Ok(Token {
+        kind: TokenKind::Word,
+        place: at,
+        length: length as u32,
+    })
+}
+
+fn sigil_name_at(rest: &[u8], at: Place, kind: TokenKind) -> Result<Token, LexRefusal>
+    requires limit { IsInLimit rest.now }
+    requires first { IsTrue (begins_with (is_sigil kind) rest.now) }
+    ensures { IsScan rest.now at result }
+{
+    let length = name_length(&rest[1..]);
+    if length == 0 {
+        return Err(LexRefusal::BadByte(at));
+    }
+    if length > MAX_NAME_LENGTH {
+        return Err(LexRefusal::NameTooLong(at));
+    }
+    Ok(Token {
+        kind,
+        place: at,
+        length: 1 + length as u32,
+    })
+}
+
+fn number_at(rest: &[u8], at: Place) -> Result<Token, LexRefusal>
+    requires limit { IsInLimit rest.now }
+    requires first { IsTrue (begins_with is_ascii_digit rest.now) }
+    ensures { IsScan rest.now at result }
+{
+    Ok(Token {
+        kind: TokenKind::Number,
+        place: at,
+        length: digits_length(rest) as u32,
+    })
+}
+
+/// A negative number or `->`.
+fn minus_at(rest: &[u8], at: Place) -> Result<Token, LexRefusal>
+    requires limit { IsInLimit rest.now }
+    requires first { IsTrue (begins_with (λ b. b == 45) rest.now) }
+    ensures { IsScan rest.now at result }
+{
+    let digits = digits_length(&rest[1..]);
+    if digits > 0 {
+        return Ok(Token {
+            kind: TokenKind::Number,
+            place: at,
+            length: 1 + digits as u32,
+        });
+    }
+    if rest.len() > 1 && rest[1] == b'>' {
+        return Ok(Token {
+            kind: TokenKind::Mark,
+            place: at,
+            length: 2,
+        });
+    }
+    Err(LexRefusal::BadByte(at))
+}
+
+fn text_at(rest: &[u8], at: Place) -> Result<Token, LexRefusal>
+    requires limit { IsInLimit rest.now }
+    requires room { HasRoom at rest.now }
+    requires first { IsTrue (begins_with (λ b. b == 34) rest.now) }
+    ensures { IsScan rest.now at result }
+{
+    let end = 1 + text_length(&rest[1..]);
+    if end == rest.len() || rest[end] == b'\n' {
+        return Err(LexRefusal::UnclosedText(at));
+    }
+    if rest[end] != b'"' {
+        return Err(LexRefusal::BadByte(ahead(at, end as u32)));
+    }
+    Ok(Token {
+        kind: TokenKind::Text,
+        place: at,
+        length: 1 + end as u32,
+    })
+}
+
+/// A mark of one byte, where no other token begins.
+fn mark_at(rest: &[u8], at: Place) -> Result<Token, LexRefusal>
+    requires some_byte { 0 < length rest.now }
+    requires no_gap { IsFalse (begins_skipped rest.now) }
+    requires no_other { IsFalse (begins_with begins_longer rest.now) }
+    ensures { IsScan rest.now at result }
+{
+    if !is_mark(rest[0]) {
+        return Err(LexRefusal::BadByte(at));
+    }
+    Ok(Token {
+        kind: TokenKind::Mark,
+        place: at,
+        length: 1,
+    })
+}

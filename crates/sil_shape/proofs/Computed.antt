@@ -1,0 +1,141 @@
+-- What is computed of the grammar, production by production: its sets are closed, and the next token chooses.
+use Rattle.std.proofs.Common.{◌≡◌, ℕ, zero, suc, ◌+◌, List, [], ◌∷◌, ◌++◌, refl, Bool, true, false}
+use Rattle.std.specs.Prelude.{Option, Some, None, ◌&&◌, ◌||◌, ◌==◌, nat_lt}
+use Rattle.sil_shape.specs.declared.classes.Keyword.TheVariants as k
+use Rattle.sil_shape.specs.declared.classes.AtWord.TheVariants as a
+use Rattle.sil_shape.specs.declared.classes.Class.{Class}
+use Rattle.sil_shape.specs.declared.classes.Class.TheVariants as c
+use Rattle.sil_shape.specs.declared.grammar.Terminal.{Terminal}
+use Rattle.sil_shape.specs.declared.grammar.Terminal.TheVariants as t
+use Rattle.sil_shape.specs.declared.grammar.Nonterminal.{Nonterminal}
+use Rattle.sil_shape.specs.declared.grammar.Nonterminal.TheVariants as n
+use Rattle.sil_shape.specs.declared.grammar.Symbol.{Symbol}
+use Rattle.sil_shape.specs.declared.grammar.Symbol.TheVariants.{Read, Part}
+use Rattle.sil_shape.specs.declared.grammar.Production.{Production}
+use Rattle.sil_shape.specs.declared.grammar.Production.TheVariants as p
+use Rattle.sil_shape.specs.Accepts.{keyword_number, at_number, mark_number, class_number, is_type_word, accepts}
+use Rattle.sil_shape.specs.Grammar.{written, body, alternatives}
+use Rattle.sil_shape.specs.Choice.{starts, empty_choice, has_class, has, started, or_empty, choose}
+use Rattle.sil_shape.proofs.Sets.{first, follow, ends, nullable, weight, shortest}
+use Rattle.sil_shape.proofs.Numbered.{all_looks, each_look, production_number, part_number}
+
+-- whether this may come after a text of the part
+unfoldable pub follows : Nonterminal → Option Class → Bool
+follows part None = ends part
+follows part (Some k) = has (follow part) (Some k)
+
+unfoldable pub begins_one : Symbol → Option Class → Bool
+begins_one (Read t) None = false
+begins_one (Read t) (Some k) = accepts t k
+begins_one (Part part) l = has (first part) l
+
+unfoldable pub vanishes_one : Symbol → Bool
+vanishes_one (Read t) = false
+vanishes_one (Part part) = nullable part
+
+-- whether a text of these symbols may begin so, and whether it may be empty
+unfoldable pub begins : List Symbol → Option Class → Bool
+begins [] l = false
+begins (s ∷ ss) l = begins_one s l || (vanishes_one s && begins ss l)
+
+unfoldable pub vanishes : List Symbol → Bool
+vanishes [] = true
+vanishes (s ∷ ss) = vanishes_one s && vanishes ss
+
+unfoldable pub implies : Bool → Bool → Bool
+implies true b = b
+implies false b = true
+
+-- what may come next where these symbols stand, and then what follows the part
+unfoldable pub comes : Nonterminal → List Symbol → Option Class → Bool
+comes part ss l = begins ss l || (vanishes ss && follows part l)
+
+unfoldable pub fits_one : Nonterminal → Symbol → List Symbol → Bool
+fits_one part (Read t) rest = true
+fits_one part (Part inner) rest = each_look (λ l. implies (comes part rest l) (follows inner l))
+
+-- what may come after each part of a body is among what follows that part
+unfoldable pub fits : Nonterminal → List Symbol → Bool
+fits part [] = true
+fits part (s ∷ rest) = fits_one part s rest && fits part rest
+
+unfoldable pub if_vanishes : Bool → ℕ → ℕ
+if_vanishes true n = n
+if_vanishes false n = 0
+
+unfoldable pub weight_one : Symbol → ℕ
+weight_one (Read t) = 0
+weight_one (Part part) = weight part
+
+-- more than the productions that are expanded before the next token is taken
+unfoldable pub lead : List Symbol → ℕ
+lead [] = 0
+lead (s ∷ ss) = weight_one s + if_vanishes (vanishes_one s) (lead ss)
+
+unfoldable pub is_it : Option Production → Production → Bool
+is_it None q = false
+is_it (Some r) q = production_number r == production_number q
+
+unfoldable pub is_way : Option Production → Nonterminal → Bool
+is_way None part = true
+is_way (Some q) part = part_number (written q) == part_number part
+
+-- whether the shortest productions lead to an end in so many steps
+unfoldable pub grow : ℕ → List Symbol → Bool
+grow zero ss = false
+grow (suc i) [] = true
+grow (suc i) (Read t ∷ ss) = grow i ss
+grow (suc i) (Part part ∷ ss) = grow i (body (shortest part) ++ ss)
+
+-- a class for each terminal
+unfoldable pub example : Terminal → Class
+example t.AnyWord = c.Word k.Other
+example t.TypeWord = c.Word k.Other
+example t.AnyAt = c.At a.Other
+example t.AnyText = c.OtherText
+example (t.Just wanted) = wanted
+
+pub computed_first : (p : Production) → each_look (λ l. implies (begins (body p) l) (has (first (written p)) l)) ≡ true
+unfolding written body first follow ends follows nullable has has_class accepts is_type_word keyword_number at_number mark_number class_number begins_one begins vanishes_one vanishes implies comes each_look all_looks
+computed_first p.WholeModule = refl
+computed_first _ = refl
+
+pub computed_nullable : (p : Production) → implies (vanishes (body p)) (nullable (written p)) ≡ true
+unfolding written body first follow ends follows nullable has has_class accepts is_type_word keyword_number at_number mark_number class_number begins_one begins vanishes_one vanishes implies comes each_look all_looks
+computed_nullable p.WholeModule = refl
+computed_nullable _ = refl
+
+pub computed_follow : (p : Production) → fits (written p) (body p) ≡ true
+unfolding written body first follow ends follows nullable has has_class accepts is_type_word keyword_number at_number mark_number class_number begins_one begins vanishes_one vanishes implies comes each_look all_looks fits fits_one
+computed_follow p.WholeModule = refl
+computed_follow _ = refl
+
+-- the next token chooses each production: no two begin alike
+pub computed_choice : (p : Production) → each_look (λ l. implies (comes (written p) (body p) l) (is_it (choose (written p) l) p)) ≡ true
+unfolding written body first follow ends follows nullable has has_class accepts is_type_word keyword_number at_number mark_number class_number begins_one begins vanishes_one vanishes implies comes each_look all_looks choose started or_empty alternatives starts empty_choice is_it production_number
+computed_choice p.WholeModule = refl
+computed_choice _ = refl
+
+pub computed_way : (part : Nonterminal) → each_look (λ l. is_way (choose part l) part) ≡ true
+unfolding written body first follow ends follows nullable has has_class accepts is_type_word keyword_number at_number mark_number class_number begins_one begins vanishes_one vanishes implies comes each_look all_looks choose started or_empty alternatives starts empty_choice is_way part_number
+computed_way n.Module = refl
+computed_way _ = refl
+
+pub computed_weight : (p : Production) → nat_lt (lead (body p)) (weight (written p)) ≡ true
+unfolding written body first follow ends follows nullable has has_class accepts is_type_word keyword_number at_number mark_number class_number begins_one begins vanishes_one vanishes implies comes each_look all_looks lead weight_one if_vanishes weight
+computed_weight p.WholeModule = refl
+computed_weight _ = refl
+
+pub computed_grow : (part : Nonterminal) → grow 23 (Part part ∷ []) ≡ true
+unfolding grow body shortest
+computed_grow n.Module = refl
+computed_grow _ = refl
+
+pub shortest-way : (part : Nonterminal) → written (shortest part) ≡ part
+unfolding shortest written
+shortest-way n.Module = refl
+shortest-way _ = refl
+
+pub follows-start : follows n.Module None ≡ true
+unfolding follows ends
+follows-start = refl

@@ -1,0 +1,11 @@
+pub mod Derived
+pub mod ValuesLemmas
+pub mod Sets
+pub mod Numbered
+pub mod Computed
+pub mod Ahead
+pub mod TurnLemmas
+pub mod Reached
+pub mod NameLemmas
+pub mod SpellingLemmas
+pub mod GoesOnLemmas

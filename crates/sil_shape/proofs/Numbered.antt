@@ -1,0 +1,373 @@
+-- All classes, productions and parts, each at a number of its own.
+use Rattle.std.proofs.Common.{◌≡◌, ℕ, zero, suc, List, [], ◌∷◌, refl, ap, sym, subst, ◌∙◌, Bool, true}
+use Rattle.std.specs.Prelude.{Option, Some, None, ◌==◌, slice_index_or}
+use Rattle.std.proofs.lemmas.Bool.{and_parts, eqb-true}
+use Rattle.std.specs.List.{list_all}
+use Rattle.sil_shape.specs.declared.classes.Keyword.TheVariants as k
+use Rattle.sil_shape.specs.declared.classes.AtWord.TheVariants as a
+use Rattle.sil_shape.specs.declared.classes.Mark.TheVariants as m
+use Rattle.sil_shape.specs.declared.classes.Class.{Class}
+use Rattle.sil_shape.specs.declared.classes.Class.TheVariants as c
+use Rattle.sil_shape.specs.declared.grammar.Nonterminal.{Nonterminal}
+use Rattle.sil_shape.specs.declared.grammar.Nonterminal.TheVariants as n
+use Rattle.sil_shape.specs.declared.grammar.Production.{Production}
+use Rattle.sil_shape.specs.declared.grammar.Production.TheVariants as p
+use Rattle.sil_shape.specs.Accepts.{keyword_number, at_number, mark_number, class_number}
+
+-- the end, and each class
+unfoldable pub all_looks : List (Option Class)
+all_looks = None ∷ Some (c.Word k.Other) ∷ Some (c.Word k.SilStage) ∷ Some (c.Word k.Raw) ∷ Some (c.Word k.Canonical) ∷ Some (c.Word k.Import) ∷ Some (c.Word k.Final) ∷ Some (c.Word k.Class) ∷ Some (c.Word k.Struct) ∷ Some (c.Word k.Enum) ∷ Some (c.Word k.Sil) ∷ Some (c.Word k.SilVtable) ∷ Some (c.Word k.Deinit) ∷ Some (c.Word k.Init) ∷ Some (c.Word k.Weak) ∷ Some (c.Word k.Unowned) ∷ Some (c.Word k.Var) ∷ Some (c.Word k.Let) ∷ Some (c.Word k.Get) ∷ Some (c.Word k.Set) ∷ Some (c.Word k.Case) ∷ Some (c.Word k.Builtin) ∷ Some (c.Word k.Optional) ∷ Some (c.Word k.Int1) ∷ Some (c.Word k.Int8) ∷ Some (c.Word k.Int16) ∷ Some (c.Word k.Int32) ∷ Some (c.Word k.Int64) ∷ Some (c.Word k.Hidden) ∷ Some (c.Word k.Private) ∷ Some (c.Word k.Shared) ∷ Some (c.Word k.Public) ∷ Some (c.Word k.Thin) ∷ Some (c.Word k.Method) ∷ Some (c.Word k.IntegerLiteral) ∷ Some (c.Word k.FunctionRef) ∷ Some (c.Word k.BuiltinMnemonic) ∷ Some (c.Word k.CondFail) ∷ Some (c.Word k.AllocRef) ∷ Some (c.Word k.AllocStack) ∷ Some (c.Word k.DeallocStack) ∷ Some (c.Word k.CopyValue) ∷ Some (c.Word k.DestroyValue) ∷ Some (c.Word k.MoveValue) ∷ Some (c.Word k.BeginBorrow) ∷ Some (c.Word k.EndBorrow) ∷ Some (c.Word k.Load) ∷ Some (c.Word k.Store) ∷ Some (c.Word k.To) ∷ Some (c.Word k.LoadBorrow) ∷ Some (c.Word k.DestroyAddr) ∷ Some (c.Word k.LoadWeak) ∷ Some (c.Word k.StoreWeak) ∷ Some (c.Word k.LoadUnowned) ∷ Some (c.Word k.StoreUnowned) ∷ Some (c.Word k.Tuple) ∷ Some (c.Word k.StructExtract) ∷ Some (c.Word k.TupleExtract) ∷ Some (c.Word k.DestructureStruct) ∷ Some (c.Word k.DestructureTuple) ∷ Some (c.Word k.StructElementAddr) ∷ Some (c.Word k.TupleElementAddr) ∷ Some (c.Word k.RefElementAddr) ∷ Some (c.Word k.Apply) ∷ Some (c.Word k.DebugValue) ∷ Some (c.Word k.StrongRetain) ∷ Some (c.Word k.StrongRelease) ∷ Some (c.Word k.RetainValue) ∷ Some (c.Word k.ReleaseValue) ∷ Some (c.Word k.Br) ∷ Some (c.Word k.CondBr) ∷ Some (c.Word k.SwitchEnum) ∷ Some (c.Word k.Return) ∷ Some (c.Word k.Unreachable) ∷ Some (c.Word k.Default) ∷ Some (c.Word k.Enumelt) ∷ Some (c.Word k.Lexical) ∷ Some (c.Word k.VarDecl) ∷ Some (c.Word k.Copy) ∷ Some (c.Word k.Take) ∷ Some (c.Word k.Trivial) ∷ Some (c.Word k.Assign) ∷ Some (c.Word k.Initialization) ∷ Some (c.Word k.Name) ∷ Some (c.Word k.Argno) ∷ Some (c.Word k.Expr) ∷ Some (c.Word k.OpDeref) ∷ Some (c.Word k.Destroyer) ∷ Some (c.At a.Other) ∷ Some (c.At a.HasStorage) ∷ Some (c.At a.SilWeak) ∷ Some (c.At a.SilUnowned) ∷ Some (c.At a.Convention) ∷ Some (c.At a.Owned) ∷ Some (c.At a.Guaranteed) ∷ Some (c.At a.Inout) ∷ Some (c.Mark m.LeftBrace) ∷ Some (c.Mark m.RightBrace) ∷ Some (c.Mark m.LeftParen) ∷ Some (c.Mark m.RightParen) ∷ Some (c.Mark m.LeftBracket) ∷ Some (c.Mark m.RightBracket) ∷ Some (c.Mark m.Less) ∷ Some (c.Mark m.Greater) ∷ Some (c.Mark m.Comma) ∷ Some (c.Mark m.Colon) ∷ Some (c.Mark m.Dot) ∷ Some (c.Mark m.Question) ∷ Some (c.Mark m.Star) ∷ Some (c.Mark m.Equals) ∷ Some (c.Mark m.Bang) ∷ Some (c.Mark m.Dollar) ∷ Some (c.Mark m.Hash) ∷ Some (c.Mark m.Arrow) ∷ Some c.Percent ∷ Some c.Number ∷ Some c.BuiltinText ∷ Some c.OtherText ∷ []
+
+unfoldable pub each_look : (Option Class → Bool) → Bool
+each_look f = list_all f all_looks
+
+unfoldable pub production_number : Production → ℕ
+production_number p.WholeModule = 0
+production_number p.StageSome = 1
+production_number p.StageNone = 2
+production_number p.Raw = 3
+production_number p.Canonical = 4
+production_number p.ImportsMore = 5
+production_number p.ImportsEnd = 6
+production_number p.ItemsMore = 7
+production_number p.ItemsEnd = 8
+production_number p.FinalClass = 9
+production_number p.PlainClass = 10
+production_number p.StructItem = 11
+production_number p.EnumItem = 12
+production_number p.FunctionItem = 13
+production_number p.VtableItem = 14
+production_number p.MembersMore = 15
+production_number p.MembersEnd = 16
+production_number p.StoredMember = 17
+production_number p.FinalMember = 18
+production_number p.PlainMember = 19
+production_number p.DeinitMember = 20
+production_number p.InitMember = 21
+production_number p.ModifiedStored = 22
+production_number p.ModifiedFinal = 23
+production_number p.ModifiedVariable = 24
+production_number p.WeakVariable = 25
+production_number p.UnownedVariable = 26
+production_number p.StrongVariable = 27
+production_number p.VarBinding = 28
+production_number p.LetBinding = 29
+production_number p.FieldsMore = 30
+production_number p.FieldsEnd = 31
+production_number p.StoredField = 32
+production_number p.PlainField = 33
+production_number p.AccessorsSome = 34
+production_number p.AccessorsNone = 35
+production_number p.SetterSome = 36
+production_number p.SetterNone = 37
+production_number p.CasesMore = 38
+production_number p.CasesEnd = 39
+production_number p.PayloadSome = 40
+production_number p.PayloadNone = 41
+production_number p.BareType = 42
+production_number p.ParenType = 43
+production_number p.BaseOpen = 44
+production_number p.WeakOpen = 45
+production_number p.UnownedOpen = 46
+production_number p.BuiltinBase = 47
+production_number p.OptionalBase = 48
+production_number p.NamedBase = 49
+production_number p.BuiltinInt = 50
+production_number p.BuiltinName = 51
+production_number p.OptionalOf = 52
+production_number p.OptionalName = 53
+production_number p.Width1 = 54
+production_number p.Width8 = 55
+production_number p.Width16 = 56
+production_number p.Width32 = 57
+production_number p.Width64 = 58
+production_number p.OptionalMarksMore = 59
+production_number p.OptionalMarksEnd = 60
+production_number p.TypesSome = 61
+production_number p.TypesNone = 62
+production_number p.MoreTypesMore = 63
+production_number p.MoreTypesEnd = 64
+production_number p.LinkageHidden = 65
+production_number p.LinkagePrivate = 66
+production_number p.LinkageShared = 67
+production_number p.LinkagePublic = 68
+production_number p.LinkagePlain = 69
+production_number p.AttributesMore = 70
+production_number p.AttributesEnd = 71
+production_number p.BodySome = 72
+production_number p.BodyNone = 73
+production_number p.WholeFunctionType = 74
+production_number p.Thin = 75
+production_number p.Method = 76
+production_number p.ParamsSome = 77
+production_number p.ParamsNone = 78
+production_number p.MoreParamsMore = 79
+production_number p.MoreParamsEnd = 80
+production_number p.ParamOwned = 81
+production_number p.ParamGuaranteed = 82
+production_number p.ParamInout = 83
+production_number p.ParamPlain = 84
+production_number p.ResultList = 85
+production_number p.ResultOwned = 86
+production_number p.ResultPlain = 87
+production_number p.InsideSome = 88
+production_number p.InsideNone = 89
+production_number p.MoreGivensMore = 90
+production_number p.MoreGivensEnd = 91
+production_number p.GivenOwned = 92
+production_number p.GivenPlain = 93
+production_number p.WholeBlock = 94
+production_number p.BlocksMore = 95
+production_number p.BlocksEnd = 96
+production_number p.BlockArgsSome = 97
+production_number p.BlockArgsNone = 98
+production_number p.MoreBlockArgsMore = 99
+production_number p.MoreBlockArgsEnd = 100
+production_number p.WholeBlockArg = 101
+production_number p.OwnershipOwned = 102
+production_number p.OwnershipGuaranteed = 103
+production_number p.OwnershipNone = 104
+production_number p.StarSome = 105
+production_number p.StarNone = 106
+production_number p.CodeInst = 107
+production_number p.CodeEnd = 108
+production_number p.InstOneName = 109
+production_number p.InstNames = 110
+production_number p.InstUnnamed = 111
+production_number p.NamesSome = 112
+production_number p.NamesNone = 113
+production_number p.MoreNamesMore = 114
+production_number p.MoreNamesEnd = 115
+production_number p.RowIntegerLiteral = 116
+production_number p.RowFunctionRef = 117
+production_number p.RowBuiltin = 118
+production_number p.RowCondFail = 119
+production_number p.RowAllocRef = 120
+production_number p.RowAllocStack = 121
+production_number p.RowDeallocStack = 122
+production_number p.RowCopyValue = 123
+production_number p.RowDestroyValue = 124
+production_number p.RowMoveValue = 125
+production_number p.RowBeginBorrow = 126
+production_number p.RowEndBorrow = 127
+production_number p.RowLoad = 128
+production_number p.RowStore = 129
+production_number p.RowLoadBorrow = 130
+production_number p.RowDestroyAddr = 131
+production_number p.RowLoadWeak = 132
+production_number p.RowStoreWeak = 133
+production_number p.RowLoadUnowned = 134
+production_number p.RowStoreUnowned = 135
+production_number p.RowStruct = 136
+production_number p.RowTuple = 137
+production_number p.RowEnum = 138
+production_number p.RowStructExtract = 139
+production_number p.RowTupleExtract = 140
+production_number p.RowDestructureStruct = 141
+production_number p.RowDestructureTuple = 142
+production_number p.RowStructElementAddr = 143
+production_number p.RowTupleElementAddr = 144
+production_number p.RowRefElementAddr = 145
+production_number p.RowApply = 146
+production_number p.RowDebugValue = 147
+production_number p.RowStrongRetain = 148
+production_number p.RowStrongRelease = 149
+production_number p.RowRetainValue = 150
+production_number p.RowReleaseValue = 151
+production_number p.RowBr = 152
+production_number p.RowCondBr = 153
+production_number p.RowSwitchEnum = 154
+production_number p.RowReturn = 155
+production_number p.RowUnreachable = 156
+production_number p.WholeOperand = 157
+production_number p.OperandsSome = 158
+production_number p.OperandsNone = 159
+production_number p.MoreOperandsMore = 160
+production_number p.MoreOperandsEnd = 161
+production_number p.BareNamesSome = 162
+production_number p.BareNamesNone = 163
+production_number p.WholeEdge = 164
+production_number p.EdgeArgsSome = 165
+production_number p.EdgeArgsNone = 166
+production_number p.SwitchCase = 167
+production_number p.SwitchDefault = 168
+production_number p.SwitchMoreSome = 169
+production_number p.SwitchMoreEnd = 170
+production_number p.WholeEnumElement = 171
+production_number p.SuffixSome = 172
+production_number p.SuffixNone = 173
+production_number p.EnumOperandSome = 174
+production_number p.EnumOperandNone = 175
+production_number p.WholeMemberName = 176
+production_number p.FlagsSome = 177
+production_number p.FlagsNone = 178
+production_number p.LexicalFirst = 179
+production_number p.VarDeclFirst = 180
+production_number p.VarDeclAfterSome = 181
+production_number p.VarDeclAfterNone = 182
+production_number p.LexicalAfterSome = 183
+production_number p.LexicalAfterNone = 184
+production_number p.QualifierSome = 185
+production_number p.QualifierNone = 186
+production_number p.QualifierCopy = 187
+production_number p.QualifierTake = 188
+production_number p.QualifierTrivial = 189
+production_number p.QualifierInit = 190
+production_number p.QualifierAssign = 191
+production_number p.TakeFlagSome = 192
+production_number p.TakeFlagNone = 193
+production_number p.InitFlagSome = 194
+production_number p.InitFlagNone = 195
+production_number p.InitShort = 196
+production_number p.InitLong = 197
+production_number p.DebugSome = 198
+production_number p.DebugNone = 199
+production_number p.DebugLet = 200
+production_number p.DebugVar = 201
+production_number p.DebugRest = 202
+production_number p.DebugAfterBindingSome = 203
+production_number p.DebugAfterBindingNone = 204
+production_number p.DebugName = 205
+production_number p.DebugNoName = 206
+production_number p.DebugAfterNameSome = 207
+production_number p.DebugAfterNameNone = 208
+production_number p.DebugNumber = 209
+production_number p.DebugNoNumber = 210
+production_number p.DebugAfterNumberSome = 211
+production_number p.DebugAfterNumberNone = 212
+production_number p.DebugDeref = 213
+production_number p.EntrySome = 214
+production_number p.EntryNone = 215
+
+all_productions : List Production
+all_productions = p.WholeModule ∷ p.StageSome ∷ p.StageNone ∷ p.Raw ∷ p.Canonical ∷ p.ImportsMore ∷ p.ImportsEnd ∷ p.ItemsMore ∷ p.ItemsEnd ∷ p.FinalClass ∷ p.PlainClass ∷ p.StructItem ∷ p.EnumItem ∷ p.FunctionItem ∷ p.VtableItem ∷ p.MembersMore ∷ p.MembersEnd ∷ p.StoredMember ∷ p.FinalMember ∷ p.PlainMember ∷ p.DeinitMember ∷ p.InitMember ∷ p.ModifiedStored ∷ p.ModifiedFinal ∷ p.ModifiedVariable ∷ p.WeakVariable ∷ p.UnownedVariable ∷ p.StrongVariable ∷ p.VarBinding ∷ p.LetBinding ∷ p.FieldsMore ∷ p.FieldsEnd ∷ p.StoredField ∷ p.PlainField ∷ p.AccessorsSome ∷ p.AccessorsNone ∷ p.SetterSome ∷ p.SetterNone ∷ p.CasesMore ∷ p.CasesEnd ∷ p.PayloadSome ∷ p.PayloadNone ∷ p.BareType ∷ p.ParenType ∷ p.BaseOpen ∷ p.WeakOpen ∷ p.UnownedOpen ∷ p.BuiltinBase ∷ p.OptionalBase ∷ p.NamedBase ∷ p.BuiltinInt ∷ p.BuiltinName ∷ p.OptionalOf ∷ p.OptionalName ∷ p.Width1 ∷ p.Width8 ∷ p.Width16 ∷ p.Width32 ∷ p.Width64 ∷ p.OptionalMarksMore ∷ p.OptionalMarksEnd ∷ p.TypesSome ∷ p.TypesNone ∷ p.MoreTypesMore ∷ p.MoreTypesEnd ∷ p.LinkageHidden ∷ p.LinkagePrivate ∷ p.LinkageShared ∷ p.LinkagePublic ∷ p.LinkagePlain ∷ p.AttributesMore ∷ p.AttributesEnd ∷ p.BodySome ∷ p.BodyNone ∷ p.WholeFunctionType ∷ p.Thin ∷ p.Method ∷ p.ParamsSome ∷ p.ParamsNone ∷ p.MoreParamsMore ∷ p.MoreParamsEnd ∷ p.ParamOwned ∷ p.ParamGuaranteed ∷ p.ParamInout ∷ p.ParamPlain ∷ p.ResultList ∷ p.ResultOwned ∷ p.ResultPlain ∷ p.InsideSome ∷ p.InsideNone ∷ p.MoreGivensMore ∷ p.MoreGivensEnd ∷ p.GivenOwned ∷ p.GivenPlain ∷ p.WholeBlock ∷ p.BlocksMore ∷ p.BlocksEnd ∷ p.BlockArgsSome ∷ p.BlockArgsNone ∷ p.MoreBlockArgsMore ∷ p.MoreBlockArgsEnd ∷ p.WholeBlockArg ∷ p.OwnershipOwned ∷ p.OwnershipGuaranteed ∷ p.OwnershipNone ∷ p.StarSome ∷ p.StarNone ∷ p.CodeInst ∷ p.CodeEnd ∷ p.InstOneName ∷ p.InstNames ∷ p.InstUnnamed ∷ p.NamesSome ∷ p.NamesNone ∷ p.MoreNamesMore ∷ p.MoreNamesEnd ∷ p.RowIntegerLiteral ∷ p.RowFunctionRef ∷ p.RowBuiltin ∷ p.RowCondFail ∷ p.RowAllocRef ∷ p.RowAllocStack ∷ p.RowDeallocStack ∷ p.RowCopyValue ∷ p.RowDestroyValue ∷ p.RowMoveValue ∷ p.RowBeginBorrow ∷ p.RowEndBorrow ∷ p.RowLoad ∷ p.RowStore ∷ p.RowLoadBorrow ∷ p.RowDestroyAddr ∷ p.RowLoadWeak ∷ p.RowStoreWeak ∷ p.RowLoadUnowned ∷ p.RowStoreUnowned ∷ p.RowStruct ∷ p.RowTuple ∷ p.RowEnum ∷ p.RowStructExtract ∷ p.RowTupleExtract ∷ p.RowDestructureStruct ∷ p.RowDestructureTuple ∷ p.RowStructElementAddr ∷ p.RowTupleElementAddr ∷ p.RowRefElementAddr ∷ p.RowApply ∷ p.RowDebugValue ∷ p.RowStrongRetain ∷ p.RowStrongRelease ∷ p.RowRetainValue ∷ p.RowReleaseValue ∷ p.RowBr ∷ p.RowCondBr ∷ p.RowSwitchEnum ∷ p.RowReturn ∷ p.RowUnreachable ∷ p.WholeOperand ∷ p.OperandsSome ∷ p.OperandsNone ∷ p.MoreOperandsMore ∷ p.MoreOperandsEnd ∷ p.BareNamesSome ∷ p.BareNamesNone ∷ p.WholeEdge ∷ p.EdgeArgsSome ∷ p.EdgeArgsNone ∷ p.SwitchCase ∷ p.SwitchDefault ∷ p.SwitchMoreSome ∷ p.SwitchMoreEnd ∷ p.WholeEnumElement ∷ p.SuffixSome ∷ p.SuffixNone ∷ p.EnumOperandSome ∷ p.EnumOperandNone ∷ p.WholeMemberName ∷ p.FlagsSome ∷ p.FlagsNone ∷ p.LexicalFirst ∷ p.VarDeclFirst ∷ p.VarDeclAfterSome ∷ p.VarDeclAfterNone ∷ p.LexicalAfterSome ∷ p.LexicalAfterNone ∷ p.QualifierSome ∷ p.QualifierNone ∷ p.QualifierCopy ∷ p.QualifierTake ∷ p.QualifierTrivial ∷ p.QualifierInit ∷ p.QualifierAssign ∷ p.TakeFlagSome ∷ p.TakeFlagNone ∷ p.InitFlagSome ∷ p.InitFlagNone ∷ p.InitShort ∷ p.InitLong ∷ p.DebugSome ∷ p.DebugNone ∷ p.DebugLet ∷ p.DebugVar ∷ p.DebugRest ∷ p.DebugAfterBindingSome ∷ p.DebugAfterBindingNone ∷ p.DebugName ∷ p.DebugNoName ∷ p.DebugAfterNameSome ∷ p.DebugAfterNameNone ∷ p.DebugNumber ∷ p.DebugNoNumber ∷ p.DebugAfterNumberSome ∷ p.DebugAfterNumberNone ∷ p.DebugDeref ∷ p.EntrySome ∷ p.EntryNone ∷ []
+
+unfoldable pub part_number : Nonterminal → ℕ
+part_number n.Module = 0
+part_number n.Stage = 1
+part_number n.StageWord = 2
+part_number n.Imports = 3
+part_number n.Items = 4
+part_number n.Item = 5
+part_number n.Members = 6
+part_number n.Member = 7
+part_number n.Modified = 8
+part_number n.Variable = 9
+part_number n.Binding = 10
+part_number n.Fields = 11
+part_number n.Field = 12
+part_number n.Accessors = 13
+part_number n.Setter = 14
+part_number n.Cases = 15
+part_number n.Payload = 16
+part_number n.Type = 17
+part_number n.OpenType = 18
+part_number n.Base = 19
+part_number n.BuiltinTail = 20
+part_number n.OptionalTail = 21
+part_number n.Width = 22
+part_number n.OptionalMarks = 23
+part_number n.Types = 24
+part_number n.MoreTypes = 25
+part_number n.Linkage = 26
+part_number n.Attributes = 27
+part_number n.Body = 28
+part_number n.FunctionType = 29
+part_number n.Convention = 30
+part_number n.Params = 31
+part_number n.MoreParams = 32
+part_number n.Param = 33
+part_number n.Results = 34
+part_number n.ResultsInside = 35
+part_number n.MoreGivens = 36
+part_number n.Given = 37
+part_number n.Block = 38
+part_number n.Blocks = 39
+part_number n.BlockArgs = 40
+part_number n.MoreBlockArgs = 41
+part_number n.BlockArg = 42
+part_number n.Ownership = 43
+part_number n.Star = 44
+part_number n.Code = 45
+part_number n.Inst = 46
+part_number n.Names = 47
+part_number n.MoreNames = 48
+part_number n.Row = 49
+part_number n.Terminator = 50
+part_number n.Operand = 51
+part_number n.Operands = 52
+part_number n.MoreOperands = 53
+part_number n.BareNames = 54
+part_number n.Edge = 55
+part_number n.EdgeArgs = 56
+part_number n.SwitchPart = 57
+part_number n.SwitchMore = 58
+part_number n.EnumElement = 59
+part_number n.ElementSuffix = 60
+part_number n.EnumOperand = 61
+part_number n.MemberName = 62
+part_number n.Flags = 63
+part_number n.FirstFlag = 64
+part_number n.VarDeclAfter = 65
+part_number n.LexicalAfter = 66
+part_number n.Qualifier = 67
+part_number n.QualifierWord = 68
+part_number n.TakeFlag = 69
+part_number n.InitFlag = 70
+part_number n.InitWord = 71
+part_number n.Debug = 72
+part_number n.DebugPart = 73
+part_number n.DebugAfterBinding = 74
+part_number n.DebugNamePart = 75
+part_number n.DebugAfterName = 76
+part_number n.DebugNumberPart = 77
+part_number n.DebugAfterNumber = 78
+part_number n.DebugDerefPart = 79
+part_number n.VtableEntry = 80
+
+all_parts : List Nonterminal
+all_parts = n.Module ∷ n.Stage ∷ n.StageWord ∷ n.Imports ∷ n.Items ∷ n.Item ∷ n.Members ∷ n.Member ∷ n.Modified ∷ n.Variable ∷ n.Binding ∷ n.Fields ∷ n.Field ∷ n.Accessors ∷ n.Setter ∷ n.Cases ∷ n.Payload ∷ n.Type ∷ n.OpenType ∷ n.Base ∷ n.BuiltinTail ∷ n.OptionalTail ∷ n.Width ∷ n.OptionalMarks ∷ n.Types ∷ n.MoreTypes ∷ n.Linkage ∷ n.Attributes ∷ n.Body ∷ n.FunctionType ∷ n.Convention ∷ n.Params ∷ n.MoreParams ∷ n.Param ∷ n.Results ∷ n.ResultsInside ∷ n.MoreGivens ∷ n.Given ∷ n.Block ∷ n.Blocks ∷ n.BlockArgs ∷ n.MoreBlockArgs ∷ n.BlockArg ∷ n.Ownership ∷ n.Star ∷ n.Code ∷ n.Inst ∷ n.Names ∷ n.MoreNames ∷ n.Row ∷ n.Terminator ∷ n.Operand ∷ n.Operands ∷ n.MoreOperands ∷ n.BareNames ∷ n.Edge ∷ n.EdgeArgs ∷ n.SwitchPart ∷ n.SwitchMore ∷ n.EnumElement ∷ n.ElementSuffix ∷ n.EnumOperand ∷ n.MemberName ∷ n.Flags ∷ n.FirstFlag ∷ n.VarDeclAfter ∷ n.LexicalAfter ∷ n.Qualifier ∷ n.QualifierWord ∷ n.TakeFlag ∷ n.InitFlag ∷ n.InitWord ∷ n.Debug ∷ n.DebugPart ∷ n.DebugAfterBinding ∷ n.DebugNamePart ∷ n.DebugAfterName ∷ n.DebugNumberPart ∷ n.DebugAfterNumber ∷ n.DebugDerefPart ∷ n.VtableEntry ∷ []
+
+-- each stands in the list of all, at its number
+look_number : Option Class → ℕ
+look_number None = 0
+look_number (Some k) = class_number k
+
+all_looks-at : (l : Option Class) → slice_index_or all_looks (look_number l) None ≡ l
+unfolding all_looks look_number class_number keyword_number at_number mark_number
+all_looks-at None = refl
+all_looks-at (Some (c.Word k.Other)) = refl
+all_looks-at (Some (c.Word _)) = refl
+all_looks-at (Some (c.At a.Other)) = refl
+all_looks-at (Some (c.At _)) = refl
+all_looks-at (Some (c.Mark m.LeftParen)) = refl
+all_looks-at (Some (c.Mark _)) = refl
+all_looks-at (Some c.Percent) = refl
+all_looks-at (Some c.Number) = refl
+all_looks-at (Some c.BuiltinText) = refl
+all_looks-at (Some c.OtherText) = refl
+
+all_productions-at : (q : Production) → slice_index_or all_productions (production_number q) p.WholeModule ≡ q
+unfolding all_productions production_number
+all_productions-at p.WholeModule = refl
+all_productions-at _ = refl
+
+all_parts-at : (part : Nonterminal) → slice_index_or all_parts (part_number part) n.Module ≡ part
+unfolding all_parts part_number
+all_parts-at n.Module = refl
+all_parts-at _ = refl
+
+list_all-at : {A : Type 0} (f : A → Bool) (d : A) (xs : List A) (i : ℕ) → f d ≡ true → list_all f xs ≡ true → f (slice_index_or xs i d) ≡ true
+list_all-at f d [] i e h = e
+list_all-at f d (x ∷ xs) zero e h = (and_parts (f x) (list_all f xs) h).0
+list_all-at f d (x ∷ xs) (suc i) e h = list_all-at f d xs i e (and_parts (f x) (list_all f xs) h).1
+
+pub each_look-at : (f : Option Class → Bool) → each_look f ≡ true → (l : Option Class) → f l ≡ true
+unfolding each_look all_looks
+each_look-at f h l = subst (λ x. f x ≡ true) (all_looks-at l) (list_all-at f None all_looks (look_number l) (and_parts (f None) _ h).0 h)
+
+pub same_production : (x y : Production) → (production_number x == production_number y) ≡ true → x ≡ y
+same_production x y h = sym (all_productions-at x) ∙ ap (λ i. slice_index_or all_productions i p.WholeModule) (eqb-true _ _ h) ∙ all_productions-at y
+
+pub same_part : (x y : Nonterminal) → (part_number x == part_number y) ≡ true → x ≡ y
+same_part x y h = sym (all_parts-at x) ∙ ap (λ i. slice_index_or all_parts i n.Module) (eqb-true _ _ h) ∙ all_parts-at y

@@ -1,0 +1,71 @@
+-- A spelling is read as what it spells, and nothing else is.
+use Rattle.std.proofs.Common.{rules, ◌≡◌, ℕ, List, [], ◌∷◌, length, refl, ap, sym, ◌∙◌, Bool, true, false, bytes_eq, inl, inr, ◌⊎◌}
+use Rattle.std.specs.Prelude.{Option, Some, None, cond, find, unwrap_or, IfSome}
+use Rattle.std.proofs.lemmas.Slice.Eq.{bytes_eq-Decides}
+use Rattle.sil_shape.specs.declared.classes.Keyword.{Keyword}
+use Rattle.sil_shape.specs.declared.classes.Keyword.TheVariants as k
+use Rattle.sil_shape.specs.declared.classes.AtWord.{AtWord}
+use Rattle.sil_shape.specs.declared.classes.AtWord.TheVariants as a
+use Rattle.sil_shape.specs.declared.classes.Mark.{Mark}
+use Rattle.sil_shape.specs.declared.classes.Mark.TheVariants as m
+use Rattle.sil_shape.specs.Spelling.{spelling, keywords_of_length, known_keyword, keyword_of, at_spelling, at_words, known_at_word, at_word_of, mark_spelling, marks, mark_of}
+
+pub keyword_of-spelling : (keyword : Keyword) → keyword_of (spelling keyword) ≡ keyword
+unfolding keyword_of known_keyword keywords_of_length spelling
+keyword_of-spelling k.Other = refl
+keyword_of-spelling _ = refl
+
+pub at_word_of-at_spelling : (name : AtWord) → at_word_of (at_spelling name) ≡ name
+unfolding at_word_of known_at_word at_words at_spelling
+at_word_of-at_spelling a.Other = refl
+at_word_of-at_spelling _ = refl
+
+pub mark_of-mark_spelling : (sign : Mark) → mark_of (mark_spelling sign) ≡ Some sign
+unfolding mark_of marks mark_spelling
+mark_of-mark_spelling m.Comma = refl
+mark_of-mark_spelling _ = refl
+
+bytes_eq-true : (xs ys : List ℕ) → bytes_eq xs ys ≡ true → xs ≡ ys
+bytes_eq-true xs ys h = search (rules, bytes_eq-Decides)
+
+-- what a search finds passes the test
+found : {X : Type 0} (p : X → Bool) (x : X) (rest : Option X) (b : Bool) → p x ≡ b → IfSome rest (λ x. p x ≡ true) → IfSome (cond b (Some x) rest) (λ x. p x ≡ true)
+found p x rest true e h = e
+found p x rest false e h = h
+
+find-true : {X : Type 0} (p : X → Bool) (xs : List X) → IfSome (find p xs) (λ x. p x ≡ true)
+find-true p [] = tt
+find-true p (x ∷ xs) = found p x (find p xs) (p x) refl (find-true p xs)
+
+spelled : {X : Type 0} (f : X → List ℕ) (word : List ℕ) (o : Option X) → IfSome o (λ x. bytes_eq (f x) word ≡ true) → IfSome o (λ x. f x ≡ word)
+spelled f word None h = tt
+spelled f word (Some x) h = bytes_eq-true (f x) word h
+
+or_other : {X : Type 0} (f : X → List ℕ) (word : List ℕ) (other : X) (o : Option X) → IfSome o (λ x. f x ≡ word) → (unwrap_or o other ≡ other) ⊎ (f (unwrap_or o other) ≡ word)
+or_other f word other None h = inl refl
+or_other f word other (Some x) h = inr h
+
+-- the same of a word that was looked up
+pub keyword_each : (word : List ℕ) (known : Option Keyword) (outcome keyword : Keyword)
+    → known ≡ known_keyword word → outcome ≡ unwrap_or known k.Other → spelling keyword ≡ word → outcome ≡ keyword
+unfolding keyword_of
+keyword_each word known outcome keyword f o e =
+    o ∙ ap (λ r. unwrap_or r k.Other) f ∙ ap keyword_of (sym e) ∙ keyword_of-spelling keyword
+
+pub keyword_known : (word : List ℕ) (known : Option Keyword) (outcome : Keyword)
+    → known ≡ known_keyword word → outcome ≡ unwrap_or known k.Other → (outcome ≡ k.Other) ⊎ (spelling outcome ≡ word)
+unfolding known_keyword
+keyword_known word known outcome f o =
+    rw (o, f) (or_other spelling word k.Other (known_keyword word) (spelled spelling word (known_keyword word) (find-true (λ k. bytes_eq (spelling k) word) (keywords_of_length (length word)))))
+
+pub at_word_each : (name : List ℕ) (known : Option AtWord) (outcome at : AtWord)
+    → known ≡ known_at_word name → outcome ≡ unwrap_or known a.Other → at_spelling at ≡ name → outcome ≡ at
+unfolding at_word_of
+at_word_each name known outcome at f o e =
+    o ∙ ap (λ r. unwrap_or r a.Other) f ∙ ap at_word_of (sym e) ∙ at_word_of-at_spelling at
+
+pub at_word_known : (name : List ℕ) (known : Option AtWord) (outcome : AtWord)
+    → known ≡ known_at_word name → outcome ≡ unwrap_or known a.Other → (outcome ≡ a.Other) ⊎ (at_spelling outcome ≡ name)
+unfolding known_at_word
+at_word_known name known outcome f o =
+    rw (o, f) (or_other at_spelling name a.Other (known_at_word name) (spelled at_spelling name (known_at_word name) (find-true (λ a. bytes_eq (at_spelling a) name) at_words)))

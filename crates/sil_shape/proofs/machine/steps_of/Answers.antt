@@ -1,0 +1,30 @@
+use Rattle.std.proofs.lemmas.Bool.{MatchBool-at_true, MatchBool-at_false}
+use Rattle.sil_shape.proofs.Reached.{Reached-start, Reached-next, Reached-all, first_bad_inside, first_bad_end}
+use Rattle.sil_shape.proofs.ValuesLemmas.{takes_of-derives, values_left-derives, IsEnough-derives}
+use Rattle.sil_shape.proofs.machine.steps_of.Goals as goal
+
+pub loop-place-init : goal.loop-place-init
+loop-place-init c = rw (c.in_ok-stack.ensures, c.new-steps.ensures.items) Reached-start
+
+pub returns-then-not-branch-clause-refused : goal.returns-then-not-branch-clause-refused
+returns-then-not-branch-clause-refused c =
+    first_bad_inside _ _ _ c.loop-place-test.true c.loop-place.invariant (MatchBool-at_false _ _ c.if-not-branch.true c.in_ok-take.ensures)
+
+pub loop-place-preserved : goal.loop-place-preserved
+loop-place-preserved c =
+    Reached-next _ _ _ c.loop-place-test.true c.loop-place.invariant (MatchBool-at_true _ _ c.if-not-branch.false c.in_ok-take.ensures)
+
+pub returns-then-not-branch-2-clause-refused : goal.returns-then-not-branch-2-clause-refused
+returns-then-not-branch-2-clause-refused c =
+    first_bad_end _ _ c.loop-place-test.false c.loop-place.invariant (MatchBool-at_false _ _ c.if-not-branch-2.true c.in_ok-end.ensures)
+
+pub returns : goal.returns
+returns c =
+    let whole = Reached-all _ _ c.loop-place-test.false c.loop-place.invariant (MatchBool-at_true _ _ c.if-not-branch-2.false c.in_ok-end.ensures) in
+    record {
+      found = whole;
+      taken = takes_of-derives whole.derives;
+      enough = IsEnough-derives whole.derives;
+      one_value = values_left-derives whole.derives;
+      refused = tt;
+    }

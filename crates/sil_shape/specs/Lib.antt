@@ -1,0 +1,10 @@
+pub mod Accepts
+pub mod Grammar
+pub mod Derivation
+pub mod Values
+pub mod Refusal
+pub mod Choice
+pub mod Turns
+pub mod Spelling
+pub mod BuiltinNames
+pub mod Unsupported

@@ -1,0 +1,10 @@
+-- What a refusal says.
+use Rattle.std.specs.Prelude.{List}
+use Rattle.sil_shape.specs.declared.classes.Class.{Class}
+use Rattle.sil_shape.specs.declared.machine.ShapeRefusal.{ShapeRefusal}
+use Rattle.sil_shape.specs.declared.machine.ShapeRefusal.TheVariants.{Memory, FirstBad}
+use Rattle.sil_shape.specs.Derivation.{IsFirstBad}
+
+abbrev pub IsRefusal : List Class → ShapeRefusal → Type 0
+IsRefusal classes Memory = Unit {0}
+IsRefusal classes (FirstBad place) = IsFirstBad classes place

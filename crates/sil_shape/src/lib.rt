@@ -1,0 +1,17 @@
+//! Which lists of token classes have the shape of a module, by a grammar that is data.
+//! It knows of no text, no value and no limit: the crate above builds a module from the steps that are found here.
+#![tactic(auto)]
+
+pub mod alternatives;
+pub mod bodies;
+pub mod builtin_names;
+mod choice;
+pub mod classes;
+pub mod grammar;
+pub mod machine;
+pub mod spelling;
+mod starts;
+pub mod steps;
+#[cfg(test)]
+mod tests;
+pub mod unsupported;
