@@ -25,9 +25,10 @@ head_contained y ys = (0, omega arith, refl)
 
 AreOnce-push : (xs : List Name) (x : Name) → AreOnce xs → (Contains xs x → ⊥) → AreOnce (xs ++ x ∷ [])
 AreOnce-push [] x o new = (λ h. absurd (omega (arith, h.1)), tt)
-AreOnce-push (y ∷ ys) x o new =
-    (λ h. elim (Contains-push_cases ys x y h) [ inl old ↦ o.0 old | inr e ↦ new (subst (Contains (y ∷ ys)) (sym e) (head_contained y ys)) ],
-        AreOnce-push ys x o.1 (λ h. new (Contains-append_right (y ∷ []) ys x h)))
+AreOnce-push (y ∷ ys) x o new = (
+  λ h. elim (Contains-push_cases ys x y h) [ inl old ↦ o.0 old | inr e ↦ new (subst (Contains (y ∷ ys)) (sym e) (head_contained y ys)) ],
+  AreOnce-push ys x o.1 (λ h. new (Contains-append_right (y ∷ []) ys x h)),
+)
 
 -- the one name of a list
 only : (y x : Name) → Contains (y ∷ []) x → x ≡ y

@@ -1,7 +1,8 @@
 //! The names of a written module: whether each is defined once, and defined at all where it is used.
 
-ghost use Rattle.std.specs.Prelude.{◌≡◌, ◌↔◌, ◌∷◌, [], ◌++◌, map, Contains, IfOk, IsTrue, MatchBool, MatchOption};
+ghost use Rattle.std.specs.Prelude.{◌≡◌, ◌↔◌, ◌∷◌, [], ◌++◌, map, Contains, IfOk, IsTrue, MatchBool};
 ghost use Rattle.std.specs.List.{flat_map};
+ghost use Rattle.std.specs.Option.{SomeIff, option_map};
 ghost use Rattle.sil_grammar.specs.Names.{AreAmong, AreOnce, classes_of, defined_in, function_names_of, name_of, name_used_by, reserved, used_by, used_in};
 
 use crate::written::{WrittenCode, WrittenInst, WrittenItem, WrittenOperand};
@@ -10,8 +11,13 @@ use sil_ast::{Exhausted, Imports, Text, TryClone};
 use std::alloc::Global;
 
 /// Whether no class and no function is defined twice, and no class has a name that the imports declare.
-pub(crate) fn are_items_once(alloc: Global, imports: Imports, items: &[WrittenItem]) -> Result<bool, Exhausted>
-    ensures { IfOk result (λ yes. IsTrue yes ↔ (AreOnce (reserved imports ++ classes_of items.now) × AreOnce (function_names_of items.now))) }
+pub(crate) fn are_items_once(
+    alloc: Global,
+    imports: Imports,
+    items: &[WrittenItem],
+) -> Result<bool, Exhausted>
+    ensures { IfOk result (λ yes. IsTrue yes ↔
+                (AreOnce (reserved imports ++ classes_of items.now) × AreOnce (function_names_of items.now))) }
 {
     let mut classes = reserved_names(alloc, imports)?;
     let mut functions = IndexSet::new(alloc);
@@ -28,8 +34,12 @@ pub(crate) fn are_items_once(alloc: Global, imports: Imports, items: &[WrittenIt
 }
 
 /// The values that code defines, in order, or `None` where a name is defined twice.
-pub(crate) fn defined_names(alloc: Global, code: &WrittenCode) -> Result<Option<IndexSet<Text>>, Exhausted>
-    ensures { IfOk result (λ found. MatchOption found (AreOnce (defined_in code.now) → ⊥) (λ names. AreOnce (defined_in code.now) × (names.keys ≡ defined_in code.now))) }
+pub(crate) fn defined_names(
+    alloc: Global,
+    code: &WrittenCode,
+) -> Result<Option<IndexSet<Text>>, Exhausted>
+    ensures { let names = defined_in code.now in
+              IfOk result (λ found. SomeIff (option_map (λ set. set.keys) found) (AreOnce names) names) }
 {
     let mut names = IndexSet::new(alloc);
     for inst in code.insts.as_slice() {
@@ -81,8 +91,8 @@ fn is_defined(defined: &IndexSet<Text>, name: &Text) -> bool
 // Adds a name at the end, or says that it is there already.
 fn define(alloc: Global, defined: &mut IndexSet<Text>, name: &Text) -> Result<bool, Exhausted>
     ensures { IfOk result (λ is_new. MatchBool is_new
-                ((Contains defined.old.keys name.now → ⊥) × (defined.new.keys ≡ defined.old.keys ++ name.now ∷ []))
-                (Contains defined.old.keys name.now)) }
+        ((Contains defined.old.keys name.now → ⊥) × (defined.new.keys ≡ defined.old.keys ++ name.now ∷ []))
+        (Contains defined.old.keys name.now)) }
 {
     let is_new = defined.insert(name.try_clone(alloc)?)?;
     Ok(is_new)

@@ -1,8 +1,8 @@
 //! The module that a written module stands for: names become numbers, in order of definition.
 
-ghost use Rattle.std.specs.Prelude.{◌≡◌, map, filter, IfOk, IsTrue, MatchOption};
+ghost use Rattle.std.specs.Prelude.{◌≡◌, map, filter, IfOk};
 ghost use Rattle.std.specs.List.{list_any};
-ghost use Rattle.std.specs.Option.{option_to_list};
+ghost use Rattle.std.specs.Option.{SomeIff, option_to_list};
 ghost use Rattle.simple_modules.specs.Simple.{empty_class, plain_signature};
 ghost use Rattle.sil_grammar.specs.Names.{AreSoundIn, AreSoundInAll, NamesAreSound, classes_of, defined_in, functions_of};
 ghost use Rattle.sil_grammar.specs.Resolved.{form_of, is_kept, is_ossa, resolved, resolved_block, resolved_function, resolved_inst, resolved_operand, value_of};
@@ -21,22 +21,22 @@ use std::alloc::Global;
 /// The module that `w` stands for, or `None` where a name is defined twice, or used and not defined.
 /// Where code defines more values than a `ValueId` can tell apart, memory counts as exhausted.
 pub(crate) fn resolve(alloc: Global, w: &WrittenModule) -> Result<Option<Module>, Exhausted>
-    ensures { IfOk result (λ r. MatchOption r (NamesAreSound w.now → ⊥) (λ m. NamesAreSound w.now × (m ≡ resolved w.now))) }
+    ensures { IfOk result (λ found. SomeIff found (NamesAreSound w.now) (resolved w.now)) }
 {
     let items = w.items.as_slice();
     if !are_items_once(alloc, w.imports, items)? {
         return Ok(None);
     }
-    match resolve_functions(alloc, items)? {
-        Some(functions) => Ok(Some(Module {
-            stage: w.stage,
-            imports: w.imports,
-            decls: resolve_classes(alloc, items)?,
-            functions,
-            vtables: List::new(alloc),
-        })),
-        None => Ok(None),
-    }
+    let Some(functions) = resolve_functions(alloc, items)? else {
+        return Ok(None);
+    };
+    Ok(Some(Module {
+        stage: w.stage,
+        imports: w.imports,
+        decls: resolve_classes(alloc, items)?,
+        functions,
+        vtables: List::new(alloc),
+    }))
 }
 
 fn resolve_classes(alloc: Global, items: &[WrittenItem]) -> Result<List<Decl>, Exhausted>
@@ -54,8 +54,12 @@ fn resolve_classes(alloc: Global, items: &[WrittenItem]) -> Result<List<Decl>, E
     Ok(decls)
 }
 
-fn resolve_functions(alloc: Global, items: &[WrittenItem]) -> Result<Option<List<Function>>, Exhausted>
-    ensures { IfOk result (λ r. MatchOption r (AreSoundInAll (functions_of items.now) → ⊥) (λ functions. AreSoundInAll (functions_of items.now) × (functions ≡ map resolved_function (functions_of items.now)))) }
+fn resolve_functions(
+    alloc: Global,
+    items: &[WrittenItem],
+) -> Result<Option<List<Function>>, Exhausted>
+    ensures { let functions = functions_of items.now in
+              IfOk result (λ found. SomeIff found (AreSoundInAll functions) (map resolved_function functions)) }
 {
     let mut functions = List::new(alloc);
     for item in items {
@@ -70,22 +74,23 @@ fn resolve_functions(alloc: Global, items: &[WrittenItem]) -> Result<Option<List
 }
 
 fn resolve_function(alloc: Global, f: &WrittenFunction) -> Result<Option<Function>, Exhausted>
-    ensures { IfOk result (λ r. MatchOption r (AreSoundIn f.now.code → ⊥) (λ function. AreSoundIn f.now.code × (function ≡ resolved_function f.now))) }
+    ensures { IfOk result (λ found. SomeIff found (AreSoundIn f.now.code) (resolved_function f.now)) }
 {
-    match defined_names(alloc, &f.code)? {
-        Some(defined) => {
-            if are_uses_defined(&defined, &f.code) {
-                Ok(Some(build_function(alloc, &defined, f)?))
-            } else {
-                Ok(None)
-            }
-        }
-        None => Ok(None),
+    let Some(defined) = defined_names(alloc, &f.code)? else {
+        return Ok(None);
+    };
+    if !are_uses_defined(&defined, &f.code) {
+        return Ok(None);
     }
+    Ok(Some(build_function(alloc, &defined, f)?))
 }
 
 // The function `f`, whose code defines these values.
-fn build_function(alloc: Global, defined: &IndexSet<Text>, f: &WrittenFunction) -> Result<Function, Exhausted>
+fn build_function(
+    alloc: Global,
+    defined: &IndexSet<Text>,
+    f: &WrittenFunction,
+) -> Result<Function, Exhausted>
     requires { defined.now.keys ≡ defined_in f.now.code }
     ensures { IfOk result (λ function. function ≡ resolved_function f.now) }
 {
@@ -139,7 +144,11 @@ fn is_ossa(word: &Text) -> bool
     word.as_slice() == b"ossa".as_slice()
 }
 
-fn build_block(alloc: Global, defined: &IndexSet<Text>, code: &WrittenCode) -> Result<Block, Exhausted>
+fn build_block(
+    alloc: Global,
+    defined: &IndexSet<Text>,
+    code: &WrittenCode,
+) -> Result<Block, Exhausted>
     ensures { IfOk result (λ block. block ≡ resolved_block defined.now.keys code.now) }
 {
     let mut insts = List::new(alloc);
@@ -153,7 +162,11 @@ fn build_block(alloc: Global, defined: &IndexSet<Text>, code: &WrittenCode) -> R
     })
 }
 
-fn build_inst(alloc: Global, defined: &IndexSet<Text>, inst: &WrittenInst) -> Result<Inst, Exhausted>
+fn build_inst(
+    alloc: Global,
+    defined: &IndexSet<Text>,
+    inst: &WrittenInst,
+) -> Result<Inst, Exhausted>
     ensures { IfOk result (λ built. built ≡ resolved_inst defined.now.keys inst.now) }
 {
     Ok(Inst {
@@ -179,7 +192,11 @@ fn build_inst(alloc: Global, defined: &IndexSet<Text>, inst: &WrittenInst) -> Re
     })
 }
 
-fn build_results(alloc: Global, defined: &IndexSet<Text>, name: &Option<Text>) -> Result<List<ValueId>, Exhausted>
+fn build_results(
+    alloc: Global,
+    defined: &IndexSet<Text>,
+    name: &Option<Text>,
+) -> Result<List<ValueId>, Exhausted>
     ensures { IfOk result (λ results. results ≡ map (value_of defined.now.keys) (option_to_list name.now)) }
 {
     let mut results = List::new(alloc);
@@ -189,7 +206,11 @@ fn build_results(alloc: Global, defined: &IndexSet<Text>, name: &Option<Text>) -
     Ok(results)
 }
 
-fn build_operands(alloc: Global, defined: &IndexSet<Text>, operands: &[WrittenOperand]) -> Result<Operands, Exhausted>
+fn build_operands(
+    alloc: Global,
+    defined: &IndexSet<Text>,
+    operands: &[WrittenOperand],
+) -> Result<Operands, Exhausted>
     ensures { IfOk result (λ built. built ≡ map (resolved_operand defined.now.keys) operands.now) }
 {
     let mut built = Operands::new(alloc);

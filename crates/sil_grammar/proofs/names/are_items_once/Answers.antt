@@ -11,12 +11,12 @@ returns-then-not-is_new c =
     let i = c.loop-item.item-index in
     let x = c.item-item.result in
     elim c.match-item.branch [
-      in-Class+in_ok-is_new-in-Class w ↦
-        let there = rw (sym w.is_new-is ∙ c.if-not-is_new.true) at w.in_ok-is_new-in-Class.ensures in
-        (λ f. cc, λ all. absurd (HasNames-twice class_of (reserved c.args.imports) items i x (omega arith) c.item-item.is _ w.in-Class.name (rw w.in-Class.is) c.loop-item.invariant.classes there all.0))
-    | in-Function+in_ok-is_new-in-Function w ↦
-        let there = rw (sym w.is_new-is ∙ c.if-not-is_new.true) at w.in_ok-is_new-in-Function.ensures in
-        (λ f. cc, λ all. absurd (HasNames-twice function_name_of [] items i x (omega arith) c.item-item.is _ w.in-Function.function.name (rw w.in-Function.is) c.loop-item.invariant.functions there all.1))
+      | in-Class+in_ok-is_new-in-Class w ↦
+          let there = rw (sym w.is_new-is ∙ c.if-not-is_new.true) at w.in_ok-is_new-in-Class.ensures in
+          (λ f. cc, λ all. absurd (HasNames-twice class_of (reserved c.args.imports) items i x (omega arith) c.item-item.is _ w.in-Class.name (rw w.in-Class.is) c.loop-item.invariant.classes there all.0))
+      | in-Function+in_ok-is_new-in-Function w ↦
+          let there = rw (sym w.is_new-is ∙ c.if-not-is_new.true) at w.in_ok-is_new-in-Function.ensures in
+          (λ f. cc, λ all. absurd (HasNames-twice function_name_of [] items i x (omega arith) c.item-item.is _ w.in-Function.function.name (rw w.in-Function.is) c.loop-item.invariant.functions there all.1))
     ]
 
 pub loop-item-preserved : goal.loop-item-preserved
@@ -25,16 +25,16 @@ loop-item-preserved c =
     let i = c.loop-item.item-index in
     let x = c.item-item.result in
     elim c.match-item.branch [
-      in-Class+in_ok-is_new-in-Class w ↦
-        let new = rw (sym w.is_new-is ∙ c.if-not-is_new.false) at w.in_ok-is_new-in-Class.ensures in
-        rw (w.classes-is, w.functions-is) (record {
-          classes = HasNames-new class_of (reserved c.args.imports) items i x (omega arith) c.item-item.is _ _ w.in-Class.name (rw w.in-Class.is) c.loop-item.invariant.classes new;
-          functions = HasNames-none function_name_of [] items i x (omega arith) c.item-item.is _ (rw w.in-Class.is) c.loop-item.invariant.functions;
-        })
-    | in-Function+in_ok-is_new-in-Function w ↦
-        let new = rw (sym w.is_new-is ∙ c.if-not-is_new.false) at w.in_ok-is_new-in-Function.ensures in
-        rw (w.classes-is, w.functions-is) (record {
-          classes = HasNames-none class_of (reserved c.args.imports) items i x (omega arith) c.item-item.is _ (rw w.in-Function.is) c.loop-item.invariant.classes;
-          functions = HasNames-new function_name_of [] items i x (omega arith) c.item-item.is _ _ w.in-Function.function.name (rw w.in-Function.is) c.loop-item.invariant.functions new;
-        })
+      | in-Class+in_ok-is_new-in-Class w ↦
+          let new = rw (sym w.is_new-is ∙ c.if-not-is_new.false) at w.in_ok-is_new-in-Class.ensures in
+          rw (w.classes-is, w.functions-is) (record {
+            classes = HasNames-new class_of (reserved c.args.imports) items i x (omega arith) c.item-item.is _ _ w.in-Class.name (rw w.in-Class.is) c.loop-item.invariant.classes new;
+            functions = HasNames-none function_name_of [] items i x (omega arith) c.item-item.is _ (rw w.in-Class.is) c.loop-item.invariant.functions;
+          })
+      | in-Function+in_ok-is_new-in-Function w ↦
+          let new = rw (sym w.is_new-is ∙ c.if-not-is_new.false) at w.in_ok-is_new-in-Function.ensures in
+          rw (w.classes-is, w.functions-is) (record {
+            classes = HasNames-none class_of (reserved c.args.imports) items i x (omega arith) c.item-item.is _ (rw w.in-Function.is) c.loop-item.invariant.classes;
+            functions = HasNames-new function_name_of [] items i x (omega arith) c.item-item.is _ _ w.in-Function.function.name (rw w.in-Function.is) c.loop-item.invariant.functions new;
+          })
     ]

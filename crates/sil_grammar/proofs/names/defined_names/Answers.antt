@@ -15,6 +15,6 @@ loop-inst-preserved c =
     let i = c.loop-inst.inst-index in
     let x = c.inst-item.result in
     elim c.match-inst.branch [
-      in-Some+in_ok-define+else-not-branch w ↦ rw w.names-is (HasNames-new name_of [] _ i x (omega arith) c.inst-item.is _ _ w.in-Some.name (rw w.in-Some.is) c.loop-inst.invariant (rw w.if-not-branch.false at w.in_ok-define.ensures))
-    | in_default w ↦ rw w.names-is (HasNames-none name_of [] _ i x (omega arith) c.inst-item.is _ (rw w.in_default.is) c.loop-inst.invariant)
+      | in-Some+in_ok-define+else-not-branch w ↦ rw w.names-is (HasNames-new name_of [] _ i x (omega arith) c.inst-item.is _ _ w.in-Some.name (rw w.in-Some.is) c.loop-inst.invariant (rw w.if-not-branch.false at w.in_ok-define.ensures))
+      | in_default w ↦ rw w.names-is (HasNames-none name_of [] _ i x (omega arith) c.inst-item.is _ (rw w.in_default.is) c.loop-inst.invariant)
     ]
