@@ -1,11 +1,11 @@
--- The table of instructions.
+-- The table of instructions: the mnemonic of each, and the parts of its form.
 use Rattle.std.specs.Prelude.{ℕ, List, [], ◌∷◌, codes}
 use Rattle.sil_ast.specs.declared.op.Op.{Op}
 use Rattle.sil_ast.specs.declared.op.Op.TheVariants.{IntegerLiteral, FunctionRef, Builtin, CondFail, AllocRef, AllocStack, DeallocStack, CopyValue, DestroyValue, MoveValue, BeginBorrow, EndBorrow, Load, Store, LoadBorrow, DestroyAddr, LoadWeak, StoreWeak, LoadUnowned, StoreUnowned, Struct, Tuple, Enum, StructExtract, TupleExtract, DestructureStruct, DestructureTuple, StructElementAddr, TupleElementAddr, RefElementAddr, Apply, DebugValue, StrongRetain, StrongRelease, RetainValue, ReleaseValue, Br, CondBr, SwitchEnum, Return, Unreachable}
 use Rattle.sil_ast.specs.declared.forms.Part.{Part}
 use Rattle.sil_ast.specs.declared.forms.Part.TheVariants as part
 
--- an instruction's word
+-- the word with which an instruction begins
 abbrev pub mnemonic_of : Op → List ℕ
 mnemonic_of IntegerLiteral = codes "integer_literal"
 mnemonic_of FunctionRef = codes "function_ref"
@@ -49,7 +49,7 @@ mnemonic_of SwitchEnum = codes "switch_enum"
 mnemonic_of Return = codes "return"
 mnemonic_of Unreachable = codes "unreachable"
 
--- an instruction's parts, from left to right
+-- the parts behind that word, from left to right
 abbrev pub parts_of : Op → List Part
 parts_of IntegerLiteral = part.TypeWord ∷ part.Number ∷ []
 parts_of FunctionRef = part.Callee ∷ part.SignatureWord ∷ []

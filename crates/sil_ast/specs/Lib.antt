@@ -1,3 +1,4 @@
 pub mod Forms
+pub mod Inst
 pub mod TypeName
 pub mod formers

@@ -17,6 +17,7 @@ pub enum Decl {
 }
 
 /// A field of a struct or class: `var left: Node`, `weak var parent: Optional<Node>`.
+/// The type is the one behind the colon, whatever the storage.
 #[derive(Drop)]
 pub struct Field {
     pub name: Text,

@@ -1,6 +1,7 @@
 //! Instructions and terminators, each with the parts that its form has.
 
-ghost use Rattle.std.specs.Prelude.{◌≡◌, ◌↔◌, IsTrue};
+ghost use Rattle.std.specs.Prelude.{◌↔◌, IsTrue};
+ghost use Rattle.sil_ast.specs.Inst.{SameWords, SameUses, SameParts};
 
 use crate::debug::Debug;
 use crate::exhausted::Exhausted;
@@ -16,7 +17,8 @@ use crate::try_clone::TryClone;
 use crate::type_name::TypeName;
 use std::alloc::Global;
 
-/// An instruction or a terminator: `%2 = load [copy] %1 : $*Node`. A part that its form lacks is empty, `None`, `Plain` or `false`.
+/// An instruction or a terminator: `%2 = load [copy] %1 : $*Node`.
+/// A part that it doesn't have is empty, `None`, `Plain` or `false`.
 #[derive(Drop)]
 pub struct Inst {
     pub op: Op,
@@ -102,19 +104,19 @@ impl Same for Inst {
 }
 
 fn same_words(a: &Inst, b: &Inst) -> bool
-    ensures { IsTrue result ↔ ((a.now.op ≡ b.now.op) × (a.now.qualifier ≡ b.now.qualifier) × (a.now.lexical ≡ b.now.lexical) × (a.now.var_decl ≡ b.now.var_decl)) }
+    ensures { IsTrue result ↔ SameWords a.now b.now }
 {
     a.op == b.op && a.qualifier == b.qualifier && a.lexical == b.lexical && a.var_decl == b.var_decl
 }
 
 fn same_uses(a: &Inst, b: &Inst) -> bool
-    ensures { IsTrue result ↔ ((a.now.results ≡ b.now.results) × (a.now.operands ≡ b.now.operands) × (a.now.edges ≡ b.now.edges)) }
+    ensures { IsTrue result ↔ SameUses a.now b.now }
 {
     a.results.same(&b.results) && a.operands.same(&b.operands) && a.edges.same(&b.edges)
 }
 
 fn same_parts(a: &Inst, b: &Inst) -> bool
-    ensures { IsTrue result ↔ ((a.now.ty ≡ b.now.ty) × (a.now.signature ≡ b.now.signature) × (a.now.function ≡ b.now.function) × (a.now.member ≡ b.now.member) × (a.now.number ≡ b.now.number) × (a.now.text ≡ b.now.text) × (a.now.debug ≡ b.now.debug)) }
+    ensures { IsTrue result ↔ SameParts a.now b.now }
 {
     a.ty.same(&b.ty)
         && a.signature.same(&b.signature)

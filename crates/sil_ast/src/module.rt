@@ -11,7 +11,8 @@ use crate::try_clone::TryClone;
 use crate::vtable::Vtable;
 use std::alloc::Global;
 
-/// A module: `sil_stage canonical`, `import Swift`, and its declarations, functions and vtables, each kind in the order of the text.
+/// A module: `sil_stage canonical`, `import Swift`, and its declarations, functions and vtables,
+/// each kind in the order of the text.
 #[derive(Drop)]
 pub struct Module {
     pub stage: Stage,

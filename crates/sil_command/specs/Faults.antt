@@ -1,5 +1,5 @@
 -- Which faults a function of one block shows, which of them comes first, and which modules are accepted.
-use Rattle.std.specs.Prelude.{◌≡◌, ℕ, ◌<◌, ◌⊎◌, List, [], ◌∷◌, ◌++◌, ⊤, length, sum_by, Option, Some, slice_get}
+use Rattle.std.specs.Prelude.{◌≡◌, ℕ, ◌<◌, ◌⊎◌, List, [], ◌∷◌, ◌++◌, ⊤, length, sum_by}
 use Rattle.sil_ast.specs.declared.function.Block.{Block}
 use Rattle.sil_ast.specs.declared.function.Function.{Function}
 use Rattle.sil_ast.specs.declared.inst.Inst.{Inst}
@@ -25,17 +25,18 @@ pub record IsFirstUndefined (points : List Inst) (s k : ℕ) : Type 0 where
   pub no_operand_before : sum_by (operands_that_are s) before ≡ 0
   pub not_defined_before : sum_by (results_that_are s) before ≡ 0
 
--- the rule that a break of an owned value's pattern is
-abbrev pub rule_of : Break → Rule
-rule_of UseOutside = rule.UseAfterConsume
-rule_of EndOutside = rule.DoubleConsume
-rule_of ReturnInside = rule.Leak
-rule_of BeginInside = rule.Overwritten
+-- the value is an owned one, and its pattern breaks first at point k, for this reason
+pub record BreaksAt (b : Block) (s k : ℕ) (reason : Break) : Type 0 where
+  pub owned : IsOwned b s
+  pub broken : IsFirstBreak (marks_of s) returns_at (points_of b) k reason
 
 -- the walk from the entry to the end of the block shows the rule for the value, at the point
-pub data Shows (b : Block) : Rule → ℕ → ℕ → Type 0 where
-  undefined : (s k : ℕ) → IsFirstUndefined (points_of b) s k → Shows b rule.Undefined s k
-  lifetime : (s k : ℕ) (reason : Break) → IsOwned b s → IsFirstBreak (marks_of s) returns_at (points_of b) k reason → Shows b (rule_of reason) s k
+abbrev pub Shows : Block → Rule → ℕ → ℕ → Type 0
+Shows b rule.Undefined s k = IsFirstUndefined (points_of b) s k
+Shows b rule.UseAfterConsume s k = BreaksAt b s k UseOutside
+Shows b rule.DoubleConsume s k = BreaksAt b s k EndOutside
+Shows b rule.Leak s k = BreaksAt b s k ReturnInside
+Shows b rule.Overwritten s k = BreaksAt b s k BeginInside
 
 abbrev pub ShowsFault : Block → Fault → Type 0
 ShowsFault b f = Shows b f.rule f.subject.0 f.point
@@ -48,11 +49,15 @@ ComesBefore f g =
 
 pub record IsFirstFault (b : Block) (f : Fault) : Type 0 where
   pub shown : ShowsFault b f
-  pub first : (g : Fault) → ShowsFault b g → ComesBefore g f → ⊥
+  pub first : (g : Fault) → ShowsFault b g → ¬ ComesBefore g f
 
--- the function keeps the rules: none of its blocks shows a fault
+-- the block shows no fault
+abbrev pub IsFaultless : Block → Type 0
+IsFaultless b = (f : Fault) → ¬ ShowsFault b f
+
+-- the function keeps the rules: its block shows no fault
 abbrev pub KeepsRules : Function → Type 0
-KeepsRules f = (b : Block) → f.blocks ≡ b ∷ [] → (fault : Fault) → ShowsFault b fault → ⊥
+KeepsRules f = (b : Block) → f.blocks ≡ b ∷ [] → IsFaultless b
 
 abbrev pub AllKeepRules : List Function → Type 0
 AllKeepRules [] = ⊤

@@ -1,10 +1,12 @@
 -- What the instructions of a block do to a value.
-use Rattle.std.specs.Prelude.{ℕ, ◌<◌, ◌==◌, Bool, true, false, if◌then◌else◌, List, [], ◌∷◌, ◌++◌, map, count_by, filter, replicate, Contains}
+use Rattle.std.specs.Prelude.{ℕ, ◌==◌, Bool, true, false, if◌then◌else◌, List, [], ◌∷◌, ◌++◌, map, count_by, replicate, Contains}
 use Rattle.std.specs.List.{flat_map}
 use Rattle.sil_ast.specs.declared.function.Block.{Block}
 use Rattle.sil_ast.specs.declared.inst.Inst.{Inst}
+use Rattle.sil_ast.specs.declared.operands.Operand.{Operand}
 use Rattle.sil_ast.specs.declared.op.Op.{Op}
 use Rattle.sil_ast.specs.declared.op.Op.TheVariants as op
+use Rattle.sil_ast.specs.declared.place.ValueId.{ValueId}
 use Rattle.mark_patterns.specs.declared.pattern.MarkSort.{MarkSort}
 use Rattle.mark_patterns.specs.declared.pattern.MarkSort.TheVariants.{End, Use, Begin}
 
@@ -18,7 +20,7 @@ consumes op.DestroyValue = true
 consumes op.Return = true
 consumes _ = false
 
--- whether an instruction's result is an owned value
+-- whether an instruction's results are owned values
 abbrev pub makes_owned : Op → Bool
 makes_owned op.AllocRef = true
 makes_owned op.CopyValue = true
@@ -31,20 +33,27 @@ is_return _ = false
 abbrev pub returns_at : Inst → Bool
 returns_at i = is_return i.op
 
+-- how many of some operands, and of some results, are the value
+abbrev pub operands_equal : ℕ → List Operand → ℕ
+operands_equal s operands = count_by (λ o. o.value.0 == s) operands
+
+abbrev pub results_equal : ℕ → List ValueId → ℕ
+results_equal s results = count_by (λ v. v.0 == s) results
+
 -- how many operands of an instruction are the value, and how many of its results
 abbrev pub operands_that_are : ℕ → Inst → ℕ
-operands_that_are s i = count_by (λ o. o.value.0 == s) i.operands
+operands_that_are s i = operands_equal s i.operands
 
 abbrev pub results_that_are : ℕ → Inst → ℕ
-results_that_are s i = count_by (λ v. v.0 == s) i.results
+results_that_are s i = results_equal s i.results
 
 -- the sort of mark that an operand is
-abbrev pub operand_mark : Inst → MarkSort
-operand_mark i = if consumes i.op then End else Use
+abbrev pub operand_mark : Op → MarkSort
+operand_mark o = if consumes o then End else Use
 
 -- ends come before uses, and uses before a begin
 abbrev pub marks_of : ℕ → Inst → List MarkSort
-marks_of s i = replicate (operands_that_are s i) (operand_mark i) ++ replicate (results_that_are s i) Begin
+marks_of s i = replicate (operands_that_are s i) (operand_mark i.op) ++ replicate (results_that_are s i) Begin
 
 -- the owned values that an instruction makes
 abbrev pub owned_by : Inst → List ℕ

@@ -1,7 +1,9 @@
 //! The rules that a module may break, in their order, with the numbers and names that a refusal prints.
 
 ghost use Rattle.std.specs.Prelude.{◌≡◌};
-ghost use Rattle.sil_command.specs.Rules.{number_of, name_of};
+ghost use Rattle.sil_command.specs.Rules.{number_of, name_of, rule_of};
+
+use mark_patterns::Break;
 
 /// A rule of ownership that is judged on walks.
 #[derive(Clone, Copy, Debug, PartialEq, Eq)]
@@ -42,6 +44,20 @@ impl Rule {
             Rule::DoubleConsume => b"DoubleConsume",
             Rule::Leak => b"Leak",
             Rule::Overwritten => b"Overwritten",
+        }
+    }
+}
+
+impl From<Break> for Rule {
+    ghost from_gives = { λ reason rule. rule ≡ rule_of reason };
+
+    /// The rule that a break of an owned value's pattern is.
+    fn from(reason: Break) -> Rule {
+        match reason {
+            Break::UseOutside => Rule::UseAfterConsume,
+            Break::EndOutside => Rule::DoubleConsume,
+            Break::ReturnInside => Rule::Leak,
+            Break::BeginInside => Rule::Overwritten,
         }
     }
 }

@@ -1,4 +1,5 @@
 pub mod BuildLemmas
 pub mod DerivedOnce
 pub mod LexemeLemmas
+pub mod NameLemmas
 pub mod SpelledOnce

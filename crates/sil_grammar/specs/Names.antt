@@ -1,5 +1,5 @@
 -- The names of a written module: each is defined once, and each that is used is defined.
-use Rattle.std.specs.Prelude.{◌≡◌, ◌≢◌, ℕ, List, [], ◌∷◌, ◌++◌, ⊤, map, Contains, Bool, true, false, IsTrue, codes}
+use Rattle.std.specs.Prelude.{ℕ, List, [], ◌∷◌, ◌++◌, ⊤, map, Contains, Bool, true, false, codes}
 use Rattle.std.specs.Option.{option_to_list}
 use Rattle.std.specs.List.{flat_map}
 use Rattle.sil_ast.specs.declared.module.Imports.{Imports}
@@ -23,19 +23,32 @@ abbrev pub function_of : WrittenItem → List WrittenFunction
 function_of (item.Class name) = []
 function_of (item.Function f) = f ∷ []
 
--- the classes that a module declares, and its functions, in order
-abbrev pub classes_of : WrittenModule → List Name
-classes_of w = flat_map class_of w.items
+abbrev pub function_name_of : WrittenItem → List Name
+function_name_of (item.Class name) = []
+function_name_of (item.Function f) = f.name ∷ []
 
-abbrev pub functions_of : WrittenModule → List WrittenFunction
-functions_of w = flat_map function_of w.items
+-- the classes that the items declare, and the functions that they define, in order
+abbrev pub classes_of : List WrittenItem → List Name
+classes_of items = flat_map class_of items
+
+abbrev pub functions_of : List WrittenItem → List WrittenFunction
+functions_of items = flat_map function_of items
+
+abbrev pub function_names_of : List WrittenItem → List Name
+function_names_of items = flat_map function_name_of items
+
+abbrev pub name_of : WrittenInst → List Name
+name_of i = option_to_list i.name
 
 -- the values that code defines, in order
 abbrev pub defined_in : WrittenCode → List Name
-defined_in c = flat_map (λ i. option_to_list i.name) c.insts
+defined_in c = flat_map name_of c.insts
+
+abbrev pub name_used_by : WrittenOperand → Name
+name_used_by o = o.name
 
 abbrev pub used_by : WrittenInst → List Name
-used_by i = map (λ o. o.name) i.operands
+used_by i = map name_used_by i.operands
 
 -- the values that code uses
 abbrev pub used_in : WrittenCode → List Name
@@ -69,6 +82,6 @@ AreSoundInAll (f ∷ fs) = AreSoundIn f.code × AreSoundInAll fs
 
 -- every name of the module is defined once, and defined at all where it is used
 pub record NamesAreSound (w : WrittenModule) : Type 0 where
-  pub declarations : AreOnce (reserved w.imports ++ classes_of w)
-  pub functions : AreOnce (map (λ f. f.name) (functions_of w))
-  pub values : AreSoundInAll (functions_of w)
+  pub declarations : AreOnce (reserved w.imports ++ classes_of w.items)
+  pub functions : AreOnce (function_names_of w.items)
+  pub values : AreSoundInAll (functions_of w.items)

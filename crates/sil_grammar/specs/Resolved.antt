@@ -1,10 +1,12 @@
 -- The module that a written module stands for: values are numbered in order of definition.
-use Rattle.std.specs.Prelude.{ℕ, List, [], ◌∷◌, map, Option, Some, None, false, unwrap_or, position}
-use Rattle.std.specs.Option.{option_to_list, option_map}
+use Rattle.std.specs.Prelude.{ℕ, List, [], ◌∷◌, map, filter, Bool, not, if◌then◌else◌, Some, unwrap_or, position, codes}
+use Rattle.std.specs.Option.{option_to_list}
+use Rattle.std.specs.List.{list_any}
 use Rattle.std.specs.Str.{bytes_eq}
 use Rattle.sil_ast.specs.declared.decl.Decl.{Decl}
 use Rattle.sil_ast.specs.declared.function.Block.{Block}
-use Rattle.sil_ast.specs.declared.function.Form.TheVariants.{Ossa}
+use Rattle.sil_ast.specs.declared.function.Form.{Form}
+use Rattle.sil_ast.specs.declared.function.Form.TheVariants.{Ossa, Lowered}
 use Rattle.sil_ast.specs.declared.function.Function.{Function}
 use Rattle.sil_ast.specs.declared.function.Linkage.TheVariants as linkage
 use Rattle.sil_ast.specs.declared.inst.Inst.{Inst}
@@ -31,29 +33,38 @@ abbrev pub resolved_inst : List Name → WrittenInst → Inst
 resolved_inst defined i =
     plain_inst i.op (map (value_of defined) (option_to_list i.name)) (map (resolved_operand defined) i.operands) i.ty
 
-abbrev pub resolved_block : WrittenCode → Block
-resolved_block c = record {
+abbrev pub resolved_block : List Name → WrittenCode → Block
+resolved_block defined c = record {
   args = [];
-  insts = map (resolved_inst (defined_in c)) c.insts;
-  terminator = resolved_inst (defined_in c) c.terminator;
+  insts = map (resolved_inst defined) c.insts;
+  terminator = resolved_inst defined c.terminator;
 }
 
--- a function with the one attribute `[ossa]`, which is its form
+-- `[ossa]` is no attribute that is kept: it says the function's form
+abbrev pub is_ossa : Name → Bool
+is_ossa word = bytes_eq word (codes "ossa")
+
+abbrev pub is_kept : Name → Bool
+is_kept word = not (is_ossa word)
+
+abbrev pub form_of : List Name → Form
+form_of words = if list_any is_ossa words then Ossa else Lowered
+
 abbrev pub resolved_function : WrittenFunction → Function
 resolved_function f = record {
   name = f.name;
-  form = Ossa;
+  form = form_of f.attributes;
   linkage = linkage.Plain;
-  attributes = [];
+  attributes = filter is_kept f.attributes;
   signature = plain_signature;
-  blocks = resolved_block f.code ∷ [];
+  blocks = resolved_block (defined_in f.code) f.code ∷ [];
 }
 
 abbrev pub resolved : WrittenModule → Module
 resolved w = record {
   stage = w.stage;
   imports = w.imports;
-  decls = map empty_class (classes_of w);
-  functions = map resolved_function (functions_of w);
+  decls = map empty_class (classes_of w.items);
+  functions = map resolved_function (functions_of w.items);
   vtables = [];
 }

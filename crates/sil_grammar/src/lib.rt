@@ -11,6 +11,7 @@ mod names;
 mod prepended;
 mod reader;
 mod refusal;
+mod resolved;
 mod simple_parts;
 mod value;
 mod written;

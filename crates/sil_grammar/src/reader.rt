@@ -14,7 +14,7 @@ ghost use Rattle.sil_grammar.specs.Spells.{AreSpelledOnce, Spells, StandFor};
 
 use crate::build::values_of;
 use crate::classes::classes_of;
-use crate::names::resolve;
+use crate::resolved::resolve;
 use crate::refusal::ReadRefusal;
 use crate::simple_parts::first_other_part;
 use crate::value::{Value, discard};

@@ -1,10 +1,10 @@
 -- Which token begins a list, as a function: so there is one, and it is the longest.
-use Rattle.std.proofs.Common.{◌≡◌, ℕ, zero, suc, ⊎_elim, zero-add, ◌+◌, ◌<◌, ◌≤◌, Bool, true, false, cond, not, List, [], ◌∷◌, ◌++◌, length, take, refl, sym, ap, ◌∙◌, subst, arith, leb, one-add, add-zero, append_assoc, take_at, drop_at, drop}
-use Rattle.std.specs.Prelude.{◌==◌, ◌||◌, ◌&&◌, codes}
+use Rattle.std.proofs.Common.{◌≡◌, ℕ, ⊎_elim, zero-add, ◌+◌, Bool, true, false, cond, not, List, [], ◌∷◌, ◌++◌, length, take, refl, sym, ap, ◌∙◌, arith, leb, append_assoc, take_at, drop_at, drop}
+use Rattle.std.specs.Prelude.{◌==◌, ◌||◌, codes}
 use Rattle.std.specs.List.{prefix_len, list_all, list_any}
-use Rattle.std.specs.Char.{is_ascii_digit, is_ascii_alphabetic}
+use Rattle.std.specs.Char.{is_ascii_digit}
 use Rattle.std.proofs.lemmas.List.{length_push}
-use Rattle.std.proofs.lemmas.Bool.{and_parts, and_left, or_from, or_cases, or_parts, eqb-true, leb-true, lt-leb, false≢true, false_from_ne_true, not-true, ne_eqb}
+use Rattle.std.proofs.lemmas.Bool.{and_parts, and_left, or_from, or_cases, or_parts, eqb-true, leb-true, lt-leb, false≢true, not-true, ne_eqb}
 use Rattle.sil_lexer.specs.declared.token.TokenKind.{TokenKind}
 use Rattle.sil_lexer.specs.declared.token.TokenKind.TheVariants.{Word, AtName, Percent, Number, Text, Mark}
 use Rattle.sil_lexer.specs.Bytes.{is_word_start, is_name_byte, is_text_byte, is_mark}

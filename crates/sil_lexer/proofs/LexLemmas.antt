@@ -1,22 +1,22 @@
 -- The tokens found so far, before those of what is left, are the tokens of the text.
-use Rattle.std.proofs.Common.{◌≡◌, ℕ, ◌+◌, ◌-◌, ◌<◌, ◌≤◌, Bool, true, false, not, List, [], ◌∷◌, ◌++◌, length, get_or, take, drop, map, refl, sym, ap, ◌∙◌, subst, arith, append_assoc, length-drop, get_or-take, drop-drop, take-append-drop, length-take-le}
-use Rattle.std.specs.Prelude.{Option, Some, None, All, slice_range}
+use Rattle.std.proofs.Common.{◌≡◌, ℕ, ◌+◌, ◌-◌, ◌≤◌, Bool, true, false, not, List, [], ◌∷◌, ◌++◌, length, take, drop, map, refl, sym, ap, ◌∙◌, subst, arith, append_assoc, length-drop, get_or-take, drop-drop, take-append-drop, length-take-le}
+use Rattle.std.specs.Prelude.{Option, Some, None, All}
 use Rattle.std.specs.List.{list_all}
 use Rattle.std.specs.Char.{is_ascii_digit}
 use Rattle.std.proofs.lemmas.List.{append-nil, map_push, drop_all}
 use Rattle.std.proofs.lemmas.List.Elements.{All-get_or, All-push}
 use Rattle.std.proofs.lemmas.List.Folds.{list_all-append}
 use Rattle.std.proofs.lemmas.List.Sums.{AllPass-from_list_all}
-use Rattle.std.proofs.lemmas.Bool.{and_from, and_parts, eqb-true, false≢true, false_from_ne_true, not-true, not_from_false}
+use Rattle.std.proofs.lemmas.Bool.{and_from, and_parts, eqb-true, false≢true, false_from_ne_true, not-true}
 use Rattle.sil_ast.specs.declared.place.Place.{Place}
 use Rattle.sil_lexer.specs.declared.token.TokenKind.{TokenKind}
 use Rattle.sil_lexer.specs.declared.token.LexRefusal.{LexRefusal}
 use Rattle.sil_lexer.specs.declared.token.Token.{Token}
 use Rattle.sil_lexer.specs.Bytes.{is_line_feed, is_in_line, is_word_start, is_name_byte, is_text_byte, is_mark}
-use Rattle.sil_lexer.specs.Places.{place_of, place_before, ahead_of, IsPlaceIn}
-use Rattle.sil_lexer.specs.Spelling.{Spells, word, at_name, percent, number, negative, quoted, mark, arrow, IsSpelled, name_length}
+use Rattle.sil_lexer.specs.Places.{place_before, ahead_of, IsPlaceIn}
+use Rattle.sil_lexer.specs.Spelling.{Spells, word, at_name, percent, number, negative, quoted, mark, arrow}
 use Rattle.sil_lexer.specs.Lexes.{Lexeme, Skips, nothing, Stops, Lexes, end, token, stop}
-use Rattle.sil_lexer.specs.Lexing.{Lexing, spelling_of, lexeme_of, lexemes_of, IsInside, IsLexingOf}
+use Rattle.sil_lexer.specs.Lexing.{Lexing, spelling_of, lexeme_of, IsInside, IsLexingOf}
 use Rattle.sil_lexer.specs.Scan.{SkipsTo, IsTokenAt}
 use Rattle.sil_lexer.proofs.PlaceLemmas.{place_ahead}
 use Rattle.sil_lexer.proofs.SkipLemmas.{skips_on}

@@ -6,3 +6,4 @@ pub mod StopLemmas
 pub mod LexLemmas
 pub mod FrontLemmas
 pub mod UniqueLemmas
+pub mod OrderLemmas

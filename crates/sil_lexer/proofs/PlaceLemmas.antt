@@ -1,9 +1,8 @@
 -- How places go on from byte to byte: each place that is kept is the text's.
-use Rattle.std.proofs.Common.{◌≡◌, ℕ, zero, suc, ◌+◌, ◌-◌, ◌<◌, ◌≤◌, Bool, true, false, List, length, get_or, take, drop, refl, sym, ap, ◌∙◌, subst, arith, add-zero, length-take, get_or-take, get_or-drop}
-use Rattle.std.specs.Prelude.{count_by, not, IsTrue}
-use Rattle.std.specs.List.{suffix_len, list_all}
-use Rattle.std.proofs.lemmas.List.Sums.{count_by-le-length, count_by_more_yes, count_by_more_no, suffix_len-le-length, suffix_len-take_yes, suffix_len-take_no, AllPass-from_list_all}
-use Rattle.std.proofs.lemmas.List.Elements.{All-get_or}
+use Rattle.std.proofs.Common.{◌≡◌, ℕ, zero, suc, ◌+◌, ◌-◌, ◌<◌, ◌≤◌, true, false, List, length, get_or, take, drop, sym, ap, ◌∙◌, arith, add-zero, length-take, get_or-drop}
+use Rattle.std.specs.Prelude.{not}
+use Rattle.std.specs.List.{suffix_len}
+use Rattle.std.proofs.lemmas.List.Sums.{count_by-le-length, count_by_more_no, suffix_len-le-length, suffix_len-take_yes}
 use Rattle.sil_ast.specs.declared.place.Place.{Place}
 use Rattle.sil_lexer.specs.Bytes.{is_line_feed, is_in_line}
 use Rattle.sil_lexer.specs.Places.{place_of, ahead_of, IsPlaceIn}

@@ -1,8 +1,7 @@
 -- The longest run of bytes that pass a test at the front of a list.
-use Rattle.std.proofs.Common.{◌≡◌, ℕ, ◌+◌, ◌<◌, Bool, true, false, cond, not, List, [], ◌∷◌, length, take, drop, refl, sym, ap, ◌∙◌, arith, one-add, ◌++◌, get_or, take-append-drop}
+use Rattle.std.proofs.Common.{◌≡◌, ℕ, ◌+◌, ◌<◌, Bool, true, false, cond, List, [], ◌∷◌, length, take, drop, refl, sym, ap, ◌∙◌, arith, one-add, ◌++◌, get_or, take-append-drop}
 use Rattle.std.proofs.lemmas.Bool.{false≢true, true_from_ne_false, and_from}
 use Rattle.std.proofs.lemmas.List.{drop_more}
-use Rattle.std.specs.Prelude.{◌&&◌}
 use Rattle.std.specs.List.{prefix_len, list_all}
 use Rattle.sil_lexer.specs.Spelling.{begins_with}
 

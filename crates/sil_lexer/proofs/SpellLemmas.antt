@@ -1,10 +1,9 @@
 -- The tokens at the front of a list, kind by kind: what the functions take is spelled so, and ends there.
-use Rattle.std.proofs.Common.{◌≡◌, ℕ, suc, ◌+◌, ◌-◌, ◌<◌, ◌≤◌, Bool, true, false, eqb, List, [], ◌∷◌, ◌++◌, length, get_or, take, drop, refl, sym, ap, ◌∙◌, subst, arith, one-add, ⊎_elim, length-drop, get_or-drop, length-take-le}
-use Rattle.std.specs.Prelude.{◌==◌, ◌||◌, ◌&&◌}
+use Rattle.std.proofs.Common.{◌≡◌, ℕ, suc, ◌+◌, ◌-◌, ◌<◌, ◌≤◌, Bool, true, false, List, [], ◌∷◌, ◌++◌, length, get_or, take, drop, refl, sym, ap, ◌∙◌, subst, arith, one-add, ⊎_elim, length-drop, get_or-drop, length-take-le}
+use Rattle.std.specs.Prelude.{◌==◌, ◌||◌}
 use Rattle.std.specs.List.{prefix_len, list_all}
 use Rattle.std.specs.Char.{is_ascii_digit, is_ascii_alphabetic}
 use Rattle.std.proofs.lemmas.List.{take_more}
-use Rattle.std.proofs.lemmas.List.Sums.{prefix_len-le-length}
 use Rattle.std.proofs.lemmas.Bool.{eqb-true, or_cases, or_left, or_right, false≢true}
 use Rattle.sil_ast.specs.declared.place.Place.{Place}
 use Rattle.sil_lexer.specs.declared.token.TokenKind.{TokenKind}
@@ -12,7 +11,7 @@ use Rattle.sil_lexer.specs.declared.token.TokenKind.TheVariants.{Word, AtName, P
 use Rattle.sil_lexer.specs.Bytes.{is_word_start, is_name_byte, is_text_byte, is_mark}
 use Rattle.sil_lexer.specs.Spelling.{Spells, word, at_name, percent, number, negative, quoted, mark, arrow, IsSpelled, begins_with, continues, name_length}
 use Rattle.sil_lexer.specs.Scan.{is_sigil, IsTokenAt}
-use Rattle.sil_lexer.proofs.RunLemmas.{run_passes, run_ends, run_some, run_taken, split_at}
+use Rattle.sil_lexer.proofs.RunLemmas.{run_passes, run_ends, run_some, run_taken}
 
 -- the first n bytes are a token of the kind
 abbrev pub Takes : TokenKind → ℕ → List ℕ → Type 0

@@ -1,21 +1,20 @@
 -- Where no token can be taken, and that the refusal stands at its place of the text.
-use Rattle.std.proofs.Common.{◌≡◌, ℕ, zero, suc, ◌+◌, ◌-◌, ◌<◌, ◌≤◌, Bool, true, false, eqb, List, [], ◌∷◌, ◌++◌, length, get_or, take, drop, refl, sym, ap, ◌∙◌, subst, arith, one-add, length-drop, get_or-drop, drop-drop, take-append-drop}
-use Rattle.std.specs.Prelude.{◌≢◌, ◌==◌, ◌||◌, ◌&&◌, not}
+use Rattle.std.proofs.Common.{◌≡◌, ℕ, zero, suc, ◌+◌, ◌-◌, ◌<◌, Bool, true, false, List, [], ◌∷◌, ◌++◌, length, get_or, take, drop, refl, sym, ap, ◌∙◌, subst, arith, length-drop, get_or-drop, drop-drop, take-append-drop}
+use Rattle.std.specs.Prelude.{◌≢◌, ◌==◌, ◌||◌, ◌&&◌}
 use Rattle.std.specs.List.{prefix_len, list_all}
 use Rattle.std.specs.Char.{is_ascii_digit}
 use Rattle.std.proofs.lemmas.List.{drop_more, take_all}
-use Rattle.std.proofs.lemmas.List.Sums.{prefix_len_stops, prefix_len_passes, prefix_len-le-length}
+use Rattle.std.proofs.lemmas.List.Sums.{prefix_len_stops, prefix_len_passes}
 use Rattle.std.proofs.lemmas.Bool.{or_left, or_right, or_parts, or_from, and_parts, and_left, false≢true, false_from_ne_true, eqb-true, ne_eqb}
 use Rattle.sil_ast.specs.declared.place.Place.{Place}
 use Rattle.sil_lexer.specs.declared.token.TokenKind.{TokenKind}
-use Rattle.sil_lexer.specs.declared.token.TokenKind.TheVariants.{Word, AtName, Percent, Number, Text, Mark}
 use Rattle.sil_lexer.specs.declared.token.LexRefusal.{LexRefusal}
 use Rattle.sil_lexer.specs.declared.token.LexRefusal.TheVariants.{BadByte, UnclosedText, NameTooLong}
 use Rattle.sil_lexer.specs.Bytes.{is_line_feed, is_word_start, is_name_byte, is_text_byte, is_mark}
 use Rattle.sil_lexer.specs.Places.{place_of, place_before, ahead_of, IsPlaceIn}
-use Rattle.sil_lexer.specs.Spelling.{Spells, word, at_name, percent, number, negative, quoted, mark, arrow, IsSpelled, begins_with, name_length}
-use Rattle.sil_lexer.specs.Lexes.{Stops, bad_byte, bad_text_byte, unclosed_at_line_end, unclosed_at_end, name_too_long, BeginsNothing, begins_skipped}
-use Rattle.sil_lexer.specs.Scan.{is_sigil, begins_longer, IsTokenAt}
+use Rattle.sil_lexer.specs.Spelling.{Spells, word, at_name, percent, number, negative, quoted, mark, arrow, begins_with, name_length}
+use Rattle.sil_lexer.specs.Lexes.{Stops, bad_byte, bad_text_byte, unclosed_at_line_end, unclosed_at_end, name_too_long, begins_skipped}
+use Rattle.sil_lexer.specs.Scan.{is_sigil, begins_longer}
 use Rattle.sil_lexer.proofs.PlaceLemmas.{place_ahead}
 use Rattle.sil_lexer.proofs.RunLemmas.{run_passes, run_none, split_at}
 use Rattle.sil_lexer.proofs.SpellLemmas.{Takes, at_sigil, opened}

@@ -1,11 +1,11 @@
 -- The tokens of a text, up to its end or up to the first place where there is none.
-use Rattle.std.specs.Prelude.{◌≡◌, ◌≢◌, ℕ, ◌<◌, ◌≤◌, Bool, false, ◌&&◌, ◌||◌, ◌==◌, List, [], ◌∷◌, ◌++◌, length, IsTrue, IsFalse, Option, Some, None}
+use Rattle.std.specs.Prelude.{◌≢◌, ℕ, ◌<◌, ◌≤◌, Bool, false, ◌&&◌, ◌||◌, ◌==◌, List, [], ◌∷◌, ◌++◌, IsTrue, IsFalse, Option, Some, None}
 use Rattle.std.specs.List.{list_all}
 use Rattle.sil_ast.specs.declared.place.Place.{Place}
 use Rattle.sil_lexer.specs.declared.token.TokenKind.{TokenKind}
 use Rattle.sil_lexer.specs.declared.token.LexRefusal.{LexRefusal}
 use Rattle.sil_lexer.specs.declared.token.LexRefusal.TheVariants.{BadByte, UnclosedText, NameTooLong}
-use Rattle.sil_lexer.specs.Bytes.{is_line_feed, is_in_line, is_blank, is_text_byte}
+use Rattle.sil_lexer.specs.Bytes.{is_in_line, is_blank, is_text_byte}
 use Rattle.sil_lexer.specs.Spelling.{Spells, IsSpelled, begins_with, name_length}
 use Rattle.sil_lexer.specs.Places.{place_before}
 

@@ -1,7 +1,9 @@
--- What a caller sees of `Tokens`, how it goes with its text, and two laws of the definition.
-use Rattle.std.specs.Prelude.{◌≡◌, ℕ, ◌+◌, ◌≤◌, List, ◌++◌, length, map, slice_range, Option, All}
+-- What a caller sees of `Tokens`, how it goes with its text, and the laws of the definition.
+use Rattle.std.specs.Prelude.{◌≡◌, ℕ, ◌+◌, ◌≤◌, List, [], ◌∷◌, ◌++◌, length, map, slice_range, Option, Some, None, All}
+use Rattle.sil_ast.specs.declared.place.Place.{Place}
 use Rattle.sil_lexer.specs.declared.token.TokenKind.{TokenKind}
 use Rattle.sil_lexer.specs.declared.token.LexRefusal.{LexRefusal}
+use Rattle.sil_lexer.specs.declared.token.LexRefusal.TheVariants.{BadByte, UnclosedText, NameTooLong}
 use Rattle.sil_lexer.specs.declared.token.Token.{Token}
 use Rattle.sil_lexer.specs.Spelling.{Spells, IsSpelled}
 use Rattle.sil_lexer.specs.Lexes.{Lexeme, Lexes}
@@ -41,3 +43,18 @@ IsLongestTaken =
     (kind other : TokenKind) (spelling after longer rest : List ℕ)
     → IsSpelled kind spelling after → Spells other longer → longer ++ rest ≡ spelling ++ after
     → length longer ≤ length spelling
+
+-- where a refusal stands
+abbrev pub refusal_place : LexRefusal → Place
+refusal_place (BadByte at) = at
+refusal_place (UnclosedText at) = at
+refusal_place (NameTooLong at) = at
+
+-- from the offset on, each token begins where the one before has ended or later, and the stop is behind them
+abbrev pub AreInOrder : ℕ → List Token → Option LexRefusal → Type 0
+AreInOrder from [] None = Unit {0}
+AreInOrder from [] (Some refusal) = from ≤ (refusal_place refusal).offset
+AreInOrder from (token ∷ tokens) stop = (from ≤ token.place.offset) × AreInOrder (token.place.offset + token.length) tokens stop
+
+abbrev pub IsLexedInOrder : Type 0
+IsLexedInOrder = (text : List ℕ) (lexing : Lexing) → IsLexingOf text lexing → AreInOrder 0 lexing.tokens lexing.stop

@@ -32,7 +32,25 @@ fn is_text_byte(b: u8) -> bool
 pub(crate) fn is_mark(b: u8) -> bool
     ensures { result ≡ is_mark b }
 {
-    b"{}()[]<>,:.?*=!$#".contains(&b)
+    matches!(
+        b,
+        b'{' | b'}'
+            | b'('
+            | b')'
+            | b'['
+            | b']'
+            | b'<'
+            | b'>'
+            | b','
+            | b':'
+            | b'.'
+            | b'?'
+            | b'*'
+            | b'='
+            | b'!'
+            | b'$'
+            | b'#'
+    )
 }
 
 /// How many bytes of a name stand at the front.

@@ -10,7 +10,7 @@ mod skip;
 mod token;
 mod tokens;
 
-pub use lexer::{LexStop, lex, lexed_one_way, longest_taken};
+pub use lexer::{LexStop, lex, lexed_in_order, lexed_one_way, longest_taken};
 pub use place::{end_place, place_at};
 pub use token::{LexRefusal, TokenKind};
 pub use tokens::Tokens;

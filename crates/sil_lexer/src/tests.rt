@@ -185,9 +185,10 @@ fn names_of_255_and_256_bytes(rt: HostRuntime) -> Result<(), Fail> {
     for (sigil, longest) in [(b'a', 255), (b'@', 256), (b'%', 256)] {
         let mut text = Vec::new(rt.alloc());
         text.push(sigil)?;
-        while text.len() < longest {
+        for _ in 1..longest {
             text.push(b'$')?;
         }
+        assert!(rt; text.len() <= 256);
         let tokens = lex(rt.alloc(), text.as_slice())?;
         assert_eq!(rt; tokens.len(), 1);
         assert_eq!(rt; tokens.text(text.as_slice(), 0).len(), longest);

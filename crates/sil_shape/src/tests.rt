@@ -54,7 +54,8 @@ fn first_bad(alloc: Global, classes: &[Class]) -> Result<Option<(usize, bool)>, 
     }
 }
 
-const MODULE: &str = "sil_stage canonical import Builtin import Swift \
+fn module_text() -> &'static str {
+    "sil_stage canonical import Builtin import Swift \
     final class Box { @_hasStorage final weak var next : Optional < Box > ? { get set } unowned let c : class deinit init ( ) } \
     struct S { @_hasStorage @_hasStorage var f : ( Builtin . Int64 , ( ) ? , Builtin ) ? ? } \
     enum E { case none case some ( @sil_weak @sil_unowned C , Optional ) case init } \
@@ -73,108 +74,113 @@ const MODULE: &str = "sil_stage canonical import Builtin import Swift \
       debug_value %3 : $ C , name &x strong_retain %3 : $ C strong_release %3 : $ C retain_value %3 : $ C release_value %3 : $ C br load ( %3 : $ C ) \
     load ( %8 : @guaranteed $ * C , %9 : $ C ) : cond_br %2 , bb0 , load ( %3 : $ C ) \
     case : switch_enum %3 : $ E , case # E . some ! enumelt : bb0 , default case default : return %3 : $ C bb4 : unreachable } \
-    sil_vtable Box { # Box . deinit ! destroyer : @f } sil_vtable Box { } class final { }";
+    sil_vtable Box { # Box . deinit ! destroyer : @f } sil_vtable Box { } class final { }"
+}
 
 // Each row: the words of a list up to its first bad place, and the words from there on.
-const REFUSED: [(&str, &str); 32] = [
-    ("", "raw"),
-    ("sil_stage", "lowered"),
-    ("sil_stage raw", "sil_stage raw"),
-    ("import", ""),
-    ("import A", "Module"),
-    ("final", "struct S { }"),
-    ("class C", ": B { }"),
-    ("class C { weak", "final var x : C }"),
-    ("class C { init (", "x )"),
-    ("struct S { var x :", "}"),
-    ("struct S { var x : A { get", "get }"),
-    ("struct S { var x : A", ". Int64 }"),
-    ("struct S { var x : @sil_weak", "@owned C }"),
-    ("enum E { case c (", ") }"),
-    ("sil [ ossa", "ossa ]"),
-    ("sil @f : $ @convention (", "block ) ( ) -> ( )"),
-    ("sil @f : $ @convention ( thin ) (", "@in C ) -> ( )"),
-    ("sil @f : $ @convention ( thin ) ( ) -> ( A )", "?"),
-    ("sil @f : $ @convention ( thin ) ( ) -> ( A , B )", "? ?"),
-    ("sil @f : $ @convention ( thin ) ( ) -> ( ) {", "} "),
-    (
-        "sil @f : $ @convention ( thin ) ( ) -> ( ) { bb0 (",
-        ") : unreachable }",
-    ),
-    (
-        "sil @f : $ @convention ( thin ) ( ) -> ( ) { bb0 : %0 = alloc_stack [ lexical ] [",
-        "lexical ] $ C",
-    ),
-    (
-        "sil @f : $ @convention ( thin ) ( ) -> ( ) { bb0 : %0 =",
-        "br bb0 }",
-    ),
-    (
-        "sil @f : $ @convention ( thin ) ( ) -> ( ) { bb0 : unreachable unreachable",
-        "unreachable }",
-    ),
-    (
-        "sil @f : $ @convention ( thin ) ( ) -> ( ) { bb0 : debug_value %0 : $ C , argno 1 ,",
-        "name &x",
-    ),
-    (
-        "sil @f : $ @convention ( thin ) ( ) -> ( ) { bb0 : load_weak [",
-        "copy ] %0 : $ * C",
-    ),
-    (
-        "sil @f : $ @convention ( thin ) ( ) -> ( ) { bb0 : load [",
-        "initialization ] %0 : $ * C",
-    ),
-    (
-        "sil @f : $ @convention ( thin ) ( ) -> ( ) { bb0 : integer_literal $",
-        "* C , 1",
-    ),
-    (
-        "sil @f : $ @convention ( thin ) ( ) -> ( ) { bb0 : br bb0 (",
-        ") }",
-    ),
-    (
-        "sil @f : $ @convention ( thin ) ( ) -> ( ) { bb0 : switch_enum %0 : $ E , default bb0",
-        ", case",
-    ),
-    (
-        "sil @f : $ @convention ( thin ) ( ) -> ( ) { bb0 : switch_enum %0 : $ E",
-        "}",
-    ),
-    ("sil_vtable C { # C .", "init ! destroyer : @f }"),
-];
+fn refused() -> &'static [(&'static str, &'static str)] {
+    &[
+        ("", "raw"),
+        ("sil_stage", "lowered"),
+        ("sil_stage raw", "sil_stage raw"),
+        ("import", ""),
+        ("import A", "Module"),
+        ("final", "struct S { }"),
+        ("class C", ": B { }"),
+        ("class C { weak", "final var x : C }"),
+        ("class C { init (", "x )"),
+        ("struct S { var x :", "}"),
+        ("struct S { var x : A { get", "get }"),
+        ("struct S { var x : A", ". Int64 }"),
+        ("struct S { var x : @sil_weak", "@owned C }"),
+        ("enum E { case c (", ") }"),
+        ("sil [ ossa", "ossa ]"),
+        ("sil @f : $ @convention (", "block ) ( ) -> ( )"),
+        ("sil @f : $ @convention ( thin ) (", "@in C ) -> ( )"),
+        ("sil @f : $ @convention ( thin ) ( ) -> ( A )", "?"),
+        ("sil @f : $ @convention ( thin ) ( ) -> ( A , B )", "? ?"),
+        ("sil @f : $ @convention ( thin ) ( ) -> ( ) {", "} "),
+        (
+            "sil @f : $ @convention ( thin ) ( ) -> ( ) { bb0 (",
+            ") : unreachable }",
+        ),
+        (
+            "sil @f : $ @convention ( thin ) ( ) -> ( ) { bb0 : %0 = alloc_stack [ lexical ] [",
+            "lexical ] $ C",
+        ),
+        (
+            "sil @f : $ @convention ( thin ) ( ) -> ( ) { bb0 : %0 =",
+            "br bb0 }",
+        ),
+        (
+            "sil @f : $ @convention ( thin ) ( ) -> ( ) { bb0 : unreachable unreachable",
+            "unreachable }",
+        ),
+        (
+            "sil @f : $ @convention ( thin ) ( ) -> ( ) { bb0 : debug_value %0 : $ C , argno 1 ,",
+            "name &x",
+        ),
+        (
+            "sil @f : $ @convention ( thin ) ( ) -> ( ) { bb0 : load_weak [",
+            "copy ] %0 : $ * C",
+        ),
+        (
+            "sil @f : $ @convention ( thin ) ( ) -> ( ) { bb0 : load [",
+            "initialization ] %0 : $ * C",
+        ),
+        (
+            "sil @f : $ @convention ( thin ) ( ) -> ( ) { bb0 : integer_literal $",
+            "* C , 1",
+        ),
+        (
+            "sil @f : $ @convention ( thin ) ( ) -> ( ) { bb0 : br bb0 (",
+            ") }",
+        ),
+        (
+            "sil @f : $ @convention ( thin ) ( ) -> ( ) { bb0 : switch_enum %0 : $ E , default bb0",
+            ", case",
+        ),
+        (
+            "sil @f : $ @convention ( thin ) ( ) -> ( ) { bb0 : switch_enum %0 : $ E",
+            "}",
+        ),
+        ("sil_vtable C { # C .", "init ! destroyer : @f }"),
+    ]
+}
 
 // As above; the first bad token is unsupported.
-const UNSUPPORTED: [(&str, &str); 6] = [
-    ("struct S { var x : Builtin .", "Int7 }"),
-    (
-        "sil @f : $ @convention ( thin ) ( ) -> ( ) { bb0 : builtin",
-        "&cmp_eq_Int7 ( ) : $ C",
-    ),
-    (
-        "sil @f : $ @convention ( thin ) ( ) -> ( ) { bb0 :",
-        "alloc_box $ C",
-    ),
-    (
-        "sil @f : $ @convention ( thin ) ( ) -> ( ) { bb0 : %0 =",
-        "class $ C",
-    ),
-    (
-        "sil @f : $ @convention ( thin ) ( ) -> ( ) { bb0 : load %0 : $ C",
-        "sil @g",
-    ),
-    (
-        "sil @f : $ @convention ( thin ) ( ) -> ( ) { bb0 : alloc_ref $ Builtin .",
-        "init",
-    ),
-];
+fn unsupported() -> &'static [(&'static str, &'static str)] {
+    &[
+        ("struct S { var x : Builtin .", "Int7 }"),
+        (
+            "sil @f : $ @convention ( thin ) ( ) -> ( ) { bb0 : builtin",
+            "&cmp_eq_Int7 ( ) : $ C",
+        ),
+        (
+            "sil @f : $ @convention ( thin ) ( ) -> ( ) { bb0 :",
+            "alloc_box $ C",
+        ),
+        (
+            "sil @f : $ @convention ( thin ) ( ) -> ( ) { bb0 : %0 =",
+            "class $ C",
+        ),
+        (
+            "sil @f : $ @convention ( thin ) ( ) -> ( ) { bb0 : load %0 : $ C",
+            "sil @g",
+        ),
+        (
+            "sil @f : $ @convention ( thin ) ( ) -> ( ) { bb0 : alloc_ref $ Builtin .",
+            "init",
+        ),
+    ]
+}
 
 #[test]
 fn a_module_has_shape(rt: HostRuntime) -> Result<(), Fail> {
     let alloc = rt.alloc();
     let mut classes = Vec::new(alloc);
     assert_eq!(rt; first_bad(alloc, classes.as_slice())?, None);
-    push_classes(&mut classes, MODULE)?;
+    push_classes(&mut classes, module_text())?;
     assert_eq!(rt; first_bad(alloc, classes.as_slice())?, None);
 
     // the module, the stage, a word taken, which stage, a word taken, no imports, no items
@@ -207,8 +213,8 @@ fn assert_refused(
 #[test]
 fn a_refusal_has_the_first_bad_place(rt: HostRuntime) -> Result<(), Fail> {
     let alloc = rt.alloc();
-    assert_refused(&rt, alloc, REFUSED.as_slice(), false)?;
-    assert_refused(&rt, alloc, UNSUPPORTED.as_slice(), true)
+    assert_refused(&rt, alloc, refused(), false)?;
+    assert_refused(&rt, alloc, unsupported(), true)
 }
 
 #[test]

@@ -1,9 +1,9 @@
 -- Values that are numbered in order, through one list and then another.
 use Rattle.std.proofs.Common.{◌≡◌, ◌↔◌, ℕ, ◌+◌, ◌<◌, List, [], ◌∷◌, ◌++◌, length, get_or, drop, sym, ap, ◌∙◌, arith, length-append}
 use Rattle.std.specs.List.{flat_map}
-use Rattle.std.proofs.lemmas.List.{drop_more}
 use Rattle.sil_ast.specs.declared.place.ValueId.{ValueId}
 use Rattle.simple_modules.specs.Simple.{AreCountedFrom}
+use Rattle.simple_modules.proofs.Lists.{flat_map-drop}
 
 AreCountedFrom-append : (n : ℕ) (xs ys : List ValueId) → AreCountedFrom n (xs ++ ys) ↔ (AreCountedFrom n xs × AreCountedFrom (n + length xs) ys)
 AreCountedFrom-append n [] ys = grind arith
@@ -11,15 +11,12 @@ AreCountedFrom-append n (x ∷ xs) ys = grind (arith, AreCountedFrom-append (n +
 
 -- the values that are made from the i-th element on
 module _ {X : Type 0} (f : X → List ValueId) (xs : List X) (i : ℕ) (x : X) (inside : i < length xs) (is : x ≡ get_or xs i x) where
-  step : flat_map f (drop i xs) ≡ f x ++ flat_map f (drop (i + 1) xs)
-  step =
-      ap (flat_map f) (drop_more xs i x inside) ∙ ap (λ y. f y ++ flat_map f (drop (i + 1) xs)) (sym is)
-
   pub counted_first : (n : ℕ) → AreCountedFrom n (flat_map f (drop i xs)) → AreCountedFrom n (f x)
-  counted_first n all = ((AreCountedFrom-append n (f x) _).0 (rw step at all)).0
+  counted_first n all =
+      ((AreCountedFrom-append n (f x) _).0 (rw (flat_map-drop f xs i x inside is) at all)).0
 
   pub counted_rest : (n after : ℕ) → AreCountedFrom n (f x) → after ≡ n + length (f x) → AreCountedFrom after (flat_map f (drop (i + 1) xs)) ↔ AreCountedFrom n (flat_map f (drop i xs))
-  counted_rest n after first e = rw (step, e) (λ rest. (AreCountedFrom-append n (f x) _).1 (first, rest), λ all. ((AreCountedFrom-append n (f x) _).0 all).1)
+  counted_rest n after first e = rw (flat_map-drop f xs i x inside is, e) (λ rest. (AreCountedFrom-append n (f x) _).1 (first, rest), λ all. ((AreCountedFrom-append n (f x) _).0 all).1)
 
   pub length_rest : length (flat_map f (drop i xs)) ≡ length (f x) + length (flat_map f (drop (i + 1) xs))
-  length_rest = ap length step ∙ length-append (f x) _
+  length_rest = ap length (flat_map-drop f xs i x inside is) ∙ length-append (f x) _

@@ -1,4 +1,5 @@
 pub mod Classes
 pub mod Counting
+pub mod InstructionLemmas
+pub mod Lists
 pub mod NameLists
-pub mod Parts

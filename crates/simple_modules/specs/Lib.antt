@@ -1,3 +1,4 @@
 pub mod ClassNames
 pub mod Instructions
+pub mod Parts
 pub mod Simple

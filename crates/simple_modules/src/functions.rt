@@ -1,8 +1,7 @@
 //! Simple functions: of one block without arguments, in ownership form, that take and give nothing.
 
 ghost use Rattle.std.specs.Prelude.{◌≡◌, ◌↔◌, ◌≤◌, length, IfOk, IsTrue};
-ghost use Rattle.std.specs.List.{flat_map};
-ghost use Rattle.simple_modules.specs.Simple.{AreCountedFrom, results_of, AllSimpleFunctions, AllSimpleInsts, IsSimpleBlock, IsSimpleFunction, plain_signature};
+ghost use Rattle.simple_modules.specs.Simple.{AllSimpleFunctions, AllSimpleInsts, AreCountedFrom, IsSimpleBlock, IsSimpleFunction, defined_values, plain_signature};
 
 use crate::instructions::{is_simple_inst, is_simple_return};
 use crate::values::{count_values, value_types};
@@ -67,19 +66,19 @@ fn is_simple_block(
     ensures { IfOk result (λ yes. IsTrue yes ↔ IsSimpleBlock classes.now.keys block.now) }
 {
     let insts = block.insts.as_slice();
-    if !block.args.is_empty() || insts.len() >= MAX_INSTRUCTIONS || !are_few_values(insts) {
+    if !block.args.is_empty() || insts.len() >= MAX_INSTRUCTIONS || !are_few_values(block) {
         return Ok(false);
     }
-    let types = value_types(alloc, insts)?;
+    let types = value_types(alloc, block)?;
     let types = types.as_slice();
     Ok(are_simple_insts(classes, types, insts) && is_simple_return(types, &block.terminator))
 }
 
 // Whether the values are numbered in order, and no more than a function may have.
-fn are_few_values(insts: &[Inst]) -> bool
-    ensures { IsTrue result ↔ (AreCountedFrom 0 (flat_map results_of insts.now) × (length (flat_map results_of insts.now) ≤ 1024)) }
+fn are_few_values(block: &Block) -> bool
+    ensures { IsTrue result ↔ (AreCountedFrom 0 (defined_values block.now) × (length (defined_values block.now) ≤ 1024)) }
 {
-    match count_values(insts) {
+    match count_values(block) {
         Some(count) => count <= MAX_VALUES,
         None => false,
     }

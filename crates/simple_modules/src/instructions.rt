@@ -1,9 +1,10 @@
 //! The instructions of simple modules. An instruction is one of them where it has exactly their parts.
 
-ghost use Rattle.std.specs.Prelude.{◌≡◌, ◌∷◌, [], ◌↔◌, ℕ, List, Contains, Some, IsTrue, MatchOption};
+ghost use Rattle.std.specs.Prelude.{◌≡◌, ◌∷◌, [], ◌↔◌, Contains, IsTrue, MatchOption};
 ghost use Rattle.sil_ast.specs.declared.place.ValueId.{ValueId};
 ghost use Rattle.sil_ast.specs.declared.type_name.TypeName.{TypeName};
-ghost use Rattle.simple_modules.specs.Instructions.{plain_inst, no_debug, typed, unit_type};
+ghost use Rattle.simple_modules.specs.Instructions.{no_debug, typed, unit_type};
+ghost use Rattle.simple_modules.specs.Parts.{IsClass, IsPlain, NamesClass, TakesObject, TakesUnit};
 ghost use Rattle.simple_modules.specs.Simple.{HasType, IsSimpleInst, IsSimpleReturn};
 
 use indexmap::IndexSet;
@@ -46,9 +47,8 @@ pub(crate) fn is_simple_return(types: &[TypeName], inst: &Inst) -> bool
         && takes_unit(types, inst.operands.as_slice())
 }
 
-// Whether an instruction has no part but its results, operands and type.
 fn is_plain(inst: &Inst) -> bool
-    ensures { IsTrue result ↔ (inst.now ≡ plain_inst inst.now.op inst.now.results inst.now.operands inst.now.ty) }
+    ensures { IsTrue result ↔ IsPlain inst.now }
 {
     inst.signature.is_none()
         && inst.function.is_none()
@@ -68,9 +68,8 @@ fn shows_nothing(debug: &Debug) -> bool
     debug.binding.is_none() && debug.name.is_none() && debug.argno.is_none() && !debug.deref
 }
 
-// Whether a type is one of the classes.
 fn is_class(classes: &IndexSet<Text>, ty: &TypeName) -> bool
-    ensures { IsTrue result ↔ ((c : List ℕ) × Contains classes.now.keys c × (ty.now ≡ TypeName.Named c)) }
+    ensures { IsTrue result ↔ IsClass classes.now.keys ty.now }
 {
     match ty {
         TypeName::Named(name) => contains(classes, name),
@@ -104,7 +103,9 @@ fn has_type(types: &[TypeName], value: ValueId, ty: &TypeName) -> bool
 
 // The one operand and its written type, if an instruction has just these.
 fn typed_operand(operands: &[Operand]) -> Option<(ValueId, &TypeName)>
-    ensures { MatchOption result ((x : ValueId) (t : TypeName) → operands.now ≡ typed x t ∷ [] → ⊥) (λ o. operands.now ≡ typed o.0 o.1.now ∷ []) }
+    ensures { MatchOption result
+                ((x : ValueId) (t : TypeName) → operands.now ≡ typed x t ∷ [] → ⊥)
+                (λ o. operands.now ≡ typed o.0 o.1.now ∷ []) }
 {
     if operands.len() != 1 {
         return None;
@@ -116,9 +117,8 @@ fn typed_operand(operands: &[Operand]) -> Option<(ValueId, &TypeName)>
     }
 }
 
-// Whether a type is written, and is one of the classes.
 fn names_class(classes: &IndexSet<Text>, ty: &Option<TypeName>) -> bool
-    ensures { IsTrue result ↔ ((c : List ℕ) × Contains classes.now.keys c × (ty.now ≡ Some (TypeName.Named c))) }
+    ensures { IsTrue result ↔ NamesClass classes.now.keys ty.now }
 {
     match ty {
         Some(ty) => is_class(classes, ty),
@@ -126,9 +126,8 @@ fn names_class(classes: &IndexSet<Text>, ty: &Option<TypeName>) -> bool
     }
 }
 
-// Whether there is one operand, an object of one of the classes.
 fn takes_object(classes: &IndexSet<Text>, types: &[TypeName], operands: &[Operand]) -> bool
-    ensures { IsTrue result ↔ ((x : ValueId) × (c : List ℕ) × Contains classes.now.keys c × (operands.now ≡ typed x (TypeName.Named c) ∷ []) × HasType types.now x (TypeName.Named c)) }
+    ensures { IsTrue result ↔ TakesObject classes.now.keys types.now operands.now }
 {
     match typed_operand(operands) {
         Some((value, ty)) => is_class(classes, ty) && has_type(types, value, ty),
@@ -136,9 +135,8 @@ fn takes_object(classes: &IndexSet<Text>, types: &[TypeName], operands: &[Operan
     }
 }
 
-// Whether there is one operand, a value of the type `()`.
 fn takes_unit(types: &[TypeName], operands: &[Operand]) -> bool
-    ensures { IsTrue result ↔ ((x : ValueId) × (operands.now ≡ typed x unit_type ∷ []) × HasType types.now x unit_type) }
+    ensures { IsTrue result ↔ TakesUnit types.now operands.now }
 {
     match typed_operand(operands) {
         Some((value, ty)) => is_unit(ty) && has_type(types, value, ty),

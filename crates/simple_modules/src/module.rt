@@ -13,7 +13,7 @@ const MAX_DECLARATIONS: usize = 1024;
 
 const MAX_FUNCTIONS: usize = 1024;
 
-/// Whether a module is a simple one. It takes time in proportion to the module, and the memory of its names and types.
+/// Whether a module is a simple one, in time in proportion to its size. `Err` comes only where there is no memory left.
 pub fn is_simple(alloc: Global, m: &Module) -> Result<bool, Exhausted>
     ensures { IfOk result (λ yes. IsTrue yes ↔ IsSimple m.now) }
 {
@@ -23,10 +23,10 @@ pub fn is_simple(alloc: Global, m: &Module) -> Result<bool, Exhausted>
     {
         return Ok(false);
     }
-    match class_names(alloc, m.decls.as_slice())? {
-        Some(classes) => are_simple_functions(alloc, &classes, m.functions.as_slice()),
-        None => Ok(false),
-    }
+    let Some(classes) = class_names(alloc, m.decls.as_slice())? else {
+        return Ok(false);
+    };
+    are_simple_functions(alloc, &classes, m.functions.as_slice())
 }
 
 // The names of the classes, if all that is declared is classes without members.

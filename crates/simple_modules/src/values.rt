@@ -1,19 +1,18 @@
 //! The values that the instructions of a block make: their types, and whether they are numbered in order.
 
-ghost use Rattle.std.specs.Prelude.{◌≡◌, ◌↔◌, ◌≤◌, ◌+◌, ◌^◌, ◌++◌, length, IfOk, MatchOption, OnOk};
-ghost use Rattle.std.specs.List.{flat_map};
-ghost use Rattle.std.specs.Option.{option_to_list};
-ghost use Rattle.simple_modules.specs.Simple.{AreCountedFrom, result_types, results_of, written_types};
+ghost use Rattle.std.specs.Prelude.{◌≡◌, ◌↔◌, ◌≤◌, ◌+◌, ◌^◌, ◌++◌, length, IfOk, IfSome, OnOk};
+ghost use Rattle.std.specs.Option.{SomeIff, option_to_list};
+ghost use Rattle.simple_modules.specs.Simple.{AreCountedFrom, defined_values, result_types, value_types, written_types};
 
-use sil_ast::{Exhausted, Inst, List, Op, Operand, TryClone, TypeName, ValueId};
+use sil_ast::{Block, Exhausted, Inst, List, Op, Operand, TryClone, TypeName, ValueId};
 use std::alloc::Global;
 
-/// The type of each value that the instructions make, in order.
-pub(crate) fn value_types(alloc: Global, insts: &[Inst]) -> Result<List<TypeName>, Exhausted>
-    ensures { IfOk result (λ types. types ≡ flat_map result_types insts.now) }
+/// The type of each value that a block makes, in order.
+pub(crate) fn value_types(alloc: Global, block: &Block) -> Result<List<TypeName>, Exhausted>
+    ensures { IfOk result (λ types. types ≡ value_types block.now) }
 {
     let mut types = List::new(alloc);
-    for inst in insts {
+    for inst in block.insts.as_slice() {
         push_result_types(alloc, &mut types, inst)?;
     }
     Ok(types)
@@ -60,13 +59,12 @@ fn push_type(
     }
 }
 
-/// How many values the instructions make, if these are numbered in order from 0.
-pub(crate) fn count_values(insts: &[Inst]) -> Option<u64>
-    ensures { MatchOption result (AreCountedFrom 0 (flat_map results_of insts.now) → ⊥)
-        (λ n. AreCountedFrom 0 (flat_map results_of insts.now) × (n ≡ length (flat_map results_of insts.now))) }
+/// How many values a block makes, if these are numbered in order from 0.
+pub(crate) fn count_values(block: &Block) -> Option<u64>
+    ensures { SomeIff result (AreCountedFrom 0 (defined_values block.now)) (length (defined_values block.now)) }
 {
     let mut next = 0;
-    for inst in insts {
+    for inst in block.insts.as_slice() {
         next = count_from(next, inst.results.as_slice())?;
     }
     Some(next)
@@ -75,8 +73,8 @@ pub(crate) fn count_values(insts: &[Inst]) -> Option<u64>
 // The number after the last, if the values are numbered in order from `next`.
 fn count_from(next: u64, values: &[ValueId]) -> Option<u64>
     requires { next ≤ 2 ^ 32 }
-    ensures { MatchOption result (AreCountedFrom next values.now → ⊥)
-        (λ n. AreCountedFrom next values.now × (n ≡ next + length values.now) × (n ≤ 2 ^ 32)) }
+    ensures counted { SomeIff result (AreCountedFrom next values.now) (next + length values.now) }
+    ensures below { IfSome result (λ n. n ≤ 2 ^ 32) }
 {
     let mut next = next;
     for value in values {

@@ -1,3 +1,4 @@
+-- `same` decides equality: the elements so far are equal.
 use Rattle.std.proofs.Common.{◌≡◌, take}
 use Rattle.sil_ast.proofs.list.same_items.Given as goal
 

@@ -1,3 +1,4 @@
+-- A copy equals its original: the elements of a tuple so far are copied.
 use Rattle.std.proofs.Common.{◌≡◌, take}
 use Rattle.sil_ast.proofs.type_name.+copy.Given as goal
 

@@ -1,4 +1,4 @@
--- The depth of a type: the deepest element so far and the deepest of the rest are the deepest of all.
+-- `depth` is the depth as written: the deepest element so far and the deepest of the rest are the deepest of all.
 use Rattle.std.proofs.Common.{◌≡◌, ◌^◌, ◌-◌, map, drop, max, min}
 use Rattle.sil_ast.specs.TypeName.{depth_of, largest}
 use Rattle.sil_ast.proofs.type_name.+depth.Given as goal

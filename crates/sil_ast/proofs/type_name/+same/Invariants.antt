@@ -1,3 +1,4 @@
+-- `same` decides equality: the elements of two tuples so far are equal.
 use Rattle.std.proofs.Common.{◌≡◌, take}
 use Rattle.sil_ast.proofs.type_name.+same.Given as goal
 

@@ -1,8 +1,7 @@
-use Rattle.std.proofs.Common.{◌≡◌, ◌∷◌, ◌++◌, [], ℕ, List, length, drop, refl, sym, subst, arith, is_ok, ap, length-drop}
+use Rattle.std.proofs.Common.{◌≡◌, ◌∷◌, ◌++◌, [], refl, sym, subst, arith, length-drop}
 use Rattle.std.specs.Prelude.{All, Some, None}
 use Rattle.std.proofs.lemmas.List.{take_rest}
 use Rattle.std.proofs.lemmas.List.Elements.{All-nil}
-use Rattle.sil_lexer.specs.declared.token.Token.{Token}
 use Rattle.sil_lexer.specs.Places.{IsPlaceIn}
 use Rattle.sil_lexer.specs.Scan.{HasRoom, SkipsTo}
 use Rattle.sil_lexer.specs.Lexing.{IsInside}

@@ -1,4 +1,4 @@
-use Rattle.std.proofs.Common.{◌≡◌, ◌<◌, ◌≤◌, ◌+◌, false, length, get_or, drop, refl, sym, ap, ◌∙◌, arith, length-drop, get_or-drop}
+use Rattle.std.proofs.Common.{◌<◌, ◌+◌, length, get_or, drop, refl, arith, length-drop}
 use Rattle.std.specs.Prelude.{◌≢◌}
 use Rattle.std.specs.List.{prefix_len}
 use Rattle.std.specs.Char.{is_ascii_digit}

@@ -1,5 +1,4 @@
-use Rattle.std.proofs.Common.{◌≡◌, ◌<◌, ◌≤◌, ◌+◌, length, get_or, drop, refl, sym, ap, ◌∙◌, arith, subst, length-drop}
-use Rattle.std.specs.List.{prefix_len}
+use Rattle.std.proofs.Common.{◌+◌, drop, refl, sym, arith, subst, length-drop}
 use Rattle.std.proofs.lemmas.List.{take_rest}
 use Rattle.std.proofs.lemmas.List.Sums.{prefix_len-le-length}
 use Rattle.sil_lexer.specs.declared.token.TokenKind.TheVariants.{Text}

@@ -1,5 +1,6 @@
 use Rattle.std.proofs.Common.{◌≡◌, None, [], length, arith, rules}
-use Rattle.simple_modules.proofs.Parts.{IsPlain, alloc_ref_parts, alloc_ref_from, copy_value_parts, copy_value_from, destroy_value_parts, destroy_value_from, unit_value_parts, unit_value_from}
+use Rattle.simple_modules.specs.Parts.{IsPlain}
+use Rattle.simple_modules.proofs.InstructionLemmas.{alloc_ref_parts, alloc_ref_from, copy_value_parts, copy_value_from, destroy_value_parts, destroy_value_from, unit_value_parts, unit_value_from}
 use Rattle.simple_modules.proofs.instructions.is_simple_inst.Goals as goal
 
 pub returns-then-is_empty : goal.returns-then-is_empty

@@ -1,3 +1,4 @@
+-- A copy equals its original: the elements so far are copied.
 use Rattle.std.proofs.Common.{◌≡◌, take}
 use Rattle.sil_ast.proofs.list.ListTryClone.try_clone.Given as goal
 

@@ -1,3 +1,4 @@
+-- A copy equals its original: the operands so far are copied.
 use Rattle.std.proofs.Common.{◌≡◌, take}
 use Rattle.sil_ast.proofs.operands.OperandsTryClone.try_clone.Given as goal
 

@@ -7,20 +7,11 @@ use Rattle.sil_ast.specs.declared.place.ValueId.{ValueId}
 use Rattle.sil_ast.specs.declared.type_name.TypeName.{TypeName}
 use Rattle.sil_ast.specs.declared.type_name.TypeName.TheVariants.{Named}
 use Rattle.simple_modules.specs.Instructions.{plain_inst, typed, alloc_ref, copy_value, destroy_value, unit_value}
-use Rattle.simple_modules.specs.Simple.{HasType, IsSimpleInst}
+use Rattle.simple_modules.specs.Parts.{IsPlain, NamesClass, TakesObject}
+use Rattle.simple_modules.specs.Simple.{IsSimpleInst}
 use Rattle.simple_modules.specs.Simple.IsSimpleInst.{object, copy, destroy, unit}
 
--- the instruction has no part but these
-abbrev pub IsPlain : Inst → Type 0
-IsPlain i = i ≡ plain_inst i.op i.results i.operands i.ty
-
-abbrev pub NamesClass : List (List ℕ) → Option TypeName → Type 0
-NamesClass classes ty = (c : List ℕ) × Contains classes c × (ty ≡ Some (Named c))
-
-abbrev pub TakesObject : List (List ℕ) → List TypeName → List Operand → Type 0
-TakesObject classes types operands =
-    (x : ValueId) × (c : List ℕ) × Contains classes c × (operands ≡ typed x (Named c) ∷ []) × HasType types x (Named c)
-
+-- the one element of a list
 only : {X : Type 0} (xs : List X) → length xs ≡ 1 → (x : X) × (xs ≡ x ∷ [])
 only [] e = absurd (omega arith)
 only (x ∷ []) e = (x, refl)

@@ -1,0 +1,11 @@
+//! Tests of the command over sources and sinks in memory: texts with the answers that the rules give, worked out by hand.
+#![tactic(auto)]
+
+#[cfg(test)]
+mod call;
+#[cfg(test)]
+mod faults;
+#[cfg(test)]
+mod modules;
+#[cfg(test)]
+mod texts;

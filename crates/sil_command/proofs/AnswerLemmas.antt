@@ -1,0 +1,51 @@
+-- How an answer follows from what was read.
+use Rattle.std.proofs.Math.Seq.{get_or-append_seam}
+use Rattle.std.proofs.Common.{◌≡◌, ℕ, ◌+◌, ◌≤◌, ◌<◌, List, [], ◌∷◌, ◌++◌, length, map, refl, sym, ap, subst, ◌∙◌, arith, length-append, get_or, Result, Ok, Err}
+use Rattle.std.specs.Prelude.{Option, Some, None, IfSome, IfOk}
+use Rattle.std.specs.Io.KnownBytes.{Consumes}
+use Rattle.sil_ast.specs.declared.function.Function.{Function}
+use Rattle.sil_ast.specs.declared.module.Module.{Module}
+use Rattle.sil_grammar.specs.Spells.{Spells}
+use Rattle.sil_command.specs.declared.fault.Refusal.{Refusal}
+use Rattle.sil_command.specs.Faults.{IsRefusal}
+use Rattle.sil_command.specs.Texts.{limit_text, usage_text, refusal_text}
+use Rattle.sil_command.specs.Words.{IsCommandLine}
+use Rattle.sil_command.specs.Answers.{text_limit, AnswersCheck, AnswersModule, usage, check, too_long, checked, refused}
+use Rattle.sil_command.specs.Ends.{IsAnswer}
+
+-- words that are no command line have one answer, whatever the source has
+pub usage_answer : (words : List (List ℕ)) (left : Option (List ℕ)) → (IsCommandLine words → ⊥) → IsAnswer words left usage_text 2
+usage_answer words None none = record { text = []; source = tt; allowed = usage none }
+usage_answer words (Some text) none = record { text = text; source = refl; allowed = usage none }
+
+-- the answer to the bytes that a source had left
+pub read_answer : (words : List (List ℕ)) (left : Option (List ℕ)) (text bytes answer : List ℕ) (status : ℕ)
+    → IsCommandLine words → IfSome left (λ told. text ≡ told) → bytes ≡ text → AnswersCheck bytes answer status → IsAnswer words left answer status
+read_answer words None text bytes answer status line told same allowed =
+    record { text = bytes; source = tt; allowed = check answer status line allowed }
+read_answer words (Some left) text bytes answer status line told same allowed =
+    record { text = left; source = refl; allowed = check answer status line (subst (λ t. AnswersCheck t answer status) (same ∙ told) allowed) }
+
+-- a source that gave more bytes than the limit had a text that is too long
+pub too_long_answer : (words : List (List ℕ)) (left new : Option (List ℕ)) (taken : List ℕ)
+    → IsCommandLine words → Consumes left new taken → length taken ≡ text_limit + 1 → IsAnswer words left limit_text 8
+too_long_answer words None new taken line consumed long =
+    record { text = taken; source = tt; allowed = check _ _ line (too_long (omega arith)) }
+too_long_answer words (Some text) None taken line consumed long = absurd consumed
+too_long_answer words (Some text) (Some rest) taken line consumed long =
+    let longer : length text ≡ length taken + length rest = ap length consumed ∙ length-append taken rest in
+    record { text = text; source = refl; allowed = check _ _ line (too_long (omega arith)) }
+
+-- what is answered to the module is answered to its text
+pub checked_answer : {A E : Type 0} (r : Result A E) (text_of : A → List ℕ) (status_of : A → ℕ) {text : List ℕ} {m : Module} → length text ≤ text_limit → Spells m text
+    → IfOk r (λ a. AnswersModule m (text_of a) (status_of a)) → IfOk r (λ a. AnswersCheck text (text_of a) (status_of a))
+checked_answer (Ok a) text_of status_of {m = m} within spelled answer = checked m _ _ within spelled answer
+checked_answer (Err e) text_of status_of within spelled answer = tt
+
+-- the module's first refusal, by the function that has it
+pub refusal_answer : (m : Module) (r : Refusal) (f : Function) (text : List ℕ) → IsRefusal m r → f ≡ get_or m.functions r.function.0 f
+    → text ≡ refusal_text f.name r.fault → AnswersModule m text 1
+refusal_answer m r f text refusal is e =
+    let at : get_or m.functions r.function.0 f ≡ refusal.function =
+    ap (λ fs. get_or fs r.function.0 f) refusal.parts ∙ ap (λ k. get_or (refusal.before ++ refusal.function ∷ refusal.after) k f) refusal.place ∙ get_or-append_seam refusal.before refusal.function refusal.after f in
+    subst (λ t. AnswersModule m t 1) (ap (λ g. refusal_text g.name r.fault) (sym (is ∙ at)) ∙ sym e) (refused r refusal)

@@ -1,0 +1,119 @@
+-- What follows from how a call of the command ends: the clauses of the public call.
+use Rattle.std.proofs.Common.{◌≡◌, ◌⊎◌, inl, inr, ℕ, ◌+◌, ◌<◌, ◌^◌, List, ◌++◌, length, take, drop, refl, sym, arith, take-append-drop}
+use Rattle.std.specs.Prelude.{Option, Some, None}
+use Rattle.std.specs.Io.KnownBytes.{Appends, Keeps}
+use Rattle.sil_io.specs.Count.{MayFail}
+use Rattle.sil_command.specs.Texts.{read_fault_text}
+use Rattle.sil_command.specs.Answers.{Answers, usage, check, AnswersCheck, too_long, no_module, checked, AnswersModule, refused, accepted}
+use Rattle.sil_command.specs.Ends.{Call, Ends, answered, read_failed, exhausted, Finishes, FinishesText, whole, front, IsAnswer, WritesAnswer, Exhausts, WritesWhole, WritesFrontOfAnswer, GainsFront, IsStatus}
+
+-- the statuses of answers: neither a fault nor want of memory
+abbrev IsAnswerStatus : ℕ → Type 0
+IsAnswerStatus status = (status ≡ 0) ⊎ (status ≡ 1) ⊎ (status ≡ 2) ⊎ (status ≡ 3) ⊎ (status ≡ 8)
+
+module_status : (m : _) (answer : List ℕ) (status : ℕ) → AnswersModule m answer status → (status ≡ 0) ⊎ (status ≡ 1)
+module_status m _ _ (refused r refusal) = inr refl
+module_status m _ _ (accepted kept) = inl refl
+
+check_status : (text answer : List ℕ) (status : ℕ) → AnswersCheck text answer status → (status ≡ 0) ⊎ (status ≡ 1) ⊎ (status ≡ 3) ⊎ (status ≡ 8)
+check_status text _ _ (too_long h) = inr (inr (inr refl))
+check_status text _ _ (no_module l c h none) = inr (inr (inl refl))
+check_status text answer status (checked m _ _ h spelled a) =
+    elim (module_status m answer status a) [ inl zero ↦ inl zero | inr one ↦ inr (inl one) ]
+
+answer_status : (words : List (List ℕ)) (text answer : List ℕ) (status : ℕ) → Answers words text answer status → IsAnswerStatus status
+answer_status words text _ _ (usage none) = inr (inr (inl refl))
+answer_status words text answer status (check _ _ line a) =
+    elim (check_status text answer status a) [
+      | inl zero ↦ inl zero
+      | inr more ↦ elim more [ inl one ↦ inr (inl one) | inr rest ↦ inr (inr (inr rest)) ]
+    ]
+
+-- an answer's status is one of all
+all_statuses : (status : ℕ) → IsAnswerStatus status → IsStatus status
+all_statuses status (inl zero) = inl zero
+all_statuses status (inr (inl one)) = inr (inl one)
+all_statuses status (inr (inr (inl two))) = inr (inr (inl two))
+all_statuses status (inr (inr (inr (inl three)))) = inr (inr (inr (inl three)))
+all_statuses status (inr (inr (inr (inr eight)))) = inr (inr (inr (inr (inr (inr (inl eight))))))
+
+four_is : IsStatus 4
+four_is = inr (inr (inr (inr (inl refl))))
+
+five_is : IsStatus 5
+five_is = inr (inr (inr (inr (inr (inl refl)))))
+
+-- a count that stays may not have risen
+rose_not : (old new : ℕ) → new ≡ old → old < new → ⊥
+rose_not old new e h = omega arith
+
+-- an answer is finished whole, or not at all
+pub whole_answers : (call : Call) (status : ℕ) → Ends call status
+    → (MayFail call.read_faults call.new_read_faults → ⊥) → (MayFail call.write_faults call.new_write_faults → ⊥)
+    → WritesAnswer call.words call.left call.held call.new_held status ⊎ Exhausts call.held call.new_held status
+whole_answers call status (answered answer wanted _ allowed calm (whole gained same)) reads writes =
+    inl (record { answer = answer; allowed = allowed; gained = gained })
+whole_answers call status (answered answer wanted _ allowed calm (front gained fault)) reads writes = absurd (writes fault)
+whole_answers call status (read_failed _ fault finished) reads writes = absurd (reads fault)
+whole_answers call _ (exhausted kept same) reads writes = inr (record { status_is = refl; kept = kept })
+
+pub four_is_read_fault : (call : Call) (status : ℕ) → Ends call status → status ≡ 4 → MayFail call.read_faults call.new_read_faults
+four_is_read_fault call status (answered answer wanted _ allowed calm (whole gained same)) four =
+    let s = answer_status call.words allowed.text answer wanted allowed.allowed in
+    absurd (omega (arith, s))
+four_is_read_fault call status (answered answer wanted _ allowed calm (front gained fault)) four = absurd (omega arith)
+four_is_read_fault call status (read_failed _ fault finished) four = fault
+four_is_read_fault call _ (exhausted kept same) four = absurd (omega arith)
+
+pub five_is_write_fault : (call : Call) (status : ℕ) → Ends call status → status ≡ 5 → MayFail call.write_faults call.new_write_faults
+five_is_write_fault call status (answered answer wanted _ allowed calm (whole gained same)) five =
+    let s = answer_status call.words allowed.text answer wanted allowed.allowed in
+    absurd (omega (arith, s))
+five_is_write_fault call status (answered answer wanted _ allowed calm (front gained fault)) five = fault
+five_is_write_fault call status (read_failed _ read (whole gained same)) five = absurd (omega arith)
+five_is_write_fault call status (read_failed _ read (front gained fault)) five = fault
+five_is_write_fault call _ (exhausted kept same) five = absurd (omega arith)
+
+pub read_fault_ends : (call : Call) (status : ℕ) → Ends call status → call.read_faults < call.new_read_faults
+    → (MayFail call.write_faults call.new_write_faults → ⊥)
+    → WritesWhole call.held call.new_held read_fault_text 4 status ⊎ Exhausts call.held call.new_held status
+read_fault_ends call status (answered answer wanted _ allowed calm finished) rose writes = absurd (rose_not _ _ calm rose)
+read_fault_ends call status (read_failed _ read (whole gained same)) rose writes = inl (record { status_is = refl; gained = gained })
+read_fault_ends call status (read_failed _ read (front gained fault)) rose writes = absurd (writes fault)
+read_fault_ends call _ (exhausted kept same) rose writes = inr (record { status_is = refl; kept = kept })
+
+pub write_fault_ends : (call : Call) (status : ℕ) → Ends call status → call.write_faults < call.new_write_faults → status ≡ 5
+write_fault_ends call status (answered answer wanted _ allowed calm (whole gained same)) rose = absurd (rose_not _ _ same rose)
+write_fault_ends call status (answered answer wanted _ allowed calm (front gained fault)) rose = refl
+write_fault_ends call status (read_failed _ read (whole gained same)) rose = absurd (rose_not _ _ same rose)
+write_fault_ends call status (read_failed _ read (front gained fault)) rose = refl
+write_fault_ends call _ (exhausted kept same) rose = absurd (rose_not _ _ same rose)
+
+pub five_writes_front : (call : Call) (status : ℕ) → Ends call status → status ≡ 5
+    → WritesFrontOfAnswer call.words call.left call.held call.new_held
+    ⊎ (MayFail call.read_faults call.new_read_faults × GainsFront call.held call.new_held read_fault_text)
+five_writes_front call status (answered answer wanted _ allowed calm (whole gained same)) five =
+    let s = answer_status call.words allowed.text answer wanted allowed.allowed in
+    absurd (omega (arith, s))
+five_writes_front call status (answered answer wanted _ allowed calm (front gained fault)) five =
+    inl (record { answer = answer; status = wanted; allowed = allowed; gained = gained })
+five_writes_front call status (read_failed _ read (whole gained same)) five = absurd (omega arith)
+five_writes_front call status (read_failed _ read (front gained fault)) five = inr (read, gained)
+five_writes_front call _ (exhausted kept same) five = absurd (omega arith)
+
+pub nine_keeps : (call : Call) (status : ℕ) → Ends call status → status ≡ 9 → Keeps call.held call.new_held
+nine_keeps call status (answered answer wanted _ allowed calm (whole gained same)) nine =
+    let s = answer_status call.words allowed.text answer wanted allowed.allowed in
+    absurd (omega (arith, s))
+nine_keeps call status (answered answer wanted _ allowed calm (front gained fault)) nine = absurd (omega arith)
+nine_keeps call status (read_failed _ read (whole gained same)) nine = absurd (omega arith)
+nine_keeps call status (read_failed _ read (front gained fault)) nine = absurd (omega arith)
+nine_keeps call _ (exhausted kept same) nine = kept
+
+pub ends_status : (call : Call) (status : ℕ) → Ends call status → IsStatus status
+ends_status call status (answered answer wanted _ allowed calm (whole gained same)) =
+    all_statuses status (answer_status call.words allowed.text answer wanted allowed.allowed)
+ends_status call status (answered answer wanted _ allowed calm (front gained fault)) = five_is
+ends_status call status (read_failed _ read (whole gained same)) = four_is
+ends_status call status (read_failed _ read (front gained fault)) = five_is
+ends_status call _ (exhausted kept same) = inr (inr (inr (inr (inr (inr (inr refl))))))

@@ -1,0 +1,9 @@
+pub mod AnswerLemmas
+pub mod EndLemmas
+pub mod Functions
+pub mod LeastBroken
+pub mod Marking
+pub mod OneValue
+pub mod PlainBlocks
+pub mod Verdicts
+pub mod WholeBlock

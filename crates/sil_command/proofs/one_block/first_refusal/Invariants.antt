@@ -1,0 +1,6 @@
+use Rattle.std.proofs.Common.{take}
+use Rattle.sil_command.specs.Faults.{AllKeepRules}
+use Rattle.sil_command.proofs.one_block.first_refusal.Given as goal
+
+abbrev pub invariant-loop-index : goal.invariant-loop-index
+invariant-loop-index l = AllKeepRules (take l.index l.function-items)

@@ -1,0 +1,30 @@
+-- The answer to a command line and a text: the bytes that are written, and the status.
+use Rattle.std.specs.Prelude.{ℕ, ◌<◌, ◌≤◌, List, length}
+use Rattle.sil_ast.specs.declared.module.Module.{Module}
+use Rattle.sil_grammar.specs.Spells.{Spells}
+use Rattle.sil_command.specs.declared.fault.Refusal.{Refusal}
+use Rattle.sil_command.specs.Words.{IsCommandLine}
+use Rattle.sil_command.specs.Faults.{Accepted, IsRefusal}
+use Rattle.sil_command.specs.Texts.{usage_text, limit_text, unsupported_text, refusal_text, accepted_text}
+
+-- the most bytes that a text may have
+abbrev pub text_limit : ℕ
+text_limit = 1048576
+
+-- the answer to a module: its first refusal, or that it is accepted
+pub data AnswersModule (m : Module) : List ℕ → ℕ → Type 0 where
+  refused : (r : Refusal) (refusal : IsRefusal m r) → AnswersModule m (refusal_text refusal.function.name r.fault) 1
+  accepted : Accepted m → AnswersModule m accepted_text 0
+
+-- the answer of the mode `check` to a text
+pub data AnswersCheck (text : List ℕ) : List ℕ → ℕ → Type 0 where
+  too_long : text_limit < length text → AnswersCheck text limit_text 8
+  no_module : (line_number column : ℕ) → length text ≤ text_limit → ((m : Module) → Spells m text → ⊥)
+      → AnswersCheck text (unsupported_text line_number column) 3
+  checked : (m : Module) (answer : List ℕ) (status : ℕ) → length text ≤ text_limit → Spells m text → AnswersModule m answer status
+      → AnswersCheck text answer status
+
+-- the answer to a command line and a text
+pub data Answers (words : List (List ℕ)) (text : List ℕ) : List ℕ → ℕ → Type 0 where
+  usage : (IsCommandLine words → ⊥) → Answers words text usage_text 2
+  check : (answer : List ℕ) (status : ℕ) → IsCommandLine words → AnswersCheck text answer status → Answers words text answer status

@@ -1,0 +1,53 @@
+//! The answer to a text: what is written, and the status. No byte is read or written here.
+
+ghost use Rattle.std.specs.Prelude.{◌≡◌, ◌≤◌, ℕ, List, IfOk, length};
+ghost use Rattle.sil_command.specs.Answers.{AnswersCheck, AnswersModule};
+ghost use Rattle.sil_command.specs.Faults.{IsRefusal, Accepted};
+ghost use Rattle.simple_modules.specs.Simple.{IsSimple};
+
+use crate::fault::Refusal;
+use crate::one_block::first_refusal;
+use crate::texts;
+use sil_ast::{Exhausted, Module};
+use sil_grammar::{ReadRefusal, read};
+use std::alloc::Global;
+
+/// What the command writes, and the status with which it ends.
+#[derive(Drop)]
+pub struct Answer {
+    pub text: Vec<u8>,
+    pub status: u8,
+}
+
+/// Checks the module that a text spells.
+pub fn answer_to(alloc: Global, text: &[u8]) -> Result<Answer, Exhausted>
+    requires { length text.now ≤ 1048576 }
+    ensures { IfOk result (λ a. AnswersCheck text.now a.text.items a.status) }
+{
+    match read(alloc, text) {
+        Ok(module) => answer_module(alloc, &module),
+        Err(ReadRefusal::Unsupported(place)) => Ok(Answer {
+            text: texts::unsupported(alloc, place)?,
+            status: 3,
+        }),
+        Err(ReadRefusal::Memory) => Err(Exhausted),
+    }
+}
+
+/// Checks a module that a text spells.
+fn answer_module(alloc: Global, module: &Module) -> Result<Answer, Exhausted>
+    requires { IsSimple «module».now }
+    ensures { IfOk result (λ a. AnswersModule «module».now a.text.items a.status) }
+{
+    let Some(refusal) = first_refusal(alloc, module)? else {
+        return Ok(Answer {
+            text: Vec::from_slice(alloc, texts::accepted())?,
+            status: 0,
+        });
+    };
+    let function = &module.functions.as_slice()[refusal.function.0 as usize];
+    Ok(Answer {
+        text: texts::refusal(alloc, function.name.as_slice(), refusal.fault)?,
+        status: 1,
+    })
+}

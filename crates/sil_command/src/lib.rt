@@ -1,0 +1,15 @@
+//! The command: words and bytes in, bytes and a status out, by the public contracts of the layers below.
+//! It knows nothing of how a text is read, nor of where bytes come from.
+#![tactic(auto)]
+
+mod answer;
+mod fault;
+mod life;
+mod lives;
+mod one_block;
+mod rule;
+mod texts;
+mod top_call;
+mod words;
+
+pub use top_call::{TEXT_LIMIT, command};

@@ -1,0 +1,90 @@
+//! The lines of answers, made from typed values. Nothing is decided here.
+
+ghost use Rattle.std.specs.Prelude.{◌≡◌, ◌∷◌, [], ◌++◌, IfOk, OnOk, decimal};
+ghost use Rattle.sil_command.specs.Texts.{usage_text, limit_text, read_fault_text, accepted_text, unsupported_text, rule_words, point_words, refusal_text};
+
+use crate::fault::Fault;
+use crate::rule::Rule;
+use sil_ast::{Exhausted, Place};
+use std::alloc::Global;
+
+/// The line for words that are no command line.
+pub fn usage() -> &'static [u8]
+    ensures { result.now ≡ usage_text }
+{
+    b"usage: sil check, print, lower, optimize, run or generate N [--turns N] [--entry NAME] [--optimize]\n"
+}
+
+/// The line for a text of too many bytes.
+pub fn limit() -> &'static [u8]
+    ensures { result.now ≡ limit_text }
+{
+    b"limit text\n"
+}
+
+/// The line for a source that failed.
+pub fn read_fault() -> &'static [u8]
+    ensures { result.now ≡ read_fault_text }
+{
+    b"read fault\n"
+}
+
+/// The line for a module that keeps the rules.
+pub fn accepted() -> &'static [u8]
+    ensures { result.now ≡ accepted_text }
+{
+    b"accepted\n"
+}
+
+fn push_number(out: &mut Vec<u8>, number: u32) -> Result<(), Exhausted>
+    ensures { OnOk result (out.new.items ≡ out.old.items ++ decimal number) }
+{
+    let digits = number.to_string(*out.allocator())?;
+    out.extend_from_slice(digits.as_bytes())?;
+    Ok(())
+}
+
+/// The line for a text that spells no module, with the place.
+pub fn unsupported(alloc: Global, place: Place) -> Result<Vec<u8>, Exhausted>
+    ensures { IfOk result (λ text. text.items ≡ unsupported_text place.line place.column) }
+{
+    let mut out = Vec::from_slice(alloc, b"not a module: unsupported at ")?;
+    push_number(&mut out, place.line)?;
+    out.push(b':')?;
+    push_number(&mut out, place.column)?;
+    out.push(b'\n')?;
+    Ok(out)
+}
+
+fn push_rule(out: &mut Vec<u8>, rule: Rule) -> Result<(), Exhausted>
+    ensures { OnOk result (out.new.items ≡ out.old.items ++ rule_words rule) }
+{
+    out.extend_from_slice(b"refused ")?;
+    push_number(out, u32::from(rule.number()))?;
+    out.push(b' ')?;
+    out.extend_from_slice(rule.name())?;
+    Ok(())
+}
+
+fn push_point(out: &mut Vec<u8>, function: &[u8], point: u32) -> Result<(), Exhausted>
+    ensures { OnOk result (out.new.items ≡ out.old.items ++ point_words function.now point) }
+{
+    out.extend_from_slice(b" @")?;
+    out.extend_from_slice(function)?;
+    out.extend_from_slice(b" bb0:")?;
+    push_number(out, point)?;
+    Ok(())
+}
+
+/// The lines of a refusal: the rule and the point, the value, and the walk, which visits the one block.
+pub fn refusal(alloc: Global, function: &[u8], fault: Fault) -> Result<Vec<u8>, Exhausted>
+    ensures { IfOk result (λ text. text.items ≡ refusal_text function.now fault) }
+{
+    let mut out = Vec::new(alloc);
+    push_rule(&mut out, fault.rule)?;
+    push_point(&mut out, function, fault.point)?;
+    out.extend_from_slice(b"\nsubject %")?;
+    push_number(&mut out, fault.subject.0)?;
+    out.extend_from_slice(b"\nwalk bb0\n")?;
+    Ok(out)
+}

@@ -1,0 +1,96 @@
+//! The top call: words and bytes in, bytes and a status out. What the answer is, is decided elsewhere.
+
+ghost use Rattle.std.specs.Prelude.{◌≡◌, ◌⊎◌, ◌<◌, ℕ, List, map, IsTrue, ◌↔◌};
+ghost use Rattle.std.specs.Io.KnownBytes.{Appends, Keeps};
+ghost use Rattle.sil_io.specs.Count.{MayFail};
+ghost use Rattle.sil_command.specs.Words.{IsCommandLine};
+ghost use Rattle.sil_command.specs.Texts.{usage_text, read_fault_text};
+ghost use Rattle.sil_command.specs.Ends.{WritesAnswer, Exhausts, WritesWhole, WritesFrontOfAnswer, GainsFront, IsStatus, FinishesText, Ends};
+
+use crate::answer::answer_to;
+use crate::texts;
+use crate::words::is_command_line;
+use sil_ast::Exhausted;
+use sil_io::{ReadEnd, Sink, Source, read_all, write_all};
+use std::alloc::Global;
+
+/// The most bytes that a text may have.
+pub const TEXT_LIMIT: usize = 1048576;
+
+/// Does what the words ask for: reads a text from the source, writes one answer to the sink, and answers the status.
+///
+/// The words are those after the program's name. The statuses are 0 (accepted), 1 (refused by a rule), 2 (not a command line),
+/// 3 (not a module), 4 (a read failed), 5 (a write failed), 8 (past a limit) and 9 (no memory left; nothing was written).
+/// The answer is built whole before the first byte of it is written, and after that no memory is taken.
+pub fn command<'a, S: Source, K: Sink>(
+    alloc: Global,
+    words: &'a [&'a str],
+    source: &mut S,
+    out: &mut K,
+) -> u8
+    // Without faults, an allowed answer is written whole, or memory ran out.
+    ensures answers { ¬ MayFail (S.faults source.old) (S.faults source.new) → ¬ MayFail (K.faults out.old) (K.faults out.new) →
+        WritesAnswer (map (λ w. w.now) words.entry.now) (S.left source.old) (K.held out.old) (K.held out.new) result
+        ⊎ Exhausts (K.held out.old) (K.held out.new) result }
+    // Words that are no command line need no source.
+    ensures source_untouched { ¬ IsCommandLine (map (λ w. w.now) words.entry.now) → source.new ≡ source.old }
+
+    ensures read_fault_cause { result ≡ 4 → MayFail (S.faults source.old) (S.faults source.new) }
+    ensures read_fault { S.faults source.old < S.faults source.new → ¬ MayFail (K.faults out.old) (K.faults out.new) →
+        WritesWhole (K.held out.old) (K.held out.new) read_fault_text 4 result ⊎ Exhausts (K.held out.old) (K.held out.new) result }
+
+    ensures write_fault_cause { result ≡ 5 → MayFail (K.faults out.old) (K.faults out.new) }
+    ensures write_fault { K.faults out.old < K.faults out.new → result ≡ 5 }
+    ensures written_front { result ≡ 5 →
+        WritesFrontOfAnswer (map (λ w. w.now) words.entry.now) (S.left source.old) (K.held out.old) (K.held out.new)
+        ⊎ (MayFail (S.faults source.old) (S.faults source.new) × GainsFront (K.held out.old) (K.held out.new) read_fault_text) }
+
+    ensures exhausted { result ≡ 9 → Keeps (K.held out.old) (K.held out.new) }
+    ensures statuses { IsStatus result }
+{
+    run(alloc, words, source, out)
+}
+
+/// What the call does, as one relation between what it was given and what it left.
+fn run<'a, S: Source, K: Sink>(
+    alloc: Global,
+    words: &'a [&'a str],
+    source: &mut S,
+    out: &mut K,
+) -> u8
+    ensures ends {
+        Ends (record {
+          words = map (λ w. w.now) words.entry.now;
+          left = S.left source.old;
+          read_faults = S.faults source.old;
+          new_read_faults = S.faults source.new;
+          held = K.held out.old;
+          new_held = K.held out.new;
+          write_faults = K.faults out.old;
+          new_write_faults = K.faults out.new;
+        }) result }
+    ensures source_untouched { ¬ IsCommandLine (map (λ w. w.now) words.entry.now) → source.new ≡ source.old }
+{
+    if !is_command_line(words) {
+        return finish(out, texts::usage(), 2);
+    }
+    match read_all(alloc, source, TEXT_LIMIT) {
+        Ok(text) => match answer_to(alloc, text.as_slice()) {
+            Ok(answer) => finish(out, answer.text.as_slice(), answer.status),
+            Err(Exhausted) => 9,
+        },
+        Err(ReadEnd::TooLong) => finish(out, texts::limit(), 8),
+        Err(ReadEnd::Fault) => finish(out, texts::read_fault(), 4),
+        Err(ReadEnd::Memory) => 9,
+    }
+}
+
+/// Writes a whole text and answers its status, or 5 where a write failed.
+fn finish<K: Sink>(out: &mut K, text: &[u8], status: u8) -> u8
+    ensures { FinishesText (K.held out.old) (K.held out.new) (K.faults out.old) (K.faults out.new) text.now status result }
+{
+    match write_all(out, text) {
+        Ok(()) => status,
+        Err(_fault) => 5,
+    }
+}

@@ -1,0 +1,4 @@
+pub mod Count
+pub mod MemorySink
+pub mod MemorySource
+pub mod Reading

@@ -1,0 +1,107 @@
+//! A source over a reader of the system. It counts what goes wrong, and tells nothing of the bytes:
+//! a read that failed doesn't say what it took.
+
+ghost use Rattle.std.specs.Prelude.{◌≡◌, ℕ, ◌<◌, ◌≤◌, None, IfOk, OnOk, OnErr, length, take};
+ghost use Rattle.std.specs.Io.KnownBytes.{Consumes, IsAtEnd};
+ghost use Rattle.sil_io.specs.Count.{Counted, next_count};
+
+use crate::failed::Failed;
+use crate::source::Source;
+use std::io::Read;
+use std::marker::Model;
+
+/// The bytes of a reader. Each error of the reader is a fault, whatever its kind, and none is tried again.
+/// Contracts see it as `Counted`.
+#[derive(Drop)]
+pub struct ReadSource<R> {
+    reader: R,
+    faults: u64,
+}
+
+impl<R> Model for ReadSource<R> {
+    ghost Value = { Counted R };
+
+    ghost view = { λ s. record { inner = s.reader; faults = s.faults } };
+}
+
+impl<R: Read> ReadSource<R> {
+    /// A source of what `reader` gives, with no fault yet.
+    pub fn new(reader: R) -> ReadSource<R>
+        ensures { result ≡ record { inner = reader; faults = 0 } }
+    {
+        ReadSource { reader, faults: 0 }
+    }
+}
+
+impl<R: Read> Source for ReadSource<R> {
+    ghost left = { λ _. None };
+
+    ghost faults = { λ s. s.faults };
+
+    fn take(&mut self, buf: &mut [u8]) -> Result<usize, Failed>
+        requires { 0 < length buf.old }
+        ensures within { IfOk result (λ n. n ≤ length buf.new) }
+        ensures read { IfOk result (λ n. Consumes (R.remaining self.old.inner) (R.remaining self.new.inner) (take n buf.new)) }
+        ensures end { IfOk result (λ n. n ≡ 0 → IsAtEnd (R.remaining self.new.inner)) }
+        ensures no_fault { OnOk result (self.new.faults ≡ self.old.faults) }
+        ensures fault { OnErr result (self.new.faults ≡ next_count self.old.faults) }
+        ensures never_falls { self.old.faults ≤ self.new.faults }
+    {
+        match self.reader.read(buf) {
+            Ok(count) => Ok(count),
+            Err(_) => {
+                self.faults = self.faults.saturating_add(1);
+                Err(Failed)
+            }
+        }
+    }
+}
+
+#[cfg(test)]
+mod tests {
+    use super::*;
+    use std::io;
+    use std::io::ErrorKind;
+    use std::test::Fail;
+
+    /// Gives three bytes at a time, and fails at the second call.
+    #[derive(Drop)]
+    struct Flaky<'a> {
+        rest: &'a [u8],
+        calls: u8,
+    }
+
+    impl Read for Flaky<'_> {
+        fn read(&mut self, buf: &mut [u8]) -> io::Result<usize> {
+            self.calls = self.calls.saturating_add(1);
+            if self.calls == 2 {
+                return Err(io::Error::from(ErrorKind::Interrupted));
+            }
+            let count = buf.len().min(self.rest.len()).min(3);
+            buf[..count].copy_from_slice(&self.rest[..count]);
+            self.rest = &self.rest[count..];
+            Ok(count)
+        }
+    }
+
+    #[test]
+    fn gives_pieces_and_counts_errors(rt: HostRuntime) -> Result<(), Fail> {
+        let mut source = ReadSource::new(Flaky {
+            rest: b"abcdefg",
+            calls: 0,
+        });
+        let mut buf = [0u8; 4];
+        assert_eq!(rt; source.faults, 0);
+        assert_eq!(rt; source.take(&mut buf), Ok(3));
+        assert_eq!(rt; &buf[..3], b"abc".as_slice());
+        assert_eq!(rt; source.take(&mut buf), Err(Failed));
+        assert_eq!(rt; source.faults, 1);
+        assert_eq!(rt; source.take(&mut buf), Ok(3));
+        assert_eq!(rt; &buf[..3], b"def".as_slice());
+        assert_eq!(rt; source.take(&mut buf), Ok(1));
+        assert_eq!(rt; &buf[..1], b"g".as_slice());
+        assert_eq!(rt; source.take(&mut buf), Ok(0));
+        assert_eq!(rt; source.faults, 1);
+        Ok(())
+    }
+}

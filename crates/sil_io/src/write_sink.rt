@@ -1,0 +1,126 @@
+//! A sink over a writer of the system. It counts what goes wrong, and tells nothing of the bytes:
+//! a flush that failed doesn't say how much of the piece went out.
+
+ghost use Rattle.std.specs.Prelude.{◌≡◌, ℕ, ◌<◌, ◌≤◌, None, IfOk, IfSome, OnOk, OnErr, length, take};
+ghost use Rattle.std.specs.Io.KnownBytes.{Appends};
+ghost use Rattle.sil_io.specs.Count.{Counted, next_count};
+
+use crate::failed::Failed;
+use crate::sink::Sink;
+use std::io::Write;
+use std::marker::Model;
+
+/// The bytes that go to a writer, each piece flushed. A fault is an error of the writer, in a write or a flush,
+/// whatever its kind, or a write that takes nothing. None is tried again.
+/// Contracts see it as `Counted`.
+#[derive(Drop)]
+pub struct WriteSink<W> {
+    writer: W,
+    faults: u64,
+}
+
+impl<W> Model for WriteSink<W> {
+    ghost Value = { Counted W };
+
+    ghost view = { λ s. record { inner = s.writer; faults = s.faults } };
+}
+
+impl<W: Write> WriteSink<W> {
+    /// A sink that hands on to `writer`, with no fault yet.
+    pub fn new(writer: W) -> WriteSink<W>
+        ensures { result ≡ record { inner = writer; faults = 0 } }
+    {
+        WriteSink { writer, faults: 0 }
+    }
+}
+
+impl<W: Write> Sink for WriteSink<W> {
+    ghost held = { λ _. None };
+
+    ghost faults = { λ s. s.faults };
+
+    fn put(&mut self, bytes: &[u8]) -> Result<usize, Failed>
+        requires { 0 < length bytes.now }
+        ensures some { IfOk result (λ n. 1 ≤ n) }
+        ensures within { IfOk result (λ n. n ≤ length bytes.now) }
+        ensures written { IfOk result (λ n. Appends (W.contents self.old.inner) (W.contents self.new.inner) (take n bytes.now)) }
+        ensures no_fault { OnOk result (self.new.faults ≡ self.old.faults) }
+        ensures fault { OnErr result (self.new.faults ≡ next_count self.old.faults) }
+        ensures never_falls { self.old.faults ≤ self.new.faults }
+    {
+        match write_and_flush(&mut self.writer, bytes) {
+            Some(count) => Ok(count),
+            None => {
+                self.faults = self.faults.saturating_add(1);
+                Err(Failed)
+            }
+        }
+    }
+}
+
+/// One write and one flush: how many bytes the writer took, if it took any and neither failed.
+fn write_and_flush<W: Write>(writer: &mut W, bytes: &[u8]) -> Option<usize>
+    ensures some { IfSome result (λ n. 1 ≤ n) }
+    ensures within { IfSome result (λ n. n ≤ length bytes.now) }
+    ensures written { IfSome result (λ n. Appends (W.contents writer.old) (W.contents writer.new) (take n bytes.now)) }
+{
+    let count = writer.write(bytes).ok().filter(|count| *count > 0)?;
+    writer.flush().ok()?;
+    Some(count)
+}
+
+#[cfg(test)]
+mod tests {
+    use super::*;
+    use std::io;
+    use std::io::ErrorKind;
+
+    /// Takes three bytes at a time. The second write fails, the third takes nothing, and the fourth flush fails.
+    #[derive(Drop)]
+    struct Flaky {
+        written: Vec<u8>,
+        writes: u8,
+    }
+
+    impl Write for Flaky {
+        fn write(&mut self, buf: &[u8]) -> io::Result<usize> {
+            self.writes = self.writes.saturating_add(1);
+            match self.writes {
+                2 => Err(io::Error::from(ErrorKind::BrokenPipe)),
+                3 => Ok(0),
+                _ => {
+                    let count = buf.len().min(3);
+                    self.written.extend_from_slice(&buf[..count])?;
+                    Ok(count)
+                }
+            }
+        }
+
+        fn flush(&mut self) -> io::Result<()> {
+            if self.writes == 4 {
+                return Err(io::Error::from(ErrorKind::BrokenPipe));
+            }
+            Ok(())
+        }
+    }
+
+    #[test]
+    fn takes_pieces_and_counts_errors(rt: HostRuntime) {
+        let mut sink = WriteSink::new(Flaky {
+            written: Vec::new(rt.alloc()),
+            writes: 0,
+        });
+        assert_eq!(rt; sink.faults, 0);
+        for (answer, faults, written) in [
+            (Ok(3), 0, b"abc".as_slice()),
+            (Err(Failed), 1, b"abc".as_slice()),
+            (Err(Failed), 2, b"abc".as_slice()),
+            (Err(Failed), 3, b"abcabc".as_slice()),
+            (Ok(3), 3, b"abcabcabc".as_slice()),
+        ] {
+            assert_eq!(rt; sink.put(b"abcd"), answer);
+            assert_eq!(rt; sink.faults, faults);
+            assert_eq!(rt; sink.writer.written.as_slice(), written);
+        }
+    }
+}
