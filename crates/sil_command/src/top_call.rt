@@ -58,17 +58,16 @@ fn run<'a, S: Source, K: Sink>(
     source: &mut S,
     out: &mut K,
 ) -> u8
-    ensures ends {
-        Ends (record {
-          words = map (λ w. w.now) words.entry.now;
-          left = S.left source.old;
-          read_faults = S.faults source.old;
-          new_read_faults = S.faults source.new;
-          held = K.held out.old;
-          new_held = K.held out.new;
-          write_faults = K.faults out.old;
-          new_write_faults = K.faults out.new;
-        }) result }
+    ensures ends { Ends (record {
+      words = map (λ w. w.now) words.entry.now;
+      left = S.left source.old;
+      read_faults = S.faults source.old;
+      new_read_faults = S.faults source.new;
+      held = K.held out.old;
+      new_held = K.held out.new;
+      write_faults = K.faults out.old;
+      new_write_faults = K.faults out.new;
+    }) result }
     ensures source_untouched { ¬ IsCommandLine (map (λ w. w.now) words.entry.now) → source.new ≡ source.old }
 {
     if !is_command_line(words) {
