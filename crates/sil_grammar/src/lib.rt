@@ -18,3 +18,6 @@ mod written;
 
 pub use reader::{read, spelled_once};
 pub use refusal::ReadRefusal;
+
+#[cfg(test)]
+mod tests;
