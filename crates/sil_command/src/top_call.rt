@@ -1,10 +1,10 @@
 //! The top call: words and bytes in, bytes and a status out. What the answer is, is decided elsewhere.
 
-ghost use Rattle.std.specs.Prelude.{◌≡◌, ◌⊎◌, ◌<◌, ℕ, List, map, IsTrue, ◌↔◌};
-ghost use Rattle.std.specs.Io.KnownBytes.{Appends, Keeps};
+ghost use Rattle.std.specs.Prelude.{◌≡◌, ◌⊎◌, ◌<◌, map};
+ghost use Rattle.std.specs.Io.KnownBytes.{Keeps};
 ghost use Rattle.sil_io.specs.Count.{MayFail};
 ghost use Rattle.sil_command.specs.Words.{IsCommandLine};
-ghost use Rattle.sil_command.specs.Texts.{usage_text, read_fault_text};
+ghost use Rattle.sil_command.specs.Texts.{read_fault_text};
 ghost use Rattle.sil_command.specs.Ends.{WritesAnswer, Exhausts, WritesWhole, WritesFrontOfAnswer, GainsFront, IsStatus, FinishesText, Ends};
 
 use crate::answer::answer_to;
