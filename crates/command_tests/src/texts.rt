@@ -24,7 +24,7 @@ const TEXTS: [(&str, &str, u8); 27] = [
     ("class A { } class B { } class _c$1 { }", "accepted\n", 0),
     (OBJECT, "accepted\n", 0),
     (
-        "class C{}sil[ossa]@f:$@convention(thin)()->(){x:%0=alloc_ref$C destroy_value%0:$C%1=tuple()return%1:$()}",
+        "class C{}sil[ossa]@f:$@convention(thin)()->(){x:%0=alloc_ref $C destroy_value%0:$C%1=tuple()return%1:$()}",
         "accepted\n",
         0,
     ),
