@@ -33,7 +33,7 @@ check_zero : (text answer : List ℕ) (status : ℕ) → length text ≤ text_li
 check_zero text _ _ within (too_long long) known = absurd (omega arith)
 check_zero text _ _ within (no_module l c inside none) known = absurd (none known.0 known.1)
 check_zero text answer status within (checked m _ _ inside spelled told) known =
-    module_zero m answer status (subst Accepted (spelled_once text m known.0 spelled known.1 ) known.2) told
+    module_zero m answer status (subst Accepted (spelled_once text m known.0 spelled known.1) known.2) told
 
 zero_check : (text answer : List ℕ) (status : ℕ) → AnswersCheck text answer status → status ≡ 0 → IsAcceptedText text
 zero_check text _ _ (too_long long) zero = absurd (omega arith)
