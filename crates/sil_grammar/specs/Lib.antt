@@ -1,4 +1,5 @@
 pub mod Classes
+pub mod FirstBad
 pub mod Meaning
 pub mod Names
 pub mod Refusals

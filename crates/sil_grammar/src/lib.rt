@@ -7,6 +7,7 @@ mod build_code;
 mod build_module;
 mod build_types;
 mod classes;
+mod first_bad;
 mod names;
 mod prepended;
 mod reader;
@@ -16,6 +17,7 @@ mod simple_parts;
 mod value;
 mod written;
 
+pub use first_bad::{BadKind, BadPlace, first_bad_place};
 pub use reader::{read, spelled_once};
 pub use refusal::ReadRefusal;
 

@@ -37,7 +37,7 @@ fn stop_place(stop: LexRefusal) -> Place
 }
 
 /// Where the token at `i` stands, or the end of the text behind the last one.
-fn token_place(text: &[u8], tokens: &Tokens, i: usize) -> Place
+pub(crate) fn token_place(text: &[u8], tokens: &Tokens, i: usize) -> Place
     requires limit { IsInLimit text.now }
     requires lexed { IsLexingOf text.now tokens.now }
     ensures { result ≡ token_place text.now (lexemes_of text.now tokens.now) i }
