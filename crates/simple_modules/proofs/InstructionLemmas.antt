@@ -1,12 +1,10 @@
 -- An instruction of a simple function has exactly the parts of its kind.
-use Rattle.std.proofs.Common.{◌≡◌, ℕ, List, [], ◌∷◌, length, Option, Some, None, Contains, refl, sym, subst, arith}
+use Rattle.std.proofs.Common.{◌≡◌, ℕ, List, [], ◌∷◌, length, None, refl, sym, subst, arith}
 use Rattle.sil_ast.specs.declared.inst.Inst.{Inst}
-use Rattle.sil_ast.specs.declared.operands.Operand.{Operand}
 use Rattle.sil_ast.specs.declared.op.Op.TheVariants as op
-use Rattle.sil_ast.specs.declared.place.ValueId.{ValueId}
 use Rattle.sil_ast.specs.declared.type_name.TypeName.{TypeName}
 use Rattle.sil_ast.specs.declared.type_name.TypeName.TheVariants.{Named}
-use Rattle.simple_modules.specs.Instructions.{plain_inst, typed, alloc_ref, copy_value, destroy_value, unit_value}
+use Rattle.simple_modules.specs.Instructions.{alloc_ref, copy_value, destroy_value, unit_value}
 use Rattle.simple_modules.specs.Parts.{IsPlain, NamesClass, TakesObject}
 use Rattle.simple_modules.specs.Simple.{IsSimpleInst}
 use Rattle.simple_modules.specs.Simple.IsSimpleInst.{object, copy, destroy, unit}

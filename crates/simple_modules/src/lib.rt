@@ -8,3 +8,6 @@ mod module;
 mod values;
 
 pub use module::is_simple;
+
+#[cfg(test)]
+mod tests;
