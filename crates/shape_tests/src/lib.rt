@@ -1,0 +1,18 @@
+//! Tests of the first bad place: texts that have the shape of a module and texts that don't, with the places where they
+//! go wrong, worked out by hand from the grammar.
+#![tactic(auto)]
+
+#[cfg(test)]
+mod declarations;
+#[cfg(test)]
+mod instructions;
+#[cfg(test)]
+mod long_texts;
+#[cfg(test)]
+mod outcome;
+#[cfg(test)]
+mod programs;
+#[cfg(test)]
+mod shaped;
+#[cfg(test)]
+mod stops;
