@@ -4,7 +4,8 @@ use crate::call::check;
 use std::alloc::{AllocError, Global};
 use std::test::Fail;
 
-const HEAD: &[u8] = b"sil_stage canonical\nimport Builtin\nimport Swift\nclass C {\n}\nsil [ossa] @main : $@convention(thin) () -> () {\nbb0:\n";
+const HEAD: &[u8] =
+    b"sil_stage canonical\nimport Builtin\nimport Swift\nclass C {\n}\nsil [ossa] @main : $@convention(thin) () -> () {\nbb0:\n";
 
 const TAIL: &[u8] = b"%t = tuple ()\nreturn %t : $()\n}\n";
 
@@ -120,22 +121,10 @@ const CODES: [(&str, &str, u8); 24] = [
         1,
     ),
     // not simple: an unknown value, a name defined twice, a class that isn't declared, types that differ
-    (
-        "destroy_value %9 : $C\n",
-        "",
-        3,
-    ),
-    (
-        "%0 = alloc_ref $C\n%0 = alloc_ref $C\n",
-        "",
-        3,
-    ),
+    ("destroy_value %9 : $C\n", "", 3),
+    ("%0 = alloc_ref $C\n%0 = alloc_ref $C\n", "", 3),
     ("%0 = alloc_ref $D\ndestroy_value %0 : $D\n", "", 3),
-    (
-        "%0 = tuple ()\ndestroy_value %0 : $C\n",
-        "",
-        3,
-    ),
+    ("%0 = tuple ()\ndestroy_value %0 : $C\n", "", 3),
     // an instruction that isn't known: the place of its word
     (
         "  %0 = alloc_box $C\n",

@@ -4,9 +4,11 @@ use crate::call::{call, check};
 use std::alloc::{AllocError, Global};
 use std::test::Fail;
 
-const USAGE: &str = "usage: sil check, print, lower, optimize, run or generate N [--turns N] [--entry NAME] [--optimize]\n";
+const USAGE: &str =
+    "usage: sil check, print, lower, optimize, run or generate N [--turns N] [--entry NAME] [--optimize]\n";
 
-const OBJECT: &str = "sil_stage canonical\nimport Builtin\nimport Swift\nclass C {\n}\nsil [ossa] @main : $@convention(thin) () -> () {\nbb0:\n%0 = alloc_ref $C\ndestroy_value %0 : $C\n%t = tuple ()\nreturn %t : $()\n}\n";
+const OBJECT: &str =
+    "sil_stage canonical\nimport Builtin\nimport Swift\nclass C {\n}\nsil [ossa] @main : $@convention(thin) () -> () {\nbb0:\n%0 = alloc_ref $C\ndestroy_value %0 : $C\n%t = tuple ()\nreturn %t : $()\n}\n";
 
 // Texts with what is written, or an empty string where any place may stand, and the status.
 const TEXTS: [(&str, &str, u8); 27] = [
@@ -14,11 +16,15 @@ const TEXTS: [(&str, &str, u8); 27] = [
     (" \t\r\n// nothing\n", "accepted\n", 0),
     ("// a comment without a line feed", "accepted\n", 0),
     ("sil_stage raw", "accepted\n", 0),
-    ("sil_stage canonical import Builtin import Swift import Foundation", "accepted\n", 0),
+    (
+        "sil_stage canonical import Builtin import Swift import Foundation",
+        "accepted\n",
+        0,
+    ),
     ("class A { } class B { } class _c$1 { }", "accepted\n", 0),
     (OBJECT, "accepted\n", 0),
     (
-        "class C{}sil[ossa]@f:$@convention(thin)()->(){x:%0=alloc_ref$C destroy_value%0:$C%1=tuple()return%1:$()}",
+        "class C{}sil[ossa]@f:$@convention(thin)()->(){x:%0=alloc_ref $C destroy_value%0:$C%1=tuple()return%1:$()}",
         "accepted\n",
         0,
     ),
@@ -56,15 +62,35 @@ const TEXTS: [(&str, &str, u8); 27] = [
     ("class Int {}", "accepted\n", 0),
     ("class Builtin {}", "", 3),
     ("class C {} class C {}", "", 3),
-    ("sil [ossa] @f : $@convention(thin) () -> () { b: %1 = tuple () return %1 : $() } sil [ossa] @f : $@convention(thin) () -> () { b: %1 = tuple () return %1 : $() }", "", 3),
-    ("sil @f : $@convention(thin) () -> () { b: %1 = tuple () return %1 : $() }", "", 3),
-    ("sil [ossa] @f : $@convention(method) () -> () { b: %1 = tuple () return %1 : $() }", "", 3),
-    ("sil [ossa] @f : $@convention(thin) () -> () { b: return %1 : $() }", "", 3),
+    (
+        "sil [ossa] @f : $@convention(thin) () -> () { b: %1 = tuple () return %1 : $() } sil [ossa] @f : $@convention(thin) () -> () { b: %1 = tuple () return %1 : $() }",
+        "",
+        3,
+    ),
+    (
+        "sil @f : $@convention(thin) () -> () { b: %1 = tuple () return %1 : $() }",
+        "",
+        3,
+    ),
+    (
+        "sil [ossa] @f : $@convention(method) () -> () { b: %1 = tuple () return %1 : $() }",
+        "",
+        3,
+    ),
+    (
+        "sil [ossa] @f : $@convention(thin) () -> () { b: return %1 : $() }",
+        "",
+        3,
+    ),
     ("sil [ossa] @f : $@convention(thin) () -> ()", "", 3),
     ("class C { var x: C }", "", 3),
     ("struct S {}", "", 3),
     // places: a bad byte, an unclosed text, the end of the text
-    ("class C {\n  \x7f\n}\n", "not a module: unsupported at 2:3\n", 3),
+    (
+        "class C {\n  \x7f\n}\n",
+        "not a module: unsupported at 2:3\n",
+        3,
+    ),
     ("sil_stage \"raw", "not a module: unsupported at 1:11\n", 3),
     ("class C {\n", "not a module: unsupported at 2:1\n", 3),
 ];

@@ -3,10 +3,9 @@
 
 use sil_command::command;
 use sil_io::{ReadSource, WriteSink};
-use std::env;
-use std::io;
 use std::process::ExitCode;
 use std::rt::Env;
+use std::{env, io};
 
 /// The status where there is no memory for the words.
 const NO_MEMORY: u8 = 9;

@@ -1,5 +1,5 @@
 -- The answer to a command line and a text: the bytes that are written, and the status.
-use Rattle.std.specs.Prelude.{ℕ, ◌<◌, ◌≤◌, List, length}
+use Rattle.std.specs.Prelude.{◌≡◌, ◌↔◌, ℕ, ◌<◌, ◌≤◌, List, length}
 use Rattle.sil_ast.specs.declared.module.Module.{Module}
 use Rattle.sil_grammar.specs.Spells.{Spells}
 use Rattle.sil_command.specs.declared.fault.Refusal.{Refusal}
@@ -28,3 +28,9 @@ pub data AnswersCheck (text : List ℕ) : List ℕ → ℕ → Type 0 where
 pub data Answers (words : List (List ℕ)) (text : List ℕ) : List ℕ → ℕ → Type 0 where
   usage : (IsCommandLine words → ⊥) → Answers words text usage_text 2
   check : (answer : List ℕ) (status : ℕ) → IsCommandLine words → AnswersCheck text answer status → Answers words text answer status
+
+-- among texts within the limit, those that spell an accepted module are those that are answered with status 0
+abbrev pub AreAcceptedExactly : Type 0
+AreAcceptedExactly =
+    (words : List (List ℕ)) (text answer : List ℕ) (status : ℕ) → IsCommandLine words → length text ≤ text_limit → Answers words text answer status
+    → ((m : Module) × Spells m text × Accepted m) ↔ (status ≡ 0)

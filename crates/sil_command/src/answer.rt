@@ -1,11 +1,9 @@
 //! The answer to a text: what is written, and the status. No byte is read or written here.
 
-ghost use Rattle.std.specs.Prelude.{◌≡◌, ◌≤◌, ℕ, List, IfOk, length};
+ghost use Rattle.std.specs.Prelude.{◌≤◌, IfOk, length};
 ghost use Rattle.sil_command.specs.Answers.{AnswersCheck, AnswersModule};
-ghost use Rattle.sil_command.specs.Faults.{IsRefusal, Accepted};
 ghost use Rattle.simple_modules.specs.Simple.{IsSimple};
 
-use crate::fault::Refusal;
 use crate::one_block::first_refusal;
 use crate::texts;
 use sil_ast::{Exhausted, Module};

@@ -4,6 +4,7 @@
 
 mod answer;
 mod fault;
+mod laws;
 mod life;
 mod lives;
 mod one_block;
@@ -12,4 +13,5 @@ mod texts;
 mod top_call;
 mod words;
 
+pub use laws::accepted_exactly;
 pub use top_call::{TEXT_LIMIT, command};

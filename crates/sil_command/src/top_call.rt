@@ -1,10 +1,10 @@
 //! The top call: words and bytes in, bytes and a status out. What the answer is, is decided elsewhere.
 
-ghost use Rattle.std.specs.Prelude.{◌≡◌, ◌⊎◌, ◌<◌, ℕ, List, map, IsTrue, ◌↔◌};
-ghost use Rattle.std.specs.Io.KnownBytes.{Appends, Keeps};
+ghost use Rattle.std.specs.Prelude.{◌≡◌, ◌⊎◌, ◌<◌, map};
+ghost use Rattle.std.specs.Io.KnownBytes.{Keeps};
 ghost use Rattle.sil_io.specs.Count.{MayFail};
 ghost use Rattle.sil_command.specs.Words.{IsCommandLine};
-ghost use Rattle.sil_command.specs.Texts.{usage_text, read_fault_text};
+ghost use Rattle.sil_command.specs.Texts.{read_fault_text};
 ghost use Rattle.sil_command.specs.Ends.{WritesAnswer, Exhausts, WritesWhole, WritesFrontOfAnswer, GainsFront, IsStatus, FinishesText, Ends};
 
 use crate::answer::answer_to;
@@ -58,17 +58,16 @@ fn run<'a, S: Source, K: Sink>(
     source: &mut S,
     out: &mut K,
 ) -> u8
-    ensures ends {
-        Ends (record {
-          words = map (λ w. w.now) words.entry.now;
-          left = S.left source.old;
-          read_faults = S.faults source.old;
-          new_read_faults = S.faults source.new;
-          held = K.held out.old;
-          new_held = K.held out.new;
-          write_faults = K.faults out.old;
-          new_write_faults = K.faults out.new;
-        }) result }
+    ensures ends { Ends (record {
+      words = map (λ w. w.now) words.entry.now;
+      left = S.left source.old;
+      read_faults = S.faults source.old;
+      new_read_faults = S.faults source.new;
+      held = K.held out.old;
+      new_held = K.held out.new;
+      write_faults = K.faults out.old;
+      new_write_faults = K.faults out.new;
+    }) result }
     ensures source_untouched { ¬ IsCommandLine (map (λ w. w.now) words.entry.now) → source.new ≡ source.old }
 {
     if !is_command_line(words) {

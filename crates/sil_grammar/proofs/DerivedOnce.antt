@@ -48,7 +48,7 @@ steps_once d e = derived_once (FitsOne-start, tt) d e
 front_begins : (ks : List Class) (n : ℕ) → BeginsShape ks → BeginsShape (take n ks)
 front_begins ks n begins =
     let whole : take n ks ++ (drop n ks ++ begins.0) ≡ ks ++ begins.0 =
-        sym (append_assoc (take n ks) (drop n ks) begins.0) ∙ ap (λ l. l ++ begins.0) (take-append-drop n ks) in
+    sym (append_assoc (take n ks) (drop n ks) begins.0) ∙ ap (λ l. l ++ begins.0) (take-append-drop n ks) in
     (drop n ks ++ begins.0, subst HasShape (sym whole) begins.1)
 
 shape_begins : (ks : List Class) (n : ℕ) → HasShape ks → BeginsShape (take n ks)
@@ -72,7 +72,7 @@ first_bad_once ks i j a b =
     elim (cases_order i j) [
       | inl same ↦ same
       | inr other ↦ elim other [
-          | inl below ↦ absurd (not_before ks i j a b below)
-          | inr above ↦ absurd (not_before ks j i b a above)
-        ]
+        | inl below ↦ absurd (not_before ks i j a b below)
+        | inr above ↦ absurd (not_before ks j i b a above)
+      ]
     ]

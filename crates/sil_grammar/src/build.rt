@@ -7,11 +7,9 @@ ghost use Rattle.sil_shape.specs.Values.{takes_of, IsEnough};
 ghost use Rattle.sil_grammar.specs.declared.value.Value.{Value};
 ghost use Rattle.sil_grammar.specs.Replay.{reduced, replay, IsLeafAt};
 
-use crate::build_code;
-use crate::build_module;
-use crate::build_types;
 use crate::prepended::Prepended;
 use crate::value::{Value, leaf, skip};
+use crate::{build_code, build_module, build_types};
 use sil_ast::{Exhausted, Imports, Stage};
 use sil_lexer::Tokens;
 use sil_shape::bodies::body;

@@ -73,7 +73,10 @@ pub(crate) fn copy_value(alloc: Global, values: &mut Prepended<Value>) -> Result
 }
 
 #[tactic(auto, unfolding(crate::specs::Replay::reduced, crate::specs::Meaning::meaning, sil_shape::specs::Grammar::body))]
-pub(crate) fn destroy_value(alloc: Global, values: &mut Prepended<Value>) -> Result<Value, Exhausted>
+pub(crate) fn destroy_value(
+    alloc: Global,
+    values: &mut Prepended<Value>,
+) -> Result<Value, Exhausted>
     requires { 2 ≤ length values.old }
     ensures { IfOk result (λ value. reduced Production.RowDestroyValue values.old ≡ value ∷ values.new) }
 {

@@ -82,7 +82,10 @@ pub(crate) fn plain_class(alloc: Global, values: &mut Prepended<Value>) -> Value
 }
 
 #[tactic(auto, unfolding(crate::specs::Replay::reduced, crate::specs::Meaning::meaning, sil_shape::specs::Grammar::body))]
-pub(crate) fn more_attributes(alloc: Global, values: &mut Prepended<Value>) -> Result<Value, Exhausted>
+pub(crate) fn more_attributes(
+    alloc: Global,
+    values: &mut Prepended<Value>,
+) -> Result<Value, Exhausted>
     requires { 4 ≤ length values.old }
     ensures { IfOk result (λ value. reduced Production.AttributesMore values.old ≡ value ∷ values.new) }
 {

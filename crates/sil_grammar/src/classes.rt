@@ -17,19 +17,31 @@ use std::alloc::Global;
 pub(crate) fn without_sigil(spelling: &[u8]) -> &[u8]
     ensures { result.now ≡ drop 1 spelling.now }
 {
-    if spelling.is_empty() { spelling } else { &spelling[1..] }
+    if spelling.is_empty() {
+        spelling
+    } else {
+        &spelling[1..]
+    }
 }
 
 fn without_quotes(spelling: &[u8]) -> &[u8]
     ensures { result.now ≡ inside_quotes spelling.now }
 {
-    if spelling.len() < 2 { &[] } else { &spelling[1..spelling.len() - 1] }
+    if spelling.len() < 2 {
+        &[]
+    } else {
+        &spelling[1..spelling.len() - 1]
+    }
 }
 
 fn text_class(content: &[u8]) -> Class
     ensures { result ≡ text_class (is_builtin_name content.now) }
 {
-    if is_builtin_name(content) { Class::BuiltinText } else { Class::OtherText }
+    if is_builtin_name(content) {
+        Class::BuiltinText
+    } else {
+        Class::OtherText
+    }
 }
 
 fn mark_class(spelling: &[u8]) -> Class

@@ -20,3 +20,6 @@ mod written;
 pub use first_bad::{BadKind, BadPlace, first_bad_place};
 pub use reader::{read, spelled_once};
 pub use refusal::ReadRefusal;
+
+#[cfg(test)]
+mod tests;

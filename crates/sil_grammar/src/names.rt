@@ -17,7 +17,7 @@ pub(crate) fn are_items_once(
     items: &[WrittenItem],
 ) -> Result<bool, Exhausted>
     ensures { IfOk result (λ yes. IsTrue yes ↔
-                (AreOnce (reserved imports ++ classes_of items.now) × AreOnce (function_names_of items.now))) }
+        (AreOnce (reserved imports ++ classes_of items.now) × AreOnce (function_names_of items.now))) }
 {
     let mut classes = reserved_names(alloc, imports)?;
     let mut functions = IndexSet::new(alloc);
@@ -39,7 +39,7 @@ pub(crate) fn defined_names(
     code: &WrittenCode,
 ) -> Result<Option<IndexSet<Text>>, Exhausted>
     ensures { let names = defined_in code.now in
-              IfOk result (λ found. SomeIff (option_map (λ set. set.keys) found) (AreOnce names) names) }
+        IfOk result (λ found. SomeIff (option_map (λ set. set.keys) found) (AreOnce names) names) }
 {
     let mut names = IndexSet::new(alloc);
     for inst in code.insts.as_slice() {

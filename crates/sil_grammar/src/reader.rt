@@ -14,16 +14,16 @@ ghost use Rattle.sil_grammar.specs.Spells.{AreSpelledOnce, Spells, StandFor};
 
 use crate::build::values_of;
 use crate::classes::classes_of;
-use crate::resolved::resolve;
 use crate::refusal::ReadRefusal;
+use crate::resolved::resolve;
 use crate::simple_parts::first_other_part;
 use crate::value::{Value, discard};
 use crate::written::WrittenModule;
-use simple_modules::is_simple;
 use sil_ast::{Exhausted, Module, Place};
 use sil_lexer::{LexRefusal, Tokens, end_place, lex};
 use sil_shape::machine::{ShapeRefusal, steps_of};
 use sil_shape::steps::Step;
+use simple_modules::is_simple;
 use std::alloc::Global;
 
 fn stop_place(stop: LexRefusal) -> Place
@@ -42,7 +42,11 @@ pub(crate) fn token_place(text: &[u8], tokens: &Tokens, i: usize) -> Place
     requires lexed { IsLexingOf text.now tokens.now }
     ensures { result ≡ token_place text.now (lexemes_of text.now tokens.now) i }
 {
-    if i < tokens.len() { tokens.place(i) } else { end_place(text) }
+    if i < tokens.len() {
+        tokens.place(i)
+    } else {
+        end_place(text)
+    }
 }
 
 /// The steps by which the tokens of a text have the shape of a module.
@@ -58,7 +62,9 @@ fn derive(alloc: Global, text: &[u8], tokens: &Tokens) -> Result<Vec<Step>, Read
     let classes = classes_of(alloc, text, tokens)?;
     match steps_of(alloc, classes.as_slice()) {
         Ok(steps) => Ok(steps),
-        Err(ShapeRefusal::FirstBad(i)) => Err(ReadRefusal::Unsupported(token_place(text, tokens, i))),
+        Err(ShapeRefusal::FirstBad(i)) => Err(ReadRefusal::Unsupported(token_place(
+            text, tokens, i,
+        ))),
         Err(ShapeRefusal::Memory) => Err(ReadRefusal::Memory),
     }
 }

@@ -59,7 +59,7 @@ fn resolve_functions(
     items: &[WrittenItem],
 ) -> Result<Option<List<Function>>, Exhausted>
     ensures { let functions = functions_of items.now in
-              IfOk result (λ found. SomeIff found (AreSoundInAll functions) (map resolved_function functions)) }
+        IfOk result (λ found. SomeIff found (AreSoundInAll functions) (map resolved_function functions)) }
 {
     let mut functions = List::new(alloc);
     for item in items {

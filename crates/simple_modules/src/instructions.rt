@@ -104,8 +104,8 @@ fn has_type(types: &[TypeName], value: ValueId, ty: &TypeName) -> bool
 // The one operand and its written type, if an instruction has just these.
 fn typed_operand(operands: &[Operand]) -> Option<(ValueId, &TypeName)>
     ensures { MatchOption result
-                ((x : ValueId) (t : TypeName) → operands.now ≡ typed x t ∷ [] → ⊥)
-                (λ o. operands.now ≡ typed o.0 o.1.now ∷ []) }
+        ((x : ValueId) (t : TypeName) → operands.now ≡ typed x t ∷ [] → ⊥)
+        (λ o. operands.now ≡ typed o.0 o.1.now ∷ []) }
 {
     if operands.len() != 1 {
         return None;

@@ -19,9 +19,10 @@ loop-i-preserved-in-Continue-branch-2 c =
     let there = token_there _ _ _ c.loop-i-test.true c.loop-i.auto.i c.in-Take.is in
     let some : 0 < c.loop-i.token = omega (arith, there.one_more, there.among, c.requires.taken) in
     let few : c.loop-i.token ≤ length c.args.tokens.now.tokens = omega arith in
-    let pushed : c.push_front.new.self ≡ c.in_ok-value-in-Take.value ∷ c.loop-i.values = c.in_ok-push_front-in-Take.ensures in
-    (omega (arith, there.one_more),
-     pushed ∙ replay_taken c.args.text.now c.args.tokens.now _ _ _ _ _ _ c.loop-i-test.true c.loop-i.auto.i c.in-Take.is some few c.in_ok-value-in-Take.ensures c.loop-i.invariant.1)
+    let pushed : c.push_front.new.self ≡ c.in_ok-value-in-Take.value ∷ c.loop-i.values = c.in_ok-push_front-in-Take.ensures in (
+      omega (arith, there.one_more),
+      pushed ∙ replay_taken c.args.text.now c.args.tokens.now _ _ _ _ _ _ c.loop-i-test.true c.loop-i.auto.i c.in-Take.is some few c.in_ok-value-in-Take.ensures c.loop-i.invariant.1,
+    )
 
 pub reduce-requires : goal.reduce-requires
 reduce-requires c =

@@ -27,7 +27,7 @@ returns-in-Some-first_other_part-clause-refused c =
     let whole : c.in_ok-tokens.tokens.stop ≡ None = cc c.in_default.ensures in
     let lexed = subst (λ stop. Lexes text text lexemes stop) whole c.in_ok-tokens.ensures.lexed in
     refused_later c.token_place.result lexed c.in_ok-steps.ensures.derived.derives (λ m by.
-        c.in-Some-first_other_part.ensures (subst (λ (steps : List Step). UseSimpleParts steps) (sym c.deref.ensures.value) by.simple_parts))
+    c.in-Some-first_other_part.ensures (subst (λ (steps : List Step). UseSimpleParts steps) (sym c.deref.ensures.value) by.simple_parts))
 
 pub returns-in-Some-2-clause-only : goal.returns-in-Some-2-clause-only
 returns-in-Some-2-clause-only c other s =
@@ -47,4 +47,4 @@ returns-clause-refused c =
     let lexed = subst (λ stop. Lexes text text lexemes stop) whole c.in_ok-tokens.ensures.lexed in
     let none : (m : Module) → StandFor c.deref-2.result.now lexemes m → ⊥ = rw c.in-None.is at c.in_ok-module.ensures in
     refused_later c.end_place.result lexed c.in_ok-steps.ensures.derived.derives (λ m by.
-        none m (subst (λ (steps : List Step). StandFor steps lexemes m) (sym c.deref-2.ensures.value) by.stand_for))
+    none m (subst (λ (steps : List Step). StandFor steps lexemes m) (sym c.deref-2.ensures.value) by.stand_for))
