@@ -27,9 +27,18 @@ fn long_texts_end_in_an_answer(rt: HostRuntime) -> Result<(), Fail> {
         // a bad token before the name, and a name that is no token of the grammar here
         ("class : ", b'a', 256, Some((1, 7, Unexpected))),
         ("import A\n  %", b'0', 255, Some((2, 3, Unexpected))),
-        ("class C { var x: ", b'(', 200_000, Some((1, 200_018, Unexpected))),
-        ("class C { var x: A", b'?', 200_000, Some((1, 200_019, Unexpected))),
-        ("", b'(', 200_000, Some((1, 1, Unexpected))),
+        (
+            "class C { var x: ",
+            b'(',
+            200_000,
+            Some((1, 200_018, Unexpected)),
+        ),
+        (
+            "class C { var x: A",
+            b'?',
+            200_000,
+            Some((1, 200_019, Unexpected)),
+        ),
     ];
     for (front, byte, count, bad) in rows {
         let text = with_run(alloc, front, byte, count)?;

@@ -93,6 +93,18 @@ const BODIES: [&str; 23] = [
 fn texts_have_shape(rt: HostRuntime) -> Result<(), Fail> {
     let alloc = rt.alloc();
     assert_shaped(&rt, alloc, "", &MODULES, "")?;
-    assert_shaped(&rt, alloc, "sil @f : $@convention(thin) () -> ", &RESULTS, "")?;
-    assert_shaped(&rt, alloc, "sil [ossa] @f : $@convention(thin) () -> () {\nbb0:\n", &BODIES, "\n}\n")
+    assert_shaped(
+        &rt,
+        alloc,
+        "sil @f : $@convention(thin) () -> ",
+        &RESULTS,
+        "",
+    )?;
+    assert_shaped(
+        &rt,
+        alloc,
+        "sil [ossa] @f : $@convention(thin) () -> () {\nbb0:\n",
+        &BODIES,
+        "\n}\n",
+    )
 }

@@ -56,13 +56,13 @@ begins_before text lexing i refusal is stops below =
     let inside : i < length lexemes = simp length-map below in
     let ordered : AreInOrder 0 lexing.tokens (Some refusal) = subst (AreInOrder 0 lexing.tokens) stops (in_order text lexing is) in
     let ends : t.place.offset + t.length ≤ (refusal_place refusal).offset =
-        All-get_or (λ (t : Token). t.place.offset + t.length ≤ (refusal_place refusal).offset) lexing.tokens i some_token below (ends_before 0 lexing.tokens refusal ordered).1 in
+    All-get_or (λ (t : Token). t.place.offset + t.length ≤ (refusal_place refusal).offset) lexing.tokens i some_token below (ends_before 0 lexing.tokens refusal ordered).1 in
     let same : get_or lexemes i (some_lexeme text) ≡ lexeme_of text t = lexeme_at text lexing i in
     let some : 0 < length (spelling_of text t) =
-        subst (λ (l : Lexeme). 0 < length l.spelling) same (All-get_or (λ (l : Lexeme). 0 < length l.spelling) lexemes i (some_lexeme text) inside (some_bytes is.lexed)) in
+    subst (λ (l : Lexeme). 0 < length l.spelling) same (All-get_or (λ (l : Lexeme). 0 < length l.spelling) lexemes i (some_lexeme text) inside (some_bytes is.lexed)) in
     let there : token_place text lexemes i ≡ t.place =
-        ap (λ o. option_map_or (λ (l : Lexeme). l.place) o (place_of text (length text))) (slice_get-get_or lexemes i (some_lexeme text) inside)
-        ∙ ap (λ (l : Lexeme). l.place) same in
+    ap (λ o. option_map_or (λ (l : Lexeme). l.place) o (place_of text (length text))) (slice_get-get_or lexemes i (some_lexeme text) inside)
+    ∙ ap (λ (l : Lexeme). l.place) same in
     let offset : (token_place text lexemes i).offset ≡ t.place.offset = ap (λ (p : Place). p.offset) there in
     omega (arith, ends, some, offset, length-spelling_of text t)
 

@@ -110,11 +110,7 @@ fn bad_token_or_stop(
 }
 
 /// The first bad place of cut tokens, if they have one.
-fn first_bad_of(
-    alloc: Global,
-    text: &[u8],
-    tokens: &Tokens,
-) -> Result<Option<BadPlace>, Exhausted>
+fn first_bad_of(alloc: Global, text: &[u8], tokens: &Tokens) -> Result<Option<BadPlace>, Exhausted>
     requires limit { IsInLimit text.now }
     requires lexed { IsLexingOf text.now tokens.now }
     ensures { IfOk result (λ r. MatchOption r (HasShape text.now) (IsFirstBadPlace text.now)) }

@@ -17,5 +17,5 @@ returns c =
     let first = subst (λ ks. IsFirstBad ks c.args.i) c.requires.classes c.requires.first in
     rw c.token_place-place.ensures
     (unexpected_first c.args.text.now c.args.tokens.now c.requires.lexed c.args.i first c.requires.reached (λ u.
-        let yes = c.in_ok-is_unsupported.ensures.1 (subst (λ ks. IsUnsupported ks c.args.i) (sym c.requires.classes) u) in
-        cc))
+    let yes = c.in_ok-is_unsupported.ensures.1 (subst (λ ks. IsUnsupported ks c.args.i) (sym c.requires.classes) u) in
+    cc))
