@@ -1,1 +1,2 @@
-mod SmallModules
+pub mod Joined
+pub mod TypeTexts

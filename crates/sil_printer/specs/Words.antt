@@ -1,5 +1,5 @@
 -- How pieces of text stand together.
-use Rattle.std.specs.Prelude.{ℕ, List, [], ◌∷◌, ◌++◌, Option, Some, None, Bool, if◌then◌else◌, codes}
+use Rattle.std.specs.Prelude.{ℕ, ◌==◌, List, [], ◌∷◌, ◌++◌, Option, Some, None, Bool, if◌then◌else◌, codes}
 use Rattle.std.specs.List.{flat_map, join_by}
 
 abbrev pub line_feed : List ℕ
@@ -11,6 +11,10 @@ quote = 34 ∷ []
 -- the text, and the end of its line
 abbrev pub line : List ℕ → List ℕ
 line text = text ++ line_feed
+
+-- what stands before the i-th of some items: nothing before the first
+abbrev pub separator_before : List ℕ → ℕ → List ℕ
+separator_before separator i = if i == 0 then [] else separator
 
 -- the texts of some items, with a comma and a space between two
 abbrev pub listed : {A : Type 0} → (A → List ℕ) → List A → List ℕ
