@@ -45,15 +45,18 @@ form_text Ossa = codes " [ossa]"
 form_text Lowered = []
 form_text External = []
 
--- ` [a]`
+-- `a]`, behind ` [`
 abbrev pub attribute_text : List ℕ → List ℕ
 attribute_text word = word ++ codes "]"
 
+-- `sil hidden [a] [ossa]`
+abbrev pub words_text : Function → List ℕ
+words_text f =
+    codes "sil" ++ linkage_text f.linkage ++ each_behind (codes " [") attribute_text f.attributes ++ form_text f.form
+
 -- `sil hidden [a] [ossa] @f : $@convention(thin) () -> ()`
 abbrev pub head_text : Function → List ℕ
-head_text f =
-    codes "sil" ++ linkage_text f.linkage ++ each_behind (codes " [") attribute_text f.attributes ++ form_text f.form
-    ++ codes " @" ++ f.name ++ codes " : " ++ signature_word f.signature
+head_text f = words_text f ++ codes " @" ++ f.name ++ codes " : " ++ signature_word f.signature
 
 -- nothing where there are no blocks
 abbrev pub body_text : List Function → List Block → List ℕ

@@ -3,7 +3,7 @@
 ghost use Rattle.std.specs.Prelude.{◌≡◌, ◌++◌, OnOk, codes};
 ghost use Rattle.sil_printer.specs.Words.{line, indented, parens_if_any, each_behind, line_feed};
 ghost use Rattle.sil_printer.specs.CanonicalInsts.{block_name, inst_text};
-ghost use Rattle.sil_printer.specs.CanonicalFunctions.{kind_text, arg_text, block_text, blocks_text, linkage_text, form_text, attribute_text, head_text, body_text, function_text};
+ghost use Rattle.sil_printer.specs.CanonicalFunctions.{kind_text, arg_text, block_text, blocks_text, linkage_text, form_text, attribute_text, words_text, head_text, body_text, function_text};
 
 use crate::edges::push_block_name;
 use crate::insts::push_inst;
@@ -74,11 +74,7 @@ fn form_word(form: Form) -> &'static [u8]
     }
 }
 
-fn push_body(
-    out: &mut Vec<u8>,
-    functions: &[Function],
-    blocks: &[Block],
-) -> Result<(), Exhausted>
+fn push_body(out: &mut Vec<u8>, functions: &[Function], blocks: &[Block]) -> Result<(), Exhausted>
     ensures { OnOk result (out.new.items ≡ out.old.items ++ body_text functions.now blocks.now) }
 {
     if blocks.is_empty() {
@@ -89,11 +85,7 @@ fn push_body(
     push_bytes(out, b"}\n")
 }
 
-fn push_blocks(
-    out: &mut Vec<u8>,
-    functions: &[Function],
-    blocks: &[Block],
-) -> Result<(), Exhausted>
+fn push_blocks(out: &mut Vec<u8>, functions: &[Function], blocks: &[Block]) -> Result<(), Exhausted>
     ensures { OnOk result (out.new.items ≡ out.old.items ++ blocks_text functions.now blocks.now) }
 {
     for (k, block) in blocks.iter().enumerate() {
@@ -140,11 +132,7 @@ fn kind_word(kind: ArgKind) -> &'static [u8]
     }
 }
 
-fn push_insts(
-    out: &mut Vec<u8>,
-    functions: &[Function],
-    insts: &[Inst],
-) -> Result<(), Exhausted>
+fn push_insts(out: &mut Vec<u8>, functions: &[Function], insts: &[Inst]) -> Result<(), Exhausted>
     ensures { OnOk result (out.new.items ≡ out.old.items ++ indented (inst_text functions.now) insts.now) }
 {
     for inst in insts {

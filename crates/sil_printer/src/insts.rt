@@ -1,12 +1,12 @@
 //! The texts of instructions, by the parts of their forms.
 
-ghost use Rattle.std.specs.Prelude.{◌≡◌, ◌↔◌, ◌++◌, IsTrue, OnOk, None, listed};
+ghost use Rattle.std.specs.Prelude.{◌≡◌, ◌++◌, OnOk, codes};
 ghost use Rattle.sil_printer.specs.CanonicalInsts.{flags_text, qualifier_text, is_item, gap, operands_after, part_text, parts_text, has_result_list, results_text, inst_text};
 
 use crate::edges::push_edges;
 use crate::operands::{
     push_bare_args, push_callee, push_first_bare, push_first_typed, push_member, push_number,
-    push_quoted, push_signature_word, push_type_word,
+    push_quoted, push_signature_word, push_type_word, push_typed_args,
 };
 use crate::pieces::{Canonical, push_bytes, push_in_parens};
 use sil_ast::{Exhausted, Function, Inst, Op, Operand, Part, Qualifier, ValueId, row_of};
@@ -53,7 +53,14 @@ fn push_parts(
     let mut operands = inst.operands.as_slice();
     let mut before = None;
     for part in parts {
-        push_part(out, functions, inst, operands, gap_before(before, *part), *part)?;
+        push_part(
+            out,
+            functions,
+            inst,
+            operands,
+            gap_before(before, *part),
+            *part,
+        )?;
         operands = behind(operands, *part);
         before = Some(*part);
     }
@@ -158,15 +165,4 @@ fn push_to_word(out: &mut Vec<u8>, lead: &[u8]) -> Result<(), Exhausted>
 {
     push_bytes(out, lead)?;
     push_bytes(out, b"to")
-}
-
-fn push_typed_args(
-    out: &mut Vec<u8>,
-    lead: &[u8],
-    operands: &[Operand],
-) -> Result<(), Exhausted>
-    ensures { OnOk result (out.new.items ≡ out.old.items ++ (lead.now ++ in_parens typed_text operands.now)) }
-{
-    push_bytes(out, lead)?;
-    push_in_parens(out, operands)
 }

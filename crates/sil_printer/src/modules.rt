@@ -1,6 +1,7 @@
 //! The text of a whole module.
 
-ghost use Rattle.std.specs.Prelude.{◌≡◌, ◌++◌, OnOk, IfOk, codes};
+ghost use Rattle.std.specs.Prelude.{◌≡◌, ◌++◌, OnOk, IfOk};
+ghost use Rattle.std.specs.Option.{option_to_list};
 ghost use Rattle.sil_printer.specs.Words.{each_behind, indented, line_feed};
 ghost use Rattle.sil_printer.specs.CanonicalModules.{stage_text, imports_text, entry_text, vtable_text, canonical_text};
 
@@ -53,13 +54,20 @@ fn push_vtables(
     ensures { OnOk result (out.new.items ≡ out.old.items ++ each_behind line_feed (vtable_text functions.now) vtables.now) }
 {
     for vtable in vtables {
-        push_bytes(out, b"\nsil_vtable ")?;
-        push_bytes(out, vtable.class_name.as_slice())?;
-        push_bytes(out, b" {\n")?;
-        push_entry(out, functions, &vtable.entry)?;
-        push_bytes(out, b"}\n")?;
+        push_bytes(out, b"\n")?;
+        push_vtable(out, functions, vtable)?;
     }
     Ok(())
+}
+
+fn push_vtable(out: &mut Vec<u8>, functions: &[Function], vtable: &Vtable) -> Result<(), Exhausted>
+    ensures { OnOk result (out.new.items ≡ out.old.items ++ vtable_text functions.now vtable.now) }
+{
+    push_bytes(out, b"sil_vtable ")?;
+    push_bytes(out, vtable.class_name.as_slice())?;
+    push_bytes(out, b" {\n")?;
+    push_entry(out, functions, &vtable.entry)?;
+    push_bytes(out, b"}\n")
 }
 
 fn push_entry(

@@ -5,9 +5,13 @@ ghost use Rattle.std.specs.Fmt.{signed_decimal};
 ghost use Rattle.sil_printer.specs.Words.{if_there, in_parens};
 ghost use Rattle.sil_printer.specs.CanonicalInsts.{value_text, typed_text, bare_text, type_word, signature_word, quoted, function_name, field_name, case_name, member_text};
 
-use crate::pieces::{Canonical, push_bytes, push_decimal, push_separator, push_signed};
+use crate::pieces::{
+    Canonical, push_bytes, push_decimal, push_in_parens, push_separator, push_signed,
+};
 use crate::types::push_type;
-use sil_ast::{Exhausted, FuncId, Function, Member, Op, Operand, Signature, Text, TypeName, ValueId};
+use sil_ast::{
+    Exhausted, FuncId, Function, Member, Op, Operand, Signature, Text, TypeName, ValueId,
+};
 
 impl Canonical for ValueId {
     ghost text = { value_text };
@@ -97,10 +101,27 @@ pub(crate) fn push_first_bare(
     }
 }
 
-/// Puts `(%a, %b)`.
-pub(crate) fn push_bare_args(out: &mut Vec<u8>, operands: &[Operand]) -> Result<(), Exhausted>
-    ensures { OnOk result (out.new.items ≡ out.old.items ++ in_parens bare_text operands.now) }
+/// Puts `(%a : $T, %b : $U)` behind `lead`.
+pub(crate) fn push_typed_args(
+    out: &mut Vec<u8>,
+    lead: &[u8],
+    operands: &[Operand],
+) -> Result<(), Exhausted>
+    ensures { OnOk result (out.new.items ≡ out.old.items ++ (lead.now ++ in_parens typed_text operands.now)) }
 {
+    push_bytes(out, lead)?;
+    push_in_parens(out, operands)
+}
+
+/// Puts `(%a, %b)` behind `lead`.
+pub(crate) fn push_bare_args(
+    out: &mut Vec<u8>,
+    lead: &[u8],
+    operands: &[Operand],
+) -> Result<(), Exhausted>
+    ensures { OnOk result (out.new.items ≡ out.old.items ++ (lead.now ++ in_parens bare_text operands.now)) }
+{
+    push_bytes(out, lead)?;
     push_bytes(out, b"(")?;
     for (i, operand) in operands.iter().enumerate() {
         push_separator(out, b", ", i)?;

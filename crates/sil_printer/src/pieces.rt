@@ -40,11 +40,7 @@ pub(crate) fn push_indented<T: Canonical>(out: &mut Vec<u8>, items: &[T]) -> Res
     Ok(())
 }
 
-pub(crate) fn push_separator(
-    out: &mut Vec<u8>,
-    separator: &[u8],
-    i: usize,
-) -> Result<(), Exhausted>
+pub(crate) fn push_separator(out: &mut Vec<u8>, separator: &[u8], i: usize) -> Result<(), Exhausted>
     ensures { OnOk result (out.new.items ≡ out.old.items ++ separator_before separator.now i) }
 {
     if i > 0 {
