@@ -7,7 +7,7 @@ use Rattle.sil_ast.specs.declared.decl.Decl.TheVariants.{Struct, Enum, Class}
 use Rattle.sil_ast.specs.declared.decl.Field.{Field}
 use Rattle.sil_ast.specs.declared.decl.Storage.{Storage}
 use Rattle.sil_ast.specs.declared.decl.Storage.TheVariants.{Strong, Weak, Unowned}
-use Rattle.sil_printer.specs.Words.{line, indented, if_there}
+use Rattle.sil_printer.specs.Words.{line, opening, indented, if_there}
 use Rattle.sil_printer.specs.CanonicalTypes.{type_text, is_several}
 
 abbrev pub storage_text : Storage → List ℕ
@@ -29,7 +29,7 @@ case_text c = codes "case " ++ c.name ++ if_there [] payload_text c.payload
 
 -- `struct Pair {`, the lines of the members, and `}`
 abbrev pub braced : {A : Type 0} → List ℕ → List ℕ → (A → List ℕ) → List A → List ℕ
-braced word name text members = line (word ++ name ++ codes " {") ++ indented text members ++ line (codes "}")
+braced word name text members = opening word name ++ indented text members ++ line (codes "}")
 
 abbrev pub decl_text : Decl → List ℕ
 decl_text (Struct name fields) = braced (codes "struct ") name field_text fields

@@ -1,5 +1,5 @@
 -- The canonical text of a module. Every line ends with a line feed, and an empty line stands before each part.
-use Rattle.std.specs.Prelude.{ℕ, List, [], ◌∷◌, ◌++◌, Bool, true, false, codes}
+use Rattle.std.specs.Prelude.{ℕ, List, [], ◌∷◌, ◌++◌, Option, Some, None, Bool, true, false, codes}
 use Rattle.sil_ast.specs.declared.function.Function.{Function}
 use Rattle.sil_ast.specs.declared.module.Imports.{Imports}
 use Rattle.sil_ast.specs.declared.module.Module.{Module}
@@ -7,8 +7,7 @@ use Rattle.sil_ast.specs.declared.module.Stage.{Stage}
 use Rattle.sil_ast.specs.declared.module.Stage.TheVariants.{Raw, Canonical}
 use Rattle.sil_ast.specs.declared.vtable.DeinitEntry.{DeinitEntry}
 use Rattle.sil_ast.specs.declared.vtable.Vtable.{Vtable}
-use Rattle.std.specs.Option.{option_to_list}
-use Rattle.sil_printer.specs.Words.{line_feed, line, each_behind, indented, if_set}
+use Rattle.sil_printer.specs.Words.{line_feed, line, opening, each_behind, if_set}
 use Rattle.sil_printer.specs.CanonicalDecls.{decl_text}
 use Rattle.sil_printer.specs.CanonicalInsts.{function_name}
 use Rattle.sil_printer.specs.CanonicalFunctions.{function_text}
@@ -30,12 +29,14 @@ imports_text imports = imports_by imports.builtin imports.swift
 abbrev pub entry_text : List Function → DeinitEntry → List ℕ
 entry_text functions e = codes "#" ++ e.owner ++ codes ".deinit!destroyer: " ++ function_name functions e.function
 
+abbrev pub entry_line : List Function → Option DeinitEntry → List ℕ
+entry_line functions None = []
+entry_line functions (Some e) = codes "  " ++ line (entry_text functions e)
+
 -- `sil_vtable T {`, the line of its entry, and `}`
 abbrev pub vtable_text : List Function → Vtable → List ℕ
 vtable_text functions v =
-    line (codes "sil_vtable " ++ v.class_name ++ codes " {")
-    ++ indented (entry_text functions) (option_to_list v.entry)
-    ++ line (codes "}")
+    opening (codes "sil_vtable ") v.class_name ++ entry_line functions v.entry ++ line (codes "}")
 
 abbrev pub canonical_text : Module → List ℕ
 canonical_text m =

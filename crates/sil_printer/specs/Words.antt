@@ -29,6 +29,10 @@ abbrev pub parens_if_any : {A : Type 0} → (A → List ℕ) → List A → List
 parens_if_any text [] = []
 parens_if_any text (item ∷ items) = in_parens text (item ∷ items)
 
+-- `class C {`, a line
+abbrev pub opening : List ℕ → List ℕ → List ℕ
+opening word name = line (word ++ name ++ codes " {")
+
 -- the texts of some items, each behind the same bytes
 abbrev pub each_behind : {A : Type 0} → List ℕ → (A → List ℕ) → List A → List ℕ
 each_behind lead text items = flat_map (λ item. lead ++ text item) items

@@ -1,11 +1,11 @@
 //! The texts of what an instruction says for a debugger.
 
 ghost use Rattle.std.specs.Prelude.{◌≡◌, ◌++◌, OnOk, codes, decimal};
-ghost use Rattle.sil_printer.specs.Words.{if_there, if_set};
+ghost use Rattle.sil_printer.specs.Words.{if_there};
 ghost use Rattle.sil_printer.specs.CanonicalInsts.{binding_text, debug_text};
 
 use crate::operands::push_quoted;
-use crate::pieces::{Canonical, push_bytes, push_decimal};
+use crate::pieces::{Canonical, push_bytes, push_decimal, push_if_set};
 use sil_ast::{Binding, Debug, Exhausted};
 
 impl Canonical for Debug {
@@ -15,9 +15,7 @@ impl Canonical for Debug {
         push_binding(out, self.binding)?;
         push_quoted(out, b", name ", &self.name)?;
         push_argno(out, self.argno)?;
-        if self.deref {
-            push_bytes(out, b", expr op_deref")?;
-        }
+        push_if_set(out, b", expr op_deref", self.deref)?;
         Ok(())
     }
 }

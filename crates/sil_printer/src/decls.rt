@@ -4,7 +4,7 @@ ghost use Rattle.std.specs.Prelude.{◌≡◌, ◌++◌, OnOk};
 ghost use Rattle.sil_printer.specs.Words.{if_there};
 ghost use Rattle.sil_printer.specs.CanonicalDecls.{storage_text, field_text, payload_text, case_text, braced, decl_text};
 
-use crate::pieces::{Canonical, push_bytes, push_indented};
+use crate::pieces::{Canonical, push_bytes, push_indented, push_opening};
 use crate::types::{is_long_tuple, push_type};
 use sil_ast::{Case, Decl, Exhausted, Field, Storage, TypeName};
 
@@ -43,9 +43,7 @@ fn push_braced<T: Canonical>(
 ) -> Result<(), Exhausted>
     ensures { OnOk result (out.new.items ≡ out.old.items ++ braced word.now name.now T.text members.now) }
 {
-    push_bytes(out, word)?;
-    push_bytes(out, name)?;
-    push_bytes(out, b" {\n")?;
+    push_opening(out, word, name)?;
     push_indented(out, members)?;
     push_bytes(out, b"}\n")
 }

@@ -8,7 +8,7 @@ use crate::operands::{
     push_bare_args, push_callee, push_first_bare, push_first_typed, push_member, push_number,
     push_quoted, push_signature_word, push_type_word, push_typed_args,
 };
-use crate::pieces::{Canonical, push_bytes, push_in_parens};
+use crate::pieces::{Canonical, push_bytes, push_if_set, push_in_parens};
 use sil_ast::{Exhausted, Function, Inst, Op, Operand, Part, Qualifier, ValueId, row_of};
 
 /// Puts an instruction; `functions` are those of its module.
@@ -138,13 +138,8 @@ fn push_part(
 fn push_flags(out: &mut Vec<u8>, inst: &Inst) -> Result<(), Exhausted>
     ensures { OnOk result (out.new.items ≡ out.old.items ++ flags_text inst.now) }
 {
-    if inst.lexical {
-        push_bytes(out, b" [lexical]")?;
-    }
-    if inst.var_decl {
-        push_bytes(out, b" [var_decl]")?;
-    }
-    Ok(())
+    push_if_set(out, b" [lexical]", inst.lexical)?;
+    push_if_set(out, b" [var_decl]", inst.var_decl)
 }
 
 fn qualifier_word(qualifier: Qualifier) -> &'static [u8]

@@ -13,3 +13,6 @@ mod signatures;
 mod types;
 
 pub use modules::print;
+
+#[cfg(test)]
+mod tests;

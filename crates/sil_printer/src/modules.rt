@@ -1,13 +1,12 @@
 //! The text of a whole module.
 
 ghost use Rattle.std.specs.Prelude.{◌≡◌, ◌++◌, OnOk, IfOk};
-ghost use Rattle.std.specs.Option.{option_to_list};
-ghost use Rattle.sil_printer.specs.Words.{each_behind, indented, line_feed};
-ghost use Rattle.sil_printer.specs.CanonicalModules.{stage_text, imports_text, entry_text, vtable_text, canonical_text};
+ghost use Rattle.sil_printer.specs.Words.{each_behind, line_feed};
+ghost use Rattle.sil_printer.specs.CanonicalModules.{stage_text, imports_text, entry_text, entry_line, vtable_text, canonical_text};
 
 use crate::functions::push_functions;
 use crate::operands::push_function_name;
-use crate::pieces::{push_bytes, push_each};
+use crate::pieces::{push_bytes, push_each, push_opening};
 use sil_ast::{DeinitEntry, Exhausted, Function, Imports, Module, Stage, Text, Vtable};
 use std::alloc::Global;
 
@@ -63,11 +62,10 @@ fn push_vtables(
 fn push_vtable(out: &mut Vec<u8>, functions: &[Function], vtable: &Vtable) -> Result<(), Exhausted>
     ensures { OnOk result (out.new.items ≡ out.old.items ++ vtable_text functions.now vtable.now) }
 {
-    push_bytes(out, b"sil_vtable ")?;
-    push_bytes(out, vtable.class_name.as_slice())?;
-    push_bytes(out, b" {\n")?;
+    push_opening(out, b"sil_vtable ", vtable.class_name.as_slice())?;
     push_entry(out, functions, &vtable.entry)?;
-    push_bytes(out, b"}\n")
+    push_bytes(out, b"}\n")?;
+    Ok(())
 }
 
 fn push_entry(
@@ -75,14 +73,27 @@ fn push_entry(
     functions: &[Function],
     entry: &Option<DeinitEntry>,
 ) -> Result<(), Exhausted>
-    ensures { OnOk result (out.new.items ≡ out.old.items ++ indented (entry_text functions.now) (option_to_list entry.now)) }
+    ensures { OnOk result (out.new.items ≡ out.old.items ++ entry_line functions.now entry.now) }
 {
-    let Some(entry) = entry else {
-        return Ok(());
-    };
-    push_bytes(out, b"  #")?;
+    match entry {
+        Some(entry) => {
+            push_bytes(out, b"  ")?;
+            push_deinit(out, functions, entry)?;
+            push_bytes(out, b"\n")
+        }
+        None => Ok(()),
+    }
+}
+
+fn push_deinit(
+    out: &mut Vec<u8>,
+    functions: &[Function],
+    entry: &DeinitEntry,
+) -> Result<(), Exhausted>
+    ensures { OnOk result (out.new.items ≡ out.old.items ++ entry_text functions.now entry.now) }
+{
+    push_bytes(out, b"#")?;
     push_bytes(out, entry.owner.as_slice())?;
     push_bytes(out, b".deinit!destroyer: ")?;
-    push_function_name(out, functions, entry.function)?;
-    push_bytes(out, b"\n")
+    push_function_name(out, functions, entry.function)
 }

@@ -2,7 +2,7 @@
 
 ghost use Rattle.std.specs.Prelude.{◌≡◌, ◌++◌, ℕ, List, OnOk, decimal};
 ghost use Rattle.std.specs.Fmt.{signed_decimal};
-ghost use Rattle.sil_printer.specs.Words.{separator_before, listed, in_parens, parens_if_any, each_behind, indented};
+ghost use Rattle.sil_printer.specs.Words.{separator_before, listed, in_parens, parens_if_any, each_behind, indented, if_set, opening};
 
 use sil_ast::Exhausted;
 
@@ -85,6 +85,22 @@ pub(crate) fn push_bytes(out: &mut Vec<u8>, bytes: &[u8]) -> Result<(), Exhauste
 {
     out.extend_from_slice(bytes)?;
     Ok(())
+}
+
+/// Puts a word where its flag is set.
+pub(crate) fn push_if_set(out: &mut Vec<u8>, word: &[u8], flag: bool) -> Result<(), Exhausted>
+    ensures { OnOk result (out.new.items ≡ out.old.items ++ if_set word.now flag) }
+{
+    if flag { push_bytes(out, word) } else { Ok(()) }
+}
+
+/// Puts the first line of what stands in braces: `class C {`.
+pub(crate) fn push_opening(out: &mut Vec<u8>, word: &[u8], name: &[u8]) -> Result<(), Exhausted>
+    ensures { OnOk result (out.new.items ≡ out.old.items ++ opening word.now name.now) }
+{
+    push_bytes(out, word)?;
+    push_bytes(out, name)?;
+    push_bytes(out, b" {\n")
 }
 
 pub(crate) fn push_decimal(out: &mut Vec<u8>, number: u64) -> Result<(), Exhausted>

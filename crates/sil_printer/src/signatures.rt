@@ -4,7 +4,7 @@ ghost use Rattle.std.specs.Prelude.{◌≡◌, ◌++◌, OnOk};
 ghost use Rattle.sil_printer.specs.CanonicalTypes.{opens_parens};
 ghost use Rattle.sil_printer.specs.CanonicalSignatures.{convention_text, passing_text, param_text, given_text, results_text, signature_text};
 
-use crate::pieces::{Canonical, push_bytes, push_in_parens};
+use crate::pieces::{Canonical, push_bytes, push_if_set, push_in_parens};
 use crate::types::{opens_with_parens, push_type};
 use sil_ast::{Convention, Exhausted, Given, Param, Passing, Signature};
 
@@ -52,9 +52,7 @@ impl Canonical for Given {
     ghost text = { given_text };
 
     fn push_to(&self, out: &mut Vec<u8>) -> Result<(), Exhausted> {
-        if self.owned {
-            push_bytes(out, b"@owned ")?;
-        }
+        push_if_set(out, b"@owned ", self.owned)?;
         push_type(out, &self.ty)
     }
 }
