@@ -1,0 +1,56 @@
+//! The texts of what a terminator goes to.
+
+ghost use Rattle.std.specs.Prelude.{◌≡◌, ◌++◌, OnOk};
+ghost use Rattle.sil_printer.specs.Words.{listed};
+ghost use Rattle.sil_printer.specs.CanonicalInsts.{block_name, edge_word, edge_text};
+
+use crate::operands::push_case_name;
+use crate::pieces::{push_bytes, push_decimal, push_parens_if_any, push_separator};
+use sil_ast::{Edge, Exhausted, Member, Op};
+
+/// Puts the edges of an instruction behind `lead`.
+pub(crate) fn push_edges(
+    out: &mut Vec<u8>,
+    lead: &[u8],
+    op: Op,
+    edges: &[Edge],
+) -> Result<(), Exhausted>
+    ensures { OnOk result (out.new.items ≡ out.old.items ++ (lead.now ++ listed (edge_text op) edges.now)) }
+{
+    push_bytes(out, lead)?;
+    for (i, edge) in edges.iter().enumerate() {
+        push_separator(out, b", ", i)?;
+        push_edge(out, op, edge)?;
+    }
+    Ok(())
+}
+
+fn push_edge(out: &mut Vec<u8>, op: Op, edge: &Edge) -> Result<(), Exhausted>
+    ensures { OnOk result (out.new.items ≡ out.old.items ++ edge_text op edge.now) }
+{
+    push_edge_word(out, op, &edge.case_of)?;
+    push_block_name(out, u64::from(edge.block.0))?;
+    push_parens_if_any(out, edge.args.as_slice())
+}
+
+fn push_edge_word(out: &mut Vec<u8>, op: Op, case_of: &Option<Member>) -> Result<(), Exhausted>
+    ensures { OnOk result (out.new.items ≡ out.old.items ++ edge_word op case_of.now) }
+{
+    match case_of {
+        Some(member) => {
+            push_bytes(out, b"case ")?;
+            push_case_name(out, member)?;
+            push_bytes(out, b": ")
+        }
+        None if op == Op::SwitchEnum => push_bytes(out, b"default "),
+        None => Ok(()),
+    }
+}
+
+/// Puts `bb1`.
+pub(crate) fn push_block_name(out: &mut Vec<u8>, k: u64) -> Result<(), Exhausted>
+    ensures { OnOk result (out.new.items ≡ out.old.items ++ block_name k) }
+{
+    push_bytes(out, b"bb")?;
+    push_decimal(out, k)
+}
