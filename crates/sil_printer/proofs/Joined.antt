@@ -35,7 +35,7 @@ pub join_by_step : {X : Type 0} (f : X → List ℕ) (s : List ℕ) (xs : List X
     → after ≡ start ++ join_by f s (take (i + 1) xs)
 join_by_step f s xs i x start before parted after within here at_before at_parted at_after =
     appended_three start before parted after (join_by f s (take i xs)) (separator_before s i) (f (get_or xs i x))
-        at_before at_parted (at_after ∙ ap (λ item. parted ++ f item) here)
+    at_before at_parted (at_after ∙ ap (λ item. parted ++ f item) here)
     ∙ ap (λ text. start ++ text) (sym (join_by_next f s xs i x within))
 
 -- a separator and one more item with its number
@@ -47,7 +47,7 @@ join_numbered_step {X} f s xs i x start before parted after within here at_befor
     let same_length = length-enumerate_from 0 xs in
     let within_numbered : i < length (enumerate_from 0 xs) = omega arith in
     let pair_here : (i, x) ≡ get_or (enumerate_from 0 xs) i (i, x) =
-            sym (get_or-enumerate_from 0 xs i (i, x) within ∙ ap (λ k. (k, get_or xs i x)) (zero-add i) ∙ ap (λ y. (i, y)) (sym here)) in
+    sym (get_or-enumerate_from 0 xs i (i, x) within ∙ ap (λ k. (k, get_or xs i x)) (zero-add i) ∙ ap (λ y. (i, y)) (sym here)) in
     join_by_step (λ (k, y). f k y) s (enumerate_from 0 xs) i (i, x) start before parted after within_numbered pair_here at_before at_parted at_after
 
 -- all items with their numbers

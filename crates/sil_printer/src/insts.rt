@@ -30,13 +30,13 @@ fn push_results(out: &mut Vec<u8>, op: Op, results: &[ValueId]) -> Result<(), Ex
 {
     match results {
         [] => return Ok(()),
-        [value] if !has_list(op) => value.push_to(out)?,
+        [value] if !gives_list(op) => value.push_to(out)?,
         _ => push_in_parens(out, results)?,
     }
     push_bytes(out, b" = ")
 }
 
-fn has_list(op: Op) -> bool
+fn gives_list(op: Op) -> bool
     ensures { result ≡ has_result_list op }
 {
     matches!(op, Op::DestructureStruct | Op::DestructureTuple)
@@ -61,7 +61,7 @@ fn push_parts(
             gap_before(before, *part),
             *part,
         )?;
-        operands = behind(operands, *part);
+        operands = operands_left(*part, operands);
         before = Some(*part);
     }
     Ok(())
@@ -75,12 +75,12 @@ fn gap_before(before: Option<Part>, part: Part) -> &'static [u8]
         (_, Part::ResultType | Part::SignatureWord) => b" : ",
         (_, Part::BareArgs) => b"",
         (Some(Part::Text), Part::TypedArgs) => b"",
-        (Some(before), _) if stands_in_list(before) && stands_in_list(part) => b", ",
+        (Some(before), _) if is_list_item(before) && is_list_item(part) => b", ",
         _ => b" ",
     }
 }
 
-fn stands_in_list(part: Part) -> bool
+fn is_list_item(part: Part) -> bool
     ensures { result ≡ is_item part }
 {
     matches!(
@@ -96,7 +96,7 @@ fn stands_in_list(part: Part) -> bool
 }
 
 /// The operands that a part leaves to those behind it.
-fn behind(operands: &[Operand], part: Part) -> &[Operand]
+fn operands_left(part: Part, operands: &[Operand]) -> &[Operand]
     ensures { result.now ≡ operands_after part operands.now }
 {
     match (part, operands) {

@@ -8,7 +8,7 @@ pub loop-k-preserved : goal.loop-k-preserved
 loop-k-preserved c =
     let within : c.loop-k.k < length c.args.blocks.now = omega arith in
     join_numbered_step (block_text c.args.functions.now) line_feed c.args.blocks.now c.loop-k.k c.index-blocks-k.result _ _ _ _
-        within c.index-blocks-k.is c.loop-k.invariant c.in_ok-push_separator.ensures c.in_ok-push_block.ensures
+    within c.index-blocks-k.is c.loop-k.invariant c.in_ok-push_separator.ensures c.in_ok-push_block.ensures
 
 pub returns : goal.returns
 returns c =

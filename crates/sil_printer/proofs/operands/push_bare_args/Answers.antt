@@ -7,4 +7,4 @@ pub loop-i-preserved : goal.loop-i-preserved
 loop-i-preserved c =
     let within : c.loop-i.i < length c.args.operands.now = omega arith in
     join_by_step bare_text (codes ", ") c.args.operands.now c.loop-i.i c.index-operands-i.result _ _ _ _
-        within c.index-operands-i.is c.loop-i.invariant c.in_ok-push_separator.ensures c.in_ok-push_to.ensures
+    within c.index-operands-i.is c.loop-i.invariant c.in_ok-push_separator.ensures c.in_ok-push_to.ensures
