@@ -16,6 +16,7 @@ const STOPS: [Refused; 22] = [
     ("class C { var x: @ }", 1, 18, BadByte),
     ("class C { var x: C - }", 1, 20, BadByte),
     ("sil_stage \"raw", 1, 11, UnclosedText),
+    ("class C { } \"an open text", 1, 13, UnclosedText),
     ("sil_stage \"raw\n\"", 1, 11, UnclosedText),
     ("import A\n\"a\tb\"", 2, 3, BadByte),
     ("import A\n\"a\\\"", 2, 3, BadByte),
@@ -25,7 +26,6 @@ const STOPS: [Refused; 22] = [
     // a bad token before the stop
     ("raw &", 1, 1, Unexpected),
     ("class C : &", 1, 9, Unexpected),
-    ("class C { } \"an open text", 1, 13, UnclosedText),
     ("sil_stage lowered \"raw", 1, 11, Unexpected),
     ("struct S { var x: Builtin.Int7 \"open", 1, 27, Unsupported),
     ("class C { var x: (A, )\n\"", 1, 22, Unexpected),
