@@ -1,5 +1,5 @@
 -- What `value_of` gives for a printed number, for the laws of reading back.
-use Rattle.std.proofs.Common.{◌≡◌, ℕ, suc, ◌+◌, ◌*◌, ◌-◌, ◌^◌, ◌<◌, ◌≤◌, List, length, get_or, Bool, false, refl, sym, ap, ◌∙◌, arith, ℤ, pos, negsuc, neg_ℤ, ◌≤ℤ◌, ◌<ℤ◌, true}
+use Rattle.std.proofs.Common.{◌≡◌, ℕ, suc, ◌-◌, ◌^◌, ◌<◌, get_or, false, refl, ap, ◌∙◌, arith, ℤ, pos, negsuc, neg_ℤ, true}
 use Rattle.std.specs.Prelude.{fold, nat_le}
 use Rattle.std.specs.Fmt.{decimal, signed_decimal}
 use Rattle.std.specs.Int.{IsInRange}
@@ -9,7 +9,7 @@ use Rattle.std.proofs.lemmas.Str.Parse.{IsNumeralModel, FoldsDigits, numerals_by
 use Rattle.std.proofs.lemmas.Bool.Decides.{nat_tests}
 use Rattle.written_numbers.specs.Numbers.{next_number, number_of, value_of, literal_from, up_to}
 use Rattle.written_numbers.specs.Laws.{ReadsPrintedLiterals, ReadsPrintedNumbers}
-use Rattle.written_numbers.proofs.Residues.{small, mag_below, half_some, half_doubled, half_small}
+use Rattle.written_numbers.proofs.Residues.{literal_by-small, mag_below, half_some, half_doubled, half_small}
 use lib.Signed.{mag}
 
 folds_digits : FoldsDigits (fold next_number)
@@ -34,7 +34,7 @@ pub printed_literal : ReadsPrintedLiterals
 printed_literal width number some fits signed =
     let small_enough : mag number < 2 ^ 63 = omega (arith, mag_below (2 ^ (width - 1)) number signed.0 signed.1, half_small width fits) in
     let e = value_of-signed_decimal number small_enough in
-    ap (literal_from width) e ∙ small (2 ^ (width - 1)) (2 ^ width) number (half_some width) (half_doubled width some) signed.0 signed.1
+    ap (literal_from width) e ∙ literal_by-small (2 ^ (width - 1)) (2 ^ width) number (half_some width) (half_doubled width some) signed.0 signed.1
 
 pub printed_number : ReadsPrintedNumbers
 printed_number largest number fits within =
