@@ -5,12 +5,12 @@ ghost use Rattle.std.specs.Prelude.{◌≡◌, ◌^◌, ◌≤◌, min, pos, neg
 ghost use Rattle.std.specs.Int.{int_min, int_max};
 ghost use Rattle.written_numbers.specs.Numbers.{number_of, value_of, literal_of, small_of};
 
-/// More than any number that a caller takes.
+/// More than any number that is in range.
 const CAP: u128 = 1 << 64;
 
 /// The literal that `spelling` writes for an integer of `width` bits: its signed residue, or `None` where it isn't in range.
 ///
-/// `spelling` is an optional `-` and digits, of any length.
+/// `spelling` is an optional `-` and digits, of any length; `width` is from 1 to 64.
 pub fn literal(spelling: &[u8], width: u8) -> Option<i64>
     requires some { 1 ≤ width }
     requires fits { width ≤ 64 }
