@@ -1,5 +1,4 @@
 pub mod BuildLemmas
-pub mod DerivedOnce
 pub mod FirstBadLemmas
 pub mod LexemeLemmas
 pub mod NameLemmas

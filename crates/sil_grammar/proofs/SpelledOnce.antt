@@ -16,7 +16,7 @@ use Rattle.sil_grammar.specs.Replay.{replay}
 use Rattle.sil_grammar.specs.Resolved.{resolved}
 use Rattle.sil_grammar.specs.SimpleParts.{UseSimpleParts}
 use Rattle.sil_grammar.specs.Spells.{StandFor, Spells, AreSpelledOnce}
-use Rattle.sil_grammar.proofs.DerivedOnce.{steps_once, no_first_bad, first_bad_once}
+use Rattle.sil_shape.proofs.DerivedOnce.{steps_once, no_first_bad, first_bad_once}
 
 same_tokens : {text : List ℕ} {lexemes others : List Lexeme} {stop other : Option LexRefusal}
     → Lexes text text lexemes stop → Lexes text text others other → (lexemes ≡ others) × (stop ≡ other)

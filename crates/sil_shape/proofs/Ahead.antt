@@ -1,9 +1,8 @@
 -- What comes next decides the production: the table is right and complete for stacks that fit the grammar.
-use Rattle.std.proofs.Common.{◌≡◌, ℕ, zero, suc, ◌⊎◌, inl, inr, List, [], ◌∷◌, ◌++◌, refl, ap, subst, Bool, true, false}
+use Rattle.std.proofs.Common.{◌≡◌, ◌⊎◌, inl, inr, List, [], ◌∷◌, ◌++◌, refl, ap, subst, Bool, true, false}
 use Rattle.std.specs.Prelude.{Option, Some, None, ◌&&◌, ◌||◌}
-use Rattle.std.proofs.lemmas.Bool.{and_parts, and_from, or_cases, or_left, or_right, eq-eqb, false≢true}
+use Rattle.std.proofs.lemmas.Bool.{and_parts, and_from, or_cases, or_left, or_right, false≢true}
 use Rattle.sil_shape.specs.declared.classes.Class.{Class}
-use Rattle.sil_shape.specs.declared.grammar.Terminal.{Terminal}
 use Rattle.sil_shape.specs.declared.grammar.Nonterminal.{Nonterminal}
 use Rattle.sil_shape.specs.declared.grammar.Nonterminal.TheVariants as n
 use Rattle.sil_shape.specs.declared.grammar.Symbol.{Symbol}
@@ -11,15 +10,12 @@ use Rattle.sil_shape.specs.declared.grammar.Symbol.TheVariants.{Read, Part}
 use Rattle.sil_shape.specs.declared.grammar.Production.{Production}
 use Rattle.sil_shape.specs.Grammar.{written, body}
 use Rattle.sil_shape.specs.Choice.{has, choose}
-use Rattle.sil_shape.specs.declared.grammar.Terminal.TheVariants as t
-use Rattle.sil_shape.specs.Accepts.{accepts, is_type_word, class_number}
 use Rattle.sil_shape.specs.declared.steps.Step.{Step}
-use Rattle.sil_shape.specs.declared.steps.Step.TheVariants.{Take, Expand}
+use Rattle.sil_shape.specs.declared.steps.Step.TheVariants.{Expand}
 use Rattle.sil_shape.specs.Derivation.{Accepts, Derives, nothing, token, rule}
-use Rattle.sil_shape.proofs.Derived.{Derives-append}
-use Rattle.sil_shape.proofs.Sets.{first, nullable, shortest}
+use Rattle.sil_shape.proofs.Sets.{first, nullable}
 use Rattle.sil_shape.proofs.Numbered.{each_look-at, same_production, same_part}
-use Rattle.sil_shape.proofs.Computed.{follows, begins_one, begins, vanishes_one, vanishes, implies, comes, fits_one, fits, is_it, is_way, grow, example, computed_first, computed_nullable, computed_follow, computed_choice, computed_way, computed_grow, shortest-way, follows-start}
+use Rattle.sil_shape.proofs.Computed.{follows, begins_one, begins, vanishes_one, vanishes, implies, comes, fits_one, fits, is_it, is_way, computed_first, computed_nullable, computed_follow, computed_choice, computed_way, follows-start}
 
 -- the class that comes next, if any does
 abbrev pub look : List Class → Option Class
@@ -181,42 +177,6 @@ pub Derives-inner : (part : Nonterminal) {ss : List Symbol} {ks : List Class} {s
 Derives-inner part after (token a d) = absurd a
 Derives-inner _ after (rule {ss = ss} {ks = ks} {steps = steps} p d) =
     record { production = p; rest = steps; choice = chosen p ss (look ks) after (Derives-looks_like d); derives = d; steps_are = refl }
-
--- every stack derives some list
-pub record SomeText (ss : List Symbol) : Type 0 where
-  pub classes : List Class
-  pub steps : List Step
-  pub derives : Derives ss classes steps
-
-longer : (s : Symbol) (k : Class) (ss : List Symbol) → Accepts s k → SomeText ss → SomeText (s ∷ ss)
-longer s k ss a r = record { classes = k ∷ r.classes; steps = Take ∷ r.steps; derives = token a r.derives }
-
-expanded : (part : Nonterminal) (p : Production) (ss : List Symbol) → written p ≡ part → SomeText (body p ++ ss) → SomeText (Part part ∷ ss)
-expanded part p ss e r =
-    subst (λ x. SomeText (Part x ∷ ss)) e (record { classes = r.classes; steps = Expand p ∷ r.steps; derives = rule p r.derives })
-
-accepts-example : (t : Terminal) → accepts t (example t) ≡ true
-unfolding accepts example is_type_word class_number
-accepts-example t.AnyWord = refl
-accepts-example t.TypeWord = refl
-accepts-example t.AnyAt = refl
-accepts-example t.AnyText = refl
-accepts-example (t.Just wanted) = eq-eqb (class_number wanted) (class_number wanted) refl
-
-grown : (k : ℕ) (ss : List Symbol) → grow k ss ≡ true → SomeText ss
-unfolding grow
-grown zero ss h = absurd (false≢true h)
-grown (suc k) [] h = record { classes = []; steps = []; derives = nothing }
-grown (suc k) (Read t ∷ ss) h = longer (Read t) (example t) ss (accepts-example t) (grown k ss h)
-grown (suc k) (Part part ∷ ss) h = expanded part (shortest part) ss (shortest-way part) (grown k (body (shortest part) ++ ss) h)
-
-joined : (part : Nonterminal) (ss : List Symbol) → SomeText (Part part ∷ []) → SomeText ss → SomeText (Part part ∷ ss)
-joined part ss a b = record { classes = a.classes ++ b.classes; steps = a.steps ++ b.steps; derives = Derives-append a.derives b.derives }
-
-pub some_text : (ss : List Symbol) → SomeText ss
-some_text [] = record { classes = []; steps = []; derives = nothing }
-some_text (Read t ∷ ss) = longer (Read t) (example t) ss (accepts-example t) (some_text ss)
-some_text (Part part ∷ ss) = joined part ss (grown 23 (Part part ∷ []) (computed_grow part)) (some_text ss)
 
 -- only the end may follow a whole text
 pub FitsOne-start : FitsOne (Part n.Module) []

@@ -1,5 +1,5 @@
 -- What is computed of the grammar, production by production: its sets are closed, and the next token chooses.
-use Rattle.std.proofs.Common.{◌≡◌, ℕ, zero, suc, ◌+◌, List, [], ◌∷◌, ◌++◌, refl, Bool, true, false}
+use Rattle.std.proofs.Common.{◌≡◌, ℕ, ◌+◌, List, [], ◌∷◌, refl, Bool, true, false}
 use Rattle.std.specs.Prelude.{Option, Some, None, ◌&&◌, ◌||◌, ◌==◌, nat_lt}
 use Rattle.sil_shape.specs.declared.classes.Keyword.TheVariants as k
 use Rattle.sil_shape.specs.declared.classes.AtWord.TheVariants as a
@@ -15,8 +15,9 @@ use Rattle.sil_shape.specs.declared.grammar.Production.{Production}
 use Rattle.sil_shape.specs.declared.grammar.Production.TheVariants as p
 use Rattle.sil_shape.specs.Accepts.{keyword_number, at_number, mark_number, class_number, is_type_word, accepts}
 use Rattle.sil_shape.specs.Grammar.{written, body, alternatives}
+use Rattle.sil_shape.specs.Shortest.{shortest}
 use Rattle.sil_shape.specs.Choice.{starts, empty_choice, has_class, has, started, or_empty, choose}
-use Rattle.sil_shape.proofs.Sets.{first, follow, ends, nullable, weight, shortest}
+use Rattle.sil_shape.proofs.Sets.{first, follow, ends, nullable, weight, needed}
 use Rattle.sil_shape.proofs.Numbered.{all_looks, each_look, production_number, part_number}
 
 -- whether this may come after a text of the part
@@ -80,12 +81,14 @@ unfoldable pub is_way : Option Production → Nonterminal → Bool
 is_way None part = true
 is_way (Some q) part = part_number (written q) == part_number part
 
--- whether the shortest productions lead to an end in so many steps
-unfoldable pub grow : ℕ → List Symbol → Bool
-grow zero ss = false
-grow (suc i) [] = true
-grow (suc i) (Read t ∷ ss) = grow i ss
-grow (suc i) (Part part ∷ ss) = grow i (body (shortest part) ++ ss)
+unfoldable pub needed_one : Symbol → ℕ
+needed_one (Read t) = 1
+needed_one (Part part) = needed part
+
+-- how many steps the shortest text of these symbols has
+unfoldable pub needed_all : List Symbol → ℕ
+needed_all [] = 0
+needed_all (s ∷ ss) = needed_one s + needed_all ss
 
 -- a class for each terminal
 unfoldable pub example : Terminal → Class
@@ -126,10 +129,10 @@ unfolding written body first follow ends follows nullable has has_class accepts 
 computed_weight p.WholeModule = refl
 computed_weight _ = refl
 
-pub computed_grow : (part : Nonterminal) → grow 23 (Part part ∷ []) ≡ true
-unfolding grow body shortest
-computed_grow n.Module = refl
-computed_grow _ = refl
+pub computed_needed : (part : Nonterminal) → (needed_all (body (shortest part)) + 1 == needed part) ≡ true
+unfolding body shortest needed needed_one needed_all
+computed_needed n.Module = refl
+computed_needed _ = refl
 
 pub shortest-way : (part : Nonterminal) → written (shortest part) ≡ part
 unfolding shortest written

@@ -3,9 +3,12 @@ pub mod ValuesLemmas
 pub mod Sets
 pub mod Numbered
 pub mod Computed
+pub mod Shortened
 pub mod Ahead
 pub mod TurnLemmas
 pub mod Reached
+pub mod DerivedOnce
+pub mod BegunLemmas
 pub mod NameLemmas
 pub mod SpellingLemmas
 pub mod GoesOnLemmas

@@ -15,7 +15,8 @@ use Rattle.sil_shape.specs.Choice.{choose}
 use Rattle.sil_shape.specs.Derivation.{Accepts, Derives, nothing, token, rule, start, HasShape, BeginsShape, IsFirstBad, IsDerivation}
 use Rattle.sil_shape.specs.Turns.{Turns, stay, turn, IsStuck, IsStuckAt, Takes, Refuses}
 use Rattle.sil_shape.proofs.Derived.{Derives-nothing}
-use Rattle.sil_shape.proofs.Ahead.{look, Fits, Fits-expand, choose-way, Inner, Derives-inner, FitsOne, FitsOne-start, some_text}
+use Rattle.sil_shape.proofs.Ahead.{look, Fits, Fits-expand, choose-way, Inner, Derives-inner, FitsOne, FitsOne-start}
+use Rattle.sil_shape.proofs.Shortened.{some_text}
 
 -- what the next token is known to be, if anything
 abbrev pub IsAhead : Option (Option Class) → Option Class → Type 0

@@ -5,6 +5,8 @@ pub mod Values
 pub mod Refusal
 pub mod Choice
 pub mod Turns
+pub mod Shortest
+pub mod Begun
 pub mod Spelling
 pub mod BuiltinNames
 pub mod Unsupported

@@ -36,14 +36,14 @@ impl From<AllocError> for ShapeRefusal {
 }
 
 /// Takes off what stands first.
-fn pop_symbol(stack: &mut Vec<Symbol>) -> Option<Symbol>
+pub(crate) fn pop_symbol(stack: &mut Vec<Symbol>) -> Option<Symbol>
     ensures { Pops (reverse stack.old.items) result (reverse stack.new.items) }
 {
     stack.pop()
 }
 
 /// Puts the body of a production on the stack, its first symbol on top.
-fn push_body(stack: &mut Vec<Symbol>, production: Production) -> Result<(), AllocError>
+pub(crate) fn push_body(stack: &mut Vec<Symbol>, production: Production) -> Result<(), AllocError>
     ensures { OnOk result (reverse stack.new.items ≡ body production ++ reverse stack.old.items) }
 {
     let symbols = body(production);
@@ -92,7 +92,11 @@ fn settle(
 }
 
 /// Takes the next token, where it suits what stands first.
-fn take(stack: &mut Vec<Symbol>, steps: &mut Vec<Step>, class: Class) -> Result<bool, AllocError>
+pub(crate) fn take(
+    stack: &mut Vec<Symbol>,
+    steps: &mut Vec<Step>,
+    class: Class,
+) -> Result<bool, AllocError>
     ensures { IfOk result (λ taken. MatchBool taken
         (Takes class (reverse stack.old.items) steps.old.items (reverse stack.new.items) steps.new.items)
         (Refuses (Some class) (reverse stack.old.items) steps.old.items)) }
@@ -121,7 +125,7 @@ fn end(stack: &mut Vec<Symbol>, steps: &mut Vec<Step>) -> Result<bool, AllocErro
 }
 
 /// The stack at the start: a whole module is needed.
-fn full_stack(alloc: Global) -> Result<Vec<Symbol>, AllocError>
+pub(crate) fn full_stack(alloc: Global) -> Result<Vec<Symbol>, AllocError>
     ensures { IfOk result (λ stack. reverse stack.items ≡ start) }
 {
     let mut stack = Vec::new(alloc);

@@ -1,9 +1,11 @@
 //! Lists of classes, written as words with blanks between, and where the shape of a module ends in them.
 
+use crate::begun::begun_steps;
 use crate::builtin_names::is_builtin_name;
 use crate::classes::Class;
 use crate::machine::{ShapeRefusal, steps_of};
 use crate::spelling::{at_word, keyword, mark};
+use crate::steps::Step;
 use crate::unsupported::is_unsupported;
 use std::alloc::{AllocError, Global};
 use std::process::Abort;
@@ -215,6 +217,70 @@ fn a_refusal_has_the_first_bad_place(rt: HostRuntime) -> Result<(), Fail> {
     let alloc = rt.alloc();
     assert_refused(&rt, alloc, refused(), false)?;
     assert_refused(&rt, alloc, unsupported(), true)
+}
+
+// Each row: the words that a list begins with, and how many more the shortest such list has.
+fn begun() -> &'static [(&'static str, usize)] {
+    &[
+        ("", 0),
+        ("sil_stage", 1),
+        ("class", 3),
+        ("class C { var x : (", 2),
+        ("struct S { var x : Optional <", 3),
+        ("sil", 11),
+        (
+            "sil @f : $ @convention ( thin ) ( ) -> ( ) { bb0 : %0 = struct $ S (",
+            3,
+        ),
+        (
+            "sil @f : $ @convention ( thin ) ( ) -> ( ) { bb0 : store %0 to [",
+            8,
+        ),
+    ]
+}
+
+/// How many tokens are taken on the way that begins with the classes before the first bad one.
+fn count_takes(alloc: Global, classes: &[Class]) -> Result<Option<usize>, Fail> {
+    match steps_of(alloc, classes) {
+        Ok(_steps) => Ok(None),
+        Err(ShapeRefusal::FirstBad(place)) => {
+            let steps = begun_steps(alloc, &classes[..place])?;
+            let takes = steps.iter().filter(|step| matches!(**step, Step::Take));
+            Ok(Some(takes.count()))
+        }
+        Err(ShapeRefusal::Memory) => Err(Fail::from(AllocError)),
+    }
+}
+
+/// A mark that fits nowhere here comes after the classes.
+fn assert_goes_on(
+    rt: &impl Abort,
+    alloc: Global,
+    mut classes: Vec<Class>,
+    more: usize,
+) -> Result<(), Fail> {
+    let whole = classes.len().checked_add(more);
+    push_classes(&mut classes, "!")?;
+    assert_eq!(rt; count_takes(alloc, classes.as_slice())?, whole);
+    Ok(())
+}
+
+#[test]
+fn a_begun_list_goes_on_to_the_shortest_end(rt: HostRuntime) -> Result<(), Fail> {
+    let alloc = rt.alloc();
+    for (front, more) in begun() {
+        let mut classes = Vec::new(alloc);
+        push_classes(&mut classes, front)?;
+        assert_goes_on(&rt, alloc, classes, *more)?;
+    }
+
+    // a type, and what closes the list and the struct
+    let mut classes = Vec::new(alloc);
+    push_classes(&mut classes, "struct S { var x : (")?;
+    for _ in 0..64 {
+        push_classes(&mut classes, "A ,")?;
+    }
+    assert_goes_on(&rt, alloc, classes, 3)
 }
 
 #[test]

@@ -45,7 +45,7 @@ derived_once fits (rule {ss = ss} {ks = ks} {steps = steps} p d) e =
 pub steps_once : {ks : List Class} {steps others : List Step} → Derives start ks steps → Derives start ks others → others ≡ steps
 steps_once d e = derived_once (FitsOne-start, tt) d e
 
-front_begins : (ks : List Class) (n : ℕ) → BeginsShape ks → BeginsShape (take n ks)
+pub front_begins : (ks : List Class) (n : ℕ) → BeginsShape ks → BeginsShape (take n ks)
 front_begins ks n begins =
     let whole : take n ks ++ (drop n ks ++ begins.0) ≡ ks ++ begins.0 =
     sym (append_assoc (take n ks) (drop n ks) begins.0) ∙ ap (λ l. l ++ begins.0) (take-append-drop n ks) in

@@ -1,0 +1,9 @@
+-- Derivations of modules that begin with given classes.
+use Rattle.std.specs.Prelude.{List, ◌++◌}
+use Rattle.sil_shape.specs.declared.classes.Class.{Class}
+use Rattle.sil_shape.specs.declared.steps.Step.{Step}
+use Rattle.sil_shape.specs.Derivation.{Derives, start}
+
+-- the steps derive a module from these classes and some that come after them
+abbrev pub IsBegun : List Class → List Step → Type 0
+IsBegun classes steps = (more : List Class) × Derives start (classes ++ more) steps
