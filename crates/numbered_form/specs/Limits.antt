@@ -1,0 +1,69 @@
+-- The limits on reading. Those of names are in `Names`, and those of types in `Types`.
+use Rattle.std.specs.Prelude.{◌+◌, ◌≤◌, ℕ, List, Bool, true, false, length, IfSome}
+use Rattle.std.specs.List.{count_by}
+use Rattle.sil_ast.specs.declared.decl.Decl.{Decl}
+use Rattle.sil_ast.specs.declared.function.Block.{Block}
+use Rattle.sil_ast.specs.declared.function.Function.{Function}
+use Rattle.sil_ast.specs.declared.inst.Edge.{Edge}
+use Rattle.sil_ast.specs.declared.inst.Inst.{Inst}
+use Rattle.sil_ast.specs.declared.inst.Qualifier.{Qualifier}
+use Rattle.sil_ast.specs.declared.inst.Qualifier.TheVariants as qualifier
+use Rattle.sil_ast.specs.declared.module.Module.{Module}
+use Rattle.sil_ast.specs.declared.op.Op.{Op}
+use Rattle.sil_ast.specs.declared.op.Op.TheVariants as op
+use Rattle.sil_ast.specs.declared.signature.Signature.{Signature}
+use Rattle.numbered_form.specs.Lists.{Each}
+use Rattle.numbered_form.specs.Insts.{insts_in, EachInBlock}
+use Rattle.numbered_form.specs.Numbering.{values_of}
+use Rattle.numbered_form.specs.Names.{member_names}
+
+pub record IsSignatureInLimits (s : Signature) : Type 0 where
+  pub params : length s.params ≤ 64
+  pub results : length s.results ≤ 64
+
+abbrev pub IsEdgeInLimits : Edge → Type 0
+IsEdgeInLimits e = length e.args ≤ 64
+
+pub record IsInstInLimits (i : Inst) : Type 0 where
+  pub operands : length i.operands ≤ 64
+  pub results : length i.results ≤ 64
+  pub signature : IfSome i.signature IsSignatureInLimits
+  pub edges : Each IsEdgeInLimits i.edges
+
+pub record IsBlockInLimits (b : Block) : Type 0 where
+  pub args : length b.args ≤ 64
+  pub insts : EachInBlock IsInstInLimits b
+
+abbrev pub is_assign : Qualifier → Bool
+is_assign qualifier.Assign = true
+is_assign _ = false
+
+-- lowering the instruction takes one more value, for what was stored before
+abbrev pub takes_value : Op → Qualifier → Bool
+takes_value op.Store q = is_assign q
+takes_value op.DestroyAddr q = true
+takes_value _ q = false
+
+abbrev pub inst_takes_value : Inst → Bool
+inst_takes_value i = takes_value i.op i.qualifier
+
+-- the values of a function: those that its blocks define, and one for each `store [assign]` and `destroy_addr`
+abbrev pub value_count : List Block → ℕ
+value_count blocks = length (values_of blocks) + count_by inst_takes_value (insts_in blocks)
+
+pub record IsFunctionInLimits (f : Function) : Type 0 where
+  pub attributes : length f.attributes ≤ 64
+  pub signature : IsSignatureInLimits f.signature
+  pub blocks : length f.blocks ≤ 512
+  pub insts : length (insts_in f.blocks) ≤ 4096
+  pub values : value_count f.blocks ≤ 1024
+  pub each : Each IsBlockInLimits f.blocks
+
+abbrev pub IsDeclInLimits : Decl → Type 0
+IsDeclInLimits d = length (member_names d) ≤ 64
+
+pub record AreLimitsKept (m : Module) : Type 0 where
+  pub declarations : length m.decls ≤ 1024
+  pub members : Each IsDeclInLimits m.decls
+  pub functions : length m.functions ≤ 1024
+  pub each : Each IsFunctionInLimits m.functions
