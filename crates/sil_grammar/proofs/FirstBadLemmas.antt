@@ -25,7 +25,7 @@ use Rattle.sil_grammar.specs.declared.first_bad.BadKind.TheVariants.{Unsupported
 use Rattle.sil_grammar.specs.declared.first_bad.BadPlace.{BadPlace}
 use Rattle.sil_grammar.specs.Classes.{token_class}
 use Rattle.sil_grammar.specs.FirstBad.{HasShape, IsBadToken, IsBadPlace, lexical, unsupported, unexpected, bad_stop, rank, IsNoLater, IsFirstBadPlace}
-use Rattle.sil_grammar.specs.Refusals.{token_place}
+use Rattle.sil_grammar.specs.FirstBad.{token_place}
 use Rattle.sil_shape.proofs.DerivedOnce.{first_bad_once, no_first_bad}
 use Rattle.sil_grammar.proofs.LexemeLemmas.{some_token, some_lexeme, lexeme_at}
 

@@ -13,7 +13,7 @@ use Rattle.sil_lexer.specs.Lexing.{Lexing, lexeme_of, lexemes_of}
 use Rattle.sil_lexer.specs.Places.{place_of}
 use Rattle.sil_shape.specs.declared.classes.Class.{Class}
 use Rattle.sil_grammar.specs.Classes.{token_class, IsClassAt}
-use Rattle.sil_grammar.specs.Refusals.{token_place}
+use Rattle.sil_grammar.specs.FirstBad.{token_place}
 
 pub some_token : Token
 some_token = record { kind = Word; place = record { offset = 0; line = 0; column = 0 }; length = 0 }

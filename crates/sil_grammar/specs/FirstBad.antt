@@ -1,16 +1,22 @@
 -- The first bad place of a text: the least of the place where its tokens stop and of the place of the first token, or
 -- of the end of the text, with which no list that has the shape of a module goes on.
-use Rattle.std.specs.Prelude.{◌≡◌, ◌⊎◌, ℕ, ◌<◌, ◌≤◌, List, length, map, Option, Some, None}
+use Rattle.std.specs.Prelude.{◌≡◌, ◌⊎◌, ℕ, ◌<◌, ◌≤◌, List, length, map, Option, Some, None, slice_get}
+use Rattle.std.specs.Option.{option_map_or}
+use Rattle.sil_ast.specs.declared.place.Place.{Place}
 use Rattle.sil_lexer.specs.declared.token.LexRefusal.{LexRefusal}
 use Rattle.sil_lexer.specs.declared.token.LexRefusal.TheVariants as stop
 use Rattle.sil_lexer.specs.Lexes.{Lexeme, Lexes}
+use Rattle.sil_lexer.specs.Places.{place_of}
 use Rattle.sil_shape.specs.Derivation as derivation
 use Rattle.sil_shape.specs.Unsupported.{IsUnsupported}
 use Rattle.sil_grammar.specs.declared.first_bad.BadKind.{BadKind}
 use Rattle.sil_grammar.specs.declared.first_bad.BadKind.TheVariants.{BadByte, UnclosedText, NameTooLong, Unsupported, Unexpected}
 use Rattle.sil_grammar.specs.declared.first_bad.BadPlace.{BadPlace}
 use Rattle.sil_grammar.specs.Classes.{token_class}
-use Rattle.sil_grammar.specs.Refusals.{token_place}
+
+-- where the i-th token stands, or the end of the text behind the last one
+abbrev pub token_place : List ℕ → List Lexeme → ℕ → Place
+token_place text lexemes i = option_map_or (λ l. l.place) (slice_get lexemes i) (place_of text (length text))
 
 -- the tokens of the text reach its end, and the grammar derives them
 pub record HasShape (text : List ℕ) : Type 0 where

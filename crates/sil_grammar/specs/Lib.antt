@@ -1,9 +1,4 @@
 pub mod Classes
 pub mod FirstBad
-pub mod Meaning
-pub mod Names
 pub mod Refusals
-pub mod Replay
-pub mod Resolved
-pub mod SimpleParts
 pub mod Spells

@@ -1,36 +1,67 @@
 -- What a refusal of `read` says.
-use Rattle.std.specs.Prelude.{◌≡◌, ℕ, List, length, map, ⊤, Option, Some, None, slice_get}
+use Rattle.std.specs.Prelude.{◌≡◌, ℕ, ◌<◌, ◌≤◌, List, length, map, take, Option, Some, None, slice_get}
 use Rattle.std.specs.Option.{option_map_or}
 use Rattle.sil_ast.specs.declared.module.Module.{Module}
 use Rattle.sil_ast.specs.declared.place.Place.{Place}
 use Rattle.sil_lexer.specs.declared.token.LexRefusal.{LexRefusal}
-use Rattle.sil_lexer.specs.declared.token.LexRefusal.TheVariants.{BadByte, UnclosedText, NameTooLong}
+use Rattle.sil_lexer.specs.declared.token.LexRefusal.TheVariants as stop
 use Rattle.sil_lexer.specs.Lexes.{Lexeme, Lexes}
-use Rattle.sil_lexer.specs.Places.{place_of}
-use Rattle.sil_shape.specs.Derivation.{IsFirstBad}
+use Rattle.sil_shape.specs.declared.steps.Step.{Step}
+use Rattle.sil_shape.specs.Begun.{IsBegun}
+use Rattle.written_modules.specs.declared.fault.Fault.{Fault}
+use Rattle.written_modules.specs.declared.fault.FaultKind.{FaultKind}
+use Rattle.written_modules.specs.declared.fault.FaultKind.TheVariants as kind
+use Rattle.written_modules.specs.declared.written_module.WrittenModule.{WrittenModule}
+use Rattle.written_modules.specs.Replay.{first_fault}
+use Rattle.name_resolution.specs.NameFaults.{name_fault}
+use Rattle.sil_grammar.specs.declared.first_bad.BadKind.{BadKind}
+use Rattle.sil_grammar.specs.declared.first_bad.BadKind.TheVariants as bad
+use Rattle.sil_grammar.specs.declared.first_bad.BadPlace.{BadPlace}
 use Rattle.sil_grammar.specs.declared.refusal.ReadRefusal.{ReadRefusal}
-use Rattle.sil_grammar.specs.declared.refusal.ReadRefusal.TheVariants.{Unsupported, Memory}
+use Rattle.sil_grammar.specs.declared.refusal.ReadRefusal.TheVariants as refusal
 use Rattle.sil_grammar.specs.Classes.{token_class}
-use Rattle.sil_grammar.specs.Spells.{Spells}
+use Rattle.sil_grammar.specs.FirstBad.{IsFirstBadPlace}
+use Rattle.sil_grammar.specs.Spells.{Spells, SpellsWritten}
 
--- where no token can be taken
-abbrev pub stop_place : LexRefusal → Place
-stop_place (BadByte place) = place
-stop_place (UnclosedText place) = place
-stop_place (NameTooLong place) = place
+abbrev pub SpellsNone : List ℕ → Type 0
+SpellsNone text = (m : Module) → Spells m text → ⊥
 
--- where the i-th token stands, or the end of the text behind the last one
-abbrev pub token_place : List ℕ → List Lexeme → ℕ → Place
-token_place text lexemes i = option_map_or (λ l. l.place) (slice_get lexemes i) (place_of text (length text))
+-- tokens of the text, from its first on, begin a list that has the shape of a module, and this is the first fault in
+-- what such a list stands for: a number out of range, or a token that passes a limit. It comes before the first place
+-- at which the text itself has no such shape
+pub record IsFaulty (text : List ℕ) (fault : Fault) : Type 0 where
+  pub lexemes : List Lexeme
+  pub lexed_to : Option LexRefusal
+  pub lexed : Lexes text text lexemes lexed_to
+  pub count : ℕ
+  pub inside : count ≤ length lexemes
+  pub steps : List Step
+  pub begun : IsBegun (map token_class (take count lexemes)) steps
+  pub first : first_fault steps (take count lexemes) ≡ Some fault
+  pub early : (place : BadPlace) → IsFirstBadPlace text place → fault.place.offset < place.place.offset
 
-pub record IsUnsupported (text : List ℕ) (place : Place) : Type 0 where
-  pub spells_none : (m : Module) → Spells m text → ⊥
-  -- the place is where the tokens stop before the end of the text
-  pub at_stop : (lexemes : List Lexeme) (stop : LexRefusal) → Lexes text text lexemes (Some stop) → place ≡ stop_place stop
-  -- and else where the first token stands with which no module goes on, if there is such a token or the end is too early
-  pub at_first_bad : (lexemes : List Lexeme) (i : ℕ) → Lexes text text lexemes None → IsFirstBad (map token_class lexemes) i
-      → place ≡ token_place text lexemes i
+-- the text writes a module, and this name is the first that is defined twice, or used and not defined
+pub record IsMisnamed (text : List ℕ) (fault : Fault) : Type 0 where
+  pub written : WrittenModule
+  pub spells : SpellsWritten written text
+  pub first : name_fault written ≡ Some fault
 
-abbrev pub IsRefusalOf : List ℕ → ReadRefusal → Type 0
-IsRefusalOf text (Unsupported place) = IsUnsupported text place
-IsRefusalOf text Memory = ⊤
+unfoldable pub refusal_of_bad : BadKind → Place → ReadRefusal
+refusal_of_bad bad.BadByte place = refusal.Lex (stop.BadByte place)
+refusal_of_bad bad.UnclosedText place = refusal.Lex (stop.UnclosedText place)
+refusal_of_bad bad.NameTooLong place = refusal.Lex (stop.NameTooLong place)
+refusal_of_bad bad.Unsupported place = refusal.Unsupported place
+refusal_of_bad bad.Unexpected place = refusal.Unexpected place
+
+unfoldable pub refusal_of_fault : FaultKind → Place → ReadRefusal
+refusal_of_fault kind.NumberRange place = refusal.NumberRange place
+refusal_of_fault (kind.Limit what) place = refusal.Limit what place
+refusal_of_fault kind.Twice place = refusal.Twice place
+refusal_of_fault kind.UnknownName place = refusal.UnknownName place
+
+-- why a text is refused: its first bad place, or else a fault or a name; in each case it spells no module
+pub data IsRefusalOf (text : List ℕ) : ReadRefusal → Type 0 where
+  bad : (place : BadPlace) → SpellsNone text → IsFirstBadPlace text place → IsRefusalOf text (refusal_of_bad place.kind place.place)
+  faulty : (fault : Fault) → SpellsNone text → IsFaulty text fault → IsRefusalOf text (refusal_of_fault fault.kind fault.place)
+  misnamed : (fault : Fault) → SpellsNone text → IsMisnamed text fault → IsRefusalOf text (refusal_of_fault fault.kind fault.place)
+  exhausted : IsRefusalOf text refusal.Memory

@@ -1,38 +1,35 @@
 -- Which modules a text spells.
-use Rattle.std.specs.Prelude.{◌≡◌, ℕ, List, [], ◌∷◌, map, Option, None}
+use Rattle.std.specs.Prelude.{◌≡◌, ℕ, List, map, None}
 use Rattle.sil_ast.specs.declared.module.Module.{Module}
 use Rattle.sil_lexer.specs.Lexes.{Lexeme, Lexes}
 use Rattle.sil_shape.specs.declared.steps.Step.{Step}
 use Rattle.sil_shape.specs.Derivation.{Derives, start}
-use Rattle.simple_modules.specs.Simple.{IsSimple}
-use Rattle.sil_grammar.specs.declared.value.Value.TheVariants as value
-use Rattle.sil_grammar.specs.declared.written.WrittenModule.{WrittenModule}
+use Rattle.written_modules.specs.declared.written_module.WrittenModule.{WrittenModule}
+use Rattle.written_modules.specs.Replay.{first_fault, Writes}
+use Rattle.name_resolution.specs.NameFaults.{name_fault}
+use Rattle.name_resolution.specs.Resolved.{resolved}
 use Rattle.sil_grammar.specs.Classes.{token_class}
-use Rattle.sil_grammar.specs.Names.{NamesAreSound}
-use Rattle.sil_grammar.specs.Replay.{replay}
-use Rattle.sil_grammar.specs.Resolved.{resolved}
-use Rattle.sil_grammar.specs.SimpleParts.{UseSimpleParts}
 
--- the steps of a derivation, and the tokens that they take, stand for the simple module
-pub record StandFor (steps : List Step) (lexemes : List Lexeme) (m : Module) : Type 0 where
-  -- with names where the module has numbers
-  pub written : WrittenModule
-  pub meant : replay steps lexemes ≡ value.Module written ∷ []
-  pub names : NamesAreSound written
-  pub numbered : m ≡ resolved written
-  pub simple : IsSimple m
-
-pub record Spells (m : Module) (text : List ℕ) : Type 0 where
+-- the text writes a module with names in place of numbers, and no number is out of range and no limit is passed
+pub record SpellsWritten (w : WrittenModule) (text : List ℕ) : Type 0 where
   -- the tokens of the text, up to its end
   pub lexemes : List Lexeme
   pub lexed : Lexes text text lexemes None
-  -- they have the shape of a module, by productions of simple modules alone
+  -- they have the shape of a module
   pub steps : List Step
   pub derived : Derives start (map token_class lexemes) steps
-  pub simple_parts : UseSimpleParts steps
+  -- in which nothing is at fault
+  pub no_fault : first_fault steps lexemes ≡ None
   -- and this is what they stand for
-  pub stand_for : StandFor steps lexemes m
+  pub writes : Writes steps lexemes w
 
--- a text spells at most one module
+pub record Spells (m : Module) (text : List ℕ) : Type 0 where
+  pub written : WrittenModule
+  pub spells : SpellsWritten written text
+  -- every name is defined once, and defined at all
+  pub names : name_fault written ≡ None
+  pub numbered : m ≡ resolved written
+
+-- two modules that one text spells are equal
 abbrev pub AreSpelledOnce : Type 0
 AreSpelledOnce = (text : List ℕ) (m other : Module) → Spells m text → Spells other text → other ≡ m

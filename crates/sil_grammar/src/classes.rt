@@ -14,7 +14,7 @@ use sil_shape::spelling::{at_word, keyword, mark};
 use std::alloc::Global;
 
 /// What is behind the first byte.
-pub(crate) fn without_sigil(spelling: &[u8]) -> &[u8]
+fn without_sigil(spelling: &[u8]) -> &[u8]
     ensures { result.now ≡ drop 1 spelling.now }
 {
     if spelling.is_empty() {

@@ -7,12 +7,11 @@ ghost use Rattle.sil_lexer.specs.Places.{IsInLimit};
 ghost use Rattle.sil_shape.specs.Derivation.{IsFirstBad};
 ghost use Rattle.sil_grammar.specs.declared.first_bad.BadPlace.{BadPlace};
 ghost use Rattle.sil_grammar.specs.Classes.{token_class};
-ghost use Rattle.sil_grammar.specs.FirstBad.{bad_stop, HasShape, IsFirstBadPlace};
+ghost use Rattle.sil_grammar.specs.FirstBad.{bad_stop, token_place, HasShape, IsFirstBadPlace};
 
 use crate::classes::classes_of;
-use crate::reader::token_place;
 use sil_ast::{Exhausted, Place};
-use sil_lexer::{LexRefusal, LexStop, Tokens, lex};
+use sil_lexer::{LexRefusal, LexStop, Tokens, end_place, lex};
 use sil_shape::classes::Class;
 use sil_shape::machine::{ShapeRefusal, steps_of};
 use sil_shape::unsupported::is_unsupported;
@@ -56,6 +55,19 @@ fn bad_stop(stop: LexRefusal) -> BadPlace
             kind: BadKind::NameTooLong,
             place,
         },
+    }
+}
+
+/// Where the token at `i` stands, or the end of the text behind the last one.
+fn token_place(text: &[u8], tokens: &Tokens, i: usize) -> Place
+    requires limit { IsInLimit text.now }
+    requires lexed { IsLexingOf text.now tokens.now }
+    ensures { result ≡ token_place text.now (lexemes_of text.now tokens.now) i }
+{
+    if i < tokens.len() {
+        tokens.place(i)
+    } else {
+        end_place(text)
     }
 }
 

@@ -1,0 +1,4 @@
+pub mod NameFaults
+pub mod Names
+pub mod Refusals
+pub mod Resolved

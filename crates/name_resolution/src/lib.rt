@@ -1,0 +1,9 @@
+//! Names become numbers: which module a written module stands for, and the first name that is defined twice, or used
+//! and not defined. It knows of no text and of no rule.
+#![tactic(auto)]
+
+mod refusal;
+mod resolving;
+
+pub use refusal::NameRefusal;
+pub use resolving::resolve;

@@ -1,0 +1,114 @@
+-- The tokens by which the parts of a written module are counted.
+use Rattle.std.specs.Prelude.{List, [], ◌∷◌, ◌++◌, ℕ, Bool, true, false, if◌then◌else◌, not, map, filter, codes}
+use Rattle.std.specs.List.{flat_map}
+use Rattle.std.specs.Str.{bytes_eq}
+use Rattle.sil_ast.specs.declared.inst.Qualifier.{Qualifier}
+use Rattle.sil_ast.specs.declared.inst.Qualifier.TheVariants as qualifier
+use Rattle.sil_ast.specs.declared.op.Op.{Op}
+use Rattle.sil_ast.specs.declared.op.Op.TheVariants as op
+use Rattle.sil_ast.specs.declared.place.Place.{Place}
+use Rattle.written_modules.specs.declared.written_declarations.WrittenCase.{WrittenCase}
+use Rattle.written_modules.specs.declared.written_declarations.WrittenDecl.{WrittenDecl}
+use Rattle.written_modules.specs.declared.written_declarations.WrittenDecl.TheVariants as decl
+use Rattle.written_modules.specs.declared.written_declarations.WrittenField.{WrittenField}
+use Rattle.written_modules.specs.declared.written_declarations.WrittenToken.{WrittenToken}
+use Rattle.written_modules.specs.declared.written_functions.WrittenArg.{WrittenArg}
+use Rattle.written_modules.specs.declared.written_functions.WrittenBlock.{WrittenBlock}
+use Rattle.written_modules.specs.declared.written_instructions.WrittenInst.{WrittenInst}
+use Rattle.written_modules.specs.declared.written_instructions.WrittenOperand.{WrittenOperand}
+use Rattle.written_modules.specs.declared.written_module.WrittenItem.{WrittenItem}
+use Rattle.written_modules.specs.declared.written_module.WrittenItem.TheVariants as item
+
+abbrev pub token_place : WrittenToken → Place
+token_place t = t.place
+
+abbrev pub name_of_decl : WrittenDecl → WrittenToken
+name_of_decl (decl.Class name fields) = name
+name_of_decl (decl.Struct name fields) = name
+name_of_decl (decl.Enum name cases) = name
+
+abbrev pub decl_names : WrittenItem → List WrittenToken
+decl_names (item.Decl d) = name_of_decl d ∷ []
+decl_names (item.Function f) = []
+decl_names (item.Vtable t) = []
+
+abbrev pub function_names : WrittenItem → List WrittenToken
+function_names (item.Decl d) = []
+function_names (item.Function f) = f.name ∷ []
+function_names (item.Vtable t) = []
+
+abbrev pub field_place : WrittenField → Place
+field_place f = f.name.place
+
+abbrev pub case_place : WrittenCase → Place
+case_place c = c.name.place
+
+abbrev pub arg_place : WrittenArg → Place
+arg_place a = a.name.place
+
+abbrev pub operand_place : WrittenOperand → Place
+operand_place o = o.name.place
+
+-- `[ossa]` is no attribute that is kept
+abbrev pub is_ossa : WrittenToken → Bool
+is_ossa word = bytes_eq word.text (codes "ossa")
+
+abbrev pub is_kept : WrittenToken → Bool
+is_kept word = not (is_ossa word)
+
+abbrev pub attribute_places : List WrittenToken → List Place
+attribute_places words = map token_place (filter is_kept words)
+
+abbrev pub label_place : WrittenBlock → Place
+label_place b = b.label.place
+
+abbrev pub mnemonic_place : WrittenInst → Place
+mnemonic_place i = i.mnemonic
+
+-- the mnemonics of a block, with that of its terminator
+abbrev pub mnemonics_of : WrittenBlock → List Place
+mnemonics_of b = map mnemonic_place b.insts ++ b.terminator.mnemonic ∷ []
+
+-- the instructions that have one result, which may be left without a name
+unfoldable pub has_one_result : Op → Bool
+has_one_result op.IntegerLiteral = true
+has_one_result op.FunctionRef = true
+has_one_result op.Builtin = true
+has_one_result op.AllocRef = true
+has_one_result op.AllocStack = true
+has_one_result op.CopyValue = true
+has_one_result op.MoveValue = true
+has_one_result op.BeginBorrow = true
+has_one_result op.Load = true
+has_one_result op.LoadBorrow = true
+has_one_result op.LoadWeak = true
+has_one_result op.LoadUnowned = true
+has_one_result op.Struct = true
+has_one_result op.Tuple = true
+has_one_result op.Enum = true
+has_one_result op.StructExtract = true
+has_one_result op.TupleExtract = true
+has_one_result op.StructElementAddr = true
+has_one_result op.TupleElementAddr = true
+has_one_result op.RefElementAddr = true
+has_one_result op.Apply = true
+has_one_result _ = false
+
+-- where the results of an instruction are defined: at their names, or without any at the mnemonic
+abbrev pub result_places : Op → Place → List WrittenToken → List Place
+result_places o mnemonic [] = if has_one_result o then mnemonic ∷ [] else []
+result_places o mnemonic (name ∷ names) = map token_place (name ∷ names)
+
+-- a `store [assign]` and a `destroy_addr` count as one value more
+unfoldable pub extra_places : Op → Place → Qualifier → Place → List Place
+extra_places op.DestroyAddr mnemonic word place = mnemonic ∷ []
+extra_places op.Store mnemonic qualifier.Assign place = place ∷ []
+extra_places _ mnemonic word place = []
+
+-- where the values that an instruction counts for are defined
+abbrev pub value_places_of : WrittenInst → List Place
+value_places_of i =
+    result_places i.op i.mnemonic i.results ++ extra_places i.op i.mnemonic i.qualifier.word i.qualifier.place
+
+abbrev pub values_of_block : WrittenBlock → List Place
+values_of_block b = map arg_place b.args ++ flat_map value_places_of b.insts

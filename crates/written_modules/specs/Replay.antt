@@ -1,0 +1,47 @@
+-- What the steps of a derivation and the tokens that they take stand for, and the first fault in it, from the last step
+-- to the first.
+use Rattle.std.specs.Prelude.{◌≡◌, ℕ, List, [], ◌∷◌, length, take, drop, Option, Some, None}
+use Rattle.std.specs.List.{HoldsAt}
+use Rattle.sil_lexer.specs.Lexes.{Lexeme}
+use Rattle.sil_lexer.specs.Lexing.{Lexing, lexeme_of}
+use Rattle.sil_shape.specs.declared.grammar.Production.{Production}
+use Rattle.sil_shape.specs.declared.steps.Step.{Step}
+use Rattle.sil_shape.specs.declared.steps.Step.TheVariants.{Take, Expand}
+use Rattle.sil_shape.specs.Grammar.{body}
+use Rattle.written_modules.specs.declared.fault.Fault.{Fault}
+use Rattle.written_modules.specs.declared.value.Value.{Value}
+use Rattle.written_modules.specs.declared.value.Value.TheVariants as v
+use Rattle.written_modules.specs.declared.written_module.WrittenModule.{WrittenModule}
+use Rattle.written_modules.specs.Faults.{earlier}
+use Rattle.written_modules.specs.Meaning.{leaf_of, meaning}
+use Rattle.written_modules.specs.PartFaults.{part_fault}
+
+-- the values of the parts that a production has
+abbrev pub parts_of : Production → List Value → List Value
+parts_of p values = take (length (body p)) values
+
+-- the values of a body give way to what the production stands for
+unfoldable pub reduced : Production → List Value → List Value
+reduced p values = meaning p (parts_of p values) ∷ drop (length (body p)) values
+
+-- where more tokens are taken than there are, those that are lacking stand for nothing
+abbrev pub replay : List Step → List Lexeme → List Value
+replay [] lexemes = []
+replay (Take ∷ steps) [] = v.Nothing ∷ replay steps []
+replay (Take ∷ steps) (l ∷ lexemes) = leaf_of l ∷ replay steps lexemes
+replay (Expand p ∷ steps) lexemes = reduced p (replay steps lexemes)
+
+-- the first fault in what the steps stand for
+abbrev pub first_fault : List Step → List Lexeme → Option Fault
+first_fault [] lexemes = None
+first_fault (Take ∷ steps) [] = first_fault steps []
+first_fault (Take ∷ steps) (l ∷ lexemes) = first_fault steps lexemes
+first_fault (Expand p ∷ steps) lexemes = earlier (part_fault p (parts_of p (replay steps lexemes))) (first_fault steps lexemes)
+
+-- the token at i stands for the value
+abbrev pub IsLeafAt : List ℕ → Lexing → ℕ → Value → Type 0
+IsLeafAt text lexing i value = HoldsAt (λ token. value ≡ leaf_of (lexeme_of text token)) lexing.tokens i
+
+-- these steps and tokens write the module
+abbrev pub Writes : List Step → List Lexeme → WrittenModule → Type 0
+Writes steps lexemes written = replay steps lexemes ≡ v.Module written ∷ []

@@ -1,0 +1,294 @@
+//! Builds types, level by level.
+
+ghost use Rattle.std.specs.Prelude.{◌≡◌, ◌∷◌, ◌≤◌, length, IfOk};
+ghost use Rattle.sil_shape.specs.declared.grammar.Production.{Production};
+ghost use Rattle.written_modules.specs.Replay.{reduced};
+ghost use Rattle.sil_ast.specs.declared.type_name.TypeName.TheVariants as ty;
+ghost use Rattle.written_modules.specs.declared.value.Value.TheVariants as v;
+ghost use Rattle.written_modules.specs.Types.{deeper, in_parens, kept, marked, one_deeper, one_token, tailed, type_before};
+ghost use Rattle.written_modules.specs.Values.{token_of};
+
+use crate::nothing::{discard, skip, unit_type};
+use crate::prepended::Prepended;
+use crate::value::Value;
+use crate::written_declarations::WrittenToken;
+use crate::written_types::{TypeList, WrittenType};
+use sil_ast::{Boxed, Exhausted, Place, TypeName};
+use sil_shape::grammar::Production;
+use std::alloc::Global;
+
+/// The limit on the levels of a type.
+pub(crate) const DEPTH_LIMIT: u32 = 32;
+
+fn deeper(depth: u32) -> u32
+    ensures { result ≡ deeper depth }
+{
+    if DEPTH_LIMIT < depth {
+        depth
+    } else {
+        depth + 1
+    }
+}
+
+/// The type, where it isn't too deep.
+fn kept(alloc: Global, depth: u32, ty: TypeName) -> TypeName
+    ensures { result ≡ kept depth ty }
+{
+    if DEPTH_LIMIT < depth {
+        unit_type(alloc)
+    } else {
+        ty
+    }
+}
+
+fn one_deeper(alloc: Global, depth: u32, ty: TypeName, first: Place, last: Place) -> WrittenType
+    ensures { result ≡ one_deeper depth ty first last }
+{
+    let depth = deeper(depth);
+    WrittenType {
+        ty: kept(alloc, depth, ty),
+        depth,
+        first,
+        last,
+    }
+}
+
+fn one_token(ty: TypeName, place: Place) -> WrittenType
+    ensures { result ≡ one_token ty place }
+{
+    WrittenType {
+        ty,
+        depth: 1,
+        first: place,
+        last: place,
+    }
+}
+
+/// A type with one `?` behind it.
+fn optional(alloc: Global, inner: WrittenType, last: Place) -> Result<WrittenType, Exhausted>
+    ensures { IfOk result (λ made. made ≡ one_deeper inner.depth (ty.Optional inner.ty) inner.first last) }
+{
+    let WrittenType {
+        ty,
+        depth,
+        first,
+        ..
+    } = inner;
+    let ty = TypeName::Optional(Boxed::new(alloc, ty)?);
+    Ok(one_deeper(alloc, depth, ty, first, last))
+}
+
+/// A type with all the `?` behind it.
+fn marked(
+    alloc: Global,
+    inner: WrittenType,
+    marks: Prepended<Place>,
+) -> Result<WrittenType, Exhausted>
+    ensures { IfOk result (λ made. made ≡ marked inner marks) }
+{
+    let marks = marks.into_list();
+    let mut ty = inner;
+    for mark in marks.as_slice() {
+        ty = optional(alloc, ty, *mark)?;
+    }
+    Ok(ty)
+}
+
+/// The types between two parentheses: one alone is that type, and others are a tuple.
+fn in_parens(alloc: Global, first: Place, list: TypeList, last: Place) -> WrittenType
+    ensures { result ≡ in_parens first list last }
+{
+    let TypeList {
+        mut types,
+        depth,
+        ..
+    } = list;
+    if types.len() == 1 {
+        return WrittenType {
+            ty: types.pop_front(),
+            depth,
+            first,
+            last,
+        };
+    }
+    one_deeper(
+        alloc,
+        depth,
+        TypeName::Tuple(types.into_list()),
+        first,
+        last,
+    )
+}
+
+fn type_before(ty: WrittenType, others: TypeList) -> Result<TypeList, Exhausted>
+    ensures { IfOk result (λ list. list ≡ type_before ty others) }
+{
+    let TypeList {
+        mut types,
+        mut firsts,
+        depth,
+    } = others;
+    types.push_front(ty.ty)?;
+    firsts.push_front(ty.first)?;
+    Ok(TypeList {
+        types,
+        firsts,
+        depth: ty.depth.max(depth),
+    })
+}
+
+/// A word that names a type by itself, or begins a longer one.
+#[tactic(auto, unfolding(crate::specs::Values::type_of, crate::specs::Types::tailed))]
+fn tailed(token: WrittenToken, tail: Value) -> WrittenType
+    ensures { result ≡ tailed token tail }
+{
+    match tail {
+        Value::Type(ty) => WrittenType {
+            ty: ty.ty,
+            depth: ty.depth,
+            first: token.place,
+            last: ty.last,
+        },
+        other => {
+            discard(other);
+            one_token(TypeName::Named(token.text), token.place)
+        }
+    }
+}
+
+#[tactic(auto, unfolding(crate::specs::Replay::reduced, crate::specs::Meaning::meaning, sil_shape::specs::Grammar::body))]
+pub(crate) fn payload(alloc: Global, values: &mut Prepended<Value>) -> Result<Value, Exhausted>
+    requires { 4 ≤ length values.old }
+    ensures { IfOk result (λ value. reduced Production.PayloadSome values.old ≡ value ∷ values.new) }
+{
+    let first = values.pop_front().into_token(alloc).place;
+    let ty = values.pop_front().into_type(alloc);
+    let others = values.pop_front().into_types(alloc);
+    let last = values.pop_front().into_token(alloc).place;
+    Ok(Value::Type(in_parens(alloc, first, type_before(ty, others)?, last)))
+}
+
+#[tactic(auto, unfolding(crate::specs::Replay::reduced, crate::specs::Meaning::meaning, sil_shape::specs::Grammar::body))]
+pub(crate) fn paren_type(alloc: Global, values: &mut Prepended<Value>) -> Result<Value, Exhausted>
+    requires { 4 ≤ length values.old }
+    ensures { IfOk result (λ value. reduced Production.ParenType values.old ≡ value ∷ values.new) }
+{
+    let first = values.pop_front().into_token(alloc).place;
+    let types = values.pop_front().into_types(alloc);
+    let last = values.pop_front().into_token(alloc).place;
+    let marks = values.pop_front().into_marks(alloc);
+    let inner = in_parens(alloc, first, types, last);
+    Ok(Value::Type(marked(alloc, inner, marks)?))
+}
+
+#[tactic(auto, unfolding(crate::specs::Replay::reduced, crate::specs::Meaning::meaning, sil_shape::specs::Grammar::body))]
+pub(crate) fn base_type(alloc: Global, values: &mut Prepended<Value>) -> Result<Value, Exhausted>
+    requires { 2 ≤ length values.old }
+    ensures { IfOk result (λ value. reduced Production.BaseOpen values.old ≡ value ∷ values.new) }
+{
+    let base = values.pop_front().into_type(alloc);
+    let marks = values.pop_front().into_marks(alloc);
+    Ok(Value::Type(marked(alloc, base, marks)?))
+}
+
+#[tactic(auto, unfolding(crate::specs::Replay::reduced, crate::specs::Meaning::meaning, sil_shape::specs::Grammar::body))]
+pub(crate) fn weak_type(alloc: Global, values: &mut Prepended<Value>) -> Result<Value, Exhausted>
+    requires { 2 ≤ length values.old }
+    ensures { IfOk result (λ value. reduced Production.WeakOpen values.old ≡ value ∷ values.new) }
+{
+    let first = values.pop_front().into_token(alloc).place;
+    let inner = values.pop_front().into_type(alloc);
+    let ty = TypeName::Weak(Boxed::new(alloc, inner.ty)?);
+    Ok(Value::Type(one_deeper(alloc, inner.depth, ty, first, inner.last)))
+}
+
+#[tactic(auto, unfolding(crate::specs::Replay::reduced, crate::specs::Meaning::meaning, sil_shape::specs::Grammar::body))]
+pub(crate) fn unowned_type(alloc: Global, values: &mut Prepended<Value>) -> Result<Value, Exhausted>
+    requires { 2 ≤ length values.old }
+    ensures { IfOk result (λ value. reduced Production.UnownedOpen values.old ≡ value ∷ values.new) }
+{
+    let first = values.pop_front().into_token(alloc).place;
+    let inner = values.pop_front().into_type(alloc);
+    let ty = TypeName::Unowned(Boxed::new(alloc, inner.ty)?);
+    Ok(Value::Type(one_deeper(alloc, inner.depth, ty, first, inner.last)))
+}
+
+#[tactic(auto, unfolding(crate::specs::Replay::reduced, crate::specs::Meaning::meaning, sil_shape::specs::Grammar::body))]
+pub(crate) fn builtin_base(alloc: Global, values: &mut Prepended<Value>) -> Value
+    requires { 2 ≤ length values.old }
+    ensures { reduced Production.BuiltinBase values.old ≡ result ∷ values.new }
+{
+    let word = values.pop_front().into_token(alloc);
+    Value::Type(tailed(word, values.pop_front()))
+}
+
+#[tactic(auto, unfolding(crate::specs::Replay::reduced, crate::specs::Meaning::meaning, sil_shape::specs::Grammar::body))]
+pub(crate) fn optional_base(alloc: Global, values: &mut Prepended<Value>) -> Value
+    requires { 2 ≤ length values.old }
+    ensures { reduced Production.OptionalBase values.old ≡ result ∷ values.new }
+{
+    let word = values.pop_front().into_token(alloc);
+    Value::Type(tailed(word, values.pop_front()))
+}
+
+#[tactic(auto, unfolding(crate::specs::Replay::reduced, crate::specs::Meaning::meaning, sil_shape::specs::Grammar::body))]
+pub(crate) fn named_base(alloc: Global, values: &mut Prepended<Value>) -> Value
+    requires { 1 ≤ length values.old }
+    ensures { reduced Production.NamedBase values.old ≡ result ∷ values.new }
+{
+    let word = values.pop_front().into_token(alloc);
+    Value::Type(one_token(TypeName::Named(word.text), word.place))
+}
+
+#[tactic(auto, unfolding(crate::specs::Replay::reduced, crate::specs::Meaning::meaning, sil_shape::specs::Grammar::body))]
+pub(crate) fn optional_of(alloc: Global, values: &mut Prepended<Value>) -> Result<Value, Exhausted>
+    requires { 3 ≤ length values.old }
+    ensures { IfOk result (λ value. reduced Production.OptionalOf values.old ≡ value ∷ values.new) }
+{
+    let first = values.pop_front().into_token(alloc).place;
+    let inner = values.pop_front().into_type(alloc);
+    let last = values.pop_front().into_token(alloc).place;
+    let ty = TypeName::Optional(Boxed::new(alloc, inner.ty)?);
+    Ok(Value::Type(one_deeper(alloc, inner.depth, ty, first, last)))
+}
+
+/// `Int64` behind `Builtin.`
+pub(crate) fn int_type(alloc: Global, width: u8, values: &mut Prepended<Value>) -> Value
+    requires { 1 ≤ length values.old }
+    ensures { (word : Value) × (values.old ≡ word ∷ values.new) × (result ≡ v.Type (one_token (ty.Int width) (token_of word).place)) }
+{
+    let place = values.pop_front().into_token(alloc).place;
+    Value::Type(one_token(TypeName::Int(width), place))
+}
+
+#[tactic(auto, unfolding(crate::specs::Replay::reduced, crate::specs::Meaning::meaning, sil_shape::specs::Grammar::body))]
+pub(crate) fn more_marks(alloc: Global, values: &mut Prepended<Value>) -> Result<Value, Exhausted>
+    requires { 2 ≤ length values.old }
+    ensures { IfOk result (λ value. reduced Production.OptionalMarksMore values.old ≡ value ∷ values.new) }
+{
+    let mark = values.pop_front().into_token(alloc).place;
+    let mut marks = values.pop_front().into_marks(alloc);
+    marks.push_front(mark)?;
+    Ok(Value::Marks(marks))
+}
+
+#[tactic(auto, unfolding(crate::specs::Replay::reduced, crate::specs::Meaning::meaning, sil_shape::specs::Grammar::body))]
+pub(crate) fn some_types(alloc: Global, values: &mut Prepended<Value>) -> Result<Value, Exhausted>
+    requires { 2 ≤ length values.old }
+    ensures { IfOk result (λ value. reduced Production.TypesSome values.old ≡ value ∷ values.new) }
+{
+    let ty = values.pop_front().into_type(alloc);
+    let others = values.pop_front().into_types(alloc);
+    Ok(Value::Types(type_before(ty, others)?))
+}
+
+#[tactic(auto, unfolding(crate::specs::Replay::reduced, crate::specs::Meaning::meaning, sil_shape::specs::Grammar::body))]
+pub(crate) fn more_types(alloc: Global, values: &mut Prepended<Value>) -> Result<Value, Exhausted>
+    requires { 3 ≤ length values.old }
+    ensures { IfOk result (λ value. reduced Production.MoreTypesMore values.old ≡ value ∷ values.new) }
+{
+    skip(values);
+    let ty = values.pop_front().into_type(alloc);
+    let others = values.pop_front().into_types(alloc);
+    Ok(Value::Types(type_before(ty, others)?))
+}

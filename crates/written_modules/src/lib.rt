@@ -1,0 +1,33 @@
+//! A module as its text writes it: what a derivation stands for, with names where a module has numbers, and the first
+//! number out of range or token past a limit. It knows of no name that is defined elsewhere, and of no rule.
+#![tactic(auto)]
+
+mod building;
+mod build_blocks;
+mod build_declarations;
+mod build_functions;
+mod build_instructions;
+mod build_module;
+mod build_operands;
+mod build_rows;
+mod build_types;
+mod build_words;
+mod fault;
+mod nothing;
+mod prepended;
+mod reduce;
+mod value;
+mod value_code;
+mod value_parts;
+mod written_declarations;
+mod written_functions;
+mod written_instructions;
+mod written_module;
+mod written_types;
+
+pub use building::{Built, build};
+pub use fault::{Fault, FaultKind, LimitWord};
+pub use written_declarations::{WrittenCase, WrittenDecl, WrittenField, WrittenToken};
+pub use written_functions::{WrittenArg, WrittenBlock, WrittenFunction};
+pub use written_instructions::{WrittenEdge, WrittenInst, WrittenOperand, WrittenQualifier};
+pub use written_module::{WrittenEntry, WrittenItem, WrittenModule, WrittenVtable};

@@ -1,0 +1,137 @@
+//! What stands where nothing is written.
+
+ghost use Rattle.std.specs.Prelude.{◌≡◌, ◌∷◌, [], ◌<◌, length};
+ghost use Rattle.sil_ast.specs.declared.type_name.TypeName.TheVariants as ty;
+ghost use Rattle.written_modules.specs.Values as none;
+
+use crate::prepended::Prepended;
+use crate::value::Value;
+use crate::written_declarations::WrittenToken;
+use crate::written_instructions::{WrittenInst, WrittenQualifier};
+use crate::written_types::{GivenList, ParamList, TypeList, WrittenType};
+use sil_ast::{Debug, List, Op, Place, Qualifier, Text, TypeName};
+use std::alloc::Global;
+
+/// Takes the value of the first part away.
+pub(crate) fn skip(values: &mut Prepended<Value>)
+    requires { 0 < length values.old }
+    ensures { (first : Value) × (values.old ≡ first ∷ values.new) }
+{
+    discard(values.pop_front());
+}
+
+/// Drops a value. (In an arm of a `match` the drop would be written out for each variant.)
+pub(crate) fn discard(value: Value) {
+    drop(value);
+}
+
+/// Of no token: it stands behind every token.
+pub(crate) const NO_PLACE: Place = Place {
+    offset: u32::MAX,
+    line: 0,
+    column: 0,
+};
+
+pub(crate) fn no_token(alloc: Global) -> WrittenToken
+    ensures { result ≡ none.no_token }
+{
+    WrittenToken {
+        text: Text::new(alloc),
+        place: NO_PLACE,
+    }
+}
+
+/// `()`
+pub(crate) fn unit_type(alloc: Global) -> TypeName
+    ensures { result ≡ ty.Tuple [] }
+{
+    TypeName::Tuple(List::new(alloc))
+}
+
+pub(crate) fn no_type(alloc: Global) -> WrittenType
+    ensures { result ≡ none.no_type }
+{
+    WrittenType {
+        ty: unit_type(alloc),
+        depth: 1,
+        first: NO_PLACE,
+        last: NO_PLACE,
+    }
+}
+
+pub(crate) fn no_types(alloc: Global) -> TypeList
+    ensures { result ≡ none.no_types }
+{
+    TypeList {
+        types: Prepended::new(alloc),
+        firsts: Prepended::new(alloc),
+        depth: 0,
+    }
+}
+
+pub(crate) fn no_params(alloc: Global) -> ParamList
+    ensures { result ≡ none.no_params }
+{
+    ParamList {
+        params: Prepended::new(alloc),
+        firsts: Prepended::new(alloc),
+    }
+}
+
+pub(crate) fn no_givens(alloc: Global) -> GivenList
+    ensures { result ≡ none.no_givens }
+{
+    GivenList {
+        givens: Prepended::new(alloc),
+        firsts: Prepended::new(alloc),
+    }
+}
+
+pub(crate) fn no_debug() -> Debug
+    ensures { result ≡ none.no_debug }
+{
+    Debug {
+        binding: None,
+        name: None,
+        argno: None,
+        deref: false,
+    }
+}
+
+pub(crate) fn no_qualifier() -> WrittenQualifier
+    ensures { result ≡ none.no_qualifier }
+{
+    WrittenQualifier {
+        word: Qualifier::Plain,
+        place: NO_PLACE,
+    }
+}
+
+/// An instruction of which nothing but its mnemonic is written.
+pub(crate) fn bare_inst(alloc: Global, op: Op, mnemonic: Place) -> WrittenInst
+    ensures { result ≡ none.bare_inst op mnemonic }
+{
+    WrittenInst {
+        op,
+        mnemonic,
+        results: List::new(alloc),
+        operands: List::new(alloc),
+        ty: None,
+        signature: None,
+        function: None,
+        member: None,
+        number: None,
+        text: None,
+        qualifier: no_qualifier(),
+        lexical: false,
+        var_decl: false,
+        debug: no_debug(),
+        edges: List::new(alloc),
+    }
+}
+
+pub(crate) fn no_inst(alloc: Global) -> WrittenInst
+    ensures { result ≡ none.no_inst }
+{
+    bare_inst(alloc, Op::Unreachable, NO_PLACE)
+}

@@ -1,0 +1,70 @@
+//! What a part of a text stands for while the module is built from its end to its beginning.
+
+use crate::prepended::Prepended;
+use crate::written_declarations::{WrittenCase, WrittenField, WrittenToken};
+use crate::written_functions::{WrittenArg, WrittenBlock};
+use crate::written_instructions::{WrittenEdge, WrittenInst, WrittenOperand, WrittenQualifier};
+use crate::written_module::{WrittenEntry, WrittenItem, WrittenModule};
+use crate::written_types::{GivenList, ParamList, TypeList, WrittenType};
+use sil_ast::{
+    ArgKind, Boxed, Convention, Debug, Given, Imports, Linkage, Member, Param, Place, Signature,
+    Stage,
+};
+
+/// What a token or a part of a text stands for. Large parts stand in boxes, since a hostile text leaves a million
+/// values waiting.
+#[derive(Drop)]
+pub(crate) enum Value {
+    /// For nothing that the module keeps.
+    Nothing,
+    Token(WrittenToken),
+    Stage(Stage),
+    Imports(Imports),
+    Items(Prepended<WrittenItem>),
+    Item(Boxed<WrittenItem>),
+    Fields(Prepended<WrittenField>),
+    Field(WrittenField),
+    Cases(Prepended<WrittenCase>),
+    Type(WrittenType),
+    Types(TypeList),
+    /// Where the `?` behind a type stand.
+    Marks(Prepended<Place>),
+    Linkage(Linkage),
+    Tokens(Prepended<WrittenToken>),
+    Convention(Convention),
+    Params(ParamList),
+    /// A parameter, and where it begins.
+    Param(Param, Place),
+    Givens(GivenList),
+    /// A result, and where it begins.
+    Given(Given, Place),
+    Signature(Signature),
+    Blocks(Prepended<WrittenBlock>),
+    Block(Boxed<WrittenBlock>),
+    Args(Prepended<WrittenArg>),
+    Arg(WrittenArg),
+    /// How a block's argument is annotated.
+    Ownership(ArgKind),
+    /// The `*` before a type.
+    Star,
+    /// Instructions and the terminator behind them.
+    Code(Prepended<WrittenInst>, Boxed<WrittenInst>),
+    Inst(Boxed<WrittenInst>),
+    Operands(Prepended<WrittenOperand>),
+    Operand(WrittenOperand),
+    Edges(Prepended<WrittenEdge>),
+    Edge(Boxed<WrittenEdge>),
+    Member(Member),
+    Flags(Flags),
+    Qualifier(WrittenQualifier),
+    Debug(Debug),
+    Entry(WrittenEntry),
+    Module(WrittenModule),
+}
+
+/// `[lexical]` and `[var_decl]`
+#[derive(Clone, Copy)]
+pub(crate) struct Flags {
+    pub lexical: bool,
+    pub var_decl: bool,
+}

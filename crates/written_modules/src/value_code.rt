@@ -1,0 +1,247 @@
+//! Takes out of a value of a block or an instruction what stands in it.
+
+ghost use Rattle.std.specs.Prelude.{◌≡◌};
+ghost use Rattle.written_modules.specs.Values.{blocks_of, block_of, args_of, arg_of, ownership_of, inst_of, operands_of, operand_of, edges_of, edge_of, member_of, flags_of, qualifier_of, debug_of, entry_of, insts_of, terminator_of};
+
+use crate::nothing::{discard, no_debug, no_inst, no_qualifier, no_token, unit_type};
+use crate::prepended::Prepended;
+use crate::value::{Flags, Value};
+use crate::written_functions::{WrittenArg, WrittenBlock};
+use crate::written_instructions::{WrittenEdge, WrittenInst, WrittenOperand, WrittenQualifier};
+use crate::written_module::WrittenEntry;
+use sil_ast::{ArgKind, Debug, List, Member, Text};
+use std::alloc::Global;
+
+impl Value {
+    /// The instructions, and the terminator behind them.
+    #[tactic(auto, unfolding(crate::specs::Values::insts_of, crate::specs::Values::terminator_of))]
+    pub(crate) fn into_code(self, alloc: Global) -> (Prepended<WrittenInst>, WrittenInst)
+        ensures insts { result.0 ≡ insts_of self }
+        ensures terminator { result.1 ≡ terminator_of self }
+    {
+        match self {
+            Value::Code(insts, terminator) => (insts, terminator.into_inner()),
+            other => {
+                discard(other);
+                (Prepended::new(alloc), no_inst(alloc))
+            }
+        }
+    }
+
+    #[tactic(auto, unfolding(crate::specs::Values::blocks_of))]
+    pub(crate) fn into_blocks(self, alloc: Global) -> Prepended<WrittenBlock>
+        ensures { result ≡ blocks_of self }
+    {
+        match self {
+            Value::Blocks(kept) => kept,
+            other => {
+                discard(other);
+                Prepended::new(alloc)
+            }
+        }
+    }
+
+    #[tactic(auto, unfolding(crate::specs::Values::block_of))]
+    pub(crate) fn into_block(self, alloc: Global) -> WrittenBlock
+        ensures { result ≡ block_of self }
+    {
+        match self {
+            Value::Block(kept) => kept.into_inner(),
+            other => {
+                discard(other);
+                WrittenBlock {
+                    label: no_token(alloc),
+                    args: List::new(alloc),
+                    insts: List::new(alloc),
+                    terminator: no_inst(alloc),
+                }
+            }
+        }
+    }
+
+    #[tactic(auto, unfolding(crate::specs::Values::args_of))]
+    pub(crate) fn into_args(self, alloc: Global) -> Prepended<WrittenArg>
+        ensures { result ≡ args_of self }
+    {
+        match self {
+            Value::Args(kept) => kept,
+            other => {
+                discard(other);
+                Prepended::new(alloc)
+            }
+        }
+    }
+
+    #[tactic(auto, unfolding(crate::specs::Values::arg_of))]
+    pub(crate) fn into_arg(self, alloc: Global) -> WrittenArg
+        ensures { result ≡ arg_of self }
+    {
+        match self {
+            Value::Arg(kept) => kept,
+            other => {
+                discard(other);
+                WrittenArg {
+                    name: no_token(alloc),
+                    kind: ArgKind::Plain,
+                    ty: unit_type(alloc),
+                }
+            }
+        }
+    }
+
+    #[tactic(auto, unfolding(crate::specs::Values::ownership_of))]
+    pub(crate) fn into_ownership(self) -> ArgKind
+        ensures { result ≡ ownership_of self }
+    {
+        match self {
+            Value::Ownership(kept) => kept,
+            other => {
+                discard(other);
+                ArgKind::Plain
+            }
+        }
+    }
+
+    #[tactic(auto, unfolding(crate::specs::Values::inst_of))]
+    pub(crate) fn into_inst(self, alloc: Global) -> WrittenInst
+        ensures { result ≡ inst_of self }
+    {
+        match self {
+            Value::Inst(kept) => kept.into_inner(),
+            other => {
+                discard(other);
+                no_inst(alloc)
+            }
+        }
+    }
+
+    #[tactic(auto, unfolding(crate::specs::Values::operands_of))]
+    pub(crate) fn into_operands(self, alloc: Global) -> Prepended<WrittenOperand>
+        ensures { result ≡ operands_of self }
+    {
+        match self {
+            Value::Operands(kept) => kept,
+            other => {
+                discard(other);
+                Prepended::new(alloc)
+            }
+        }
+    }
+
+    #[tactic(auto, unfolding(crate::specs::Values::operand_of))]
+    pub(crate) fn into_operand(self, alloc: Global) -> WrittenOperand
+        ensures { result ≡ operand_of self }
+    {
+        match self {
+            Value::Operand(kept) => kept,
+            other => {
+                discard(other);
+                WrittenOperand {
+                    name: no_token(alloc),
+                    ty: None,
+                }
+            }
+        }
+    }
+
+    #[tactic(auto, unfolding(crate::specs::Values::edges_of))]
+    pub(crate) fn into_edges(self, alloc: Global) -> Prepended<WrittenEdge>
+        ensures { result ≡ edges_of self }
+    {
+        match self {
+            Value::Edges(kept) => kept,
+            other => {
+                discard(other);
+                Prepended::new(alloc)
+            }
+        }
+    }
+
+    #[tactic(auto, unfolding(crate::specs::Values::edge_of))]
+    pub(crate) fn into_edge(self, alloc: Global) -> WrittenEdge
+        ensures { result ≡ edge_of self }
+    {
+        match self {
+            Value::Edge(kept) => kept.into_inner(),
+            other => {
+                discard(other);
+                WrittenEdge {
+                    label: no_token(alloc),
+                    args: List::new(alloc),
+                    case_of: None,
+                }
+            }
+        }
+    }
+
+    #[tactic(auto, unfolding(crate::specs::Values::member_of))]
+    pub(crate) fn into_member(self, alloc: Global) -> Member
+        ensures { result ≡ member_of self }
+    {
+        match self {
+            Value::Member(kept) => kept,
+            other => {
+                discard(other);
+                Member {
+                    owner: Text::new(alloc),
+                    name: Text::new(alloc),
+                }
+            }
+        }
+    }
+
+    #[tactic(auto, unfolding(crate::specs::Values::flags_of))]
+    pub(crate) fn into_flags(self) -> Flags
+        ensures { result ≡ flags_of self }
+    {
+        match self {
+            Value::Flags(kept) => kept,
+            other => {
+                discard(other);
+                Flags {
+                    lexical: false,
+                    var_decl: false,
+                }
+            }
+        }
+    }
+
+    #[tactic(auto, unfolding(crate::specs::Values::qualifier_of))]
+    pub(crate) fn into_qualifier(self) -> WrittenQualifier
+        ensures { result ≡ qualifier_of self }
+    {
+        match self {
+            Value::Qualifier(kept) => kept,
+            other => {
+                discard(other);
+                no_qualifier()
+            }
+        }
+    }
+
+    #[tactic(auto, unfolding(crate::specs::Values::debug_of))]
+    pub(crate) fn into_debug(self) -> Debug
+        ensures { result ≡ debug_of self }
+    {
+        match self {
+            Value::Debug(kept) => kept,
+            other => {
+                discard(other);
+                no_debug()
+            }
+        }
+    }
+
+    #[tactic(auto, unfolding(crate::specs::Values::entry_of))]
+    pub(crate) fn into_entry(self) -> Option<WrittenEntry>
+        ensures { result ≡ entry_of self }
+    {
+        match self {
+            Value::Entry(kept) => Some(kept),
+            other => {
+                discard(other);
+                None
+            }
+        }
+    }
+}

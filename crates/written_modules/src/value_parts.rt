@@ -1,0 +1,263 @@
+//! Takes out of a value of a module, a declaration, a type or a signature what stands in it.
+
+ghost use Rattle.std.specs.Prelude.{◌≡◌};
+ghost use Rattle.written_modules.specs.Values.{token_of, stage_of, imports_of, items_of, item_of, fields_of, field_of, cases_of, type_of, payload_of, types_of, marks_of, linkage_of, tokens_of, convention_of, params_of, givens_of, signature_of};
+
+use crate::nothing::{discard, no_givens, no_params, no_token, no_type, no_types, unit_type};
+use crate::prepended::Prepended;
+use crate::value::Value;
+use crate::written_declarations::{WrittenCase, WrittenDecl, WrittenField, WrittenToken};
+use crate::written_module::WrittenItem;
+use crate::written_types::{GivenList, ParamList, TypeList, WrittenType};
+use sil_ast::{Convention, Imports, Linkage, List, Place, Signature, Stage, Storage, TypeName};
+use std::alloc::Global;
+
+impl Value {
+    #[tactic(auto, unfolding(crate::specs::Values::token_of))]
+    pub(crate) fn into_token(self, alloc: Global) -> WrittenToken
+        ensures { result ≡ token_of self }
+    {
+        match self {
+            Value::Token(kept) => kept,
+            other => {
+                discard(other);
+                no_token(alloc)
+            }
+        }
+    }
+
+    #[tactic(auto, unfolding(crate::specs::Values::stage_of))]
+    pub(crate) fn into_stage(self) -> Stage
+        ensures { result ≡ stage_of self }
+    {
+        match self {
+            Value::Stage(kept) => kept,
+            other => {
+                discard(other);
+                Stage::Canonical
+            }
+        }
+    }
+
+    #[tactic(auto, unfolding(crate::specs::Values::imports_of))]
+    pub(crate) fn into_imports(self) -> Imports
+        ensures { result ≡ imports_of self }
+    {
+        match self {
+            Value::Imports(kept) => kept,
+            other => {
+                discard(other);
+                Imports {
+                    builtin: false,
+                    swift: false,
+                }
+            }
+        }
+    }
+
+    #[tactic(auto, unfolding(crate::specs::Values::items_of))]
+    pub(crate) fn into_items(self, alloc: Global) -> Prepended<WrittenItem>
+        ensures { result ≡ items_of self }
+    {
+        match self {
+            Value::Items(kept) => kept,
+            other => {
+                discard(other);
+                Prepended::new(alloc)
+            }
+        }
+    }
+
+    #[tactic(auto, unfolding(crate::specs::Values::item_of))]
+    pub(crate) fn into_item(self, alloc: Global) -> WrittenItem
+        ensures { result ≡ item_of self }
+    {
+        match self {
+            Value::Item(kept) => kept.into_inner(),
+            other => {
+                discard(other);
+                WrittenItem::Decl(WrittenDecl::Class {
+                    name: no_token(alloc),
+                    fields: List::new(alloc),
+                })
+            }
+        }
+    }
+
+    #[tactic(auto, unfolding(crate::specs::Values::fields_of))]
+    pub(crate) fn into_fields(self, alloc: Global) -> Prepended<WrittenField>
+        ensures { result ≡ fields_of self }
+    {
+        match self {
+            Value::Fields(kept) => kept,
+            other => {
+                discard(other);
+                Prepended::new(alloc)
+            }
+        }
+    }
+
+    #[tactic(auto, unfolding(crate::specs::Values::field_of))]
+    pub(crate) fn into_field(self, alloc: Global) -> WrittenField
+        ensures { result ≡ field_of self }
+    {
+        match self {
+            Value::Field(kept) => kept,
+            other => {
+                discard(other);
+                WrittenField {
+                    name: no_token(alloc),
+                    storage: Storage::Strong,
+                    ty: unit_type(alloc),
+                }
+            }
+        }
+    }
+
+    #[tactic(auto, unfolding(crate::specs::Values::cases_of))]
+    pub(crate) fn into_cases(self, alloc: Global) -> Prepended<WrittenCase>
+        ensures { result ≡ cases_of self }
+    {
+        match self {
+            Value::Cases(kept) => kept,
+            other => {
+                discard(other);
+                Prepended::new(alloc)
+            }
+        }
+    }
+
+    #[tactic(auto, unfolding(crate::specs::Values::type_of))]
+    pub(crate) fn into_type(self, alloc: Global) -> WrittenType
+        ensures { result ≡ type_of self }
+    {
+        match self {
+            Value::Type(kept) => kept,
+            other => {
+                discard(other);
+                no_type(alloc)
+            }
+        }
+    }
+
+    #[tactic(auto, unfolding(crate::specs::Values::payload_of))]
+    pub(crate) fn into_payload(self) -> Option<TypeName>
+        ensures { result ≡ payload_of self }
+    {
+        match self {
+            Value::Type(kept) => Some(kept.ty),
+            other => {
+                discard(other);
+                None
+            }
+        }
+    }
+
+    #[tactic(auto, unfolding(crate::specs::Values::types_of))]
+    pub(crate) fn into_types(self, alloc: Global) -> TypeList
+        ensures { result ≡ types_of self }
+    {
+        match self {
+            Value::Types(kept) => kept,
+            other => {
+                discard(other);
+                no_types(alloc)
+            }
+        }
+    }
+
+    #[tactic(auto, unfolding(crate::specs::Values::marks_of))]
+    pub(crate) fn into_marks(self, alloc: Global) -> Prepended<Place>
+        ensures { result ≡ marks_of self }
+    {
+        match self {
+            Value::Marks(kept) => kept,
+            other => {
+                discard(other);
+                Prepended::new(alloc)
+            }
+        }
+    }
+
+    #[tactic(auto, unfolding(crate::specs::Values::linkage_of))]
+    pub(crate) fn into_linkage(self) -> Linkage
+        ensures { result ≡ linkage_of self }
+    {
+        match self {
+            Value::Linkage(kept) => kept,
+            other => {
+                discard(other);
+                Linkage::Plain
+            }
+        }
+    }
+
+    #[tactic(auto, unfolding(crate::specs::Values::tokens_of))]
+    pub(crate) fn into_tokens(self, alloc: Global) -> Prepended<WrittenToken>
+        ensures { result ≡ tokens_of self }
+    {
+        match self {
+            Value::Tokens(kept) => kept,
+            other => {
+                discard(other);
+                Prepended::new(alloc)
+            }
+        }
+    }
+
+    #[tactic(auto, unfolding(crate::specs::Values::convention_of))]
+    pub(crate) fn into_convention(self) -> Convention
+        ensures { result ≡ convention_of self }
+    {
+        match self {
+            Value::Convention(kept) => kept,
+            other => {
+                discard(other);
+                Convention::Thin
+            }
+        }
+    }
+
+    #[tactic(auto, unfolding(crate::specs::Values::params_of))]
+    pub(crate) fn into_params(self, alloc: Global) -> ParamList
+        ensures { result ≡ params_of self }
+    {
+        match self {
+            Value::Params(kept) => kept,
+            other => {
+                discard(other);
+                no_params(alloc)
+            }
+        }
+    }
+
+    #[tactic(auto, unfolding(crate::specs::Values::givens_of))]
+    pub(crate) fn into_givens(self, alloc: Global) -> GivenList
+        ensures { result ≡ givens_of self }
+    {
+        match self {
+            Value::Givens(kept) => kept,
+            other => {
+                discard(other);
+                no_givens(alloc)
+            }
+        }
+    }
+
+    #[tactic(auto, unfolding(crate::specs::Values::signature_of))]
+    pub(crate) fn into_signature(self, alloc: Global) -> Signature
+        ensures { result ≡ signature_of self }
+    {
+        match self {
+            Value::Signature(kept) => kept,
+            other => {
+                discard(other);
+                Signature {
+                    convention: Convention::Thin,
+                    params: List::new(alloc),
+                    results: List::new(alloc),
+                }
+            }
+        }
+    }
+}
