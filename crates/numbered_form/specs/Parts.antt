@@ -1,5 +1,5 @@
 -- Each instruction has just the parts of its row in the table of instructions.
-use Rattle.std.specs.Prelude.{◌≡◌, List, [], ◌∷◌, length, Bool, true, false, not, ◌&&◌, ◌||◌, ◌==◌, is_some, is_none, IsTrue, IsFalse}
+use Rattle.std.specs.Prelude.{◌≡◌, List, [], ◌∷◌, length, Bool, true, false, not, ◌&&◌, ◌||◌, ◌==◌, if◌then◌else◌, is_some, is_none, IsTrue, IsFalse}
 use Rattle.std.specs.List.{list_any, list_all}
 use Rattle.sil_ast.specs.Forms.{parts_of}
 use Rattle.sil_ast.specs.declared.debug.Debug.{Debug}
@@ -130,7 +130,7 @@ is_default e = is_none e.case_of && is_empty e.args
 -- cases, and then at most one default
 abbrev pub are_cases : List Edge → Bool
 are_cases [] = true
-are_cases (e ∷ es) = (is_case e && are_cases es) || (is_default e && is_empty es)
+are_cases (e ∷ es) = if is_case e then are_cases es else (is_default e && is_empty es)
 
 abbrev pub has_edges : Op → List Edge → Bool
 has_edges op.Br es = length es == 1 && list_all is_branch es
