@@ -61,7 +61,7 @@ refusal_of_fault kind.UnknownName place = refusal.UnknownName place
 
 -- why a text is refused: its first bad place, or else a fault or a name; in each case it spells no module
 pub data IsRefusalOf (text : List ℕ) : ReadRefusal → Type 0 where
-  bad : (place : BadPlace) → SpellsNone text → IsFirstBadPlace text place → IsRefusalOf text (refusal_of_bad place.kind place.place)
+  shapeless : (place : BadPlace) → SpellsNone text → IsFirstBadPlace text place → IsRefusalOf text (refusal_of_bad place.kind place.place)
   faulty : (fault : Fault) → SpellsNone text → IsFaulty text fault → IsRefusalOf text (refusal_of_fault fault.kind fault.place)
   misnamed : (fault : Fault) → SpellsNone text → IsMisnamed text fault → IsRefusalOf text (refusal_of_fault fault.kind fault.place)
   exhausted : IsRefusalOf text refusal.Memory
