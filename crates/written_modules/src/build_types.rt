@@ -20,7 +20,7 @@ use std::alloc::Global;
 /// The limit on the levels of a type.
 pub(crate) const DEPTH_LIMIT: u32 = 32;
 
-fn deeper(depth: u32) -> u32
+pub(crate) fn deeper(depth: u32) -> u32
     ensures { result ≡ deeper depth }
 {
     if DEPTH_LIMIT < depth {
