@@ -7,10 +7,11 @@ ghost use Rattle.written_modules.specs.PartFaults as said;
 ghost use Rattle.written_modules.specs.Places as placed;
 ghost use Rattle.written_modules.specs.Values.{args_of, blocks_of, cases_of, fields_of, givens_of, items_of, operands_of, params_of, token_of, tokens_of};
 
-use crate::counted_values::{Attributes, Declarations, Functions, Instructions, Values};
+use crate::counted_parts::{Attributes, Declarations, Functions, Instructions, Values};
 use crate::fault::{Fault, LimitWord};
 use crate::fault_order::{earlier, passed};
 use crate::found::{held_place, place_of};
+use crate::limits;
 use crate::prepended::Prepended;
 use crate::value::Value;
 use crate::written_functions::WrittenBlock;
@@ -23,9 +24,12 @@ fn module_fault(items: &Prepended<WrittenItem>) -> Option<Fault>
     earlier(
         passed(
             LimitWord::Declarations,
-            held_place::<Declarations>(items, 1024),
+            held_place::<Declarations>(items, limits::DECLARATIONS),
         ),
-        passed(LimitWord::Functions, held_place::<Functions>(items, 1024)),
+        passed(
+            LimitWord::Functions,
+            held_place::<Functions>(items, limits::FUNCTIONS),
+        ),
     )
 }
 
@@ -33,13 +37,16 @@ fn blocks_fault(blocks: &Prepended<WrittenBlock>) -> Option<Fault>
     ensures { result ≡ said.body_fault blocks.now }
 {
     earlier(
-        passed(LimitWord::Blocks, place_of(blocks, 512)),
+        passed(LimitWord::Blocks, place_of(blocks, limits::BLOCKS)),
         earlier(
             passed(
                 LimitWord::Instructions,
-                held_place::<Instructions>(blocks, 4096),
+                held_place::<Instructions>(blocks, limits::INSTRUCTIONS),
             ),
-            passed(LimitWord::Values, held_place::<Values>(blocks, 1024)),
+            passed(
+                LimitWord::Values,
+                held_place::<Values>(blocks, limits::VALUES),
+            ),
         ),
     )
 }
@@ -69,7 +76,7 @@ pub(crate) fn fields_fault(value: &Value) -> Option<Fault>
     ensures { result ≡ faults.passed limit.Members 64 (map placed.field_place (fields_of value.now)) }
 {
     match value {
-        Value::Fields(fields) => passed(LimitWord::Members, place_of(fields, 64)),
+        Value::Fields(fields) => passed(LimitWord::Members, place_of(fields, limits::MEMBERS)),
         _ => None,
     }
 }
@@ -79,7 +86,7 @@ pub(crate) fn cases_fault(value: &Value) -> Option<Fault>
     ensures { result ≡ faults.passed limit.Members 64 (map placed.case_place (cases_of value.now)) }
 {
     match value {
-        Value::Cases(cases) => passed(LimitWord::Members, place_of(cases, 64)),
+        Value::Cases(cases) => passed(LimitWord::Members, place_of(cases, limits::MEMBERS)),
         _ => None,
     }
 }
@@ -89,7 +96,7 @@ pub(crate) fn args_fault(value: &Value) -> Option<Fault>
     ensures { result ≡ faults.passed limit.Arguments 64 (map placed.arg_place (args_of value.now)) }
 {
     match value {
-        Value::Args(args) => passed(LimitWord::Arguments, place_of(args, 64)),
+        Value::Args(args) => passed(LimitWord::Arguments, place_of(args, limits::ARGUMENTS)),
         _ => None,
     }
 }
@@ -99,7 +106,10 @@ pub(crate) fn operands_fault(value: &Value) -> Option<Fault>
     ensures { result ≡ faults.passed limit.Arguments 64 (map placed.operand_place (operands_of value.now)) }
 {
     match value {
-        Value::Operands(operands) => passed(LimitWord::Arguments, place_of(operands, 64)),
+        Value::Operands(operands) => passed(
+            LimitWord::Arguments,
+            place_of(operands, limits::ARGUMENTS),
+        ),
         _ => None,
     }
 }
@@ -109,7 +119,7 @@ pub(crate) fn names_fault(value: &Value) -> Option<Fault>
     ensures { result ≡ faults.passed limit.Arguments 64 (map placed.token_place (tokens_of value.now)) }
 {
     match value {
-        Value::Tokens(names) => passed(LimitWord::Arguments, place_of(names, 64)),
+        Value::Tokens(names) => passed(LimitWord::Arguments, place_of(names, limits::ARGUMENTS)),
         _ => None,
     }
 }
@@ -120,7 +130,10 @@ pub(crate) fn other_names_fault(first: &Value, others: &Value) -> Option<Fault>
     ensures { result ≡ faults.passed limit.Arguments 64 (map placed.token_place (token_of first.now ∷ tokens_of others.now)) }
 {
     match others {
-        Value::Tokens(names) => passed(LimitWord::Arguments, place_of(names, 63)),
+        Value::Tokens(names) => passed(
+            LimitWord::Arguments,
+            place_of(names, limits::ARGUMENTS - 1),
+        ),
         _ => None,
     }
 }
@@ -130,7 +143,10 @@ pub(crate) fn attributes_fault(value: &Value) -> Option<Fault>
     ensures { result ≡ faults.passed limit.Arguments 64 (placed.attribute_places (tokens_of value.now)) }
 {
     match value {
-        Value::Tokens(words) => passed(LimitWord::Arguments, held_place::<Attributes>(words, 64)),
+        Value::Tokens(words) => passed(
+            LimitWord::Arguments,
+            held_place::<Attributes>(words, limits::ARGUMENTS),
+        ),
         _ => None,
     }
 }
@@ -140,7 +156,10 @@ pub(crate) fn params_fault(value: &Value) -> Option<Fault>
     ensures { result ≡ faults.passed limit.Arguments 64 (params_of value.now).firsts }
 {
     match value {
-        Value::Params(list) => passed(LimitWord::Arguments, list.firsts.get(64).copied()),
+        Value::Params(list) => passed(
+            LimitWord::Arguments,
+            list.firsts.get(limits::ARGUMENTS).copied(),
+        ),
         _ => None,
     }
 }
@@ -150,7 +169,10 @@ pub(crate) fn givens_fault(value: &Value) -> Option<Fault>
     ensures { result ≡ faults.passed limit.Arguments 64 (givens_of value.now).firsts }
 {
     match value {
-        Value::Givens(list) => passed(LimitWord::Arguments, list.firsts.get(64).copied()),
+        Value::Givens(list) => passed(
+            LimitWord::Arguments,
+            list.firsts.get(limits::ARGUMENTS).copied(),
+        ),
         _ => None,
     }
 }

@@ -20,7 +20,7 @@ use crate::type_faults::{
 use crate::value::Value;
 use sil_shape::grammar::Production;
 
-/// What the part of a production's body at `i` stands for.
+/// What the part of the production's body at `i` stands for. (Only the contract asks for the production.)
 fn part(values: &Prepended<Value>, production: Production, i: usize) -> &Value
     requires inside { i < length (body production) }
     requires enough { length (body production) ≤ length values.now }

@@ -1,16 +1,17 @@
 //! Types that become too deep, and lists of types that become too long.
 
-ghost use Rattle.std.specs.Prelude.{◌≡◌, List, length, slice_get};
+ghost use Rattle.std.specs.Prelude.{◌≡◌, ◌∷◌, List, length, slice_get};
 ghost use Rattle.sil_ast.specs.declared.place.Place.{Place};
+ghost use Rattle.sil_ast.specs.declared.type_name.TypeName.{TypeName};
 ghost use Rattle.written_modules.specs.Faults.{earlier};
 ghost use Rattle.written_modules.specs.PartFaults as said;
 ghost use Rattle.written_modules.specs.Types.{in_parens, type_before};
 ghost use Rattle.written_modules.specs.Values.{marks_of, token_of, type_of, types_of};
-ghost use Rattle.sil_ast.specs.declared.type_name.TypeName.{TypeName};
 
-use crate::build_types::{DEPTH_LIMIT, deeper};
+use crate::build_types::deeper;
 use crate::fault::{Fault, LimitWord};
 use crate::fault_order::{earlier, limit_fault, passed};
+use crate::limits;
 use crate::nothing::NO_PLACE;
 use crate::number_faults::place_in;
 use crate::value::Value;
@@ -82,7 +83,7 @@ fn mark_at(marks: &Value, i: usize) -> Option<Place>
 fn too_deep(depth: u32, last: Place) -> Option<Fault>
     ensures { result ≡ said.too_deep depth last }
 {
-    if depth == DEPTH_LIMIT {
+    if depth == limits::DEPTH {
         Some(limit_fault(LimitWord::Depth, last))
     } else {
         None
@@ -93,12 +94,12 @@ fn too_deep(depth: u32, last: Place) -> Option<Fault>
 fn too_marked(depth: u32, marks: &Value) -> Option<Fault>
     ensures { result ≡ said.too_marked depth (marks_of marks.now) }
 {
-    if DEPTH_LIMIT < depth {
+    if limits::DEPTH < depth {
         None
     } else {
         passed(
             LimitWord::Depth,
-            mark_at(marks, (DEPTH_LIMIT - depth) as usize),
+            mark_at(marks, (limits::DEPTH - depth) as usize),
         )
     }
 }
@@ -114,17 +115,29 @@ fn too_deep_among(count: usize, depth: u32, last: Place) -> Option<Fault>
     }
 }
 
+/// The fault of a type and others behind it between two parentheses.
+fn too_deep_beside(others: &Value, depth: u32, last: Place) -> Option<Fault>
+    ensures { (ty : TypeName) → result ≡ said.too_deep_among (ty ∷ (types_of others.now).types) depth last }
+{
+    if types_len(others) == 0 {
+        None
+    } else {
+        too_deep(depth, last)
+    }
+}
+
 /// `(T, U)` behind a case
 pub(crate) fn payload_fault(first: &Value, others: &Value, closing: &Value) -> Option<Fault>
     ensures { result ≡ said.tuple_fault (type_before (type_of first.now) (types_of others.now)) (token_of closing.now).place }
 {
     let depth = depth_of(first).max(types_depth(others));
-    let long = passed(LimitWord::Arguments, first_of(others, 63));
-    if types_len(others) == 0 {
-        earlier(long, None)
-    } else {
-        earlier(long, too_deep(depth, place_in(closing)))
-    }
+    earlier(
+        passed(
+            LimitWord::Arguments,
+            first_of(others, limits::ARGUMENTS - 1),
+        ),
+        too_deep_beside(others, depth, place_in(closing)),
+    )
 }
 
 /// The depth of the type between two parentheses.
@@ -150,7 +163,7 @@ pub(crate) fn paren_fault(
 {
     let last = place_in(closing);
     let tuple = earlier(
-        passed(LimitWord::Arguments, first_of(types, 64)),
+        passed(LimitWord::Arguments, first_of(types, limits::ARGUMENTS)),
         too_deep_among(types_len(types), types_depth(types), last),
     );
     earlier(tuple, too_marked(depth_in_parens(types), marks))

@@ -1,4 +1,4 @@
-//! The instructions and the values of a body, by the tokens at which they are counted.
+//! What is counted over many parts of a text: declarations and functions, attributes, instructions and values.
 
 ghost use Rattle.std.specs.Prelude.{◌≡◌, ℕ, List, map};
 ghost use Rattle.std.specs.List.{flat_map};
