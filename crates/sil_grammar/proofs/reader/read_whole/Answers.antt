@@ -1,0 +1,21 @@
+-- For `read_whole`: a fault refuses, and else the steps and tokens write a module.
+use Rattle.std.proofs.Common.{◌≡◌, length, take, Some, subst, sym, ◌∙◌, ap}
+use Rattle.sil_lexer.specs.Lexing.{lexemes_of}
+use Rattle.written_modules.specs.Replay.{first_fault}
+use Rattle.sil_grammar.specs.Refusals.{IsRefusalOf, faulty}
+use Rattle.sil_grammar.proofs.ReadLemmas.{fault_spells_none, faulty_whole, out_of_memory}
+use Rattle.sil_grammar.proofs.reader.read_whole.Goals as goal
+
+pub returns-in_err-built-clause-refused : goal.returns-in_err-built-clause-refused
+returns-in_err-built-clause-refused c = out_of_memory c.args.text.now c.from_residual.result c.from_residual.ensures.1
+
+pub returns-in-Some-clause-refused : goal.returns-in-Some-clause-refused
+returns-in-Some-clause-refused c =
+    let text = c.args.text.now in
+    let tokens = c.args.tokens.now in
+    let steps = c.args.steps.now in
+    let fault = c.in-Some.fault in
+    let first : first_fault steps (take (length tokens.tokens) (lexemes_of text tokens)) ≡ Some fault =
+    ap (λ n. first_fault steps (take n (lexemes_of text tokens))) (sym c.len.ensures) ∙ sym c.in_ok-built.ensures.fault ∙ c.in-Some.is in
+    subst (IsRefusalOf text) (sym c.refusal_of_fault.ensures)
+    (faulty fault (fault_spells_none text tokens c.requires.lexed steps c.requires.derived fault first) (faulty_whole text tokens c.requires.lexed steps c.requires.derived fault first))
