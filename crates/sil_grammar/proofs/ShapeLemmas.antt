@@ -1,5 +1,5 @@
 -- Tokens have shape up to the end of their text, or the text has a first bad place: for `shape_of`.
-use Rattle.std.proofs.Common.{◌≡◌, ℕ, ◌≤◌, List, [], length, map, take, Option, Some, None, Vec, Global, arith, ap, refl, sym, subst, ◌∙◌}
+use Rattle.std.proofs.Common.{◌≡◌, ℕ, ◌<◌, ◌≤◌, List, [], length, map, take, Option, Some, None, Vec, Global, arith, ap, refl, sym, subst, ◌∙◌}
 use Rattle.std.specs.Prelude.{MatchOption}
 use Rattle.std.proofs.lemmas.List.{append-nil, length-map, take-map}
 use Rattle.sil_lexer.specs.declared.token.LexRefusal.{LexRefusal}
@@ -15,7 +15,7 @@ use Rattle.sil_grammar.specs.declared.first_bad.Shape.{Shape}
 use Rattle.sil_grammar.specs.declared.first_bad.Shape.TheVariants.{Whole, Broken}
 use Rattle.sil_grammar.specs.Classes.{token_class}
 use Rattle.sil_grammar.specs.FirstBad as text_shape
-use Rattle.sil_grammar.specs.FirstBad.{bad_stop, IsFirstBadPlace}
+use Rattle.sil_grammar.specs.FirstBad.{bad_stop, token_place, IsFirstBadPlace}
 use Rattle.sil_grammar.specs.Shape.{IsBroken, IsShapeOf, IsWhole}
 use Rattle.sil_grammar.proofs.FirstBadLemmas.{stop_first}
 
@@ -28,12 +28,14 @@ take-classes text lexing count = take-map token_class count (lexemes_of text lex
 
 -- a class with which no list that has shape goes on
 pub broken_at : (text : List ℕ) (lexing : Lexing) (classes : List Class) (bad : BadPlace) (count : ℕ)
-    → classes ≡ map token_class (lexemes_of text lexing) → IsFirstBad classes count → IsFirstBadPlace text bad → IsBroken text lexing bad count
-broken_at text lexing classes bad count same at_count first =
+    → classes ≡ map token_class (lexemes_of text lexing) → IsFirstBad classes count → IsFirstBadPlace text bad
+    → (count < length lexing.tokens → bad.place ≡ token_place text (lexemes_of text lexing) count) → IsBroken text lexing bad count
+broken_at text lexing classes bad count same at_count first next =
     let here = subst (λ ks. IsFirstBad ks count) same at_count in
     record {
       first = first;
       inside = subst (λ n. count ≤ n) (length-classes text lexing) here.inside;
+      next = next;
       begins = subst BeginsShape (take-classes text lexing count) here.good;
     }
 
@@ -65,6 +67,7 @@ shaped text lexing classes steps shape is same derived taken enough told = by le
     by (Some stop) stops told = subst (IsShapeOf text lexing) (sym told) (record {
       first = stop_first text lexing is stop stops (λ i bad. absurd (no_first_bad (map token_class (lexemes_of text lexing)) i good bad));
       inside = omega arith;
+      next = λ below. absurd (omega (arith, below));
       begins = subst BeginsShape all (front_begins (map token_class (lexemes_of text lexing)) (length lexing.tokens) ([], subst HasShape (sym (append-nil (map token_class (lexemes_of text lexing)))) good));
     })
 
