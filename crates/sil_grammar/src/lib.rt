@@ -11,3 +11,6 @@ pub use first_bad::{BadKind, BadPlace, first_bad_place};
 pub use reader::{read, spelled_once};
 pub use refusal::ReadRefusal;
 pub use written_modules::LimitWord;
+
+#[cfg(test)]
+mod tests;
