@@ -49,7 +49,7 @@ pub record WritesFrontOfAnswer (words : List (List ℕ)) (left old new : Option 
 -- every status of the command
 abbrev pub IsStatus : ℕ → Type 0
 IsStatus status =
-    (status ≡ 0) ⊎ (status ≡ 1) ⊎ (status ≡ 2) ⊎ (status ≡ 3) ⊎ (status ≡ 4) ⊎ (status ≡ 5) ⊎ (status ≡ 8) ⊎ (status ≡ 9)
+    (status ≡ 0) ⊎ (status ≡ 1) ⊎ (status ≡ 2) ⊎ (status ≡ 3) ⊎ (status ≡ 4) ⊎ (status ≡ 5) ⊎ (status ≡ 8) ⊎ (status ≡ 9) ⊎ (status ≡ 11)
 
 -- what a call was given and what it left: the words, the source's bytes and count of faults, and the sink's
 pub record Call : Type 0 where
