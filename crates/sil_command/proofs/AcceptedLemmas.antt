@@ -89,7 +89,9 @@ check_zero text answer status within (checked m _ _ inside spelled told) known =
 zero_check : (text answer : List ℕ) (status : ℕ) → AnswersCheck text answer status → status ≡ 0 → IsAcceptedText text
 zero_check text _ _ (too_long long) zero = absurd (omega arith)
 zero_check text answer status (unread reason _ _ inside refusal told) zero = absurd (omega (arith, refusal_status reason answer status told))
-zero_check text answer status (checked m _ _ inside spelled told) zero = (m, spelled, zero_module m answer status told zero)
+zero_check text answer status (checked m _ _ inside spelled told) zero =
+    let kept = zero_module m answer status told zero in
+    (m, spelled, kept.0, kept.1)
 
 check_eleven : (text answer : List ℕ) (status : ℕ) → length text ≤ text_limit → AnswersCheck text answer status → IsNotBuiltText text → status ≡ 11
 check_eleven text _ _ within (too_long long) known = absurd (omega arith)
