@@ -1,6 +1,6 @@
 -- The steps of a derivation are replayed from the last to the first: there is a token at each step that takes one, and
 -- there are the values of its body at each production.
-use Rattle.std.proofs.Common.{◌≡◌, ℕ, suc, ◌+◌, ◌-◌, ◌<◌, ◌≤◌, List, [], ◌∷◌, length, take, drop, get_or, refl, ap, sym, subst, ◌∙◌, arith, add-one}
+use Rattle.std.proofs.Common.{◌≡◌, ℕ, ◌+◌, ◌-◌, ◌<◌, ◌≤◌, List, [], ◌∷◌, length, drop, get_or, refl, ap, sym, subst, ◌∙◌, arith}
 use Rattle.std.specs.Prelude.{Option}
 use Rattle.std.proofs.lemmas.List.{drop_more, drop-drop, length-drop}
 use Rattle.sil_lexer.specs.Lexes.{Lexeme}

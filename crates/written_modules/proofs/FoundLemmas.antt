@@ -1,6 +1,6 @@
 -- A search among places that stand in parts, one part after the other.
-use Rattle.std.proofs.Common.{◌≡◌, ℕ, zero, suc, ◌+◌, ◌<◌, ◌≤◌, List, [], ◌∷◌, ◌++◌, length, drop, map, true, false, if◌then◌else◌, refl, ap, sym, subst, ◌∙◌, arith, length-append, add-one}
-use Rattle.std.specs.Prelude.{Option, Some, None, filter, Bool}
+use Rattle.std.proofs.Common.{◌≡◌, ℕ, zero, suc, ◌+◌, ◌≤◌, List, [], ◌∷◌, ◌++◌, length, drop, map, true, false, if◌then◌else◌, refl, ap, sym, subst, ◌∙◌, arith, length-append}
+use Rattle.std.specs.Prelude.{Some, filter, Bool}
 use Rattle.std.proofs.lemmas.List.{drop_all, map-append}
 use Rattle.std.specs.List.{flat_map, slice_get}
 use Rattle.sil_ast.specs.declared.place.Place.{Place}

@@ -1,5 +1,5 @@
 -- The steps of a derivation of a module leave one value, the module.
-use Rattle.std.proofs.Common.{◌≡◌, [], ◌∷◌, ◌<◌, ◌∙◌, List, ap, arith, length, sym, take}
+use Rattle.std.proofs.Common.{◌≡◌, [], ◌∷◌, ◌∙◌, List, ap, arith, length, sym, take}
 use Rattle.sil_lexer.specs.Lexes.{Lexeme}
 use Rattle.sil_lexer.specs.Lexing.{lexemes_of}
 use Rattle.written_modules.specs.declared.value.Value.TheVariants as v

@@ -1,5 +1,5 @@
 -- There is a take wherever a token is taken, and there are the values of a body wherever a production is expanded.
-use Rattle.std.proofs.Common.{◌≡◌, ◌∷◌, ◌<◌, ◌≤◌, List, drop, take, length, ap, arith, ◌∙◌}
+use Rattle.std.proofs.Common.{◌≡◌, ◌∷◌, ◌<◌, List, drop, take, length, ap, arith, ◌∙◌}
 use Rattle.sil_lexer.specs.Lexes.{Lexeme}
 use Rattle.sil_lexer.specs.Lexing.{lexemes_of}
 use Rattle.written_modules.proofs.BuildLemmas.{enough_there, fault_taken, replay_taken, token_there}
