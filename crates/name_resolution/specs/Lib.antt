@@ -1,3 +1,4 @@
+pub mod Defined
 pub mod NameFaults
 pub mod Names
 pub mod Refusals

@@ -2,6 +2,8 @@
 //! and not defined. It knows of no text and of no rule.
 #![tactic(auto)]
 
+mod definitions;
+mod fault_order;
 mod refusal;
 mod resolving;
 
