@@ -2,10 +2,12 @@
 //! and not defined. It knows of no text and of no rule.
 #![tactic(auto)]
 
+mod defining;
 mod definitions;
 mod fault_order;
 mod refusal;
 mod resolving;
+mod using;
 
 pub use refusal::NameRefusal;
 pub use resolving::resolve;
