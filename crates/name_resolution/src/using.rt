@@ -31,6 +31,7 @@ pub(crate) struct ValueNames;
 impl Used for FunctionNames {
     ghost tokens = { functions_used };
 
+    #[tactic(auto, using(std::proofs::lemmas::Grind::common_steps, crate::proofs::FaultOrder::earlier_none, crate::proofs::FaultOrder::unknown_of_append))]
     fn unknown_in_inst(defined: &Definitions, inst: &WrittenInst) -> Option<Fault> {
         match &inst.function {
             Some(name) => defined.unknown(name),
@@ -42,6 +43,7 @@ impl Used for FunctionNames {
 impl Used for Labels {
     ghost tokens = { labels_used };
 
+    #[tactic(auto, using(std::proofs::lemmas::Grind::common_steps, crate::proofs::FaultOrder::earlier_none, crate::proofs::FaultOrder::unknown_of_append))]
     fn unknown_in_inst(defined: &Definitions, inst: &WrittenInst) -> Option<Fault> {
         unknown_labels(defined, inst.edges.as_slice())
     }
@@ -50,6 +52,7 @@ impl Used for Labels {
 impl Used for ValueNames {
     ghost tokens = { values_used };
 
+    #[tactic(auto, using(std::proofs::lemmas::Grind::common_steps, crate::proofs::FaultOrder::earlier_none, crate::proofs::FaultOrder::unknown_of_append))]
     fn unknown_in_inst(defined: &Definitions, inst: &WrittenInst) -> Option<Fault> {
         earlier(
             unknown_operands(defined, inst.operands.as_slice()),
@@ -58,6 +61,7 @@ impl Used for ValueNames {
     }
 }
 
+#[tactic(auto, using(std::proofs::lemmas::Grind::common_steps, crate::proofs::FaultOrder::earlier_none, crate::proofs::FaultOrder::unknown_of_append))]
 fn unknown_labels(labels: &Definitions, edges: &[WrittenEdge]) -> Option<Fault>
     ensures { result ≡ unknown_of labels.now.names (map edge_label edges.now) }
 {
@@ -68,6 +72,7 @@ fn unknown_labels(labels: &Definitions, edges: &[WrittenEdge]) -> Option<Fault>
     fault
 }
 
+#[tactic(auto, using(std::proofs::lemmas::Grind::common_steps, crate::proofs::FaultOrder::earlier_none, crate::proofs::FaultOrder::unknown_of_append))]
 fn unknown_operands(values: &Definitions, operands: &[WrittenOperand]) -> Option<Fault>
     ensures { result ≡ unknown_of values.now.names (map operand_name operands.now) }
 {
@@ -78,6 +83,7 @@ fn unknown_operands(values: &Definitions, operands: &[WrittenOperand]) -> Option
     fault
 }
 
+#[tactic(auto, using(std::proofs::lemmas::Grind::common_steps, crate::proofs::FaultOrder::earlier_none, crate::proofs::FaultOrder::unknown_of_append))]
 fn unknown_in_edges(values: &Definitions, edges: &[WrittenEdge]) -> Option<Fault>
     ensures { result ≡ unknown_of values.now.names (flat_map edge_values edges.now) }
 {
@@ -89,6 +95,7 @@ fn unknown_in_edges(values: &Definitions, edges: &[WrittenEdge]) -> Option<Fault
 }
 
 /// The first name of the kind that instructions of these blocks use and that isn't defined.
+#[tactic(auto, using(std::proofs::lemmas::Grind::common_steps, crate::proofs::FaultOrder::earlier_none, crate::proofs::FaultOrder::unknown_of_append))]
 pub(crate) fn unknown_in_blocks<U: Used>(
     defined: &Definitions,
     blocks: &[WrittenBlock],
@@ -104,6 +111,7 @@ pub(crate) fn unknown_in_blocks<U: Used>(
     fault
 }
 
+#[tactic(auto, using(std::proofs::lemmas::Grind::common_steps, crate::proofs::FaultOrder::earlier_none, crate::proofs::FaultOrder::unknown_of_append))]
 fn unknown_in_insts<U: Used>(defined: &Definitions, insts: &[WrittenInst]) -> Option<Fault>
     ensures { result ≡ unknown_of defined.now.names (flat_map U.tokens insts.now) }
 {
@@ -115,6 +123,7 @@ fn unknown_in_insts<U: Used>(defined: &Definitions, insts: &[WrittenInst]) -> Op
 }
 
 /// The first function that these items use and that isn't defined.
+#[tactic(auto, using(std::proofs::lemmas::Grind::common_steps, crate::proofs::FaultOrder::earlier_none, crate::proofs::FaultOrder::unknown_of_append))]
 pub(crate) fn unknown_functions(functions: &Definitions, items: &[WrittenItem]) -> Option<Fault>
     ensures { result ≡ unknown_of functions.now.names (flat_map used_by_item items.now) }
 {
@@ -125,6 +134,7 @@ pub(crate) fn unknown_functions(functions: &Definitions, items: &[WrittenItem]) 
     fault
 }
 
+#[tactic(auto, using(std::proofs::lemmas::Grind::common_steps, crate::proofs::FaultOrder::earlier_none, crate::proofs::FaultOrder::unknown_of_append))]
 fn unknown_in_item(functions: &Definitions, item: &WrittenItem) -> Option<Fault>
     ensures { result ≡ unknown_of functions.now.names (used_by_item item.now) }
 {
