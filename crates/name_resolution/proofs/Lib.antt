@@ -1,1 +1,2 @@
+pub mod DefinedNames
 pub mod FaultOrder

@@ -5,6 +5,7 @@
 mod defining;
 mod definitions;
 mod fault_order;
+mod name_faults;
 mod refusal;
 mod resolving;
 mod using;
