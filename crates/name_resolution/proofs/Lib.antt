@@ -1,2 +1,3 @@
 pub mod DefinedNames
 pub mod FaultOrder
+pub mod NumberLemmas

@@ -6,6 +6,8 @@ mod defining;
 mod definitions;
 mod fault_order;
 mod name_faults;
+mod numbered_values;
+mod numbering;
 mod refusal;
 mod resolving;
 mod using;
