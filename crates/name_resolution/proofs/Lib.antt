@@ -1,3 +1,4 @@
 pub mod DefinedNames
 pub mod FaultOrder
 pub mod NumberLemmas
+pub mod ResolvedLemmas

@@ -9,6 +9,7 @@ mod name_faults;
 mod numbered_values;
 mod numbering;
 mod refusal;
+mod resolved_code;
 mod resolving;
 mod using;
 
