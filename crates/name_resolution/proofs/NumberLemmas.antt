@@ -85,3 +85,10 @@ position_of_named name from (t ∷ ts) = ap (cond (bytes_eq name t.text) (Some f
 pub finds_names : (tokens : List WrittenToken) → FindsNames (with_values nothing_numbered (map named tokens)) (map name_of tokens)
 finds_names tokens name =
     ap (λ o. unwrap_or o 0) (found_after nothing_numbered (map named tokens) name ∙ position_of_named name 0 tokens ∙ sym (position_from-zero (bytes_eq name) (map name_of tokens)))
+
+map_twice : {X Y Z : Type 0} (f : Y → Z) (h : X → Y) (xs : List X) → map f (map h xs) ≡ map (λ x. f (h x)) xs
+map_twice f h [] = refl
+map_twice f h (x ∷ xs) = ap (λ l. f (h x) ∷ l) (map_twice f h xs)
+
+pub finds_each : {X : Type 0} (token : X → WrittenToken) (xs : List X) → FindsNames (with_values nothing_numbered (map named (map token xs))) (map (λ x. name_of (token x)) xs)
+finds_each token xs = subst (FindsNames (with_values nothing_numbered (map named (map token xs)))) (map_twice name_of token xs) (finds_names (map token xs))

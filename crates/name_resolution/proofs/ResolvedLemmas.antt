@@ -1,8 +1,10 @@
 -- What is resolved, in parts.
-use Rattle.std.proofs.Common.{◌≡◌, ℕ, ◌+◌, ◌<◌, List, [], ◌∷◌, ◌++◌, length, get_or, take, sym, ap, ◌∙◌, add_assoc, length-append, arith}
+use Rattle.std.proofs.Common.{◌≡◌, ℕ, ◌+◌, ◌<◌, List, [], ◌∷◌, ◌++◌, length, get_or, take, map, sym, ap, ◌∙◌, add_assoc, length-append, arith}
 use Rattle.std.specs.Prelude.{Option, None}
 use Rattle.std.specs.List.{flat_map}
-use Rattle.std.proofs.lemmas.List.{length-take-le, take_more}
+use Rattle.std.proofs.lemmas.Grind.{flat_map-append}
+use Rattle.std.proofs.lemmas.List.{append-nil, length-take-le, map-append, take_more}
+use Rattle.sil_ast.specs.declared.function.Block.{Block}
 use Rattle.sil_ast.specs.declared.place.ValueId.{ValueId}
 use Rattle.written_modules.specs.declared.written_functions.WrittenArg.{WrittenArg}
 use Rattle.written_modules.specs.declared.written_functions.WrittenBlock.{WrittenBlock}
@@ -51,3 +53,24 @@ counted_more first i values inside =
     ap (counted first) (take_more values i None inside)
     ∙ counted_append first (take i values) (get_or values i None ∷ [])
     ∙ ap (λ n. counted first (take i values) ++ record { 0 = first + n } ∷ []) (length-take-le i values (omega arith))
+
+module _ {X : Type 0} (xs : List X) (i : ℕ) (x : X) (inside : i < length xs) (is : x ≡ get_or xs i x) where
+  take_on : take (i + 1) xs ≡ take i xs ++ x ∷ []
+  take_on = take_more xs i x inside ∙ ap (λ y. take i xs ++ y ∷ []) (sym is)
+
+  -- one element on
+  pub built_more : {Y : Type 0} (f : X → Y) (built after : List Y) (y : Y) → built ≡ map f (take i xs) → after ≡ built ++ y ∷ [] → y ≡ f x → after ≡ map f (take (i + 1) xs)
+  built_more f built after y b a e =
+      a ∙ ap (λ l. l ++ y ∷ []) b ∙ ap (λ z. map f (take i xs) ++ z ∷ []) e ∙ sym (ap (map f) take_on ∙ map-append f (take i xs) (x ∷ []))
+
+  pub length_more : {Y : Type 0} (f : X → List Y) (next after : ℕ) → next ≡ length (flat_map f (take i xs)) → after ≡ next + length (f x) → after ≡ length (flat_map f (take (i + 1) xs))
+  length_more f next after n a =
+      a ∙ ap (λ m. m + length (f x)) n ∙ sym (ap (λ l. length (flat_map f l)) take_on ∙ ap length (flat_map-append f (take i xs) (x ∷ [])) ∙ length-append (flat_map f (take i xs)) (f x ++ []) ∙ ap (λ l. length (flat_map f (take i xs)) + length l) (append-nil (f x)))
+
+pub blocks_more : (s : Scope) (xs : List WrittenBlock) (i : ℕ) (x : WrittenBlock) → i < length xs → x ≡ get_or xs i x → (built after : List Block) (y : Block) (next : ℕ) → built ≡ resolved_blocks s 0 (take i xs) → next ≡ length (flat_map defined_in (take i xs)) → after ≡ built ++ y ∷ [] → y ≡ resolved_block s next x → after ≡ resolved_blocks s 0 (take (i + 1) xs)
+blocks_more s xs i x inside is built after y next b n a e =
+    let first : next ≡ 0 + length (flat_map defined_in (take i xs)) = n ∙ (omega arith) in
+    a
+    ∙ ap (λ l. l ++ y ∷ []) b
+    ∙ ap (λ z. resolved_blocks s 0 (take i xs) ++ z ∷ []) (e ∙ ap (λ m. resolved_block s m x) first)
+    ∙ sym (ap (resolved_blocks s 0) (take_on xs i x inside is) ∙ resolved_blocks_append s 0 (take i xs) (x ∷ []))

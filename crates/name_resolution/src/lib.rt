@@ -10,6 +10,7 @@ mod numbered_values;
 mod numbering;
 mod refusal;
 mod resolved_code;
+mod resolved_items;
 mod resolving;
 mod using;
 
