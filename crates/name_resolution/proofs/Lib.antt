@@ -1,0 +1,4 @@
+pub mod DefinedNames
+pub mod FaultOrder
+pub mod NumberLemmas
+pub mod ResolvedLemmas

@@ -1,4 +1,7 @@
+pub mod Defined
 pub mod NameFaults
 pub mod Names
+pub mod Numbered
 pub mod Refusals
 pub mod Resolved
+pub mod Tables

@@ -2,8 +2,17 @@
 //! and not defined. It knows of no text and of no rule.
 #![tactic(auto)]
 
+mod defining;
+mod definitions;
+mod fault_order;
+mod name_faults;
+mod numbered_values;
+mod numbering;
 mod refusal;
+mod resolved_code;
+mod resolved_items;
 mod resolving;
+mod using;
 
 pub use refusal::NameRefusal;
 pub use resolving::resolve;

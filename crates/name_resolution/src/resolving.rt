@@ -5,8 +5,11 @@ ghost use Rattle.name_resolution.specs.NameFaults.{name_fault};
 ghost use Rattle.name_resolution.specs.Refusals.{IsRefusalOf};
 ghost use Rattle.name_resolution.specs.Resolved.{resolved};
 
+use crate::name_faults::name_fault;
+use crate::numbered_values::numbered_functions;
 use crate::refusal::NameRefusal;
-use sil_ast::Module;
+use crate::resolved_items::{resolve_decls, resolve_functions, resolve_vtables};
+use sil_ast::{Exhausted, Module};
 use std::alloc::Global;
 use written_modules::WrittenModule;
 
@@ -16,5 +19,23 @@ pub fn resolve(alloc: Global, w: &WrittenModule) -> Result<Module, NameRefusal>
     ensures resolved { IfOk result (λ m. m ≡ resolved w.now) }
     ensures refused { IfErr result (IsRefusalOf w.now) }
 {
-    Err(NameRefusal::Memory)
+    if let Some(fault) = name_fault(alloc, w)? {
+        return Err(NameRefusal::Name(fault));
+    }
+    Ok(resolve_module(alloc, w)?)
+}
+
+#[tactic(auto, unfolding(crate::specs::Resolved::resolved))]
+fn resolve_module(alloc: Global, w: &WrittenModule) -> Result<Module, Exhausted>
+    ensures { IfOk result (λ m. m ≡ resolved w.now) }
+{
+    let items = w.items.as_slice();
+    let functions = numbered_functions(alloc, items)?;
+    Ok(Module {
+        stage: w.stage,
+        imports: w.imports,
+        decls: resolve_decls(alloc, items)?,
+        functions: resolve_functions(alloc, &functions, items)?,
+        vtables: resolve_vtables(alloc, &functions, items)?,
+    })
 }

@@ -1,0 +1,8 @@
+use Rattle.std.proofs.Common.{◌≡◌, take, map}
+use Rattle.std.specs.List.{flat_map}
+use Rattle.name_resolution.specs.Defined.{reserved_only, with_tokens}
+use Rattle.name_resolution.specs.Names.{decl_name, decls_of, reserved}
+use Rattle.name_resolution.proofs.defining.declared.Given as goal
+
+abbrev pub invariant-loop-item : goal.invariant-loop-item
+invariant-loop-item l = l.defined ≡ with_tokens (reserved_only (reserved l.fn.imports)) (map decl_name (flat_map decls_of (take l.item-index l.items)))

@@ -1,0 +1,7 @@
+use Rattle.std.proofs.Common.{◌≡◌, filter, map, take}
+use Rattle.written_modules.specs.Places.{is_kept}
+use Rattle.name_resolution.specs.Names.{name_of}
+use Rattle.name_resolution.proofs.resolved_items.kept_attributes.Given as goal
+
+abbrev pub invariant-loop-word : goal.invariant-loop-word
+invariant-loop-word l = l.kept ≡ map name_of (filter is_kept (take l.word-index l.words))

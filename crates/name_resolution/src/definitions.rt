@@ -1,0 +1,92 @@
+//! The names that are defined so far, and the first that is defined twice.
+
+ghost use Rattle.std.specs.Prelude.{◌≡◌, None, OnOk, IfOk};
+
+use crate::fault_order::earlier;
+use indexmap::IndexSet;
+use sil_ast::{Exhausted, Imports, Text, TryClone};
+use std::alloc::Global;
+use std::marker::Model;
+use written_modules::{Fault, FaultKind, WrittenToken};
+
+/// Names, and the first token whose name stood before.
+#[derive(Drop)]
+pub(crate) struct Definitions {
+    names: IndexSet<Text>,
+    twice: Option<Fault>,
+}
+
+impl Model for Definitions {
+    ghost use Rattle.name_resolution.specs.Defined.{Defined};
+
+    ghost Value = { Defined };
+
+    ghost view = { λ d. record { names = d.names.keys; twice = d.twice } };
+}
+
+impl Definitions {
+    ghost use Rattle.std.specs.Prelude.{[]};
+    ghost use Rattle.name_resolution.specs.Defined.{reserved_only, unknown_of, with_token};
+    ghost use Rattle.name_resolution.specs.NameFaults.{unknown_in};
+    ghost use Rattle.name_resolution.specs.Names.{reserved};
+
+    pub(crate) fn new(alloc: Global) -> Definitions
+        ensures { result ≡ reserved_only [] }
+    {
+        Definitions {
+            names: IndexSet::new(alloc),
+            twice: None,
+        }
+    }
+
+    /// Only the names that the imports declare.
+    pub(crate) fn of_imports(alloc: Global, imports: Imports) -> Result<Definitions, Exhausted>
+        ensures { IfOk result (λ d. d ≡ reserved_only (reserved imports)) }
+    {
+        let mut names = IndexSet::new(alloc);
+        names.insert(Text::from_slice(alloc, b"Builtin")?)?;
+        if imports.swift {
+            names.insert(Text::from_slice(alloc, b"Int")?)?;
+            names.insert(Text::from_slice(alloc, b"Bool")?)?;
+            names.insert(Text::from_slice(alloc, b"Optional")?)?;
+        }
+        Ok(Definitions { names, twice: None })
+    }
+
+    pub(crate) fn define(&mut self, alloc: Global, token: &WrittenToken) -> Result<(), Exhausted>
+        ensures { OnOk result (self.new ≡ with_token self.old token.now) }
+    {
+        let is_new = self.names.insert(token.text.try_clone(alloc)?)?;
+        let here = if is_new {
+            None
+        } else {
+            Some(Fault {
+                kind: FaultKind::Twice,
+                place: token.place,
+            })
+        };
+        self.twice = earlier(self.twice, here);
+        Ok(())
+    }
+
+    /// The first token whose name stood before.
+    pub(crate) fn twice(&self) -> Option<Fault>
+        ensures { result ≡ self.now.twice }
+    {
+        self.twice
+    }
+
+    /// A token whose name isn't defined.
+    pub(crate) fn unknown(&self, token: &WrittenToken) -> Option<Fault>
+        ensures { result ≡ unknown_in self.now.names token.now }
+    {
+        if self.names.contains(&token.text) {
+            None
+        } else {
+            Some(Fault {
+                kind: FaultKind::UnknownName,
+                place: token.place,
+            })
+        }
+    }
+}

@@ -1,0 +1,159 @@
+//! Gives numbers to the functions of a module, and to the blocks and values of a function.
+
+ghost use Rattle.std.specs.Prelude.{◌≡◌, length, map, IfOk, OnOk};
+ghost use Rattle.std.specs.List.{flat_map};
+ghost use Rattle.written_modules.specs.Places.{has_one_result};
+ghost use Rattle.name_resolution.specs.Names.{function_name, functions_of, label_of};
+ghost use Rattle.name_resolution.specs.Numbered.{named, nothing_numbered, with_values};
+ghost use Rattle.name_resolution.specs.Resolved.{defined_by, defined_by_arg, defined_by_inst, defined_in};
+
+use crate::numbering::Numbering;
+use sil_ast::{Exhausted, Op};
+use std::alloc::Global;
+use written_modules::{WrittenArg, WrittenBlock, WrittenInst, WrittenItem, WrittenToken};
+
+pub(crate) fn numbered_functions(
+    alloc: Global,
+    items: &[WrittenItem],
+) -> Result<Numbering, Exhausted>
+    ensures { IfOk result (λ n. n ≡ with_values nothing_numbered (map named (map function_name (flat_map functions_of items.now)))) }
+{
+    let mut numbering = Numbering::new(alloc);
+    for item in items {
+        if let WrittenItem::Function(function) = item {
+            numbering.define(alloc, &function.name.text)?;
+        }
+    }
+    Ok(numbering)
+}
+
+pub(crate) fn numbered_blocks(
+    alloc: Global,
+    blocks: &[WrittenBlock],
+) -> Result<Numbering, Exhausted>
+    ensures { IfOk result (λ n. n ≡ with_values nothing_numbered (map named (map label_of blocks.now))) }
+{
+    let mut numbering = Numbering::new(alloc);
+    for block in blocks {
+        numbering.define(alloc, &block.label.text)?;
+    }
+    Ok(numbering)
+}
+
+pub(crate) fn numbered_values(
+    alloc: Global,
+    blocks: &[WrittenBlock],
+) -> Result<Numbering, Exhausted>
+    ensures { IfOk result (λ n. n ≡ with_values nothing_numbered (flat_map defined_in blocks.now)) }
+{
+    let mut numbering = Numbering::new(alloc);
+    for block in blocks {
+        number_args(alloc, &mut numbering, block.args.as_slice())?;
+        number_insts(alloc, &mut numbering, block.insts.as_slice())?;
+    }
+    Ok(numbering)
+}
+
+fn number_args(
+    alloc: Global,
+    numbering: &mut Numbering,
+    args: &[WrittenArg],
+) -> Result<(), Exhausted>
+    ensures { OnOk result (numbering.new ≡ with_values numbering.old (map defined_by_arg args.now)) }
+{
+    for arg in args {
+        numbering.define(alloc, &arg.name.text)?;
+    }
+    Ok(())
+}
+
+fn number_insts(
+    alloc: Global,
+    numbering: &mut Numbering,
+    insts: &[WrittenInst],
+) -> Result<(), Exhausted>
+    ensures { OnOk result (numbering.new ≡ with_values numbering.old (flat_map defined_by_inst insts.now)) }
+{
+    for inst in insts {
+        number_results(alloc, numbering, inst)?;
+    }
+    Ok(())
+}
+
+fn number_results(
+    alloc: Global,
+    numbering: &mut Numbering,
+    inst: &WrittenInst,
+) -> Result<(), Exhausted>
+    ensures { OnOk result (numbering.new ≡ with_values numbering.old (defined_by_inst inst.now)) }
+{
+    match inst.results.as_slice() {
+        [] => {
+            if has_one_result(inst.op) {
+                numbering.define_unnamed()?;
+            }
+            Ok(())
+        }
+        tokens => number_tokens(alloc, numbering, tokens),
+    }
+}
+
+fn number_tokens(
+    alloc: Global,
+    numbering: &mut Numbering,
+    tokens: &[WrittenToken],
+) -> Result<(), Exhausted>
+    ensures { OnOk result (numbering.new ≡ with_values numbering.old (map named tokens.now)) }
+{
+    for token in tokens {
+        numbering.define(alloc, &token.text)?;
+    }
+    Ok(())
+}
+
+/// How many values an instruction defines.
+pub(crate) fn count_of_results(inst: &WrittenInst) -> usize
+    ensures { result ≡ length (defined_by_inst inst.now) }
+{
+    match inst.results.as_slice() {
+        [] => {
+            if has_one_result(inst.op) {
+                1
+            } else {
+                0
+            }
+        }
+        tokens => tokens.len(),
+    }
+}
+
+// The instructions that have one result, which may be left without a name.
+#[tactic(auto, unfolding(written_modules::specs::Places::has_one_result))]
+fn has_one_result(op: Op) -> bool
+    ensures { result ≡ has_one_result op }
+{
+    match op {
+        Op::IntegerLiteral
+        | Op::FunctionRef
+        | Op::Builtin
+        | Op::AllocRef
+        | Op::AllocStack
+        | Op::CopyValue
+        | Op::MoveValue
+        | Op::BeginBorrow
+        | Op::Load
+        | Op::LoadBorrow
+        | Op::LoadWeak
+        | Op::LoadUnowned
+        | Op::Struct
+        | Op::Tuple
+        | Op::Enum
+        | Op::StructExtract
+        | Op::TupleExtract
+        | Op::StructElementAddr
+        | Op::TupleElementAddr
+        | Op::RefElementAddr
+        | Op::Apply => true,
+        _ => false,
+    }
+}
