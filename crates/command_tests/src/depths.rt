@@ -1,11 +1,9 @@
 //! Types with as many levels as they may have, and with one more.
 
-use crate::patterns::{
-    Counted, Limited, NO_HEAD, NO_VALUE, ONE_VALUE, assert_counted, assert_limits,
-};
+use crate::patterns::{Counted, Limited, NO_HEAD, assert_counted, assert_limits};
 use std::test::Fail;
 
-const DEPTH_LIMITS: [Limited; 15] = [
+const DEPTH_LIMITS: [Limited; 17] = [
     // by ?
     ("import Swift\nclass C { var x: C`?` }\n", 31, "2:50"),
     // by Optional
@@ -48,17 +46,15 @@ const DEPTH_LIMITS: [Limited; 15] = [
     ),
     // of a result
     ("sil @f : $@convention(thin) () -> A`?`\n", 31, "1:67"),
-];
-
-const DEPTH_LIMITS_WITH_VALUE: [Limited; 1] = [
     // of an operand
-    ("debug_value %0 : $A`?`\nunreachable\n}\n", 31, "3:51"),
-];
-
-const DEPTH_LIMITS_WITHOUT_VALUE: [Limited; 1] = [
+    (
+        "sil [ossa] @f : $@convention(thin) () -> () {\nb(%0 : $A):\ndebug_value %0 : $A`?`\nunreachable\n}\n",
+        31,
+        "3:51",
+    ),
     // of an instruction's type
     (
-        "%0 = alloc_stack $@sil_weak A`?`\nunreachable\n}\n",
+        "sil [ossa] @f : $@convention(thin) () -> () {\nb:\n%0 = alloc_stack $@sil_weak A`?`\nunreachable\n}\n",
         30,
         "3:60",
     ),
@@ -98,8 +94,6 @@ const DEPTH_COUNTED: [Counted; 5] = [
 fn a_type_has_32_levels(rt: HostRuntime) -> Result<(), Fail> {
     let alloc = rt.alloc();
     assert_limits(&rt, alloc, NO_HEAD, "depth", &DEPTH_LIMITS)?;
-    assert_limits(&rt, alloc, ONE_VALUE, "depth", &DEPTH_LIMITS_WITH_VALUE)?;
-    assert_limits(&rt, alloc, NO_VALUE, "depth", &DEPTH_LIMITS_WITHOUT_VALUE)?;
     assert_counted(&rt, alloc, NO_HEAD, &DEPTH_COUNTED)?;
     Ok(())
 }

@@ -29,17 +29,18 @@ const BLOCKS_COUNTED: [Counted; 1] = [
     ),
 ];
 
-const INSTRUCTIONS_LIMITS_WITH_VALUE: [Limited; 1] = [
-    // the terminator is one too many
-    ("`debug_value %0 : $A\n`unreachable\n}\n", 4095, "4099:1"),
-];
-
-const INSTRUCTIONS_LIMITS: [Limited; 1] = [
+const INSTRUCTIONS_LIMITS: [Limited; 2] = [
     // of all blocks together
     (
         "sil @f : $@convention(thin) () -> () {\n`b~(%~ : $A):\ndebug_value %0 : $A\ndebug_value %0 : $A\ndebug_value %0 : $A\ndebug_value %0 : $A\ndebug_value %0 : $A\ndebug_value %0 : $A\ndebug_value %0 : $A\ndebug_value %0 : $A\ndebug_value %0 : $A\ndebug_value %0 : $A\ndebug_value %0 : $A\ndebug_value %0 : $A\ndebug_value %0 : $A\ndebug_value %0 : $A\ndebug_value %0 : $A\nunreachable\n`}\n",
         256,
         "4355:1",
+    ),
+    // the terminator is one too many
+    (
+        "sil [ossa] @f : $@convention(thin) () -> () {\nb(%0 : $A):\n`debug_value %0 : $A\n`unreachable\n}\n",
+        4095,
+        "4099:1",
     ),
 ];
 
@@ -92,16 +93,7 @@ const VALUES_LIMITS_WITHOUT_VALUE: [Limited; 4] = [
     ("`(%~) = alloc_ref $A\n`unreachable\n}\n", 1024, "1027:2"),
 ];
 
-const VALUES_LIMITS_WITH_VALUE: [Limited; 1] = [
-    // two names
-    (
-        "`(%a~, %b~) = destructure_tuple %0 : $(A, A)\n`unreachable\n}\n",
-        511,
-        "514:9",
-    ),
-];
-
-const VALUES_LIMITS: [Limited; 5] = [
+const VALUES_LIMITS: [Limited; 6] = [
     // arguments of blocks
     (
         "sil @f : $@convention(thin) () -> () {\n`b~(%a~ : $A, %b~ : $A, %c~ : $A, %d~ : $A):\nunreachable\n`}\n",
@@ -132,9 +124,15 @@ const VALUES_LIMITS: [Limited; 5] = [
         1023,
         "1026:14",
     ),
+    // two names
+    (
+        "sil [ossa] @f : $@convention(thin) () -> () {\nb(%0 : $A):\n`(%a~, %b~) = destructure_tuple %0 : $(A, A)\n`unreachable\n}\n",
+        511,
+        "514:9",
+    ),
 ];
 
-const VALUES_COUNTED: [Counted; 4] = [
+const VALUES_COUNTED: [Counted; 5] = [
     // other stores are none
     (
         "sil [ossa] @f : $@convention(thin) () -> () {\nb(%0 : $*A):\n`store %0 to [init] %0 : $*A\nstore %0 to [trivial] %0 : $*A\n`unreachable\n}\n",
@@ -159,12 +157,9 @@ const VALUES_COUNTED: [Counted; 4] = [
         1025,
         "limit values at 1028:1",
     ),
-];
-
-const VALUES_COUNTED_WITH_VALUE: [Counted; 1] = [
     // rows with no result or several are none without names
     (
-        "`destructure_struct %0 : $A\n() = destructure_tuple %0 : $(A, A)\n`unreachable\n}\n",
+        "sil [ossa] @f : $@convention(thin) () -> () {\nb(%0 : $A):\n`destructure_struct %0 : $A\n() = destructure_tuple %0 : $(A, A)\n`unreachable\n}\n",
         1100,
         "not built",
     ),
@@ -183,27 +178,19 @@ fn a_function_has_512_blocks(rt: HostRuntime) -> Result<(), Fail> {
 #[test]
 fn a_function_has_4096_instructions(rt: HostRuntime) -> Result<(), Fail> {
     let alloc = rt.alloc();
-    assert_limits(
-        &rt,
-        alloc,
-        ONE_VALUE,
-        "instructions",
-        &INSTRUCTIONS_LIMITS_WITH_VALUE,
-    )?;
     assert_limits(&rt, alloc, NO_HEAD, "instructions", &INSTRUCTIONS_LIMITS)?;
     assert_counted(&rt, alloc, ONE_VALUE, &INSTRUCTIONS_COUNTED_WITH_VALUE)?;
     assert_counted(&rt, alloc, NO_HEAD, &INSTRUCTIONS_COUNTED)?;
     Ok(())
 }
 
-// The place is that of the name, or of the mnemonic where there is none and at `destroy_addr`; at `store [assign]` that of the word `assign`.
+// The place is that of the name, or of the mnemonic where there is none and at `destroy_addr`.
+// At `store [assign]` it is that of the word `assign`.
 #[test]
 fn a_function_has_1024_values(rt: HostRuntime) -> Result<(), Fail> {
     let alloc = rt.alloc();
     assert_limits(&rt, alloc, NO_VALUE, "values", &VALUES_LIMITS_WITHOUT_VALUE)?;
-    assert_limits(&rt, alloc, ONE_VALUE, "values", &VALUES_LIMITS_WITH_VALUE)?;
     assert_limits(&rt, alloc, NO_HEAD, "values", &VALUES_LIMITS)?;
     assert_counted(&rt, alloc, NO_HEAD, &VALUES_COUNTED)?;
-    assert_counted(&rt, alloc, ONE_VALUE, &VALUES_COUNTED_WITH_VALUE)?;
     Ok(())
 }

@@ -1,11 +1,9 @@
 //! Lists and declarations with as many parts as they may have, and with one more.
 
-use crate::patterns::{
-    Counted, Limited, NO_HEAD, NO_VALUE, ONE_VALUE, assert_counted, assert_limits,
-};
+use crate::patterns::{Counted, Limited, NO_HEAD, ONE_VALUE, assert_counted, assert_limits};
 use std::test::Fail;
 
-const ARGUMENTS_LIMITS: [Limited; 10] = [
+const ARGUMENTS_LIMITS: [Limited; 11] = [
     // parameters
     ("sil @f : $@convention(thin) (A`, A`) -> ()\n", 63, "1:222"),
     // parameters with words
@@ -50,6 +48,12 @@ const ARGUMENTS_LIMITS: [Limited; 10] = [
         64,
         "1:262",
     ),
+    // names of results
+    (
+        "sil [ossa] @f : $@convention(thin) () -> () {\nb:\n(%a`, %~`) = tuple ()\nunreachable\n}\n",
+        63,
+        "3:311",
+    ),
 ];
 
 const ARGUMENTS_LIMITS_WITH_VALUE: [Limited; 8] = [
@@ -93,11 +97,6 @@ const ARGUMENTS_LIMITS_WITH_VALUE: [Limited; 8] = [
         63,
         "3:842",
     ),
-];
-
-const ARGUMENTS_LIMITS_WITHOUT_VALUE: [Limited; 1] = [
-    // names of results
-    ("(%a`, %~`) = tuple ()\nunreachable\n}\n", 63, "3:311"),
 ];
 
 const ARGUMENTS_COUNTED: [Counted; 2] = [
@@ -146,13 +145,6 @@ fn a_list_has_64_elements(rt: HostRuntime) -> Result<(), Fail> {
         ONE_VALUE,
         "arguments",
         &ARGUMENTS_LIMITS_WITH_VALUE,
-    )?;
-    assert_limits(
-        &rt,
-        alloc,
-        NO_VALUE,
-        "arguments",
-        &ARGUMENTS_LIMITS_WITHOUT_VALUE,
     )?;
     assert_counted(&rt, alloc, NO_HEAD, &ARGUMENTS_COUNTED)?;
     Ok(())

@@ -5,7 +5,7 @@ use crate::patterns::{
 };
 use std::test::Fail;
 
-const LENGTH_COUNTED: [Counted; 11] = [
+const LENGTH_COUNTED: [Counted; 12] = [
     // a word of 255 bytes
     ("class `a` { }\n", 255, "accepted"),
     // a word of 256 bytes
@@ -48,12 +48,9 @@ const LENGTH_COUNTED: [Counted; 11] = [
     ("class C `a`\n", 256, "limit name at 1:9"),
     // an unexpected token before a name that is too long
     ("raw `a`\n", 256, "not a module: unexpected at 1:1"),
-];
-
-const LENGTH_COUNTED_WITH_VALUE: [Counted; 1] = [
     // a text has no limit but that of the whole
     (
-        "cond_fail %0 : $A, \"`a`\"\nunreachable\n}\n",
+        "sil [ossa] @f : $@convention(thin) () -> () {\nb(%0 : $A):\ncond_fail %0 : $A, \"`a`\"\nunreachable\n}\n",
         1000,
         "not built",
     ),
@@ -338,7 +335,6 @@ const UNKNOWN_TEXTS: [Answered; 4] = [
 fn a_name_has_255_bytes(rt: HostRuntime) -> Result<(), Fail> {
     let alloc = rt.alloc();
     assert_counted(&rt, alloc, NO_HEAD, &LENGTH_COUNTED)?;
-    assert_counted(&rt, alloc, ONE_VALUE, &LENGTH_COUNTED_WITH_VALUE)?;
     Ok(())
 }
 
