@@ -35,6 +35,7 @@ AreSame-insert a b name same other = by (list_any (bytes_eq name) a) refl
   where
     after : list_any (bytes_eq other) (b ++ name ∷ []) ≡ (list_any (bytes_eq other) a || bytes_eq other name)
     after = list_any-append (bytes_eq other) b (name ∷ []) ∙ ap (λ x. x || list_any (bytes_eq other) (name ∷ [])) (sym (same other)) ∙ (grind arith)
+
     by : (there : Bool) → list_any (bytes_eq name) a ≡ there → list_any (bytes_eq other) (insert_key bytes_eq a name) ≡ list_any (bytes_eq other) (b ++ name ∷ [])
     by true e = ap (λ t. list_any (bytes_eq other) (if t then a else a ++ name ∷ [])) e ∙ sym (again a name other e) ∙ sym after
     by false e = ap (λ t. list_any (bytes_eq other) (if t then a else a ++ name ∷ [])) e ∙ list_any-append (bytes_eq other) a (name ∷ []) ∙ (grind arith) ∙ sym after

@@ -55,6 +55,7 @@ found_on entries name other number rest = by (is_some (lookup (bytes_eq name) en
     same : (b : Bool) → bytes_eq other name ≡ b → is_some (lookup (bytes_eq name) entries) ≡ true → option_or (lookup (bytes_eq other) entries) rest ≡ option_or (lookup (bytes_eq other) entries) (cond b (Some number) rest)
     same false e there = refl
     same true e there = option_or_some (lookup (bytes_eq other) entries) rest (Some number) (subst (λ (n : Name). is_some (lookup (bytes_eq n) entries) ≡ true) (sym ((bytes_decides other name).0 e)) there)
+
     by : (there : Bool) → is_some (lookup (bytes_eq name) entries) ≡ there → option_or (lookup (bytes_eq other) (with_entry entries name number)) rest ≡ option_or (lookup (bytes_eq other) entries) (cond (bytes_eq other name) (Some number) rest)
     by true e = ap (λ b. option_or (lookup (bytes_eq other) (if b then entries else entries ++ (name, number) ∷ [])) rest) e ∙ same (bytes_eq other name) refl e
     by false e =

@@ -23,29 +23,29 @@ pub resolved_insts_append : (s : Scope) (first : ℕ) (xs ys : List WrittenInst)
 resolved_insts_append s first [] ys = ap (λ n. resolved_insts s n ys) (none_behind first)
 resolved_insts_append s first (x ∷ xs) ys =
     ap (λ l. resolved_inst s first x ∷ l)
-      (resolved_insts_append s (first + length (defined_by_inst x)) xs ys
-      ∙ ap (λ n. resolved_insts s (first + length (defined_by_inst x)) xs ++ resolved_insts s n ys) (behind first (defined_by_inst x) (flat_map defined_by_inst xs)))
+    (resolved_insts_append s (first + length (defined_by_inst x)) xs ys
+    ∙ ap (λ n. resolved_insts s (first + length (defined_by_inst x)) xs ++ resolved_insts s n ys) (behind first (defined_by_inst x) (flat_map defined_by_inst xs)))
 
 pub resolved_blocks_append : (s : Scope) (first : ℕ) (xs ys : List WrittenBlock) → resolved_blocks s first (xs ++ ys) ≡ resolved_blocks s first xs ++ resolved_blocks s (first + length (flat_map defined_in xs)) ys
 resolved_blocks_append s first [] ys = ap (λ n. resolved_blocks s n ys) (none_behind first)
 resolved_blocks_append s first (x ∷ xs) ys =
     ap (λ l. resolved_block s first x ∷ l)
-      (resolved_blocks_append s (first + length (defined_in x)) xs ys
-      ∙ ap (λ n. resolved_blocks s (first + length (defined_in x)) xs ++ resolved_blocks s n ys) (behind first (defined_in x) (flat_map defined_in xs)))
+    (resolved_blocks_append s (first + length (defined_in x)) xs ys
+    ∙ ap (λ n. resolved_blocks s (first + length (defined_in x)) xs ++ resolved_blocks s n ys) (behind first (defined_in x) (flat_map defined_in xs)))
 
 pub resolved_args_append : (first : ℕ) (xs ys : List WrittenArg) → resolved_args first (xs ++ ys) ≡ resolved_args first xs ++ resolved_args (first + length xs) ys
 resolved_args_append first [] ys = ap (λ n. resolved_args n ys) (none_behind first)
 resolved_args_append first (x ∷ xs) ys =
     ap (λ l. record { value = record { 0 = first }; kind = x.kind; ty = x.ty } ∷ l)
-      (resolved_args_append (first + 1) xs ys
-      ∙ ap (λ n. resolved_args (first + 1) xs ++ resolved_args n ys) (behind first (x ∷ []) xs))
+    (resolved_args_append (first + 1) xs ys
+    ∙ ap (λ n. resolved_args (first + 1) xs ++ resolved_args n ys) (behind first (x ∷ []) xs))
 
 pub counted_append : (first : ℕ) (xs ys : List (Option Name)) → counted first (xs ++ ys) ≡ counted first xs ++ counted (first + length xs) ys
 counted_append first [] ys = ap (λ n. counted n ys) (none_behind first)
 counted_append first (x ∷ xs) ys =
     ap (λ (l : List ValueId). record { 0 = first } ∷ l)
-      (counted_append (first + 1) xs ys
-      ∙ ap (λ n. counted (first + 1) xs ++ counted n ys) (behind first (x ∷ []) xs))
+    (counted_append (first + 1) xs ys
+    ∙ ap (λ n. counted (first + 1) xs ++ counted n ys) (behind first (x ∷ []) xs))
 
 -- one number on
 pub counted_more : (first i : ℕ) (values : List (Option Name)) → i < length values → counted first (take (i + 1) values) ≡ counted first (take i values) ++ record { 0 = first + i } ∷ []

@@ -39,11 +39,11 @@ function_fault f =
     let labels : List WrittenToken = map label_of f.blocks in
     let values : List WrittenToken = flat_map values_defined f.blocks in
     earliest (
-        twice_after [] labels
-        ∷ unknown_among labels (flat_map labels_used (insts_of f))
-        ∷ twice_after [] values
-        ∷ unknown_among values (flat_map values_used (insts_of f))
-        ∷ []
+    twice_after [] labels
+    ∷ unknown_among labels (flat_map labels_used (insts_of f))
+    ∷ twice_after [] values
+    ∷ unknown_among values (flat_map values_used (insts_of f))
+    ∷ []
     )
 
 -- in a module: a declaration, a function, a vtable of one class, or a member, a block or a value
@@ -52,11 +52,11 @@ name_fault w =
     let decls : List WrittenDecl = flat_map decls_of w.items in
     let functions : List WrittenFunction = flat_map functions_of w.items in
     earliest (
-        twice_after (reserved w.imports) (map decl_name decls)
-        ∷ twice_after [] (map function_name functions)
-        ∷ twice_after [] (map vtable_name (flat_map vtables_of w.items))
-        ∷ unknown_among (map function_name functions) (flat_map used_by_item w.items)
-        ∷ earliest (map members_fault decls)
-        ∷ earliest (map function_fault functions)
-        ∷ []
+    twice_after (reserved w.imports) (map decl_name decls)
+    ∷ twice_after [] (map function_name functions)
+    ∷ twice_after [] (map vtable_name (flat_map vtables_of w.items))
+    ∷ unknown_among (map function_name functions) (flat_map used_by_item w.items)
+    ∷ earliest (map members_fault decls)
+    ∷ earliest (map function_fault functions)
+    ∷ []
     )

@@ -71,10 +71,7 @@ pub(crate) fn classes_of_vtables(
     Ok(defined)
 }
 
-pub(crate) fn defined_members(
-    alloc: Global,
-    decl: &WrittenDecl,
-) -> Result<Definitions, Exhausted>
+pub(crate) fn defined_members(alloc: Global, decl: &WrittenDecl) -> Result<Definitions, Exhausted>
     ensures { IfOk result (λ d. d ≡ with_tokens (reserved_only []) (member_names decl.now)) }
 {
     match decl {

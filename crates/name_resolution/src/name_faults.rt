@@ -16,16 +16,7 @@ use sil_ast::Exhausted;
 use std::alloc::Global;
 use written_modules::{Fault, WrittenDecl, WrittenFunction, WrittenItem, WrittenModule};
 
-#[tactic(
-    auto,
-    using(
-        std::proofs::lemmas::Grind::common_steps,
-        crate::proofs::FaultOrder::earlier_none,
-        crate::proofs::DefinedNames::twice_of_tokens,
-        crate::proofs::DefinedNames::unknown_of_tokens
-    ),
-    unfolding(crate::specs::NameFaults::name_fault)
-)]
+#[tactic(auto, using(std::proofs::lemmas::Grind::common_steps, crate::proofs::FaultOrder::earlier_none, crate::proofs::DefinedNames::twice_of_tokens, crate::proofs::DefinedNames::unknown_of_tokens), unfolding(crate::specs::NameFaults::name_fault))]
 pub(crate) fn name_fault(alloc: Global, w: &WrittenModule) -> Result<Option<Fault>, Exhausted>
     ensures { IfOk result (λ fault. fault ≡ name_fault w.now) }
 {
@@ -34,7 +25,10 @@ pub(crate) fn name_fault(alloc: Global, w: &WrittenModule) -> Result<Option<Faul
     let functions = defined_functions(alloc, items)?;
     let vtables = classes_of_vtables(alloc, items)?;
     let unknown = unknown_functions(&functions, items);
-    let inside = earlier(members_faults(alloc, items)?, function_faults(alloc, items)?);
+    let inside = earlier(
+        members_faults(alloc, items)?,
+        function_faults(alloc, items)?,
+    );
     let used = earlier(unknown, inside);
     Ok(earlier(
         decls.twice(),
@@ -42,14 +36,7 @@ pub(crate) fn name_fault(alloc: Global, w: &WrittenModule) -> Result<Option<Faul
     ))
 }
 
-#[tactic(
-    auto,
-    using(
-        std::proofs::lemmas::Grind::common_steps,
-        crate::proofs::FaultOrder::earlier_none,
-        crate::proofs::FaultOrder::earliest_append
-    )
-)]
+#[tactic(auto, using(std::proofs::lemmas::Grind::common_steps, crate::proofs::FaultOrder::earlier_none, crate::proofs::FaultOrder::earliest_append))]
 fn members_faults(alloc: Global, items: &[WrittenItem]) -> Result<Option<Fault>, Exhausted>
     ensures { IfOk result (λ fault. fault ≡ earliest (map members_fault (flat_map decls_of items.now))) }
 {
@@ -69,14 +56,7 @@ fn members_fault(alloc: Global, decl: &WrittenDecl) -> Result<Option<Fault>, Exh
     Ok(defined_members(alloc, decl)?.twice())
 }
 
-#[tactic(
-    auto,
-    using(
-        std::proofs::lemmas::Grind::common_steps,
-        crate::proofs::FaultOrder::earlier_none,
-        crate::proofs::FaultOrder::earliest_append
-    )
-)]
+#[tactic(auto, using(std::proofs::lemmas::Grind::common_steps, crate::proofs::FaultOrder::earlier_none, crate::proofs::FaultOrder::earliest_append))]
 fn function_faults(alloc: Global, items: &[WrittenItem]) -> Result<Option<Fault>, Exhausted>
     ensures { IfOk result (λ fault. fault ≡ earliest (map function_fault (flat_map functions_of items.now))) }
 {
@@ -89,15 +69,7 @@ fn function_faults(alloc: Global, items: &[WrittenItem]) -> Result<Option<Fault>
     Ok(fault)
 }
 
-#[tactic(
-    auto,
-    using(
-        std::proofs::lemmas::Grind::common_steps,
-        crate::proofs::FaultOrder::earlier_none,
-        crate::proofs::DefinedNames::twice_of_tokens,
-        crate::proofs::DefinedNames::unknown_of_tokens
-    )
-)]
+#[tactic(auto, using(std::proofs::lemmas::Grind::common_steps, crate::proofs::FaultOrder::earlier_none, crate::proofs::DefinedNames::twice_of_tokens, crate::proofs::DefinedNames::unknown_of_tokens))]
 fn function_fault(alloc: Global, f: &WrittenFunction) -> Result<Option<Fault>, Exhausted>
     ensures { IfOk result (λ fault. fault ≡ function_fault f.now) }
 {

@@ -116,13 +116,7 @@ pub(crate) fn count_of_results(inst: &WrittenInst) -> usize
     ensures { result ≡ length (defined_by_inst inst.now) }
 {
     match inst.results.as_slice() {
-        [] => {
-            if has_one_result(inst.op) {
-                1
-            } else {
-                0
-            }
-        }
+        [] => { if has_one_result(inst.op) { 1 } else { 0 } }
         tokens => tokens.len(),
     }
 }

@@ -25,13 +25,7 @@ pub(crate) struct Tables<'a> {
     pub(crate) values: &'a Numbering,
 }
 
-#[tactic(
-    auto,
-    using(
-        std::proofs::lemmas::Grind::common_steps,
-        crate::proofs::ResolvedLemmas::resolved_blocks_append
-    )
-)]
+#[tactic(auto, using(std::proofs::lemmas::Grind::common_steps, crate::proofs::ResolvedLemmas::resolved_blocks_append))]
 pub(crate) fn resolve_blocks(
     alloc: Global,
     tables: Tables<'_>,
@@ -70,13 +64,7 @@ fn resolve_block(
     })
 }
 
-#[tactic(
-    auto,
-    using(
-        std::proofs::lemmas::Grind::common_steps,
-        crate::proofs::ResolvedLemmas::resolved_args_append
-    )
-)]
+#[tactic(auto, using(std::proofs::lemmas::Grind::common_steps, crate::proofs::ResolvedLemmas::resolved_args_append))]
 fn resolve_args(
     alloc: Global,
     next: &mut u32,
@@ -97,13 +85,7 @@ fn resolve_args(
     Ok(resolved)
 }
 
-#[tactic(
-    auto,
-    using(
-        std::proofs::lemmas::Grind::common_steps,
-        crate::proofs::ResolvedLemmas::resolved_insts_append
-    )
-)]
+#[tactic(auto, using(std::proofs::lemmas::Grind::common_steps, crate::proofs::ResolvedLemmas::resolved_insts_append))]
 fn resolve_insts(
     alloc: Global,
     tables: Tables<'_>,
@@ -151,13 +133,7 @@ fn resolve_inst(
     })
 }
 
-#[tactic(
-    auto,
-    using(
-        std::proofs::lemmas::Grind::common_steps,
-        crate::proofs::ResolvedLemmas::counted_more
-    )
-)]
+#[tactic(auto, using(std::proofs::lemmas::Grind::common_steps, crate::proofs::ResolvedLemmas::counted_more))]
 fn resolve_results(
     alloc: Global,
     first: u32,

@@ -12,19 +12,15 @@ use crate::numbered_values::{numbered_blocks, numbered_values};
 use crate::numbering::Numbering;
 use crate::resolved_code::{Tables, resolve_blocks};
 use sil_ast::{
-    Case, Decl, DeinitEntry, Exhausted, Field, Form, FuncId, Function, List, Text, TryClone,
-    Vtable,
+    Case, Decl, DeinitEntry, Exhausted, Field, Form, FuncId, Function, List, Text, TryClone, Vtable,
 };
 use std::alloc::Global;
 use written_modules::{
-    WrittenBlock, WrittenCase, WrittenDecl, WrittenEntry, WrittenField, WrittenFunction, WrittenItem,
-    WrittenToken, WrittenVtable,
+    WrittenBlock, WrittenCase, WrittenDecl, WrittenEntry, WrittenField, WrittenFunction,
+    WrittenItem, WrittenToken, WrittenVtable,
 };
 
-pub(crate) fn resolve_decls(
-    alloc: Global,
-    items: &[WrittenItem],
-) -> Result<List<Decl>, Exhausted>
+pub(crate) fn resolve_decls(alloc: Global, items: &[WrittenItem]) -> Result<List<Decl>, Exhausted>
     ensures { IfOk result (λ decls. decls ≡ map resolved_decl (flat_map decls_of items.now)) }
 {
     let mut decls = List::new(alloc);

@@ -9,9 +9,7 @@ ghost use Rattle.name_resolution.specs.Names.{code_of, edge_label, edge_values, 
 
 use crate::definitions::Definitions;
 use crate::fault_order::earlier;
-use written_modules::{
-    Fault, WrittenBlock, WrittenEdge, WrittenInst, WrittenItem, WrittenOperand,
-};
+use written_modules::{Fault, WrittenBlock, WrittenEdge, WrittenInst, WrittenItem, WrittenOperand};
 
 /// Names of one kind that instructions use.
 pub(crate) trait Used {

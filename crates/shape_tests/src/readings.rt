@@ -199,7 +199,11 @@ fn texts_are_read_as_these_modules(rt: HostRuntime) -> Result<(), Fail> {
         assert!(rt; text.len() <= 1_048_576);
         let module = read(alloc, text.as_bytes())?;
         let printed = print(alloc, &module)?;
-        assert_eq!(rt; str::from_utf8(printed.as_slice()), Ok(*canonical), "{text}");
+        assert_eq!(rt;
+            str::from_utf8(printed.as_slice()),
+            Ok(*canonical),
+            "{text}"
+        );
     }
     Ok(())
 }
