@@ -1,5 +1,5 @@
 -- What a refusal of `read` says.
-use Rattle.std.specs.Prelude.{◌≡◌, ℕ, ◌<◌, ◌≤◌, List, length, map, take, Option, Some}
+use Rattle.std.specs.Prelude.{◌≡◌, ℕ, ◌<◌, ◌≤◌, List, length, map, take, Option, Some, None}
 use Rattle.sil_ast.specs.declared.module.Module.{Module}
 use Rattle.sil_ast.specs.declared.place.Place.{Place}
 use Rattle.sil_lexer.specs.declared.token.LexRefusal.{LexRefusal}
@@ -7,6 +7,7 @@ use Rattle.sil_lexer.specs.declared.token.LexRefusal.TheVariants as stop
 use Rattle.sil_lexer.specs.Lexes.{Lexeme, Lexes}
 use Rattle.sil_shape.specs.declared.steps.Step.{Step}
 use Rattle.sil_shape.specs.Begun.{IsBegun}
+use Rattle.sil_shape.specs.Derivation.{Derives, start}
 use Rattle.written_modules.specs.declared.fault.Fault.{Fault}
 use Rattle.written_modules.specs.declared.fault.FaultKind.{FaultKind}
 use Rattle.written_modules.specs.declared.fault.FaultKind.TheVariants as kind
@@ -19,25 +20,43 @@ use Rattle.sil_grammar.specs.declared.first_bad.BadPlace.{BadPlace}
 use Rattle.sil_grammar.specs.declared.refusal.ReadRefusal.{ReadRefusal}
 use Rattle.sil_grammar.specs.declared.refusal.ReadRefusal.TheVariants as refusal
 use Rattle.sil_grammar.specs.Classes.{token_class}
-use Rattle.sil_grammar.specs.FirstBad.{IsFirstBadPlace}
+use Rattle.sil_grammar.specs.FirstBad.{token_place, IsFirstBadPlace}
 use Rattle.sil_grammar.specs.Spells.{Spells, SpellsWritten}
 
 abbrev pub SpellsNone : List ℕ → Type 0
 SpellsNone text = (m : Module) → Spells m text → ⊥
 
--- tokens of the text, from its first on, begin a list that has the shape of a module, and this is the first fault in
--- what such a list stands for: a number out of range, or a token that passes a limit. It comes before the first place
--- at which the text itself has no such shape
-pub record IsFaulty (text : List ℕ) (fault : Fault) : Type 0 where
+-- all tokens before the first bad place of the text, which begin a list that has the shape of a module
+pub record IsFront (text : List ℕ) (place : BadPlace) : Type 0 where
+  pub first_bad : IsFirstBadPlace text place
   pub lexemes : List Lexeme
   pub lexed_to : Option LexRefusal
   pub lexed : Lexes text text lexemes lexed_to
+  -- so many of the tokens; the next one, if there is one, stands at the place
   pub count : ℕ
   pub inside : count ≤ length lexemes
+  pub next : count < length lexemes → place.place ≡ token_place text lexemes count
+  -- they begin a list that these steps derive
   pub steps : List Step
   pub begun : IsBegun (map token_class (take count lexemes)) steps
-  pub first : first_fault steps (take count lexemes) ≡ Some fault
-  pub early : (place : BadPlace) → IsFirstBadPlace text place → fault.place.offset < place.place.offset
+
+-- the first fault in what a list stands for that begins with these tokens
+abbrev pub fault_of : {text : List ℕ} {place : BadPlace} → IsFront text place → Option Fault
+fault_of front = first_fault front.steps (take front.count front.lexemes)
+
+-- the first bad place of the text, with no fault before it
+pub record IsShapeless (text : List ℕ) (place : BadPlace) : Type 0 where
+  pub front : IsFront text place
+  pub no_fault : (fault : Fault) → fault_of front ≡ Some fault → place.place.offset ≤ fault.place.offset
+
+-- the first fault of the text, a number out of range or a token that passes a limit
+pub data IsFaulty (text : List ℕ) (fault : Fault) : Type 0 where
+  -- the text has the shape of a module
+  in_whole : (lexemes : List Lexeme) (steps : List Step) → Lexes text text lexemes None → Derives start (map token_class lexemes) steps
+      → first_fault steps lexemes ≡ Some fault → IsFaulty text fault
+  -- it has none, and the fault comes before the first place where it goes wrong
+  in_front : (place : BadPlace) (front : IsFront text place) → fault_of front ≡ Some fault
+      → fault.place.offset < place.place.offset → IsFaulty text fault
 
 -- the text writes a module, and this name is the first that is defined twice, or used and not defined
 pub record IsMisnamed (text : List ℕ) (fault : Fault) : Type 0 where
@@ -60,7 +79,7 @@ refusal_of_fault kind.UnknownName place = refusal.UnknownName place
 
 -- why a text is refused: its first bad place, or else a fault or a name; in each case it spells no module
 pub data IsRefusalOf (text : List ℕ) : ReadRefusal → Type 0 where
-  shapeless : (place : BadPlace) → SpellsNone text → IsFirstBadPlace text place → IsRefusalOf text (refusal_of_bad place.kind place.place)
+  shapeless : (place : BadPlace) → SpellsNone text → IsShapeless text place → IsRefusalOf text (refusal_of_bad place.kind place.place)
   faulty : (fault : Fault) → SpellsNone text → IsFaulty text fault → IsRefusalOf text (refusal_of_fault fault.kind fault.place)
   misnamed : (fault : Fault) → SpellsNone text → IsMisnamed text fault → IsRefusalOf text (refusal_of_fault fault.kind fault.place)
   exhausted : IsRefusalOf text refusal.Memory

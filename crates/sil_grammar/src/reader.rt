@@ -6,7 +6,7 @@ ghost use Rattle.sil_lexer.specs.Lexing.{IsLexingOf, Lexing, lexemes_of};
 ghost use Rattle.sil_lexer.specs.Places.{IsInLimit};
 ghost use Rattle.sil_shape.specs.Derivation.{BeginsShape};
 ghost use Rattle.sil_grammar.specs.Classes.{token_class};
-ghost use Rattle.sil_grammar.specs.Front.{IsFrontFault, IsToldInOrder};
+ghost use Rattle.sil_grammar.specs.Front.{IsFrontFault};
 ghost use Rattle.sil_grammar.specs.Refusals.{IsRefusalOf};
 ghost use Rattle.sil_grammar.specs.Shape.{IsBroken, IsWhole};
 ghost use Rattle.sil_grammar.specs.Spells.{AreSpelledOnce, Spells, SpellsWritten};
@@ -46,7 +46,6 @@ fn read_whole(
     requires derived { IsWhole text.now tokens.now steps.now }
     ensures found { IfOk result (λ m. Spells m text.now) }
     ensures refused { IfErr result (IsRefusalOf text.now) }
-    ensures in_order { IfErr result (IsToldInOrder text.now) }
 {
     let built = build(alloc, text, tokens, tokens.len(), steps)?;
     match built.fault {
@@ -76,10 +75,8 @@ fn front_fault(
 
 /// The refusal of a text that goes wrong at `bad`, for the first fault in what stands before, if there is one.
 fn earlier_refusal(fault: Option<Fault>, bad: BadPlace) -> ReadRefusal
-    ensures refused { (text : List ℕ) (lexing : Lexing) (count : ℕ) → IsLexingOf text lexing → IsBroken text lexing bad count
+    ensures { (text : List ℕ) (lexing : Lexing) (count : ℕ) → IsLexingOf text lexing → IsBroken text lexing bad count
         → IsFrontFault text lexing count fault → IsRefusalOf text result }
-    ensures in_order { (text : List ℕ) (lexing : Lexing) (count : ℕ) → IsLexingOf text lexing → IsBroken text lexing bad count
-        → IsFrontFault text lexing count fault → IsToldInOrder text result }
 {
     match fault {
         Some(fault) if fault.place.offset < bad.place.offset => refusal_of_fault(fault),
@@ -96,7 +93,6 @@ pub fn read(alloc: Global, text: &[u8]) -> Result<Module, ReadRefusal>
     ensures found { IfOk result (λ m. Spells m text.now) }
     ensures only { IfOk result (λ m. (other : Module) → Spells other text.now → other ≡ m) }
     ensures refused { IfErr result (IsRefusalOf text.now) }
-    ensures in_order { IfErr result (IsToldInOrder text.now) }
 {
     let tokens = lex(alloc, text)?;
     let classes = classes_of(alloc, text, &tokens)?;
