@@ -5,3 +5,4 @@ pub mod Places
 pub mod Replay
 pub mod Types
 pub mod Values
+pub mod Opened
