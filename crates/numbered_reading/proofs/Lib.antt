@@ -1,3 +1,7 @@
 pub mod Basics
 pub mod Goods
 pub mod TypeLemmas
+pub mod NumberLemmas
+pub mod RowLemmas
+pub mod PartLemmas
+pub mod ReplayLemmas
