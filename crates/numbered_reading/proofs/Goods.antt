@@ -34,7 +34,7 @@ use Rattle.written_modules.specs.declared.written_module.WrittenItem.{WrittenIte
 use Rattle.written_modules.specs.declared.written_module.WrittenItem.TheVariants as item
 use Rattle.written_modules.specs.declared.written_module.WrittenModule.{WrittenModule}
 use Rattle.written_modules.specs.declared.written_module.WrittenVtable.{WrittenVtable}
-use Rattle.written_modules.specs.Opened.{PartGivens, PartParams, PartType, PartTypes, PartValue}
+use Rattle.written_modules.specs.Opened.{PartGivens, PartParams, PartType, PartTypes, PartValue, module_value}
 use Rattle.written_modules.specs.Types.{tailed}
 use Rattle.written_modules.specs.Meaning.{part}
 use Rattle.written_modules.specs.Places.{attribute_places, decl_names, function_names, label_place, mnemonics_of, values_of_block}
@@ -212,6 +212,7 @@ abbrev pub IsGoodTail : PartValue → Type 0
 IsGoodTail x = (token : WrittenToken) → IsWord token.text → IsGoodType (tailed token x)
 
 unfoldable pub IsGoodPart : Nonterminal → PartValue → Type 0
+IsGoodPart n.Module x = (w : WrittenModule) → x ≡ module_value w → IsGoodModule w
 IsGoodPart n.Items x = Each IsGoodItem (items_of x)
 IsGoodPart n.Item x = IsGoodItem (item_of x)
 IsGoodPart n.Members x = Each IsGoodField (fields_of x)

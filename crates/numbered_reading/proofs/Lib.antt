@@ -5,3 +5,4 @@ pub mod NumberLemmas
 pub mod RowLemmas
 pub mod PartLemmas
 pub mod ReplayLemmas
+pub mod ModuleLemmas

@@ -1,5 +1,5 @@
 -- Each part is good where the parts of its body are, and nothing in it is at fault.
-use Rattle.std.proofs.Common.{◌≡◌, ℕ, ◌≤◌, ◌+◌, suc, List, [], ◌∷◌, length, map, Option, Some, None, Bool, true, false, ◌&&◌, ◌||◌, is_some, IfSome, IsTrue, ap, sym, refl, ◌∙◌, arith}
+use Rattle.std.proofs.Common.{◌≡◌, ℕ, ◌≤◌, ◌+◌, suc, List, [], ◌∷◌, length, map, Option, Some, None, Bool, true, false, ◌&&◌, ◌||◌, is_some, IfSome, IsTrue, ap, sym, refl, subst, ◌∙◌, arith, flat_map}
 use Rattle.std.proofs.lemmas.List.{length-map}
 use Rattle.sil_ast.specs.declared.function.Linkage.{Linkage}
 use Rattle.sil_ast.specs.declared.member.Member.{Member}
@@ -24,20 +24,21 @@ use Rattle.written_modules.specs.declared.written_functions.WrittenFunction.{Wri
 use Rattle.written_modules.specs.declared.written_instructions.WrittenEdge.{WrittenEdge}
 use Rattle.written_modules.specs.declared.written_instructions.WrittenInst.{WrittenInst}
 use Rattle.written_modules.specs.declared.written_instructions.WrittenOperand.{WrittenOperand}
+use Rattle.written_modules.specs.declared.written_module.WrittenModule.{WrittenModule}
 use Rattle.written_modules.specs.Faults.{earlier, passed}
 use Rattle.written_modules.specs.Meaning.{element_of, meaning, part, place_at, text_at}
 use Rattle.written_modules.specs.Opened.{PartGivens, PartParams, PartType, PartValue}
-use Rattle.written_modules.specs.PartFaults.{body_fault, function_fault, part_fault}
-use Rattle.written_modules.specs.Places.{arg_place, attribute_places, case_place, field_place, label_place, mnemonics_of, operand_place, token_place, values_of_block}
+use Rattle.written_modules.specs.PartFaults.{body_fault, function_fault, module_fault, part_fault}
+use Rattle.written_modules.specs.Places.{arg_place, attribute_places, case_place, decl_names, field_place, function_names, label_place, mnemonics_of, operand_place, token_place, values_of_block}
 use Rattle.written_modules.specs.Types.{in_parens, tailed, type_before, width_of}
-use Rattle.written_modules.specs.Values.{token_of, items_of, item_of, fields_of, field_of, field_before, cases_of, type_of, payload_of, types_of, marks_of, linkage_of, tokens_of, params_of, param_before, givens_of, given_before, signature_of, blocks_of, block_of, args_of, arg_of, starred, insts_of, terminator_of, inst_of, operands_of, operand_of, edges_of, edge_of, member_of, flags_of, qualifier_of, debug_of, entry_of}
+use Rattle.written_modules.specs.Values.{token_of, stage_of, imports_of, items_of, item_of, fields_of, field_of, field_before, cases_of, type_of, payload_of, types_of, marks_of, linkage_of, tokens_of, params_of, param_before, givens_of, given_before, signature_of, blocks_of, block_of, args_of, arg_of, starred, insts_of, terminator_of, inst_of, operands_of, operand_of, edges_of, edge_of, member_of, flags_of, qualifier_of, debug_of, entry_of}
 use Rattle.name_resolution.specs.Resolved.{Scope, resolved_case, resolved_decl, resolved_edge, resolved_field, resolved_operand}
 use Rattle.numbered_form.specs.Lists.{Each}
 use Rattle.numbered_form.specs.Fields.{IsStrong}
 use Rattle.numbered_form.specs.Names.{IsMemberSpelled, IsWord, case_name, field_name, is_at_name}
 use Rattle.numbered_form.specs.Types.{HasFieldType, HasPayloadType, IsPlainType}
 use Rattle.numbered_reading.proofs.Basics.{Each-map, both, either_first, no_first, no_second, not_passed, not_passed-map}
-use Rattle.numbered_reading.proofs.Goods.{AreEnumOperands, AreGoodCases, AreGoodFrom, AreGoodGivens, AreGoodOperands, AreGoodParams, AreGoodSwitch, IsGood, IsGoodBlock, IsGoodBranch, IsGoodCase, IsGoodDecl, IsGoodField, IsGoodFunction, IsGoodPart, IsGoodSignature, IsGoodToken, IsGoodType, IsStrongField, IsWordToken}
+use Rattle.numbered_reading.proofs.Goods.{AreEnumOperands, AreGoodCases, AreGoodFrom, AreGoodGivens, AreGoodOperands, AreGoodParams, AreGoodSwitch, IsGood, IsGoodBlock, IsGoodBranch, IsGoodCase, IsGoodDecl, IsGoodField, IsGoodFunction, IsGoodItem, IsGoodModule, IsGoodPart, IsGoodSignature, IsGoodToken, IsGoodType, IsStrongField, IsWordToken}
 use Rattle.numbered_reading.proofs.NumberLemmas.{good_element, good_literal}
 use Rattle.numbered_reading.proofs.RowLemmas.{alloc_ref_row, alloc_stack_row, apply_row, br_row, builtin_row, cond_br_row, debug_row, element_row, enum_row, fail_row, flagged_row, function_row, literal_row, loaded_row, member_row, operands_have_types, operands_typed, over_one_row, renamed, stored_row, struct_row, switch_row, tuple_row, unreachable_row}
 use Rattle.numbered_reading.proofs.TypeLemmas.{good_marks, good_name, good_optional, good_parens, good_unowned, good_weak, good_width, more_good_types, no_good_types, placed_address, placed_plain, plain_type, room}
@@ -131,6 +132,15 @@ no_givens_good = record { types = tt; counted = refl }
 one_more_given : (given : Given) (first : Place) (others : PartGivens) → IsPlainType given.ty → AreGoodGivens others → AreGoodGivens (record { givens = given ∷ others.givens; firsts = first ∷ others.firsts })
 one_more_given given first others plain g = record { types = (plain, g.types); counted = ap suc g.counted }
 
+-- modules
+
+good_items : (w : WrittenModule) → Each IsGoodItem w.items → module_fault w.items ≡ None → IsGoodModule w
+good_items w g h = record {
+  items = g;
+  declarations = not_passed-map token_place limit.Declarations 1024 (flat_map decl_names w.items) (no_first _ _ h);
+  functions = not_passed-map token_place limit.Functions 1024 (flat_map function_names w.items) (no_second _ _ h);
+}
+
 -- edges
 
 few_resolved : (s : Scope) (os : List WrittenOperand) → length os ≤ 64 → length (map (resolved_operand s) os) ≤ 64
@@ -162,7 +172,8 @@ one_enum_operand o g = record {
 }
 
 pub good_part : (q : Production) (parts : List PartValue) → AreGoodFrom 0 (body q) parts → part_fault q parts ≡ None → IsGoodPart (written q) (meaning q parts)
-unfolding body written meaning part_fault tailed IsGoodPart IsGoodToken token_of items_of item_of fields_of field_of field_before cases_of type_of payload_of types_of marks_of tokens_of params_of param_before givens_of given_before signature_of blocks_of block_of args_of arg_of starred insts_of terminator_of inst_of operands_of operand_of edges_of edge_of member_of flags_of qualifier_of debug_of entry_of
+unfolding body written meaning part_fault tailed IsGoodPart IsGoodToken token_of stage_of imports_of items_of item_of fields_of field_of field_before cases_of type_of payload_of types_of marks_of tokens_of params_of param_before givens_of given_before signature_of blocks_of block_of args_of arg_of starred insts_of terminator_of inst_of operands_of operand_of edges_of edge_of member_of flags_of qualifier_of debug_of entry_of
+good_part p.WholeModule parts g h = λ w e. let whole : WrittenModule = record { stage = stage_of (part 0 parts); imports = imports_of (part 1 parts); items = items_of (part 2 parts) } in let same : whole ≡ w = (cc) in subst IsGoodModule same (good_items whole g.1.1.0 h)
 good_part p.ItemsMore parts g h = (g.0, g.1.0)
 good_part p.FinalClass parts g h = good_class (token_of (part 2 parts)) (fields_of (part 4 parts)) g.1.1.0 g.1.1.1.1.0 h
 good_part p.PlainClass parts g h = good_class (token_of (part 1 parts)) (fields_of (part 3 parts)) g.1.0 g.1.1.1.0 h
