@@ -6,3 +6,6 @@ pub mod RowLemmas
 pub mod PartLemmas
 pub mod ReplayLemmas
 pub mod ModuleLemmas
+pub mod BlockLemmas
+pub mod FieldLemmas
+pub mod LimitLemmas
