@@ -9,3 +9,4 @@ pub mod ModuleLemmas
 pub mod BlockLemmas
 pub mod FieldLemmas
 pub mod LimitLemmas
+pub mod OnceLemmas
