@@ -10,3 +10,5 @@ pub mod BlockLemmas
 pub mod FieldLemmas
 pub mod LimitLemmas
 pub mod OnceLemmas
+pub mod NumberingLemmas
+pub mod UsedLemmas
