@@ -12,3 +12,4 @@ pub mod LimitLemmas
 pub mod OnceLemmas
 pub mod NumberingLemmas
 pub mod UsedLemmas
+pub mod Numbered

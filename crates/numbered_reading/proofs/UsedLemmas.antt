@@ -128,15 +128,15 @@ names_of_blocks (b ∷ bs) g =
 
 -- what an instruction uses is there, in a function with some values and blocks, of a module with some functions
 record UsesThere (values blocks functions : ℕ) (w : WrittenInst) : Type 0 where
-  values : Each (HasSome values) (values_used w)
-  labels : Each (HasSome blocks) (labels_used w)
-  functions : Each (HasSome functions) (functions_used w)
+  used_values : Each (HasSome values) (values_used w)
+  used_labels : Each (HasSome blocks) (labels_used w)
+  used_functions : Each (HasSome functions) (functions_used w)
 
 -- a scope with this many values, blocks and functions
 record HasCounts (s : Scope) (values blocks functions : ℕ) : Type 0 where
-  values : values ≡ length s.values
-  blocks : blocks ≡ length s.blocks
-  functions : functions ≡ length s.functions
+  values_are : values ≡ length s.values
+  blocks_are : blocks ≡ length s.blocks
+  functions_are : functions ≡ length s.functions
 
 value_below : (s : Scope) (values : ℕ) (token : WrittenToken) → values ≡ length s.values → 0 < values → (value_of s.values token).0 < values
 value_below s values token e some = rw e (found_below _ s.values (subst (λ (n : ℕ). 0 < n) e some))
@@ -161,11 +161,11 @@ callee_below s functions (Some token) e g = place_below s.functions functions to
 
 inst_in_range : (s : Scope) (values blocks functions : ℕ) → HasCounts s values blocks functions → (first : ℕ) (w : WrittenInst) → UsesThere values blocks functions w → IsInstInRange values blocks functions (resolved_inst s first w)
 inst_in_range s values blocks functions c first w u =
-    let parts = Each-split (HasSome values) (map operand_name w.operands) (flat_map edge_values w.edges) u.values in
+    let parts = Each-split (HasSome values) (map operand_name w.operands) (flat_map edge_values w.edges) u.used_values in
     record {
-      operands = operands_below s values w.operands c.values parts.0;
-      edges = edges_below s values blocks w.edges c.values c.blocks parts.1 u.labels;
-      function = callee_below s functions w.function c.functions u.functions;
+      operands = operands_below s values w.operands c.values_are parts.0;
+      edges = edges_below s values blocks w.edges c.values_are c.blocks_are parts.1 u.used_labels;
+      function = callee_below s functions w.function c.functions_are u.used_functions;
     }
 
 block_in_range : (s : Scope) (values blocks functions : ℕ) → HasCounts s values blocks functions → (first : ℕ) (b : WrittenBlock) → Each (UsesThere values blocks functions) (code_of b) → EachInBlock (IsInstInRange values blocks functions) (resolved_block s first b)
@@ -184,7 +184,7 @@ each_use values blocks functions (w ∷ ws) v b f =
     let vs = Each-split (HasSome values) (values_used w) (flat_map values_used ws) v in
     let bs = Each-split (HasSome blocks) (labels_used w) (flat_map labels_used ws) b in
     let fs = Each-split (HasSome functions) (functions_used w) (flat_map functions_used ws) f in
-    (record { values = vs.0; labels = bs.0; functions = fs.0 }, each_use values blocks functions ws vs.1 bs.1 fs.1)
+    (record { used_values = vs.0; used_labels = bs.0; used_functions = fs.0 }, each_use values blocks functions ws vs.1 bs.1 fs.1)
 
 function_numbered : (names : List Name) (f : WrittenFunction) → IsGoodFunction f → function_fault f ≡ None → Each (HasSome (length names)) (flat_map functions_used (written.insts_of f)) → IsFunctionNumbered (length names) (resolved_function names f)
 function_numbered names f g e calls =
@@ -202,7 +202,7 @@ function_numbered names f g e calls =
     let named : Each (HasSome (length (flat_map values_defined f.blocks))) (flat_map values_used (written.insts_of f)) = values_there (flat_map values_defined f.blocks) _ (no_first _ _ behind_values) in
     let fewer : length (flat_map values_defined f.blocks) ≤ values = (let h : length (flat_map values_defined f.blocks) ≤ length (values_of f) = names_of_blocks f.blocks g.blocks in rw values_is h) in
     let there : Each (HasSome values) (flat_map values_used (written.insts_of f)) = more_there _ values fewer _ named in
-    let counts : HasCounts s values blocks (length names) = record { values = values_is; blocks = blocks_is ∙ sym names_is; functions = refl } in
+    let counts : HasCounts s values blocks (length names) = record { values_are = values_is; blocks_are = blocks_is ∙ sym names_is; functions_are = refl } in
     let uses : Each (UsesThere values blocks (length names)) (written.insts_of f) = each_use values blocks (length names) (written.insts_of f) there (subst (λ (n : ℕ). Each (HasSome n) (flat_map labels_used (written.insts_of f))) (sym blocks_is) labels) calls in
     record {
       values = blocks_counted s 0 f.blocks g.blocks;
