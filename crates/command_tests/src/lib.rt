@@ -4,8 +4,26 @@
 #[cfg(test)]
 mod call;
 #[cfg(test)]
+mod depths;
+#[cfg(test)]
 mod faults;
 #[cfg(test)]
+mod first_faults;
+#[cfg(test)]
+mod forms;
+#[cfg(test)]
+mod limits_of_functions;
+#[cfg(test)]
+mod limits_of_lists;
+#[cfg(test)]
+mod limits_of_modules;
+#[cfg(test)]
 mod modules;
+#[cfg(test)]
+mod names;
+#[cfg(test)]
+mod numbers;
+#[cfg(test)]
+mod patterns;
 #[cfg(test)]
 mod texts;

@@ -120,11 +120,24 @@ const CODES: [(&str, &str, u8); 24] = [
         "refused 402 DoubleConsume @main bb0:3\nsubject %0\nwalk bb0\n",
         1,
     ),
-    // not simple: an unknown value, a name defined twice, a class that isn't declared, types that differ
-    ("destroy_value %9 : $C\n", "", 3),
-    ("%0 = alloc_ref $C\n%0 = alloc_ref $C\n", "", 3),
-    ("%0 = alloc_ref $D\ndestroy_value %0 : $D\n", "", 3),
-    ("%0 = tuple ()\ndestroy_value %0 : $C\n", "", 3),
+    // an unknown value, and a name defined twice
+    (
+        "destroy_value %9 : $C\n",
+        "not a module: unknown name at 8:15\n",
+        3,
+    ),
+    (
+        "%0 = alloc_ref $C\n%0 = alloc_ref $C\n",
+        "not a module: defined twice at 9:1\n",
+        3,
+    ),
+    // not simple: a class that isn't declared, types that differ
+    (
+        "%0 = alloc_ref $D\ndestroy_value %0 : $D\n",
+        "not built\n",
+        11,
+    ),
+    ("%0 = tuple ()\ndestroy_value %0 : $C\n", "not built\n", 11),
     // an instruction that isn't known: the place of its word
     (
         "  %0 = alloc_box $C\n",
@@ -139,9 +152,7 @@ fn faults_of_one_function_are_found(rt: HostRuntime) -> Result<(), Fail> {
         let text = module_with(rt.alloc(), code)?;
         let ended = check(rt.alloc(), text.as_slice())?;
         assert_eq!(rt; ended.status, status, "{code}");
-        if !written.is_empty() {
-            assert_eq!(rt; ended.written.as_slice(), written.as_bytes(), "{code}");
-        }
+        assert_eq!(rt; ended.written.as_slice(), written.as_bytes(), "{code}");
     }
     Ok(())
 }

@@ -10,7 +10,7 @@ const USAGE: &str =
 const OBJECT: &str =
     "sil_stage canonical\nimport Builtin\nimport Swift\nclass C {\n}\nsil [ossa] @main : $@convention(thin) () -> () {\nbb0:\n%0 = alloc_ref $C\ndestroy_value %0 : $C\n%t = tuple ()\nreturn %t : $()\n}\n";
 
-// Texts with what is written, or an empty string where any place may stand, and the status.
+// Texts with what is written, and the status.
 const TEXTS: [(&str, &str, u8); 27] = [
     ("", "accepted\n", 0),
     (" \t\r\n// nothing\n", "accepted\n", 0),
@@ -58,41 +58,62 @@ const TEXTS: [(&str, &str, u8); 27] = [
         "refused 403 Leak @f bb0:2\nsubject %0\nwalk bb0\n",
         1,
     ),
-    ("import Swift class Int {}", "", 3),
+    (
+        "import Swift class Int {}",
+        "not a module: defined twice at 1:20\n",
+        3,
+    ),
     ("class Int {}", "accepted\n", 0),
-    ("class Builtin {}", "", 3),
-    ("class C {} class C {}", "", 3),
+    (
+        "class Builtin {}",
+        "not a module: defined twice at 1:7\n",
+        3,
+    ),
+    (
+        "class C {} class C {}",
+        "not a module: defined twice at 1:18\n",
+        3,
+    ),
     (
         "sil [ossa] @f : $@convention(thin) () -> () { b: %1 = tuple () return %1 : $() } sil [ossa] @f : $@convention(thin) () -> () { b: %1 = tuple () return %1 : $() }",
-        "",
-        3,
-    ),
-    (
-        "sil @f : $@convention(thin) () -> () { b: %1 = tuple () return %1 : $() }",
-        "",
-        3,
-    ),
-    (
-        "sil [ossa] @f : $@convention(method) () -> () { b: %1 = tuple () return %1 : $() }",
-        "",
+        "not a module: defined twice at 1:93\n",
         3,
     ),
     (
         "sil [ossa] @f : $@convention(thin) () -> () { b: return %1 : $() }",
-        "",
+        "not a module: unknown name at 1:57\n",
         3,
     ),
-    ("sil [ossa] @f : $@convention(thin) () -> ()", "", 3),
-    ("class C { var x: C }", "", 3),
-    ("struct S {}", "", 3),
+    // modules that aren't simple
+    (
+        "sil @f : $@convention(thin) () -> () { b: %1 = tuple () return %1 : $() }",
+        "not built\n",
+        11,
+    ),
+    (
+        "sil [ossa] @f : $@convention(method) () -> () { b: %1 = tuple () return %1 : $() }",
+        "not built\n",
+        11,
+    ),
+    (
+        "sil [ossa] @f : $@convention(thin) () -> ()",
+        "not built\n",
+        11,
+    ),
+    ("class C { var x: C }", "not built\n", 11),
+    ("struct S {}", "not built\n", 11),
     // places: a bad byte, an unclosed text, the end of the text
     (
         "class C {\n  \x7f\n}\n",
-        "not a module: unsupported at 2:3\n",
+        "not a module: bad byte at 2:3\n",
         3,
     ),
-    ("sil_stage \"raw", "not a module: unsupported at 1:11\n", 3),
-    ("class C {\n", "not a module: unsupported at 2:1\n", 3),
+    (
+        "sil_stage \"raw",
+        "not a module: unclosed text at 1:11\n",
+        3,
+    ),
+    ("class C {\n", "not a module: unexpected at 2:1\n", 3),
 ];
 
 #[test]
@@ -100,9 +121,7 @@ fn texts_are_modules_or_not(rt: HostRuntime) -> Result<(), Fail> {
     for (text, written, status) in TEXTS {
         let ended = check(rt.alloc(), text.as_bytes())?;
         assert_eq!(rt; ended.status, status, "{text}");
-        if !written.is_empty() {
-            assert_eq!(rt; ended.written.as_slice(), written.as_bytes(), "{text}");
-        }
+        assert_eq!(rt; ended.written.as_slice(), written.as_bytes(), "{text}");
     }
     Ok(())
 }

@@ -1,16 +1,20 @@
 -- How an answer follows from what was read.
 use Rattle.std.proofs.Math.Seq.{get_or-append_seam}
-use Rattle.std.proofs.Common.{◌≡◌, ℕ, ◌+◌, ◌≤◌, ◌<◌, List, [], ◌∷◌, ◌++◌, length, map, refl, sym, ap, subst, ◌∙◌, arith, length-append, get_or, Result, Ok, Err}
+use Rattle.std.proofs.Common.{◌≡◌, ℕ, ◌+◌, ◌≤◌, List, [], ◌∷◌, ◌++◌, length, refl, sym, ap, subst, ◌∙◌, arith, length-append, get_or, Result, Ok, Err}
 use Rattle.std.specs.Prelude.{Option, Some, None, IfSome, IfOk}
 use Rattle.std.specs.Io.KnownBytes.{Consumes}
 use Rattle.sil_ast.specs.declared.function.Function.{Function}
 use Rattle.sil_ast.specs.declared.module.Module.{Module}
+use Rattle.sil_grammar.specs.declared.refusal.ReadRefusal.{ReadRefusal}
+use Rattle.sil_grammar.specs.Refusals.{IsRefusalOf}
 use Rattle.sil_grammar.specs.Spells.{Spells}
+use Rattle.simple_modules.specs.Simple.{IsSimple}
 use Rattle.sil_command.specs.declared.fault.Refusal.{Refusal}
 use Rattle.sil_command.specs.Faults.{IsRefusal}
 use Rattle.sil_command.specs.Texts.{limit_text, usage_text, refusal_text}
 use Rattle.sil_command.specs.Words.{IsCommandLine}
-use Rattle.sil_command.specs.Answers.{text_limit, AnswersCheck, AnswersModule, usage, check, too_long, checked, refused}
+use Rattle.sil_command.specs.Answers.{text_limit, AnswersCheck, AnswersModule, usage, check, too_long, unread, checked, refused}
+use Rattle.sil_command.specs.Reading.{AnswersRefusal}
 use Rattle.sil_command.specs.Ends.{IsAnswer}
 
 -- words that are no command line have one answer, whatever the source has
@@ -42,10 +46,23 @@ pub checked_answer : {A E : Type 0} (r : Result A E) (text_of : A → List ℕ) 
 checked_answer (Ok a) text_of status_of {m = m} within spelled answer = checked m _ _ within spelled answer
 checked_answer (Err e) text_of status_of within spelled answer = tt
 
+-- a line with its status is an answer where it is the line for the reason
+pub told_line : {A E : Type 0} (r : Result A E) (text_of : A → List ℕ) (status_of : A → ℕ) {reason : ReadRefusal} {text : List ℕ} {status : ℕ} → AnswersRefusal reason text status
+    → IfOk r (λ a. text_of a ≡ text) → IfOk r (λ a. status_of a ≡ status) → IfOk r (λ a. AnswersRefusal reason (text_of a) (status_of a))
+told_line (Ok a) text_of status_of {reason = reason} {text = text} told same status_is =
+    subst (λ t. AnswersRefusal reason t (status_of a)) (sym same) (subst (λ s. AnswersRefusal reason text s) (sym status_is) told)
+told_line (Err e) text_of status_of told same status_is = tt
+
+-- what is answered to the reason is answered to the text that isn't read
+pub unread_answer : {A E : Type 0} (r : Result A E) (text_of : A → List ℕ) (status_of : A → ℕ) {text : List ℕ} {reason : ReadRefusal} → length text ≤ text_limit
+    → IsRefusalOf text reason → IfOk r (λ a. AnswersRefusal reason (text_of a) (status_of a)) → IfOk r (λ a. AnswersCheck text (text_of a) (status_of a))
+unread_answer (Ok a) text_of status_of {reason = reason} within refusal answer = unread reason _ _ within refusal answer
+unread_answer (Err e) text_of status_of within refusal answer = tt
+
 -- the module's first refusal, by the function that has it
-pub refusal_answer : (m : Module) (r : Refusal) (f : Function) (text : List ℕ) → IsRefusal m r → f ≡ get_or m.functions r.function.0 f
+pub refusal_answer : (m : Module) (r : Refusal) (f : Function) (text : List ℕ) → IsSimple m → IsRefusal m r → f ≡ get_or m.functions r.function.0 f
     → text ≡ refusal_text f.name r.fault → AnswersModule m text 1
-refusal_answer m r f text refusal is e =
+refusal_answer m r f text simple refusal is e =
     let at : get_or m.functions r.function.0 f ≡ refusal.function =
     ap (λ fs. get_or fs r.function.0 f) refusal.parts ∙ ap (λ k. get_or (refusal.before ++ refusal.function ∷ refusal.after) k f) refusal.place ∙ get_or-append_seam refusal.before refusal.function refusal.after f in
-    subst (λ t. AnswersModule m t 1) (ap (λ g. refusal_text g.name r.fault) (sym (is ∙ at)) ∙ sym e) (refused r refusal)
+    subst (λ t. AnswersModule m t 1) (ap (λ g. refusal_text g.name r.fault) (sym (is ∙ at)) ∙ sym e) (refused r refusal simple)

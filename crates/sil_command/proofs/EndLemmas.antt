@@ -1,33 +1,60 @@
 -- What follows from how a call of the command ends: the clauses of the public call.
-use Rattle.std.proofs.Common.{◌≡◌, ◌⊎◌, inl, inr, ℕ, ◌+◌, ◌<◌, ◌^◌, List, ◌++◌, length, take, drop, refl, sym, arith, take-append-drop}
-use Rattle.std.specs.Prelude.{Option, Some, None}
-use Rattle.std.specs.Io.KnownBytes.{Appends, Keeps}
+use Rattle.std.proofs.Common.{◌≡◌, ◌⊎◌, inl, inr, ℕ, ◌<◌, List, refl, arith}
+use Rattle.std.specs.Io.KnownBytes.{Keeps}
+use Rattle.sil_ast.specs.declared.module.Module.{Module}
 use Rattle.sil_io.specs.Count.{MayFail}
+use Rattle.sil_grammar.specs.declared.refusal.ReadRefusal.{ReadRefusal}
 use Rattle.sil_command.specs.Texts.{read_fault_text}
-use Rattle.sil_command.specs.Answers.{Answers, usage, check, AnswersCheck, too_long, no_module, checked, AnswersModule, refused, accepted}
-use Rattle.sil_command.specs.Ends.{Call, Ends, answered, read_failed, exhausted, Finishes, FinishesText, whole, front, IsAnswer, WritesAnswer, Exhausts, WritesWhole, WritesFrontOfAnswer, GainsFront, IsStatus}
+use Rattle.sil_command.specs.Answers.{Answers, usage, check, AnswersCheck, too_long, unread, checked, AnswersModule, not_built, refused, accepted}
+use Rattle.sil_command.specs.Reading.{AnswersRefusal, bad_byte, unclosed_text, long_name, unexpected, unsupported, number_range, limit, twice, unknown_name}
+use Rattle.sil_command.specs.Ends.{Call, Ends, answered, read_failed, exhausted, whole, front, WritesAnswer, Exhausts, WritesWhole, WritesFrontOfAnswer, GainsFront, IsStatus}
 
 -- the statuses of answers: neither a fault nor want of memory
 abbrev IsAnswerStatus : ℕ → Type 0
-IsAnswerStatus status = (status ≡ 0) ⊎ (status ≡ 1) ⊎ (status ≡ 2) ⊎ (status ≡ 3) ⊎ (status ≡ 8)
+IsAnswerStatus status = (status ≡ 0) ⊎ (status ≡ 1) ⊎ (status ≡ 2) ⊎ (status ≡ 3) ⊎ (status ≡ 8) ⊎ (status ≡ 11)
 
-module_status : (m : _) (answer : List ℕ) (status : ℕ) → AnswersModule m answer status → (status ≡ 0) ⊎ (status ≡ 1)
-module_status m _ _ (refused r refusal) = inr refl
-module_status m _ _ (accepted kept) = inl refl
+zero_is : IsAnswerStatus 0
+zero_is = inl refl
 
-check_status : (text answer : List ℕ) (status : ℕ) → AnswersCheck text answer status → (status ≡ 0) ⊎ (status ≡ 1) ⊎ (status ≡ 3) ⊎ (status ≡ 8)
-check_status text _ _ (too_long h) = inr (inr (inr refl))
-check_status text _ _ (no_module l c h none) = inr (inr (inl refl))
-check_status text answer status (checked m _ _ h spelled a) =
-    elim (module_status m answer status a) [ inl zero ↦ inl zero | inr one ↦ inr (inl one) ]
+one_is : IsAnswerStatus 1
+one_is = inr (inl refl)
+
+two_is : IsAnswerStatus 2
+two_is = inr (inr (inl refl))
+
+three_is : IsAnswerStatus 3
+three_is = inr (inr (inr (inl refl)))
+
+eight_is : IsAnswerStatus 8
+eight_is = inr (inr (inr (inr (inl refl))))
+
+eleven_is : IsAnswerStatus 11
+eleven_is = inr (inr (inr (inr (inr refl))))
+
+module_status : (m : Module) (answer : List ℕ) (status : ℕ) → AnswersModule m answer status → IsAnswerStatus status
+module_status m _ _ (not_built not_simple) = eleven_is
+module_status m _ _ (refused r refusal simple) = one_is
+module_status m _ _ (accepted simple kept) = zero_is
+
+refusal_status : (reason : ReadRefusal) (answer : List ℕ) (status : ℕ) → AnswersRefusal reason answer status → IsAnswerStatus status
+refusal_status _ _ _ (bad_byte place) = three_is
+refusal_status _ _ _ (unclosed_text place) = three_is
+refusal_status _ _ _ (long_name place) = eight_is
+refusal_status _ _ _ (unexpected place) = three_is
+refusal_status _ _ _ (unsupported place) = three_is
+refusal_status _ _ _ (number_range place) = three_is
+refusal_status _ _ _ (limit what place) = eight_is
+refusal_status _ _ _ (twice place) = three_is
+refusal_status _ _ _ (unknown_name place) = three_is
+
+check_status : (text answer : List ℕ) (status : ℕ) → AnswersCheck text answer status → IsAnswerStatus status
+check_status text _ _ (too_long h) = eight_is
+check_status text answer status (unread reason _ _ h refusal told) = refusal_status reason answer status told
+check_status text answer status (checked m _ _ h spelled told) = module_status m answer status told
 
 answer_status : (words : List (List ℕ)) (text answer : List ℕ) (status : ℕ) → Answers words text answer status → IsAnswerStatus status
-answer_status words text _ _ (usage none) = inr (inr (inl refl))
-answer_status words text answer status (check _ _ line a) =
-    elim (check_status text answer status a) [
-      | inl zero ↦ inl zero
-      | inr more ↦ elim more [ inl one ↦ inr (inl one) | inr rest ↦ inr (inr (inr rest)) ]
-    ]
+answer_status words text _ _ (usage none) = two_is
+answer_status words text answer status (check _ _ line told) = check_status text answer status told
 
 -- an answer's status is one of all
 all_statuses : (status : ℕ) → IsAnswerStatus status → IsStatus status
@@ -35,7 +62,8 @@ all_statuses status (inl zero) = inl zero
 all_statuses status (inr (inl one)) = inr (inl one)
 all_statuses status (inr (inr (inl two))) = inr (inr (inl two))
 all_statuses status (inr (inr (inr (inl three)))) = inr (inr (inr (inl three)))
-all_statuses status (inr (inr (inr (inr eight)))) = inr (inr (inr (inr (inr (inr (inl eight))))))
+all_statuses status (inr (inr (inr (inr (inl eight))))) = inr (inr (inr (inr (inr (inr (inl eight))))))
+all_statuses status (inr (inr (inr (inr (inr eleven))))) = inr (inr (inr (inr (inr (inr (inr (inr eleven)))))))
 
 four_is : IsStatus 4
 four_is = inr (inr (inr (inr (inl refl))))
@@ -116,4 +144,4 @@ ends_status call status (answered answer wanted _ allowed calm (whole gained sam
 ends_status call status (answered answer wanted _ allowed calm (front gained fault)) = five_is
 ends_status call status (read_failed _ read (whole gained same)) = four_is
 ends_status call status (read_failed _ read (front gained fault)) = five_is
-ends_status call _ (exhausted kept same) = inr (inr (inr (inr (inr (inr (inr refl))))))
+ends_status call _ (exhausted kept same) = inr (inr (inr (inr (inr (inr (inr (inl refl)))))))

@@ -6,5 +6,6 @@ pub mod LeastBroken
 pub mod Marking
 pub mod OneValue
 pub mod PlainBlocks
+pub mod SpelledOnce
 pub mod Verdicts
 pub mod WholeBlock

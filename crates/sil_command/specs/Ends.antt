@@ -1,9 +1,8 @@
 -- How a call of the command ends: from what the source had left and the sink held before it, to what the sink holds after it.
-use Rattle.std.specs.Prelude.{◌≡◌, ◌⊎◌, ℕ, ◌<◌, List, [], ◌++◌, Option, IfSome}
+use Rattle.std.specs.Prelude.{◌≡◌, ◌⊎◌, ℕ, List, ◌++◌, Option, IfSome}
 use Rattle.std.specs.Io.KnownBytes.{Appends, Keeps}
 use Rattle.sil_io.specs.Count.{MayFail}
-use Rattle.sil_command.specs.Words.{IsCommandLine}
-use Rattle.sil_command.specs.Texts.{usage_text, limit_text, read_fault_text}
+use Rattle.sil_command.specs.Texts.{read_fault_text}
 use Rattle.sil_command.specs.Answers.{Answers}
 
 -- the source may have had this text left: where it tells what it has left, that is the text
@@ -49,7 +48,7 @@ pub record WritesFrontOfAnswer (words : List (List ℕ)) (left old new : Option 
 -- every status of the command
 abbrev pub IsStatus : ℕ → Type 0
 IsStatus status =
-    (status ≡ 0) ⊎ (status ≡ 1) ⊎ (status ≡ 2) ⊎ (status ≡ 3) ⊎ (status ≡ 4) ⊎ (status ≡ 5) ⊎ (status ≡ 8) ⊎ (status ≡ 9)
+    (status ≡ 0) ⊎ (status ≡ 1) ⊎ (status ≡ 2) ⊎ (status ≡ 3) ⊎ (status ≡ 4) ⊎ (status ≡ 5) ⊎ (status ≡ 8) ⊎ (status ≡ 9) ⊎ (status ≡ 11)
 
 -- what a call was given and what it left: the words, the source's bytes and count of faults, and the sink's
 pub record Call : Type 0 where

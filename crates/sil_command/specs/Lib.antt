@@ -4,5 +4,6 @@ pub mod Faults
 pub mod Lives
 pub mod Words
 pub mod Texts
+pub mod Reading
 pub mod Answers
 pub mod Ends

@@ -1,5 +1,8 @@
 -- What the command writes, line by line.
 use Rattle.std.specs.Prelude.{ℕ, List, [], ◌∷◌, ◌++◌, codes, decimal}
+use Rattle.sil_ast.specs.declared.place.Place.{Place}
+use Rattle.written_modules.specs.declared.fault.LimitWord.{LimitWord}
+use Rattle.written_modules.specs.declared.fault.LimitWord.TheVariants as limit
 use Rattle.sil_command.specs.declared.rule.Rule.{Rule}
 use Rattle.sil_command.specs.declared.fault.Fault.{Fault}
 use Rattle.sil_command.specs.Rules.{number_of, name_of}
@@ -20,12 +23,35 @@ read_fault_text = line (codes "read fault")
 abbrev pub accepted_text : List ℕ
 accepted_text = line (codes "accepted")
 
--- a place is written as its line and its column, both from 1
-abbrev pub unsupported_text : ℕ → ℕ → List ℕ
-unsupported_text line_number column =
-    line (codes "not a module: unsupported at " ++ decimal line_number ++ codes ":" ++ decimal column)
+abbrev pub not_built_text : List ℕ
+not_built_text = line (codes "not built")
 
--- the first words of a refusal: the rule
+-- a place is written as its line and its column, both from 1
+abbrev pub place_words : Place → List ℕ
+place_words place = codes " at " ++ decimal place.line ++ codes ":" ++ decimal place.column
+
+-- what is wrong with the text, and where
+abbrev pub not_a_module_text : List ℕ → Place → List ℕ
+not_a_module_text what place = line (codes "not a module: " ++ what ++ place_words place)
+
+abbrev pub limit_word : LimitWord → List ℕ
+limit_word limit.Text = codes "text"
+limit_word limit.Name = codes "name"
+limit_word limit.Declarations = codes "declarations"
+limit_word limit.Members = codes "members"
+limit_word limit.Arguments = codes "arguments"
+limit_word limit.Functions = codes "functions"
+limit_word limit.Blocks = codes "blocks"
+limit_word limit.Instructions = codes "instructions"
+limit_word limit.Values = codes "values"
+limit_word limit.Depth = codes "depth"
+limit_word limit.Leaves = codes "leaves"
+
+-- the limit that is passed, and the token that passes it
+abbrev pub passed_limit_text : LimitWord → Place → List ℕ
+passed_limit_text what place = line (codes "limit " ++ limit_word what ++ place_words place)
+
+-- the first words of a refusal by a rule
 abbrev pub rule_words : Rule → List ℕ
 rule_words r = codes "refused " ++ decimal (number_of r) ++ codes " " ++ name_of r
 

@@ -5,9 +5,11 @@ ghost use Rattle.sil_command.specs.Answers.{AnswersCheck, AnswersModule};
 ghost use Rattle.simple_modules.specs.Simple.{IsSimple};
 
 use crate::one_block::first_refusal;
+use crate::reading::answer_refusal;
 use crate::texts;
 use sil_ast::{Exhausted, Module};
-use sil_grammar::{ReadRefusal, read};
+use sil_grammar::read;
+use simple_modules::is_simple;
 use std::alloc::Global;
 
 /// What the command writes, and the status with which it ends.
@@ -17,23 +19,31 @@ pub struct Answer {
     pub status: u8,
 }
 
-/// Checks the module that a text spells.
+/// The answer to a text: to the module that it spells, or why it isn't read.
 pub fn answer_to(alloc: Global, text: &[u8]) -> Result<Answer, Exhausted>
     requires { length text.now ≤ 1048576 }
     ensures { IfOk result (λ a. AnswersCheck text.now a.text.items a.status) }
 {
     match read(alloc, text) {
         Ok(module) => answer_module(alloc, &module),
-        Err(ReadRefusal::Unsupported(place)) => Ok(Answer {
-            text: texts::unsupported(alloc, place)?,
-            status: 3,
-        }),
-        Err(ReadRefusal::Memory) => Err(Exhausted),
+        Err(reason) => answer_refusal(alloc, reason),
     }
 }
 
-/// Checks a module that a text spells.
+/// Checks a module, where it is one that the checks know.
 fn answer_module(alloc: Global, module: &Module) -> Result<Answer, Exhausted>
+    ensures { IfOk result (λ a. AnswersModule «module».now a.text.items a.status) }
+{
+    if is_simple(alloc, module)? {
+        return answer_simple(alloc, module);
+    }
+    Ok(Answer {
+        text: Vec::from_slice(alloc, texts::not_built())?,
+        status: 11,
+    })
+}
+
+fn answer_simple(alloc: Global, module: &Module) -> Result<Answer, Exhausted>
     requires { IsSimple «module».now }
     ensures { IfOk result (λ a. AnswersModule «module».now a.text.items a.status) }
 {

@@ -8,10 +8,11 @@ mod laws;
 mod life;
 mod lives;
 mod one_block;
+mod reading;
 mod rule;
 mod texts;
 mod top_call;
 mod words;
 
-pub use laws::accepted_exactly;
+pub use laws::{accepted_exactly, not_built_exactly};
 pub use top_call::{TEXT_LIMIT, command};

@@ -1,11 +1,12 @@
 //! The lines of answers, made from typed values. Nothing is decided here.
 
 ghost use Rattle.std.specs.Prelude.{◌≡◌, ◌∷◌, [], ◌++◌, IfOk, OnOk, decimal};
-ghost use Rattle.sil_command.specs.Texts.{usage_text, limit_text, read_fault_text, accepted_text, unsupported_text, rule_words, point_words, refusal_text};
+ghost use Rattle.sil_command.specs.Texts.{usage_text, limit_text, read_fault_text, accepted_text, not_built_text, place_words, not_a_module_text, limit_word, passed_limit_text, rule_words, point_words, refusal_text};
 
 use crate::fault::Fault;
 use crate::rule::Rule;
 use sil_ast::{Exhausted, Place};
+use sil_grammar::LimitWord;
 use std::alloc::Global;
 
 /// The line for words that are no command line.
@@ -36,6 +37,13 @@ pub fn accepted() -> &'static [u8]
     b"accepted\n"
 }
 
+/// The line for a module that the checks don't know yet.
+pub fn not_built() -> &'static [u8]
+    ensures { result.now ≡ not_built_text }
+{
+    b"not built\n"
+}
+
 fn push_number(out: &mut Vec<u8>, number: u32) -> Result<(), Exhausted>
     ensures { OnOk result (out.new.items ≡ out.old.items ++ decimal number) }
 {
@@ -44,14 +52,52 @@ fn push_number(out: &mut Vec<u8>, number: u32) -> Result<(), Exhausted>
     Ok(())
 }
 
-/// The line for a text that spells no module, with the place.
-pub fn unsupported(alloc: Global, place: Place) -> Result<Vec<u8>, Exhausted>
-    ensures { IfOk result (λ text. text.items ≡ unsupported_text place.line place.column) }
+fn push_place(out: &mut Vec<u8>, place: Place) -> Result<(), Exhausted>
+    ensures { OnOk result (out.new.items ≡ out.old.items ++ place_words place) }
 {
-    let mut out = Vec::from_slice(alloc, b"not a module: unsupported at ")?;
-    push_number(&mut out, place.line)?;
+    out.extend_from_slice(b" at ")?;
+    push_number(out, place.line)?;
     out.push(b':')?;
-    push_number(&mut out, place.column)?;
+    push_number(out, place.column)?;
+    Ok(())
+}
+
+/// The line for a text that spells no module: what is wrong with it, and where.
+pub fn not_a_module(alloc: Global, what: &[u8], place: Place) -> Result<Vec<u8>, Exhausted>
+    ensures { IfOk result (λ text. text.items ≡ not_a_module_text what.now place) }
+{
+    let mut out = Vec::from_slice(alloc, b"not a module: ")?;
+    out.extend_from_slice(what)?;
+    push_place(&mut out, place)?;
+    out.push(b'\n')?;
+    Ok(out)
+}
+
+fn limit_word(what: LimitWord) -> &'static [u8]
+    ensures { result.now ≡ limit_word what }
+{
+    match what {
+        LimitWord::Text => b"text",
+        LimitWord::Name => b"name",
+        LimitWord::Declarations => b"declarations",
+        LimitWord::Members => b"members",
+        LimitWord::Arguments => b"arguments",
+        LimitWord::Functions => b"functions",
+        LimitWord::Blocks => b"blocks",
+        LimitWord::Instructions => b"instructions",
+        LimitWord::Values => b"values",
+        LimitWord::Depth => b"depth",
+        LimitWord::Leaves => b"leaves",
+    }
+}
+
+/// The line for a text in which a token passes a limit: the limit, and where.
+pub fn passed_limit(alloc: Global, what: LimitWord, place: Place) -> Result<Vec<u8>, Exhausted>
+    ensures { IfOk result (λ text. text.items ≡ passed_limit_text what place) }
+{
+    let mut out = Vec::from_slice(alloc, b"limit ")?;
+    out.extend_from_slice(limit_word(what))?;
+    push_place(&mut out, place)?;
     out.push(b'\n')?;
     Ok(out)
 }

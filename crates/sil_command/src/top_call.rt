@@ -20,7 +20,8 @@ pub const TEXT_LIMIT: usize = 1048576;
 /// Does what the words ask for: reads a text from the source, writes one answer to the sink, and answers the status.
 ///
 /// The words are those after the program's name. The statuses are 0 (accepted), 1 (refused by a rule), 2 (not a command line),
-/// 3 (not a module), 4 (a read failed), 5 (a write failed), 8 (past a limit) and 9 (no memory left; nothing was written).
+/// 3 (not a module), 4 (a read failed), 5 (a write failed), 8 (past a limit), 9 (no memory left; nothing was written) and
+/// 11 (a module that the checks don't know yet).
 /// The answer is built whole before the first byte of it is written, and after that no memory is taken.
 pub fn command<'a, S: Source, K: Sink>(
     alloc: Global,

@@ -5,4 +5,6 @@ pub mod Places
 pub mod Replay
 pub mod Types
 pub mod Values
+pub mod Found
+pub mod Taken
 pub mod Opened

@@ -1,5 +1,5 @@
 -- Each way in which the call ends, as one relation.
-use Rattle.std.proofs.Common.{◌≡◌, refl, ap, Err}
+use Rattle.std.proofs.Common.{refl, ap, Err}
 use Rattle.std.proofs.lemmas.Bool.{false≢true}
 use Rattle.std.proofs.KnownBytes.{Keeps-refl}
 use Rattle.sil_command.specs.Ends.{answered, read_failed, exhausted}

@@ -1,7 +1,6 @@
 -- One word is a command line where it is `check`.
-use Rattle.std.proofs.Common.{◌≡◌, ℕ, ◌≤◌, ◌<◌, List, [], ◌∷◌, length, map, get_or, ap, arith, IsTrue, ◌↔◌, Bor, ◌∙◌, sym, subst, nat_eq}
-use Rattle.std.specs.Prelude.{codes, Bool}
-use Rattle.std.specs.Cmp.Lexicographic.{pointwise}
+use Rattle.std.proofs.Common.{◌≡◌, ℕ, ◌≤◌, ◌<◌, List, [], ◌∷◌, length, map, get_or, ap, arith, Bor, ◌∙◌, sym}
+use Rattle.std.specs.Prelude.{codes}
 use Rattle.std.proofs.lemmas.Slice.Eq.{bytes_eq-Decides}
 use Rattle.sil_command.proofs.words.is_command_line.Goals as goal
 

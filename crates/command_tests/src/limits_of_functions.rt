@@ -1,0 +1,209 @@
+//! Functions with as many blocks, instructions and values as they may have, and with one more.
+
+use crate::patterns::{
+    Counted, Limited, NO_HEAD, NO_VALUE, ONE_VALUE, assert_counted, assert_limits,
+};
+use std::test::Fail;
+
+const BLOCKS_LIMITS: [Limited; 2] = [
+    // of a function
+    (
+        "sil @f : $@convention(thin) () -> () {\n`b~: unreachable\n`}\n",
+        512,
+        "514:1",
+    ),
+    // with arguments
+    (
+        "sil @f : $@convention(thin) () -> () {\n`b~(%a~ : $A):\nbr b0(%a0 : $A)\n`}\n",
+        512,
+        "1026:1",
+    ),
+];
+
+const BLOCKS_COUNTED: [Counted; 1] = [
+    // are counted for each function
+    (
+        "`sil @f~ : $@convention(thin) () -> () { a: unreachable b: unreachable }\n`",
+        300,
+        "not built",
+    ),
+];
+
+const INSTRUCTIONS_LIMITS_WITH_VALUE: [Limited; 1] = [
+    // the terminator is one too many
+    ("`debug_value %0 : $A\n`unreachable\n}\n", 4095, "4099:1"),
+];
+
+const INSTRUCTIONS_LIMITS: [Limited; 1] = [
+    // of all blocks together
+    (
+        "sil @f : $@convention(thin) () -> () {\n`b~(%~ : $A):\ndebug_value %0 : $A\ndebug_value %0 : $A\ndebug_value %0 : $A\ndebug_value %0 : $A\ndebug_value %0 : $A\ndebug_value %0 : $A\ndebug_value %0 : $A\ndebug_value %0 : $A\ndebug_value %0 : $A\ndebug_value %0 : $A\ndebug_value %0 : $A\ndebug_value %0 : $A\ndebug_value %0 : $A\ndebug_value %0 : $A\ndebug_value %0 : $A\nunreachable\n`}\n",
+        256,
+        "4355:1",
+    ),
+];
+
+const INSTRUCTIONS_COUNTED_WITH_VALUE: [Counted; 4] = [
+    // an instruction is one too many: at the limit
+    ("`debug_value %0 : $A\n`unreachable\n}\n", 4095, "not built"),
+    // an instruction is one too many: past it
+    (
+        "`debug_value %0 : $A\n`unreachable\n}\n",
+        4097,
+        "limit instructions at 4099:1",
+    ),
+    // a word without a row passes no limit
+    (
+        "`debug_value %0 : $A\n`alloc_box $A\nunreachable\n}\n",
+        4096,
+        "not a module: unsupported at 4099:1",
+    ),
+    // cut behind the mnemonic that is too many
+    (
+        "`debug_value %0 : $A\n`return",
+        4096,
+        "limit instructions at 4099:1",
+    ),
+];
+
+const INSTRUCTIONS_COUNTED: [Counted; 2] = [
+    // as many as there may be, of a simple function
+    (
+        "class C {}\nsil [ossa] @f : $@convention(thin) () -> () {\nb:\n%0 = alloc_ref $C\n`destroy_value %0 : $C\n`%t = tuple ()\nreturn %t : $()\n}\n",
+        4093,
+        "refused 402 DoubleConsume @f bb0:2\nsubject %0\nwalk bb0",
+    ),
+    // one more, of a simple function
+    (
+        "class C {}\nsil [ossa] @f : $@convention(thin) () -> () {\nb:\n%0 = alloc_ref $C\n`destroy_value %0 : $C\n`%t = tuple ()\nreturn %t : $()\n}\n",
+        4094,
+        "limit instructions at 4100:1",
+    ),
+];
+
+const VALUES_LIMITS_WITHOUT_VALUE: [Limited; 4] = [
+    // named
+    ("`%~ = alloc_ref $A\n`unreachable\n}\n", 1024, "1027:1"),
+    // unnamed
+    ("`alloc_ref $A\n`unreachable\n}\n", 1024, "1027:1"),
+    // unnamed behind empty parentheses
+    ("`() = alloc_ref $A\n`unreachable\n}\n", 1024, "1027:6"),
+    // in parentheses
+    ("`(%~) = alloc_ref $A\n`unreachable\n}\n", 1024, "1027:2"),
+];
+
+const VALUES_LIMITS_WITH_VALUE: [Limited; 1] = [
+    // two names
+    (
+        "`(%a~, %b~) = destructure_tuple %0 : $(A, A)\n`unreachable\n}\n",
+        511,
+        "514:9",
+    ),
+];
+
+const VALUES_LIMITS: [Limited; 5] = [
+    // arguments of blocks
+    (
+        "sil @f : $@convention(thin) () -> () {\n`b~(%a~ : $A, %b~ : $A, %c~ : $A, %d~ : $A):\nunreachable\n`}\n",
+        256,
+        "514:6",
+    ),
+    // destroy_addr
+    (
+        "sil [ossa] @f : $@convention(thin) () -> () {\nb(%0 : $*A):\n`destroy_addr %0 : $*A\n`unreachable\n}\n",
+        1023,
+        "1026:1",
+    ),
+    // destroy_addr with a name, at its mnemonic
+    (
+        "sil [ossa] @f : $@convention(thin) () -> () {\nb(%0 : $*A):\n`%a~ = destroy_addr %0 : $*A\n`unreachable\n}\n",
+        511,
+        "514:9",
+    ),
+    // destroy_addr with a name, at its name
+    (
+        "sil [ossa] @f : $@convention(thin) () -> () {\nb(%0 : $*A, %1 : $*A):\n`%a~ = destroy_addr %0 : $*A\n`unreachable\n}\n",
+        511,
+        "514:1",
+    ),
+    // store [assign]
+    (
+        "sil [ossa] @f : $@convention(thin) () -> () {\nb(%0 : $*A):\n`store %0 to [assign] %0 : $*A\n`unreachable\n}\n",
+        1023,
+        "1026:14",
+    ),
+];
+
+const VALUES_COUNTED: [Counted; 4] = [
+    // other stores are none
+    (
+        "sil [ossa] @f : $@convention(thin) () -> () {\nb(%0 : $*A):\n`store %0 to [init] %0 : $*A\nstore %0 to [trivial] %0 : $*A\n`unreachable\n}\n",
+        1100,
+        "not built",
+    ),
+    // are counted for each function
+    (
+        "`sil @f~ : $@convention(thin) () -> () { b(%0 : $A, %1 : $A, %2 : $A, %3 : $A): unreachable }\n`",
+        300,
+        "not built",
+    ),
+    // as many as there may be, of a simple function
+    (
+        "class C {}\nsil [ossa] @f : $@convention(thin) () -> () {\nb:\n`%~ = tuple ()\n`return %0 : $()\n}\n",
+        1024,
+        "accepted",
+    ),
+    // one more, of a simple function
+    (
+        "class C {}\nsil [ossa] @f : $@convention(thin) () -> () {\nb:\n`%~ = tuple ()\n`return %0 : $()\n}\n",
+        1025,
+        "limit values at 1028:1",
+    ),
+];
+
+const VALUES_COUNTED_WITH_VALUE: [Counted; 1] = [
+    // rows with no result or several are none without names
+    (
+        "`destructure_struct %0 : $A\n() = destructure_tuple %0 : $(A, A)\n`unreachable\n}\n",
+        1100,
+        "not built",
+    ),
+];
+
+// The place is that of the 513th label.
+#[test]
+fn a_function_has_512_blocks(rt: HostRuntime) -> Result<(), Fail> {
+    let alloc = rt.alloc();
+    assert_limits(&rt, alloc, NO_HEAD, "blocks", &BLOCKS_LIMITS)?;
+    assert_counted(&rt, alloc, NO_HEAD, &BLOCKS_COUNTED)?;
+    Ok(())
+}
+
+// The place is that of the 4,097th mnemonic, terminators counted.
+#[test]
+fn a_function_has_4096_instructions(rt: HostRuntime) -> Result<(), Fail> {
+    let alloc = rt.alloc();
+    assert_limits(
+        &rt,
+        alloc,
+        ONE_VALUE,
+        "instructions",
+        &INSTRUCTIONS_LIMITS_WITH_VALUE,
+    )?;
+    assert_limits(&rt, alloc, NO_HEAD, "instructions", &INSTRUCTIONS_LIMITS)?;
+    assert_counted(&rt, alloc, ONE_VALUE, &INSTRUCTIONS_COUNTED_WITH_VALUE)?;
+    assert_counted(&rt, alloc, NO_HEAD, &INSTRUCTIONS_COUNTED)?;
+    Ok(())
+}
+
+// The place is that of the name, or of the mnemonic where there is none and at `destroy_addr`; at `store [assign]` that of the word `assign`.
+#[test]
+fn a_function_has_1024_values(rt: HostRuntime) -> Result<(), Fail> {
+    let alloc = rt.alloc();
+    assert_limits(&rt, alloc, NO_VALUE, "values", &VALUES_LIMITS_WITHOUT_VALUE)?;
+    assert_limits(&rt, alloc, ONE_VALUE, "values", &VALUES_LIMITS_WITH_VALUE)?;
+    assert_limits(&rt, alloc, NO_HEAD, "values", &VALUES_LIMITS)?;
+    assert_counted(&rt, alloc, NO_HEAD, &VALUES_COUNTED)?;
+    assert_counted(&rt, alloc, ONE_VALUE, &VALUES_COUNTED_WITH_VALUE)?;
+    Ok(())
+}

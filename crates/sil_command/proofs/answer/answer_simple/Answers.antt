@@ -1,0 +1,18 @@
+-- The answer to a simple module, by whether it has a refusal.
+use Rattle.std.proofs.Common.{sym, subst, ◌∙◌, ap, get_or}
+use Rattle.sil_command.specs.Answers.{AnswersModule, accepted}
+use Rattle.sil_command.specs.Texts.{refusal_text}
+use Rattle.sil_command.proofs.AnswerLemmas.{refusal_answer}
+use Rattle.sil_command.proofs.answer.answer_simple.Goals as goal
+
+pub returns-in_default : goal.returns-in_default
+returns-in_default c =
+    subst (λ t. AnswersModule c.args.module.now t 0) (sym (c.in_ok-from_slice.ensures.items ∙ c.accepted.ensures))
+    (accepted c.requires (rw c.in_default.is at c.in_ok-refusal.ensures))
+
+pub returns : goal.returns
+returns c =
+    refusal_answer c.args.module.now c.in-Some.refusal c.index-as_slice-refusal.result _ c.requires
+    (rw c.in-Some.is at c.in_ok-refusal.ensures)
+    (c.index-as_slice-refusal.is ∙ ap (λ fs. get_or fs c.in-Some.refusal.function.0 c.index-as_slice-refusal.result) c.as_slice.ensures)
+    (c.in_ok-refusal-2.ensures ∙ ap (λ name. refusal_text name c.in-Some.refusal.fault) c.as_slice-2.ensures)
