@@ -3,6 +3,7 @@ pub mod Goods
 pub mod TypeLemmas
 pub mod NumberLemmas
 pub mod RowLemmas
+pub mod RowShapes
 pub mod PartLemmas
 pub mod ReplayLemmas
 pub mod ModuleLemmas

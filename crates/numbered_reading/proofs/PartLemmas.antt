@@ -40,7 +40,8 @@ use Rattle.numbered_form.specs.Types.{HasFieldType, HasPayloadType, IsPlainType}
 use Rattle.numbered_reading.proofs.Basics.{Each-map, both, either_first, no_first, no_second, not_passed, not_passed-map}
 use Rattle.numbered_reading.proofs.Goods.{AreEnumOperands, AreGoodCases, AreGoodFrom, AreGoodGivens, AreGoodOperands, AreGoodParams, AreGoodSwitch, IsGood, IsGoodBlock, IsGoodBranch, IsGoodCase, IsGoodDecl, IsGoodField, IsGoodFunction, IsGoodItem, IsGoodModule, IsGoodPart, IsGoodSignature, IsGoodToken, IsGoodType, IsStrongField, IsWordToken}
 use Rattle.numbered_reading.proofs.NumberLemmas.{good_element, good_literal}
-use Rattle.numbered_reading.proofs.RowLemmas.{alloc_ref_row, alloc_stack_row, apply_row, br_row, builtin_row, cond_br_row, debug_row, element_row, enum_row, fail_row, flagged_row, function_row, literal_row, loaded_row, member_row, operands_have_types, operands_typed, over_one_row, renamed, stored_row, struct_row, switch_row, tuple_row, unreachable_row}
+use Rattle.numbered_reading.proofs.RowLemmas.{renamed}
+use Rattle.numbered_reading.proofs.RowShapes.{alloc_ref_row, alloc_stack_row, apply_row, br_row, builtin_row, cond_br_row, debug_row, element_row, enum_row, fail_row, flagged_row, function_row, literal_row, loaded_row, member_row, operands_have_types, operands_typed, over_one_row, stored_row, struct_row, switch_row, tuple_row, unreachable_row}
 use Rattle.numbered_reading.proofs.TypeLemmas.{good_marks, good_name, good_optional, good_parens, good_unowned, good_weak, good_width, more_good_types, no_good_types, placed_address, placed_plain, plain_type, room}
 
 -- a type that begins elsewhere
