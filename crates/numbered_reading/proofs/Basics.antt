@@ -1,8 +1,7 @@
 -- Facts of lists, tests and faults.
-use Rattle.std.proofs.Common.{if◌then◌else◌, zero-le, suc-le-suc, ◌≡◌, ℕ, ◌+◌, ◌-◌, ◌≤◌, ◌<◌, zero, suc, List, [], ◌∷◌, ◌++◌, length, map, take, drop, slice_get, Option, Some, None, Bool, true, false, ◌&&◌, ◌||◌, ap, sym, refl, subst, ◌∙◌, arith, IsTrue, flat_map, length-append}
-use Rattle.std.specs.List.{list_all, list_any}
+use Rattle.std.proofs.Common.{if◌then◌else◌, ◌≡◌, ℕ, ◌≤◌, zero, suc, List, [], ◌∷◌, ◌++◌, length, map, slice_get, Option, Some, None, Bool, true, false, ◌&&◌, ◌||◌, sym, refl, arith, flat_map}
+use Rattle.std.specs.List.{list_all}
 use Rattle.std.specs.Option.{option_map}
-use Rattle.std.specs.Prelude.{⊤, slice_index_or}
 use Rattle.std.proofs.lemmas.List.{length-map}
 use Rattle.sil_ast.specs.declared.place.Place.{Place}
 use Rattle.written_modules.specs.declared.fault.Fault.{Fault}

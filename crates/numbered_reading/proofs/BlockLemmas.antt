@@ -1,7 +1,6 @@
 -- What holds of good instructions and blocks holds where they are resolved.
-use Rattle.std.proofs.Common.{◌≡◌, ℕ, ◌+◌, ◌≤◌, suc, List, [], ◌∷◌, length, map, Option, Bool, true, false, IsTrue, IsFalse, ap, sym, refl, ◌∙◌, true≢false}
+use Rattle.std.proofs.Common.{◌≡◌, ℕ, ◌+◌, suc, List, [], ◌∷◌, length, true, false, ap, sym, refl, true≢false}
 use Rattle.sil_ast.specs.declared.function.Block.{Block}
-use Rattle.sil_ast.specs.declared.function.BlockArg.{BlockArg}
 use Rattle.sil_ast.specs.declared.inst.Inst.{Inst}
 use Rattle.sil_ast.specs.declared.op.Op.{Op}
 use Rattle.sil_ast.specs.declared.op.Op.TheVariants as op
@@ -14,7 +13,7 @@ use Rattle.name_resolution.specs.Resolved.{Scope, counted, defined_by, defined_b
 use Rattle.numbered_form.specs.Lists.{Each}
 use Rattle.numbered_form.specs.Insts.{EachInBlock}
 use Rattle.numbered_form.specs.Limits.{IsBlockInLimits, IsInstInLimits}
-use Rattle.numbered_form.specs.Parts.{BlockHasParts, IsInside, IsTerminator, is_terminator}
+use Rattle.numbered_form.specs.Parts.{BlockHasParts, IsInside, is_terminator}
 use Rattle.numbered_form.specs.Types.{HasArgType, HasBlockTypes, HasInstTypes}
 use Rattle.numbered_reading.proofs.Goods.{IsGoodArg, IsGoodBlock, IsGoodEnd, IsGoodInside, IsGoodInst}
 

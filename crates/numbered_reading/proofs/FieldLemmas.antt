@@ -1,10 +1,9 @@
 -- A good module, once it is resolved, has its parts, literals, fields, names, types and forms.
-use Rattle.std.proofs.Common.{◌≡◌, ◌≢◌, ◌↔◌, ℕ, ◌+◌, ◌≤◌, suc, List, [], ◌∷◌, length, map, filter, Option, Some, None, Bool, true, false, not, if◌then◌else◌, cond, IsTrue, IfSome, ap, sym, refl, subst, ◌∙◌, codes, flat_map, true≢false}
+use Rattle.std.proofs.Common.{◌≡◌, ◌↔◌, ℕ, List, [], ◌∷◌, map, filter, Option, Some, None, Bool, true, false, not, if◌then◌else◌, cond, IfSome, ap, sym, refl, ◌∙◌, codes, flat_map, true≢false}
 use Rattle.std.specs.List.{list_any}
 use Rattle.std.specs.Option.{option_map}
 use Rattle.std.specs.Str.{bytes_eq}
 use Rattle.sil_ast.specs.declared.decl.Decl.{Decl}
-use Rattle.sil_ast.specs.declared.function.Form.{Form}
 use Rattle.sil_ast.specs.declared.function.Form.TheVariants.{External, Lowered, Ossa}
 use Rattle.sil_ast.specs.declared.function.Function.{Function}
 use Rattle.sil_ast.specs.declared.function.Block.{Block}
@@ -15,9 +14,8 @@ use Rattle.written_modules.specs.declared.written_functions.WrittenBlock.{Writte
 use Rattle.written_modules.specs.declared.written_functions.WrittenFunction.{WrittenFunction}
 use Rattle.written_modules.specs.declared.written_module.WrittenEntry.{WrittenEntry}
 use Rattle.written_modules.specs.declared.written_module.WrittenModule.{WrittenModule}
-use Rattle.written_modules.specs.declared.written_module.WrittenVtable.{WrittenVtable}
 use Rattle.written_modules.specs.Places.{is_kept, is_ossa}
-use Rattle.name_resolution.specs.Names.{Name, decls_of, functions_of, function_name, name_of, vtables_of}
+use Rattle.name_resolution.specs.Names.{Name, decls_of, functions_of, name_of, vtables_of}
 use Rattle.name_resolution.specs.Resolved.{Scope, form_of, resolved, resolved_blocks, resolved_decl, resolved_entry, resolved_function, resolved_vtable, scope_of}
 use Rattle.numbered_form.specs.Lists.{Each}
 use Rattle.numbered_form.specs.Fields.{AreStructFieldsStrong, HasStrongFields}

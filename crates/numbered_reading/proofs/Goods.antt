@@ -1,7 +1,7 @@
 -- What each part of a text stands for, where nothing in it is at fault: each predicate asks for just what numbered form does.
-use Rattle.std.proofs.Common.{◌≡◌, ℕ, ◌≤◌, List, [], ◌∷◌, ◌++◌, length, map, Option, Some, None, Bool, true, false, IfSome, IsTrue, IsFalse, flat_map, ◌+◌}
+use Rattle.std.proofs.Common.{◌≡◌, ℕ, ◌≤◌, List, [], ◌∷◌, length, map, IfSome, IsTrue, IsFalse, flat_map, ◌+◌}
 use Rattle.std.specs.List.{list_all}
-use Rattle.std.specs.Prelude.{⊤, slice_index_or}
+use Rattle.std.specs.Prelude.{⊤}
 use Rattle.sil_ast.specs.TypeName.{depth_of, largest}
 use Rattle.sil_ast.specs.declared.debug.Debug.{Debug}
 use Rattle.sil_ast.specs.declared.decl.Decl.{Decl}
@@ -9,8 +9,6 @@ use Rattle.sil_ast.specs.declared.decl.Storage.TheVariants.{Strong}
 use Rattle.sil_ast.specs.declared.inst.Edge.{Edge}
 use Rattle.sil_ast.specs.declared.inst.Inst.{Inst}
 use Rattle.sil_ast.specs.declared.operands.Operand.{Operand}
-use Rattle.sil_ast.specs.declared.signature.Given.{Given}
-use Rattle.sil_ast.specs.declared.signature.Param.{Param}
 use Rattle.sil_ast.specs.declared.signature.Signature.{Signature}
 use Rattle.sil_ast.specs.declared.type_name.TypeName.{TypeName}
 use Rattle.sil_shape.specs.declared.grammar.Nonterminal.{Nonterminal}
@@ -19,7 +17,6 @@ use Rattle.sil_shape.specs.declared.grammar.Symbol.{Symbol}
 use Rattle.sil_shape.specs.declared.grammar.Symbol.TheVariants.{Read, Part}
 use Rattle.sil_shape.specs.declared.grammar.Terminal.{Terminal}
 use Rattle.sil_shape.specs.declared.grammar.Terminal.TheVariants as t
-use Rattle.written_modules.specs.declared.written_declarations.WrittenDecl.{WrittenDecl}
 use Rattle.written_modules.specs.declared.written_declarations.WrittenCase.{WrittenCase}
 use Rattle.written_modules.specs.declared.written_declarations.WrittenField.{WrittenField}
 use Rattle.written_modules.specs.declared.written_declarations.WrittenToken.{WrittenToken}
@@ -37,7 +34,7 @@ use Rattle.written_modules.specs.declared.written_module.WrittenVtable.{WrittenV
 use Rattle.written_modules.specs.Opened.{PartGivens, PartParams, PartType, PartTypes, PartValue, module_value}
 use Rattle.written_modules.specs.Types.{tailed}
 use Rattle.written_modules.specs.Meaning.{part}
-use Rattle.written_modules.specs.Places.{attribute_places, decl_names, function_names, label_place, mnemonics_of, values_of_block}
+use Rattle.written_modules.specs.Places.{attribute_places, decl_names, function_names, mnemonics_of, values_of_block}
 use Rattle.written_modules.specs.Values.{token_of, items_of, item_of, fields_of, field_of, field_before, cases_of, type_of, payload_of, types_of, tokens_of, params_of, param_before, givens_of, given_before, starred, signature_of, blocks_of, block_of, args_of, arg_of, insts_of, terminator_of, inst_of, operands_of, operand_of, edges_of, edge_of, member_of, qualifier_of, debug_of, entry_of}
 use Rattle.name_resolution.specs.Resolved.{Scope, resolved_decl, resolved_edge, resolved_inst, resolved_operand}
 use Rattle.numbered_form.specs.Lists.{Each, is_empty}
@@ -48,7 +45,7 @@ use Rattle.numbered_form.specs.Names.{IsDeclSpelled, IsEdgeSpelled, IsInstSpelle
 use Rattle.numbered_form.specs.Parts.{HasItsParts, are_cases, has_operands, is_branch, is_plain_or_init, is_plain_or_take, is_terminator, is_typed}
 use Rattle.numbered_form.specs.Types.{HasDeclTypes, HasEdgeTypes, HasGivenType, HasInstTypes, HasOperandType, HasParamType, HasSignatureTypes, IsPlacedType, IsPlainType, is_plain_type, same}
 use Rattle.sil_ast.specs.declared.op.Op.TheVariants as op
-use Rattle.numbered_reading.specs.Leaves.{IsTextOf, IsBuiltinText}
+use Rattle.numbered_reading.specs.Leaves.{IsTextOf}
 
 -- types
 

@@ -3,7 +3,8 @@ pub mod Goods
 pub mod TypeLemmas
 pub mod NumberLemmas
 pub mod RowLemmas
-pub mod RowShapes
+pub mod SharedRows
+pub mod SingleRows
 pub mod PartLemmas
 pub mod ReplayLemmas
 pub mod ModuleLemmas

@@ -1,10 +1,8 @@
 -- A good module, once it is resolved, is within the limits.
-use Rattle.std.proofs.Common.{◌≡◌, ℕ, ◌+◌, ◌≤◌, suc, List, [], ◌∷◌, ◌++◌, length, map, filter, Option, Some, None, Bool, true, false, cond, if◌then◌else◌, IsTrue, ap, sym, refl, subst, ◌∙◌, arith, flat_map, count_by, sum_by, length-append, ap₂, true≢false}
+use Rattle.std.proofs.Common.{◌≡◌, ℕ, ◌+◌, ◌≤◌, suc, List, [], ◌∷◌, ◌++◌, length, map, filter, Option, Some, None, Bool, true, false, cond, if◌then◌else◌, ap, sym, refl, ◌∙◌, arith, flat_map, count_by, length-append, ap₂, true≢false}
 use Rattle.std.proofs.lemmas.List.{length-map}
 use Rattle.std.proofs.lemmas.List.Sums.{sum_by-append, sum_by-cons}
-use Rattle.sil_ast.specs.declared.decl.Decl.{Decl}
 use Rattle.sil_ast.specs.declared.function.Block.{Block}
-use Rattle.sil_ast.specs.declared.function.Function.{Function}
 use Rattle.sil_ast.specs.declared.inst.Inst.{Inst}
 use Rattle.sil_ast.specs.declared.inst.Qualifier.{Qualifier}
 use Rattle.sil_ast.specs.declared.inst.Qualifier.TheVariants as qualifier
@@ -12,7 +10,6 @@ use Rattle.sil_ast.specs.declared.op.Op.{Op}
 use Rattle.sil_ast.specs.declared.op.Op.TheVariants as op
 use Rattle.sil_ast.specs.declared.place.Place.{Place}
 use Rattle.written_modules.specs.declared.written_declarations.WrittenToken.{WrittenToken}
-use Rattle.written_modules.specs.declared.written_functions.WrittenArg.{WrittenArg}
 use Rattle.written_modules.specs.declared.written_functions.WrittenBlock.{WrittenBlock}
 use Rattle.written_modules.specs.declared.written_functions.WrittenFunction.{WrittenFunction}
 use Rattle.written_modules.specs.declared.written_instructions.WrittenInst.{WrittenInst}
@@ -21,7 +18,7 @@ use Rattle.written_modules.specs.declared.written_module.WrittenItem.TheVariants
 use Rattle.written_modules.specs.declared.written_module.WrittenModule.{WrittenModule}
 use Rattle.written_modules.specs.Places.{arg_place, attribute_places, decl_names, extra_places, function_names, has_one_result, is_kept, mnemonic_place, mnemonics_of, result_places, token_place, value_places_of, values_of_block}
 use Rattle.name_resolution.specs.Names.{Name, decls_of, functions_of, name_of}
-use Rattle.name_resolution.specs.Resolved.{Scope, counted, defined_by, defined_by_arg, defined_by_inst, defined_in, resolved, resolved_args, resolved_block, resolved_blocks, resolved_decl, resolved_function, resolved_inst, resolved_insts, scope_of}
+use Rattle.name_resolution.specs.Resolved.{Scope, counted, defined_by, defined_by_inst, defined_in, resolved, resolved_block, resolved_blocks, resolved_decl, resolved_function, resolved_inst, resolved_insts, scope_of}
 use Rattle.numbered_form.specs.Lists.{Each}
 use Rattle.numbered_form.specs.Insts.{insts_in, insts_of}
 use Rattle.numbered_form.specs.Limits.{AreLimitsKept, IsBlockInLimits, IsDeclInLimits, IsFunctionInLimits, inst_takes_value, takes_value, value_count}
@@ -51,7 +48,7 @@ inst_count_is : (s : Scope) (first : ℕ) (bs : List WrittenBlock) → length (i
 inst_count_is s first [] = refl
 inst_count_is s first (b ∷ bs) =
     both_lengths (insts_of (resolved_block s first b)) (insts_in (resolved_blocks s (first + length (defined_in b)) bs)) (mnemonics_of b) (flat_map mnemonics_of bs)
-        (block_insts s first b) (inst_count_is s (first + length (defined_in b)) bs)
+    (block_insts s first b) (inst_count_is s (first + length (defined_in b)) bs)
 
 -- the values that an instruction counts for
 

@@ -1,8 +1,7 @@
 -- A module that is written without a fault is good, with each of its items.
-use Rattle.std.proofs.Common.{◌≡◌, List, [], ◌∷◌, map, Option, None, subst, refl, flat_map}
+use Rattle.std.proofs.Common.{List, [], ◌∷◌, subst, refl, flat_map}
 use Rattle.sil_lexer.specs.Lexes.{Lexeme}
 use Rattle.sil_shape.specs.declared.classes.Class.{Class}
-use Rattle.sil_shape.specs.declared.grammar.Nonterminal.TheVariants as n
 use Rattle.sil_shape.specs.declared.steps.Step.{Step}
 use Rattle.sil_shape.specs.Derivation.{start}
 use Rattle.written_modules.specs.declared.written_declarations.WrittenDecl.{WrittenDecl}
@@ -10,7 +9,6 @@ use Rattle.written_modules.specs.declared.written_module.WrittenItem.{WrittenIte
 use Rattle.written_modules.specs.declared.written_module.WrittenItem.TheVariants as item
 use Rattle.written_modules.specs.declared.written_module.WrittenModule.{WrittenModule}
 use Rattle.written_modules.specs.Opened.{module_value}
-use Rattle.written_modules.specs.Replay.{replay}
 use Rattle.name_resolution.specs.Names.{decls_of, functions_of, vtables_of}
 use Rattle.name_resolution.specs.Resolved.{resolved_decl}
 use Rattle.numbered_form.specs.Lists.{Each}

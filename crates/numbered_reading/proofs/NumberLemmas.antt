@@ -1,5 +1,5 @@
 -- Numbers that have a value in their range.
-use Rattle.std.proofs.Common.{◌≡◌, ℕ, zero, suc, ◌^◌, ◌+◌, ◌-◌, ◌<◌, ◌≤◌, ◌&&◌, if◌then◌else◌, sym, ap, refl, ◌∙◌, arith, ℤ, pos, negsuc, neg_ℤ, ◌≤ℤ◌, ◌<ℤ◌, Some, None, Bool, true, false, List, is_some, IfSome, IsTrue, subst, nat_le, leb→le, leb-true}
+use Rattle.std.proofs.Common.{◌≡◌, ℕ, ◌^◌, ◌-◌, ◌<◌, ◌≤◌, if◌then◌else◌, refl, arith, ℤ, pos, negsuc, neg_ℤ, ◌≤ℤ◌, ◌<ℤ◌, Some, None, Bool, true, false, List, is_some, IfSome, IsTrue, subst, nat_le, leb-true}
 use Rattle.std.specs.Prelude.{Option, int_lt, int_le}
 use Rattle.std.specs.Option.{option_map}
 use Rattle.std.proofs.lemmas.Int.{ints}
@@ -8,7 +8,6 @@ use Rattle.sil_ast.specs.declared.place.Place.{Place}
 use Rattle.sil_ast.specs.declared.type_name.TypeName.{TypeName}
 use Rattle.written_numbers.specs.Numbers.{literal_of, small_of, up_to, value_of}
 use Rattle.written_numbers.proofs.Residues.{literal_is_signed, half_some, half_doubled}
-use Rattle.written_modules.specs.declared.fault.Fault.{Fault}
 use Rattle.written_modules.specs.Faults.{out_of_range}
 use Rattle.written_modules.specs.Meaning.{element_of}
 use Rattle.written_modules.specs.Types.{width_of}

@@ -1,9 +1,4 @@
 -- What is written without a fault is in numbered form.
-use Rattle.std.proofs.Common.{List}
-use Rattle.sil_lexer.specs.Lexes.{Lexeme}
-use Rattle.sil_shape.specs.declared.classes.Class.{Class}
-use Rattle.sil_shape.specs.declared.steps.Step.{Step}
-use Rattle.written_modules.specs.declared.written_module.WrittenModule.{WrittenModule}
 use Rattle.numbered_reading.specs.Laws.{AreWrittenNumbered}
 use Rattle.numbered_reading.proofs.FieldLemmas.{read_fields, read_functions, read_literals, read_names, read_parts, read_types}
 use Rattle.numbered_reading.proofs.Goods.{IsGoodModule}

@@ -1,37 +1,19 @@
 -- The values of a module that is read are numbered in order, and what it uses is there.
-use Rattle.std.proofs.Common.{◌≡◌, ℕ, ◌+◌, ◌<◌, ◌≤◌, zero, suc, List, [], ◌∷◌, ◌++◌, length, map, position, unwrap_or, Option, Some, None, Bool, true, false, cond, if◌then◌else◌, nat_lt, IfSome, IsTrue, ap, ap₂, sym, refl, subst, ◌∙◌, arith, flat_map, length-append, append-nil, true≢false}
-use Rattle.std.specs.List.{list_any, position_or_len}
-use Rattle.std.specs.Option.{option_map, option_to_list}
-use Rattle.std.specs.Str.{bytes_eq}
-use Rattle.std.proofs.lemmas.Bool.Decides.{nat_tests}
+use Rattle.std.proofs.Common.{◌≡◌, ℕ, ◌+◌, suc, List, [], ◌∷◌, ◌++◌, length, map, Option, ap, ap₂, sym, refl, subst, ◌∙◌, arith, flat_map, length-append, append-nil}
 use Rattle.std.proofs.lemmas.List.{length-map}
 use Rattle.sil_ast.specs.declared.function.Block.{Block}
 use Rattle.sil_ast.specs.declared.inst.Inst.{Inst}
-use Rattle.sil_ast.specs.declared.op.Op.{Op}
 use Rattle.sil_ast.specs.declared.place.ValueId.{ValueId}
-use Rattle.written_modules.specs.declared.fault.Fault.{Fault}
-use Rattle.written_modules.specs.declared.fault.FaultKind.TheVariants.{UnknownName}
-use Rattle.written_modules.specs.declared.written_declarations.WrittenToken.{WrittenToken}
 use Rattle.written_modules.specs.declared.written_functions.WrittenArg.{WrittenArg}
 use Rattle.written_modules.specs.declared.written_functions.WrittenBlock.{WrittenBlock}
-use Rattle.written_modules.specs.declared.written_functions.WrittenFunction.{WrittenFunction}
-use Rattle.written_modules.specs.declared.written_instructions.WrittenEdge.{WrittenEdge}
 use Rattle.written_modules.specs.declared.written_instructions.WrittenInst.{WrittenInst}
-use Rattle.written_modules.specs.declared.written_instructions.WrittenOperand.{WrittenOperand}
-use Rattle.written_modules.specs.declared.written_module.WrittenModule.{WrittenModule}
-use Rattle.written_modules.specs.Faults.{earliest, fault}
-use Rattle.name_resolution.specs.NameFaults.{function_fault, is_among, name_fault, unknown_among, unknown_in}
-use Rattle.name_resolution.specs.Names.{Name, code_of, edge_label, edge_values, functions_of, functions_used, label_of, labels_used, name_of, operand_name, results_of, used_by_item, values_defined, values_used}
-use Rattle.name_resolution.specs.Names as written
-use Rattle.name_resolution.specs.Resolved.{Scope, counted, defined_by, defined_by_arg, defined_by_inst, defined_in, function_of, place_among, resolved, resolved_args, resolved_block, resolved_blocks, resolved_edge, resolved_function, resolved_inst, resolved_insts, resolved_operand, scope_of, value_of, values_of}
+use Rattle.name_resolution.specs.Names.{Name}
+use Rattle.name_resolution.specs.Resolved.{Scope, counted, defined_by_arg, defined_by_inst, defined_in, resolved_args, resolved_block, resolved_blocks, resolved_insts}
 use Rattle.numbered_form.specs.Lists.{Each}
-use Rattle.numbered_form.specs.Insts.{EachInBlock, insts_of}
 use Rattle.numbered_form.specs.Numbering.{AreCountedFrom, AreNumbered, IsEdgeInRange, IsFunctionNumbered, IsInstInRange, IsValueBelow, IsVtableInRange}
 use Rattle.numbered_form.specs.Numbering as numbering
-use Rattle.numbered_reading.proofs.Basics.{Each-map, no_first, no_second}
-use Rattle.numbered_reading.proofs.BlockLemmas.{Each-blocks, Each-insts, end_defines_none, length-args, length-blocks}
-use Rattle.numbered_reading.proofs.Goods.{IsGoodBlock, IsGoodEnd, IsGoodFunction, IsGoodModule}
-use Rattle.numbered_reading.proofs.ModuleLemmas.{good_functions}
+use Rattle.numbered_reading.proofs.BlockLemmas.{end_defines_none, length-args}
+use Rattle.numbered_reading.proofs.Goods.{IsGoodBlock}
 use Rattle.numbered_reading.proofs.RowLemmas.{length-counted}
 
 -- counting
@@ -90,7 +72,7 @@ block_length s n b g =
 block_counted : (s : Scope) (n : ℕ) (b : WrittenBlock) → IsGoodBlock b → AreCountedFrom n (numbering.defined_in (resolved_block s n b))
 block_counted s n b g =
     let c : AreCountedFrom n (map numbering.value_of (resolved_args n b.args) ++ flat_map numbering.results_of (resolved_insts s (n + length b.args) b.insts)) =
-        counted_on n (length b.args) (map numbering.value_of (resolved_args n b.args)) (flat_map numbering.results_of (resolved_insts s (n + length b.args) b.insts)) (args_length n b.args) (args_counted n b.args) (insts_counted s (n + length b.args) b.insts) in
+    counted_on n (length b.args) (map numbering.value_of (resolved_args n b.args)) (flat_map numbering.results_of (resolved_insts s (n + length b.args) b.insts)) (args_length n b.args) (args_counted n b.args) (insts_counted s (n + length b.args) b.insts) in
     subst (AreCountedFrom n) (sym (block_is s n b g)) c
 
 pub blocks_counted : (s : Scope) (n : ℕ) (bs : List WrittenBlock) → Each IsGoodBlock bs → AreCountedFrom n (numbering.values_of (resolved_blocks s n bs))

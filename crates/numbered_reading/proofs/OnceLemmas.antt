@@ -1,12 +1,10 @@
 -- No name of a module that is read is given twice.
-use Rattle.std.proofs.Common.{◌≡◌, ℕ, ◌+◌, ◌<◌, zero, suc, List, [], ◌∷◌, ◌++◌, length, map, Option, Some, None, Bool, true, false, if◌then◌else◌, ◌||◌, Contains, IsTrue, ap, sym, refl, subst, ◌∙◌, codes, flat_map, append_assoc, append-nil, true≢false, ◌⊎◌, ⊎_elim, ap₂}
+use Rattle.std.proofs.Common.{◌≡◌, List, [], ◌∷◌, ◌++◌, map, Some, None, Bool, true, false, if◌then◌else◌, ◌||◌, Contains, ap, sym, refl, subst, ◌∙◌, codes, flat_map, append_assoc, append-nil, true≢false, ⊎_elim, ap₂}
 use Rattle.std.specs.List.{list_any}
 use Rattle.std.specs.Str.{bytes_eq}
 use Rattle.std.proofs.lemmas.List.Elements.{Contains-push_cases}
 use Rattle.std.proofs.lemmas.List.Folds.{list_any_at}
 use Rattle.std.proofs.lemmas.Slice.Eq.{bytes_eq-Decides}
-use Rattle.std.specs.Prelude.{slice_index_or}
-use Rattle.sil_ast.specs.declared.decl.Decl.{Decl}
 use Rattle.sil_ast.specs.declared.module.Imports.{Imports}
 use Rattle.written_modules.specs.declared.fault.Fault.{Fault}
 use Rattle.written_modules.specs.declared.fault.FaultKind.TheVariants.{Twice}
@@ -44,9 +42,10 @@ not_contained names name e found =
 
 once_push : (names : List Name) (name : Name) → AreOnce names → list_any (bytes_eq name) names ≡ false → AreOnce (names ++ name ∷ [])
 once_push [] name once e = (not_contained [] name refl, tt)
-once_push (x ∷ names) name once e =
-    (λ found. ⊎_elim once.0 (λ (same : name ≡ x). true≢false (sym (ap (bytes_eq name) (sym same) ∙ same_name name) ∙ first_false (bytes_eq name x) (list_any (bytes_eq name) names) e)) (Contains-push_cases names name x found),
-     once_push names name once.1 (second_false (bytes_eq name x) (list_any (bytes_eq name) names) e))
+once_push (x ∷ names) name once e = (
+  λ found. ⊎_elim once.0 (λ (same : name ≡ x). true≢false (sym (ap (bytes_eq name) (sym same) ∙ same_name name) ∙ first_false (bytes_eq name x) (list_any (bytes_eq name) names) e)) (Contains-push_cases names name x found),
+  once_push names name once.1 (second_false (bytes_eq name x) (list_any (bytes_eq name) names) e),
+)
 
 not_twice : (test : Bool) (f : Fault) → (if test then Some f else None) ≡ None → test ≡ false
 not_twice true f e = absurd (cc)

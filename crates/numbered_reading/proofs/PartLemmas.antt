@@ -1,5 +1,5 @@
 -- Each part is good where the parts of its body are, and nothing in it is at fault.
-use Rattle.std.proofs.Common.{◌≡◌, ℕ, ◌≤◌, ◌+◌, suc, List, [], ◌∷◌, length, map, Option, Some, None, Bool, true, false, ◌&&◌, ◌||◌, is_some, IfSome, IsTrue, ap, sym, refl, subst, ◌∙◌, arith, flat_map}
+use Rattle.std.proofs.Common.{◌≡◌, ℕ, ◌≤◌, suc, List, [], ◌∷◌, length, map, Some, None, true, IsTrue, ap, refl, subst, arith, flat_map}
 use Rattle.std.proofs.lemmas.List.{length-map}
 use Rattle.sil_ast.specs.declared.function.Linkage.{Linkage}
 use Rattle.sil_ast.specs.declared.member.Member.{Member}
@@ -11,7 +11,6 @@ use Rattle.sil_ast.specs.declared.signature.Param.{Param}
 use Rattle.sil_ast.specs.declared.signature.Signature.{Signature}
 use Rattle.sil_shape.specs.declared.grammar.Production.{Production}
 use Rattle.sil_shape.specs.declared.grammar.Production.TheVariants as p
-use Rattle.sil_shape.specs.declared.grammar.Symbol.TheVariants.{Part}
 use Rattle.sil_shape.specs.Grammar.{written, body}
 use Rattle.written_numbers.specs.Numbers.{literal_of}
 use Rattle.written_modules.specs.declared.fault.LimitWord.TheVariants as limit
@@ -20,28 +19,27 @@ use Rattle.written_modules.specs.declared.written_declarations.WrittenDecl.TheVa
 use Rattle.written_modules.specs.declared.written_declarations.WrittenField.{WrittenField}
 use Rattle.written_modules.specs.declared.written_declarations.WrittenToken.{WrittenToken}
 use Rattle.written_modules.specs.declared.written_functions.WrittenBlock.{WrittenBlock}
-use Rattle.written_modules.specs.declared.written_functions.WrittenFunction.{WrittenFunction}
 use Rattle.written_modules.specs.declared.written_instructions.WrittenEdge.{WrittenEdge}
-use Rattle.written_modules.specs.declared.written_instructions.WrittenInst.{WrittenInst}
 use Rattle.written_modules.specs.declared.written_instructions.WrittenOperand.{WrittenOperand}
 use Rattle.written_modules.specs.declared.written_module.WrittenModule.{WrittenModule}
 use Rattle.written_modules.specs.Faults.{earlier, passed}
 use Rattle.written_modules.specs.Meaning.{element_of, meaning, part, place_at, text_at}
 use Rattle.written_modules.specs.Opened.{PartGivens, PartParams, PartType, PartValue}
 use Rattle.written_modules.specs.PartFaults.{body_fault, function_fault, module_fault, part_fault}
-use Rattle.written_modules.specs.Places.{arg_place, attribute_places, case_place, decl_names, field_place, function_names, label_place, mnemonics_of, operand_place, token_place, values_of_block}
+use Rattle.written_modules.specs.Places.{arg_place, attribute_places, case_place, decl_names, field_place, function_names, label_place, operand_place, token_place}
 use Rattle.written_modules.specs.Types.{in_parens, tailed, type_before, width_of}
 use Rattle.written_modules.specs.Values.{token_of, stage_of, imports_of, items_of, item_of, fields_of, field_of, field_before, cases_of, type_of, payload_of, types_of, marks_of, linkage_of, tokens_of, params_of, param_before, givens_of, given_before, signature_of, blocks_of, block_of, args_of, arg_of, starred, insts_of, terminator_of, inst_of, operands_of, operand_of, edges_of, edge_of, member_of, flags_of, qualifier_of, debug_of, entry_of}
-use Rattle.name_resolution.specs.Resolved.{Scope, resolved_case, resolved_decl, resolved_edge, resolved_field, resolved_operand}
+use Rattle.name_resolution.specs.Resolved.{Scope, resolved_case, resolved_decl, resolved_field, resolved_operand}
 use Rattle.numbered_form.specs.Lists.{Each}
 use Rattle.numbered_form.specs.Fields.{IsStrong}
 use Rattle.numbered_form.specs.Names.{IsMemberSpelled, IsWord, case_name, field_name, is_at_name}
 use Rattle.numbered_form.specs.Types.{HasFieldType, HasPayloadType, IsPlainType}
 use Rattle.numbered_reading.proofs.Basics.{Each-map, both, either_first, no_first, no_second, not_passed, not_passed-map}
-use Rattle.numbered_reading.proofs.Goods.{AreEnumOperands, AreGoodCases, AreGoodFrom, AreGoodGivens, AreGoodOperands, AreGoodParams, AreGoodSwitch, IsGood, IsGoodBlock, IsGoodBranch, IsGoodCase, IsGoodDecl, IsGoodField, IsGoodFunction, IsGoodItem, IsGoodModule, IsGoodPart, IsGoodSignature, IsGoodToken, IsGoodType, IsStrongField, IsWordToken}
+use Rattle.numbered_reading.proofs.Goods.{AreEnumOperands, AreGoodCases, AreGoodFrom, AreGoodGivens, AreGoodOperands, AreGoodParams, AreGoodSwitch, IsGoodBlock, IsGoodBranch, IsGoodCase, IsGoodDecl, IsGoodField, IsGoodFunction, IsGoodItem, IsGoodModule, IsGoodPart, IsGoodSignature, IsGoodToken, IsGoodType, IsStrongField, IsWordToken}
 use Rattle.numbered_reading.proofs.NumberLemmas.{good_element, good_literal}
 use Rattle.numbered_reading.proofs.RowLemmas.{renamed}
-use Rattle.numbered_reading.proofs.RowShapes.{alloc_ref_row, alloc_stack_row, apply_row, br_row, builtin_row, cond_br_row, debug_row, element_row, enum_row, fail_row, flagged_row, function_row, literal_row, loaded_row, member_row, operands_have_types, operands_typed, over_one_row, stored_row, struct_row, switch_row, tuple_row, unreachable_row}
+use Rattle.numbered_reading.proofs.SharedRows.{element_row, flagged_row, loaded_row, member_row, operands_have_types, operands_typed, over_one_row, stored_row}
+use Rattle.numbered_reading.proofs.SingleRows.{alloc_ref_row, alloc_stack_row, apply_row, br_row, builtin_row, cond_br_row, debug_row, enum_row, fail_row, function_row, literal_row, struct_row, switch_row, tuple_row, unreachable_row}
 use Rattle.numbered_reading.proofs.TypeLemmas.{good_marks, good_name, good_optional, good_parens, good_unowned, good_weak, good_width, more_good_types, no_good_types, placed_address, placed_plain, plain_type, room}
 
 -- a type that begins elsewhere

@@ -1,7 +1,6 @@
 -- What derived steps stand for is good, part by part, where there is no fault.
-use Rattle.std.proofs.Common.{◌≡◌, ℕ, zero, suc, ◌+◌, List, [], ◌∷◌, ◌++◌, length, map, take, drop, Option, Some, None, Bool, true, false, IsTrue, ap, sym, refl, subst, ◌∙◌, arith, add-one, if◌then◌else◌, nat_lt, true≢false}
-use Rattle.std.specs.List.{AllZip}
-use Rattle.std.specs.Prelude.{⊤, slice_index_or, ◌==◌}
+use Rattle.std.proofs.Common.{◌≡◌, ℕ, ◌+◌, List, [], ◌∷◌, ◌++◌, length, take, drop, None, true, IsTrue, ap, sym, refl, subst, ◌∙◌, add-one, if◌then◌else◌, nat_lt, true≢false}
+use Rattle.std.specs.Prelude.{⊤, ◌==◌}
 use Rattle.std.proofs.lemmas.Bool.{eqb-true}
 use Rattle.sil_lexer.specs.Lexes.{Lexeme}
 use Rattle.sil_shape.specs.declared.classes.Class.{Class}
@@ -9,27 +8,23 @@ use Rattle.sil_shape.specs.declared.classes.Class.TheVariants as c
 use Rattle.sil_shape.specs.declared.classes.AtWord.TheVariants as a
 use Rattle.sil_shape.specs.declared.classes.Keyword.TheVariants as k
 use Rattle.sil_shape.specs.declared.classes.Mark.TheVariants as m
-use Rattle.sil_shape.specs.declared.grammar.Nonterminal.{Nonterminal}
-use Rattle.sil_shape.specs.declared.grammar.Production.{Production}
 use Rattle.sil_shape.specs.declared.grammar.Symbol.{Symbol}
 use Rattle.sil_shape.specs.declared.grammar.Symbol.TheVariants.{Read, Part}
 use Rattle.sil_shape.specs.declared.grammar.Terminal.{Terminal}
 use Rattle.sil_shape.specs.declared.grammar.Terminal.TheVariants as t
 use Rattle.sil_shape.specs.declared.steps.Step.{Step}
-use Rattle.sil_shape.specs.declared.steps.Step.TheVariants.{Take, Expand}
 use Rattle.sil_shape.specs.Accepts.{accepts, at_number, class_number, keyword_number, mark_number}
-use Rattle.sil_shape.specs.Derivation.{Accepts, Derives}
+use Rattle.sil_shape.specs.Derivation.{Derives}
 use Rattle.sil_shape.specs.Derivation.Derives.{nothing, token, rule}
-use Rattle.sil_shape.specs.Grammar.{written, body}
-use Rattle.written_modules.specs.Meaning.{kept_of, leaf_of, meaning, part}
+use Rattle.sil_shape.specs.Grammar.{body}
+use Rattle.written_modules.specs.Meaning.{kept_of, leaf_of, part}
 use Rattle.written_modules.specs.Opened.{PartValue}
-use Rattle.written_modules.specs.PartFaults.{part_fault}
 use Rattle.written_modules.specs.Replay.{first_fault, parts_of, reduced, replay}
 use Rattle.written_modules.specs.Values.{token_of}
 use Rattle.numbered_reading.specs.Leaves.{AreOfClasses, IsBuiltinText, IsOfClass, IsTextOf}
 use Rattle.numbered_form.specs.Names.{IsWord, is_at_name, is_quotable}
 use Rattle.numbered_reading.proofs.Basics.{no_first, no_second}
-use Rattle.numbered_reading.proofs.Goods.{AreGoodFrom, IsGood, IsGoodPart, IsGoodToken}
+use Rattle.numbered_reading.proofs.Goods.{AreGoodFrom, IsGood, IsGoodToken}
 use Rattle.numbered_reading.proofs.PartLemmas.{good_part}
 
 -- the values are good for the symbols, one by one

@@ -1,42 +1,25 @@
 -- An instruction with the parts of its row is good, whatever names its results have.
-use Rattle.std.proofs.Common.{◌≡◌, ℕ, suc, ◌≤◌, ◌+◌, List, [], ◌∷◌, length, map, Option, Some, None, Bool, true, false, ◌&&◌, ◌||◌, not, is_some, IfSome, IsTrue, IsFalse, ap, sym, refl, subst, ◌∙◌, arith}
-use Rattle.std.specs.List.{list_all, list_any}
+use Rattle.std.proofs.Common.{◌≡◌, ℕ, suc, ◌≤◌, ◌+◌, List, [], ◌∷◌, length, map, Option, Some, None, Bool, true, false, ◌&&◌, ◌||◌, not, is_some, IfSome, IsTrue, ap, sym, refl, ◌∙◌, arith}
+use Rattle.std.specs.List.{list_any}
 use Rattle.std.specs.Option.{option_map}
-use Rattle.std.specs.Prelude.{⊤, ℤ}
 use Rattle.std.proofs.lemmas.List.{length-map}
 use Rattle.sil_ast.specs.Forms.{parts_of}
-use Rattle.sil_ast.specs.declared.debug.Debug.{Debug}
 use Rattle.sil_ast.specs.declared.forms.Part.{Part}
-use Rattle.sil_ast.specs.declared.forms.Part.TheVariants as part
-use Rattle.sil_ast.specs.declared.inst.Inst.{Inst}
-use Rattle.sil_ast.specs.declared.inst.Qualifier.{Qualifier}
-use Rattle.sil_ast.specs.declared.inst.Qualifier.TheVariants as qualifier
-use Rattle.sil_ast.specs.declared.member.Member.{Member}
 use Rattle.sil_ast.specs.declared.op.Op.{Op}
 use Rattle.sil_ast.specs.declared.op.Op.TheVariants as op
-use Rattle.sil_ast.specs.declared.operands.Operand.{Operand}
-use Rattle.sil_ast.specs.declared.place.Place.{Place}
 use Rattle.sil_ast.specs.declared.signature.Signature.{Signature}
-use Rattle.sil_ast.specs.declared.type_name.TypeName.{TypeName}
 use Rattle.written_modules.specs.declared.written_declarations.WrittenToken.{WrittenToken}
-use Rattle.written_modules.specs.declared.written_instructions.WrittenEdge.{WrittenEdge}
 use Rattle.written_modules.specs.declared.written_instructions.WrittenInst.{WrittenInst}
-use Rattle.written_modules.specs.declared.written_instructions.WrittenOperand.{WrittenOperand}
-use Rattle.written_modules.specs.declared.written_instructions.WrittenQualifier.{WrittenQualifier}
-use Rattle.written_modules.specs.Meaning.{bare_operand}
 use Rattle.written_modules.specs.Places.{has_one_result}
-use Rattle.written_modules.specs.Values.{bare_inst}
 use Rattle.name_resolution.specs.Resolved.{Scope, counted, defined_by, function_of, resolved_edge, resolved_inst, resolved_operand}
-use Rattle.numbered_form.specs.Lists.{Each, is_empty}
-use Rattle.numbered_form.specs.Limits.{IsEdgeInLimits, IsInstInLimits, IsSignatureInLimits}
-use Rattle.numbered_form.specs.Literals.{is_element_number, is_number_of, is_text_of}
+use Rattle.numbered_form.specs.Lists.{Each}
+use Rattle.numbered_form.specs.Limits.{IsEdgeInLimits, IsSignatureInLimits}
+use Rattle.numbered_form.specs.Literals.{is_number_of, is_text_of}
 use Rattle.numbered_form.specs.Names.{IsEdgeSpelled, IsMemberSpelled, is_quotable}
-use Rattle.sil_ast.specs.declared.inst.Edge.{Edge}
-use Rattle.numbered_form.specs.Parts.{HasItsParts, are_cases, are_of_parts, gives_result, has_edges, has_operands, has_results, is_bare, is_branch, is_callee, is_debug, is_flags, is_member, is_number, is_silent, is_signature, is_text, is_type, is_typed, may_have, may_lack_operand}
+use Rattle.numbered_form.specs.Parts.{gives_result, has_edges, has_operands, has_results, is_callee, is_debug, is_flags, is_member, is_number, is_silent, is_signature, is_text, is_type, may_have}
 use Rattle.numbered_form.specs.Types.{HasEdgeTypes, HasOperandType, HasSignatureTypes, IsPlainType}
-use Rattle.numbered_reading.proofs.Basics.{Each-weaker, all_each, both, either_first}
-use Rattle.numbered_reading.proofs.Goods.{AreEnumOperands, AreGoodOperands, AreGoodSwitch, IsGoodAnywhere, IsGoodBranch, IsGoodDebug, IsGoodEdge, IsGoodInst, IsGoodOperand, IsGoodSignature}
-use Rattle.numbered_reading.proofs.NumberLemmas.{IsGoodElement}
+use Rattle.numbered_reading.proofs.Basics.{Each-weaker}
+use Rattle.numbered_reading.proofs.Goods.{IsGoodDebug, IsGoodEdge, IsGoodInst, IsGoodSignature}
 
 -- what is to be known of an instruction whose row has these parts
 pub record HasRow (s : Scope) (w : WrittenInst) (ps : List Part) : Type 0 where

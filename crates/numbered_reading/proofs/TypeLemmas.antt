@@ -1,5 +1,5 @@
 -- Types that are built up level by level are written as the grammar writes types, and are as deep as was counted.
-use Rattle.std.proofs.Common.{◌≡◌, ℕ, ◌+◌, ◌-◌, ◌≤◌, ◌<◌, zero, suc, List, [], ◌∷◌, length, map, max, Option, Some, None, Bool, true, false, if◌then◌else◌, ◌&&◌, ◌==◌, nat_lt, nat_le, not, IsTrue, IfSome, ap, sym, refl, subst, ◌∙◌, arith, slice_get, le-leb, true≢false}
+use Rattle.std.proofs.Common.{◌≡◌, ℕ, ◌+◌, ◌-◌, ◌≤◌, suc, List, [], ◌∷◌, length, map, Some, None, Bool, true, false, if◌then◌else◌, ◌==◌, nat_lt, nat_le, ap, sym, refl, ◌∙◌, arith, le-leb, true≢false}
 use Rattle.std.specs.List.{list_all}
 use Rattle.std.proofs.lemmas.List.{length-map}
 use Rattle.std.proofs.lemmas.Bool.Decides.{nat_tests}
@@ -12,12 +12,12 @@ use Rattle.written_modules.specs.declared.fault.FaultKind.TheVariants.{Limit}
 use Rattle.written_modules.specs.declared.fault.LimitWord.TheVariants as limit
 use Rattle.written_modules.specs.declared.written_declarations.WrittenToken.{WrittenToken}
 use Rattle.written_modules.specs.Faults.{fault, passed}
-use Rattle.written_modules.specs.Opened.{PartType, PartTypes, PartValue}
+use Rattle.written_modules.specs.Opened.{PartType, PartTypes}
 use Rattle.written_modules.specs.PartFaults.{too_deep, too_deep_among, too_marked, tuple_fault}
 use Rattle.written_modules.specs.Types.{between, deeper, in_parens, kept, marked, named_type, one_deeper, one_token, type_before, width_in_range, width_of, width_over}
 use Rattle.numbered_form.specs.Literals.{literal_width, width_at}
 use Rattle.numbered_form.specs.Names.{IsWord, is_word}
-use Rattle.numbered_form.specs.Types.{IsPlacedType, IsPlainType, is_placed_at, is_placed_type, is_plain_type, is_tuple, is_width, is_written, same}
+use Rattle.numbered_form.specs.Types.{IsPlacedType, IsPlainType, is_placed_at, is_plain_type, is_tuple, is_width, is_written, same}
 use Rattle.numbered_reading.proofs.Basics.{both, first_of_both, no_first, no_second, not_passed}
 use Rattle.numbered_reading.proofs.Goods.{AreGoodTypes, IsGoodType}
 
@@ -154,8 +154,8 @@ good_tuple : (types : List TypeName) (depth : ℕ) (first last : Place) → (len
 good_tuple types depth first last one few limited plain deep e =
     let few_tests : length (map is_plain_type types) ≤ 64 = rw length-map few in
     good_level depth (Tuple types) first last (room depth last limited e)
-        (plain-Tuple types ∙ tuple_of (map is_plain_type types) one few_tests plain)
-        (omega (arith, depth-Tuple types))
+    (plain-Tuple types ∙ tuple_of (map is_plain_type types) one few_tests plain)
+    (omega (arith, depth-Tuple types))
 
 two_or_more : (n : ℕ) → (suc (suc n) == 1) ≡ false
 two_or_more n = grind (arith, nat_tests)
@@ -174,7 +174,7 @@ pub good_parens : (first : Place) (list : PartTypes) (last : Place) → AreGoodT
 good_parens first list last g e =
     let few : length list.firsts ≤ 64 = not_passed limit.Arguments 64 list.firsts (no_first (passed limit.Arguments 64 list.firsts) (too_deep_among list.types list.depth last) e) in
     good_between list.types list.depth first last (omega (arith, g.counted)) g.limit g.written g.deep
-        (no_second (passed limit.Arguments 64 list.firsts) (too_deep_among list.types list.depth last) e)
+    (no_second (passed limit.Arguments 64 list.firsts) (too_deep_among list.types list.depth last) e)
 
 -- addresses
 

@@ -1,18 +1,13 @@
 -- What a module uses is there, since every name that is used is defined.
-use Rattle.std.proofs.Common.{◌≡◌, ℕ, ◌+◌, ◌<◌, ◌≤◌, zero, suc, List, [], ◌∷◌, ◌++◌, length, map, position, unwrap_or, Option, Some, None, Bool, true, false, cond, if◌then◌else◌, nat_lt, IfSome, IsTrue, ap, ap₂, sym, refl, subst, ◌∙◌, arith, flat_map, length-append, append-nil, true≢false, ltb-true}
+use Rattle.std.proofs.Common.{◌≡◌, ℕ, ◌+◌, ◌<◌, ◌≤◌, suc, List, [], ◌∷◌, ◌++◌, length, map, position, unwrap_or, Option, Some, None, Bool, true, false, cond, if◌then◌else◌, nat_lt, IfSome, sym, refl, subst, ◌∙◌, arith, flat_map, length-append, append-nil, true≢false, ltb-true}
 use Rattle.std.specs.List.{list_any, position_or_len}
 use Rattle.std.specs.Option.{option_map, option_to_list}
 use Rattle.std.specs.Str.{bytes_eq}
-use Rattle.std.proofs.lemmas.Bool.Decides.{nat_tests}
 use Rattle.std.proofs.lemmas.List.{length-map}
 use Rattle.sil_ast.specs.declared.function.Block.{Block}
-use Rattle.sil_ast.specs.declared.inst.Inst.{Inst}
 use Rattle.sil_ast.specs.declared.op.Op.{Op}
-use Rattle.sil_ast.specs.declared.place.ValueId.{ValueId}
-use Rattle.written_modules.specs.declared.fault.Fault.{Fault}
 use Rattle.written_modules.specs.declared.fault.FaultKind.TheVariants.{UnknownName}
 use Rattle.written_modules.specs.declared.written_declarations.WrittenToken.{WrittenToken}
-use Rattle.written_modules.specs.declared.written_functions.WrittenArg.{WrittenArg}
 use Rattle.written_modules.specs.declared.written_functions.WrittenBlock.{WrittenBlock}
 use Rattle.written_modules.specs.declared.written_functions.WrittenFunction.{WrittenFunction}
 use Rattle.written_modules.specs.declared.written_instructions.WrittenEdge.{WrittenEdge}
@@ -27,17 +22,16 @@ use Rattle.written_modules.specs.Faults.{earliest, fault}
 use Rattle.name_resolution.specs.NameFaults.{function_fault, is_among, name_fault, unknown_among, unknown_in}
 use Rattle.name_resolution.specs.Names.{Name, code_of, edge_label, edge_values, entry_function, function_name, functions_of, vtables_of, functions_used, label_of, labels_used, name_of, operand_name, results_of, used_by_item, values_defined, values_used}
 use Rattle.name_resolution.specs.Names as written
-use Rattle.name_resolution.specs.Resolved.{Scope, counted, defined_by, defined_by_arg, defined_by_inst, defined_in, function_of, place_among, resolved, resolved_args, resolved_block, resolved_blocks, resolved_edge, resolved_function, resolved_inst, resolved_insts, resolved_operand, scope_of, value_of, values_of, resolved_entry, resolved_vtable}
+use Rattle.name_resolution.specs.Resolved.{Scope, defined_by, defined_by_arg, defined_by_inst, defined_in, function_of, place_among, resolved, resolved_block, resolved_blocks, resolved_edge, resolved_function, resolved_inst, resolved_operand, scope_of, value_of, values_of, resolved_entry, resolved_vtable}
 use Rattle.numbered_form.specs.Lists.{Each}
-use Rattle.numbered_form.specs.Insts.{EachInBlock, insts_of}
+use Rattle.numbered_form.specs.Insts.{EachInBlock}
 use Rattle.numbered_form.specs.Numbering.{AreCountedFrom, AreNumbered, IsEdgeInRange, IsFunctionNumbered, IsInstInRange, IsValueBelow, IsVtableInRange}
 use Rattle.numbered_form.specs.Numbering as numbering
 use Rattle.numbered_reading.proofs.Basics.{Each-flat_map, Each-map, no_first, no_second}
-use Rattle.numbered_reading.proofs.BlockLemmas.{Each-blocks, Each-insts, end_defines_none, length-args, length-blocks}
-use Rattle.numbered_reading.proofs.Goods.{IsGoodBlock, IsGoodEnd, IsGoodFunction, IsGoodModule}
+use Rattle.numbered_reading.proofs.BlockLemmas.{Each-blocks, Each-insts, length-blocks}
+use Rattle.numbered_reading.proofs.Goods.{IsGoodBlock, IsGoodFunction, IsGoodModule}
 use Rattle.numbered_reading.proofs.ModuleLemmas.{good_functions}
 use Rattle.numbered_reading.proofs.NumberingLemmas.{blocks_counted, blocks_length}
-
 
 -- inside lists of tokens
 
@@ -171,9 +165,10 @@ inst_in_range s values blocks functions c first w u =
 block_in_range : (s : Scope) (values blocks functions : ℕ) → HasCounts s values blocks functions → (first : ℕ) (b : WrittenBlock) → Each (UsesThere values blocks functions) (code_of b) → EachInBlock (IsInstInRange values blocks functions) (resolved_block s first b)
 block_in_range s values blocks functions c first b g =
     let uses : WrittenInst → Type 0 = UsesThere values blocks functions in
-    let parts = Each-split uses b.insts (b.terminator ∷ []) g in
-    (Each-insts s uses (IsInstInRange values blocks functions) (inst_in_range s values blocks functions c) _ b.insts parts.0,
-     inst_in_range s values blocks functions c _ b.terminator parts.1.0)
+    let parts = Each-split uses b.insts (b.terminator ∷ []) g in (
+      Each-insts s uses (IsInstInRange values blocks functions) (inst_in_range s values blocks functions c) _ b.insts parts.0,
+      inst_in_range s values blocks functions c _ b.terminator parts.1.0,
+    )
 
 -- functions
 
