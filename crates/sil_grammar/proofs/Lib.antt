@@ -2,3 +2,4 @@ pub mod FirstBadLemmas
 pub mod LexemeLemmas
 pub mod ReadLemmas
 pub mod ShapeLemmas
+pub mod NumberedLemmas

@@ -5,6 +5,7 @@ ghost use Rattle.sil_ast.specs.declared.module.Module.{Module};
 ghost use Rattle.sil_lexer.specs.Lexing.{IsLexingOf, Lexing, lexemes_of};
 ghost use Rattle.sil_lexer.specs.Places.{IsInLimit};
 ghost use Rattle.sil_shape.specs.Derivation.{BeginsShape};
+ghost use Rattle.numbered_form.specs.NumberedForm.{IsNumbered};
 ghost use Rattle.sil_grammar.specs.Classes.{token_class};
 ghost use Rattle.sil_grammar.specs.Front.{IsFrontFault};
 ghost use Rattle.sil_grammar.specs.Refusals.{IsRefusalOf};
@@ -92,6 +93,7 @@ pub fn read(alloc: Global, text: &[u8]) -> Result<Module, ReadRefusal>
     requires { IsInLimit text.now }
     ensures found { IfOk result (λ m. Spells m text.now) }
     ensures only { IfOk result (λ m. (other : Module) → Spells other text.now → other ≡ m) }
+    ensures numbered { IfOk result IsNumbered }
     ensures refused { IfErr result (IsRefusalOf text.now) }
 {
     let tokens = lex(alloc, text)?;

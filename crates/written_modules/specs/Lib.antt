@@ -7,3 +7,4 @@ pub mod Types
 pub mod Values
 pub mod Found
 pub mod Taken
+pub mod Opened

@@ -5,6 +5,8 @@ use Rattle.sil_shape.specs.Derivation.{BeginsShape}
 use Rattle.sil_grammar.specs.Shape.{IsBroken, IsShapeOf}
 use Rattle.sil_ast.specs.declared.module.Module.{Module}
 use Rattle.sil_grammar.specs.Spells.{Spells}
+use Rattle.numbered_form.specs.NumberedForm.{IsNumbered}
+use Rattle.sil_grammar.proofs.NumberedLemmas.{spelled_numbered}
 use Rattle.sil_grammar.proofs.ReadLemmas.{out_of_memory, spelled_once}
 use Rattle.sil_grammar.proofs.ShapeLemmas.{take-classes}
 use Rattle.sil_grammar.proofs.reader.read.Goals as goal
@@ -23,6 +25,11 @@ returns-in-Whole-clause-only c =
     let text = c.args.text.now in
     IfOk-weaker c.read_whole.result (λ m. Spells m text) (λ m. (other : Module) → Spells other text → other ≡ m)
     (λ m spells other others. spelled_once text m other spells others) c.read_whole.ensures.found
+
+pub returns-in-Whole-clause-numbered : goal.returns-in-Whole-clause-numbered
+returns-in-Whole-clause-numbered c =
+    let text = c.args.text.now in
+    IfOk-weaker c.read_whole.result (λ m. Spells m text) IsNumbered (λ m spells. spelled_numbered text m spells) c.read_whole.ensures.found
 
 pub front_fault-requires-clause-classes : goal.front_fault-requires-clause-classes
 front_fault-requires-clause-classes c =

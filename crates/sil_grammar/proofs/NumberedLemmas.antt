@@ -1,0 +1,65 @@
+-- Each token keeps of its bytes what its class asks for, so that a module that a text spells is in numbered form.
+use Rattle.std.proofs.Common.{◌≡◌, ℕ, ◌-◌, ◌≤◌, List, [], ◌∷◌, ◌++◌, length, map, take, drop, slice_range, Bool, true, false, ◌&&◌, not, IsTrue, Option, Some, None, ap, refl, sym, subst, ◌∙◌, arith, length-append, le-leb, nat_le}
+use Rattle.std.proofs.Math.Seq.{take-append_seam}
+use Rattle.std.specs.List.{AllZip, list_all}
+use Rattle.sil_ast.specs.declared.module.Module.{Module}
+use Rattle.sil_lexer.specs.declared.token.LexRefusal.{LexRefusal}
+use Rattle.sil_lexer.specs.declared.token.TokenKind.{TokenKind}
+use Rattle.sil_lexer.specs.declared.token.TokenKind.TheVariants as kind
+use Rattle.sil_lexer.specs.Bytes.{is_name_byte, is_text_byte, is_word_start}
+use Rattle.sil_lexer.specs.Lexes.{Lexeme, Lexes, end, token, stop}
+use Rattle.sil_lexer.specs.Spelling.{Spells, arrow, at_name, mark, name_length, negative, number, percent, quoted, word}
+use Rattle.sil_shape.specs.declared.classes.Mark as sign
+use Rattle.sil_shape.specs.BuiltinNames.{is_builtin_name}
+use Rattle.sil_shape.specs.Spelling.{mark_of}
+use Rattle.written_modules.specs.Meaning.{kept_of}
+use Rattle.numbered_form.specs.Names.{is_quotable, is_short}
+use Rattle.numbered_form.specs.NumberedForm.{IsNumbered}
+use Rattle.numbered_reading.specs.Leaves.{AreOfClasses, IsOfClass, IsTextOf}
+use Rattle.numbered_reading.proofs.Basics.{both}
+use Rattle.numbered_reading.proofs.Numbered.{written_numbered}
+use Rattle.sil_grammar.specs.Classes.{class_by, inside_quotes, mark_class, text_class, token_class}
+use Rattle.sil_grammar.specs.Spells as text
+
+inside_is : (inside : List ℕ) → inside_quotes (34 ∷ inside ++ 34 ∷ []) ≡ inside
+inside_is inside =
+    let n : length (34 ∷ inside ++ 34 ∷ []) - 1 - 1 ≡ length inside = omega (arith, length-append inside (34 ∷ [])) in
+    rw n (take-append_seam inside (34 ∷ []))
+
+text_of : (known : Bool) (text : List ℕ) → is_builtin_name text ≡ known → is_quotable text ≡ true → IsTextOf (text_class known) text
+text_of true text e quotable = record { quotable = quotable; known = e }
+text_of false text e quotable = quotable
+
+mark_text : (m : Option sign.Mark) → IsTextOf (mark_class m) []
+mark_text (Some m) = tt
+mark_text None = refl
+
+-- the text that a token keeps is one of its class
+kept_text : (k : TokenKind) (spelling : List ℕ) → Spells k spelling → name_length k spelling ≤ 255 → IsTextOf (class_by k spelling) (kept_of k spelling)
+unfolding class_by kept_of
+kept_text k spelling (word first more start rest) short =
+    both (is_word_start first) (list_all is_name_byte more && is_short (first ∷ more)) start
+        (both (list_all is_name_byte more) (is_short (first ∷ more)) rest (le-leb (length (first ∷ more)) 255 short))
+kept_text k spelling (at_name first more bytes) short =
+    let few : length (first ∷ more) ≤ 255 = omega arith in
+    both (list_all is_name_byte (first ∷ more)) (is_short (first ∷ more)) bytes (le-leb (length (first ∷ more)) 255 few)
+kept_text k spelling (percent _ _ _) short = tt
+kept_text k spelling (number _ _ _) short = tt
+kept_text k spelling (negative _ _ _) short = tt
+kept_text k spelling (quoted inside bytes) short =
+    let kept : List ℕ = inside_quotes (34 ∷ inside ++ 34 ∷ []) in
+    text_of (is_builtin_name kept) kept refl (ap is_quotable (inside_is inside) ∙ bytes)
+kept_text k spelling (mark byte _) short = mark_text (mark_of (byte ∷ []))
+kept_text k spelling arrow short = mark_text (mark_of (45 ∷ 62 ∷ []))
+
+lexed_classes : (all left : List ℕ) (lexemes : List Lexeme) (refusal : Option LexRefusal) → Lexes all left lexemes refusal → AreOfClasses (map token_class lexemes) lexemes
+lexed_classes all left lexemes refusal (end _ _) = tt
+lexed_classes all left lexemes refusal (token _ spelling after k more refusal skipped spelled short rest) = (kept_text k spelling spelled.spelled short, lexed_classes all after more refusal rest)
+lexed_classes all left lexemes refusal (stop _ _ _ _ _) = tt
+
+pub spelled_numbered : (bytes : List ℕ) (m : Module) → text.Spells m bytes → IsNumbered m
+spelled_numbered bytes m h =
+    let s = h.spells in
+    let leaves : AreOfClasses (map token_class s.lexemes) s.lexemes = lexed_classes bytes bytes s.lexemes None s.lexed in
+    subst IsNumbered (sym h.numbered) (written_numbered (map token_class s.lexemes) s.lexemes s.steps h.written
+        (record { leaves = leaves; derived = s.derived; no_fault = s.no_fault; writes = s.writes; names = h.names }))
