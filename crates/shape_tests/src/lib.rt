@@ -1,5 +1,5 @@
-//! Tests of the first bad place: texts that have the shape of a module and texts that don't, with the places where they
-//! go wrong, worked out by hand from the grammar.
+//! Tests of the reader, worked out by hand: texts that have the shape of a module and texts that don't, with the places
+//! where they go wrong, and the modules that texts spell.
 #![tactic(auto)]
 
 #[cfg(test)]
@@ -12,6 +12,8 @@ mod long_texts;
 mod outcome;
 #[cfg(test)]
 mod programs;
+#[cfg(test)]
+mod readings;
 #[cfg(test)]
 mod shaped;
 #[cfg(test)]

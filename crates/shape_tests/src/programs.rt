@@ -4,7 +4,7 @@ use crate::outcome::assert_shaped;
 use std::test::Fail;
 
 // an object that owns a struct and is named by an unowned field
-const UNOWNED_FIELD: &str = "sil_stage canonical
+pub const UNOWNED_FIELD: &str = "sil_stage canonical
 
 import Builtin
 import Swift

@@ -1,6 +1,6 @@
 -- A text has shape, or it has one first bad place: for `first_bad_place`.
-use Rattle.std.proofs.Common.{◌≡◌, ◌↔◌, ℕ, ◌+◌, ◌-◌, ◌<◌, ◌≤◌, List, [], ◌∷◌, length, take, drop, map, get_or, All, refl, ap, sym, subst, ◌∙◌, arith, inl, inr, length-take}
-use Rattle.std.specs.Prelude.{◌⊎◌, Option, Some, None, IsNone, IsSomeAnd, MatchOption}
+use Rattle.std.proofs.Common.{◌≡◌, ◌↔◌, ℕ, ◌+◌, ◌-◌, ◌<◌, ◌≤◌, List, [], ◌∷◌, length, drop, map, get_or, All, refl, ap, sym, subst, ◌∙◌, arith, inl, inr, length-take}
+use Rattle.std.specs.Prelude.{Option, Some, None, IsNone, MatchOption}
 use Rattle.std.specs.Option.{option_map_or}
 use Rattle.std.proofs.Math.Nat.{eq-or-lt_of_le}
 use Rattle.std.proofs.lemmas.List.{length-map}
@@ -16,8 +16,6 @@ use Rattle.sil_lexer.specs.Places.{place_of}
 use Rattle.sil_lexer.proofs.OrderLemmas.{in_order}
 use Rattle.sil_lexer.proofs.SpellLemmas.{spelling_some}
 use Rattle.sil_lexer.proofs.UniqueLemmas.{one_way}
-use Rattle.sil_shape.specs.declared.classes.Class.{Class}
-use Rattle.sil_shape.specs.Derivation as derivation
 use Rattle.sil_shape.specs.Derivation.{IsFirstBad}
 use Rattle.sil_shape.specs.Unsupported.{IsUnsupported}
 use Rattle.sil_grammar.specs.declared.first_bad.BadKind.{BadKind}
@@ -120,20 +118,6 @@ module _ (text : List ℕ) (lexing : Lexing) (is : IsLexingOf text lexing) where
       least _ (unsupported others i bad u) = absurd (no_bad_token others i bad)
       least _ (unexpected others i bad) = absurd (no_bad_token others i bad)
 
-  -- where the tokens have shape, the stop is the first bad place, or there is none
-  pub shaped_to_stop : derivation.HasShape (map token_class (lexemes_of text lexing)) → (r : Option BadPlace)
-      → MatchOption lexing.stop (r ≡ None) (λ refusal. IsSomeAnd r (λ bad. bad ≡ bad_stop refusal)) → MatchOption r (HasShape text) (IsFirstBadPlace text)
-  shaped_to_stop shape r told = by lexing.stop refl r told
-    where
-      by : (stop' : Option LexRefusal) → lexing.stop ≡ stop' → (r : Option BadPlace)
-          → MatchOption stop' (r ≡ None) (λ refusal. IsSomeAnd r (λ bad. bad ≡ bad_stop refusal)) → MatchOption r (HasShape text) (IsFirstBadPlace text)
-      by None whole None told =
-          record { lexemes = lexemes_of text lexing; lexed = subst (Lexes text text (lexemes_of text lexing)) whole is.lexed; shape = shape }
-      by None whole (Some bad) told = absurd (cc)
-      by (Some refusal) stops None told = absurd told
-      by (Some refusal) stops (Some bad) told =
-          subst (IsFirstBadPlace text) (sym told) (stop_first refusal stops (λ i bad. absurd (no_first_bad (map token_class (lexemes_of text lexing)) i shape bad)))
-
   module _ (i : ℕ) (first_bad : IsFirstBad (map token_class (lexemes_of text lexing)) i) (reached : i ≡ length lexing.tokens → lexing.stop ≡ None) where
     here : IsBadToken text (lexemes_of text lexing) i
     here = record {
@@ -191,7 +175,7 @@ shaped_good text shape others i bad =
     let same : others ≡ shape.lexemes = (one_way text text others shape.lexemes bad.stop None bad.lexed shape.lexed).0 in
     no_first_bad (map token_class shape.lexemes) i shape.shape (subst (λ (l : List Lexeme). IsFirstBad (map token_class l) i) same bad.first_bad)
 
-no_bad_place : (text : List ℕ) → HasShape text → (bad : BadPlace) → IsBadPlace text bad → ⊥
+pub no_bad_place : (text : List ℕ) → HasShape text → (bad : BadPlace) → IsBadPlace text bad → ⊥
 no_bad_place text shape _ (lexical others refusal l) =
     let stops : Some refusal ≡ None = (one_way text text others shape.lexemes (Some refusal) None l shape.lexed).1 in
     cc
@@ -221,7 +205,8 @@ together a b (inr before) (inr after) = (before.0, omega (arith, before.1, after
 same_bad : (k k' : BadKind) (p p' : Place) → k ≡ k' → p ≡ p' → ◌≡◌ {A = BadPlace} (record { kind = k; place = p }) (record { kind = k'; place = p' })
 same_bad k k' p p' e f = cc
 
-once : (text : List ℕ) (a b : BadPlace) → IsFirstBadPlace text a → IsFirstBadPlace text b → a ≡ b
+-- a text has one first bad place at most
+pub once : (text : List ℕ) (a b : BadPlace) → IsFirstBadPlace text a → IsFirstBadPlace text b → a ≡ b
 once text a b first other =
     let same = together a b (first.least b other.is_bad) (other.least a first.is_bad) in
     same_bad a.kind b.kind a.place b.place (one_kind text a b first.is_bad other.is_bad same.1) same.0

@@ -1,2 +1,4 @@
 pub mod FirstBadLemmas
 pub mod LexemeLemmas
+pub mod ReadLemmas
+pub mod ShapeLemmas

@@ -1,6 +1,5 @@
 -- What a refusal of `read` says.
-use Rattle.std.specs.Prelude.{◌≡◌, ℕ, ◌<◌, ◌≤◌, List, length, map, take, Option, Some, None, slice_get}
-use Rattle.std.specs.Option.{option_map_or}
+use Rattle.std.specs.Prelude.{◌≡◌, ℕ, ◌<◌, ◌≤◌, List, length, map, take, Option, Some}
 use Rattle.sil_ast.specs.declared.module.Module.{Module}
 use Rattle.sil_ast.specs.declared.place.Place.{Place}
 use Rattle.sil_lexer.specs.declared.token.LexRefusal.{LexRefusal}

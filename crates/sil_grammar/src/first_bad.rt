@@ -1,19 +1,22 @@
 //! Finds where a text first goes wrong as a list of tokens, and how.
 //! It asks for the shape of a module alone: names may be unknown, numbers and types of any size.
 
-ghost use Rattle.std.specs.Prelude.{◌≡◌, ◌↔◌, length, map, IfOk, IsNone, MatchOption, None, Some};
+ghost use Rattle.std.specs.Prelude.{◌≡◌, ◌↔◌, ◌<◌, length, map, IfOk, IsNone, MatchOption, None, Some};
 ghost use Rattle.sil_lexer.specs.Lexing.{IsLexingOf, lexemes_of};
 ghost use Rattle.sil_lexer.specs.Places.{IsInLimit};
 ghost use Rattle.sil_shape.specs.Derivation.{IsFirstBad};
 ghost use Rattle.sil_grammar.specs.declared.first_bad.BadPlace.{BadPlace};
+ghost use Rattle.sil_grammar.specs.declared.first_bad.Shape.TheVariants.{Whole, Broken};
 ghost use Rattle.sil_grammar.specs.Classes.{token_class};
 ghost use Rattle.sil_grammar.specs.FirstBad.{bad_stop, token_place, HasShape, IsFirstBadPlace};
+ghost use Rattle.sil_grammar.specs.Shape.{IsShapeOf};
 
 use crate::classes::classes_of;
 use sil_ast::{Exhausted, Place};
 use sil_lexer::{LexRefusal, LexStop, Tokens, end_place, lex};
 use sil_shape::classes::Class;
 use sil_shape::machine::{ShapeRefusal, steps_of};
+use sil_shape::steps::Step;
 use sil_shape::unsupported::is_unsupported;
 use std::alloc::Global;
 
@@ -39,6 +42,15 @@ pub struct BadPlace {
     pub place: Place,
 }
 
+/// How far a text has the shape of a module.
+#[derive(Drop)]
+pub(crate) enum Shape {
+    /// Its tokens reach its end, and these steps derive them.
+    Whole(Vec<Step>),
+    /// It goes wrong here, and the first `count` tokens begin a module.
+    Broken { bad: BadPlace, count: usize },
+}
+
 fn bad_stop(stop: LexRefusal) -> BadPlace
     ensures { result ≡ bad_stop stop }
 {
@@ -55,6 +67,20 @@ fn bad_stop(stop: LexRefusal) -> BadPlace
             kind: BadKind::NameTooLong,
             place,
         },
+    }
+}
+
+/// The shape of tokens that these steps derive, up to where they stop.
+fn shape_to_stop(tokens: &Tokens, steps: Vec<Step>) -> Shape
+    ensures { MatchOption tokens.now.stop (result ≡ Whole steps)
+        (λ stop. result ≡ Broken (bad_stop stop) (length tokens.now.tokens)) }
+{
+    match tokens.stop() {
+        Some(stop) => Shape::Broken {
+            bad: bad_stop(stop),
+            count: tokens.len(),
+        },
+        None => Shape::Whole(steps),
     }
 }
 
@@ -84,7 +110,8 @@ fn bad_token(
     requires classes { classes.now ≡ map token_class (lexemes_of text.now tokens.now) }
     requires first { IsFirstBad classes.now i }
     requires reached { i ≡ length tokens.now.tokens → tokens.now.stop ≡ None }
-    ensures { IfOk result (IsFirstBadPlace text.now) }
+    ensures first { IfOk result (IsFirstBadPlace text.now) }
+    ensures place { IfOk result (λ bad. bad.place ≡ token_place text.now (lexemes_of text.now tokens.now) i) }
 {
     let place = token_place(text, tokens, i);
     if is_unsupported(alloc, classes, i)? {
@@ -111,7 +138,8 @@ fn bad_token_or_stop(
     requires lexed { IsLexingOf text.now tokens.now }
     requires classes { classes.now ≡ map token_class (lexemes_of text.now tokens.now) }
     requires first { IsFirstBad classes.now i }
-    ensures { IfOk result (IsFirstBadPlace text.now) }
+    ensures first { IfOk result (IsFirstBadPlace text.now) }
+    ensures place { IfOk result (λ bad. i < length tokens.now.tokens → bad.place ≡ token_place text.now (lexemes_of text.now tokens.now) i) }
 {
     if i == tokens.len() {
         if let Some(stop) = tokens.stop() {
@@ -121,6 +149,28 @@ fn bad_token_or_stop(
     bad_token(alloc, text, tokens, classes, i)
 }
 
+/// How far the tokens of a text have the shape of a module.
+pub(crate) fn shape_of(
+    alloc: Global,
+    text: &[u8],
+    tokens: &Tokens,
+    classes: &[Class],
+) -> Result<Shape, Exhausted>
+    requires limit { IsInLimit text.now }
+    requires lexed { IsLexingOf text.now tokens.now }
+    requires classes { classes.now ≡ map token_class (lexemes_of text.now tokens.now) }
+    ensures { IfOk result (IsShapeOf text.now tokens.now) }
+{
+    match steps_of(alloc, classes) {
+        Ok(steps) => Ok(shape_to_stop(tokens, steps)),
+        Err(ShapeRefusal::FirstBad(count)) => {
+            let bad = bad_token_or_stop(alloc, text, tokens, classes, count)?;
+            Ok(Shape::Broken { bad, count })
+        }
+        Err(ShapeRefusal::Memory) => Err(Exhausted),
+    }
+}
+
 /// The first bad place of cut tokens, if they have one.
 fn first_bad_of(alloc: Global, text: &[u8], tokens: &Tokens) -> Result<Option<BadPlace>, Exhausted>
     requires limit { IsInLimit text.now }
@@ -128,13 +178,9 @@ fn first_bad_of(alloc: Global, text: &[u8], tokens: &Tokens) -> Result<Option<Ba
     ensures { IfOk result (λ r. MatchOption r (HasShape text.now) (IsFirstBadPlace text.now)) }
 {
     let classes = classes_of(alloc, text, tokens)?;
-    match steps_of(alloc, classes.as_slice()) {
-        Ok(_steps) => Ok(tokens.stop().map(bad_stop)),
-        Err(ShapeRefusal::FirstBad(i)) => {
-            let bad = bad_token_or_stop(alloc, text, tokens, classes.as_slice(), i)?;
-            Ok(Some(bad))
-        }
-        Err(ShapeRefusal::Memory) => Err(Exhausted),
+    match shape_of(alloc, text, tokens, classes.as_slice())? {
+        Shape::Whole(_steps) => Ok(None),
+        Shape::Broken { bad, count: _ } => Ok(Some(bad)),
     }
 }
 

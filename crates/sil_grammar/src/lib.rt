@@ -8,6 +8,9 @@ mod reader;
 mod refusal;
 
 pub use first_bad::{BadKind, BadPlace, first_bad_place};
-pub use reader::read;
+pub use reader::{read, spelled_once};
 pub use refusal::ReadRefusal;
 pub use written_modules::LimitWord;
+
+#[cfg(test)]
+mod tests;

@@ -1,21 +1,115 @@
 //! Reads the module that a text spells.
 
-ghost use Rattle.std.specs.Prelude.{◌≡◌, IfOk, IfErr};
+ghost use Rattle.std.specs.Prelude.{◌≡◌, ℕ, List, ◌≤◌, length, map, take, IfOk, IfErr};
 ghost use Rattle.sil_ast.specs.declared.module.Module.{Module};
+ghost use Rattle.sil_lexer.specs.Lexing.{IsLexingOf, Lexing, lexemes_of};
 ghost use Rattle.sil_lexer.specs.Places.{IsInLimit};
+ghost use Rattle.sil_shape.specs.Derivation.{BeginsShape};
+ghost use Rattle.sil_grammar.specs.Classes.{token_class};
+ghost use Rattle.sil_grammar.specs.Front.{IsFrontFault, IsToldInOrder};
 ghost use Rattle.sil_grammar.specs.Refusals.{IsRefusalOf};
-ghost use Rattle.sil_grammar.specs.Spells.{AreSpelledOnce, Spells};
+ghost use Rattle.sil_grammar.specs.Shape.{IsBroken, IsWhole};
+ghost use Rattle.sil_grammar.specs.Spells.{AreSpelledOnce, Spells, SpellsWritten};
 
-use crate::refusal::ReadRefusal;
-use sil_ast::Module;
+use crate::classes::classes_of;
+use crate::first_bad::{BadPlace, Shape, shape_of};
+use crate::refusal::{ReadRefusal, refusal_of_bad, refusal_of_fault};
+use name_resolution::{NameRefusal, resolve};
+use sil_ast::{Exhausted, Module};
+use sil_lexer::{Tokens, lex};
+use sil_shape::begun::begun_steps;
+use sil_shape::classes::Class;
+use sil_shape::steps::Step;
 use std::alloc::Global;
+use written_modules::{Fault, WrittenModule, build};
+
+/// The module that a text spells which writes `written`.
+fn numbered(alloc: Global, written: &WrittenModule) -> Result<Module, ReadRefusal>
+    ensures found { IfOk result (λ m. (text : List ℕ) → SpellsWritten written.now text → Spells m text) }
+    ensures refused { IfErr result (λ r. (text : List ℕ) → SpellsWritten written.now text → IsRefusalOf text r) }
+{
+    match resolve(alloc, written) {
+        Ok(module) => Ok(module),
+        Err(NameRefusal::Name(fault)) => Err(refusal_of_fault(fault)),
+        Err(NameRefusal::Memory) => Err(ReadRefusal::Memory),
+    }
+}
+
+/// The module that a text spells whose tokens have these steps.
+fn read_whole(
+    alloc: Global,
+    text: &[u8],
+    tokens: &Tokens,
+    steps: &[Step],
+) -> Result<Module, ReadRefusal>
+    requires lexed { IsLexingOf text.now tokens.now }
+    requires derived { IsWhole text.now tokens.now steps.now }
+    ensures found { IfOk result (λ m. Spells m text.now) }
+    ensures refused { IfErr result (IsRefusalOf text.now) }
+    ensures in_order { IfErr result (IsToldInOrder text.now) }
+{
+    let built = build(alloc, text, tokens, tokens.len(), steps)?;
+    match built.fault {
+        Some(fault) => Err(refusal_of_fault(fault)),
+        None => numbered(alloc, &built.written),
+    }
+}
+
+/// The first fault in the first `count` tokens of a text, which begin a module.
+fn front_fault(
+    alloc: Global,
+    text: &[u8],
+    tokens: &Tokens,
+    count: usize,
+    classes: &[Class],
+) -> Result<Option<Fault>, Exhausted>
+    requires lexed { IsLexingOf text.now tokens.now }
+    requires inside { count ≤ length tokens.now.tokens }
+    requires classes { classes.now ≡ map token_class (take count (lexemes_of text.now tokens.now)) }
+    requires begins { BeginsShape classes.now }
+    ensures { IfOk result (IsFrontFault text.now tokens.now count) }
+{
+    let steps = begun_steps(alloc, classes)?;
+    let built = build(alloc, text, tokens, count, steps.as_slice())?;
+    Ok(built.fault)
+}
+
+/// The refusal of a text that goes wrong at `bad`, for the first fault in what stands before, if there is one.
+fn earlier_refusal(fault: Option<Fault>, bad: BadPlace) -> ReadRefusal
+    ensures refused { (text : List ℕ) (lexing : Lexing) (count : ℕ) → IsLexingOf text lexing → IsBroken text lexing bad count
+        → IsFrontFault text lexing count fault → IsRefusalOf text result }
+    ensures in_order { (text : List ℕ) (lexing : Lexing) (count : ℕ) → IsLexingOf text lexing → IsBroken text lexing bad count
+        → IsFrontFault text lexing count fault → IsToldInOrder text result }
+{
+    match fault {
+        Some(fault) if fault.place.offset < bad.place.offset => refusal_of_fault(fault),
+        _ => refusal_of_bad(bad),
+    }
+}
 
 /// The module that a text of at most 1,048,576 bytes spells, with its values, blocks and functions numbered.
+///
+/// A text that spells none is refused for the first thing that is wrong: where it stops having the shape of a module,
+/// or a number or a limit before that place. A name is a reason only in a text without these.
 pub fn read(alloc: Global, text: &[u8]) -> Result<Module, ReadRefusal>
     requires { IsInLimit text.now }
     ensures found { IfOk result (λ m. Spells m text.now) }
     ensures only { IfOk result (λ m. (other : Module) → Spells other text.now → other ≡ m) }
     ensures refused { IfErr result (IsRefusalOf text.now) }
+    ensures in_order { IfErr result (IsToldInOrder text.now) }
 {
-    Err(ReadRefusal::Memory)
+    let tokens = lex(alloc, text)?;
+    let classes = classes_of(alloc, text, &tokens)?;
+    match shape_of(alloc, text, &tokens, classes.as_slice())? {
+        Shape::Whole(steps) => read_whole(alloc, text, &tokens, steps.as_slice()),
+        Shape::Broken { bad, count } => {
+            let fault = front_fault(alloc, text, &tokens, count, &classes[..count])?;
+            Err(earlier_refusal(fault, bad))
+        }
+    }
 }
+
+/// A text spells at most one module.
+pub fn spelled_once()
+    ensures { AreSpelledOnce }
+{}

@@ -1,15 +1,13 @@
 -- A list of classes has one derivation, and a list has one first bad place, or has shape.
-use Rattle.std.proofs.Common.{◌≡◌, ℕ, ◌+◌, ◌<◌, ◌≤◌, List, [], ◌∷◌, ◌++◌, length, take, drop, refl, ap, sym, subst, ◌∙◌, append_assoc, arith, inl, inr}
+use Rattle.std.proofs.Common.{◌≡◌, ℕ, ◌+◌, ◌<◌, List, ◌∷◌, ◌++◌, length, take, drop, refl, ap, sym, subst, ◌∙◌, append_assoc, arith, inl, inr}
 use Rattle.std.specs.Prelude.{Some}
 use Rattle.std.proofs.Math.Nat.{eq-or-lt_of_le}
 use Rattle.std.proofs.lemmas.Bool.{cases_order}
 use Rattle.std.proofs.lemmas.List.{take-append-drop, take-take}
 use Rattle.sil_shape.specs.declared.classes.Class.{Class}
-use Rattle.sil_shape.specs.declared.grammar.Production.{Production}
 use Rattle.sil_shape.specs.declared.grammar.Symbol.{Symbol}
-use Rattle.sil_shape.specs.declared.grammar.Symbol.TheVariants.{Part}
 use Rattle.sil_shape.specs.declared.steps.Step.{Step}
-use Rattle.sil_shape.specs.declared.steps.Step.TheVariants.{Take, Expand}
+use Rattle.sil_shape.specs.declared.steps.Step.TheVariants.{Take}
 use Rattle.sil_shape.specs.Grammar.{written, body}
 use Rattle.sil_shape.specs.Derivation.{Accepts, Derives, nothing, token, rule, start, HasShape, BeginsShape, IsFirstBad}
 use Rattle.sil_shape.proofs.Derived.{Derives-nothing}

@@ -1,1 +1,4 @@
 pub mod BuildLemmas
+pub mod FoundLemmas
+pub mod WholeLemmas
+pub mod LeafLemmas

@@ -1,11 +1,10 @@
 -- What may be wrong with a text that has the shape of a module: numbers out of range, and tokens that pass a limit.
-use Rattle.std.specs.Prelude.{ℕ, ◌≤◌, ◌-◌, List, [], ◌∷◌, ◌++◌, Option, Some, None, Bool, true, false, if◌then◌else◌, ◌&&◌, ◌||◌, ◌==◌, nat_lt, map, not, slice_get, filter}
-use Rattle.std.specs.List.{flat_map}
+use Rattle.std.specs.Prelude.{ℕ, List, [], ◌∷◌, Option, Some, None, Bool, if◌then◌else◌, ◌&&◌, ◌||◌, ◌==◌, nat_lt, slice_get}
 use Rattle.std.specs.Option.{option_map}
 use Rattle.sil_ast.specs.declared.place.Place.{Place}
 use Rattle.written_modules.specs.declared.fault.Fault.{Fault}
 use Rattle.written_modules.specs.declared.fault.FaultKind.{FaultKind}
-use Rattle.written_modules.specs.declared.fault.FaultKind.TheVariants.{NumberRange, Limit, Twice, UnknownName}
+use Rattle.written_modules.specs.declared.fault.FaultKind.TheVariants.{NumberRange, Limit}
 use Rattle.written_modules.specs.declared.fault.LimitWord.{LimitWord}
 use Rattle.written_modules.specs.declared.fault.LimitWord.TheVariants as limit
 

@@ -5,3 +5,5 @@ pub mod Places
 pub mod Replay
 pub mod Types
 pub mod Values
+pub mod Found
+pub mod Taken

@@ -1,5 +1,5 @@
 -- The first fault in a part of a text by itself: its lists, its numbers, and its types that become too deep.
-use Rattle.std.specs.Prelude.{ℕ, ◌-◌, List, [], ◌∷◌, ◌++◌, Option, Some, None, Bool, true, false, if◌then◌else◌, ◌==◌, nat_lt, map}
+use Rattle.std.specs.Prelude.{ℕ, ◌-◌, List, [], ◌∷◌, Option, Some, None, if◌then◌else◌, ◌==◌, nat_lt, map}
 use Rattle.std.specs.List.{flat_map}
 use Rattle.sil_ast.specs.declared.place.Place.{Place}
 use Rattle.sil_ast.specs.declared.type_name.TypeName.{TypeName}
@@ -14,8 +14,7 @@ use Rattle.written_modules.specs.declared.written_declarations.WrittenToken.{Wri
 use Rattle.written_modules.specs.declared.written_functions.WrittenBlock.{WrittenBlock}
 use Rattle.written_modules.specs.declared.written_module.WrittenItem.{WrittenItem}
 use Rattle.written_modules.specs.declared.written_types.TypeList.{TypeList}
-use Rattle.written_modules.specs.declared.written_types.WrittenType.{WrittenType}
-use Rattle.written_modules.specs.Faults.{earlier, earliest, fault, out_of_range, passed}
+use Rattle.written_modules.specs.Faults.{earlier, fault, out_of_range, passed}
 use Rattle.written_modules.specs.Meaning.{part, place_at, text_at}
 use Rattle.written_modules.specs.Places.{arg_place, attribute_places, case_place, decl_names, field_place, function_names, label_place, mnemonics_of, operand_place, token_place, values_of_block}
 use Rattle.written_modules.specs.Types.{depth_limit, in_parens, type_before, width_of}

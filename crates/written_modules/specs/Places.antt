@@ -1,5 +1,5 @@
 -- The tokens by which the parts of a written module are counted.
-use Rattle.std.specs.Prelude.{List, [], ◌∷◌, ◌++◌, ℕ, Bool, true, false, if◌then◌else◌, not, map, filter, codes}
+use Rattle.std.specs.Prelude.{List, [], ◌∷◌, ◌++◌, Bool, true, false, if◌then◌else◌, not, map, filter, codes}
 use Rattle.std.specs.List.{flat_map}
 use Rattle.std.specs.Str.{bytes_eq}
 use Rattle.sil_ast.specs.declared.inst.Qualifier.{Qualifier}

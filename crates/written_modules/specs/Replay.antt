@@ -1,6 +1,6 @@
 -- What the steps of a derivation and the tokens that they take stand for, and the first fault in it, from the last step
 -- to the first.
-use Rattle.std.specs.Prelude.{◌≡◌, ℕ, List, [], ◌∷◌, length, take, drop, Option, Some, None}
+use Rattle.std.specs.Prelude.{◌≡◌, ℕ, List, [], ◌∷◌, length, take, drop, Option, None}
 use Rattle.std.specs.List.{HoldsAt}
 use Rattle.sil_lexer.specs.Lexes.{Lexeme}
 use Rattle.sil_lexer.specs.Lexing.{Lexing, lexeme_of}

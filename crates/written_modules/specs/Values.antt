@@ -1,5 +1,5 @@
 -- What stands in a value, asked only where its variant stands; elsewhere something empty.
-use Rattle.std.specs.Prelude.{ℕ, List, [], ◌∷◌, Option, Some, None, Bool, true, false}
+use Rattle.std.specs.Prelude.{List, [], ◌∷◌, Option, Some, None, false}
 use Rattle.sil_ast.specs.declared.debug.Debug.{Debug}
 use Rattle.sil_ast.specs.declared.decl.Storage.TheVariants.{Strong}
 use Rattle.sil_ast.specs.declared.function.ArgKind.{ArgKind}

@@ -8,6 +8,7 @@ ghost use Rattle.written_modules.specs.declared.value.Value.TheVariants as v;
 ghost use Rattle.written_modules.specs.Types.{deeper, in_parens, kept, marked, one_deeper, one_token, tailed, type_before};
 ghost use Rattle.written_modules.specs.Values.{token_of};
 
+use crate::limits;
 use crate::nothing::{discard, skip, unit_type};
 use crate::prepended::Prepended;
 use crate::value::Value;
@@ -17,13 +18,10 @@ use sil_ast::{Boxed, Exhausted, Place, TypeName};
 use sil_shape::grammar::Production;
 use std::alloc::Global;
 
-/// The limit on the levels of a type.
-pub(crate) const DEPTH_LIMIT: u32 = 32;
-
-fn deeper(depth: u32) -> u32
+pub(crate) fn deeper(depth: u32) -> u32
     ensures { result ≡ deeper depth }
 {
-    if DEPTH_LIMIT < depth {
+    if limits::DEPTH < depth {
         depth
     } else {
         depth + 1
@@ -34,7 +32,7 @@ fn deeper(depth: u32) -> u32
 fn kept(alloc: Global, depth: u32, ty: TypeName) -> TypeName
     ensures { result ≡ kept depth ty }
 {
-    if DEPTH_LIMIT < depth {
+    if limits::DEPTH < depth {
         unit_type(alloc)
     } else {
         ty

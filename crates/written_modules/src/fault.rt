@@ -2,7 +2,7 @@
 
 use sil_ast::Place;
 
-/// A quantity that has a limit, by the word that names it. (Section 3 of `docs/PROFILE.md`.)
+/// A quantity that has a limit, by the word that names it. (`docs/PROFILE.md`, "Limits on reading".)
 #[derive(Clone, Copy, Debug, PartialEq, Eq)]
 pub enum LimitWord {
     /// bytes of the text

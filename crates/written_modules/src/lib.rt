@@ -2,7 +2,6 @@
 //! number out of range or token past a limit. It knows of no name that is defined elsewhere, and of no rule.
 #![tactic(auto)]
 
-mod building;
 mod build_blocks;
 mod build_declarations;
 mod build_functions;
@@ -12,10 +11,20 @@ mod build_operands;
 mod build_rows;
 mod build_types;
 mod build_words;
+mod building;
+mod counted_parts;
 mod fault;
+mod fault_order;
+mod found;
+mod leaves;
+mod limits;
+mod list_faults;
 mod nothing;
+mod number_faults;
+mod part_faults;
 mod prepended;
 mod reduce;
+mod type_faults;
 mod value;
 mod value_code;
 mod value_parts;

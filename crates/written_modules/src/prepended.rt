@@ -1,6 +1,7 @@
 //! A list that is built from its end to its front, as the second pass of the reader meets the parts of a text.
 
-ghost use Rattle.std.specs.Prelude.{◌≡◌, [], ◌∷◌, ◌<◌, length, OnOk};
+ghost use Rattle.std.specs.Prelude.{◌≡◌, [], ◌∷◌, ◌<◌, ◌≤◌, ◌↔◌, length, slice_get, IsNone, OnOk, Some};
+ghost use Rattle.std.specs.Option.{option_copied};
 
 use sil_ast::{Exhausted, List};
 use std::alloc::Global;
@@ -38,6 +39,26 @@ impl<T> Prepended<T> {
         ensures { result ≡ length self.now }
     {
         self.backwards.len()
+    }
+
+    /// The element at `i`, counted from 0 at the front.
+    pub(crate) fn get(&self, i: usize) -> Option<&T>
+        ensures value { option_copied result ≡ slice_get self.now i }
+        ensures none { IsNone result ↔ (length self.now ≤ i) }
+    {
+        if i < self.backwards.len() {
+            self.backwards.get(self.backwards.len() - 1 - i)
+        } else {
+            None
+        }
+    }
+
+    /// The element at `i`, counted from 0 at the front.
+    pub(crate) fn at(&self, i: usize) -> &T
+        requires { i < length self.now }
+        ensures { slice_get self.now i ≡ Some result.now }
+    {
+        &self.backwards[self.backwards.len() - 1 - i]
     }
 
     /// Takes the first element away.

@@ -1,5 +1,5 @@
 -- For `classes_of`: a class more with each token, and all of them at the end.
-use Rattle.std.proofs.Common.{◌≡◌, ◌++◌, ◌∷◌, [], ◌<◌, ◌≤◌, length, arith, ◌∙◌}
+use Rattle.std.proofs.Common.{◌<◌, ◌≤◌, length, arith, ◌∙◌}
 use Rattle.sil_grammar.proofs.LexemeLemmas.{classes_all, classes_more}
 use Rattle.sil_grammar.proofs.classes.classes_of.Goals as goal
 

@@ -1,12 +1,17 @@
--- For `first_bad_of`: tokens that have shape are bad nowhere but at their stop.
-use Rattle.std.proofs.Common.{◌≡◌, subst, ◌∙◌}
-use Rattle.sil_shape.specs.Derivation.{HasShape}
-use Rattle.sil_grammar.proofs.FirstBadLemmas.{shaped_to_stop}
+-- For `first_bad_of`: steps that derive all tokens of a text are its shape.
+use Rattle.std.proofs.Common.{subst}
+use Rattle.sil_grammar.specs.Shape.{IsBroken, IsShapeOf, IsWhole}
+use Rattle.sil_grammar.proofs.ShapeLemmas.{whole_shape}
 use Rattle.sil_grammar.proofs.first_bad.first_bad_of.Goals as goal
 
-pub returns-in-Ok : goal.returns-in-Ok
-returns-in-Ok c =
-    let classes = c.as_slice.ensures.value ∙ c.in_ok-classes.ensures in
-    let shape : HasShape c.as_slice.result.now = (c.in-Ok._steps.items, c.in-Ok.ensures.found.derives) in
-    let told = rw c.stop.ensures at c.map.ensures.cases in
-    shaped_to_stop c.args.text.now c.args.tokens.now c.requires.lexed (subst HasShape classes shape) c.map.result told
+pub returns-in-Whole : goal.returns-in-Whole
+returns-in-Whole c =
+    let steps = c.in-Whole._steps.items in
+    let whole : IsWhole c.args.text.now c.args.tokens.now steps = subst (IsShapeOf c.args.text.now c.args.tokens.now) c.in-Whole.is c.in_ok-_steps.ensures in
+    whole_shape c.args.text.now c.args.tokens.now steps c.requires.lexed whole
+
+pub returns : goal.returns
+returns c =
+    let broken : IsBroken c.args.text.now c.args.tokens.now c.in-Broken.bad c.in-Broken.count =
+    subst (IsShapeOf c.args.text.now c.args.tokens.now) c.in-Broken.is c.in_ok-_steps.ensures in
+    broken.first

@@ -1,5 +1,5 @@
 -- For `token_place`: a token's place, or that of the end.
-use Rattle.std.proofs.Common.{◌≤◌, length, arith}
+use Rattle.std.proofs.Common.{arith}
 use Rattle.sil_grammar.proofs.LexemeLemmas.{token_place_inside, token_place_past}
 use Rattle.sil_grammar.proofs.first_bad.token_place.Goals as goal
 

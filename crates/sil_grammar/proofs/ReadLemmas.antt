@@ -1,0 +1,183 @@
+-- A text has one list of tokens with one list of steps, so it spells one module or none: for `read`.
+use Rattle.std.proofs.Common.{◌≡◌, ℕ, ◌<◌, ◌≤◌, List, [], length, map, take, Bool, true, false, Option, Some, None, ap, refl, sym, subst, ◌∙◌, arith}
+use Rattle.std.specs.Prelude.{Result, IsErrAnd, IfErr}
+use Rattle.std.proofs.lemmas.List.{append-nil, length-map, take_all}
+use Rattle.std.proofs.lemmas.Result.{err_from_is_err_and}
+use Rattle.sil_ast.specs.declared.place.Place.{Place}
+use Rattle.sil_lexer.specs.Lexes.{Lexeme, Lexes}
+use Rattle.sil_lexer.specs.Lexing.{Lexing, IsLexingOf, lexeme_of, lexemes_of}
+use Rattle.sil_lexer.proofs.UniqueLemmas.{one_way}
+use Rattle.sil_shape.specs.declared.steps.Step.{Step}
+use Rattle.sil_shape.specs.Derivation.{Derives, start}
+use Rattle.sil_shape.proofs.DerivedOnce.{steps_once}
+use Rattle.written_modules.specs.declared.fault.Fault.{Fault}
+use Rattle.written_modules.specs.declared.fault.FaultKind.{FaultKind}
+use Rattle.written_modules.specs.declared.fault.FaultKind.TheVariants as kind
+use Rattle.written_modules.specs.declared.written_module.WrittenModule.{WrittenModule}
+use Rattle.written_modules.specs.Replay.{first_fault, Writes}
+use Rattle.name_resolution.specs.NameFaults.{name_fault}
+use Rattle.name_resolution.specs.Resolved.{resolved}
+use Rattle.sil_grammar.specs.declared.first_bad.BadKind.{BadKind}
+use Rattle.sil_grammar.specs.declared.first_bad.BadKind.TheVariants as bad
+use Rattle.sil_grammar.specs.declared.first_bad.BadPlace.{BadPlace}
+use Rattle.sil_grammar.specs.declared.refusal.ReadRefusal.{ReadRefusal}
+use Rattle.sil_grammar.specs.declared.refusal.ReadRefusal.TheVariants as refusal
+use Rattle.sil_grammar.specs.declared.refusal.ReadRefusal.TheVariants.{Memory}
+use Rattle.sil_grammar.specs.Classes.{token_class}
+use Rattle.sil_grammar.specs.FirstBad.{HasShape, IsFirstBadPlace}
+use Rattle.sil_grammar.specs.Front.{IsClearBefore, IsFrontFault, IsToldInOrder}
+use Rattle.sil_grammar.specs.Refusals.{IsFaulty, IsRefusalOf, SpellsNone, exhausted, refusal_of_bad, refusal_of_fault}
+use Rattle.sil_grammar.specs.Shape.{IsBroken, IsWhole}
+use Rattle.sil_grammar.specs.Spells.{AreSpelledOnce, SpellsWritten}
+use Rattle.sil_grammar.proofs.FirstBadLemmas.{no_bad_place, once}
+use Rattle.sil_grammar.proofs.ShapeLemmas.{whole_shape}
+
+never : {A : Type 0} {a : A} {o : Option A} → o ≡ Some a → o ≡ None → ⊥
+never e f = cc
+
+one_module : (steps : List Step) (lexemes : List Lexeme) (w other : WrittenModule) → Writes steps lexemes w → Writes steps lexemes other → other ≡ w
+one_module steps lexemes w other a b = cc (a, b)
+
+-- want of memory is a refusal of every text
+pub out_of_memory : {T : Type 0} (text : List ℕ) (r : Result T ReadRefusal) → IsErrAnd r (λ e. e ≡ Memory) → IfErr r (IsRefusalOf text)
+out_of_memory text r memory =
+    let e = err_from_is_err_and r memory in
+    rw e.1 (subst (IsRefusalOf text) (sym e.2) exhausted)
+
+-- what is known of a module that the text writes, over the text's tokens and steps
+record ByThese (steps : List Step) (lexemes : List Lexeme) (w : WrittenModule) : Type 0 where
+  pub no_fault : first_fault steps lexemes ≡ None
+  pub writes : Writes steps lexemes w
+
+by_these : (text : List ℕ) (lexemes : List Lexeme) (steps : List Step) (w : WrittenModule)
+    → Lexes text text lexemes None → Derives start (map token_class lexemes) steps → SpellsWritten w text → ByThese steps lexemes w
+by_these text lexemes steps w lexed derived s =
+    let tokens : s.lexemes ≡ lexemes = (one_way text text s.lexemes lexemes None None s.lexed lexed).0 in
+    let here : Derives start (map token_class lexemes) s.steps = subst (λ (l : List Lexeme). Derives start (map token_class l) s.steps) tokens s.derived in
+    let same : s.steps ≡ steps = steps_once derived here in
+    record {
+      no_fault = ap (λ (l : List Step). first_fault l lexemes) (sym same) ∙ ap (first_fault s.steps) (sym tokens) ∙ s.no_fault;
+      writes = subst (λ (l : List Lexeme). Writes steps l w) tokens (subst (λ (l : List Step). Writes l s.lexemes w) same s.writes);
+    }
+
+-- a text writes one module at most
+written_once : (text : List ℕ) (w other : WrittenModule) → SpellsWritten w text → SpellsWritten other text → other ≡ w
+written_once text w other s o =
+    let by = by_these text s.lexemes s.steps other s.lexed s.derived o in
+    one_module s.steps s.lexemes w other s.writes by.writes
+
+pub spelled_once : AreSpelledOnce
+spelled_once text m other s o =
+    let same : o.written ≡ s.written = written_once text s.written o.written s.spells o.spells in
+    o.numbered ∙ ap resolved same ∙ sym s.numbered
+
+-- a text with a bad place spells nothing
+pub bad_spells_none : (text : List ℕ) (bad : BadPlace) → IsFirstBadPlace text bad → SpellsNone text
+bad_spells_none text bad first m s =
+    let shape : HasShape text = record { lexemes = s.spells.lexemes; lexed = s.spells.lexed; shape = (s.spells.steps, s.spells.derived) } in
+    no_bad_place text shape bad first.is_bad
+
+-- nor does one that writes a module with a name that is wrong
+pub misnamed_spells_none : (text : List ℕ) (w : WrittenModule) (fault : Fault) → SpellsWritten w text → name_fault w ≡ Some fault → SpellsNone text
+misnamed_spells_none text w fault spells wrong m s =
+    never (ap name_fault (written_once text w s.written spells s.spells) ∙ wrong) s.names
+
+module _ (text : List ℕ) (lexing : Lexing) (is : IsLexingOf text lexing) where
+  module _ (steps : List Step) (whole : IsWhole text lexing steps) where
+    lexed : Lexes text text (lexemes_of text lexing) None
+    lexed = subst (Lexes text text (lexemes_of text lexing)) whole.reached is.lexed
+
+    all : take (length lexing.tokens) (lexemes_of text lexing) ≡ lexemes_of text lexing
+    all = take_all (length lexing.tokens) (lexemes_of text lexing) (omega (arith, length-map lexing.tokens (lexeme_of text)))
+
+    -- nor one whose steps have a fault
+    pub fault_spells_none : (fault : Fault) → first_fault steps (take (length lexing.tokens) (lexemes_of text lexing)) ≡ Some fault → SpellsNone text
+    fault_spells_none fault first m s =
+        let by = by_these text (lexemes_of text lexing) steps s.written lexed whole.derived.derives s.spells in
+        never first (ap (first_fault steps) all ∙ by.no_fault)
+
+    pub faulty_whole : (fault : Fault) → first_fault steps (take (length lexing.tokens) (lexemes_of text lexing)) ≡ Some fault → IsFaulty text fault
+    faulty_whole fault first = record {
+      lexemes = lexemes_of text lexing;
+      lexed_to = None;
+      lexed = lexed;
+      count = length lexing.tokens;
+      inside = omega (arith, length-map lexing.tokens (lexeme_of text));
+      steps = steps;
+      begun = (
+        [],
+        subst (λ ks. Derives start ks steps) (sym (append-nil (map token_class (take (length lexing.tokens) (lexemes_of text lexing)))))
+            (subst (λ (l : List Lexeme). Derives start (map token_class l) steps) (sym all) whole.derived.derives),
+      );
+      first = first;
+      early = λ place bad. absurd (no_bad_place text (whole_shape text lexing steps is whole) place bad.is_bad);
+    }
+
+  pub faulty_front : (bad : BadPlace) (count : ℕ) (fault : Fault) → IsBroken text lexing bad count → IsFrontFault text lexing count (Some fault)
+      → fault.place.offset < bad.place.offset → IsFaulty text fault
+  faulty_front bad count fault broken front before = record {
+    lexemes = lexemes_of text lexing;
+    lexed_to = lexing.stop;
+    lexed = is.lexed;
+    count = count;
+    inside = subst (λ n. count ≤ n) (sym (length-map lexing.tokens (lexeme_of text))) broken.inside;
+    steps = front.steps;
+    begun = front.begun;
+    first = sym front.first;
+    early = λ place first. subst (λ (p : BadPlace). fault.place.offset < p.place.offset) (once text bad place broken.first first) before;
+  }
+
+  pub clear_front : (bad : BadPlace) (count : ℕ) (fault : Option Fault) → IsBroken text lexing bad count → IsFrontFault text lexing count fault
+      → ((f : Fault) → fault ≡ Some f → bad.place.offset ≤ f.place.offset) → IsClearBefore text bad
+  clear_front bad count fault broken front behind = record {
+    lexemes = lexemes_of text lexing;
+    lexed_to = lexing.stop;
+    lexed = is.lexed;
+    count = count;
+    inside = subst (λ n. count ≤ n) (sym (length-map lexing.tokens (lexeme_of text))) broken.inside;
+    next = λ below. broken.next (subst (λ n. count < n) (length-map lexing.tokens (lexeme_of text)) below);
+    steps = front.steps;
+    begun = front.begun;
+    no_fault = λ f is. behind f (front.first ∙ is);
+  }
+
+  pub whole_in_order : (steps : List Step) → IsWhole text lexing steps → (reason : ReadRefusal) → IsToldInOrder text reason
+  whole_in_order steps whole reason place first told = absurd (no_bad_place text (whole_shape text lexing steps is whole) place first.is_bad)
+
+-- whether a refusal tells a first bad place
+abbrev is_of_bad : ReadRefusal → Bool
+is_of_bad (refusal.Lex stop) = true
+is_of_bad (refusal.Unexpected place) = true
+is_of_bad (refusal.Unsupported place) = true
+is_of_bad _ = false
+
+of_bad : (kind : BadKind) (place : Place) → is_of_bad (refusal_of_bad kind place) ≡ true
+unfolding refusal_of_bad
+of_bad bad.BadByte place = refl
+of_bad bad.UnclosedText place = refl
+of_bad bad.NameTooLong place = refl
+of_bad bad.Unsupported place = refl
+of_bad bad.Unexpected place = refl
+
+of_fault : (kind : FaultKind) (place : Place) → is_of_bad (refusal_of_fault kind place) ≡ false
+unfolding refusal_of_fault
+of_fault kind.NumberRange place = refl
+of_fault (kind.Limit what) place = refl
+of_fault kind.Twice place = refl
+of_fault kind.UnknownName place = refl
+
+memory_is_none : is_of_bad Memory ≡ false
+memory_is_none = refl
+
+other_in_order : (text : List ℕ) (reason : ReadRefusal) → is_of_bad reason ≡ false → IsToldInOrder text reason
+other_in_order text reason other place first told =
+    let same : is_of_bad reason ≡ true = ap is_of_bad told ∙ of_bad place.kind place.place in
+    absurd (cc)
+
+pub fault_in_order : (text : List ℕ) (kind : FaultKind) (place : Place) → IsToldInOrder text (refusal_of_fault kind place)
+fault_in_order text kind place = other_in_order text (refusal_of_fault kind place) (of_fault kind place)
+
+pub memory_in_order : {T : Type 0} (text : List ℕ) (r : Result T ReadRefusal) → IsErrAnd r (λ e. e ≡ Memory) → IfErr r (IsToldInOrder text)
+memory_in_order text r memory =
+    let e = err_from_is_err_and r memory in
+    rw e.1 (other_in_order text e.0 (ap is_of_bad e.2 ∙ memory_is_none))

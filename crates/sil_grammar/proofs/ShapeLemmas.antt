@@ -1,0 +1,80 @@
+-- Tokens have shape up to the end of their text, or the text has a first bad place: for `shape_of`.
+use Rattle.std.proofs.Common.{◌≡◌, ℕ, ◌<◌, ◌≤◌, List, [], length, map, take, Option, Some, None, Vec, Global, arith, ap, refl, sym, subst, ◌∙◌}
+use Rattle.std.specs.Prelude.{MatchOption}
+use Rattle.std.proofs.lemmas.List.{append-nil, length-map, take-map}
+use Rattle.sil_lexer.specs.declared.token.LexRefusal.{LexRefusal}
+use Rattle.sil_lexer.specs.Lexes.{Lexes}
+use Rattle.sil_lexer.specs.Lexing.{Lexing, IsLexingOf, lexeme_of, lexemes_of}
+use Rattle.sil_shape.specs.declared.classes.Class.{Class}
+use Rattle.sil_shape.specs.declared.steps.Step.{Step}
+use Rattle.sil_shape.specs.Derivation.{BeginsShape, IsDerivation, HasShape, IsFirstBad}
+use Rattle.sil_shape.specs.Values.{takes_of, IsEnough}
+use Rattle.sil_shape.proofs.DerivedOnce.{front_begins, no_first_bad}
+use Rattle.sil_grammar.specs.declared.first_bad.BadPlace.{BadPlace}
+use Rattle.sil_grammar.specs.declared.first_bad.Shape.{Shape}
+use Rattle.sil_grammar.specs.declared.first_bad.Shape.TheVariants.{Whole, Broken}
+use Rattle.sil_grammar.specs.Classes.{token_class}
+use Rattle.sil_grammar.specs.FirstBad as text_shape
+use Rattle.sil_grammar.specs.FirstBad.{bad_stop, token_place, IsFirstBadPlace}
+use Rattle.sil_grammar.specs.Shape.{IsBroken, IsShapeOf, IsWhole}
+use Rattle.sil_grammar.proofs.FirstBadLemmas.{stop_first}
+
+length-classes : (text : List ℕ) (lexing : Lexing) → length (map token_class (lexemes_of text lexing)) ≡ length lexing.tokens
+length-classes text lexing = length-map (lexemes_of text lexing) token_class ∙ length-map lexing.tokens (lexeme_of text)
+
+pub take-classes : (text : List ℕ) (lexing : Lexing) (count : ℕ)
+    → take count (map token_class (lexemes_of text lexing)) ≡ map token_class (take count (lexemes_of text lexing))
+take-classes text lexing count = take-map token_class count (lexemes_of text lexing)
+
+-- a class with which no list that has shape goes on
+pub broken_at : (text : List ℕ) (lexing : Lexing) (classes : List Class) (bad : BadPlace) (count : ℕ)
+    → classes ≡ map token_class (lexemes_of text lexing) → IsFirstBad classes count → IsFirstBadPlace text bad
+    → (count < length lexing.tokens → bad.place ≡ token_place text (lexemes_of text lexing) count) → IsBroken text lexing bad count
+broken_at text lexing classes bad count same at_count first next =
+    let here = subst (λ ks. IsFirstBad ks count) same at_count in
+    record {
+      first = first;
+      inside = subst (λ n. count ≤ n) (length-classes text lexing) here.inside;
+      next = next;
+      begins = subst BeginsShape (take-classes text lexing count) here.good;
+    }
+
+-- a derivation goes to the end of the text, or to where its tokens stop
+pub shaped : (text : List ℕ) (lexing : Lexing) (classes : List Class) (steps : Vec Step Global) (shape : Shape)
+    → IsLexingOf text lexing → classes ≡ map token_class (lexemes_of text lexing)
+    → IsDerivation classes steps.items → takes_of steps.items ≡ length classes → IsEnough steps.items
+    → MatchOption lexing.stop (shape ≡ Whole steps) (λ stop. shape ≡ Broken (bad_stop stop) (length lexing.tokens))
+    → IsShapeOf text lexing shape
+shaped text lexing classes steps shape is same derived taken enough told = by lexing.stop refl told
+  where
+    here : IsDerivation (map token_class (lexemes_of text lexing)) steps.items
+    here = subst (λ ks. IsDerivation ks steps.items) same derived
+
+    good : HasShape (map token_class (lexemes_of text lexing))
+    good = (steps.items, here.derives)
+
+    all : take (length lexing.tokens) (map token_class (lexemes_of text lexing)) ≡ map token_class (take (length lexing.tokens) (lexemes_of text lexing))
+    all = take-classes text lexing (length lexing.tokens)
+
+    by : (stop : Option LexRefusal) → lexing.stop ≡ stop
+        → MatchOption stop (shape ≡ Whole steps) (λ stop. shape ≡ Broken (bad_stop stop) (length lexing.tokens)) → IsShapeOf text lexing shape
+    by None reached told = subst (IsShapeOf text lexing) (sym told) (record {
+      reached = reached;
+      derived = here;
+      taken = taken ∙ ap length same ∙ length-classes text lexing;
+      enough = enough;
+    })
+    by (Some stop) stops told = subst (IsShapeOf text lexing) (sym told) (record {
+      first = stop_first text lexing is stop stops (λ i bad. absurd (no_first_bad (map token_class (lexemes_of text lexing)) i good bad));
+      inside = omega arith;
+      next = λ below. absurd (omega (arith, below));
+      begins = subst BeginsShape all (front_begins (map token_class (lexemes_of text lexing)) (length lexing.tokens) ([], subst HasShape (sym (append-nil (map token_class (lexemes_of text lexing)))) good));
+    })
+
+-- steps that derive the tokens of a whole text
+pub whole_shape : (text : List ℕ) (lexing : Lexing) (steps : List Step) → IsLexingOf text lexing → IsWhole text lexing steps → text_shape.HasShape text
+whole_shape text lexing steps is whole = record {
+  lexemes = lexemes_of text lexing;
+  lexed = subst (Lexes text text (lexemes_of text lexing)) whole.reached is.lexed;
+  shape = (steps, whole.derived.derives);
+}

@@ -1,0 +1,30 @@
+-- How far the tokens of a text have the shape of a module.
+use Rattle.std.specs.Prelude.{◌≡◌, ℕ, ◌<◌, ◌≤◌, List, length, map, take, None}
+use Rattle.sil_lexer.specs.Lexing.{Lexing, lexemes_of}
+use Rattle.sil_shape.specs.declared.steps.Step.{Step}
+use Rattle.sil_shape.specs.Derivation.{BeginsShape, IsDerivation}
+use Rattle.sil_shape.specs.Values.{takes_of, IsEnough}
+use Rattle.sil_grammar.specs.declared.first_bad.BadPlace.{BadPlace}
+use Rattle.sil_grammar.specs.declared.first_bad.Shape.{Shape}
+use Rattle.sil_grammar.specs.declared.first_bad.Shape.TheVariants.{Whole, Broken}
+use Rattle.sil_grammar.specs.Classes.{token_class}
+use Rattle.sil_grammar.specs.FirstBad.{token_place, IsFirstBadPlace}
+
+-- the tokens reach the end of the text, and these steps alone derive them
+pub record IsWhole (text : List ℕ) (lexing : Lexing) (steps : List Step) : Type 0 where
+  pub reached : lexing.stop ≡ None
+  pub derived : IsDerivation (map token_class (lexemes_of text lexing)) steps
+  pub taken : takes_of steps ≡ length lexing.tokens
+  pub enough : IsEnough steps
+
+-- the text goes wrong at this place, and so many tokens before it begin a list that has shape. The next one, if there
+-- is one, stands at the place
+pub record IsBroken (text : List ℕ) (lexing : Lexing) (bad : BadPlace) (count : ℕ) : Type 0 where
+  pub first : IsFirstBadPlace text bad
+  pub inside : count ≤ length lexing.tokens
+  pub next : count < length lexing.tokens → bad.place ≡ token_place text (lexemes_of text lexing) count
+  pub begins : BeginsShape (map token_class (take count (lexemes_of text lexing)))
+
+abbrev pub IsShapeOf : List ℕ → Lexing → Shape → Type 0
+IsShapeOf text lexing (Whole steps) = IsWhole text lexing steps.items
+IsShapeOf text lexing (Broken bad count) = IsBroken text lexing bad count
