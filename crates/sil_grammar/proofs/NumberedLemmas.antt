@@ -39,7 +39,7 @@ kept_text : (k : TokenKind) (spelling : List ℕ) → Spells k spelling → name
 unfolding class_by kept_of
 kept_text k spelling (word first more start rest) short =
     both (is_word_start first) (list_all is_name_byte more && is_short (first ∷ more)) start
-        (both (list_all is_name_byte more) (is_short (first ∷ more)) rest (le-leb (length (first ∷ more)) 255 short))
+    (both (list_all is_name_byte more) (is_short (first ∷ more)) rest (le-leb (length (first ∷ more)) 255 short))
 kept_text k spelling (at_name first more bytes) short =
     let few : length (first ∷ more) ≤ 255 = omega arith in
     both (list_all is_name_byte (first ∷ more)) (is_short (first ∷ more)) bytes (le-leb (length (first ∷ more)) 255 few)
@@ -62,4 +62,4 @@ spelled_numbered bytes m h =
     let s = h.spells in
     let leaves : AreOfClasses (map token_class s.lexemes) s.lexemes = lexed_classes bytes bytes s.lexemes None s.lexed in
     subst IsNumbered (sym h.numbered) (written_numbered (map token_class s.lexemes) s.lexemes s.steps h.written
-        (record { leaves = leaves; derived = s.derived; no_fault = s.no_fault; writes = s.writes; names = h.names }))
+    (record { leaves = leaves; derived = s.derived; no_fault = s.no_fault; writes = s.writes; names = h.names }))
