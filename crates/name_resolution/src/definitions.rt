@@ -2,12 +2,11 @@
 
 ghost use Rattle.std.specs.Prelude.{◌≡◌, None, OnOk, IfOk};
 
-use crate::fault_order::earlier;
 use indexmap::IndexSet;
 use sil_ast::{Exhausted, Imports, Text, TryClone};
 use std::alloc::Global;
 use std::marker::Model;
-use written_modules::{Fault, FaultKind, WrittenToken};
+use written_modules::{Fault, FaultKind, WrittenToken, earlier};
 
 /// Names, and the first token whose name stood before.
 #[derive(Drop)]

@@ -4,7 +4,6 @@
 
 mod defining;
 mod definitions;
-mod fault_order;
 mod name_faults;
 mod numbered_values;
 mod numbering;

@@ -10,11 +10,10 @@ use crate::defining::{
     classes_of_vtables, declared, defined_functions, defined_labels, defined_members,
     defined_values,
 };
-use crate::fault_order::earlier;
 use crate::using::{Labels, ValueNames, unknown_functions, unknown_in_blocks};
 use sil_ast::Exhausted;
 use std::alloc::Global;
-use written_modules::{Fault, WrittenDecl, WrittenFunction, WrittenItem, WrittenModule};
+use written_modules::{Fault, WrittenDecl, WrittenFunction, WrittenItem, WrittenModule, earlier};
 
 #[tactic(auto, using(std::proofs::lemmas::Grind::common_steps, crate::proofs::FaultOrder::earlier_none, crate::proofs::DefinedNames::twice_of_tokens, crate::proofs::DefinedNames::unknown_of_tokens), unfolding(crate::specs::NameFaults::name_fault))]
 pub(crate) fn name_fault(alloc: Global, w: &WrittenModule) -> Result<Option<Fault>, Exhausted>

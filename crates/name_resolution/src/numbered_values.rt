@@ -2,15 +2,16 @@
 
 ghost use Rattle.std.specs.Prelude.{◌≡◌, length, map, IfOk, OnOk};
 ghost use Rattle.std.specs.List.{flat_map};
-ghost use Rattle.written_modules.specs.Places.{has_one_result};
 ghost use Rattle.name_resolution.specs.Names.{function_name, functions_of, label_of};
 ghost use Rattle.name_resolution.specs.Numbered.{named, nothing_numbered, with_values};
 ghost use Rattle.name_resolution.specs.Resolved.{defined_by, defined_by_arg, defined_by_inst, defined_in};
 
 use crate::numbering::Numbering;
-use sil_ast::{Exhausted, Op};
+use sil_ast::Exhausted;
 use std::alloc::Global;
-use written_modules::{WrittenArg, WrittenBlock, WrittenInst, WrittenItem, WrittenToken};
+use written_modules::{
+    WrittenArg, WrittenBlock, WrittenInst, WrittenItem, WrittenToken, has_one_result,
+};
 
 pub(crate) fn numbered_functions(
     alloc: Global,
@@ -118,36 +119,5 @@ pub(crate) fn count_of_results(inst: &WrittenInst) -> usize
     match inst.results.as_slice() {
         [] => { if has_one_result(inst.op) { 1 } else { 0 } }
         tokens => tokens.len(),
-    }
-}
-
-// The instructions that have one result, which may be left without a name.
-#[tactic(auto, unfolding(written_modules::specs::Places::has_one_result))]
-fn has_one_result(op: Op) -> bool
-    ensures { result ≡ has_one_result op }
-{
-    match op {
-        Op::IntegerLiteral
-        | Op::FunctionRef
-        | Op::Builtin
-        | Op::AllocRef
-        | Op::AllocStack
-        | Op::CopyValue
-        | Op::MoveValue
-        | Op::BeginBorrow
-        | Op::Load
-        | Op::LoadBorrow
-        | Op::LoadWeak
-        | Op::LoadUnowned
-        | Op::Struct
-        | Op::Tuple
-        | Op::Enum
-        | Op::StructExtract
-        | Op::TupleExtract
-        | Op::StructElementAddr
-        | Op::TupleElementAddr
-        | Op::RefElementAddr
-        | Op::Apply => true,
-        _ => false,
     }
 }

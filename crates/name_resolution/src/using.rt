@@ -8,8 +8,9 @@ ghost use Rattle.name_resolution.specs.Defined.{unknown_of};
 ghost use Rattle.name_resolution.specs.Names.{code_of, edge_label, edge_values, functions_used, labels_used, operand_name, used_by_item, values_used};
 
 use crate::definitions::Definitions;
-use crate::fault_order::earlier;
-use written_modules::{Fault, WrittenBlock, WrittenEdge, WrittenInst, WrittenItem, WrittenOperand};
+use written_modules::{
+    Fault, WrittenBlock, WrittenEdge, WrittenInst, WrittenItem, WrittenOperand, earlier,
+};
 
 /// Names of one kind that instructions use.
 pub(crate) trait Used {

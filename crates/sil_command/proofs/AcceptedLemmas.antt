@@ -12,7 +12,7 @@ use Rattle.sil_command.specs.Faults.{KeepsRules, AllKeepRules, Accepted, IsRefus
 use Rattle.sil_command.specs.Words.{IsCommandLine}
 use Rattle.sil_command.specs.Answers.{text_limit, Answers, usage, check, AnswersCheck, too_long, unread, checked, AnswersModule, not_built, refused, accepted}
 use Rattle.sil_command.specs.Reading.{AnswersRefusal, bad_byte, unclosed_text, long_name, unexpected, unsupported, number_range, limit, twice, unknown_name}
-use Rattle.sil_command.proofs.SpelledOnce.{spelled_once}
+use Rattle.sil_grammar.proofs.ReadLemmas.{spelled_once}
 
 keeps_inside : (before : List Function) (f : Function) (after : List Function) → AllKeepRules (before ++ f ∷ after) → KeepsRules f
 keeps_inside [] f after kept = kept.0

@@ -6,6 +6,5 @@ pub mod LeastBroken
 pub mod Marking
 pub mod OneValue
 pub mod PlainBlocks
-pub mod SpelledOnce
 pub mod Verdicts
 pub mod WholeBlock

@@ -154,7 +154,7 @@ fn find_extra(inst: &WrittenInst, i: usize) -> Found
 
 /// The instructions that have one result, which may be left without a name.
 #[tactic(auto, unfolding(crate::specs::Places::has_one_result))]
-fn has_one_result(op: Op) -> bool
+pub fn has_one_result(op: Op) -> bool
     ensures { result ≡ placed.has_one_result op }
 {
     match op {

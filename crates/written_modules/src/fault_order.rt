@@ -47,7 +47,7 @@ fn comes_before(a: Fault, b: Fault) -> bool
 
 /// The first of two faults.
 #[tactic(auto, unfolding(crate::specs::Faults::earlier))]
-pub(crate) fn earlier(a: Option<Fault>, b: Option<Fault>) -> Option<Fault>
+pub fn earlier(a: Option<Fault>, b: Option<Fault>) -> Option<Fault>
     ensures { result ≡ said.earlier a b }
 {
     match (a, b) {

@@ -35,7 +35,9 @@ mod written_module;
 mod written_types;
 
 pub use building::{Built, build};
+pub use counted_parts::has_one_result;
 pub use fault::{Fault, FaultKind, LimitWord};
+pub use fault_order::earlier;
 pub use written_declarations::{WrittenCase, WrittenDecl, WrittenField, WrittenToken};
 pub use written_functions::{WrittenArg, WrittenBlock, WrittenFunction};
 pub use written_instructions::{WrittenEdge, WrittenInst, WrittenOperand, WrittenQualifier};
