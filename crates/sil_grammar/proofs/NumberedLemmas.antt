@@ -38,8 +38,9 @@ mark_text None = refl
 kept_text : (k : TokenKind) (spelling : List ℕ) → Spells k spelling → name_length k spelling ≤ 255 → IsTextOf (class_by k spelling) (kept_of k spelling)
 unfolding class_by kept_of
 kept_text k spelling (word first more start rest) short =
-    both (is_word_start first) (list_all is_name_byte more && is_short (first ∷ more)) start
-    (both (list_all is_name_byte more) (is_short (first ∷ more)) rest (le-leb (length (first ∷ more)) 255 short))
+    both (is_word_start first && list_all is_name_byte more) (is_short (first ∷ more))
+    (both (is_word_start first) (list_all is_name_byte more) start rest)
+    (le-leb (length (first ∷ more)) 255 short)
 kept_text k spelling (at_name first more bytes) short =
     let few : length (first ∷ more) ≤ 255 = omega arith in
     both (list_all is_name_byte (first ∷ more)) (is_short (first ∷ more)) bytes (le-leb (length (first ∷ more)) 255 few)
@@ -54,7 +55,7 @@ kept_text k spelling arrow short = mark_text (mark_of (45 ∷ 62 ∷ []))
 
 lexed_classes : (all left : List ℕ) (lexemes : List Lexeme) (refusal : Option LexRefusal) → Lexes all left lexemes refusal → AreOfClasses (map token_class lexemes) lexemes
 lexed_classes all left lexemes refusal (end _ _) = tt
-lexed_classes all left lexemes refusal (token _ spelling after k more refusal skipped spelled short rest) = (kept_text k spelling spelled.spelled short, lexed_classes all after more refusal rest)
+lexed_classes all left lexemes refusal (token _ spelling after k more _ skipped spelled short rest) = (kept_text k spelling spelled.spelled short, lexed_classes all after more refusal rest)
 lexed_classes all left lexemes refusal (stop _ _ _ _ _) = tt
 
 pub spelled_numbered : (bytes : List ℕ) (m : Module) → text.Spells m bytes → IsNumbered m
