@@ -2,12 +2,14 @@ pub mod Pieces
 pub mod Tokens
 pub mod Fixed
 pub mod Ruled
+pub mod TextsAhead
 pub mod Whole
 pub mod Written
 pub mod Printable
 pub mod TypeReading
 pub mod SignatureReading
 pub mod InstReading
+pub mod LimitCounts
 pub mod DeclReading
 pub mod ModuleReading
 pub mod Names
