@@ -11,6 +11,7 @@ pub mod SignatureReading
 pub mod InstReading
 pub mod LimitCounts
 pub mod DeclReading
+pub mod BlockReading
 pub mod ModuleReading
 pub mod Names
 pub mod ReadBack
