@@ -84,3 +84,110 @@ arg_reads text a after printable ends =
     (value_token a.value.0 printable.value refl (reads.blank 32 refl (mark_here m.Colon 58 refl refl (reads.blank 32 refl
         (part_here ownership (mark_here m.Dollar 36 refl refl ty.reads)))))) refl
     (record { name = refl; kind = ownership.stands; ty = ty.stands }))
+
+-- arguments, each behind a comma, in front of the closing parenthesis
+abbrev pub behind_commas : List BlockArg → List ℕ
+behind_commas args = flat_map (λ a. codes ", " ++ arg_text a) args
+
+commas_end : (args : List BlockArg) (rest : List ℕ) → Ends (behind_commas args ++ (41 ∷ rest))
+commas_end [] rest = refl
+commas_end (a ∷ args) rest = refl
+
+abbrev pub AreArgValues : List BlockArg → PartValue → Type 0
+AreArgValues args x = AllZip IsArgWritten args (args_of x)
+
+more_args_read : (text : List ℕ) (args : List BlockArg) (rest : List ℕ) → Each IsArgPrintable args
+    → Stands text n.MoreBlockArgs (AreArgValues args) (behind_commas args ++ (41 ∷ rest)) (41 ∷ rest)
+unfolding body written meaning part_fault mark_spelling args_of
+more_args_read text [] rest printable = by_rule p.MoreBlockArgsEnd (AreArgValues []) reads.nothing refl tt
+more_args_read text (a ∷ args) rest printable =
+    let others = more_args_read text args rest printable.1 in
+    let arg = arg_reads text a (behind_commas args ++ (41 ∷ rest)) printable.0 (commas_end args rest) in
+    rw (append_assoc (arg_text a) (behind_commas args) (41 ∷ rest))
+    (by_rule p.MoreBlockArgsMore (AreArgValues (a ∷ args)) (mark_here m.Comma 44 refl refl (reads.blank 32 refl (part_here arg (part_here others reads.nothing)))) refl
+    (arg.stands, others.stands))
+
+parens_ahead : (first others rest : List ℕ) → (codes "(" ++ (first ++ others) ++ codes ")") ++ rest ≡ 40 ∷ (first ++ (others ++ (41 ∷ rest)))
+parens_ahead first others rest = simp append_assoc refl
+
+-- the arguments of a block, in parentheses where there are some
+args_read : (text : List ℕ) (args : List BlockArg) (rest : List ℕ) → Each IsArgPrintable args
+    → Stands text n.BlockArgs (AreArgValues args) (parens_if_any arg_text args ++ rest) rest
+unfolding body written meaning part_fault mark_spelling args_of
+args_read text [] rest printable = by_rule p.BlockArgsNone (AreArgValues []) reads.nothing refl tt
+args_read text (a ∷ args) rest printable =
+    let others = more_args_read text args rest printable.1 in
+    let arg = arg_reads text a (behind_commas args ++ (41 ∷ rest)) printable.0 (commas_end args rest) in
+    rw (parens_ahead (arg_text a) (behind_commas args) rest)
+    (by_rule p.BlockArgsSome (AreArgValues (a ∷ args))
+    (mark_here m.LeftParen 40 refl refl (part_here arg (part_here others (mark_here m.RightParen 41 refl refl reads.nothing)))) refl
+    (arg.stands, others.stands))
+
+args_end : (args : List BlockArg) (rest : List ℕ) → Ends (parens_if_any arg_text args ++ (58 ∷ rest))
+args_end [] rest = refl
+args_end (a ∷ args) rest = refl
+
+pub record IsCodeValue (functions : List Function) (before : List Inst) (last : Inst) (x : PartValue) : Type 0 where
+  pub insts : AllZip (IsInstWritten functions) before (insts_of x)
+  pub terminator : IsInstWritten functions last (terminator_of x)
+
+-- the lines of some instructions and of the terminator behind them
+code_reads : (text : List ℕ) (functions : List Function) (insts : List Inst) (last : Inst) (after : List ℕ)
+    → Each (IsInsidePrintable functions) insts → IsEndPrintable functions last
+    → Stands text n.Code (IsCodeValue functions insts last) (indented (inst_text functions) insts ++ (32 ∷ 32 ∷ (inst_text functions last ++ (10 ∷ after)))) after
+unfolding body written meaning part_fault insts_of terminator_of
+code_reads text functions [] last after printable end =
+    let terminator = terminator_reads text functions last (10 ∷ after) end.printable end.ends end.unnamed refl in
+    by_rule p.CodeEnd (IsCodeValue functions [] last) (reads.blank 32 refl (reads.blank 32 refl (part_here terminator (reads.blank 10 refl reads.nothing)))) refl
+    (record { insts = tt; terminator = terminator.stands })
+code_reads text functions (i ∷ insts) last after printable end =
+    let others = code_reads text functions insts last after printable.1 end in
+    let rest = 32 ∷ 32 ∷ (inst_text functions last ++ (10 ∷ after)) in
+    let inst = inst_reads text functions i (10 ∷ (indented (inst_text functions) insts ++ rest)) printable.0.printable printable.0.goes_on refl in
+    rw (line_ahead (inst_text functions i) (indented (inst_text functions) insts) rest)
+    (by_rule p.CodeInst (IsCodeValue functions (i ∷ insts) last)
+    (reads.blank 32 refl (reads.blank 32 refl (part_here inst (reads.blank 10 refl (part_here others reads.nothing))))) refl
+    (record { insts = (inst.stands, others.stands.insts); terminator = others.stands.terminator }))
+
+block_ahead : (label args insts last after : List ℕ)
+    → (((label ++ args ++ codes ":") ++ line_feed) ++ insts ++ ((codes "  " ++ (last ++ line_feed)) ++ [])) ++ after
+    ≡ label ++ (args ++ (58 ∷ 10 ∷ (insts ++ (32 ∷ 32 ∷ (last ++ (10 ∷ after))))))
+block_ahead label args insts last after = simp append_assoc refl
+
+few_args : (args : List BlockArg) (x : PartValue) → AreArgValues args x → length args ≤ 64 → passed limit.Arguments 64 (map arg_place (args_of x)) ≡ None
+few_args args x written few = passes_none-map arg_place limit.Arguments 64 (args_of x) (omega (arith, AllZip-long IsArgWritten args (args_of x) written, few))
+
+-- the k-th block of its function
+abbrev pub IsBlockValue : List Function → ℕ → Block → PartValue → Type 0
+IsBlockValue functions k b x = IsBlockWritten functions k b (block_of x)
+
+pub block_reads : (text : List ℕ) (functions : List Function) (k : ℕ) (b : Block) (after : List ℕ) → IsSmall k → IsBlockPrintable functions b
+    → Stands text n.Block (IsBlockValue functions k b) (block_text functions k b ++ after) after
+unfolding body written meaning part_fault mark_spelling kept_of token_of block_of
+block_reads text functions k b after small printable =
+    let code = code_reads text functions b.insts b.terminator after printable.insts printable.terminator in
+    let behind_args = 58 ∷ 10 ∷ (indented (inst_text functions) b.insts ++ (32 ∷ 32 ∷ (inst_text functions b.terminator ++ (10 ∷ after)))) in
+    let args = args_read text b.args behind_args printable.args in
+    rw (block_ahead (block_name k) (parens_if_any arg_text b.args) (indented (inst_text functions) b.insts) (inst_text functions b.terminator) after)
+    (by_rule p.WholeBlock (IsBlockValue functions k b)
+    (label_token k small (args_end b.args _) (part_here args (mark_here m.Colon 58 refl refl (reads.blank 10 refl (part_here code reads.nothing)))))
+    (few_args b.args args.value args.stands printable.few)
+    (record { label = refl; args = args.stands; insts = code.stands.insts; terminator = code.stands.terminator }))
+
+-- the blocks behind the first, each behind an empty line
+abbrev pub blocks_behind : List Function → ℕ → List Block → List ℕ
+blocks_behind functions k blocks = flat_map (λ (k, b). line_feed ++ block_text functions k b) (enumerate_from k blocks)
+
+abbrev pub AreBlockValues : List Function → ℕ → List Block → PartValue → Type 0
+AreBlockValues functions k blocks x = AreBlocksWritten functions k blocks (blocks_of x)
+
+pub blocks_read : (text : List ℕ) (functions : List Function) (k : ℕ) (blocks : List Block) (after : List ℕ) → k + length blocks ≤ 1024
+    → Each (IsBlockPrintable functions) blocks → Stands text n.Blocks (AreBlockValues functions k blocks) (blocks_behind functions k blocks ++ after) after
+unfolding body written meaning part_fault blocks_of
+blocks_read text functions k [] after few printable = by_rule p.BlocksEnd (AreBlockValues functions k []) reads.nothing refl tt
+blocks_read text functions k (b ∷ blocks) after few printable =
+    let others = blocks_read text functions (k + 1) blocks after (omega arith) printable.1 in
+    let block = block_reads text functions k b (blocks_behind functions (k + 1) blocks ++ after) (omega arith) printable.0 in
+    rw (append_assoc (block_text functions k b) (blocks_behind functions (k + 1) blocks) after)
+    (by_rule p.BlocksMore (AreBlockValues functions k (b ∷ blocks)) (reads.blank 10 refl (part_here block (part_here others reads.nothing))) refl
+    (block.stands, others.stands))
