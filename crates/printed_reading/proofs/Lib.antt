@@ -12,6 +12,7 @@ pub mod InstReading
 pub mod LimitCounts
 pub mod DeclReading
 pub mod BlockReading
+pub mod BlockCounts
 pub mod ModuleReading
 pub mod Names
 pub mod ReadBack

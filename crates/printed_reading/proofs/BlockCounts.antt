@@ -1,0 +1,133 @@
+-- The written blocks of a function have as many instructions and values as the blocks themselves.
+use Rattle.std.proofs.Common.{◌≡◌, ℕ, ◌+◌, suc, List, [], ◌∷◌, ◌++◌, length, map, Bool, true, false, cond, if◌then◌else◌, not, ◌&&◌, IsTrue, IsFalse, ap, sym, refl, ◌∙◌, arith, flat_map, count_by, length-append, ap₂, true≢false}
+use Rattle.std.specs.List.{AllZip}
+use Rattle.std.proofs.lemmas.List.{length-map}
+use Rattle.std.proofs.lemmas.List.Sums.{sum_by-append, sum_by-cons}
+use Rattle.std.proofs.lemmas.Slice.Zip.{AllZip-long}
+use Rattle.sil_ast.specs.declared.function.Block.{Block}
+use Rattle.sil_ast.specs.declared.function.Function.{Function}
+use Rattle.sil_ast.specs.declared.inst.Inst.{Inst}
+use Rattle.sil_ast.specs.declared.inst.Qualifier.{Qualifier}
+use Rattle.sil_ast.specs.declared.inst.Qualifier.TheVariants as qualifier
+use Rattle.sil_ast.specs.declared.op.Op.{Op}
+use Rattle.sil_ast.specs.declared.op.Op.TheVariants as op
+use Rattle.sil_ast.specs.declared.place.Place.{Place}
+use Rattle.sil_ast.specs.declared.place.ValueId.{ValueId}
+use Rattle.written_modules.specs.declared.written_declarations.WrittenToken.{WrittenToken}
+use Rattle.written_modules.specs.declared.written_functions.WrittenBlock.{WrittenBlock}
+use Rattle.written_modules.specs.declared.written_instructions.WrittenInst.{WrittenInst}
+use Rattle.written_modules.specs.Places.{arg_place, extra_places, has_one_result, mnemonic_place, mnemonics_of, result_places, token_place, value_places_of, values_of_block}
+use Rattle.numbered_form.specs.Lists.{Each, is_empty}
+use Rattle.numbered_form.specs.Insts.{insts_in, insts_of}
+use Rattle.numbered_form.specs.Limits.{inst_takes_value, takes_value, value_count}
+use Rattle.numbered_form.specs.Numbering.{defined_in, results_of, value_of, values_of}
+use Rattle.numbered_form.specs.Parts.{gives_result, has_results, is_terminator}
+use Rattle.printed_reading.proofs.BlockReading.{IsBlockPrintable, IsEndPrintable, IsInsidePrintable}
+use Rattle.printed_reading.proofs.Written.{AreBlocksWritten, IsArgWritten, IsBlockWritten, IsInstWritten, IsValueNamed}
+
+both_lengths : {A B : Type 0} (a b : List A) (c d : List B) → length a ≡ length c → length b ≡ length d → length (a ++ b) ≡ length (c ++ d)
+both_lengths a b c d e f = length-append a b ∙ ap₂ (λ m n. m + n) e f ∙ sym (length-append c d)
+
+-- instructions
+
+block_insts : (functions : List Function) (k : ℕ) (b : Block) (w : WrittenBlock) → IsBlockWritten functions k b w → length (mnemonics_of w) ≡ length (insts_of b)
+block_insts functions k b w written =
+    both_lengths (map mnemonic_place w.insts) (w.terminator.mnemonic ∷ []) b.insts (b.terminator ∷ [])
+    (length-map w.insts mnemonic_place ∙ AllZip-long (IsInstWritten functions) b.insts w.insts written.insts) refl
+
+pub inst_count_is : (functions : List Function) (k : ℕ) (bs : List Block) (ws : List WrittenBlock) → AreBlocksWritten functions k bs ws
+    → length (flat_map mnemonics_of ws) ≡ length (insts_in bs)
+inst_count_is functions k [] [] written = refl
+inst_count_is functions k [] (w ∷ ws) written = absurd written
+inst_count_is functions k (b ∷ bs) [] written = absurd written
+inst_count_is functions k (b ∷ bs) (w ∷ ws) written =
+    both_lengths (mnemonics_of w) (flat_map mnemonics_of ws) (insts_of b) (insts_in bs) (block_insts functions k b w written.0) (inst_count_is functions (k + 1) bs ws written.1)
+
+-- values
+
+one_given : (o : Op) → has_one_result o ≡ gives_result o
+unfolding has_one_result
+one_given op.CondFail = refl
+one_given _ = refl
+
+unnamed : (one : Bool) (mnemonic : Place) → not (one && true) ≡ true → length (if one then mnemonic ∷ [] else []) ≡ 0
+unnamed true mnemonic e = absurd (true≢false (sym e))
+unnamed false mnemonic e = refl
+
+result_count : (o : Op) (mnemonic : Place) (vs : List ValueId) (tokens : List WrittenToken) → AllZip IsValueNamed vs tokens → IsTrue (has_results o vs)
+    → length (result_places o mnemonic tokens) ≡ length vs
+result_count o mnemonic [] [] named there = rw (one_given o) (unnamed (gives_result o) mnemonic there)
+result_count o mnemonic [] (token ∷ tokens) named there = absurd named
+result_count o mnemonic (v ∷ vs) [] named there = absurd named
+result_count o mnemonic (v ∷ vs) (token ∷ tokens) named there = length-map (token ∷ tokens) token_place ∙ AllZip-long IsValueNamed (v ∷ vs) (token ∷ tokens) named
+
+extra_count : (o : Op) (mnemonic : Place) (q : Qualifier) (place : Place) → length (extra_places o mnemonic q place) ≡ cond (takes_value o q) 1 0
+unfolding extra_places
+extra_count op.Store mnemonic qualifier.Assign place = refl
+extra_count op.Store mnemonic _ place = refl
+extra_count op.DestroyAddr mnemonic q place = refl
+extra_count _ mnemonic q place = refl
+
+inst_values : (functions : List Function) (i : Inst) (w : WrittenInst) → IsInstWritten functions i w → IsTrue (has_results i.op i.results)
+    → length (value_places_of w) ≡ length i.results + cond (inst_takes_value i) 1 0
+inst_values functions i w written there =
+    let results : length (result_places w.op w.mnemonic w.results) ≡ length i.results =
+        ap (λ o. length (result_places o w.mnemonic w.results)) written.op ∙ result_count i.op w.mnemonic i.results w.results written.results there in
+    let extra : length (extra_places w.op w.mnemonic w.qualifier.word w.qualifier.place) ≡ cond (inst_takes_value i) 1 0 =
+        extra_count w.op w.mnemonic w.qualifier.word w.qualifier.place ∙ ap₂ (λ o q. cond (takes_value o q) 1 0) written.op written.qualifier in
+    length-append (result_places w.op w.mnemonic w.results) (extra_places w.op w.mnemonic w.qualifier.word w.qualifier.place) ∙ ap₂ (λ m n. m + n) results extra
+
+-- the results of some instructions, with those that lowering takes more
+values_with : List Inst → ℕ
+values_with insts = length (flat_map results_of insts) + count_by inst_takes_value insts
+
+values_with-cons : (i : Inst) (insts : List Inst) → values_with (i ∷ insts) ≡ (length i.results + cond (inst_takes_value i) 1 0) + values_with insts
+unfolding values_with
+values_with-cons i insts =
+    let c : count_by inst_takes_value (i ∷ insts) ≡ cond (inst_takes_value i) 1 0 + count_by inst_takes_value insts = sum_by-cons (λ i. cond (inst_takes_value i) 1 0) i insts in
+    let l : length (flat_map results_of (i ∷ insts)) ≡ length i.results + length (flat_map results_of insts) = length-append i.results (flat_map results_of insts) in
+    omega arith
+
+ends_take_none : (o : Op) (q : Qualifier) → is_terminator o ≡ true → takes_value o q ≡ false
+ends_take_none op.Store q e = absurd (true≢false (sym e))
+ends_take_none op.DestroyAddr q e = absurd (true≢false (sym e))
+ends_take_none _ q e = refl
+
+end_values : (functions : List Function) (last : Inst) → IsEndPrintable functions last → values_with (last ∷ []) ≡ 0
+unfolding values_with
+end_values functions last end = rw (end.unnamed, ends_take_none last.op last.qualifier end.ends) refl
+
+insts_values : (functions : List Function) (last : Inst) (insts : List Inst) (ws : List WrittenInst) → values_with (last ∷ []) ≡ 0
+    → AllZip (IsInstWritten functions) insts ws → Each (IsInsidePrintable functions) insts → length (flat_map value_places_of ws) ≡ values_with (insts ++ last ∷ [])
+insts_values functions last [] [] e written printable = sym e
+insts_values functions last [] (w ∷ ws) e written printable = absurd written
+insts_values functions last (i ∷ insts) [] e written printable = absurd written
+insts_values functions last (i ∷ insts) (w ∷ ws) e written printable =
+    length-append (value_places_of w) (flat_map value_places_of ws)
+    ∙ ap₂ (λ m n. m + n) (inst_values functions i w written.0 printable.0.printable.parts.results) (insts_values functions last insts ws e written.1 printable.1)
+    ∙ sym (values_with-cons i (insts ++ last ∷ []))
+
+block_values : (functions : List Function) (k : ℕ) (b : Block) (w : WrittenBlock) → IsBlockWritten functions k b w → IsBlockPrintable functions b
+    → length (values_of_block w) ≡ length (defined_in b) + count_by inst_takes_value (insts_of b)
+unfolding values_with
+block_values functions k b w written printable =
+    let args : length (map arg_place w.args) ≡ length (map value_of b.args) = length-map w.args arg_place ∙ AllZip-long IsArgWritten b.args w.args written.args ∙ sym (length-map b.args value_of) in
+    let insts : length (flat_map value_places_of w.insts) ≡ values_with (insts_of b) =
+        insts_values functions b.terminator b.insts w.insts (end_values functions b.terminator printable.terminator) written.insts printable.insts in
+    let whole : length (defined_in b) ≡ length (map value_of b.args) + length (flat_map results_of (insts_of b)) = length-append (map value_of b.args) (flat_map results_of (insts_of b)) in
+    let places : length (values_of_block w) ≡ length (map arg_place w.args) + length (flat_map value_places_of w.insts) = length-append (map arg_place w.args) (flat_map value_places_of w.insts) in
+    omega arith
+
+pub value_count_is : (functions : List Function) (k : ℕ) (bs : List Block) (ws : List WrittenBlock) → AreBlocksWritten functions k bs ws → Each (IsBlockPrintable functions) bs
+    → length (flat_map values_of_block ws) ≡ value_count bs
+value_count_is functions k [] [] written printable = refl
+value_count_is functions k [] (w ∷ ws) written printable = absurd written
+value_count_is functions k (b ∷ bs) [] written printable = absurd written
+value_count_is functions k (b ∷ bs) (w ∷ ws) written printable =
+    let one : length (values_of_block w) ≡ length (defined_in b) + count_by inst_takes_value (insts_of b) = block_values functions k b w written.0 printable.0 in
+    let rest : length (flat_map values_of_block ws) ≡ length (values_of bs) + count_by inst_takes_value (insts_in bs) = value_count_is functions (k + 1) bs ws written.1 printable.1 in
+    let values : length (values_of (b ∷ bs)) ≡ length (defined_in b) + length (values_of bs) = length-append (defined_in b) (values_of bs) in
+    let taken : count_by inst_takes_value (insts_of b ++ insts_in bs) ≡ count_by inst_takes_value (insts_of b) + count_by inst_takes_value (insts_in bs) =
+        sum_by-append (λ i. cond (inst_takes_value i) 1 0) (insts_of b) (insts_in bs) in
+    let places : length (flat_map values_of_block (w ∷ ws)) ≡ length (values_of_block w) + length (flat_map values_of_block ws) = length-append (values_of_block w) (flat_map values_of_block ws) in
+    omega arith
