@@ -13,6 +13,7 @@ pub mod LimitCounts
 pub mod DeclReading
 pub mod BlockReading
 pub mod BlockCounts
+pub mod FunctionReading
 pub mod ModuleReading
 pub mod Names
 pub mod ReadBack

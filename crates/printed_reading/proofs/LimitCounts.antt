@@ -1,9 +1,10 @@
 -- Where there are no more than a limit allows, no token passes it.
-use Rattle.std.proofs.Common.{◌≡◌, ℕ, ◌≤◌, List, [], ◌∷◌, length, map, slice_get, Option, Some, None, refl, ap, sym, subst, ◌∙◌, arith}
+use Rattle.std.proofs.Common.{◌≡◌, ℕ, ◌≤◌, List, [], ◌∷◌, length, map, slice_get, Option, Some, None, refl, ap, ap₂, sym, subst, ◌∙◌, arith}
 use Rattle.std.specs.Option.{option_map}
 use Rattle.std.proofs.lemmas.Option.{slice_get_past}
 use Rattle.std.proofs.lemmas.List.{length-map}
 use Rattle.sil_ast.specs.declared.place.Place.{Place}
+use Rattle.written_modules.specs.declared.fault.Fault.{Fault}
 use Rattle.written_modules.specs.declared.fault.FaultKind.TheVariants.{Limit}
 use Rattle.written_modules.specs.declared.fault.LimitWord.{LimitWord}
 use Rattle.written_modules.specs.Faults.{earlier, fault, passed}
@@ -14,3 +15,8 @@ passes_none what most places h = ap (option_map (fault (Limit what))) (slice_get
 -- the same of what stands at each item
 pub passes_none-map : {A : Type 0} (place : A → Place) (what : LimitWord) (most : ℕ) (items : List A) → length items ≤ most → passed what most (map place items) ≡ None
 passes_none-map place what most items h = passes_none what most (map place items) (rw length-map h)
+
+-- the first of no faults
+pub no_fault : (a b : Option Fault) → a ≡ None → b ≡ None → earlier a b ≡ None
+unfolding earlier
+no_fault a b e f = ap₂ earlier e f
