@@ -1,7 +1,8 @@
 -- The written blocks of a function have as many instructions and values as the blocks themselves.
 use Rattle.std.proofs.Common.{◌≡◌, ℕ, ◌+◌, suc, List, [], ◌∷◌, ◌++◌, length, map, Bool, true, false, cond, if◌then◌else◌, not, ◌&&◌, IsTrue, IsFalse, ap, sym, refl, ◌∙◌, arith, flat_map, count_by, length-append, ap₂, true≢false}
-use Rattle.std.specs.List.{AllZip}
+use Rattle.std.specs.List.{AllZip, enumerate_from}
 use Rattle.std.proofs.lemmas.List.{length-map}
+use Rattle.std.proofs.lemmas.List.FromFn.{length-enumerate_from}
 use Rattle.std.proofs.lemmas.List.Sums.{sum_by-append, sum_by-cons}
 use Rattle.std.proofs.lemmas.Slice.Zip.{AllZip-long}
 use Rattle.sil_ast.specs.declared.function.Block.{Block}
@@ -27,6 +28,9 @@ use Rattle.printed_reading.proofs.Written.{AreBlocksWritten, IsArgWritten, IsBlo
 
 both_lengths : {A B : Type 0} (a b : List A) (c d : List B) → length a ≡ length c → length b ≡ length d → length (a ++ b) ≡ length (c ++ d)
 both_lengths a b c d e f = length-append a b ∙ ap₂ (λ m n. m + n) e f ∙ sym (length-append c d)
+
+pub length_blocks : (functions : List Function) (k : ℕ) (bs : List Block) (ws : List WrittenBlock) → AreBlocksWritten functions k bs ws → length ws ≡ length bs
+length_blocks functions k bs ws written = AllZip-long _ (enumerate_from k bs) ws written ∙ length-enumerate_from k bs
 
 -- instructions
 

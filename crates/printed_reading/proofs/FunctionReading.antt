@@ -1,5 +1,5 @@
 -- A printed function reads as itself.
-use Rattle.std.proofs.Common.{◌≡◌, ℕ, ◌≤◌, List, [], ◌∷◌, ◌++◌, length, map, filter, Option, None, Bool, true, false, not, cond, IsTrue, codes, refl, ap, ap₂, sym, subst, ◌∙◌, arith}
+use Rattle.std.proofs.Common.{◌≡◌, ℕ, ◌≤◌, List, [], ◌∷◌, ◌++◌, length, map, filter, Option, None, Bool, true, false, not, cond, IsTrue, suc, codes, refl, ap, ap₂, sym, subst, ◌∙◌, arith}
 use Rattle.std.specs.List.{AllZip, flat_map}
 use Rattle.std.specs.Str.{bytes_eq}
 use Rattle.std.proofs.lemmas.Grind.{flat_map-append}
@@ -10,7 +10,7 @@ use Rattle.sil_ast.specs.declared.function.Form.TheVariants.{External, Lowered, 
 use Rattle.sil_ast.specs.declared.function.Function.{Function}
 use Rattle.sil_ast.specs.declared.function.Linkage.{Linkage}
 use Rattle.sil_ast.specs.declared.function.Linkage.TheVariants as linkage
-use Rattle.sil_printer.specs.CanonicalFunctions.{attribute_text, block_text, body_text, form_text, function_text, linkage_text}
+use Rattle.sil_printer.specs.CanonicalFunctions.{attribute_text, block_text, body_text, form_text, function_text, linkage_text, words_text}
 use Rattle.sil_printer.specs.CanonicalSignatures.{signature_text}
 use Rattle.sil_printer.specs.Words.{each_behind, line, line_feed}
 use Rattle.sil_shape.specs.declared.classes.Keyword.TheVariants as k
@@ -35,7 +35,7 @@ use Rattle.numbered_form.specs.Limits.{IsFunctionInLimits}
 use Rattle.numbered_form.specs.Names.{IsFunctionSpelled, IsWord}
 use Rattle.numbered_form.specs.Types.{HasSignatureTypes}
 use Rattle.numbered_reading.proofs.Basics.{Each-append}
-use Rattle.printed_reading.proofs.BlockCounts.{inst_count_is, value_count_is}
+use Rattle.printed_reading.proofs.BlockCounts.{inst_count_is, length_blocks, value_count_is}
 use Rattle.printed_reading.proofs.BlockReading.{IsBlockPrintable, block_reads, blocks_behind, blocks_read}
 use Rattle.printed_reading.proofs.DeclReading.{IsItem}
 use Rattle.printed_reading.proofs.Fixed.{any_at, any_word, keyword_here, mark_here}
@@ -129,3 +129,83 @@ body_reads text functions (b ∷ blocks) after few printable =
     (by_rule p.BodySome (AreBlockValues functions (b ∷ blocks))
     (reads.blank 32 refl (mark_here m.LeftBrace 123 refl refl (reads.blank 10 refl (part_here first (part_here others (mark_here m.RightBrace 125 refl refl (reads.blank 10 refl reads.nothing))))))) refl
     (first.stands, others.stands))
+
+-- no limit is passed
+
+is_attribute : Name → Bool
+is_attribute word = not (bytes_eq word (codes "ossa"))
+
+one_kept : (kept : Bool) (token : WrittenToken) (tokens : List WrittenToken) (words : List Name) → length tokens ≡ length words
+    → length (cond kept (token ∷ tokens) tokens) ≡ length (cond kept (name_of token ∷ words) words)
+one_kept true token tokens words e = ap suc e
+one_kept false token tokens words e = e
+
+kept_words : (tokens : List WrittenToken) → length (filter is_kept tokens) ≡ length (filter is_attribute (map name_of tokens))
+unfolding is_attribute
+kept_words [] = refl
+kept_words (token ∷ tokens) = one_kept (is_attribute (name_of token)) token (filter is_kept tokens) (filter is_attribute (map name_of tokens)) (kept_words tokens)
+
+one_more : (kept : Bool) (word : Name) (words : List Name) (n : ℕ) → length words ≤ n → length (cond kept (word ∷ words) words) ≤ suc n
+one_more true word words n h = omega (arith, h)
+one_more false word words n h = omega (arith, h)
+
+few_attributes : (attributes : List Name) (f : Form) → length (filter is_attribute (attributes ++ form_words f)) ≤ length attributes
+unfolding is_attribute
+few_attributes [] Ossa = omega arith
+few_attributes [] Lowered = omega arith
+few_attributes [] External = omega arith
+few_attributes (word ∷ attributes) f = one_more (is_attribute word) word (filter is_attribute (attributes ++ form_words f)) (length attributes) (few_attributes attributes f)
+
+attribute_count : (tokens : List WrittenToken) (attributes : List Name) (f : Form) → map name_of tokens ≡ attributes ++ form_words f
+    → length (attribute_places tokens) ≤ length attributes
+attribute_count tokens attributes f named =
+    let same : length (attribute_places tokens) ≡ length (filter is_attribute (attributes ++ form_words f)) =
+        length-map (filter is_kept tokens) token_place ∙ kept_words tokens ∙ ap (λ words. length (filter is_attribute words)) named in
+    omega (arith, same, few_attributes attributes f)
+
+body_is_good : (functions : List Function) (f : Function) (blocks : List WrittenBlock) → IsFunctionPrintable functions f → AreBlocksWritten functions 0 f.blocks blocks
+    → body_fault blocks ≡ None
+body_is_good functions f blocks printable written =
+    let labels : length (map label_place blocks) ≡ length f.blocks = length-map blocks label_place ∙ length_blocks functions 0 f.blocks blocks written in
+    no_fault (passed limit.Blocks 512 (map label_place blocks)) _ (passes_none limit.Blocks 512 (map label_place blocks) (omega (arith, labels, printable.limits.blocks)))
+    (no_fault (passed limit.Instructions 4096 (flat_map mnemonics_of blocks)) _
+    (passes_none limit.Instructions 4096 (flat_map mnemonics_of blocks) (omega (arith, inst_count_is functions 0 f.blocks blocks written, printable.limits.insts)))
+    (passes_none limit.Values 1024 (flat_map values_of_block blocks) (omega (arith, value_count_is functions 0 f.blocks blocks written printable.blocks, printable.limits.values))))
+
+words_ahead : (kind attributes form rest : List ℕ) → (codes "sil" ++ kind ++ attributes ++ form) ++ rest ≡ 115 ∷ 105 ∷ 108 ∷ (kind ++ (attributes ++ (form ++ rest)))
+words_ahead kind attributes form rest = simp append_assoc refl
+
+head_ahead : (words name signature inside after : List ℕ)
+    → (words ++ codes " @" ++ name ++ codes " : " ++ (codes "$" ++ signature) ++ inside) ++ after
+    ≡ words ++ (32 ∷ 64 ∷ (name ++ (32 ∷ 58 ∷ 32 ∷ 36 ∷ (signature ++ (inside ++ after)))))
+head_ahead words name signature inside after = simp append_assoc refl
+
+-- the text of a function from left to right, the word of its form among the attributes
+function_ahead : (functions : List Function) (f : Function) (after : List ℕ) → function_text functions f ++ after
+    ≡ 115 ∷ 105 ∷ 108 ∷ (linkage_text f.linkage ++ (bracketed (f.attributes ++ form_words f.form)
+        ++ (32 ∷ 64 ∷ (f.name ++ (32 ∷ 58 ∷ 32 ∷ 36 ∷ (signature_text f.signature ++ (body_text functions f.blocks ++ after)))))))
+function_ahead functions f after =
+    let rest = 32 ∷ 64 ∷ (f.name ++ (32 ∷ 58 ∷ 32 ∷ 36 ∷ (signature_text f.signature ++ (body_text functions f.blocks ++ after)))) in
+    head_ahead (words_text f) f.name (signature_text f.signature) (body_text functions f.blocks) after
+    ∙ words_ahead (linkage_text f.linkage) (bracketed f.attributes) (form_text f.form) rest
+    ∙ ap (λ back. 115 ∷ 105 ∷ 108 ∷ (linkage_text f.linkage ++ back)) (all_bracketed f.attributes f.form rest)
+
+pub function_reads : (text : List ℕ) (functions : List Function) (f : Function) (after : List ℕ) → IsFunctionPrintable functions f
+    → Stands text n.Item (IsItem item.Function (IsFunctionWritten functions) f) (function_text functions f ++ after) after
+unfolding body written meaning part_fault spelling mark_spelling kept_of token_of item_of
+function_reads text functions f after printable =
+    let words = f.attributes ++ form_words f.form in
+    let inside = body_reads text functions f.blocks after printable.limits.blocks printable.blocks in
+    let signature = signature_reads text f.signature (body_text functions f.blocks ++ after) printable.signature printable.limits.signature (body_ends functions f.blocks after) in
+    let behind_words = 64 ∷ (f.name ++ (32 ∷ 58 ∷ 32 ∷ 36 ∷ (signature_text f.signature ++ (body_text functions f.blocks ++ after)))) in
+    let attributes = attributes_read text words (32 ∷ behind_words) (Each-append IsWord f.attributes (form_words f.form) printable.spelled.attributes (form_spelled f.form)) in
+    let kind = linkage_reads text f.linkage (bracketed words ++ (32 ∷ behind_words)) (words_end words behind_words) in
+    rw (function_ahead functions f after)
+    (by_rule p.FunctionItem (IsItem item.Function (IsFunctionWritten functions) f)
+    (keyword_here k.Sil refl (linkage_ends f.linkage words behind_words) (part_here kind (part_here attributes (reads.blank 32 refl
+        (any_at f.name printable.spelled.name refl (reads.blank 32 refl (mark_here m.Colon 58 refl refl (reads.blank 32 refl (mark_here m.Dollar 36 refl refl
+        (part_here signature (part_here inside reads.nothing)))))))))))
+    (no_fault (passed limit.Arguments 64 (attribute_places (tokens_of attributes.value))) (body_fault (blocks_of inside.value))
+        (passes_none limit.Arguments 64 (attribute_places (tokens_of attributes.value)) (omega (arith, attribute_count (tokens_of attributes.value) f.attributes f.form attributes.stands, printable.limits.attributes)))
+        (body_is_good functions f (blocks_of inside.value) printable inside.stands))
+    (record { item = _; is_item = refl; stands = record { name = refl; linkage = kind.stands; attributes = attributes.stands; signature = signature.stands; blocks = inside.stands } }))

@@ -14,6 +14,8 @@ pub mod DeclReading
 pub mod BlockReading
 pub mod BlockCounts
 pub mod FunctionReading
+pub mod FunctionNames
+pub mod VtableReading
 pub mod ModuleReading
 pub mod Names
 pub mod ReadBack
