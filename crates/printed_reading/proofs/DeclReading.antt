@@ -19,7 +19,6 @@ use Rattle.sil_shape.specs.Grammar.{body, written}
 use Rattle.sil_shape.specs.Spelling.{mark_spelling, spelling}
 use Rattle.written_modules.specs.declared.written_declarations.WrittenDecl.{WrittenDecl}
 use Rattle.written_modules.specs.declared.written_declarations.WrittenField.{WrittenField}
-use Rattle.written_modules.specs.declared.written_module.WrittenItem.{WrittenItem}
 use Rattle.written_modules.specs.declared.written_module.WrittenItem.TheVariants as item
 use Rattle.written_modules.specs.declared.fault.LimitWord.TheVariants as limit
 use Rattle.written_modules.specs.Faults.{passed}
@@ -40,6 +39,7 @@ use Rattle.printed_reading.proofs.Ruled.{by_rule, part_here, stands_as}
 use Rattle.printed_reading.proofs.TextsAhead.{braced_ahead, line_ahead}
 use Rattle.printed_reading.proofs.TypeReading.{payload_reads, type_reads}
 use Rattle.printed_reading.proofs.Written.{IsDeclWritten}
+use Rattle.printed_reading.proofs.Items.{IsItem}
 use Rattle.printed_reading.proofs.LimitCounts.{passes_none-map}
 
 -- the part stands for the field, and is one of the members
@@ -168,12 +168,6 @@ cases_read text (c ∷ cases) after printable =
         (keyword_here k.Case refl refl (reads.blank 32 refl (any_word c.name printable.0.0 (payload_ends c.payload behind_name refl)
         (part_here payload (reads.blank 10 refl (part_here rest reads.nothing)))))))) refl
     (ap₂ (λ payload others. record { name = c.name; payload = payload } ∷ others) payload.stands rest.stands)))
-
--- the part stands for the item
-pub record IsItem {A W : Type 0} (wrap : W → WrittenItem) (R : A → W → Type 0) (a : A) (x : PartValue) : Type 0 where
-  pub item : W
-  pub is_item : item_of x ≡ wrap item
-  pub stands : R a item
 
 pub record IsDeclPrintable (d : Decl) : Type 0 where
   pub name : IsWord (decl_name d)

@@ -37,7 +37,7 @@ use Rattle.numbered_form.specs.Types.{HasSignatureTypes}
 use Rattle.numbered_reading.proofs.Basics.{Each-append}
 use Rattle.printed_reading.proofs.BlockCounts.{inst_count_is, length_blocks, value_count_is}
 use Rattle.printed_reading.proofs.BlockReading.{IsBlockPrintable, block_reads, blocks_behind, blocks_read}
-use Rattle.printed_reading.proofs.DeclReading.{IsItem}
+use Rattle.printed_reading.proofs.Items.{IsItem}
 use Rattle.printed_reading.proofs.Fixed.{any_at, any_word, keyword_here, mark_here}
 use Rattle.printed_reading.proofs.LimitCounts.{no_fault, passes_none}
 use Rattle.printed_reading.proofs.Pieces.{Ends, Reads, Stands, Reads as reads}

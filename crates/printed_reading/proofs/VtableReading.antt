@@ -21,7 +21,7 @@ use Rattle.written_modules.specs.Values.{entry_of, item_of, token_of}
 use Rattle.numbered_form.specs.Lists.{Each}
 use Rattle.numbered_form.specs.Names.{IsFunctionSpelled, IsVtableSpelled, IsWord}
 use Rattle.numbered_form.specs.Numbering.{IsVtableInRange}
-use Rattle.printed_reading.proofs.DeclReading.{IsItem}
+use Rattle.printed_reading.proofs.Items.{IsItem}
 use Rattle.printed_reading.proofs.Fixed.{any_at, any_word, keyword_here, mark_here}
 use Rattle.printed_reading.proofs.FunctionNames.{IsNameAt, is_name_at}
 use Rattle.printed_reading.proofs.Pieces.{Stands, Reads as reads}
