@@ -31,17 +31,17 @@ pub no_items : (text after : List ℕ) → Stands text n.Items (λ x. items_of x
 unfolding body written meaning part_fault items_of
 no_items text after = by_rule p.ItemsEnd (λ x. items_of x ≡ []) reads.nothing refl refl
 
-pub items_in_front : {A W : Type 0} (text : List ℕ) (wrap : W → WrittenItem) (R : A → W → Type 0) (text_of : A → List ℕ) (Good : A → Type 0)
+pub items_in_front : {A W : Type 0} {P : PartValue → Type 0} (text : List ℕ) (wrap : W → WrittenItem) (R : A → W → Type 0) (text_of : A → List ℕ) (Good : A → Type 0)
     → ((a : A) (after : List ℕ) → Good a → Stands text n.Item (IsItem wrap R a) (text_of a ++ after) after)
-    → (items : List A) → Each Good items → (rest : List WrittenItem) (left after : List ℕ) → Stands text n.Items (λ x. items_of x ≡ rest) left after
-    → Stands text n.Items (AreItems wrap R items rest) (each_behind line_feed text_of items ++ left) after
+    → (items : List A) → Each Good items → (left after : List ℕ) (last : Stands text n.Items P left after)
+    → Stands text n.Items (AreItems wrap R items (items_of last.value)) (each_behind line_feed text_of items ++ left) after
 unfolding body written meaning part_fault items_of
-items_in_front text wrap R text_of Good each [] good rest left after last = record { value = last.value; stands = record { ws = []; are_items = last.stands; stand = tt }; reads = last.reads }
-items_in_front text wrap R text_of Good each (a ∷ items) good rest left after last =
-    let others = items_in_front text wrap R text_of Good each items good.1 rest left after last in
+items_in_front text wrap R text_of Good each [] good left after last = record { value = last.value; stands = record { ws = []; are_items = refl; stand = tt }; reads = last.reads }
+items_in_front text wrap R text_of Good each (a ∷ items) good left after last =
+    let others = items_in_front text wrap R text_of Good each items good.1 left after last in
     let first = each a (each_behind line_feed text_of items ++ left) good.0 in
     rw (append_assoc (text_of a) (each_behind line_feed text_of items) left)
-    (by_rule p.ItemsMore (AreItems wrap R (a ∷ items) rest) (reads.blank 10 refl (part_here first (part_here others reads.nothing))) refl
+    (by_rule p.ItemsMore (AreItems wrap R (a ∷ items) (items_of last.value)) (reads.blank 10 refl (part_here first (part_here others reads.nothing))) refl
     (record {
       ws = first.stands.item ∷ others.stands.ws;
       are_items = ap₂ (λ item items. item ∷ items) first.stands.is_item others.stands.are_items;

@@ -1,5 +1,6 @@
 -- A part that a production writes, and a part in front of a piece.
-use Rattle.std.proofs.Common.{◌≡◌, ℕ, List, [], ◌∷◌, None}
+use Rattle.std.proofs.Common.{◌≡◌, ℕ, List, [], ◌∷◌, None, IsTrue}
+use Rattle.sil_lexer.specs.Bytes.{is_blank}
 use Rattle.sil_shape.specs.declared.grammar.Nonterminal.{Nonterminal}
 use Rattle.sil_shape.specs.declared.grammar.Production.{Production}
 use Rattle.sil_shape.specs.declared.grammar.Symbol.{Symbol}
@@ -19,6 +20,11 @@ by_rule {parts = parts} p P inside h stands = record { value = meaning p parts; 
 pub part_here : {text : List ℕ} {n : Nonterminal} {P : PartValue → Type 0} {left middle : List ℕ} {ss : List Symbol} {values : List PartValue} {after : List ℕ}
     → (s : Stands text n P left middle) → Reads text ss middle values after → Reads text (Part n ∷ ss) left (s.value ∷ values) after
 part_here s r = behind s.reads r
+
+-- a blank in front changes nothing
+pub blank_here : {text : List ℕ} {n : Nonterminal} {P : PartValue → Type 0} {left after : List ℕ} → (byte : ℕ) → IsTrue (is_blank byte)
+    → Stands text n P left after → Stands text n P (byte ∷ left) after
+blank_here byte h s = record { value = s.value; stands = s.stands; reads = reads.blank byte h s.reads }
 
 -- what stands with one property stands with one that follows
 pub stands_as : {text : List ℕ} {n : Nonterminal} {P Q : PartValue → Type 0} {left after : List ℕ}
