@@ -17,6 +17,9 @@ pub mod BlockCounts
 pub mod FunctionReading
 pub mod FunctionNames
 pub mod VtableReading
+pub mod Smallness
+pub mod WholeReading
+pub mod NumberedPrintable
 pub mod ModuleReading
 pub mod Names
 pub mod ReadBack
