@@ -7,5 +7,7 @@ pub mod TypeReading
 pub mod SignatureReading
 pub mod InstReading
 pub mod ModuleReading
+pub mod SideBySide
+pub mod Namings
 pub mod Names
 pub mod ReadBack
