@@ -9,5 +9,7 @@ pub mod InstReading
 pub mod ModuleReading
 pub mod SideBySide
 pub mod Namings
+pub mod NoFaults
+pub mod ResultNames
 pub mod Names
 pub mod ReadBack
