@@ -11,5 +11,8 @@ pub mod SideBySide
 pub mod Namings
 pub mod NoFaults
 pub mod ResultNames
+pub mod ReadCode
+pub mod UsedNames
+pub mod ReadInsts
 pub mod Names
 pub mod ReadBack
