@@ -14,5 +14,9 @@ pub mod ResultNames
 pub mod ReadCode
 pub mod UsedNames
 pub mod ReadInsts
+pub mod ReadBlocks
+pub mod ReadForms
+pub mod ReadFunctions
+pub mod ReadModules
 pub mod Names
 pub mod ReadBack

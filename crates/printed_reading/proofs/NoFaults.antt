@@ -17,7 +17,8 @@ use Rattle.printed_reading.proofs.Namings.{no_match}
 abbrev pub IsNone : Option Fault → Type 0
 IsNone fault = fault ≡ None
 
-neither : (a b : Option Fault) → a ≡ None → b ≡ None → earlier a b ≡ None
+-- where neither of two is at fault
+pub neither : (a b : Option Fault) → a ≡ None → b ≡ None → earlier a b ≡ None
 unfolding earlier
 neither a b e f = ap (λ first. earlier first b) e ∙ f
 
