@@ -1,5 +1,5 @@
 -- Names that are given by number, none of them twice: where a name stands among them.
-use Rattle.std.proofs.Common.{◌≡◌, ℕ, ◌+◌, ◌<◌, ◌≤◌, zero, suc, List, [], ◌∷◌, ◌++◌, length, map, get_or, slice_get, position, unwrap_or, Option, Some, None, Bool, true, false, cond, Contains, ap, ap₂, sym, refl, ◌∙◌, arith, decimal, codes}
+use Rattle.std.proofs.Common.{◌≡◌, ℕ, ◌+◌, ◌<◌, zero, suc, List, [], ◌∷◌, length, map, get_or, position, unwrap_or, Some, Bool, true, false, cond, ap, ap₂, sym, refl, ◌∙◌, arith, decimal}
 use Rattle.std.specs.List.{enumerate_from, position_from}
 use Rattle.std.specs.Str.{bytes_eq}
 use Rattle.std.proofs.lemmas.Fmt.{decimal_injective}
@@ -68,7 +68,7 @@ value_placed {names = names} n v token h e =
     let same : 0 + v.0 ≡ v.0 = omega arith in
     let c : _ ≡ length names = n.counted in
     let at : position (has_name token.text) (map (λ name. Some name) names) ≡ Some (0 + v.0) =
-        position_from-zero (has_name token.text) (map (λ name. Some name) names) ∙ has_name_from token.text 0 names ∙ stands_at names token.text v.0 0 n.once (omega arith) (n.each v.0 h ∙ sym e) in
+    position_from-zero (has_name token.text) (map (λ name. Some name) names) ∙ has_name_from token.text 0 names ∙ stands_at names token.text v.0 0 n.once (omega arith) (n.each v.0 h ∙ sym e) in
     ap (λ (k : ℕ). let v : ValueId = record { 0 = k } in v) (ap (λ o. unwrap_or o 0) at ∙ same)
 
 -- names made from numbers

@@ -1,5 +1,5 @@
 -- The results of a printed instruction have their names, and a terminator has none.
-use Rattle.std.proofs.Common.{◌≡◌, List, [], ◌∷◌, ◌++◌, map, Option, Some, None, Bool, true, false, not, ◌&&◌, if◌then◌else◌, ap, sym, refl, subst, ◌∙◌, flat_map, decimal, true≢false}
+use Rattle.std.proofs.Common.{◌≡◌, List, [], ◌∷◌, Option, Some, None, Bool, true, false, not, ◌&&◌, if◌then◌else◌, ap, sym, refl, subst, decimal, true≢false}
 use Rattle.std.specs.List.{AllZip}
 use Rattle.sil_ast.specs.declared.op.Op.{Op}
 use Rattle.sil_ast.specs.declared.op.Op.TheVariants as op

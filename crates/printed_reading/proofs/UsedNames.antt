@@ -1,5 +1,5 @@
 -- What a printed function uses has a name that is known there.
-use Rattle.std.proofs.Common.{◌≡◌, ℕ, ◌<◌, List, [], ◌∷◌, ◌++◌, length, map, Option, Some, None, IfSome, ap, sym, refl, ◌∙◌, flat_map, decimal}
+use Rattle.std.proofs.Common.{◌≡◌, ℕ, ◌<◌, List, length, map, Option, Some, None, IfSome, flat_map, decimal}
 use Rattle.std.specs.List.{AllZip}
 use Rattle.std.specs.Option.{option_map, option_to_list}
 use Rattle.sil_ast.specs.declared.function.Block.{Block}
@@ -21,7 +21,7 @@ use Rattle.numbered_form.specs.Numbering.{IsEdgeInRange, IsValueBelow}
 use Rattle.numbered_reading.proofs.Basics.{Each-append, Each-flat_map, Each-map}
 use Rattle.printed_reading.proofs.Namings.{IsNaming, known}
 use Rattle.printed_reading.proofs.NoFaults.{IsKnown}
-use Rattle.printed_reading.proofs.ReadCode.{Counts, IsBlockRead, IsInstRead, code_read}
+use Rattle.printed_reading.proofs.WrittenCode.{Counts, IsBlockRead, IsInstRead, code_read}
 use Rattle.printed_reading.proofs.SideBySide.{with_each, zip_each}
 use Rattle.printed_reading.proofs.Written.{IsEdgeWritten, IsOperandWritten, name_in}
 

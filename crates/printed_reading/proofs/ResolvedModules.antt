@@ -1,27 +1,23 @@
 -- The parts of a printed module beside what is written of them.
-use Rattle.std.proofs.Common.{◌≡◌, ℕ, ◌<◌, List, [], ◌∷◌, ◌++◌, length, map, Option, Some, None, IfSome, ap, ap₂, sym, refl, subst, ◌∙◌, flat_map, append-nil}
+use Rattle.std.proofs.Common.{◌≡◌, ◌<◌, List, [], ◌∷◌, ◌++◌, length, map, Option, Some, None, IfSome, ap, ap₂, sym, refl, subst, ◌∙◌, flat_map, append-nil}
 use Rattle.std.specs.List.{AllZip}
 use Rattle.std.specs.Option.{option_map, option_to_list}
 use Rattle.std.proofs.lemmas.Grind.{flat_map-append}
-use Rattle.std.proofs.lemmas.Simd.{map-map}
 use Rattle.sil_ast.specs.declared.decl.Decl.{Decl}
 use Rattle.sil_ast.specs.declared.function.Function.{Function}
 use Rattle.sil_ast.specs.declared.module.Module.{Module}
 use Rattle.sil_ast.specs.declared.vtable.DeinitEntry.{DeinitEntry}
 use Rattle.sil_ast.specs.declared.vtable.Vtable.{Vtable}
 use Rattle.written_modules.specs.declared.written_declarations.WrittenDecl.{WrittenDecl}
-use Rattle.written_modules.specs.declared.written_functions.WrittenFunction.{WrittenFunction}
 use Rattle.written_modules.specs.declared.written_module.WrittenEntry.{WrittenEntry}
 use Rattle.written_modules.specs.declared.written_module.WrittenItem.{WrittenItem}
 use Rattle.written_modules.specs.declared.written_module.WrittenItem.TheVariants as item
 use Rattle.written_modules.specs.declared.written_module.WrittenModule.{WrittenModule}
-use Rattle.written_modules.specs.declared.written_module.WrittenVtable.{WrittenVtable}
 use Rattle.name_resolution.specs.Names.{Name, decls_of, entry_function, function_name, functions_of, name_of, used_by_item, vtables_of}
 use Rattle.name_resolution.specs.Resolved.{resolved_decl, resolved_entry, resolved_vtable}
 use Rattle.numbered_form.specs.Lists.{Each}
 use Rattle.numbered_form.specs.Functions.{IsFormed}
 use Rattle.numbered_form.specs.Limits.{IsFunctionInLimits}
-use Rattle.numbered_form.specs.Names.{AreOnce}
 use Rattle.numbered_form.specs.Names as spelled
 use Rattle.numbered_form.specs.Numbering.{IsFunctionNumbered, IsVtableInRange}
 use Rattle.numbered_form.specs.NumberedForm.{IsNumbered}
@@ -29,7 +25,7 @@ use Rattle.numbered_form.specs.Parts.{FunctionHasParts}
 use Rattle.numbered_reading.proofs.Basics.{Each-append, Each-flat_map, Each-map}
 use Rattle.printed_reading.proofs.Namings.{IsNaming, known, named_functions, placed}
 use Rattle.printed_reading.proofs.NoFaults.{IsKnown}
-use Rattle.printed_reading.proofs.ReadFunctions.{IsFunctionRead, IsSound, calls_known, function_is}
+use Rattle.printed_reading.proofs.ResolvedFunctions.{IsFunctionRead, IsSound, calls_known}
 use Rattle.printed_reading.proofs.SideBySide.{with_each, zip_each, zip_read, zip_same, zip_weaker}
 use Rattle.printed_reading.proofs.UsedNames.{nth_name}
 use Rattle.printed_reading.proofs.Written.{AreBoth, IsDeclWritten, IsEntryWritten, IsFunctionWritten, IsModuleWritten, IsVtableWritten}
@@ -78,8 +74,8 @@ names_written m w r = map (λ f. name_of (function_name f)) r.functions
 pub functions_named : (m : Module) (w : WrittenModule) → IsNumbered m → (r : IsModuleWritten m w) → IsNaming (length m.functions) (nth_name m.functions) (names_written m w r)
 functions_named m w n r =
     let same : names_written m w r ≡ map spelled.function_name m.functions =
-        zip_same spelled.function_name (λ f. name_of (function_name f)) m.functions r.functions
-        (zip_weaker (IsFunctionWritten m.functions) (λ f w. w.name.text ≡ f.name) (λ f w is. is.name) m.functions r.functions r.functions_written) in
+    zip_same spelled.function_name (λ f. name_of (function_name f)) m.functions r.functions
+    (zip_weaker (IsFunctionWritten m.functions) (λ f w. w.name.text ≡ f.name) (λ f w is. is.name) m.functions r.functions r.functions_written) in
     subst (IsNaming (length m.functions) (nth_name m.functions)) (sym same) (named_functions m.functions n.once.functions)
 
 all_sound : (functions fs : List Function) → Each (IsFunctionNumbered (length functions)) fs → Each FunctionHasParts fs → Each IsFormed fs → Each IsFunctionInLimits fs → Each (IsSound functions) fs
@@ -126,14 +122,14 @@ used_known m w n r =
     let names : List Name = names_written m w r in
     let P : WrittenItem → Type 0 = λ i. Each (IsKnown names) (used_by_item i) in
     let functions : Each (λ f. P (item.Function f)) r.functions =
-        zip_each (IsFunctionRead m.functions names) (λ f. P (item.Function f)) (λ f g h. calls_known m.functions names f g h) m.functions r.functions (functions_read m w n r) in
+    zip_each (IsFunctionRead m.functions names) (λ f. P (item.Function f)) (λ f g h. calls_known m.functions names f g h) m.functions r.functions (functions_read m w n r) in
     let vtables : Each (λ t. P (item.Vtable t)) r.vtables =
-        zip_each (λ t u. IsVtableInRange (length m.functions) t × IsVtableWritten m.functions t u) (λ t. P (item.Vtable t))
-        (λ t u h. entry_known m.functions names (functions_named m w n r) t.entry u.entry h.0 h.1.entry) m.vtables r.vtables (vtables_beside m w n r) in
+    zip_each (λ t u. IsVtableInRange (length m.functions) t × IsVtableWritten m.functions t u) (λ t. P (item.Vtable t))
+    (λ t u h. entry_known m.functions names (functions_named m w n r) t.entry u.entry h.0 h.1.entry) m.vtables r.vtables (vtables_beside m w n r) in
     let items : Each P (map item.Decl r.decls ++ map item.Function r.functions ++ map item.Vtable r.vtables) =
-        Each-append P (map item.Decl r.decls ++ map item.Function r.functions) (map item.Vtable r.vtables)
-        (Each-append P (map item.Decl r.decls) (map item.Function r.functions) (no_uses names r.decls) (Each-map item.Function (λ f. P (item.Function f)) P (λ f h. h) r.functions functions))
-        (Each-map item.Vtable (λ t. P (item.Vtable t)) P (λ t h. h) r.vtables vtables) in
+    Each-append P (map item.Decl r.decls ++ map item.Function r.functions) (map item.Vtable r.vtables)
+    (Each-append P (map item.Decl r.decls) (map item.Function r.functions) (no_uses names r.decls) (Each-map item.Function (λ f. P (item.Function f)) P (λ f h. h) r.functions functions))
+    (Each-map item.Vtable (λ t. P (item.Vtable t)) P (λ t h. h) r.vtables vtables) in
     Each-flat_map used_by_item P (IsKnown names) (λ i h. h) w.items (subst (Each P) (sym r.items) items)
   where
     no_uses : (names : List Name) (decls : List WrittenDecl) → Each (λ i. Each (IsKnown names) (used_by_item i)) (map item.Decl decls)

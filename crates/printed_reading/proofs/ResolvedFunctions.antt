@@ -1,39 +1,33 @@
 -- A printed function: its names are without fault, and it stands for itself.
-use Rattle.std.proofs.Common.{◌≡◌, ℕ, ◌≤◌, List, [], ◌∷◌, ◌++◌, length, map, filter, Option, Some, None, ap, sym, refl, subst, ◌∙◌, arith, flat_map, decimal}
+use Rattle.std.proofs.Common.{◌≡◌, List, [], length, map, filter, Some, None, ap, sym, refl, subst, ◌∙◌, arith, flat_map, decimal}
 use Rattle.std.specs.List.{AllZip, enumerate_from}
 use Rattle.std.proofs.lemmas.Simd.{map-map}
 use Rattle.std.proofs.lemmas.Slice.Zip.{AllZip-long, AllZip-map}
-use Rattle.sil_ast.specs.declared.function.Block.{Block}
-use Rattle.sil_ast.specs.declared.function.Form.{Form}
 use Rattle.sil_ast.specs.declared.function.Function.{Function}
 use Rattle.sil_ast.specs.declared.place.ValueId.{ValueId}
 use Rattle.sil_printer.specs.CanonicalInsts.{block_name}
 use Rattle.written_modules.specs.declared.written_declarations.WrittenToken.{WrittenToken}
-use Rattle.written_modules.specs.declared.written_functions.WrittenBlock.{WrittenBlock}
 use Rattle.written_modules.specs.declared.written_functions.WrittenFunction.{WrittenFunction}
-use Rattle.written_modules.specs.declared.written_instructions.WrittenInst.{WrittenInst}
 use Rattle.written_modules.specs.Places.{is_kept}
 use Rattle.name_resolution.specs.NameFaults.{function_fault}
-use Rattle.name_resolution.specs.Names.{Name, code_of, functions_used, insts_of, label_of, labels_used, name_of, values_defined, values_used}
+use Rattle.name_resolution.specs.Names.{Name, functions_used, insts_of, label_of, labels_used, name_of, values_defined, values_used}
 use Rattle.name_resolution.specs.Resolved.{Scope, form_of, resolved_blocks, resolved_function, scope_of, values_of}
 use Rattle.numbered_form.specs.Lists.{Each}
 use Rattle.numbered_form.specs.Functions.{IsFormed}
 use Rattle.numbered_form.specs.Limits.{IsFunctionInLimits}
-use Rattle.numbered_form.specs.Names.{AreOnce}
 use Rattle.numbered_form.specs.Numbering.{IsFunctionNumbered}
 use Rattle.numbered_form.specs.Numbering as numbering
 use Rattle.numbered_form.specs.Parts.{FunctionHasParts}
 use Rattle.numbered_reading.proofs.Basics.{Each-weaker}
 use Rattle.printed_reading.proofs.Namings.{IsNaming, counted_names, names_from, numbered_names, tells_blocks, tells_values}
 use Rattle.printed_reading.proofs.NoFaults.{IsKnown, neither, never_twice, never_unknown}
-use Rattle.printed_reading.proofs.ReadBlocks.{blocks_are}
-use Rattle.printed_reading.proofs.ReadCode.{Counts, IsBlockRead, blocks_read, value_tokens, values_defined as defined_values}
-use Rattle.printed_reading.proofs.ReadForms.{attributes_are, form_is}
-use Rattle.printed_reading.proofs.ReadInsts.{scope_with}
-use Rattle.printed_reading.proofs.ResultNames.{IsDefinedAs}
+use Rattle.printed_reading.proofs.ResolvedBlocks.{blocks_are}
+use Rattle.printed_reading.proofs.WrittenCode.{Counts, IsBlockRead, blocks_read, value_tokens, values_defined as defined_values}
+use Rattle.printed_reading.proofs.ResolvedForms.{attributes_are, form_is}
+use Rattle.printed_reading.proofs.ResolvedInsts.{scope_with}
 use Rattle.printed_reading.proofs.SideBySide.{zip_same, zip_weaker}
 use Rattle.printed_reading.proofs.UsedNames.{AreNamesOf, Names, UsesKnown, all_used, code_uses, nth_name}
-use Rattle.printed_reading.proofs.Written.{IsBlockWritten, IsFunctionWritten, IsValueNamed}
+use Rattle.printed_reading.proofs.Written.{IsBlockWritten, IsFunctionWritten}
 
 -- what numbered form says of a function, in a module of these functions
 pub record IsSound (functions : List Function) (f : Function) : Type 0 where
@@ -91,9 +85,9 @@ scope_is : (functions : List Function) (names : List Name) (f : Function) (w : W
 scope_is functions names f w r =
     let vs : List ValueId = numbering.values_of f.blocks in
     let defined : values_of w ≡ map (λ v. Some (decimal v.0)) vs =
-        AllZip-map (λ v. Some (decimal v.0)) vs (values_of w) (defined_values (counts_of functions f) f.blocks w.blocks (read_blocks functions names f w r)) in
+    AllZip-map (λ v. Some (decimal v.0)) vs (values_of w) (defined_values (counts_of functions f) f.blocks w.blocks (read_blocks functions names f w r)) in
     let values : map (λ name. Some name) (map name_of (flat_map values_defined w.blocks)) ≡ values_of w =
-        ap (λ ns. map (λ name. Some name) ns) (values_named functions names f w r) ∙ map-map (λ name. Some name) (λ v. decimal v.0) vs ∙ sym defined in
+    ap (λ ns. map (λ name. Some name) ns) (values_named functions names f w r) ∙ map-map (λ name. Some name) (λ v. decimal v.0) vs ∙ sym defined in
     λ k. record { functions = names; blocks = map-map name_of label_of w.blocks k; values = values k }
 
 -- faults
@@ -131,6 +125,6 @@ function_is functions names f w r =
     let form : f.form ≡ form_of w.attributes w.blocks = form_is f.attributes f.form w.attributes f.blocks w.blocks formed.attributes formed.external is.attributes long in
     let attributes : f.attributes ≡ map name_of (filter is_kept w.attributes) = attributes_are f.attributes f.form w.attributes formed.attributes is.attributes in
     let own : f.blocks ≡ resolved_blocks (scope_with (names_of names w)) 0 w.blocks =
-        blocks_are (counts_of functions f) (names_of names w) (function_names functions names f w r) 0 f.blocks w.blocks bs r.sound.numbered.values in
+    blocks_are (counts_of functions f) (names_of names w) (function_names functions names f w r) 0 f.blocks w.blocks bs r.sound.numbered.values in
     let blocks : f.blocks ≡ resolved_blocks (scope_of names w) 0 w.blocks = own ∙ ap (λ (s : Scope). resolved_blocks s 0 w.blocks) (scope_is functions names f w r) in
     λ k. record { name = sym is.name k; form = form k; linkage = sym is.linkage k; attributes = attributes k; signature = sym is.signature k; blocks = blocks k }

@@ -1,5 +1,5 @@
 -- The words behind a printed function's linkage are its attributes and its form.
-use Rattle.std.proofs.Common.{◌≡◌, ◌↔◌, ℕ, List, [], ◌∷◌, ◌++◌, length, map, filter, Bool, true, false, not, ◌||◌, cond, if◌then◌else◌, ap, ap₂, sym, refl, ◌∙◌, codes, append-nil}
+use Rattle.std.proofs.Common.{◌≡◌, ◌↔◌, List, [], ◌∷◌, ◌++◌, length, map, filter, Bool, true, false, not, ◌||◌, cond, if◌then◌else◌, ap, ap₂, sym, refl, ◌∙◌, codes, append-nil}
 use Rattle.std.specs.List.{list_any}
 use Rattle.std.specs.Str.{bytes_eq}
 use Rattle.std.proofs.lemmas.List.Elements.{filter-append}
@@ -53,7 +53,7 @@ no_form_kept External = refl
 pub attributes_are : (attributes : List Name) (form : Form) (words : List WrittenToken) → Each IsAttribute attributes → map name_of words ≡ attributes ++ form_words form → attributes ≡ map name_of (filter is_kept words)
 attributes_are attributes form words each e =
     let kept : filter is_attribute (attributes ++ form_words form) ≡ attributes =
-        filter-append is_attribute attributes (form_words form) ∙ ap₂ (λ a b. a ++ b) (all_kept attributes each) (no_form_kept form) ∙ append-nil attributes in
+    filter-append is_attribute attributes (form_words form) ∙ ap₂ (λ a b. a ++ b) (all_kept attributes each) (no_form_kept form) ∙ append-nil attributes in
     sym (kept_names words ∙ ap (filter is_attribute) e ∙ kept)
 
 form_told : (attributes : List Name) (form : Form) (words : List WrittenToken) → Each IsAttribute attributes → map name_of words ≡ attributes ++ form_words form

@@ -1,5 +1,5 @@
 -- The printed blocks of a function stand for themselves.
-use Rattle.std.proofs.Common.{◌≡◌, ℕ, ◌+◌, List, [], ◌∷◌, ◌++◌, length, map, ap, ap₂, sym, refl, subst, ◌∙◌, flat_map}
+use Rattle.std.proofs.Common.{◌≡◌, ℕ, ◌+◌, List, [], ◌∷◌, ◌++◌, length, map, ap₂, sym, refl, subst, ◌∙◌, flat_map}
 use Rattle.std.specs.List.{AllZip}
 use Rattle.std.proofs.lemmas.List.{length-map}
 use Rattle.std.proofs.lemmas.Slice.Zip.{AllZip-long}
@@ -14,8 +14,8 @@ use Rattle.name_resolution.specs.Resolved.{defined_by_inst, defined_in, resolved
 use Rattle.numbered_form.specs.Numbering.{AreCountedFrom}
 use Rattle.numbered_form.specs.Numbering as numbering
 use Rattle.numbered_reading.proofs.NumberingLemmas.{with_end}
-use Rattle.printed_reading.proofs.ReadCode.{Counts, IsBlockRead, IsInstRead, block_defined, inst_defined}
-use Rattle.printed_reading.proofs.ReadInsts.{counted_split, inst_is, scope_with}
+use Rattle.printed_reading.proofs.WrittenCode.{Counts, IsBlockRead, IsInstRead, block_defined, inst_defined}
+use Rattle.printed_reading.proofs.ResolvedInsts.{counted_split, inst_is, scope_with}
 use Rattle.printed_reading.proofs.ResultNames.{IsDefinedAs}
 use Rattle.printed_reading.proofs.UsedNames.{AreNamesOf, Names}
 use Rattle.printed_reading.proofs.Written.{IsArgWritten}
@@ -44,7 +44,7 @@ block_is : (c : Counts) (names : Names) → AreNamesOf c names → (first : ℕ)
     → b ≡ resolved_block (scope_with names) first w
 block_is c names n first b w r count =
     let inside : AreCountedFrom first (map numbering.value_of b.args ++ flat_map numbering.results_of b.insts) =
-        subst (λ (results : List ValueId). AreCountedFrom first (map numbering.value_of b.args ++ results)) (with_end b.insts b.terminator r.no_results) count in
+    subst (λ (results : List ValueId). AreCountedFrom first (map numbering.value_of b.args ++ results)) (with_end b.insts b.terminator r.no_results) count in
     let parts = counted_split first (map numbering.value_of b.args) (flat_map numbering.results_of b.insts) inside in
     let long : length (map numbering.value_of b.args) ≡ length w.args = length-map b.args numbering.value_of ∙ sym (AllZip-long IsArgWritten b.args w.args r.args) in
     let behind : AreCountedFrom (first + length w.args) (flat_map numbering.results_of b.insts) = subst (λ (k : ℕ). AreCountedFrom (first + k) (flat_map numbering.results_of b.insts)) long parts.1 in

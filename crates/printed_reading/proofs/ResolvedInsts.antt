@@ -1,36 +1,27 @@
 -- A printed instruction stands for itself: its names lead to its own numbers.
-use Rattle.std.proofs.Common.{◌≡◌, ℕ, ◌+◌, ◌<◌, List, [], ◌∷◌, ◌++◌, length, map, Option, Some, None, IfSome, ap, ap₂, sym, refl, subst, ◌∙◌, arith, flat_map, length-append}
+use Rattle.std.proofs.Common.{◌≡◌, ℕ, ◌+◌, ◌<◌, List, [], ◌∷◌, ◌++◌, length, map, Option, Some, None, IfSome, ap, ap₂, sym, refl, subst, arith}
 use Rattle.std.specs.List.{AllZip}
 use Rattle.std.specs.Option.{option_map}
-use Rattle.std.proofs.lemmas.List.{length-map}
-use Rattle.std.proofs.lemmas.Slice.Zip.{AllZip-long}
-use Rattle.sil_ast.specs.declared.debug.Debug.{Debug}
-use Rattle.sil_ast.specs.declared.function.Block.{Block}
-use Rattle.sil_ast.specs.declared.function.BlockArg.{BlockArg}
 use Rattle.sil_ast.specs.declared.function.Function.{Function}
 use Rattle.sil_ast.specs.declared.inst.Edge.{Edge}
 use Rattle.sil_ast.specs.declared.inst.Inst.{Inst}
 use Rattle.sil_ast.specs.declared.operands.Operand.{Operand}
-use Rattle.sil_ast.specs.declared.place.BlockId.{BlockId}
 use Rattle.sil_ast.specs.declared.place.FuncId.{FuncId}
 use Rattle.sil_ast.specs.declared.place.ValueId.{ValueId}
 use Rattle.written_modules.specs.declared.written_declarations.WrittenToken.{WrittenToken}
-use Rattle.written_modules.specs.declared.written_functions.WrittenArg.{WrittenArg}
-use Rattle.written_modules.specs.declared.written_functions.WrittenBlock.{WrittenBlock}
 use Rattle.written_modules.specs.declared.written_instructions.WrittenEdge.{WrittenEdge}
 use Rattle.written_modules.specs.declared.written_instructions.WrittenInst.{WrittenInst}
 use Rattle.written_modules.specs.declared.written_instructions.WrittenOperand.{WrittenOperand}
 use Rattle.name_resolution.specs.Names.{Name, name_of}
-use Rattle.name_resolution.specs.Resolved.{Scope, counted, defined_by_inst, function_of, resolved_edge, resolved_inst, resolved_insts, resolved_operand}
+use Rattle.name_resolution.specs.Resolved.{Scope, counted, defined_by_inst, function_of, resolved_edge, resolved_inst, resolved_operand}
 use Rattle.numbered_form.specs.Lists.{Each}
 use Rattle.numbered_form.specs.Numbering.{AreCountedFrom, IsEdgeInRange, IsValueBelow}
-use Rattle.numbered_form.specs.Numbering as numbering
 use Rattle.printed_reading.proofs.Namings.{IsNaming, placed, value_placed}
-use Rattle.printed_reading.proofs.ReadCode.{Counts, IsInstRead, inst_defined}
+use Rattle.printed_reading.proofs.WrittenCode.{Counts, IsInstRead, inst_defined}
 use Rattle.printed_reading.proofs.ResultNames.{IsDefinedAs}
 use Rattle.printed_reading.proofs.SideBySide.{with_each, zip_read, zip_weaker}
 use Rattle.printed_reading.proofs.UsedNames.{AreNamesOf, Names, nth_name}
-use Rattle.printed_reading.proofs.Written.{IsEdgeWritten, IsInstWritten, IsOperandWritten, name_in}
+use Rattle.printed_reading.proofs.Written.{IsEdgeWritten, IsOperandWritten, name_in}
 
 -- the scope that has these names
 abbrev pub scope_with : Names → Scope
