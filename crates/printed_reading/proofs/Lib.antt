@@ -21,5 +21,16 @@ pub mod Smallness
 pub mod WholeReading
 pub mod NumberedPrintable
 pub mod ModuleReading
+pub mod SideBySide
+pub mod Namings
+pub mod NoFaults
+pub mod ResultNames
+pub mod WrittenCode
+pub mod UsedNames
+pub mod ResolvedInsts
+pub mod ResolvedBlocks
+pub mod ResolvedForms
+pub mod ResolvedFunctions
+pub mod ResolvedModules
 pub mod Names
 pub mod ReadBack
