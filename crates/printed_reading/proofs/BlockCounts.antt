@@ -23,11 +23,9 @@ use Rattle.numbered_form.specs.Insts.{insts_in, insts_of}
 use Rattle.numbered_form.specs.Limits.{inst_takes_value, takes_value, value_count}
 use Rattle.numbered_form.specs.Numbering.{defined_in, results_of, value_of, values_of}
 use Rattle.numbered_form.specs.Parts.{gives_result, has_results, is_terminator}
+use Rattle.numbered_reading.proofs.LimitLemmas.{both_lengths}
 use Rattle.printed_reading.proofs.BlockReading.{IsBlockPrintable, IsEndPrintable, IsInsidePrintable}
 use Rattle.printed_reading.proofs.Written.{AreBlocksWritten, IsArgWritten, IsBlockWritten, IsInstWritten, IsValueNamed}
-
-both_lengths : {A B : Type 0} (a b : List A) (c d : List B) → length a ≡ length c → length b ≡ length d → length (a ++ b) ≡ length (c ++ d)
-both_lengths a b c d e f = length-append a b ∙ ap₂ (λ m n. m + n) e f ∙ sym (length-append c d)
 
 pub length_blocks : (functions : List Function) (k : ℕ) (bs : List Block) (ws : List WrittenBlock) → AreBlocksWritten functions k bs ws → length ws ≡ length bs
 length_blocks functions k bs ws written = AllZip-long _ (enumerate_from k bs) ws written ∙ length-enumerate_from k bs

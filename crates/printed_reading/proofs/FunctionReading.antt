@@ -30,6 +30,7 @@ use Rattle.written_modules.specs.PartFaults.{body_fault, function_fault, part_fa
 use Rattle.written_modules.specs.Places.{attribute_places, is_kept, label_place, mnemonics_of, token_place, values_of_block}
 use Rattle.written_modules.specs.Values.{blocks_of, item_of, linkage_of, signature_of, token_of, tokens_of}
 use Rattle.name_resolution.specs.Names.{Name, name_of}
+use Rattle.numbered_form.specs.Functions.{IsAttribute}
 use Rattle.numbered_form.specs.Lists.{Each}
 use Rattle.numbered_form.specs.Limits.{IsFunctionInLimits}
 use Rattle.numbered_form.specs.Names.{IsFunctionSpelled, IsWord}
@@ -39,14 +40,17 @@ use Rattle.printed_reading.proofs.BlockCounts.{inst_count_is, length_blocks, val
 use Rattle.printed_reading.proofs.BlockReading.{IsBlockPrintable, block_reads, blocks_behind, blocks_read}
 use Rattle.printed_reading.proofs.Items.{IsItem}
 use Rattle.printed_reading.proofs.Fixed.{any_at, any_word, keyword_here, mark_here}
-use Rattle.printed_reading.proofs.LimitCounts.{no_fault, passes_none}
+use Rattle.printed_reading.proofs.LimitCounts.{passes_none}
+use Rattle.printed_reading.proofs.NoFaults.{neither}
 use Rattle.printed_reading.proofs.Pieces.{Ends, Reads, Stands, Reads as reads}
+use Rattle.printed_reading.proofs.ResolvedForms.{attributes_are}
 use Rattle.printed_reading.proofs.Ruled.{by_rule, part_here}
 use Rattle.printed_reading.proofs.SignatureReading.{signature_reads}
 use Rattle.printed_reading.proofs.Written.{AreBlocksWritten, IsFunctionWritten, form_words}
 
 pub record IsFunctionPrintable (functions : List Function) (f : Function) : Type 0 where
   pub spelled : IsFunctionSpelled f
+  pub attributes : Each IsAttribute f.attributes
   pub signature : HasSignatureTypes f.signature
   pub limits : IsFunctionInLimits f
   pub blocks : Each (IsBlockPrintable functions) f.blocks
@@ -132,43 +136,17 @@ body_reads text functions (b ∷ blocks) after few printable =
 
 -- no limit is passed
 
-is_attribute : Name → Bool
-is_attribute word = not (bytes_eq word (codes "ossa"))
-
-one_kept : (kept : Bool) (token : WrittenToken) (tokens : List WrittenToken) (words : List Name) → length tokens ≡ length words
-    → length (cond kept (token ∷ tokens) tokens) ≡ length (cond kept (name_of token ∷ words) words)
-one_kept true token tokens words e = ap suc e
-one_kept false token tokens words e = e
-
-kept_words : (tokens : List WrittenToken) → length (filter is_kept tokens) ≡ length (filter is_attribute (map name_of tokens))
-unfolding is_attribute
-kept_words [] = refl
-kept_words (token ∷ tokens) = one_kept (is_attribute (name_of token)) token (filter is_kept tokens) (filter is_attribute (map name_of tokens)) (kept_words tokens)
-
-one_more : (kept : Bool) (word : Name) (words : List Name) (n : ℕ) → length words ≤ n → length (cond kept (word ∷ words) words) ≤ suc n
-one_more true word words n h = omega (arith, h)
-one_more false word words n h = omega (arith, h)
-
-few_attributes : (attributes : List Name) (f : Form) → length (filter is_attribute (attributes ++ form_words f)) ≤ length attributes
-unfolding is_attribute
-few_attributes [] Ossa = omega arith
-few_attributes [] Lowered = omega arith
-few_attributes [] External = omega arith
-few_attributes (word ∷ attributes) f = one_more (is_attribute word) word (filter is_attribute (attributes ++ form_words f)) (length attributes) (few_attributes attributes f)
-
-attribute_count : (tokens : List WrittenToken) (attributes : List Name) (f : Form) → map name_of tokens ≡ attributes ++ form_words f
-    → length (attribute_places tokens) ≤ length attributes
-attribute_count tokens attributes f named =
-    let same : length (attribute_places tokens) ≡ length (filter is_attribute (attributes ++ form_words f)) =
-        length-map (filter is_kept tokens) token_place ∙ kept_words tokens ∙ ap (λ words. length (filter is_attribute words)) named in
-    omega (arith, same, few_attributes attributes f)
+attribute_count : (tokens : List WrittenToken) (attributes : List Name) (f : Form) → Each IsAttribute attributes → map name_of tokens ≡ attributes ++ form_words f
+    → length (attribute_places tokens) ≡ length attributes
+attribute_count tokens attributes f each named =
+    length-map (filter is_kept tokens) token_place ∙ sym (length-map (filter is_kept tokens) name_of) ∙ ap length (sym (attributes_are attributes f tokens each named))
 
 body_is_good : (functions : List Function) (f : Function) (blocks : List WrittenBlock) → IsFunctionPrintable functions f → AreBlocksWritten functions 0 f.blocks blocks
     → body_fault blocks ≡ None
 body_is_good functions f blocks printable written =
     let labels : length (map label_place blocks) ≡ length f.blocks = length-map blocks label_place ∙ length_blocks functions 0 f.blocks blocks written in
-    no_fault (passed limit.Blocks 512 (map label_place blocks)) _ (passes_none limit.Blocks 512 (map label_place blocks) (omega (arith, labels, printable.limits.blocks)))
-    (no_fault (passed limit.Instructions 4096 (flat_map mnemonics_of blocks)) _
+    neither (passed limit.Blocks 512 (map label_place blocks)) _ (passes_none limit.Blocks 512 (map label_place blocks) (omega (arith, labels, printable.limits.blocks)))
+    (neither (passed limit.Instructions 4096 (flat_map mnemonics_of blocks)) _
     (passes_none limit.Instructions 4096 (flat_map mnemonics_of blocks) (omega (arith, inst_count_is functions 0 f.blocks blocks written, printable.limits.insts)))
     (passes_none limit.Values 1024 (flat_map values_of_block blocks) (omega (arith, value_count_is functions 0 f.blocks blocks written printable.blocks, printable.limits.values))))
 
@@ -205,7 +183,7 @@ function_reads text functions f after printable =
     (keyword_here k.Sil refl (linkage_ends f.linkage words behind_words) (part_here kind (part_here attributes (reads.blank 32 refl
         (any_at f.name printable.spelled.name refl (reads.blank 32 refl (mark_here m.Colon 58 refl refl (reads.blank 32 refl (mark_here m.Dollar 36 refl refl
         (part_here signature (part_here inside reads.nothing)))))))))))
-    (no_fault (passed limit.Arguments 64 (attribute_places (tokens_of attributes.value))) (body_fault (blocks_of inside.value))
-        (passes_none limit.Arguments 64 (attribute_places (tokens_of attributes.value)) (omega (arith, attribute_count (tokens_of attributes.value) f.attributes f.form attributes.stands, printable.limits.attributes)))
+    (neither (passed limit.Arguments 64 (attribute_places (tokens_of attributes.value))) (body_fault (blocks_of inside.value))
+        (passes_none limit.Arguments 64 (attribute_places (tokens_of attributes.value)) (omega (arith, attribute_count (tokens_of attributes.value) f.attributes f.form printable.attributes attributes.stands, printable.limits.attributes)))
         (body_is_good functions f (blocks_of inside.value) printable inside.stands))
     (record { item = _; is_item = refl; stands = record { name = refl; linkage = kind.stands; attributes = attributes.stands; signature = signature.stands; blocks = inside.stands } }))

@@ -15,8 +15,3 @@ passes_none what most places h = ap (option_map (fault (Limit what))) (slice_get
 -- the same of what stands at each item
 pub passes_none-map : {A : Type 0} (place : A → Place) (what : LimitWord) (most : ℕ) (items : List A) → length items ≤ most → passed what most (map place items) ≡ None
 passes_none-map place what most items h = passes_none what most (map place items) (rw length-map h)
-
--- the first of no faults
-pub no_fault : (a b : Option Fault) → a ≡ None → b ≡ None → earlier a b ≡ None
-unfolding earlier
-no_fault a b e f = ap₂ earlier e f

@@ -9,6 +9,7 @@ use Rattle.sil_ast.specs.declared.inst.Inst.{Inst}
 use Rattle.sil_ast.specs.declared.module.Module.{Module}
 use Rattle.sil_ast.specs.declared.vtable.Vtable.{Vtable}
 use Rattle.numbered_form.specs.Fields.{HasStrongFields}
+use Rattle.numbered_form.specs.Functions.{IsFormed}
 use Rattle.numbered_form.specs.Insts.{EachInBlock, EachInFunction, insts_of}
 use Rattle.numbered_form.specs.Limits.{IsBlockInLimits, IsDeclInLimits, IsFunctionInLimits, IsInstInLimits}
 use Rattle.numbered_form.specs.Lists.{Each}
@@ -102,26 +103,27 @@ blocks_printable functions values blocks (b ∷ bs) placed parts literals spelle
 
 -- functions
 
-function_printable : (functions : List Function) (f : Function) → Each IsFunctionSpelled functions → IsFunctionSpelled f → FunctionHasParts f → EachInFunction HasLiterals f → EachInFunction IsInstSpelled f
+function_printable : (functions : List Function) (f : Function) → Each IsFunctionSpelled functions → IsFunctionSpelled f → IsFormed f → FunctionHasParts f → EachInFunction HasLiterals f → EachInFunction IsInstSpelled f
     → HasFunctionTypes f → IsFunctionInLimits f → IsFunctionNumbered (length functions) f → IsFunctionPrintable functions f
-function_printable functions f names named parts literals spelled types limits numbered =
+function_printable functions f names named formed parts literals spelled types limits numbered =
     let few : length (values_of f.blocks) ≤ 1024 = omega (arith, limits.values) in
     let defined : Each (λ b. Each IsSmallValue (defined_in b)) f.blocks = Each-inside defined_in IsSmallValue f.blocks (counted_small 0 (values_of f.blocks) numbered.values (omega (arith, few))) in
     record {
       spelled = named;
+      attributes = formed.attributes;
       signature = types.signature;
       limits = limits;
       blocks = blocks_printable functions (length (values_of f.blocks)) (length f.blocks) f.blocks (record { few_values = few; few_blocks = limits.blocks; names = names })
         parts literals spelled types.blocks limits.each numbered.used defined;
     }
 
-functions_printable : (all functions : List Function) → Each IsFunctionSpelled all → Each IsFunctionSpelled functions → Each FunctionHasParts functions → Each (EachInFunction HasLiterals) functions
+functions_printable : (all functions : List Function) → Each IsFunctionSpelled all → Each IsFunctionSpelled functions → Each IsFormed functions → Each FunctionHasParts functions → Each (EachInFunction HasLiterals) functions
     → Each (EachInFunction IsInstSpelled) functions → Each HasFunctionTypes functions → Each IsFunctionInLimits functions → Each (IsFunctionNumbered (length all)) functions
     → Each (IsFunctionPrintable all) functions
-functions_printable all [] names named parts literals spelled types limits numbered = tt
-functions_printable all (f ∷ functions) names named parts literals spelled types limits numbered =
-    (function_printable all f names named.0 parts.0 literals.0 spelled.0 types.0 limits.0 numbered.0,
-    functions_printable all functions names named.1 parts.1 literals.1 spelled.1 types.1 limits.1 numbered.1)
+functions_printable all [] names named formed parts literals spelled types limits numbered = tt
+functions_printable all (f ∷ functions) names named formed parts literals spelled types limits numbered =
+    (function_printable all f names named.0 formed.0 parts.0 literals.0 spelled.0 types.0 limits.0 numbered.0,
+    functions_printable all functions names named.1 formed.1 parts.1 literals.1 spelled.1 types.1 limits.1 numbered.1)
 
 -- declarations and vtables
 
@@ -140,7 +142,7 @@ vtables_printable functions (v ∷ vtables) names spelled range =
 pub module_printable : (m : Module) → IsNumbered m → IsModulePrintable m
 module_printable m numbered = record {
   decls = decls_printable m.decls numbered.names.declarations numbered.types.declarations numbered.fields numbered.limits.members;
-  functions = functions_printable m.functions m.functions numbered.names.functions numbered.names.functions numbered.parts numbered.literals numbered.names.insts numbered.types.functions
+  functions = functions_printable m.functions m.functions numbered.names.functions numbered.names.functions numbered.functions numbered.parts numbered.literals numbered.names.insts numbered.types.functions
     numbered.limits.each numbered.numbering.functions;
   vtables = vtables_printable m.functions m.vtables numbered.names.functions numbered.names.vtables numbered.numbering.vtables;
   few_decls = numbered.limits.declarations;

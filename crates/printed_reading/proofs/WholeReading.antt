@@ -37,7 +37,8 @@ use Rattle.printed_reading.proofs.DeclReading.{IsDeclPrintable, decl_reads}
 use Rattle.printed_reading.proofs.Fixed.{any_word, keyword_here}
 use Rattle.printed_reading.proofs.FunctionReading.{IsFunctionPrintable, function_reads}
 use Rattle.printed_reading.proofs.Items.{AreItems, items_in_front, no_items}
-use Rattle.printed_reading.proofs.LimitCounts.{no_fault, passes_none}
+use Rattle.printed_reading.proofs.LimitCounts.{passes_none}
+use Rattle.printed_reading.proofs.NoFaults.{neither}
 use Rattle.printed_reading.proofs.Pieces.{Stands, Reads as reads}
 use Rattle.printed_reading.proofs.Ruled.{blank_here, by_rule, part_here}
 use Rattle.printed_reading.proofs.VtableReading.{IsVtablePrintable, vtable_reads}
@@ -119,7 +120,7 @@ items_are_good items decls functions vtables e few_decls few_functions =
         length-map (flat_map decl_names items) token_place ∙ ap (λ items. length (flat_map decl_names items)) e ∙ decl_places decls functions vtables in
     let f : length (map token_place (flat_map function_names items)) ≡ length functions =
         length-map (flat_map function_names items) token_place ∙ ap (λ items. length (flat_map function_names items)) e ∙ function_places decls functions vtables in
-    no_fault (passed limit.Declarations 1024 (map token_place (flat_map decl_names items))) (passed limit.Functions 1024 (map token_place (flat_map function_names items)))
+    neither (passed limit.Declarations 1024 (map token_place (flat_map decl_names items))) (passed limit.Functions 1024 (map token_place (flat_map function_names items)))
     (passes_none limit.Declarations 1024 (map token_place (flat_map decl_names items)) (omega (arith, d, few_decls)))
     (passes_none limit.Functions 1024 (map token_place (flat_map function_names items)) (omega (arith, f, few_functions)))
 
