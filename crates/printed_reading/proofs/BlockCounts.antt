@@ -18,13 +18,15 @@ use Rattle.written_modules.specs.declared.written_declarations.WrittenToken.{Wri
 use Rattle.written_modules.specs.declared.written_functions.WrittenBlock.{WrittenBlock}
 use Rattle.written_modules.specs.declared.written_instructions.WrittenInst.{WrittenInst}
 use Rattle.written_modules.specs.Places.{arg_place, extra_places, has_one_result, mnemonic_place, mnemonics_of, result_places, token_place, value_places_of, values_of_block}
+use Rattle.name_resolution.specs.Resolved.{defined_by}
 use Rattle.numbered_form.specs.Lists.{Each, is_empty}
 use Rattle.numbered_form.specs.Insts.{insts_in, insts_of}
 use Rattle.numbered_form.specs.Limits.{inst_takes_value, takes_value, value_count}
 use Rattle.numbered_form.specs.Numbering.{defined_in, results_of, value_of, values_of}
 use Rattle.numbered_form.specs.Parts.{gives_result, has_results, is_terminator}
-use Rattle.numbered_reading.proofs.LimitLemmas.{both_lengths}
+use Rattle.numbered_reading.proofs.LimitLemmas.{both_lengths, ends_take_none, extra_count, result_count, values_with, values_with-cons}
 use Rattle.printed_reading.proofs.BlockReading.{IsBlockPrintable, IsEndPrintable, IsInsidePrintable}
+use Rattle.printed_reading.proofs.ResultNames.{IsDefinedAs, results_defined}
 use Rattle.printed_reading.proofs.Written.{AreBlocksWritten, IsArgWritten, IsBlockWritten, IsInstWritten, IsValueNamed}
 
 pub length_blocks : (functions : List Function) (k : ℕ) (bs : List Block) (ws : List WrittenBlock) → AreBlocksWritten functions k bs ws → length ws ≡ length bs
@@ -47,53 +49,15 @@ inst_count_is functions k (b ∷ bs) (w ∷ ws) written =
 
 -- values
 
-one_given : (o : Op) → has_one_result o ≡ gives_result o
-unfolding has_one_result
-one_given op.CondFail = refl
-one_given _ = refl
-
-unnamed : (one : Bool) (mnemonic : Place) → not (one && true) ≡ true → length (if one then mnemonic ∷ [] else []) ≡ 0
-unnamed true mnemonic e = absurd (true≢false (sym e))
-unnamed false mnemonic e = refl
-
-result_count : (o : Op) (mnemonic : Place) (vs : List ValueId) (tokens : List WrittenToken) → AllZip IsValueNamed vs tokens → IsTrue (has_results o vs)
-    → length (result_places o mnemonic tokens) ≡ length vs
-result_count o mnemonic [] [] named there = rw (one_given o) (unnamed (gives_result o) mnemonic there)
-result_count o mnemonic [] (token ∷ tokens) named there = absurd named
-result_count o mnemonic (v ∷ vs) [] named there = absurd named
-result_count o mnemonic (v ∷ vs) (token ∷ tokens) named there = length-map (token ∷ tokens) token_place ∙ AllZip-long IsValueNamed (v ∷ vs) (token ∷ tokens) named
-
-extra_count : (o : Op) (mnemonic : Place) (q : Qualifier) (place : Place) → length (extra_places o mnemonic q place) ≡ cond (takes_value o q) 1 0
-unfolding extra_places
-extra_count op.Store mnemonic qualifier.Assign place = refl
-extra_count op.Store mnemonic _ place = refl
-extra_count op.DestroyAddr mnemonic q place = refl
-extra_count _ mnemonic q place = refl
-
 inst_values : (functions : List Function) (i : Inst) (w : WrittenInst) → IsInstWritten functions i w → IsTrue (has_results i.op i.results)
     → length (value_places_of w) ≡ length i.results + cond (inst_takes_value i) 1 0
 inst_values functions i w written there =
     let results : length (result_places w.op w.mnemonic w.results) ≡ length i.results =
-        ap (λ o. length (result_places o w.mnemonic w.results)) written.op ∙ result_count i.op w.mnemonic i.results w.results written.results there in
+        ap (λ o. length (result_places o w.mnemonic w.results)) written.op ∙ result_count i.op w.mnemonic w.results
+        ∙ AllZip-long IsDefinedAs i.results (defined_by i.op w.results) (results_defined i.op i.results w.results there written.results) in
     let extra : length (extra_places w.op w.mnemonic w.qualifier.word w.qualifier.place) ≡ cond (inst_takes_value i) 1 0 =
         extra_count w.op w.mnemonic w.qualifier.word w.qualifier.place ∙ ap₂ (λ o q. cond (takes_value o q) 1 0) written.op written.qualifier in
     length-append (result_places w.op w.mnemonic w.results) (extra_places w.op w.mnemonic w.qualifier.word w.qualifier.place) ∙ ap₂ (λ m n. m + n) results extra
-
--- the results of some instructions, with those that lowering takes more
-values_with : List Inst → ℕ
-values_with insts = length (flat_map results_of insts) + count_by inst_takes_value insts
-
-values_with-cons : (i : Inst) (insts : List Inst) → values_with (i ∷ insts) ≡ (length i.results + cond (inst_takes_value i) 1 0) + values_with insts
-unfolding values_with
-values_with-cons i insts =
-    let c : count_by inst_takes_value (i ∷ insts) ≡ cond (inst_takes_value i) 1 0 + count_by inst_takes_value insts = sum_by-cons (λ i. cond (inst_takes_value i) 1 0) i insts in
-    let l : length (flat_map results_of (i ∷ insts)) ≡ length i.results + length (flat_map results_of insts) = length-append i.results (flat_map results_of insts) in
-    omega arith
-
-ends_take_none : (o : Op) (q : Qualifier) → is_terminator o ≡ true → takes_value o q ≡ false
-ends_take_none op.Store q e = absurd (true≢false (sym e))
-ends_take_none op.DestroyAddr q e = absurd (true≢false (sym e))
-ends_take_none _ q e = refl
 
 end_values : (functions : List Function) (last : Inst) → IsEndPrintable functions last → values_with (last ∷ []) ≡ 0
 unfolding values_with
