@@ -1,5 +1,5 @@
 -- A printed block reads as itself.
-use Rattle.std.proofs.Common.{◌≡◌, ℕ, ◌+◌, ◌<◌, ◌≤◌, List, [], ◌∷◌, ◌++◌, length, map, None, IsTrue, IsFalse, codes, decimal, refl, ap, ap₂, sym, subst, ◌∙◌, arith}
+use Rattle.std.proofs.Common.{◌≡◌, ℕ, ◌+◌, ◌≤◌, List, [], ◌∷◌, ◌++◌, length, map, None, IsTrue, IsFalse, codes, decimal, refl, arith}
 use Rattle.std.specs.List.{AllZip, enumerate_from, flat_map}
 use Rattle.std.proofs.lemmas.List.{append_assoc}
 use Rattle.std.proofs.lemmas.Slice.Zip.{AllZip-long}
@@ -25,14 +25,14 @@ use Rattle.written_modules.specs.Meaning.{kept_of, meaning}
 use Rattle.written_modules.specs.Opened.{PartValue}
 use Rattle.written_modules.specs.PartFaults.{part_fault}
 use Rattle.written_modules.specs.Places.{arg_place}
-use Rattle.written_modules.specs.Values.{arg_of, args_of, block_of, blocks_of, inst_of, insts_of, ownership_of, terminator_of, token_of}
+use Rattle.written_modules.specs.Values.{arg_of, args_of, block_of, blocks_of, insts_of, ownership_of, terminator_of, token_of}
 use Rattle.numbered_form.specs.Lists.{Each}
 use Rattle.numbered_form.specs.Parts.{is_terminator}
 use Rattle.numbered_form.specs.Types.{IsPlacedType}
 use Rattle.printed_reading.proofs.Fixed.{at_here, mark_here}
 use Rattle.printed_reading.proofs.InstReading.{inst_reads, terminator_reads}
 use Rattle.printed_reading.proofs.LimitCounts.{passes_none-map}
-use Rattle.printed_reading.proofs.Pieces.{Ends, Reads, Stands, behind, Reads as reads}
+use Rattle.printed_reading.proofs.Pieces.{Ends, Stands, Reads as reads}
 use Rattle.printed_reading.proofs.Printable.{IsInstPrintable}
 use Rattle.printed_reading.proofs.Ruled.{by_rule, part_here}
 use Rattle.printed_reading.proofs.TextsAhead.{line_ahead}
@@ -82,7 +82,7 @@ arg_reads text a after printable ends =
     rw (arg_ahead (37 ∷ decimal a.value.0) (kind_text a.kind) (type_text a.ty) after)
     (by_rule p.WholeBlockArg (IsArgValue a)
     (value_token a.value.0 printable.value refl (reads.blank 32 refl (mark_here m.Colon 58 refl refl (reads.blank 32 refl
-        (part_here ownership (mark_here m.Dollar 36 refl refl ty.reads)))))) refl
+    (part_here ownership (mark_here m.Dollar 36 refl refl ty.reads)))))) refl
     (record { name = refl; kind = ownership.stands; ty = ty.stands }))
 
 -- arguments, each behind a comma, in front of the closing parenthesis

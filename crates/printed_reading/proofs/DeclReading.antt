@@ -1,5 +1,5 @@
 -- A printed declaration reads as itself.
-use Rattle.std.proofs.Common.{◌≡◌, ℕ, ◌≤◌, List, [], ◌∷◌, ◌++◌, length, map, Option, Some, None, IsTrue, IfSome, Bool, true, false, if◌then◌else◌, true≢false, codes, refl, ap, ap₂, sym, subst, ◌∙◌, arith}
+use Rattle.std.proofs.Common.{◌≡◌, ℕ, ◌≤◌, List, [], ◌∷◌, ◌++◌, length, map, Option, Some, None, IfSome, Bool, true, false, if◌then◌else◌, true≢false, codes, refl, ap, ap₂, sym, ◌∙◌, arith}
 use Rattle.std.proofs.lemmas.List.{append_assoc, length-map}
 use Rattle.sil_ast.specs.declared.decl.Case.{Case}
 use Rattle.sil_ast.specs.declared.decl.Decl.{Decl}
@@ -8,7 +8,7 @@ use Rattle.sil_ast.specs.declared.decl.Field.{Field}
 use Rattle.sil_ast.specs.declared.decl.Storage.{Storage}
 use Rattle.sil_ast.specs.declared.decl.Storage.TheVariants as storage
 use Rattle.sil_ast.specs.declared.type_name.TypeName.{TypeName, TypeName-F, fold_out-TypeName, map-TypeName, out-TypeName}
-use Rattle.sil_printer.specs.CanonicalDecls.{braced, case_text, decl_text, field_text, payload_text}
+use Rattle.sil_printer.specs.CanonicalDecls.{case_text, decl_text, field_text, payload_text}
 use Rattle.sil_printer.specs.CanonicalTypes.{is_several, several_over, type_over, type_text}
 use Rattle.sil_printer.specs.Words.{if_there, indented}
 use Rattle.sil_shape.specs.declared.classes.Keyword.TheVariants as k
@@ -17,7 +17,6 @@ use Rattle.sil_shape.specs.declared.grammar.Nonterminal.TheVariants as n
 use Rattle.sil_shape.specs.declared.grammar.Production.TheVariants as p
 use Rattle.sil_shape.specs.Grammar.{body, written}
 use Rattle.sil_shape.specs.Spelling.{mark_spelling, spelling}
-use Rattle.written_modules.specs.declared.written_declarations.WrittenDecl.{WrittenDecl}
 use Rattle.written_modules.specs.declared.written_declarations.WrittenField.{WrittenField}
 use Rattle.written_modules.specs.declared.written_module.WrittenItem.TheVariants as item
 use Rattle.written_modules.specs.declared.fault.LimitWord.TheVariants as limit
@@ -26,17 +25,18 @@ use Rattle.written_modules.specs.Places.{case_place, field_place}
 use Rattle.written_modules.specs.Meaning.{kept_of, meaning}
 use Rattle.written_modules.specs.Opened.{PartValue}
 use Rattle.written_modules.specs.PartFaults.{part_fault}
-use Rattle.written_modules.specs.Values.{cases_of, field_before, field_of, fields_of, item_of, payload_of, token_of, type_of}
-use Rattle.name_resolution.specs.Resolved.{resolved_case, resolved_decl, resolved_field}
+use Rattle.written_modules.specs.Values.{cases_of, field_before, field_of, fields_of, item_of, payload_of, token_of}
+use Rattle.name_resolution.specs.Resolved.{resolved_case, resolved_field}
 use Rattle.numbered_form.specs.Fields.{HasStrongFields, IsStrong}
 use Rattle.numbered_form.specs.Lists.{Each}
 use Rattle.numbered_form.specs.Limits.{IsDeclInLimits}
 use Rattle.numbered_form.specs.Names.{IsWord, Name, case_name, decl_name, field_name, member_names}
 use Rattle.numbered_form.specs.Types.{HasDeclTypes, HasFieldType, HasPayloadType, IsPlainType}
+use Rattle.printed_reading.proofs.Braced.{braced_reads}
 use Rattle.printed_reading.proofs.Fixed.{any_word, keyword_here, mark_here}
-use Rattle.printed_reading.proofs.Pieces.{Ends, Reads, Stands, behind, Reads as reads}
-use Rattle.printed_reading.proofs.Ruled.{by_rule, part_here, stands_as}
-use Rattle.printed_reading.proofs.TextsAhead.{braced_ahead, line_ahead}
+use Rattle.printed_reading.proofs.Pieces.{Ends, Stands, Reads as reads}
+use Rattle.printed_reading.proofs.Ruled.{by_rule, part_here}
+use Rattle.printed_reading.proofs.TextsAhead.{line_ahead}
 use Rattle.printed_reading.proofs.TypeReading.{payload_reads, type_reads}
 use Rattle.printed_reading.proofs.Written.{IsDeclWritten}
 use Rattle.printed_reading.proofs.Items.{IsItem}
@@ -57,7 +57,7 @@ unfolding body written meaning part_fault spelling mark_spelling kept_of token_o
 binding_reads text name t after spelled plain ends =
     let ty = type_reads text t after plain ends in
     let inside = keyword_here k.Var refl refl (reads.blank 32 refl (any_word name spelled refl
-        (mark_here m.Colon 58 refl refl (reads.blank 32 refl (part_here ty (reads.rule p.AccessorsNone reads.nothing refl reads.nothing)))))) in
+    (mark_here m.Colon 58 refl refl (reads.blank 32 refl (part_here ty (reads.rule p.AccessorsNone reads.nothing refl reads.nothing)))))) in
     by_rule p.VarBinding (IsFieldValue (plain_field name t)) inside refl (record { field = ap (plain_field name) ty.stands.ty; kept = λ others. refl })
 
 -- the same with its storage
@@ -165,8 +165,8 @@ cases_read text (c ∷ cases) after printable =
     rw (line_ahead (case_text c) (indented case_text cases) after)
     (rw (append_assoc (codes "case " ++ c.name) (if_there [] payload_text c.payload) behind_name)
     (by_rule p.CasesMore (AreCases (c ∷ cases)) (reads.blank 32 refl (reads.blank 32 refl
-        (keyword_here k.Case refl refl (reads.blank 32 refl (any_word c.name printable.0.0 (payload_ends c.payload behind_name refl)
-        (part_here payload (reads.blank 10 refl (part_here rest reads.nothing)))))))) refl
+    (keyword_here k.Case refl refl (reads.blank 32 refl (any_word c.name printable.0.0 (payload_ends c.payload behind_name refl)
+    (part_here payload (reads.blank 10 refl (part_here rest reads.nothing)))))))) refl
     (ap₂ (λ payload others. record { name = c.name; payload = payload } ∷ others) payload.stands rest.stands)))
 
 pub record IsDeclPrintable (d : Decl) : Type 0 where
@@ -196,28 +196,19 @@ cases_printable (c ∷ cases) spelled types = ((spelled.0, types.0), cases_print
 
 pub decl_reads : (text : List ℕ) (d : Decl) (after : List ℕ) → IsDeclPrintable d
     → Stands text n.Item (IsItem item.Decl IsDeclWritten d) (decl_text d ++ after) after
-unfolding body written meaning part_fault item_of spelling mark_spelling kept_of token_of
+unfolding body written meaning part_fault item_of spelling
 decl_reads text (decl.Struct name fields) after printable =
     let inside = fields_read text fields (125 ∷ 10 ∷ after) (fields_printable fields printable.members printable.types) printable.strong in
-    rw (braced_ahead (codes "struct ") name (indented field_text fields) after)
-    (by_rule p.StructItem (IsItem item.Decl IsDeclWritten (decl.Struct name fields))
-    (keyword_here k.Struct refl refl (reads.blank 32 refl (any_word name printable.name refl (reads.blank 32 refl
-        (mark_here m.LeftBrace 123 refl refl (reads.blank 10 refl (part_here inside (mark_here m.RightBrace 125 refl refl (reads.blank 10 refl reads.nothing)))))))))
-    (few_fields inside.value fields inside.stands printable.limits)
-    (record { item = _; is_item = refl; stands = ap (decl.Struct name) inside.stands }))
-decl_reads text (decl.Enum name cases) after printable = 
+    let whole = braced_reads k.Struct name (indented field_text fields) after refl printable.name inside in
+    by_rule p.StructItem (IsItem item.Decl IsDeclWritten (decl.Struct name fields)) whole.reads (few_fields inside.value fields inside.stands printable.limits)
+    (record { item = _; is_item = refl; stands = ap₂ decl.Struct whole.named inside.stands })
+decl_reads text (decl.Enum name cases) after printable =
     let inside = cases_read text cases (125 ∷ 10 ∷ after) (cases_printable cases printable.members printable.types) in
-    rw (braced_ahead (codes "enum ") name (indented case_text cases) after)
-    (by_rule p.EnumItem (IsItem item.Decl IsDeclWritten (decl.Enum name cases))
-    (keyword_here k.Enum refl refl (reads.blank 32 refl (any_word name printable.name refl (reads.blank 32 refl
-        (mark_here m.LeftBrace 123 refl refl (reads.blank 10 refl (part_here inside (mark_here m.RightBrace 125 refl refl (reads.blank 10 refl reads.nothing)))))))))
-    (few_cases inside.value cases inside.stands printable.limits)
-    (record { item = _; is_item = refl; stands = ap (decl.Enum name) inside.stands }))
-decl_reads text (decl.Class name fields) after printable = 
+    let whole = braced_reads k.Enum name (indented case_text cases) after refl printable.name inside in
+    by_rule p.EnumItem (IsItem item.Decl IsDeclWritten (decl.Enum name cases)) whole.reads (few_cases inside.value cases inside.stands printable.limits)
+    (record { item = _; is_item = refl; stands = ap₂ decl.Enum whole.named inside.stands })
+decl_reads text (decl.Class name fields) after printable =
     let inside = members_read text fields (125 ∷ 10 ∷ after) (fields_printable fields printable.members printable.types) in
-    rw (braced_ahead (codes "class ") name (indented field_text fields) after)
-    (by_rule p.PlainClass (IsItem item.Decl IsDeclWritten (decl.Class name fields))
-    (keyword_here k.Class refl refl (reads.blank 32 refl (any_word name printable.name refl (reads.blank 32 refl
-        (mark_here m.LeftBrace 123 refl refl (reads.blank 10 refl (part_here inside (mark_here m.RightBrace 125 refl refl (reads.blank 10 refl reads.nothing)))))))))
-    (few_fields inside.value fields inside.stands printable.limits)
-    (record { item = _; is_item = refl; stands = ap (decl.Class name) inside.stands }))
+    let whole = braced_reads k.Class name (indented field_text fields) after refl printable.name inside in
+    by_rule p.PlainClass (IsItem item.Decl IsDeclWritten (decl.Class name fields)) whole.reads (few_fields inside.value fields inside.stands printable.limits)
+    (record { item = _; is_item = refl; stands = ap₂ decl.Class whole.named inside.stands })

@@ -1,5 +1,5 @@
 -- One token that the grammar names in front of a piece, and any word.
-use Rattle.std.proofs.Common.{◌≡◌, ℕ, List, [], ◌∷◌, ◌++◌, Some, IsTrue, true, refl, ap, sym, ◌∙◌}
+use Rattle.std.proofs.Common.{◌≡◌, ℕ, List, [], ◌∷◌, ◌++◌, IsTrue, true, refl, ap, sym, ◌∙◌}
 use Rattle.sil_lexer.specs.declared.token.TokenKind.TheVariants as kind
 use Rattle.sil_lexer.specs.Bytes.{is_mark}
 use Rattle.sil_shape.specs.declared.classes.AtWord.{AtWord}
@@ -14,12 +14,12 @@ use Rattle.sil_shape.specs.declared.grammar.Symbol.TheVariants.{Read}
 use Rattle.sil_shape.specs.declared.grammar.Terminal.TheVariants as t
 use Rattle.sil_shape.specs.Accepts.{accepts, at_number, class_number, keyword_number, mark_number}
 use Rattle.sil_shape.specs.Grammar.{at, mark, word}
-use Rattle.sil_shape.specs.Spelling.{at_spelling, at_word_of, keyword_of, mark_of, mark_spelling, spelling}
+use Rattle.sil_shape.specs.Spelling.{at_spelling, mark_of, mark_spelling, spelling}
 use Rattle.sil_shape.proofs.SpellingLemmas.{at_word_of-at_spelling, keyword_of-spelling, mark_of-mark_spelling}
 use Rattle.sil_grammar.specs.Classes.{mark_class}
 use Rattle.written_modules.specs.Meaning.{leaf_of}
 use Rattle.written_modules.specs.Opened.{PartValue}
-use Rattle.numbered_form.specs.Names.{IsWord, is_at_name, is_word}
+use Rattle.numbered_form.specs.Names.{IsWord, is_at_name}
 use Rattle.printed_reading.proofs.Pieces.{Ends, Reads, lexeme_before}
 use Rattle.printed_reading.proofs.Tokens.{at_token, mark_token, word_token}
 

@@ -1,9 +1,8 @@
 -- The name of a function of the module, by its place.
-use Rattle.std.proofs.Common.{◌≡◌, ℕ, zero, suc, ◌<◌, List, [], ◌∷◌, length, slice_get, IsTrue, codes, refl, arith}
+use Rattle.std.proofs.Common.{◌≡◌, ℕ, zero, suc, ◌<◌, List, [], ◌∷◌, length, IsTrue, refl, arith}
 use Rattle.sil_ast.specs.declared.function.Function.{Function}
 use Rattle.sil_ast.specs.declared.place.FuncId.{FuncId}
 use Rattle.sil_printer.specs.CanonicalInsts.{function_name}
-use Rattle.sil_printer.specs.Words.{if_there}
 use Rattle.numbered_form.specs.Lists.{Each}
 use Rattle.numbered_form.specs.Names.{IsFunctionSpelled, is_at_name}
 use Rattle.printed_reading.proofs.Written.{name_in}

@@ -1,7 +1,6 @@
 -- A printed function reads as itself.
-use Rattle.std.proofs.Common.{◌≡◌, ℕ, ◌≤◌, List, [], ◌∷◌, ◌++◌, length, map, filter, Option, None, Bool, true, false, not, cond, IsTrue, suc, codes, refl, ap, ap₂, sym, subst, ◌∙◌, arith}
-use Rattle.std.specs.List.{AllZip, flat_map}
-use Rattle.std.specs.Str.{bytes_eq}
+use Rattle.std.proofs.Common.{◌≡◌, ℕ, ◌≤◌, List, [], ◌∷◌, ◌++◌, length, map, filter, None, codes, refl, ap, sym, ◌∙◌, arith}
+use Rattle.std.specs.List.{flat_map}
 use Rattle.std.proofs.lemmas.Grind.{flat_map-append}
 use Rattle.std.proofs.lemmas.List.{append_assoc, length-map}
 use Rattle.sil_ast.specs.declared.function.Block.{Block}
@@ -12,7 +11,7 @@ use Rattle.sil_ast.specs.declared.function.Linkage.{Linkage}
 use Rattle.sil_ast.specs.declared.function.Linkage.TheVariants as linkage
 use Rattle.sil_printer.specs.CanonicalFunctions.{attribute_text, block_text, body_text, form_text, function_text, linkage_text, words_text}
 use Rattle.sil_printer.specs.CanonicalSignatures.{signature_text}
-use Rattle.sil_printer.specs.Words.{each_behind, line, line_feed}
+use Rattle.sil_printer.specs.Words.{each_behind, line}
 use Rattle.sil_shape.specs.declared.classes.Keyword.TheVariants as k
 use Rattle.sil_shape.specs.declared.classes.Mark.TheVariants as m
 use Rattle.sil_shape.specs.declared.grammar.Nonterminal.TheVariants as n
@@ -26,9 +25,9 @@ use Rattle.written_modules.specs.declared.written_module.WrittenItem.TheVariants
 use Rattle.written_modules.specs.Faults.{passed}
 use Rattle.written_modules.specs.Meaning.{kept_of, meaning}
 use Rattle.written_modules.specs.Opened.{PartValue}
-use Rattle.written_modules.specs.PartFaults.{body_fault, function_fault, part_fault}
+use Rattle.written_modules.specs.PartFaults.{body_fault, part_fault}
 use Rattle.written_modules.specs.Places.{attribute_places, is_kept, label_place, mnemonics_of, token_place, values_of_block}
-use Rattle.written_modules.specs.Values.{blocks_of, item_of, linkage_of, signature_of, token_of, tokens_of}
+use Rattle.written_modules.specs.Values.{blocks_of, item_of, linkage_of, token_of, tokens_of}
 use Rattle.name_resolution.specs.Names.{Name, name_of}
 use Rattle.numbered_form.specs.Functions.{IsAttribute}
 use Rattle.numbered_form.specs.Lists.{Each}
@@ -42,7 +41,7 @@ use Rattle.printed_reading.proofs.Items.{IsItem}
 use Rattle.printed_reading.proofs.Fixed.{any_at, any_word, keyword_here, mark_here}
 use Rattle.printed_reading.proofs.LimitCounts.{passes_none}
 use Rattle.printed_reading.proofs.NoFaults.{neither}
-use Rattle.printed_reading.proofs.Pieces.{Ends, Reads, Stands, Reads as reads}
+use Rattle.printed_reading.proofs.Pieces.{Ends, Stands, Reads as reads}
 use Rattle.printed_reading.proofs.ResolvedForms.{attributes_are}
 use Rattle.printed_reading.proofs.Ruled.{by_rule, part_here}
 use Rattle.printed_reading.proofs.SignatureReading.{signature_reads}
@@ -161,7 +160,7 @@ head_ahead words name signature inside after = simp append_assoc refl
 -- the text of a function from left to right, the word of its form among the attributes
 function_ahead : (functions : List Function) (f : Function) (after : List ℕ) → function_text functions f ++ after
     ≡ 115 ∷ 105 ∷ 108 ∷ (linkage_text f.linkage ++ (bracketed (f.attributes ++ form_words f.form)
-        ++ (32 ∷ 64 ∷ (f.name ++ (32 ∷ 58 ∷ 32 ∷ 36 ∷ (signature_text f.signature ++ (body_text functions f.blocks ++ after)))))))
+    ++ (32 ∷ 64 ∷ (f.name ++ (32 ∷ 58 ∷ 32 ∷ 36 ∷ (signature_text f.signature ++ (body_text functions f.blocks ++ after)))))))
 function_ahead functions f after =
     let rest = 32 ∷ 64 ∷ (f.name ++ (32 ∷ 58 ∷ 32 ∷ 36 ∷ (signature_text f.signature ++ (body_text functions f.blocks ++ after)))) in
     head_ahead (words_text f) f.name (signature_text f.signature) (body_text functions f.blocks) after
@@ -181,9 +180,9 @@ function_reads text functions f after printable =
     rw (function_ahead functions f after)
     (by_rule p.FunctionItem (IsItem item.Function (IsFunctionWritten functions) f)
     (keyword_here k.Sil refl (linkage_ends f.linkage words behind_words) (part_here kind (part_here attributes (reads.blank 32 refl
-        (any_at f.name printable.spelled.name refl (reads.blank 32 refl (mark_here m.Colon 58 refl refl (reads.blank 32 refl (mark_here m.Dollar 36 refl refl
-        (part_here signature (part_here inside reads.nothing)))))))))))
+    (any_at f.name printable.spelled.name refl (reads.blank 32 refl (mark_here m.Colon 58 refl refl (reads.blank 32 refl (mark_here m.Dollar 36 refl refl
+    (part_here signature (part_here inside reads.nothing)))))))))))
     (neither (passed limit.Arguments 64 (attribute_places (tokens_of attributes.value))) (body_fault (blocks_of inside.value))
-        (passes_none limit.Arguments 64 (attribute_places (tokens_of attributes.value)) (omega (arith, attribute_count (tokens_of attributes.value) f.attributes f.form printable.attributes attributes.stands, printable.limits.attributes)))
-        (body_is_good functions f (blocks_of inside.value) printable inside.stands))
+    (passes_none limit.Arguments 64 (attribute_places (tokens_of attributes.value)) (omega (arith, attribute_count (tokens_of attributes.value) f.attributes f.form printable.attributes attributes.stands, printable.limits.attributes)))
+    (body_is_good functions f (blocks_of inside.value) printable inside.stands))
     (record { item = _; is_item = refl; stands = record { name = refl; linkage = kind.stands; attributes = attributes.stands; signature = signature.stands; blocks = inside.stands } }))

@@ -3,6 +3,7 @@ pub mod Tokens
 pub mod Fixed
 pub mod Ruled
 pub mod TextsAhead
+pub mod Braced
 pub mod Items
 pub mod Whole
 pub mod Written

@@ -1,13 +1,12 @@
 -- Where there are no more than a limit allows, no token passes it.
-use Rattle.std.proofs.Common.{◌≡◌, ℕ, ◌≤◌, List, [], ◌∷◌, length, map, slice_get, Option, Some, None, refl, ap, ap₂, sym, subst, ◌∙◌, arith}
+use Rattle.std.proofs.Common.{◌≡◌, ℕ, ◌≤◌, List, length, map, None, ap}
 use Rattle.std.specs.Option.{option_map}
 use Rattle.std.proofs.lemmas.Option.{slice_get_past}
 use Rattle.std.proofs.lemmas.List.{length-map}
 use Rattle.sil_ast.specs.declared.place.Place.{Place}
-use Rattle.written_modules.specs.declared.fault.Fault.{Fault}
 use Rattle.written_modules.specs.declared.fault.FaultKind.TheVariants.{Limit}
 use Rattle.written_modules.specs.declared.fault.LimitWord.{LimitWord}
-use Rattle.written_modules.specs.Faults.{earlier, fault, passed}
+use Rattle.written_modules.specs.Faults.{fault, passed}
 
 pub passes_none : (what : LimitWord) (most : ℕ) (places : List Place) → length places ≤ most → passed what most places ≡ None
 passes_none what most places h = ap (option_map (fault (Limit what))) (slice_get_past places most h)

@@ -1,5 +1,5 @@
 -- A printed module reads as itself.
-use Rattle.std.proofs.Common.{List, []}
+use Rattle.std.proofs.Common.{[]}
 use Rattle.sil_ast.specs.declared.module.Module.{Module}
 use Rattle.sil_printer.specs.CanonicalModules.{canonical_text}
 use Rattle.sil_shape.specs.declared.grammar.Nonterminal.TheVariants as n

@@ -1,5 +1,5 @@
 -- A part that a production writes, and a part in front of a piece.
-use Rattle.std.proofs.Common.{◌≡◌, ℕ, List, [], ◌∷◌, None, IsTrue}
+use Rattle.std.proofs.Common.{◌≡◌, ℕ, List, ◌∷◌, None, IsTrue}
 use Rattle.sil_lexer.specs.Bytes.{is_blank}
 use Rattle.sil_shape.specs.declared.grammar.Nonterminal.{Nonterminal}
 use Rattle.sil_shape.specs.declared.grammar.Production.{Production}
@@ -25,8 +25,3 @@ part_here s r = behind s.reads r
 pub blank_here : {text : List ℕ} {n : Nonterminal} {P : PartValue → Type 0} {left after : List ℕ} → (byte : ℕ) → IsTrue (is_blank byte)
     → Stands text n P left after → Stands text n P (byte ∷ left) after
 blank_here byte h s = record { value = s.value; stands = s.stands; reads = reads.blank byte h s.reads }
-
--- what stands with one property stands with one that follows
-pub stands_as : {text : List ℕ} {n : Nonterminal} {P Q : PartValue → Type 0} {left after : List ℕ}
-    → ((x : PartValue) → P x → Q x) → Stands text n P left after → Stands text n Q left after
-stands_as h s = record { value = s.value; stands = h s.value s.stands; reads = s.reads }

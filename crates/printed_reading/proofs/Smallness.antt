@@ -1,24 +1,17 @@
 -- The numbers of values and blocks of a module in numbered form are small.
-use Rattle.std.proofs.Common.{◌≡◌, ℕ, ◌+◌, ◌<◌, ◌≤◌, List, [], ◌∷◌, ◌++◌, length, arith, flat_map, length-append}
+use Rattle.std.proofs.Common.{ℕ, ◌+◌, ◌≤◌, List, [], ◌∷◌, length, arith, flat_map}
 use Rattle.sil_ast.specs.declared.inst.Edge.{Edge}
 use Rattle.sil_ast.specs.declared.operands.Operand.{Operand}
 use Rattle.sil_ast.specs.declared.place.ValueId.{ValueId}
 use Rattle.numbered_form.specs.Lists.{Each}
 use Rattle.numbered_form.specs.Numbering.{AreCountedFrom, IsEdgeInRange, IsValueBelow}
+use Rattle.numbered_reading.proofs.UsedLemmas.{Each-split}
 use Rattle.printed_reading.proofs.Printable.{IsSmallEdge, IsSmallOperand, IsSmallValue}
-
-pub Each-front : {A : Type 0} (P : A → Type 0) (xs ys : List A) → Each P (xs ++ ys) → Each P xs
-Each-front P [] ys e = tt
-Each-front P (x ∷ xs) ys e = (e.0, Each-front P xs ys e.1)
-
-pub Each-back : {A : Type 0} (P : A → Type 0) (xs ys : List A) → Each P (xs ++ ys) → Each P ys
-Each-back P [] ys e = e
-Each-back P (x ∷ xs) ys e = Each-back P xs ys e.1
 
 -- what holds of all that some items have holds of what each has
 pub Each-inside : {A B : Type 0} (f : A → List B) (P : B → Type 0) (xs : List A) → Each P (flat_map f xs) → Each (λ x. Each P (f x)) xs
 Each-inside f P [] e = tt
-Each-inside f P (x ∷ xs) e = (Each-front P (f x) (flat_map f xs) e, Each-inside f P xs (Each-back P (f x) (flat_map f xs) e))
+Each-inside f P (x ∷ xs) e = let split = Each-split P (f x) (flat_map f xs) e in (split.0, Each-inside f P xs split.1)
 
 -- numbers that are counted up from one are below where the count ends
 pub counted_small : (n : ℕ) (vs : List ValueId) → AreCountedFrom n vs → n + length vs ≤ 1024 → Each IsSmallValue vs

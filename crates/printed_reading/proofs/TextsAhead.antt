@@ -1,5 +1,5 @@
 -- Texts with what stands behind them, from left to right.
-use Rattle.std.proofs.Common.{◌≡◌, ℕ, List, [], ◌∷◌, ◌++◌, codes, refl}
+use Rattle.std.proofs.Common.{◌≡◌, ℕ, List, ◌∷◌, ◌++◌, codes, refl}
 use Rattle.std.proofs.lemmas.List.{append_assoc}
 use Rattle.sil_printer.specs.Words.{line, opening}
 

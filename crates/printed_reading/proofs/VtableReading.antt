@@ -1,5 +1,5 @@
 -- A printed vtable reads as itself.
-use Rattle.std.proofs.Common.{◌≡◌, ℕ, ◌<◌, List, [], ◌∷◌, ◌++◌, length, Option, Some, None, IfSome, codes, refl, ap, sym, ◌∙◌}
+use Rattle.std.proofs.Common.{◌≡◌, ℕ, ◌<◌, List, ◌∷◌, ◌++◌, length, Option, Some, None, IfSome, codes, refl}
 use Rattle.std.proofs.lemmas.List.{append_assoc}
 use Rattle.sil_ast.specs.declared.function.Function.{Function}
 use Rattle.sil_ast.specs.declared.vtable.DeinitEntry.{DeinitEntry}
@@ -22,11 +22,11 @@ use Rattle.numbered_form.specs.Lists.{Each}
 use Rattle.numbered_form.specs.Names.{IsFunctionSpelled, IsVtableSpelled, IsWord}
 use Rattle.numbered_form.specs.Numbering.{IsVtableInRange}
 use Rattle.printed_reading.proofs.Items.{IsItem}
+use Rattle.printed_reading.proofs.Braced.{braced_reads}
 use Rattle.printed_reading.proofs.Fixed.{any_at, any_word, keyword_here, mark_here}
-use Rattle.printed_reading.proofs.FunctionNames.{IsNameAt, is_name_at}
+use Rattle.printed_reading.proofs.FunctionNames.{is_name_at}
 use Rattle.printed_reading.proofs.Pieces.{Stands, Reads as reads}
-use Rattle.printed_reading.proofs.Ruled.{by_rule, part_here}
-use Rattle.printed_reading.proofs.TextsAhead.{braced_ahead}
+use Rattle.printed_reading.proofs.Ruled.{by_rule}
 use Rattle.printed_reading.proofs.Written.{AreBoth, IsEntryWritten, IsVtableWritten, name_in}
 
 -- in a module of these functions
@@ -54,17 +54,15 @@ entry_reads text functions (Some e) rest spelled inside names =
     rw (entry_ahead e.owner (function_name functions e.function) rest, name.text)
     (by_rule p.EntrySome (IsEntryValue functions (Some e))
     (reads.blank 32 refl (reads.blank 32 refl (mark_here m.Hash 35 refl refl (any_word e.owner spelled refl (mark_here m.Dot 46 refl refl (keyword_here k.Deinit refl refl
-        (mark_here m.Bang 33 refl refl (keyword_here k.Destroyer refl refl (mark_here m.Colon 58 refl refl (reads.blank 32 refl
-        (any_at (name_in functions e.function) name.spelled refl (reads.blank 10 refl reads.nothing)))))))))))) refl
+    (mark_here m.Bang 33 refl refl (keyword_here k.Destroyer refl refl (mark_here m.Colon 58 refl refl (reads.blank 32 refl
+    (any_at (name_in functions e.function) name.spelled refl (reads.blank 10 refl reads.nothing)))))))))))) refl
     (record { owner = refl; function = refl }))
 
 pub vtable_reads : (text : List ℕ) (functions : List Function) (v : Vtable) (after : List ℕ) → IsVtablePrintable functions v
     → Stands text n.Item (IsItem item.Vtable (IsVtableWritten functions) v) (vtable_text functions v ++ after) after
-unfolding body written meaning part_fault spelling mark_spelling kept_of token_of item_of
+unfolding body written meaning part_fault spelling item_of
 vtable_reads text functions v after printable =
     let entry = entry_reads text functions v.entry (125 ∷ 10 ∷ after) printable.spelled.owner printable.in_range printable.names in
-    rw (braced_ahead (codes "sil_vtable ") v.class_name (entry_line functions v.entry) after)
-    (by_rule p.VtableItem (IsItem item.Vtable (IsVtableWritten functions) v)
-    (keyword_here k.SilVtable refl refl (reads.blank 32 refl (any_word v.class_name printable.spelled.name refl (reads.blank 32 refl
-        (mark_here m.LeftBrace 123 refl refl (reads.blank 10 refl (part_here entry (mark_here m.RightBrace 125 refl refl (reads.blank 10 refl reads.nothing)))))))))
-    refl (record { item = _; is_item = refl; stands = record { name = refl; entry = entry.stands } }))
+    let whole = braced_reads k.SilVtable v.class_name (entry_line functions v.entry) after refl printable.spelled.name entry in
+    by_rule p.VtableItem (IsItem item.Vtable (IsVtableWritten functions) v) whole.reads refl
+    (record { item = _; is_item = refl; stands = record { name = whole.named; entry = entry.stands } })

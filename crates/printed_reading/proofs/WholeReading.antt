@@ -1,10 +1,8 @@
 -- A printed module reads as itself, where each of its parts may be printed.
 use Rattle.std.proofs.Common.{◌≡◌, ℕ, ◌+◌, ◌≤◌, suc, List, [], ◌∷◌, ◌++◌, length, map, None, Bool, true, false, codes, refl, ap, sym, ◌∙◌, arith}
-use Rattle.std.specs.List.{AllZip, flat_map}
-use Rattle.std.proofs.lemmas.Grind.{flat_map-append}
+use Rattle.std.specs.List.{flat_map}
 use Rattle.std.proofs.lemmas.List.{append_assoc, append-nil, length-map}
 use Rattle.std.proofs.lemmas.Slice.Zip.{AllZip-long}
-use Rattle.sil_ast.specs.declared.function.Function.{Function}
 use Rattle.sil_ast.specs.declared.module.Imports.{Imports}
 use Rattle.sil_ast.specs.declared.module.Module.{Module}
 use Rattle.sil_ast.specs.declared.module.Stage.{Stage}
@@ -36,7 +34,7 @@ use Rattle.numbered_form.specs.Names.{IsWord}
 use Rattle.printed_reading.proofs.DeclReading.{IsDeclPrintable, decl_reads}
 use Rattle.printed_reading.proofs.Fixed.{any_word, keyword_here}
 use Rattle.printed_reading.proofs.FunctionReading.{IsFunctionPrintable, function_reads}
-use Rattle.printed_reading.proofs.Items.{AreItems, items_in_front, no_items}
+use Rattle.printed_reading.proofs.Items.{items_in_front, no_items}
 use Rattle.printed_reading.proofs.LimitCounts.{passes_none}
 use Rattle.printed_reading.proofs.NoFaults.{neither}
 use Rattle.printed_reading.proofs.Pieces.{Stands, Reads as reads}
@@ -117,9 +115,9 @@ items_are_good : (items : List WrittenItem) (decls : List WrittenDecl) (function
     → module_fault items ≡ None
 items_are_good items decls functions vtables e few_decls few_functions =
     let d : length (map token_place (flat_map decl_names items)) ≡ length decls =
-        length-map (flat_map decl_names items) token_place ∙ ap (λ items. length (flat_map decl_names items)) e ∙ decl_places decls functions vtables in
+    length-map (flat_map decl_names items) token_place ∙ ap (λ items. length (flat_map decl_names items)) e ∙ decl_places decls functions vtables in
     let f : length (map token_place (flat_map function_names items)) ≡ length functions =
-        length-map (flat_map function_names items) token_place ∙ ap (λ items. length (flat_map function_names items)) e ∙ function_places decls functions vtables in
+    length-map (flat_map function_names items) token_place ∙ ap (λ items. length (flat_map function_names items)) e ∙ function_places decls functions vtables in
     neither (passed limit.Declarations 1024 (map token_place (flat_map decl_names items))) (passed limit.Functions 1024 (map token_place (flat_map function_names items)))
     (passes_none limit.Declarations 1024 (map token_place (flat_map decl_names items)) (omega (arith, d, few_decls)))
     (passes_none limit.Functions 1024 (map token_place (flat_map function_names items)) (omega (arith, f, few_functions)))
@@ -140,21 +138,21 @@ whole_reads text m printable =
     let decls_text = each_behind line_feed decl_text m.decls in
     let none = no_items text [] in
     let vtables = items_in_front text item.Vtable (IsVtableWritten m.functions) (vtable_text m.functions) (IsVtablePrintable m.functions) (vtable_reads text m.functions)
-        m.vtables printable.vtables [] [] none in
+    m.vtables printable.vtables [] [] none in
     let functions = items_in_front text item.Function (IsFunctionWritten m.functions) (function_text m.functions) (IsFunctionPrintable m.functions) (function_reads text m.functions)
-        m.functions printable.functions (vtables_text ++ []) [] vtables in
+    m.functions printable.functions (vtables_text ++ []) [] vtables in
     let decls = items_in_front text item.Decl IsDeclWritten decl_text IsDeclPrintable (decl_reads text) m.decls printable.decls (functions_text ++ (vtables_text ++ [])) [] functions in
     let imports = imports_read text m.imports.builtin m.imports.swift (decls_text ++ (functions_text ++ (vtables_text ++ []))) in
     let stage = stage_reads text m.stage (imports_text m.imports ++ (decls_text ++ (functions_text ++ (vtables_text ++ [])))) in
     let items : items_of decls.value ≡ map item.Decl decls.stands.ws ++ map item.Function functions.stands.ws ++ map item.Vtable vtables.stands.ws =
-        items_nested (items_of decls.value) (map item.Decl decls.stands.ws) (map item.Function functions.stands.ws) (map item.Vtable vtables.stands.ws)
-        (items_of functions.value) (items_of vtables.value) decls.stands.are_items functions.stands.are_items
-        (vtables.stands.are_items ∙ ap (λ rest. map item.Vtable vtables.stands.ws ++ rest) none.stands) in
+    items_nested (items_of decls.value) (map item.Decl decls.stands.ws) (map item.Function functions.stands.ws) (map item.Vtable vtables.stands.ws)
+    (items_of functions.value) (items_of vtables.value) decls.stands.are_items functions.stands.are_items
+    (vtables.stands.are_items ∙ ap (λ rest. map item.Vtable vtables.stands.ws ++ rest) none.stands) in
     rw (module_ahead (stage_text m.stage) (imports_text m.imports) decls_text functions_text vtables_text)
     (by_rule p.WholeModule (IsModuleValue m) (part_here stage (part_here imports (part_here decls reads.nothing)))
     (items_are_good (items_of decls.value) decls.stands.ws functions.stands.ws vtables.stands.ws items
-        (omega (arith, AllZip-long IsDeclWritten m.decls decls.stands.ws decls.stands.stand, printable.few_decls))
-        (omega (arith, AllZip-long (IsFunctionWritten m.functions) m.functions functions.stands.ws functions.stands.stand, printable.few_functions)))
+    (omega (arith, AllZip-long IsDeclWritten m.decls decls.stands.ws decls.stands.stand, printable.few_decls))
+    (omega (arith, AllZip-long (IsFunctionWritten m.functions) m.functions functions.stands.ws functions.stands.stand, printable.few_functions)))
     (record {
       written = _;
       value = refl;
