@@ -1,5 +1,6 @@
 pub mod Pieces
 pub mod Tokens
+pub mod Commas
 pub mod Whole
 pub mod Written
 pub mod Printable

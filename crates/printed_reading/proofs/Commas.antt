@@ -1,0 +1,117 @@
+-- Lists with a comma between two items, whatever the items are.
+use Rattle.std.proofs.Common.{◌≡◌, ℕ, suc, ◌≤◌, List, [], ◌∷◌, ◌++◌, length, Option, None, slice_get, codes, flat_map, refl, ap, sym, subst, zero, arith}
+use Rattle.std.specs.Option.{option_map}
+use Rattle.std.specs.List.{join_by}
+use Rattle.std.proofs.lemmas.List.{append_assoc}
+use Rattle.sil_ast.specs.declared.place.Place.{Place}
+use Rattle.sil_lexer.specs.Bytes.{is_mark, is_name_byte, is_blank}
+use Rattle.sil_lexer.specs.declared.token.TokenKind.TheVariants as kind
+use Rattle.sil_printer.specs.Words.{listed}
+use Rattle.sil_shape.specs.declared.classes.Class.TheVariants as c
+use Rattle.sil_shape.specs.declared.classes.Mark.TheVariants as m
+use Rattle.sil_shape.specs.declared.grammar.Nonterminal.{Nonterminal}
+use Rattle.sil_shape.specs.declared.grammar.Production.{Production}
+use Rattle.sil_shape.specs.declared.grammar.Symbol.{Symbol}
+use Rattle.sil_shape.specs.declared.grammar.Symbol.TheVariants.{Read, Part}
+use Rattle.sil_shape.specs.Accepts.{accepts, class_number, mark_number}
+use Rattle.sil_shape.specs.Grammar.{body, mark, written}
+use Rattle.sil_shape.specs.Spelling.{mark_of, mark_spelling, marks}
+use Rattle.written_modules.specs.declared.fault.LimitWord.{LimitWord}
+use Rattle.written_modules.specs.declared.fault.Fault.{Fault}
+use Rattle.written_modules.specs.Faults.{passed}
+use Rattle.written_modules.specs.Meaning.{meaning}
+use Rattle.written_modules.specs.Opened.{PartValue}
+use Rattle.written_modules.specs.PartFaults.{part_fault}
+use Rattle.numbered_form.specs.Lists.{Each}
+use Rattle.printed_reading.proofs.Pieces.{Ends, Reads, Reads as reads, Stands, behind}
+use Rattle.printed_reading.proofs.Tokens.{mark_token}
+
+-- one symbol reads as something of which P holds
+pub record ReadsOne (text : List ℕ) (s : Symbol) (P : PartValue → Type 0) (left after : List ℕ) : Type 0 where
+  pub value : PartValue
+  pub holds : P value
+  pub reads : Reads text (s ∷ []) left (value ∷ []) after
+
+-- wherever it stands
+abbrev pub ReadsAs : List ℕ → Symbol → (PartValue → Type 0) → List ℕ → Type 0
+ReadsAs text s P written = (after : List ℕ) → Ends after → ReadsOne text s P (written ++ after) after
+
+pub one_part : {text : List ℕ} {part : Nonterminal} {P : PartValue → Type 0} {left after : List ℕ} → Stands text part P left after → ReadsOne text (Part part) P left after
+one_part r = record { value = r.value; holds = r.stands; reads = r.reads }
+
+-- a production whose part and body are known
+pub by_rule : {text : List ℕ} {part : Nonterminal} {symbols ss : List Symbol} {left middle : List ℕ} {parts values : List PartValue} {after : List ℕ} → (p : Production)
+    → written p ≡ part → body p ≡ symbols → Reads text symbols left parts middle → part_fault p parts ≡ None → Reads text ss middle values after
+    → Reads text (Part part ∷ ss) left (meaning p parts ∷ values) after
+by_rule {text = text} {ss = ss} {left = left} {middle = middle} {parts = parts} {values = values} {after = after} p is_written is_body inside faultless r =
+    subst (λ part. Reads text (Part part ∷ ss) left (meaning p parts ∷ values) after) is_written
+    (reads.rule p (subst (λ symbols. Reads text symbols left parts middle) (sym is_body) inside) faultless r)
+
+-- the items behind the first, each behind a comma
+abbrev pub more_text : {A : Type 0} → (A → List ℕ) → List A → List ℕ
+more_text write items = flat_map (λ item. codes ", " ++ write item) items
+
+ends_more : {A : Type 0} (write : A → List ℕ) (items : List A) (after : List ℕ) → Ends after → Ends (more_text write items ++ after)
+ends_more write [] after ends = ends
+ends_more write (item ∷ items) after ends = refl
+
+-- the two productions that write the items behind the first
+pub record CommaRules (item : Symbol) (more : Nonterminal) (again end : Production) : Type 0 where
+  pub again_written : written again ≡ more
+  pub again_body : body again ≡ Read (mark m.Comma) ∷ item ∷ Part more ∷ []
+  pub again_fault : (parts : List PartValue) → part_fault again parts ≡ None
+  pub end_written : written end ≡ more
+  pub end_body : body end ≡ []
+  pub end_fault : (parts : List PartValue) → part_fault end parts ≡ None
+
+-- what the values of the items make together
+pub record CommaValues {A : Type 0} (again end : Production) (Is : A → PartValue → Type 0) (Are : List A → PartValue → Type 0) : Type 0 where
+  pub none : Are [] (meaning end [])
+  pub one_more : (x : A) (xs : List A) (comma first others : PartValue) → Is x first → Are xs others → Are (x ∷ xs) (meaning again (comma ∷ first ∷ others ∷ []))
+
+pub record ReadsListed (text : List ℕ) {A : Type 0} (item : Symbol) (more : Nonterminal) (Is : A → PartValue → Type 0) (Are : List A → PartValue → Type 0)
+    (x : A) (xs : List A) (left after : List ℕ) : Type 0 where
+  pub first : PartValue
+  pub others : PartValue
+  pub is_first : Is x first
+  pub are_others : Are xs others
+  pub reads : Reads text (item ∷ Part more ∷ []) left (first ∷ others ∷ []) after
+
+module _ (text : List ℕ) {A : Type 0} (item : Symbol) (more : Nonterminal) (again end : Production) (rules : CommaRules item more again end)
+    (Is : A → PartValue → Type 0) (Are : List A → PartValue → Type 0) (values : CommaValues again end Is Are) (write : A → List ℕ) where
+
+  in_front : (x : A) (xs : List A) → ReadsAs text item (Is x) (write x) → ReadsAs text (Part more) (Are xs) (more_text write xs)
+      → (after : List ℕ) → Ends after → ReadsListed text item more Is Are x xs (listed write (x ∷ xs) ++ after) after
+  in_front x xs here behind_it after ends =
+      let first = here (more_text write xs ++ after) (ends_more write xs after ends) in
+      let others = behind_it after ends in
+      record {
+        first = first.value;
+        others = others.value;
+        is_first = first.holds;
+        are_others = others.holds;
+        reads = rw (append_assoc (write x) (more_text write xs) after) (behind first.reads others.reads);
+      }
+
+  one_more : {left after : List ℕ} {comma first others : PartValue} → (x : A) (xs : List A) → Is x first → Are xs others
+      → Reads text (Read (mark m.Comma) ∷ item ∷ Part more ∷ []) left (comma ∷ first ∷ others ∷ []) after → ReadsOne text (Part more) (Are (x ∷ xs)) left after
+  one_more x xs is_first are_others r = record {
+    value = _;
+    holds = values.one_more x xs _ _ _ is_first are_others;
+    reads = by_rule again rules.again_written rules.again_body r (rules.again_fault _) reads.nothing;
+  }
+
+  pub more_reads : (xs : List A) → Each (λ x. ReadsAs text item (Is x) (write x)) xs → ReadsAs text (Part more) (Are xs) (more_text write xs)
+  unfolding accepts class_number mark_number mark_of mark_spelling marks
+  more_reads [] each after ends = record {
+    value = _;
+    holds = values.none;
+    reads = by_rule end rules.end_written rules.end_body reads.nothing (rules.end_fault []) reads.nothing;
+  }
+  more_reads (x ∷ xs) each after ends =
+      let r = in_front x xs each.0 (more_reads xs each.1) after ends in
+      one_more x xs r.is_first r.are_others (mark_token 44 refl refl (reads.blank 32 refl r.reads))
+
+  pub listed_reads : (x : A) (xs : List A) → ReadsAs text item (Is x) (write x) → Each (λ x. ReadsAs text item (Is x) (write x)) xs
+      → (after : List ℕ) → Ends after → ReadsListed text item more Is Are x xs (listed write (x ∷ xs) ++ after) after
+  listed_reads x xs here each after ends = in_front x xs here (more_reads xs each) after ends
