@@ -23,21 +23,8 @@ use Rattle.written_modules.specs.Meaning.{meaning}
 use Rattle.written_modules.specs.Opened.{PartValue}
 use Rattle.written_modules.specs.PartFaults.{part_fault}
 use Rattle.numbered_form.specs.Lists.{Each}
-use Rattle.printed_reading.proofs.Pieces.{Ends, Reads, Reads as reads, Stands, behind}
+use Rattle.printed_reading.proofs.Pieces.{Ends, Reads, Reads as reads, ReadsAs, ReadsOne, behind}
 use Rattle.printed_reading.proofs.Tokens.{mark_token}
-
--- one symbol reads as something of which P holds
-pub record ReadsOne (text : List ℕ) (s : Symbol) (P : PartValue → Type 0) (left after : List ℕ) : Type 0 where
-  pub value : PartValue
-  pub holds : P value
-  pub reads : Reads text (s ∷ []) left (value ∷ []) after
-
--- wherever it stands
-abbrev pub ReadsAs : List ℕ → Symbol → (PartValue → Type 0) → List ℕ → Type 0
-ReadsAs text s P written = (after : List ℕ) → Ends after → ReadsOne text s P (written ++ after) after
-
-pub one_part : {text : List ℕ} {part : Nonterminal} {P : PartValue → Type 0} {left after : List ℕ} → Stands text part P left after → ReadsOne text (Part part) P left after
-one_part r = record { value = r.value; holds = r.stands; reads = r.reads }
 
 -- a production whose part and body are known
 pub by_rule : {text : List ℕ} {part : Nonterminal} {symbols ss : List Symbol} {left middle : List ℕ} {parts values : List PartValue} {after : List ℕ} → (p : Production)
@@ -88,8 +75,8 @@ module _ (text : List ℕ) {A : Type 0} (item : Symbol) (more : Nonterminal) (ag
       record {
         first = first.value;
         others = others.value;
-        is_first = first.holds;
-        are_others = others.holds;
+        is_first = first.stands;
+        are_others = others.stands;
         reads = rw (append_assoc (write x) (more_text write xs) after) (behind first.reads others.reads);
       }
 
@@ -97,7 +84,7 @@ module _ (text : List ℕ) {A : Type 0} (item : Symbol) (more : Nonterminal) (ag
       → Reads text (Read (mark m.Comma) ∷ item ∷ Part more ∷ []) left (comma ∷ first ∷ others ∷ []) after → ReadsOne text (Part more) (Are (x ∷ xs)) left after
   one_more x xs is_first are_others r = record {
     value = _;
-    holds = values.one_more x xs _ _ _ is_first are_others;
+    stands = values.one_more x xs _ _ _ is_first are_others;
     reads = by_rule again rules.again_written rules.again_body r (rules.again_fault _) reads.nothing;
   }
 
@@ -105,7 +92,7 @@ module _ (text : List ℕ) {A : Type 0} (item : Symbol) (more : Nonterminal) (ag
   unfolding accepts class_number mark_number mark_of mark_spelling marks
   more_reads [] each after ends = record {
     value = _;
-    holds = values.none;
+    stands = values.none;
     reads = by_rule end rules.end_written rules.end_body reads.nothing (rules.end_fault []) reads.nothing;
   }
   more_reads (x ∷ xs) each after ends =

@@ -1,6 +1,8 @@
 pub mod Pieces
 pub mod Tokens
 pub mod Commas
+pub mod NoFaults
+pub mod TypeForms
 pub mod Whole
 pub mod Written
 pub mod Printable
