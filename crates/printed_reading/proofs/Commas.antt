@@ -42,20 +42,34 @@ ends_more : {A : Type 0} (write : A → List ℕ) (items : List A) (after : List
 ends_more write [] after ends = ends
 ends_more write (item ∷ items) after ends = refl
 
--- the two productions that write the items behind the first
-pub record CommaRules (item : Symbol) (more : Nonterminal) (again end : Production) : Type 0 where
+-- the two productions that write the items behind the first, and what their values make together
+pub record MoreItems {A : Type 0} (item : Symbol) (more : Nonterminal) (Is : A → PartValue → Type 0) (Are : List A → PartValue → Type 0) : Type 0 where
+  pub again : Production
+  pub end : Production
   pub again_written : written again ≡ more
   pub again_body : body again ≡ Read (mark m.Comma) ∷ item ∷ Part more ∷ []
   pub again_fault : (parts : List PartValue) → part_fault again parts ≡ None
+  pub again_makes : (x : A) (xs : List A) (comma first others : PartValue) → Is x first → Are xs others → Are (x ∷ xs) (meaning again (comma ∷ first ∷ others ∷ []))
   pub end_written : written end ≡ more
   pub end_body : body end ≡ []
   pub end_fault : (parts : List PartValue) → part_fault end parts ≡ None
+  pub end_makes : Are [] (meaning end [])
 
--- what the values of the items make together
-pub record CommaValues {A : Type 0} (again end : Production) (Is : A → PartValue → Type 0) (Are : List A → PartValue → Type 0) : Type 0 where
-  pub none : Are [] (meaning end [])
-  pub one_more : (x : A) (xs : List A) (comma first others : PartValue) → Is x first → Are xs others → Are (x ∷ xs) (meaning again (comma ∷ first ∷ others ∷ []))
+-- the two productions that write all items, or that there are none
+pub record AllItems {A : Type 0} (item : Symbol) (more all : Nonterminal) (Is : A → PartValue → Type 0) (Are : List A → PartValue → Type 0) : Type 0 where
+  pub others : MoreItems item more Is Are
+  pub some : Production
+  pub none : Production
+  pub some_written : written some ≡ all
+  pub some_body : body some ≡ item ∷ Part more ∷ []
+  pub some_fault : (parts : List PartValue) → part_fault some parts ≡ None
+  pub some_makes : (x : A) (xs : List A) (first others : PartValue) → Is x first → Are xs others → Are (x ∷ xs) (meaning some (first ∷ others ∷ []))
+  pub none_written : written none ≡ all
+  pub none_body : body none ≡ []
+  pub none_fault : (parts : List PartValue) → part_fault none parts ≡ None
+  pub none_makes : Are [] (meaning none [])
 
+-- an item, and those behind it
 pub record ReadsListed (text : List ℕ) {A : Type 0} (item : Symbol) (more : Nonterminal) (Is : A → PartValue → Type 0) (Are : List A → PartValue → Type 0)
     (x : A) (xs : List A) (left after : List ℕ) : Type 0 where
   pub first : PartValue
@@ -64,8 +78,8 @@ pub record ReadsListed (text : List ℕ) {A : Type 0} (item : Symbol) (more : No
   pub are_others : Are xs others
   pub reads : Reads text (item ∷ Part more ∷ []) left (first ∷ others ∷ []) after
 
-module _ (text : List ℕ) {A : Type 0} (item : Symbol) (more : Nonterminal) (again end : Production) (rules : CommaRules item more again end)
-    (Is : A → PartValue → Type 0) (Are : List A → PartValue → Type 0) (values : CommaValues again end Is Are) (write : A → List ℕ) where
+module _ (text : List ℕ) {A : Type 0} (item : Symbol) (more : Nonterminal) (Is : A → PartValue → Type 0) (Are : List A → PartValue → Type 0)
+    (write : A → List ℕ) where
 
   in_front : (x : A) (xs : List A) → ReadsAs text item (Is x) (write x) → ReadsAs text (Part more) (Are xs) (more_text write xs)
       → (after : List ℕ) → Ends after → ReadsListed text item more Is Are x xs (listed write (x ∷ xs) ++ after) after
@@ -80,25 +94,40 @@ module _ (text : List ℕ) {A : Type 0} (item : Symbol) (more : Nonterminal) (ag
         reads = rw (append_assoc (write x) (more_text write xs) after) (behind first.reads others.reads);
       }
 
-  one_more : {left after : List ℕ} {comma first others : PartValue} → (x : A) (xs : List A) → Is x first → Are xs others
+  one_more : {left after : List ℕ} {comma first others : PartValue} → (rules : MoreItems item more Is Are) (x : A) (xs : List A) → Is x first → Are xs others
       → Reads text (Read (mark m.Comma) ∷ item ∷ Part more ∷ []) left (comma ∷ first ∷ others ∷ []) after → ReadsOne text (Part more) (Are (x ∷ xs)) left after
-  one_more x xs is_first are_others r = record {
+  one_more rules x xs is_first are_others r = record {
     value = _;
-    stands = values.one_more x xs _ _ _ is_first are_others;
-    reads = by_rule again rules.again_written rules.again_body r (rules.again_fault _) reads.nothing;
+    stands = rules.again_makes x xs _ _ _ is_first are_others;
+    reads = by_rule rules.again rules.again_written rules.again_body r (rules.again_fault _) reads.nothing;
   }
 
-  pub more_reads : (xs : List A) → Each (λ x. ReadsAs text item (Is x) (write x)) xs → ReadsAs text (Part more) (Are xs) (more_text write xs)
+  pub more_reads : (rules : MoreItems item more Is Are) (xs : List A) → Each (λ x. ReadsAs text item (Is x) (write x)) xs → ReadsAs text (Part more) (Are xs) (more_text write xs)
   unfolding accepts class_number mark_number mark_of mark_spelling marks
-  more_reads [] each after ends = record {
+  more_reads rules [] each after ends = record {
     value = _;
-    stands = values.none;
-    reads = by_rule end rules.end_written rules.end_body reads.nothing (rules.end_fault []) reads.nothing;
+    stands = rules.end_makes;
+    reads = by_rule rules.end rules.end_written rules.end_body reads.nothing (rules.end_fault []) reads.nothing;
   }
-  more_reads (x ∷ xs) each after ends =
-      let r = in_front x xs each.0 (more_reads xs each.1) after ends in
-      one_more x xs r.is_first r.are_others (mark_token 44 refl refl (reads.blank 32 refl r.reads))
+  more_reads rules (x ∷ xs) each after ends =
+      let r = in_front x xs each.0 (more_reads rules xs each.1) after ends in
+      one_more rules x xs r.is_first r.are_others (mark_token 44 refl refl (reads.blank 32 refl r.reads))
 
-  pub listed_reads : (x : A) (xs : List A) → ReadsAs text item (Is x) (write x) → Each (λ x. ReadsAs text item (Is x) (write x)) xs
+  pub listed_reads : (rules : MoreItems item more Is Are) (x : A) (xs : List A) → ReadsAs text item (Is x) (write x) → Each (λ x. ReadsAs text item (Is x) (write x)) xs
       → (after : List ℕ) → Ends after → ReadsListed text item more Is Are x xs (listed write (x ∷ xs) ++ after) after
-  listed_reads x xs here each after ends = in_front x xs here (more_reads xs each) after ends
+  listed_reads rules x xs here each after ends = in_front x xs here (more_reads rules xs each) after ends
+
+  pub list_reads : (all : Nonterminal) (rules : AllItems item more all Is Are) (xs : List A) → Each (λ x. ReadsAs text item (Is x) (write x)) xs
+      → ReadsAs text (Part all) (Are xs) (listed write xs)
+  list_reads all rules [] each after ends = record {
+    value = _;
+    stands = rules.none_makes;
+    reads = by_rule rules.none rules.none_written rules.none_body reads.nothing (rules.none_fault []) reads.nothing;
+  }
+  list_reads all rules (x ∷ xs) each after ends =
+      let r = listed_reads rules.others x xs each.0 each.1 after ends in
+      record {
+        value = _;
+        stands = rules.some_makes x xs _ _ r.is_first r.are_others;
+        reads = by_rule rules.some rules.some_written rules.some_body r.reads (rules.some_fault _) reads.nothing;
+      }

@@ -3,6 +3,7 @@ pub mod Tokens
 pub mod Commas
 pub mod NoFaults
 pub mod TypeForms
+pub mod TypeLists
 pub mod Whole
 pub mod Written
 pub mod Printable
