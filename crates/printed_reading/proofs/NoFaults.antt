@@ -1,5 +1,5 @@
 -- Where a part isn't at fault.
-use Rattle.std.proofs.Common.{◌≡◌, ℕ, zero, suc, ◌≤◌, List, [], ◌∷◌, length, slice_get, Option, Some, None, false, ◌==◌, nat_lt, refl, ap, arith}
+use Rattle.std.proofs.Common.{◌≡◌, ℕ, zero, suc, ◌+◌, ◌≤◌, List, [], ◌∷◌, length, slice_get, Option, Some, None, false, ◌==◌, nat_lt, refl, ap, arith}
 use Rattle.std.specs.Option.{option_map}
 use Rattle.std.proofs.lemmas.Bool.Decides.{nat_tests}
 use Rattle.sil_ast.specs.declared.place.Place.{Place}
@@ -30,14 +30,14 @@ no_fault_of_two (Some a) (Some b) h e = absurd (cc)
 pub below_limit : (depth : ℕ) → depth ≤ 32 → nat_lt 32 depth ≡ false
 below_limit depth h = grind (arith, nat_tests)
 
-at_no_limit : (depth : ℕ) → suc depth ≤ 32 → (depth == 32) ≡ false
+at_no_limit : (depth : ℕ) → 1 + depth ≤ 32 → (depth == 32) ≡ false
 at_no_limit depth h = grind (arith, nat_tests)
 
-pub not_too_deep : (depth : ℕ) (last : Place) → suc depth ≤ 32 → too_deep depth last ≡ None
+pub not_too_deep : (depth : ℕ) (last : Place) → 1 + depth ≤ 32 → too_deep depth last ≡ None
 not_too_deep depth last h = rw (at_no_limit depth h) refl
 
-pub one_more_level : (depth : ℕ) → suc depth ≤ 32 → deeper depth ≡ suc depth
+pub one_more_level : (depth : ℕ) → 1 + depth ≤ 32 → deeper depth ≡ 1 + depth
 one_more_level depth h = rw (below_limit depth (omega arith)) (omega arith)
 
-pub whole_type : (depth : ℕ) (t : TypeName) → suc depth ≤ 32 → kept (deeper depth) t ≡ t
-whole_type depth t h = rw (one_more_level depth h, below_limit (suc depth) h) refl
+pub whole_type : (depth : ℕ) (t : TypeName) → 1 + depth ≤ 32 → kept (deeper depth) t ≡ t
+whole_type depth t h = rw (one_more_level depth h, below_limit (1 + depth) h) refl

@@ -171,17 +171,17 @@ int_reads text width h =
 
 -- a type over another, one level deeper
 
-level_over : (w : PartType) (t : TypeName) (depth : ℕ) (form : TypeName → TypeName) → w.ty ≡ t → w.depth ≡ depth → suc depth ≤ 32
-    → (kept (deeper w.depth) (form w.ty) ≡ form t) × (deeper w.depth ≡ suc depth)
+level_over : (w : PartType) (t : TypeName) (depth : ℕ) (form : TypeName → TypeName) → w.ty ≡ t → w.depth ≡ depth → 1 + depth ≤ 32
+    → (kept (deeper w.depth) (form w.ty) ≡ form t) × (deeper w.depth ≡ 1 + depth)
 level_over w t depth form is_type is_depth room =
-    let below : suc w.depth ≤ 32 = omega arith in
-    (whole_type w.depth (form w.ty) below ∙ ap form is_type, one_more_level w.depth below ∙ ap suc is_depth)
+    let below : 1 + w.depth ≤ 32 = omega arith in
+    (whole_type w.depth (form w.ty) below ∙ ap form is_type, one_more_level w.depth below ∙ ap (λ depth. 1 + depth) is_depth)
 
-no_room_needed : (w : PartType) (depth : ℕ) (last : Place) → w.depth ≡ depth → suc depth ≤ 32 → too_deep w.depth last ≡ None
+no_room_needed : (w : PartType) (depth : ℕ) (last : Place) → w.depth ≡ depth → 1 + depth ≤ 32 → too_deep w.depth last ≡ None
 no_room_needed w depth last is_depth room = not_too_deep w.depth last (omega arith)
 
-module _ (text : List ℕ) (t : TypeName) (depth : ℕ) (written : List ℕ) (inside : ReadsAs text (Part n.Type) (IsTypeOf t depth) written) (room : suc depth ≤ 32) where
-  pub weak_reads : ReadsAs text (Part n.OpenType) (IsTypeOf (ty.Weak t) (suc depth)) (codes "@sil_weak " ++ written)
+module _ (text : List ℕ) (t : TypeName) (depth : ℕ) (written : List ℕ) (inside : ReadsAs text (Part n.Type) (IsTypeOf t depth) written) (room : 1 + depth ≤ 32) where
+  pub weak_reads : ReadsAs text (Part n.OpenType) (IsTypeOf (ty.Weak t) (1 + depth)) (codes "@sil_weak " ++ written)
   unfolding body grammar.written meaning part_fault type_of accepts class_number at_number at_word_of known_at_word at_words at_spelling
   weak_reads after ends =
       let r = inside after ends in
@@ -191,7 +191,7 @@ module _ (text : List ℕ) (t : TypeName) (depth : ℕ) (written : List ℕ) (in
         reads = reads.rule p.WeakOpen (at_token (codes "sil_weak") refl refl refl (reads.blank 32 refl r.reads)) (no_room_needed (type_of r.value) depth _ r.stands.1 room) reads.nothing;
       }
 
-  pub unowned_reads : ReadsAs text (Part n.OpenType) (IsTypeOf (ty.Unowned t) (suc depth)) (codes "@sil_unowned " ++ written)
+  pub unowned_reads : ReadsAs text (Part n.OpenType) (IsTypeOf (ty.Unowned t) (1 + depth)) (codes "@sil_unowned " ++ written)
   unfolding body grammar.written meaning part_fault type_of accepts class_number at_number at_word_of known_at_word at_words at_spelling
   unowned_reads after ends =
       let r = inside after ends in
@@ -201,11 +201,11 @@ module _ (text : List ℕ) (t : TypeName) (depth : ℕ) (written : List ℕ) (in
         reads = reads.rule p.UnownedOpen (at_token (codes "sil_unowned") refl refl refl (reads.blank 32 refl r.reads)) (no_room_needed (type_of r.value) depth _ r.stands.1 room) reads.nothing;
       }
 
-  pub optional_reads : ReadsAs text (Part n.OpenType) (IsTypeOf (ty.Optional t) (suc depth)) (codes "Optional<" ++ written ++ codes ">")
+  pub optional_reads : ReadsAs text (Part n.OpenType) (IsTypeOf (ty.Optional t) (1 + depth)) (codes "Optional<" ++ written ++ codes ">")
   unfolding body grammar.written meaning part_fault type_of tailed accepts class_number keyword_number mark_number mark_of mark_spelling marks keyword_of known_keyword keywords_of_length spelling
   optional_reads after ends =
       let r = inside (62 ∷ after) refl in
-      rw (append_assoc written (codes ">") after) (base_open text (ty.Optional t) (suc depth) (record {
+      rw (append_assoc written (codes ">") after) (base_open text (ty.Optional t) (1 + depth) (record {
         value = _;
         stands = level_over (type_of r.value) t depth ty.Optional r.stands.0 r.stands.1 room;
         reads = reads.rule p.OptionalBase
