@@ -2,6 +2,7 @@ pub mod Pieces
 pub mod Tokens
 pub mod Commas
 pub mod NoFaults
+pub mod Worded
 pub mod TypeForms
 pub mod TypeLists
 pub mod Whole

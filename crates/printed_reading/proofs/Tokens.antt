@@ -195,3 +195,10 @@ pub mark_token : {text : List ℕ} {s : Symbol} {ss : List Symbol} {rest : List 
     → Reads text (s ∷ ss) (byte ∷ rest) (leaf_of (lexeme_before text kind.Mark (byte ∷ []) rest) ∷ values) after
 unfolding class_by
 mark_token {rest = rest} byte is_one accepted r = reads.token kind.Mark (byte ∷ []) accepted (record { spelled = spells.mark byte is_one; ended = no_more rest }) (omega arith) r
+
+-- `->`
+pub arrow_token : {text : List ℕ} {s : Symbol} {ss : List Symbol} {rest : List ℕ} {values : List PartValue} {after : List ℕ}
+    → Accepts s (mark_class (mark_of (45 ∷ 62 ∷ []))) → Reads text ss rest values after
+    → Reads text (s ∷ ss) (45 ∷ 62 ∷ rest) (leaf_of (lexeme_before text kind.Mark (45 ∷ 62 ∷ []) rest) ∷ values) after
+unfolding class_by
+arrow_token {rest = rest} accepted r = reads.token kind.Mark (45 ∷ 62 ∷ []) accepted (record { spelled = spells.arrow; ended = no_more rest }) (omega arith) r

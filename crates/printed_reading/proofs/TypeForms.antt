@@ -35,7 +35,8 @@ use Rattle.numbered_form.specs.Types.{is_width}
 use Rattle.printed_reading.proofs.Commas.{by_rule}
 use Rattle.printed_reading.proofs.NoFaults.{not_too_deep, one_more_level, whole_type}
 use Rattle.printed_reading.proofs.Pieces.{Ends, Reads, Reads as reads, ReadsAs, Stands, behind}
-use Rattle.printed_reading.proofs.Tokens.{at_token, mark_token, word_token}
+use Rattle.printed_reading.proofs.Tokens.{mark_token, word_token}
+use Rattle.printed_reading.proofs.Worded.{word_accepted, worded_reads}
 
 -- the part stands for the type, counted so deep
 abbrev pub IsTypeOf : TypeName → ℕ → PartValue → Type 0
@@ -76,13 +77,6 @@ sort_of k.Builtin = builtin
 sort_of k.Optional = optional
 sort_of _ = other refl
 
-itself : (number : ℕ) → (number == number) ≡ true
-itself number = grind (arith, nat_tests)
-
-accepted : (name : List ℕ) (keyword : Keyword) → keyword_of name ≡ keyword → accepts (word keyword) (c.Word (keyword_of name)) ≡ true
-unfolding accepts
-accepted name keyword e = ap (λ known. class_number (c.Word keyword) == class_number (c.Word known)) e ∙ itself (class_number (c.Word keyword))
-
 module _ (text : List ℕ) where
   name_reads : (name : List ℕ) (keyword : Keyword) → keyword_of name ≡ keyword → WordSort keyword → IsTrue (is_word name)
       → ReadsAs text (Part n.Base) (IsTypeOf (ty.Named name) 1) name
@@ -90,12 +84,12 @@ module _ (text : List ℕ) where
   name_reads name _ e builtin spelled after ends = record {
     value = _;
     stands = (refl, refl);
-    reads = reads.rule p.BuiltinBase (word_token name spelled (accepted name k.Builtin e) ends (reads.rule p.BuiltinName reads.nothing refl reads.nothing)) refl reads.nothing;
+    reads = reads.rule p.BuiltinBase (word_token name spelled (word_accepted name k.Builtin e) ends (reads.rule p.BuiltinName reads.nothing refl reads.nothing)) refl reads.nothing;
   }
   name_reads name _ e optional spelled after ends = record {
     value = _;
     stands = (refl, refl);
-    reads = reads.rule p.OptionalBase (word_token name spelled (accepted name k.Optional e) ends (reads.rule p.OptionalName reads.nothing refl reads.nothing)) refl reads.nothing;
+    reads = reads.rule p.OptionalBase (word_token name spelled (word_accepted name k.Optional e) ends (reads.rule p.OptionalName reads.nothing refl reads.nothing)) refl reads.nothing;
   }
   name_reads name keyword e (other h) spelled after ends = record {
     value = _;
@@ -128,7 +122,7 @@ module _ (text : List ℕ) where
         (word_token (codes "Builtin") refl refl refl
         (reads.rule p.BuiltinInt
         (mark_token 46 refl refl
-        (by_rule rule r.rule_written r.rule_body (word_token (codes "Int" ++ decimal width) r.spelled (accepted (codes "Int" ++ decimal width) keyword r.known) ends reads.nothing) (r.rule_fault _) reads.nothing))
+        (by_rule rule r.rule_written r.rule_body (word_token (codes "Int" ++ decimal width) r.spelled (word_accepted (codes "Int" ++ decimal width) keyword r.known) ends reads.nothing) (r.rule_fault _) reads.nothing))
         refl reads.nothing))
         refl reads.nothing;
   })
@@ -182,24 +176,16 @@ no_room_needed w depth last is_depth room = not_too_deep w.depth last (omega ari
 
 module _ (text : List ℕ) (t : TypeName) (depth : ℕ) (written : List ℕ) (inside : ReadsAs text (Part n.Type) (IsTypeOf t depth) written) (room : 1 + depth ≤ 32) where
   pub weak_reads : ReadsAs text (Part n.OpenType) (IsTypeOf (ty.Weak t) (1 + depth)) (codes "@sil_weak " ++ written)
-  unfolding body grammar.written meaning part_fault type_of accepts class_number at_number at_word_of known_at_word at_words at_spelling
-  weak_reads after ends =
-      let r = inside after ends in
-      record {
-        value = _;
-        stands = level_over (type_of r.value) t depth ty.Weak r.stands.0 r.stands.1 room;
-        reads = reads.rule p.WeakOpen (at_token (codes "sil_weak") refl refl refl (reads.blank 32 refl r.reads)) (no_room_needed (type_of r.value) depth _ r.stands.1 room) reads.nothing;
-      }
+  unfolding body grammar.written meaning part_fault type_of at_word_of known_at_word at_words at_spelling
+  weak_reads after ends = worded_reads p.WeakOpen a.SilWeak refl refl refl refl
+      (λ sigil inner is. level_over (type_of inner) t depth ty.Weak is.0 is.1 room)
+      (λ sigil inner is. no_room_needed (type_of inner) depth _ is.1 room) (inside after ends)
 
   pub unowned_reads : ReadsAs text (Part n.OpenType) (IsTypeOf (ty.Unowned t) (1 + depth)) (codes "@sil_unowned " ++ written)
-  unfolding body grammar.written meaning part_fault type_of accepts class_number at_number at_word_of known_at_word at_words at_spelling
-  unowned_reads after ends =
-      let r = inside after ends in
-      record {
-        value = _;
-        stands = level_over (type_of r.value) t depth ty.Unowned r.stands.0 r.stands.1 room;
-        reads = reads.rule p.UnownedOpen (at_token (codes "sil_unowned") refl refl refl (reads.blank 32 refl r.reads)) (no_room_needed (type_of r.value) depth _ r.stands.1 room) reads.nothing;
-      }
+  unfolding body grammar.written meaning part_fault type_of at_word_of known_at_word at_words at_spelling
+  unowned_reads after ends = worded_reads p.UnownedOpen a.SilUnowned refl refl refl refl
+      (λ sigil inner is. level_over (type_of inner) t depth ty.Unowned is.0 is.1 room)
+      (λ sigil inner is. no_room_needed (type_of inner) depth _ is.1 room) (inside after ends)
 
   pub optional_reads : ReadsAs text (Part n.OpenType) (IsTypeOf (ty.Optional t) (1 + depth)) (codes "Optional<" ++ written ++ codes ">")
   unfolding body grammar.written meaning part_fault type_of tailed accepts class_number keyword_number mark_number mark_of mark_spelling marks keyword_of known_keyword keywords_of_length spelling
