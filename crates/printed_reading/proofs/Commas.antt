@@ -1,13 +1,7 @@
 -- Lists with a comma between two items, whatever the items are.
-use Rattle.std.proofs.Common.{◌≡◌, ℕ, suc, ◌≤◌, List, [], ◌∷◌, ◌++◌, length, Option, None, slice_get, codes, flat_map, refl, ap, sym, subst, zero, arith}
-use Rattle.std.specs.Option.{option_map}
-use Rattle.std.specs.List.{join_by}
+use Rattle.std.proofs.Common.{◌≡◌, ℕ, List, [], ◌∷◌, ◌++◌, None, codes, flat_map, refl, sym, subst}
 use Rattle.std.proofs.lemmas.List.{append_assoc}
-use Rattle.sil_ast.specs.declared.place.Place.{Place}
-use Rattle.sil_lexer.specs.Bytes.{is_mark, is_name_byte, is_blank}
-use Rattle.sil_lexer.specs.declared.token.TokenKind.TheVariants as kind
 use Rattle.sil_printer.specs.Words.{listed}
-use Rattle.sil_shape.specs.declared.classes.Class.TheVariants as c
 use Rattle.sil_shape.specs.declared.classes.Mark.TheVariants as m
 use Rattle.sil_shape.specs.declared.grammar.Nonterminal.{Nonterminal}
 use Rattle.sil_shape.specs.declared.grammar.Production.{Production}
@@ -16,9 +10,6 @@ use Rattle.sil_shape.specs.declared.grammar.Symbol.TheVariants.{Read, Part}
 use Rattle.sil_shape.specs.Accepts.{accepts, class_number, mark_number}
 use Rattle.sil_shape.specs.Grammar.{body, mark, written}
 use Rattle.sil_shape.specs.Spelling.{mark_of, mark_spelling, marks}
-use Rattle.written_modules.specs.declared.fault.LimitWord.{LimitWord}
-use Rattle.written_modules.specs.declared.fault.Fault.{Fault}
-use Rattle.written_modules.specs.Faults.{passed}
 use Rattle.written_modules.specs.Meaning.{meaning}
 use Rattle.written_modules.specs.Opened.{PartValue}
 use Rattle.written_modules.specs.PartFaults.{part_fault}
@@ -80,7 +71,6 @@ pub record ReadsListed (text : List ℕ) {A : Type 0} (item : Symbol) (more : No
 
 module _ (text : List ℕ) {A : Type 0} (item : Symbol) (more : Nonterminal) (Is : A → PartValue → Type 0) (Are : List A → PartValue → Type 0)
     (write : A → List ℕ) where
-
   in_front : (x : A) (xs : List A) → ReadsAs text item (Is x) (write x) → ReadsAs text (Part more) (Are xs) (more_text write xs)
       → (after : List ℕ) → Ends after → ReadsListed text item more Is Are x xs (listed write (x ∷ xs) ++ after) after
   in_front x xs here behind_it after ends =

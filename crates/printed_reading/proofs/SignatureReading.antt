@@ -1,5 +1,5 @@
 -- A printed signature reads as itself.
-use Rattle.std.proofs.Common.{◌≡◌, ℕ, suc, ◌≤◌, List, [], ◌∷◌, ◌++◌, length, map, None, Bool, true, false, ◌==◌, if◌then◌else◌, codes, refl, ap, sym, subst, ◌∙◌, arith, IsTrue, IsFalse, true≢false}
+use Rattle.std.proofs.Common.{◌≡◌, ℕ, suc, List, [], ◌∷◌, ◌++◌, length, Bool, true, false, if◌then◌else◌, codes, refl, ap, ◌∙◌, arith}
 use Rattle.std.proofs.lemmas.List.{append_assoc}
 use Rattle.sil_ast.specs.declared.signature.Convention.{Convention}
 use Rattle.sil_ast.specs.declared.signature.Convention.TheVariants as convention
@@ -12,26 +12,23 @@ use Rattle.sil_ast.specs.declared.type_name.TypeName.{TypeName}
 use Rattle.sil_printer.specs.CanonicalSignatures.{convention_text, given_text, param_text, passing_text, results_text, signature_text}
 use Rattle.sil_printer.specs.CanonicalTypes.{opens_parens, type_text}
 use Rattle.sil_printer.specs.Words.{in_parens, listed}
-use Rattle.sil_shape.specs.declared.classes.AtWord.{AtWord}
 use Rattle.sil_shape.specs.declared.classes.AtWord.TheVariants as a
 use Rattle.sil_shape.specs.declared.grammar.Nonterminal.TheVariants as n
-use Rattle.sil_shape.specs.declared.grammar.Production.{Production}
 use Rattle.sil_shape.specs.declared.grammar.Production.TheVariants as p
-use Rattle.sil_shape.specs.declared.grammar.Symbol.TheVariants.{Read, Part}
+use Rattle.sil_shape.specs.declared.grammar.Symbol.TheVariants.{Part}
 use Rattle.sil_shape.specs.Accepts.{accepts, at_number, class_number, keyword_number, mark_number}
 use Rattle.sil_shape.specs.Grammar.{body, written}
 use Rattle.sil_shape.specs.Spelling.{at_spelling, at_word_of, at_words, keyword_of, keywords_of_length, known_at_word, known_keyword, mark_of, mark_spelling, marks, spelling}
 use Rattle.written_modules.specs.declared.fault.LimitWord.TheVariants as limit
-use Rattle.written_modules.specs.Faults.{earlier, passed}
 use Rattle.written_modules.specs.Meaning.{meaning}
 use Rattle.written_modules.specs.Opened.{PartGivens, PartParams, PartValue}
 use Rattle.written_modules.specs.PartFaults.{part_fault}
-use Rattle.written_modules.specs.Values.{convention_of, given_before, givens_of, no_givens, no_params, param_before, params_of, signature_of, type_of}
+use Rattle.written_modules.specs.Values.{convention_of, given_before, givens_of, param_before, params_of, signature_of, type_of}
 use Rattle.numbered_form.specs.Lists.{Each}
 use Rattle.numbered_form.specs.Limits.{IsSignatureInLimits}
 use Rattle.numbered_form.specs.Types.{HasGivenType, HasParamType, HasSignatureTypes, IsPlainType}
 use Rattle.numbered_reading.proofs.Basics.{Each-weaker}
-use Rattle.printed_reading.proofs.Commas.{AllItems, MoreItems, list_reads}
+use Rattle.printed_reading.proofs.Commas.{AllItems, list_reads}
 use Rattle.printed_reading.proofs.NoFaults.{no_fault_of_two, not_passed}
 use Rattle.printed_reading.proofs.Pieces.{Ends, Reads as reads, ReadsAs, Stands, behind}
 use Rattle.printed_reading.proofs.Tokens.{arrow_token, at_token, mark_token, word_token}
@@ -187,7 +184,7 @@ module _ (text : List ℕ) where
   -- one result, which stands by itself where it doesn't begin with a parenthesis
   result_reads : (owned : Bool) (t : TypeName) → IsPlainType t → (opens : Bool) → opens_parens (given_text (given_as owned t)) ≡ opens
       → ReadsAs text (Part n.Results) (AreGivenValues (given_as owned t ∷ []))
-        (if opens then in_parens given_text (given_as owned t ∷ []) else given_text (given_as owned t))
+      (if opens then in_parens given_text (given_as owned t ∷ []) else given_text (given_as owned t))
   unfolding body written part_fault meaning givens_of type_of at_word_of known_at_word at_words at_spelling
   result_reads owned t plain true e after ends = results_between (given_as owned t ∷ []) (plain, tt) after ends
   result_reads true t plain false e after ends = worded_reads p.ResultOwned a.Owned refl refl refl refl

@@ -1,30 +1,25 @@
 -- The forms of a printed type, each over the types that stand in it.
-use Rattle.std.proofs.Common.{◌≡◌, ℕ, suc, ◌+◌, ◌≤◌, List, [], ◌∷◌, ◌++◌, length, map, None, Option, Bool, true, false, if◌then◌else◌, ◌==◌, nat_lt, codes, decimal, refl, ap, sym, subst, ◌∙◌, arith, IsTrue, ◌⊎◌, inl, inr}
+use Rattle.std.proofs.Common.{◌≡◌, ℕ, ◌+◌, ◌≤◌, List, [], ◌∷◌, ◌++◌, None, Option, Bool, true, false, if◌then◌else◌, nat_lt, codes, decimal, refl, ap, sym, subst, ◌∙◌, arith, IsTrue, ◌⊎◌, inl, inr}
 use Rattle.std.specs.Fmt.{digits}
 use Rattle.std.proofs.lemmas.List.{append_assoc}
 use Rattle.std.proofs.lemmas.Bool.Decides.{nat_tests}
-use Rattle.sil_ast.specs.TypeName.{depth_of, largest}
 use Rattle.sil_ast.specs.declared.place.Place.{Place}
 use Rattle.sil_ast.specs.declared.type_name.TypeName.{TypeName}
 use Rattle.sil_ast.specs.declared.type_name.TypeName.TheVariants as ty
-use Rattle.sil_shape.specs.declared.classes.Class.TheVariants as c
 use Rattle.sil_shape.specs.declared.classes.Keyword.{Keyword}
 use Rattle.sil_shape.specs.declared.classes.Keyword.TheVariants as k
 use Rattle.sil_shape.specs.declared.classes.AtWord.TheVariants as a
-use Rattle.sil_shape.specs.declared.classes.Mark.TheVariants as m
 use Rattle.sil_shape.specs.declared.grammar.Nonterminal.TheVariants as n
 use Rattle.sil_shape.specs.declared.grammar.Production.{Production}
 use Rattle.sil_shape.specs.declared.grammar.Production.TheVariants as p
 use Rattle.sil_shape.specs.declared.grammar.Symbol.TheVariants.{Read, Part}
 use Rattle.sil_shape.specs.declared.grammar.Terminal.TheVariants as t
-use Rattle.sil_shape.specs.Accepts.{accepts, at_number, class_number, is_type_word, keyword_number, mark_number}
+use Rattle.sil_shape.specs.Accepts.{accepts, class_number, is_type_word, keyword_number, mark_number}
 use Rattle.sil_shape.specs.Grammar as grammar
 use Rattle.sil_shape.specs.Grammar.{body, word, written}
 use Rattle.sil_shape.specs.Spelling.{at_spelling, at_word_of, at_words, keyword_of, keywords_of_length, known_at_word, known_keyword, mark_of, mark_spelling, marks, spelling}
-use Rattle.sil_printer.specs.Words.{in_parens as parens}
 use Rattle.written_modules.specs.declared.written_declarations.WrittenToken.{WrittenToken}
 use Rattle.written_modules.specs.declared.fault.Fault.{Fault}
-use Rattle.written_modules.specs.Faults.{earlier}
 use Rattle.written_modules.specs.Meaning.{kept_of, meaning}
 use Rattle.written_modules.specs.Opened.{PartType, PartValue}
 use Rattle.written_modules.specs.PartFaults.{part_fault, too_deep, too_marked}
@@ -34,7 +29,7 @@ use Rattle.numbered_form.specs.Names.{is_word}
 use Rattle.numbered_form.specs.Types.{is_width}
 use Rattle.printed_reading.proofs.Commas.{by_rule}
 use Rattle.printed_reading.proofs.NoFaults.{not_too_deep, one_more_level, whole_type}
-use Rattle.printed_reading.proofs.Pieces.{Ends, Reads, Reads as reads, ReadsAs, Stands, behind}
+use Rattle.printed_reading.proofs.Pieces.{Reads as reads, ReadsAs, Stands, behind}
 use Rattle.printed_reading.proofs.Tokens.{mark_token, word_token}
 use Rattle.printed_reading.proofs.Worded.{word_accepted, worded_reads}
 
@@ -102,66 +97,48 @@ module _ (text : List ℕ) where
 
 -- builtin integers
 
--- a production that writes the width of a builtin integer
-record WidthRule (width : ℕ) (keyword : Keyword) (rule : Production) : Type 0 where
-  rule_written : written rule ≡ n.Width
-  rule_body : body rule ≡ Read (word keyword) ∷ []
-  rule_fault : (parts : List PartValue) → part_fault rule parts ≡ None
-  spelled : IsTrue (is_word (codes "Int" ++ decimal width))
-  known : keyword_of (codes "Int" ++ decimal width) ≡ keyword
-  stands : (token : WrittenToken) (parts : List PartValue) → ((tailed token (meaning rule parts)).ty ≡ ty.Int width) × ((tailed token (meaning rule parts)).depth ≡ 1)
-
 module _ (text : List ℕ) where
-  by_width : (width : ℕ) (keyword : Keyword) (rule : Production) → WidthRule width keyword rule
+  -- by the production that writes the width
+  by_width : (width : ℕ) (keyword : Keyword) (rule : Production) → written rule ≡ n.Width → body rule ≡ Read (word keyword) ∷ []
+      → ((parts : List PartValue) → part_fault rule parts ≡ None)
+      → ((token : WrittenToken) (parts : List PartValue) → ((tailed token (meaning rule parts)).ty ≡ ty.Int width) × ((tailed token (meaning rule parts)).depth ≡ 1))
+      → IsTrue (is_word (codes "Int" ++ decimal width)) → keyword_of (codes "Int" ++ decimal width) ≡ keyword
       → ReadsAs text (Part n.OpenType) (IsTypeOf (ty.Int width) 1) (codes "Builtin.Int" ++ decimal width)
   unfolding body written meaning part_fault type_of token_of kept_of accepts class_number keyword_number mark_number mark_of mark_spelling marks keyword_of known_keyword keywords_of_length spelling
-  by_width width keyword rule r after ends = base_open text (ty.Int width) 1 (record {
+  by_width width keyword rule is_written is_body faultless makes spelled known after ends = base_open text (ty.Int width) 1 (record {
     value = _;
-    stands = r.stands _ _;
+    stands = makes _ _;
     reads = reads.rule p.BuiltinBase
         (word_token (codes "Builtin") refl refl refl
         (reads.rule p.BuiltinInt
         (mark_token 46 refl refl
-        (by_rule rule r.rule_written r.rule_body (word_token (codes "Int" ++ decimal width) r.spelled (word_accepted (codes "Int" ++ decimal width) keyword r.known) ends reads.nothing) (r.rule_fault _) reads.nothing))
+        (by_rule rule is_written is_body
+        (word_token (codes "Int" ++ decimal width) spelled (word_accepted (codes "Int" ++ decimal width) keyword known) ends reads.nothing)
+        (faultless _) reads.nothing))
         refl reads.nothing))
         refl reads.nothing;
   })
-
-width_1 : WidthRule 1 k.Int1 p.Width1
-unfolding written body meaning part_fault tailed keyword_of known_keyword keywords_of_length spelling digits
-width_1 = record { rule_written = refl; rule_body = refl; rule_fault = λ parts. refl; spelled = refl; known = refl; stands = λ token parts. (refl, refl) }
-
-width_8 : WidthRule 8 k.Int8 p.Width8
-unfolding written body meaning part_fault tailed keyword_of known_keyword keywords_of_length spelling digits
-width_8 = record { rule_written = refl; rule_body = refl; rule_fault = λ parts. refl; spelled = refl; known = refl; stands = λ token parts. (refl, refl) }
-
-width_16 : WidthRule 16 k.Int16 p.Width16
-unfolding written body meaning part_fault tailed keyword_of known_keyword keywords_of_length spelling digits
-width_16 = record { rule_written = refl; rule_body = refl; rule_fault = λ parts. refl; spelled = refl; known = refl; stands = λ token parts. (refl, refl) }
-
-width_32 : WidthRule 32 k.Int32 p.Width32
-unfolding written body meaning part_fault tailed keyword_of known_keyword keywords_of_length spelling digits
-width_32 = record { rule_written = refl; rule_body = refl; rule_fault = λ parts. refl; spelled = refl; known = refl; stands = λ token parts. (refl, refl) }
-
-width_64 : WidthRule 64 k.Int64 p.Width64
-unfolding written body meaning part_fault tailed keyword_of known_keyword keywords_of_length spelling digits
-width_64 = record { rule_written = refl; rule_body = refl; rule_fault = λ parts. refl; spelled = refl; known = refl; stands = λ token parts. (refl, refl) }
 
 one_of_widths : (width : ℕ) → IsTrue (is_width width) → (width ≡ 1) ⊎ ((width ≡ 8) ⊎ ((width ≡ 16) ⊎ ((width ≡ 32) ⊎ (width ≡ 64))))
 one_of_widths width h = grind (arith, nat_tests)
 
 pub int_reads : (text : List ℕ) (width : ℕ) → IsTrue (is_width width) → ReadsAs text (Part n.OpenType) (IsTypeOf (ty.Int width) 1) (codes "Builtin.Int" ++ decimal width)
+unfolding written body meaning part_fault tailed keyword_of known_keyword keywords_of_length spelling digits
 int_reads text width h =
     let as_int : ℕ → Type 0 = λ width. ReadsAs text (Part n.OpenType) (IsTypeOf (ty.Int width) 1) (codes "Builtin.Int" ++ decimal width) in
     elim (one_of_widths width h) [
-      inl e ↦ subst as_int (sym e) (by_width text 1 k.Int1 p.Width1 width_1)
-    | inr f ↦ elim f [
-      inl e ↦ subst as_int (sym e) (by_width text 8 k.Int8 p.Width8 width_8)
-    | inr f ↦ elim f [
-      inl e ↦ subst as_int (sym e) (by_width text 16 k.Int16 p.Width16 width_16)
-    | inr f ↦ elim f [
-      inl e ↦ subst as_int (sym e) (by_width text 32 k.Int32 p.Width32 width_32)
-    | inr e ↦ subst as_int (sym e) (by_width text 64 k.Int64 p.Width64 width_64) ] ] ] ]
+      | inl e ↦ subst as_int (sym e) (by_width text 1 k.Int1 p.Width1 refl refl (λ parts. refl) (λ token parts. (refl, refl)) refl refl)
+      | inr f ↦ elim f [
+        | inl e ↦ subst as_int (sym e) (by_width text 8 k.Int8 p.Width8 refl refl (λ parts. refl) (λ token parts. (refl, refl)) refl refl)
+        | inr f ↦ elim f [
+          | inl e ↦ subst as_int (sym e) (by_width text 16 k.Int16 p.Width16 refl refl (λ parts. refl) (λ token parts. (refl, refl)) refl refl)
+          | inr f ↦ elim f [
+            | inl e ↦ subst as_int (sym e) (by_width text 32 k.Int32 p.Width32 refl refl (λ parts. refl) (λ token parts. (refl, refl)) refl refl)
+            | inr e ↦ subst as_int (sym e) (by_width text 64 k.Int64 p.Width64 refl refl (λ parts. refl) (λ token parts. (refl, refl)) refl refl)
+          ]
+        ]
+      ]
+    ]
 
 -- a type over another, one level deeper
 

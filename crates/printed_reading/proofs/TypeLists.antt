@@ -1,5 +1,5 @@
 -- Printed types between two parentheses: tuples, and payloads of one type.
-use Rattle.std.proofs.Common.{◌≡◌, ℕ, suc, ◌+◌, ◌≤◌, List, [], ◌∷◌, ◌++◌, length, map, max, Some, None, Option, Bool, true, false, ◌==◌, codes, refl, ap, sym, subst, ◌∙◌, arith, IsTrue, IsFalse, true≢false}
+use Rattle.std.proofs.Common.{◌≡◌, ℕ, suc, ◌+◌, ◌≤◌, List, [], ◌∷◌, ◌++◌, length, map, max, Some, None, false, ◌==◌, codes, refl, ap, ◌∙◌, arith, true≢false}
 use Rattle.std.proofs.lemmas.List.{append_assoc}
 use Rattle.std.proofs.lemmas.Bool.Decides.{nat_tests}
 use Rattle.sil_ast.specs.TypeName.{depth_of, largest}
@@ -15,16 +15,15 @@ use Rattle.sil_shape.specs.Accepts.{accepts, class_number, mark_number}
 use Rattle.sil_shape.specs.Grammar.{body, written}
 use Rattle.sil_shape.specs.Spelling.{mark_of, mark_spelling, marks}
 use Rattle.written_modules.specs.declared.fault.LimitWord.TheVariants as limit
-use Rattle.written_modules.specs.Faults.{earlier, passed}
 use Rattle.written_modules.specs.Meaning.{meaning}
 use Rattle.written_modules.specs.Opened.{PartType, PartTypes, PartValue}
-use Rattle.written_modules.specs.PartFaults.{part_fault, too_deep, too_deep_among, tuple_fault}
-use Rattle.written_modules.specs.Types.{between, deeper, kept, type_before}
-use Rattle.written_modules.specs.Values.{marks_of, no_types, payload_of, token_of, type_of, types_of}
+use Rattle.written_modules.specs.PartFaults.{part_fault, too_deep_among, tuple_fault}
+use Rattle.written_modules.specs.Types.{between, type_before}
+use Rattle.written_modules.specs.Values.{marks_of, no_types, payload_of, type_of, types_of}
 use Rattle.numbered_form.specs.Lists.{Each}
-use Rattle.printed_reading.proofs.Commas.{AllItems, MoreItems, ReadsListed, list_reads, listed_reads}
+use Rattle.printed_reading.proofs.Commas.{AllItems, MoreItems, list_reads, listed_reads}
 use Rattle.printed_reading.proofs.NoFaults.{no_fault_of_two, not_passed, not_too_deep, one_more_level, whole_type}
-use Rattle.printed_reading.proofs.Pieces.{Ends, Reads as reads, ReadsAs, ReadsOne, Stands, behind}
+use Rattle.printed_reading.proofs.Pieces.{Reads as reads, ReadsAs, Stands, behind}
 use Rattle.printed_reading.proofs.Tokens.{mark_token}
 use Rattle.printed_reading.proofs.TypeForms.{IsTypeOf, not_marked}
 
@@ -92,9 +91,10 @@ tuple_between (t ∷ u ∷ ts) depth first last several room = (whole_type depth
 parens_value : (ts : List TypeName) (list : PartTypes) (first last : Place) → AreTypes ts list → (length ts == 1) ≡ false → 1 + largest (map depth_of ts) ≤ 32
     → ((between list.types list.depth first last).ty ≡ ty.Tuple ts) × ((between list.types list.depth first last).depth ≡ 1 + largest (map depth_of ts))
 parens_value ts list first last are several room =
-    let whole = tuple_between ts list.depth first last several (omega (arith, are.depth)) in
-    (ap (λ types. (between types list.depth first last).ty) are.types ∙ whole.0,
-     ap (λ types. (between types list.depth first last).depth) are.types ∙ whole.1 ∙ ap (λ depth. 1 + depth) are.depth)
+    let whole = tuple_between ts list.depth first last several (omega (arith, are.depth)) in (
+      ap (λ types. (between types list.depth first last).ty) are.types ∙ whole.0,
+      ap (λ types. (between types list.depth first last).depth) are.types ∙ whole.1 ∙ ap (λ depth. 1 + depth) are.depth,
+    )
 
 no_depth_fault : (ts : List TypeName) (depth : ℕ) (last : Place) → 1 + depth ≤ 32 → too_deep_among ts depth last ≡ None
 no_depth_fault [] depth last room = not_too_deep depth last room

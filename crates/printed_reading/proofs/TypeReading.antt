@@ -1,5 +1,5 @@
 -- A printed type reads as itself.
-use Rattle.std.proofs.Common.{◌≡◌, ℕ, zero, suc, ◌+◌, ◌≤◌, List, [], ◌∷◌, ◌++◌, length, map, Some, Bool, true, false, not, ◌&&◌, ◌==◌, nat_le, codes, decimal, if◌then◌else◌, IsTrue, IsFalse, refl, ap, sym, subst, ◌∙◌, arith, true≢false}
+use Rattle.std.proofs.Common.{◌≡◌, ℕ, zero, suc, ◌+◌, ◌≤◌, List, [], ◌∷◌, ◌++◌, length, map, Some, Bool, true, false, not, ◌&&◌, ◌==◌, nat_le, codes, if◌then◌else◌, IsTrue, IsFalse, refl, ap, sym, subst, ◌∙◌, arith, true≢false}
 use Rattle.std.specs.List.{list_all}
 use Rattle.std.proofs.lemmas.List.{append-nil, length-map}
 use Rattle.std.proofs.lemmas.Bool.Decides.{nat_tests}
@@ -72,9 +72,10 @@ module _ (text : List ℕ) (most : ℕ) (limited : most ≤ 32)
   each_inside : (ts : List TypeName) → list_all same (map is_plain_type ts) ≡ true → 1 + largest (map depth_of ts) ≤ most
       → Each (λ t. ReadsAs text (Part n.Type) (IsTypeOf t (depth_of t)) (type_text t)) ts
   each_inside [] plain deep = tt
-  each_inside (t ∷ ts) plain deep =
-      (inside t (first_of_both (is_plain_type t) (list_all same (map is_plain_type ts)) plain) (omega arith),
-       each_inside ts (second_of_both (is_plain_type t) (list_all same (map is_plain_type ts)) plain) (omega arith))
+  each_inside (t ∷ ts) plain deep = (
+    inside t (first_of_both (is_plain_type t) (list_all same (map is_plain_type ts)) plain) (omega arith),
+    each_inside ts (second_of_both (is_plain_type t) (list_all same (map is_plain_type ts)) plain) (omega arith),
+  )
 
   tuple_form : (ts : List TypeName) → IsTuple ts → 1 + largest (map depth_of ts) ≤ most
       → Form text (roll-TypeName (TypeName-F.Tuple ts)) (1 + largest (map depth_of ts)) (in_parens (λ text. text) (map type_text ts))

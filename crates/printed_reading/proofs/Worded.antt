@@ -16,7 +16,7 @@ use Rattle.written_modules.specs.Opened.{PartValue}
 use Rattle.written_modules.specs.PartFaults.{part_fault}
 use Rattle.numbered_form.specs.Names.{is_at_name}
 use Rattle.printed_reading.proofs.Commas.{by_rule}
-use Rattle.printed_reading.proofs.Pieces.{Reads as reads, ReadsOne, Stands}
+use Rattle.printed_reading.proofs.Pieces.{Reads as reads, Stands}
 use Rattle.printed_reading.proofs.Tokens.{at_token}
 
 itself : (number : ℕ) → (number == number) ≡ true
