@@ -1,43 +1,63 @@
--- Where a part isn't at fault.
-use Rattle.std.proofs.Common.{◌≡◌, ℕ, zero, suc, ◌+◌, ◌≤◌, List, [], ◌∷◌, length, slice_get, Option, Some, None, false, ◌==◌, nat_lt, refl, ap, arith}
-use Rattle.std.specs.Option.{option_map}
-use Rattle.std.proofs.lemmas.Bool.Decides.{nat_tests}
-use Rattle.sil_ast.specs.declared.place.Place.{Place}
-use Rattle.sil_ast.specs.declared.type_name.TypeName.{TypeName}
+-- No name is given twice and each that is used is known: no fault.
+use Rattle.std.proofs.Common.{◌≡◌, List, [], ◌∷◌, ◌++◌, map, Option, Some, None, Bool, true, false, if◌then◌else◌, ◌||◌, Contains, ap, refl, subst, ◌∙◌, arith, append_assoc}
+use Rattle.std.specs.List.{list_any}
+use Rattle.std.specs.Str.{bytes_eq}
+use Rattle.std.proofs.lemmas.List.Elements.{Contains-append_right, Contains-get_or}
 use Rattle.written_modules.specs.declared.fault.Fault.{Fault}
-use Rattle.written_modules.specs.declared.fault.FaultKind.TheVariants.{Limit}
-use Rattle.written_modules.specs.declared.fault.LimitWord.{LimitWord}
-use Rattle.written_modules.specs.Faults.{earlier, fault, passed}
-use Rattle.written_modules.specs.PartFaults.{too_deep}
-use Rattle.written_modules.specs.Types.{deeper, kept}
+use Rattle.written_modules.specs.declared.fault.FaultKind.TheVariants.{Twice, UnknownName}
+use Rattle.written_modules.specs.declared.written_declarations.WrittenToken.{WrittenToken}
+use Rattle.written_modules.specs.Faults.{earlier, earliest, fault}
+use Rattle.name_resolution.specs.NameFaults.{is_among, twice_after, unknown_among, unknown_in}
+use Rattle.name_resolution.specs.Names.{Name, name_of}
+use Rattle.numbered_form.specs.Lists.{Each}
+use Rattle.numbered_form.specs.Names.{AreOnce}
+use Rattle.numbered_reading.proofs.Basics.{Each-map}
+use Rattle.printed_reading.proofs.Namings.{no_match}
 
-nothing_at : {A : Type 0} (xs : List A) (n : ℕ) → length xs ≤ n → slice_get xs n ≡ None
-nothing_at [] n h = refl
-nothing_at (x ∷ xs) zero h = absurd (omega arith)
-nothing_at (x ∷ xs) (suc n) h = nothing_at xs n (omega arith)
+abbrev pub IsNone : Option Fault → Type 0
+IsNone fault = fault ≡ None
 
--- as many as the limit allows
-pub not_passed : (what : LimitWord) (most : ℕ) (places : List Place) → length places ≤ most → passed what most places ≡ None
-not_passed what most places h = ap (option_map (fault (Limit what))) (nothing_at places most h)
-
-pub no_fault_of_two : (a b : Option Fault) → a ≡ None → b ≡ None → earlier a b ≡ None
+-- where neither of two is at fault
+pub neither : (a b : Option Fault) → a ≡ None → b ≡ None → earlier a b ≡ None
 unfolding earlier
-no_fault_of_two None b h e = e
-no_fault_of_two (Some a) None h e = h
-no_fault_of_two (Some a) (Some b) h e = absurd (cc)
+neither a b e f = ap (λ first. earlier first b) e ∙ f
 
--- a type below the limit on levels
-pub below_limit : (depth : ℕ) → depth ≤ 32 → nat_lt 32 depth ≡ false
-below_limit depth h = grind (arith, nat_tests)
+pub none_of_all : (faults : List (Option Fault)) → Each IsNone faults → earliest faults ≡ None
+none_of_all [] e = refl
+none_of_all (fault ∷ faults) e = neither fault (earliest faults) e.0 (none_of_all faults e.1)
 
-at_no_limit : (depth : ℕ) → 1 + depth ≤ 32 → (depth == 32) ≡ false
-at_no_limit depth h = grind (arith, nat_tests)
+pub none_of_each : {A : Type 0} (f : A → Option Fault) (xs : List A) → Each (λ x. f x ≡ None) xs → earliest (map f xs) ≡ None
+none_of_each f xs e = none_of_all (map f xs) (Each-map f (λ x. f x ≡ None) IsNone (λ x h. h) xs e)
 
-pub not_too_deep : (depth : ℕ) (last : Place) → 1 + depth ≤ 32 → too_deep depth last ≡ None
-not_too_deep depth last h = rw (at_no_limit depth h) refl
+-- given twice
 
-pub one_more_level : (depth : ℕ) → 1 + depth ≤ 32 → deeper depth ≡ 1 + depth
-one_more_level depth h = rw (below_limit depth (omega arith)) (omega arith)
+found_later : (name : Name) (names : List Name) (text : Name) (rest : List Name) → (Contains (names ++ text ∷ rest) name → ⊥) → text ≡ name → ⊥
+found_later name names text rest h e =
+    h (subst (Contains (names ++ text ∷ rest)) e (Contains-append_right names (text ∷ rest) text (Contains-get_or (text ∷ rest) 0 text (omega arith))))
 
-pub whole_type : (depth : ℕ) (t : TypeName) → 1 + depth ≤ 32 → kept (deeper depth) t ≡ t
-whole_type depth t h = rw (one_more_level depth h, below_limit (1 + depth) h) refl
+neither_test : (a b : Bool) → a ≡ false → b ≡ false → (a || b) ≡ false
+neither_test a b e f = ap (λ first. first || b) e ∙ f
+
+-- a name that stands once stands not among those in front
+not_in_front : (names : List Name) (text : Name) (rest : List Name) → AreOnce (names ++ text ∷ rest) → list_any (bytes_eq text) names ≡ false
+not_in_front [] text rest once = refl
+not_in_front (name ∷ names) text rest once =
+    neither_test (bytes_eq text name) (list_any (bytes_eq text) names) (no_match text name (found_later name names text rest once.0)) (not_in_front names text rest once.1)
+
+pub never_twice : (names : List Name) (tokens : List WrittenToken) → AreOnce (names ++ map name_of tokens) → twice_after names tokens ≡ None
+never_twice names [] once = refl
+never_twice names (token ∷ tokens) once =
+    let new : is_among names token ≡ false = not_in_front names token.text (map name_of tokens) once in
+    let here : (if is_among names token then Some (fault Twice token.place) else None) ≡ None = ap (λ test. if test then Some (fault Twice token.place) else None) new in
+    neither _ _ here (never_twice (names ++ token.text ∷ []) tokens (rw append_assoc once))
+
+-- used and not defined
+
+abbrev pub IsKnown : List Name → WrittenToken → Type 0
+IsKnown names token = is_among names token ≡ true
+
+pub never_unknown : (defined used : List WrittenToken) → Each (IsKnown (map name_of defined)) used → unknown_among defined used ≡ None
+never_unknown defined used e =
+    none_of_all (map (unknown_in (map name_of defined)) used)
+    (Each-map (unknown_in (map name_of defined)) (IsKnown (map name_of defined)) IsNone
+    (λ token h. ap (λ test. if test then None else Some (fault UnknownName token.place)) h) used e)

@@ -29,7 +29,8 @@ use Rattle.numbered_form.specs.Limits.{IsSignatureInLimits}
 use Rattle.numbered_form.specs.Types.{HasGivenType, HasParamType, HasSignatureTypes, IsPlainType}
 use Rattle.numbered_reading.proofs.Basics.{Each-weaker}
 use Rattle.printed_reading.proofs.Commas.{AllItems, list_reads}
-use Rattle.printed_reading.proofs.NoFaults.{no_fault_of_two, not_passed}
+use Rattle.printed_reading.proofs.NoFaults.{neither}
+use Rattle.printed_reading.proofs.PartLimits.{not_passed}
 use Rattle.printed_reading.proofs.Pieces.{Ends, Reads as reads, ReadsAs, Stands, behind}
 use Rattle.printed_reading.proofs.Tokens.{arrow_token, at_token, mark_token, word_token}
 use Rattle.printed_reading.proofs.Worded.{worded_reads}
@@ -254,7 +255,7 @@ signature_reads text s after types limits ends =
           (at_token (codes "convention") refl refl refl (mark_token 40 refl refl
           (behind convention.reads (mark_token 41 refl refl (reads.blank 32 refl (mark_token 40 refl refl
           (behind params.reads (mark_token 41 refl refl (reads.blank 32 refl (arrow_token refl (reads.blank 32 refl results.reads)))))))))))
-          (no_fault_of_two _ _
+          (neither _ _
           (not_passed limit.Arguments 64 (params_of params.value).firsts (omega (arith, params.stands.1, limits.params)))
           (not_passed limit.Arguments 64 (givens_of results.value).firsts (omega (arith, results.stands.1, limits.results))))
           reads.nothing;

@@ -28,7 +28,7 @@ use Rattle.written_modules.specs.Values.{marks_of, token_of, type_of}
 use Rattle.numbered_form.specs.Names.{is_word}
 use Rattle.numbered_form.specs.Types.{is_width}
 use Rattle.printed_reading.proofs.Commas.{by_rule}
-use Rattle.printed_reading.proofs.NoFaults.{not_too_deep, one_more_level, whole_type}
+use Rattle.printed_reading.proofs.PartLimits.{not_too_deep, one_more_level, whole_type}
 use Rattle.printed_reading.proofs.Pieces.{Reads as reads, ReadsAs, Stands, behind}
 use Rattle.printed_reading.proofs.Tokens.{mark_token, word_token}
 use Rattle.printed_reading.proofs.Worded.{word_accepted, worded_reads}
@@ -37,13 +37,13 @@ use Rattle.printed_reading.proofs.Worded.{word_accepted, worded_reads}
 abbrev pub IsTypeOf : TypeName → ℕ → PartValue → Type 0
 IsTypeOf t depth x = ((type_of x).ty ≡ t) × ((type_of x).depth ≡ depth)
 
-neither : (test : Bool) → ◌≡◌ {A = Option Fault} (if test then None else None) None
-neither true = refl
-neither false = refl
+either_way : (test : Bool) → ◌≡◌ {A = Option Fault} (if test then None else None) None
+either_way true = refl
+either_way false = refl
 
 -- where nothing is marked there is no fault
 pub not_marked : (depth : ℕ) → too_marked depth [] ≡ None
-not_marked depth = neither (nat_lt 32 depth)
+not_marked depth = either_way (nat_lt 32 depth)
 
 module _ (text : List ℕ) where
   -- a base, with no `?` behind it

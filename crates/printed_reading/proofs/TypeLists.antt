@@ -22,7 +22,8 @@ use Rattle.written_modules.specs.Types.{between, type_before}
 use Rattle.written_modules.specs.Values.{marks_of, no_types, payload_of, type_of, types_of}
 use Rattle.numbered_form.specs.Lists.{Each}
 use Rattle.printed_reading.proofs.Commas.{AllItems, MoreItems, list_reads, listed_reads}
-use Rattle.printed_reading.proofs.NoFaults.{no_fault_of_two, not_passed, not_too_deep, one_more_level, whole_type}
+use Rattle.printed_reading.proofs.NoFaults.{neither}
+use Rattle.printed_reading.proofs.PartLimits.{not_passed, not_too_deep, one_more_level, whole_type}
 use Rattle.printed_reading.proofs.Pieces.{Reads as reads, ReadsAs, Stands, behind}
 use Rattle.printed_reading.proofs.Tokens.{mark_token}
 use Rattle.printed_reading.proofs.TypeForms.{IsTypeOf, not_marked}
@@ -102,7 +103,7 @@ no_depth_fault (t ∷ []) depth last room = refl
 no_depth_fault (t ∷ u ∷ ts) depth last room = not_too_deep depth last room
 
 no_tuple_fault : (ts : List TypeName) (list : PartTypes) (last : Place) → AreTypes ts list → length ts ≤ 64 → 1 + largest (map depth_of ts) ≤ 32 → tuple_fault list last ≡ None
-no_tuple_fault ts list last are few room = no_fault_of_two _ _
+no_tuple_fault ts list last are few room = neither _ _
     (not_passed limit.Arguments 64 list.firsts (omega (arith, are.counted)))
     (no_depth_fault list.types list.depth last (omega (arith, are.depth)))
 
@@ -115,7 +116,7 @@ one_between : (t : TypeName) (list : PartTypes) (first last : Place) → AreType
 one_between t list first last are = ap (λ types. (between types list.depth first last).ty) are.types
 
 one_alone : (t : TypeName) (list : PartTypes) (last : Place) → AreTypes (t ∷ []) list → tuple_fault list last ≡ None
-one_alone t list last are = no_fault_of_two _ _ (not_passed limit.Arguments 64 list.firsts (omega (arith, are.counted))) (ap (λ types. too_deep_among types list.depth last) are.types)
+one_alone t list last are = neither _ _ (not_passed limit.Arguments 64 list.firsts (omega (arith, are.counted))) (ap (λ types. too_deep_among types list.depth last) are.types)
 
 module _ (text : List ℕ) where
   pub tuple_reads : (ts : List TypeName) → Each (λ t. ReadsAs text (Part n.Type) (IsType t) (type_text t)) ts
@@ -129,7 +130,7 @@ module _ (text : List ℕ) where
         stands = parens_value ts (types_of r.value) _ _ r.stands several room;
         reads = reads.rule p.ParenType
             (mark_token 40 refl refl (behind r.reads (mark_token 41 refl refl (reads.rule p.OptionalMarksEnd reads.nothing refl reads.nothing))))
-            (no_fault_of_two _ _ (no_tuple_fault ts (types_of r.value) _ r.stands few room) (not_marked _)) reads.nothing;
+            (neither _ _ (no_tuple_fault ts (types_of r.value) _ r.stands few room) (not_marked _)) reads.nothing;
       })
 
   -- the types of a payload, of which one alone is that type
