@@ -8,6 +8,11 @@ pub mod Items
 pub mod Whole
 pub mod Written
 pub mod Printable
+pub mod Commas
+pub mod PartLimits
+pub mod Worded
+pub mod TypeForms
+pub mod TypeLists
 pub mod TypeReading
 pub mod SignatureReading
 pub mod InstReading
