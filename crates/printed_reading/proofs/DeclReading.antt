@@ -34,13 +34,13 @@ use Rattle.numbered_form.specs.Names.{IsWord, Name, case_name, decl_name, field_
 use Rattle.numbered_form.specs.Types.{HasDeclTypes, HasFieldType, HasPayloadType, IsPlainType}
 use Rattle.printed_reading.proofs.Braced.{braced_reads}
 use Rattle.printed_reading.proofs.Fixed.{any_word, keyword_here, mark_here}
+use Rattle.printed_reading.proofs.PartLimits.{not_passed}
 use Rattle.printed_reading.proofs.Pieces.{Ends, Stands, Reads as reads}
-use Rattle.printed_reading.proofs.Ruled.{by_rule, part_here}
+use Rattle.printed_reading.proofs.Ruled.{stands_by, part_here}
 use Rattle.printed_reading.proofs.TextsAhead.{line_ahead}
 use Rattle.printed_reading.proofs.TypeReading.{payload_reads, type_reads}
 use Rattle.printed_reading.proofs.Written.{IsDeclWritten}
 use Rattle.printed_reading.proofs.Items.{IsItem}
-use Rattle.printed_reading.proofs.LimitCounts.{passes_none-map}
 
 -- the part stands for the field, and is one of the members
 pub record IsFieldValue (f : Field) (x : PartValue) : Type 0 where
@@ -58,7 +58,7 @@ binding_reads text name t after spelled plain ends =
     let ty = type_reads text t after plain ends in
     let inside = keyword_here k.Var refl refl (reads.blank 32 refl (any_word name spelled refl
     (mark_here m.Colon 58 refl refl (reads.blank 32 refl (part_here ty (reads.rule p.AccessorsNone reads.nothing refl reads.nothing)))))) in
-    by_rule p.VarBinding (IsFieldValue (plain_field name t)) inside refl (record { field = ap (plain_field name) ty.stands.ty; kept = λ others. refl })
+    stands_by p.VarBinding (IsFieldValue (plain_field name t)) inside refl (record { field = ap (plain_field name) ty.stands.ty; kept = λ others. refl })
 
 -- the same with its storage
 variable_reads : (text : List ℕ) (name : Name) (how : Storage) (t : TypeName) (after : List ℕ) → IsWord name → IsPlainType t → Ends after
@@ -66,16 +66,16 @@ variable_reads : (text : List ℕ) (name : Name) (how : Storage) (t : TypeName) 
 unfolding body written meaning part_fault spelling mark_spelling field_of field_before
 variable_reads text name storage.Strong t after spelled plain ends =
     let binding = binding_reads text name t after spelled plain ends in
-    simp append_assoc (by_rule p.StrongVariable (IsFieldValue (plain_field name t)) (part_here binding reads.nothing) refl binding.stands)
+    simp append_assoc (stands_by p.StrongVariable (IsFieldValue (plain_field name t)) (part_here binding reads.nothing) refl binding.stands)
 variable_reads text name storage.Weak t after spelled plain ends =
     let binding = binding_reads text name t after spelled plain ends in
     let inside = keyword_here k.Weak refl refl (reads.blank 32 refl (part_here binding reads.nothing)) in
-    simp append_assoc (by_rule p.WeakVariable (IsFieldValue (record { name = name; storage = storage.Weak; ty = t })) inside refl
+    simp append_assoc (stands_by p.WeakVariable (IsFieldValue (record { name = name; storage = storage.Weak; ty = t })) inside refl
     (record { field = ap {A = Field} (λ f. record f { storage = storage.Weak }) binding.stands.field; kept = λ others. refl }))
 variable_reads text name storage.Unowned t after spelled plain ends =
     let binding = binding_reads text name t after spelled plain ends in
     let inside = keyword_here k.Unowned refl refl (reads.blank 32 refl (part_here binding reads.nothing)) in
-    simp append_assoc (by_rule p.UnownedVariable (IsFieldValue (record { name = name; storage = storage.Unowned; ty = t })) inside refl
+    simp append_assoc (stands_by p.UnownedVariable (IsFieldValue (record { name = name; storage = storage.Unowned; ty = t })) inside refl
     (record { field = ap {A = Field} (λ f. record f { storage = storage.Unowned }) binding.stands.field; kept = λ others. refl }))
 
 abbrev pub AreFields : List Field → PartValue → Type 0
@@ -92,13 +92,13 @@ field_in_front f fields x others is rest = ap (map resolved_field) (is.kept othe
 members_read : (text : List ℕ) (fields : List Field) (after : List ℕ) → Each IsFieldPrintable fields
     → Stands text n.Members (AreFields fields) (indented field_text fields ++ after) after
 unfolding body written meaning part_fault fields_of
-members_read text [] after printable = by_rule p.MembersEnd (AreFields []) reads.nothing refl refl
+members_read text [] after printable = stands_by p.MembersEnd (AreFields []) reads.nothing refl refl
 members_read text (f ∷ fields) after printable =
     let rest = members_read text fields after printable.1 in
     let variable = variable_reads text f.name f.storage f.ty (10 ∷ (indented field_text fields ++ after)) printable.0.0 printable.0.1 refl in
-    let member = by_rule p.PlainMember (IsFieldValue f) (part_here variable reads.nothing) refl variable.stands in
+    let member = stands_by p.PlainMember (IsFieldValue f) (part_here variable reads.nothing) refl variable.stands in
     rw (line_ahead (field_text f) (indented field_text fields) after)
-    (by_rule p.MembersMore (AreFields (f ∷ fields)) (reads.blank 32 refl (reads.blank 32 refl (part_here member (reads.blank 10 refl (part_here rest reads.nothing))))) refl
+    (stands_by p.MembersMore (AreFields (f ∷ fields)) (reads.blank 32 refl (reads.blank 32 refl (part_here member (reads.blank 10 refl (part_here rest reads.nothing))))) refl
     (field_in_front f fields member.value (fields_of rest.value) member.stands rest.stands))
 
 -- a field of a struct, which has no word of storage
@@ -107,19 +107,19 @@ strong_reads : (text : List ℕ) (name : Name) (how : Storage) (t : TypeName) (a
 unfolding body written meaning part_fault
 strong_reads text name storage.Strong t after e spelled plain ends =
     let binding = binding_reads text name t after spelled plain ends in
-    simp append_assoc (by_rule p.PlainField (IsFieldValue (plain_field name t)) (part_here binding reads.nothing) refl binding.stands)
+    simp append_assoc (stands_by p.PlainField (IsFieldValue (plain_field name t)) (part_here binding reads.nothing) refl binding.stands)
 strong_reads text name storage.Weak t after e spelled plain ends = absurd (cc)
 strong_reads text name storage.Unowned t after e spelled plain ends = absurd (cc)
 
 fields_read : (text : List ℕ) (fields : List Field) (after : List ℕ) → Each IsFieldPrintable fields → Each IsStrong fields
     → Stands text n.Fields (AreFields fields) (indented field_text fields ++ after) after
 unfolding body written meaning part_fault fields_of
-fields_read text [] after printable strong = by_rule p.FieldsEnd (AreFields []) reads.nothing refl refl
+fields_read text [] after printable strong = stands_by p.FieldsEnd (AreFields []) reads.nothing refl refl
 fields_read text (f ∷ fields) after printable strong =
     let rest = fields_read text fields after printable.1 strong.1 in
     let field = strong_reads text f.name f.storage f.ty (10 ∷ (indented field_text fields ++ after)) strong.0 printable.0.0 printable.0.1 refl in
     rw (line_ahead (field_text f) (indented field_text fields) after)
-    (by_rule p.FieldsMore (AreFields (f ∷ fields)) (reads.blank 32 refl (reads.blank 32 refl (part_here field (reads.blank 10 refl (part_here rest reads.nothing))))) refl
+    (stands_by p.FieldsMore (AreFields (f ∷ fields)) (reads.blank 32 refl (reads.blank 32 refl (part_here field (reads.blank 10 refl (part_here rest reads.nothing))))) refl
     (field_in_front f fields field.value (fields_of rest.value) field.stands rest.stands))
 
 abbrev pub AreCases : List Case → PartValue → Type 0
@@ -132,7 +132,7 @@ IsCasePrintable c = IsWord c.name × IfSome c.payload IsPlainType
 payload_stands : (text : List ℕ) (payload : Option TypeName) (after : List ℕ) → IfSome payload IsPlainType
     → Stands text n.Payload (λ x. payload_of x ≡ payload) (if_there [] payload_text payload ++ after) after
 unfolding body written meaning part_fault payload_of
-payload_stands text None after plain = by_rule p.PayloadNone (λ x. payload_of x ≡ None) reads.nothing refl refl
+payload_stands text None after plain = stands_by p.PayloadNone (λ x. payload_of x ≡ None) reads.nothing refl refl
 payload_stands text (Some t) after plain = payload_reads text t after plain
 
 -- a payload begins with a parenthesis
@@ -157,14 +157,14 @@ payload_ends (Some t) after ends =
 cases_read : (text : List ℕ) (cases : List Case) (after : List ℕ) → Each IsCasePrintable cases
     → Stands text n.Cases (AreCases cases) (indented case_text cases ++ after) after
 unfolding body written meaning part_fault cases_of spelling kept_of token_of
-cases_read text [] after printable = by_rule p.CasesEnd (AreCases []) reads.nothing refl refl
+cases_read text [] after printable = stands_by p.CasesEnd (AreCases []) reads.nothing refl refl
 cases_read text (c ∷ cases) after printable =
     let rest = cases_read text cases after printable.1 in
     let behind_name = 10 ∷ (indented case_text cases ++ after) in
     let payload = payload_stands text c.payload behind_name printable.0.1 in
     rw (line_ahead (case_text c) (indented case_text cases) after)
     (rw (append_assoc (codes "case " ++ c.name) (if_there [] payload_text c.payload) behind_name)
-    (by_rule p.CasesMore (AreCases (c ∷ cases)) (reads.blank 32 refl (reads.blank 32 refl
+    (stands_by p.CasesMore (AreCases (c ∷ cases)) (reads.blank 32 refl (reads.blank 32 refl
     (keyword_here k.Case refl refl (reads.blank 32 refl (any_word c.name printable.0.0 (payload_ends c.payload behind_name refl)
     (part_here payload (reads.blank 10 refl (part_here rest reads.nothing)))))))) refl
     (ap₂ (λ payload others. record { name = c.name; payload = payload } ∷ others) payload.stands rest.stands)))
@@ -178,13 +178,15 @@ pub record IsDeclPrintable (d : Decl) : Type 0 where
 
 few_fields : (x : PartValue) (fields : List Field) → AreFields fields x → length (map field_name fields) ≤ 64 → passed limit.Members 64 (map field_place (fields_of x)) ≡ None
 few_fields x fields is few =
-    let same : length (fields_of x) ≡ length (map field_name fields) = sym (length-map (fields_of x) resolved_field) ∙ ap length is ∙ sym (length-map fields field_name) in
-    passes_none-map field_place limit.Members 64 (fields_of x) (omega (arith, same, few))
+    let same : length (map field_place (fields_of x)) ≡ length (map field_name fields) =
+        length-map (fields_of x) field_place ∙ sym (length-map (fields_of x) resolved_field) ∙ ap length is ∙ sym (length-map fields field_name) in
+    not_passed limit.Members 64 (map field_place (fields_of x)) (omega (arith, same, few))
 
 few_cases : (x : PartValue) (cases : List Case) → AreCases cases x → length (map case_name cases) ≤ 64 → passed limit.Members 64 (map case_place (cases_of x)) ≡ None
 few_cases x cases is few =
-    let same : length (cases_of x) ≡ length (map case_name cases) = sym (length-map (cases_of x) resolved_case) ∙ ap length is ∙ sym (length-map cases case_name) in
-    passes_none-map case_place limit.Members 64 (cases_of x) (omega (arith, same, few))
+    let same : length (map case_place (cases_of x)) ≡ length (map case_name cases) =
+        length-map (cases_of x) case_place ∙ sym (length-map (cases_of x) resolved_case) ∙ ap length is ∙ sym (length-map cases case_name) in
+    not_passed limit.Members 64 (map case_place (cases_of x)) (omega (arith, same, few))
 
 fields_printable : (fields : List Field) → Each IsWord (map field_name fields) → Each HasFieldType fields → Each IsFieldPrintable fields
 fields_printable [] spelled types = tt
@@ -200,15 +202,15 @@ unfolding body written meaning part_fault item_of spelling
 decl_reads text (decl.Struct name fields) after printable =
     let inside = fields_read text fields (125 ∷ 10 ∷ after) (fields_printable fields printable.members printable.types) printable.strong in
     let whole = braced_reads k.Struct name (indented field_text fields) after refl printable.name inside in
-    by_rule p.StructItem (IsItem item.Decl IsDeclWritten (decl.Struct name fields)) whole.reads (few_fields inside.value fields inside.stands printable.limits)
+    stands_by p.StructItem (IsItem item.Decl IsDeclWritten (decl.Struct name fields)) whole.reads (few_fields inside.value fields inside.stands printable.limits)
     (record { item = _; is_item = refl; stands = ap₂ decl.Struct whole.named inside.stands })
 decl_reads text (decl.Enum name cases) after printable =
     let inside = cases_read text cases (125 ∷ 10 ∷ after) (cases_printable cases printable.members printable.types) in
     let whole = braced_reads k.Enum name (indented case_text cases) after refl printable.name inside in
-    by_rule p.EnumItem (IsItem item.Decl IsDeclWritten (decl.Enum name cases)) whole.reads (few_cases inside.value cases inside.stands printable.limits)
+    stands_by p.EnumItem (IsItem item.Decl IsDeclWritten (decl.Enum name cases)) whole.reads (few_cases inside.value cases inside.stands printable.limits)
     (record { item = _; is_item = refl; stands = ap₂ decl.Enum whole.named inside.stands })
 decl_reads text (decl.Class name fields) after printable =
     let inside = members_read text fields (125 ∷ 10 ∷ after) (fields_printable fields printable.members printable.types) in
     let whole = braced_reads k.Class name (indented field_text fields) after refl printable.name inside in
-    by_rule p.PlainClass (IsItem item.Decl IsDeclWritten (decl.Class name fields)) whole.reads (few_fields inside.value fields inside.stands printable.limits)
+    stands_by p.PlainClass (IsItem item.Decl IsDeclWritten (decl.Class name fields)) whole.reads (few_fields inside.value fields inside.stands printable.limits)
     (record { item = _; is_item = refl; stands = ap₂ decl.Class whole.named inside.stands })

@@ -3,16 +3,14 @@ use Rattle.std.proofs.Common.{◌≡◌, ℕ, List, [], ◌∷◌, ◌++◌, IsT
 use Rattle.sil_lexer.specs.declared.token.TokenKind.TheVariants as kind
 use Rattle.sil_lexer.specs.Bytes.{is_mark}
 use Rattle.sil_shape.specs.declared.classes.AtWord.{AtWord}
-use Rattle.sil_shape.specs.declared.classes.AtWord.TheVariants as a
 use Rattle.sil_shape.specs.declared.classes.Class.TheVariants as c
 use Rattle.sil_shape.specs.declared.classes.Keyword.{Keyword}
-use Rattle.sil_shape.specs.declared.classes.Keyword.TheVariants as k
 use Rattle.sil_shape.specs.declared.classes.Mark.{Mark}
 use Rattle.sil_shape.specs.declared.classes.Mark.TheVariants as m
 use Rattle.sil_shape.specs.declared.grammar.Symbol.{Symbol}
 use Rattle.sil_shape.specs.declared.grammar.Symbol.TheVariants.{Read}
 use Rattle.sil_shape.specs.declared.grammar.Terminal.TheVariants as t
-use Rattle.sil_shape.specs.Accepts.{accepts, at_number, class_number, keyword_number, mark_number}
+use Rattle.sil_shape.specs.Accepts.{accepts, class_number, mark_number}
 use Rattle.sil_shape.specs.Grammar.{at, mark, word}
 use Rattle.sil_shape.specs.Spelling.{at_spelling, mark_of, mark_spelling, spelling}
 use Rattle.sil_shape.proofs.SpellingLemmas.{at_word_of-at_spelling, keyword_of-spelling, mark_of-mark_spelling}
@@ -22,16 +20,7 @@ use Rattle.written_modules.specs.Opened.{PartValue}
 use Rattle.numbered_form.specs.Names.{IsWord, is_at_name}
 use Rattle.printed_reading.proofs.Pieces.{Ends, Reads, lexeme_before}
 use Rattle.printed_reading.proofs.Tokens.{at_token, mark_token, word_token}
-
-keyword_accepted : (keyword : Keyword) → accepts (word keyword) (c.Word keyword) ≡ true
-unfolding accepts class_number keyword_number
-keyword_accepted k.Other = refl
-keyword_accepted _ = refl
-
-at_accepted : (name : AtWord) → accepts (at name) (c.At name) ≡ true
-unfolding accepts class_number at_number
-at_accepted a.Other = refl
-at_accepted _ = refl
+use Rattle.printed_reading.proofs.Worded.{at_accepted, word_accepted}
 
 mark_accepted : (sign : Mark) → accepts (mark sign) (c.Mark sign) ≡ true
 unfolding accepts class_number mark_number
@@ -43,7 +32,7 @@ pub keyword_here : {text : List ℕ} {ss : List Symbol} {rest : List ℕ} {value
     → IsWord (spelling keyword) → Ends rest → Reads text ss rest values after
     → Reads text (Read (word keyword) ∷ ss) (spelling keyword ++ rest) (leaf_of (lexeme_before text kind.Word (spelling keyword) rest) ∷ values) after
 keyword_here keyword spelled ends r =
-    word_token (spelling keyword) spelled (ap (λ k. accepts (word keyword) (c.Word k)) (keyword_of-spelling keyword) ∙ keyword_accepted keyword) ends r
+    word_token (spelling keyword) spelled (word_accepted (spelling keyword) keyword (keyword_of-spelling keyword)) ends r
 
 -- a word that may be any
 pub any_word : {text : List ℕ} {ss : List Symbol} {rest : List ℕ} {values : List PartValue} {after : List ℕ} → (name : List ℕ)
@@ -57,7 +46,7 @@ pub at_here : {text : List ℕ} {ss : List Symbol} {rest : List ℕ} {values : L
     → IsTrue (is_at_name (at_spelling name)) → Ends rest → Reads text ss rest values after
     → Reads text (Read (at name) ∷ ss) (64 ∷ at_spelling name ++ rest) (leaf_of (lexeme_before text kind.AtName (64 ∷ at_spelling name) rest) ∷ values) after
 at_here name spelled ends r =
-    at_token (at_spelling name) spelled (ap (λ a. accepts (at name) (c.At a)) (at_word_of-at_spelling name) ∙ at_accepted name) ends r
+    at_token (at_spelling name) spelled (at_accepted (at_spelling name) name (at_word_of-at_spelling name)) ends r
 
 -- a name with `@` that may be any
 pub any_at : {text : List ℕ} {ss : List Symbol} {rest : List ℕ} {values : List PartValue} {after : List ℕ} → (name : List ℕ)

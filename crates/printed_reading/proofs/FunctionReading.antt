@@ -39,11 +39,11 @@ use Rattle.printed_reading.proofs.BlockCounts.{inst_count_is, length_blocks, val
 use Rattle.printed_reading.proofs.BlockReading.{IsBlockPrintable, block_reads, blocks_behind, blocks_read}
 use Rattle.printed_reading.proofs.Items.{IsItem}
 use Rattle.printed_reading.proofs.Fixed.{any_at, any_word, keyword_here, mark_here}
-use Rattle.printed_reading.proofs.LimitCounts.{passes_none}
 use Rattle.printed_reading.proofs.NoFaults.{neither}
+use Rattle.printed_reading.proofs.PartLimits.{not_passed}
 use Rattle.printed_reading.proofs.Pieces.{Ends, Stands, Reads as reads}
 use Rattle.printed_reading.proofs.ResolvedForms.{attributes_are}
-use Rattle.printed_reading.proofs.Ruled.{by_rule, part_here}
+use Rattle.printed_reading.proofs.Ruled.{stands_by, part_here}
 use Rattle.printed_reading.proofs.SignatureReading.{signature_reads}
 use Rattle.printed_reading.proofs.Written.{AreBlocksWritten, IsFunctionWritten, form_words}
 
@@ -57,11 +57,11 @@ pub record IsFunctionPrintable (functions : List Function) (f : Function) : Type
 -- what stands between `sil` and the attributes
 linkage_reads : (text : List ℕ) (l : Linkage) (after : List ℕ) → Ends after → Stands text n.Linkage (λ x. linkage_of x ≡ l) (linkage_text l ++ after) after
 unfolding body written meaning part_fault spelling linkage_of
-linkage_reads text linkage.Plain after ends = by_rule p.LinkagePlain (λ x. linkage_of x ≡ linkage.Plain) reads.nothing refl refl
-linkage_reads text linkage.Hidden after ends = by_rule p.LinkageHidden (λ x. linkage_of x ≡ linkage.Hidden) (reads.blank 32 refl (keyword_here k.Hidden refl ends reads.nothing)) refl refl
-linkage_reads text linkage.Private after ends = by_rule p.LinkagePrivate (λ x. linkage_of x ≡ linkage.Private) (reads.blank 32 refl (keyword_here k.Private refl ends reads.nothing)) refl refl
-linkage_reads text linkage.Shared after ends = by_rule p.LinkageShared (λ x. linkage_of x ≡ linkage.Shared) (reads.blank 32 refl (keyword_here k.Shared refl ends reads.nothing)) refl refl
-linkage_reads text linkage.Public after ends = by_rule p.LinkagePublic (λ x. linkage_of x ≡ linkage.Public) (reads.blank 32 refl (keyword_here k.Public refl ends reads.nothing)) refl refl
+linkage_reads text linkage.Plain after ends = stands_by p.LinkagePlain (λ x. linkage_of x ≡ linkage.Plain) reads.nothing refl refl
+linkage_reads text linkage.Hidden after ends = stands_by p.LinkageHidden (λ x. linkage_of x ≡ linkage.Hidden) (reads.blank 32 refl (keyword_here k.Hidden refl ends reads.nothing)) refl refl
+linkage_reads text linkage.Private after ends = stands_by p.LinkagePrivate (λ x. linkage_of x ≡ linkage.Private) (reads.blank 32 refl (keyword_here k.Private refl ends reads.nothing)) refl refl
+linkage_reads text linkage.Shared after ends = stands_by p.LinkageShared (λ x. linkage_of x ≡ linkage.Shared) (reads.blank 32 refl (keyword_here k.Shared refl ends reads.nothing)) refl refl
+linkage_reads text linkage.Public after ends = stands_by p.LinkagePublic (λ x. linkage_of x ≡ linkage.Public) (reads.blank 32 refl (keyword_here k.Public refl ends reads.nothing)) refl refl
 
 -- words in brackets
 
@@ -76,11 +76,11 @@ bracket_ahead word others rest = simp append_assoc refl
 
 attributes_read : (text : List ℕ) (words : List Name) (rest : List ℕ) → Each IsWord words → Stands text n.Attributes (AreNamed words) (bracketed words ++ rest) rest
 unfolding body written meaning part_fault mark_spelling kept_of token_of tokens_of
-attributes_read text [] rest spelled = by_rule p.AttributesEnd (AreNamed []) reads.nothing refl refl
+attributes_read text [] rest spelled = stands_by p.AttributesEnd (AreNamed []) reads.nothing refl refl
 attributes_read text (word ∷ words) rest spelled =
     let others = attributes_read text words rest spelled.1 in
     rw (bracket_ahead word (bracketed words) rest)
-    (by_rule p.AttributesMore (AreNamed (word ∷ words))
+    (stands_by p.AttributesMore (AreNamed (word ∷ words))
     (reads.blank 32 refl (mark_here m.LeftBracket 91 refl refl (any_word word spelled.0 refl (mark_here m.RightBracket 93 refl refl (part_here others reads.nothing))))) refl
     (ap (λ words. word ∷ words) others.stands))
 
@@ -124,12 +124,12 @@ blocks_ahead first others after = simp append_assoc refl
 body_reads : (text : List ℕ) (functions : List Function) (blocks : List Block) (after : List ℕ) → length blocks ≤ 512 → Each (IsBlockPrintable functions) blocks
     → Stands text n.Body (AreBlockValues functions blocks) (body_text functions blocks ++ after) after
 unfolding body written meaning part_fault mark_spelling blocks_of
-body_reads text functions [] after few printable = by_rule p.BodyNone (AreBlockValues functions []) (reads.blank 10 refl reads.nothing) refl tt
+body_reads text functions [] after few printable = stands_by p.BodyNone (AreBlockValues functions []) (reads.blank 10 refl reads.nothing) refl tt
 body_reads text functions (b ∷ blocks) after few printable =
     let others = blocks_read text functions 1 blocks (125 ∷ 10 ∷ after) (omega arith) printable.1 in
     let first = block_reads text functions 0 b (blocks_behind functions 1 blocks ++ (125 ∷ 10 ∷ after)) (omega arith) printable.0 in
     rw (blocks_ahead (block_text functions 0 b) (blocks_behind functions 1 blocks) after)
-    (by_rule p.BodySome (AreBlockValues functions (b ∷ blocks))
+    (stands_by p.BodySome (AreBlockValues functions (b ∷ blocks))
     (reads.blank 32 refl (mark_here m.LeftBrace 123 refl refl (reads.blank 10 refl (part_here first (part_here others (mark_here m.RightBrace 125 refl refl (reads.blank 10 refl reads.nothing))))))) refl
     (first.stands, others.stands))
 
@@ -144,10 +144,10 @@ body_is_good : (functions : List Function) (f : Function) (blocks : List Written
     → body_fault blocks ≡ None
 body_is_good functions f blocks printable written =
     let labels : length (map label_place blocks) ≡ length f.blocks = length-map blocks label_place ∙ length_blocks functions 0 f.blocks blocks written in
-    neither (passed limit.Blocks 512 (map label_place blocks)) _ (passes_none limit.Blocks 512 (map label_place blocks) (omega (arith, labels, printable.limits.blocks)))
+    neither (passed limit.Blocks 512 (map label_place blocks)) _ (not_passed limit.Blocks 512 (map label_place blocks) (omega (arith, labels, printable.limits.blocks)))
     (neither (passed limit.Instructions 4096 (flat_map mnemonics_of blocks)) _
-    (passes_none limit.Instructions 4096 (flat_map mnemonics_of blocks) (omega (arith, inst_count_is functions 0 f.blocks blocks written, printable.limits.insts)))
-    (passes_none limit.Values 1024 (flat_map values_of_block blocks) (omega (arith, value_count_is functions 0 f.blocks blocks written printable.blocks, printable.limits.values))))
+    (not_passed limit.Instructions 4096 (flat_map mnemonics_of blocks) (omega (arith, inst_count_is functions 0 f.blocks blocks written, printable.limits.insts)))
+    (not_passed limit.Values 1024 (flat_map values_of_block blocks) (omega (arith, value_count_is functions 0 f.blocks blocks written printable.blocks, printable.limits.values))))
 
 words_ahead : (kind attributes form rest : List ℕ) → (codes "sil" ++ kind ++ attributes ++ form) ++ rest ≡ 115 ∷ 105 ∷ 108 ∷ (kind ++ (attributes ++ (form ++ rest)))
 words_ahead kind attributes form rest = simp append_assoc refl
@@ -178,11 +178,11 @@ function_reads text functions f after printable =
     let attributes = attributes_read text words (32 ∷ behind_words) (Each-append IsWord f.attributes (form_words f.form) printable.spelled.attributes (form_spelled f.form)) in
     let kind = linkage_reads text f.linkage (bracketed words ++ (32 ∷ behind_words)) (words_end words behind_words) in
     rw (function_ahead functions f after)
-    (by_rule p.FunctionItem (IsItem item.Function (IsFunctionWritten functions) f)
+    (stands_by p.FunctionItem (IsItem item.Function (IsFunctionWritten functions) f)
     (keyword_here k.Sil refl (linkage_ends f.linkage words behind_words) (part_here kind (part_here attributes (reads.blank 32 refl
     (any_at f.name printable.spelled.name refl (reads.blank 32 refl (mark_here m.Colon 58 refl refl (reads.blank 32 refl (mark_here m.Dollar 36 refl refl
     (part_here signature (part_here inside reads.nothing)))))))))))
     (neither (passed limit.Arguments 64 (attribute_places (tokens_of attributes.value))) (body_fault (blocks_of inside.value))
-    (passes_none limit.Arguments 64 (attribute_places (tokens_of attributes.value)) (omega (arith, attribute_count (tokens_of attributes.value) f.attributes f.form printable.attributes attributes.stands, printable.limits.attributes)))
+    (not_passed limit.Arguments 64 (attribute_places (tokens_of attributes.value)) (omega (arith, attribute_count (tokens_of attributes.value) f.attributes f.form printable.attributes attributes.stands, printable.limits.attributes)))
     (body_is_good functions f (blocks_of inside.value) printable inside.stands))
     (record { item = _; is_item = refl; stands = record { name = refl; linkage = kind.stands; attributes = attributes.stands; signature = signature.stands; blocks = inside.stands } }))

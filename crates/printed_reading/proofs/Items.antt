@@ -13,7 +13,7 @@ use Rattle.written_modules.specs.PartFaults.{part_fault}
 use Rattle.written_modules.specs.Values.{item_of, items_of}
 use Rattle.numbered_form.specs.Lists.{Each}
 use Rattle.printed_reading.proofs.Pieces.{Stands, Reads as reads}
-use Rattle.printed_reading.proofs.Ruled.{by_rule, part_here}
+use Rattle.printed_reading.proofs.Ruled.{stands_by, part_here}
 
 -- the part stands for the item
 pub record IsItem {A W : Type 0} (wrap : W → WrittenItem) (R : A → W → Type 0) (a : A) (x : PartValue) : Type 0 where
@@ -29,7 +29,7 @@ pub record AreItems {A W : Type 0} (wrap : W → WrittenItem) (R : A → W → T
 
 pub no_items : (text after : List ℕ) → Stands text n.Items (λ x. items_of x ≡ []) after after
 unfolding body written meaning part_fault items_of
-no_items text after = by_rule p.ItemsEnd (λ x. items_of x ≡ []) reads.nothing refl refl
+no_items text after = stands_by p.ItemsEnd (λ x. items_of x ≡ []) reads.nothing refl refl
 
 pub items_in_front : {A W : Type 0} {P : PartValue → Type 0} (text : List ℕ) (wrap : W → WrittenItem) (R : A → W → Type 0) (text_of : A → List ℕ) (Good : A → Type 0)
     → ((a : A) (after : List ℕ) → Good a → Stands text n.Item (IsItem wrap R a) (text_of a ++ after) after)
@@ -41,7 +41,7 @@ items_in_front text wrap R text_of Good each (a ∷ items) good left after last 
     let others = items_in_front text wrap R text_of Good each items good.1 left after last in
     let first = each a (each_behind line_feed text_of items ++ left) good.0 in
     rw (append_assoc (text_of a) (each_behind line_feed text_of items) left)
-    (by_rule p.ItemsMore (AreItems wrap R (a ∷ items) (items_of last.value)) (reads.blank 10 refl (part_here first (part_here others reads.nothing))) refl
+    (stands_by p.ItemsMore (AreItems wrap R (a ∷ items) (items_of last.value)) (reads.blank 10 refl (part_here first (part_here others reads.nothing))) refl
     (record {
       ws = first.stands.item ∷ others.stands.ws;
       are_items = ap₂ (λ item items. item ∷ items) first.stands.is_item others.stands.are_items;

@@ -16,7 +16,6 @@ pub mod TypeLists
 pub mod TypeReading
 pub mod SignatureReading
 pub mod InstReading
-pub mod LimitCounts
 pub mod DeclReading
 pub mod BlockReading
 pub mod BlockCounts

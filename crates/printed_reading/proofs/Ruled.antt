@@ -12,9 +12,9 @@ use Rattle.written_modules.specs.PartFaults.{part_fault}
 use Rattle.printed_reading.proofs.Pieces.{Reads, Stands, behind, Reads as reads}
 
 -- what the production writes stands for what it makes of its parts
-pub by_rule : {text left after : List ℕ} {parts : List PartValue} → (p : Production) (P : PartValue → Type 0)
+pub stands_by : {text left after : List ℕ} {parts : List PartValue} → (p : Production) (P : PartValue → Type 0)
     → Reads text (body p) left parts after → part_fault p parts ≡ None → P (meaning p parts) → Stands text (written p) P left after
-by_rule {parts = parts} p P inside h stands = record { value = meaning p parts; stands = stands; reads = reads.rule p inside h reads.nothing }
+stands_by {parts = parts} p P inside h stands = record { value = meaning p parts; stands = stands; reads = reads.rule p inside h reads.nothing }
 
 -- a part in front of a piece
 pub part_here : {text : List ℕ} {n : Nonterminal} {P : PartValue → Type 0} {left middle : List ℕ} {ss : List Symbol} {values : List PartValue} {after : List ℕ}

@@ -26,7 +26,7 @@ use Rattle.printed_reading.proofs.Braced.{braced_reads}
 use Rattle.printed_reading.proofs.Fixed.{any_at, any_word, keyword_here, mark_here}
 use Rattle.printed_reading.proofs.FunctionNames.{is_name_at}
 use Rattle.printed_reading.proofs.Pieces.{Stands, Reads as reads}
-use Rattle.printed_reading.proofs.Ruled.{by_rule}
+use Rattle.printed_reading.proofs.Ruled.{stands_by}
 use Rattle.printed_reading.proofs.Written.{AreBoth, IsEntryWritten, IsVtableWritten, name_in}
 
 -- in a module of these functions
@@ -48,11 +48,11 @@ entry_reads : (text : List ℕ) (functions : List Function) (entry : Option Dein
     → IfSome entry (λ e. IsWord e.owner) → IfSome entry (λ e. e.function.0 < length functions) → Each IsFunctionSpelled functions
     → Stands text n.VtableEntry (IsEntryValue functions entry) (entry_line functions entry ++ rest) rest
 unfolding body written meaning part_fault spelling mark_spelling kept_of token_of entry_of
-entry_reads text functions None rest spelled inside names = by_rule p.EntryNone (IsEntryValue functions None) reads.nothing refl tt
+entry_reads text functions None rest spelled inside names = stands_by p.EntryNone (IsEntryValue functions None) reads.nothing refl tt
 entry_reads text functions (Some e) rest spelled inside names =
     let name = is_name_at functions e.function inside names in
     rw (entry_ahead e.owner (function_name functions e.function) rest, name.text)
-    (by_rule p.EntrySome (IsEntryValue functions (Some e))
+    (stands_by p.EntrySome (IsEntryValue functions (Some e))
     (reads.blank 32 refl (reads.blank 32 refl (mark_here m.Hash 35 refl refl (any_word e.owner spelled refl (mark_here m.Dot 46 refl refl (keyword_here k.Deinit refl refl
     (mark_here m.Bang 33 refl refl (keyword_here k.Destroyer refl refl (mark_here m.Colon 58 refl refl (reads.blank 32 refl
     (any_at (name_in functions e.function) name.spelled refl (reads.blank 10 refl reads.nothing)))))))))))) refl
@@ -64,5 +64,5 @@ unfolding body written meaning part_fault spelling item_of
 vtable_reads text functions v after printable =
     let entry = entry_reads text functions v.entry (125 ∷ 10 ∷ after) printable.spelled.owner printable.in_range printable.names in
     let whole = braced_reads k.SilVtable v.class_name (entry_line functions v.entry) after refl printable.spelled.name entry in
-    by_rule p.VtableItem (IsItem item.Vtable (IsVtableWritten functions) v) whole.reads refl
+    stands_by p.VtableItem (IsItem item.Vtable (IsVtableWritten functions) v) whole.reads refl
     (record { item = _; is_item = refl; stands = record { name = whole.named; entry = entry.stands } })

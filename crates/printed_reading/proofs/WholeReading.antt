@@ -35,10 +35,10 @@ use Rattle.printed_reading.proofs.DeclReading.{IsDeclPrintable, decl_reads}
 use Rattle.printed_reading.proofs.Fixed.{any_word, keyword_here}
 use Rattle.printed_reading.proofs.FunctionReading.{IsFunctionPrintable, function_reads}
 use Rattle.printed_reading.proofs.Items.{items_in_front, no_items}
-use Rattle.printed_reading.proofs.LimitCounts.{passes_none}
 use Rattle.printed_reading.proofs.NoFaults.{neither}
+use Rattle.printed_reading.proofs.PartLimits.{not_passed}
 use Rattle.printed_reading.proofs.Pieces.{Stands, Reads as reads}
-use Rattle.printed_reading.proofs.Ruled.{blank_here, by_rule, part_here}
+use Rattle.printed_reading.proofs.Ruled.{blank_here, stands_by, part_here}
 use Rattle.printed_reading.proofs.VtableReading.{IsVtablePrintable, vtable_reads}
 use Rattle.printed_reading.proofs.Written.{IsDeclWritten, IsFunctionWritten, IsModuleWritten, IsVtableWritten}
 
@@ -60,11 +60,11 @@ pub record IsModulePrintable (m : Module) : Type 0 where
 stage_reads : (text : List ℕ) (s : Stage) (rest : List ℕ) → Stands text n.Stage (λ x. stage_of x ≡ s) (stage_text s ++ rest) rest
 unfolding body written meaning part_fault spelling stage_of
 stage_reads text stage.Raw rest =
-    let word = by_rule p.Raw (λ x. stage_of x ≡ stage.Raw) (keyword_here k.Raw refl refl (reads.blank 10 refl reads.nothing)) refl refl in
-    by_rule p.StageSome (λ x. stage_of x ≡ stage.Raw) (keyword_here k.SilStage refl refl (reads.blank 32 refl (part_here word reads.nothing))) refl word.stands
+    let word = stands_by p.Raw (λ x. stage_of x ≡ stage.Raw) (keyword_here k.Raw refl refl (reads.blank 10 refl reads.nothing)) refl refl in
+    stands_by p.StageSome (λ x. stage_of x ≡ stage.Raw) (keyword_here k.SilStage refl refl (reads.blank 32 refl (part_here word reads.nothing))) refl word.stands
 stage_reads text stage.Canonical rest =
-    let word = by_rule p.Canonical (λ x. stage_of x ≡ stage.Canonical) (keyword_here k.Canonical refl refl (reads.blank 10 refl reads.nothing)) refl refl in
-    by_rule p.StageSome (λ x. stage_of x ≡ stage.Canonical) (keyword_here k.SilStage refl refl (reads.blank 32 refl (part_here word reads.nothing))) refl word.stands
+    let word = stands_by p.Canonical (λ x. stage_of x ≡ stage.Canonical) (keyword_here k.Canonical refl refl (reads.blank 10 refl reads.nothing)) refl refl in
+    stands_by p.StageSome (λ x. stage_of x ≡ stage.Canonical) (keyword_here k.SilStage refl refl (reads.blank 32 refl (part_here word reads.nothing))) refl word.stands
 
 abbrev pub AreImports : Imports → PartValue → Type 0
 AreImports imports x = imports_of x ≡ imports
@@ -74,14 +74,14 @@ imported builtin swift = record { builtin = builtin; swift = swift }
 
 no_imports : (text rest : List ℕ) → Stands text n.Imports (AreImports (imported false false)) rest rest
 unfolding body written meaning part_fault imports_of
-no_imports text rest = by_rule p.ImportsEnd (AreImports (imported false false)) reads.nothing refl refl
+no_imports text rest = stands_by p.ImportsEnd (AreImports (imported false false)) reads.nothing refl refl
 
 -- the line of one import in front of others
 import_reads : (text name : List ℕ) (imports : Imports) (left after : List ℕ) → IsWord name → Stands text n.Imports (AreImports imports) left after
     → Stands text n.Imports (AreImports (with_import name imports)) (codes "import " ++ (name ++ (10 ∷ left))) after
 unfolding body written meaning part_fault spelling kept_of token_of imports_of
 import_reads text name imports left after spelled others =
-    by_rule p.ImportsMore (AreImports (with_import name imports))
+    stands_by p.ImportsMore (AreImports (with_import name imports))
     (keyword_here k.Import refl refl (reads.blank 32 refl (any_word name spelled refl (reads.blank 10 refl (part_here others reads.nothing))))) refl
     (ap (with_import name) others.stands)
 
@@ -119,8 +119,8 @@ items_are_good items decls functions vtables e few_decls few_functions =
     let f : length (map token_place (flat_map function_names items)) ≡ length functions =
     length-map (flat_map function_names items) token_place ∙ ap (λ items. length (flat_map function_names items)) e ∙ function_places decls functions vtables in
     neither (passed limit.Declarations 1024 (map token_place (flat_map decl_names items))) (passed limit.Functions 1024 (map token_place (flat_map function_names items)))
-    (passes_none limit.Declarations 1024 (map token_place (flat_map decl_names items)) (omega (arith, d, few_decls)))
-    (passes_none limit.Functions 1024 (map token_place (flat_map function_names items)) (omega (arith, f, few_functions)))
+    (not_passed limit.Declarations 1024 (map token_place (flat_map decl_names items)) (omega (arith, d, few_decls)))
+    (not_passed limit.Functions 1024 (map token_place (flat_map function_names items)) (omega (arith, f, few_functions)))
 
 -- the whole
 
@@ -149,7 +149,7 @@ whole_reads text m printable =
     (items_of functions.value) (items_of vtables.value) decls.stands.are_items functions.stands.are_items
     (vtables.stands.are_items ∙ ap (λ rest. map item.Vtable vtables.stands.ws ++ rest) none.stands) in
     rw (module_ahead (stage_text m.stage) (imports_text m.imports) decls_text functions_text vtables_text)
-    (by_rule p.WholeModule (IsModuleValue m) (part_here stage (part_here imports (part_here decls reads.nothing)))
+    (stands_by p.WholeModule (IsModuleValue m) (part_here stage (part_here imports (part_here decls reads.nothing)))
     (items_are_good (items_of decls.value) decls.stands.ws functions.stands.ws vtables.stands.ws items
     (omega (arith, AllZip-long IsDeclWritten m.decls decls.stands.ws decls.stands.stand, printable.few_decls))
     (omega (arith, AllZip-long (IsFunctionWritten m.functions) m.functions functions.stands.ws functions.stands.stand, printable.few_functions)))
