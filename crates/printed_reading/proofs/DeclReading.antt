@@ -179,13 +179,13 @@ pub record IsDeclPrintable (d : Decl) : Type 0 where
 few_fields : (x : PartValue) (fields : List Field) → AreFields fields x → length (map field_name fields) ≤ 64 → passed limit.Members 64 (map field_place (fields_of x)) ≡ None
 few_fields x fields is few =
     let same : length (map field_place (fields_of x)) ≡ length (map field_name fields) =
-        length-map (fields_of x) field_place ∙ sym (length-map (fields_of x) resolved_field) ∙ ap length is ∙ sym (length-map fields field_name) in
+    length-map (fields_of x) field_place ∙ sym (length-map (fields_of x) resolved_field) ∙ ap length is ∙ sym (length-map fields field_name) in
     not_passed limit.Members 64 (map field_place (fields_of x)) (omega (arith, same, few))
 
 few_cases : (x : PartValue) (cases : List Case) → AreCases cases x → length (map case_name cases) ≤ 64 → passed limit.Members 64 (map case_place (cases_of x)) ≡ None
 few_cases x cases is few =
     let same : length (map case_place (cases_of x)) ≡ length (map case_name cases) =
-        length-map (cases_of x) case_place ∙ sym (length-map (cases_of x) resolved_case) ∙ ap length is ∙ sym (length-map cases case_name) in
+    length-map (cases_of x) case_place ∙ sym (length-map (cases_of x) resolved_case) ∙ ap length is ∙ sym (length-map cases case_name) in
     not_passed limit.Members 64 (map case_place (cases_of x)) (omega (arith, same, few))
 
 fields_printable : (fields : List Field) → Each IsWord (map field_name fields) → Each HasFieldType fields → Each IsFieldPrintable fields
