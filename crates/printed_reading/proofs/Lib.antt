@@ -5,6 +5,14 @@ pub mod Written
 pub mod Printable
 pub mod TypeReading
 pub mod SignatureReading
+pub mod Standing
+pub mod OperandReading
+pub mod RowForms
+pub mod RowKept
+pub mod WrittenParts
+pub mod OperandForms
+pub mod SharedRows
+pub mod Rows
 pub mod InstReading
 pub mod ModuleReading
 pub mod Names

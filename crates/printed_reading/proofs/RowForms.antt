@@ -1,0 +1,56 @@
+-- A row of the table of instructions: its text, the values that it reads as, and the parts that it has.
+use Rattle.std.proofs.Common.{◌≡◌, ℕ, List, [], ◌∷◌, ◌++◌, Option, Some, None, Bool, true, false, IsTrue, IsFalse, refl, sym, if◌then◌else◌, is_some, ◌||◌, ◌&&◌, true≢false}
+use Rattle.std.specs.Prelude.{not}
+use Rattle.std.specs.List.{list_any}
+use Rattle.sil_ast.specs.Forms.{mnemonic_of, parts_of}
+use Rattle.sil_ast.specs.declared.forms.Part.{Part}
+use Rattle.sil_ast.specs.declared.forms.Part.TheVariants as part
+use Rattle.sil_ast.specs.declared.function.Function.{Function}
+use Rattle.sil_ast.specs.declared.inst.Inst.{Inst}
+use Rattle.sil_ast.specs.declared.inst.Qualifier.TheVariants as qualifier
+use Rattle.sil_ast.specs.declared.op.Op.{Op}
+use Rattle.sil_printer.specs.CanonicalInsts.{parts_text}
+use Rattle.sil_shape.specs.Grammar.{body, written}
+use Rattle.sil_shape.specs.declared.grammar.Production.{Production}
+use Rattle.sil_shape.specs.declared.grammar.Symbol.{Symbol}
+use Rattle.written_modules.specs.Meaning.{meaning}
+use Rattle.written_modules.specs.Opened.{PartValue}
+use Rattle.written_modules.specs.PartFaults.{part_fault}
+use Rattle.written_modules.specs.Values.{inst_of, no_debug}
+use Rattle.printed_reading.proofs.Pieces.{Reads, Reads as reads, Stands}
+use Rattle.printed_reading.proofs.Written.{IsInstWritten}
+
+-- the mnemonic, and what stands behind it
+abbrev pub row_text : List Function → Inst → List ℕ
+row_text functions i = mnemonic_of i.op ++ parts_text functions i None i.operands (parts_of i.op)
+
+-- an instruction of which nothing but its mnemonic is there
+abbrev pub bare : Op → Inst
+bare o = record {
+  op = o;
+  results = [];
+  operands = [];
+  ty = None;
+  signature = None;
+  function = None;
+  member = None;
+  number = None;
+  text = None;
+  qualifier = qualifier.Plain;
+  lexical = false;
+  var_decl = false;
+  debug = no_debug;
+  edges = [];
+}
+
+-- the tokens and parts of a row, whose values stand for the instruction
+pub record RowReads (text : List ℕ) (functions : List Function) (i : Inst) (ss : List Symbol) (stands_for : List PartValue → PartValue) (left after : List ℕ) : Type 0 where
+  pub values : List PartValue
+  pub stands : IsInstWritten functions i (inst_of (stands_for values))
+  pub reads : Reads text ss left values after
+
+-- they are the body of a production
+pub as_row : {text : List ℕ} {functions : List Function} {i : Inst} {left after : List ℕ} → (p : Production)
+    → (r : RowReads text functions i (body p) (meaning p) left after) → part_fault p r.values ≡ None
+    → Stands text (written p) (λ x. IsInstWritten functions i (inst_of x)) left after
+as_row p r faultless = record { value = meaning p r.values; stands = r.stands; reads = reads.rule p r.reads faultless reads.nothing }
