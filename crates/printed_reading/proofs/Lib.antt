@@ -7,12 +7,17 @@ pub mod TypeReading
 pub mod SignatureReading
 pub mod Standing
 pub mod OperandReading
+pub mod NameReading
+pub mod QualifierReading
+pub mod MemberReading
+pub mod ListLimits
 pub mod RowForms
 pub mod RowKept
 pub mod WrittenParts
 pub mod OperandForms
 pub mod SharedRows
 pub mod Rows
+pub mod ResultReading
 pub mod InstReading
 pub mod ModuleReading
 pub mod Names

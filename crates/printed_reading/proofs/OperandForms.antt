@@ -1,9 +1,13 @@
 -- Which operands an instruction has, by the parts of its row.
-use Rattle.std.proofs.Common.{◌≡◌, List, [], ◌∷◌, Bool, true, false, IsTrue, refl, sym, ◌||◌, ◌&&◌, true≢false}
+use Rattle.std.proofs.Common.{◌≡◌, List, [], ◌∷◌, Option, Some, None, Bool, true, false, IsTrue, is_some, refl, sym, ◌||◌, ◌&&◌, true≢false}
+use Rattle.std.specs.Prelude.{is_none}
 use Rattle.sil_ast.specs.declared.operands.Operand.{Operand}
 use Rattle.numbered_reading.proofs.Basics.{first_of_both, second_of_both}
 use Rattle.numbered_form.specs.Lists.{is_empty}
+use Rattle.written_modules.specs.Meaning.{bare_operand}
+use Rattle.written_modules.specs.declared.written_declarations.WrittenToken.{WrittenToken}
 use Rattle.numbered_form.specs.Parts.{first_then, is_bare, is_typed}
+use Rattle.printed_reading.proofs.Written.{IsOperandWritten, IsValueNamed}
 
 no : {A : Type 0} → IsTrue false → A
 no h = absurd (true≢false (sym h))
@@ -24,3 +28,35 @@ one_typed_is (x ∷ y ∷ os) h = no (second_of_both (is_typed x) false h)
 
 pub one_typed : (os : List Operand) → IsTrue (first_then is_typed is_empty os || false) → IsOneTyped os
 one_typed os h = one_typed_is os (none_lacks (first_then is_typed is_empty os) h)
+
+-- `%1` and then `%2 : $T`
+pub data IsBareThenTyped : List Operand → Type 0 where
+  two : (x y : Operand) → IsTrue (is_bare x) → IsTrue (is_typed y) → IsBareThenTyped (x ∷ y ∷ [])
+
+bare_before : (x : Operand) (os : List Operand) → IsTrue (is_bare x) → IsOneTyped os → IsBareThenTyped (x ∷ os)
+bare_before x _ bare (one y typed) = two x y bare typed
+
+bare_then_typed_is : (os : List Operand) → IsTrue (first_then is_bare (first_then is_typed is_empty) os) → IsBareThenTyped os
+bare_then_typed_is [] h = no h
+bare_then_typed_is (x ∷ os) h =
+    let rest = first_then is_typed is_empty os in
+    bare_before x os (first_of_both (is_bare x) rest h) (one_typed_is os (second_of_both (is_bare x) rest h))
+
+pub bare_then_typed : (os : List Operand) → IsTrue (first_then is_bare (first_then is_typed is_empty) os || false) → IsBareThenTyped os
+bare_then_typed os h = bare_then_typed_is os (none_lacks (first_then is_bare (first_then is_typed is_empty) os) h)
+
+-- a part that is there
+pub data IsThere {A : Type 0} : Option A → Type 0 where
+  there : (x : A) → IsThere (Some x)
+
+pub is_there : {A : Type 0} (o : Option A) → is_some o ≡ true → IsThere o
+is_there None h = no h
+is_there (Some x) h = there x
+
+-- an operand without a type
+pub bare_written : (o : Operand) (token : WrittenToken) → IsTrue (is_bare o) → IsValueNamed o.value token → IsOperandWritten o (bare_operand token)
+bare_written o token bare named = record { name = named; ty = is_none_one o.ty bare }
+  where
+    is_none_one : {A : Type 0} (o : Option A) → IsTrue (is_none o) → None ≡ o
+    is_none_one None h = refl
+    is_none_one (Some x) h = no h

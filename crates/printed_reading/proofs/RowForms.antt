@@ -11,6 +11,7 @@ use Rattle.sil_ast.specs.declared.inst.Qualifier.TheVariants as qualifier
 use Rattle.sil_ast.specs.declared.op.Op.{Op}
 use Rattle.sil_printer.specs.CanonicalInsts.{parts_text}
 use Rattle.sil_shape.specs.Grammar.{body, written}
+use Rattle.sil_shape.specs.declared.grammar.Nonterminal.{Nonterminal}
 use Rattle.sil_shape.specs.declared.grammar.Production.{Production}
 use Rattle.sil_shape.specs.declared.grammar.Symbol.{Symbol}
 use Rattle.written_modules.specs.Meaning.{meaning}
@@ -54,3 +55,7 @@ pub as_row : {text : List ℕ} {functions : List Function} {i : Inst} {left afte
     → (r : RowReads text functions i (body p) (meaning p) left after) → part_fault p r.values ≡ None
     → Stands text (written p) (λ x. IsInstWritten functions i (inst_of x)) left after
 as_row p r faultless = record { value = meaning p r.values; stands = r.stands; reads = reads.rule p r.reads faultless reads.nothing }
+
+-- the row of the instruction, without its results
+abbrev pub RowStands : List ℕ → List Function → List ℕ → Nonterminal → Inst → Type 0
+RowStands text functions after part i = Stands text part (λ x. IsInstWritten functions (record i { results = [] }) (inst_of x)) (row_text functions i ++ after) after

@@ -9,7 +9,6 @@ use Rattle.sil_shape.specs.Accepts.{accepts, class_number, keyword_number}
 use Rattle.sil_shape.specs.Grammar.{body, written}
 use Rattle.sil_shape.specs.Spelling.{keyword_of, keywords_of_length, known_keyword, spelling}
 use Rattle.sil_shape.specs.declared.classes.Keyword.TheVariants as k
-use Rattle.sil_shape.specs.declared.grammar.Nonterminal.{Nonterminal}
 use Rattle.sil_shape.specs.declared.grammar.Nonterminal.TheVariants as n
 use Rattle.sil_shape.specs.declared.grammar.Production.TheVariants as p
 use Rattle.written_modules.specs.Meaning.{meaning}
@@ -19,14 +18,10 @@ use Rattle.numbered_form.specs.Parts.{is_terminator}
 use Rattle.printed_reading.proofs.OperandForms.{one_typed}
 use Rattle.printed_reading.proofs.Pieces.{Ends, Stands}
 use Rattle.printed_reading.proofs.Printable.{IsInstPrintable}
-use Rattle.printed_reading.proofs.RowForms.{as_row, row_text}
+use Rattle.printed_reading.proofs.RowForms.{RowStands, as_row}
 use Rattle.printed_reading.proofs.RowKept.{only_row, only_row_same}
 use Rattle.printed_reading.proofs.SharedRows.{over_one_row}
 use Rattle.printed_reading.proofs.Written.{IsInstWritten}
-
--- the row of the instruction, without its results
-abbrev pub RowStands : List ℕ → List Function → List ℕ → Nonterminal → Inst → Type 0
-RowStands text functions after part i = Stands text part (λ x. IsInstWritten functions (record i { results = [] }) (inst_of x)) (row_text functions i ++ after) after
 
 module _ (text : List ℕ) (functions : List Function) (after : List ℕ) (ends : Ends after) where
 
