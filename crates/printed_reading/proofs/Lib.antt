@@ -10,6 +10,8 @@ pub mod OperandReading
 pub mod NameReading
 pub mod QualifierReading
 pub mod MemberReading
+pub mod NumberReading
+pub mod DebugReading
 pub mod ListLimits
 pub mod RowForms
 pub mod RowKept

@@ -18,6 +18,7 @@ use Rattle.written_modules.specs.Meaning.{meaning}
 use Rattle.written_modules.specs.Opened.{PartValue}
 use Rattle.written_modules.specs.PartFaults.{part_fault}
 use Rattle.written_modules.specs.Values.{inst_of, no_debug}
+use Rattle.written_modules.specs.declared.fault.Fault.{Fault}
 use Rattle.printed_reading.proofs.Pieces.{Reads, Reads as reads, Stands}
 use Rattle.printed_reading.proofs.Written.{IsInstWritten}
 
@@ -44,17 +45,22 @@ bare o = record {
   edges = [];
 }
 
+-- most rows have no fault by themselves
+abbrev pub no_fault : List PartValue → Option Fault
+no_fault parts = None
+
 -- the tokens and parts of a row, whose values stand for the instruction
-pub record RowReads (text : List ℕ) (functions : List Function) (i : Inst) (ss : List Symbol) (stands_for : List PartValue → PartValue) (left after : List ℕ) : Type 0 where
+pub record RowReads (text : List ℕ) (functions : List Function) (i : Inst) (ss : List Symbol) (stands_for : List PartValue → PartValue) (fault_of : List PartValue → Option Fault) (left after : List ℕ) : Type 0 where
   pub values : List PartValue
   pub stands : IsInstWritten functions i (inst_of (stands_for values))
   pub reads : Reads text ss left values after
+  pub faultless : fault_of values ≡ None
 
 -- they are the body of a production
 pub as_row : {text : List ℕ} {functions : List Function} {i : Inst} {left after : List ℕ} → (p : Production)
-    → (r : RowReads text functions i (body p) (meaning p) left after) → part_fault p r.values ≡ None
+    → RowReads text functions i (body p) (meaning p) (part_fault p) left after
     → Stands text (written p) (λ x. IsInstWritten functions i (inst_of x)) left after
-as_row p r faultless = record { value = meaning p r.values; stands = r.stands; reads = reads.rule p r.reads faultless reads.nothing }
+as_row p r = record { value = meaning p r.values; stands = r.stands; reads = reads.rule p r.reads r.faultless reads.nothing }
 
 -- the row of the instruction, without its results
 abbrev pub RowStands : List ℕ → List Function → List ℕ → Nonterminal → Inst → Type 0

@@ -28,7 +28,7 @@ module _ (text : List ℕ) (functions : List Function) (after : List ℕ) (ends 
   row_of : (o : Op) (i : Inst) → IsInstPrintable functions (only_row (parts_of o) (record i { op = o })) → IsFalse (is_terminator o)
       → RowStands text functions after n.Row (only_row (parts_of o) (record i { op = o }))
   unfolding body written meaning part_fault accepts class_number keyword_number keyword_of keywords_of_length known_keyword spelling
-  row_of op.CopyValue i h inside = as_row p.RowCopyValue (over_one_row text functions after ends op.CopyValue k.CopyValue (codes "copy_value") i.results i.operands (one_typed i.operands h.parts.operands) h (refl, refl)) refl
+  row_of op.CopyValue i h inside = as_row p.RowCopyValue (over_one_row text functions after ends op.CopyValue k.CopyValue (codes "copy_value") i.results i.operands (one_typed i.operands h.parts.operands) h (refl, refl))
   row_of _ i h inside = ?
 
   pub row_reads : (i : Inst) → IsInstPrintable functions i → IsFalse (is_terminator i.op) → RowStands text functions after n.Row i

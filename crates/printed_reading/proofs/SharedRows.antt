@@ -30,7 +30,7 @@ use Rattle.printed_reading.proofs.OperandReading.{operand_reads}
 use Rattle.printed_reading.proofs.Pieces.{Ends, Reads as reads, Stands, behind}
 use Rattle.printed_reading.proofs.Printable.{IsInstPrintable}
 use Rattle.printed_reading.proofs.QualifierReading.{ReadsQualifier, ends_flags, ends_qualifier, flag_words, flags_read}
-use Rattle.printed_reading.proofs.RowForms.{RowReads, bare}
+use Rattle.printed_reading.proofs.RowForms.{RowReads, bare, no_fault}
 use Rattle.printed_reading.proofs.Tokens.{mark_token, value_token, word_token}
 use Rattle.printed_reading.proofs.WrittenParts.{mnemonic_written, with_flags, with_member, with_operands, with_qualifier}
 
@@ -42,7 +42,7 @@ module _ (text : List ℕ) (functions : List Function) (after : List ℕ) (ends 
 
   -- a mnemonic and an operand
   pub over_one_row : (o : Op) (k : Keyword) (name : List ℕ) (rs : List ValueId) (os : List Operand) → IsOneTyped os → IsInstPrintable functions (record (bare o) { results = rs; operands = os }) → Spells name k
-      → RowReads text functions (record (bare o) { operands = os }) (Read (word k) ∷ Part n.Operand ∷ []) (over_one o)
+      → RowReads text functions (record (bare o) { operands = os }) (Read (word k) ∷ Part n.Operand ∷ []) (over_one o) no_fault
           (name ++ parts_text functions (record (bare o) { results = rs; operands = os }) None os (part.Typed ∷ []) ++ after) after
   unfolding inst_of
   over_one_row o k name rs _ (one x typed) h spells =
@@ -51,12 +51,13 @@ module _ (text : List ℕ) (functions : List Function) (after : List ℕ) (ends 
         values = _;
         stands = with_operands functions (bare o) _ _ _ (mnemonic_written functions o _) (operand.stands, tt);
         reads = word_token name spells.0 spells.1 refl (reads.blank 32 refl (behind operand.reads reads.nothing));
+        faultless = refl;
       }
 
   -- a mnemonic, flags and an operand
   pub flagged_row : (o : Op) (k : Keyword) (name : List ℕ) (rs : List ValueId) (os : List Operand) (lexical var_decl : Bool) → IsOneTyped os
       → IsInstPrintable functions (record (bare o) { results = rs; operands = os; lexical = lexical; var_decl = var_decl }) → Spells name k
-      → RowReads text functions (record (bare o) { operands = os; lexical = lexical; var_decl = var_decl }) (Read (word k) ∷ Part n.Flags ∷ Part n.Operand ∷ []) (flagged o)
+      → RowReads text functions (record (bare o) { operands = os; lexical = lexical; var_decl = var_decl }) (Read (word k) ∷ Part n.Flags ∷ Part n.Operand ∷ []) (flagged o) no_fault
           (name ++ parts_text functions (record (bare o) { results = rs; operands = os; lexical = lexical; var_decl = var_decl }) None os (part.Flags ∷ part.Typed ∷ []) ++ after) after
   unfolding inst_of
   flagged_row o k name rs _ lexical var_decl (one x typed) h spells =
@@ -69,12 +70,13 @@ module _ (text : List ℕ) (functions : List Function) (after : List ℕ) (ends 
             (with_operands functions (bare o) _ _ _ (mnemonic_written functions o _) (operand.stands, tt)) words.stands.0 words.stands.1;
         reads = word_token name spells.0 spells.1 (ends_flags lexical var_decl (32 ∷ typed_text x ++ after) refl)
             (behind words.reads (reads.blank 32 refl (behind operand.reads reads.nothing)));
+        faultless = refl;
       }
 
   -- a mnemonic, a qualifier and an operand
   pub loaded_row : (o : Op) (k : Keyword) (word_part : Nonterminal) (name : List ℕ) (rs : List ValueId) (os : List Operand) (q : Qualifier) → IsOneTyped os
       → IsInstPrintable functions (record (bare o) { results = rs; operands = os; qualifier = q }) → Spells name k → ReadsQualifier text word_part q
-      → RowReads text functions (record (bare o) { operands = os; qualifier = q }) (Read (word k) ∷ Part word_part ∷ Part n.Operand ∷ []) (loaded o)
+      → RowReads text functions (record (bare o) { operands = os; qualifier = q }) (Read (word k) ∷ Part word_part ∷ Part n.Operand ∷ []) (loaded o) no_fault
           (name ++ parts_text functions (record (bare o) { results = rs; operands = os; qualifier = q }) None os (part.Qualifier ∷ part.Typed ∷ []) ++ after) after
   unfolding inst_of
   loaded_row o k word_part name rs _ q (one x typed) h spells qualifier =
@@ -86,13 +88,14 @@ module _ (text : List ℕ) (functions : List Function) (after : List ℕ) (ends 
             (with_operands functions (bare o) _ _ _ (mnemonic_written functions o _) (operand.stands, tt)) words.stands;
         reads = word_token name spells.0 spells.1 (ends_qualifier q (32 ∷ typed_text x ++ after) refl)
             (behind words.reads (reads.blank 32 refl (behind operand.reads reads.nothing)));
+        faultless = refl;
       }
 
   -- `store %a to [q] %b : $*T`
   pub stored_row : (o : Op) (k : Keyword) (word_part : Nonterminal) (name : List ℕ) (rs : List ValueId) (os : List Operand) (q : Qualifier) → IsBareThenTyped os
       → IsInstPrintable functions (record (bare o) { results = rs; operands = os; qualifier = q }) → Spells name k → ReadsQualifier text word_part q
       → RowReads text functions (record (bare o) { operands = os; qualifier = q })
-          (Read (word k) ∷ Read (t.Just c.Percent) ∷ Read (word keyword.To) ∷ Part word_part ∷ Part n.Operand ∷ []) (stored o)
+          (Read (word k) ∷ Read (t.Just c.Percent) ∷ Read (word keyword.To) ∷ Part word_part ∷ Part n.Operand ∷ []) (stored o) no_fault
           (name ++ parts_text functions (record (bare o) { results = rs; operands = os; qualifier = q }) None os (part.Bare ∷ part.To ∷ part.Qualifier ∷ part.Typed ∷ []) ++ after) after
   unfolding inst_of token_of kept_of accepts class_number keyword_number keyword_of keywords_of_length known_keyword spelling
   stored_row o k word_part name rs _ q (two a x bare_one typed) h spells qualifier =
@@ -107,12 +110,13 @@ module _ (text : List ℕ) (functions : List Function) (after : List ℕ) (ends 
         reads = word_token name spells.0 spells.1 refl (reads.blank 32 refl (value_token a.value.0 h.operands.0 refl (reads.blank 32 refl
             (word_token (codes "to") refl refl (ends_qualifier q (32 ∷ typed_text x ++ after) refl)
             (behind words.reads (reads.blank 32 refl (behind operand.reads reads.nothing)))))));
+        faultless = refl;
       }
 
   -- a mnemonic, an operand, a comma and a member
   pub member_row : (o : Op) (k : Keyword) (name : List ℕ) (rs : List ValueId) (os : List Operand) (member : Option Member) → IsOneTyped os → IsThere member
       → IsInstPrintable functions (record (bare o) { results = rs; operands = os; member = member }) → Spells name k → ((m : Member) → member_text o m ≡ field_name m)
-      → RowReads text functions (record (bare o) { operands = os; member = member }) (Read (word k) ∷ Part n.Operand ∷ Read (mark m.Comma) ∷ Part n.MemberName ∷ []) (of_member o)
+      → RowReads text functions (record (bare o) { operands = os; member = member }) (Read (word k) ∷ Part n.Operand ∷ Read (mark m.Comma) ∷ Part n.MemberName ∷ []) (of_member o) no_fault
           (name ++ parts_text functions (record (bare o) { results = rs; operands = os; member = member }) None os (part.Typed ∷ part.Member ∷ []) ++ after) after
   unfolding inst_of accepts class_number mark_number mark_of mark_spelling marks
   member_row o k name rs _ _ (one x typed) (there f) h spells is_field =
@@ -123,4 +127,5 @@ module _ (text : List ℕ) (functions : List Function) (after : List ℕ) (ends 
         stands = with_member functions (record (bare o) { operands = x ∷ [] }) _ f _
             (with_operands functions (bare o) _ _ _ (mnemonic_written functions o _) (operand.stands, tt)) member.stands;
         reads = word_token name spells.0 spells.1 refl (reads.blank 32 refl (behind operand.reads (mark_token 44 refl refl (reads.blank 32 refl (behind member.reads reads.nothing)))));
+        faultless = refl;
       }
