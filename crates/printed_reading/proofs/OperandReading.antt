@@ -41,7 +41,7 @@ pub operand_reads : (text : List ℕ) (o : Operand) (after : List ℕ) → IsTru
 operand_reads text o after typed small placed ends = operand_with text o.value o.ty after typed small placed ends
 
 -- the operands behind the first, each behind a comma
-abbrev others_text : List Operand → List ℕ
+abbrev pub others_text : List Operand → List ℕ
 others_text os = flat_map (λ o. codes ", " ++ typed_text o) os
 
 ends_others : (os : List Operand) (after : List ℕ) → Ends after → Ends (others_text os ++ after)
@@ -54,15 +54,15 @@ pub record AreTyped (os : List Operand) : Type 0 where
   pub small : Each IsSmallOperand os
   pub types : Each HasOperandType os
 
-others_typed : (o : Operand) (os : List Operand) → AreTyped (o ∷ os) → AreTyped os
+pub others_typed : (o : Operand) (os : List Operand) → AreTyped (o ∷ os) → AreTyped os
 others_typed o os h = record { typed = second_of_both (is_typed o) (list_all is_typed os) h.typed; small = h.small.1; types = h.types.1 }
 
-first_reads : (text : List ℕ) (o : Operand) (os : List Operand) (after : List ℕ) → AreTyped (o ∷ os) → Ends after
+pub first_reads : (text : List ℕ) (o : Operand) (os : List Operand) (after : List ℕ) → AreTyped (o ∷ os) → Ends after
     → Stands text n.Operand (λ x. IsOperandWritten o (operand_of x)) (typed_text o ++ (others_text os ++ after)) (others_text os ++ after)
 first_reads text o os after h ends =
     operand_reads text o (others_text os ++ after) (first_of_both (is_typed o) (list_all is_typed os) h.typed) h.small.0 h.types.0 (ends_others os after ends)
 
-others_read : (text : List ℕ) (os : List Operand) (after : List ℕ) → AreTyped os → Ends after
+pub others_read : (text : List ℕ) (os : List Operand) (after : List ℕ) → AreTyped os → Ends after
     → Stands text n.MoreOperands (λ x. AllZip IsOperandWritten os (operands_of x)) (others_text os ++ after) after
 unfolding body written meaning part_fault operands_of accepts class_number mark_number mark_of mark_spelling marks
 others_read text [] after h ends = standing p.MoreOperandsEnd reads.nothing refl tt

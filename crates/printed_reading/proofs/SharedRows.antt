@@ -1,5 +1,6 @@
 -- The shapes that several rows share.
-use Rattle.std.proofs.Common.{◌≡◌, ℕ, List, [], ◌∷◌, ◌++◌, Option, Some, None, Bool, true, false, IsTrue, refl, codes, decimal}
+use Rattle.std.proofs.Common.{◌≡◌, ℕ, List, [], ◌∷◌, ◌++◌, Option, Some, None, Bool, true, false, IsTrue, refl, codes, decimal, ℤ, IfSome}
+use Rattle.std.specs.Fmt.{signed_decimal}
 use Rattle.std.proofs.lemmas.List.{append_assoc, append-nil}
 use Rattle.sil_ast.specs.declared.forms.Part.TheVariants as part
 use Rattle.sil_ast.specs.declared.function.Function.{Function}
@@ -21,18 +22,22 @@ use Rattle.sil_shape.specs.declared.grammar.Nonterminal.{Nonterminal}
 use Rattle.sil_shape.specs.declared.grammar.Nonterminal.TheVariants as n
 use Rattle.sil_shape.specs.declared.grammar.Symbol.TheVariants.{Read, Part}
 use Rattle.sil_shape.specs.declared.grammar.Terminal.TheVariants as t
-use Rattle.written_modules.specs.Meaning.{flagged, kept_of, loaded, of_member, over_one, stored}
+use Rattle.written_numbers.specs.Numbers.{small_of}
+use Rattle.written_modules.specs.Faults.{out_of_range}
+use Rattle.written_modules.specs.Meaning.{flagged, kept_of, loaded, of_element, of_member, over_one, place_at, stored, text_at}
 use Rattle.written_modules.specs.Values.{inst_of, token_of}
+use Rattle.numbered_form.specs.Literals.{is_element_number}
 use Rattle.numbered_form.specs.Names.{is_word}
 use Rattle.printed_reading.proofs.MemberReading.{field_reads}
+use Rattle.printed_reading.proofs.NumberReading.{element_reads}
 use Rattle.printed_reading.proofs.OperandForms.{IsBareThenTyped, IsOneTyped, IsThere, bare_written, one, there, two}
 use Rattle.printed_reading.proofs.OperandReading.{operand_reads}
 use Rattle.printed_reading.proofs.Pieces.{Ends, Reads as reads, Stands, behind}
 use Rattle.printed_reading.proofs.Printable.{IsInstPrintable}
 use Rattle.printed_reading.proofs.QualifierReading.{ReadsQualifier, ends_flags, ends_qualifier, flag_words, flags_read}
 use Rattle.printed_reading.proofs.RowForms.{RowReads, bare, no_fault}
-use Rattle.printed_reading.proofs.Tokens.{mark_token, value_token, word_token}
-use Rattle.printed_reading.proofs.WrittenParts.{mnemonic_written, with_flags, with_member, with_operands, with_qualifier}
+use Rattle.printed_reading.proofs.Tokens.{mark_token, number_token, value_token, word_token}
+use Rattle.printed_reading.proofs.WrittenParts.{mnemonic_written, with_flags, with_member, with_number, with_operands, with_qualifier}
 
 -- the keyword spells the mnemonic
 abbrev pub Spells : List ℕ → Keyword → Type 0
@@ -128,4 +133,23 @@ module _ (text : List ℕ) (functions : List Function) (after : List ℕ) (ends 
             (with_operands functions (bare o) _ _ _ (mnemonic_written functions o _) (operand.stands, tt)) member.stands;
         reads = word_token name spells.0 spells.1 refl (reads.blank 32 refl (behind operand.reads (mark_token 44 refl refl (reads.blank 32 refl (behind member.reads reads.nothing)))));
         faultless = refl;
+      }
+
+  -- a mnemonic, an operand, a comma and the number of an element
+  pub element_row : (o : Op) (k : Keyword) (name : List ℕ) (rs : List ValueId) (os : List Operand) (number : Option ℤ) → IsOneTyped os → IsThere number
+      → IsInstPrintable functions (record (bare o) { results = rs; operands = os; number = number }) → Spells name k → IfSome number (λ n. IsTrue (is_element_number n))
+      → RowReads text functions (record (bare o) { operands = os; number = number }) (Read (word k) ∷ Part n.Operand ∷ Read (mark m.Comma) ∷ Read (t.Just c.Number) ∷ []) (of_element o)
+          (λ parts. out_of_range (small_of 63 (text_at 3 parts)) (place_at 3 parts))
+          (name ++ parts_text functions (record (bare o) { results = rs; operands = os; number = number }) None os (part.Typed ∷ part.Number ∷ []) ++ after) after
+  unfolding inst_of token_of kept_of accepts class_number mark_number mark_of mark_spelling marks
+  element_row o k name rs _ _ (one x typed) (there z) h spells few =
+      let element = element_reads z few in
+      let operand = operand_reads text x (44 ∷ 32 ∷ signed_decimal z ++ after) typed h.operands.0 h.types.operands.0 refl in
+      rw (append-nil (signed_decimal z), append_assoc name (32 ∷ typed_text x ++ 44 ∷ 32 ∷ signed_decimal z) after, append_assoc (typed_text x) (44 ∷ 32 ∷ signed_decimal z) after) record {
+        values = _;
+        stands = with_number functions (record (bare o) { operands = x ∷ [] }) _ (Some z) _
+            (with_operands functions (bare o) _ _ _ (mnemonic_written functions o _) (operand.stands, tt)) element.reads;
+        reads = word_token name spells.0 spells.1 refl (reads.blank 32 refl (behind operand.reads (mark_token 44 refl refl (reads.blank 32 refl
+            (number_token z after element.small ends reads.nothing)))));
+        faultless = element.faultless _;
       }
