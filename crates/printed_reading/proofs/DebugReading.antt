@@ -37,7 +37,8 @@ ends_rest : {text : List ℕ} {part : Nonterminal} {d : Debug} {after left : Lis
 ends_rest ends (ended e) = ends
 ends_rest ends (goes_on s) = refl
 
-any_text : (known : Bool) → Accepts (Read t.AnyText) (text_class known)
+-- any text will do
+pub any_text : (known : Bool) → Accepts (Read t.AnyText) (text_class known)
 unfolding accepts
 any_text true = refl
 any_text false = refl

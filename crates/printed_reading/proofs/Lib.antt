@@ -20,6 +20,10 @@ pub mod OperandForms
 pub mod EdgeForms
 pub mod EdgeReading
 pub mod SharedRows
+pub mod FunctionReading
+pub mod SingleRows
+pub mod AggregateRows
+pub mod TerminatorRows
 pub mod Rows
 pub mod ResultReading
 pub mod InstReading

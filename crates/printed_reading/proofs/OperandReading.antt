@@ -72,7 +72,7 @@ others_read text (o ∷ os) after h ends =
     rw (append_assoc (typed_text o) (others_text os) after) (standing p.MoreOperandsMore (mark_token 44 refl refl (reads.blank 32 refl (behind this.reads others.reads))) refl (this.stands, others.stands))
 
 -- `%1 : $T, %2 : $U`
-listed_operands_read : (text : List ℕ) (os : List Operand) (after : List ℕ) → AreTyped os → Ends after
+pub listed_operands_read : (text : List ℕ) (os : List Operand) (after : List ℕ) → AreTyped os → Ends after
     → Stands text n.Operands (λ x. AllZip IsOperandWritten os (operands_of x)) (listed typed_text os ++ after) after
 unfolding body written meaning part_fault operands_of
 listed_operands_read text [] after h ends = standing p.OperandsNone reads.nothing refl tt
