@@ -91,11 +91,6 @@ just_bare_is (x ∷ y ∷ os) h = no (second_of_both (is_bare x) false h)
 pub just_bare : (os : List Operand) → IsTrue (first_then is_bare is_empty os || false) → IsOneBare os
 just_bare os h = just_bare_is os (none_lacks (first_then is_bare is_empty os) h)
 
--- no operand
-pub no_operands : (os : List Operand) → IsTrue (is_empty os || false) → [] ≡ os
-no_operands [] h = refl
-no_operands (x ∷ os) h = no h
-
 -- an operand without a type
 pub bare_written : (o : Operand) (token : WrittenToken) → IsTrue (is_bare o) → IsValueNamed o.value token → IsOperandWritten o (bare_operand token)
 bare_written o token bare named = record { name = named; ty = is_none_one o.ty bare }

@@ -13,9 +13,10 @@ use Rattle.sil_ast.specs.declared.inst.Qualifier.{Qualifier}
 use Rattle.sil_ast.specs.declared.inst.Qualifier.TheVariants as qualifier
 use Rattle.sil_ast.specs.declared.op.Op.{Op}
 use Rattle.sil_ast.specs.declared.op.Op.TheVariants as op
+use Rattle.sil_ast.specs.declared.operands.Operand.{Operand}
 use Rattle.written_modules.specs.Values.{no_debug}
 use Rattle.numbered_form.specs.Lists.{is_empty}
-use Rattle.numbered_form.specs.Parts.{HasItsParts, has_edges, is_callee, is_debug, is_flags, is_member, is_number, is_plain, is_signature, is_silent, is_text, is_type, may_have, row_has}
+use Rattle.numbered_form.specs.Parts.{HasItsParts, has_edges, has_operands, is_callee, is_debug, is_flags, is_member, is_number, is_plain, is_signature, is_silent, is_text, is_type, may_have, row_has}
 
 abbrev is_qualifier : Part → Bool
 is_qualifier part.Qualifier = true
@@ -25,6 +26,13 @@ abbrev is_edges : Part → Bool
 is_edges part.Edges = true
 is_edges _ = false
 
+abbrev has_operand : Part → Bool
+has_operand part.Typed = true
+has_operand part.Bare = true
+has_operand part.TypedArgs = true
+has_operand part.BareArgs = true
+has_operand _ = false
+
 abbrev kept_if : {A : Type 0} → Bool → Option A → Option A
 kept_if flag o = if flag then o else None
 
@@ -33,7 +41,7 @@ abbrev pub only_row : List Part → Inst → Inst
 only_row ps i = record {
   op = i.op;
   results = i.results;
-  operands = i.operands;
+  operands = if list_any has_operand ps then i.operands else [];
   ty = kept_if (list_any is_type ps) i.ty;
   signature = kept_if (list_any is_signature ps) i.signature;
   function = kept_if (list_any is_callee ps) i.function;
@@ -89,9 +97,22 @@ same_debug : (flag : Bool) (d : Debug) → IsTrue (flag || is_silent d) → (if 
 same_debug true d h = refl
 same_debug false d h = is_silent_one d.binding d.name d.argno d.deref h
 
-is_empty_one : (es : List Edge) → IsTrue (is_empty es) → [] ≡ es
+is_empty_one : {A : Type 0} (xs : List A) → IsTrue (is_empty xs) → [] ≡ xs
 is_empty_one [] h = refl
-is_empty_one (e ∷ es) h = absurd (true≢false (sym h))
+is_empty_one (x ∷ xs) h = absurd (true≢false (sym h))
+
+none_there : (os : List Operand) → IsTrue (is_empty os || false) → [] ≡ os
+none_there [] h = refl
+none_there (o ∷ os) h = absurd (true≢false (sym h))
+
+same_operands : (o : Op) (os : List Operand) → IsTrue (has_operands o os) → (if row_has has_operand o then os else []) ≡ os
+same_operands op.IntegerLiteral os h = none_there os h
+same_operands op.FunctionRef os h = none_there os h
+same_operands op.AllocRef os h = none_there os h
+same_operands op.AllocStack os h = none_there os h
+same_operands op.Br os h = none_there os h
+same_operands op.Unreachable os h = none_there os h
+same_operands _ os h = refl
 
 same_edges : (o : Op) (es : List Edge) → IsTrue (has_edges o es) → (if row_has is_edges o then es else []) ≡ es
 same_edges op.Br es h = refl
@@ -103,7 +124,7 @@ pub only_row_same : (i : Inst) → HasItsParts i → only_row (parts_of i.op) i 
 only_row_same i h = λ j. record {
   op = i.op;
   results = i.results;
-  operands = i.operands;
+  operands = same_operands i.op i.operands h.operands j;
   ty = same_option (row_has is_type i.op) i.ty h.ty j;
   signature = same_option (row_has is_signature i.op) i.signature h.signature j;
   function = same_option (row_has is_callee i.op) i.function h.function j;

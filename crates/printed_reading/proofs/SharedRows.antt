@@ -2,6 +2,7 @@
 use Rattle.std.proofs.Common.{◌≡◌, ℕ, List, [], ◌∷◌, ◌++◌, Option, Some, None, Bool, true, false, IsTrue, refl, codes, decimal, ℤ, IfSome}
 use Rattle.std.specs.Fmt.{signed_decimal}
 use Rattle.std.proofs.lemmas.List.{append_assoc, append-nil}
+use Rattle.sil_ast.specs.Forms.{mnemonic_of}
 use Rattle.sil_ast.specs.declared.forms.Part.TheVariants as part
 use Rattle.sil_ast.specs.declared.function.Function.{Function}
 use Rattle.sil_ast.specs.declared.inst.Qualifier.{Qualifier}
@@ -46,110 +47,110 @@ Spells name k = IsTrue (is_word name) × Accepts (Read (word k)) (c.Word (keywor
 module _ (text : List ℕ) (functions : List Function) (after : List ℕ) (ends : Ends after) where
 
   -- a mnemonic and an operand
-  pub over_one_row : (o : Op) (k : Keyword) (name : List ℕ) (rs : List ValueId) (os : List Operand) → IsOneTyped os → IsInstPrintable functions (record (bare o) { results = rs; operands = os }) → Spells name k
+  pub over_one_row : (o : Op) (k : Keyword) (rs : List ValueId) (os : List Operand) → IsOneTyped os → IsInstPrintable functions (record (bare o) { results = rs; operands = os }) → Spells (mnemonic_of o) k
       → RowReads text functions (record (bare o) { operands = os }) (Read (word k) ∷ Part n.Operand ∷ []) (over_one o) no_fault
-          (name ++ parts_text functions (record (bare o) { results = rs; operands = os }) None os (part.Typed ∷ []) ++ after) after
+          (mnemonic_of o ++ parts_text functions (record (bare o) { results = rs; operands = os }) None os (part.Typed ∷ []) ++ after) after
   unfolding inst_of
-  over_one_row o k name rs _ (one x typed) h spells =
+  over_one_row o k rs _ (one x typed) h spells =
       let operand = operand_reads text x after typed h.operands.0 h.types.operands.0 ends in
-      rw (append-nil (typed_text x), append_assoc name (32 ∷ typed_text x) after) record {
+      rw (append-nil (typed_text x), append_assoc (mnemonic_of o) (32 ∷ typed_text x) after) record {
         values = _;
         stands = with_operands functions (bare o) _ _ _ (mnemonic_written functions o _) (operand.stands, tt);
-        reads = word_token name spells.0 spells.1 refl (reads.blank 32 refl (behind operand.reads reads.nothing));
+        reads = word_token (mnemonic_of o) spells.0 spells.1 refl (reads.blank 32 refl (behind operand.reads reads.nothing));
         faultless = refl;
       }
 
   -- a mnemonic, flags and an operand
-  pub flagged_row : (o : Op) (k : Keyword) (name : List ℕ) (rs : List ValueId) (os : List Operand) (lexical var_decl : Bool) → IsOneTyped os
-      → IsInstPrintable functions (record (bare o) { results = rs; operands = os; lexical = lexical; var_decl = var_decl }) → Spells name k
+  pub flagged_row : (o : Op) (k : Keyword) (rs : List ValueId) (os : List Operand) (lexical var_decl : Bool) → IsOneTyped os
+      → IsInstPrintable functions (record (bare o) { results = rs; operands = os; lexical = lexical; var_decl = var_decl }) → Spells (mnemonic_of o) k
       → RowReads text functions (record (bare o) { operands = os; lexical = lexical; var_decl = var_decl }) (Read (word k) ∷ Part n.Flags ∷ Part n.Operand ∷ []) (flagged o) no_fault
-          (name ++ parts_text functions (record (bare o) { results = rs; operands = os; lexical = lexical; var_decl = var_decl }) None os (part.Flags ∷ part.Typed ∷ []) ++ after) after
+          (mnemonic_of o ++ parts_text functions (record (bare o) { results = rs; operands = os; lexical = lexical; var_decl = var_decl }) None os (part.Flags ∷ part.Typed ∷ []) ++ after) after
   unfolding inst_of
-  flagged_row o k name rs _ lexical var_decl (one x typed) h spells =
+  flagged_row o k rs _ lexical var_decl (one x typed) h spells =
       let operand = operand_reads text x after typed h.operands.0 h.types.operands.0 ends in
       let words = flags_read text lexical var_decl (32 ∷ typed_text x ++ after) in
       let behind_name = flag_words lexical var_decl in
-      rw (append-nil (typed_text x), append_assoc name (behind_name ++ 32 ∷ typed_text x) after, append_assoc behind_name (32 ∷ typed_text x) after) record {
+      rw (append-nil (typed_text x), append_assoc (mnemonic_of o) (behind_name ++ 32 ∷ typed_text x) after, append_assoc behind_name (32 ∷ typed_text x) after) record {
         values = _;
         stands = with_flags functions (record (bare o) { operands = x ∷ [] }) _ lexical var_decl _ _
             (with_operands functions (bare o) _ _ _ (mnemonic_written functions o _) (operand.stands, tt)) words.stands.0 words.stands.1;
-        reads = word_token name spells.0 spells.1 (ends_flags lexical var_decl (32 ∷ typed_text x ++ after) refl)
+        reads = word_token (mnemonic_of o) spells.0 spells.1 (ends_flags lexical var_decl (32 ∷ typed_text x ++ after) refl)
             (behind words.reads (reads.blank 32 refl (behind operand.reads reads.nothing)));
         faultless = refl;
       }
 
   -- a mnemonic, a qualifier and an operand
-  pub loaded_row : (o : Op) (k : Keyword) (word_part : Nonterminal) (name : List ℕ) (rs : List ValueId) (os : List Operand) (q : Qualifier) → IsOneTyped os
-      → IsInstPrintable functions (record (bare o) { results = rs; operands = os; qualifier = q }) → Spells name k → ReadsQualifier text word_part q
+  pub loaded_row : (o : Op) (k : Keyword) (word_part : Nonterminal) (rs : List ValueId) (os : List Operand) (q : Qualifier) → IsOneTyped os
+      → IsInstPrintable functions (record (bare o) { results = rs; operands = os; qualifier = q }) → Spells (mnemonic_of o) k → ReadsQualifier text word_part q
       → RowReads text functions (record (bare o) { operands = os; qualifier = q }) (Read (word k) ∷ Part word_part ∷ Part n.Operand ∷ []) (loaded o) no_fault
-          (name ++ parts_text functions (record (bare o) { results = rs; operands = os; qualifier = q }) None os (part.Qualifier ∷ part.Typed ∷ []) ++ after) after
+          (mnemonic_of o ++ parts_text functions (record (bare o) { results = rs; operands = os; qualifier = q }) None os (part.Qualifier ∷ part.Typed ∷ []) ++ after) after
   unfolding inst_of
-  loaded_row o k word_part name rs _ q (one x typed) h spells qualifier =
+  loaded_row o k word_part rs _ q (one x typed) h spells qualifier =
       let operand = operand_reads text x after typed h.operands.0 h.types.operands.0 ends in
       let words = qualifier (32 ∷ typed_text x ++ after) in
-      rw (append-nil (typed_text x), append_assoc name (qualifier_text q ++ 32 ∷ typed_text x) after, append_assoc (qualifier_text q) (32 ∷ typed_text x) after) record {
+      rw (append-nil (typed_text x), append_assoc (mnemonic_of o) (qualifier_text q ++ 32 ∷ typed_text x) after, append_assoc (qualifier_text q) (32 ∷ typed_text x) after) record {
         values = _;
         stands = with_qualifier functions (record (bare o) { operands = x ∷ [] }) _ q _
             (with_operands functions (bare o) _ _ _ (mnemonic_written functions o _) (operand.stands, tt)) words.stands;
-        reads = word_token name spells.0 spells.1 (ends_qualifier q (32 ∷ typed_text x ++ after) refl)
+        reads = word_token (mnemonic_of o) spells.0 spells.1 (ends_qualifier q (32 ∷ typed_text x ++ after) refl)
             (behind words.reads (reads.blank 32 refl (behind operand.reads reads.nothing)));
         faultless = refl;
       }
 
   -- `store %a to [q] %b : $*T`
-  pub stored_row : (o : Op) (k : Keyword) (word_part : Nonterminal) (name : List ℕ) (rs : List ValueId) (os : List Operand) (q : Qualifier) → IsBareThenTyped os
-      → IsInstPrintable functions (record (bare o) { results = rs; operands = os; qualifier = q }) → Spells name k → ReadsQualifier text word_part q
+  pub stored_row : (o : Op) (k : Keyword) (word_part : Nonterminal) (rs : List ValueId) (os : List Operand) (q : Qualifier) → IsBareThenTyped os
+      → IsInstPrintable functions (record (bare o) { results = rs; operands = os; qualifier = q }) → Spells (mnemonic_of o) k → ReadsQualifier text word_part q
       → RowReads text functions (record (bare o) { operands = os; qualifier = q })
           (Read (word k) ∷ Read (t.Just c.Percent) ∷ Read (word keyword.To) ∷ Part word_part ∷ Part n.Operand ∷ []) (stored o) no_fault
-          (name ++ parts_text functions (record (bare o) { results = rs; operands = os; qualifier = q }) None os (part.Bare ∷ part.To ∷ part.Qualifier ∷ part.Typed ∷ []) ++ after) after
+          (mnemonic_of o ++ parts_text functions (record (bare o) { results = rs; operands = os; qualifier = q }) None os (part.Bare ∷ part.To ∷ part.Qualifier ∷ part.Typed ∷ []) ++ after) after
   unfolding inst_of token_of kept_of accepts class_number keyword_number keyword_of keywords_of_length known_keyword spelling
-  stored_row o k word_part name rs _ q (two a x bare_one typed) h spells qualifier =
+  stored_row o k word_part rs _ q (two a x bare_one typed) h spells qualifier =
       let operand = operand_reads text x after typed h.operands.1.0 h.types.operands.1.0 ends in
       let words = qualifier (32 ∷ typed_text x ++ after) in
       let behind_to = qualifier_text q ++ 32 ∷ typed_text x in
-      rw (append-nil (typed_text x), append_assoc name (32 ∷ 37 ∷ decimal a.value.0 ++ 32 ∷ 116 ∷ 111 ∷ behind_to) after,
+      rw (append-nil (typed_text x), append_assoc (mnemonic_of o) (32 ∷ 37 ∷ decimal a.value.0 ++ 32 ∷ 116 ∷ 111 ∷ behind_to) after,
           append_assoc (decimal a.value.0) (32 ∷ 116 ∷ 111 ∷ behind_to) after, append_assoc (qualifier_text q) (32 ∷ typed_text x) after) record {
         values = _;
         stands = with_qualifier functions (record (bare o) { operands = a ∷ x ∷ [] }) _ q _
             (with_operands functions (bare o) _ _ _ (mnemonic_written functions o _) (bare_written a _ bare_one refl, (operand.stands, tt))) words.stands;
-        reads = word_token name spells.0 spells.1 refl (reads.blank 32 refl (value_token a.value.0 h.operands.0 refl (reads.blank 32 refl
+        reads = word_token (mnemonic_of o) spells.0 spells.1 refl (reads.blank 32 refl (value_token a.value.0 h.operands.0 refl (reads.blank 32 refl
             (word_token (codes "to") refl refl (ends_qualifier q (32 ∷ typed_text x ++ after) refl)
             (behind words.reads (reads.blank 32 refl (behind operand.reads reads.nothing)))))));
         faultless = refl;
       }
 
   -- a mnemonic, an operand, a comma and a member
-  pub member_row : (o : Op) (k : Keyword) (name : List ℕ) (rs : List ValueId) (os : List Operand) (member : Option Member) → IsOneTyped os → IsThere member
-      → IsInstPrintable functions (record (bare o) { results = rs; operands = os; member = member }) → Spells name k → ((m : Member) → member_text o m ≡ field_name m)
+  pub member_row : (o : Op) (k : Keyword) (rs : List ValueId) (os : List Operand) (member : Option Member) → IsOneTyped os → IsThere member
+      → IsInstPrintable functions (record (bare o) { results = rs; operands = os; member = member }) → Spells (mnemonic_of o) k → ((m : Member) → member_text o m ≡ field_name m)
       → RowReads text functions (record (bare o) { operands = os; member = member }) (Read (word k) ∷ Part n.Operand ∷ Read (mark m.Comma) ∷ Part n.MemberName ∷ []) (of_member o) no_fault
-          (name ++ parts_text functions (record (bare o) { results = rs; operands = os; member = member }) None os (part.Typed ∷ part.Member ∷ []) ++ after) after
+          (mnemonic_of o ++ parts_text functions (record (bare o) { results = rs; operands = os; member = member }) None os (part.Typed ∷ part.Member ∷ []) ++ after) after
   unfolding inst_of accepts class_number mark_number mark_of mark_spelling marks
-  member_row o k name rs _ _ (one x typed) (there f) h spells is_field =
+  member_row o k rs _ _ (one x typed) (there f) h spells is_field =
       let member = field_reads text f after h.spelled.member ends in
       let operand = operand_reads text x (44 ∷ 32 ∷ field_name f ++ after) typed h.operands.0 h.types.operands.0 refl in
-      rw (is_field f, append-nil (field_name f), append_assoc name (32 ∷ typed_text x ++ 44 ∷ 32 ∷ field_name f) after, append_assoc (typed_text x) (44 ∷ 32 ∷ field_name f) after) record {
+      rw (is_field f, append-nil (field_name f), append_assoc (mnemonic_of o) (32 ∷ typed_text x ++ 44 ∷ 32 ∷ field_name f) after, append_assoc (typed_text x) (44 ∷ 32 ∷ field_name f) after) record {
         values = _;
         stands = with_member functions (record (bare o) { operands = x ∷ [] }) _ f _
             (with_operands functions (bare o) _ _ _ (mnemonic_written functions o _) (operand.stands, tt)) member.stands;
-        reads = word_token name spells.0 spells.1 refl (reads.blank 32 refl (behind operand.reads (mark_token 44 refl refl (reads.blank 32 refl (behind member.reads reads.nothing)))));
+        reads = word_token (mnemonic_of o) spells.0 spells.1 refl (reads.blank 32 refl (behind operand.reads (mark_token 44 refl refl (reads.blank 32 refl (behind member.reads reads.nothing)))));
         faultless = refl;
       }
 
   -- a mnemonic, an operand, a comma and the number of an element
-  pub element_row : (o : Op) (k : Keyword) (name : List ℕ) (rs : List ValueId) (os : List Operand) (number : Option ℤ) → IsOneTyped os → IsThere number
-      → IsInstPrintable functions (record (bare o) { results = rs; operands = os; number = number }) → Spells name k → IfSome number (λ n. IsTrue (is_element_number n))
+  pub element_row : (o : Op) (k : Keyword) (rs : List ValueId) (os : List Operand) (number : Option ℤ) → IsOneTyped os → IsThere number
+      → IsInstPrintable functions (record (bare o) { results = rs; operands = os; number = number }) → Spells (mnemonic_of o) k → IfSome number (λ n. IsTrue (is_element_number n))
       → RowReads text functions (record (bare o) { operands = os; number = number }) (Read (word k) ∷ Part n.Operand ∷ Read (mark m.Comma) ∷ Read (t.Just c.Number) ∷ []) (of_element o)
           (λ parts. out_of_range (small_of 63 (text_at 3 parts)) (place_at 3 parts))
-          (name ++ parts_text functions (record (bare o) { results = rs; operands = os; number = number }) None os (part.Typed ∷ part.Number ∷ []) ++ after) after
+          (mnemonic_of o ++ parts_text functions (record (bare o) { results = rs; operands = os; number = number }) None os (part.Typed ∷ part.Number ∷ []) ++ after) after
   unfolding inst_of token_of kept_of accepts class_number mark_number mark_of mark_spelling marks
-  element_row o k name rs _ _ (one x typed) (there z) h spells few =
+  element_row o k rs _ _ (one x typed) (there z) h spells few =
       let element = element_reads z few in
       let operand = operand_reads text x (44 ∷ 32 ∷ signed_decimal z ++ after) typed h.operands.0 h.types.operands.0 refl in
-      rw (append-nil (signed_decimal z), append_assoc name (32 ∷ typed_text x ++ 44 ∷ 32 ∷ signed_decimal z) after, append_assoc (typed_text x) (44 ∷ 32 ∷ signed_decimal z) after) record {
+      rw (append-nil (signed_decimal z), append_assoc (mnemonic_of o) (32 ∷ typed_text x ++ 44 ∷ 32 ∷ signed_decimal z) after, append_assoc (typed_text x) (44 ∷ 32 ∷ signed_decimal z) after) record {
         values = _;
         stands = with_number functions (record (bare o) { operands = x ∷ [] }) _ (Some z) _
             (with_operands functions (bare o) _ _ _ (mnemonic_written functions o _) (operand.stands, tt)) element.reads;
-        reads = word_token name spells.0 spells.1 refl (reads.blank 32 refl (behind operand.reads (mark_token 44 refl refl (reads.blank 32 refl
+        reads = word_token (mnemonic_of o) spells.0 spells.1 refl (reads.blank 32 refl (behind operand.reads (mark_token 44 refl refl (reads.blank 32 refl
             (number_token z after element.small ends reads.nothing)))));
         faultless = element.faultless _;
       }

@@ -101,8 +101,6 @@ module _ (text : List ℕ) (functions : List Function) (after : List ℕ) (ends 
               (with_operands functions (bare op.SwitchEnum) _ _ _ (mnemonic_written functions op.SwitchEnum _) (operand.stands, tt)) cases.stands))
 
   -- `unreachable`
-  pub unreachable_row : (rs : List ValueId) (os : List Operand) → [] ≡ os → RowStands text functions after n.Terminator (record (bare op.Unreachable) { results = rs; operands = os })
+  pub unreachable_row : (rs : List ValueId) → RowStands text functions after n.Terminator (record (bare op.Unreachable) { results = rs })
   unfolding body written meaning part_fault inst_of accepts class_number keyword_number keyword_of keywords_of_length known_keyword spelling
-  unreachable_row rs os none =
-      subst (λ os. RowStands text functions after n.Terminator (record (bare op.Unreachable) { results = rs; operands = os })) none
-      (standing p.RowUnreachable (word_token (codes "unreachable") refl refl ends reads.nothing) refl (mnemonic_written functions op.Unreachable _))
+  unreachable_row rs = standing p.RowUnreachable (word_token (codes "unreachable") refl refl ends reads.nothing) refl (mnemonic_written functions op.Unreachable _)
