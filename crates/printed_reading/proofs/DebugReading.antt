@@ -1,5 +1,5 @@
 -- What an instruction says for a debugger reads as itself.
-use Rattle.std.proofs.Common.{◌≡◌, ℕ, ◌≤◌, List, [], ◌∷◌, ◌++◌, Option, Some, None, Bool, true, false, IsTrue, IfSome, refl, ap, sym, arith, codes, decimal, pos}
+use Rattle.std.proofs.Common.{◌≡◌, ℕ, ◌≤◌, List, ◌∷◌, ◌++◌, Option, Some, None, Bool, true, false, IsTrue, IfSome, refl, arith, codes, decimal, pos}
 use Rattle.std.proofs.lemmas.List.{append_assoc}
 use Rattle.sil_ast.specs.declared.debug.Binding.{Binding}
 use Rattle.sil_ast.specs.declared.debug.Binding.TheVariants.{Let, Var}
@@ -9,7 +9,7 @@ use Rattle.sil_printer.specs.Words.{if_set, if_there}
 use Rattle.sil_shape.specs.Accepts.{accepts, class_number, keyword_number, mark_number}
 use Rattle.sil_shape.specs.BuiltinNames.{is_builtin_name}
 use Rattle.sil_shape.specs.Derivation.{Accepts}
-use Rattle.sil_shape.specs.Grammar.{body, word, written}
+use Rattle.sil_shape.specs.Grammar.{body, written}
 use Rattle.sil_shape.specs.Spelling.{keyword_of, keywords_of_length, known_keyword, mark_of, mark_spelling, marks, spelling}
 use Rattle.sil_shape.specs.declared.grammar.Nonterminal.{Nonterminal}
 use Rattle.sil_shape.specs.declared.grammar.Nonterminal.TheVariants as n
@@ -17,14 +17,13 @@ use Rattle.sil_shape.specs.declared.grammar.Production.TheVariants as p
 use Rattle.sil_shape.specs.declared.grammar.Symbol.TheVariants.{Read}
 use Rattle.sil_shape.specs.declared.grammar.Terminal.TheVariants as t
 use Rattle.written_numbers.proofs.Printed.{printed_number}
-use Rattle.written_numbers.specs.Numbers.{small_of}
 use Rattle.written_modules.specs.Meaning.{kept_of, meaning}
 use Rattle.written_modules.specs.PartFaults.{part_fault}
 use Rattle.written_modules.specs.Values.{debug_of, no_debug, token_of}
 use Rattle.numbered_form.specs.Names.{is_quotable}
 use Rattle.sil_grammar.specs.Classes.{text_class}
 use Rattle.printed_reading.proofs.NumberReading.{in_range}
-use Rattle.printed_reading.proofs.Pieces.{Ends, Reads as reads, Stands, behind}
+use Rattle.printed_reading.proofs.Pieces.{Ends, Reads as reads, Stands}
 use Rattle.printed_reading.proofs.Standing.{standing}
 use Rattle.printed_reading.proofs.Tokens.{between_quotes, mark_token, number_token, text_token, word_token}
 
@@ -65,7 +64,6 @@ all_said (ended e) = standing p.DebugNone reads.nothing refl e
 all_said (goes_on s) = standing p.DebugSome (mark_token 44 refl refl (reads.blank 32 refl s.reads)) refl s.stands
 
 module _ (text : List ℕ) (after : List ℕ) (ends : Ends after) where
-
   -- `, expr op_deref`
   abbrev deref_text : Bool → List ℕ
   deref_text deref = if_set (codes ", expr op_deref") deref ++ after
@@ -92,9 +90,9 @@ module _ (text : List ℕ) (after : List ℕ) (ends : Ends after) where
       let rest = after_number (deref_rest deref) in
       let small = printed_number 65535 k (omega arith) few in
       goes_on (standing p.DebugNumber
-          (word_token (codes "argno") refl refl refl (reads.blank 32 refl (number_token (pos k) (deref_text deref) (omega arith) (ends_rest ends (deref_rest deref)) rest.reads)))
-          (in_range _ k _ small)
-          (λ j. record (rest.stands j) { argno = small j }))
+      (word_token (codes "argno") refl refl refl (reads.blank 32 refl (number_token (pos k) (deref_text deref) (omega arith) (ends_rest ends (deref_rest deref)) rest.reads)))
+      (in_range _ k _ small)
+      (λ j. record (rest.stands j) { argno = small j }))
 
   -- `, name "x"`
   abbrev name_text : Option (List ℕ) → Option ℕ → Bool → List ℕ
@@ -112,9 +110,9 @@ module _ (text : List ℕ) (after : List ℕ) (ends : Ends after) where
   name_rest (Some x) argno deref quotable few =
       let rest = after_name (number_rest argno deref few) in
       goes_on (standing p.DebugName
-          (word_token (codes "name") refl refl refl (reads.blank 32 refl (text_token x (number_text argno deref) quotable (any_text (is_builtin_name x)) rest.reads)))
-          refl
-          (λ j. record (rest.stands j) { name = Some (between_quotes x j) }))
+      (word_token (codes "name") refl refl refl (reads.blank 32 refl (text_token x (number_text argno deref) quotable (any_text (is_builtin_name x)) rest.reads)))
+      refl
+      (λ j. record (rest.stands j) { name = Some (between_quotes x j) }))
 
   -- `, let`
   abbrev said_text : Option Binding → Option (List ℕ) → Option ℕ → Bool → List ℕ

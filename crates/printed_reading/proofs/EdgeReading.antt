@@ -1,17 +1,17 @@
 -- The printed edges of a terminator read as themselves.
-use Rattle.std.proofs.Common.{◌≡◌, ℕ, ◌≤◌, List, [], ◌∷◌, ◌++◌, length, Option, Some, None, Bool, true, false, IsTrue, IfSome, refl, ap, sym, codes, decimal, flat_map, true≢false}
+use Rattle.std.proofs.Common.{ℕ, ◌≤◌, List, [], ◌∷◌, ◌++◌, length, Some, IsTrue, refl, ap, sym, codes, decimal, flat_map, true≢false}
 use Rattle.std.specs.Prelude.{not}
-use Rattle.std.specs.List.{AllZip, list_all}
+use Rattle.std.specs.List.{AllZip}
 use Rattle.std.proofs.lemmas.List.{append_assoc, append-nil}
 use Rattle.sil_ast.specs.declared.inst.Edge.{Edge}
 use Rattle.sil_ast.specs.declared.member.Member.{Member}
 use Rattle.sil_ast.specs.declared.op.Op.TheVariants as op
 use Rattle.sil_ast.specs.declared.operands.Operand.{Operand}
 use Rattle.sil_ast.specs.declared.place.BlockId.{BlockId}
-use Rattle.sil_printer.specs.CanonicalInsts.{block_name, case_name, edge_text, typed_text}
+use Rattle.sil_printer.specs.CanonicalInsts.{block_name, edge_text, typed_text}
 use Rattle.sil_printer.specs.Words.{listed, parens_if_any}
 use Rattle.sil_shape.specs.Accepts.{accepts, class_number, keyword_number, mark_number}
-use Rattle.sil_shape.specs.Grammar.{body, word, written}
+use Rattle.sil_shape.specs.Grammar.{body, written}
 use Rattle.sil_shape.specs.Spelling.{keyword_of, keywords_of_length, known_keyword, mark_of, mark_spelling, marks, spelling}
 use Rattle.sil_shape.specs.declared.grammar.Nonterminal.TheVariants as n
 use Rattle.sil_shape.specs.declared.grammar.Production.TheVariants as p
@@ -54,8 +54,8 @@ branch_reads text block args after small typed few ends =
     let inside = edge_args_read text args after typed in
     rw (append_assoc (decimal block.0) (parens_if_any typed_text args) after)
     (standing p.WholeEdge (label_token block.0 small (ends_args args after ends) inside.reads)
-        (none_passed IsOperandWritten operand_place limit.Arguments 64 args (operands_of inside.value) inside.stands few)
-        record { label = refl; args = inside.stands; case_of = refl })
+    (none_passed IsOperandWritten operand_place limit.Arguments 64 args (operands_of inside.value) inside.stands few)
+    record { label = refl; args = inside.stands; case_of = refl })
 
 -- the edges of a `switch_enum` behind the first
 abbrev other_edges_text : List Edge → List ℕ
@@ -79,10 +79,10 @@ case_edge_reads text block m es after small spelled ends more =
     let behind_hash = ((m.owner ++ 46 ∷ []) ++ m.name) ++ codes "!enumelt" in
     rw (append-nil ((behind_hash ++ 58 ∷ 32 ∷ []) ++ block_name block.0), append_assoc (behind_hash ++ 58 ∷ 32 ∷ []) (block_name block.0) rest, append_assoc behind_hash (58 ∷ 32 ∷ []) (block_name block.0 ++ rest))
     (standing p.SwitchCase
-        (word_token (codes "case") refl refl refl (reads.blank 32 refl (behind name.reads (mark_token 58 refl refl (reads.blank 32 refl
-        (label_token block.0 small (ends_edges es after ends) more.reads))))))
-        refl
-        (record { label = refl; args = tt; case_of = ap Some name.stands }, more.stands))
+    (word_token (codes "case") refl refl refl (reads.blank 32 refl (behind name.reads (mark_token 58 refl refl (reads.blank 32 refl
+    (label_token block.0 small (ends_edges es after ends) more.reads))))))
+    refl
+    (record { label = refl; args = tt; case_of = ap Some name.stands }, more.stands))
 
 -- `default bb1`
 default_edge_reads : (text : List ℕ) (block : BlockId) (after : List ℕ) → IsSmall block.0 → Ends after
@@ -91,7 +91,7 @@ unfolding body written meaning part_fault edges_of token_of kept_of accepts clas
 default_edge_reads text block after small ends =
     rw (append-nil (decimal block.0))
     (standing p.SwitchDefault (word_token (codes "default") refl refl refl (reads.blank 32 refl (label_token block.0 small ends reads.nothing))) refl
-        (record { label = refl; args = tt; case_of = refl }, tt))
+    (record { label = refl; args = tt; case_of = refl }, tt))
 
 other_edges_read : (text : List ℕ) (es : List Edge) (after : List ℕ) → AreCases es → Ends after
     → Stands text n.SwitchMore (λ x. AllZip IsEdgeWritten es (edges_of x)) (other_edges_text es ++ after) after

@@ -13,10 +13,10 @@ pub mod QualifierReading
 pub mod MemberReading
 pub mod NumberReading
 pub mod DebugReading
+pub mod OperandForms
 pub mod RowForms
 pub mod RowKept
 pub mod WrittenParts
-pub mod OperandForms
 pub mod EdgeForms
 pub mod EdgeReading
 pub mod SharedRows

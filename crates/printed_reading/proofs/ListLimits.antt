@@ -1,5 +1,5 @@
 -- A list that is written of one within a limit passes no limit.
-use Rattle.std.proofs.Common.{◌≡◌, ℕ, ◌≤◌, zero, suc, List, [], ◌∷◌, length, map, slice_get, Option, None, refl, ap, arith}
+use Rattle.std.proofs.Common.{◌≡◌, ℕ, ◌≤◌, zero, suc, List, [], ◌∷◌, length, map, slice_get, None, refl, ap, arith}
 use Rattle.std.specs.List.{AllZip}
 use Rattle.sil_ast.specs.declared.place.Place.{Place}
 use Rattle.std.specs.Option.{option_map}

@@ -4,7 +4,7 @@ use Rattle.std.proofs.lemmas.List.{append_assoc}
 use Rattle.sil_ast.specs.declared.member.Member.{Member}
 use Rattle.sil_printer.specs.CanonicalInsts.{case_name, field_name}
 use Rattle.sil_shape.specs.Accepts.{accepts, class_number, keyword_number, mark_number}
-use Rattle.sil_shape.specs.Grammar.{body, word, written}
+use Rattle.sil_shape.specs.Grammar.{body, written}
 use Rattle.sil_shape.specs.Spelling.{keyword_of, keywords_of_length, known_keyword, mark_of, mark_spelling, marks, spelling}
 use Rattle.sil_shape.specs.declared.grammar.Nonterminal.TheVariants as n
 use Rattle.sil_shape.specs.declared.grammar.Production.TheVariants as p
@@ -31,6 +31,6 @@ unfolding body written meaning part_fault member_of token_of kept_of accepts cla
 case_reads text m after spelled ends =
     rw (append_assoc ((m.owner ++ 46 ∷ []) ++ m.name) (codes "!enumelt") after, append_assoc (m.owner ++ 46 ∷ []) m.name (codes "!enumelt" ++ after), append_assoc m.owner (46 ∷ []) (m.name ++ (codes "!enumelt" ++ after)))
     (standing p.WholeEnumElement
-        (mark_token 35 refl refl (word_token m.owner spelled.owner refl refl (mark_token 46 refl refl (word_token m.name spelled.name refl refl
-        (mark_token 33 refl refl (word_token (codes "enumelt") refl refl ends (reads.rule p.SuffixNone reads.nothing refl reads.nothing)))))))
-        refl refl)
+    (mark_token 35 refl refl (word_token m.owner spelled.owner refl refl (mark_token 46 refl refl (word_token m.name spelled.name refl refl
+    (mark_token 33 refl refl (word_token (codes "enumelt") refl refl ends (reads.rule p.SuffixNone reads.nothing refl reads.nothing)))))))
+    refl refl)

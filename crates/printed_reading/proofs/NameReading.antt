@@ -1,5 +1,5 @@
 -- The printed names of values read as themselves, one or a list.
-use Rattle.std.proofs.Common.{◌≡◌, ℕ, List, [], ◌∷◌, ◌++◌, IsTrue, refl, codes, decimal, flat_map}
+use Rattle.std.proofs.Common.{ℕ, List, [], ◌∷◌, ◌++◌, refl, codes, decimal, flat_map}
 use Rattle.std.specs.List.{AllZip}
 use Rattle.std.proofs.lemmas.List.{append_assoc}
 use Rattle.sil_ast.specs.declared.place.ValueId.{ValueId}
@@ -22,7 +22,6 @@ use Rattle.printed_reading.proofs.Written.{IsValueNamed}
 
 -- what is named by a value
 module _ {A : Type 0} (value : A → ValueId) where
-
   abbrev pub name_text : A → List ℕ
   name_text x = value_text (value x)
 

@@ -10,11 +10,11 @@ use Rattle.written_modules.specs.declared.written_declarations.WrittenToken.{Wri
 use Rattle.numbered_form.specs.Parts.{first_then, is_bare, is_typed}
 use Rattle.printed_reading.proofs.Written.{IsOperandWritten, IsValueNamed}
 
-no : {A : Type 0} → IsTrue false → A
-no h = absurd (true≢false (sym h))
+pub impossible : {A : Type 0} → IsTrue false → A
+impossible h = absurd (true≢false (sym h))
 
 -- no operand may be lacking
-none_lacks : (has : Bool) → IsTrue (has || false) → IsTrue has
+pub none_lacks : (has : Bool) → IsTrue (has || false) → IsTrue has
 none_lacks true h = refl
 none_lacks false h = h
 
@@ -23,9 +23,9 @@ pub data IsOneTyped : List Operand → Type 0 where
   one : (x : Operand) → IsTrue (is_typed x) → IsOneTyped (x ∷ [])
 
 one_typed_is : (os : List Operand) → IsTrue (first_then is_typed is_empty os) → IsOneTyped os
-one_typed_is [] h = no h
+one_typed_is [] h = impossible h
 one_typed_is (x ∷ []) h = one x (first_of_both (is_typed x) true h)
-one_typed_is (x ∷ y ∷ os) h = no (second_of_both (is_typed x) false h)
+one_typed_is (x ∷ y ∷ os) h = impossible (second_of_both (is_typed x) false h)
 
 pub one_typed : (os : List Operand) → IsTrue (first_then is_typed is_empty os || false) → IsOneTyped os
 one_typed os h = one_typed_is os (none_lacks (first_then is_typed is_empty os) h)
@@ -38,7 +38,7 @@ bare_before : (x : Operand) (os : List Operand) → IsTrue (is_bare x) → IsOne
 bare_before x _ bare (one y typed) = two x y bare typed
 
 bare_then_typed_is : (os : List Operand) → IsTrue (first_then is_bare (first_then is_typed is_empty) os) → IsBareThenTyped os
-bare_then_typed_is [] h = no h
+bare_then_typed_is [] h = impossible h
 bare_then_typed_is (x ∷ os) h =
     let rest = first_then is_typed is_empty os in
     bare_before x os (first_of_both (is_bare x) rest h) (one_typed_is os (second_of_both (is_bare x) rest h))
@@ -51,7 +51,7 @@ pub data IsThere {A : Type 0} : Option A → Type 0 where
   there : (x : A) → IsThere (Some x)
 
 pub is_there : {A : Type 0} (o : Option A) → is_some o ≡ true → IsThere o
-is_there None h = no h
+is_there None h = impossible h
 is_there (Some x) h = there x
 
 -- all have types
@@ -66,14 +66,14 @@ pub data IsAtMostOneTyped : List Operand → Type 0 where
 pub at_most_one : (os : List Operand) → IsTrue (first_then is_typed is_empty os || is_empty os) → IsAtMostOneTyped os
 at_most_one [] h = lacking
 at_most_one (x ∷ []) h = given x (first_of_both (is_typed x) true (none_lacks (is_typed x && true) h))
-at_most_one (x ∷ y ∷ os) h = no (second_of_both (is_typed x) false (none_lacks (is_typed x && false) h))
+at_most_one (x ∷ y ∷ os) h = impossible (second_of_both (is_typed x) false (none_lacks (is_typed x && false) h))
 
 -- `%f(%1, %2)`
 pub data AreBare : List Operand → Type 0 where
   called : (f : Operand) (args : List Operand) → IsTrue (list_all is_bare (f ∷ args)) → AreBare (f ∷ args)
 
 are_bare_is : (os : List Operand) → IsTrue (first_then is_bare (list_all is_bare) os) → AreBare os
-are_bare_is [] h = no h
+are_bare_is [] h = impossible h
 are_bare_is (f ∷ args) h = called f args h
 
 pub are_bare : (os : List Operand) → IsTrue (first_then is_bare (list_all is_bare) os || false) → AreBare os
@@ -84,9 +84,9 @@ pub data IsOneBare : List Operand → Type 0 where
   one_bare : (x : Operand) → IsTrue (is_bare x) → IsOneBare (x ∷ [])
 
 just_bare_is : (os : List Operand) → IsTrue (first_then is_bare is_empty os) → IsOneBare os
-just_bare_is [] h = no h
+just_bare_is [] h = impossible h
 just_bare_is (x ∷ []) h = one_bare x (first_of_both (is_bare x) true h)
-just_bare_is (x ∷ y ∷ os) h = no (second_of_both (is_bare x) false h)
+just_bare_is (x ∷ y ∷ os) h = impossible (second_of_both (is_bare x) false h)
 
 pub just_bare : (os : List Operand) → IsTrue (first_then is_bare is_empty os || false) → IsOneBare os
 just_bare os h = just_bare_is os (none_lacks (first_then is_bare is_empty os) h)
@@ -97,7 +97,7 @@ bare_written o token bare named = record { name = named; ty = is_none_one o.ty b
   where
     is_none_one : {A : Type 0} (o : Option A) → IsTrue (is_none o) → None ≡ o
     is_none_one None h = refl
-    is_none_one (Some x) h = no h
+    is_none_one (Some x) h = impossible h
 
 -- operands without types
 pub all_bare_written : (os : List Operand) (tokens : List WrittenToken) → IsTrue (list_all is_bare os) → AllZip (λ o token. IsValueNamed o.value token) os tokens

@@ -1,5 +1,5 @@
 -- A printed operand reads as itself, and so do lists of operands.
-use Rattle.std.proofs.Common.{◌≡◌, ℕ, List, [], ◌∷◌, ◌++◌, Option, Some, None, Bool, true, false, IsTrue, IfSome, refl, ap, sym, codes, decimal, flat_map, true≢false}
+use Rattle.std.proofs.Common.{ℕ, List, [], ◌∷◌, ◌++◌, Option, Some, None, IsTrue, IfSome, refl, ap, sym, codes, decimal, flat_map, true≢false}
 use Rattle.std.specs.List.{AllZip, list_all}
 use Rattle.std.proofs.lemmas.List.{append_assoc}
 use Rattle.sil_ast.specs.declared.operands.Operand.{Operand}
@@ -7,7 +7,7 @@ use Rattle.sil_ast.specs.declared.place.ValueId.{ValueId}
 use Rattle.sil_ast.specs.declared.type_name.TypeName.{TypeName}
 use Rattle.sil_printer.specs.CanonicalInsts.{typed_text}
 use Rattle.sil_printer.specs.CanonicalTypes.{type_text}
-use Rattle.sil_printer.specs.Words.{in_parens, listed}
+use Rattle.sil_printer.specs.Words.{listed}
 use Rattle.sil_shape.specs.declared.grammar.Nonterminal.TheVariants as n
 use Rattle.sil_shape.specs.declared.grammar.Production.TheVariants as p
 use Rattle.sil_shape.specs.Grammar.{body, written}
@@ -15,7 +15,7 @@ use Rattle.sil_shape.specs.Accepts.{accepts, class_number, mark_number}
 use Rattle.sil_shape.specs.Spelling.{mark_of, mark_spelling, marks}
 use Rattle.written_modules.specs.Meaning.{kept_of, meaning}
 use Rattle.written_modules.specs.PartFaults.{part_fault}
-use Rattle.written_modules.specs.Values.{operand_of, operands_of, starred, token_of, type_of}
+use Rattle.written_modules.specs.Values.{operand_of, operands_of, token_of}
 use Rattle.numbered_reading.proofs.Basics.{first_of_both, second_of_both}
 use Rattle.numbered_form.specs.Lists.{Each}
 use Rattle.numbered_form.specs.Parts.{is_typed}

@@ -1,5 +1,5 @@
 -- The printed words in brackets read as themselves: flags and qualifiers.
-use Rattle.std.proofs.Common.{◌≡◌, ℕ, List, [], ◌∷◌, ◌++◌, Bool, true, false, IsTrue, refl, sym, codes, true≢false}
+use Rattle.std.proofs.Common.{◌≡◌, ℕ, List, ◌++◌, Bool, true, false, IsTrue, refl, sym, codes, true≢false}
 use Rattle.sil_ast.specs.declared.inst.Qualifier.{Qualifier}
 use Rattle.sil_ast.specs.declared.inst.Qualifier.TheVariants as q
 use Rattle.sil_printer.specs.CanonicalInsts.{qualifier_text}
@@ -7,7 +7,6 @@ use Rattle.sil_printer.specs.Words.{if_set}
 use Rattle.sil_shape.specs.Accepts.{accepts, class_number, keyword_number, mark_number}
 use Rattle.sil_shape.specs.Grammar.{body, word, written}
 use Rattle.sil_shape.specs.Spelling.{keyword_of, keywords_of_length, known_keyword, mark_of, mark_spelling, marks, spelling}
-use Rattle.sil_shape.specs.declared.classes.Keyword.TheVariants as k
 use Rattle.sil_shape.specs.declared.grammar.Nonterminal.{Nonterminal}
 use Rattle.sil_shape.specs.declared.grammar.Nonterminal.TheVariants as n
 use Rattle.sil_shape.specs.declared.grammar.Production.TheVariants as p
@@ -33,18 +32,18 @@ pub flags_read : (text : List ℕ) (lexical var_decl : Bool) (rest : List ℕ)
 unfolding body written meaning part_fault flags_of accepts class_number mark_number mark_of mark_spelling marks keyword_number keyword_of keywords_of_length known_keyword spelling
 flags_read text true true rest =
     standing p.FlagsSome (reads.blank 32 refl (mark_token 91 refl refl (reads.rule p.LexicalFirst
-        (word_token (codes "lexical") refl refl refl (mark_token 93 refl refl (reads.rule p.VarDeclAfterSome
-            (reads.blank 32 refl (mark_token 91 refl refl (word_token (codes "var_decl") refl refl refl (mark_token 93 refl refl reads.nothing))))
-            refl reads.nothing)))
-        refl reads.nothing))) refl (refl, refl)
+    (word_token (codes "lexical") refl refl refl (mark_token 93 refl refl (reads.rule p.VarDeclAfterSome
+    (reads.blank 32 refl (mark_token 91 refl refl (word_token (codes "var_decl") refl refl refl (mark_token 93 refl refl reads.nothing))))
+    refl reads.nothing)))
+    refl reads.nothing))) refl (refl, refl)
 flags_read text true false rest =
     standing p.FlagsSome (reads.blank 32 refl (mark_token 91 refl refl (reads.rule p.LexicalFirst
-        (word_token (codes "lexical") refl refl refl (mark_token 93 refl refl (reads.rule p.VarDeclAfterNone reads.nothing refl reads.nothing)))
-        refl reads.nothing))) refl (refl, refl)
+    (word_token (codes "lexical") refl refl refl (mark_token 93 refl refl (reads.rule p.VarDeclAfterNone reads.nothing refl reads.nothing)))
+    refl reads.nothing))) refl (refl, refl)
 flags_read text false true rest =
     standing p.FlagsSome (reads.blank 32 refl (mark_token 91 refl refl (reads.rule p.VarDeclFirst
-        (word_token (codes "var_decl") refl refl refl (mark_token 93 refl refl (reads.rule p.LexicalAfterNone reads.nothing refl reads.nothing)))
-        refl reads.nothing))) refl (refl, refl)
+    (word_token (codes "var_decl") refl refl refl (mark_token 93 refl refl (reads.rule p.LexicalAfterNone reads.nothing refl reads.nothing)))
+    refl reads.nothing))) refl (refl, refl)
 flags_read text false false rest = standing p.FlagsNone reads.nothing refl (refl, refl)
 
 pub ends_qualifier : (q : Qualifier) (rest : List ℕ) → Ends rest → Ends (qualifier_text q ++ rest)

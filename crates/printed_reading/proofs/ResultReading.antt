@@ -1,6 +1,5 @@
 -- The printed results of an instruction, in front of its row.
-use Rattle.std.proofs.Common.{◌≡◌, ℕ, ◌≤◌, List, [], ◌∷◌, ◌++◌, length, Bool, true, false, None, IsTrue, refl, codes, decimal, if◌then◌else◌, arith, sym, subst}
-use Rattle.std.specs.List.{AllZip}
+use Rattle.std.proofs.Common.{◌≡◌, ℕ, ◌≤◌, List, [], ◌∷◌, ◌++◌, length, Bool, true, false, None, refl, codes, decimal, if◌then◌else◌, arith, sym, subst}
 use Rattle.std.proofs.lemmas.List.{append_assoc}
 use Rattle.sil_ast.specs.Forms.{mnemonic_of, parts_of}
 use Rattle.sil_ast.specs.declared.function.Function.{Function}
@@ -18,12 +17,10 @@ use Rattle.written_modules.specs.PartFaults.{part_fault}
 use Rattle.written_modules.specs.Places.{token_place}
 use Rattle.written_modules.specs.Values.{inst_of, token_of, tokens_of}
 use Rattle.written_modules.specs.declared.fault.LimitWord.TheVariants as limit
-use Rattle.written_modules.specs.declared.written_declarations.WrittenToken.{WrittenToken}
-use Rattle.written_modules.specs.declared.written_instructions.WrittenInst.{WrittenInst}
 use Rattle.numbered_form.specs.Lists.{Each}
 use Rattle.printed_reading.proofs.ListLimits.{none_passed}
 use Rattle.printed_reading.proofs.NameReading.{result_names_read}
-use Rattle.printed_reading.proofs.Pieces.{Ends, Reads as reads, Stands, behind}
+use Rattle.printed_reading.proofs.Pieces.{Reads as reads, Stands, behind}
 use Rattle.printed_reading.proofs.Printable.{IsSmallValue}
 use Rattle.printed_reading.proofs.RowForms.{RowStands, row_text}
 use Rattle.printed_reading.proofs.Standing.{standing}
@@ -32,7 +29,6 @@ use Rattle.printed_reading.proofs.Written.{IsInstWritten, IsValueNamed}
 use Rattle.printed_reading.proofs.WrittenParts.{with_results}
 
 module _ (text : List ℕ) (functions : List Function) (after : List ℕ) (i : Inst) (row : RowStands text functions after n.Row i) where
-
   -- the results in parentheses
   listed_results : (rs : List ValueId) → Each IsSmallValue rs → length rs ≤ 64
       → Stands text n.Inst (λ x. IsInstWritten functions (record i { results = rs }) (inst_of x)) ((in_parens value_text rs ++ codes " = ") ++ (row_text functions i ++ after)) after
@@ -41,9 +37,9 @@ module _ (text : List ℕ) (functions : List Function) (after : List ℕ) (i : I
       let names = result_names_read (λ v. v) text rs (41 ∷ 32 ∷ 61 ∷ 32 ∷ row_text functions i ++ after) small refl in
       rw (append_assoc (listed value_text rs) (41 ∷ []) (32 ∷ 61 ∷ 32 ∷ []), append_assoc (listed value_text rs) (41 ∷ 32 ∷ 61 ∷ 32 ∷ []) (row_text functions i ++ after))
       (standing p.InstNames
-          (mark_token 40 refl refl (behind names.reads (mark_token 41 refl refl (reads.blank 32 refl (mark_token 61 refl refl (reads.blank 32 refl row.reads))))))
-          (none_passed IsValueNamed token_place limit.Arguments 64 rs (tokens_of names.value) names.stands few)
-          (with_results functions (record i { results = [] }) (inst_of row.value) rs (tokens_of names.value) row.stands names.stands))
+      (mark_token 40 refl refl (behind names.reads (mark_token 41 refl refl (reads.blank 32 refl (mark_token 61 refl refl (reads.blank 32 refl row.reads))))))
+      (none_passed IsValueNamed token_place limit.Arguments 64 rs (tokens_of names.value) names.stands few)
+      (with_results functions (record i { results = [] }) (inst_of row.value) rs (tokens_of names.value) row.stands names.stands))
 
   one_result : (v : ValueId) → IsSmallValue v
       → Stands text n.Inst (λ x. IsInstWritten functions (record i { results = v ∷ [] }) (inst_of x)) ((value_text v ++ codes " = ") ++ (row_text functions i ++ after)) after
@@ -51,9 +47,9 @@ module _ (text : List ℕ) (functions : List Function) (after : List ℕ) (i : I
   one_result v small =
       rw (append_assoc (decimal v.0) (32 ∷ 61 ∷ 32 ∷ []) (row_text functions i ++ after))
       (standing p.InstOneName
-          (value_token v.0 small refl (reads.blank 32 refl (mark_token 61 refl refl (reads.blank 32 refl row.reads))))
-          refl
-          (with_results functions (record i { results = [] }) (inst_of row.value) (v ∷ []) (_ ∷ []) row.stands (refl, tt)))
+      (value_token v.0 small refl (reads.blank 32 refl (mark_token 61 refl refl (reads.blank 32 refl row.reads))))
+      refl
+      (with_results functions (record i { results = [] }) (inst_of row.value) (v ∷ []) (_ ∷ []) row.stands (refl, tt)))
 
   one_as : (list : Bool) (v : ValueId) → Each IsSmallValue (v ∷ [])
       → Stands text n.Inst (λ x. IsInstWritten functions (record i { results = v ∷ [] }) (inst_of x)) (((if list then in_parens value_text (v ∷ []) else value_text v) ++ codes " = ") ++ (row_text functions i ++ after)) after

@@ -1,5 +1,5 @@
 -- An instruction with just the parts of its row is itself without any other part.
-use Rattle.std.proofs.Common.{◌≡◌, ℕ, List, [], ◌∷◌, Option, Some, None, Bool, true, false, IsTrue, refl, sym, if◌then◌else◌, is_some, ◌||◌, ◌&&◌, true≢false}
+use Rattle.std.proofs.Common.{◌≡◌, ℕ, List, [], ◌∷◌, Option, Some, None, Bool, true, false, IsTrue, refl, if◌then◌else◌, is_some, ◌||◌, ◌&&◌, true≢false}
 use Rattle.std.specs.Prelude.{not}
 use Rattle.std.specs.List.{list_any}
 use Rattle.sil_ast.specs.Forms.{parts_of}
@@ -17,6 +17,7 @@ use Rattle.sil_ast.specs.declared.operands.Operand.{Operand}
 use Rattle.written_modules.specs.Values.{no_debug}
 use Rattle.numbered_form.specs.Lists.{is_empty}
 use Rattle.numbered_form.specs.Parts.{HasItsParts, has_edges, has_operands, is_callee, is_debug, is_flags, is_member, is_number, is_plain, is_signature, is_silent, is_text, is_type, may_have, row_has}
+use Rattle.printed_reading.proofs.OperandForms.{impossible, none_lacks}
 
 abbrev is_qualifier : Part → Bool
 is_qualifier part.Qualifier = true
@@ -62,7 +63,7 @@ same_option false (Some x) h = absurd (true≢false h)
 
 is_plain_one : (q : Qualifier) → IsTrue (is_plain q) → qualifier.Plain ≡ q
 is_plain_one qualifier.Plain h = refl
-is_plain_one _ h = absurd (true≢false (sym h))
+is_plain_one _ h = impossible h
 
 same_qualifier : (o : Op) (q : Qualifier) → IsTrue (may_have o q) → (if row_has is_qualifier o then q else qualifier.Plain) ≡ q
 same_qualifier op.Load q h = refl
@@ -76,22 +77,22 @@ same_qualifier _ q h = is_plain_one q h
 -- the first flag, and the second
 same_first : (flag a b : Bool) → IsTrue (flag || not (a || b)) → (flag && a) ≡ a
 same_first true a b h = refl
-same_first false true b h = absurd (true≢false (sym h))
+same_first false true b h = impossible h
 same_first false false b h = refl
 
 same_second : (flag a b : Bool) → IsTrue (flag || not (a || b)) → (flag && b) ≡ b
 same_second true a b h = refl
-same_second false true b h = absurd (true≢false (sym h))
-same_second false false true h = absurd (true≢false (sym h))
+same_second false true b h = impossible h
+same_second false false true h = impossible h
 same_second false false false h = refl
 
 is_silent_one : (binding : Option Binding) (name : Option (List ℕ)) (argno : Option ℕ) (deref : Bool)
     → IsTrue (is_silent (record { binding = binding; name = name; argno = argno; deref = deref })) → no_debug ≡ record { binding = binding; name = name; argno = argno; deref = deref }
 is_silent_one None None None false h = refl
-is_silent_one None None None true h = absurd (true≢false (sym h))
-is_silent_one None None (Some n) deref h = absurd (true≢false (sym h))
-is_silent_one None (Some name) argno deref h = absurd (true≢false (sym h))
-is_silent_one (Some b) name argno deref h = absurd (true≢false (sym h))
+is_silent_one None None None true h = impossible h
+is_silent_one None None (Some n) deref h = impossible h
+is_silent_one None (Some name) argno deref h = impossible h
+is_silent_one (Some b) name argno deref h = impossible h
 
 same_debug : (flag : Bool) (d : Debug) → IsTrue (flag || is_silent d) → (if flag then d else no_debug) ≡ d
 same_debug true d h = refl
@@ -99,11 +100,10 @@ same_debug false d h = is_silent_one d.binding d.name d.argno d.deref h
 
 is_empty_one : {A : Type 0} (xs : List A) → IsTrue (is_empty xs) → [] ≡ xs
 is_empty_one [] h = refl
-is_empty_one (x ∷ xs) h = absurd (true≢false (sym h))
+is_empty_one (x ∷ xs) h = impossible h
 
 none_there : (os : List Operand) → IsTrue (is_empty os || false) → [] ≡ os
-none_there [] h = refl
-none_there (o ∷ os) h = absurd (true≢false (sym h))
+none_there os h = is_empty_one os (none_lacks (is_empty os) h)
 
 same_operands : (o : Op) (os : List Operand) → IsTrue (has_operands o os) → (if row_has has_operand o then os else []) ≡ os
 same_operands op.IntegerLiteral os h = none_there os h

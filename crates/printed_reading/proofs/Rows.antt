@@ -1,5 +1,5 @@
 -- Each row of the table of instructions reads as itself.
-use Rattle.std.proofs.Common.{◌≡◌, ℕ, List, [], ◌∷◌, ◌++◌, IsTrue, IsFalse, refl, sym, subst, codes, true≢false}
+use Rattle.std.proofs.Common.{◌≡◌, ℕ, List, IsTrue, IsFalse, refl, sym, subst, true≢false}
 use Rattle.sil_ast.specs.Forms.{parts_of}
 use Rattle.sil_ast.specs.declared.function.Function.{Function}
 use Rattle.sil_ast.specs.declared.inst.Inst.{Inst}
@@ -27,7 +27,6 @@ use Rattle.printed_reading.proofs.SingleRows.{alloc_ref_row, alloc_stack_row, bu
 use Rattle.printed_reading.proofs.TerminatorRows.{br_row, cond_br_row, switch_row, unreachable_row}
 
 module _ (text : List ℕ) (functions : List Function) (after : List ℕ) (ends : Ends after) where
-
   -- an instruction of the row that has nothing else
   abbrev OfRow : Op → Inst → Inst
   OfRow o i = only_row (parts_of o) (record i { op = o })

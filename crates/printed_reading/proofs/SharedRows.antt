@@ -1,5 +1,5 @@
 -- The shapes that several rows share.
-use Rattle.std.proofs.Common.{◌≡◌, ℕ, List, [], ◌∷◌, ◌++◌, Option, Some, None, Bool, true, false, IsTrue, refl, codes, decimal, ℤ, IfSome}
+use Rattle.std.proofs.Common.{◌≡◌, ℕ, List, [], ◌∷◌, ◌++◌, Option, Some, None, Bool, IsTrue, refl, codes, decimal, ℤ, IfSome}
 use Rattle.std.specs.Fmt.{signed_decimal}
 use Rattle.std.proofs.lemmas.List.{append_assoc, append-nil}
 use Rattle.sil_ast.specs.Forms.{mnemonic_of}
@@ -33,7 +33,7 @@ use Rattle.printed_reading.proofs.MemberReading.{field_reads}
 use Rattle.printed_reading.proofs.NumberReading.{element_reads}
 use Rattle.printed_reading.proofs.OperandForms.{IsBareThenTyped, IsOneTyped, IsThere, bare_written, one, there, two}
 use Rattle.printed_reading.proofs.OperandReading.{operand_reads}
-use Rattle.printed_reading.proofs.Pieces.{Ends, Reads as reads, Stands, behind}
+use Rattle.printed_reading.proofs.Pieces.{Ends, Reads as reads, behind}
 use Rattle.printed_reading.proofs.Printable.{IsInstPrintable}
 use Rattle.printed_reading.proofs.QualifierReading.{ReadsQualifier, ends_flags, ends_qualifier, flag_words, flags_read}
 use Rattle.printed_reading.proofs.RowForms.{RowReads, bare, no_fault}
@@ -45,11 +45,10 @@ abbrev pub Spells : List ℕ → Keyword → Type 0
 Spells name k = IsTrue (is_word name) × Accepts (Read (word k)) (c.Word (keyword_of name))
 
 module _ (text : List ℕ) (functions : List Function) (after : List ℕ) (ends : Ends after) where
-
   -- a mnemonic and an operand
   pub over_one_row : (o : Op) (k : Keyword) (rs : List ValueId) (os : List Operand) → IsOneTyped os → IsInstPrintable functions (record (bare o) { results = rs; operands = os }) → Spells (mnemonic_of o) k
       → RowReads text functions (record (bare o) { operands = os }) (Read (word k) ∷ Part n.Operand ∷ []) (over_one o) no_fault
-          (mnemonic_of o ++ parts_text functions (record (bare o) { results = rs; operands = os }) None os (part.Typed ∷ []) ++ after) after
+      (mnemonic_of o ++ parts_text functions (record (bare o) { results = rs; operands = os }) None os (part.Typed ∷ []) ++ after) after
   unfolding inst_of
   over_one_row o k rs _ (one x typed) h spells =
       let operand = operand_reads text x after typed h.operands.0 h.types.operands.0 ends in
@@ -64,7 +63,7 @@ module _ (text : List ℕ) (functions : List Function) (after : List ℕ) (ends 
   pub flagged_row : (o : Op) (k : Keyword) (rs : List ValueId) (os : List Operand) (lexical var_decl : Bool) → IsOneTyped os
       → IsInstPrintable functions (record (bare o) { results = rs; operands = os; lexical = lexical; var_decl = var_decl }) → Spells (mnemonic_of o) k
       → RowReads text functions (record (bare o) { operands = os; lexical = lexical; var_decl = var_decl }) (Read (word k) ∷ Part n.Flags ∷ Part n.Operand ∷ []) (flagged o) no_fault
-          (mnemonic_of o ++ parts_text functions (record (bare o) { results = rs; operands = os; lexical = lexical; var_decl = var_decl }) None os (part.Flags ∷ part.Typed ∷ []) ++ after) after
+      (mnemonic_of o ++ parts_text functions (record (bare o) { results = rs; operands = os; lexical = lexical; var_decl = var_decl }) None os (part.Flags ∷ part.Typed ∷ []) ++ after) after
   unfolding inst_of
   flagged_row o k rs _ lexical var_decl (one x typed) h spells =
       let operand = operand_reads text x after typed h.operands.0 h.types.operands.0 ends in
@@ -83,7 +82,7 @@ module _ (text : List ℕ) (functions : List Function) (after : List ℕ) (ends 
   pub loaded_row : (o : Op) (k : Keyword) (word_part : Nonterminal) (rs : List ValueId) (os : List Operand) (q : Qualifier) → IsOneTyped os
       → IsInstPrintable functions (record (bare o) { results = rs; operands = os; qualifier = q }) → Spells (mnemonic_of o) k → ReadsQualifier text word_part q
       → RowReads text functions (record (bare o) { operands = os; qualifier = q }) (Read (word k) ∷ Part word_part ∷ Part n.Operand ∷ []) (loaded o) no_fault
-          (mnemonic_of o ++ parts_text functions (record (bare o) { results = rs; operands = os; qualifier = q }) None os (part.Qualifier ∷ part.Typed ∷ []) ++ after) after
+      (mnemonic_of o ++ parts_text functions (record (bare o) { results = rs; operands = os; qualifier = q }) None os (part.Qualifier ∷ part.Typed ∷ []) ++ after) after
   unfolding inst_of
   loaded_row o k word_part rs _ q (one x typed) h spells qualifier =
       let operand = operand_reads text x after typed h.operands.0 h.types.operands.0 ends in
@@ -101,15 +100,19 @@ module _ (text : List ℕ) (functions : List Function) (after : List ℕ) (ends 
   pub stored_row : (o : Op) (k : Keyword) (word_part : Nonterminal) (rs : List ValueId) (os : List Operand) (q : Qualifier) → IsBareThenTyped os
       → IsInstPrintable functions (record (bare o) { results = rs; operands = os; qualifier = q }) → Spells (mnemonic_of o) k → ReadsQualifier text word_part q
       → RowReads text functions (record (bare o) { operands = os; qualifier = q })
-          (Read (word k) ∷ Read (t.Just c.Percent) ∷ Read (word keyword.To) ∷ Part word_part ∷ Part n.Operand ∷ []) (stored o) no_fault
-          (mnemonic_of o ++ parts_text functions (record (bare o) { results = rs; operands = os; qualifier = q }) None os (part.Bare ∷ part.To ∷ part.Qualifier ∷ part.Typed ∷ []) ++ after) after
+      (Read (word k) ∷ Read (t.Just c.Percent) ∷ Read (word keyword.To) ∷ Part word_part ∷ Part n.Operand ∷ []) (stored o) no_fault
+      (mnemonic_of o ++ parts_text functions (record (bare o) { results = rs; operands = os; qualifier = q }) None os (part.Bare ∷ part.To ∷ part.Qualifier ∷ part.Typed ∷ []) ++ after) after
   unfolding inst_of token_of kept_of accepts class_number keyword_number keyword_of keywords_of_length known_keyword spelling
   stored_row o k word_part rs _ q (two a x bare_one typed) h spells qualifier =
       let operand = operand_reads text x after typed h.operands.1.0 h.types.operands.1.0 ends in
       let words = qualifier (32 ∷ typed_text x ++ after) in
       let behind_to = qualifier_text q ++ 32 ∷ typed_text x in
-      rw (append-nil (typed_text x), append_assoc (mnemonic_of o) (32 ∷ 37 ∷ decimal a.value.0 ++ 32 ∷ 116 ∷ 111 ∷ behind_to) after,
-          append_assoc (decimal a.value.0) (32 ∷ 116 ∷ 111 ∷ behind_to) after, append_assoc (qualifier_text q) (32 ∷ typed_text x) after) record {
+      rw (
+        append-nil (typed_text x),
+        append_assoc (mnemonic_of o) (32 ∷ 37 ∷ decimal a.value.0 ++ 32 ∷ 116 ∷ 111 ∷ behind_to) after,
+        append_assoc (decimal a.value.0) (32 ∷ 116 ∷ 111 ∷ behind_to) after,
+        append_assoc (qualifier_text q) (32 ∷ typed_text x) after,
+      ) record {
         values = _;
         stands = with_qualifier functions (record (bare o) { operands = a ∷ x ∷ [] }) _ q _
             (with_operands functions (bare o) _ _ _ (mnemonic_written functions o _) (bare_written a _ bare_one refl, (operand.stands, tt))) words.stands;
@@ -123,7 +126,7 @@ module _ (text : List ℕ) (functions : List Function) (after : List ℕ) (ends 
   pub member_row : (o : Op) (k : Keyword) (rs : List ValueId) (os : List Operand) (member : Option Member) → IsOneTyped os → IsThere member
       → IsInstPrintable functions (record (bare o) { results = rs; operands = os; member = member }) → Spells (mnemonic_of o) k → ((m : Member) → member_text o m ≡ field_name m)
       → RowReads text functions (record (bare o) { operands = os; member = member }) (Read (word k) ∷ Part n.Operand ∷ Read (mark m.Comma) ∷ Part n.MemberName ∷ []) (of_member o) no_fault
-          (mnemonic_of o ++ parts_text functions (record (bare o) { results = rs; operands = os; member = member }) None os (part.Typed ∷ part.Member ∷ []) ++ after) after
+      (mnemonic_of o ++ parts_text functions (record (bare o) { results = rs; operands = os; member = member }) None os (part.Typed ∷ part.Member ∷ []) ++ after) after
   unfolding inst_of accepts class_number mark_number mark_of mark_spelling marks
   member_row o k rs _ _ (one x typed) (there f) h spells is_field =
       let member = field_reads text f after h.spelled.member ends in
@@ -140,8 +143,8 @@ module _ (text : List ℕ) (functions : List Function) (after : List ℕ) (ends 
   pub element_row : (o : Op) (k : Keyword) (rs : List ValueId) (os : List Operand) (number : Option ℤ) → IsOneTyped os → IsThere number
       → IsInstPrintable functions (record (bare o) { results = rs; operands = os; number = number }) → Spells (mnemonic_of o) k → IfSome number (λ n. IsTrue (is_element_number n))
       → RowReads text functions (record (bare o) { operands = os; number = number }) (Read (word k) ∷ Part n.Operand ∷ Read (mark m.Comma) ∷ Read (t.Just c.Number) ∷ []) (of_element o)
-          (λ parts. out_of_range (small_of 63 (text_at 3 parts)) (place_at 3 parts))
-          (mnemonic_of o ++ parts_text functions (record (bare o) { results = rs; operands = os; number = number }) None os (part.Typed ∷ part.Number ∷ []) ++ after) after
+      (λ parts. out_of_range (small_of 63 (text_at 3 parts)) (place_at 3 parts))
+      (mnemonic_of o ++ parts_text functions (record (bare o) { results = rs; operands = os; number = number }) None os (part.Typed ∷ part.Number ∷ []) ++ after) after
   unfolding inst_of token_of kept_of accepts class_number mark_number mark_of mark_spelling marks
   element_row o k rs _ _ (one x typed) (there z) h spells few =
       let element = element_reads z few in

@@ -1,24 +1,23 @@
 -- The rows of a shape of their own.
-use Rattle.std.proofs.Common.{◌≡◌, ℕ, List, [], ◌∷◌, ◌++◌, length, map, Option, Some, None, Bool, true, IsTrue, refl, ap, sym, subst, codes, decimal, ℤ, ◌∙◌}
+use Rattle.std.proofs.Common.{◌≡◌, ℕ, List, [], ◌∷◌, ◌++◌, Option, Some, Bool, refl, ap, sym, subst, codes, ℤ, ◌∙◌}
 use Rattle.std.specs.Fmt.{signed_decimal}
 use Rattle.std.proofs.lemmas.List.{append_assoc, append-nil}
 use Rattle.sil_ast.specs.declared.debug.Debug.{Debug}
 use Rattle.sil_ast.specs.declared.function.Function.{Function}
-use Rattle.sil_ast.specs.declared.member.Member.{Member}
 use Rattle.sil_ast.specs.declared.op.Op.TheVariants as op
 use Rattle.sil_ast.specs.declared.operands.Operand.{Operand}
 use Rattle.sil_ast.specs.declared.place.FuncId.{FuncId}
 use Rattle.sil_ast.specs.declared.place.ValueId.{ValueId}
 use Rattle.sil_ast.specs.declared.signature.Signature.{Signature}
 use Rattle.sil_ast.specs.declared.type_name.TypeName.{TypeName}
-use Rattle.sil_printer.specs.CanonicalInsts.{bare_text, case_name, debug_text, typed_text}
+use Rattle.sil_printer.specs.CanonicalInsts.{debug_text, typed_text}
 use Rattle.sil_printer.specs.CanonicalSignatures.{signature_text}
 use Rattle.sil_printer.specs.CanonicalTypes.{type_text}
 use Rattle.sil_printer.specs.Words.{if_there, listed}
 use Rattle.sil_shape.specs.Accepts.{accepts, class_number, keyword_number, mark_number}
 use Rattle.sil_shape.specs.BuiltinNames.{is_builtin_name}
 use Rattle.sil_shape.specs.Derivation.{Accepts}
-use Rattle.sil_shape.specs.Grammar.{body, word, written}
+use Rattle.sil_shape.specs.Grammar.{body, written}
 use Rattle.sil_shape.specs.Spelling.{keyword_of, keywords_of_length, known_keyword, mark_of, mark_spelling, marks, spelling}
 use Rattle.sil_shape.specs.declared.classes.Class.TheVariants as c
 use Rattle.sil_shape.specs.declared.grammar.Nonterminal.TheVariants as n
@@ -28,20 +27,18 @@ use Rattle.sil_shape.specs.declared.grammar.Terminal.TheVariants as t
 use Rattle.written_numbers.specs.Numbers.{literal_of}
 use Rattle.written_modules.specs.Meaning.{kept_of, meaning}
 use Rattle.written_modules.specs.PartFaults.{part_fault}
-use Rattle.written_modules.specs.Places.{operand_place, token_place}
+use Rattle.written_modules.specs.Places.{operand_place}
 use Rattle.written_modules.specs.Types.{width_of}
-use Rattle.written_modules.specs.Values.{flags_of, inst_of, operands_of, token_of, tokens_of, type_of}
+use Rattle.written_modules.specs.Values.{inst_of, operands_of, token_of, type_of}
 use Rattle.written_modules.specs.declared.fault.LimitWord.TheVariants as limit
-use Rattle.numbered_form.specs.Parts.{is_typed}
 use Rattle.sil_grammar.specs.Classes.{text_class}
 use Rattle.printed_reading.proofs.DebugReading.{any_text, debug_reads, ends_debug}
 use Rattle.printed_reading.proofs.FunctionReading.{function_at}
 use Rattle.printed_reading.proofs.ListLimits.{none_passed}
-use Rattle.printed_reading.proofs.MemberReading.{case_reads}
 use Rattle.printed_reading.proofs.NumberReading.{in_range, literal_reads}
-use Rattle.printed_reading.proofs.OperandForms.{IsAtMostOneTyped, IsOneTyped, IsThere, given, lacking, one, there}
+use Rattle.printed_reading.proofs.OperandForms.{IsOneTyped, IsThere, one, there}
 use Rattle.printed_reading.proofs.OperandReading.{AreTyped, listed_operands_read, operand_reads}
-use Rattle.printed_reading.proofs.Pieces.{Ends, Reads as reads, Stands, behind}
+use Rattle.printed_reading.proofs.Pieces.{Ends, Reads as reads, behind}
 use Rattle.printed_reading.proofs.Printable.{IsInstPrintable}
 use Rattle.printed_reading.proofs.QualifierReading.{ends_flags, flag_words, flags_read}
 use Rattle.printed_reading.proofs.RowForms.{RowStands, bare}
@@ -50,10 +47,9 @@ use Rattle.printed_reading.proofs.Standing.{standing}
 use Rattle.printed_reading.proofs.Tokens.{at_token, between_quotes, mark_token, number_token, text_token, word_token}
 use Rattle.printed_reading.proofs.TypeReading.{type_reads}
 use Rattle.printed_reading.proofs.Written.{IsOperandWritten}
-use Rattle.printed_reading.proofs.WrittenParts.{mnemonic_written, with_debug, with_flags, with_function, with_member, with_number, with_operands, with_signature, with_text, with_type}
+use Rattle.printed_reading.proofs.WrittenParts.{mnemonic_written, with_debug, with_flags, with_function, with_number, with_operands, with_signature, with_text, with_type}
 
 module _ (text : List ℕ) (functions : List Function) (after : List ℕ) (ends : Ends after) where
-
   -- `integer_literal $T, 1`
   pub literal_row : (rs : List ValueId) (ty : Option TypeName) (number : Option ℤ) → IsThere ty → IsThere number
       → IsInstPrintable functions (record (bare op.IntegerLiteral) { results = rs; ty = ty; number = number })
@@ -65,11 +61,11 @@ module _ (text : List ℕ) (functions : List Function) (after : List ℕ) (ends 
       let number : literal_of (width_of (type_of inside.value).ty) (signed_decimal z) ≡ Some z = ap (λ ty. literal_of (width_of ty) (signed_decimal z)) inside.stands.ty ∙ literal.reads in
       rw (append-nil (signed_decimal z), append_assoc (type_text ty) (44 ∷ 32 ∷ signed_decimal z) after)
       (standing p.RowIntegerLiteral
-          (word_token (codes "integer_literal") refl refl refl (reads.blank 32 refl (mark_token 36 refl refl (behind inside.reads (mark_token 44 refl refl (reads.blank 32 refl
-          (number_token z after literal.small ends reads.nothing)))))))
-          (in_range (literal_of (width_of (type_of inside.value).ty) (signed_decimal z)) z _ number)
-          (with_number functions (record (bare op.IntegerLiteral) { ty = Some ty }) _ (Some z) _
-              (with_type functions (bare op.IntegerLiteral) _ ty _ (mnemonic_written functions op.IntegerLiteral _) inside.stands.ty) number))
+      (word_token (codes "integer_literal") refl refl refl (reads.blank 32 refl (mark_token 36 refl refl (behind inside.reads (mark_token 44 refl refl (reads.blank 32 refl
+      (number_token z after literal.small ends reads.nothing)))))))
+      (in_range (literal_of (width_of (type_of inside.value).ty) (signed_decimal z)) z _ number)
+      (with_number functions (record (bare op.IntegerLiteral) { ty = Some ty }) _ (Some z) _
+      (with_type functions (bare op.IntegerLiteral) _ ty _ (mnemonic_written functions op.IntegerLiteral _) inside.stands.ty) number))
 
   -- `function_ref @f : $@convention(thin) () -> ()`
   pub function_row : (rs : List ValueId) (function : Option FuncId) (signature : Option Signature) → IsThere function → IsThere signature
@@ -81,11 +77,11 @@ module _ (text : List ℕ) (functions : List Function) (after : List ℕ) (ends 
       let inside = signature_reads text s after h.types.signature h.limits.signature ends in
       rw (named.at, append-nil (signature_text s), append_assoc named.function.name (32 ∷ 58 ∷ 32 ∷ 36 ∷ signature_text s) after)
       (standing p.RowFunctionRef
-          (word_token (codes "function_ref") refl refl refl (reads.blank 32 refl (at_token named.function.name named.spelled refl refl (reads.blank 32 refl (mark_token 58 refl refl (reads.blank 32 refl
-          (mark_token 36 refl refl inside.reads)))))))
-          refl
-          (with_signature functions (record (bare op.FunctionRef) { function = Some f }) _ s _
-              (with_function functions (bare op.FunctionRef) _ f _ (mnemonic_written functions op.FunctionRef _) (sym (ap (if_there [] (λ function. function.name)) named.at))) inside.stands))
+      (word_token (codes "function_ref") refl refl refl (reads.blank 32 refl (at_token named.function.name named.spelled refl refl (reads.blank 32 refl (mark_token 58 refl refl (reads.blank 32 refl
+      (mark_token 36 refl refl inside.reads)))))))
+      refl
+      (with_signature functions (record (bare op.FunctionRef) { function = Some f }) _ s _
+      (with_function functions (bare op.FunctionRef) _ f _ (mnemonic_written functions op.FunctionRef _) (sym (ap (if_there [] (λ function. function.name)) named.at))) inside.stands))
 
   -- `builtin "x"(%1 : $T) : $U`
   pub builtin_row : (rs : List ValueId) (os : List Operand) (ty : Option TypeName) (name : Option (List ℕ)) → AreTyped os → IsThere ty → IsThere name
@@ -97,15 +93,19 @@ module _ (text : List ℕ) (functions : List Function) (after : List ℕ) (ends 
       let known : Accepts (Read (t.Just c.BuiltinText)) (text_class (is_builtin_name x)) = subst (λ known. Accepts (Read (t.Just c.BuiltinText)) (text_class known)) (sym h.literals.text) refl in
       let inside = type_reads text ty after h.types.ty ends in
       let args = listed_operands_read text os (41 ∷ behind_args ++ after) typed refl in
-      rw (append-nil (type_text ty), append_assoc (x ++ 34 ∷ []) (40 ∷ ((listed typed_text os ++ 41 ∷ []) ++ behind_args)) after,
-          append_assoc (listed typed_text os ++ 41 ∷ []) behind_args after, append_assoc (listed typed_text os) (41 ∷ []) (behind_args ++ after))
+      rw (
+        append-nil (type_text ty),
+        append_assoc (x ++ 34 ∷ []) (40 ∷ ((listed typed_text os ++ 41 ∷ []) ++ behind_args)) after,
+        append_assoc (listed typed_text os ++ 41 ∷ []) behind_args after,
+        append_assoc (listed typed_text os) (41 ∷ []) (behind_args ++ after),
+      )
       (standing p.RowBuiltin
-          (word_token (codes "builtin") refl refl refl (reads.blank 32 refl (text_token x (40 ∷ (listed typed_text os ++ (41 ∷ behind_args ++ after))) h.spelled.text known
-          (mark_token 40 refl refl (behind args.reads (mark_token 41 refl refl (reads.blank 32 refl (mark_token 58 refl refl (reads.blank 32 refl (mark_token 36 refl refl inside.reads))))))))))
-          (none_passed IsOperandWritten operand_place limit.Arguments 64 os (operands_of args.value) args.stands h.limits.operands)
-          (with_type functions (record (bare op.Builtin) { operands = os; text = Some x }) _ ty _
-              (with_operands functions (record (bare op.Builtin) { text = Some x }) _ os _
-              (with_text functions (bare op.Builtin) _ x _ (mnemonic_written functions op.Builtin _) (between_quotes x)) args.stands) inside.stands.ty))
+      (word_token (codes "builtin") refl refl refl (reads.blank 32 refl (text_token x (40 ∷ (listed typed_text os ++ (41 ∷ behind_args ++ after))) h.spelled.text known
+      (mark_token 40 refl refl (behind args.reads (mark_token 41 refl refl (reads.blank 32 refl (mark_token 58 refl refl (reads.blank 32 refl (mark_token 36 refl refl inside.reads))))))))))
+      (none_passed IsOperandWritten operand_place limit.Arguments 64 os (operands_of args.value) args.stands h.limits.operands)
+      (with_type functions (record (bare op.Builtin) { operands = os; text = Some x }) _ ty _
+      (with_operands functions (record (bare op.Builtin) { text = Some x }) _ os _
+      (with_text functions (bare op.Builtin) _ x _ (mnemonic_written functions op.Builtin _) (between_quotes x)) args.stands) inside.stands.ty))
 
   -- `cond_fail %1 : $T, "x"`
   pub fail_row : (rs : List ValueId) (os : List Operand) (message : Option (List ℕ)) → IsOneTyped os → IsThere message
@@ -116,11 +116,11 @@ module _ (text : List ℕ) (functions : List Function) (after : List ℕ) (ends 
       let operand = operand_reads text o (44 ∷ 32 ∷ 34 ∷ (x ++ 34 ∷ []) ++ after) typed h.operands.0 h.types.operands.0 refl in
       rw (append-nil (x ++ 34 ∷ []), append_assoc (typed_text o) (44 ∷ 32 ∷ 34 ∷ (x ++ 34 ∷ [])) after)
       (standing p.RowCondFail
-          (word_token (codes "cond_fail") refl refl refl (reads.blank 32 refl (behind operand.reads (mark_token 44 refl refl (reads.blank 32 refl
-          (text_token x after h.spelled.text (any_text (is_builtin_name x)) reads.nothing))))))
-          refl
-          (with_text functions (record (bare op.CondFail) { operands = o ∷ [] }) _ x _
-              (with_operands functions (bare op.CondFail) _ _ _ (mnemonic_written functions op.CondFail _) (operand.stands, tt)) (between_quotes x)))
+      (word_token (codes "cond_fail") refl refl refl (reads.blank 32 refl (behind operand.reads (mark_token 44 refl refl (reads.blank 32 refl
+      (text_token x after h.spelled.text (any_text (is_builtin_name x)) reads.nothing))))))
+      refl
+      (with_text functions (record (bare op.CondFail) { operands = o ∷ [] }) _ x _
+      (with_operands functions (bare op.CondFail) _ _ _ (mnemonic_written functions op.CondFail _) (operand.stands, tt)) (between_quotes x)))
 
   -- `alloc_ref $T`
   pub alloc_ref_row : (rs : List ValueId) (ty : Option TypeName) → IsThere ty
@@ -131,7 +131,7 @@ module _ (text : List ℕ) (functions : List Function) (after : List ℕ) (ends 
       let inside = type_reads text ty after h.types.ty ends in
       rw (append-nil (type_text ty))
       (standing p.RowAllocRef (word_token (codes "alloc_ref") refl refl refl (reads.blank 32 refl (mark_token 36 refl refl inside.reads))) refl
-          (with_type functions (bare op.AllocRef) _ ty _ (mnemonic_written functions op.AllocRef _) inside.stands.ty))
+      (with_type functions (bare op.AllocRef) _ ty _ (mnemonic_written functions op.AllocRef _) inside.stands.ty))
 
   -- `alloc_stack [lexical] $T, var, name "x"`
   pub alloc_stack_row : (rs : List ValueId) (ty : Option TypeName) (lexical var_decl : Bool) (debug : Debug) → IsThere ty
@@ -144,12 +144,12 @@ module _ (text : List ℕ) (functions : List Function) (after : List ℕ) (ends 
       let words = flags_read text lexical var_decl (32 ∷ 36 ∷ type_text ty ++ (debug_text debug ++ after)) in
       rw (append-nil (debug_text debug), append_assoc (flag_words lexical var_decl) (32 ∷ 36 ∷ type_text ty ++ debug_text debug) after, append_assoc (type_text ty) (debug_text debug) after)
       (standing p.RowAllocStack
-          (word_token (codes "alloc_stack") refl refl (ends_flags lexical var_decl (32 ∷ 36 ∷ type_text ty ++ (debug_text debug ++ after)) refl)
-          (behind words.reads (reads.blank 32 refl (mark_token 36 refl refl (behind inside.reads said.reads)))))
-          refl
-          (with_debug functions (record (bare op.AllocStack) { ty = Some ty; lexical = lexical; var_decl = var_decl }) _ debug _
-              (with_type functions (record (bare op.AllocStack) { lexical = lexical; var_decl = var_decl }) _ ty _
-              (with_flags functions (bare op.AllocStack) _ lexical var_decl _ _ (mnemonic_written functions op.AllocStack _) words.stands.0 words.stands.1) inside.stands.ty) said.stands))
+      (word_token (codes "alloc_stack") refl refl (ends_flags lexical var_decl (32 ∷ 36 ∷ type_text ty ++ (debug_text debug ++ after)) refl)
+      (behind words.reads (reads.blank 32 refl (mark_token 36 refl refl (behind inside.reads said.reads)))))
+      refl
+      (with_debug functions (record (bare op.AllocStack) { ty = Some ty; lexical = lexical; var_decl = var_decl }) _ debug _
+      (with_type functions (record (bare op.AllocStack) { lexical = lexical; var_decl = var_decl }) _ ty _
+      (with_flags functions (bare op.AllocStack) _ lexical var_decl _ _ (mnemonic_written functions op.AllocStack _) words.stands.0 words.stands.1) inside.stands.ty) said.stands))
 
   -- `debug_value %1 : $T, let, name "x"`
   pub debug_value_row : (rs : List ValueId) (os : List Operand) (debug : Debug) → IsOneTyped os
@@ -161,5 +161,5 @@ module _ (text : List ℕ) (functions : List Function) (after : List ℕ) (ends 
       let operand = operand_reads text o (debug_text debug ++ after) typed h.operands.0 h.types.operands.0 (ends_debug text after ends debug h.spelled.debug h.literals.argno) in
       rw (append-nil (debug_text debug), append_assoc (typed_text o) (debug_text debug) after)
       (standing p.RowDebugValue (word_token (codes "debug_value") refl refl refl (reads.blank 32 refl (behind operand.reads said.reads))) refl
-          (with_debug functions (record (bare op.DebugValue) { operands = o ∷ [] }) _ debug _
-              (with_operands functions (bare op.DebugValue) _ _ _ (mnemonic_written functions op.DebugValue _) (operand.stands, tt)) said.stands))
+      (with_debug functions (record (bare op.DebugValue) { operands = o ∷ [] }) _ debug _
+      (with_operands functions (bare op.DebugValue) _ _ _ (mnemonic_written functions op.DebugValue _) (operand.stands, tt)) said.stands))

@@ -1,5 +1,5 @@
 -- A production whose body reads.
-use Rattle.std.proofs.Common.{◌≡◌, ℕ, List, [], ◌∷◌, None}
+use Rattle.std.proofs.Common.{◌≡◌, ℕ, List, None}
 use Rattle.sil_shape.specs.Grammar.{body, written}
 use Rattle.sil_shape.specs.declared.grammar.Production.{Production}
 use Rattle.written_modules.specs.Meaning.{meaning}

@@ -1,59 +1,33 @@
 -- The rows that end a block.
-use Rattle.std.proofs.Common.{◌≡◌, ℕ, List, [], ◌∷◌, ◌++◌, length, map, Option, Some, None, Bool, true, IsTrue, refl, ap, sym, subst, codes, decimal, ℤ, ◌∙◌}
-use Rattle.std.specs.Fmt.{signed_decimal}
+use Rattle.std.proofs.Common.{ℕ, List, [], ◌∷◌, ◌++◌, refl, codes, decimal}
 use Rattle.std.proofs.lemmas.List.{append_assoc, append-nil}
-use Rattle.sil_ast.specs.declared.debug.Debug.{Debug}
 use Rattle.sil_ast.specs.declared.function.Function.{Function}
 use Rattle.sil_ast.specs.declared.inst.Edge.{Edge}
 use Rattle.sil_ast.specs.declared.op.Op.TheVariants as op
 use Rattle.sil_ast.specs.declared.operands.Operand.{Operand}
-use Rattle.sil_ast.specs.declared.place.FuncId.{FuncId}
 use Rattle.sil_ast.specs.declared.place.ValueId.{ValueId}
-use Rattle.sil_ast.specs.declared.signature.Signature.{Signature}
-use Rattle.sil_ast.specs.declared.type_name.TypeName.{TypeName}
 use Rattle.sil_printer.specs.CanonicalInsts.{block_name, edge_text, typed_text}
-use Rattle.sil_printer.specs.CanonicalSignatures.{signature_text}
-use Rattle.sil_printer.specs.CanonicalTypes.{type_text}
 use Rattle.sil_printer.specs.Words.{listed, parens_if_any}
 use Rattle.sil_shape.specs.Accepts.{accepts, class_number, keyword_number, mark_number}
-use Rattle.sil_shape.specs.BuiltinNames.{is_builtin_name}
-use Rattle.sil_shape.specs.Derivation.{Accepts}
-use Rattle.sil_shape.specs.Grammar.{body, word, written}
+use Rattle.sil_shape.specs.Grammar.{body, written}
 use Rattle.sil_shape.specs.Spelling.{keyword_of, keywords_of_length, known_keyword, mark_of, mark_spelling, marks, spelling}
-use Rattle.sil_shape.specs.declared.classes.Class.TheVariants as c
 use Rattle.sil_shape.specs.declared.grammar.Nonterminal.TheVariants as n
 use Rattle.sil_shape.specs.declared.grammar.Production.TheVariants as p
-use Rattle.sil_shape.specs.declared.grammar.Symbol.TheVariants.{Read}
-use Rattle.sil_shape.specs.declared.grammar.Terminal.TheVariants as t
-use Rattle.written_numbers.specs.Numbers.{literal_of}
 use Rattle.written_modules.specs.Meaning.{kept_of, meaning}
 use Rattle.written_modules.specs.PartFaults.{part_fault}
-use Rattle.written_modules.specs.Places.{operand_place, token_place}
-use Rattle.written_modules.specs.Types.{width_of}
-use Rattle.written_modules.specs.Values.{flags_of, inst_of, operands_of, token_of, tokens_of, type_of}
-use Rattle.written_modules.specs.declared.fault.LimitWord.TheVariants as limit
-use Rattle.numbered_form.specs.Parts.{is_typed}
-use Rattle.sil_grammar.specs.Classes.{text_class}
+use Rattle.written_modules.specs.Values.{inst_of, token_of}
 use Rattle.printed_reading.proofs.EdgeForms.{AreSwitchEdges, IsOneBranch, IsTwoBranches, branch, either_to, only_to}
 use Rattle.printed_reading.proofs.EdgeReading.{branch_reads, switch_reads}
-use Rattle.printed_reading.proofs.ListLimits.{none_passed}
-use Rattle.printed_reading.proofs.MemberReading.{case_reads}
-use Rattle.printed_reading.proofs.NumberReading.{in_range, literal_reads}
 use Rattle.printed_reading.proofs.OperandForms.{IsOneBare, IsOneTyped, bare_written, one, one_bare}
-use Rattle.printed_reading.proofs.OperandReading.{AreTyped, listed_operands_read, operand_reads}
-use Rattle.printed_reading.proofs.Pieces.{Ends, Reads as reads, Stands, behind}
+use Rattle.printed_reading.proofs.OperandReading.{operand_reads}
+use Rattle.printed_reading.proofs.Pieces.{Ends, Reads as reads, behind}
 use Rattle.printed_reading.proofs.Printable.{IsInstPrintable}
-use Rattle.printed_reading.proofs.QualifierReading.{ends_flags, flag_words, flags_read}
 use Rattle.printed_reading.proofs.RowForms.{RowStands, bare}
-use Rattle.printed_reading.proofs.SignatureReading.{signature_reads}
 use Rattle.printed_reading.proofs.Standing.{standing}
 use Rattle.printed_reading.proofs.Tokens.{mark_token, value_token, word_token}
-use Rattle.printed_reading.proofs.TypeReading.{type_reads}
-use Rattle.printed_reading.proofs.Written.{IsOperandWritten}
 use Rattle.printed_reading.proofs.WrittenParts.{mnemonic_written, with_edges, with_operands}
 
 module _ (text : List ℕ) (functions : List Function) (after : List ℕ) (ends : Ends after) where
-
   -- `br bb1(%1 : $T)`
   pub br_row : (rs : List ValueId) (es : List Edge) → IsOneBranch es
       → RowStands text functions after n.Terminator (record (bare op.Br) { results = rs; edges = es })
@@ -63,7 +37,7 @@ module _ (text : List ℕ) (functions : List Function) (after : List ℕ) (ends 
       let name = decimal block.0 ++ parens_if_any typed_text args in
       rw (append-nil name, append-nil name)
       (standing p.RowBr (word_token (codes "br") refl refl refl (reads.blank 32 refl edge.reads)) refl
-          (with_edges functions (bare op.Br) _ _ _ (mnemonic_written functions op.Br _) (edge.stands, tt)))
+      (with_edges functions (bare op.Br) _ _ _ (mnemonic_written functions op.Br _) (edge.stands, tt)))
 
   -- `cond_br %1, bb1, bb2`
   pub cond_br_row : (rs : List ValueId) (os : List Operand) (es : List Edge) → IsOneBare os → IsTwoBranches es
@@ -78,11 +52,11 @@ module _ (text : List ℕ) (functions : List Function) (after : List ℕ) (ends 
       let both = first_name ++ 44 ∷ 32 ∷ second_text in
       rw (append-nil (decimal other.0 ++ parens_if_any typed_text other_args), append-nil both, append_assoc (decimal o.value.0) (44 ∷ 32 ∷ 98 ∷ 98 ∷ both) after, append_assoc first_name (44 ∷ 32 ∷ second_text) after)
       (standing p.RowCondBr
-          (word_token (codes "cond_br") refl refl refl (reads.blank 32 refl (value_token o.value.0 h.operands.0 refl (mark_token 44 refl refl (reads.blank 32 refl
-          (behind first.reads (mark_token 44 refl refl (reads.blank 32 refl second.reads))))))))
-          refl
-          (with_edges functions (record (bare op.CondBr) { operands = o ∷ [] }) _ _ _
-              (with_operands functions (bare op.CondBr) _ _ _ (mnemonic_written functions op.CondBr _) (bare_written o _ bare_one refl, tt)) (first.stands, (second.stands, tt))))
+      (word_token (codes "cond_br") refl refl refl (reads.blank 32 refl (value_token o.value.0 h.operands.0 refl (mark_token 44 refl refl (reads.blank 32 refl
+      (behind first.reads (mark_token 44 refl refl (reads.blank 32 refl second.reads))))))))
+      refl
+      (with_edges functions (record (bare op.CondBr) { operands = o ∷ [] }) _ _ _
+      (with_operands functions (bare op.CondBr) _ _ _ (mnemonic_written functions op.CondBr _) (bare_written o _ bare_one refl, tt)) (first.stands, (second.stands, tt))))
 
   -- `switch_enum %1 : $E, case #E.c!enumelt: bb1`
   pub switch_row : (rs : List ValueId) (os : List Operand) (es : List Edge) → IsOneTyped os → AreSwitchEdges es
@@ -95,10 +69,10 @@ module _ (text : List ℕ) (functions : List Function) (after : List ℕ) (ends 
       let operand = operand_reads text o (44 ∷ 32 ∷ cases_text ++ after) typed h.operands.0 h.types.operands.0 refl in
       rw (append-nil cases_text, append_assoc (typed_text o) (44 ∷ 32 ∷ cases_text) after)
       (standing p.RowSwitchEnum
-          (word_token (codes "switch_enum") refl refl refl (reads.blank 32 refl (behind operand.reads (mark_token 44 refl refl (reads.blank 32 refl cases.reads)))))
-          refl
-          (with_edges functions (record (bare op.SwitchEnum) { operands = o ∷ [] }) _ es _
-              (with_operands functions (bare op.SwitchEnum) _ _ _ (mnemonic_written functions op.SwitchEnum _) (operand.stands, tt)) cases.stands))
+      (word_token (codes "switch_enum") refl refl refl (reads.blank 32 refl (behind operand.reads (mark_token 44 refl refl (reads.blank 32 refl cases.reads)))))
+      refl
+      (with_edges functions (record (bare op.SwitchEnum) { operands = o ∷ [] }) _ es _
+      (with_operands functions (bare op.SwitchEnum) _ _ _ (mnemonic_written functions op.SwitchEnum _) (operand.stands, tt)) cases.stands))
 
   -- `unreachable`
   pub unreachable_row : (rs : List ValueId) → RowStands text functions after n.Terminator (record (bare op.Unreachable) { results = rs })

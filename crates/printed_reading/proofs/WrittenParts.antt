@@ -1,5 +1,5 @@
 -- What is written of an instruction, part by part.
-use Rattle.std.proofs.Common.{◌≡◌, ℕ, List, [], ◌∷◌, Option, Some, None, Bool, refl, ap}
+use Rattle.std.proofs.Common.{◌≡◌, ℕ, List, Option, Some, Bool, refl, ap}
 use Rattle.std.specs.Prelude.{ℤ}
 use Rattle.std.specs.List.{AllZip}
 use Rattle.sil_ast.specs.declared.debug.Debug.{Debug}
