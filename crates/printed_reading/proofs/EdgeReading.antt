@@ -25,7 +25,7 @@ use Rattle.numbered_form.specs.Names.{IsMemberSpelled}
 use Rattle.printed_reading.proofs.EdgeForms.{AreCases, AreSwitchEdges, branch_to, case_before, default_last, no_case}
 use Rattle.printed_reading.proofs.ListLimits.{none_passed}
 use Rattle.printed_reading.proofs.MemberReading.{case_reads}
-use Rattle.printed_reading.proofs.OperandReading.{AreTyped, first_reads, others_read, others_text, others_typed}
+use Rattle.printed_reading.proofs.OperandReading.{AreTyped, some_operands_read}
 use Rattle.printed_reading.proofs.Pieces.{Ends, Reads as reads, Stands, behind}
 use Rattle.printed_reading.proofs.Standing.{standing}
 use Rattle.printed_reading.proofs.Tokens.{IsSmall, label_token, mark_token, word_token}
@@ -37,10 +37,9 @@ edge_args_read : (text : List ℕ) (os : List Operand) (after : List ℕ) → Ar
 unfolding body written meaning part_fault operands_of accepts class_number mark_number mark_of mark_spelling marks
 edge_args_read text [] after h = standing p.EdgeArgsNone reads.nothing refl tt
 edge_args_read text (o ∷ os) after h =
-    let first = first_reads text o os (41 ∷ after) h refl in
-    let others = others_read text os (41 ∷ after) (others_typed o os h) refl in
-    rw (append_assoc (typed_text o ++ others_text os) (41 ∷ []) after, append_assoc (typed_text o) (others_text os) (41 ∷ after))
-    (standing p.EdgeArgsSome (mark_token 40 refl refl (behind first.reads (behind others.reads (mark_token 41 refl refl reads.nothing)))) refl (first.stands, others.stands))
+    let args = some_operands_read text o os (41 ∷ after) h refl in
+    rw (append_assoc (listed typed_text (o ∷ os)) (41 ∷ []) after)
+    (standing p.EdgeArgsSome (mark_token 40 refl refl (behind args.reads (mark_token 41 refl refl reads.nothing))) refl (args.is_first, args.are_others))
 
 ends_args : (os : List Operand) (after : List ℕ) → Ends after → Ends (parens_if_any typed_text os ++ after)
 ends_args [] after ends = ends
