@@ -1,7 +1,8 @@
 -- Where a part of a text keeps the limits, it isn't at fault.
-use Rattle.std.proofs.Common.{◌≡◌, ℕ, zero, suc, ◌+◌, ◌≤◌, List, [], ◌∷◌, length, slice_get, None, false, ◌==◌, refl, ap, ◌∙◌, arith}
+use Rattle.std.proofs.Common.{◌≡◌, ℕ, ◌+◌, ◌≤◌, List, length, None, false, ◌==◌, refl, ap, ◌∙◌, arith}
 use Rattle.std.specs.Option.{option_map}
 use Rattle.std.proofs.lemmas.Bool.Decides.{nat_tests}
+use Rattle.std.proofs.lemmas.Option.{slice_get_past}
 use Rattle.sil_ast.specs.declared.place.Place.{Place}
 use Rattle.sil_ast.specs.declared.type_name.TypeName.{TypeName}
 use Rattle.written_modules.specs.declared.fault.FaultKind.TheVariants.{Limit}
@@ -11,14 +12,9 @@ use Rattle.written_modules.specs.PartFaults.{too_deep}
 use Rattle.written_modules.specs.Types.{deeper, kept}
 use Rattle.numbered_reading.proofs.TypeLemmas.{all_kept, one_more}
 
-nothing_at : {A : Type 0} (xs : List A) (n : ℕ) → length xs ≤ n → slice_get xs n ≡ None
-nothing_at [] n h = refl
-nothing_at (x ∷ xs) zero h = absurd (omega arith)
-nothing_at (x ∷ xs) (suc n) h = nothing_at xs n (omega arith)
-
 -- as many as the limit allows
 pub not_passed : (what : LimitWord) (most : ℕ) (places : List Place) → length places ≤ most → passed what most places ≡ None
-not_passed what most places h = ap (option_map (fault (Limit what))) (nothing_at places most h)
+not_passed what most places h = ap (option_map (fault (Limit what))) (slice_get_past places most h)
 
 at_no_limit : (depth : ℕ) → 1 + depth ≤ 32 → (depth == 32) ≡ false
 at_no_limit depth h = grind (arith, nat_tests)
