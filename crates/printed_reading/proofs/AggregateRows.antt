@@ -36,7 +36,7 @@ use Rattle.printed_reading.proofs.Pieces.{Ends, Reads as reads, Stands, behind, 
 use Rattle.printed_reading.proofs.Printable.{IsInstPrintable, IsSmallOperand}
 use Rattle.printed_reading.proofs.RowForms.{RowStands, bare}
 use Rattle.printed_reading.proofs.SignatureReading.{signature_reads}
-use Rattle.printed_reading.proofs.Standing.{standing}
+use Rattle.printed_reading.proofs.Ruled.{stands_by}
 use Rattle.printed_reading.proofs.Tokens.{mark_token, value_token, word_token}
 use Rattle.printed_reading.proofs.TypeReading.{type_reads}
 use Rattle.printed_reading.proofs.Written.{IsOperandWritten, IsValueNamed}
@@ -52,7 +52,7 @@ module _ (text : List ℕ) (functions : List Function) (after : List ℕ) (ends 
       let args = listed_operands_read text os (41 ∷ after) typed refl in
       let inside = type_reads text ty (32 ∷ 40 ∷ listed typed_text os ++ 41 ∷ after) h.types.ty refl in
       rw (append-nil (listed typed_text os ++ 41 ∷ []), append_assoc (type_text ty) (32 ∷ 40 ∷ listed typed_text os ++ 41 ∷ []) after, append_assoc (listed typed_text os) (41 ∷ []) after)
-      (standing p.RowStruct
+      (stands_by p.RowStruct _
       (word_token (codes "struct") refl refl refl (reads.blank 32 refl (mark_token 36 refl refl (behind inside.reads (reads.blank 32 refl (mark_token 40 refl refl
       (behind args.reads (mark_token 41 refl refl reads.nothing))))))))
       (none_passed IsOperandWritten operand_place limit.Arguments 64 os (operands_of args.value) args.stands h.limits.operands)
@@ -67,7 +67,7 @@ module _ (text : List ℕ) (functions : List Function) (after : List ℕ) (ends 
   tuple_row rs os typed h =
       let args = listed_operands_read text os (41 ∷ after) typed refl in
       rw (append-nil (listed typed_text os ++ 41 ∷ []), append_assoc (listed typed_text os) (41 ∷ []) after)
-      (standing p.RowTuple
+      (stands_by p.RowTuple _
       (word_token (codes "tuple") refl refl refl (reads.blank 32 refl (mark_token 40 refl refl (behind args.reads (mark_token 41 refl refl reads.nothing)))))
       (none_passed IsOperandWritten operand_place limit.Arguments 64 os (operands_of args.value) args.stands h.limits.operands)
       (with_operands functions (bare op.Tuple) _ os _ (mnemonic_written functions op.Tuple _) args.stands))
@@ -76,10 +76,10 @@ module _ (text : List ℕ) (functions : List Function) (after : List ℕ) (ends 
   payload_read : (os : List Operand) → IsAtMostOneTyped os → Each IsSmallOperand os → Each HasOperandType os
       → Stands text n.EnumOperand (λ x. AllZip IsOperandWritten os (operands_of x)) (if_there (codes ", ") typed_text (slice_get os 0) ++ after) after
   unfolding body written meaning part_fault operands_of accepts class_number mark_number mark_of mark_spelling marks
-  payload_read _ lacking small types = standing p.EnumOperandNone reads.nothing refl tt
+  payload_read _ lacking small types = stands_by p.EnumOperandNone _ reads.nothing refl tt
   payload_read _ (given o typed) small types =
       let operand = operand_reads text o after typed small.0 types.0 ends in
-      standing p.EnumOperandSome (mark_token 44 refl refl (reads.blank 32 refl operand.reads)) refl (operand.stands, tt)
+      stands_by p.EnumOperandSome _ (mark_token 44 refl refl (reads.blank 32 refl operand.reads)) refl (operand.stands, tt)
 
   ends_payload : (os : List Operand) → Ends (if_there (codes ", ") typed_text (slice_get os 0) ++ after)
   ends_payload [] = ends
@@ -96,7 +96,7 @@ module _ (text : List ℕ) (functions : List Function) (after : List ℕ) (ends 
       let name = case_reads text m (given_text ++ after) h.spelled.member (ends_payload os) in
       let inside = type_reads text ty (44 ∷ 32 ∷ case_name m ++ (given_text ++ after)) h.types.ty refl in
       rw (append-nil given_text, append_assoc (type_text ty) (44 ∷ 32 ∷ case_name m ++ given_text) after, append_assoc (case_name m) given_text after)
-      (standing p.RowEnum
+      (stands_by p.RowEnum _
       (word_token (codes "enum") refl refl refl (reads.blank 32 refl (mark_token 36 refl refl (behind inside.reads (mark_token 44 refl refl (reads.blank 32 refl
       (behind name.reads operands.reads)))))))
       refl
@@ -120,7 +120,7 @@ module _ (text : List ℕ) (functions : List Function) (after : List ℕ) (ends 
         append_assoc (listed bare_text args ++ 41 ∷ []) behind_args after,
         append_assoc (listed bare_text args) (41 ∷ []) (behind_args ++ after),
       )
-      (standing p.RowApply
+      (stands_by p.RowApply _
       (word_token (codes "apply") refl refl refl (reads.blank 32 refl (value_token f.value.0 h.operands.0 refl (mark_token 40 refl refl (behind names.reads (mark_token 41 refl refl
       (reads.blank 32 refl (mark_token 58 refl refl (reads.blank 32 refl (mark_token 36 refl refl inside.reads))))))))))
       (none_passed (λ o token. IsValueNamed o.value token) token_place limit.Arguments 64 (f ∷ args) (callee ∷ tokens_of names.value) (refl, names.stands) h.limits.operands)

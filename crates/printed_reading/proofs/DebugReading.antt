@@ -24,7 +24,7 @@ use Rattle.numbered_form.specs.Names.{is_quotable}
 use Rattle.sil_grammar.specs.Classes.{text_class}
 use Rattle.printed_reading.proofs.NumberReading.{in_range}
 use Rattle.printed_reading.proofs.Pieces.{Ends, Reads as reads, Stands}
-use Rattle.printed_reading.proofs.Standing.{standing}
+use Rattle.printed_reading.proofs.Ruled.{stands_by}
 use Rattle.printed_reading.proofs.Tokens.{between_quotes, mark_token, number_token, text_token, word_token}
 
 -- the rest of what is said: nothing, or a comma and a part that stands for it
@@ -45,23 +45,23 @@ any_text false = refl
 -- behind a number, a name, a binding, and behind what the instruction is about
 after_number : {text : List ℕ} {d : Debug} {after left : List ℕ} → ReadsRest text n.DebugDerefPart d after left → Stands text n.DebugAfterNumber (λ x. debug_of x ≡ d) left after
 unfolding body written meaning part_fault debug_of accepts class_number mark_number mark_of mark_spelling marks
-after_number (ended e) = standing p.DebugAfterNumberNone reads.nothing refl e
-after_number (goes_on s) = standing p.DebugAfterNumberSome (mark_token 44 refl refl (reads.blank 32 refl s.reads)) refl s.stands
+after_number (ended e) = stands_by p.DebugAfterNumberNone _ reads.nothing refl e
+after_number (goes_on s) = stands_by p.DebugAfterNumberSome _ (mark_token 44 refl refl (reads.blank 32 refl s.reads)) refl s.stands
 
 after_name : {text : List ℕ} {d : Debug} {after left : List ℕ} → ReadsRest text n.DebugNumberPart d after left → Stands text n.DebugAfterName (λ x. debug_of x ≡ d) left after
 unfolding body written meaning part_fault debug_of accepts class_number mark_number mark_of mark_spelling marks
-after_name (ended e) = standing p.DebugAfterNameNone reads.nothing refl e
-after_name (goes_on s) = standing p.DebugAfterNameSome (mark_token 44 refl refl (reads.blank 32 refl s.reads)) refl s.stands
+after_name (ended e) = stands_by p.DebugAfterNameNone _ reads.nothing refl e
+after_name (goes_on s) = stands_by p.DebugAfterNameSome _ (mark_token 44 refl refl (reads.blank 32 refl s.reads)) refl s.stands
 
 after_binding : {text : List ℕ} {d : Debug} {after left : List ℕ} → ReadsRest text n.DebugNamePart d after left → Stands text n.DebugAfterBinding (λ x. debug_of x ≡ d) left after
 unfolding body written meaning part_fault debug_of accepts class_number mark_number mark_of mark_spelling marks
-after_binding (ended e) = standing p.DebugAfterBindingNone reads.nothing refl e
-after_binding (goes_on s) = standing p.DebugAfterBindingSome (mark_token 44 refl refl (reads.blank 32 refl s.reads)) refl s.stands
+after_binding (ended e) = stands_by p.DebugAfterBindingNone _ reads.nothing refl e
+after_binding (goes_on s) = stands_by p.DebugAfterBindingSome _ (mark_token 44 refl refl (reads.blank 32 refl s.reads)) refl s.stands
 
 all_said : {text : List ℕ} {d : Debug} {after left : List ℕ} → ReadsRest text n.DebugPart d after left → Stands text n.Debug (λ x. debug_of x ≡ d) left after
 unfolding body written meaning part_fault debug_of accepts class_number mark_number mark_of mark_spelling marks
-all_said (ended e) = standing p.DebugNone reads.nothing refl e
-all_said (goes_on s) = standing p.DebugSome (mark_token 44 refl refl (reads.blank 32 refl s.reads)) refl s.stands
+all_said (ended e) = stands_by p.DebugNone _ reads.nothing refl e
+all_said (goes_on s) = stands_by p.DebugSome _ (mark_token 44 refl refl (reads.blank 32 refl s.reads)) refl s.stands
 
 module _ (text : List ℕ) (after : List ℕ) (ends : Ends after) where
   -- `, expr op_deref`
@@ -70,7 +70,7 @@ module _ (text : List ℕ) (after : List ℕ) (ends : Ends after) where
 
   deref_rest : (deref : Bool) → ReadsRest text n.DebugDerefPart (record no_debug { deref = deref }) after (deref_text deref)
   unfolding body written meaning part_fault debug_of accepts class_number keyword_number keyword_of keywords_of_length known_keyword spelling
-  deref_rest true = goes_on (standing p.DebugDeref (word_token (codes "expr") refl refl refl (reads.blank 32 refl (word_token (codes "op_deref") refl refl ends reads.nothing))) refl refl)
+  deref_rest true = goes_on (stands_by p.DebugDeref _ (word_token (codes "expr") refl refl refl (reads.blank 32 refl (word_token (codes "op_deref") refl refl ends reads.nothing))) refl refl)
   deref_rest false = ended refl
 
   -- `, argno 1`
@@ -80,7 +80,7 @@ module _ (text : List ℕ) (after : List ℕ) (ends : Ends after) where
   without_number : {d : Debug} {left : List ℕ} → ReadsRest text n.DebugDerefPart d after left → ReadsRest text n.DebugNumberPart d after left
   unfolding body written meaning part_fault debug_of
   without_number (ended e) = ended e
-  without_number (goes_on s) = goes_on (standing p.DebugNoNumber s.reads refl s.stands)
+  without_number (goes_on s) = goes_on (stands_by p.DebugNoNumber _ s.reads refl s.stands)
 
   number_rest : (argno : Option ℕ) (deref : Bool) → IfSome argno (λ n. n ≤ 65535)
       → ReadsRest text n.DebugNumberPart (record no_debug { argno = argno; deref = deref }) after (number_text argno deref)
@@ -89,7 +89,7 @@ module _ (text : List ℕ) (after : List ℕ) (ends : Ends after) where
   number_rest (Some k) deref few =
       let rest = after_number (deref_rest deref) in
       let small = printed_number 65535 k (omega arith) few in
-      goes_on (standing p.DebugNumber
+      goes_on (stands_by p.DebugNumber _
       (word_token (codes "argno") refl refl refl (reads.blank 32 refl (number_token (pos k) (deref_text deref) (omega arith) (ends_rest ends (deref_rest deref)) rest.reads)))
       (in_range _ k _ small)
       (λ j. record (rest.stands j) { argno = small j }))
@@ -101,7 +101,7 @@ module _ (text : List ℕ) (after : List ℕ) (ends : Ends after) where
   without_name : {d : Debug} {left : List ℕ} → ReadsRest text n.DebugNumberPart d after left → ReadsRest text n.DebugNamePart d after left
   unfolding body written meaning part_fault debug_of
   without_name (ended e) = ended e
-  without_name (goes_on s) = goes_on (standing p.DebugNoName s.reads refl s.stands)
+  without_name (goes_on s) = goes_on (stands_by p.DebugNoName _ s.reads refl s.stands)
 
   name_rest : (name : Option (List ℕ)) (argno : Option ℕ) (deref : Bool) → IfSome name (λ text. IsTrue (is_quotable text)) → IfSome argno (λ n. n ≤ 65535)
       → ReadsRest text n.DebugNamePart (record no_debug { name = name; argno = argno; deref = deref }) after (name_text name argno deref)
@@ -109,7 +109,7 @@ module _ (text : List ℕ) (after : List ℕ) (ends : Ends after) where
   name_rest None argno deref quotable few = without_name (number_rest argno deref few)
   name_rest (Some x) argno deref quotable few =
       let rest = after_name (number_rest argno deref few) in
-      goes_on (standing p.DebugName
+      goes_on (stands_by p.DebugName _
       (word_token (codes "name") refl refl refl (reads.blank 32 refl (text_token x (number_text argno deref) quotable (any_text (is_builtin_name x)) rest.reads)))
       refl
       (λ j. record (rest.stands j) { name = Some (between_quotes x j) }))
@@ -121,7 +121,7 @@ module _ (text : List ℕ) (after : List ℕ) (ends : Ends after) where
   without_binding : {d : Debug} {left : List ℕ} → ReadsRest text n.DebugNamePart d after left → ReadsRest text n.DebugPart d after left
   unfolding body written meaning part_fault debug_of
   without_binding (ended e) = ended e
-  without_binding (goes_on s) = goes_on (standing p.DebugRest s.reads refl s.stands)
+  without_binding (goes_on s) = goes_on (stands_by p.DebugRest _ s.reads refl s.stands)
 
   said : (binding : Option Binding) (name : Option (List ℕ)) (argno : Option ℕ) (deref : Bool) → IfSome name (λ text. IsTrue (is_quotable text)) → IfSome argno (λ n. n ≤ 65535)
       → ReadsRest text n.DebugPart (record { binding = binding; name = name; argno = argno; deref = deref }) after (said_text binding name argno deref)
@@ -129,10 +129,10 @@ module _ (text : List ℕ) (after : List ℕ) (ends : Ends after) where
   said None name argno deref quotable few = without_binding (name_rest name argno deref quotable few)
   said (Some Let) name argno deref quotable few =
       let rest = after_binding (name_rest name argno deref quotable few) in
-      goes_on (standing p.DebugLet (word_token (codes "let") refl refl (ends_rest ends (name_rest name argno deref quotable few)) rest.reads) refl (λ j. record (rest.stands j) { binding = Some Let }))
+      goes_on (stands_by p.DebugLet _ (word_token (codes "let") refl refl (ends_rest ends (name_rest name argno deref quotable few)) rest.reads) refl (λ j. record (rest.stands j) { binding = Some Let }))
   said (Some Var) name argno deref quotable few =
       let rest = after_binding (name_rest name argno deref quotable few) in
-      goes_on (standing p.DebugVar (word_token (codes "var") refl refl (ends_rest ends (name_rest name argno deref quotable few)) rest.reads) refl (λ j. record (rest.stands j) { binding = Some Var }))
+      goes_on (stands_by p.DebugVar _ (word_token (codes "var") refl refl (ends_rest ends (name_rest name argno deref quotable few)) rest.reads) refl (λ j. record (rest.stands j) { binding = Some Var }))
 
   debug_said : (d : Debug) → IfSome d.name (λ text. IsTrue (is_quotable text)) → IfSome d.argno (λ n. n ≤ 65535) → ReadsRest text n.DebugPart d after (debug_text d ++ after)
   debug_said d quotable few =

@@ -25,9 +25,9 @@ use Rattle.numbered_form.specs.Names.{IsMemberSpelled}
 use Rattle.printed_reading.proofs.EdgeForms.{AreCases, AreSwitchEdges, branch_to, case_before, default_last, no_case}
 use Rattle.printed_reading.proofs.ListLimits.{none_passed}
 use Rattle.printed_reading.proofs.MemberReading.{case_reads}
-use Rattle.printed_reading.proofs.OperandReading.{AreTyped, first_reads, others_read, others_text, others_typed}
+use Rattle.printed_reading.proofs.OperandReading.{AreTyped, some_operands_read}
 use Rattle.printed_reading.proofs.Pieces.{Ends, Reads as reads, Stands, behind}
-use Rattle.printed_reading.proofs.Standing.{standing}
+use Rattle.printed_reading.proofs.Ruled.{stands_by}
 use Rattle.printed_reading.proofs.Tokens.{IsSmall, label_token, mark_token, word_token}
 use Rattle.printed_reading.proofs.Written.{IsEdgeWritten, IsOperandWritten}
 
@@ -35,12 +35,11 @@ use Rattle.printed_reading.proofs.Written.{IsEdgeWritten, IsOperandWritten}
 edge_args_read : (text : List ℕ) (os : List Operand) (after : List ℕ) → AreTyped os
     → Stands text n.EdgeArgs (λ x. AllZip IsOperandWritten os (operands_of x)) (parens_if_any typed_text os ++ after) after
 unfolding body written meaning part_fault operands_of accepts class_number mark_number mark_of mark_spelling marks
-edge_args_read text [] after h = standing p.EdgeArgsNone reads.nothing refl tt
+edge_args_read text [] after h = stands_by p.EdgeArgsNone _ reads.nothing refl tt
 edge_args_read text (o ∷ os) after h =
-    let first = first_reads text o os (41 ∷ after) h refl in
-    let others = others_read text os (41 ∷ after) (others_typed o os h) refl in
-    rw (append_assoc (typed_text o ++ others_text os) (41 ∷ []) after, append_assoc (typed_text o) (others_text os) (41 ∷ after))
-    (standing p.EdgeArgsSome (mark_token 40 refl refl (behind first.reads (behind others.reads (mark_token 41 refl refl reads.nothing)))) refl (first.stands, others.stands))
+    let args = some_operands_read text o os (41 ∷ after) h refl in
+    rw (append_assoc (listed typed_text (o ∷ os)) (41 ∷ []) after)
+    (stands_by p.EdgeArgsSome _ (mark_token 40 refl refl (behind args.reads (mark_token 41 refl refl reads.nothing))) refl (args.is_first, args.are_others))
 
 ends_args : (os : List Operand) (after : List ℕ) → Ends after → Ends (parens_if_any typed_text os ++ after)
 ends_args [] after ends = ends
@@ -53,7 +52,7 @@ unfolding body written meaning part_fault edge_of token_of kept_of
 branch_reads text block args after small typed few ends =
     let inside = edge_args_read text args after typed in
     rw (append_assoc (decimal block.0) (parens_if_any typed_text args) after)
-    (standing p.WholeEdge (label_token block.0 small (ends_args args after ends) inside.reads)
+    (stands_by p.WholeEdge _ (label_token block.0 small (ends_args args after ends) inside.reads)
     (none_passed IsOperandWritten operand_place limit.Arguments 64 args (operands_of inside.value) inside.stands few)
     record { label = refl; args = inside.stands; case_of = refl })
 
@@ -78,7 +77,7 @@ case_edge_reads text block m es after small spelled ends more =
     let name = case_reads text m (58 ∷ 32 ∷ 98 ∷ 98 ∷ decimal block.0 ++ rest) spelled refl in
     let behind_hash = ((m.owner ++ 46 ∷ []) ++ m.name) ++ codes "!enumelt" in
     rw (append-nil ((behind_hash ++ 58 ∷ 32 ∷ []) ++ block_name block.0), append_assoc (behind_hash ++ 58 ∷ 32 ∷ []) (block_name block.0) rest, append_assoc behind_hash (58 ∷ 32 ∷ []) (block_name block.0 ++ rest))
-    (standing p.SwitchCase
+    (stands_by p.SwitchCase _
     (word_token (codes "case") refl refl refl (reads.blank 32 refl (behind name.reads (mark_token 58 refl refl (reads.blank 32 refl
     (label_token block.0 small (ends_edges es after ends) more.reads))))))
     refl
@@ -90,21 +89,21 @@ default_edge_reads : (text : List ℕ) (block : BlockId) (after : List ℕ) → 
 unfolding body written meaning part_fault edges_of token_of kept_of accepts class_number keyword_number keyword_of keywords_of_length known_keyword spelling
 default_edge_reads text block after small ends =
     rw (append-nil (decimal block.0))
-    (standing p.SwitchDefault (word_token (codes "default") refl refl refl (reads.blank 32 refl (label_token block.0 small ends reads.nothing))) refl
+    (stands_by p.SwitchDefault _ (word_token (codes "default") refl refl refl (reads.blank 32 refl (label_token block.0 small ends reads.nothing))) refl
     (record { label = refl; args = tt; case_of = refl }, tt))
 
 other_edges_read : (text : List ℕ) (es : List Edge) (after : List ℕ) → AreCases es → Ends after
     → Stands text n.SwitchMore (λ x. AllZip IsEdgeWritten es (edges_of x)) (other_edges_text es ++ after) after
 unfolding body written meaning part_fault edges_of accepts class_number mark_number mark_of mark_spelling marks
-other_edges_read text _ after no_case ends = standing p.SwitchMoreEnd reads.nothing refl tt
+other_edges_read text _ after no_case ends = stands_by p.SwitchMoreEnd _ reads.nothing refl tt
 other_edges_read text _ after (default_last block small) ends =
     let this = default_edge_reads text block after small ends in
     rw (append-nil (decimal block.0 ++ []))
-    (standing p.SwitchMoreSome (mark_token 44 refl refl (reads.blank 32 refl this.reads)) refl this.stands)
+    (stands_by p.SwitchMoreSome _ (mark_token 44 refl refl (reads.blank 32 refl this.reads)) refl this.stands)
 other_edges_read text _ after (case_before block m es small spelled cases) ends =
     let this = case_edge_reads text block m es after small spelled ends (other_edges_read text es after cases ends) in
     rw (append_assoc (edge_text op.SwitchEnum (case_to block m)) (other_edges_text es) after)
-    (standing p.SwitchMoreSome (mark_token 44 refl refl (reads.blank 32 refl this.reads)) refl this.stands)
+    (stands_by p.SwitchMoreSome _ (mark_token 44 refl refl (reads.blank 32 refl this.reads)) refl this.stands)
 
 cases_read : (text : List ℕ) (es : List Edge) (after : List ℕ) → IsTrue (not (is_empty es)) → AreCases es → Ends after
     → Stands text n.SwitchPart (λ x. AllZip IsEdgeWritten es (edges_of x)) (listed (edge_text op.SwitchEnum) es ++ after) after

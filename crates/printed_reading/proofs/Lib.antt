@@ -15,7 +15,6 @@ pub mod TypeForms
 pub mod TypeLists
 pub mod TypeReading
 pub mod SignatureReading
-pub mod Standing
 pub mod ListLimits
 pub mod OperandReading
 pub mod NameReading

@@ -13,7 +13,7 @@ use Rattle.written_modules.specs.PartFaults.{part_fault}
 use Rattle.written_modules.specs.Values.{member_of, token_of}
 use Rattle.numbered_form.specs.Names.{IsMemberSpelled}
 use Rattle.printed_reading.proofs.Pieces.{Ends, Reads as reads, Stands}
-use Rattle.printed_reading.proofs.Standing.{standing}
+use Rattle.printed_reading.proofs.Ruled.{stands_by}
 use Rattle.printed_reading.proofs.Tokens.{mark_token, word_token}
 
 -- `#T.m`
@@ -22,7 +22,7 @@ pub field_reads : (text : List ℕ) (m : Member) (after : List ℕ) → IsMember
 unfolding body written meaning part_fault member_of token_of kept_of accepts class_number mark_number mark_of mark_spelling marks
 field_reads text m after spelled ends =
     rw (append_assoc (m.owner ++ 46 ∷ []) m.name after, append_assoc m.owner (46 ∷ []) (m.name ++ after))
-    (standing p.WholeMemberName (mark_token 35 refl refl (word_token m.owner spelled.owner refl refl (mark_token 46 refl refl (word_token m.name spelled.name refl ends reads.nothing)))) refl refl)
+    (stands_by p.WholeMemberName _ (mark_token 35 refl refl (word_token m.owner spelled.owner refl refl (mark_token 46 refl refl (word_token m.name spelled.name refl ends reads.nothing)))) refl refl)
 
 -- `#E.c!enumelt`
 pub case_reads : (text : List ℕ) (m : Member) (after : List ℕ) → IsMemberSpelled m → Ends after
@@ -30,7 +30,7 @@ pub case_reads : (text : List ℕ) (m : Member) (after : List ℕ) → IsMemberS
 unfolding body written meaning part_fault member_of token_of kept_of accepts class_number mark_number mark_of mark_spelling marks keyword_number keyword_of keywords_of_length known_keyword spelling
 case_reads text m after spelled ends =
     rw (append_assoc ((m.owner ++ 46 ∷ []) ++ m.name) (codes "!enumelt") after, append_assoc (m.owner ++ 46 ∷ []) m.name (codes "!enumelt" ++ after), append_assoc m.owner (46 ∷ []) (m.name ++ (codes "!enumelt" ++ after)))
-    (standing p.WholeEnumElement
+    (stands_by p.WholeEnumElement _
     (mark_token 35 refl refl (word_token m.owner spelled.owner refl refl (mark_token 46 refl refl (word_token m.name spelled.name refl refl
     (mark_token 33 refl refl (word_token (codes "enumelt") refl refl ends (reads.rule p.SuffixNone reads.nothing refl reads.nothing)))))))
     refl refl)

@@ -23,7 +23,7 @@ use Rattle.printed_reading.proofs.NameReading.{result_names_read}
 use Rattle.printed_reading.proofs.Pieces.{Reads as reads, Stands, behind}
 use Rattle.printed_reading.proofs.Printable.{IsSmallValue}
 use Rattle.printed_reading.proofs.RowForms.{RowStands, row_text}
-use Rattle.printed_reading.proofs.Standing.{standing}
+use Rattle.printed_reading.proofs.Ruled.{stands_by}
 use Rattle.printed_reading.proofs.Tokens.{mark_token, value_token}
 use Rattle.printed_reading.proofs.Written.{IsInstWritten, IsValueNamed}
 use Rattle.printed_reading.proofs.WrittenParts.{with_results}
@@ -36,7 +36,7 @@ module _ (text : List ℕ) (functions : List Function) (after : List ℕ) (i : I
   listed_results rs small few =
       let names = result_names_read (λ v. v) text rs (41 ∷ 32 ∷ 61 ∷ 32 ∷ row_text functions i ++ after) small refl in
       rw (append_assoc (listed value_text rs) (41 ∷ []) (32 ∷ 61 ∷ 32 ∷ []), append_assoc (listed value_text rs) (41 ∷ 32 ∷ 61 ∷ 32 ∷ []) (row_text functions i ++ after))
-      (standing p.InstNames
+      (stands_by p.InstNames _
       (mark_token 40 refl refl (behind names.reads (mark_token 41 refl refl (reads.blank 32 refl (mark_token 61 refl refl (reads.blank 32 refl row.reads))))))
       (none_passed IsValueNamed token_place limit.Arguments 64 rs (tokens_of names.value) names.stands few)
       (with_results functions (record i { results = [] }) (inst_of row.value) rs (tokens_of names.value) row.stands names.stands))
@@ -46,7 +46,7 @@ module _ (text : List ℕ) (functions : List Function) (after : List ℕ) (i : I
   unfolding body written meaning part_fault inst_of token_of kept_of accepts class_number mark_number mark_of mark_spelling marks
   one_result v small =
       rw (append_assoc (decimal v.0) (32 ∷ 61 ∷ 32 ∷ []) (row_text functions i ++ after))
-      (standing p.InstOneName
+      (stands_by p.InstOneName _
       (value_token v.0 small refl (reads.blank 32 refl (mark_token 61 refl refl (reads.blank 32 refl row.reads))))
       refl
       (with_results functions (record i { results = [] }) (inst_of row.value) (v ∷ []) (_ ∷ []) row.stands (refl, tt)))
@@ -59,7 +59,7 @@ module _ (text : List ℕ) (functions : List Function) (after : List ℕ) (i : I
   some_results : (rs : List ValueId) → Each IsSmallValue rs → length rs ≤ 64
       → Stands text n.Inst (λ x. IsInstWritten functions (record i { results = rs }) (inst_of x)) (results_text i.op rs ++ (row_text functions i ++ after)) after
   unfolding body written meaning part_fault
-  some_results [] small few = standing p.InstUnnamed row.reads refl row.stands
+  some_results [] small few = stands_by p.InstUnnamed _ row.reads refl row.stands
   some_results (v ∷ []) small few = one_as (has_result_list i.op) v small
   some_results (v ∷ w ∷ vs) small few = listed_results (v ∷ w ∷ vs) small few
 

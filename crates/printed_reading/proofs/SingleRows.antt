@@ -13,7 +13,7 @@ use Rattle.sil_ast.specs.declared.type_name.TypeName.{TypeName}
 use Rattle.sil_printer.specs.CanonicalInsts.{debug_text, typed_text}
 use Rattle.sil_printer.specs.CanonicalSignatures.{signature_text}
 use Rattle.sil_printer.specs.CanonicalTypes.{type_text}
-use Rattle.sil_printer.specs.Words.{if_there, listed}
+use Rattle.sil_printer.specs.Words.{listed}
 use Rattle.sil_shape.specs.Accepts.{accepts, class_number, keyword_number, mark_number}
 use Rattle.sil_shape.specs.BuiltinNames.{is_builtin_name}
 use Rattle.sil_shape.specs.Derivation.{Accepts}
@@ -33,7 +33,7 @@ use Rattle.written_modules.specs.Values.{inst_of, operands_of, token_of, type_of
 use Rattle.written_modules.specs.declared.fault.LimitWord.TheVariants as limit
 use Rattle.sil_grammar.specs.Classes.{text_class}
 use Rattle.printed_reading.proofs.DebugReading.{any_text, debug_reads, ends_debug}
-use Rattle.printed_reading.proofs.FunctionNames.{function_at}
+use Rattle.printed_reading.proofs.FunctionNames.{is_name_at}
 use Rattle.printed_reading.proofs.ListLimits.{none_passed}
 use Rattle.printed_reading.proofs.NumberReading.{in_range, literal_reads}
 use Rattle.printed_reading.proofs.OperandForms.{IsOneTyped, IsThere, one, there}
@@ -43,10 +43,10 @@ use Rattle.printed_reading.proofs.Printable.{IsInstPrintable}
 use Rattle.printed_reading.proofs.QualifierReading.{ends_flags, flag_words, flags_read}
 use Rattle.printed_reading.proofs.RowForms.{RowStands, bare}
 use Rattle.printed_reading.proofs.SignatureReading.{signature_reads}
-use Rattle.printed_reading.proofs.Standing.{standing}
+use Rattle.printed_reading.proofs.Ruled.{stands_by}
 use Rattle.printed_reading.proofs.Tokens.{at_token, between_quotes, mark_token, number_token, text_token, word_token}
 use Rattle.printed_reading.proofs.TypeReading.{type_reads}
-use Rattle.printed_reading.proofs.Written.{IsOperandWritten}
+use Rattle.printed_reading.proofs.Written.{IsOperandWritten, name_in}
 use Rattle.printed_reading.proofs.WrittenParts.{mnemonic_written, with_debug, with_flags, with_function, with_number, with_operands, with_signature, with_text, with_type}
 
 module _ (text : List ℕ) (functions : List Function) (after : List ℕ) (ends : Ends after) where
@@ -60,7 +60,7 @@ module _ (text : List ℕ) (functions : List Function) (after : List ℕ) (ends 
       let inside = type_reads text ty (44 ∷ 32 ∷ signed_decimal z ++ after) h.types.ty refl in
       let number : literal_of (width_of (type_of inside.value).ty) (signed_decimal z) ≡ Some z = ap (λ ty. literal_of (width_of ty) (signed_decimal z)) inside.stands.ty ∙ literal.reads in
       rw (append-nil (signed_decimal z), append_assoc (type_text ty) (44 ∷ 32 ∷ signed_decimal z) after)
-      (standing p.RowIntegerLiteral
+      (stands_by p.RowIntegerLiteral _
       (word_token (codes "integer_literal") refl refl refl (reads.blank 32 refl (mark_token 36 refl refl (behind inside.reads (mark_token 44 refl refl (reads.blank 32 refl
       (number_token z after literal.small ends reads.nothing)))))))
       (in_range (literal_of (width_of (type_of inside.value).ty) (signed_decimal z)) z _ number)
@@ -73,15 +73,15 @@ module _ (text : List ℕ) (functions : List Function) (after : List ℕ) (ends 
       → RowStands text functions after n.Row (record (bare op.FunctionRef) { results = rs; function = function; signature = signature })
   unfolding body written meaning part_fault inst_of token_of kept_of accepts class_number keyword_number keyword_of keywords_of_length known_keyword spelling mark_number mark_of mark_spelling marks
   function_row rs _ _ (there f) (there s) h =
-      let named = function_at functions f.0 h.function h.names in
+      let named = is_name_at functions f h.function h.names in
       let inside = signature_reads text s after h.types.signature h.limits.signature ends in
-      rw (named.at, append-nil (signature_text s), append_assoc named.function.name (32 ∷ 58 ∷ 32 ∷ 36 ∷ signature_text s) after)
-      (standing p.RowFunctionRef
-      (word_token (codes "function_ref") refl refl refl (reads.blank 32 refl (at_token named.function.name named.spelled refl refl (reads.blank 32 refl (mark_token 58 refl refl (reads.blank 32 refl
+      rw (named.text, append-nil (signature_text s), append_assoc (name_in functions f) (32 ∷ 58 ∷ 32 ∷ 36 ∷ signature_text s) after)
+      (stands_by p.RowFunctionRef _
+      (word_token (codes "function_ref") refl refl refl (reads.blank 32 refl (at_token (name_in functions f) named.spelled refl refl (reads.blank 32 refl (mark_token 58 refl refl (reads.blank 32 refl
       (mark_token 36 refl refl inside.reads)))))))
       refl
       (with_signature functions (record (bare op.FunctionRef) { function = Some f }) _ s _
-      (with_function functions (bare op.FunctionRef) _ f _ (mnemonic_written functions op.FunctionRef _) (sym (ap (if_there [] (λ function. function.name)) named.at))) inside.stands))
+      (with_function functions (bare op.FunctionRef) _ f _ (mnemonic_written functions op.FunctionRef _) refl) inside.stands))
 
   -- `builtin "x"(%1 : $T) : $U`
   pub builtin_row : (rs : List ValueId) (os : List Operand) (ty : Option TypeName) (name : Option (List ℕ)) → AreTyped os → IsThere ty → IsThere name
@@ -99,7 +99,7 @@ module _ (text : List ℕ) (functions : List Function) (after : List ℕ) (ends 
         append_assoc (listed typed_text os ++ 41 ∷ []) behind_args after,
         append_assoc (listed typed_text os) (41 ∷ []) (behind_args ++ after),
       )
-      (standing p.RowBuiltin
+      (stands_by p.RowBuiltin _
       (word_token (codes "builtin") refl refl refl (reads.blank 32 refl (text_token x (40 ∷ (listed typed_text os ++ (41 ∷ behind_args ++ after))) h.spelled.text known
       (mark_token 40 refl refl (behind args.reads (mark_token 41 refl refl (reads.blank 32 refl (mark_token 58 refl refl (reads.blank 32 refl (mark_token 36 refl refl inside.reads))))))))))
       (none_passed IsOperandWritten operand_place limit.Arguments 64 os (operands_of args.value) args.stands h.limits.operands)
@@ -115,7 +115,7 @@ module _ (text : List ℕ) (functions : List Function) (after : List ℕ) (ends 
   fail_row rs _ _ (one o typed) (there x) h =
       let operand = operand_reads text o (44 ∷ 32 ∷ 34 ∷ (x ++ 34 ∷ []) ++ after) typed h.operands.0 h.types.operands.0 refl in
       rw (append-nil (x ++ 34 ∷ []), append_assoc (typed_text o) (44 ∷ 32 ∷ 34 ∷ (x ++ 34 ∷ [])) after)
-      (standing p.RowCondFail
+      (stands_by p.RowCondFail _
       (word_token (codes "cond_fail") refl refl refl (reads.blank 32 refl (behind operand.reads (mark_token 44 refl refl (reads.blank 32 refl
       (text_token x after h.spelled.text (any_text (is_builtin_name x)) reads.nothing))))))
       refl
@@ -130,7 +130,7 @@ module _ (text : List ℕ) (functions : List Function) (after : List ℕ) (ends 
   alloc_ref_row rs _ (there ty) h =
       let inside = type_reads text ty after h.types.ty ends in
       rw (append-nil (type_text ty))
-      (standing p.RowAllocRef (word_token (codes "alloc_ref") refl refl refl (reads.blank 32 refl (mark_token 36 refl refl inside.reads))) refl
+      (stands_by p.RowAllocRef _ (word_token (codes "alloc_ref") refl refl refl (reads.blank 32 refl (mark_token 36 refl refl inside.reads))) refl
       (with_type functions (bare op.AllocRef) _ ty _ (mnemonic_written functions op.AllocRef _) inside.stands.ty))
 
   -- `alloc_stack [lexical] $T, var, name "x"`
@@ -143,7 +143,7 @@ module _ (text : List ℕ) (functions : List Function) (after : List ℕ) (ends 
       let inside = type_reads text ty (debug_text debug ++ after) h.types.ty (ends_debug text after ends debug h.spelled.debug h.literals.argno) in
       let words = flags_read text lexical var_decl (32 ∷ 36 ∷ type_text ty ++ (debug_text debug ++ after)) in
       rw (append-nil (debug_text debug), append_assoc (flag_words lexical var_decl) (32 ∷ 36 ∷ type_text ty ++ debug_text debug) after, append_assoc (type_text ty) (debug_text debug) after)
-      (standing p.RowAllocStack
+      (stands_by p.RowAllocStack _
       (word_token (codes "alloc_stack") refl refl (ends_flags lexical var_decl (32 ∷ 36 ∷ type_text ty ++ (debug_text debug ++ after)) refl)
       (behind words.reads (reads.blank 32 refl (mark_token 36 refl refl (behind inside.reads said.reads)))))
       refl
@@ -160,6 +160,6 @@ module _ (text : List ℕ) (functions : List Function) (after : List ℕ) (ends 
       let said = debug_reads text after ends debug h.spelled.debug h.literals.argno in
       let operand = operand_reads text o (debug_text debug ++ after) typed h.operands.0 h.types.operands.0 (ends_debug text after ends debug h.spelled.debug h.literals.argno) in
       rw (append-nil (debug_text debug), append_assoc (typed_text o) (debug_text debug) after)
-      (standing p.RowDebugValue (word_token (codes "debug_value") refl refl refl (reads.blank 32 refl (behind operand.reads said.reads))) refl
+      (stands_by p.RowDebugValue _ (word_token (codes "debug_value") refl refl refl (reads.blank 32 refl (behind operand.reads said.reads))) refl
       (with_debug functions (record (bare op.DebugValue) { operands = o ∷ [] }) _ debug _
       (with_operands functions (bare op.DebugValue) _ _ _ (mnemonic_written functions op.DebugValue _) (operand.stands, tt)) said.stands))

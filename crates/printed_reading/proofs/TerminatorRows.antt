@@ -23,7 +23,7 @@ use Rattle.printed_reading.proofs.OperandReading.{operand_reads}
 use Rattle.printed_reading.proofs.Pieces.{Ends, Reads as reads, behind}
 use Rattle.printed_reading.proofs.Printable.{IsInstPrintable}
 use Rattle.printed_reading.proofs.RowForms.{RowStands, bare}
-use Rattle.printed_reading.proofs.Standing.{standing}
+use Rattle.printed_reading.proofs.Ruled.{stands_by}
 use Rattle.printed_reading.proofs.Tokens.{mark_token, value_token, word_token}
 use Rattle.printed_reading.proofs.WrittenParts.{mnemonic_written, with_edges, with_operands}
 
@@ -36,7 +36,7 @@ module _ (text : List ℕ) (functions : List Function) (after : List ℕ) (ends 
       let edge = branch_reads text block args after small typed few ends in
       let name = decimal block.0 ++ parens_if_any typed_text args in
       rw (append-nil name, append-nil name)
-      (standing p.RowBr (word_token (codes "br") refl refl refl (reads.blank 32 refl edge.reads)) refl
+      (stands_by p.RowBr _ (word_token (codes "br") refl refl refl (reads.blank 32 refl edge.reads)) refl
       (with_edges functions (bare op.Br) _ _ _ (mnemonic_written functions op.Br _) (edge.stands, tt)))
 
   -- `cond_br %1, bb1, bb2`
@@ -51,7 +51,7 @@ module _ (text : List ℕ) (functions : List Function) (after : List ℕ) (ends 
       let first_name = decimal block.0 ++ parens_if_any typed_text args in
       let both = first_name ++ 44 ∷ 32 ∷ second_text in
       rw (append-nil (decimal other.0 ++ parens_if_any typed_text other_args), append-nil both, append_assoc (decimal o.value.0) (44 ∷ 32 ∷ 98 ∷ 98 ∷ both) after, append_assoc first_name (44 ∷ 32 ∷ second_text) after)
-      (standing p.RowCondBr
+      (stands_by p.RowCondBr _
       (word_token (codes "cond_br") refl refl refl (reads.blank 32 refl (value_token o.value.0 h.operands.0 refl (mark_token 44 refl refl (reads.blank 32 refl
       (behind first.reads (mark_token 44 refl refl (reads.blank 32 refl second.reads))))))))
       refl
@@ -68,7 +68,7 @@ module _ (text : List ℕ) (functions : List Function) (after : List ℕ) (ends 
       let cases_text = listed (edge_text op.SwitchEnum) es in
       let operand = operand_reads text o (44 ∷ 32 ∷ cases_text ++ after) typed h.operands.0 h.types.operands.0 refl in
       rw (append-nil cases_text, append_assoc (typed_text o) (44 ∷ 32 ∷ cases_text) after)
-      (standing p.RowSwitchEnum
+      (stands_by p.RowSwitchEnum _
       (word_token (codes "switch_enum") refl refl refl (reads.blank 32 refl (behind operand.reads (mark_token 44 refl refl (reads.blank 32 refl cases.reads)))))
       refl
       (with_edges functions (record (bare op.SwitchEnum) { operands = o ∷ [] }) _ es _
@@ -77,4 +77,4 @@ module _ (text : List ℕ) (functions : List Function) (after : List ℕ) (ends 
   -- `unreachable`
   pub unreachable_row : (rs : List ValueId) → RowStands text functions after n.Terminator (record (bare op.Unreachable) { results = rs })
   unfolding body written meaning part_fault inst_of accepts class_number keyword_number keyword_of keywords_of_length known_keyword spelling
-  unreachable_row rs = standing p.RowUnreachable (word_token (codes "unreachable") refl refl ends reads.nothing) refl (mnemonic_written functions op.Unreachable _)
+  unreachable_row rs = stands_by p.RowUnreachable _ (word_token (codes "unreachable") refl refl ends reads.nothing) refl (mnemonic_written functions op.Unreachable _)
