@@ -10,7 +10,7 @@ use std::test::Fail;
 pub type Printed = (&'static str, &'static str);
 
 /// Whether the text is read, and printed as this canonical text.
-pub fn prints_as(alloc: Global, text: &str, canonical: &str) -> Result<bool, Fail> {
+fn prints_as(alloc: Global, text: &str, canonical: &str) -> Result<bool, Fail> {
     if text.len() > 1_048_576 {
         return Ok(false);
     }
@@ -21,7 +21,14 @@ pub fn prints_as(alloc: Global, text: &str, canonical: &str) -> Result<bool, Fai
     }
 }
 
-/// Looks at each row with the same texts in front of it and behind it: the first prints as the second, and this as itself.
+/// The text prints as the canonical text, and this as itself.
+pub fn assert_row(rt: &impl Abort, alloc: Global, text: &str, canonical: &str) -> Result<(), Fail> {
+    assert!(rt; prints_as(alloc, text, canonical)?, "{text}");
+    assert!(rt; prints_as(alloc, canonical, canonical)?, "{canonical}");
+    Ok(())
+}
+
+/// Looks at each row with the same texts in front of it and behind it.
 pub fn assert_printed(
     rt: &impl Abort,
     alloc: Global,
@@ -32,13 +39,12 @@ pub fn assert_printed(
     for (text, canonical) in rows {
         let whole = format!(in alloc; "{head}{text}{tail}")?;
         let wanted = format!(in alloc; "{head}{canonical}{tail}")?;
-        assert!(rt; prints_as(alloc, &whole, &wanted)?, "{text}");
-        assert!(rt; prints_as(alloc, &wanted, &wanted)?, "{canonical}");
+        assert_row(rt, alloc, &whole, &wanted)?;
     }
     Ok(())
 }
 
-/// Looks at each row with the same texts in front of it and behind it: it prints as itself.
+/// Looks at canonical texts with the same texts in front of them and behind them.
 pub fn assert_kept(
     rt: &impl Abort,
     alloc: Global,

@@ -20,7 +20,7 @@ const MODULES: [Printed; 15] = [
         "sil_stage canonical\n\nimport Builtin\nimport Swift\n",
     ),
     (
-        "import Swift import Foundation import Builtin import Swift",
+        "import Swift import Foundation // all\n import Builtin import Swift",
         "sil_stage canonical\n\nimport Builtin\nimport Swift\n",
     ),
     ("import Foundation import import", "sil_stage canonical\n"),

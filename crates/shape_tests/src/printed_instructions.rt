@@ -1,7 +1,7 @@
 //! Instructions with each of their parts, read and printed. All stand behind a block's two arguments, so that their
 //! results are numbered from `%2` on.
 
-use crate::printed::{Printed, assert_printed, prints_as};
+use crate::printed::{Printed, assert_printed, assert_row};
 use std::alloc::Global;
 use std::process::Abort;
 use std::test::Fail;
@@ -332,7 +332,7 @@ fn assert_behind(
         for (front, printed) in fronts {
             let text = format!(in alloc; "{HEAD}{front}{row}{TAIL}")?;
             let canonical = format!(in alloc; "{HEAD}{printed}{row}{TAIL}")?;
-            assert!(rt; prints_as(alloc, &text, &canonical)?, "{front}{row}");
+            assert_row(rt, alloc, &text, &canonical)?;
         }
     }
     Ok(())

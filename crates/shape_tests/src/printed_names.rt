@@ -1,6 +1,6 @@
 //! Names of every kind, read and printed: words, also the words of the grammar, and the names with `@` and `%`.
 
-use crate::printed::prints_as;
+use crate::printed::assert_row;
 use std::alloc::Global;
 use std::process::Abort;
 use std::test::Fail;
@@ -252,8 +252,7 @@ fn assert_named(
         for (text, canonical) in rows {
             let text = text.replace(alloc, '~', name)?;
             let canonical = canonical.replace(alloc, '~', name)?;
-            assert!(rt; prints_as(alloc, &text, &canonical)?, "{text}");
-            assert!(rt; prints_as(alloc, &canonical, &canonical)?, "{canonical}");
+            assert_row(rt, alloc, &text, &canonical)?;
         }
     }
     Ok(())
