@@ -129,11 +129,15 @@ fn texts_are_modules_or_not(rt: HostRuntime) -> Result<(), Fail> {
 #[test]
 fn one_word_is_the_command_line(rt: HostRuntime) -> Result<(), Fail> {
     let alloc = rt.alloc();
-    let lines: [&[&str]; 7] = [
+    let lines: [&[&str]; 11] = [
         &[],
-        &["print"],
         &["Check"],
+        &["Print"],
+        &["lower"],
         &["check", "check"],
+        &["check", "print"],
+        &["print", "print"],
+        &["print", "1"],
         &["check", "--turns", "5"],
         &["--help"],
         &[""],

@@ -2,7 +2,6 @@
 use Rattle.std.proofs.Common.{◌≡◌, ℕ, ◌-◌, ◌≤◌, List, [], ◌∷◌, ◌++◌, length, map, take, drop, slice_range, Bool, true, false, ◌&&◌, not, IsTrue, Option, Some, None, ap, refl, sym, subst, ◌∙◌, arith, length-append, le-leb, nat_le}
 use Rattle.std.proofs.Math.Seq.{take-append_seam}
 use Rattle.std.specs.List.{AllZip, list_all}
-use Rattle.sil_ast.specs.declared.module.Module.{Module}
 use Rattle.sil_lexer.specs.declared.token.LexRefusal.{LexRefusal}
 use Rattle.sil_lexer.specs.declared.token.TokenKind.{TokenKind}
 use Rattle.sil_lexer.specs.declared.token.TokenKind.TheVariants as kind
@@ -58,8 +57,8 @@ lexed_classes all left lexemes refusal (end _ _) = tt
 lexed_classes all left lexemes refusal (token _ spelling after k more _ skipped spelled short rest) = (kept_text k spelling spelled.spelled short, lexed_classes all after more refusal rest)
 lexed_classes all left lexemes refusal (stop _ _ _ _ _) = tt
 
-pub spelled_numbered : (bytes : List ℕ) (m : Module) → text.Spells m bytes → IsNumbered m
-spelled_numbered bytes m h =
+pub spelled_numbered : text.AreSpelledNumbered
+spelled_numbered m bytes h =
     let s = h.spells in
     let leaves : AreOfClasses (map token_class s.lexemes) s.lexemes = lexed_classes bytes bytes s.lexemes None s.lexed in
     subst IsNumbered (sym h.numbered) (written_numbered (map token_class s.lexemes) s.lexemes s.steps h.written
