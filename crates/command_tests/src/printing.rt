@@ -6,18 +6,77 @@ use std::process::Abort;
 use std::test::Fail;
 
 /// An object that an unowned field of another object refers to.
-const BACK_REFERENCE: &str = "sil_stage canonical\n\nimport Builtin\nimport Swift\n\nclass B {\n  var s: S\n}\n\nclass N {\n  unowned var owner: B\n}\n\nstruct S {\n  var n: Optional<N>\n  var v: Builtin.Int64\n}\n\nsil @show : $@convention(thin) (Builtin.Int64) -> ()\n\nsil [ossa] @N_deinit : $@convention(method) (@guaranteed N) -> () {\nbb0(%0 : @guaranteed $N):\n  %1 = ref_element_addr %0 : $N, #N.owner\n  %2 = load_unowned %1 : $*@sil_unowned B\n  %3 = begin_borrow [lexical] %2 : $B\n  %4 = ref_element_addr %3 : $B, #B.s\n  %5 = struct_element_addr %4 : $*S, #S.v\n  %6 = load [trivial] %5 : $*Builtin.Int64\n  end_borrow %3 : $B\n  destroy_value %2 : $B\n  %7 = function_ref @show : $@convention(thin) (Builtin.Int64) -> ()\n  %8 = apply %7(%6) : $@convention(thin) (Builtin.Int64) -> ()\n  return %8 : $()\n}\n\nsil [ossa] @main : $@convention(thin) () -> () {\nbb0:\n  %0 = alloc_ref $B\n  debug_value %0 : $B, let, name \"b\"\n  %1 = begin_borrow %0 : $B\n  %2 = ref_element_addr %1 : $B, #B.s\n  %3 = enum $Optional<N>, #Optional.none!enumelt\n  %4 = integer_literal $Builtin.Int64, 1\n  %5 = struct $S (%3 : $Optional<N>, %4 : $Builtin.Int64)\n  store %5 to [init] %2 : $*S\n  %6 = alloc_ref $N\n  %7 = begin_borrow %6 : $N\n  %8 = ref_element_addr %7 : $N, #N.owner\n  store_unowned %0 to [init] %8 : $*@sil_unowned B\n  end_borrow %7 : $N\n  %9 = enum $Optional<N>, #Optional.some!enumelt, %6 : $N\n  %10 = struct $S (%9 : $Optional<N>, %4 : $Builtin.Int64)\n  store %10 to [assign] %2 : $*S\n  %11 = integer_literal $Builtin.Int64, 2\n  %12 = struct $S (%3 : $Optional<N>, %11 : $Builtin.Int64)\n  store %12 to [assign] %2 : $*S\n  end_borrow %1 : $B\n  destroy_value %0 : $B\n  %13 = tuple ()\n  return %13 : $()\n}\n\nsil_vtable N {\n  #N.deinit!destroyer: @N_deinit\n}\n";
+const BACK_REFERENCE: &str = "sil_stage canonical
+
+import Builtin
+import Swift
+
+class B {
+  var s: S
+}
+
+class N {
+  unowned var owner: B
+}
+
+struct S {
+  var n: Optional<N>
+  var v: Builtin.Int64
+}
+
+sil @show : $@convention(thin) (Builtin.Int64) -> ()
+
+sil [ossa] @N_deinit : $@convention(method) (@guaranteed N) -> () {
+bb0(%0 : @guaranteed $N):
+  %1 = ref_element_addr %0 : $N, #N.owner
+  %2 = load_unowned %1 : $*@sil_unowned B
+  %3 = begin_borrow [lexical] %2 : $B
+  %4 = ref_element_addr %3 : $B, #B.s
+  %5 = struct_element_addr %4 : $*S, #S.v
+  %6 = load [trivial] %5 : $*Builtin.Int64
+  end_borrow %3 : $B
+  destroy_value %2 : $B
+  %7 = function_ref @show : $@convention(thin) (Builtin.Int64) -> ()
+  %8 = apply %7(%6) : $@convention(thin) (Builtin.Int64) -> ()
+  return %8 : $()
+}
+
+sil [ossa] @main : $@convention(thin) () -> () {
+bb0:
+  %0 = alloc_ref $B
+  debug_value %0 : $B, let, name \"b\"
+  %1 = begin_borrow %0 : $B
+  %2 = ref_element_addr %1 : $B, #B.s
+  %3 = enum $Optional<N>, #Optional.none!enumelt
+  %4 = integer_literal $Builtin.Int64, 1
+  %5 = struct $S (%3 : $Optional<N>, %4 : $Builtin.Int64)
+  store %5 to [init] %2 : $*S
+  %6 = alloc_ref $N
+  %7 = begin_borrow %6 : $N
+  %8 = ref_element_addr %7 : $N, #N.owner
+  store_unowned %0 to [init] %8 : $*@sil_unowned B
+  end_borrow %7 : $N
+  %9 = enum $Optional<N>, #Optional.some!enumelt, %6 : $N
+  %10 = struct $S (%9 : $Optional<N>, %4 : $Builtin.Int64)
+  store %10 to [assign] %2 : $*S
+  %11 = integer_literal $Builtin.Int64, 2
+  %12 = struct $S (%3 : $Optional<N>, %11 : $Builtin.Int64)
+  store %12 to [assign] %2 : $*S
+  end_borrow %1 : $B
+  destroy_value %0 : $B
+  %13 = tuple ()
+  return %13 : $()
+}
+
+sil_vtable N {
+  #N.deinit!destroyer: @N_deinit
+}
+";
 
 // Texts with their modules' canonical texts.
 const PRINTED: [(&str, &str); 9] = [
-    (
-        "",
-        "sil_stage canonical\n",
-    ),
-    (
-        "sil_stage raw",
-        "sil_stage raw\n",
-    ),
+    ("", "sil_stage canonical\n"),
+    ("sil_stage raw", "sil_stage raw\n"),
     // an import of another module is dropped
     (
         "import Swift import Foundation import Builtin",
@@ -59,11 +118,7 @@ const REFUSED: [(&str, &str, u8); 4] = [
         "not a module: bad byte at 2:3\n",
         3,
     ),
-    (
-        "class C {\n",
-        "not a module: unexpected at 2:1\n",
-        3,
-    ),
+    ("class C {\n", "not a module: unexpected at 2:1\n", 3),
     (
         "class C {} class C {}",
         "not a module: defined twice at 1:18\n",

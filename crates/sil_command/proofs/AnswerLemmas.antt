@@ -14,7 +14,7 @@ use Rattle.sil_command.specs.Faults.{IsRefusal}
 use Rattle.sil_command.specs.Texts.{limit_text, usage_text, refusal_text}
 use Rattle.sil_command.specs.declared.words.Mode.{Mode}
 use Rattle.sil_command.specs.Words.{AsksFor, IsCommandLine}
-use Rattle.sil_command.specs.Answers.{text_limit, AnswersCheck, AnswersModule, AnswersText, usage, told, too_long, unread, read, refused}
+use Rattle.sil_command.specs.Answers.{text_limit, AnswersCheck, AnswersModule, AnswersText, usage, in_mode, too_long, unread, spelled, refused}
 use Rattle.sil_command.specs.Reading.{AnswersRefusal}
 use Rattle.sil_command.specs.Ends.{IsAnswer}
 
@@ -27,25 +27,25 @@ usage_answer words (Some text) none = record { text = text; source = refl; allow
 pub whole_answer : (words : List (List ℕ)) (mode : Mode) (left : Option (List ℕ)) (text bytes answer : List ℕ) (status : ℕ)
     → AsksFor words mode → IfSome left (λ all. text ≡ all) → bytes ≡ text → AnswersText mode bytes answer status → IsAnswer words left answer status
 whole_answer words mode None text bytes answer status asks all same allowed =
-    record { text = bytes; source = tt; allowed = told mode answer status asks allowed }
+    record { text = bytes; source = tt; allowed = in_mode mode answer status asks allowed }
 whole_answer words mode (Some left) text bytes answer status asks all same allowed =
-    record { text = left; source = refl; allowed = told mode answer status asks (subst (λ t. AnswersText mode t answer status) (same ∙ all) allowed) }
+    record { text = left; source = refl; allowed = in_mode mode answer status asks (subst (λ t. AnswersText mode t answer status) (same ∙ all) allowed) }
 
 -- a source that gave more bytes than the limit had a text that is too long
 pub too_long_answer : (words : List (List ℕ)) (mode : Mode) (left new : Option (List ℕ)) (taken : List ℕ)
     → AsksFor words mode → Consumes left new taken → length taken ≡ text_limit + 1 → IsAnswer words left limit_text 8
 too_long_answer words mode None new taken asks consumed long =
-    record { text = taken; source = tt; allowed = told mode _ _ asks (too_long (omega arith)) }
+    record { text = taken; source = tt; allowed = in_mode mode _ _ asks (too_long (omega arith)) }
 too_long_answer words mode (Some text) None taken asks consumed long = absurd consumed
 too_long_answer words mode (Some text) (Some rest) taken asks consumed long =
     let longer : length text ≡ length taken + length rest = ap length consumed ∙ length-append taken rest in
-    record { text = text; source = refl; allowed = told mode _ _ asks (too_long (omega arith)) }
+    record { text = text; source = refl; allowed = in_mode mode _ _ asks (too_long (omega arith)) }
 
 -- what is answered to the module is answered to its text
 pub read_answer : {A E : Type 0} (r : Result A E) (text_of : A → List ℕ) (status_of : A → ℕ) (mode : Mode) {text : List ℕ} {m : Module} → length text ≤ text_limit → Spells m text
     → IfOk r (λ a. AnswersModule mode m (text_of a) (status_of a)) → IfOk r (λ a. AnswersText mode text (text_of a) (status_of a))
-read_answer (Ok a) text_of status_of mode {m = m} within spelled answer = read m _ _ within spelled answer
-read_answer (Err e) text_of status_of mode within spelled answer = tt
+read_answer (Ok a) text_of status_of mode {m = m} within spells answer = spelled m _ _ within spells answer
+read_answer (Err e) text_of status_of mode within spells answer = tt
 
 -- a line with its status is an answer where it is the line for the reason
 pub told_line : {A E : Type 0} (r : Result A E) (text_of : A → List ℕ) (status_of : A → ℕ) {reason : ReadRefusal} {text : List ℕ} {status : ℕ} → AnswersRefusal reason text status

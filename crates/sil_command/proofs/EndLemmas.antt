@@ -6,7 +6,7 @@ use Rattle.sil_io.specs.Count.{MayFail}
 use Rattle.sil_command.specs.Texts.{read_fault_text}
 use Rattle.sil_command.specs.declared.words.Mode.{Mode}
 use Rattle.sil_command.specs.declared.words.Mode.TheVariants.{Check, Print}
-use Rattle.sil_command.specs.Answers.{Answers, usage, told, AnswersText, too_long, unread, read, AnswersModule, AnswersCheck, not_built, refused, accepted, AnswersPrint, printed}
+use Rattle.sil_command.specs.Answers.{Answers, usage, in_mode, AnswersText, too_long, unread, spelled, AnswersModule, AnswersCheck, not_built, refused, accepted, AnswersPrint, printed}
 use Rattle.sil_command.specs.Ends.{Call, Ends, answered, read_failed, exhausted, whole, front, WritesAnswer, Exhausts, WritesWhole, WritesFrontOfAnswer, GainsFront, IsStatus}
 use Rattle.sil_command.proofs.Unread.{unread_status}
 
@@ -48,11 +48,11 @@ unread_is status (inr eight) = inr (inr (inr (inr (inl eight))))
 text_status : (mode : Mode) (text answer : List ℕ) (status : ℕ) → AnswersText mode text answer status → IsAnswerStatus status
 text_status mode text _ _ (too_long long) = eight_is
 text_status mode text answer status (unread reason _ _ within refusal line) = unread_is status (unread_status reason answer status line)
-text_status mode text answer status (read m _ _ within spelled answers) = module_status mode m answer status answers
+text_status mode text answer status (spelled m _ _ within spells answers) = module_status mode m answer status answers
 
 answer_status : (words : List (List ℕ)) (text answer : List ℕ) (status : ℕ) → Answers words text answer status → IsAnswerStatus status
 answer_status words text _ _ (usage none) = two_is
-answer_status words text answer status (told mode _ _ asks answers) = text_status mode text answer status answers
+answer_status words text answer status (in_mode mode _ _ asks answers) = text_status mode text answer status answers
 
 -- an answer's status is one of all
 all_statuses : (status : ℕ) → IsAnswerStatus status → IsStatus status

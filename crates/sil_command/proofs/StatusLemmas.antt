@@ -1,5 +1,5 @@
 -- For the laws on statuses: which texts a mode answers with a status.
-use Rattle.std.proofs.Common.{◌≡◌, ◌↔◌, ◌⊎◌, inl, inr, ℕ, ◌≤◌, List, [], ◌∷◌, ◌++◌, length, refl, sym, ap, subst, ◌∙◌, arith}
+use Rattle.std.proofs.Common.{◌≡◌, ◌↔◌, ◌⊎◌, inl, inr, ℕ, ◌≤◌, List, [], ◌∷◌, ◌++◌, length, get_or, refl, sym, ap, subst, ◌∙◌, arith}
 use Rattle.std.specs.Prelude.{⊤}
 use Rattle.sil_ast.specs.declared.function.Function.{Function}
 use Rattle.sil_ast.specs.declared.module.Module.{Module}
@@ -10,7 +10,7 @@ use Rattle.sil_command.specs.declared.words.Mode.{Mode}
 use Rattle.sil_command.specs.declared.words.Mode.TheVariants.{Check, Print}
 use Rattle.sil_command.specs.Faults.{KeepsRules, AllKeepRules, Accepted, IsRefusal}
 use Rattle.sil_command.specs.Words.{AsksFor, word_of}
-use Rattle.sil_command.specs.Answers.{text_limit, Answers, usage, told, AnswersExactly, AnswersText, too_long, unread, read, AnswersModule, AnswersCheck, not_built, refused, accepted, AnswersPrint, printed, AreAcceptedExactly, AreNotBuiltExactly, ArePrintedExactly}
+use Rattle.sil_command.specs.Answers.{text_limit, Answers, usage, in_mode, AnswersExactly, AnswersText, too_long, unread, spelled, AnswersModule, AnswersCheck, not_built, refused, accepted, AnswersPrint, printed, AreAcceptedExactly, AreNotBuiltExactly, ArePrintedExactly}
 use Rattle.sil_command.proofs.Unread.{unread_none, unread_status}
 
 keeps_inside : (before : List Function) (f : Function) (after : List Function) → AllKeepRules (before ++ f ∷ after) → KeepsRules f
@@ -22,17 +22,22 @@ kept_not_refused : (m : Module) (r : Refusal) → Accepted m → IsRefusal m r �
 kept_not_refused m r kept refusal =
     keeps_inside refusal.before refusal.function refusal.after (subst AllKeepRules refusal.parts kept) refusal.block refusal.one_block r.fault refusal.fault.shown
 
+different_words : word_of Check ∷ [] ≡ word_of Print ∷ [] → ⊥
+different_words e =
+    let first : ◌≡◌ {A = ℕ} 99 112 = ap (λ words. get_or (get_or words 0 []) 0 0) e in
+    omega (arith, first)
+
 -- words ask for one mode alone
 one_mode : (words : List (List ℕ)) (mode other : Mode) → AsksFor words mode → AsksFor words other → other ≡ mode
 one_mode words Check Check asks again = refl
-one_mode words Check Print asks again = let same : word_of Check ∷ [] ≡ word_of Print ∷ [] = sym asks ∙ again in cc
-one_mode words Print Check asks again = let same : word_of Check ∷ [] ≡ word_of Print ∷ [] = sym again ∙ asks in cc
+one_mode words Check Print asks again = absurd (different_words (sym asks ∙ again))
+one_mode words Print Check asks again = absurd (different_words (sym again ∙ asks))
 one_mode words Print Print asks again = refl
 
 -- the answer to words that ask for a mode
 pub mode_answers : (words : List (List ℕ)) (mode : Mode) (text answer : List ℕ) (status : ℕ) → AsksFor words mode → Answers words text answer status → AnswersText mode text answer status
 mode_answers words mode text _ _ asks (usage none) = absurd (none (mode, asks))
-mode_answers words mode text answer status asks (told other _ _ again answers) =
+mode_answers words mode text answer status asks (in_mode other _ _ again answers) =
     subst (λ m. AnswersText m text answer status) (one_mode words mode other asks again) answers
 
 -- where the status is none of those of a text that isn't read, it tells of a text what it tells of the module
@@ -43,8 +48,8 @@ module _ (once : AreSpelledOnce) (mode : Mode) (wanted : ℕ) (IsSuch : Module �
       → (m : Module) × Spells m text × IsSuch m → status ≡ wanted
   spelled_wanted text _ _ within (too_long long) known = absurd (omega arith)
   spelled_wanted text answer status within (unread reason _ _ inside refusal line) known = absurd (unread_none text reason answer status refusal line known.0 known.1)
-  spelled_wanted text answer status within (read m _ _ inside spelled answers) known =
-      (tells m answer status answers).0 (subst IsSuch (once text m known.0 spelled known.1) known.2)
+  spelled_wanted text answer status within (spelled m _ _ inside spells answers) known =
+      (tells m answer status answers).0 (subst IsSuch (once text m known.0 spells known.1) known.2)
 
   wanted_spelled : (text answer : List ℕ) (status : ℕ) → AnswersText mode text answer status → status ≡ wanted → (m : Module) × Spells m text × IsSuch m
   wanted_spelled text _ _ (too_long long) is = absurd (of_modules.1 (sym is))
@@ -53,7 +58,7 @@ module _ (once : AreSpelledOnce) (mode : Mode) (wanted : ℕ) (IsSuch : Module �
       unread_not : (status ≡ 3) ⊎ (status ≡ 8) → (m : Module) × Spells m text × IsSuch m
       unread_not (inl three) = absurd (of_modules.0 (sym is ∙ three))
       unread_not (inr eight) = absurd (of_modules.1 (sym is ∙ eight))
-  wanted_spelled text answer status (read m _ _ inside spelled answers) is = (m, spelled, (tells m answer status answers).1 is)
+  wanted_spelled text answer status (spelled m _ _ inside spells answers) is = (m, spells, (tells m answer status answers).1 is)
 
   answers_exactly : AnswersExactly mode wanted IsSuch
   answers_exactly words text answer status asks within answers =

@@ -38,13 +38,13 @@ pub data AnswersText (mode : Mode) (text : List ℕ) : List ℕ → ℕ → Type
   too_long : text_limit < length text → AnswersText mode text limit_text 8
   unread : (reason : ReadRefusal) (answer : List ℕ) (status : ℕ) → length text ≤ text_limit → IsRefusalOf text reason
       → AnswersRefusal reason answer status → AnswersText mode text answer status
-  read : (m : Module) (answer : List ℕ) (status : ℕ) → length text ≤ text_limit → Spells m text → AnswersModule mode m answer status
+  spelled : (m : Module) (answer : List ℕ) (status : ℕ) → length text ≤ text_limit → Spells m text → AnswersModule mode m answer status
       → AnswersText mode text answer status
 
 -- the answer to a command line and a text
 pub data Answers (words : List (List ℕ)) (text : List ℕ) : List ℕ → ℕ → Type 0 where
   usage : (IsCommandLine words → ⊥) → Answers words text usage_text 2
-  told : (mode : Mode) (answer : List ℕ) (status : ℕ) → AsksFor words mode → AnswersText mode text answer status → Answers words text answer status
+  in_mode : (mode : Mode) (answer : List ℕ) (status : ℕ) → AsksFor words mode → AnswersText mode text answer status → Answers words text answer status
 
 -- among texts within the limit, the mode answers with the status just those that spell a module that is such
 abbrev pub AnswersExactly : Mode → ℕ → (Module → Type 0) → Type 0

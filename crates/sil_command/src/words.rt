@@ -5,7 +5,7 @@ ghost use Rattle.sil_command.specs.declared.words.Mode.{Mode};
 ghost use Rattle.sil_command.specs.Words.{word_of, AsksFor, IsCommandLine};
 
 /// What is done with the module that a text spells.
-#[derive(Clone, Copy, Debug, PartialEq, Eq)]
+#[derive(Clone, Copy)]
 pub enum Mode {
     /// Its rules are checked.
     Check,
