@@ -1,0 +1,11 @@
+pub mod Pieces
+pub mod Tokens
+pub mod Whole
+pub mod Written
+pub mod Printable
+pub mod TypeReading
+pub mod SignatureReading
+pub mod InstReading
+pub mod ModuleReading
+pub mod Names
+pub mod ReadBack

@@ -1,0 +1,52 @@
+-- How a piece of a text reads: the symbols of the grammar that its tokens stand for, with what they write and no fault.
+use Rattle.std.proofs.Common.{◌≡◌, ℕ, ◌≤◌, List, [], ◌∷◌, ◌++◌, None, Bool, IsTrue, IsFalse, refl}
+use Rattle.sil_lexer.specs.Bytes.{is_blank, is_name_byte}
+use Rattle.sil_lexer.specs.Lexes.{Lexeme}
+use Rattle.sil_lexer.specs.Places.{place_before}
+use Rattle.sil_lexer.specs.Spelling.{IsSpelled, begins_with, name_length}
+use Rattle.sil_lexer.specs.declared.token.TokenKind.{TokenKind}
+use Rattle.sil_shape.specs.declared.grammar.Nonterminal.{Nonterminal}
+use Rattle.sil_shape.specs.declared.grammar.Production.{Production}
+use Rattle.sil_shape.specs.declared.grammar.Symbol.{Symbol}
+use Rattle.sil_shape.specs.declared.grammar.Symbol.TheVariants.{Read, Part}
+use Rattle.sil_shape.specs.Derivation.{Accepts}
+use Rattle.sil_shape.specs.Grammar.{body, written}
+use Rattle.written_modules.specs.Meaning.{leaf_of, meaning}
+use Rattle.written_modules.specs.Opened.{PartValue}
+use Rattle.written_modules.specs.PartFaults.{part_fault}
+use Rattle.sil_grammar.specs.Classes.{class_by}
+
+-- a token of the text that stands in front of the rest
+abbrev pub lexeme_before : List ℕ → TokenKind → List ℕ → List ℕ → Lexeme
+lexeme_before text kind spelling rest = record { kind = kind; place = place_before text (spelling ++ rest); spelling = spelling }
+
+-- from some last bytes of the text on, up to others, its tokens read as these symbols, and stand for these values without a fault
+pub data Reads (text : List ℕ) : List Symbol → List ℕ → List PartValue → List ℕ → Type 0 where
+  nothing : {after : List ℕ} → Reads text [] after [] after
+  blank : {ss : List Symbol} {left : List ℕ} {values : List PartValue} {after : List ℕ} → (byte : ℕ) → IsTrue (is_blank byte)
+      → Reads text ss left values after → Reads text ss (byte ∷ left) values after
+  token : {s : Symbol} {ss : List Symbol} {rest : List ℕ} {values : List PartValue} {after : List ℕ} → (kind : TokenKind) (spelling : List ℕ)
+      → Accepts s (class_by kind spelling) → IsSpelled kind spelling rest → name_length kind spelling ≤ 255
+      → Reads text ss rest values after
+      → Reads text (s ∷ ss) (spelling ++ rest) (leaf_of (lexeme_before text kind spelling rest) ∷ values) after
+  rule : {ss : List Symbol} {left middle : List ℕ} {parts values : List PartValue} {after : List ℕ} → (p : Production)
+      → Reads text (body p) left parts middle → part_fault p parts ≡ None → Reads text ss middle values after
+      → Reads text (Part (written p) ∷ ss) left (meaning p parts ∷ values) after
+
+-- one piece and then another
+pub behind : {text : List ℕ} {ss tt : List Symbol} {left middle after : List ℕ} {values others : List PartValue}
+    → Reads text ss left values middle → Reads text tt middle others after → Reads text (ss ++ tt) left (values ++ others) after
+behind nothing r = r
+behind (blank byte h q) r = blank byte h (behind q r)
+behind (token kind spelling accepted spelled short q) r = token kind spelling accepted spelled short (behind q r)
+behind (rule p inside h q) r = rule p inside h (behind q r)
+
+-- a part reads as something of which P holds
+pub record Stands (text : List ℕ) (part : Nonterminal) (P : PartValue → Type 0) (left after : List ℕ) : Type 0 where
+  pub value : PartValue
+  pub stands : P value
+  pub reads : Reads text (Part part ∷ []) left (value ∷ []) after
+
+-- no name or number goes on with what follows
+abbrev pub Ends : List ℕ → Type 0
+Ends after = IsFalse (begins_with is_name_byte after)
