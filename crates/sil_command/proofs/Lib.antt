@@ -5,6 +5,7 @@ pub mod LeastBroken
 pub mod Marking
 pub mod OneValue
 pub mod PlainBlocks
+pub mod ReadBackLemmas
 pub mod StatusLemmas
 pub mod Unread
 pub mod Verdicts

@@ -63,3 +63,9 @@ AreNotBuiltExactly = AnswersExactly Check 11 (λ m. IsSimple m → ⊥)
 -- `print` answers with status 0 just the texts that spell a module
 abbrev pub ArePrintedExactly : Type 0
 ArePrintedExactly = AnswersExactly Print 0 (λ m. ⊤)
+
+-- what `print` writes with status 0 spells the module that the text spells
+abbrev pub ArePrintedReadBack : Type 0
+ArePrintedReadBack =
+    (words : List (List ℕ)) (text answer : List ℕ) (status : ℕ) → AsksFor words Print → Answers words text answer status → status ≡ 0
+    → (m : Module) × Spells m text × Spells m answer

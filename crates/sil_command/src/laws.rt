@@ -1,8 +1,9 @@
 //! What follows from the definition of answers, on calls that do nothing.
 
-ghost use Rattle.sil_command.specs.Answers.{AreAcceptedExactly, AreNotBuiltExactly, ArePrintedExactly};
+ghost use Rattle.sil_command.specs.Answers.{AreAcceptedExactly, AreNotBuiltExactly, ArePrintedExactly, ArePrintedReadBack};
 
-use sil_grammar::spelled_once;
+use printed_reading::printed_modules_are_spelled;
+use sil_grammar::{spelled_modules_are_numbered, spelled_once};
 
 /// `check` answers a text that spells an accepted simple module with status 0, and one that is answered so spells such a
 /// module.
@@ -25,4 +26,12 @@ pub fn printed_exactly()
     ensures { ArePrintedExactly }
 {
     spelled_once();
+}
+
+/// What `print` writes with status 0 spells the module that the text spells: to read it gives that module again.
+pub fn printed_texts_read_back()
+    ensures { ArePrintedReadBack }
+{
+    printed_modules_are_spelled();
+    spelled_modules_are_numbered();
 }
