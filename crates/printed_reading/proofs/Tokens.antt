@@ -147,8 +147,8 @@ unfolding class_by accepts class_number
 value_token n small ends r =
     let few : length (decimal n) ≤ 4 = short_decimal n small in
     reads.token kind.Percent (37 ∷ decimal n) refl
-        (record { spelled = percent_spells (decimal n) (decimal_digits n (omega arith)) (decimal_nonempty n (omega arith)); ended = ends })
-        (omega (arith, few)) r
+    (record { spelled = percent_spells (decimal n) (decimal_digits n (omega arith)) (decimal_nonempty n (omega arith)); ended = ends })
+    (omega (arith, few)) r
 
 -- `bb1`, the label of a block
 pub label_token : {text : List ℕ} {ss : List Symbol} {rest : List ℕ} {values : List PartValue} {after : List ℕ} → (n : ℕ)
@@ -164,12 +164,12 @@ pub number_token : {text : List ℕ} {ss : List Symbol} {values : List PartValue
 unfolding class_by accepts class_number
 number_token (pos n) rest small ends r =
     reads.token kind.Number (decimal n) refl
-        (record { spelled = number_spells (decimal n) (decimal_digits n (omega arith)) (decimal_nonempty n (omega arith)); ended = no_digit_behind rest ends })
-        (omega arith) r
+    (record { spelled = number_spells (decimal n) (decimal_digits n (omega arith)) (decimal_nonempty n (omega arith)); ended = no_digit_behind rest ends })
+    (omega arith) r
 number_token (negsuc n) rest small ends r =
     reads.token kind.Number (45 ∷ decimal (suc n)) refl
-        (record { spelled = negative_spells (decimal (suc n)) (decimal_digits (suc n) (omega arith)) (decimal_nonempty (suc n) (omega arith)); ended = no_digit_behind rest ends })
-        (omega arith) r
+    (record { spelled = negative_spells (decimal (suc n)) (decimal_digits (suc n) (omega arith)) (decimal_nonempty (suc n) (omega arith)); ended = no_digit_behind rest ends })
+    (omega arith) r
 
 nothing_behind_text : (rest : List ℕ) → IsFalse (begins_with (continues kind.Text) rest)
 nothing_behind_text [] = refl
@@ -182,8 +182,8 @@ pub text_token : {text : List ℕ} {s : Symbol} {ss : List Symbol} {values : Lis
 unfolding class_by
 text_token {s = s} inside rest quotable accepted r =
     reads.token kind.Text (34 ∷ inside ++ 34 ∷ [])
-        (subst (λ name. Accepts s (text_class (is_builtin_name name))) (sym (between_quotes inside)) accepted)
-        (record { spelled = spells.quoted inside quotable; ended = nothing_behind_text rest }) (omega arith) r
+    (subst (λ name. Accepts s (text_class (is_builtin_name name))) (sym (between_quotes inside)) accepted)
+    (record { spelled = spells.quoted inside quotable; ended = nothing_behind_text rest }) (omega arith) r
 
 no_more : (rest : List ℕ) → IsFalse (begins_with (continues kind.Mark) rest)
 no_more [] = refl
@@ -195,3 +195,10 @@ pub mark_token : {text : List ℕ} {s : Symbol} {ss : List Symbol} {rest : List 
     → Reads text (s ∷ ss) (byte ∷ rest) (leaf_of (lexeme_before text kind.Mark (byte ∷ []) rest) ∷ values) after
 unfolding class_by
 mark_token {rest = rest} byte is_one accepted r = reads.token kind.Mark (byte ∷ []) accepted (record { spelled = spells.mark byte is_one; ended = no_more rest }) (omega arith) r
+
+-- `->`
+pub arrow_token : {text : List ℕ} {s : Symbol} {ss : List Symbol} {rest : List ℕ} {values : List PartValue} {after : List ℕ}
+    → Accepts s (mark_class (mark_of (45 ∷ 62 ∷ []))) → Reads text ss rest values after
+    → Reads text (s ∷ ss) (45 ∷ 62 ∷ rest) (leaf_of (lexeme_before text kind.Mark (45 ∷ 62 ∷ []) rest) ∷ values) after
+unfolding class_by
+arrow_token {rest = rest} accepted r = reads.token kind.Mark (45 ∷ 62 ∷ []) accepted (record { spelled = spells.arrow; ended = no_more rest }) (omega arith) r
