@@ -1,6 +1,6 @@
 //! Whole texts, and words: what is a module, what is a command line, and the limit on a text.
 
-use crate::call::{call, check};
+use crate::call::{call, check, print};
 use std::alloc::{AllocError, Global};
 use std::test::Fail;
 
@@ -174,6 +174,9 @@ fn a_text_may_have_a_mebibyte(rt: HostRuntime) -> Result<(), Fail> {
     assert_eq!(rt; ended.written.as_slice(), b"accepted\n".as_slice());
     let longer = padded(rt.alloc(), 1048577)?;
     let ended = check(rt.alloc(), longer.as_slice())?;
+    assert_eq!(rt; ended.status, 8);
+    assert_eq!(rt; ended.written.as_slice(), b"limit text\n".as_slice());
+    let ended = print(rt.alloc(), longer.as_slice())?;
     assert_eq!(rt; ended.status, 8);
     assert_eq!(rt; ended.written.as_slice(), b"limit text\n".as_slice());
     Ok(())
