@@ -26,4 +26,6 @@ mod numbers;
 #[cfg(test)]
 mod patterns;
 #[cfg(test)]
+mod printing;
+#[cfg(test)]
 mod texts;

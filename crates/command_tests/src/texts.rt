@@ -1,6 +1,6 @@
 //! Whole texts, and words: what is a module, what is a command line, and the limit on a text.
 
-use crate::call::{call, check};
+use crate::call::{call, check, print};
 use std::alloc::{AllocError, Global};
 use std::test::Fail;
 
@@ -129,11 +129,15 @@ fn texts_are_modules_or_not(rt: HostRuntime) -> Result<(), Fail> {
 #[test]
 fn one_word_is_the_command_line(rt: HostRuntime) -> Result<(), Fail> {
     let alloc = rt.alloc();
-    let lines: [&[&str]; 7] = [
+    let lines: [&[&str]; 11] = [
         &[],
-        &["print"],
         &["Check"],
+        &["Print"],
+        &["lower"],
         &["check", "check"],
+        &["check", "print"],
+        &["print", "print"],
+        &["print", "1"],
         &["check", "--turns", "5"],
         &["--help"],
         &[""],
@@ -170,6 +174,9 @@ fn a_text_may_have_a_mebibyte(rt: HostRuntime) -> Result<(), Fail> {
     assert_eq!(rt; ended.written.as_slice(), b"accepted\n".as_slice());
     let longer = padded(rt.alloc(), 1048577)?;
     let ended = check(rt.alloc(), longer.as_slice())?;
+    assert_eq!(rt; ended.status, 8);
+    assert_eq!(rt; ended.written.as_slice(), b"limit text\n".as_slice());
+    let ended = print(rt.alloc(), longer.as_slice())?;
     assert_eq!(rt; ended.status, 8);
     assert_eq!(rt; ended.written.as_slice(), b"limit text\n".as_slice());
     Ok(())

@@ -12,8 +12,9 @@ use Rattle.simple_modules.specs.Simple.{IsSimple}
 use Rattle.sil_command.specs.declared.fault.Refusal.{Refusal}
 use Rattle.sil_command.specs.Faults.{IsRefusal}
 use Rattle.sil_command.specs.Texts.{limit_text, usage_text, refusal_text}
-use Rattle.sil_command.specs.Words.{IsCommandLine}
-use Rattle.sil_command.specs.Answers.{text_limit, AnswersCheck, AnswersModule, usage, check, too_long, unread, checked, refused}
+use Rattle.sil_command.specs.declared.words.Mode.{Mode}
+use Rattle.sil_command.specs.Words.{AsksFor, IsCommandLine}
+use Rattle.sil_command.specs.Answers.{text_limit, AnswersCheck, AnswersModule, AnswersText, usage, in_mode, too_long, unread, spelled, refused}
 use Rattle.sil_command.specs.Reading.{AnswersRefusal}
 use Rattle.sil_command.specs.Ends.{IsAnswer}
 
@@ -23,28 +24,28 @@ usage_answer words None none = record { text = []; source = tt; allowed = usage 
 usage_answer words (Some text) none = record { text = text; source = refl; allowed = usage none }
 
 -- the answer to the bytes that a source had left
-pub read_answer : (words : List (List ℕ)) (left : Option (List ℕ)) (text bytes answer : List ℕ) (status : ℕ)
-    → IsCommandLine words → IfSome left (λ told. text ≡ told) → bytes ≡ text → AnswersCheck bytes answer status → IsAnswer words left answer status
-read_answer words None text bytes answer status line told same allowed =
-    record { text = bytes; source = tt; allowed = check answer status line allowed }
-read_answer words (Some left) text bytes answer status line told same allowed =
-    record { text = left; source = refl; allowed = check answer status line (subst (λ t. AnswersCheck t answer status) (same ∙ told) allowed) }
+pub whole_answer : (words : List (List ℕ)) (mode : Mode) (left : Option (List ℕ)) (text bytes answer : List ℕ) (status : ℕ)
+    → AsksFor words mode → IfSome left (λ all. text ≡ all) → bytes ≡ text → AnswersText mode bytes answer status → IsAnswer words left answer status
+whole_answer words mode None text bytes answer status asks all same allowed =
+    record { text = bytes; source = tt; allowed = in_mode mode answer status asks allowed }
+whole_answer words mode (Some left) text bytes answer status asks all same allowed =
+    record { text = left; source = refl; allowed = in_mode mode answer status asks (subst (λ t. AnswersText mode t answer status) (same ∙ all) allowed) }
 
 -- a source that gave more bytes than the limit had a text that is too long
-pub too_long_answer : (words : List (List ℕ)) (left new : Option (List ℕ)) (taken : List ℕ)
-    → IsCommandLine words → Consumes left new taken → length taken ≡ text_limit + 1 → IsAnswer words left limit_text 8
-too_long_answer words None new taken line consumed long =
-    record { text = taken; source = tt; allowed = check _ _ line (too_long (omega arith)) }
-too_long_answer words (Some text) None taken line consumed long = absurd consumed
-too_long_answer words (Some text) (Some rest) taken line consumed long =
+pub too_long_answer : (words : List (List ℕ)) (mode : Mode) (left new : Option (List ℕ)) (taken : List ℕ)
+    → AsksFor words mode → Consumes left new taken → length taken ≡ text_limit + 1 → IsAnswer words left limit_text 8
+too_long_answer words mode None new taken asks consumed long =
+    record { text = taken; source = tt; allowed = in_mode mode _ _ asks (too_long (omega arith)) }
+too_long_answer words mode (Some text) None taken asks consumed long = absurd consumed
+too_long_answer words mode (Some text) (Some rest) taken asks consumed long =
     let longer : length text ≡ length taken + length rest = ap length consumed ∙ length-append taken rest in
-    record { text = text; source = refl; allowed = check _ _ line (too_long (omega arith)) }
+    record { text = text; source = refl; allowed = in_mode mode _ _ asks (too_long (omega arith)) }
 
 -- what is answered to the module is answered to its text
-pub checked_answer : {A E : Type 0} (r : Result A E) (text_of : A → List ℕ) (status_of : A → ℕ) {text : List ℕ} {m : Module} → length text ≤ text_limit → Spells m text
-    → IfOk r (λ a. AnswersModule m (text_of a) (status_of a)) → IfOk r (λ a. AnswersCheck text (text_of a) (status_of a))
-checked_answer (Ok a) text_of status_of {m = m} within spelled answer = checked m _ _ within spelled answer
-checked_answer (Err e) text_of status_of within spelled answer = tt
+pub read_answer : {A E : Type 0} (r : Result A E) (text_of : A → List ℕ) (status_of : A → ℕ) (mode : Mode) {text : List ℕ} {m : Module} → length text ≤ text_limit → Spells m text
+    → IfOk r (λ a. AnswersModule mode m (text_of a) (status_of a)) → IfOk r (λ a. AnswersText mode text (text_of a) (status_of a))
+read_answer (Ok a) text_of status_of mode {m = m} within spells answer = spelled m _ _ within spells answer
+read_answer (Err e) text_of status_of mode within spells answer = tt
 
 -- a line with its status is an answer where it is the line for the reason
 pub told_line : {A E : Type 0} (r : Result A E) (text_of : A → List ℕ) (status_of : A → ℕ) {reason : ReadRefusal} {text : List ℕ} {status : ℕ} → AnswersRefusal reason text status
@@ -54,15 +55,15 @@ told_line (Ok a) text_of status_of {reason = reason} {text = text} told same sta
 told_line (Err e) text_of status_of told same status_is = tt
 
 -- what is answered to the reason is answered to the text that isn't read
-pub unread_answer : {A E : Type 0} (r : Result A E) (text_of : A → List ℕ) (status_of : A → ℕ) {text : List ℕ} {reason : ReadRefusal} → length text ≤ text_limit
-    → IsRefusalOf text reason → IfOk r (λ a. AnswersRefusal reason (text_of a) (status_of a)) → IfOk r (λ a. AnswersCheck text (text_of a) (status_of a))
-unread_answer (Ok a) text_of status_of {reason = reason} within refusal answer = unread reason _ _ within refusal answer
-unread_answer (Err e) text_of status_of within refusal answer = tt
+pub unread_answer : {A E : Type 0} (r : Result A E) (text_of : A → List ℕ) (status_of : A → ℕ) (mode : Mode) {text : List ℕ} {reason : ReadRefusal} → length text ≤ text_limit
+    → IsRefusalOf text reason → IfOk r (λ a. AnswersRefusal reason (text_of a) (status_of a)) → IfOk r (λ a. AnswersText mode text (text_of a) (status_of a))
+unread_answer (Ok a) text_of status_of mode {reason = reason} within refusal answer = unread reason _ _ within refusal answer
+unread_answer (Err e) text_of status_of mode within refusal answer = tt
 
 -- the module's first refusal, by the function that has it
 pub refusal_answer : (m : Module) (r : Refusal) (f : Function) (text : List ℕ) → IsSimple m → IsRefusal m r → f ≡ get_or m.functions r.function.0 f
-    → text ≡ refusal_text f.name r.fault → AnswersModule m text 1
+    → text ≡ refusal_text f.name r.fault → AnswersCheck m text 1
 refusal_answer m r f text simple refusal is e =
     let at : get_or m.functions r.function.0 f ≡ refusal.function =
     ap (λ fs. get_or fs r.function.0 f) refusal.parts ∙ ap (λ k. get_or (refusal.before ++ refusal.function ∷ refusal.after) k f) refusal.place ∙ get_or-append_seam refusal.before refusal.function refusal.after f in
-    subst (λ t. AnswersModule m t 1) (ap (λ g. refusal_text g.name r.fault) (sym (is ∙ at)) ∙ sym e) (refused r refusal simple)
+    subst (λ t. AnswersCheck m t 1) (ap (λ g. refusal_text g.name r.fault) (sym (is ∙ at)) ∙ sym e) (refused r refusal simple)

@@ -3,11 +3,12 @@ use Rattle.std.proofs.Common.{◌≡◌, ◌⊎◌, inl, inr, ℕ, ◌<◌, List
 use Rattle.std.specs.Io.KnownBytes.{Keeps}
 use Rattle.sil_ast.specs.declared.module.Module.{Module}
 use Rattle.sil_io.specs.Count.{MayFail}
-use Rattle.sil_grammar.specs.declared.refusal.ReadRefusal.{ReadRefusal}
 use Rattle.sil_command.specs.Texts.{read_fault_text}
-use Rattle.sil_command.specs.Answers.{Answers, usage, check, AnswersCheck, too_long, unread, checked, AnswersModule, not_built, refused, accepted}
-use Rattle.sil_command.specs.Reading.{AnswersRefusal, bad_byte, unclosed_text, long_name, unexpected, unsupported, number_range, limit, twice, unknown_name}
+use Rattle.sil_command.specs.declared.words.Mode.{Mode}
+use Rattle.sil_command.specs.declared.words.Mode.TheVariants.{Check, Print}
+use Rattle.sil_command.specs.Answers.{Answers, usage, in_mode, AnswersText, too_long, unread, spelled, AnswersModule, AnswersCheck, not_built, refused, accepted, AnswersPrint, printed}
 use Rattle.sil_command.specs.Ends.{Call, Ends, answered, read_failed, exhausted, whole, front, WritesAnswer, Exhausts, WritesWhole, WritesFrontOfAnswer, GainsFront, IsStatus}
+use Rattle.sil_command.proofs.Unread.{unread_status}
 
 -- the statuses of answers: neither a fault nor want of memory
 abbrev IsAnswerStatus : ℕ → Type 0
@@ -22,39 +23,36 @@ one_is = inr (inl refl)
 two_is : IsAnswerStatus 2
 two_is = inr (inr (inl refl))
 
-three_is : IsAnswerStatus 3
-three_is = inr (inr (inr (inl refl)))
-
 eight_is : IsAnswerStatus 8
 eight_is = inr (inr (inr (inr (inl refl))))
 
 eleven_is : IsAnswerStatus 11
 eleven_is = inr (inr (inr (inr (inr refl))))
 
-module_status : (m : Module) (answer : List ℕ) (status : ℕ) → AnswersModule m answer status → IsAnswerStatus status
-module_status m _ _ (not_built not_simple) = eleven_is
-module_status m _ _ (refused r refusal simple) = one_is
-module_status m _ _ (accepted simple kept) = zero_is
+check_status : (m : Module) (answer : List ℕ) (status : ℕ) → AnswersCheck m answer status → IsAnswerStatus status
+check_status m _ _ (not_built not_simple) = eleven_is
+check_status m _ _ (refused r refusal simple) = one_is
+check_status m _ _ (accepted simple kept) = zero_is
 
-refusal_status : (reason : ReadRefusal) (answer : List ℕ) (status : ℕ) → AnswersRefusal reason answer status → IsAnswerStatus status
-refusal_status _ _ _ (bad_byte place) = three_is
-refusal_status _ _ _ (unclosed_text place) = three_is
-refusal_status _ _ _ (long_name place) = eight_is
-refusal_status _ _ _ (unexpected place) = three_is
-refusal_status _ _ _ (unsupported place) = three_is
-refusal_status _ _ _ (number_range place) = three_is
-refusal_status _ _ _ (limit what place) = eight_is
-refusal_status _ _ _ (twice place) = three_is
-refusal_status _ _ _ (unknown_name place) = three_is
+print_status : (m : Module) (answer : List ℕ) (status : ℕ) → AnswersPrint m answer status → IsAnswerStatus status
+print_status m _ _ printed = zero_is
 
-check_status : (text answer : List ℕ) (status : ℕ) → AnswersCheck text answer status → IsAnswerStatus status
-check_status text _ _ (too_long h) = eight_is
-check_status text answer status (unread reason _ _ h refusal told) = refusal_status reason answer status told
-check_status text answer status (checked m _ _ h spelled told) = module_status m answer status told
+module_status : (mode : Mode) (m : Module) (answer : List ℕ) (status : ℕ) → AnswersModule mode m answer status → IsAnswerStatus status
+module_status Check m answer status answers = check_status m answer status answers
+module_status Print m answer status answers = print_status m answer status answers
+
+unread_is : (status : ℕ) → (status ≡ 3) ⊎ (status ≡ 8) → IsAnswerStatus status
+unread_is status (inl three) = inr (inr (inr (inl three)))
+unread_is status (inr eight) = inr (inr (inr (inr (inl eight))))
+
+text_status : (mode : Mode) (text answer : List ℕ) (status : ℕ) → AnswersText mode text answer status → IsAnswerStatus status
+text_status mode text _ _ (too_long long) = eight_is
+text_status mode text answer status (unread reason _ _ within refusal line) = unread_is status (unread_status reason answer status line)
+text_status mode text answer status (spelled m _ _ within spells answers) = module_status mode m answer status answers
 
 answer_status : (words : List (List ℕ)) (text answer : List ℕ) (status : ℕ) → Answers words text answer status → IsAnswerStatus status
 answer_status words text _ _ (usage none) = two_is
-answer_status words text answer status (check _ _ line told) = check_status text answer status told
+answer_status words text answer status (in_mode mode _ _ asks answers) = text_status mode text answer status answers
 
 -- an answer's status is one of all
 all_statuses : (status : ℕ) → IsAnswerStatus status → IsStatus status

@@ -1,4 +1,3 @@
-pub mod AcceptedLemmas
 pub mod AnswerLemmas
 pub mod EndLemmas
 pub mod Functions
@@ -6,5 +5,8 @@ pub mod LeastBroken
 pub mod Marking
 pub mod OneValue
 pub mod PlainBlocks
+pub mod ReadBackLemmas
+pub mod StatusLemmas
+pub mod Unread
 pub mod Verdicts
 pub mod WholeBlock

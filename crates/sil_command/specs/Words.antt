@@ -1,6 +1,16 @@
 -- The words of a command line.
 use Rattle.std.specs.Prelude.{◌≡◌, List, [], ◌∷◌, ℕ, codes}
+use Rattle.sil_command.specs.declared.words.Mode.{Mode}
+use Rattle.sil_command.specs.declared.words.Mode.TheVariants.{Check, Print}
 
--- the one command line is the word `check`
+abbrev pub word_of : Mode → List ℕ
+word_of Check = codes "check"
+word_of Print = codes "print"
+
+-- the words ask for a mode by its word alone
+abbrev pub AsksFor : List (List ℕ) → Mode → Type 0
+AsksFor words mode = words ≡ word_of mode ∷ []
+
+-- the words ask for some mode
 abbrev pub IsCommandLine : List (List ℕ) → Type 0
-IsCommandLine words = words ≡ codes "check" ∷ []
+IsCommandLine words = (mode : Mode) × AsksFor words mode

@@ -1,14 +1,16 @@
 //! The answer to a text: what is written, and the status. No byte is read or written here.
 
 ghost use Rattle.std.specs.Prelude.{◌≤◌, IfOk, length};
-ghost use Rattle.sil_command.specs.Answers.{AnswersCheck, AnswersModule};
+ghost use Rattle.sil_command.specs.Answers.{AnswersCheck, AnswersModule, AnswersPrint, AnswersText};
 ghost use Rattle.simple_modules.specs.Simple.{IsSimple};
 
 use crate::one_block::first_refusal;
 use crate::reading::answer_refusal;
 use crate::texts;
+use crate::words::Mode;
 use sil_ast::{Exhausted, Module};
 use sil_grammar::read;
+use sil_printer::print;
 use simple_modules::is_simple;
 use std::alloc::Global;
 
@@ -19,23 +21,32 @@ pub struct Answer {
     pub status: u8,
 }
 
-/// The answer to a text: to the module that it spells, or why it isn't read.
-pub fn answer_to(alloc: Global, text: &[u8]) -> Result<Answer, Exhausted>
+/// The answer of a mode to a text: to the module that it spells, or why it isn't read.
+pub fn answer_to(alloc: Global, mode: Mode, text: &[u8]) -> Result<Answer, Exhausted>
     requires { length text.now ≤ 1048576 }
-    ensures { IfOk result (λ a. AnswersCheck text.now a.text.items a.status) }
+    ensures { IfOk result (λ a. AnswersText mode text.now a.text.items a.status) }
 {
     match read(alloc, text) {
-        Ok(module) => answer_module(alloc, &module),
+        Ok(module) => answer_module(alloc, mode, &module),
         Err(reason) => answer_refusal(alloc, reason),
     }
 }
 
+fn answer_module(alloc: Global, mode: Mode, module: &Module) -> Result<Answer, Exhausted>
+    ensures { IfOk result (λ a. AnswersModule mode «module».now a.text.items a.status) }
+{
+    match mode {
+        Mode::Check => check_module(alloc, module),
+        Mode::Print => print_module(alloc, module),
+    }
+}
+
 /// Checks a module, where it is one that the checks know.
-fn answer_module(alloc: Global, module: &Module) -> Result<Answer, Exhausted>
-    ensures { IfOk result (λ a. AnswersModule «module».now a.text.items a.status) }
+fn check_module(alloc: Global, module: &Module) -> Result<Answer, Exhausted>
+    ensures { IfOk result (λ a. AnswersCheck «module».now a.text.items a.status) }
 {
     if is_simple(alloc, module)? {
-        return answer_simple(alloc, module);
+        return check_simple(alloc, module);
     }
     Ok(Answer {
         text: Vec::from_slice(alloc, texts::not_built())?,
@@ -43,9 +54,9 @@ fn answer_module(alloc: Global, module: &Module) -> Result<Answer, Exhausted>
     })
 }
 
-fn answer_simple(alloc: Global, module: &Module) -> Result<Answer, Exhausted>
+fn check_simple(alloc: Global, module: &Module) -> Result<Answer, Exhausted>
     requires { IsSimple «module».now }
-    ensures { IfOk result (λ a. AnswersModule «module».now a.text.items a.status) }
+    ensures { IfOk result (λ a. AnswersCheck «module».now a.text.items a.status) }
 {
     let Some(refusal) = first_refusal(alloc, module)? else {
         return Ok(Answer {
@@ -57,5 +68,14 @@ fn answer_simple(alloc: Global, module: &Module) -> Result<Answer, Exhausted>
     Ok(Answer {
         text: texts::refusal(alloc, function.name.as_slice(), refusal.fault)?,
         status: 1,
+    })
+}
+
+fn print_module(alloc: Global, module: &Module) -> Result<Answer, Exhausted>
+    ensures { IfOk result (λ a. AnswersPrint «module».now a.text.items a.status) }
+{
+    Ok(Answer {
+        text: print(alloc, module)?.into_vec(),
+        status: 0,
     })
 }

@@ -1,13 +1,37 @@
 //! What follows from the definition of answers, on calls that do nothing.
 
-ghost use Rattle.sil_command.specs.Answers.{AreAcceptedExactly, AreNotBuiltExactly};
+ghost use Rattle.sil_command.specs.Answers.{AreAcceptedExactly, AreNotBuiltExactly, ArePrintedExactly, ArePrintedReadBack};
 
-/// A text that spells an accepted simple module is answered with status 0, and one that is answered so spells such a module.
+use printed_reading::printed_modules_are_spelled;
+use sil_grammar::{spelled_modules_are_numbered, spelled_once};
+
+/// `check` answers a text that spells an accepted simple module with status 0, and one that is answered so spells such a
+/// module.
 pub fn accepted_exactly()
     ensures { AreAcceptedExactly }
-{}
+{
+    spelled_once();
+}
 
-/// A text that spells a module that isn't simple is answered with status 11, and one that is answered so spells such a module.
+/// `check` answers a text that spells a module that isn't simple with status 11, and one that is answered so spells such a
+/// module.
 pub fn not_built_exactly()
     ensures { AreNotBuiltExactly }
-{}
+{
+    spelled_once();
+}
+
+/// `print` answers a text that spells a module with status 0, and one that is answered so spells a module.
+pub fn printed_exactly()
+    ensures { ArePrintedExactly }
+{
+    spelled_once();
+}
+
+/// What `print` writes with status 0 spells the module that the text spells: to read it gives that module again.
+pub fn printed_texts_read_back()
+    ensures { ArePrintedReadBack }
+{
+    printed_modules_are_spelled();
+    spelled_modules_are_numbered();
+}

@@ -14,5 +14,5 @@ mod texts;
 mod top_call;
 mod words;
 
-pub use laws::{accepted_exactly, not_built_exactly};
+pub use laws::{accepted_exactly, not_built_exactly, printed_exactly, printed_texts_read_back};
 pub use top_call::{TEXT_LIMIT, command};

@@ -9,7 +9,7 @@ ghost use Rattle.sil_command.specs.Ends.{WritesAnswer, Exhausts, WritesWhole, Wr
 
 use crate::answer::answer_to;
 use crate::texts;
-use crate::words::is_command_line;
+use crate::words::mode_of;
 use sil_ast::Exhausted;
 use sil_io::{ReadEnd, Sink, Source, read_all, write_all};
 use std::alloc::Global;
@@ -19,9 +19,9 @@ pub const TEXT_LIMIT: usize = 1048576;
 
 /// Does what the words ask for: reads a text from the source, writes one answer to the sink, and answers the status.
 ///
-/// The words are those after the program's name. The statuses are 0 (accepted), 1 (refused by a rule), 2 (not a command line),
-/// 3 (not a module), 4 (a read failed), 5 (a write failed), 8 (past a limit), 9 (no memory left; nothing was written) and
-/// 11 (a module that the checks don't know yet).
+/// The words are those after the program's name: `check` or `print`. The statuses are 0 (accepted, or printed), 1 (refused
+/// by a rule), 2 (not a command line), 3 (not a module), 4 (a read failed), 5 (a write failed), 8 (past a limit), 9 (no
+/// memory left; nothing was written) and 11 (a module that the checks don't know yet).
 /// The answer is built whole before the first byte of it is written, and after that no memory is taken.
 pub fn command<'a, S: Source, K: Sink>(
     alloc: Global,
@@ -71,11 +71,11 @@ fn run<'a, S: Source, K: Sink>(
     }) result }
     ensures source_untouched { ¬ IsCommandLine (map (λ w. w.now) words.entry.now) → source.new ≡ source.old }
 {
-    if !is_command_line(words) {
+    let Some(mode) = mode_of(words) else {
         return finish(out, texts::usage(), 2);
-    }
+    };
     match read_all(alloc, source, TEXT_LIMIT) {
-        Ok(text) => match answer_to(alloc, text.as_slice()) {
+        Ok(text) => match answer_to(alloc, mode, text.as_slice()) {
             Ok(answer) => finish(out, answer.text.as_slice(), answer.status),
             Err(Exhausted) => 9,
         },

@@ -1,12 +1,10 @@
 -- Each token keeps of its bytes what its class asks for, so that a module that a text spells is in numbered form.
-use Rattle.std.proofs.Common.{◌≡◌, ℕ, ◌-◌, ◌≤◌, List, [], ◌∷◌, ◌++◌, length, map, take, drop, slice_range, Bool, true, false, ◌&&◌, not, IsTrue, Option, Some, None, ap, refl, sym, subst, ◌∙◌, arith, length-append, le-leb, nat_le}
+use Rattle.std.proofs.Common.{◌≡◌, ℕ, ◌-◌, ◌≤◌, List, [], ◌∷◌, ◌++◌, length, map, Bool, true, false, ◌&&◌, Option, Some, None, ap, refl, sym, subst, ◌∙◌, arith, length-append, le-leb}
 use Rattle.std.proofs.Math.Seq.{take-append_seam}
-use Rattle.std.specs.List.{AllZip, list_all}
-use Rattle.sil_ast.specs.declared.module.Module.{Module}
+use Rattle.std.specs.List.{list_all}
 use Rattle.sil_lexer.specs.declared.token.LexRefusal.{LexRefusal}
 use Rattle.sil_lexer.specs.declared.token.TokenKind.{TokenKind}
-use Rattle.sil_lexer.specs.declared.token.TokenKind.TheVariants as kind
-use Rattle.sil_lexer.specs.Bytes.{is_name_byte, is_text_byte, is_word_start}
+use Rattle.sil_lexer.specs.Bytes.{is_name_byte, is_word_start}
 use Rattle.sil_lexer.specs.Lexes.{Lexeme, Lexes, end, token, stop}
 use Rattle.sil_lexer.specs.Spelling.{Spells, arrow, at_name, mark, name_length, negative, number, percent, quoted, word}
 use Rattle.sil_shape.specs.declared.classes.Mark as sign
@@ -15,7 +13,7 @@ use Rattle.sil_shape.specs.Spelling.{mark_of}
 use Rattle.written_modules.specs.Meaning.{kept_of}
 use Rattle.numbered_form.specs.Names.{is_quotable, is_short}
 use Rattle.numbered_form.specs.NumberedForm.{IsNumbered}
-use Rattle.numbered_reading.specs.Leaves.{AreOfClasses, IsOfClass, IsTextOf}
+use Rattle.numbered_reading.specs.Leaves.{AreOfClasses, IsTextOf}
 use Rattle.numbered_reading.proofs.Basics.{both}
 use Rattle.numbered_reading.proofs.Numbered.{written_numbered}
 use Rattle.sil_grammar.specs.Classes.{class_by, inside_quotes, mark_class, text_class, token_class}
@@ -58,8 +56,8 @@ lexed_classes all left lexemes refusal (end _ _) = tt
 lexed_classes all left lexemes refusal (token _ spelling after k more _ skipped spelled short rest) = (kept_text k spelling spelled.spelled short, lexed_classes all after more refusal rest)
 lexed_classes all left lexemes refusal (stop _ _ _ _ _) = tt
 
-pub spelled_numbered : (bytes : List ℕ) (m : Module) → text.Spells m bytes → IsNumbered m
-spelled_numbered bytes m h =
+pub spelled_numbered : text.AreSpelledNumbered
+spelled_numbered m bytes h =
     let s = h.spells in
     let leaves : AreOfClasses (map token_class s.lexemes) s.lexemes = lexed_classes bytes bytes s.lexemes None s.lexed in
     subst IsNumbered (sym h.numbered) (written_numbered (map token_class s.lexemes) s.lexemes s.steps h.written

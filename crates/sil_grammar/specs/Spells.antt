@@ -6,6 +6,7 @@ use Rattle.sil_shape.specs.declared.steps.Step.{Step}
 use Rattle.sil_shape.specs.Derivation.{Derives, start}
 use Rattle.written_modules.specs.declared.written_module.WrittenModule.{WrittenModule}
 use Rattle.written_modules.specs.Replay.{first_fault, Writes}
+use Rattle.numbered_form.specs.NumberedForm.{IsNumbered}
 use Rattle.name_resolution.specs.NameFaults.{name_fault}
 use Rattle.name_resolution.specs.Resolved.{resolved}
 use Rattle.sil_grammar.specs.Classes.{token_class}
@@ -33,3 +34,7 @@ pub record Spells (m : Module) (text : List ℕ) : Type 0 where
 -- two modules that one text spells are equal
 abbrev pub AreSpelledOnce : Type 0
 AreSpelledOnce = (text : List ℕ) (m other : Module) → Spells m text → Spells other text → other ≡ m
+
+-- a module that a text spells is in numbered form
+abbrev pub AreSpelledNumbered : Type 0
+AreSpelledNumbered = (m : Module) (text : List ℕ) → Spells m text → IsNumbered m

@@ -8,7 +8,7 @@ mod reader;
 mod refusal;
 
 pub use first_bad::{BadKind, BadPlace, first_bad_place};
-pub use reader::{read, spelled_once};
+pub use reader::{read, spelled_modules_are_numbered, spelled_once};
 pub use refusal::ReadRefusal;
 pub use written_modules::LimitWord;
 

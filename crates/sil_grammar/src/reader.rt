@@ -10,7 +10,7 @@ ghost use Rattle.sil_grammar.specs.Classes.{token_class};
 ghost use Rattle.sil_grammar.specs.Front.{IsFrontFault};
 ghost use Rattle.sil_grammar.specs.Refusals.{IsRefusalOf};
 ghost use Rattle.sil_grammar.specs.Shape.{IsBroken, IsWhole};
-ghost use Rattle.sil_grammar.specs.Spells.{AreSpelledOnce, Spells, SpellsWritten};
+ghost use Rattle.sil_grammar.specs.Spells.{AreSpelledNumbered, AreSpelledOnce, Spells, SpellsWritten};
 
 use crate::classes::classes_of;
 use crate::first_bad::{BadPlace, Shape, shape_of};
@@ -110,4 +110,9 @@ pub fn read(alloc: Global, text: &[u8]) -> Result<Module, ReadRefusal>
 /// A text spells at most one module.
 pub fn spelled_once()
     ensures { AreSpelledOnce }
+{}
+
+/// A module that a text spells is in numbered form.
+pub fn spelled_modules_are_numbered()
+    ensures { AreSpelledNumbered }
 {}

@@ -1,10 +1,8 @@
--- The answer to a module, by whether it is simple.
-use Rattle.std.proofs.Common.{sym, subst, ◌∙◌}
-use Rattle.std.proofs.lemmas.Bool.{false≢true}
-use Rattle.sil_command.specs.Answers.{AnswersModule, not_built}
+-- The answer to a module, by the mode.
 use Rattle.sil_command.proofs.answer.answer_module.Goals as goal
 
-pub returns : goal.returns
-returns c =
-    subst (λ t. AnswersModule c.args.module.now t 11) (sym (c.in_ok-from_slice.ensures.items ∙ c.not_built.ensures))
-    (not_built (λ simple. false≢true (sym c.if-branch.false ∙ c.in_ok-is_simple.ensures.1 simple)))
+pub returns-in-Check : goal.returns-in-Check
+returns-in-Check c = rw c.in-Check.is c.check_module.ensures
+
+pub returns-in-Print : goal.returns-in-Print
+returns-in-Print c = rw c.in-Print.is c.print_module.ensures

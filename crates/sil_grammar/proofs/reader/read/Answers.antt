@@ -29,7 +29,7 @@ returns-in-Whole-clause-only c =
 pub returns-in-Whole-clause-numbered : goal.returns-in-Whole-clause-numbered
 returns-in-Whole-clause-numbered c =
     let text = c.args.text.now in
-    IfOk-weaker c.read_whole.result (λ m. Spells m text) IsNumbered (λ m spells. spelled_numbered text m spells) c.read_whole.ensures.found
+    IfOk-weaker c.read_whole.result (λ m. Spells m text) IsNumbered (λ m spells. spelled_numbered m text spells) c.read_whole.ensures.found
 
 pub front_fault-requires-clause-classes : goal.front_fault-requires-clause-classes
 front_fault-requires-clause-classes c =

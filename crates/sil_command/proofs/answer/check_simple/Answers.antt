@@ -1,13 +1,13 @@
--- The answer to a simple module, by whether it has a refusal.
+-- The answer of `check` to a simple module, by whether it has a refusal.
 use Rattle.std.proofs.Common.{sym, subst, ◌∙◌, ap, get_or}
-use Rattle.sil_command.specs.Answers.{AnswersModule, accepted}
+use Rattle.sil_command.specs.Answers.{AnswersCheck, accepted}
 use Rattle.sil_command.specs.Texts.{refusal_text}
 use Rattle.sil_command.proofs.AnswerLemmas.{refusal_answer}
-use Rattle.sil_command.proofs.answer.answer_simple.Goals as goal
+use Rattle.sil_command.proofs.answer.check_simple.Goals as goal
 
 pub returns-in_default : goal.returns-in_default
 returns-in_default c =
-    subst (λ t. AnswersModule c.args.module.now t 0) (sym (c.in_ok-from_slice.ensures.items ∙ c.accepted.ensures))
+    subst (λ t. AnswersCheck c.args.module.now t 0) (sym (c.in_ok-from_slice.ensures.items ∙ c.accepted.ensures))
     (accepted c.requires (rw c.in_default.is at c.in_ok-refusal.ensures))
 
 pub returns : goal.returns

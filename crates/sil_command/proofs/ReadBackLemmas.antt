@@ -1,0 +1,22 @@
+-- For the law that what `print` writes reads back.
+use Rattle.std.proofs.Common.{◌≡◌, ℕ, List, arith}
+use Rattle.sil_ast.specs.declared.module.Module.{Module}
+use Rattle.sil_grammar.specs.Spells.{AreSpelledNumbered, Spells}
+use Rattle.printed_reading.specs.Laws.{ArePrintedSpelled}
+use Rattle.sil_command.specs.declared.words.Mode.TheVariants.{Print}
+use Rattle.sil_command.specs.Answers.{AnswersText, too_long, unread, spelled, AnswersPrint, printed, ArePrintedReadBack}
+use Rattle.sil_command.proofs.StatusLemmas.{mode_answers}
+use Rattle.sil_command.proofs.Unread.{unread_status}
+
+module _ (are_spelled : ArePrintedSpelled) (are_numbered : AreSpelledNumbered) where
+  answer_spells : (m : Module) (text answer : List ℕ) (status : ℕ) → Spells m text → AnswersPrint m answer status → Spells m answer
+  answer_spells m text _ _ spells printed = are_spelled m (are_numbered m text spells)
+
+  text_read_back : (text answer : List ℕ) (status : ℕ) → AnswersText Print text answer status → status ≡ 0 → (m : Module) × Spells m text × Spells m answer
+  text_read_back text _ _ (too_long long) zero = absurd (omega arith)
+  text_read_back text answer status (unread reason _ _ inside refusal line) zero = absurd (omega (arith, unread_status reason answer status line))
+  text_read_back text answer status (spelled m _ _ inside spells answers) zero = (m, spells, answer_spells m text answer status spells answers)
+
+  pub printed_texts_read_back : ArePrintedReadBack
+  printed_texts_read_back words text answer status asks answers zero =
+      text_read_back text answer status (mode_answers words Print text answer status asks answers) zero

@@ -1,0 +1,6 @@
+-- For the law `printed_exactly`.
+use Rattle.sil_command.proofs.StatusLemmas.{printed_exactly}
+use Rattle.sil_command.proofs.laws.printed_exactly.Goals as goal
+
+pub returns : goal.returns
+returns c = printed_exactly c.spelled_once.ensures
