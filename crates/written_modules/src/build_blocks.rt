@@ -139,9 +139,7 @@ pub(crate) fn last_code(alloc: Global, values: &mut Prepended<Value>) -> Result<
 fn named(alloc: Global, inst: WrittenInst, results: List<WrittenToken>) -> Result<Value, Exhausted>
     ensures { IfOk result (λ made. made ≡ v.Inst (record inst { results = results })) }
 {
-    let mut inst = inst;
-    inst.results = results;
-    Ok(Value::Inst(Boxed::new(alloc, inst)?))
+    Ok(Value::Inst(Boxed::new(alloc, WrittenInst { results, ..inst })?))
 }
 
 #[tactic(auto, unfolding(crate::specs::Replay::reduced, crate::specs::Meaning::meaning, sil_shape::specs::Grammar::body))]
@@ -150,11 +148,10 @@ pub(crate) fn one_name(alloc: Global, values: &mut Prepended<Value>) -> Result<V
     ensures { IfOk result (λ value. reduced Production.InstOneName values.old ≡ value ∷ values.new) }
 {
     let name = values.pop_front().into_token(alloc);
-    skip(values);
-    let inst = values.pop_front().into_inst(alloc);
     let mut results = List::new(alloc);
     results.push(name)?;
-    named(alloc, inst, results)
+    skip(values);
+    named(alloc, values.pop_front().into_inst(alloc), results)
 }
 
 #[tactic(auto, unfolding(crate::specs::Replay::reduced, crate::specs::Meaning::meaning, sil_shape::specs::Grammar::body))]
@@ -166,8 +163,7 @@ pub(crate) fn names(alloc: Global, values: &mut Prepended<Value>) -> Result<Valu
     let results = values.pop_front().into_tokens(alloc).into_list();
     skip(values);
     skip(values);
-    let inst = values.pop_front().into_inst(alloc);
-    named(alloc, inst, results)
+    named(alloc, values.pop_front().into_inst(alloc), results)
 }
 
 #[tactic(auto, unfolding(crate::specs::Replay::reduced, crate::specs::Meaning::meaning, sil_shape::specs::Grammar::body))]
