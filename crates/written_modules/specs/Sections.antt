@@ -2,7 +2,7 @@
 use Rattle.sil_shape.specs.declared.grammar.Nonterminal.{Nonterminal}
 use Rattle.sil_shape.specs.declared.grammar.Nonterminal.TheVariants as n
 use Rattle.written_modules.specs.declared.sections.Section.{Section}
-use Rattle.written_modules.specs.declared.sections.Section.TheVariants.{Declarations, Types, Functions, Blocks, Rows, Operands, Words}
+use Rattle.written_modules.specs.declared.sections.Section.TheVariants.{Declarations, Types, BaseTypes, Functions, Blocks, Rows, Operands, Words}
 
 -- the section of a part
 unfoldable pub section : Nonterminal → Section
@@ -26,13 +26,13 @@ section n.Payload = Declarations
 section n.VtableEntry = Declarations
 section n.Type = Types
 section n.OpenType = Types
-section n.Base = Types
-section n.BuiltinTail = Types
-section n.OptionalTail = Types
-section n.Width = Types
 section n.OptionalMarks = Types
 section n.Types = Types
 section n.MoreTypes = Types
+section n.Base = BaseTypes
+section n.BuiltinTail = BaseTypes
+section n.OptionalTail = BaseTypes
+section n.Width = BaseTypes
 section n.Linkage = Functions
 section n.Attributes = Functions
 section n.Body = Functions

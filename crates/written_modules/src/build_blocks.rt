@@ -108,11 +108,8 @@ pub(crate) fn block_arg(alloc: Global, values: &mut Prepended<Value>) -> Result<
     skip(values);
     let star = values.pop_front();
     let ty = values.pop_front().into_type(alloc).ty;
-    Ok(Value::Arg(WrittenArg {
-        name,
-        kind,
-        ty: starred(alloc, star, ty)?,
-    }))
+    let ty = starred(alloc, star, ty)?;
+    Ok(Value::Arg(Boxed::new(alloc, WrittenArg { name, kind, ty })?))
 }
 
 #[tactic(auto, unfolding(crate::specs::Replay::reduced, crate::specs::Meaning::meaning, sil_shape::specs::Grammar::body))]

@@ -25,6 +25,7 @@ mod part_faults;
 mod passed_on;
 mod prepended;
 mod reduce;
+mod reduce_base_types;
 mod reduce_blocks;
 mod reduce_declarations;
 mod reduce_functions;

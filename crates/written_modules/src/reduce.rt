@@ -5,6 +5,7 @@ ghost use Rattle.sil_shape.specs.Grammar.{body};
 ghost use Rattle.written_modules.specs.Replay.{reduced};
 
 use crate::prepended::Prepended;
+use crate::reduce_base_types::reduce_base_type;
 use crate::reduce_blocks::reduce_block;
 use crate::reduce_declarations::reduce_declaration;
 use crate::reduce_functions::reduce_function;
@@ -30,6 +31,7 @@ pub(crate) fn reduce(
     match section_of(production) {
         Section::Declarations => reduce_declaration(alloc, production, values),
         Section::Types => reduce_type(alloc, production, values),
+        Section::BaseTypes => reduce_base_type(alloc, production, values),
         Section::Functions => reduce_function(alloc, production, values),
         Section::Blocks => reduce_block(alloc, production, values),
         Section::Rows => reduce_row(alloc, production, values),

@@ -61,10 +61,10 @@ pub(crate) fn reduce_declaration(
             Value::Nothing,
         )),
         Production::InitMember => Ok(constant(values, 3, Value::Nothing)),
-        Production::WeakVariable => Ok(build_declarations::weak_variable(alloc, values)),
-        Production::UnownedVariable => Ok(build_declarations::unowned_variable(alloc, values)),
-        Production::VarBinding => Ok(build_declarations::var_binding(alloc, values)),
-        Production::LetBinding => Ok(build_declarations::let_binding(alloc, values)),
+        Production::WeakVariable => build_declarations::weak_variable(alloc, values),
+        Production::UnownedVariable => build_declarations::unowned_variable(alloc, values),
+        Production::VarBinding => build_declarations::var_binding(alloc, values),
+        Production::LetBinding => build_declarations::let_binding(alloc, values),
         Production::FieldsMore => build_declarations::more_fields(alloc, values),
         Production::AccessorsSome => Ok(constant(values, 4, Value::Nothing)),
         Production::AccessorsNone
@@ -74,7 +74,7 @@ pub(crate) fn reduce_declaration(
         Production::CasesMore => build_declarations::more_cases(alloc, values),
         Production::CasesEnd => Ok(Value::Cases(Prepended::new(alloc))),
         Production::PayloadSome => build_types::payload(alloc, values),
-        Production::EntrySome => Ok(build_module::entry(alloc, values)),
+        Production::EntrySome => build_module::entry(alloc, values),
         _ => unreachable!(),
     }
 }

@@ -8,7 +8,6 @@ ghost use Rattle.written_modules.specs.Sections.{section};
 
 use crate::build_types;
 use crate::nothing::no_types;
-use crate::passed_on::second_of_two;
 use crate::prepended::Prepended;
 use crate::value::Value;
 use sil_ast::Exhausted;
@@ -32,17 +31,6 @@ pub(crate) fn reduce_type(
         Production::BaseOpen => build_types::base_type(alloc, values),
         Production::WeakOpen => build_types::weak_type(alloc, values),
         Production::UnownedOpen => build_types::unowned_type(alloc, values),
-        Production::BuiltinBase => Ok(build_types::builtin_base(alloc, values)),
-        Production::OptionalBase => Ok(build_types::optional_base(alloc, values)),
-        Production::NamedBase => Ok(build_types::named_base(alloc, values)),
-        Production::BuiltinInt => Ok(second_of_two(values)),
-        Production::BuiltinName | Production::OptionalName => Ok(Value::Nothing),
-        Production::OptionalOf => build_types::optional_of(alloc, values),
-        Production::Width1 => Ok(build_types::int_type(alloc, 1, values)),
-        Production::Width8 => Ok(build_types::int_type(alloc, 8, values)),
-        Production::Width16 => Ok(build_types::int_type(alloc, 16, values)),
-        Production::Width32 => Ok(build_types::int_type(alloc, 32, values)),
-        Production::Width64 => Ok(build_types::int_type(alloc, 64, values)),
         Production::OptionalMarksMore => build_types::more_marks(alloc, values),
         Production::OptionalMarksEnd => Ok(Value::Marks(Prepended::new(alloc))),
         Production::TypesSome => build_types::some_types(alloc, values),

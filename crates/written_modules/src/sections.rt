@@ -11,8 +11,10 @@ use sil_shape::grammar::Production;
 pub(crate) enum Section {
     /// modules, declarations and their parts
     Declarations,
-    /// types
+    /// types, and what stands around or behind a base type
     Types,
+    /// names of types, builtin integers and `Optional<T>`
+    BaseTypes,
     /// what a function has before its blocks
     Functions,
     /// blocks, their instructions in a row, and names
@@ -80,24 +82,24 @@ pub(crate) fn section_of(production: Production) -> Section
         | Production::BaseOpen
         | Production::WeakOpen
         | Production::UnownedOpen
-        | Production::BuiltinBase
-        | Production::OptionalBase
-        | Production::NamedBase
-        | Production::BuiltinInt
-        | Production::BuiltinName
-        | Production::OptionalOf
-        | Production::OptionalName => Section::Types,
-        Production::Width1
-        | Production::Width8
-        | Production::Width16
-        | Production::Width32
-        | Production::Width64
         | Production::OptionalMarksMore
         | Production::OptionalMarksEnd
         | Production::TypesSome
         | Production::TypesNone
         | Production::MoreTypesMore
         | Production::MoreTypesEnd => Section::Types,
+        Production::BuiltinBase
+        | Production::OptionalBase
+        | Production::NamedBase
+        | Production::BuiltinInt
+        | Production::BuiltinName
+        | Production::OptionalOf
+        | Production::OptionalName
+        | Production::Width1
+        | Production::Width8
+        | Production::Width16
+        | Production::Width32
+        | Production::Width64 => Section::BaseTypes,
         Production::LinkageHidden
         | Production::LinkagePrivate
         | Production::LinkageShared

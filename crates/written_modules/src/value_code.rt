@@ -77,7 +77,7 @@ impl Value {
         ensures { result ≡ arg_of self }
     {
         match self {
-            Value::Arg(kept) => kept,
+            Value::Arg(kept) => kept.into_inner(),
             other => {
                 discard(other);
                 WrittenArg {
@@ -133,7 +133,7 @@ impl Value {
         ensures { result ≡ operand_of self }
     {
         match self {
-            Value::Operand(kept) => kept,
+            Value::Operand(kept) => kept.into_inner(),
             other => {
                 discard(other);
                 WrittenOperand {
@@ -237,7 +237,7 @@ impl Value {
         ensures { result ≡ entry_of self }
     {
         match self {
-            Value::Entry(kept) => Some(kept),
+            Value::Entry(kept) => Some(kept.into_inner()),
             other => {
                 discard(other);
                 None
