@@ -37,12 +37,12 @@ pub(crate) fn whole_block(alloc: Global, values: &mut Prepended<Value>) -> Resul
     let label = values.pop_front().into_token(alloc);
     let args = values.pop_front().into_args(alloc).into_list();
     skip(values);
-    let (insts, terminator) = values.pop_front().into_code(alloc);
+    let (insts, terminator) = values.pop_front().into_code(alloc)?;
     let block = WrittenBlock {
         label,
         args,
         insts: insts.into_list(),
-        terminator,
+        terminator: terminator.into_inner(),
     };
     Ok(Value::Block(Boxed::new(alloc, block)?))
 }
@@ -117,10 +117,10 @@ pub(crate) fn more_code(alloc: Global, values: &mut Prepended<Value>) -> Result<
     requires { 2 ≤ length values.old }
     ensures { IfOk result (λ value. reduced Production.CodeInst values.old ≡ value ∷ values.new) }
 {
-    let inst = values.pop_front().into_inst(alloc);
-    let (mut insts, terminator) = values.pop_front().into_code(alloc);
-    insts.push_front(inst)?;
-    Ok(Value::Code(insts, Boxed::new(alloc, terminator)?))
+    let inst = values.pop_front();
+    let (mut insts, terminator) = values.pop_front().into_code(alloc)?;
+    insts.push_front(inst.into_inst(alloc))?;
+    Ok(Value::Code(insts, terminator))
 }
 
 #[tactic(auto, unfolding(crate::specs::Replay::reduced, crate::specs::Meaning::meaning, sil_shape::specs::Grammar::body))]
@@ -128,8 +128,8 @@ pub(crate) fn last_code(alloc: Global, values: &mut Prepended<Value>) -> Result<
     requires { 1 ≤ length values.old }
     ensures { IfOk result (λ value. reduced Production.CodeEnd values.old ≡ value ∷ values.new) }
 {
-    let terminator = values.pop_front().into_inst(alloc);
-    Ok(Value::Code(Prepended::new(alloc), Boxed::new(alloc, terminator)?))
+    let terminator = values.pop_front().into_boxed_inst(alloc)?;
+    Ok(Value::Code(Prepended::new(alloc), terminator))
 }
 
 /// An instruction with these names before its `=`.
