@@ -1,5 +1,5 @@
 -- Each number is in its range, and each builtin operation has a name that is known.
-use Rattle.std.specs.Prelude.{ℕ, ◌-◌, ◌^◌, ℤ, pos, neg_ℤ, int_le, int_lt, List, Option, Some, None, Bool, true, ◌&&◌, IsTrue, IfSome}
+use Rattle.std.specs.Prelude.{ℕ, ◌≤◌, ◌-◌, ◌^◌, ℤ, pos, neg_ℤ, int_le, int_lt, List, Option, Some, None, Bool, true, ◌&&◌, IsTrue, IfSome}
 use Rattle.sil_ast.specs.declared.inst.Inst.{Inst}
 use Rattle.sil_ast.specs.declared.module.Module.{Module}
 use Rattle.sil_ast.specs.declared.op.Op.{Op}
@@ -39,6 +39,7 @@ is_text_of other text = true
 pub record HasLiterals (i : Inst) : Type 0 where
   pub number : IfSome i.number (λ n. IsTrue (is_number_of i.op i.ty n))
   pub text : IfSome i.text (λ text. IsTrue (is_text_of i.op text))
+  pub argno : IfSome i.debug.argno (λ n. n ≤ 65535)
 
 abbrev pub AreLiteralsInRange : Module → Type 0
 AreLiteralsInRange m = EachInst HasLiterals m

@@ -35,7 +35,7 @@ use Rattle.written_modules.specs.Opened.{PartGivens, PartParams, PartType, PartT
 use Rattle.written_modules.specs.Types.{tailed}
 use Rattle.written_modules.specs.Meaning.{part}
 use Rattle.written_modules.specs.Places.{attribute_places, decl_names, function_names, mnemonics_of, values_of_block}
-use Rattle.written_modules.specs.Values.{token_of, items_of, item_of, fields_of, field_of, field_before, cases_of, type_of, payload_of, types_of, tokens_of, params_of, param_before, givens_of, given_before, starred, signature_of, blocks_of, block_of, args_of, arg_of, insts_of, terminator_of, inst_of, operands_of, operand_of, edges_of, edge_of, member_of, qualifier_of, debug_of, entry_of}
+use Rattle.written_modules.specs.Values.{token_of, items_of, item_of, fields_of, field_of, field_before, cases_of, type_of, payload_of, types_of, tokens_of, params_of, param_before, givens_of, given_before, starred, signature_of, blocks_of, block_of, args_of, arg_of, insts_of, terminator_of, inst_of, operands_of, operand_of, edges_of, edge_of, member_of, qualifier_of, debug_of, entry_of, no_debug}
 use Rattle.name_resolution.specs.Resolved.{Scope, resolved_decl, resolved_edge, resolved_inst, resolved_operand}
 use Rattle.numbered_form.specs.Lists.{Each, is_empty}
 use Rattle.numbered_form.specs.Fields.{HasStrongFields}
@@ -150,7 +150,10 @@ pub record AreGoodSwitch (es : List WrittenEdge) : Type 0 where
   pub some : (s : Scope) → IsFalse (is_empty (map (resolved_edge s) es))
 
 abbrev pub IsGoodDebug : Debug → Type 0
-IsGoodDebug d = IfSome d.name (λ text. IsTrue (is_quotable text))
+IsGoodDebug d = IfSome d.name (λ text. IsTrue (is_quotable text)) × IfSome d.argno (λ n. n ≤ 65535)
+
+pub nothing_shown : IsGoodDebug no_debug
+nothing_shown = (tt, tt)
 
 -- functions
 

@@ -59,12 +59,12 @@ unnamed_places : (one : Bool) (mnemonic : Place) → length (if one then mnemoni
 unnamed_places true mnemonic = refl
 unnamed_places false mnemonic = refl
 
-result_count : (o : Op) (mnemonic : Place) (tokens : List WrittenToken) → length (result_places o mnemonic tokens) ≡ length (defined_by o tokens)
+pub result_count : (o : Op) (mnemonic : Place) (tokens : List WrittenToken) → length (result_places o mnemonic tokens) ≡ length (defined_by o tokens)
 unfolding no_name
 result_count o mnemonic [] = unnamed_places (has_one_result o) mnemonic
 result_count o mnemonic (token ∷ tokens) = length-map (token ∷ tokens) token_place ∙ sym (length-map (token ∷ tokens) (λ name. Some (name_of name)))
 
-extra_count : (o : Op) (mnemonic : Place) (q : Qualifier) (place : Place) → length (extra_places o mnemonic q place) ≡ cond (takes_value o q) 1 0
+pub extra_count : (o : Op) (mnemonic : Place) (q : Qualifier) (place : Place) → length (extra_places o mnemonic q place) ≡ cond (takes_value o q) 1 0
 unfolding extra_places
 extra_count op.Store mnemonic qualifier.Assign place = refl
 extra_count op.Store mnemonic _ place = refl
@@ -72,10 +72,10 @@ extra_count op.DestroyAddr mnemonic q place = refl
 extra_count _ mnemonic q place = refl
 
 -- the results of some instructions, with those that lowering takes more
-values_with : List Inst → ℕ
+unfoldable pub values_with : List Inst → ℕ
 values_with insts = length (flat_map results_of insts) + count_by inst_takes_value insts
 
-values_with-cons : (i : Inst) (insts : List Inst) → values_with (i ∷ insts) ≡ (length i.results + cond (inst_takes_value i) 1 0) + values_with insts
+pub values_with-cons : (i : Inst) (insts : List Inst) → values_with (i ∷ insts) ≡ (length i.results + cond (inst_takes_value i) 1 0) + values_with insts
 unfolding values_with
 values_with-cons i insts =
     let c : count_by inst_takes_value (i ∷ insts) ≡ cond (inst_takes_value i) 1 0 + count_by inst_takes_value insts = sum_by-cons (λ i. cond (inst_takes_value i) 1 0) i insts in
@@ -97,7 +97,7 @@ insts_values s first last (w ∷ ws) e =
     ∙ ap₂ (λ a b. a + b) (inst_values s first w) (insts_values s next last ws e)
     ∙ sym (length-append (value_places_of w) (flat_map value_places_of ws))
 
-ends_take_none : (o : Op) (q : Qualifier) → is_terminator o ≡ true → takes_value o q ≡ false
+pub ends_take_none : (o : Op) (q : Qualifier) → is_terminator o ≡ true → takes_value o q ≡ false
 ends_take_none op.Store q e = absurd (true≢false (sym e))
 ends_take_none op.DestroyAddr q e = absurd (true≢false (sym e))
 ends_take_none _ q e = refl

@@ -51,17 +51,25 @@ pub record IsGoodElement (number : Option ℤ) : Type 0 where
   pub there : is_some number ≡ true
   pub small : IfSome number (λ n. IsTrue (is_element_number n))
 
-up_to_cases : (m n : ℕ) (fits : Bool) → nat_le m 63 ≡ fits → (if fits then Some m else None) ≡ Some n → n ≤ 63
-up_to_cases m n true t e = let same : m ≡ n = cc in let h : m ≤ 63 = leb-true m 63 t in omega arith
-up_to_cases m n false t e = absurd (cc)
+up_to_cases : (largest m n : ℕ) (fits : Bool) → nat_le m largest ≡ fits → (if fits then Some m else None) ≡ Some n → n ≤ largest
+up_to_cases largest m n true t e = let same : m ≡ n = cc in let h : m ≤ largest = leb-true m largest t in omega arith
+up_to_cases largest m n false t e = absurd (cc)
 
-up_to_is : (value : ℤ) (n : ℕ) → up_to 63 value ≡ Some n → n ≤ 63
-up_to_is (pos m) n e = up_to_cases m n (nat_le m 63) refl e
-up_to_is (negsuc m) n e = absurd (cc)
+up_to_is : (largest : ℕ) (value : ℤ) (n : ℕ) → up_to largest value ≡ Some n → n ≤ largest
+up_to_is largest (pos m) n e = up_to_cases largest m n (nat_le m largest) refl e
+up_to_is largest (negsuc m) n e = absurd (cc)
+
+-- a number that was read is up to the largest
+small_cases : (largest : ℕ) (value : ℤ) (small : Option ℕ) → up_to largest value ≡ small → IfSome small (λ n. n ≤ largest)
+small_cases largest value None is = tt
+small_cases largest value (Some n) is = up_to_is largest value n is
+
+pub good_small : (largest : ℕ) (spelling : List ℕ) → IfSome (small_of largest spelling) (λ n. n ≤ largest)
+good_small largest spelling = small_cases largest (value_of spelling) (small_of largest spelling) refl
 
 element_cases : (value : ℤ) (place : Place) (small : Option ℕ) → up_to 63 value ≡ small → out_of_range small place ≡ None → IsGoodElement (option_map pos small)
 element_cases value place None is e = absurd (cc)
-element_cases value place (Some n) is e = record { there = refl; small = both (int_le (pos 0) (pos n)) (int_le (pos n) (pos 63)) (le_true (pos 0) (pos n) (omega (arith, ints))) (le_true (pos n) (pos 63) (let h : n ≤ 63 = up_to_is value n is in omega (arith, ints))) }
+element_cases value place (Some n) is e = record { there = refl; small = both (int_le (pos 0) (pos n)) (int_le (pos n) (pos 63)) (le_true (pos 0) (pos n) (omega (arith, ints))) (le_true (pos n) (pos 63) (let h : n ≤ 63 = up_to_is 63 value n is in omega (arith, ints))) }
 
 pub good_element : (spelling : List ℕ) (place : Place) → out_of_range (small_of 63 spelling) place ≡ None → IsGoodElement (element_of spelling)
 good_element spelling place e = element_cases (value_of spelling) place (small_of 63 spelling) refl e

@@ -48,7 +48,7 @@ insts_counted s n (w ∷ ws) =
     counted_on n k (counted n (defined_by_inst w)) (flat_map numbering.results_of (resolved_insts s (n + k) ws)) (length-counted n (defined_by_inst w)) (counted_from n (defined_by_inst w)) (insts_counted s (n + k) ws)
 
 -- the results of a block are those of its instructions, since a terminator has none
-with_end : (is : List Inst) (last : Inst) → last.results ≡ [] → flat_map numbering.results_of (is ++ last ∷ []) ≡ flat_map numbering.results_of is
+pub with_end : (is : List Inst) (last : Inst) → last.results ≡ [] → flat_map numbering.results_of (is ++ last ∷ []) ≡ flat_map numbering.results_of is
 with_end [] last e = append-nil last.results ∙ e
 with_end (i ∷ is) last e = ap (λ rest. i.results ++ rest) (with_end is last e)
 

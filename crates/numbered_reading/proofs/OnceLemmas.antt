@@ -23,7 +23,7 @@ use Rattle.numbered_form.specs.Lists.{Each}
 use Rattle.numbered_form.specs.Names.{AreMembersOnce, AreNamesOnce, AreOnce, case_name, class_name, decl_name, field_name, function_name, member_names, reserved, swift_names}
 use Rattle.numbered_reading.proofs.Basics.{no_first, no_second}
 
-same_name : (name : Name) → bytes_eq name name ≡ true
+pub same_name : (name : Name) → bytes_eq name name ≡ true
 same_name name = (bytes_eq-Decides name name).1 refl
 
 first_false : (a b : Bool) → (a || b) ≡ false → a ≡ false
@@ -65,16 +65,16 @@ once_reserved imports false e = (not_contained (swift_names false) _ refl, tt)
 
 -- names are kept
 
-names_kept : {A B : Type 0} (f : A → B) (name : B → Name) (token : A → WrittenToken) → ((x : A) → name (f x) ≡ (token x).text) → (xs : List A) → map name_of (map token xs) ≡ map name (map f xs)
+pub names_kept : {A B : Type 0} (f : A → B) (name : B → Name) (token : A → WrittenToken) → ((x : A) → name (f x) ≡ (token x).text) → (xs : List A) → map name_of (map token xs) ≡ map name (map f xs)
 names_kept f name token e [] = refl
 names_kept f name token e (x ∷ xs) = ap₂ (λ n ns. n ∷ ns) (sym (e x)) (names_kept f name token e xs)
 
-decl_kept : (d : WrittenDecl) → decl_name (resolved_decl d) ≡ (written.decl_name d).text
+pub decl_kept : (d : WrittenDecl) → decl_name (resolved_decl d) ≡ (written.decl_name d).text
 decl_kept (decl.Class name fields) = refl
 decl_kept (decl.Struct name fields) = refl
 decl_kept (decl.Enum name cases) = refl
 
-members_kept : (d : WrittenDecl) → map name_of (written.member_names d) ≡ member_names (resolved_decl d)
+pub members_kept : (d : WrittenDecl) → map name_of (written.member_names d) ≡ member_names (resolved_decl d)
 members_kept (decl.Class name fields) = names_kept resolved_field field_name written.field_name (λ f. refl) fields
 members_kept (decl.Struct name fields) = names_kept resolved_field field_name written.field_name (λ f. refl) fields
 members_kept (decl.Enum name cases) = names_kept resolved_case case_name written.case_name (λ c. refl) cases

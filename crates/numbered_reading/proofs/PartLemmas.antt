@@ -35,8 +35,8 @@ use Rattle.numbered_form.specs.Fields.{IsStrong}
 use Rattle.numbered_form.specs.Names.{IsMemberSpelled, IsWord, case_name, field_name, is_at_name}
 use Rattle.numbered_form.specs.Types.{HasFieldType, HasPayloadType, IsPlainType}
 use Rattle.numbered_reading.proofs.Basics.{Each-map, both, either_first, no_first, no_second, not_passed, not_passed-map}
-use Rattle.numbered_reading.proofs.Goods.{AreEnumOperands, AreGoodCases, AreGoodFrom, AreGoodGivens, AreGoodOperands, AreGoodParams, AreGoodSwitch, IsGoodBlock, IsGoodBranch, IsGoodCase, IsGoodDecl, IsGoodField, IsGoodFunction, IsGoodItem, IsGoodModule, IsGoodPart, IsGoodSignature, IsGoodToken, IsGoodType, IsStrongField, IsWordToken}
-use Rattle.numbered_reading.proofs.NumberLemmas.{good_element, good_literal}
+use Rattle.numbered_reading.proofs.Goods.{AreEnumOperands, AreGoodCases, AreGoodFrom, AreGoodGivens, AreGoodOperands, AreGoodParams, AreGoodSwitch, IsGoodBlock, IsGoodBranch, IsGoodCase, IsGoodDecl, IsGoodField, IsGoodFunction, IsGoodItem, IsGoodModule, IsGoodPart, IsGoodSignature, IsGoodToken, IsGoodType, IsStrongField, IsWordToken, nothing_shown}
+use Rattle.numbered_reading.proofs.NumberLemmas.{good_element, good_literal, good_small}
 use Rattle.numbered_reading.proofs.RowLemmas.{renamed}
 use Rattle.numbered_reading.proofs.SharedRows.{element_row, flagged_row, loaded_row, member_row, operands_have_types, operands_typed, over_one_row, stored_row}
 use Rattle.numbered_reading.proofs.SingleRows.{alloc_ref_row, alloc_stack_row, apply_row, br_row, builtin_row, cond_br_row, debug_row, enum_row, fail_row, function_row, literal_row, struct_row, switch_row, tuple_row, unreachable_row}
@@ -317,15 +317,20 @@ good_part p.InitFlagNone parts g h = refl
 good_part p.InitShort parts g h = refl
 good_part p.InitLong parts g h = refl
 good_part p.DebugSome parts g h = g.1.0
+good_part p.DebugNone parts g h = nothing_shown
 good_part p.DebugLet parts g h = g.1.0
 good_part p.DebugVar parts g h = g.1.0
 good_part p.DebugRest parts g h = g.0
 good_part p.DebugAfterBindingSome parts g h = g.1.0
-good_part p.DebugName parts g h = g.1.0
+good_part p.DebugAfterBindingNone parts g h = nothing_shown
+good_part p.DebugName parts g h = (g.1.0, g.1.1.0.1)
 good_part p.DebugNoName parts g h = g.0
 good_part p.DebugAfterNameSome parts g h = g.1.0
-good_part p.DebugNumber parts g h = g.1.1.0
+good_part p.DebugAfterNameNone parts g h = nothing_shown
+good_part p.DebugNumber parts g h = (g.1.1.0.0, good_small 65535 (text_at 1 parts))
 good_part p.DebugNoNumber parts g h = g.0
 good_part p.DebugAfterNumberSome parts g h = g.1.0
+good_part p.DebugAfterNumberNone parts g h = nothing_shown
+good_part p.DebugDeref parts g h = nothing_shown
 good_part p.EntrySome parts g h = g.1.0
 good_part _ parts g h = tt

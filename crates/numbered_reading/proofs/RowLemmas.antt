@@ -96,7 +96,7 @@ renamed s first w tokens few g = record {
     edges = g.parts.edges;
     results = results_there w.op first tokens;
   };
-  literals = record { number = g.literals.number; text = g.literals.text };
+  literals = record { number = g.literals.number; text = g.literals.text; argno = g.literals.argno };
   spelled = record { member = g.spelled.member; text = g.spelled.text; debug = g.spelled.debug; edges = g.spelled.edges };
   types = record { ty = g.types.ty; signature = g.types.signature; operands = g.types.operands; edges = g.types.edges };
   limits = record { operands = g.limits.operands; results = results_few w.op first tokens few; signature = g.limits.signature; edges = g.limits.edges };
@@ -142,8 +142,8 @@ good_row s first w ps h = record {
     edges = h.edges;
     results = results_there w.op first w.results;
   };
-  literals = record { number = h.number; text = h.text };
-  spelled = record { member = h.member_spelled; text = h.text_spelled; debug = h.debug_spelled; edges = Each-weaker IsGoodEdge IsEdgeSpelled (λ e g. g.spelled) (map (resolved_edge s) w.edges) h.good_edges };
+  literals = record { number = h.number; text = h.text; argno = h.debug_spelled.1 };
+  spelled = record { member = h.member_spelled; text = h.text_spelled; debug = h.debug_spelled.0; edges = Each-weaker IsGoodEdge IsEdgeSpelled (λ e g. g.spelled) (map (resolved_edge s) w.edges) h.good_edges };
   types = record { ty = h.ty; signature = signature_types w.signature h.signature; operands = h.operand_types; edges = Each-weaker IsGoodEdge HasEdgeTypes (λ e g. g.types) (map (resolved_edge s) w.edges) h.good_edges };
   limits = record {
     operands = rw length-map h.few;

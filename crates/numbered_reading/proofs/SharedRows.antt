@@ -22,7 +22,7 @@ use Rattle.numbered_form.specs.Names.{IsMemberSpelled}
 use Rattle.numbered_form.specs.Parts.{are_of_parts, has_edges, has_operands, is_typed, may_have, may_lack_operand}
 use Rattle.numbered_form.specs.Types.{HasOperandType}
 use Rattle.numbered_reading.proofs.Basics.{Each-weaker, all_each, both, either_first}
-use Rattle.numbered_reading.proofs.Goods.{IsGoodAnywhere, IsGoodOperand}
+use Rattle.numbered_reading.proofs.Goods.{IsGoodAnywhere, IsGoodOperand, nothing_shown}
 use Rattle.numbered_reading.proofs.RowLemmas.{good_row}
 
 -- the operands are those of the row's parts
@@ -55,7 +55,7 @@ over_one_row o mnemonic x row plain no_edges g s first = good_row s first (recor
   text = tt;
   member_spelled = tt;
   text_spelled = tt;
-  debug_spelled = tt;
+  debug_spelled = nothing_shown;
   ty = tt;
   signature = tt;
   operand_types = ((g s).ty, tt);
@@ -82,7 +82,7 @@ flagged_row o mnemonic x lexical var_decl row plain no_edges g s first = good_ro
   text = tt;
   member_spelled = tt;
   text_spelled = tt;
-  debug_spelled = tt;
+  debug_spelled = nothing_shown;
   ty = tt;
   signature = tt;
   operand_types = ((g s).ty, tt);
@@ -109,7 +109,7 @@ loaded_row o mnemonic x q row no_edges word g s first = good_row s first (record
   text = tt;
   member_spelled = tt;
   text_spelled = tt;
-  debug_spelled = tt;
+  debug_spelled = nothing_shown;
   ty = tt;
   signature = tt;
   operand_types = ((g s).ty, tt);
@@ -136,7 +136,7 @@ stored_row o mnemonic token x q row no_edges word g s first = good_row s first (
   text = tt;
   member_spelled = tt;
   text_spelled = tt;
-  debug_spelled = tt;
+  debug_spelled = nothing_shown;
   ty = tt;
   signature = tt;
   operand_types = (tt, ((g s).ty, tt));
@@ -163,7 +163,7 @@ member_row o mnemonic x m row plain no_edges spelled g s first = good_row s firs
   text = tt;
   member_spelled = spelled;
   text_spelled = tt;
-  debug_spelled = tt;
+  debug_spelled = nothing_shown;
   ty = tt;
   signature = tt;
   operand_types = ((g s).ty, tt);
@@ -190,7 +190,7 @@ element_row o mnemonic x number row plain no_edges small there g s first = good_
   text = tt;
   member_spelled = tt;
   text_spelled = tt;
-  debug_spelled = tt;
+  debug_spelled = nothing_shown;
   ty = tt;
   signature = tt;
   operand_types = ((g s).ty, tt);

@@ -81,10 +81,10 @@ good_width width place g = record {
 below_limit : (n : ℕ) → n ≤ 32 → nat_lt 32 n ≡ false
 below_limit n h = grind (arith, nat_tests)
 
-one_more : (depth : ℕ) → depth ≤ 32 → deeper depth ≡ depth + 1
+pub one_more : (depth : ℕ) → depth ≤ 32 → deeper depth ≡ depth + 1
 one_more depth h = rw (below_limit depth h) refl
 
-all_kept : (depth : ℕ) (t : TypeName) → depth + 1 ≤ 32 → kept (deeper depth) t ≡ t
+pub all_kept : (depth : ℕ) (t : TypeName) → depth + 1 ≤ 32 → kept (deeper depth) t ≡ t
 all_kept depth t h = rw (one_more depth (omega arith), below_limit (depth + 1) h) refl
 
 pub good_level : (depth : ℕ) (t : TypeName) (first last : Place) → depth + 1 ≤ 32 → is_plain_type t ≡ true → depth_of t ≤ depth + 1 → IsGoodType (one_deeper depth t first last)

@@ -35,7 +35,7 @@ use Rattle.numbered_reading.proofs.NumberingLemmas.{blocks_counted, blocks_lengt
 
 -- inside lists of tokens
 
-Each-split : {A : Type 0} (P : A → Type 0) (xs ys : List A) → Each P (xs ++ ys) → Each P xs × Each P ys
+pub Each-split : {A : Type 0} (P : A → Type 0) (xs ys : List A) → Each P (xs ++ ys) → Each P xs × Each P ys
 Each-split P [] ys e = (tt, e)
 Each-split P (x ∷ xs) ys e = let rest = Each-split P xs ys e.1 in ((e.0, rest.0), rest.1)
 

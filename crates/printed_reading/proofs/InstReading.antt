@@ -8,12 +8,15 @@ use Rattle.written_modules.specs.Values.{inst_of}
 use Rattle.numbered_form.specs.Parts.{is_terminator}
 use Rattle.printed_reading.proofs.Pieces.{Ends, Stands}
 use Rattle.printed_reading.proofs.Printable.{IsInstPrintable}
+use Rattle.printed_reading.proofs.ResultReading.{inst_unnamed, inst_with_results}
+use Rattle.printed_reading.proofs.Rows.{end_reads, row_reads}
 use Rattle.printed_reading.proofs.Written.{IsInstWritten}
 
 pub inst_reads : (text : List ℕ) (functions : List Function) (i : Inst) (after : List ℕ) → IsInstPrintable functions i → IsFalse (is_terminator i.op) → Ends after
     → Stands text n.Inst (λ x. IsInstWritten functions i (inst_of x)) (inst_text functions i ++ after) after
-inst_reads text functions i after printable inside ends = ?
+inst_reads text functions i after printable inside ends =
+    inst_with_results text functions after i (row_reads text functions after ends i printable inside) printable.results printable.limits.results
 
 pub terminator_reads : (text : List ℕ) (functions : List Function) (i : Inst) (after : List ℕ) → IsInstPrintable functions i → IsTrue (is_terminator i.op) → i.results ≡ [] → Ends after
     → Stands text n.Terminator (λ x. IsInstWritten functions i (inst_of x)) (inst_text functions i ++ after) after
-terminator_reads text functions i after printable last unnamed ends = ?
+terminator_reads text functions i after printable last unnamed ends = inst_unnamed text functions after i (end_reads text functions after ends i printable last) unnamed

@@ -41,12 +41,20 @@ behind (blank byte h q) r = blank byte h (behind q r)
 behind (token kind spelling accepted spelled short q) r = token kind spelling accepted spelled short (behind q r)
 behind (rule p inside h q) r = rule p inside h (behind q r)
 
--- a part reads as something of which P holds
-pub record Stands (text : List ℕ) (part : Nonterminal) (P : PartValue → Type 0) (left after : List ℕ) : Type 0 where
+-- one symbol reads as something of which P holds
+pub record ReadsOne (text : List ℕ) (symbol : Symbol) (P : PartValue → Type 0) (left after : List ℕ) : Type 0 where
   pub value : PartValue
   pub stands : P value
-  pub reads : Reads text (Part part ∷ []) left (value ∷ []) after
+  pub reads : Reads text (symbol ∷ []) left (value ∷ []) after
+
+-- a part reads as something of which P holds
+abbrev pub Stands : List ℕ → Nonterminal → (PartValue → Type 0) → List ℕ → List ℕ → Type 0
+Stands text part P left after = ReadsOne text (Part part) P left after
 
 -- no name or number goes on with what follows
 abbrev pub Ends : List ℕ → Type 0
 Ends after = IsFalse (begins_with is_name_byte after)
+
+-- these bytes read so, wherever they stand
+abbrev pub ReadsAs : List ℕ → Symbol → (PartValue → Type 0) → List ℕ → Type 0
+ReadsAs text symbol P written = (after : List ℕ) → Ends after → ReadsOne text symbol P (written ++ after) after

@@ -68,12 +68,12 @@ after_rule : {text : List ℕ} {ss : List Symbol} {left middle : List ℕ} {part
     → Steps text (Part (written p) ∷ ss) left (meaning p parts ∷ values) after
 after_rule {ss = ss} {parts = parts} {values = values} p s h u =
     let whole : (more : List Step) (others : List Lexeme)
-            → replay ((s.steps ++ u.steps) ++ more) ((s.lexemes ++ u.lexemes) ++ others) ≡ parts ++ (values ++ replay more others) =
-        λ more others. rw (append_assoc s.steps u.steps more, append_assoc s.lexemes u.lexemes others)
-            (s.replayed (u.steps ++ more) (u.lexemes ++ others) ∙ ap (λ back. parts ++ back) (u.replayed more others)) in
+    → replay ((s.steps ++ u.steps) ++ more) ((s.lexemes ++ u.lexemes) ++ others) ≡ parts ++ (values ++ replay more others) =
+    λ more others. rw (append_assoc s.steps u.steps more, append_assoc s.lexemes u.lexemes others)
+    (s.replayed (u.steps ++ more) (u.lexemes ++ others) ∙ ap (λ back. parts ++ back) (u.replayed more others)) in
     let taken : (more : List Step) (others : List Lexeme)
-            → parts_of p (replay ((s.steps ++ u.steps) ++ more) ((s.lexemes ++ u.lexemes) ++ others)) ≡ parts =
-        λ more others. ap (parts_of p) (whole more others) ∙ front_of parts (values ++ replay more others) (length (body p)) s.one_each in
+    → parts_of p (replay ((s.steps ++ u.steps) ++ more) ((s.lexemes ++ u.lexemes) ++ others)) ≡ parts =
+    λ more others. ap (parts_of p) (whole more others) ∙ front_of parts (values ++ replay more others) (length (body p)) s.one_each in
     record {
       lexemes = s.lexemes ++ u.lexemes;
       steps = Expand p ∷ s.steps ++ u.steps;

@@ -5,7 +5,7 @@ use sil_grammar::BadKind::{Unexpected, Unsupported};
 use std::test::Fail;
 
 // A text, the line and the column of its first bad place, and its kind.
-const DECLARATIONS: [Refused; 93] = [
+const DECLARATIONS: [Refused; 97] = [
     // modules
     ("raw", 1, 1, Unexpected),
     ("{ }", 1, 1, Unexpected),
@@ -16,6 +16,7 @@ const DECLARATIONS: [Refused; 93] = [
     ("import", 1, 7, Unexpected),
     ("import \"Swift\"", 1, 8, Unexpected),
     ("import A.B", 1, 9, Unexpected),
+    ("import A Module", 1, 10, Unexpected),
     ("class C { }\nimport Swift", 2, 1, Unexpected),
     ("final struct S { }", 1, 7, Unexpected),
     // classes
@@ -41,6 +42,8 @@ const DECLARATIONS: [Refused; 93] = [
     ("struct S {", 1, 11, Unexpected),
     ("struct S { weak var x: C }", 1, 12, Unexpected),
     ("struct S { deinit }", 1, 12, Unexpected),
+    ("struct S { var x: }", 1, 19, Unexpected),
+    ("struct S { var x: A { get get } }", 1, 27, Unexpected),
     ("struct S { @_hasStorage }", 1, 25, Unexpected),
     (
         "struct S { @_hasStorage final var x: C }",
@@ -98,6 +101,7 @@ const DECLARATIONS: [Refused; 93] = [
     ),
     ("sil [ossa]", 1, 11, Unexpected),
     ("sil [ossa", 1, 10, Unexpected),
+    ("sil [ossa ossa]", 1, 11, Unexpected),
     ("sil @f $@convention(thin) () -> ()", 1, 8, Unexpected),
     ("sil @f : @convention(thin) () -> ()", 1, 10, Unexpected),
     ("sil @f : $() -> ()", 1, 11, Unexpected),

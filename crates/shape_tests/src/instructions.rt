@@ -7,13 +7,14 @@ use std::test::Fail;
 const HEAD: &str = "sil [ossa] @f : $@convention(thin) () -> () {\nbb0:\n";
 
 // What stands behind the head, which has two lines.
-const BODIES: [Refused; 119] = [
+const BODIES: [Refused; 124] = [
     // ends of blocks
     ("", 3, 1, Unexpected),
     ("}", 3, 1, Unexpected),
     ("br bb1", 3, 7, Unexpected),
     ("unreachable\n%0 = tuple ()", 4, 1, Unexpected),
     ("unreachable unreachable }", 3, 25, Unexpected),
+    ("unreachable unreachable unreachable }", 3, 25, Unexpected),
     ("return %0 : $C\n}}", 4, 2, Unexpected),
     ("%0 = alloc_ref $C\nbb1:\nunreachable }", 4, 1, Unsupported),
     ("load %0 : $C sil @g", 3, 14, Unsupported),
@@ -54,19 +55,23 @@ const BODIES: [Refused; 119] = [
     ("(%0) destructure_tuple %2 : $T", 3, 6, Unexpected),
     ("() = unreachable", 3, 6, Unexpected),
     ("%0 = return %1 : $C", 3, 6, Unexpected),
+    ("%0 = br bb0 }", 3, 6, Unexpected),
     ("%0 = %1", 3, 6, Unexpected),
     ("@f", 3, 1, Unexpected),
     // mnemonics without a row
     ("%0 = alloc_box $C", 3, 6, Unsupported),
+    ("alloc_box $C", 3, 1, Unsupported),
     ("%0 = upcast %1 : $C to $B", 3, 6, Unsupported),
     ("  upcast %1 : $C to $B", 3, 3, Unsupported),
     ("%0 = class $C", 3, 6, Unsupported),
     ("tuple ()\nfix_lifetime %0 : $C", 4, 1, Unsupported),
     ("%0 = builtin \"no_such\"(%1 : $T) : $T", 3, 14, Unsupported),
     ("%0 = builtin \"and_Int7\"() : $T", 3, 14, Unsupported),
+    ("builtin \"cmp_eq_Int7\"() : $C", 3, 9, Unsupported),
     ("%0 = builtin \"\"() : $T", 3, 14, Unsupported),
     ("%0 = builtin and_Int8() : $T", 3, 14, Unexpected),
     ("alloc_ref $Builtin.Int128", 3, 20, Unsupported),
+    ("alloc_ref $Builtin.init", 3, 20, Unsupported),
     ("alloc_ref $Builtin.NativeObject", 3, 20, Unsupported),
     // operands
     (

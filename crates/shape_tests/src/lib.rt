@@ -1,7 +1,9 @@
 //! Tests of the reader, worked out by hand: texts that have the shape of a module and texts that don't, with the places
-//! where they go wrong, and the modules that texts spell.
+//! where they go wrong, and the canonical texts of the modules that texts spell.
 #![tactic(auto)]
 
+#[cfg(test)]
+mod begun;
 #[cfg(test)]
 mod declarations;
 #[cfg(test)]
@@ -10,6 +12,18 @@ mod instructions;
 mod long_texts;
 #[cfg(test)]
 mod outcome;
+#[cfg(test)]
+mod printed;
+#[cfg(test)]
+mod printed_declarations;
+#[cfg(test)]
+mod printed_functions;
+#[cfg(test)]
+mod printed_instructions;
+#[cfg(test)]
+mod printed_names;
+#[cfg(test)]
+mod printed_programs;
 #[cfg(test)]
 mod programs;
 #[cfg(test)]

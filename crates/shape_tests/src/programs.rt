@@ -72,7 +72,7 @@ sil_vtable N {
 ";
 
 // a deinitialiser that lets its object escape
-const ESCAPE: &str = "sil_stage canonical
+pub const ESCAPE: &str = "sil_stage canonical
 import Builtin
 import Swift
 class Box { var c: Optional<C> }
@@ -112,7 +112,7 @@ sil_vtable C { #C.deinit!destroyer: @C_deinit }
 ";
 
 // two objects that own each other
-const CYCLE: &str = "sil_stage canonical
+pub const CYCLE: &str = "sil_stage canonical
 import Builtin
 import Swift
 class Box { var c: Optional<C> }
@@ -146,7 +146,7 @@ bb0:
 ";
 
 // a list that is built in a loop
-const LOOP: &str = "sil_stage canonical
+pub const LOOP: &str = "sil_stage canonical
 
 import Builtin
 import Swift

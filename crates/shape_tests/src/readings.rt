@@ -1,23 +1,9 @@
 //! Texts and the modules that they spell, these as canonical texts, both written by hand.
 
-use crate::programs::UNOWNED_FIELD;
-use sil_grammar::read;
-use sil_printer::print;
+use crate::printed::{Printed, assert_printed};
 use std::test::Fail;
 
-/// A text, and the canonical text of what it spells.
-type Reading = (&'static str, &'static str);
-
-static READINGS: [Reading; 6] = [
-    ("", "sil_stage canonical\n"),
-    (
-        "sil_stage raw import Foundation import Swift // all\n import Builtin import Swift",
-        "sil_stage raw
-
-import Builtin
-import Swift
-",
-    ),
+static READINGS: [Printed; 4] = [
     // each kind in its own place, words that are dropped, payloads of several types
     (
         "sil_vtable C { }
@@ -194,26 +180,5 @@ bb0(%0 : $C):
 
 #[test]
 fn texts_are_read_as_these_modules(rt: HostRuntime) -> Result<(), Fail> {
-    let alloc = rt.alloc();
-    for (text, canonical) in &READINGS {
-        assert!(rt; text.len() <= 1_048_576);
-        let module = read(alloc, text.as_bytes())?;
-        let printed = print(alloc, &module)?;
-        assert_eq!(rt;
-            str::from_utf8(printed.as_slice()),
-            Ok(*canonical),
-            "{text}"
-        );
-    }
-    Ok(())
-}
-
-#[test]
-fn a_canonical_text_is_read_as_itself(rt: HostRuntime) -> Result<(), Fail> {
-    let alloc = rt.alloc();
-    assert!(rt; UNOWNED_FIELD.len() <= 1_048_576);
-    let module = read(alloc, UNOWNED_FIELD.as_bytes())?;
-    let printed = print(alloc, &module)?;
-    assert_eq!(rt; str::from_utf8(printed.as_slice()), Ok(UNOWNED_FIELD));
-    Ok(())
+    assert_printed(&rt, rt.alloc(), "", &READINGS, "")
 }

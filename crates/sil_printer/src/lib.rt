@@ -13,6 +13,3 @@ mod signatures;
 mod types;
 
 pub use modules::print;
-
-#[cfg(test)]
-mod tests;

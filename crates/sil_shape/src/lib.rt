@@ -14,6 +14,4 @@ mod shortest;
 pub mod spelling;
 mod starts;
 pub mod steps;
-#[cfg(test)]
-mod tests;
 pub mod unsupported;
