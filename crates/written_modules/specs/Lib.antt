@@ -8,3 +8,4 @@ pub mod Values
 pub mod Found
 pub mod Taken
 pub mod Opened
+pub mod Sections

@@ -37,12 +37,12 @@ pub(crate) fn whole_block(alloc: Global, values: &mut Prepended<Value>) -> Resul
     let label = values.pop_front().into_token(alloc);
     let args = values.pop_front().into_args(alloc).into_list();
     skip(values);
-    let (insts, terminator) = values.pop_front().into_code(alloc);
+    let (insts, terminator) = values.pop_front().into_code(alloc)?;
     let block = WrittenBlock {
         label,
         args,
         insts: insts.into_list(),
-        terminator,
+        terminator: terminator.into_inner(),
     };
     Ok(Value::Block(Boxed::new(alloc, block)?))
 }
@@ -108,11 +108,8 @@ pub(crate) fn block_arg(alloc: Global, values: &mut Prepended<Value>) -> Result<
     skip(values);
     let star = values.pop_front();
     let ty = values.pop_front().into_type(alloc).ty;
-    Ok(Value::Arg(WrittenArg {
-        name,
-        kind,
-        ty: starred(alloc, star, ty)?,
-    }))
+    let ty = starred(alloc, star, ty)?;
+    Ok(Value::Arg(Boxed::new(alloc, WrittenArg { name, kind, ty })?))
 }
 
 #[tactic(auto, unfolding(crate::specs::Replay::reduced, crate::specs::Meaning::meaning, sil_shape::specs::Grammar::body))]
@@ -120,10 +117,10 @@ pub(crate) fn more_code(alloc: Global, values: &mut Prepended<Value>) -> Result<
     requires { 2 ≤ length values.old }
     ensures { IfOk result (λ value. reduced Production.CodeInst values.old ≡ value ∷ values.new) }
 {
-    let inst = values.pop_front().into_inst(alloc);
-    let (mut insts, terminator) = values.pop_front().into_code(alloc);
-    insts.push_front(inst)?;
-    Ok(Value::Code(insts, Boxed::new(alloc, terminator)?))
+    let inst = values.pop_front();
+    let (mut insts, terminator) = values.pop_front().into_code(alloc)?;
+    insts.push_front(inst.into_inst(alloc))?;
+    Ok(Value::Code(insts, terminator))
 }
 
 #[tactic(auto, unfolding(crate::specs::Replay::reduced, crate::specs::Meaning::meaning, sil_shape::specs::Grammar::body))]
@@ -131,17 +128,15 @@ pub(crate) fn last_code(alloc: Global, values: &mut Prepended<Value>) -> Result<
     requires { 1 ≤ length values.old }
     ensures { IfOk result (λ value. reduced Production.CodeEnd values.old ≡ value ∷ values.new) }
 {
-    let terminator = values.pop_front().into_inst(alloc);
-    Ok(Value::Code(Prepended::new(alloc), Boxed::new(alloc, terminator)?))
+    let terminator = values.pop_front().into_boxed_inst(alloc)?;
+    Ok(Value::Code(Prepended::new(alloc), terminator))
 }
 
 /// An instruction with these names before its `=`.
 fn named(alloc: Global, inst: WrittenInst, results: List<WrittenToken>) -> Result<Value, Exhausted>
     ensures { IfOk result (λ made. made ≡ v.Inst (record inst { results = results })) }
 {
-    let mut inst = inst;
-    inst.results = results;
-    Ok(Value::Inst(Boxed::new(alloc, inst)?))
+    Ok(Value::Inst(Boxed::new(alloc, WrittenInst { results, ..inst })?))
 }
 
 #[tactic(auto, unfolding(crate::specs::Replay::reduced, crate::specs::Meaning::meaning, sil_shape::specs::Grammar::body))]
@@ -150,11 +145,10 @@ pub(crate) fn one_name(alloc: Global, values: &mut Prepended<Value>) -> Result<V
     ensures { IfOk result (λ value. reduced Production.InstOneName values.old ≡ value ∷ values.new) }
 {
     let name = values.pop_front().into_token(alloc);
-    skip(values);
-    let inst = values.pop_front().into_inst(alloc);
     let mut results = List::new(alloc);
     results.push(name)?;
-    named(alloc, inst, results)
+    skip(values);
+    named(alloc, values.pop_front().into_inst(alloc), results)
 }
 
 #[tactic(auto, unfolding(crate::specs::Replay::reduced, crate::specs::Meaning::meaning, sil_shape::specs::Grammar::body))]
@@ -166,8 +160,7 @@ pub(crate) fn names(alloc: Global, values: &mut Prepended<Value>) -> Result<Valu
     let results = values.pop_front().into_tokens(alloc).into_list();
     skip(values);
     skip(values);
-    let inst = values.pop_front().into_inst(alloc);
-    named(alloc, inst, results)
+    named(alloc, values.pop_front().into_inst(alloc), results)
 }
 
 #[tactic(auto, unfolding(crate::specs::Replay::reduced, crate::specs::Meaning::meaning, sil_shape::specs::Grammar::body))]

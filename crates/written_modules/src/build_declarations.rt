@@ -80,7 +80,7 @@ fn field_before(
     ensures { IfOk result (λ fields. fields ≡ field_before value others) }
 {
     match value {
-        Value::Field(field) => others.push_front(field)?,
+        Value::Field(field) => others.push_front(field.into_inner())?,
         other => discard(other),
     }
     Ok(others)
@@ -107,65 +107,75 @@ pub(crate) fn more_fields(alloc: Global, values: &mut Prepended<Value>) -> Resul
 }
 
 #[tactic(auto, unfolding(crate::specs::Replay::reduced, crate::specs::Meaning::meaning, sil_shape::specs::Grammar::body))]
-pub(crate) fn weak_variable(alloc: Global, values: &mut Prepended<Value>) -> Value
+pub(crate) fn weak_variable(
+    alloc: Global,
+    values: &mut Prepended<Value>,
+) -> Result<Value, Exhausted>
     requires { 2 ≤ length values.old }
-    ensures { reduced Production.WeakVariable values.old ≡ result ∷ values.new }
+    ensures { IfOk result (λ value. reduced Production.WeakVariable values.old ≡ value ∷ values.new) }
 {
     skip(values);
     let field = values.pop_front().into_field(alloc);
-    Value::Field(WrittenField {
+    let field = WrittenField {
         name: field.name,
         storage: Storage::Weak,
         ty: field.ty,
-    })
+    };
+    Ok(Value::Field(Boxed::new(alloc, field)?))
 }
 
 #[tactic(auto, unfolding(crate::specs::Replay::reduced, crate::specs::Meaning::meaning, sil_shape::specs::Grammar::body))]
-pub(crate) fn unowned_variable(alloc: Global, values: &mut Prepended<Value>) -> Value
+pub(crate) fn unowned_variable(
+    alloc: Global,
+    values: &mut Prepended<Value>,
+) -> Result<Value, Exhausted>
     requires { 2 ≤ length values.old }
-    ensures { reduced Production.UnownedVariable values.old ≡ result ∷ values.new }
+    ensures { IfOk result (λ value. reduced Production.UnownedVariable values.old ≡ value ∷ values.new) }
 {
     skip(values);
     let field = values.pop_front().into_field(alloc);
-    Value::Field(WrittenField {
+    let field = WrittenField {
         name: field.name,
         storage: Storage::Unowned,
         ty: field.ty,
-    })
+    };
+    Ok(Value::Field(Boxed::new(alloc, field)?))
 }
 
 #[tactic(auto, unfolding(crate::specs::Replay::reduced, crate::specs::Meaning::meaning, sil_shape::specs::Grammar::body))]
-pub(crate) fn var_binding(alloc: Global, values: &mut Prepended<Value>) -> Value
+pub(crate) fn var_binding(alloc: Global, values: &mut Prepended<Value>) -> Result<Value, Exhausted>
     requires { 5 ≤ length values.old }
-    ensures { reduced Production.VarBinding values.old ≡ result ∷ values.new }
+    ensures { IfOk result (λ value. reduced Production.VarBinding values.old ≡ value ∷ values.new) }
 {
     skip(values);
     let name = values.pop_front().into_token(alloc);
     skip(values);
     let ty = values.pop_front().into_type(alloc).ty;
     skip(values);
-    Value::Field(WrittenField {
+    let field = WrittenField {
         name,
         storage: Storage::Strong,
         ty,
-    })
+    };
+    Ok(Value::Field(Boxed::new(alloc, field)?))
 }
 
 #[tactic(auto, unfolding(crate::specs::Replay::reduced, crate::specs::Meaning::meaning, sil_shape::specs::Grammar::body))]
-pub(crate) fn let_binding(alloc: Global, values: &mut Prepended<Value>) -> Value
+pub(crate) fn let_binding(alloc: Global, values: &mut Prepended<Value>) -> Result<Value, Exhausted>
     requires { 5 ≤ length values.old }
-    ensures { reduced Production.LetBinding values.old ≡ result ∷ values.new }
+    ensures { IfOk result (λ value. reduced Production.LetBinding values.old ≡ value ∷ values.new) }
 {
     skip(values);
     let name = values.pop_front().into_token(alloc);
     skip(values);
     let ty = values.pop_front().into_type(alloc).ty;
     skip(values);
-    Value::Field(WrittenField {
+    let field = WrittenField {
         name,
         storage: Storage::Strong,
         ty,
-    })
+    };
+    Ok(Value::Field(Boxed::new(alloc, field)?))
 }
 
 #[tactic(auto, unfolding(crate::specs::Replay::reduced, crate::specs::Meaning::meaning, sil_shape::specs::Grammar::body))]

@@ -12,7 +12,7 @@ use crate::nothing::{bare_inst, skip};
 use crate::prepended::Prepended;
 use crate::value::Value;
 use crate::written_declarations::WrittenToken;
-use crate::written_instructions::{WrittenEdge, WrittenOperand};
+use crate::written_instructions::{WrittenEdge, WrittenInst, WrittenOperand};
 use sil_ast::{Exhausted, List, Op, TypeName};
 use sil_shape::grammar::Production;
 use std::alloc::Global;
@@ -50,17 +50,19 @@ pub(crate) fn integer_literal(
     requires { 5 ≤ length values.old }
     ensures { IfOk result (λ value. reduced Production.RowIntegerLiteral values.old ≡ value ∷ values.new) }
 {
-    let mut inst = bare_inst(
-        alloc,
-        Op::IntegerLiteral,
-        values.pop_front().into_token(alloc).place,
-    );
+    let mnemonic = values.pop_front().into_token(alloc).place;
     skip(values);
     let ty = values.pop_front().into_type(alloc).ty;
     skip(values);
-    inst.number = literal_in(&ty, values.pop_front().into_token(alloc).text.as_slice());
-    inst.ty = Some(ty);
-    boxed(alloc, inst)
+    let number = literal_in(&ty, values.pop_front().into_token(alloc).text.as_slice());
+    boxed(
+        alloc,
+        WrittenInst {
+            number,
+            ty: Some(ty),
+            ..bare_inst(alloc, Op::IntegerLiteral, mnemonic)
+        },
+    )
 }
 
 #[tactic(auto, unfolding(crate::specs::Replay::reduced, crate::specs::Meaning::meaning, sil_shape::specs::Grammar::body))]
@@ -68,16 +70,19 @@ pub(crate) fn function_ref(alloc: Global, values: &mut Prepended<Value>) -> Resu
     requires { 5 ≤ length values.old }
     ensures { IfOk result (λ value. reduced Production.RowFunctionRef values.old ≡ value ∷ values.new) }
 {
-    let mut inst = bare_inst(
+    let mnemonic = values.pop_front().into_token(alloc).place;
+    let function = values.pop_front().into_token(alloc);
+    skip(values);
+    skip(values);
+    let signature = values.pop_front().into_signature(alloc);
+    boxed(
         alloc,
-        Op::FunctionRef,
-        values.pop_front().into_token(alloc).place,
-    );
-    inst.function = Some(values.pop_front().into_token(alloc));
-    skip(values);
-    skip(values);
-    inst.signature = Some(values.pop_front().into_signature(alloc));
-    boxed(alloc, inst)
+        WrittenInst {
+            function: Some(function),
+            signature: Some(signature),
+            ..bare_inst(alloc, Op::FunctionRef, mnemonic)
+        },
+    )
 }
 
 #[tactic(auto, unfolding(crate::specs::Replay::reduced, crate::specs::Meaning::meaning, sil_shape::specs::Grammar::body))]
@@ -85,19 +90,23 @@ pub(crate) fn builtin(alloc: Global, values: &mut Prepended<Value>) -> Result<Va
     requires { 8 ≤ length values.old }
     ensures { IfOk result (λ value. reduced Production.RowBuiltin values.old ≡ value ∷ values.new) }
 {
-    let mut inst = bare_inst(
+    let mnemonic = values.pop_front().into_token(alloc).place;
+    let text = values.pop_front().into_token(alloc).text;
+    skip(values);
+    let operands = values.pop_front().into_operands(alloc).into_list();
+    skip(values);
+    skip(values);
+    skip(values);
+    let ty = values.pop_front().into_type(alloc).ty;
+    boxed(
         alloc,
-        Op::Builtin,
-        values.pop_front().into_token(alloc).place,
-    );
-    inst.text = Some(values.pop_front().into_token(alloc).text);
-    skip(values);
-    inst.operands = values.pop_front().into_operands(alloc).into_list();
-    skip(values);
-    skip(values);
-    skip(values);
-    inst.ty = Some(values.pop_front().into_type(alloc).ty);
-    boxed(alloc, inst)
+        WrittenInst {
+            text: Some(text),
+            operands,
+            ty: Some(ty),
+            ..bare_inst(alloc, Op::Builtin, mnemonic)
+        },
+    )
 }
 
 #[tactic(auto, unfolding(crate::specs::Replay::reduced, crate::specs::Meaning::meaning, sil_shape::specs::Grammar::body))]
@@ -105,15 +114,18 @@ pub(crate) fn cond_fail(alloc: Global, values: &mut Prepended<Value>) -> Result<
     requires { 4 ≤ length values.old }
     ensures { IfOk result (λ value. reduced Production.RowCondFail values.old ≡ value ∷ values.new) }
 {
-    let mut inst = bare_inst(
-        alloc,
-        Op::CondFail,
-        values.pop_front().into_token(alloc).place,
-    );
-    inst.operands = one_operand(alloc, values.pop_front().into_operand(alloc))?;
+    let mnemonic = values.pop_front().into_token(alloc).place;
+    let operands = one_operand(alloc, values.pop_front().into_operand(alloc))?;
     skip(values);
-    inst.text = Some(values.pop_front().into_token(alloc).text);
-    boxed(alloc, inst)
+    let text = values.pop_front().into_token(alloc).text;
+    boxed(
+        alloc,
+        WrittenInst {
+            operands,
+            text: Some(text),
+            ..bare_inst(alloc, Op::CondFail, mnemonic)
+        },
+    )
 }
 
 #[tactic(auto, unfolding(crate::specs::Replay::reduced, crate::specs::Meaning::meaning, sil_shape::specs::Grammar::body))]
@@ -121,14 +133,16 @@ pub(crate) fn alloc_ref(alloc: Global, values: &mut Prepended<Value>) -> Result<
     requires { 3 ≤ length values.old }
     ensures { IfOk result (λ value. reduced Production.RowAllocRef values.old ≡ value ∷ values.new) }
 {
-    let mut inst = bare_inst(
-        alloc,
-        Op::AllocRef,
-        values.pop_front().into_token(alloc).place,
-    );
+    let mnemonic = values.pop_front().into_token(alloc).place;
     skip(values);
-    inst.ty = Some(values.pop_front().into_type(alloc).ty);
-    boxed(alloc, inst)
+    let ty = values.pop_front().into_type(alloc).ty;
+    boxed(
+        alloc,
+        WrittenInst {
+            ty: Some(ty),
+            ..bare_inst(alloc, Op::AllocRef, mnemonic)
+        },
+    )
 }
 
 #[tactic(auto, unfolding(crate::specs::Replay::reduced, crate::specs::Meaning::meaning, sil_shape::specs::Grammar::body))]
@@ -136,18 +150,21 @@ pub(crate) fn alloc_stack(alloc: Global, values: &mut Prepended<Value>) -> Resul
     requires { 5 ≤ length values.old }
     ensures { IfOk result (λ value. reduced Production.RowAllocStack values.old ≡ value ∷ values.new) }
 {
-    let mut inst = bare_inst(
-        alloc,
-        Op::AllocStack,
-        values.pop_front().into_token(alloc).place,
-    );
+    let mnemonic = values.pop_front().into_token(alloc).place;
     let flags = values.pop_front().into_flags();
-    inst.lexical = flags.lexical;
-    inst.var_decl = flags.var_decl;
     skip(values);
-    inst.ty = Some(values.pop_front().into_type(alloc).ty);
-    inst.debug = values.pop_front().into_debug();
-    boxed(alloc, inst)
+    let ty = values.pop_front().into_type(alloc).ty;
+    let debug = values.pop_front().into_debug();
+    boxed(
+        alloc,
+        WrittenInst {
+            lexical: flags.lexical,
+            var_decl: flags.var_decl,
+            ty: Some(ty),
+            debug,
+            ..bare_inst(alloc, Op::AllocStack, mnemonic)
+        },
+    )
 }
 
 #[tactic(auto, unfolding(crate::specs::Replay::reduced, crate::specs::Meaning::meaning, sil_shape::specs::Grammar::body))]
@@ -155,17 +172,20 @@ pub(crate) fn struct_row(alloc: Global, values: &mut Prepended<Value>) -> Result
     requires { 6 ≤ length values.old }
     ensures { IfOk result (λ value. reduced Production.RowStruct values.old ≡ value ∷ values.new) }
 {
-    let mut inst = bare_inst(
+    let mnemonic = values.pop_front().into_token(alloc).place;
+    skip(values);
+    let ty = values.pop_front().into_type(alloc).ty;
+    skip(values);
+    let operands = values.pop_front().into_operands(alloc).into_list();
+    skip(values);
+    boxed(
         alloc,
-        Op::Struct,
-        values.pop_front().into_token(alloc).place,
-    );
-    skip(values);
-    inst.ty = Some(values.pop_front().into_type(alloc).ty);
-    skip(values);
-    inst.operands = values.pop_front().into_operands(alloc).into_list();
-    skip(values);
-    boxed(alloc, inst)
+        WrittenInst {
+            ty: Some(ty),
+            operands,
+            ..bare_inst(alloc, Op::Struct, mnemonic)
+        },
+    )
 }
 
 #[tactic(auto, unfolding(crate::specs::Replay::reduced, crate::specs::Meaning::meaning, sil_shape::specs::Grammar::body))]
@@ -173,11 +193,17 @@ pub(crate) fn tuple_row(alloc: Global, values: &mut Prepended<Value>) -> Result<
     requires { 4 ≤ length values.old }
     ensures { IfOk result (λ value. reduced Production.RowTuple values.old ≡ value ∷ values.new) }
 {
-    let mut inst = bare_inst(alloc, Op::Tuple, values.pop_front().into_token(alloc).place);
+    let mnemonic = values.pop_front().into_token(alloc).place;
     skip(values);
-    inst.operands = values.pop_front().into_operands(alloc).into_list();
+    let operands = values.pop_front().into_operands(alloc).into_list();
     skip(values);
-    boxed(alloc, inst)
+    boxed(
+        alloc,
+        WrittenInst {
+            operands,
+            ..bare_inst(alloc, Op::Tuple, mnemonic)
+        },
+    )
 }
 
 #[tactic(auto, unfolding(crate::specs::Replay::reduced, crate::specs::Meaning::meaning, sil_shape::specs::Grammar::body))]
@@ -185,13 +211,21 @@ pub(crate) fn enum_row(alloc: Global, values: &mut Prepended<Value>) -> Result<V
     requires { 6 ≤ length values.old }
     ensures { IfOk result (λ value. reduced Production.RowEnum values.old ≡ value ∷ values.new) }
 {
-    let mut inst = bare_inst(alloc, Op::Enum, values.pop_front().into_token(alloc).place);
+    let mnemonic = values.pop_front().into_token(alloc).place;
     skip(values);
-    inst.ty = Some(values.pop_front().into_type(alloc).ty);
+    let ty = values.pop_front().into_type(alloc).ty;
     skip(values);
-    inst.member = Some(values.pop_front().into_member(alloc));
-    inst.operands = values.pop_front().into_operands(alloc).into_list();
-    boxed(alloc, inst)
+    let member = values.pop_front().into_member(alloc);
+    let operands = values.pop_front().into_operands(alloc).into_list();
+    boxed(
+        alloc,
+        WrittenInst {
+            ty: Some(ty),
+            member: Some(member),
+            operands,
+            ..bare_inst(alloc, Op::Enum, mnemonic)
+        },
+    )
 }
 
 /// A callee, and the names in parentheses behind it, as operands.
@@ -215,16 +249,23 @@ pub(crate) fn apply(alloc: Global, values: &mut Prepended<Value>) -> Result<Valu
     requires { 8 ≤ length values.old }
     ensures { IfOk result (λ value. reduced Production.RowApply values.old ≡ value ∷ values.new) }
 {
-    let mut inst = bare_inst(alloc, Op::Apply, values.pop_front().into_token(alloc).place);
+    let mnemonic = values.pop_front().into_token(alloc).place;
     let callee = values.pop_front().into_token(alloc);
     skip(values);
     let names = values.pop_front().into_tokens(alloc);
-    inst.operands = bare_operands(alloc, callee, names)?;
+    let operands = bare_operands(alloc, callee, names)?;
     skip(values);
     skip(values);
     skip(values);
-    inst.signature = Some(values.pop_front().into_signature(alloc));
-    boxed(alloc, inst)
+    let signature = values.pop_front().into_signature(alloc);
+    boxed(
+        alloc,
+        WrittenInst {
+            operands,
+            signature: Some(signature),
+            ..bare_inst(alloc, Op::Apply, mnemonic)
+        },
+    )
 }
 
 #[tactic(auto, unfolding(crate::specs::Replay::reduced, crate::specs::Meaning::meaning, sil_shape::specs::Grammar::body))]
@@ -232,14 +273,17 @@ pub(crate) fn debug_value(alloc: Global, values: &mut Prepended<Value>) -> Resul
     requires { 3 ≤ length values.old }
     ensures { IfOk result (λ value. reduced Production.RowDebugValue values.old ≡ value ∷ values.new) }
 {
-    let mut inst = bare_inst(
+    let mnemonic = values.pop_front().into_token(alloc).place;
+    let operands = one_operand(alloc, values.pop_front().into_operand(alloc))?;
+    let debug = values.pop_front().into_debug();
+    boxed(
         alloc,
-        Op::DebugValue,
-        values.pop_front().into_token(alloc).place,
-    );
-    inst.operands = one_operand(alloc, values.pop_front().into_operand(alloc))?;
-    inst.debug = values.pop_front().into_debug();
-    boxed(alloc, inst)
+        WrittenInst {
+            operands,
+            debug,
+            ..bare_inst(alloc, Op::DebugValue, mnemonic)
+        },
+    )
 }
 
 fn one_edge(alloc: Global, edge: WrittenEdge) -> Result<List<WrittenEdge>, Exhausted>
@@ -255,9 +299,15 @@ pub(crate) fn br(alloc: Global, values: &mut Prepended<Value>) -> Result<Value, 
     requires { 2 ≤ length values.old }
     ensures { IfOk result (λ value. reduced Production.RowBr values.old ≡ value ∷ values.new) }
 {
-    let mut inst = bare_inst(alloc, Op::Br, values.pop_front().into_token(alloc).place);
-    inst.edges = one_edge(alloc, values.pop_front().into_edge(alloc))?;
-    boxed(alloc, inst)
+    let mnemonic = values.pop_front().into_token(alloc).place;
+    let edges = one_edge(alloc, values.pop_front().into_edge(alloc))?;
+    boxed(
+        alloc,
+        WrittenInst {
+            edges,
+            ..bare_inst(alloc, Op::Br, mnemonic)
+        },
+    )
 }
 
 #[tactic(auto, unfolding(crate::specs::Replay::reduced, crate::specs::Meaning::meaning, sil_shape::specs::Grammar::body))]
@@ -265,18 +315,20 @@ pub(crate) fn cond_br(alloc: Global, values: &mut Prepended<Value>) -> Result<Va
     requires { 6 ≤ length values.old }
     ensures { IfOk result (λ value. reduced Production.RowCondBr values.old ≡ value ∷ values.new) }
 {
-    let mut inst = bare_inst(
-        alloc,
-        Op::CondBr,
-        values.pop_front().into_token(alloc).place,
-    );
-    inst.operands = one_operand(alloc, bare_operand(values.pop_front().into_token(alloc)))?;
+    let mnemonic = values.pop_front().into_token(alloc).place;
+    let operands = one_operand(alloc, bare_operand(values.pop_front().into_token(alloc)))?;
     skip(values);
     let mut edges = one_edge(alloc, values.pop_front().into_edge(alloc))?;
     skip(values);
     edges.push(values.pop_front().into_edge(alloc))?;
-    inst.edges = edges;
-    boxed(alloc, inst)
+    boxed(
+        alloc,
+        WrittenInst {
+            operands,
+            edges,
+            ..bare_inst(alloc, Op::CondBr, mnemonic)
+        },
+    )
 }
 
 #[tactic(auto, unfolding(crate::specs::Replay::reduced, crate::specs::Meaning::meaning, sil_shape::specs::Grammar::body))]
@@ -284,15 +336,18 @@ pub(crate) fn switch_enum(alloc: Global, values: &mut Prepended<Value>) -> Resul
     requires { 4 ≤ length values.old }
     ensures { IfOk result (λ value. reduced Production.RowSwitchEnum values.old ≡ value ∷ values.new) }
 {
-    let mut inst = bare_inst(
-        alloc,
-        Op::SwitchEnum,
-        values.pop_front().into_token(alloc).place,
-    );
-    inst.operands = one_operand(alloc, values.pop_front().into_operand(alloc))?;
+    let mnemonic = values.pop_front().into_token(alloc).place;
+    let operands = one_operand(alloc, values.pop_front().into_operand(alloc))?;
     skip(values);
-    inst.edges = values.pop_front().into_edges(alloc).into_list();
-    boxed(alloc, inst)
+    let edges = values.pop_front().into_edges(alloc).into_list();
+    boxed(
+        alloc,
+        WrittenInst {
+            operands,
+            edges,
+            ..bare_inst(alloc, Op::SwitchEnum, mnemonic)
+        },
+    )
 }
 
 #[tactic(auto, unfolding(crate::specs::Replay::reduced, crate::specs::Meaning::meaning, sil_shape::specs::Grammar::body))]

@@ -74,9 +74,9 @@ pub(crate) fn vtable(alloc: Global, values: &mut Prepended<Value>) -> Result<Val
 }
 
 #[tactic(auto, unfolding(crate::specs::Replay::reduced, crate::specs::Meaning::meaning, sil_shape::specs::Grammar::body))]
-pub(crate) fn entry(alloc: Global, values: &mut Prepended<Value>) -> Value
+pub(crate) fn entry(alloc: Global, values: &mut Prepended<Value>) -> Result<Value, Exhausted>
     requires { 8 ≤ length values.old }
-    ensures { reduced Production.EntrySome values.old ≡ result ∷ values.new }
+    ensures { IfOk result (λ value. reduced Production.EntrySome values.old ≡ value ∷ values.new) }
 {
     skip(values);
     let owner = values.pop_front().into_token(alloc).text;
@@ -86,5 +86,5 @@ pub(crate) fn entry(alloc: Global, values: &mut Prepended<Value>) -> Value
     skip(values);
     skip(values);
     let function = values.pop_front().into_token(alloc);
-    Value::Entry(WrittenEntry { owner, function })
+    Ok(Value::Entry(Boxed::new(alloc, WrittenEntry { owner, function })?))
 }

@@ -23,10 +23,8 @@ pub(crate) fn operand(alloc: Global, values: &mut Prepended<Value>) -> Result<Va
     skip(values);
     let star = values.pop_front();
     let ty = values.pop_front().into_type(alloc).ty;
-    Ok(Value::Operand(WrittenOperand {
-        name,
-        ty: Some(starred(alloc, star, ty)?),
-    }))
+    let ty = Some(starred(alloc, star, ty)?);
+    Ok(Value::Operand(Boxed::new(alloc, WrittenOperand { name, ty })?))
 }
 
 #[tactic(auto, unfolding(crate::specs::Replay::reduced, crate::specs::Meaning::meaning, sil_shape::specs::Grammar::body))]

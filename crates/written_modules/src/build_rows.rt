@@ -45,9 +45,15 @@ pub(crate) fn over_one(
     requires { 2 ≤ length values.old }
     ensures { IfOk result (λ value. (a b : Value) × (values.old ≡ a ∷ b ∷ values.new) × (value ≡ over_one op (a ∷ b ∷ []))) }
 {
-    let mut inst = bare_inst(alloc, op, values.pop_front().into_token(alloc).place);
-    inst.operands = one_operand(alloc, values.pop_front().into_operand(alloc))?;
-    boxed(alloc, inst)
+    let mnemonic = values.pop_front().into_token(alloc).place;
+    let operands = one_operand(alloc, values.pop_front().into_operand(alloc))?;
+    boxed(
+        alloc,
+        WrittenInst {
+            operands,
+            ..bare_inst(alloc, op, mnemonic)
+        },
+    )
 }
 
 /// A mnemonic, flags and an operand.
@@ -59,12 +65,18 @@ pub(crate) fn flagged(
     requires { 3 ≤ length values.old }
     ensures { IfOk result (λ value. (a b c : Value) × (values.old ≡ a ∷ b ∷ c ∷ values.new) × (value ≡ flagged op (a ∷ b ∷ c ∷ []))) }
 {
-    let mut inst = bare_inst(alloc, op, values.pop_front().into_token(alloc).place);
+    let mnemonic = values.pop_front().into_token(alloc).place;
     let flags = values.pop_front().into_flags();
-    inst.operands = one_operand(alloc, values.pop_front().into_operand(alloc))?;
-    inst.lexical = flags.lexical;
-    inst.var_decl = flags.var_decl;
-    boxed(alloc, inst)
+    let operands = one_operand(alloc, values.pop_front().into_operand(alloc))?;
+    boxed(
+        alloc,
+        WrittenInst {
+            operands,
+            lexical: flags.lexical,
+            var_decl: flags.var_decl,
+            ..bare_inst(alloc, op, mnemonic)
+        },
+    )
 }
 
 /// A mnemonic, a qualifier and an operand.
@@ -76,10 +88,17 @@ pub(crate) fn loaded(
     requires { 3 ≤ length values.old }
     ensures { IfOk result (λ value. (a b c : Value) × (values.old ≡ a ∷ b ∷ c ∷ values.new) × (value ≡ loaded op (a ∷ b ∷ c ∷ []))) }
 {
-    let mut inst = bare_inst(alloc, op, values.pop_front().into_token(alloc).place);
-    inst.qualifier = values.pop_front().into_qualifier();
-    inst.operands = one_operand(alloc, values.pop_front().into_operand(alloc))?;
-    boxed(alloc, inst)
+    let mnemonic = values.pop_front().into_token(alloc).place;
+    let qualifier = values.pop_front().into_qualifier();
+    let operands = one_operand(alloc, values.pop_front().into_operand(alloc))?;
+    boxed(
+        alloc,
+        WrittenInst {
+            operands,
+            qualifier,
+            ..bare_inst(alloc, op, mnemonic)
+        },
+    )
 }
 
 /// `store %a to [q] %b : $*T`
@@ -91,14 +110,20 @@ pub(crate) fn stored(
     requires { 5 ≤ length values.old }
     ensures { IfOk result (λ value. (a b c d e : Value) × (values.old ≡ a ∷ b ∷ c ∷ d ∷ e ∷ values.new) × (value ≡ stored op (a ∷ b ∷ c ∷ d ∷ e ∷ []))) }
 {
-    let mut inst = bare_inst(alloc, op, values.pop_front().into_token(alloc).place);
+    let mnemonic = values.pop_front().into_token(alloc).place;
     let source = bare_operand(values.pop_front().into_token(alloc));
-    skip(values);
-    inst.qualifier = values.pop_front().into_qualifier();
     let mut operands = one_operand(alloc, source)?;
+    skip(values);
+    let qualifier = values.pop_front().into_qualifier();
     operands.push(values.pop_front().into_operand(alloc))?;
-    inst.operands = operands;
-    boxed(alloc, inst)
+    boxed(
+        alloc,
+        WrittenInst {
+            operands,
+            qualifier,
+            ..bare_inst(alloc, op, mnemonic)
+        },
+    )
 }
 
 /// A mnemonic, an operand, a comma and a member.
@@ -110,11 +135,18 @@ pub(crate) fn of_member(
     requires { 4 ≤ length values.old }
     ensures { IfOk result (λ value. (a b c d : Value) × (values.old ≡ a ∷ b ∷ c ∷ d ∷ values.new) × (value ≡ of_member op (a ∷ b ∷ c ∷ d ∷ []))) }
 {
-    let mut inst = bare_inst(alloc, op, values.pop_front().into_token(alloc).place);
-    inst.operands = one_operand(alloc, values.pop_front().into_operand(alloc))?;
+    let mnemonic = values.pop_front().into_token(alloc).place;
+    let operands = one_operand(alloc, values.pop_front().into_operand(alloc))?;
     skip(values);
-    inst.member = Some(values.pop_front().into_member(alloc));
-    boxed(alloc, inst)
+    let member = values.pop_front().into_member(alloc);
+    boxed(
+        alloc,
+        WrittenInst {
+            operands,
+            member: Some(member),
+            ..bare_inst(alloc, op, mnemonic)
+        },
+    )
 }
 
 /// A mnemonic, an operand, a comma and the number of an element.
@@ -126,11 +158,18 @@ pub(crate) fn of_element(
     requires { 4 ≤ length values.old }
     ensures { IfOk result (λ value. (a b c d : Value) × (values.old ≡ a ∷ b ∷ c ∷ d ∷ values.new) × (value ≡ of_element op (a ∷ b ∷ c ∷ d ∷ []))) }
 {
-    let mut inst = bare_inst(alloc, op, values.pop_front().into_token(alloc).place);
-    inst.operands = one_operand(alloc, values.pop_front().into_operand(alloc))?;
+    let mnemonic = values.pop_front().into_token(alloc).place;
+    let operands = one_operand(alloc, values.pop_front().into_operand(alloc))?;
     skip(values);
-    inst.number = element_number(values.pop_front().into_token(alloc).text.as_slice());
-    boxed(alloc, inst)
+    let number = element_number(values.pop_front().into_token(alloc).text.as_slice());
+    boxed(
+        alloc,
+        WrittenInst {
+            operands,
+            number,
+            ..bare_inst(alloc, op, mnemonic)
+        },
+    )
 }
 
 /// The number of an element, from 0 to 63.

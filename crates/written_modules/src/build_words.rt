@@ -3,6 +3,7 @@
 ghost use Rattle.std.specs.Prelude.{◌≡◌, [], ◌∷◌, ◌≤◌, length};
 ghost use Rattle.sil_shape.specs.declared.grammar.Production.{Production};
 ghost use Rattle.written_modules.specs.Replay.{reduced};
+ghost use Rattle.written_modules.specs.Meaning as meant;
 ghost use Rattle.written_modules.specs.Meaning.{qualified};
 
 use crate::nothing::{no_debug, skip};
@@ -13,6 +14,12 @@ use sil_ast::{Binding, Qualifier};
 use sil_shape::grammar::Production;
 use std::alloc::Global;
 use written_numbers::small_number;
+
+pub(crate) fn flags(lexical: bool, var_decl: bool) -> Value
+    ensures { result ≡ meant.flags lexical var_decl }
+{
+    Value::Flags(Flags { lexical, var_decl })
+}
 
 #[tactic(auto, unfolding(crate::specs::Replay::reduced, crate::specs::Meaning::meaning, sil_shape::specs::Grammar::body))]
 pub(crate) fn lexical_first(values: &mut Prepended<Value>) -> Value

@@ -23,7 +23,7 @@ pub(crate) enum Value {
     Items(Prepended<WrittenItem>),
     Item(Boxed<WrittenItem>),
     Fields(Prepended<WrittenField>),
-    Field(WrittenField),
+    Field(Boxed<WrittenField>),
     Cases(Prepended<WrittenCase>),
     Type(WrittenType),
     Types(TypeList),
@@ -42,7 +42,7 @@ pub(crate) enum Value {
     Blocks(Prepended<WrittenBlock>),
     Block(Boxed<WrittenBlock>),
     Args(Prepended<WrittenArg>),
-    Arg(WrittenArg),
+    Arg(Boxed<WrittenArg>),
     /// How a block's argument is annotated.
     Ownership(ArgKind),
     /// The `*` before a type.
@@ -51,14 +51,14 @@ pub(crate) enum Value {
     Code(Prepended<WrittenInst>, Boxed<WrittenInst>),
     Inst(Boxed<WrittenInst>),
     Operands(Prepended<WrittenOperand>),
-    Operand(WrittenOperand),
+    Operand(Boxed<WrittenOperand>),
     Edges(Prepended<WrittenEdge>),
     Edge(Boxed<WrittenEdge>),
     Member(Member),
     Flags(Flags),
     Qualifier(WrittenQualifier),
     Debug(Debug),
-    Entry(WrittenEntry),
+    Entry(Boxed<WrittenEntry>),
     Module(WrittenModule),
 }
 

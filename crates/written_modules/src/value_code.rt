@@ -1,6 +1,6 @@
 //! Takes out of a value of a block or an instruction what stands in it.
 
-ghost use Rattle.std.specs.Prelude.{◌≡◌};
+ghost use Rattle.std.specs.Prelude.{◌≡◌, IfOk};
 ghost use Rattle.written_modules.specs.Values.{blocks_of, block_of, args_of, arg_of, ownership_of, inst_of, operands_of, operand_of, edges_of, edge_of, member_of, flags_of, qualifier_of, debug_of, entry_of, insts_of, terminator_of};
 
 use crate::nothing::{discard, no_debug, no_inst, no_qualifier, no_token, unit_type};
@@ -9,21 +9,24 @@ use crate::value::{Flags, Value};
 use crate::written_functions::{WrittenArg, WrittenBlock};
 use crate::written_instructions::{WrittenEdge, WrittenInst, WrittenOperand, WrittenQualifier};
 use crate::written_module::WrittenEntry;
-use sil_ast::{ArgKind, Debug, List, Member, Text};
+use sil_ast::{ArgKind, Boxed, Debug, Exhausted, List, Member, Text};
 use std::alloc::Global;
 
 impl Value {
     /// The instructions, and the terminator behind them.
     #[tactic(auto, unfolding(crate::specs::Values::insts_of, crate::specs::Values::terminator_of))]
-    pub(crate) fn into_code(self, alloc: Global) -> (Prepended<WrittenInst>, WrittenInst)
-        ensures insts { result.0 ≡ insts_of self }
-        ensures terminator { result.1 ≡ terminator_of self }
+    pub(crate) fn into_code(
+        self,
+        alloc: Global,
+    ) -> Result<(Prepended<WrittenInst>, Boxed<WrittenInst>), Exhausted>
+        ensures insts { IfOk result (λ code. code.0 ≡ insts_of self) }
+        ensures terminator { IfOk result (λ code. code.1 ≡ terminator_of self) }
     {
         match self {
-            Value::Code(insts, terminator) => (insts, terminator.into_inner()),
+            Value::Code(insts, terminator) => Ok((insts, terminator)),
             other => {
                 discard(other);
-                (Prepended::new(alloc), no_inst(alloc))
+                Ok((Prepended::new(alloc), Boxed::new(alloc, no_inst(alloc))?))
             }
         }
     }
@@ -77,7 +80,7 @@ impl Value {
         ensures { result ≡ arg_of self }
     {
         match self {
-            Value::Arg(kept) => kept,
+            Value::Arg(kept) => kept.into_inner(),
             other => {
                 discard(other);
                 WrittenArg {
@@ -98,6 +101,19 @@ impl Value {
             other => {
                 discard(other);
                 ArgKind::Plain
+            }
+        }
+    }
+
+    #[tactic(auto, unfolding(crate::specs::Values::inst_of))]
+    pub(crate) fn into_boxed_inst(self, alloc: Global) -> Result<Boxed<WrittenInst>, Exhausted>
+        ensures { IfOk result (λ inst. inst ≡ inst_of self) }
+    {
+        match self {
+            Value::Inst(kept) => Ok(kept),
+            other => {
+                discard(other);
+                Boxed::new(alloc, no_inst(alloc))
             }
         }
     }
@@ -133,7 +149,7 @@ impl Value {
         ensures { result ≡ operand_of self }
     {
         match self {
-            Value::Operand(kept) => kept,
+            Value::Operand(kept) => kept.into_inner(),
             other => {
                 discard(other);
                 WrittenOperand {
@@ -237,7 +253,7 @@ impl Value {
         ensures { result ≡ entry_of self }
     {
         match self {
-            Value::Entry(kept) => Some(kept),
+            Value::Entry(kept) => Some(kept.into_inner()),
             other => {
                 discard(other);
                 None

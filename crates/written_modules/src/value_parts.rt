@@ -104,7 +104,7 @@ impl Value {
         ensures { result ≡ field_of self }
     {
         match self {
-            Value::Field(kept) => kept,
+            Value::Field(kept) => kept.into_inner(),
             other => {
                 discard(other);
                 WrittenField {
