@@ -1,5 +1,5 @@
 -- What the printer and the grammar ask of an instruction: the bullets of numbered form, for one instruction of a function.
-use Rattle.std.proofs.Common.{ℕ, ◌<◌, List, length, IfSome}
+use Rattle.std.proofs.Common.{◌<◌, List, length, IfSome}
 use Rattle.sil_ast.specs.declared.function.Function.{Function}
 use Rattle.sil_ast.specs.declared.inst.Edge.{Edge}
 use Rattle.sil_ast.specs.declared.inst.Inst.{Inst}

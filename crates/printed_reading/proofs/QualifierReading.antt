@@ -5,7 +5,7 @@ use Rattle.sil_ast.specs.declared.inst.Qualifier.TheVariants as q
 use Rattle.sil_printer.specs.CanonicalInsts.{qualifier_text}
 use Rattle.sil_printer.specs.Words.{if_set}
 use Rattle.sil_shape.specs.Accepts.{accepts, class_number, keyword_number, mark_number}
-use Rattle.sil_shape.specs.Grammar.{body, word, written}
+use Rattle.sil_shape.specs.Grammar.{body, written}
 use Rattle.sil_shape.specs.Spelling.{keyword_of, keywords_of_length, known_keyword, mark_of, mark_spelling, marks, spelling}
 use Rattle.sil_shape.specs.declared.grammar.Nonterminal.{Nonterminal}
 use Rattle.sil_shape.specs.declared.grammar.Nonterminal.TheVariants as n

@@ -1,5 +1,4 @@
 -- What is printed is spelled.
-use Rattle.std.proofs.Common.{◌≡◌}
 use Rattle.sil_printer.specs.CanonicalModules.{canonical_text}
 use Rattle.printed_reading.specs.Laws.{ArePrintedSpelled}
 use Rattle.printed_reading.proofs.ModuleReading.{module_reads}

@@ -3,11 +3,9 @@ use Rattle.std.proofs.Common.{◌≡◌, ◌<◌, List, [], ◌∷◌, ◌++◌,
 use Rattle.std.specs.List.{AllZip}
 use Rattle.std.specs.Option.{option_map, option_to_list}
 use Rattle.std.proofs.lemmas.Grind.{flat_map-append}
-use Rattle.sil_ast.specs.declared.decl.Decl.{Decl}
 use Rattle.sil_ast.specs.declared.function.Function.{Function}
 use Rattle.sil_ast.specs.declared.module.Module.{Module}
 use Rattle.sil_ast.specs.declared.vtable.DeinitEntry.{DeinitEntry}
-use Rattle.sil_ast.specs.declared.vtable.Vtable.{Vtable}
 use Rattle.written_modules.specs.declared.written_declarations.WrittenDecl.{WrittenDecl}
 use Rattle.written_modules.specs.declared.written_module.WrittenEntry.{WrittenEntry}
 use Rattle.written_modules.specs.declared.written_module.WrittenItem.{WrittenItem}

@@ -1,7 +1,6 @@
 -- A row of the table of instructions: its text, the values that it reads as, and the parts that it has.
 use Rattle.std.proofs.Common.{◌≡◌, ℕ, List, [], ◌++◌, Option, None, false}
 use Rattle.sil_ast.specs.Forms.{mnemonic_of, parts_of}
-use Rattle.sil_ast.specs.declared.forms.Part.TheVariants as part
 use Rattle.sil_ast.specs.declared.function.Function.{Function}
 use Rattle.sil_ast.specs.declared.inst.Inst.{Inst}
 use Rattle.sil_ast.specs.declared.inst.Qualifier.TheVariants as qualifier

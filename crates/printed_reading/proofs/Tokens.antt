@@ -1,5 +1,5 @@
 -- One token in front of a piece, for each kind.
-use Rattle.std.proofs.Common.{◌≡◌, ℕ, suc, ◌-◌, ◌^◌, ◌<◌, ◌≤◌, List, [], ◌∷◌, ◌++◌, length, Bool, true, false, IsTrue, IsFalse, refl, ap, sym, subst, ◌∙◌, arith, decimal, true≢false}
+use Rattle.std.proofs.Common.{◌≡◌, ℕ, suc, ◌-◌, ◌^◌, ◌<◌, ◌≤◌, List, [], ◌∷◌, ◌++◌, length, true, false, IsTrue, IsFalse, refl, ap, sym, subst, ◌∙◌, arith, decimal, true≢false}
 use Rattle.std.proofs.Math.Seq.{take-append_seam}
 use Rattle.std.proofs.lemmas.Bool.Decides.{nat_tests}
 use Rattle.std.proofs.lemmas.Fmt.{decimal_nonempty, digits_decimal, length-decimal-le}
@@ -12,8 +12,8 @@ use Rattle.std.specs.Str.Parse.{AllDigits}
 use lib.Signed.{mag}
 use Rattle.std.specs.List.{list_all}
 use Rattle.std.specs.Fmt.{signed_decimal}
-use Rattle.sil_lexer.specs.Bytes.{is_mark, is_name_byte, is_text_byte, is_word_start}
-use Rattle.sil_lexer.specs.Spelling.{IsSpelled, Spells, Spells as spells, begins_with, continues, name_length}
+use Rattle.sil_lexer.specs.Bytes.{is_mark, is_name_byte, is_word_start}
+use Rattle.sil_lexer.specs.Spelling.{Spells, Spells as spells, begins_with, continues, name_length}
 use Rattle.sil_lexer.specs.declared.token.TokenKind.TheVariants as kind
 use Rattle.sil_shape.specs.declared.classes.Class.TheVariants as c
 use Rattle.sil_shape.specs.declared.grammar.Symbol.{Symbol}
@@ -23,7 +23,7 @@ use Rattle.sil_shape.specs.Accepts.{accepts, class_number}
 use Rattle.sil_shape.specs.BuiltinNames.{is_builtin_name}
 use Rattle.sil_shape.specs.Derivation.{Accepts}
 use Rattle.sil_shape.specs.Spelling.{at_word_of, keyword_of, mark_of}
-use Rattle.written_modules.specs.Meaning.{kept_of, leaf_of}
+use Rattle.written_modules.specs.Meaning.{leaf_of}
 use Rattle.written_modules.specs.Opened.{PartValue}
 use Rattle.written_numbers.specs.Numbers.{next_number, number_of}
 use Rattle.numbered_form.specs.Names.{is_at_name, is_quotable, is_short, is_word}

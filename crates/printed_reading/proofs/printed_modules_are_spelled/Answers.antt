@@ -1,8 +1,5 @@
 -- For the law `printed_modules_are_spelled`.
 use Rattle.printed_reading.proofs.ReadBack.{printed_spelled}
-use Rattle.printed_reading.proofs.TypeReading.{payload_reads}
-use Rattle.printed_reading.proofs.SignatureReading.{signature_reads}
-use Rattle.printed_reading.proofs.InstReading.{inst_reads}
 use Rattle.printed_reading.proofs.printed_modules_are_spelled.Goals as goal
 
 pub returns : goal.returns
