@@ -1,6 +1,6 @@
 //! Functions with as many blocks, instructions and values as they may have, and with one more.
 
-use crate::patterns::{
+use command_tests::patterns::{
     Counted, Limited, NO_HEAD, NO_VALUE, ONE_VALUE, assert_counted, assert_limits,
 };
 use std::test::Fail;
