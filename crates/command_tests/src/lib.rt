@@ -2,14 +2,13 @@
 #![tactic(auto)]
 
 pub mod call;
-pub mod patterns;
-
 #[cfg(test)]
 mod faults;
 #[cfg(test)]
 mod modules;
 #[cfg(test)]
 mod names;
+pub mod patterns;
 #[cfg(test)]
 mod printing;
 #[cfg(test)]
