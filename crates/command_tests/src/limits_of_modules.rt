@@ -1,6 +1,6 @@
 //! Modules with as many declarations and functions as they may have, and with one more.
 
-use command_tests::patterns::{Counted, Limited, NO_HEAD, assert_counted, assert_limits};
+use crate::patterns::{Counted, Limited, NO_HEAD, assert_counted, assert_limits};
 use std::test::Fail;
 
 const DECLARATIONS_LIMITS: [Limited; 1] = [

@@ -1,8 +1,6 @@
 //! Lists and declarations with as many parts as they may have, and with one more.
 
-use command_tests::patterns::{
-    Counted, Limited, NO_HEAD, ONE_VALUE, assert_counted, assert_limits,
-};
+use crate::patterns::{Counted, Limited, NO_HEAD, ONE_VALUE, assert_counted, assert_limits};
 use std::test::Fail;
 
 const ARGUMENTS_LIMITS: [Limited; 11] = [

@@ -1,8 +1,6 @@
 //! Numbers in their range and out of it.
 
-use command_tests::patterns::{
-    Answered, Counted, NO_VALUE, ONE_VALUE, assert_counted, assert_texts,
-};
+use crate::patterns::{Answered, Counted, NO_VALUE, ONE_VALUE, assert_counted, assert_texts};
 use std::test::Fail;
 
 const NUMBERS_COUNTED_WITHOUT_VALUE: [Counted; 3] = [

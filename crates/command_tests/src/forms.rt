@@ -1,6 +1,6 @@
 //! Texts that are read, with parts that leave no trace in the module, and with parts that make it one which isn't simple.
 
-use command_tests::patterns::{Answered, NO_HEAD, NO_VALUE, assert_texts};
+use crate::patterns::{Answered, NO_HEAD, NO_VALUE, assert_texts};
 use std::test::Fail;
 
 const DROPPED_TEXTS: [Answered; 17] = [

@@ -1,6 +1,6 @@
 //! Functions with as many blocks, instructions and values as they may have, and with one more.
 
-use command_tests::patterns::{
+use crate::patterns::{
     Counted, Limited, NO_HEAD, NO_VALUE, ONE_VALUE, assert_counted, assert_limits,
 };
 use std::test::Fail;

@@ -1,6 +1,6 @@
 //! Types with as many levels as they may have, and with one more.
 
-use command_tests::patterns::{Counted, Limited, NO_HEAD, assert_counted, assert_limits};
+use crate::patterns::{Counted, Limited, NO_HEAD, assert_counted, assert_limits};
 use std::test::Fail;
 
 const DEPTH_LIMITS: [Limited; 17] = [

@@ -1,8 +1,6 @@
 //! Texts with two faults, of which the first in the text is told.
 
-use command_tests::patterns::{
-    Answered, Counted, NO_HEAD, ONE_VALUE, assert_counted, assert_texts,
-};
+use crate::patterns::{Answered, Counted, NO_HEAD, ONE_VALUE, assert_counted, assert_texts};
 use std::test::Fail;
 
 const TWO_COUNTED: [Counted; 4] = [
