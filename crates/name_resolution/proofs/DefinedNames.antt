@@ -7,10 +7,10 @@ use Rattle.std.specs.Cmp.Lexicographic.{bytes_decides}
 use Rattle.std.proofs.lemmas.List.{append-nil}
 use Rattle.std.proofs.lemmas.List.Folds.{list_any-append}
 use Rattle.indexmap.specs.IndexSet.{insert_key}
-use Rattle.written_modules.specs.declared.fault.Fault.{Fault}
-use Rattle.written_modules.specs.declared.fault.FaultKind.TheVariants.{Twice, UnknownName}
-use Rattle.written_modules.specs.declared.written_declarations.WrittenToken.{WrittenToken}
-use Rattle.written_modules.specs.Faults.{earlier, earliest, fault}
+use Rattle.written_tree.specs.declared.fault.Fault.{Fault}
+use Rattle.written_tree.specs.declared.fault.FaultKind.TheVariants.{Twice, UnknownName}
+use Rattle.written_tree.specs.declared.written_declarations.WrittenToken.{WrittenToken}
+use Rattle.written_tree.specs.Faults.{earlier, earliest, fault}
 use Rattle.name_resolution.specs.Defined.{Defined, reserved_only, twice_here, unknown_of, with_token, with_tokens}
 use Rattle.name_resolution.specs.NameFaults.{is_among, twice_after, unknown_in}
 use Rattle.name_resolution.specs.Names.{Name, name_of}

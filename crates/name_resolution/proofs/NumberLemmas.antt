@@ -8,7 +8,7 @@ use Rattle.std.specs.Str.{bytes_eq}
 use Rattle.std.specs.Cmp.Lexicographic.{bytes_decides}
 use Rattle.std.proofs.lemmas.Iterator.Adapters.{position_from-zero}
 use Rattle.indexmap.specs.IndexMap.{insert_entry}
-use Rattle.written_modules.specs.declared.written_declarations.WrittenToken.{WrittenToken}
+use Rattle.written_tree.specs.declared.written_declarations.WrittenToken.{WrittenToken}
 use Rattle.name_resolution.specs.Names.{Name, name_of}
 use Rattle.name_resolution.specs.Numbered.{Numbered, named, nothing_numbered, number_in, with_entry, with_value, with_values}
 use Rattle.name_resolution.specs.Resolved.{has_name}

@@ -6,9 +6,9 @@ use Rattle.std.proofs.lemmas.Grind.{flat_map-append}
 use Rattle.std.proofs.lemmas.List.{append-nil, length-take-le, map-append, take_more}
 use Rattle.sil_ast.specs.declared.function.Block.{Block}
 use Rattle.sil_ast.specs.declared.place.ValueId.{ValueId}
-use Rattle.written_modules.specs.declared.written_functions.WrittenArg.{WrittenArg}
-use Rattle.written_modules.specs.declared.written_functions.WrittenBlock.{WrittenBlock}
-use Rattle.written_modules.specs.declared.written_instructions.WrittenInst.{WrittenInst}
+use Rattle.written_tree.specs.declared.written_functions.WrittenArg.{WrittenArg}
+use Rattle.written_tree.specs.declared.written_functions.WrittenBlock.{WrittenBlock}
+use Rattle.written_tree.specs.declared.written_instructions.WrittenInst.{WrittenInst}
 use Rattle.name_resolution.specs.Names.{Name}
 use Rattle.name_resolution.specs.Resolved.{Scope, counted, defined_by_inst, defined_in, resolved_args, resolved_block, resolved_blocks, resolved_inst, resolved_insts}
 

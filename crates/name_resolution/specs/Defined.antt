@@ -2,10 +2,10 @@
 use Rattle.std.specs.Prelude.{ℕ, List, [], ◌∷◌, ◌++◌, Option, Some, None, Bool, if◌then◌else◌, fold, map}
 use Rattle.std.specs.Str.{bytes_eq}
 use Rattle.indexmap.specs.IndexSet.{insert_key}
-use Rattle.written_modules.specs.declared.fault.Fault.{Fault}
-use Rattle.written_modules.specs.declared.fault.FaultKind.TheVariants.{Twice, UnknownName}
-use Rattle.written_modules.specs.declared.written_declarations.WrittenToken.{WrittenToken}
-use Rattle.written_modules.specs.Faults.{earlier, earliest, fault}
+use Rattle.written_tree.specs.declared.fault.Fault.{Fault}
+use Rattle.written_tree.specs.declared.fault.FaultKind.TheVariants.{Twice, UnknownName}
+use Rattle.written_tree.specs.declared.written_declarations.WrittenToken.{WrittenToken}
+use Rattle.written_tree.specs.Faults.{earlier, earliest, fault}
 use Rattle.name_resolution.specs.Names.{Name}
 use Rattle.name_resolution.specs.NameFaults.{is_among, unknown_in}
 

@@ -3,13 +3,13 @@ use Rattle.std.specs.Prelude.{ℕ, List, [], ◌∷◌, ◌++◌, Option, Some, 
 use Rattle.std.specs.List.{flat_map, list_any}
 use Rattle.std.specs.Str.{bytes_eq}
 use Rattle.sil_ast.specs.declared.place.Place.{Place}
-use Rattle.written_modules.specs.declared.fault.Fault.{Fault}
-use Rattle.written_modules.specs.declared.fault.FaultKind.TheVariants.{Twice, UnknownName}
-use Rattle.written_modules.specs.declared.written_declarations.WrittenDecl.{WrittenDecl}
-use Rattle.written_modules.specs.declared.written_declarations.WrittenToken.{WrittenToken}
-use Rattle.written_modules.specs.declared.written_functions.WrittenFunction.{WrittenFunction}
-use Rattle.written_modules.specs.declared.written_module.WrittenModule.{WrittenModule}
-use Rattle.written_modules.specs.Faults.{earlier, earliest, fault}
+use Rattle.written_tree.specs.declared.fault.Fault.{Fault}
+use Rattle.written_tree.specs.declared.fault.FaultKind.TheVariants.{Twice, UnknownName}
+use Rattle.written_tree.specs.declared.written_declarations.WrittenDecl.{WrittenDecl}
+use Rattle.written_tree.specs.declared.written_declarations.WrittenToken.{WrittenToken}
+use Rattle.written_tree.specs.declared.written_functions.WrittenFunction.{WrittenFunction}
+use Rattle.written_tree.specs.declared.written_module.WrittenModule.{WrittenModule}
+use Rattle.written_tree.specs.Faults.{earlier, earliest, fault}
 use Rattle.name_resolution.specs.Names.{Name, decl_name, decls_of, edge_label, function_name, functions_of, insts_of, label_of, labels_used, member_names, name_of, reserved, used_by_item, values_defined, values_used, vtable_name, vtables_of}
 
 -- whether a name stands among these

@@ -1,6 +1,6 @@
 -- What a refusal of `resolve` says.
 use Rattle.std.specs.Prelude.{◌≡◌, ⊤, Some}
-use Rattle.written_modules.specs.declared.written_module.WrittenModule.{WrittenModule}
+use Rattle.written_tree.specs.declared.written_module.WrittenModule.{WrittenModule}
 use Rattle.name_resolution.specs.declared.refusal.NameRefusal.{NameRefusal}
 use Rattle.name_resolution.specs.declared.refusal.NameRefusal.TheVariants.{Name, Memory}
 use Rattle.name_resolution.specs.NameFaults.{name_fault}

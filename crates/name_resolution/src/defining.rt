@@ -8,7 +8,7 @@ ghost use Rattle.name_resolution.specs.Names.{arg_name, case_name, decl_name, de
 use crate::definitions::Definitions;
 use sil_ast::{Exhausted, Imports};
 use std::alloc::Global;
-use written_modules::{
+use written_tree::{
     WrittenArg, WrittenBlock, WrittenCase, WrittenDecl, WrittenField, WrittenInst, WrittenItem,
     WrittenToken,
 };

@@ -6,7 +6,7 @@ use indexmap::IndexSet;
 use sil_ast::{Exhausted, Imports, Text, TryClone};
 use std::alloc::Global;
 use std::marker::Model;
-use written_modules::{Fault, FaultKind, WrittenToken, earlier};
+use written_tree::{Fault, FaultKind, WrittenToken, earlier};
 
 /// Names, and the first token whose name stood before.
 #[derive(Drop)]

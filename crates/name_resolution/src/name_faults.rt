@@ -2,7 +2,7 @@
 
 ghost use Rattle.std.specs.Prelude.{◌≡◌, map, IfOk};
 ghost use Rattle.std.specs.List.{flat_map};
-ghost use Rattle.written_modules.specs.Faults.{earliest};
+ghost use Rattle.written_tree.specs.Faults.{earliest};
 ghost use Rattle.name_resolution.specs.NameFaults.{function_fault, members_fault, name_fault};
 ghost use Rattle.name_resolution.specs.Names.{decls_of, functions_of};
 
@@ -13,7 +13,7 @@ use crate::defining::{
 use crate::using::{Labels, ValueNames, unknown_functions, unknown_in_blocks};
 use sil_ast::Exhausted;
 use std::alloc::Global;
-use written_modules::{Fault, WrittenDecl, WrittenFunction, WrittenItem, WrittenModule, earlier};
+use written_tree::{Fault, WrittenDecl, WrittenFunction, WrittenItem, WrittenModule, earlier};
 
 #[tactic(auto, using(std::proofs::lemmas::Grind::common_steps, crate::proofs::FaultOrder::earlier_none, crate::proofs::DefinedNames::twice_of_tokens, crate::proofs::DefinedNames::unknown_of_tokens), unfolding(crate::specs::NameFaults::name_fault))]
 pub(crate) fn name_fault(alloc: Global, w: &WrittenModule) -> Result<Option<Fault>, Exhausted>

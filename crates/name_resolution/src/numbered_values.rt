@@ -9,7 +9,7 @@ ghost use Rattle.name_resolution.specs.Resolved.{defined_by, defined_by_arg, def
 use crate::numbering::Numbering;
 use sil_ast::Exhausted;
 use std::alloc::Global;
-use written_modules::{
+use written_tree::{
     WrittenArg, WrittenBlock, WrittenInst, WrittenItem, WrittenToken, has_one_result,
 };
 

@@ -5,7 +5,7 @@ ghost use Rattle.name_resolution.specs.declared.refusal.NameRefusal.TheVariants.
 
 use sil_ast::Exhausted;
 use thiserror::Error;
-use written_modules::Fault;
+use written_tree::Fault;
 
 /// Why a written module stands for no module.
 #[derive(Clone, Copy, Debug, PartialEq, Eq, Error)]

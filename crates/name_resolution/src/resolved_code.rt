@@ -13,7 +13,7 @@ use sil_ast::{
     ValueId,
 };
 use std::alloc::Global;
-use written_modules::{
+use written_tree::{
     WrittenArg, WrittenBlock, WrittenEdge, WrittenInst, WrittenOperand, WrittenToken,
 };
 

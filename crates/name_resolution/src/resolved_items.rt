@@ -3,7 +3,7 @@
 ghost use Rattle.std.specs.Prelude.{◌≡◌, List, filter, map, IfOk};
 ghost use Rattle.std.specs.List.{flat_map, list_any};
 ghost use Rattle.std.specs.Option.{option_map};
-ghost use Rattle.written_modules.specs.Places.{is_kept, is_ossa};
+ghost use Rattle.written_tree.specs.Places.{is_kept, is_ossa};
 ghost use Rattle.name_resolution.specs.Names.{Name, decls_of, functions_of, name_of, vtables_of};
 ghost use Rattle.name_resolution.specs.Resolved.{form_of, resolved_case, resolved_decl, resolved_entry, resolved_field, resolved_function, resolved_vtable};
 ghost use Rattle.name_resolution.specs.Tables.{FindsNames};
@@ -15,7 +15,7 @@ use sil_ast::{
     Case, Decl, DeinitEntry, Exhausted, Field, Form, FuncId, Function, List, Text, TryClone, Vtable,
 };
 use std::alloc::Global;
-use written_modules::{
+use written_tree::{
     WrittenBlock, WrittenCase, WrittenDecl, WrittenEntry, WrittenField, WrittenFunction,
     WrittenItem, WrittenToken, WrittenVtable,
 };

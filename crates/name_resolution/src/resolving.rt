@@ -11,7 +11,7 @@ use crate::refusal::NameRefusal;
 use crate::resolved_items::{resolve_decls, resolve_functions, resolve_vtables};
 use sil_ast::{Exhausted, Module};
 use std::alloc::Global;
-use written_modules::WrittenModule;
+use written_tree::WrittenModule;
 
 /// The module that `w` stands for, with numbers for its names.
 pub fn resolve(alloc: Global, w: &WrittenModule) -> Result<Module, NameRefusal>

@@ -2,13 +2,13 @@
 
 ghost use Rattle.std.specs.Prelude.{◌≡◌, map, List};
 ghost use Rattle.std.specs.List.{flat_map};
-ghost use Rattle.written_modules.specs.declared.written_declarations.WrittenToken.{WrittenToken};
-ghost use Rattle.written_modules.specs.declared.written_instructions.WrittenInst.{WrittenInst};
+ghost use Rattle.written_tree.specs.declared.written_declarations.WrittenToken.{WrittenToken};
+ghost use Rattle.written_tree.specs.declared.written_instructions.WrittenInst.{WrittenInst};
 ghost use Rattle.name_resolution.specs.Defined.{unknown_of};
 ghost use Rattle.name_resolution.specs.Names.{code_of, edge_label, edge_values, functions_used, labels_used, operand_name, used_by_item, values_used};
 
 use crate::definitions::Definitions;
-use written_modules::{
+use written_tree::{
     Fault, WrittenBlock, WrittenEdge, WrittenInst, WrittenItem, WrittenOperand, earlier,
 };
 

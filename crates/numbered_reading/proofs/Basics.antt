@@ -4,10 +4,10 @@ use Rattle.std.specs.List.{list_all}
 use Rattle.std.specs.Option.{option_map}
 use Rattle.std.proofs.lemmas.List.{length-map}
 use Rattle.sil_ast.specs.declared.place.Place.{Place}
-use Rattle.written_modules.specs.declared.fault.Fault.{Fault}
-use Rattle.written_modules.specs.declared.fault.LimitWord.{LimitWord}
-use Rattle.written_modules.specs.declared.fault.FaultKind.TheVariants.{Limit}
-use Rattle.written_modules.specs.Faults.{comes_before, earlier, fault, passed}
+use Rattle.written_tree.specs.declared.fault.Fault.{Fault}
+use Rattle.written_tree.specs.declared.fault.LimitWord.{LimitWord}
+use Rattle.written_tree.specs.declared.fault.FaultKind.TheVariants.{Limit}
+use Rattle.written_tree.specs.Faults.{comes_before, earlier, fault, passed}
 use Rattle.numbered_form.specs.Lists.{Each}
 
 pub both : (a b : Bool) → a ≡ true → b ≡ true → (a && b) ≡ true

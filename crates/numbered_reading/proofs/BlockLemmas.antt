@@ -4,11 +4,11 @@ use Rattle.sil_ast.specs.declared.function.Block.{Block}
 use Rattle.sil_ast.specs.declared.inst.Inst.{Inst}
 use Rattle.sil_ast.specs.declared.op.Op.{Op}
 use Rattle.sil_ast.specs.declared.op.Op.TheVariants as op
-use Rattle.written_modules.specs.declared.written_declarations.WrittenToken.{WrittenToken}
-use Rattle.written_modules.specs.declared.written_functions.WrittenArg.{WrittenArg}
-use Rattle.written_modules.specs.declared.written_functions.WrittenBlock.{WrittenBlock}
-use Rattle.written_modules.specs.declared.written_instructions.WrittenInst.{WrittenInst}
-use Rattle.written_modules.specs.Places.{has_one_result}
+use Rattle.written_tree.specs.declared.written_declarations.WrittenToken.{WrittenToken}
+use Rattle.written_tree.specs.declared.written_functions.WrittenArg.{WrittenArg}
+use Rattle.written_tree.specs.declared.written_functions.WrittenBlock.{WrittenBlock}
+use Rattle.written_tree.specs.declared.written_instructions.WrittenInst.{WrittenInst}
+use Rattle.written_tree.specs.Places.{has_one_result}
 use Rattle.name_resolution.specs.Resolved.{Scope, counted, defined_by, defined_by_inst, defined_in, resolved_args, resolved_block, resolved_blocks, resolved_inst, resolved_insts}
 use Rattle.numbered_form.specs.Lists.{Each}
 use Rattle.numbered_form.specs.Insts.{EachInBlock}

@@ -8,13 +8,13 @@ use Rattle.sil_ast.specs.declared.function.Form.TheVariants.{External, Lowered, 
 use Rattle.sil_ast.specs.declared.function.Function.{Function}
 use Rattle.sil_ast.specs.declared.function.Block.{Block}
 use Rattle.sil_ast.specs.declared.inst.Inst.{Inst}
-use Rattle.written_modules.specs.declared.written_declarations.WrittenDecl.{WrittenDecl}
-use Rattle.written_modules.specs.declared.written_declarations.WrittenToken.{WrittenToken}
-use Rattle.written_modules.specs.declared.written_functions.WrittenBlock.{WrittenBlock}
-use Rattle.written_modules.specs.declared.written_functions.WrittenFunction.{WrittenFunction}
-use Rattle.written_modules.specs.declared.written_module.WrittenEntry.{WrittenEntry}
-use Rattle.written_modules.specs.declared.written_module.WrittenModule.{WrittenModule}
-use Rattle.written_modules.specs.Places.{is_kept, is_ossa}
+use Rattle.written_tree.specs.declared.written_declarations.WrittenDecl.{WrittenDecl}
+use Rattle.written_tree.specs.declared.written_declarations.WrittenToken.{WrittenToken}
+use Rattle.written_tree.specs.declared.written_functions.WrittenBlock.{WrittenBlock}
+use Rattle.written_tree.specs.declared.written_functions.WrittenFunction.{WrittenFunction}
+use Rattle.written_tree.specs.declared.written_module.WrittenEntry.{WrittenEntry}
+use Rattle.written_tree.specs.declared.written_module.WrittenModule.{WrittenModule}
+use Rattle.written_tree.specs.Places.{is_kept, is_ossa}
 use Rattle.name_resolution.specs.Names.{Name, decls_of, functions_of, name_of, vtables_of}
 use Rattle.name_resolution.specs.Resolved.{Scope, form_of, resolved, resolved_blocks, resolved_decl, resolved_entry, resolved_function, resolved_vtable, scope_of}
 use Rattle.numbered_form.specs.Lists.{Each}

@@ -17,24 +17,24 @@ use Rattle.sil_shape.specs.declared.grammar.Symbol.{Symbol}
 use Rattle.sil_shape.specs.declared.grammar.Symbol.TheVariants.{Read, Part}
 use Rattle.sil_shape.specs.declared.grammar.Terminal.{Terminal}
 use Rattle.sil_shape.specs.declared.grammar.Terminal.TheVariants as t
-use Rattle.written_modules.specs.declared.written_declarations.WrittenCase.{WrittenCase}
-use Rattle.written_modules.specs.declared.written_declarations.WrittenField.{WrittenField}
-use Rattle.written_modules.specs.declared.written_declarations.WrittenToken.{WrittenToken}
-use Rattle.written_modules.specs.declared.written_functions.WrittenArg.{WrittenArg}
-use Rattle.written_modules.specs.declared.written_functions.WrittenBlock.{WrittenBlock}
-use Rattle.written_modules.specs.declared.written_functions.WrittenFunction.{WrittenFunction}
-use Rattle.written_modules.specs.declared.written_instructions.WrittenEdge.{WrittenEdge}
-use Rattle.written_modules.specs.declared.written_instructions.WrittenInst.{WrittenInst}
-use Rattle.written_modules.specs.declared.written_instructions.WrittenOperand.{WrittenOperand}
-use Rattle.written_modules.specs.declared.written_module.WrittenEntry.{WrittenEntry}
-use Rattle.written_modules.specs.declared.written_module.WrittenItem.{WrittenItem}
-use Rattle.written_modules.specs.declared.written_module.WrittenItem.TheVariants as item
-use Rattle.written_modules.specs.declared.written_module.WrittenModule.{WrittenModule}
-use Rattle.written_modules.specs.declared.written_module.WrittenVtable.{WrittenVtable}
+use Rattle.written_tree.specs.declared.written_declarations.WrittenCase.{WrittenCase}
+use Rattle.written_tree.specs.declared.written_declarations.WrittenField.{WrittenField}
+use Rattle.written_tree.specs.declared.written_declarations.WrittenToken.{WrittenToken}
+use Rattle.written_tree.specs.declared.written_functions.WrittenArg.{WrittenArg}
+use Rattle.written_tree.specs.declared.written_functions.WrittenBlock.{WrittenBlock}
+use Rattle.written_tree.specs.declared.written_functions.WrittenFunction.{WrittenFunction}
+use Rattle.written_tree.specs.declared.written_instructions.WrittenEdge.{WrittenEdge}
+use Rattle.written_tree.specs.declared.written_instructions.WrittenInst.{WrittenInst}
+use Rattle.written_tree.specs.declared.written_instructions.WrittenOperand.{WrittenOperand}
+use Rattle.written_tree.specs.declared.written_module.WrittenEntry.{WrittenEntry}
+use Rattle.written_tree.specs.declared.written_module.WrittenItem.{WrittenItem}
+use Rattle.written_tree.specs.declared.written_module.WrittenItem.TheVariants as item
+use Rattle.written_tree.specs.declared.written_module.WrittenModule.{WrittenModule}
+use Rattle.written_tree.specs.declared.written_module.WrittenVtable.{WrittenVtable}
 use Rattle.written_modules.specs.Opened.{PartGivens, PartParams, PartType, PartTypes, PartValue, module_value}
 use Rattle.written_modules.specs.Types.{tailed}
 use Rattle.written_modules.specs.Meaning.{part}
-use Rattle.written_modules.specs.Places.{attribute_places, decl_names, function_names, mnemonics_of, values_of_block}
+use Rattle.written_tree.specs.Places.{attribute_places, decl_names, function_names, mnemonics_of, values_of_block}
 use Rattle.written_modules.specs.Values.{token_of, items_of, item_of, fields_of, field_of, field_before, cases_of, type_of, payload_of, types_of, tokens_of, params_of, param_before, givens_of, given_before, starred, signature_of, blocks_of, block_of, args_of, arg_of, insts_of, terminator_of, inst_of, operands_of, operand_of, edges_of, edge_of, member_of, qualifier_of, debug_of, entry_of, no_debug}
 use Rattle.name_resolution.specs.Resolved.{Scope, resolved_decl, resolved_edge, resolved_inst, resolved_operand}
 use Rattle.numbered_form.specs.Lists.{Each, is_empty}

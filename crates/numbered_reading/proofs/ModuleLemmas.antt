@@ -4,10 +4,10 @@ use Rattle.sil_lexer.specs.Lexes.{Lexeme}
 use Rattle.sil_shape.specs.declared.classes.Class.{Class}
 use Rattle.sil_shape.specs.declared.steps.Step.{Step}
 use Rattle.sil_shape.specs.Derivation.{start}
-use Rattle.written_modules.specs.declared.written_declarations.WrittenDecl.{WrittenDecl}
-use Rattle.written_modules.specs.declared.written_module.WrittenItem.{WrittenItem}
-use Rattle.written_modules.specs.declared.written_module.WrittenItem.TheVariants as item
-use Rattle.written_modules.specs.declared.written_module.WrittenModule.{WrittenModule}
+use Rattle.written_tree.specs.declared.written_declarations.WrittenDecl.{WrittenDecl}
+use Rattle.written_tree.specs.declared.written_module.WrittenItem.{WrittenItem}
+use Rattle.written_tree.specs.declared.written_module.WrittenItem.TheVariants as item
+use Rattle.written_tree.specs.declared.written_module.WrittenModule.{WrittenModule}
 use Rattle.written_modules.specs.Opened.{module_value}
 use Rattle.name_resolution.specs.Names.{decls_of, functions_of, vtables_of}
 use Rattle.name_resolution.specs.Resolved.{resolved_decl}

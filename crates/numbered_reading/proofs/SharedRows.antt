@@ -10,9 +10,9 @@ use Rattle.sil_ast.specs.declared.member.Member.{Member}
 use Rattle.sil_ast.specs.declared.op.Op.{Op}
 use Rattle.sil_ast.specs.declared.operands.Operand.{Operand}
 use Rattle.sil_ast.specs.declared.place.Place.{Place}
-use Rattle.written_modules.specs.declared.written_declarations.WrittenToken.{WrittenToken}
-use Rattle.written_modules.specs.declared.written_instructions.WrittenOperand.{WrittenOperand}
-use Rattle.written_modules.specs.declared.written_instructions.WrittenQualifier.{WrittenQualifier}
+use Rattle.written_tree.specs.declared.written_declarations.WrittenToken.{WrittenToken}
+use Rattle.written_tree.specs.declared.written_instructions.WrittenOperand.{WrittenOperand}
+use Rattle.written_tree.specs.declared.written_instructions.WrittenQualifier.{WrittenQualifier}
 use Rattle.written_modules.specs.Meaning.{bare_operand}
 use Rattle.written_modules.specs.Values.{bare_inst}
 use Rattle.name_resolution.specs.Resolved.{Scope, resolved_operand}

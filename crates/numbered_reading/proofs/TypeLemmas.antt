@@ -7,11 +7,11 @@ use Rattle.sil_ast.specs.TypeName.{depth_of, depth_over, largest}
 use Rattle.sil_ast.specs.declared.place.Place.{Place}
 use Rattle.sil_ast.specs.declared.type_name.TypeName.{TypeName, TypeName-F, fold-roll-TypeName, fold_out-TypeName, map-TypeName, out-roll-TypeName, out-TypeName}
 use Rattle.sil_ast.specs.declared.type_name.TypeName.TheVariants.{Int, Named, Optional, Tuple, Weak, Unowned, Address, rolls-Int, rolls-Named, rolls-Optional, rolls-Tuple, rolls-Weak, rolls-Unowned, rolls-Address}
-use Rattle.written_modules.specs.declared.fault.Fault.{Fault}
-use Rattle.written_modules.specs.declared.fault.FaultKind.TheVariants.{Limit}
-use Rattle.written_modules.specs.declared.fault.LimitWord.TheVariants as limit
-use Rattle.written_modules.specs.declared.written_declarations.WrittenToken.{WrittenToken}
-use Rattle.written_modules.specs.Faults.{fault, passed}
+use Rattle.written_tree.specs.declared.fault.Fault.{Fault}
+use Rattle.written_tree.specs.declared.fault.FaultKind.TheVariants.{Limit}
+use Rattle.written_tree.specs.declared.fault.LimitWord.TheVariants as limit
+use Rattle.written_tree.specs.declared.written_declarations.WrittenToken.{WrittenToken}
+use Rattle.written_tree.specs.Faults.{fault, passed}
 use Rattle.written_modules.specs.Opened.{PartType, PartTypes}
 use Rattle.written_modules.specs.PartFaults.{too_deep, too_deep_among, too_marked, tuple_fault}
 use Rattle.written_modules.specs.Types.{between, deeper, in_parens, kept, marked, named_type, one_deeper, one_token, type_before, width_in_range, width_of, width_over}

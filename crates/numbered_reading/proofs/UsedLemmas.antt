@@ -6,19 +6,19 @@ use Rattle.std.specs.Str.{bytes_eq}
 use Rattle.std.proofs.lemmas.List.{length-map}
 use Rattle.sil_ast.specs.declared.function.Block.{Block}
 use Rattle.sil_ast.specs.declared.op.Op.{Op}
-use Rattle.written_modules.specs.declared.fault.FaultKind.TheVariants.{UnknownName}
-use Rattle.written_modules.specs.declared.written_declarations.WrittenToken.{WrittenToken}
-use Rattle.written_modules.specs.declared.written_functions.WrittenBlock.{WrittenBlock}
-use Rattle.written_modules.specs.declared.written_functions.WrittenFunction.{WrittenFunction}
-use Rattle.written_modules.specs.declared.written_instructions.WrittenEdge.{WrittenEdge}
-use Rattle.written_modules.specs.declared.written_instructions.WrittenInst.{WrittenInst}
-use Rattle.written_modules.specs.declared.written_instructions.WrittenOperand.{WrittenOperand}
-use Rattle.written_modules.specs.declared.written_module.WrittenEntry.{WrittenEntry}
-use Rattle.written_modules.specs.declared.written_module.WrittenItem.{WrittenItem}
-use Rattle.written_modules.specs.declared.written_module.WrittenItem.TheVariants as item
-use Rattle.written_modules.specs.declared.written_module.WrittenVtable.{WrittenVtable}
-use Rattle.written_modules.specs.declared.written_module.WrittenModule.{WrittenModule}
-use Rattle.written_modules.specs.Faults.{earliest, fault}
+use Rattle.written_tree.specs.declared.fault.FaultKind.TheVariants.{UnknownName}
+use Rattle.written_tree.specs.declared.written_declarations.WrittenToken.{WrittenToken}
+use Rattle.written_tree.specs.declared.written_functions.WrittenBlock.{WrittenBlock}
+use Rattle.written_tree.specs.declared.written_functions.WrittenFunction.{WrittenFunction}
+use Rattle.written_tree.specs.declared.written_instructions.WrittenEdge.{WrittenEdge}
+use Rattle.written_tree.specs.declared.written_instructions.WrittenInst.{WrittenInst}
+use Rattle.written_tree.specs.declared.written_instructions.WrittenOperand.{WrittenOperand}
+use Rattle.written_tree.specs.declared.written_module.WrittenEntry.{WrittenEntry}
+use Rattle.written_tree.specs.declared.written_module.WrittenItem.{WrittenItem}
+use Rattle.written_tree.specs.declared.written_module.WrittenItem.TheVariants as item
+use Rattle.written_tree.specs.declared.written_module.WrittenVtable.{WrittenVtable}
+use Rattle.written_tree.specs.declared.written_module.WrittenModule.{WrittenModule}
+use Rattle.written_tree.specs.Faults.{earliest, fault}
 use Rattle.name_resolution.specs.NameFaults.{function_fault, is_among, name_fault, unknown_among, unknown_in}
 use Rattle.name_resolution.specs.Names.{Name, code_of, edge_label, edge_values, entry_function, function_name, functions_of, vtables_of, functions_used, label_of, labels_used, name_of, operand_name, results_of, used_by_item, values_defined, values_used}
 use Rattle.name_resolution.specs.Names as written

@@ -21,10 +21,10 @@ use Rattle.sil_shape.specs.declared.grammar.Nonterminal.TheVariants as n
 use Rattle.sil_shape.specs.declared.grammar.Production.TheVariants as p
 use Rattle.written_modules.specs.Meaning.{kept_of, leaf_of, meaning}
 use Rattle.written_modules.specs.PartFaults.{part_fault}
-use Rattle.written_modules.specs.Places.{operand_place, token_place}
+use Rattle.written_tree.specs.Places.{operand_place, token_place}
 use Rattle.written_modules.specs.Values.{inst_of, operands_of, token_of, tokens_of}
-use Rattle.written_modules.specs.declared.fault.LimitWord.TheVariants as limit
-use Rattle.written_modules.specs.declared.written_declarations.WrittenToken.{WrittenToken}
+use Rattle.written_tree.specs.declared.fault.LimitWord.TheVariants as limit
+use Rattle.written_tree.specs.declared.written_declarations.WrittenToken.{WrittenToken}
 use Rattle.numbered_form.specs.Lists.{Each}
 use Rattle.numbered_form.specs.Types.{HasOperandType}
 use Rattle.printed_reading.proofs.ListLimits.{none_passed}

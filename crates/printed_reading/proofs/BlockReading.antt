@@ -20,12 +20,12 @@ use Rattle.sil_shape.specs.declared.grammar.Production.TheVariants as p
 use Rattle.sil_shape.specs.declared.grammar.Symbol.TheVariants.{Part}
 use Rattle.sil_shape.specs.Grammar.{body, written}
 use Rattle.sil_shape.specs.Spelling.{at_spelling, mark_spelling}
-use Rattle.written_modules.specs.declared.fault.LimitWord.TheVariants as limit
-use Rattle.written_modules.specs.Faults.{passed}
+use Rattle.written_tree.specs.declared.fault.LimitWord.TheVariants as limit
+use Rattle.written_tree.specs.Faults.{passed}
 use Rattle.written_modules.specs.Meaning.{kept_of, meaning}
 use Rattle.written_modules.specs.Opened.{PartValue}
 use Rattle.written_modules.specs.PartFaults.{part_fault}
-use Rattle.written_modules.specs.Places.{arg_place}
+use Rattle.written_tree.specs.Places.{arg_place}
 use Rattle.written_modules.specs.Values.{arg_of, args_of, block_of, blocks_of, insts_of, ownership_of, terminator_of, token_of}
 use Rattle.numbered_form.specs.Lists.{Each}
 use Rattle.numbered_form.specs.Parts.{is_terminator}

@@ -4,8 +4,8 @@ use Rattle.std.specs.List.{AllZip}
 use Rattle.std.proofs.lemmas.List.{length-map}
 use Rattle.std.proofs.lemmas.Slice.Zip.{AllZip-long}
 use Rattle.sil_ast.specs.declared.place.Place.{Place}
-use Rattle.written_modules.specs.declared.fault.LimitWord.{LimitWord}
-use Rattle.written_modules.specs.Faults.{passed}
+use Rattle.written_tree.specs.declared.fault.LimitWord.{LimitWord}
+use Rattle.written_tree.specs.Faults.{passed}
 use Rattle.printed_reading.proofs.PartLimits.{not_passed}
 
 pub none_passed : {A B : Type 0} (R : A → B → Type 0) (place : B → Place) (what : LimitWord) (most : ℕ) (xs : List A) (ys : List B) → AllZip R xs ys → length xs ≤ most

@@ -3,8 +3,8 @@ use Rattle.std.proofs.Common.{◌≡◌, List, [], ◌∷◌, ◌++◌, map, Non
 use Rattle.std.proofs.lemmas.Simd.{map-map}
 use Rattle.sil_ast.specs.declared.module.Imports.{Imports}
 use Rattle.sil_ast.specs.declared.module.Module.{Module}
-use Rattle.written_modules.specs.declared.written_declarations.WrittenDecl.{WrittenDecl}
-use Rattle.written_modules.specs.declared.written_module.WrittenModule.{WrittenModule}
+use Rattle.written_tree.specs.declared.written_declarations.WrittenDecl.{WrittenDecl}
+use Rattle.written_tree.specs.declared.written_module.WrittenModule.{WrittenModule}
 use Rattle.name_resolution.specs.NameFaults.{function_fault, members_fault, name_fault, twice_after}
 use Rattle.name_resolution.specs.Names.{Name, decl_name, function_name, member_names, name_of, used_by_item, vtable_name}
 use Rattle.name_resolution.specs.Resolved.{resolved, resolved_decl, resolved_function, resolved_vtable}

@@ -11,7 +11,7 @@ use Rattle.std.proofs.lemmas.Slice.Eq.{bytes_eq-Decides}
 use Rattle.sil_ast.specs.declared.function.Function.{Function}
 use Rattle.sil_ast.specs.declared.place.ValueId.{ValueId}
 use Rattle.sil_printer.specs.CanonicalInsts.{block_name}
-use Rattle.written_modules.specs.declared.written_declarations.WrittenToken.{WrittenToken}
+use Rattle.written_tree.specs.declared.written_declarations.WrittenToken.{WrittenToken}
 use Rattle.name_resolution.specs.NameFaults.{is_among}
 use Rattle.name_resolution.specs.Names.{Name}
 use Rattle.name_resolution.specs.Resolved.{has_name, place_among, value_of}

@@ -6,7 +6,7 @@ use Rattle.sil_ast.specs.declared.operands.Operand.{Operand}
 use Rattle.numbered_reading.proofs.Basics.{first_of_both, second_of_both}
 use Rattle.numbered_form.specs.Lists.{is_empty}
 use Rattle.written_modules.specs.Meaning.{bare_operand}
-use Rattle.written_modules.specs.declared.written_declarations.WrittenToken.{WrittenToken}
+use Rattle.written_tree.specs.declared.written_declarations.WrittenToken.{WrittenToken}
 use Rattle.numbered_form.specs.Parts.{first_then, is_bare, is_typed}
 use Rattle.printed_reading.proofs.Written.{IsOperandWritten, IsValueNamed}
 

@@ -7,9 +7,9 @@ use Rattle.sil_ast.specs.declared.function.Block.{Block}
 use Rattle.sil_ast.specs.declared.function.BlockArg.{BlockArg}
 use Rattle.sil_ast.specs.declared.inst.Inst.{Inst}
 use Rattle.sil_ast.specs.declared.place.ValueId.{ValueId}
-use Rattle.written_modules.specs.declared.written_functions.WrittenArg.{WrittenArg}
-use Rattle.written_modules.specs.declared.written_functions.WrittenBlock.{WrittenBlock}
-use Rattle.written_modules.specs.declared.written_instructions.WrittenInst.{WrittenInst}
+use Rattle.written_tree.specs.declared.written_functions.WrittenArg.{WrittenArg}
+use Rattle.written_tree.specs.declared.written_functions.WrittenBlock.{WrittenBlock}
+use Rattle.written_tree.specs.declared.written_instructions.WrittenInst.{WrittenInst}
 use Rattle.name_resolution.specs.Resolved.{defined_by_inst, defined_in, resolved_args, resolved_block, resolved_blocks, resolved_inst, resolved_insts}
 use Rattle.numbered_form.specs.Numbering.{AreCountedFrom}
 use Rattle.numbered_form.specs.Numbering as numbering

@@ -6,9 +6,9 @@ use Rattle.std.proofs.lemmas.Slice.Zip.{AllZip-long, AllZip-map}
 use Rattle.sil_ast.specs.declared.function.Function.{Function}
 use Rattle.sil_ast.specs.declared.place.ValueId.{ValueId}
 use Rattle.sil_printer.specs.CanonicalInsts.{block_name}
-use Rattle.written_modules.specs.declared.written_declarations.WrittenToken.{WrittenToken}
-use Rattle.written_modules.specs.declared.written_functions.WrittenFunction.{WrittenFunction}
-use Rattle.written_modules.specs.Places.{is_kept}
+use Rattle.written_tree.specs.declared.written_declarations.WrittenToken.{WrittenToken}
+use Rattle.written_tree.specs.declared.written_functions.WrittenFunction.{WrittenFunction}
+use Rattle.written_tree.specs.Places.{is_kept}
 use Rattle.name_resolution.specs.NameFaults.{function_fault}
 use Rattle.name_resolution.specs.Names.{Name, functions_used, insts_of, label_of, labels_used, name_of, values_defined, values_used}
 use Rattle.name_resolution.specs.Resolved.{Scope, form_of, resolved_blocks, resolved_function, scope_of, values_of}

@@ -4,8 +4,8 @@ use Rattle.std.specs.List.{AllZip}
 use Rattle.sil_ast.specs.declared.op.Op.{Op}
 use Rattle.sil_ast.specs.declared.op.Op.TheVariants as op
 use Rattle.sil_ast.specs.declared.place.ValueId.{ValueId}
-use Rattle.written_modules.specs.declared.written_declarations.WrittenToken.{WrittenToken}
-use Rattle.written_modules.specs.Places.{has_one_result}
+use Rattle.written_tree.specs.declared.written_declarations.WrittenToken.{WrittenToken}
+use Rattle.written_tree.specs.Places.{has_one_result}
 use Rattle.name_resolution.specs.Names.{Name, name_of}
 use Rattle.name_resolution.specs.Resolved.{defined_by}
 use Rattle.numbered_form.specs.Parts.{gives_result, has_results}

@@ -14,9 +14,9 @@ use Rattle.sil_shape.specs.declared.grammar.Nonterminal.TheVariants as n
 use Rattle.sil_shape.specs.declared.grammar.Production.TheVariants as p
 use Rattle.written_modules.specs.Meaning.{kept_of, meaning}
 use Rattle.written_modules.specs.PartFaults.{part_fault}
-use Rattle.written_modules.specs.Places.{token_place}
+use Rattle.written_tree.specs.Places.{token_place}
 use Rattle.written_modules.specs.Values.{inst_of, token_of, tokens_of}
-use Rattle.written_modules.specs.declared.fault.LimitWord.TheVariants as limit
+use Rattle.written_tree.specs.declared.fault.LimitWord.TheVariants as limit
 use Rattle.numbered_form.specs.Lists.{Each}
 use Rattle.printed_reading.proofs.ListLimits.{none_passed}
 use Rattle.printed_reading.proofs.NameReading.{result_names_read}

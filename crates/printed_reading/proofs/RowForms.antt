@@ -14,7 +14,7 @@ use Rattle.written_modules.specs.Meaning.{meaning}
 use Rattle.written_modules.specs.Opened.{PartValue}
 use Rattle.written_modules.specs.PartFaults.{part_fault}
 use Rattle.written_modules.specs.Values.{inst_of, no_debug}
-use Rattle.written_modules.specs.declared.fault.Fault.{Fault}
+use Rattle.written_tree.specs.declared.fault.Fault.{Fault}
 use Rattle.printed_reading.proofs.Pieces.{Reads, Reads as reads, Stands}
 use Rattle.printed_reading.proofs.Written.{IsInstWritten}
 

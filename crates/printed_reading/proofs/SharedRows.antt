@@ -24,7 +24,7 @@ use Rattle.sil_shape.specs.declared.grammar.Nonterminal.TheVariants as n
 use Rattle.sil_shape.specs.declared.grammar.Symbol.TheVariants.{Read, Part}
 use Rattle.sil_shape.specs.declared.grammar.Terminal.TheVariants as t
 use Rattle.written_numbers.specs.Numbers.{small_of}
-use Rattle.written_modules.specs.Faults.{out_of_range}
+use Rattle.written_tree.specs.Faults.{out_of_range}
 use Rattle.written_modules.specs.Meaning.{flagged, kept_of, loaded, of_element, of_member, over_one, place_at, stored, text_at}
 use Rattle.written_modules.specs.Values.{inst_of, token_of}
 use Rattle.numbered_form.specs.Literals.{is_element_number}

@@ -27,10 +27,10 @@ use Rattle.sil_shape.specs.declared.grammar.Terminal.TheVariants as t
 use Rattle.written_numbers.specs.Numbers.{literal_of}
 use Rattle.written_modules.specs.Meaning.{kept_of, meaning}
 use Rattle.written_modules.specs.PartFaults.{part_fault}
-use Rattle.written_modules.specs.Places.{operand_place}
+use Rattle.written_tree.specs.Places.{operand_place}
 use Rattle.written_modules.specs.Types.{width_of}
 use Rattle.written_modules.specs.Values.{inst_of, operands_of, token_of, type_of}
-use Rattle.written_modules.specs.declared.fault.LimitWord.TheVariants as limit
+use Rattle.written_tree.specs.declared.fault.LimitWord.TheVariants as limit
 use Rattle.sil_grammar.specs.Classes.{text_class}
 use Rattle.printed_reading.proofs.DebugReading.{any_text, debug_reads, ends_debug}
 use Rattle.printed_reading.proofs.FunctionNames.{is_name_at}

@@ -17,8 +17,8 @@ use Rattle.sil_shape.specs.Accepts.{accepts, class_number, is_type_word, keyword
 use Rattle.sil_shape.specs.Grammar as grammar
 use Rattle.sil_shape.specs.Grammar.{body, word, written}
 use Rattle.sil_shape.specs.Spelling.{at_spelling, at_word_of, at_words, keyword_of, keywords_of_length, known_at_word, known_keyword, mark_of, mark_spelling, marks, spelling}
-use Rattle.written_modules.specs.declared.written_declarations.WrittenToken.{WrittenToken}
-use Rattle.written_modules.specs.declared.fault.Fault.{Fault}
+use Rattle.written_tree.specs.declared.written_declarations.WrittenToken.{WrittenToken}
+use Rattle.written_tree.specs.declared.fault.Fault.{Fault}
 use Rattle.written_modules.specs.Meaning.{kept_of, meaning}
 use Rattle.written_modules.specs.Opened.{PartType, PartValue}
 use Rattle.written_modules.specs.PartFaults.{part_fault, too_deep, too_marked}

@@ -13,9 +13,9 @@ use Rattle.sil_shape.specs.declared.steps.Step.{Step}
 use Rattle.sil_shape.specs.declared.steps.Step.TheVariants.{Take, Expand}
 use Rattle.sil_shape.specs.Derivation.{Derives, start, Derives as derives}
 use Rattle.sil_shape.specs.Grammar.{body, written}
-use Rattle.written_modules.specs.declared.fault.Fault.{Fault}
-use Rattle.written_modules.specs.declared.written_module.WrittenModule.{WrittenModule}
-use Rattle.written_modules.specs.Faults.{earlier}
+use Rattle.written_tree.specs.declared.fault.Fault.{Fault}
+use Rattle.written_tree.specs.declared.written_module.WrittenModule.{WrittenModule}
+use Rattle.written_tree.specs.Faults.{earlier}
 use Rattle.written_modules.specs.Meaning.{leaf_of, meaning}
 use Rattle.written_modules.specs.Opened.{PartValue, module_value}
 use Rattle.written_modules.specs.PartFaults.{part_fault}

@@ -16,18 +16,18 @@ use Rattle.sil_shape.specs.declared.grammar.Nonterminal.TheVariants as n
 use Rattle.sil_shape.specs.declared.grammar.Production.TheVariants as p
 use Rattle.sil_shape.specs.Grammar.{body, written}
 use Rattle.sil_shape.specs.Spelling.{spelling}
-use Rattle.written_modules.specs.declared.fault.LimitWord.TheVariants as limit
-use Rattle.written_modules.specs.declared.written_declarations.WrittenDecl.{WrittenDecl}
-use Rattle.written_modules.specs.declared.written_functions.WrittenFunction.{WrittenFunction}
-use Rattle.written_modules.specs.declared.written_module.WrittenItem.{WrittenItem}
-use Rattle.written_modules.specs.declared.written_module.WrittenItem.TheVariants as item
-use Rattle.written_modules.specs.declared.written_module.WrittenModule.{WrittenModule}
-use Rattle.written_modules.specs.declared.written_module.WrittenVtable.{WrittenVtable}
-use Rattle.written_modules.specs.Faults.{passed}
+use Rattle.written_tree.specs.declared.fault.LimitWord.TheVariants as limit
+use Rattle.written_tree.specs.declared.written_declarations.WrittenDecl.{WrittenDecl}
+use Rattle.written_tree.specs.declared.written_functions.WrittenFunction.{WrittenFunction}
+use Rattle.written_tree.specs.declared.written_module.WrittenItem.{WrittenItem}
+use Rattle.written_tree.specs.declared.written_module.WrittenItem.TheVariants as item
+use Rattle.written_tree.specs.declared.written_module.WrittenModule.{WrittenModule}
+use Rattle.written_tree.specs.declared.written_module.WrittenVtable.{WrittenVtable}
+use Rattle.written_tree.specs.Faults.{passed}
 use Rattle.written_modules.specs.Meaning.{kept_of, meaning, with_import}
 use Rattle.written_modules.specs.Opened.{PartValue, module_value}
 use Rattle.written_modules.specs.PartFaults.{module_fault, part_fault}
-use Rattle.written_modules.specs.Places.{decl_names, function_names, token_place}
+use Rattle.written_tree.specs.Places.{decl_names, function_names, token_place}
 use Rattle.written_modules.specs.Values.{imports_of, items_of, stage_of, token_of}
 use Rattle.numbered_form.specs.Lists.{Each}
 use Rattle.numbered_form.specs.Names.{IsWord}

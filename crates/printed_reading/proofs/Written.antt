@@ -22,18 +22,18 @@ use Rattle.sil_ast.specs.declared.vtable.Vtable.{Vtable}
 use Rattle.sil_printer.specs.CanonicalInsts.{block_name}
 use Rattle.sil_printer.specs.Words.{if_there}
 use Rattle.written_modules.specs.Opened.{PartType}
-use Rattle.written_modules.specs.declared.written_declarations.WrittenDecl.{WrittenDecl}
-use Rattle.written_modules.specs.declared.written_declarations.WrittenToken.{WrittenToken}
-use Rattle.written_modules.specs.declared.written_functions.WrittenArg.{WrittenArg}
-use Rattle.written_modules.specs.declared.written_functions.WrittenBlock.{WrittenBlock}
-use Rattle.written_modules.specs.declared.written_functions.WrittenFunction.{WrittenFunction}
-use Rattle.written_modules.specs.declared.written_instructions.WrittenEdge.{WrittenEdge}
-use Rattle.written_modules.specs.declared.written_instructions.WrittenInst.{WrittenInst}
-use Rattle.written_modules.specs.declared.written_instructions.WrittenOperand.{WrittenOperand}
-use Rattle.written_modules.specs.declared.written_module.WrittenEntry.{WrittenEntry}
-use Rattle.written_modules.specs.declared.written_module.WrittenItem.TheVariants as item
-use Rattle.written_modules.specs.declared.written_module.WrittenModule.{WrittenModule}
-use Rattle.written_modules.specs.declared.written_module.WrittenVtable.{WrittenVtable}
+use Rattle.written_tree.specs.declared.written_declarations.WrittenDecl.{WrittenDecl}
+use Rattle.written_tree.specs.declared.written_declarations.WrittenToken.{WrittenToken}
+use Rattle.written_tree.specs.declared.written_functions.WrittenArg.{WrittenArg}
+use Rattle.written_tree.specs.declared.written_functions.WrittenBlock.{WrittenBlock}
+use Rattle.written_tree.specs.declared.written_functions.WrittenFunction.{WrittenFunction}
+use Rattle.written_tree.specs.declared.written_instructions.WrittenEdge.{WrittenEdge}
+use Rattle.written_tree.specs.declared.written_instructions.WrittenInst.{WrittenInst}
+use Rattle.written_tree.specs.declared.written_instructions.WrittenOperand.{WrittenOperand}
+use Rattle.written_tree.specs.declared.written_module.WrittenEntry.{WrittenEntry}
+use Rattle.written_tree.specs.declared.written_module.WrittenItem.TheVariants as item
+use Rattle.written_tree.specs.declared.written_module.WrittenModule.{WrittenModule}
+use Rattle.written_tree.specs.declared.written_module.WrittenVtable.{WrittenVtable}
 use Rattle.name_resolution.specs.Names.{Name, name_of}
 use Rattle.name_resolution.specs.Resolved.{resolved_decl}
 

@@ -4,8 +4,8 @@ use Rattle.sil_ast.specs.declared.place.Place.{Place}
 use Rattle.sil_lexer.specs.declared.token.LexRefusal.TheVariants as stop
 use Rattle.sil_grammar.specs.declared.refusal.ReadRefusal.{ReadRefusal}
 use Rattle.sil_grammar.specs.declared.refusal.ReadRefusal.TheVariants as refusal
-use Rattle.written_modules.specs.declared.fault.LimitWord.{LimitWord}
-use Rattle.written_modules.specs.declared.fault.LimitWord.TheVariants.{Name}
+use Rattle.written_tree.specs.declared.fault.LimitWord.{LimitWord}
+use Rattle.written_tree.specs.declared.fault.LimitWord.TheVariants.{Name}
 use Rattle.sil_command.specs.Texts.{not_a_module_text, passed_limit_text}
 
 -- want of memory has no answer

@@ -1,8 +1,8 @@
 -- What the command writes, line by line.
 use Rattle.std.specs.Prelude.{ℕ, List, [], ◌∷◌, ◌++◌, codes, decimal}
 use Rattle.sil_ast.specs.declared.place.Place.{Place}
-use Rattle.written_modules.specs.declared.fault.LimitWord.{LimitWord}
-use Rattle.written_modules.specs.declared.fault.LimitWord.TheVariants as limit
+use Rattle.written_tree.specs.declared.fault.LimitWord.{LimitWord}
+use Rattle.written_tree.specs.declared.fault.LimitWord.TheVariants as limit
 use Rattle.sil_command.specs.declared.rule.Rule.{Rule}
 use Rattle.sil_command.specs.declared.fault.Fault.{Fault}
 use Rattle.sil_command.specs.Rules.{number_of, name_of}

@@ -3,7 +3,7 @@ use Rattle.std.specs.Prelude.{◌≡◌, ℕ, List, map, take, Option}
 use Rattle.sil_lexer.specs.Lexing.{Lexing, lexemes_of}
 use Rattle.sil_shape.specs.declared.steps.Step.{Step}
 use Rattle.sil_shape.specs.Begun.{IsBegun}
-use Rattle.written_modules.specs.declared.fault.Fault.{Fault}
+use Rattle.written_tree.specs.declared.fault.Fault.{Fault}
 use Rattle.written_modules.specs.Replay.{first_fault}
 use Rattle.sil_grammar.specs.Classes.{token_class}
 

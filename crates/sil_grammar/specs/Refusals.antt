@@ -8,10 +8,10 @@ use Rattle.sil_lexer.specs.Lexes.{Lexeme, Lexes}
 use Rattle.sil_shape.specs.declared.steps.Step.{Step}
 use Rattle.sil_shape.specs.Begun.{IsBegun}
 use Rattle.sil_shape.specs.Derivation.{Derives, start}
-use Rattle.written_modules.specs.declared.fault.Fault.{Fault}
-use Rattle.written_modules.specs.declared.fault.FaultKind.{FaultKind}
-use Rattle.written_modules.specs.declared.fault.FaultKind.TheVariants as kind
-use Rattle.written_modules.specs.declared.written_module.WrittenModule.{WrittenModule}
+use Rattle.written_tree.specs.declared.fault.Fault.{Fault}
+use Rattle.written_tree.specs.declared.fault.FaultKind.{FaultKind}
+use Rattle.written_tree.specs.declared.fault.FaultKind.TheVariants as kind
+use Rattle.written_tree.specs.declared.written_module.WrittenModule.{WrittenModule}
 use Rattle.written_modules.specs.Replay.{first_fault}
 use Rattle.name_resolution.specs.NameFaults.{name_fault}
 use Rattle.sil_grammar.specs.declared.first_bad.BadKind.{BadKind}

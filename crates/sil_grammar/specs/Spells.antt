@@ -4,7 +4,7 @@ use Rattle.sil_ast.specs.declared.module.Module.{Module}
 use Rattle.sil_lexer.specs.Lexes.{Lexeme, Lexes}
 use Rattle.sil_shape.specs.declared.steps.Step.{Step}
 use Rattle.sil_shape.specs.Derivation.{Derives, start}
-use Rattle.written_modules.specs.declared.written_module.WrittenModule.{WrittenModule}
+use Rattle.written_tree.specs.declared.written_module.WrittenModule.{WrittenModule}
 use Rattle.written_modules.specs.Replay.{first_fault, Writes}
 use Rattle.numbered_form.specs.NumberedForm.{IsNumbered}
 use Rattle.name_resolution.specs.NameFaults.{name_fault}

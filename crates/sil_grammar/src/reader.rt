@@ -22,7 +22,8 @@ use sil_shape::begun::begun_steps;
 use sil_shape::classes::Class;
 use sil_shape::steps::Step;
 use std::alloc::Global;
-use written_modules::{Fault, WrittenModule, build};
+use written_modules::build;
+use written_tree::{Fault, WrittenModule};
 
 /// The module that a text spells which writes `written`.
 fn numbered(alloc: Global, written: &WrittenModule) -> Result<Module, ReadRefusal>

@@ -10,9 +10,9 @@ use Rattle.sil_shape.specs.declared.steps.Step.TheVariants.{Take, Expand}
 use Rattle.sil_shape.specs.Grammar.{body}
 use Rattle.sil_shape.specs.Values.{takes_of, values_left, IsEnough}
 use Rattle.sil_shape.proofs.ValuesLemmas.{takes_of-split, IsEnough-drop}
-use Rattle.written_modules.specs.declared.fault.Fault.{Fault}
+use Rattle.written_tree.specs.declared.fault.Fault.{Fault}
 use Rattle.written_modules.specs.declared.value.Value.{Value}
-use Rattle.written_modules.specs.Faults.{earlier}
+use Rattle.written_tree.specs.Faults.{earlier}
 use Rattle.written_modules.specs.PartFaults.{part_fault}
 use Rattle.written_modules.specs.Replay.{first_fault, parts_of, reduced, replay}
 use Rattle.written_modules.specs.Taken.{taken}

@@ -6,10 +6,10 @@ use Rattle.std.specs.List.{flat_map, slice_get}
 use Rattle.sil_ast.specs.declared.place.Place.{Place}
 use Rattle.written_modules.specs.declared.found.Found.{Found}
 use Rattle.written_modules.specs.declared.found.Found.TheVariants.{At, Past}
-use Rattle.written_modules.specs.declared.written_declarations.WrittenToken.{WrittenToken}
-use Rattle.written_modules.specs.declared.written_module.WrittenItem.{WrittenItem}
+use Rattle.written_tree.specs.declared.written_declarations.WrittenToken.{WrittenToken}
+use Rattle.written_tree.specs.declared.written_module.WrittenItem.{WrittenItem}
 use Rattle.written_modules.specs.Found.{Finds, decl_places, function_places, kept_places}
-use Rattle.written_modules.specs.Places.{attribute_places, decl_names, function_names, is_kept, token_place}
+use Rattle.written_tree.specs.Places.{attribute_places, decl_names, function_names, is_kept, token_place}
 
 pub get-append_in : {A : Type 0} (xs ys : List A) (i : ℕ) (x : A) → slice_get xs i ≡ Some x → slice_get (xs ++ ys) i ≡ Some x
 get-append_in [] ys i x h = cc

@@ -14,7 +14,7 @@ use Rattle.sil_shape.specs.Grammar.{written}
 use Rattle.sil_shape.proofs.ValuesLemmas.{values_left-derives}
 use Rattle.written_modules.specs.declared.value.Value.{Value}
 use Rattle.written_modules.specs.declared.value.Value.TheVariants as v
-use Rattle.written_modules.specs.declared.written_module.WrittenModule.{WrittenModule}
+use Rattle.written_tree.specs.declared.written_module.WrittenModule.{WrittenModule}
 use Rattle.written_modules.specs.Meaning.{meaning}
 use Rattle.written_modules.specs.Replay.{reduced, replay}
 use Rattle.written_modules.proofs.BuildLemmas.{length-replay}

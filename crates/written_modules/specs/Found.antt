@@ -3,9 +3,9 @@ use Rattle.std.specs.Prelude.{◌≡◌, ℕ, ◌+◌, List, [], ◌∷◌, leng
 use Rattle.sil_ast.specs.declared.place.Place.{Place}
 use Rattle.written_modules.specs.declared.found.Found.{Found}
 use Rattle.written_modules.specs.declared.found.Found.TheVariants.{At, Past}
-use Rattle.written_modules.specs.declared.written_declarations.WrittenToken.{WrittenToken}
-use Rattle.written_modules.specs.declared.written_module.WrittenItem.{WrittenItem}
-use Rattle.written_modules.specs.Places.{decl_names, function_names, is_kept, token_place}
+use Rattle.written_tree.specs.declared.written_declarations.WrittenToken.{WrittenToken}
+use Rattle.written_tree.specs.declared.written_module.WrittenItem.{WrittenItem}
+use Rattle.written_tree.specs.Places.{decl_names, function_names, is_kept, token_place}
 
 -- the place at the index, or by how much the index is past all places
 abbrev pub Finds : List Place → ℕ → Found → Type 0

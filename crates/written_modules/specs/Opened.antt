@@ -1,7 +1,7 @@
 -- The types of values by names that definitions and proofs of the layers above can use. Their code has no use for them.
 use Rattle.written_modules.specs.declared.value.Value.{Value}
 use Rattle.written_modules.specs.declared.value.Value.TheVariants as v
-use Rattle.written_modules.specs.declared.written_module.WrittenModule.{WrittenModule}
+use Rattle.written_tree.specs.declared.written_module.WrittenModule.{WrittenModule}
 use Rattle.written_modules.specs.declared.written_types.GivenList.{GivenList}
 use Rattle.written_modules.specs.declared.written_types.ParamList.{ParamList}
 use Rattle.written_modules.specs.declared.written_types.TypeList.{TypeList}

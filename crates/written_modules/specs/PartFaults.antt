@@ -6,17 +6,17 @@ use Rattle.sil_ast.specs.declared.type_name.TypeName.{TypeName}
 use Rattle.sil_shape.specs.declared.grammar.Production.{Production}
 use Rattle.sil_shape.specs.declared.grammar.Production.TheVariants as p
 use Rattle.written_numbers.specs.Numbers.{literal_of, small_of}
-use Rattle.written_modules.specs.declared.fault.Fault.{Fault}
-use Rattle.written_modules.specs.declared.fault.FaultKind.TheVariants.{Limit}
-use Rattle.written_modules.specs.declared.fault.LimitWord.TheVariants as limit
+use Rattle.written_tree.specs.declared.fault.Fault.{Fault}
+use Rattle.written_tree.specs.declared.fault.FaultKind.TheVariants.{Limit}
+use Rattle.written_tree.specs.declared.fault.LimitWord.TheVariants as limit
 use Rattle.written_modules.specs.declared.value.Value.{Value}
-use Rattle.written_modules.specs.declared.written_declarations.WrittenToken.{WrittenToken}
-use Rattle.written_modules.specs.declared.written_functions.WrittenBlock.{WrittenBlock}
-use Rattle.written_modules.specs.declared.written_module.WrittenItem.{WrittenItem}
+use Rattle.written_tree.specs.declared.written_declarations.WrittenToken.{WrittenToken}
+use Rattle.written_tree.specs.declared.written_functions.WrittenBlock.{WrittenBlock}
+use Rattle.written_tree.specs.declared.written_module.WrittenItem.{WrittenItem}
 use Rattle.written_modules.specs.declared.written_types.TypeList.{TypeList}
-use Rattle.written_modules.specs.Faults.{earlier, fault, out_of_range, passed}
+use Rattle.written_tree.specs.Faults.{earlier, fault, out_of_range, passed}
 use Rattle.written_modules.specs.Meaning.{part, place_at, text_at}
-use Rattle.written_modules.specs.Places.{arg_place, attribute_places, case_place, decl_names, field_place, function_names, label_place, mnemonics_of, operand_place, token_place, values_of_block}
+use Rattle.written_tree.specs.Places.{arg_place, attribute_places, case_place, decl_names, field_place, function_names, label_place, mnemonics_of, operand_place, token_place, values_of_block}
 use Rattle.written_modules.specs.Types.{depth_limit, in_parens, type_before, width_of}
 use Rattle.written_modules.specs.Values.{args_of, blocks_of, cases_of, fields_of, givens_of, items_of, marks_of, operands_of, params_of, token_of, tokens_of, type_of, types_of}
 

@@ -8,11 +8,11 @@ use Rattle.sil_shape.specs.declared.grammar.Production.{Production}
 use Rattle.sil_shape.specs.declared.steps.Step.{Step}
 use Rattle.sil_shape.specs.declared.steps.Step.TheVariants.{Take, Expand}
 use Rattle.sil_shape.specs.Grammar.{body}
-use Rattle.written_modules.specs.declared.fault.Fault.{Fault}
+use Rattle.written_tree.specs.declared.fault.Fault.{Fault}
 use Rattle.written_modules.specs.declared.value.Value.{Value}
 use Rattle.written_modules.specs.declared.value.Value.TheVariants as v
-use Rattle.written_modules.specs.declared.written_module.WrittenModule.{WrittenModule}
-use Rattle.written_modules.specs.Faults.{earlier}
+use Rattle.written_tree.specs.declared.written_module.WrittenModule.{WrittenModule}
+use Rattle.written_tree.specs.Faults.{earlier}
 use Rattle.written_modules.specs.Meaning.{leaf_of, meaning}
 use Rattle.written_modules.specs.PartFaults.{part_fault}
 

@@ -7,7 +7,7 @@ use Rattle.sil_ast.specs.declared.type_name.TypeName.TheOpen.{TypeName-F}
 use Rattle.sil_ast.specs.declared.type_name.TypeName.TheVariants as ty
 use Rattle.written_modules.specs.declared.value.Value.{Value}
 use Rattle.written_modules.specs.declared.value.Value.TheVariants as v
-use Rattle.written_modules.specs.declared.written_declarations.WrittenToken.{WrittenToken}
+use Rattle.written_tree.specs.declared.written_declarations.WrittenToken.{WrittenToken}
 use Rattle.written_modules.specs.declared.written_types.TypeList.{TypeList}
 use Rattle.written_modules.specs.declared.written_types.WrittenType.{WrittenType}
 

@@ -22,19 +22,19 @@ use Rattle.sil_ast.specs.declared.type_name.TypeName.TheVariants as ty
 use Rattle.written_modules.specs.declared.value.Flags.{Flags}
 use Rattle.written_modules.specs.declared.value.Value.{Value}
 use Rattle.written_modules.specs.declared.value.Value.TheVariants as v
-use Rattle.written_modules.specs.declared.written_declarations.WrittenCase.{WrittenCase}
-use Rattle.written_modules.specs.declared.written_declarations.WrittenDecl.TheVariants as decl
-use Rattle.written_modules.specs.declared.written_declarations.WrittenField.{WrittenField}
-use Rattle.written_modules.specs.declared.written_declarations.WrittenToken.{WrittenToken}
-use Rattle.written_modules.specs.declared.written_functions.WrittenArg.{WrittenArg}
-use Rattle.written_modules.specs.declared.written_functions.WrittenBlock.{WrittenBlock}
-use Rattle.written_modules.specs.declared.written_instructions.WrittenEdge.{WrittenEdge}
-use Rattle.written_modules.specs.declared.written_instructions.WrittenInst.{WrittenInst}
-use Rattle.written_modules.specs.declared.written_instructions.WrittenOperand.{WrittenOperand}
-use Rattle.written_modules.specs.declared.written_instructions.WrittenQualifier.{WrittenQualifier}
-use Rattle.written_modules.specs.declared.written_module.WrittenEntry.{WrittenEntry}
-use Rattle.written_modules.specs.declared.written_module.WrittenItem.{WrittenItem}
-use Rattle.written_modules.specs.declared.written_module.WrittenItem.TheVariants as item
+use Rattle.written_tree.specs.declared.written_declarations.WrittenCase.{WrittenCase}
+use Rattle.written_tree.specs.declared.written_declarations.WrittenDecl.TheVariants as decl
+use Rattle.written_tree.specs.declared.written_declarations.WrittenField.{WrittenField}
+use Rattle.written_tree.specs.declared.written_declarations.WrittenToken.{WrittenToken}
+use Rattle.written_tree.specs.declared.written_functions.WrittenArg.{WrittenArg}
+use Rattle.written_tree.specs.declared.written_functions.WrittenBlock.{WrittenBlock}
+use Rattle.written_tree.specs.declared.written_instructions.WrittenEdge.{WrittenEdge}
+use Rattle.written_tree.specs.declared.written_instructions.WrittenInst.{WrittenInst}
+use Rattle.written_tree.specs.declared.written_instructions.WrittenOperand.{WrittenOperand}
+use Rattle.written_tree.specs.declared.written_instructions.WrittenQualifier.{WrittenQualifier}
+use Rattle.written_tree.specs.declared.written_module.WrittenEntry.{WrittenEntry}
+use Rattle.written_tree.specs.declared.written_module.WrittenItem.{WrittenItem}
+use Rattle.written_tree.specs.declared.written_module.WrittenItem.TheVariants as item
 use Rattle.written_modules.specs.declared.written_types.GivenList.{GivenList}
 use Rattle.written_modules.specs.declared.written_types.ParamList.{ParamList}
 use Rattle.written_modules.specs.declared.written_types.TypeList.{TypeList}

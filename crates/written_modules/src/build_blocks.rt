@@ -9,12 +9,10 @@ ghost use Rattle.written_modules.specs.Values.{starred};
 use crate::nothing::{discard, skip};
 use crate::prepended::Prepended;
 use crate::value::Value;
-use crate::written_declarations::WrittenToken;
-use crate::written_functions::{WrittenArg, WrittenBlock};
-use crate::written_instructions::WrittenInst;
 use sil_ast::{Boxed, Exhausted, List, TypeName};
 use sil_shape::grammar::Production;
 use std::alloc::Global;
+use written_tree::{WrittenArg, WrittenBlock, WrittenInst, WrittenToken};
 
 #[tactic(auto, unfolding(crate::specs::Replay::reduced, crate::specs::Meaning::meaning, sil_shape::specs::Grammar::body))]
 pub(crate) fn some_body(alloc: Global, values: &mut Prepended<Value>) -> Result<Value, Exhausted>

@@ -8,11 +8,10 @@ ghost use Rattle.written_modules.specs.Values.{field_before};
 use crate::nothing::{discard, skip};
 use crate::prepended::Prepended;
 use crate::value::Value;
-use crate::written_declarations::{WrittenCase, WrittenDecl, WrittenField};
-use crate::written_module::WrittenItem;
 use sil_ast::{Boxed, Exhausted, Storage};
 use sil_shape::grammar::Production;
 use std::alloc::Global;
+use written_tree::{WrittenCase, WrittenDecl, WrittenField, WrittenItem};
 
 #[tactic(auto, unfolding(crate::specs::Replay::reduced, crate::specs::Meaning::meaning, sil_shape::specs::Grammar::body))]
 pub(crate) fn plain_class(alloc: Global, values: &mut Prepended<Value>) -> Result<Value, Exhausted>

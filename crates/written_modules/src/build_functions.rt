@@ -9,12 +9,11 @@ ghost use Rattle.written_modules.specs.Values.{given_before, param_before};
 use crate::nothing::{discard, skip};
 use crate::prepended::Prepended;
 use crate::value::Value;
-use crate::written_functions::WrittenFunction;
-use crate::written_module::WrittenItem;
 use crate::written_types::{GivenList, ParamList, WrittenType};
 use sil_ast::{Boxed, Exhausted, Given, Param, Passing, Place, Signature};
 use sil_shape::grammar::Production;
 use std::alloc::Global;
+use written_tree::{WrittenFunction, WrittenItem};
 
 #[tactic(auto, unfolding(crate::specs::Replay::reduced, crate::specs::Meaning::meaning, sil_shape::specs::Grammar::body))]
 pub(crate) fn function(alloc: Global, values: &mut Prepended<Value>) -> Result<Value, Exhausted>

@@ -11,12 +11,11 @@ use crate::build_rows::{bare_operand, boxed, one_operand};
 use crate::nothing::{bare_inst, skip};
 use crate::prepended::Prepended;
 use crate::value::Value;
-use crate::written_declarations::WrittenToken;
-use crate::written_instructions::{WrittenEdge, WrittenInst, WrittenOperand};
 use sil_ast::{Exhausted, List, Op, TypeName};
 use sil_shape::grammar::Production;
 use std::alloc::Global;
 use written_numbers::literal;
+use written_tree::{WrittenEdge, WrittenInst, WrittenOperand, WrittenToken};
 
 fn literal_in(ty: &TypeName, spelling: &[u8]) -> Option<i64>
     ensures { result ≡ literal_of (width_of ty.now) spelling.now }

@@ -8,10 +8,10 @@ ghost use Rattle.written_modules.specs.Meaning.{with_import};
 use crate::nothing::skip;
 use crate::prepended::Prepended;
 use crate::value::Value;
-use crate::written_module::{WrittenEntry, WrittenItem, WrittenModule, WrittenVtable};
 use sil_ast::{Boxed, Exhausted, Imports};
 use sil_shape::grammar::Production;
 use std::alloc::Global;
+use written_tree::{WrittenEntry, WrittenItem, WrittenModule, WrittenVtable};
 
 #[tactic(auto, unfolding(crate::specs::Replay::reduced, crate::specs::Meaning::meaning, sil_shape::specs::Grammar::body))]
 pub(crate) fn whole_module(alloc: Global, values: &mut Prepended<Value>) -> Value

@@ -8,10 +8,10 @@ use crate::build_blocks::starred;
 use crate::nothing::skip;
 use crate::prepended::Prepended;
 use crate::value::Value;
-use crate::written_instructions::{WrittenEdge, WrittenOperand};
 use sil_ast::{Boxed, Exhausted, List, Member};
 use sil_shape::grammar::Production;
 use std::alloc::Global;
+use written_tree::{WrittenEdge, WrittenOperand};
 
 #[tactic(auto, unfolding(crate::specs::Replay::reduced, crate::specs::Meaning::meaning, sil_shape::specs::Grammar::body))]
 pub(crate) fn operand(alloc: Global, values: &mut Prepended<Value>) -> Result<Value, Exhausted>

@@ -7,11 +7,10 @@ ghost use Rattle.written_modules.specs.Meaning.{bare_operand, element_of, flagge
 use crate::nothing::{bare_inst, skip};
 use crate::prepended::Prepended;
 use crate::value::Value;
-use crate::written_declarations::WrittenToken;
-use crate::written_instructions::{WrittenInst, WrittenOperand};
 use sil_ast::{Boxed, Exhausted, List, Op};
 use std::alloc::Global;
 use written_numbers::small_number;
+use written_tree::{WrittenInst, WrittenOperand, WrittenToken};
 
 pub(crate) fn one_operand(
     alloc: Global,

@@ -12,11 +12,11 @@ use crate::limits;
 use crate::nothing::{discard, skip, unit_type};
 use crate::prepended::Prepended;
 use crate::value::Value;
-use crate::written_declarations::WrittenToken;
 use crate::written_types::{TypeList, WrittenType};
 use sil_ast::{Boxed, Exhausted, Place, TypeName};
 use sil_shape::grammar::Production;
 use std::alloc::Global;
+use written_tree::WrittenToken;
 
 pub(crate) fn deeper(depth: u32) -> u32
     ensures { result ≡ deeper depth }

@@ -9,11 +9,11 @@ ghost use Rattle.written_modules.specs.Meaning.{qualified};
 use crate::nothing::{no_debug, skip};
 use crate::prepended::Prepended;
 use crate::value::{Flags, Value};
-use crate::written_instructions::WrittenQualifier;
 use sil_ast::{Binding, Qualifier};
 use sil_shape::grammar::Production;
 use std::alloc::Global;
 use written_numbers::small_number;
+use written_tree::WrittenQualifier;
 
 pub(crate) fn flags(lexical: bool, var_decl: bool) -> Value
     ensures { result ≡ meant.flags lexical var_decl }

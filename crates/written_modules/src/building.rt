@@ -8,18 +8,16 @@ ghost use Rattle.sil_shape.specs.Derivation.{start, Derives};
 ghost use Rattle.sil_shape.specs.Values.{takes_of, IsEnough};
 ghost use Rattle.written_modules.specs.Replay.{first_fault, replay, Writes};
 
-use crate::fault::Fault;
-use crate::fault_order::earlier;
 use crate::leaves::taken;
 use crate::part_faults::part_fault;
 use crate::prepended::Prepended;
 use crate::reduce::reduce;
 use crate::value::Value;
-use crate::written_module::WrittenModule;
 use sil_ast::Exhausted;
 use sil_lexer::Tokens;
 use sil_shape::steps::Step;
 use std::alloc::Global;
+use written_tree::{Fault, WrittenModule, earlier};
 
 /// What the steps of a derivation stand for.
 #[derive(Drop)]

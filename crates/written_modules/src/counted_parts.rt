@@ -3,14 +3,13 @@
 ghost use Rattle.std.specs.Prelude.{◌≡◌, ℕ, List, map};
 ghost use Rattle.std.specs.List.{flat_map};
 ghost use Rattle.written_modules.specs.Found.{Finds, decl_places, function_places, kept_places};
-ghost use Rattle.written_modules.specs.Places as placed;
+ghost use Rattle.written_tree.specs.Places as placed;
 
 use crate::found::{Found, Holds, find_listed, find_one};
-use crate::written_declarations::{WrittenDecl, WrittenToken};
-use crate::written_functions::WrittenBlock;
-use crate::written_instructions::WrittenInst;
-use crate::written_module::WrittenItem;
 use sil_ast::{Op, Qualifier};
+use written_tree::{
+    WrittenBlock, WrittenDecl, WrittenInst, WrittenItem, WrittenToken, has_one_result,
+};
 
 /// Declarations, at their names.
 pub(crate) struct Declarations;
@@ -138,7 +137,7 @@ fn find_result(inst: &WrittenInst, i: usize) -> Found
 }
 
 /// A `store [assign]` and a `destroy_addr` count as one value more.
-#[tactic(auto, unfolding(crate::specs::Places::extra_places))]
+#[tactic(auto, unfolding(written_tree::specs::Places::extra_places))]
 fn find_extra(inst: &WrittenInst, i: usize) -> Found
     ensures { Finds (placed.extra_places inst.now.op inst.now.mnemonic inst.now.qualifier.word inst.now.qualifier.place) i result }
 {
@@ -149,36 +148,5 @@ fn find_extra(inst: &WrittenInst, i: usize) -> Found
             _ => Found::Past(i),
         },
         _ => Found::Past(i),
-    }
-}
-
-/// The instructions that have one result, which may be left without a name.
-#[tactic(auto, unfolding(crate::specs::Places::has_one_result))]
-pub fn has_one_result(op: Op) -> bool
-    ensures { result ≡ placed.has_one_result op }
-{
-    match op {
-        Op::IntegerLiteral
-        | Op::FunctionRef
-        | Op::Builtin
-        | Op::AllocRef
-        | Op::AllocStack
-        | Op::CopyValue
-        | Op::MoveValue
-        | Op::BeginBorrow
-        | Op::Load
-        | Op::LoadBorrow
-        | Op::LoadWeak
-        | Op::LoadUnowned
-        | Op::Struct
-        | Op::Tuple
-        | Op::Enum
-        | Op::StructExtract
-        | Op::TupleExtract
-        | Op::StructElementAddr
-        | Op::TupleElementAddr
-        | Op::RefElementAddr
-        | Op::Apply => true,
-        _ => false,
     }
 }

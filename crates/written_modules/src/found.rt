@@ -4,13 +4,13 @@ ghost use Rattle.std.specs.Prelude.{◌≡◌, ◌+◌, ℕ, List, [], ◌∷◌
 ghost use Rattle.std.specs.List.{flat_map};
 ghost use Rattle.sil_ast.specs.declared.place.Place.{Place};
 ghost use Rattle.written_modules.specs.Found.{Finds};
-ghost use Rattle.written_modules.specs.Places as placed;
+ghost use Rattle.written_tree.specs.Places as placed;
 
 use crate::prepended::Prepended;
-use crate::written_declarations::{WrittenCase, WrittenField, WrittenToken};
-use crate::written_functions::{WrittenArg, WrittenBlock};
-use crate::written_instructions::{WrittenInst, WrittenOperand};
 use sil_ast::Place;
+use written_tree::{
+    WrittenArg, WrittenBlock, WrittenCase, WrittenField, WrittenInst, WrittenOperand, WrittenToken,
+};
 
 /// What a search comes to.
 #[derive(Clone, Copy)]

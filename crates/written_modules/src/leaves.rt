@@ -7,10 +7,10 @@ ghost use Rattle.written_modules.specs.Replay.{IsLeafAt};
 ghost use Rattle.written_modules.specs.Taken as taken;
 
 use crate::value::Value;
-use crate::written_declarations::WrittenToken;
 use sil_ast::{Exhausted, Text};
 use sil_lexer::{TokenKind, Tokens};
 use std::alloc::Global;
+use written_tree::WrittenToken;
 
 fn without_sigil(spelling: &[u8]) -> &[u8]
     ensures { result.now ≡ drop 1 spelling.now }

@@ -1,21 +1,18 @@
 //! Lists that become too long.
 
 ghost use Rattle.std.specs.Prelude.{◌≡◌, ◌∷◌, ◌-◌, map};
-ghost use Rattle.written_modules.specs.declared.fault.LimitWord.TheVariants as limit;
-ghost use Rattle.written_modules.specs.Faults as faults;
+ghost use Rattle.written_tree.specs.declared.fault.LimitWord.TheVariants as limit;
+ghost use Rattle.written_tree.specs.Faults as faults;
 ghost use Rattle.written_modules.specs.PartFaults as said;
-ghost use Rattle.written_modules.specs.Places as placed;
+ghost use Rattle.written_tree.specs.Places as placed;
 ghost use Rattle.written_modules.specs.Values.{args_of, blocks_of, cases_of, fields_of, givens_of, items_of, operands_of, params_of, token_of, tokens_of};
 
 use crate::counted_parts::{Attributes, Declarations, Functions, Instructions, Values};
-use crate::fault::{Fault, LimitWord};
-use crate::fault_order::{earlier, passed};
 use crate::found::{held_place, place_of};
 use crate::limits;
 use crate::prepended::Prepended;
 use crate::value::Value;
-use crate::written_functions::WrittenBlock;
-use crate::written_module::WrittenItem;
+use written_tree::{Fault, LimitWord, WrittenBlock, WrittenItem, earlier, passed};
 
 #[tactic(auto, using(crate::proofs::FoundLemmas::decls_one_by_one, crate::proofs::FoundLemmas::functions_one_by_one))]
 fn module_fault(items: &Prepended<WrittenItem>) -> Option<Fault>
@@ -51,7 +48,7 @@ fn blocks_fault(blocks: &Prepended<WrittenBlock>) -> Option<Fault>
     )
 }
 
-#[tactic(auto, unfolding(crate::specs::Values::items_of, crate::specs::Faults::earlier))]
+#[tactic(auto, unfolding(crate::specs::Values::items_of, written_tree::specs::Faults::earlier))]
 pub(crate) fn items_fault(value: &Value) -> Option<Fault>
     ensures { result ≡ said.module_fault (items_of value.now) }
 {
@@ -61,7 +58,7 @@ pub(crate) fn items_fault(value: &Value) -> Option<Fault>
     }
 }
 
-#[tactic(auto, unfolding(crate::specs::Values::blocks_of, crate::specs::Faults::earlier))]
+#[tactic(auto, unfolding(crate::specs::Values::blocks_of, written_tree::specs::Faults::earlier))]
 pub(crate) fn body_fault(value: &Value) -> Option<Fault>
     ensures { result ≡ said.body_fault (blocks_of value.now) }
 {

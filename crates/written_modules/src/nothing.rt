@@ -6,11 +6,10 @@ ghost use Rattle.written_modules.specs.Values as none;
 
 use crate::prepended::Prepended;
 use crate::value::Value;
-use crate::written_declarations::WrittenToken;
-use crate::written_instructions::{WrittenInst, WrittenQualifier};
 use crate::written_types::{GivenList, ParamList, TypeList, WrittenType};
 use sil_ast::{Debug, List, Op, Place, Qualifier, Text, TypeName};
 use std::alloc::Global;
+use written_tree::{WrittenInst, WrittenQualifier, WrittenToken};
 
 /// Takes the value of the first part away.
 pub(crate) fn skip(values: &mut Prepended<Value>)

@@ -2,17 +2,16 @@
 
 ghost use Rattle.std.specs.Prelude.{◌≡◌};
 ghost use Rattle.written_numbers.specs.Numbers.{literal_of, small_of};
-ghost use Rattle.written_modules.specs.Faults as said;
+ghost use Rattle.written_tree.specs.Faults as said;
 ghost use Rattle.written_modules.specs.Types.{width_of};
 ghost use Rattle.written_modules.specs.Values.{token_of, type_of};
 
 use crate::build_instructions::width_of;
-use crate::fault::Fault;
-use crate::fault_order::out_of_range;
 use crate::nothing::NO_PLACE;
 use crate::value::Value;
 use sil_ast::Place;
 use written_numbers::{literal, small_number};
+use written_tree::{Fault, out_of_range};
 
 /// Where a token stands.
 #[tactic(auto, unfolding(crate::specs::Values::token_of))]

@@ -6,8 +6,6 @@ ghost use Rattle.written_modules.specs.Meaning as meant;
 ghost use Rattle.written_modules.specs.PartFaults as said;
 ghost use Rattle.written_modules.specs.Replay.{parts_of};
 
-use crate::fault::Fault;
-use crate::fault_order::earlier;
 use crate::list_faults::{
     args_fault, attributes_fault, body_fault, cases_fault, fields_fault, givens_fault, items_fault,
     names_fault, operands_fault, other_names_fault, params_fault,
@@ -19,6 +17,7 @@ use crate::type_faults::{
 };
 use crate::value::Value;
 use sil_shape::grammar::Production;
+use written_tree::{Fault, earlier};
 
 /// What the part of the production's body at `i` stands for. (Only the contract asks for the production.)
 fn part(values: &Prepended<Value>, production: Production, i: usize) -> &Value

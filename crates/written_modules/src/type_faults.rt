@@ -3,19 +3,18 @@
 ghost use Rattle.std.specs.Prelude.{◌≡◌, ◌∷◌, List, length, slice_get};
 ghost use Rattle.sil_ast.specs.declared.place.Place.{Place};
 ghost use Rattle.sil_ast.specs.declared.type_name.TypeName.{TypeName};
-ghost use Rattle.written_modules.specs.Faults.{earlier};
+ghost use Rattle.written_tree.specs.Faults.{earlier};
 ghost use Rattle.written_modules.specs.PartFaults as said;
 ghost use Rattle.written_modules.specs.Types.{in_parens, type_before};
 ghost use Rattle.written_modules.specs.Values.{marks_of, token_of, type_of, types_of};
 
 use crate::build_types::deeper;
-use crate::fault::{Fault, LimitWord};
-use crate::fault_order::{earlier, limit_fault, passed};
 use crate::limits;
 use crate::nothing::NO_PLACE;
 use crate::number_faults::place_in;
 use crate::value::Value;
 use sil_ast::Place;
+use written_tree::{Fault, LimitWord, earlier, limit_fault, passed};
 
 #[tactic(auto, unfolding(crate::specs::Values::type_of))]
 fn depth_of(ty: &Value) -> u32

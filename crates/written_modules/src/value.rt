@@ -1,14 +1,14 @@
 //! What a part of a text stands for while the module is built from its end to its beginning.
 
 use crate::prepended::Prepended;
-use crate::written_declarations::{WrittenCase, WrittenField, WrittenToken};
-use crate::written_functions::{WrittenArg, WrittenBlock};
-use crate::written_instructions::{WrittenEdge, WrittenInst, WrittenOperand, WrittenQualifier};
-use crate::written_module::{WrittenEntry, WrittenItem, WrittenModule};
 use crate::written_types::{GivenList, ParamList, TypeList, WrittenType};
 use sil_ast::{
     ArgKind, Boxed, Convention, Debug, Given, Imports, Linkage, Member, Param, Place, Signature,
     Stage,
+};
+use written_tree::{
+    WrittenArg, WrittenBlock, WrittenCase, WrittenEdge, WrittenEntry, WrittenField, WrittenInst,
+    WrittenItem, WrittenModule, WrittenOperand, WrittenQualifier, WrittenToken,
 };
 
 /// What a token or a part of a text stands for. Large parts stand in boxes, since a hostile text leaves a million

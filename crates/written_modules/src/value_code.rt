@@ -6,11 +6,12 @@ ghost use Rattle.written_modules.specs.Values.{blocks_of, block_of, args_of, arg
 use crate::nothing::{discard, no_debug, no_inst, no_qualifier, no_token, unit_type};
 use crate::prepended::Prepended;
 use crate::value::{Flags, Value};
-use crate::written_functions::{WrittenArg, WrittenBlock};
-use crate::written_instructions::{WrittenEdge, WrittenInst, WrittenOperand, WrittenQualifier};
-use crate::written_module::WrittenEntry;
 use sil_ast::{ArgKind, Boxed, Debug, Exhausted, List, Member, Text};
 use std::alloc::Global;
+use written_tree::{
+    WrittenArg, WrittenBlock, WrittenEdge, WrittenEntry, WrittenInst, WrittenOperand,
+    WrittenQualifier,
+};
 
 impl Value {
     /// The instructions, and the terminator behind them.

@@ -2,17 +2,18 @@
 
 ghost use Rattle.std.specs.Prelude.{◌≡◌};
 ghost use Rattle.written_modules.specs.declared.value.Value.TheVariants as v;
-ghost use Rattle.written_modules.specs.declared.written_module.WrittenModule.{WrittenModule};
+ghost use Rattle.written_tree.specs.declared.written_module.WrittenModule.{WrittenModule};
 ghost use Rattle.written_modules.specs.Values.{token_of, stage_of, imports_of, items_of, item_of, fields_of, field_of, cases_of, type_of, payload_of, types_of, marks_of, linkage_of, tokens_of, convention_of, params_of, givens_of, signature_of};
 
 use crate::nothing::{discard, no_givens, no_params, no_token, no_type, no_types, unit_type};
 use crate::prepended::Prepended;
 use crate::value::Value;
-use crate::written_declarations::{WrittenCase, WrittenDecl, WrittenField, WrittenToken};
-use crate::written_module::{WrittenItem, WrittenModule};
 use crate::written_types::{GivenList, ParamList, TypeList, WrittenType};
 use sil_ast::{Convention, Imports, Linkage, List, Place, Signature, Stage, Storage, TypeName};
 use std::alloc::Global;
+use written_tree::{
+    WrittenCase, WrittenDecl, WrittenField, WrittenItem, WrittenModule, WrittenToken,
+};
 
 impl Value {
     #[tactic(auto, unfolding(crate::specs::Values::token_of))]

@@ -1,6 +1,6 @@
 use Rattle.std.proofs.Common.{◌≡◌, map, take}
 use Rattle.std.specs.List.{flat_map}
-use Rattle.written_modules.specs.Faults.{earliest}
+use Rattle.written_tree.specs.Faults.{earliest}
 use Rattle.name_resolution.specs.NameFaults.{function_fault}
 use Rattle.name_resolution.specs.Names.{functions_of}
 use Rattle.name_resolution.proofs.name_faults.function_faults.Given as goal

@@ -1,6 +1,6 @@
 use Rattle.std.proofs.Common.{◌≡◌, map, take}
 use Rattle.std.specs.List.{flat_map}
-use Rattle.written_modules.specs.Faults.{earliest}
+use Rattle.written_tree.specs.Faults.{earliest}
 use Rattle.name_resolution.specs.NameFaults.{members_fault}
 use Rattle.name_resolution.specs.Names.{decls_of}
 use Rattle.name_resolution.proofs.name_faults.members_faults.Given as goal

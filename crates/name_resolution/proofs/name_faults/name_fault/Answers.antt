@@ -1,7 +1,7 @@
 use Rattle.std.proofs.Common.{◌≡◌, map, List, [], ◌∷◌, ap, sym, ◌∙◌, refl}
 use Rattle.std.specs.List.{flat_map}
-use Rattle.written_modules.specs.declared.written_module.WrittenItem.{WrittenItem}
-use Rattle.written_modules.specs.Faults.{earlier, earliest}
+use Rattle.written_tree.specs.declared.written_module.WrittenItem.{WrittenItem}
+use Rattle.written_tree.specs.Faults.{earlier, earliest}
 use Rattle.name_resolution.specs.Defined.{reserved_only, unknown_of, with_tokens}
 use Rattle.name_resolution.specs.NameFaults.{function_fault, members_fault, name_fault, twice_after}
 use Rattle.name_resolution.specs.Names.{decl_name, decls_of, function_name, functions_of, name_of, reserved, used_by_item, vtable_name, vtables_of}

@@ -1,5 +1,5 @@
 use Rattle.std.proofs.Common.{◌≡◌, filter, map, take}
-use Rattle.written_modules.specs.Places.{is_kept}
+use Rattle.written_tree.specs.Places.{is_kept}
 use Rattle.name_resolution.specs.Names.{name_of}
 use Rattle.name_resolution.proofs.resolved_items.kept_attributes.Given as goal
 

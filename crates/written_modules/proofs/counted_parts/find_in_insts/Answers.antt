@@ -2,7 +2,7 @@ use Rattle.std.proofs.Common.{◌<◌, ◌≤◌, ◌∙◌, ap, arith, length, 
 use Rattle.std.specs.Prelude.{Some}
 use Rattle.std.proofs.lemmas.Option.{slice_get-get_or}
 use Rattle.written_modules.specs.declared.found.Found.TheVariants.{At, Past}
-use Rattle.written_modules.specs.Places.{value_places_of}
+use Rattle.written_tree.specs.Places.{value_places_of}
 use Rattle.written_modules.proofs.FoundLemmas.{finds_behind, finds_here, finds_none}
 use Rattle.written_modules.proofs.counted_parts.find_in_insts.Goals as goal
 

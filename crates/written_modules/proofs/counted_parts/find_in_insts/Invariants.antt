@@ -3,7 +3,7 @@ use Rattle.std.proofs.Common.{drop}
 use Rattle.std.specs.List.{flat_map}
 use Rattle.written_modules.specs.declared.found.Found.{Found}
 use Rattle.written_modules.specs.Found.{Finds}
-use Rattle.written_modules.specs.Places.{value_places_of}
+use Rattle.written_tree.specs.Places.{value_places_of}
 use Rattle.written_modules.proofs.counted_parts.find_in_insts.Given as goal
 
 abbrev pub invariant-loop-inst : goal.invariant-loop-inst

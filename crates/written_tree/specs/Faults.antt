@@ -2,11 +2,11 @@
 use Rattle.std.specs.Prelude.{ℕ, List, [], ◌∷◌, Option, Some, None, Bool, if◌then◌else◌, ◌&&◌, ◌||◌, ◌==◌, nat_lt, slice_get}
 use Rattle.std.specs.Option.{option_map}
 use Rattle.sil_ast.specs.declared.place.Place.{Place}
-use Rattle.written_modules.specs.declared.fault.Fault.{Fault}
-use Rattle.written_modules.specs.declared.fault.FaultKind.{FaultKind}
-use Rattle.written_modules.specs.declared.fault.FaultKind.TheVariants.{NumberRange, Limit}
-use Rattle.written_modules.specs.declared.fault.LimitWord.{LimitWord}
-use Rattle.written_modules.specs.declared.fault.LimitWord.TheVariants as limit
+use Rattle.written_tree.specs.declared.fault.Fault.{Fault}
+use Rattle.written_tree.specs.declared.fault.FaultKind.{FaultKind}
+use Rattle.written_tree.specs.declared.fault.FaultKind.TheVariants.{NumberRange, Limit}
+use Rattle.written_tree.specs.declared.fault.LimitWord.{LimitWord}
+use Rattle.written_tree.specs.declared.fault.LimitWord.TheVariants as limit
 
 -- where one token passes two limits, the order is this
 unfoldable pub limit_rank : LimitWord → ℕ

@@ -2,8 +2,8 @@
 
 ghost use Rattle.std.specs.Prelude.{◌≡◌};
 ghost use Rattle.std.specs.Option.{option_map};
-ghost use Rattle.written_modules.specs.declared.fault.FaultKind.TheVariants.{Limit};
-ghost use Rattle.written_modules.specs.Faults as said;
+ghost use Rattle.written_tree.specs.declared.fault.FaultKind.TheVariants.{Limit};
+ghost use Rattle.written_tree.specs.Faults as said;
 
 use crate::fault::{Fault, FaultKind, LimitWord};
 use sil_ast::Place;
@@ -57,7 +57,8 @@ pub fn earlier(a: Option<Fault>, b: Option<Fault>) -> Option<Fault>
     }
 }
 
-pub(crate) fn limit_fault(what: LimitWord, place: Place) -> Fault
+/// The fault of a limit that is passed at a place.
+pub fn limit_fault(what: LimitWord, place: Place) -> Fault
     ensures { result ≡ said.fault (Limit what) place }
 {
     Fault {
@@ -67,7 +68,7 @@ pub(crate) fn limit_fault(what: LimitWord, place: Place) -> Fault
 }
 
 /// The fault at the token behind the last that a limit allows, where there is one.
-pub(crate) fn passed(what: LimitWord, place: Option<Place>) -> Option<Fault>
+pub fn passed(what: LimitWord, place: Option<Place>) -> Option<Fault>
     ensures { result ≡ option_map (said.fault (Limit what)) place }
 {
     match place {
@@ -77,7 +78,7 @@ pub(crate) fn passed(what: LimitWord, place: Option<Place>) -> Option<Fault>
 }
 
 /// The fault at a number that has no value in its range.
-pub(crate) fn out_of_range<T: Copy>(value: Option<T>, place: Place) -> Option<Fault>
+pub fn out_of_range<T: Copy>(value: Option<T>, place: Place) -> Option<Fault>
     ensures { result ≡ said.out_of_range value place }
 {
     match value {
