@@ -1,9 +1,11 @@
 //! Tests of the reader, worked out by hand: texts that have the shape of a module and texts that don't, with the places
-//! where they go wrong, and the canonical texts of the modules that texts spell.
+//! where they go wrong, and the canonical texts of the modules that texts spell. Also of copies of modules.
 #![tactic(auto)]
 
 #[cfg(test)]
 mod begun;
+#[cfg(test)]
+mod copies;
 #[cfg(test)]
 mod declarations;
 #[cfg(test)]

@@ -41,6 +41,3 @@ pub use text::Text;
 pub use try_clone::TryClone;
 pub use type_name::TypeName;
 pub use vtable::{DeinitEntry, Vtable};
-
-#[cfg(test)]
-mod tests;

@@ -1,6 +1,10 @@
 //! Copies and comparisons of a module that has one of nearly everything, and one row of the table of forms.
 
-use super::*;
+use sil_ast::{
+    Block, Boxed, Convention, Debug, Decl, Exhausted, Field, Form, Function, Imports, Inst,
+    Linkage, List, Module, Op, Operand, Operands, Part, Qualifier, Same, Signature, Stage, Storage,
+    Text, TryClone, TypeName, ValueId, Vtable, row_of,
+};
 use std::alloc::Global;
 use std::test::Fail;
 
