@@ -8,7 +8,6 @@ pub mod Ahead
 pub mod TurnLemmas
 pub mod Reached
 pub mod DerivedOnce
-pub mod BegunLemmas
 pub mod NameLemmas
 pub mod SpellingLemmas
 pub mod GoesOnLemmas

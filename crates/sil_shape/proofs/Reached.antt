@@ -13,10 +13,11 @@ use Rattle.sil_shape.specs.declared.steps.Step.TheVariants.{Take, Expand}
 use Rattle.sil_shape.specs.Grammar.{written, body}
 use Rattle.sil_shape.specs.Choice.{choose}
 use Rattle.sil_shape.specs.Derivation.{Accepts, Derives, nothing, token, rule, start, HasShape, BeginsShape, IsFirstBad, IsDerivation}
+use Rattle.sil_shape.specs.Begun.{LeadsTo}
 use Rattle.sil_shape.specs.Turns.{Turns, stay, turn, IsStuck, IsStuckAt, Takes, Refuses}
 use Rattle.sil_shape.proofs.Derived.{Derives-nothing}
 use Rattle.sil_shape.proofs.Ahead.{look, Fits, Fits-expand, choose-way, Inner, Derives-inner, FitsOne, FitsOne-start}
-use Rattle.sil_shape.proofs.Shortened.{some_text}
+use Rattle.sil_shape.proofs.Shortened.{shortened, Shortens-derives}
 
 -- what the next token is known to be, if anything
 abbrev pub IsAhead : Option (Option Class) → Option Class → Type 0
@@ -89,8 +90,9 @@ Reached-turns {l = l} r (turn {part = part} p choice t) = Reached-expand part p 
 -- the classes so far begin a list that has shape, since the stack derives some list
 pub Reached-begins : {front : List Class} {stack : List Symbol} {steps : List Step} {ahead : Option (Option Class)} → Reached front stack steps ahead → BeginsShape front
 Reached-begins {stack = stack} {steps = steps} r =
-    let text = some_text stack in
-    (text.classes, (steps ++ text.steps, r.onward text.classes text.steps text.derives))
+    let rest = shortened stack in
+    let derived = Shortens-derives rest.1 in
+    (derived.0, (steps ++ rest.0, r.onward derived.0 rest.0 derived.1))
 
 -- a stack that is stuck derives nothing that looks so
 no_choice : (part : Nonterminal) (l : Option Class) {ss : List Symbol} {ks : List Class} {all : List Step} → choose part l ≡ None → look ks ≡ l → Inner part ss ks all → ⊥
@@ -112,12 +114,17 @@ stuck (Some k) [] h f e nothing = cc
 stuck None (s ∷ ss) h f e d = symbol_stuck None s h f.0 e d
 stuck (Some k) (s ∷ ss) h f e d = symbol_stuck (Some k) s h f.0 e d
 
-pub Reached-refuses : {front : List Class} {stack : List Symbol} {steps : List Step} (l : Option Class)
-    → Reached front stack steps None → Refuses l stack steps → (ks : List Class) → look ks ≡ l → HasShape (front ++ ks) → ⊥
-Reached-refuses l r refused ks e shape =
+pub Reached-refuses : {front : List Class} {stack last_stack : List Symbol} {steps last_steps : List Step} (l : Option Class)
+    → Reached front stack steps None → Refuses l stack steps last_stack last_steps → (ks : List Class) → look ks ≡ l → HasShape (front ++ ks) → ⊥
+Reached-refuses {last_stack = last_stack} l r refused ks e shape =
     let last = Reached-turns (Reached-see l r) refused.turns in
     let found = last.back ks shape.0 e shape.1 in
-    stuck l refused.last_stack refused.stuck last.fits e found.1
+    stuck l last_stack refused.stuck last.fits e found.1
+
+-- the steps up to there lead to what is left on its stack
+leads_to : {front : List Class} {stack last_stack : List Symbol} {steps last_steps : List Step} (l : Option Class)
+    → Reached front stack steps None → Refuses l stack steps last_stack last_steps → LeadsTo front last_steps last_stack
+leads_to l r refused = (Reached-turns (Reached-see l r) refused.turns).onward
 
 -- the whole list was taken
 pub Reached-whole : {front : List Class} {stack : List Symbol} {steps new_steps : List Step}
@@ -137,28 +144,34 @@ Reached-takes k r took =
     rw took.steps_are (Reached-take took.symbol k took.accepted (Reached-turns (Reached-see (Some k) r) took.turns))
 
 -- a refusal at a class, and at the end of the list
-pub first_bad_inside : (classes : List Class) (place : ℕ) (d : Class) {stack : List Symbol} {steps : List Step}
-    → place < length classes → Reached (take place classes) stack steps None → Refuses (Some (get_or classes place d)) stack steps → IsFirstBad classes place
-first_bad_inside classes place d h r refused = record {
-  inside = omega arith;
-  good = Reached-begins r;
-  bad = λ below begins.
-      let k = get_or classes place d in
-      Reached-refuses (Some k) r refused (k ∷ begins.0) refl
-      (subst HasShape (append_assoc (take place classes) (k ∷ []) begins.0) (subst (λ l. HasShape (l ++ begins.0)) (take_more classes place d h) begins.1));
-  end = λ is_end. absurd (omega arith);
-}
+module _ (classes : List Class) (place : ℕ) {stack last_stack : List Symbol} {steps last_steps : List Step} (r : Reached (take place classes) stack steps None) where
+  pub first_bad_inside : (d : Class) → place < length classes → Refuses (Some (get_or classes place d)) stack steps last_stack last_steps
+      → IsFirstBad classes place × LeadsTo (take place classes) last_steps last_stack
+  first_bad_inside d h refused =
+      let k = get_or classes place d in (
+        record {
+          inside = omega arith;
+          good = Reached-begins r;
+          bad = λ below begins.
+              Reached-refuses (Some k) r refused (k ∷ begins.0) refl
+              (subst HasShape (append_assoc (take place classes) (k ∷ []) begins.0) (subst (λ l. HasShape (l ++ begins.0)) (take_more classes place d h) begins.1));
+          end = λ is_end. absurd (omega arith);
+        },
+        leads_to (Some k) r refused,
+      )
 
-pub first_bad_end : (classes : List Class) (place : ℕ) {stack : List Symbol} {steps : List Step}
-    → length classes ≤ place → Reached (take place classes) stack steps None → Refuses None stack steps → IsFirstBad classes (length classes)
-first_bad_end classes place h r refused =
-    let all = take_all place classes h in
-    record {
-      inside = omega arith;
-      good = rw (take-length, ← all) (Reached-begins r);
-      bad = λ below. absurd (omega arith);
-      end = λ e shape. Reached-refuses None r refused [] refl (rw (append-nil, all) shape);
-    }
+  pub first_bad_end : length classes ≤ place → Refuses None stack steps last_stack last_steps
+      → IsFirstBad classes (length classes) × LeadsTo (take (length classes) classes) last_steps last_stack
+  first_bad_end h refused =
+      let all = take_all place classes h in (
+        record {
+          inside = omega arith;
+          good = rw (take-length, ← all) (Reached-begins r);
+          bad = λ below. absurd (omega arith);
+          end = λ e shape. Reached-refuses None r refused [] refl (rw (append-nil, all) shape);
+        },
+        rw (take-length, ← all) (leads_to None r refused),
+      )
 
 -- the next class was taken, and all were taken
 pub Reached-next : (classes : List Class) (place : ℕ) (d : Class) {stack : List Symbol} {steps : List Step} {new_stack : List Symbol} {new_steps : List Step}

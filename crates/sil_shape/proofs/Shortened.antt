@@ -1,4 +1,4 @@
--- The shortest way to write a stack: it ends, and gives a list that the stack derives.
+-- The shortest way to write a stack: there is one, and it gives a list that the stack derives.
 use Rattle.std.proofs.Common.{◌≡◌, ℕ, zero, suc, ◌+◌, ◌<◌, List, [], ◌∷◌, ◌++◌, refl, ap, sym, subst, ◌∙◌, append_assoc, arith, true}
 use Rattle.std.proofs.lemmas.Bool.{eq-eqb, eqb-true}
 use Rattle.std.proofs.lemmas.List.{append-nil}
@@ -10,9 +10,9 @@ use Rattle.sil_shape.specs.declared.grammar.Symbol.TheVariants.{Read, Part}
 use Rattle.sil_shape.specs.declared.steps.Step.{Step}
 use Rattle.sil_shape.specs.declared.steps.Step.TheVariants.{Expand}
 use Rattle.sil_shape.specs.Accepts.{accepts, is_type_word, class_number}
-use Rattle.sil_shape.specs.Grammar.{written, body}
+use Rattle.sil_shape.specs.Grammar.{body}
 use Rattle.sil_shape.specs.Derivation.{Derives, nothing, token, rule}
-use Rattle.sil_shape.specs.Shortest.{shortest, shortest_step, after_step, Completes}
+use Rattle.sil_shape.specs.Shortest.{shortest, shortest_step, after_step, Shortens, written, step}
 use Rattle.sil_shape.proofs.Sets.{needed}
 use Rattle.sil_shape.proofs.Computed.{needed_one, needed_all, example, computed_needed, shortest-way}
 
@@ -50,49 +50,33 @@ Derives-step (Read t) d = token (accepts-example t) d
 Derives-step (Part part) {ss = ss} {ks = ks} {more = more} d =
     subst (λ x. Derives (Part x ∷ ss) ks (Expand (shortest part) ∷ more)) (shortest-way part) (rule (shortest part) d)
 
--- the steps lead from the first stack to this one, over some classes
-pub record Shortened (first : List Symbol) (before : List Step) (stack : List Symbol) (steps : List Step) : Type 0 where
-  pub classes : List Class
-  pub more : List Step
-  pub steps_are : steps ≡ before ++ more
-  pub onward : (ks : List Class) (rest : List Step) → Derives stack ks rest → Derives first (classes ++ ks) (more ++ rest)
+-- what writes a stack derives some classes from it
+pub Shortens-derives : {ss : List Symbol} {steps : List Step} → Shortens ss steps → (classes : List Class) × Derives ss classes steps
+Shortens-derives written = ([], nothing)
+Shortens-derives (step s h) = let d = Shortens-derives h in (examples s ++ d.0, Derives-step s d.1)
 
-pub Shortened-start : (first : List Symbol) (before : List Step) → Shortened first before first before
-Shortened-start first before = record { classes = []; more = []; steps_are = sym (append-nil before); onward = λ ks rest d. d }
+shortened_within : (n : ℕ) (ss : List Symbol) → needed_all ss < n → (steps : List Step) × Shortens ss steps
+shortened_within zero ss h = absurd (omega (arith, h))
+shortened_within (suc n) [] h = ([], written)
+shortened_within (suc n) (s ∷ ss) h =
+    let rest = shortened_within n (after_step s ++ ss) (omega (arith, h, needed-step s ss)) in
+    (shortest_step s ∷ rest.0, step s rest.1)
 
-one_more : {first ss : List Symbol} {before steps : List Step} (s : Symbol) → Shortened first before (s ∷ ss) steps → Shortened first before (after_step s ++ ss) (steps ++ shortest_step s ∷ [])
-one_more {before = before} s r = record {
-  classes = r.classes ++ examples s;
-  more = r.more ++ shortest_step s ∷ [];
-  steps_are = ap (λ l. l ++ shortest_step s ∷ []) r.steps_are ∙ append_assoc before r.more (shortest_step s ∷ []);
-  onward = λ ks rest d.
-      rw (append_assoc r.classes (examples s) ks, append_assoc r.more (shortest_step s ∷ []) rest)
-      (r.onward (examples s ++ ks) (shortest_step s ∷ rest) (Derives-step s d));
-}
+pub shortened : (ss : List Symbol) → (steps : List Step) × Shortens ss steps
+shortened ss = shortened_within (needed_all ss + 1) ss (omega arith)
 
-pub Shortened-step : (s : Symbol) {first stack rest new : List Symbol} {before steps new_steps : List Step} → Shortened first before stack steps
-    → stack ≡ s ∷ rest → new ≡ after_step s ++ rest → new_steps ≡ steps ++ shortest_step s ∷ [] → Shortened first before new new_steps
-Shortened-step s {first = first} {before = before} {steps = steps} r popped pushed steps_are =
-    rw (pushed, steps_are) (one_more s (subst (λ ss. Shortened first before ss steps) popped r))
+-- the steps lead from the first stack to this one: they go on with the steps of the shortest way to write it
+abbrev pub Shortening : List Symbol → List Symbol → List Step → Type 0
+Shortening first stack steps = (rest : List Step) → Shortens stack rest → Shortens first (steps ++ rest)
 
-all_written : {first : List Symbol} {before steps : List Step} → Shortened first before [] steps → Completes first before steps
-all_written r = record { classes = r.classes; more = r.more; derives = rw (append-nil r.classes, append-nil r.more) at (r.onward [] [] nothing); steps_are = r.steps_are }
+pub Shortening-start : {first stack : List Symbol} (steps : List Step) → stack ≡ first → steps ≡ [] → Shortening first stack steps
+Shortening-start steps is none = λ rest h. rw none (rw is at h)
 
-pub Shortened-end : {first stack : List Symbol} {before steps : List Step} → Shortened first before stack steps → stack ≡ [] → Completes first before steps
-Shortened-end {first = first} {before = before} {steps = steps} r empty = all_written (subst (λ ss. Shortened first before ss steps) empty r)
+pub Shortening-step : (s : Symbol) {first stack rest new : List Symbol} (steps : List Step) {new_steps : List Step} → Shortening first stack steps
+    → stack ≡ s ∷ rest → new ≡ after_step s ++ rest → new_steps ≡ steps ++ shortest_step s ∷ [] → Shortening first new new_steps
+Shortening-step s {first = first} steps h popped pushed steps_are = λ more way.
+    let longer = h (shortest_step s ∷ more) (subst (λ ss. Shortens ss (shortest_step s ∷ more)) (sym popped) (step s (subst (λ ss. Shortens ss more) pushed way))) in
+    rw (steps_are, append_assoc steps (shortest_step s ∷ []) more) longer
 
--- every stack derives some list
-pub record SomeText (ss : List Symbol) : Type 0 where
-  pub classes : List Class
-  pub steps : List Step
-  pub derives : Derives ss classes steps
-
-some_text_within : (n : ℕ) (ss : List Symbol) → needed_all ss < n → SomeText ss
-some_text_within zero ss h = absurd (omega (arith, h))
-some_text_within (suc n) [] h = record { classes = []; steps = []; derives = nothing }
-some_text_within (suc n) (s ∷ ss) h =
-    let text = some_text_within n (after_step s ++ ss) (omega (arith, h, needed-step s ss)) in
-    record { classes = examples s ++ text.classes; steps = shortest_step s ∷ text.steps; derives = Derives-step s text.derives }
-
-pub some_text : (ss : List Symbol) → SomeText ss
-some_text ss = some_text_within (needed_all ss + 1) ss (omega arith)
+pub Shortening-end : {first stack : List Symbol} (steps : List Step) → Shortening first stack steps → stack ≡ [] → Shortens first steps
+Shortening-end steps h empty = rw (append-nil steps) at (h [] (rw empty written))

@@ -1,6 +1,6 @@
 -- Turns of the machine follow one another, and end.
-use Rattle.std.proofs.Common.{◌≡◌, ℕ, ◌+◌, ◌<◌, ◌≤◌, List, [], ◌∷◌, ◌++◌, refl, ap, sym, subst, arith, Bool, true, false}
-use Rattle.std.specs.Prelude.{Option, Some, None, ◌&&◌}
+use Rattle.std.proofs.Common.{◌≡◌, ℕ, ◌+◌, ◌<◌, ◌≤◌, List, [], ◌∷◌, ◌++◌, refl, ap, sym, subst, ◌∙◌, arith, Bool, true, false}
+use Rattle.std.specs.Prelude.{Option, Some, None, ◌&&◌, drop, slice_get}
 use Rattle.std.proofs.lemmas.Bool.{ltb-true}
 use Rattle.sil_shape.specs.declared.classes.Class.{Class}
 use Rattle.sil_shape.specs.declared.grammar.Nonterminal.{Nonterminal}
@@ -8,9 +8,10 @@ use Rattle.sil_shape.specs.declared.grammar.Symbol.{Symbol}
 use Rattle.sil_shape.specs.declared.grammar.Symbol.TheVariants.{Read, Part}
 use Rattle.sil_shape.specs.declared.grammar.Production.{Production}
 use Rattle.sil_shape.specs.declared.steps.Step.{Step}
+use Rattle.sil_shape.specs.declared.steps.Step.TheVariants.{Take}
 use Rattle.sil_shape.specs.Grammar.{written, body}
-use Rattle.sil_shape.specs.Turns.{Turns, turn, Expands, IsToken, IsStuckAt, Refuses}
-use Rattle.sil_shape.specs.Derivation.{Accepts}
+use Rattle.sil_shape.specs.Choice.{choose}
+use Rattle.sil_shape.specs.Turns.{Turns, turn, Pops, Expands, IsSettled, Settles, IsAccepted, IsStuck, Takes, Refuses}
 use Rattle.sil_shape.proofs.Sets.{weight}
 use Rattle.sil_shape.proofs.Computed.{lead, weight_one, if_vanishes, vanishes, vanishes_one, computed_weight}
 use Rattle.sil_shape.proofs.Ahead.{choose-way, vanishes_part}
@@ -37,28 +38,61 @@ lead-body p ss =
     let smaller : lead (body p) < weight (written p) = ltb-true (lead (body p)) (weight (written p)) (computed_weight p) in
     omega (arith, lead-append (body p) ss, if_more (vanishes (body p)) (vanishes_one (Part (written p))) (lead ss) (vanishes_part p))
 
-pub turned : {l : Option Class} {part : Nonterminal} {first stack rest new : List Symbol} {none steps more : List Step}
-    → Turns l first none stack steps → stack ≡ Part part ∷ rest → Expands l part rest steps new more → Turns l first none new more
-turned {l = l} {first = first} {none = none} {steps = steps} t popped e =
-    let t2 = subst (λ s. Turns l first none s steps) popped t in
-    rw (e.stack_is, e.steps_are) (turn e.production e.choice t2)
+-- this part stands first
+part_first : {part : Nonterminal} (stack : List Symbol) → slice_get stack 0 ≡ Some (Part part) → stack ≡ Part part ∷ drop 1 stack
+part_first [] h = cc
+part_first {part = part} (s ∷ ss) h =
+    let same : s ≡ Part part = cc in
+    ap (λ x. x ∷ ss) same
 
-pub smaller : {l : Option Class} {part : Nonterminal} {stack rest new : List Symbol} {steps more : List Step}
-    → stack ≡ Part part ∷ rest → Expands l part rest steps new more → lead new < lead stack
-smaller {l = l} {part = part} {rest = rest} popped e =
-    let way : written e.production ≡ part = choose-way part l e.production e.choice in
-    rw (popped, e.stack_is) (subst (λ x. lead (body e.production ++ rest) < lead (Part x ∷ rest)) way (lead-body e.production rest))
+stuck_at : (k : Class) (stack : List Symbol) → IsSettled (Some k) stack → (IsAccepted k stack → ⊥) → IsStuck (Some k) stack
+stuck_at k [] settled no_fit = tt
+stuck_at k (Read t ∷ ss) settled no_fit = no_fit
+stuck_at k (Part part ∷ ss) settled no_fit = settled
 
-stuck_at_end : (s : Symbol) → IsToken s → IsStuckAt None s
-stuck_at_end (Read t) h = tt
-stuck_at_end (Part part) h = absurd (h part refl)
+stuck_at_end : (stack : List Symbol) → IsSettled None stack → (stack ≡ [] → ⊥) → IsStuck None stack
+stuck_at_end [] settled some = some refl
+stuck_at_end (Read t ∷ ss) settled some = tt
+stuck_at_end (Part part ∷ ss) settled some = settled
 
-pub refused_end : {stack ss : List Symbol} {steps more : List Step} {s : Symbol} → Turns None stack steps (s ∷ ss) more → IsToken s → Refuses None stack steps
-refused_end {ss = ss} {more = more} {s = s} t h = record { last_stack = s ∷ ss; last_steps = more; turns = t; stuck = stuck_at_end s h }
+pub turned : {l : Option Class} {part : Nonterminal} {p : Production} {first stack new : List Symbol} {none steps more : List Step}
+    → Turns l first none stack steps → slice_get stack 0 ≡ Some (Part part) → choose part l ≡ Some p → Expands p stack steps new more → Turns l first none new more
+turned {l = l} {p = p} {first = first} {stack = stack} {none = none} {steps = steps} t is choice e =
+    let t2 = subst (λ s. Turns l first none s steps) (part_first stack is) t in
+    rw (e.stack_is, e.steps_are) (turn p choice t2)
 
-stuck_at : (k : Class) (s : Symbol) → IsToken s → (Accepts s k → ⊥) → IsStuckAt (Some k) s
-stuck_at k (Read t) h no_fit = no_fit
-stuck_at k (Part part) h no_fit = absurd (h part refl)
+pub smaller : (l : Option Class) {part : Nonterminal} {p : Production} {stack new : List Symbol} {steps more : List Step}
+    → slice_get stack 0 ≡ Some (Part part) → choose part l ≡ Some p → Expands p stack steps new more → lead new < lead stack
+smaller l {part = part} {p = p} {stack = stack} is choice e =
+    let rest : List Symbol = drop 1 stack in
+    let below = subst (λ x. lead (body p ++ rest) < lead (Part x ∷ rest)) (choose-way part l p choice) (lead-body p rest) in
+    omega (arith, ap lead e.stack_is, ap lead (part_first stack is), below)
 
-pub refused_token : {k : Class} {stack ss : List Symbol} {steps more : List Step} {s : Symbol} → Turns (Some k) stack steps (s ∷ ss) more → IsToken s → (Accepts s k → ⊥) → Refuses (Some k) stack steps
-refused_token {k = k} {ss = ss} {more = more} {s = s} t h no_fit = record { last_stack = s ∷ ss; last_steps = more; turns = t; stuck = stuck_at k s h no_fit }
+pub settled_part : (l : Option Class) {part : Nonterminal} (stack : List Symbol) → slice_get stack 0 ≡ Some (Part part) → choose part l ≡ None → IsSettled l stack
+settled_part l stack is none = subst (IsSettled l) (sym (part_first stack is)) none
+
+pub settled_else : (l : Option Class) (stack : List Symbol) → ((part : Nonterminal) → slice_get stack 0 ≡ Some (Part part) → ⊥) → IsSettled l stack
+settled_else l [] h = tt
+settled_else l (Read t ∷ ss) h = tt
+settled_else l (Part part ∷ ss) h = absurd (h part refl)
+
+pub refused_token : {k : Class} {stack last : List Symbol} {steps more : List Step} → Settles (Some k) stack steps last more → (IsAccepted k last → ⊥) → Refuses (Some k) stack steps last more
+refused_token {k = k} {last = last} s no_fit = record { turns = s.turns; stuck = stuck_at k last s.settled no_fit }
+
+pub refused_end : {stack last : List Symbol} {steps more : List Step} → Settles None stack steps last more → (last ≡ [] → ⊥) → Refuses None stack steps last more
+refused_end {last = last} s some = record { turns = s.turns; stuck = stuck_at_end last s.settled some }
+
+pub took : {k : Class} {stack mid rest : List Symbol} {steps before new_steps : List Step} (popped : Option Symbol)
+    → Settles (Some k) stack steps mid before → IsAccepted k mid → Pops mid popped rest → new_steps ≡ before ++ Take ∷ [] → Takes k stack steps rest new_steps
+took {k = k} None s a pops is = absurd (subst (IsAccepted k) pops.0 a)
+took {k = k} {stack = stack} {steps = steps} {before = before} (Some symbol) s a pops is = record {
+  symbol = symbol;
+  before = before;
+  turns = subst (λ ss. Turns (Some k) stack steps ss before) pops s.turns;
+  accepted = subst (IsAccepted k) pops a;
+  steps_are = is;
+}
+
+pub rest_popped : (popped : Option Symbol) (stack rest : List Symbol) → Pops stack popped rest → rest ≡ drop 1 stack
+rest_popped None stack rest pops = pops.1 ∙ sym (ap (drop 1) pops.0)
+rest_popped (Some s) stack rest pops = sym (ap (drop 1) pops)

@@ -2,11 +2,11 @@ pub mod Accepts
 pub mod Grammar
 pub mod Derivation
 pub mod Values
+pub mod Begun
 pub mod Refusal
 pub mod Choice
 pub mod Turns
 pub mod Shortest
-pub mod Begun
 pub mod Spelling
 pub mod BuiltinNames
 pub mod Unsupported

@@ -1,6 +1,5 @@
 -- The shortest way to write what is on a stack. No definition of the language rests on it.
-use Rattle.std.specs.Prelude.{List, [], ◌++◌, ◌≡◌}
-use Rattle.sil_shape.specs.declared.classes.Class.{Class}
+use Rattle.std.specs.Prelude.{List, [], ◌∷◌, ◌++◌}
 use Rattle.sil_shape.specs.declared.grammar.Nonterminal.{Nonterminal}
 use Rattle.sil_shape.specs.declared.grammar.Nonterminal.TheVariants as n
 use Rattle.sil_shape.specs.declared.grammar.Symbol.{Symbol}
@@ -10,7 +9,6 @@ use Rattle.sil_shape.specs.declared.grammar.Production.TheVariants as p
 use Rattle.sil_shape.specs.declared.steps.Step.{Step}
 use Rattle.sil_shape.specs.declared.steps.Step.TheVariants.{Take, Expand}
 use Rattle.sil_shape.specs.Grammar.{body}
-use Rattle.sil_shape.specs.Derivation.{Derives}
 
 -- the production of each part that leads to the fewest tokens
 unfoldable pub shortest : Nonterminal → Production
@@ -106,9 +104,7 @@ abbrev pub after_step : Symbol → List Symbol
 after_step (Read t) = []
 after_step (Part part) = body (shortest part)
 
--- the steps went on until the whole stack was written
-pub record Completes (stack : List Symbol) (steps : List Step) (new_steps : List Step) : Type 0 where
-  pub classes : List Class
-  pub more : List Step
-  pub derives : Derives stack classes more
-  pub steps_are : new_steps ≡ steps ++ more
+-- the steps of the shortest way to write what is on a stack
+pub data Shortens : List Symbol → List Step → Type 0 where
+  written : Shortens [] []
+  step : {ss : List Symbol} {steps : List Step} → (s : Symbol) → Shortens (after_step s ++ ss) steps → Shortens (s ∷ ss) (shortest_step s ∷ steps)

@@ -3,14 +3,14 @@
 #![tactic(auto)]
 
 pub mod alternatives;
-pub mod begun;
 pub mod bodies;
 pub mod builtin_names;
 mod choice;
 pub mod classes;
 pub mod grammar;
 pub mod machine;
-mod shortest;
+pub mod shortest;
+pub mod shortest_steps;
 pub mod spelling;
 mod starts;
 pub mod steps;

@@ -1,30 +1,29 @@
 //! The machine that finds the derivation: it keeps its own stack of what the grammar still needs, so that no nesting
 //! of the text takes room on the stack of the program.
 
-ghost use Rattle.std.specs.Prelude.{◌≡◌, ◌++◌, ◌∷◌, [], List, ◌≤◌, ◌+◌, length, reverse, IfOk, OnOk, IfErr, IsTrue, MatchResult, MatchBool};
+ghost use Rattle.std.specs.Prelude.{◌≡◌, ◌++◌, ◌∷◌, [], List, ◌≤◌, ◌+◌, ◌↔◌, length, reverse, slice_get, IfOk, OnOk, IfErr, IsTrue, MatchResult, MatchBool};
 ghost use Rattle.sil_shape.specs.Grammar.{body};
-ghost use Rattle.sil_shape.specs.Choice.{choose};
-ghost use Rattle.sil_shape.specs.Turns.{Turns, Pops, Expands, Settles, Takes, Refuses};
+ghost use Rattle.sil_shape.specs.Turns.{Turns, IsAccepted, Pops, Expands, Settles, Takes, Refuses};
 ghost use Rattle.sil_shape.specs.Derivation.{start, IsDerivation};
 ghost use Rattle.sil_shape.specs.Values.{takes_of, values_left, IsEnough};
 ghost use Rattle.sil_shape.specs.Refusal.{IsRefusal};
-ghost use Rattle.sil_shape.specs.declared.machine.ShapeRefusal.TheVariants.{Memory};
+ghost use Rattle.sil_shape.specs.declared.machine.ShapeRefusal.TheVariants.{FirstBad, Memory};
 
 use crate::bodies::body;
 use crate::choice::{accepts, choose};
 use crate::classes::Class;
 use crate::grammar::{Nonterminal, Production, Symbol};
-use crate::steps::{Step, Top};
+use crate::steps::{Front, Step};
 use std::alloc::{AllocError, Global};
 
 /// Why a list of classes has no derivation.
-#[derive(Clone, Copy, Debug, PartialEq, Eq)]
+#[derive(Drop)]
 pub enum ShapeRefusal {
     /// there was no memory left
     Memory,
-    /// the index of the first class with which no list of a module's shape goes on; the length of the list where only
-    /// its end is wrong
-    FirstBad(usize),
+    /// the index of the first class with which no list of a module's shape goes on, or the length of the list where only
+    /// its end is wrong; and the derivation of the classes before it
+    FirstBad { place: usize, front: Front },
 }
 
 impl From<AllocError> for ShapeRefusal {
@@ -53,60 +52,69 @@ pub(crate) fn push_body(stack: &mut Vec<Symbol>, production: Production) -> Resu
     Ok(())
 }
 
-/// Puts the body that the next token chooses in the place of a part; `false` where it chooses none.
+/// What stands first.
+fn first(stack: &[Symbol]) -> Option<Symbol>
+    ensures { result ≡ slice_get (reverse stack.now) 0 }
+{
+    if stack.is_empty() {
+        None
+    } else {
+        Some(stack[stack.len() - 1])
+    }
+}
+
+/// Puts the body of a production in the place of the part that stands first.
 fn expand(
     stack: &mut Vec<Symbol>,
     steps: &mut Vec<Step>,
-    part: Nonterminal,
-    look: Option<Class>,
-) -> Result<bool, AllocError>
-    ensures { IfOk result (λ found. MatchBool found
-        (Expands look part (reverse stack.old.items) steps.old.items (reverse stack.new.items) steps.new.items)
-        ((choose part look ≡ None) × (stack.new ≡ stack.old) × (steps.new ≡ steps.old))) }
+    production: Production,
+) -> Result<(), AllocError>
+    ensures { OnOk result (Expands production (reverse stack.old.items) steps.old.items (reverse stack.new.items) steps.new.items) }
 {
-    let Some(production) = choose(part, look) else {
-        return Ok(false);
-    };
+    pop_symbol(stack);
     steps.push(Step::Expand(production))?;
     push_body(stack, production)?;
-    Ok(true)
+    Ok(())
 }
 
-/// Expands what stands first until that is a token or nothing, and takes it off.
+/// Expands what stands first until that is a token or nothing, or a part for which the next token chooses no body.
 fn settle(
     stack: &mut Vec<Symbol>,
     steps: &mut Vec<Step>,
     look: Option<Class>,
-) -> Result<Top, AllocError>
-    ensures { IfOk result (λ top. Settles look (reverse stack.old.items) steps.old.items top (reverse stack.new.items) steps.new.items) }
+) -> Result<(), AllocError>
+    ensures { OnOk result (Settles look (reverse stack.old.items) steps.old.items (reverse stack.new.items) steps.new.items) }
 {
-    while let Some(symbol) = pop_symbol(stack) {
-        let Symbol::Part(part) = symbol else {
-            return Ok(Top::Token(symbol));
+    while let Some(Symbol::Part(part)) = first(stack.as_slice()) {
+        let Some(production) = choose(part, look) else {
+            return Ok(());
         };
-        if !expand(stack, steps, part, look)? {
-            return Ok(Top::Stuck(part));
-        }
+        expand(stack, steps, production)?;
     }
-    Ok(Top::Nothing)
+    Ok(())
 }
 
-/// Takes the next token, where it suits what stands first.
-pub(crate) fn take(
-    stack: &mut Vec<Symbol>,
-    steps: &mut Vec<Step>,
-    class: Class,
-) -> Result<bool, AllocError>
+/// Whether a token of this class may stand for what stands first.
+fn first_accepts(stack: &[Symbol], class: Class) -> bool
+    ensures { IsTrue result ↔ IsAccepted class (reverse stack.now) }
+{
+    match first(stack) {
+        Some(symbol) => accepts(symbol, class),
+        None => false,
+    }
+}
+
+/// Takes the next token, where it suits what stands first; else that stays.
+fn take(stack: &mut Vec<Symbol>, steps: &mut Vec<Step>, class: Class) -> Result<bool, AllocError>
     ensures { IfOk result (λ taken. MatchBool taken
         (Takes class (reverse stack.old.items) steps.old.items (reverse stack.new.items) steps.new.items)
-        (Refuses (Some class) (reverse stack.old.items) steps.old.items)) }
+        (Refuses (Some class) (reverse stack.old.items) steps.old.items (reverse stack.new.items) steps.new.items)) }
 {
-    let Top::Token(symbol) = settle(stack, steps, Some(class))? else {
-        return Ok(false);
-    };
-    if !accepts(symbol, class) {
+    settle(stack, steps, Some(class))?;
+    if !first_accepts(stack.as_slice(), class) {
         return Ok(false);
     }
+    pop_symbol(stack);
     steps.push(Step::Take)?;
     Ok(true)
 }
@@ -115,22 +123,28 @@ pub(crate) fn take(
 fn end(stack: &mut Vec<Symbol>, steps: &mut Vec<Step>) -> Result<bool, AllocError>
     ensures { IfOk result (λ ends. MatchBool ends
         (Turns None (reverse stack.old.items) steps.old.items [] steps.new.items)
-        (Refuses None (reverse stack.old.items) steps.old.items)) }
+        (Refuses None (reverse stack.old.items) steps.old.items (reverse stack.new.items) steps.new.items)) }
 {
-    match settle(stack, steps, None)? {
-        Top::Nothing => Ok(true),
-        Top::Token(_) => Ok(false),
-        Top::Stuck(_) => Ok(false),
-    }
+    settle(stack, steps, None)?;
+    Ok(stack.is_empty())
 }
 
 /// The stack at the start: a whole module is needed.
-pub(crate) fn full_stack(alloc: Global) -> Result<Vec<Symbol>, AllocError>
+fn full_stack(alloc: Global) -> Result<Vec<Symbol>, AllocError>
     ensures { IfOk result (λ stack. reverse stack.items ≡ start) }
 {
     let mut stack = Vec::new(alloc);
     stack.push(Symbol::Part(Nonterminal::Module))?;
     Ok(stack)
+}
+
+fn first_bad(place: usize, steps: Vec<Step>, left: Vec<Symbol>) -> ShapeRefusal
+    ensures { result ≡ FirstBad place (record { steps = steps; left = left }) }
+{
+    ShapeRefusal::FirstBad {
+        place,
+        front: Front { steps, left },
+    }
 }
 
 /// The steps of the derivation of a module from these classes.
@@ -149,11 +163,11 @@ pub fn steps_of(alloc: Global, classes: &[Class]) -> Result<Vec<Step>, ShapeRefu
     let mut steps = Vec::new(alloc);
     for (place, class) in classes.iter().enumerate() {
         if !take(&mut stack, &mut steps, *class)? {
-            return Err(ShapeRefusal::FirstBad(place));
+            return Err(first_bad(place, steps, stack));
         }
     }
     if !end(&mut stack, &mut steps)? {
-        return Err(ShapeRefusal::FirstBad(classes.len()));
+        return Err(first_bad(classes.len(), steps, stack));
     }
     Ok(steps)
 }

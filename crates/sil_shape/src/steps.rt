@@ -1,6 +1,6 @@
 //! The steps of a leftmost derivation.
 
-use crate::grammar::{Nonterminal, Production, Symbol};
+use crate::grammar::{Production, Symbol};
 
 /// One step of a leftmost derivation: the next token is taken, or the part that stands first gives way to what a
 /// production writes.
@@ -10,11 +10,10 @@ pub enum Step {
     Expand(Production),
 }
 
-/// What stands first on the stack once no part there can give way.
-#[derive(Clone, Copy)]
-pub enum Top {
-    Token(Symbol),
-    Nothing,
-    /// the next token chooses no production of this part
-    Stuck(Nonterminal),
+/// A derivation of a module that has come so far.
+#[derive(Drop)]
+pub struct Front {
+    pub steps: Vec<Step>,
+    /// What is still to be written: the symbol that stands first is the last one here.
+    pub left: Vec<Symbol>,
 }

@@ -69,7 +69,7 @@ fn goes_on(alloc: Global, front: &[Class], next: Class) -> Result<bool, AllocErr
     classes.push(next)?;
     match steps_of(alloc, classes.as_slice()) {
         Ok(_steps) => Ok(true),
-        Err(ShapeRefusal::FirstBad(place)) => Ok(place != front.len()),
+        Err(ShapeRefusal::FirstBad { place, .. }) => Ok(place != front.len()),
         Err(ShapeRefusal::Memory) => Err(AllocError),
     }
 }

@@ -1,15 +1,18 @@
-use Rattle.std.proofs.lemmas.Bool.{MatchBool-at_true}
+use Rattle.std.proofs.Common.{◌∙◌, ap, reverse, sym}
+use Rattle.std.specs.Prelude.{Some, slice_get}
 use Rattle.sil_shape.specs.Turns.{stay}
 use Rattle.sil_shape.proofs.TurnLemmas.{turned, smaller}
 use Rattle.sil_shape.proofs.machine.settle.Goals as goal
 
-pub loop-symbol-init : goal.loop-symbol-init
-loop-symbol-init c = stay
+pub loop-part-init : goal.loop-part-init
+loop-part-init c = stay
 
-pub loop-symbol-smaller : goal.loop-symbol-smaller
-loop-symbol-smaller c =
-    smaller (rw c.in-Part.is at c.in-Some.ensures) (MatchBool-at_true _ _ c.if-not-branch.false c.in_ok-expand.ensures)
+pub loop-part-smaller : goal.loop-part-smaller
+loop-part-smaller c =
+    let now = ap (λ xs. slice_get (reverse xs) 0) c.as_slice.ensures.value in
+    smaller _ (sym now ∙ sym c.first.ensures ∙ c.in-Some-Part.is ∙ ap Some c.in-Some-Part.field-0-is) (sym c.in-Some.ensures) c.in_ok-expand.ensures
 
-pub loop-symbol-preserved : goal.loop-symbol-preserved
-loop-symbol-preserved c =
-    turned c.loop-symbol.invariant (rw c.in-Part.is at c.in-Some.ensures) (MatchBool-at_true _ _ c.if-not-branch.false c.in_ok-expand.ensures)
+pub loop-part-preserved : goal.loop-part-preserved
+loop-part-preserved c =
+    let now = ap (λ xs. slice_get (reverse xs) 0) c.as_slice.ensures.value in
+    turned c.loop-part.invariant (sym now ∙ sym c.first.ensures ∙ c.in-Some-Part.is ∙ ap Some c.in-Some-Part.field-0-is) (sym c.in-Some.ensures) c.in_ok-expand.ensures

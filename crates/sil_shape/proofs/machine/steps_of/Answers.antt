@@ -1,4 +1,6 @@
+use Rattle.std.proofs.Common.{subst, sym}
 use Rattle.std.proofs.lemmas.Bool.{MatchBool-at_true, MatchBool-at_false}
+use Rattle.sil_shape.specs.Refusal.{IsRefusal}
 use Rattle.sil_shape.proofs.Reached.{Reached-start, Reached-next, Reached-all, first_bad_inside, first_bad_end}
 use Rattle.sil_shape.proofs.ValuesLemmas.{takes_of-derives, values_left-derives, IsEnough-derives}
 use Rattle.sil_shape.proofs.machine.steps_of.Goals as goal
@@ -8,7 +10,8 @@ loop-place-init c = rw (c.in_ok-stack.ensures, c.new-steps.ensures.items) Reache
 
 pub returns-then-not-branch-clause-refused : goal.returns-then-not-branch-clause-refused
 returns-then-not-branch-clause-refused c =
-    first_bad_inside _ _ _ c.loop-place-test.true c.loop-place.invariant (MatchBool-at_false _ _ c.if-not-branch.true c.in_ok-take.ensures)
+    let refused = first_bad_inside _ _ c.loop-place.invariant _ c.loop-place-test.true (MatchBool-at_false _ _ c.if-not-branch.true c.in_ok-take.ensures) in
+    subst (IsRefusal c.args.classes.now) (sym c.first_bad.ensures) refused
 
 pub loop-place-preserved : goal.loop-place-preserved
 loop-place-preserved c =
@@ -16,7 +19,8 @@ loop-place-preserved c =
 
 pub returns-then-not-branch-2-clause-refused : goal.returns-then-not-branch-2-clause-refused
 returns-then-not-branch-2-clause-refused c =
-    first_bad_end _ _ c.loop-place-test.false c.loop-place.invariant (MatchBool-at_false _ _ c.if-not-branch-2.true c.in_ok-end.ensures)
+    let refused = first_bad_end _ _ c.loop-place.invariant c.loop-place-test.false (MatchBool-at_false _ _ c.if-not-branch-2.true c.in_ok-end.ensures) in
+    subst (IsRefusal c.args.classes.now) (sym c.first_bad-then-not-branch-2.ensures) refused
 
 pub returns : goal.returns
 returns c =

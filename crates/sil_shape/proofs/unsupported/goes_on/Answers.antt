@@ -11,4 +11,4 @@ pub returns-in-Err-FirstBad : goal.returns-in-Err-FirstBad
 returns-in-Err-FirstBad c =
     let e = c.as_slice.ensures.value ∙ c.in_ok-push.ensures.items ∙ ap (λ l. l ++ c.args.next ∷ []) c.in_ok-classes.ensures.items in
     goes_on_unless c.args.front.now c.as_slice.result.now c.args.next c.in-Err-FirstBad.place e c.requires
-    (rw c.in-Err-FirstBad.field-0-is at c.in-Err-FirstBad.ensures.refused)
+    (rw c.in-Err-FirstBad.field-0-is at c.in-Err-FirstBad.ensures.refused).0
