@@ -1,14 +1,18 @@
 -- A text has one list of tokens with one list of steps, so it spells one module or none: for `read`.
-use Rattle.std.proofs.Common.{◌≡◌, ℕ, ◌<◌, ◌≤◌, List, length, map, take, Option, Some, None, ap, sym, subst, ◌∙◌, arith}
+use Rattle.std.proofs.Common.{◌≡◌, ℕ, ◌<◌, ◌≤◌, List, ◌++◌, length, map, reverse, take, Option, Some, None, ap, sym, subst, ◌∙◌, arith}
 use Rattle.std.specs.Prelude.{Result, IsErrAnd, IfErr}
-use Rattle.std.proofs.lemmas.List.{length-map, take_all}
+use Rattle.std.proofs.lemmas.List.{length-map}
 use Rattle.std.proofs.lemmas.Result.{err_from_is_err_and}
 use Rattle.sil_lexer.specs.Lexes.{Lexeme, Lexes}
 use Rattle.sil_lexer.specs.Lexing.{Lexing, IsLexingOf, lexeme_of, lexemes_of}
 use Rattle.sil_lexer.proofs.UniqueLemmas.{one_way}
 use Rattle.sil_shape.specs.declared.steps.Step.{Step}
+use Rattle.sil_shape.specs.declared.steps.Front.{Front}
 use Rattle.sil_shape.specs.Derivation.{Derives, start}
+use Rattle.sil_shape.specs.Begun.{LeadsTo}
+use Rattle.sil_shape.specs.Shortest.{Shortens}
 use Rattle.sil_shape.proofs.DerivedOnce.{steps_once}
+use Rattle.sil_shape.proofs.Shortened.{Shortens-derives}
 use Rattle.written_tree.specs.declared.fault.Fault.{Fault}
 use Rattle.written_tree.specs.declared.written_module.WrittenModule.{WrittenModule}
 use Rattle.written_modules.specs.Replay.{first_fault, Writes}
@@ -75,24 +79,30 @@ pub misnamed_spells_none : (text : List ℕ) (w : WrittenModule) (fault : Fault)
 misnamed_spells_none text w fault spells wrong m s =
     never (ap name_fault (written_once text w s.written spells s.spells) ∙ wrong) s.names
 
+-- the first fault of a front that is completed in the shortest way
+pub front_found : (text : List ℕ) (lexing : Lexing) (count : ℕ) (front : Front) (fault : Option Fault)
+    → LeadsTo (map token_class (take count (lexemes_of text lexing))) front.steps.items (reverse front.left.items)
+    → (rest : List Step) × Shortens (reverse front.left.items) rest × (fault ≡ first_fault (front.steps.items ++ rest) (take count (lexemes_of text lexing)))
+    → IsFrontFault text lexing count fault
+front_found text lexing count front fault leads found =
+    let behind = Shortens-derives found.1 in
+    record { steps = front.steps.items ++ found.0; begun = (behind.0, leads behind.0 found.0 behind.1); first = found.2 }
+
 module _ (text : List ℕ) (lexing : Lexing) (is : IsLexingOf text lexing) where
   module _ (steps : List Step) (whole : IsWhole text lexing steps) where
     lexed : Lexes text text (lexemes_of text lexing) None
     lexed = subst (Lexes text text (lexemes_of text lexing)) whole.reached is.lexed
 
-    all : take (length lexing.tokens) (lexemes_of text lexing) ≡ lexemes_of text lexing
-    all = take_all (length lexing.tokens) (lexemes_of text lexing) (omega (arith, length-map lexing.tokens (lexeme_of text)))
-
     -- nor one whose steps have a fault
-    pub fault_spells_none : (fault : Fault) → first_fault steps (take (length lexing.tokens) (lexemes_of text lexing)) ≡ Some fault → SpellsNone text
+    pub fault_spells_none : (fault : Fault) → first_fault steps (lexemes_of text lexing) ≡ Some fault → SpellsNone text
     fault_spells_none fault first m s =
         let by = by_these text (lexemes_of text lexing) steps s.written lexed whole.derived.derives s.spells in
-        never first (ap (first_fault steps) all ∙ by.no_fault)
+        never first by.no_fault
 
-    pub faulty_whole : (fault : Fault) → first_fault steps (take (length lexing.tokens) (lexemes_of text lexing)) ≡ Some fault → IsFaulty text fault
-    faulty_whole fault first = in_whole (lexemes_of text lexing) steps lexed whole.derived.derives (ap (first_fault steps) (sym all) ∙ first)
+    pub faulty_whole : (fault : Fault) → first_fault steps (lexemes_of text lexing) ≡ Some fault → IsFaulty text fault
+    faulty_whole fault first = in_whole (lexemes_of text lexing) steps lexed whole.derived.derives first
 
-  module _ (bad : BadPlace) (count : ℕ) (fault : Option Fault) (broken : IsBroken text lexing bad count) (found : IsFrontFault text lexing count fault) where
+  module _ (bad : BadPlace) (count : ℕ) (fault : Option Fault) (left : Front) (broken : IsBroken text lexing bad count left) (found : IsFrontFault text lexing count fault) where
     front : IsFront text bad
     front = record {
       first_bad = broken.first;

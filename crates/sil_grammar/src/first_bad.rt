@@ -1,9 +1,10 @@
 //! Finds where a text first goes wrong as a list of tokens, and how.
 //! It asks for the shape of a module alone: names may be unknown, numbers and types of any size.
 
-ghost use Rattle.std.specs.Prelude.{◌≡◌, ◌↔◌, ◌<◌, length, map, IfOk, IsNone, MatchOption, None, Some};
+ghost use Rattle.std.specs.Prelude.{◌≡◌, [], ◌↔◌, ◌<◌, length, map, IfOk, IsNone, MatchOption, None, Some};
 ghost use Rattle.sil_lexer.specs.Lexing.{IsLexingOf, lexemes_of};
 ghost use Rattle.sil_lexer.specs.Places.{IsInLimit};
+ghost use Rattle.sil_shape.specs.declared.steps.Front.{Front};
 ghost use Rattle.sil_shape.specs.Derivation.{IsFirstBad};
 ghost use Rattle.sil_grammar.specs.declared.first_bad.BadPlace.{BadPlace};
 ghost use Rattle.sil_grammar.specs.declared.first_bad.Shape.TheVariants.{Whole, Broken};
@@ -16,7 +17,7 @@ use sil_ast::{Exhausted, Place};
 use sil_lexer::{LexRefusal, LexStop, Tokens, end_place, lex};
 use sil_shape::classes::Class;
 use sil_shape::machine::{ShapeRefusal, steps_of};
-use sil_shape::steps::Step;
+use sil_shape::steps::{Front, Step};
 use sil_shape::unsupported::is_unsupported;
 use std::alloc::Global;
 
@@ -47,8 +48,12 @@ pub struct BadPlace {
 pub(crate) enum Shape {
     /// Its tokens reach its end, and these steps derive them.
     Whole(Vec<Step>),
-    /// It goes wrong here, and the first `count` tokens begin a module.
-    Broken { bad: BadPlace, count: usize },
+    /// It goes wrong here, and the first `count` tokens begin a module, by this front of a derivation.
+    Broken {
+        bad: BadPlace,
+        count: usize,
+        front: Front,
+    },
 }
 
 fn bad_stop(stop: LexRefusal) -> BadPlace
@@ -71,14 +76,18 @@ fn bad_stop(stop: LexRefusal) -> BadPlace
 }
 
 /// The shape of tokens that these steps derive, up to where they stop.
-fn shape_to_stop(tokens: &Tokens, steps: Vec<Step>) -> Shape
+fn shape_to_stop(alloc: Global, tokens: &Tokens, steps: Vec<Step>) -> Shape
     ensures { MatchOption tokens.now.stop (result ≡ Whole steps)
-        (λ stop. result ≡ Broken (bad_stop stop) (length tokens.now.tokens)) }
+        (λ stop. (front : Front) × (result ≡ Broken (bad_stop stop) (length tokens.now.tokens) front) × (front.steps ≡ steps) × (front.left.items ≡ [])) }
 {
     match tokens.stop() {
         Some(stop) => Shape::Broken {
             bad: bad_stop(stop),
             count: tokens.len(),
+            front: Front {
+                steps,
+                left: Vec::new(alloc),
+            },
         },
         None => Shape::Whole(steps),
     }
@@ -162,10 +171,15 @@ pub(crate) fn shape_of(
     ensures { IfOk result (IsShapeOf text.now tokens.now) }
 {
     match steps_of(alloc, classes) {
-        Ok(steps) => Ok(shape_to_stop(tokens, steps)),
-        Err(ShapeRefusal::FirstBad(count)) => {
+        Ok(steps) => Ok(shape_to_stop(alloc, tokens, steps)),
+        Err(
+            ShapeRefusal::FirstBad {
+                place: count,
+                front,
+            },
+        ) => {
             let bad = bad_token_or_stop(alloc, text, tokens, classes, count)?;
-            Ok(Shape::Broken { bad, count })
+            Ok(Shape::Broken { bad, count, front })
         }
         Err(ShapeRefusal::Memory) => Err(Exhausted),
     }
@@ -180,7 +194,7 @@ fn first_bad_of(alloc: Global, text: &[u8], tokens: &Tokens) -> Result<Option<Ba
     let classes = classes_of(alloc, text, tokens)?;
     match shape_of(alloc, text, tokens, classes.as_slice())? {
         Shape::Whole(_steps) => Ok(None),
-        Shape::Broken { bad, count: _ } => Ok(Some(bad)),
+        Shape::Broken { bad, .. } => Ok(Some(bad)),
     }
 }
 

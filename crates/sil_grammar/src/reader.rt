@@ -1,10 +1,11 @@
 //! Reads the module that a text spells.
 
-ghost use Rattle.std.specs.Prelude.{◌≡◌, ℕ, List, ◌≤◌, length, map, take, IfOk, IfErr};
+ghost use Rattle.std.specs.Prelude.{◌≡◌, ℕ, List, ◌≤◌, length, map, reverse, take, IfOk, IfErr};
 ghost use Rattle.sil_ast.specs.declared.module.Module.{Module};
 ghost use Rattle.sil_lexer.specs.Lexing.{IsLexingOf, Lexing, lexemes_of};
 ghost use Rattle.sil_lexer.specs.Places.{IsInLimit};
-ghost use Rattle.sil_shape.specs.Derivation.{BeginsShape};
+ghost use Rattle.sil_shape.specs.declared.steps.Front.{Front};
+ghost use Rattle.sil_shape.specs.Begun.{LeadsTo};
 ghost use Rattle.numbered_form.specs.NumberedForm.{IsNumbered};
 ghost use Rattle.sil_grammar.specs.Classes.{token_class};
 ghost use Rattle.sil_grammar.specs.Front.{IsFrontFault};
@@ -18,11 +19,9 @@ use crate::refusal::{ReadRefusal, refusal_of_bad, refusal_of_fault};
 use name_resolution::{NameRefusal, resolve};
 use sil_ast::{Exhausted, Module};
 use sil_lexer::{Tokens, lex};
-use sil_shape::begun::begun_steps;
-use sil_shape::classes::Class;
-use sil_shape::steps::Step;
+use sil_shape::steps::{Front, Step};
 use std::alloc::Global;
-use written_modules::build;
+use written_modules::{build, front_fault};
 use written_tree::{Fault, WrittenModule};
 
 /// The module that a text spells which writes `written`.
@@ -49,35 +48,33 @@ fn read_whole(
     ensures found { IfOk result (λ m. Spells m text.now) }
     ensures refused { IfErr result (IsRefusalOf text.now) }
 {
-    let built = build(alloc, text, tokens, tokens.len(), steps)?;
+    let built = build(alloc, text, tokens, steps)?;
     match built.fault {
         Some(fault) => Err(refusal_of_fault(fault)),
         None => numbered(alloc, &built.written),
     }
 }
 
-/// The first fault in the first `count` tokens of a text, which begin a module.
-fn front_fault(
+/// The first fault in the first `count` tokens of a text, which this front of a derivation takes.
+fn fault_before(
     alloc: Global,
     text: &[u8],
     tokens: &Tokens,
     count: usize,
-    classes: &[Class],
+    front: Front,
 ) -> Result<Option<Fault>, Exhausted>
     requires lexed { IsLexingOf text.now tokens.now }
     requires inside { count ≤ length tokens.now.tokens }
-    requires classes { classes.now ≡ map token_class (take count (lexemes_of text.now tokens.now)) }
-    requires begins { BeginsShape classes.now }
+    requires leads { LeadsTo (map token_class (take count (lexemes_of text.now tokens.now))) front.steps.items (reverse front.left.items) }
     ensures { IfOk result (IsFrontFault text.now tokens.now count) }
 {
-    let steps = begun_steps(alloc, classes)?;
-    let built = build(alloc, text, tokens, count, steps.as_slice())?;
-    Ok(built.fault)
+    let fault = front_fault(alloc, text, tokens, count, front)?;
+    Ok(fault)
 }
 
 /// The refusal of a text that goes wrong at `bad`, for the first fault in what stands before, if there is one.
 fn earlier_refusal(fault: Option<Fault>, bad: BadPlace) -> ReadRefusal
-    ensures { (text : List ℕ) (lexing : Lexing) (count : ℕ) → IsLexingOf text lexing → IsBroken text lexing bad count
+    ensures { (text : List ℕ) (lexing : Lexing) (count : ℕ) (front : Front) → IsLexingOf text lexing → IsBroken text lexing bad count front
         → IsFrontFault text lexing count fault → IsRefusalOf text result }
 {
     match fault {
@@ -101,8 +98,8 @@ pub fn read(alloc: Global, text: &[u8]) -> Result<Module, ReadRefusal>
     let classes = classes_of(alloc, text, &tokens)?;
     match shape_of(alloc, text, &tokens, classes.as_slice())? {
         Shape::Whole(steps) => read_whole(alloc, text, &tokens, steps.as_slice()),
-        Shape::Broken { bad, count } => {
-            let fault = front_fault(alloc, text, &tokens, count, &classes[..count])?;
+        Shape::Broken { bad, count, front } => {
+            let fault = fault_before(alloc, text, &tokens, count, front)?;
             Err(earlier_refusal(fault, bad))
         }
     }

@@ -1,21 +1,22 @@
 -- The steps of a derivation are replayed from the last to the first: there is a token at each step that takes one, and
 -- there are the values of its body at each production.
-use Rattle.std.proofs.Common.{◌≡◌, ℕ, ◌+◌, ◌-◌, ◌<◌, ◌≤◌, List, [], ◌∷◌, length, drop, get_or, refl, ap, sym, subst, ◌∙◌, arith}
+use Rattle.std.proofs.Common.{◌≡◌, ℕ, ◌+◌, ◌-◌, ◌<◌, ◌≤◌, List, [], ◌∷◌, ◌++◌, length, drop, get_or, refl, ap, sym, subst, ◌∙◌, arith}
 use Rattle.std.specs.Prelude.{Option}
-use Rattle.std.proofs.lemmas.List.{drop_more, drop-drop, length-drop}
+use Rattle.std.proofs.Math.ListN.{get_or-append}
+use Rattle.std.proofs.lemmas.List.{drop_more, drop-append-le, drop-drop, length-append, length-drop}
 use Rattle.sil_lexer.specs.Lexes.{Lexeme}
 use Rattle.sil_shape.specs.declared.grammar.Production.{Production}
 use Rattle.sil_shape.specs.declared.steps.Step.{Step}
 use Rattle.sil_shape.specs.declared.steps.Step.TheVariants.{Take, Expand}
 use Rattle.sil_shape.specs.Grammar.{body}
 use Rattle.sil_shape.specs.Values.{takes_of, values_left, IsEnough}
-use Rattle.sil_shape.proofs.ValuesLemmas.{takes_of-split, IsEnough-drop}
+use Rattle.sil_shape.proofs.ValuesLemmas.{takes_of-append, takes_of-split, IsEnough-drop}
 use Rattle.written_tree.specs.declared.fault.Fault.{Fault}
 use Rattle.written_modules.specs.declared.value.Value.{Value}
 use Rattle.written_tree.specs.Faults.{earlier}
 use Rattle.written_modules.specs.PartFaults.{part_fault}
 use Rattle.written_modules.specs.Replay.{first_fault, parts_of, reduced, replay}
-use Rattle.written_modules.specs.Taken.{taken}
+use Rattle.written_modules.proofs.LeafLemmas.{taken}
 
 pub drop_next : {X : Type 0} (i : ℕ) (xs : List X) {all rest : List X} {x : X} → all ≡ drop i xs → all ≡ x ∷ rest → rest ≡ drop (i + 1) xs
 drop_next i xs {rest = rest} {x = x} e f =
@@ -111,3 +112,26 @@ pub fault_expanded : (steps : List Step) (lexemes : List Lexeme) (n : ℕ) (d : 
 fault_expanded steps lexemes n d p values fault above below is are fault_is =
     let behind : drop (n - 1) steps ≡ Expand p ∷ drop n steps = drop_step steps n d (Expand p) above below is in
     rw behind (ap (λ vs. earlier (part_fault p (parts_of p vs)) fault) are ∙ ap (earlier (part_fault p (parts_of p (replay (drop n steps) lexemes)))) fault_is)
+
+-- steps with others behind them
+module _ (steps rest : List Step) where
+  pub within : (n : ℕ) → n ≤ length steps → n ≤ length (steps ++ rest)
+  within n h = omega (arith, h, length-append steps rest)
+
+  pub among_all : (n : ℕ) (d step : Step) → 0 < n → n ≤ length steps → get_or steps (n - 1) d ≡ step → get_or (steps ++ rest) (n - 1) d ≡ step
+  among_all n d step above below is = get_or-append steps rest d (n - 1) (omega arith) ∙ is
+
+  pub takes_behind : (n : ℕ) → n ≤ length steps → takes_of rest ≤ takes_of (drop n (steps ++ rest))
+  takes_behind n h = omega (arith, ap takes_of (drop-append-le n steps rest h), takes_of-append (drop n steps) rest)
+
+-- all steps are replayed
+pub none_before : (steps : List Step) (i token : ℕ) → i ≤ 0 → takes_of (drop i steps) + token ≡ takes_of steps → token ≡ 0
+none_before steps i token first takes =
+    let i0 : i ≡ 0 = omega (arith, first) in
+    omega (arith, takes, ap (λ n. takes_of (drop n steps)) i0)
+
+pub all_replayed : {X : Type 0} (over : List Step → List Lexeme → X) (steps : List Step) (lexemes : List Lexeme) (i token : ℕ) (x : X) → i ≤ 0
+    → takes_of (drop i steps) + token ≡ takes_of steps → x ≡ over (drop i steps) (drop token lexemes) → x ≡ over steps lexemes
+all_replayed over steps lexemes i token x first takes is =
+    let i0 : i ≡ 0 = omega (arith, first) in
+    is ∙ ap (λ n. over (drop n steps) (drop token lexemes)) i0 ∙ ap (λ n. over steps (drop n lexemes)) (none_before steps i token first takes)

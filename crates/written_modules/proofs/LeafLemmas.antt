@@ -1,5 +1,5 @@
 -- What is taken at a token that is there.
-use Rattle.std.proofs.Common.{◌≡◌, ℕ, ◌+◌, ◌<◌, ◌≤◌, List, ◌∷◌, length, take, drop, get_or, ap, sym, ◌∙◌, arith}
+use Rattle.std.proofs.Common.{◌≡◌, ℕ, ◌+◌, ◌<◌, ◌≤◌, List, [], ◌∷◌, length, take, drop, get_or, ap, sym, ◌∙◌, arith}
 use Rattle.std.proofs.Math.ListN.{get_or-map}
 use Rattle.std.proofs.lemmas.List.{drop_more, get_or-take, length-map, length-take-le}
 use Rattle.sil_lexer.specs.declared.token.Token.{Token}
@@ -7,9 +7,14 @@ use Rattle.sil_lexer.specs.declared.token.TokenKind.TheVariants.{Word}
 use Rattle.sil_lexer.specs.Lexes.{Lexeme}
 use Rattle.sil_lexer.specs.Lexing.{Lexing, lexeme_of, lexemes_of}
 use Rattle.written_modules.specs.declared.value.Value.{Value}
+use Rattle.written_modules.specs.declared.value.Value.TheVariants as v
 use Rattle.written_modules.specs.Meaning.{leaf_of}
 use Rattle.written_modules.specs.Replay.{IsLeafAt}
-use Rattle.written_modules.specs.Taken.{taken}
+
+-- what a step that takes a token stands for: the first of the tokens that are left, or nothing where none is left
+abbrev pub taken : List Lexeme → Value
+taken [] = v.Nothing
+taken (l ∷ lexemes) = leaf_of l
 
 some_token : Token
 some_token = record { kind = Word; place = record { offset = 0; line = 0; column = 0 }; length = 0 }

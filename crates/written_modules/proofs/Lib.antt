@@ -1,4 +1,5 @@
+pub mod LeafLemmas
 pub mod BuildLemmas
 pub mod FoundLemmas
+pub mod LackingLemmas
 pub mod WholeLemmas
-pub mod LeafLemmas

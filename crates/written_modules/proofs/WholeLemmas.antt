@@ -1,6 +1,8 @@
 -- A derivation of a module begins with the module's own production, and leaves one value, the module.
-use Rattle.std.proofs.Common.{◌≡◌, List, [], ◌∷◌, length, refl, ap, sym, subst, ◌∙◌, arith}
+use Rattle.std.proofs.Common.{◌≡◌, ℕ, ◌+◌, ◌≤◌, List, [], ◌∷◌, ◌++◌, length, take, refl, ap, sym, subst, ◌∙◌, arith, length-append}
+use Rattle.std.proofs.lemmas.List.{append-nil, length-map, take_all}
 use Rattle.sil_lexer.specs.Lexes.{Lexeme}
+use Rattle.sil_lexer.specs.Lexing.{Lexing, lexeme_of, lexemes_of}
 use Rattle.sil_shape.specs.declared.classes.Class.{Class}
 use Rattle.sil_shape.specs.declared.grammar.Nonterminal.TheVariants as n
 use Rattle.sil_shape.specs.declared.grammar.Production.{Production}
@@ -9,9 +11,13 @@ use Rattle.sil_shape.specs.declared.grammar.Symbol.{Symbol}
 use Rattle.sil_shape.specs.declared.grammar.Symbol.TheVariants.{Part}
 use Rattle.sil_shape.specs.declared.steps.Step.{Step}
 use Rattle.sil_shape.specs.declared.steps.Step.TheVariants.{Expand}
+use Rattle.sil_shape.specs.Begun.{LeadsTo}
 use Rattle.sil_shape.specs.Derivation.{Accepts, Derives, nothing, rule, start, token}
 use Rattle.sil_shape.specs.Grammar.{written}
-use Rattle.sil_shape.proofs.ValuesLemmas.{values_left-derives}
+use Rattle.sil_shape.specs.Shortest.{Shortens}
+use Rattle.sil_shape.specs.Values.{takes_of, IsEnough}
+use Rattle.sil_shape.proofs.Shortened.{Shortens-derives}
+use Rattle.sil_shape.proofs.ValuesLemmas.{takes_of-append, takes_of-derives, values_left-derives, IsEnough-derives}
 use Rattle.written_modules.specs.declared.value.Value.{Value}
 use Rattle.written_modules.specs.declared.value.Value.TheVariants as v
 use Rattle.written_tree.specs.declared.written_module.WrittenModule.{WrittenModule}
@@ -62,3 +68,24 @@ one_module {steps = steps} lexemes d =
     let e : replay steps lexemes ≡ v.Module whole.written ∷ whole.rest = ap (λ s. replay s lexemes) first.is ∙ whole.is in
     let one : length (replay steps lexemes) ≡ 1 = length-replay steps lexemes ∙ values_left-derives d in
     record { written = whole.written; is = e ∙ alone (v.Module whole.written) whole.rest (ap length (sym e) ∙ one) }
+
+-- nothing stands behind all steps, and all tokens are taken
+pub all_of : {X : Type 0} (over : List Step → List Lexeme → X) (steps : List Step) (text : List ℕ) (lexing : Lexing) (count : ℕ) → count ≡ length lexing.tokens
+    → over (steps ++ []) (take count (lexemes_of text lexing)) ≡ over steps (lexemes_of text lexing)
+all_of over steps text lexing count all =
+    let long : length (lexemes_of text lexing) ≤ count = omega (arith, all, length-map lexing.tokens (lexeme_of text)) in
+    ap (λ s. over s (take count (lexemes_of text lexing))) (append-nil steps) ∙ ap (over steps) (take_all count (lexemes_of text lexing) long)
+
+-- a derivation of a module that begins with some classes, up to what is left, and on from there
+module _ (classes : List Class) (steps : List Step) (left : List Symbol) (leads : LeadsTo classes steps left) {rest : List Step} (way : Shortens left rest) where
+  pub completed : (more : List Class) × Derives start (classes ++ more) (steps ++ rest)
+  completed = let behind = Shortens-derives way in (behind.0, leads behind.0 rest behind.1)
+
+  pub takes_before : takes_of steps ≡ length classes
+  unfolding completed
+  takes_before =
+      let behind = Shortens-derives way in
+      omega (arith, takes_of-derives completed.1, takes_of-append steps rest, takes_of-derives behind.1, length-append classes behind.0)
+
+  pub enough_whole : IsEnough (steps ++ rest)
+  enough_whole = IsEnough-derives completed.1

@@ -4,6 +4,6 @@ pub mod Replay
 pub mod Types
 pub mod Values
 pub mod Found
-pub mod Taken
+pub mod Lacking
 pub mod Opened
 pub mod Sections

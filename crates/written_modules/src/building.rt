@@ -1,21 +1,28 @@
 //! The second pass of the reader: from the last step to the first, it builds what the parts of the text stand for, and
 //! keeps the first fault.
 
-ghost use Rattle.std.specs.Prelude.{◌≡◌, ◌≤◌, List, length, take, IfOk};
+ghost use Rattle.std.specs.Prelude.{◌≡◌, ◌≤◌, ◌++◌, List, length, reverse, take, IfOk};
 ghost use Rattle.sil_lexer.specs.Lexing.{IsLexingOf, lexemes_of};
 ghost use Rattle.sil_shape.specs.declared.classes.Class.{Class};
+ghost use Rattle.sil_shape.specs.declared.steps.Step.{Step};
+ghost use Rattle.sil_shape.specs.Begun.{LeadsTo};
 ghost use Rattle.sil_shape.specs.Derivation.{start, Derives};
+ghost use Rattle.sil_shape.specs.Shortest.{Shortens};
 ghost use Rattle.sil_shape.specs.Values.{takes_of, IsEnough};
+ghost use Rattle.written_modules.specs.Lacking.{waiting};
 ghost use Rattle.written_modules.specs.Replay.{first_fault, replay, Writes};
 
-use crate::leaves::taken;
+use crate::lacking::fill;
+use crate::leaves::leaf_at;
 use crate::part_faults::part_fault;
 use crate::prepended::Prepended;
 use crate::reduce::reduce;
 use crate::value::Value;
 use sil_ast::Exhausted;
 use sil_lexer::Tokens;
-use sil_shape::steps::Step;
+use sil_shape::bodies::body;
+use sil_shape::grammar::Symbol;
+use sil_shape::steps::{Front, Step};
 use std::alloc::Global;
 use written_tree::{Fault, WrittenModule, earlier};
 
@@ -30,74 +37,96 @@ pub struct Built {
 /// What a list of steps leaves behind.
 #[derive(Drop)]
 struct Replayed {
+    /// The values that were built. Behind them are those of the symbols that are left.
     values: Prepended<Value>,
+    left: Vec<Symbol>,
     fault: Option<Fault>,
 }
 
-/// How many tokens the steps take.
-fn takes_of(steps: &[Step]) -> usize
-    ensures { result ≡ takes_of steps.now }
-{
-    let mut count = 0;
-    for step in steps {
-        if let Step::Take = step {
-            count += 1;
-        }
-    }
-    count
-}
-
-/// The values that the steps build, that of the first step first, and the first fault in them.
+/// The values that steps build which take the first `count` tokens, that of the first step first, and the first fault in
+/// them. Behind the steps the symbols that are left are written in the shortest way, with no tokens.
 fn replay(
     alloc: Global,
     text: &[u8],
     tokens: &Tokens,
     count: usize,
     steps: &[Step],
+    left: Vec<Symbol>,
 ) -> Result<Replayed, Exhausted>
+    ghost rest: { List Step }
     requires lexed { IsLexingOf text.now tokens.now }
     requires inside { count ≤ length tokens.now.tokens }
-    requires enough { IsEnough steps.now }
-    ensures values { IfOk result (λ replayed. replayed.values ≡ replay steps.now (take count (lexemes_of text.now tokens.now))) }
-    ensures fault { IfOk result (λ replayed. replayed.fault ≡ first_fault steps.now (take count (lexemes_of text.now tokens.now))) }
+    requires taken { takes_of steps.now ≡ count }
+    requires shortest { Shortens (reverse left.items) rest }
+    requires enough { IsEnough (steps.now ++ rest) }
+    ensures values { IfOk result (λ replayed. waiting replayed.values (reverse replayed.left.items) ≡ replay (steps.now ++ rest) (take count (lexemes_of text.now tokens.now))) }
+    ensures fault { IfOk result (λ replayed. replayed.fault ≡ first_fault (steps.now ++ rest) (take count (lexemes_of text.now tokens.now))) }
 {
     let mut values = Prepended::new(alloc);
+    let mut left = left;
     let mut fault = None;
-    let mut token = takes_of(steps);
+    let mut token = count;
     for i in (0..steps.len()).rev() {
         match steps[i] {
             Step::Take => {
                 token -= 1;
-                let value = taken(alloc, text, tokens, count, token)?;
+                let value = leaf_at(alloc, text, tokens, token)?;
                 values.push_front(value)?;
             }
             Step::Expand(production) => {
+                fill(alloc, &mut values, &mut left, body(production).len())?;
                 fault = earlier(part_fault(production, &values), fault);
                 let value = reduce(alloc, production, &mut values)?;
                 values.push_front(value)?;
             }
         }
     }
-    Ok(Replayed { values, fault })
+    Ok(Replayed {
+        values,
+        left,
+        fault,
+    })
 }
 
-/// What the steps of a derivation stand for, whose first `count` tokens are the text's and whose others are lacking.
+/// What the steps of a derivation from all tokens stand for.
 pub fn build(
     alloc: Global,
     text: &[u8],
     tokens: &Tokens,
-    count: usize,
     steps: &[Step],
 ) -> Result<Built, Exhausted>
     requires lexed { IsLexingOf text.now tokens.now }
-    requires inside { count ≤ length tokens.now.tokens }
     requires derived { (classes : List Class) × Derives start classes steps.now }
-    requires taken { count ≤ takes_of steps.now }
-    requires enough { IsEnough steps.now }
-    ensures written { IfOk result (λ built. Writes steps.now (take count (lexemes_of text.now tokens.now)) built.written) }
-    ensures fault { IfOk result (λ built. built.fault ≡ first_fault steps.now (take count (lexemes_of text.now tokens.now))) }
+    requires taken { takes_of steps.now ≡ length tokens.now.tokens }
+    ensures written { IfOk result (λ built. Writes steps.now (lexemes_of text.now tokens.now) built.written) }
+    ensures fault { IfOk result (λ built. built.fault ≡ first_fault steps.now (lexemes_of text.now tokens.now)) }
 {
-    let Replayed { mut values, fault } = replay(alloc, text, tokens, count, steps)?;
+    let Replayed {
+        mut values,
+        mut left,
+        fault,
+    } = replay(alloc, text, tokens, tokens.len(), steps, Vec::new(alloc))?;
+    fill(alloc, &mut values, &mut left, 1)?;
     let written = values.pop_front().into_module(alloc);
     Ok(Built { written, fault })
+}
+
+/// The first fault in what a module stands for that begins with the first `count` tokens and goes on in the shortest way,
+/// with no tokens.
+pub fn front_fault(
+    alloc: Global,
+    text: &[u8],
+    tokens: &Tokens,
+    count: usize,
+    front: Front,
+) -> Result<Option<Fault>, Exhausted>
+    requires lexed { IsLexingOf text.now tokens.now }
+    requires inside { count ≤ length tokens.now.tokens }
+    requires begun { (classes : List Class) × (length classes ≡ count) × LeadsTo classes front.steps.items (reverse front.left.items) }
+    ensures { IfOk result (λ fault. (rest : List Step) × Shortens (reverse front.left.items) rest
+        × (fault ≡ first_fault (front.steps.items ++ rest) (take count (lexemes_of text.now tokens.now)))) }
+{
+    let Front { steps, left } = front;
+    let replayed = replay(alloc, text, tokens, count, steps.as_slice(), left)?;
+    Ok(replayed.fault)
 }

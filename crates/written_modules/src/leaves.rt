@@ -1,10 +1,9 @@
 //! What the tokens of a text stand for.
 
-ghost use Rattle.std.specs.Prelude.{◌≡◌, ◌<◌, ◌≤◌, ◌-◌, drop, length, slice_range, take, IfOk};
+ghost use Rattle.std.specs.Prelude.{◌≡◌, ◌<◌, ◌-◌, drop, length, slice_range, IfOk};
 ghost use Rattle.sil_lexer.specs.Lexing.{IsLexingOf, lexemes_of};
 ghost use Rattle.written_modules.specs.Meaning as meant;
 ghost use Rattle.written_modules.specs.Replay.{IsLeafAt};
-ghost use Rattle.written_modules.specs.Taken as taken;
 
 use crate::value::Value;
 use sil_ast::{Exhausted, Text};
@@ -48,7 +47,12 @@ fn kept_of(kind: TokenKind, spelling: &[u8]) -> &[u8]
 }
 
 /// What the token at `i` stands for.
-fn leaf_at(alloc: Global, text: &[u8], tokens: &Tokens, i: usize) -> Result<Value, Exhausted>
+pub(crate) fn leaf_at(
+    alloc: Global,
+    text: &[u8],
+    tokens: &Tokens,
+    i: usize,
+) -> Result<Value, Exhausted>
     requires lexed { IsLexingOf text.now tokens.now }
     requires in_range { i < length tokens.now.tokens }
     ensures { IfOk result (λ value. IsLeafAt text.now tokens.now i value) }
@@ -57,23 +61,4 @@ fn leaf_at(alloc: Global, text: &[u8], tokens: &Tokens, i: usize) -> Result<Valu
         text: Text::from_slice(alloc, kept_of(tokens.kind(i), tokens.text(text, i)))?,
         place: tokens.place(i),
     }))
-}
-
-/// What the token at `i` stands for, where the first `count` tokens are there and the others are lacking.
-pub(crate) fn taken(
-    alloc: Global,
-    text: &[u8],
-    tokens: &Tokens,
-    count: usize,
-    i: usize,
-) -> Result<Value, Exhausted>
-    requires lexed { IsLexingOf text.now tokens.now }
-    requires inside { count ≤ length tokens.now.tokens }
-    ensures { IfOk result (λ value. value ≡ taken.taken (drop i (take count (lexemes_of text.now tokens.now)))) }
-{
-    if i < count {
-        leaf_at(alloc, text, tokens, i)
-    } else {
-        Ok(Value::Nothing)
-    }
 }

@@ -14,6 +14,7 @@ mod build_words;
 mod building;
 mod counted_parts;
 mod found;
+mod lacking;
 mod leaves;
 mod limits;
 mod list_faults;
@@ -38,4 +39,4 @@ mod value_code;
 mod value_parts;
 mod written_types;
 
-pub use building::{Built, build};
+pub use building::{Built, build, front_fault};

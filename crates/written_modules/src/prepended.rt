@@ -1,6 +1,6 @@
 //! A list that is built from its end to its front, as the second pass of the reader meets the parts of a text.
 
-ghost use Rattle.std.specs.Prelude.{◌≡◌, [], ◌∷◌, ◌<◌, ◌≤◌, ◌↔◌, length, slice_get, IsNone, OnOk, Some};
+ghost use Rattle.std.specs.Prelude.{◌≡◌, [], ◌∷◌, ◌++◌, ◌<◌, ◌≤◌, ◌↔◌, length, slice_get, IsNone, OnOk, Some};
 ghost use Rattle.std.specs.Option.{option_copied};
 
 use sil_ast::{Exhausted, List};
@@ -85,6 +85,14 @@ impl<T: Drop> Prepended<T> {
         ensures { OnOk result (self.new ≡ item ∷ self.old) }
     {
         self.backwards.push(item)?;
+        Ok(())
+    }
+
+    /// Puts `item` behind the others, which are moved.
+    pub(crate) fn push_back(&mut self, item: T) -> Result<(), Exhausted>
+        ensures { OnOk result (self.new ≡ self.old ++ item ∷ []) }
+    {
+        self.backwards.insert(0, item)?;
         Ok(())
     }
 }

@@ -12,6 +12,6 @@ returns-in-Whole c =
 
 pub returns : goal.returns
 returns c =
-    let broken : IsBroken c.args.text.now c.args.tokens.now c.in-Broken.bad c.in-Broken.count =
+    let broken : IsBroken c.args.text.now c.args.tokens.now c.in-Broken.bad _ _ =
     subst (IsShapeOf c.args.text.now c.args.tokens.now) c.in-Broken.is c.in_ok-_steps.ensures in
     broken.first

@@ -7,16 +7,16 @@ use Rattle.sil_grammar.proofs.reader.earlier_refusal.Goals.{in_default-via-in-So
 use Rattle.sil_grammar.proofs.reader.earlier_refusal.Goals as goal
 
 pub returns-in-Some : goal.returns-in-Some
-returns-in-Some c text lexing count is broken found =
+returns-in-Some c text lexing count left is broken found =
     subst (IsRefusalOf text) (sym c.refusal_of_fault.ensures)
     (faulty c.in-Some.fault (bad_spells_none text c.args.bad broken.first)
-    (faulty_front text lexing is c.args.bad count c.args.fault broken found c.in-Some.fault c.in-Some.is (omega (arith, c.if-fault-bad.true))))
+    (faulty_front text lexing is c.args.bad count c.args.fault left broken found c.in-Some.fault c.in-Some.is (omega (arith, c.if-fault-bad.true))))
 
 pub returns-in_default : goal.returns-in_default
-returns-in_default c text lexing count is broken found =
+returns-in_default c text lexing count left is broken found =
     subst (IsRefusalOf text) (sym c.refusal_of_bad.ensures)
     (shapeless c.args.bad (bad_spells_none text c.args.bad broken.first)
-    (clear_front text lexing is c.args.bad count c.args.fault broken found (λ f some.
+    (clear_front text lexing is c.args.bad count c.args.fault left broken found (λ f some.
     elim c.in_default.branch [
       | in_default-via-in-Some+else-fault-bad w ↦
           let same : Some f ≡ Some w.in-Some.fault = sym some ∙ w.in-Some.is in

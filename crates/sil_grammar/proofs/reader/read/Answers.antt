@@ -31,18 +31,17 @@ returns-in-Whole-clause-numbered c =
     let text = c.args.text.now in
     IfOk-weaker c.read_whole.result (λ m. Spells m text) IsNumbered (λ m spells. spelled_numbered m text spells) c.read_whole.ensures.found
 
-pub front_fault-requires-clause-classes : goal.front_fault-requires-clause-classes
-front_fault-requires-clause-classes c =
-    let classes = c.deref.ensures.value ∙ c.in_ok-classes.ensures in
-    ap (take c.in-Broken.count) classes ∙ take-classes c.args.text.now c.in_ok-tokens.tokens c.in-Broken.count
-
-pub front_fault-requires-clause-begins : goal.front_fault-requires-clause-begins
-front_fault-requires-clause-begins c =
-    let classes = c.deref.ensures.value ∙ c.in_ok-classes.ensures in
-    let same = ap (take c.in-Broken.count) classes ∙ take-classes c.args.text.now c.in_ok-tokens.tokens c.in-Broken.count in
-    let broken : IsBroken c.args.text.now c.in_ok-tokens.tokens c.in-Broken.bad c.in-Broken.count =
+pub fault_before-requires-clause-inside : goal.fault_before-requires-clause-inside
+fault_before-requires-clause-inside c =
+    let broken : IsBroken c.args.text.now c.in_ok-tokens.tokens c.in-Broken.bad c.in-Broken.count c.in-Broken.front =
     subst (IsShapeOf c.args.text.now c.in_ok-tokens.tokens) c.in-Broken.is c.in_ok-steps.ensures in
-    subst BeginsShape (sym same) broken.begins
+    broken.inside
+
+pub fault_before-requires-clause-leads : goal.fault_before-requires-clause-leads
+fault_before-requires-clause-leads c =
+    let broken : IsBroken c.args.text.now c.in_ok-tokens.tokens c.in-Broken.bad c.in-Broken.count c.in-Broken.front =
+    subst (IsShapeOf c.args.text.now c.in_ok-tokens.tokens) c.in-Broken.is c.in_ok-steps.ensures in
+    broken.leads
 
 pub returns-in_err-fault-in-Broken-clause-refused : goal.returns-in_err-fault-in-Broken-clause-refused
 returns-in_err-fault-in-Broken-clause-refused c =

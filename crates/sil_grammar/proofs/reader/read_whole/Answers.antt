@@ -1,5 +1,5 @@
 -- For `read_whole`: a fault refuses, and else the steps and tokens write a module.
-use Rattle.std.proofs.Common.{◌≡◌, length, take, Some, subst, sym, ◌∙◌, ap}
+use Rattle.std.proofs.Common.{◌≡◌, Some, subst, sym, ◌∙◌}
 use Rattle.sil_lexer.specs.Lexing.{lexemes_of}
 use Rattle.written_modules.specs.Replay.{first_fault}
 use Rattle.sil_grammar.specs.Refusals.{IsRefusalOf, faulty}
@@ -15,7 +15,6 @@ returns-in-Some-clause-refused c =
     let tokens = c.args.tokens.now in
     let steps = c.args.steps.now in
     let fault = c.in-Some.fault in
-    let first : first_fault steps (take (length tokens.tokens) (lexemes_of text tokens)) ≡ Some fault =
-    ap (λ n. first_fault steps (take n (lexemes_of text tokens))) (sym c.len.ensures) ∙ sym c.in_ok-built.ensures.fault ∙ c.in-Some.is in
+    let first : first_fault steps (lexemes_of text tokens) ≡ Some fault = sym c.in_ok-built.ensures.fault ∙ c.in-Some.is in
     subst (IsRefusalOf text) (sym c.refusal_of_fault.ensures)
     (faulty fault (fault_spells_none text tokens c.requires.lexed steps c.requires.derived fault first) (faulty_whole text tokens c.requires.lexed steps c.requires.derived fault first))

@@ -1,0 +1,131 @@
+-- The shortest way to write what is left, replayed with no tokens, builds the values of what is left, and no fault.
+use Rattle.std.proofs.Common.{◌≡◌, ℕ, ◌+◌, ◌<◌, ◌≤◌, List, [], ◌∷◌, ◌++◌, length, map, take, drop, refl, ap, sym, subst, ◌∙◌, arith, append_assoc, length-append, reverse, Some}
+use Rattle.std.specs.Prelude.{Option, None}
+use Rattle.std.specs.Option.{option_to_list}
+use Rattle.std.proofs.lemmas.List.{append-nil, drop-append-le, length-drop, length-map, length-reverse, map-append, reverse-append, take-append-le}
+use Rattle.std.proofs.Math.Seq.{take-append_seam, drop-append_seam}
+use Rattle.sil_shape.specs.declared.grammar.Nonterminal.{Nonterminal}
+use Rattle.sil_shape.specs.declared.grammar.Nonterminal.TheVariants as n
+use Rattle.sil_shape.specs.declared.grammar.Production.{Production}
+use Rattle.sil_shape.specs.declared.grammar.Symbol.{Symbol}
+use Rattle.sil_shape.specs.declared.grammar.Symbol.TheVariants.{Read, Part}
+use Rattle.sil_shape.specs.declared.steps.Step.{Step}
+use Rattle.sil_shape.specs.Grammar.{body}
+use Rattle.sil_shape.specs.Shortest.{shortest, Shortens, written, step}
+use Rattle.sil_shape.specs.Values.{IsEnough}
+use Rattle.sil_shape.proofs.Shortened.{Shortens-derives}
+use Rattle.sil_shape.proofs.ValuesLemmas.{IsEnough-derives}
+use Rattle.written_tree.specs.declared.fault.Fault.{Fault}
+use Rattle.written_tree.specs.Faults.{earlier}
+use Rattle.written_modules.specs.declared.value.Value.{Value}
+use Rattle.written_modules.specs.declared.value.Value.TheVariants as v
+use Rattle.written_modules.specs.Lacking.{lacking, lacking_within, waiting, Fills}
+use Rattle.written_modules.specs.Meaning.{meaning}
+use Rattle.written_modules.specs.PartFaults.{part_fault}
+use Rattle.written_modules.specs.Replay.{first_fault, parts_of, reduced, replay}
+use Rattle.written_modules.specs.Types.{tailed}
+use Rattle.written_modules.specs.Values.{token_of, stage_of, imports_of, items_of, item_of, fields_of, field_of, field_before, cases_of, type_of, payload_of, types_of, marks_of, linkage_of, tokens_of, convention_of, params_of, param_before, givens_of, given_before, signature_of, blocks_of, block_of, args_of, arg_of, ownership_of, starred, insts_of, terminator_of, inst_of, operands_of, operand_of, edges_of, edge_of, member_of, flags_of, qualifier_of, debug_of, entry_of}
+
+lacking-part : (part : Nonterminal) → lacking (Part part) ≡ meaning (shortest part) (map lacking (body (shortest part)))
+unfolding lacking lacking_within shortest body meaning tailed token_of stage_of imports_of items_of item_of fields_of field_of field_before cases_of type_of payload_of types_of marks_of linkage_of tokens_of convention_of params_of param_before givens_of given_before signature_of blocks_of block_of args_of arg_of ownership_of starred insts_of terminator_of inst_of operands_of operand_of edges_of edge_of member_of flags_of qualifier_of debug_of entry_of
+lacking-part n.Module = refl
+lacking-part _ = refl
+
+fault-part : (part : Nonterminal) → part_fault (shortest part) (map lacking (body (shortest part))) ≡ None
+unfolding part_fault earlier lacking lacking_within shortest body meaning tailed token_of stage_of imports_of items_of item_of fields_of field_of field_before cases_of type_of payload_of types_of marks_of linkage_of tokens_of convention_of params_of param_before givens_of given_before signature_of blocks_of block_of args_of arg_of ownership_of starred insts_of terminator_of inst_of operands_of operand_of edges_of edge_of member_of flags_of qualifier_of debug_of entry_of
+fault-part n.Module = refl
+fault-part _ = refl
+
+no_fault : {a b : Option Fault} → a ≡ None → b ≡ None → earlier a b ≡ None
+unfolding earlier
+no_fault a b = rw (a, b) refl
+
+-- a production takes the values of its body, whatever waits behind them
+reduced-behind : (p : Production) (own bs : List Value) → length own ≡ length (body p) → reduced p (own ++ bs) ≡ meaning p own ∷ bs
+unfolding reduced
+reduced-behind p own bs e =
+    let front : take (length (body p)) (own ++ bs) ≡ own = subst (λ n. take n (own ++ bs) ≡ own) e (take-append_seam own bs) in
+    let rest : drop (length (body p)) (own ++ bs) ≡ bs = subst (λ n. drop n (own ++ bs) ≡ bs) e (drop-append_seam own bs) in
+    cc (front, rest)
+
+pub replay_lacking : {ss : List Symbol} {steps : List Step} → Shortens ss steps → replay steps [] ≡ map lacking ss
+unfolding lacking lacking_within
+replay_lacking written = refl
+replay_lacking (step (Read t) h) = ap (λ values. v.Nothing ∷ values) (replay_lacking h)
+replay_lacking (step {ss = ss} (Part part) h) =
+    let bodies : List Value = map lacking (body (shortest part)) in
+    ap (reduced (shortest part)) (replay_lacking h ∙ map-append lacking (body (shortest part)) ss)
+    ∙ reduced-behind (shortest part) bodies (map lacking ss) (length-map (body (shortest part)) lacking)
+    ∙ ap (λ value. value ∷ map lacking ss) (sym (lacking-part part))
+
+parts-behind : (p : Production) (own bs : List Value) → length own ≡ length (body p) → parts_of p (own ++ bs) ≡ own
+parts-behind p own bs e = subst (λ n. take n (own ++ bs) ≡ own) e (take-append_seam own bs)
+
+pub fault_lacking : {ss : List Symbol} {steps : List Step} → Shortens ss steps → first_fault steps [] ≡ None
+fault_lacking written = refl
+fault_lacking (step (Read t) h) = fault_lacking h
+fault_lacking (step {ss = ss} {steps = steps} (Part part) h) =
+    let p : Production = shortest part in
+    let values : replay steps [] ≡ map lacking (body p) ++ map lacking ss = replay_lacking h ∙ map-append lacking (body p) ss in
+    let here : part_fault p (parts_of p (replay steps [])) ≡ None =
+    ap (λ vs. part_fault p (parts_of p vs)) values ∙ ap (part_fault p) (parts-behind p (map lacking (body p)) (map lacking ss) (length-map (body p) lacking)) ∙ fault-part part in
+    no_fault here (fault_lacking h)
+
+-- the values of a production's body were built, and others wait behind them
+pub reduced-waiting : (p : Production) (built left new : List Value) (value : Value) → length (body p) ≤ length built
+    → reduced p built ≡ value ∷ new → reduced p (built ++ left) ≡ value ∷ new ++ left
+unfolding reduced
+reduced-waiting p built left new value enough is =
+    let front = take-append-le (length (body p)) built left enough in
+    let rest = drop-append-le (length (body p)) built left enough in
+    let value_is : meaning p (take (length (body p)) built) ≡ value = cc is in
+    let new_is : drop (length (body p)) built ≡ new = cc is in
+    cc (front, rest, value_is, new_is)
+
+pub parts-waiting : (p : Production) (built left : List Value) → length (body p) ≤ length built → parts_of p (built ++ left) ≡ parts_of p built
+parts-waiting p built left enough = take-append-le (length (body p)) built left enough
+
+-- the shortest text of a part is empty
+empty_part : (part : Nonterminal) (p : Production) (value : Value) (new : List Value) → p ≡ shortest part → body p ≡ []
+    → reduced p [] ≡ value ∷ new → value ≡ lacking (Part part)
+unfolding reduced
+empty_part part p value new is none reduced_is =
+    let first : meaning p [] ≡ value = subst (λ (symbols : List Symbol). meaning p (take (length symbols) []) ∷ drop (length symbols) [] ≡ value ∷ new → meaning p [] ≡ value) (sym none) (λ e. cc e) reduced_is in
+    let here : meaning p [] ≡ meaning p (map lacking (body p)) = ap (λ symbols. meaning p (map lacking symbols)) (sym none) in
+    sym first ∙ here ∙ subst (λ q. meaning q (map lacking (body q)) ≡ lacking (Part part)) (sym is) (sym (lacking-part part))
+
+no_symbols : (symbols : List Symbol) → length symbols ≡ 0 → symbols ≡ []
+no_symbols [] h = refl
+no_symbols (s ∷ ss) h = absurd (omega (arith, h))
+
+pub lacking_empty : (part : Nonterminal) (p : Production) (values new : List Value) (value : Value) → p ≡ shortest part → length (body p) ≡ 0
+    → values ≡ [] → reduced p values ≡ value ∷ new → value ≡ lacking (Part part)
+lacking_empty part p values new value is none empty reduced_is =
+    empty_part part p value new is (no_symbols (body p) none) (subst (λ vs. reduced p vs ≡ value ∷ new) empty reduced_is)
+
+-- the values of a part alone
+pub one_part : (part : Nonterminal) {steps : List Step} → Shortens (Part part ∷ []) steps → replay steps [] ≡ lacking (Part part) ∷ []
+one_part part h = replay_lacking h
+
+pub enough_alone : {ss : List Symbol} {steps : List Step} → Shortens ss steps → IsEnough steps
+enough_alone h = IsEnough-derives (Shortens-derives h).1
+
+-- what stands first of what is left is built
+pub one_moved : (built : List Value) (symbol : Symbol) (value : Value) (rest : List Symbol) → value ≡ lacking symbol
+    → waiting (built ++ value ∷ []) rest ≡ waiting built (symbol ∷ rest)
+one_moved built symbol value rest is = append_assoc built (value ∷ []) (map lacking rest) ∙ ap (λ v. built ++ v ∷ map lacking rest) is
+
+pub waiting-length : (built : List Value) (left : List Symbol) → length (waiting built left) ≡ length built + length left
+waiting-length built left = length-append built (map lacking left) ∙ ap (λ n. length built + n) (length-map left lacking)
+
+pub popped : (old new : List Symbol) (symbol : Symbol) (r : Option Symbol) → old ≡ new ++ option_to_list r → r ≡ Some symbol → old ≡ new ++ symbol ∷ []
+popped old new symbol r is some = is ∙ ap (λ o. new ++ option_to_list o) some
+
+pub first_popped : (old new : List Symbol) (symbol : Symbol) → old ≡ new ++ symbol ∷ [] → reverse old ≡ symbol ∷ reverse new
+first_popped old new symbol is = ap reverse is ∙ reverse-append new (symbol ∷ [])
+
+-- as many values wait as before, so some are left where too few are built
+pub some_left : (built built0 : List Value) (left left0 : List Symbol) (count : ℕ) → waiting built (reverse left) ≡ waiting built0 (reverse left0)
+    → count ≤ length built0 + length left0 → length built < count → 0 < length left
+some_left built built0 left left0 count same enough few =
+    omega (arith, enough, few, ap length same, waiting-length built (reverse left), waiting-length built0 (reverse left0), length-reverse left, length-reverse left0)

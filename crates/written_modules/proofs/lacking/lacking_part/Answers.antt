@@ -1,0 +1,27 @@
+-- The steps of the shortest text leave one value, that of the part.
+use Rattle.std.proofs.Common.{◌≡◌, [], ◌∷◌, ◌∙◌, ap, arith, length, subst, sym}
+use Rattle.std.proofs.lemmas.Bool.{eqb-true}
+use Rattle.sil_shape.specs.declared.grammar.Symbol.TheVariants.{Part}
+use Rattle.sil_shape.specs.Values.{IsEnough}
+use Rattle.written_modules.specs.Lacking.{lacking}
+use Rattle.written_modules.specs.Replay.{replay}
+use Rattle.written_modules.proofs.LackingLemmas.{lacking_empty, enough_alone, one_part}
+use Rattle.written_modules.proofs.lacking.lacking_part.Goals as goal
+
+pub returns-then-is_empty : goal.returns-then-is_empty
+returns-then-is_empty c =
+    lacking_empty c.args.part _ _ _ c.in_ok-value.value c.shortest-production.ensures (ap length (sym c.body.ensures) ∙ eqb-true _ _ (sym c.if-is_empty.ensures)) c.new-nothing.ensures c.in_ok-value.ensures
+
+pub replay_lacking-requires : goal.replay_lacking-requires
+replay_lacking-requires c = subst IsEnough (sym c.as_slice.ensures.value) (enough_alone c.in_ok-steps.ensures)
+
+pub pop_front-requires : goal.pop_front-requires
+pop_front-requires c =
+    let are = c.in_ok-values.ensures ∙ ap (λ steps. replay steps []) c.as_slice.ensures.value ∙ one_part c.args.part c.in_ok-steps.ensures in
+    omega (arith, ap length are)
+
+pub returns : goal.returns
+returns c =
+    let are = c.in_ok-values.ensures ∙ ap (λ steps. replay steps []) c.as_slice.ensures.value ∙ one_part c.args.part c.in_ok-steps.ensures in
+    let both : c.pop_front.result ∷ c.pop_front.new.self ≡ lacking (Part c.args.part) ∷ [] = sym c.pop_front.ensures ∙ are in
+    cc both

@@ -1,0 +1,79 @@
+//! What the symbols stand for that a front leaves to be written: their shortest texts, of which all tokens are lacking.
+
+ghost use Rattle.std.specs.Prelude.{◌≡◌, ◌+◌, ◌≤◌, [], ◌∷◌, length, reverse, IfOk, OnOk};
+ghost use Rattle.sil_shape.specs.declared.grammar.Symbol.TheVariants.{Part};
+ghost use Rattle.sil_shape.specs.Shortest.{Shortens};
+ghost use Rattle.sil_shape.specs.Values.{IsEnough};
+ghost use Rattle.written_modules.specs.Lacking.{lacking, Fills};
+ghost use Rattle.written_modules.specs.Replay.{replay};
+
+use crate::prepended::Prepended;
+use crate::reduce::reduce;
+use crate::value::Value;
+use sil_ast::Exhausted;
+use sil_shape::bodies::body;
+use sil_shape::grammar::{Nonterminal, Symbol};
+use sil_shape::shortest::shortest;
+use sil_shape::shortest_steps::shortest_steps;
+use sil_shape::steps::Step;
+use std::alloc::Global;
+
+/// The values that the steps build where all tokens are lacking, that of the first step first.
+fn replay_lacking(alloc: Global, steps: &[Step]) -> Result<Prepended<Value>, Exhausted>
+    requires { IsEnough steps.now }
+    ensures { IfOk result (λ values. values ≡ replay steps.now []) }
+{
+    let mut values = Prepended::new(alloc);
+    for i in (0..steps.len()).rev() {
+        match steps[i] {
+            Step::Take => values.push_front(Value::Nothing)?,
+            Step::Expand(production) => {
+                let value = reduce(alloc, production, &mut values)?;
+                values.push_front(value)?;
+            }
+        }
+    }
+    Ok(values)
+}
+
+/// What a part stands for. Nearly all shortest texts are empty, and take no steps to find.
+fn lacking_part(alloc: Global, part: Nonterminal) -> Result<Value, Exhausted>
+    ensures { IfOk result (λ value. value ≡ lacking (Part part)) }
+{
+    let production = shortest(part);
+    if body(production).is_empty() {
+        let mut nothing = Prepended::new(alloc);
+        let value = reduce(alloc, production, &mut nothing)?;
+        return Ok(value);
+    }
+    let steps = shortest_steps(alloc, part)?;
+    let mut values = replay_lacking(alloc, steps.as_slice())?;
+    Ok(values.pop_front())
+}
+
+fn lacking(alloc: Global, symbol: Symbol) -> Result<Value, Exhausted>
+    ensures { IfOk result (λ value. value ≡ lacking symbol) }
+{
+    match symbol {
+        Symbol::Read(_) => Ok(Value::Nothing),
+        Symbol::Part(part) => lacking_part(alloc, part),
+    }
+}
+
+/// Builds the values of symbols that are left, the last of which stands first, until there are `count` values.
+pub(crate) fn fill(
+    alloc: Global,
+    values: &mut Prepended<Value>,
+    left: &mut Vec<Symbol>,
+    count: usize,
+) -> Result<(), Exhausted>
+    requires { count ≤ length values.old + length left.old.items }
+    ensures { OnOk result (Fills count values.old (reverse left.old.items) values.new (reverse left.new.items)) }
+{
+    while values.len() < count {
+        let symbol = left.pop().unwrap();
+        let value = lacking(alloc, symbol)?;
+        values.push_back(value)?;
+    }
+    Ok(())
+}
