@@ -46,3 +46,9 @@ fault_before-requires-clause-leads c =
 pub returns-in_err-fault-in-Broken-clause-refused : goal.returns-in_err-fault-in-Broken-clause-refused
 returns-in_err-fault-in-Broken-clause-refused c =
     out_of_memory c.args.text.now c.from_residual-in_err-fault-in-Broken.result c.from_residual-in_err-fault-in-Broken.ensures.1
+
+pub returns-clause-refused : goal.returns-clause-refused
+returns-clause-refused c =
+    let broken : IsBroken c.args.text.now c.in_ok-tokens.tokens c.in-Broken.bad c.in-Broken.count c.in-Broken.front =
+    subst (IsShapeOf c.args.text.now c.in_ok-tokens.tokens) c.in-Broken.is c.in_ok-steps.ensures in
+    c.earlier_refusal.ensures c.args.text.now c.in_ok-tokens.tokens c.in-Broken.count c.in-Broken.front c.in_ok-tokens.ensures broken c.in_ok-fault-in-Broken.ensures
