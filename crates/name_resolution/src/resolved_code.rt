@@ -36,11 +36,11 @@ struct Uses {
 /// What an instruction has as the text writes it.
 #[derive(Drop)]
 struct Parts {
+    debug: Debug,
+    text: Option<Text>,
+    member: Option<Member>,
     ty: Option<TypeName>,
     signature: Option<Signature>,
-    member: Option<Member>,
-    text: Option<Text>,
-    debug: Debug,
 }
 
 #[tactic(auto, using(std::proofs::lemmas::Grind::common_steps, crate::proofs::ResolvedLemmas::resolved_blocks_append))]
@@ -180,11 +180,11 @@ fn kept_parts(alloc: Global, inst: &WrittenInst) -> Result<Parts, Exhausted>
     ensures debug { IfOk result (λ parts. parts.debug ≡ inst.now.debug) }
 {
     Ok(Parts {
+        debug: inst.debug.try_clone(alloc)?,
+        text: inst.text.try_clone(alloc)?,
+        member: inst.member.try_clone(alloc)?,
         ty: inst.ty.try_clone(alloc)?,
         signature: inst.signature.try_clone(alloc)?,
-        member: inst.member.try_clone(alloc)?,
-        text: inst.text.try_clone(alloc)?,
-        debug: inst.debug.try_clone(alloc)?,
     })
 }
 
