@@ -13,7 +13,9 @@ use crate::defining::{
 use crate::using::{Labels, ValueNames, unknown_functions, unknown_in_blocks};
 use sil_ast::{Exhausted, Imports};
 use std::alloc::Global;
-use written_tree::{Fault, WrittenBlock, WrittenDecl, WrittenFunction, WrittenItem, WrittenModule, earlier};
+use written_tree::{
+    Fault, WrittenBlock, WrittenDecl, WrittenFunction, WrittenItem, WrittenModule, earlier,
+};
 
 #[tactic(auto, using(std::proofs::lemmas::Grind::common_steps, crate::proofs::FaultOrder::earlier_none, crate::proofs::DefinedNames::twice_of_tokens, crate::proofs::DefinedNames::unknown_of_tokens), unfolding(crate::specs::NameFaults::name_fault))]
 pub(crate) fn name_fault(alloc: Global, w: &WrittenModule) -> Result<Option<Fault>, Exhausted>
@@ -97,10 +99,7 @@ fn function_fault(alloc: Global, f: &WrittenFunction) -> Result<Option<Fault>, E
     ensures { IfOk result (λ fault. fault ≡ function_fault f.now) }
 {
     let blocks = f.blocks.as_slice();
-    Ok(earlier(
-        labels_fault(alloc, blocks)?,
-        values_fault(alloc, blocks)?,
-    ))
+    Ok(earlier(labels_fault(alloc, blocks)?, values_fault(alloc, blocks)?))
 }
 
 #[tactic(auto, using(crate::proofs::DefinedNames::twice_of_tokens, crate::proofs::DefinedNames::unknown_of_tokens))]

@@ -12,7 +12,8 @@ use crate::numbered_values::{numbered_blocks, numbered_values};
 use crate::numbering::Numbering;
 use crate::resolved_code::{Tables, resolve_blocks};
 use sil_ast::{
-    Block, Case, Decl, DeinitEntry, Exhausted, Field, Form, FuncId, Function, List, Text, TryClone, Vtable,
+    Block, Case, Decl, DeinitEntry, Exhausted, Field, Form, FuncId, Function, List, Text, TryClone,
+    Vtable,
 };
 use std::alloc::Global;
 use written_tree::{
