@@ -1,7 +1,7 @@
 use Rattle.std.proofs.Common.{map}
 use Rattle.std.specs.List.{flat_map}
 use Rattle.name_resolution.specs.Names.{label_of, name_of}
-use Rattle.name_resolution.specs.Resolved.{Scope, defined_in}
+use Rattle.name_resolution.specs.Resolved.{defined_in}
 use Rattle.name_resolution.proofs.resolved_items.resolve_body.Given as goal
 
 abbrev pub ghost-resolve_blocks : goal.ghost-resolve_blocks
