@@ -15,8 +15,8 @@ abbrev pub FindsValues : Numbered → List (Option Name) → Type 0
 FindsValues n values = (name : Name) → number_in n name ≡ unwrap_or (position (has_name name) values) 0
 
 -- the names by which functions are looked up
-abbrev pub function_names : List WrittenItem → List Name
-function_names items = map (λ f. name_of (function_name f)) (flat_map functions_of items)
+abbrev pub names_of_functions : List WrittenItem → List Name
+names_of_functions items = map (λ f. name_of (function_name f)) (flat_map functions_of items)
 
 -- look-ups find the places of functions, blocks and values
 pub record FindsScope (f b v : Numbered) (s : Scope) : Type 0 where

@@ -4,7 +4,7 @@ ghost use Rattle.std.specs.Prelude.{◌≡◌, IfErr, IfOk, None};
 ghost use Rattle.name_resolution.specs.NameFaults.{name_fault};
 ghost use Rattle.name_resolution.specs.Refusals.{IsRefusalOf};
 ghost use Rattle.name_resolution.specs.Resolved.{resolved};
-ghost use Rattle.name_resolution.specs.Tables.{FindsNames, function_names};
+ghost use Rattle.name_resolution.specs.Tables.{FindsNames, names_of_functions};
 
 use crate::name_faults::name_fault;
 use crate::numbered_values::numbered_functions;
@@ -40,7 +40,7 @@ fn resolve_items(
     functions: &Numbering,
     w: &WrittenModule,
 ) -> Result<Module, Exhausted>
-    requires { FindsNames functions.now (function_names w.now.items) }
+    requires { FindsNames functions.now (names_of_functions w.now.items) }
     ensures { IfOk result (λ m. m ≡ resolved w.now) }
 {
     let items = w.items.as_slice();
