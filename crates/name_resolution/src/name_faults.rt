@@ -3,7 +3,7 @@
 ghost use Rattle.std.specs.Prelude.{◌≡◌, [], map, IfOk};
 ghost use Rattle.std.specs.List.{flat_map};
 ghost use Rattle.written_tree.specs.Faults.{earlier, earliest};
-ghost use Rattle.name_resolution.specs.NameFaults.{function_fault, members_fault, name_fault, twice_or_unknown, twice_after};
+ghost use Rattle.name_resolution.specs.NameFaults.{function_fault, members_fault, name_fault, twice_after, twice_or_unknown};
 ghost use Rattle.name_resolution.specs.Names.{code_of, decl_name, decls_of, functions_of, label_of, labels_used, reserved, values_defined, values_used, vtable_name, vtables_of};
 
 use crate::defining::{
