@@ -23,6 +23,10 @@ twice_here names token = if is_among names token then Some (fault Twice token.pl
 abbrev pub with_token : Defined → WrittenToken → Defined
 with_token d token = record { names = insert_key bytes_eq d.names token.text; twice = earlier d.twice (twice_here d.names token) }
 
+-- with names that are defined from the start
+abbrev pub with_reserved : Defined → List Name → Defined
+with_reserved d names = record { names = fold (insert_key bytes_eq) d.names names; twice = d.twice }
+
 -- after these tokens
 abbrev pub with_tokens : Defined → List WrittenToken → Defined
 with_tokens d tokens = fold with_token d tokens

@@ -30,6 +30,10 @@ unknown_in defined token = if is_among defined token then None else Some (fault 
 abbrev pub unknown_among : List WrittenToken → List WrittenToken → Option Fault
 unknown_among defined used = earliest (map (unknown_in (map name_of defined)) used)
 
+-- the first that is defined twice, or used and not defined
+abbrev pub twice_or_unknown : List WrittenToken → List WrittenToken → Option Fault
+twice_or_unknown defined used = earlier (twice_after [] defined) (unknown_among defined used)
+
 abbrev pub members_fault : WrittenDecl → Option Fault
 members_fault d = twice_after [] (member_names d)
 

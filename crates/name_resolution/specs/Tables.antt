@@ -1,7 +1,9 @@
 -- The tables by which names are looked up.
-use Rattle.std.specs.Prelude.{◌≡◌, List, Option, position, unwrap_or}
+use Rattle.std.specs.Prelude.{◌≡◌, List, Option, map, position, unwrap_or}
+use Rattle.std.specs.List.{flat_map}
 use Rattle.std.specs.Str.{bytes_eq}
-use Rattle.name_resolution.specs.Names.{Name}
+use Rattle.written_tree.specs.declared.written_module.WrittenItem.{WrittenItem}
+use Rattle.name_resolution.specs.Names.{Name, function_name, functions_of, name_of}
 use Rattle.name_resolution.specs.Numbered.{Numbered, number_in}
 use Rattle.name_resolution.specs.Resolved.{Scope, has_name}
 
@@ -11,6 +13,10 @@ FindsNames n names = (name : Name) → number_in n name ≡ unwrap_or (position 
 
 abbrev pub FindsValues : Numbered → List (Option Name) → Type 0
 FindsValues n values = (name : Name) → number_in n name ≡ unwrap_or (position (has_name name) values) 0
+
+-- the names by which functions are looked up
+abbrev pub names_of_functions : List WrittenItem → List Name
+names_of_functions items = map (λ f. name_of (function_name f)) (flat_map functions_of items)
 
 -- look-ups find the places of functions, blocks and values
 pub record FindsScope (f b v : Numbered) (s : Scope) : Type 0 where

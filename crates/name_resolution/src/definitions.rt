@@ -24,10 +24,10 @@ impl Model for Definitions {
 }
 
 impl Definitions {
-    ghost use Rattle.std.specs.Prelude.{[]};
-    ghost use Rattle.name_resolution.specs.Defined.{reserved_only, unknown_of, with_token};
+    ghost use Rattle.std.specs.Prelude.{[], ◌∷◌, true};
+    ghost use Rattle.name_resolution.specs.Defined.{reserved_only, unknown_of, with_reserved, with_token};
     ghost use Rattle.name_resolution.specs.NameFaults.{unknown_in};
-    ghost use Rattle.name_resolution.specs.Names.{reserved};
+    ghost use Rattle.name_resolution.specs.Names.{reserved, swift_names};
 
     pub(crate) fn new(alloc: Global) -> Definitions
         ensures { result ≡ reserved_only [] }
@@ -42,14 +42,28 @@ impl Definitions {
     pub(crate) fn of_imports(alloc: Global, imports: Imports) -> Result<Definitions, Exhausted>
         ensures { IfOk result (λ d. d ≡ reserved_only (reserved imports)) }
     {
-        let mut names = IndexSet::new(alloc);
-        names.insert(Text::from_slice(alloc, b"Builtin")?)?;
+        let mut defined = Definitions::new(alloc);
+        defined.reserve(alloc, b"Builtin")?;
         if imports.swift {
-            names.insert(Text::from_slice(alloc, b"Int")?)?;
-            names.insert(Text::from_slice(alloc, b"Bool")?)?;
-            names.insert(Text::from_slice(alloc, b"Optional")?)?;
+            defined.reserve_swift(alloc)?;
         }
-        Ok(Definitions { names, twice: None })
+        Ok(defined)
+    }
+
+    fn reserve_swift(&mut self, alloc: Global) -> Result<(), Exhausted>
+        ensures { OnOk result (self.new ≡ with_reserved self.old (swift_names true)) }
+    {
+        self.reserve(alloc, b"Int")?;
+        self.reserve(alloc, b"Bool")?;
+        self.reserve(alloc, b"Optional")
+    }
+
+    // Adds a name that is defined from the start.
+    fn reserve(&mut self, alloc: Global, name: &[u8]) -> Result<(), Exhausted>
+        ensures { OnOk result (self.new ≡ with_reserved self.old (name.now ∷ [])) }
+    {
+        self.names.insert(Text::from_slice(alloc, name)?)?;
+        Ok(())
     }
 
     pub(crate) fn define(&mut self, alloc: Global, token: &WrittenToken) -> Result<(), Exhausted>

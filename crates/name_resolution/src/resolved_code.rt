@@ -9,8 +9,8 @@ ghost use Rattle.name_resolution.specs.Tables.{FindsScope};
 use crate::numbered_values::count_of_results;
 use crate::numbering::{Numbering, advanced};
 use sil_ast::{
-    Block, BlockArg, BlockId, Edge, Exhausted, FuncId, Inst, List, Operand, Operands, TryClone,
-    ValueId,
+    Block, BlockArg, BlockId, Debug, Edge, Exhausted, FuncId, Inst, List, Member, Operand,
+    Operands, Signature, Text, TryClone, TypeName, ValueId,
 };
 use std::alloc::Global;
 use written_tree::{
@@ -23,6 +23,24 @@ pub(crate) struct Tables<'a> {
     pub(crate) functions: &'a Numbering,
     pub(crate) blocks: &'a Numbering,
     pub(crate) values: &'a Numbering,
+}
+
+/// The values and blocks of an instruction, by their numbers.
+#[derive(Drop)]
+struct Uses {
+    results: List<ValueId>,
+    operands: Operands,
+    edges: List<Edge>,
+}
+
+/// What an instruction has as the text writes it.
+#[derive(Drop)]
+struct Parts {
+    debug: Debug,
+    text: Option<Text>,
+    member: Option<Member>,
+    ty: Option<TypeName>,
+    signature: Option<Signature>,
 }
 
 #[tactic(auto, using(std::proofs::lemmas::Grind::common_steps, crate::proofs::ResolvedLemmas::resolved_blocks_append))]
@@ -115,21 +133,58 @@ fn resolve_inst(
     requires { FindsScope tables.functions.now tables.blocks.now tables.values.now s }
     ensures { IfOk result (λ resolved. resolved ≡ resolved_inst s first inst.now) }
 {
+    let uses = resolve_uses(alloc, tables, first, inst)?;
+    let parts = kept_parts(alloc, inst)?;
     Ok(Inst {
         op: inst.op,
-        results: resolve_results(alloc, first, inst)?,
-        operands: resolve_operands(alloc, tables, inst.operands.as_slice())?,
-        ty: inst.ty.try_clone(alloc)?,
-        signature: inst.signature.try_clone(alloc)?,
+        results: uses.results,
+        operands: uses.operands,
+        ty: parts.ty,
+        signature: parts.signature,
         function: resolve_callee(tables, &inst.function),
-        member: inst.member.try_clone(alloc)?,
+        member: parts.member,
         number: inst.number,
-        text: inst.text.try_clone(alloc)?,
+        text: parts.text,
         qualifier: inst.qualifier.word,
         lexical: inst.lexical,
         var_decl: inst.var_decl,
-        debug: inst.debug.try_clone(alloc)?,
+        debug: parts.debug,
+        edges: uses.edges,
+    })
+}
+
+fn resolve_uses(
+    alloc: Global,
+    tables: Tables<'_>,
+    first: u32,
+    inst: &WrittenInst,
+) -> Result<Uses, Exhausted>
+    ghost s: { Scope }
+    requires { FindsScope tables.functions.now tables.blocks.now tables.values.now s }
+    ensures results { IfOk result (λ uses. uses.results ≡ counted first (defined_by_inst inst.now)) }
+    ensures operands { IfOk result (λ uses. uses.operands ≡ map (resolved_operand s) inst.now.operands) }
+    ensures edges { IfOk result (λ uses. uses.edges ≡ map (resolved_edge s) inst.now.edges) }
+{
+    Ok(Uses {
+        results: resolve_results(alloc, first, inst)?,
+        operands: resolve_operands(alloc, tables, inst.operands.as_slice())?,
         edges: resolve_edges(alloc, tables, inst.edges.as_slice())?,
+    })
+}
+
+fn kept_parts(alloc: Global, inst: &WrittenInst) -> Result<Parts, Exhausted>
+    ensures ty { IfOk result (λ parts. parts.ty ≡ inst.now.ty) }
+    ensures signature { IfOk result (λ parts. parts.signature ≡ inst.now.signature) }
+    ensures member { IfOk result (λ parts. parts.member ≡ inst.now.member) }
+    ensures text { IfOk result (λ parts. parts.text ≡ inst.now.text) }
+    ensures debug { IfOk result (λ parts. parts.debug ≡ inst.now.debug) }
+{
+    Ok(Parts {
+        debug: inst.debug.try_clone(alloc)?,
+        text: inst.text.try_clone(alloc)?,
+        member: inst.member.try_clone(alloc)?,
+        ty: inst.ty.try_clone(alloc)?,
+        signature: inst.signature.try_clone(alloc)?,
     })
 }
 

@@ -5,14 +5,15 @@ ghost use Rattle.std.specs.List.{flat_map, list_any};
 ghost use Rattle.std.specs.Option.{option_map};
 ghost use Rattle.written_tree.specs.Places.{is_kept, is_ossa};
 ghost use Rattle.name_resolution.specs.Names.{Name, decls_of, functions_of, name_of, vtables_of};
-ghost use Rattle.name_resolution.specs.Resolved.{form_of, resolved_case, resolved_decl, resolved_entry, resolved_field, resolved_function, resolved_vtable};
+ghost use Rattle.name_resolution.specs.Resolved.{form_of, resolved_blocks, resolved_case, resolved_decl, resolved_entry, resolved_field, resolved_function, resolved_vtable, scope_of};
 ghost use Rattle.name_resolution.specs.Tables.{FindsNames};
 
 use crate::numbered_values::{numbered_blocks, numbered_values};
 use crate::numbering::Numbering;
 use crate::resolved_code::{Tables, resolve_blocks};
 use sil_ast::{
-    Case, Decl, DeinitEntry, Exhausted, Field, Form, FuncId, Function, List, Text, TryClone, Vtable,
+    Block, Case, Decl, DeinitEntry, Exhausted, Field, Form, FuncId, Function, List, Text, TryClone,
+    Vtable,
 };
 use std::alloc::Global;
 use written_tree::{
@@ -106,6 +107,26 @@ fn resolve_function(
     ensures { IfOk result (λ function. function ≡ resolved_function names f.now) }
 {
     let words = f.attributes.as_slice();
+    Ok(Function {
+        name: f.name.text.try_clone(alloc)?,
+        form: form_of(words, f.blocks.as_slice()),
+        linkage: f.linkage,
+        attributes: kept_attributes(alloc, words)?,
+        signature: f.signature.try_clone(alloc)?,
+        blocks: resolve_body(alloc, numbering, f)?,
+    })
+}
+
+// The blocks of a function, whose labels and values are numbered for it alone.
+fn resolve_body(
+    alloc: Global,
+    numbering: &Numbering,
+    f: &WrittenFunction,
+) -> Result<List<Block>, Exhausted>
+    ghost names: { List Name }
+    requires { FindsNames numbering.now names }
+    ensures { IfOk result (λ blocks. blocks ≡ resolved_blocks (scope_of names f.now) 0 f.now.blocks) }
+{
     let blocks = f.blocks.as_slice();
     let labels = numbered_blocks(alloc, blocks)?;
     let values = numbered_values(alloc, blocks)?;
@@ -114,14 +135,7 @@ fn resolve_function(
         blocks: &labels,
         values: &values,
     };
-    Ok(Function {
-        name: f.name.text.try_clone(alloc)?,
-        form: form_of(words, blocks),
-        linkage: f.linkage,
-        attributes: kept_attributes(alloc, words)?,
-        signature: f.signature.try_clone(alloc)?,
-        blocks: resolve_blocks(alloc, tables, blocks)?,
-    })
+    resolve_blocks(alloc, tables, blocks)
 }
 
 fn form_of(words: &[WrittenToken], blocks: &[WrittenBlock]) -> Form

@@ -2,7 +2,7 @@ use Rattle.std.specs.List.{flat_map}
 use Rattle.name_resolution.specs.Names.{label_of}
 use Rattle.name_resolution.specs.Resolved.{defined_in}
 use Rattle.name_resolution.proofs.NumberLemmas.{finds_each, finds_values}
-use Rattle.name_resolution.proofs.resolved_items.resolve_function.Goals as goal
+use Rattle.name_resolution.proofs.resolved_items.resolve_body.Goals as goal
 
 pub resolve_blocks-requires : goal.resolve_blocks-requires
 resolve_blocks-requires g c =

@@ -1,0 +1,7 @@
+use Rattle.name_resolution.proofs.resolved_code.resolve_uses.Given as goal
+
+abbrev pub ghost-resolve_operands : goal.ghost-resolve_operands
+ghost-resolve_operands g a = g.s
+
+abbrev pub ghost-resolve_edges : goal.ghost-resolve_edges
+ghost-resolve_edges g a = g.s
