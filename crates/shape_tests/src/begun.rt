@@ -1,10 +1,11 @@
 //! Lists of classes, written as words with blanks between, and the shortest modules that begin with them.
 
-use sil_shape::begun::begun_steps;
 use sil_shape::classes::Class;
+use sil_shape::grammar::Symbol;
 use sil_shape::machine::{ShapeRefusal, steps_of};
+use sil_shape::shortest_steps::shortest_steps;
 use sil_shape::spelling::{at_word, keyword, mark};
-use sil_shape::steps::Step;
+use sil_shape::steps::{Front, Step};
 use std::alloc::{AllocError, Global};
 use std::test::Fail;
 
@@ -59,14 +60,24 @@ fn count_takes(steps: &[Step]) -> usize {
     takes
 }
 
+/// How many tokens the shortest module has that goes on from a front.
+fn count_whole(alloc: Global, front: &Front) -> Result<usize, AllocError> {
+    let mut count = count_takes(&front.steps);
+    for symbol in front.left.iter() {
+        let more = match symbol {
+            Symbol::Read(_) => 1,
+            Symbol::Part(part) => count_takes(&shortest_steps(alloc, *part)?),
+        };
+        count = count.saturating_add(more);
+    }
+    Ok(count)
+}
+
 /// How many tokens the shortest module has that begins with the classes before the first bad one.
 fn count_shortest(alloc: Global, classes: &[Class]) -> Result<Option<usize>, Fail> {
     match steps_of(alloc, classes) {
         Ok(_steps) => Ok(None),
-        Err(ShapeRefusal::FirstBad(place)) => {
-            let steps = begun_steps(alloc, &classes[..place])?;
-            Ok(Some(count_takes(&steps)))
-        }
+        Err(ShapeRefusal::FirstBad { front, .. }) => Ok(Some(count_whole(alloc, &front)?)),
         Err(ShapeRefusal::Memory) => Err(Fail::from(AllocError)),
     }
 }

@@ -2,7 +2,7 @@
 use Rattle.std.proofs.Common.{◌≡◌, ℕ, ◌+◌, ◌<◌, ◌≤◌, List, [], ◌∷◌, ◌++◌, length, map, take, drop, refl, ap, sym, subst, ◌∙◌, arith, append_assoc, length-append, reverse, Some}
 use Rattle.std.specs.Prelude.{Option, None}
 use Rattle.std.specs.Option.{option_to_list}
-use Rattle.std.proofs.lemmas.List.{append-nil, drop-append-le, length-drop, length-map, length-reverse, map-append, reverse-append, take-append-le}
+use Rattle.std.proofs.lemmas.List.{drop-append-le, length-map, length-reverse, map-append, reverse-append, take-append-le}
 use Rattle.std.proofs.Math.Seq.{take-append_seam, drop-append_seam}
 use Rattle.sil_shape.specs.declared.grammar.Nonterminal.{Nonterminal}
 use Rattle.sil_shape.specs.declared.grammar.Nonterminal.TheVariants as n
@@ -19,7 +19,7 @@ use Rattle.written_tree.specs.declared.fault.Fault.{Fault}
 use Rattle.written_tree.specs.Faults.{earlier}
 use Rattle.written_modules.specs.declared.value.Value.{Value}
 use Rattle.written_modules.specs.declared.value.Value.TheVariants as v
-use Rattle.written_modules.specs.Lacking.{lacking, lacking_within, waiting, Fills}
+use Rattle.written_modules.specs.Lacking.{lacking, lacking_within, waiting}
 use Rattle.written_modules.specs.Meaning.{meaning}
 use Rattle.written_modules.specs.PartFaults.{part_fault}
 use Rattle.written_modules.specs.Replay.{first_fault, parts_of, reduced, replay}

@@ -1,5 +1,5 @@
 -- A derivation of a module begins with the module's own production, and leaves one value, the module.
-use Rattle.std.proofs.Common.{◌≡◌, ℕ, ◌+◌, ◌≤◌, List, [], ◌∷◌, ◌++◌, length, take, refl, ap, sym, subst, ◌∙◌, arith, length-append}
+use Rattle.std.proofs.Common.{◌≡◌, ℕ, ◌≤◌, List, [], ◌∷◌, ◌++◌, length, take, refl, ap, sym, subst, ◌∙◌, arith, length-append}
 use Rattle.std.proofs.lemmas.List.{append-nil, length-map, take_all}
 use Rattle.sil_lexer.specs.Lexes.{Lexeme}
 use Rattle.sil_lexer.specs.Lexing.{Lexing, lexeme_of, lexemes_of}

@@ -10,5 +10,5 @@ returns-in-Some c =
     let stops : c.args.tokens.now.stop ≡ Some c.in-Some.stop = cc c.in-Some.ensures in
     let front : Front = record { steps = c.args.steps; left = c.new.result } in
     let same : Broken c.bad_stop.result c.len.result front ≡ Broken (bad_stop c.in-Some.stop) (length c.args.tokens.now.tokens) front =
-        cc (c.bad_stop.ensures, c.len.ensures) in
+    cc (c.bad_stop.ensures, c.len.ensures) in
     rw stops (front, same, refl, c.new.ensures.items)

@@ -8,7 +8,7 @@ use Rattle.sil_shape.specs.Values.{IsEnough}
 use Rattle.sil_shape.proofs.ValuesLemmas.{IsEnough-derives}
 use Rattle.written_modules.specs.declared.value.Value.{Value}
 use Rattle.written_modules.specs.declared.value.Value.TheVariants as v
-use Rattle.written_modules.specs.Lacking.{lacking, waiting}
+use Rattle.written_modules.specs.Lacking.{lacking}
 use Rattle.written_modules.specs.Replay.{first_fault, replay}
 use Rattle.written_modules.proofs.LackingLemmas.{waiting-length}
 use Rattle.written_modules.proofs.WholeLemmas.{all_of, one_module}

@@ -1,5 +1,5 @@
 -- The steps and the shortest way to write what is left derive a module.
-use Rattle.std.proofs.Common.{◌≡◌, ◌++◌, ◌∙◌, ap, reverse, subst, sym, take}
+use Rattle.std.proofs.Common.{◌++◌, ◌∙◌, ap, reverse, subst, sym, take}
 use Rattle.sil_lexer.specs.Lexing.{lexemes_of}
 use Rattle.sil_shape.specs.Values.{takes_of, IsEnough}
 use Rattle.sil_shape.proofs.Shortened.{shortened}

@@ -1,5 +1,5 @@
 -- There is a take wherever a token is taken, and there are the values of a body wherever a production is expanded.
-use Rattle.std.proofs.Common.{◌≡◌, ◌∷◌, [], ◌<◌, ◌≤◌, ◌++◌, ◌-◌, ◌∙◌, List, drop, take, length, map, reverse, ap, arith, sym}
+use Rattle.std.proofs.Common.{◌≡◌, [], ◌<◌, ◌≤◌, ◌++◌, ◌-◌, ◌∙◌, List, drop, take, length, map, reverse, ap, arith, sym}
 use Rattle.std.proofs.Math.ListN.{drop_of_length-le}
 use Rattle.std.proofs.Math.Seq.{drop-append_seam}
 use Rattle.std.proofs.lemmas.List.{length-reverse, length-take}
