@@ -1,6 +1,7 @@
 //! Sources and sinks that fail at one call, in pieces of several sizes.
 
-use crate::call::call;
+use crate::call::{Ended, call};
+use std::process::Abort;
 use std::test::Fail;
 
 const OBJECT: &[u8] =
@@ -8,6 +9,11 @@ const OBJECT: &[u8] =
 
 /// How many calls of a source in pieces of 16 bytes read `OBJECT` to its end: one a piece, and one that finds the end.
 const READS: u64 = (OBJECT.len() as u64 + 15) / 16 + 1;
+
+fn assert_ended(rt: &impl Abort, fail: u64, ended: &Ended, written: &[u8], status: u8) {
+    assert_eq!(rt; ended.status, status, "call {fail}");
+    assert_eq!(rt; ended.written.as_slice(), written, "call {fail}");
+}
 
 // A source that fails at call k gives `read fault`, where the text isn't read to its end by then.
 #[test]
@@ -26,8 +32,7 @@ fn a_failed_read_is_told(rt: HostRuntime) -> Result<(), Fail> {
         } else {
             (b"accepted\n".as_slice(), 0)
         };
-        assert_eq!(rt; ended.status, status, "call {fail}");
-        assert_eq!(rt; ended.written.as_slice(), written, "call {fail}");
+        assert_ended(&rt, fail, &ended, written, status);
     }
     Ok(())
 }
@@ -50,8 +55,7 @@ fn a_failed_write_leaves_a_front(rt: HostRuntime) -> Result<(), Fail> {
             3 => (b"accepted".as_slice(), 5),
             _ => (b"accepted\n".as_slice(), 0),
         };
-        assert_eq!(rt; ended.status, status, "call {fail}");
-        assert_eq!(rt; ended.written.as_slice(), written, "call {fail}");
+        assert_ended(&rt, fail, &ended, written, status);
     }
     Ok(())
 }

@@ -2,6 +2,7 @@
 
 use crate::call::check;
 use std::alloc::{AllocError, Global};
+use std::process::Abort;
 use std::test::Fail;
 
 const HEAD: &[u8] =
@@ -146,13 +147,24 @@ const CODES: [(&str, &str, u8); 24] = [
     ),
 ];
 
+fn assert_code(
+    rt: &impl Abort,
+    alloc: Global,
+    code: &str,
+    written: &str,
+    status: u8,
+) -> Result<(), Fail> {
+    let text = module_with(alloc, code)?;
+    let ended = check(alloc, text.as_slice())?;
+    assert_eq!(rt; ended.status, status, "{code}");
+    assert_eq!(rt; ended.written.as_slice(), written.as_bytes(), "{code}");
+    Ok(())
+}
+
 #[test]
 fn faults_of_one_function_are_found(rt: HostRuntime) -> Result<(), Fail> {
     for (code, written, status) in CODES {
-        let text = module_with(rt.alloc(), code)?;
-        let ended = check(rt.alloc(), text.as_slice())?;
-        assert_eq!(rt; ended.status, status, "{code}");
-        assert_eq!(rt; ended.written.as_slice(), written.as_bytes(), "{code}");
+        assert_code(&rt, rt.alloc(), code, written, status)?;
     }
     Ok(())
 }

@@ -1,147 +1,116 @@
-//! Copies and comparisons of a module that has one of nearly everything, and one row of the table of forms.
+//! Copies and comparisons of modules, how lists grow, and one row of the table of forms.
 
 use sil_ast::{
-    Block, Boxed, Convention, Debug, Decl, Exhausted, Field, Form, Function, Imports, Inst,
-    Linkage, List, Module, Op, Operand, Operands, Part, Qualifier, Same, Signature, Stage, Storage,
-    Text, TryClone, TypeName, ValueId, Vtable, row_of,
+    Boxed, Exhausted, List, Module, Op, Part, Same, Text, TryClone, TypeName, ValueId, row_of,
 };
-use std::alloc::Global;
+use sil_grammar::{ReadRefusal, read};
+use std::alloc::{AllocError, Global};
+use std::process::Abort;
 use std::test::Fail;
 
-fn text(alloc: Global, word: &str) -> Result<Text, Exhausted> {
-    Text::from_slice(alloc, word.as_bytes())
-}
+// two texts of modules that differ in one part
+const PAIRS: [(&str, &str); 14] = [
+    ("sil_stage raw", "sil_stage canonical"),
+    ("import Builtin", "import Swift"),
+    ("class C { }", "class D { }"),
+    ("class C { var x: A }", "struct C { var x: A }"),
+    ("class C { var x: A }", "class C { weak var x: A }"),
+    (
+        "class C { var x: (Optional<A>, Builtin.Int64) }",
+        "class C { var x: (Optional<A>, Builtin.Int8) }",
+    ),
+    ("enum E { case a case b(A) }", "enum E { case a case b }"),
+    (
+        "sil @f : $@convention(thin) (@owned A) -> ()",
+        "sil @f : $@convention(thin) (A) -> ()",
+    ),
+    (
+        "sil hidden @f : $@convention(thin) () -> ()",
+        "sil @f : $@convention(thin) () -> ()",
+    ),
+    ("sil_vtable C { }", ""),
+    // six operands, more than stand in place
+    (
+        "sil [ossa] @f : $@convention(thin) () -> () { bb0: %0 = tuple () %1 = tuple (%0 : $(), %0 : $(), %0 : $(), %0 : $(), %0 : $(), %0 : $()) unreachable }",
+        "sil [ossa] @f : $@convention(thin) () -> () { bb0: %0 = tuple () %1 = tuple (%0 : $(), %0 : $(), %0 : $(), %0 : $(), %0 : $()) unreachable }",
+    ),
+    (
+        "sil [ossa] @f : $@convention(thin) () -> () { bb0: %0 = tuple () return %0 : $() }",
+        "sil [ossa] @f : $@convention(thin) () -> () { bb0: %0 = tuple () unreachable }",
+    ),
+    (
+        "sil [ossa] @f : $@convention(thin) () -> () { bb0: %0 = integer_literal $Builtin.Int8, 1 unreachable }",
+        "sil [ossa] @f : $@convention(thin) () -> () { bb0: %0 = integer_literal $Builtin.Int8, 2 unreachable }",
+    ),
+    (
+        "sil [ossa] @f : $@convention(thin) () -> () { bb0: br bb1 bb1: unreachable }",
+        "sil [ossa] @f : $@convention(thin) () -> () { bb0: unreachable bb1: unreachable }",
+    ),
+];
 
-/// `(Optional<Node>, Builtin.Int64)`
-fn pair_type(alloc: Global) -> Result<TypeName, Exhausted> {
-    let node = TypeName::Named(text(alloc, "Node")?);
-    let mut elements = List::new(alloc);
-    elements.push(TypeName::Optional(Boxed::new(alloc, node)?))?;
-    elements.push(TypeName::Int(64))?;
-    Ok(TypeName::Tuple(elements))
-}
-
-fn bare(alloc: Global, op: Op) -> Inst {
-    Inst {
-        op,
-        results: List::new(alloc),
-        operands: Operands::new(alloc),
-        ty: None,
-        signature: None,
-        function: None,
-        member: None,
-        number: None,
-        text: None,
-        qualifier: Qualifier::Plain,
-        lexical: false,
-        var_decl: false,
-        debug: Debug {
-            binding: None,
-            name: None,
-            argno: None,
-            deref: false,
-        },
-        edges: List::new(alloc),
+fn module_of(rt: &impl Abort, alloc: Global, text: &str) -> Result<Module, Fail> {
+    assert!(rt; text.len() <= 1_048_576);
+    match read(alloc, text.as_bytes()) {
+        Ok(module) => Ok(module),
+        Err(ReadRefusal::Memory) => Err(Fail::from(AllocError)),
+        Err(_refusal) => panic!(rt; "{text}"),
     }
 }
 
-/// A tuple of six values, more than stand in place.
-fn tuple_of_six(alloc: Global) -> Result<Inst, Exhausted> {
-    let mut inst = bare(alloc, Op::Tuple);
-    inst.results.push(ValueId(6))?;
-    for value in 0..6 {
-        inst.operands.push(Operand {
-            value: ValueId(value),
-            ty: Some(pair_type(alloc)?),
-        })?;
-    }
-    Ok(inst)
-}
-
-/// A module with a class, its vtable and one function of one block.
-fn module(alloc: Global) -> Result<Module, Exhausted> {
-    let mut fields = List::new(alloc);
-    fields.push(Field {
-        name: text(alloc, "parent")?,
-        storage: Storage::Weak,
-        ty: pair_type(alloc)?,
-    })?;
-    let mut decls = List::new(alloc);
-    decls.push(Decl::Class {
-        name: text(alloc, "Node")?,
-        fields,
-    })?;
-    let mut insts = List::new(alloc);
-    insts.push(tuple_of_six(alloc)?)?;
-    let mut blocks = List::new(alloc);
-    blocks.push(Block {
-        args: List::new(alloc),
-        insts,
-        terminator: bare(alloc, Op::Unreachable),
-    })?;
-    let mut functions = List::new(alloc);
-    functions.push(Function {
-        name: text(alloc, "main")?,
-        form: Form::Ossa,
-        linkage: Linkage::Hidden,
-        attributes: List::new(alloc),
-        signature: Signature {
-            convention: Convention::Thin,
-            params: List::new(alloc),
-            results: List::new(alloc),
-        },
-        blocks,
-    })?;
-    let mut vtables = List::new(alloc);
-    vtables.push(Vtable {
-        class_name: text(alloc, "Node")?,
-        entry: None,
-    })?;
-    Ok(Module {
-        stage: Stage::Canonical,
-        imports: Imports {
-            builtin: true,
-            swift: false,
-        },
-        decls,
-        functions,
-        vtables,
-    })
+fn is_copied(alloc: Global, module: &Module) -> Result<bool, Exhausted> {
+    Ok(module.try_clone(alloc)?.same(module))
 }
 
 #[test]
-fn copies_are_the_same_and_others_are_not(rt: HostRuntime) -> Result<(), Fail> {
+fn a_copy_is_the_same(rt: HostRuntime) -> Result<(), Fail> {
     let alloc = rt.alloc();
-    let ty = pair_type(alloc)?;
-    assert!(rt; ty.try_clone(alloc)?.same(&ty));
-    assert!(rt; !ty.same(&TypeName::Int(64)));
-    assert_eq!(rt; ty.depth(), 3);
+    for (text, _other) in PAIRS {
+        let module = module_of(&rt, alloc, text)?;
+        assert!(rt; is_copied(alloc, &module)?, "{text}");
+    }
+    Ok(())
+}
 
-    let inst = tuple_of_six(alloc)?;
-    assert!(rt; inst.try_clone(alloc)?.same(&inst));
-    assert!(rt; !inst.same(&bare(alloc, Op::Tuple)));
+#[test]
+fn another_module_is_not_the_same(rt: HostRuntime) -> Result<(), Fail> {
+    let alloc = rt.alloc();
+    for (text, other) in PAIRS {
+        let module = module_of(&rt, alloc, text)?;
+        assert!(rt; !module.same(&module_of(&rt, alloc, other)?), "{text}");
+    }
+    Ok(())
+}
 
-    let whole = module(alloc)?;
-    let mut copy = whole.try_clone(alloc)?;
-    assert!(rt; copy.same(&whole));
-    copy.vtables = List::new(alloc);
-    assert!(rt; !copy.same(&whole));
+/// `Optional<Node>`
+fn optional_node(alloc: Global) -> Result<TypeName, Exhausted> {
+    let node = TypeName::Named(Text::from_slice(alloc, b"Node")?);
+    Ok(TypeName::Optional(Boxed::new(alloc, node)?))
+}
+
+#[test]
+fn a_type_has_one_level_more_than_its_parts(rt: HostRuntime) -> Result<(), Fail> {
+    let mut elements = List::new(rt.alloc());
+    elements.push(optional_node(rt.alloc())?)?;
+    elements.push(TypeName::Int(64))?;
+    assert_eq!(rt; TypeName::Tuple(elements).depth(), 3);
     Ok(())
 }
 
 #[test]
 fn lists_grow_at_the_end(rt: HostRuntime) -> Result<(), Fail> {
-    let alloc = rt.alloc();
-    let mut values = List::new(alloc);
+    let mut values = List::new(rt.alloc());
     values.push(ValueId(7))?;
     values.push(ValueId(5))?;
     assert_eq!(rt; values.get(1).copied(), Some(ValueId(5)));
     assert_eq!(rt; values.get(2).copied(), None);
-    assert_eq!(rt; List::from_vec(values.into_vec()).len(), 2);
+    Ok(())
+}
 
-    let mut word = Text::new(alloc);
+#[test]
+fn texts_grow_at_the_end(rt: HostRuntime) -> Result<(), Fail> {
+    let mut word = Text::new(rt.alloc());
     word.push(b'a')?;
-    assert!(rt; word == text(alloc, "a")?);
+    assert_eq!(rt; word.as_slice(), b"a".as_slice());
     Ok(())
 }
 

@@ -115,9 +115,9 @@ pub(crate) fn more_code(alloc: Global, values: &mut Prepended<Value>) -> Result<
     requires { 2 ≤ length values.old }
     ensures { IfOk result (λ value. reduced Production.CodeInst values.old ≡ value ∷ values.new) }
 {
-    let inst = values.pop_front();
+    let inst = values.pop_front().into_boxed_inst(alloc)?;
     let (mut insts, terminator) = values.pop_front().into_code(alloc)?;
-    insts.push_front(inst.into_inst(alloc))?;
+    insts.push_front(inst.into_inner())?;
     Ok(Value::Code(insts, terminator))
 }
 
