@@ -1,5 +1,4 @@
 -- For `shape_of`: a derivation goes to the end of the text or to the stop, and else the text breaks off.
-use Rattle.sil_shape.specs.Derivation.{IsFirstBad}
 use Rattle.sil_grammar.proofs.ShapeLemmas.{broken_at, shaped}
 use Rattle.sil_grammar.proofs.first_bad.shape_of.Goals as goal
 

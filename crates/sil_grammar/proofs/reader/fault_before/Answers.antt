@@ -1,7 +1,6 @@
 -- For `fault_before`: the front and the shortest way to write what is left derive a module that begins with the tokens.
-use Rattle.std.proofs.Common.{◌≡◌, length, map, take, ◌∙◌}
-use Rattle.std.proofs.lemmas.List.{length-map, length-take-le}
-use Rattle.sil_lexer.specs.Lexing.{lexeme_of, lexemes_of}
+use Rattle.std.proofs.Common.{map, take}
+use Rattle.sil_lexer.specs.Lexing.{lexemes_of}
 use Rattle.sil_grammar.specs.Classes.{token_class}
 use Rattle.sil_grammar.proofs.ShapeLemmas.{length-front}
 use Rattle.sil_grammar.proofs.ReadLemmas.{front_found}

@@ -1,14 +1,12 @@
 -- For `read`: the text is read as far as it has shape.
-use Rattle.std.proofs.Common.{◌≡◌, take, ap, subst, sym, ◌∙◌}
+use Rattle.std.proofs.Common.{◌≡◌, subst}
 use Rattle.std.proofs.lemmas.Result.{IfOk-weaker}
-use Rattle.sil_shape.specs.Derivation.{BeginsShape}
 use Rattle.sil_grammar.specs.Shape.{IsBroken, IsShapeOf}
 use Rattle.sil_ast.specs.declared.module.Module.{Module}
 use Rattle.sil_grammar.specs.Spells.{Spells}
 use Rattle.numbered_form.specs.NumberedForm.{IsNumbered}
 use Rattle.sil_grammar.proofs.NumberedLemmas.{spelled_numbered}
 use Rattle.sil_grammar.proofs.ReadLemmas.{out_of_memory, spelled_once}
-use Rattle.sil_grammar.proofs.ShapeLemmas.{take-classes}
 use Rattle.sil_grammar.proofs.reader.read.Goals as goal
 
 pub returns-in_err-tokens-clause-refused : goal.returns-in_err-tokens-clause-refused
