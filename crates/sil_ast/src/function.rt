@@ -7,7 +7,7 @@ use crate::place::ValueId;
 use crate::same::Same;
 use crate::signature::Signature;
 use crate::text::Text;
-use crate::try_clone::TryClone;
+use crate::try_clone::{TryClone, copy_four};
 use crate::type_name::TypeName;
 use std::alloc::Global;
 
@@ -67,13 +67,20 @@ pub enum ArgKind {
 
 impl TryClone for Function {
     fn try_clone(&self, alloc: Global) -> Result<Function, Exhausted> {
+        let (name, attributes, signature, blocks) = copy_four(
+            &self.name,
+            &self.attributes,
+            &self.signature,
+            &self.blocks,
+            alloc,
+        )?;
         Ok(Function {
-            name: self.name.try_clone(alloc)?,
+            name,
             form: self.form,
             linkage: self.linkage,
-            attributes: self.attributes.try_clone(alloc)?,
-            signature: self.signature.try_clone(alloc)?,
-            blocks: self.blocks.try_clone(alloc)?,
+            attributes,
+            signature,
+            blocks,
         })
     }
 }

@@ -13,7 +13,7 @@ use crate::place::{BlockId, FuncId, ValueId};
 use crate::same::Same;
 use crate::signature::Signature;
 use crate::text::Text;
-use crate::try_clone::TryClone;
+use crate::try_clone::{TryClone, copy_four};
 use crate::type_name::TypeName;
 use std::alloc::Global;
 
@@ -68,21 +68,36 @@ pub struct Edge {
 
 impl TryClone for Inst {
     fn try_clone(&self, alloc: Global) -> Result<Inst, Exhausted> {
+        // Parts that hold no type come first: the second `?` drops them, and a drop of types is slow to prove.
+        let (text, member, debug, results) = copy_four(
+            &self.text,
+            &self.member,
+            &self.debug,
+            &self.results,
+            alloc,
+        )?;
+        let (ty, signature, operands, edges) = copy_four(
+            &self.ty,
+            &self.signature,
+            &self.operands,
+            &self.edges,
+            alloc,
+        )?;
         Ok(Inst {
             op: self.op,
-            results: self.results.try_clone(alloc)?,
-            operands: self.operands.try_clone(alloc)?,
-            ty: self.ty.try_clone(alloc)?,
-            signature: self.signature.try_clone(alloc)?,
+            results,
+            operands,
+            ty,
+            signature,
             function: self.function,
-            member: self.member.try_clone(alloc)?,
+            member,
             number: self.number,
-            text: self.text.try_clone(alloc)?,
+            text,
             qualifier: self.qualifier,
             lexical: self.lexical,
             var_decl: self.var_decl,
-            debug: self.debug.try_clone(alloc)?,
-            edges: self.edges.try_clone(alloc)?,
+            debug,
+            edges,
         })
     }
 }

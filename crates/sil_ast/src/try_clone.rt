@@ -22,3 +22,20 @@ impl<T: TryClone> TryClone for Option<T> {
         }
     }
 }
+
+/// A copy of each of four values.
+pub(crate) fn copy_four<
+    A: TryClone + Drop,
+    B: TryClone + Drop,
+    C: TryClone + Drop,
+    D: TryClone + Drop,
+>(a: &A, b: &B, c: &C, d: &D, alloc: Global) -> Result<(A, B, C, D), Exhausted>
+    ensures { IfOk result (λ copies. copies ≡ (a.now, b.now, c.now, d.now)) }
+{
+    Ok((
+        a.try_clone(alloc)?,
+        b.try_clone(alloc)?,
+        c.try_clone(alloc)?,
+        d.try_clone(alloc)?,
+    ))
+}
