@@ -1,7 +1,8 @@
 //! Whole texts, and words: what is a module, what is a command line, and the limit on a text.
 
-use crate::call::{call, check, print};
+use crate::call::{Ended, call, check, print};
 use std::alloc::{AllocError, Global};
+use std::process::Abort;
 use std::test::Fail;
 
 const USAGE: &str =
@@ -116,12 +117,16 @@ const TEXTS: [(&str, &str, u8); 27] = [
     ("class C {\n", "not a module: unexpected at 2:1\n", 3),
 ];
 
+fn assert_ended(rt: &impl Abort, ended: &Ended, written: &str, status: u8, text: &str) {
+    assert_eq!(rt; ended.status, status, "{text}");
+    assert_eq!(rt; ended.written.as_slice(), written.as_bytes(), "{text}");
+}
+
 #[test]
 fn texts_are_modules_or_not(rt: HostRuntime) -> Result<(), Fail> {
     for (text, written, status) in TEXTS {
         let ended = check(rt.alloc(), text.as_bytes())?;
-        assert_eq!(rt; ended.status, status, "{text}");
-        assert_eq!(rt; ended.written.as_slice(), written.as_bytes(), "{text}");
+        assert_ended(&rt, &ended, written, status, text);
     }
     Ok(())
 }
@@ -170,14 +175,11 @@ fn padded(alloc: Global, length: usize) -> Result<Vec<u8>, AllocError> {
 fn a_text_may_have_a_mebibyte(rt: HostRuntime) -> Result<(), Fail> {
     let longest = padded(rt.alloc(), 1048576)?;
     let ended = check(rt.alloc(), longest.as_slice())?;
-    assert_eq!(rt; ended.status, 0);
-    assert_eq!(rt; ended.written.as_slice(), b"accepted\n".as_slice());
+    assert_ended(&rt, &ended, "accepted\n", 0, "the longest text");
     let longer = padded(rt.alloc(), 1048577)?;
     let ended = check(rt.alloc(), longer.as_slice())?;
-    assert_eq!(rt; ended.status, 8);
-    assert_eq!(rt; ended.written.as_slice(), b"limit text\n".as_slice());
+    assert_ended(&rt, &ended, "limit text\n", 8, "a longer text");
     let ended = print(rt.alloc(), longer.as_slice())?;
-    assert_eq!(rt; ended.status, 8);
-    assert_eq!(rt; ended.written.as_slice(), b"limit text\n".as_slice());
+    assert_ended(&rt, &ended, "limit text\n", 8, "a longer text to print");
     Ok(())
 }

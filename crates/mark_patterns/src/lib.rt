@@ -15,6 +15,3 @@ pub use laws::{
     reads_marks_that_are_runs, steps_one_by_one, stops_at_the_first_break,
 };
 pub use pattern::{Break, MarkSort};
-
-#[cfg(test)]
-mod tests;

@@ -48,7 +48,8 @@ const PAIRS: [(&str, &str); 14] = [
     ),
 ];
 
-fn module_of(rt: &impl Abort, alloc: Global, text: &str) -> Result<Module, Fail> {
+/// The module that a text spells.
+pub fn module_of(rt: &impl Abort, alloc: Global, text: &str) -> Result<Module, Fail> {
     assert!(rt; text.len() <= 1_048_576);
     match read(alloc, text.as_bytes()) {
         Ok(module) => Ok(module),

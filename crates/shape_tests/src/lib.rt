@@ -1,5 +1,6 @@
-//! Tests of the reader, worked out by hand: texts that have the shape of a module and texts that don't, with the places
-//! where they go wrong, and the canonical texts of the modules that texts spell. Also of copies of modules.
+//! Tests of the reader, worked out by hand: the tokens of texts, texts that have the shape of a module and texts that
+//! don't, with the places where they go wrong, and the canonical texts of the modules that texts spell. Also of copies of
+//! modules, of modules that are simple, of numbers, and of marks in runs.
 #![tactic(auto)]
 
 #[cfg(test)]
@@ -12,6 +13,10 @@ mod declarations;
 mod instructions;
 #[cfg(test)]
 mod long_texts;
+#[cfg(test)]
+mod mark_runs;
+#[cfg(test)]
+mod numbers;
 #[cfg(test)]
 mod outcome;
 #[cfg(test)]
@@ -31,6 +36,12 @@ mod programs;
 #[cfg(test)]
 mod readings;
 #[cfg(test)]
+mod reasons;
+#[cfg(test)]
 mod shaped;
 #[cfg(test)]
+mod simple;
+#[cfg(test)]
 mod stops;
+#[cfg(test)]
+mod tokens;

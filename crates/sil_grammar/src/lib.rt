@@ -11,6 +11,3 @@ pub use first_bad::{BadKind, BadPlace, first_bad_place};
 pub use reader::{read, spelled_modules_are_numbered, spelled_once};
 pub use refusal::ReadRefusal;
 pub use written_tree::LimitWord;
-
-#[cfg(test)]
-mod tests;

@@ -14,6 +14,3 @@ pub use lexer::{LexStop, lex, lexed_in_order, lexed_one_way, longest_taken};
 pub use place::{end_place, place_at};
 pub use token::{LexRefusal, TokenKind};
 pub use tokens::Tokens;
-
-#[cfg(test)]
-mod tests;

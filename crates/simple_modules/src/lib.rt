@@ -8,6 +8,3 @@ mod module;
 mod values;
 
 pub use module::is_simple;
-
-#[cfg(test)]
-mod tests;

@@ -7,6 +7,3 @@ mod number;
 
 pub use laws::{literals_are_signed, printed_literals_read_back, printed_numbers_read_back};
 pub use number::{literal, small_number};
-
-#[cfg(test)]
-mod tests;

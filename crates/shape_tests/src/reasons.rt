@@ -1,7 +1,7 @@
 //! Small texts and the first thing that is wrong with each, worked out by hand.
 
-use crate::{LimitWord, ReadRefusal, read};
 use sil_ast::Place;
+use sil_grammar::{LimitWord, ReadRefusal, read};
 use sil_lexer::LexRefusal;
 use std::test::Fail;
 

@@ -1,9 +1,9 @@
 //! Small texts with their tokens and stops, worked out by hand.
 
-use super::LexRefusal::{BadByte, NameTooLong, UnclosedText};
-use super::TokenKind::{AtName, Mark, Number, Percent, Text, Word};
-use super::{LexRefusal, TokenKind, end_place, lex, place_at};
 use sil_ast::Place;
+use sil_lexer::LexRefusal::{BadByte, NameTooLong, UnclosedText};
+use sil_lexer::TokenKind::{AtName, Mark, Number, Percent, Text, Word};
+use sil_lexer::{LexRefusal, TokenKind, end_place, lex, place_at};
 use std::test::Fail;
 
 macro_rules! at {

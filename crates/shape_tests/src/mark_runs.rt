@@ -1,8 +1,8 @@
 //! Each public call once, with answers worked out by hand.
 
-use crate::*;
 use Break::{BeginInside, EndOutside, ReturnInside, UseOutside};
 use MarkSort::{Begin, End, Use};
+use mark_patterns::*;
 
 #[test]
 fn marks_are_runs(rt: HostRuntime) {

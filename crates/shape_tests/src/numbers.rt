@@ -1,6 +1,6 @@
 //! Spellings with their numbers, worked out by hand.
 
-use crate::*;
+use written_numbers::*;
 
 #[test]
 fn literals(rt: HostRuntime) {
