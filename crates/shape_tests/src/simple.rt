@@ -35,7 +35,7 @@ fn simple_code_is_told(rt: HostRuntime) -> Result<(), Fail> {
 }
 
 // whole modules
-const MODULES: [(&str, bool); 7] = [
+const MODULES: [(&str, bool); 8] = [
     ("", true),
     ("sil_stage raw import Swift class Node { }", true),
     ("class Node { var next: Node }", false),
@@ -47,6 +47,11 @@ const MODULES: [(&str, bool); 7] = [
     ),
     (
         "class Node { } sil [ossa] @f : $@convention(thin) () -> () { bb0: %0 = alloc_ref $Node return %0 : $Node }",
+        false,
+    ),
+    // an object is returned as ()
+    (
+        "class Node { } sil [ossa] @f : $@convention(thin) () -> () { bb0: %0 = alloc_ref $Node return %0 : $() }",
         false,
     ),
 ];
