@@ -1,94 +1,113 @@
--- The table of instructions: the mnemonic of each, and the parts of its form.
-use Rattle.std.specs.Prelude.{ℕ, List, [], ◌∷◌, codes}
-use Rattle.sil_ast.specs.declared.op.Op.{Op}
-use Rattle.sil_ast.specs.declared.op.Op.TheVariants.{IntegerLiteral, FunctionRef, Builtin, CondFail, AllocRef, AllocStack, DeallocStack, CopyValue, DestroyValue, MoveValue, BeginBorrow, EndBorrow, Load, Store, LoadBorrow, DestroyAddr, LoadWeak, StoreWeak, LoadUnowned, StoreUnowned, Struct, Tuple, Enum, StructExtract, TupleExtract, DestructureStruct, DestructureTuple, StructElementAddr, TupleElementAddr, RefElementAddr, Apply, DebugValue, StrongRetain, StrongRelease, RetainValue, ReleaseValue, Br, CondBr, SwitchEnum, Return, Unreachable}
+-- The table of instructions: what each of its columns says of an instruction.
+use Rattle.std.specs.Prelude.{ℕ, List, [], Bool, true, false, map, slice_index_or}
+use Rattle.sil_ast.specs.declared.columns.TheConstants.{MNEMONICS, PARTS, RESULTS, ENDINGS, WORDS, OPTIONAL_OPERANDS, DETAILS, EXTRA_VALUES}
+use Rattle.sil_ast.specs.declared.entries.Detail.{Detail}
+use Rattle.sil_ast.specs.declared.entries.Detail.TheVariants.{NoDetail}
+use Rattle.sil_ast.specs.declared.entries.Ending.{Ending}
+use Rattle.sil_ast.specs.declared.entries.Ending.TheVariants as ending
+use Rattle.sil_ast.specs.declared.entries.ExtraValue.{ExtraValue}
+use Rattle.sil_ast.specs.declared.entries.ExtraValue.TheVariants.{Never}
+use Rattle.sil_ast.specs.declared.entries.Results.{Results}
+use Rattle.sil_ast.specs.declared.entries.Results.TheVariants.{NoResult, OneResult, ResultList}
+use Rattle.sil_ast.specs.declared.entries.Words.{Words}
+use Rattle.sil_ast.specs.declared.entries.Words.TheVariants.{NoWord}
 use Rattle.sil_ast.specs.declared.forms.Part.{Part}
-use Rattle.sil_ast.specs.declared.forms.Part.TheVariants as part
+use Rattle.sil_ast.specs.declared.op.Op.{Op}
+use Rattle.sil_ast.specs.declared.op.Op.TheVariants as op
+
+-- the number of an instruction, which is its place in each column
+abbrev pub number_of : Op → ℕ
+number_of op.IntegerLiteral = 0
+number_of op.FunctionRef = 1
+number_of op.Builtin = 2
+number_of op.CondFail = 3
+number_of op.AllocRef = 4
+number_of op.AllocStack = 5
+number_of op.DeallocStack = 6
+number_of op.CopyValue = 7
+number_of op.DestroyValue = 8
+number_of op.MoveValue = 9
+number_of op.BeginBorrow = 10
+number_of op.EndBorrow = 11
+number_of op.Load = 12
+number_of op.Store = 13
+number_of op.LoadBorrow = 14
+number_of op.DestroyAddr = 15
+number_of op.LoadWeak = 16
+number_of op.StoreWeak = 17
+number_of op.LoadUnowned = 18
+number_of op.StoreUnowned = 19
+number_of op.Struct = 20
+number_of op.Tuple = 21
+number_of op.Enum = 22
+number_of op.StructExtract = 23
+number_of op.TupleExtract = 24
+number_of op.DestructureStruct = 25
+number_of op.DestructureTuple = 26
+number_of op.StructElementAddr = 27
+number_of op.TupleElementAddr = 28
+number_of op.RefElementAddr = 29
+number_of op.Apply = 30
+number_of op.DebugValue = 31
+number_of op.StrongRetain = 32
+number_of op.StrongRelease = 33
+number_of op.RetainValue = 34
+number_of op.ReleaseValue = 35
+number_of op.Br = 36
+number_of op.CondBr = 37
+number_of op.SwitchEnum = 38
+number_of op.Return = 39
+number_of op.Unreachable = 40
 
 -- the word with which an instruction begins
 abbrev pub mnemonic_of : Op → List ℕ
-mnemonic_of IntegerLiteral = codes "integer_literal"
-mnemonic_of FunctionRef = codes "function_ref"
-mnemonic_of Builtin = codes "builtin"
-mnemonic_of CondFail = codes "cond_fail"
-mnemonic_of AllocRef = codes "alloc_ref"
-mnemonic_of AllocStack = codes "alloc_stack"
-mnemonic_of DeallocStack = codes "dealloc_stack"
-mnemonic_of CopyValue = codes "copy_value"
-mnemonic_of DestroyValue = codes "destroy_value"
-mnemonic_of MoveValue = codes "move_value"
-mnemonic_of BeginBorrow = codes "begin_borrow"
-mnemonic_of EndBorrow = codes "end_borrow"
-mnemonic_of Load = codes "load"
-mnemonic_of Store = codes "store"
-mnemonic_of LoadBorrow = codes "load_borrow"
-mnemonic_of DestroyAddr = codes "destroy_addr"
-mnemonic_of LoadWeak = codes "load_weak"
-mnemonic_of StoreWeak = codes "store_weak"
-mnemonic_of LoadUnowned = codes "load_unowned"
-mnemonic_of StoreUnowned = codes "store_unowned"
-mnemonic_of Struct = codes "struct"
-mnemonic_of Tuple = codes "tuple"
-mnemonic_of Enum = codes "enum"
-mnemonic_of StructExtract = codes "struct_extract"
-mnemonic_of TupleExtract = codes "tuple_extract"
-mnemonic_of DestructureStruct = codes "destructure_struct"
-mnemonic_of DestructureTuple = codes "destructure_tuple"
-mnemonic_of StructElementAddr = codes "struct_element_addr"
-mnemonic_of TupleElementAddr = codes "tuple_element_addr"
-mnemonic_of RefElementAddr = codes "ref_element_addr"
-mnemonic_of Apply = codes "apply"
-mnemonic_of DebugValue = codes "debug_value"
-mnemonic_of StrongRetain = codes "strong_retain"
-mnemonic_of StrongRelease = codes "strong_release"
-mnemonic_of RetainValue = codes "retain_value"
-mnemonic_of ReleaseValue = codes "release_value"
-mnemonic_of Br = codes "br"
-mnemonic_of CondBr = codes "cond_br"
-mnemonic_of SwitchEnum = codes "switch_enum"
-mnemonic_of Return = codes "return"
-mnemonic_of Unreachable = codes "unreachable"
+mnemonic_of o = slice_index_or (map (λ row. row.now) MNEMONICS) (number_of o) []
 
 -- the parts behind that word, from left to right
 abbrev pub parts_of : Op → List Part
-parts_of IntegerLiteral = part.TypeWord ∷ part.Number ∷ []
-parts_of FunctionRef = part.Callee ∷ part.SignatureWord ∷ []
-parts_of Builtin = part.Text ∷ part.TypedArgs ∷ part.ResultType ∷ []
-parts_of CondFail = part.Typed ∷ part.Text ∷ []
-parts_of AllocRef = part.TypeWord ∷ []
-parts_of AllocStack = part.Flags ∷ part.TypeWord ∷ part.Debug ∷ []
-parts_of DeallocStack = part.Typed ∷ []
-parts_of CopyValue = part.Typed ∷ []
-parts_of DestroyValue = part.Typed ∷ []
-parts_of MoveValue = part.Flags ∷ part.Typed ∷ []
-parts_of BeginBorrow = part.Flags ∷ part.Typed ∷ []
-parts_of EndBorrow = part.Typed ∷ []
-parts_of Load = part.Qualifier ∷ part.Typed ∷ []
-parts_of Store = part.Bare ∷ part.To ∷ part.Qualifier ∷ part.Typed ∷ []
-parts_of LoadBorrow = part.Typed ∷ []
-parts_of DestroyAddr = part.Typed ∷ []
-parts_of LoadWeak = part.Qualifier ∷ part.Typed ∷ []
-parts_of StoreWeak = part.Bare ∷ part.To ∷ part.Qualifier ∷ part.Typed ∷ []
-parts_of LoadUnowned = part.Qualifier ∷ part.Typed ∷ []
-parts_of StoreUnowned = part.Bare ∷ part.To ∷ part.Qualifier ∷ part.Typed ∷ []
-parts_of Struct = part.TypeWord ∷ part.TypedArgs ∷ []
-parts_of Tuple = part.TypedArgs ∷ []
-parts_of Enum = part.TypeWord ∷ part.Member ∷ part.Typed ∷ []
-parts_of StructExtract = part.Typed ∷ part.Member ∷ []
-parts_of TupleExtract = part.Typed ∷ part.Number ∷ []
-parts_of DestructureStruct = part.Typed ∷ []
-parts_of DestructureTuple = part.Typed ∷ []
-parts_of StructElementAddr = part.Typed ∷ part.Member ∷ []
-parts_of TupleElementAddr = part.Typed ∷ part.Number ∷ []
-parts_of RefElementAddr = part.Typed ∷ part.Member ∷ []
-parts_of Apply = part.Bare ∷ part.BareArgs ∷ part.SignatureWord ∷ []
-parts_of DebugValue = part.Typed ∷ part.Debug ∷ []
-parts_of StrongRetain = part.Typed ∷ []
-parts_of StrongRelease = part.Typed ∷ []
-parts_of RetainValue = part.Typed ∷ []
-parts_of ReleaseValue = part.Typed ∷ []
-parts_of Br = part.Edges ∷ []
-parts_of CondBr = part.Bare ∷ part.Edges ∷ []
-parts_of SwitchEnum = part.Typed ∷ part.Edges ∷ []
-parts_of Return = part.Typed ∷ []
-parts_of Unreachable = []
+parts_of o = slice_index_or (map (λ row. row.now) PARTS) (number_of o) []
+
+-- how many results it has
+abbrev pub results_of : Op → Results
+results_of o = slice_index_or RESULTS (number_of o) NoResult
+
+abbrev pub is_one : Results → Bool
+is_one NoResult = false
+is_one OneResult = true
+is_one ResultList = false
+
+-- it has one result, which may be left without a name
+unfoldable pub has_one_result : Op → Bool
+has_one_result o = is_one (results_of o)
+
+-- whether it ends a block, and what comes then
+abbrev pub ending_of : Op → Ending
+ending_of o = slice_index_or ENDINGS (number_of o) ending.Inside
+
+abbrev pub ends : Ending → Bool
+ends ending.Inside = false
+ends ending.OneBranch = true
+ends ending.TwoBranches = true
+ends ending.Cases = true
+ends ending.Return = true
+ends ending.Unreachable = true
+
+-- it ends a block
+abbrev pub is_terminator : Op → Bool
+is_terminator o = ends (ending_of o)
+
+-- which words may stand in brackets
+abbrev pub words_of : Op → Words
+words_of o = slice_index_or WORDS (number_of o) NoWord
+
+-- its operands may be left out
+abbrev pub may_lack_operand : Op → Bool
+may_lack_operand o = slice_index_or OPTIONAL_OPERANDS (number_of o) false
+
+-- what its number, text or member says
+abbrev pub detail_of : Op → Detail
+detail_of o = slice_index_or DETAILS (number_of o) NoDetail
+
+-- whether it counts for one value more than it defines
+abbrev pub extra_value_of : Op → ExtraValue
+extra_value_of o = slice_index_or EXTRA_VALUES (number_of o) Never

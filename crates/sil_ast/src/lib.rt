@@ -3,8 +3,10 @@
 #![tactic(auto)]
 
 mod boxed;
+mod columns;
 mod debug;
 mod decl;
+mod entries;
 mod exhausted;
 mod forms;
 mod function;
@@ -15,6 +17,7 @@ mod module;
 mod op;
 mod operands;
 mod place;
+mod rows;
 mod same;
 mod signature;
 mod text;
@@ -25,8 +28,9 @@ mod vtable;
 pub use boxed::Boxed;
 pub use debug::{Binding, Debug};
 pub use decl::{Case, Decl, Field, Storage};
+pub use entries::{Detail, Ending, ExtraValue, Results, Words};
 pub use exhausted::Exhausted;
-pub use forms::{FormRow, Part, row_of};
+pub use forms::{FormRow, Part};
 pub use function::{ArgKind, Block, BlockArg, Form, Function, Linkage};
 pub use inst::{Edge, Inst, Qualifier};
 pub use list::List;
@@ -35,6 +39,10 @@ pub use module::{Imports, Module, Stage};
 pub use op::Op;
 pub use operands::{Operand, Operands};
 pub use place::{BlockId, EdgeId, FuncId, ObjectId, Place, PointId, ValueId};
+pub use rows::{
+    detail_of, ending_of, extra_value_of, has_one_result, may_lack_operand, results_of, row_of,
+    words_of,
+};
 pub use same::Same;
 pub use signature::{Convention, Given, Param, Passing, Signature};
 pub use text::Text;

@@ -1,0 +1,75 @@
+//! The table of instructions, asked by row. Each call takes no memory.
+
+ghost use Rattle.std.specs.Prelude.{◌≡◌};
+ghost use Rattle.sil_ast.specs.Forms as form;
+
+use crate::columns::{
+    DETAILS, ENDINGS, EXTRA_VALUES, MNEMONICS, OPTIONAL_OPERANDS, PARTS, RESULTS, WORDS,
+};
+use crate::entries::{Detail, Ending, ExtraValue, Results, Words};
+use crate::forms::FormRow;
+use crate::op::Op;
+
+/// The form of an instruction.
+pub fn row_of(op: Op) -> FormRow
+    ensures mnemonic { result.mnemonic.now ≡ form.mnemonic_of op }
+    ensures parts { result.parts.now ≡ form.parts_of op }
+{
+    FormRow {
+        mnemonic: MNEMONICS[op as usize],
+        parts: PARTS[op as usize],
+    }
+}
+
+/// How many results an instruction has.
+pub fn results_of(op: Op) -> Results
+    ensures { result ≡ form.results_of op }
+{
+    RESULTS[op as usize]
+}
+
+/// Whether an instruction has one result, which may be left without a name.
+#[tactic(auto, unfolding(crate::specs::Forms::has_one_result))]
+pub fn has_one_result(op: Op) -> bool
+    ensures { result ≡ form.has_one_result op }
+{
+    match results_of(op) {
+        Results::OneResult => true,
+        Results::NoResult | Results::ResultList => false,
+    }
+}
+
+/// Whether an instruction ends a block, and what comes then.
+pub fn ending_of(op: Op) -> Ending
+    ensures { result ≡ form.ending_of op }
+{
+    ENDINGS[op as usize]
+}
+
+/// Which words may stand in brackets.
+pub fn words_of(op: Op) -> Words
+    ensures { result ≡ form.words_of op }
+{
+    WORDS[op as usize]
+}
+
+/// Whether the operands may be left out.
+pub fn may_lack_operand(op: Op) -> bool
+    ensures { result ≡ form.may_lack_operand op }
+{
+    OPTIONAL_OPERANDS[op as usize]
+}
+
+/// What an instruction's number, text or member says.
+pub fn detail_of(op: Op) -> Detail
+    ensures { result ≡ form.detail_of op }
+{
+    DETAILS[op as usize]
+}
+
+/// Whether an instruction counts for one value more than it defines.
+pub fn extra_value_of(op: Op) -> ExtraValue
+    ensures { result ≡ form.extra_value_of op }
+{
+    EXTRA_VALUES[op as usize]
+}
