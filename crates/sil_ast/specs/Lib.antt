@@ -1,4 +1,3 @@
 pub mod Forms
-pub mod Inst
 pub mod TypeName
 pub mod formers

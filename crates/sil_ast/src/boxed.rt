@@ -3,7 +3,6 @@
 ghost use Rattle.std.specs.Prelude.{◌≡◌, IfOk};
 
 use crate::exhausted::Exhausted;
-use crate::same::Same;
 use crate::try_clone::TryClone;
 use std::alloc::Global;
 use std::marker::Model;
@@ -51,11 +50,5 @@ impl<T> Boxed<T> {
 impl<T: TryClone + Drop> TryClone for Boxed<T> {
     fn try_clone(&self, alloc: Global) -> Result<Boxed<T>, Exhausted> {
         Boxed::new(alloc, self.get().try_clone(alloc)?)
-    }
-}
-
-impl<T: Same> Same for Boxed<T> {
-    fn same(&self, other: &Boxed<T>) -> bool {
-        self.get().same(other.get())
     }
 }

@@ -1,7 +1,6 @@
 //! What an instruction says for a debugger.
 
 use crate::exhausted::Exhausted;
-use crate::same::Same;
 use crate::text::Text;
 use crate::try_clone::TryClone;
 use std::alloc::Global;
@@ -30,20 +29,5 @@ impl TryClone for Debug {
             argno: self.argno,
             deref: self.deref,
         })
-    }
-}
-
-impl Same for Debug {
-    fn same(&self, other: &Debug) -> bool {
-        self.binding.same(&other.binding)
-            && self.name.same(&other.name)
-            && self.argno.same(&other.argno)
-            && self.deref == other.deref
-    }
-}
-
-impl Same for Binding {
-    fn same(&self, other: &Binding) -> bool {
-        self == other
     }
 }

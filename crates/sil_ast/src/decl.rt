@@ -2,7 +2,6 @@
 
 use crate::exhausted::Exhausted;
 use crate::list::List;
-use crate::same::Same;
 use crate::text::Text;
 use crate::try_clone::TryClone;
 use crate::type_name::TypeName;
@@ -75,37 +74,5 @@ impl TryClone for Case {
             name: self.name.try_clone(alloc)?,
             payload: self.payload.try_clone(alloc)?,
         })
-    }
-}
-
-impl Same for Decl {
-    fn same(&self, other: &Decl) -> bool {
-        match (self, other) {
-            (Decl::Struct { name: a, fields: x }, Decl::Struct { name: b, fields: y }) => a.same(b)
-                && x.same(y),
-            (Decl::Enum { name: a, cases: x }, Decl::Enum { name: b, cases: y }) => a.same(b)
-                && x.same(y),
-            (Decl::Class { name: a, fields: x }, Decl::Class { name: b, fields: y }) => a.same(b)
-                && x.same(y),
-            _ => false,
-        }
-    }
-}
-
-impl Same for Field {
-    fn same(&self, other: &Field) -> bool {
-        self.storage == other.storage && self.name.same(&other.name) && self.ty.same(&other.ty)
-    }
-}
-
-impl Same for Case {
-    fn same(&self, other: &Case) -> bool {
-        self.name.same(&other.name) && self.payload.same(&other.payload)
-    }
-}
-
-impl Same for Storage {
-    fn same(&self, other: &Storage) -> bool {
-        self == other
     }
 }

@@ -3,11 +3,9 @@
 ghost use Rattle.std.specs.Prelude.{⊤};
 
 use std::alloc::{AllocError, AllocFailed};
-use thiserror::Error;
 
 /// There was no memory left.
-#[derive(Clone, Copy, Debug, PartialEq, Eq, Error)]
-#[error("out of memory")]
+#[derive(Clone, Copy, Debug, PartialEq, Eq)]
 pub struct Exhausted;
 
 impl From<AllocError> for Exhausted {

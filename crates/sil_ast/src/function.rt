@@ -4,7 +4,6 @@ use crate::exhausted::Exhausted;
 use crate::inst::Inst;
 use crate::list::List;
 use crate::place::ValueId;
-use crate::same::Same;
 use crate::signature::Signature;
 use crate::text::Text;
 use crate::try_clone::{TryClone, copy_four};
@@ -102,48 +101,5 @@ impl TryClone for BlockArg {
             kind: self.kind,
             ty: self.ty.try_clone(alloc)?,
         })
-    }
-}
-
-impl Same for Function {
-    fn same(&self, other: &Function) -> bool {
-        self.name.same(&other.name)
-            && self.form == other.form
-            && self.linkage == other.linkage
-            && self.attributes.same(&other.attributes)
-            && self.signature.same(&other.signature)
-            && self.blocks.same(&other.blocks)
-    }
-}
-
-impl Same for Block {
-    fn same(&self, other: &Block) -> bool {
-        self.args.same(&other.args)
-            && self.insts.same(&other.insts)
-            && self.terminator.same(&other.terminator)
-    }
-}
-
-impl Same for BlockArg {
-    fn same(&self, other: &BlockArg) -> bool {
-        self.value == other.value && self.kind == other.kind && self.ty.same(&other.ty)
-    }
-}
-
-impl Same for Form {
-    fn same(&self, other: &Form) -> bool {
-        self == other
-    }
-}
-
-impl Same for Linkage {
-    fn same(&self, other: &Linkage) -> bool {
-        self == other
-    }
-}
-
-impl Same for ArgKind {
-    fn same(&self, other: &ArgKind) -> bool {
-        self == other
     }
 }

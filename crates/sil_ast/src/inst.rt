@@ -1,8 +1,5 @@
 //! Instructions and terminators, each with the parts that its form has.
 
-ghost use Rattle.std.specs.Prelude.{◌↔◌, IsTrue};
-ghost use Rattle.sil_ast.specs.Inst.{SameWords, SameUses, SameParts};
-
 use crate::debug::Debug;
 use crate::exhausted::Exhausted;
 use crate::list::List;
@@ -10,7 +7,6 @@ use crate::member::Member;
 use crate::op::Op;
 use crate::operands::{Operand, Operands};
 use crate::place::{BlockId, FuncId, ValueId};
-use crate::same::Same;
 use crate::signature::Signature;
 use crate::text::Text;
 use crate::try_clone::{TryClone, copy_four};
@@ -109,49 +105,5 @@ impl TryClone for Edge {
             args: self.args.try_clone(alloc)?,
             case_of: self.case_of.try_clone(alloc)?,
         })
-    }
-}
-
-impl Same for Inst {
-    fn same(&self, other: &Inst) -> bool {
-        same_words(self, other) && same_uses(self, other) && same_parts(self, other)
-    }
-}
-
-fn same_words(a: &Inst, b: &Inst) -> bool
-    ensures { IsTrue result ↔ SameWords a.now b.now }
-{
-    a.op == b.op && a.qualifier == b.qualifier && a.lexical == b.lexical && a.var_decl == b.var_decl
-}
-
-fn same_uses(a: &Inst, b: &Inst) -> bool
-    ensures { IsTrue result ↔ SameUses a.now b.now }
-{
-    a.results.same(&b.results) && a.operands.same(&b.operands) && a.edges.same(&b.edges)
-}
-
-fn same_parts(a: &Inst, b: &Inst) -> bool
-    ensures { IsTrue result ↔ SameParts a.now b.now }
-{
-    a.ty.same(&b.ty)
-        && a.signature.same(&b.signature)
-        && a.function.same(&b.function)
-        && a.member.same(&b.member)
-        && a.number.same(&b.number)
-        && a.text.same(&b.text)
-        && a.debug.same(&b.debug)
-}
-
-impl Same for Edge {
-    fn same(&self, other: &Edge) -> bool {
-        self.block == other.block
-            && self.args.same(&other.args)
-            && self.case_of.same(&other.case_of)
-    }
-}
-
-impl Same for Qualifier {
-    fn same(&self, other: &Qualifier) -> bool {
-        self == other
     }
 }

@@ -4,7 +4,6 @@ ghost use Rattle.std.specs.Prelude.{◌≡◌, [], ◌∷◌, ◌++◌, ◌≤�
 ghost use Rattle.std.specs.Option.{option_copied};
 
 use crate::exhausted::Exhausted;
-use crate::same::Same;
 use crate::try_clone::TryClone;
 use std::alloc::Global;
 use std::marker::Model;
@@ -97,24 +96,4 @@ impl<T: TryClone + Drop> TryClone for List<T> {
         }
         Ok(List { items: copies })
     }
-}
-
-impl<T: Same> Same for List<T> {
-    fn same(&self, other: &List<T>) -> bool {
-        same_items(self.as_slice(), other.as_slice())
-    }
-}
-
-pub(crate) fn same_items<T: Same>(a: &[T], b: &[T]) -> bool
-    ensures { IsTrue result ↔ (a.now ≡ b.now) }
-{
-    if a.len() != b.len() {
-        return false;
-    }
-    for i in 0..a.len() {
-        if !a[i].same(&b[i]) {
-            return false;
-        }
-    }
-    true
 }

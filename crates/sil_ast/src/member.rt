@@ -1,7 +1,6 @@
 //! Members of declared types, as instructions name them.
 
 use crate::exhausted::Exhausted;
-use crate::same::Same;
 use crate::text::Text;
 use crate::try_clone::TryClone;
 use std::alloc::Global;
@@ -19,11 +18,5 @@ impl TryClone for Member {
             owner: self.owner.try_clone(alloc)?,
             name: self.name.try_clone(alloc)?,
         })
-    }
-}
-
-impl Same for Member {
-    fn same(&self, other: &Member) -> bool {
-        self.owner.same(&other.owner) && self.name.same(&other.name)
     }
 }

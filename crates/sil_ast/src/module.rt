@@ -6,7 +6,6 @@ use crate::decl::Decl;
 use crate::exhausted::Exhausted;
 use crate::function::Function;
 use crate::list::List;
-use crate::same::Same;
 use crate::try_clone::TryClone;
 use crate::vtable::Vtable;
 use std::alloc::Global;
@@ -48,27 +47,5 @@ impl Module {
             functions: self.functions.try_clone(alloc)?,
             vtables: self.vtables.try_clone(alloc)?,
         })
-    }
-}
-
-impl Same for Module {
-    fn same(&self, other: &Module) -> bool {
-        self.stage == other.stage
-            && self.imports == other.imports
-            && self.decls.same(&other.decls)
-            && self.functions.same(&other.functions)
-            && self.vtables.same(&other.vtables)
-    }
-}
-
-impl Same for Stage {
-    fn same(&self, other: &Stage) -> bool {
-        self == other
-    }
-}
-
-impl Same for Imports {
-    fn same(&self, other: &Imports) -> bool {
-        self == other
     }
 }

@@ -1,7 +1,5 @@
 //! What an instruction does, as a bare word. Its form is in `forms`.
 
-use crate::same::Same;
-
 /// An instruction's mnemonic, in the order of the table of forms. The last five are the terminators.
 #[derive(Clone, Copy, Debug, PartialEq, Eq)]
 pub enum Op {
@@ -87,10 +85,4 @@ pub enum Op {
     Return,
     /// `unreachable`
     Unreachable,
-}
-
-impl Same for Op {
-    fn same(&self, other: &Op) -> bool {
-        self == other
-    }
 }

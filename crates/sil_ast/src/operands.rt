@@ -4,9 +4,7 @@ ghost use Rattle.std.specs.Prelude.{◌≡◌, [], ◌∷◌, ◌++◌, ◌≤�
 ghost use Rattle.std.specs.Option.{option_copied};
 
 use crate::exhausted::Exhausted;
-use crate::list::same_items;
 use crate::place::ValueId;
-use crate::same::Same;
 use crate::try_clone::TryClone;
 use crate::type_name::TypeName;
 use smallvec::SmallVec;
@@ -111,17 +109,5 @@ impl TryClone for Operands {
             copies.push(operand.try_clone(alloc)?)?;
         }
         Ok(copies)
-    }
-}
-
-impl Same for Operand {
-    fn same(&self, other: &Operand) -> bool {
-        self.value == other.value && self.ty.same(&other.ty)
-    }
-}
-
-impl Same for Operands {
-    fn same(&self, other: &Operands) -> bool {
-        same_items(self.as_slice(), other.as_slice())
     }
 }

@@ -1,7 +1,6 @@
 //! Places in a text, and the numbers by which a module names its parts.
 
 use crate::exhausted::Exhausted;
-use crate::same::Same;
 use crate::try_clone::TryClone;
 use std::alloc::Global;
 
@@ -46,47 +45,5 @@ pub struct PointId {
 impl TryClone for ValueId {
     fn try_clone(&self, _alloc: Global) -> Result<ValueId, Exhausted> {
         Ok(*self)
-    }
-}
-
-impl Same for Place {
-    fn same(&self, other: &Place) -> bool {
-        self == other
-    }
-}
-
-impl Same for FuncId {
-    fn same(&self, other: &FuncId) -> bool {
-        self == other
-    }
-}
-
-impl Same for BlockId {
-    fn same(&self, other: &BlockId) -> bool {
-        self == other
-    }
-}
-
-impl Same for ValueId {
-    fn same(&self, other: &ValueId) -> bool {
-        self == other
-    }
-}
-
-impl Same for ObjectId {
-    fn same(&self, other: &ObjectId) -> bool {
-        self == other
-    }
-}
-
-impl Same for EdgeId {
-    fn same(&self, other: &EdgeId) -> bool {
-        self == other
-    }
-}
-
-impl Same for PointId {
-    fn same(&self, other: &PointId) -> bool {
-        self == other
     }
 }

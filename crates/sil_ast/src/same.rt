@@ -8,25 +8,3 @@ pub trait Same {
     fn same(&self, other: &Self) -> bool
         ensures { IsTrue result ↔ (self.now ≡ other.now) };
 }
-
-impl<T: Same> Same for Option<T> {
-    fn same(&self, other: &Option<T>) -> bool {
-        match (self, other) {
-            (None, None) => true,
-            (Some(a), Some(b)) => a.same(b),
-            _ => false,
-        }
-    }
-}
-
-impl Same for u16 {
-    fn same(&self, other: &u16) -> bool {
-        *self == *other
-    }
-}
-
-impl Same for i64 {
-    fn same(&self, other: &i64) -> bool {
-        *self == *other
-    }
-}

@@ -2,7 +2,6 @@
 
 use crate::exhausted::Exhausted;
 use crate::list::List;
-use crate::same::Same;
 use crate::try_clone::TryClone;
 use crate::type_name::TypeName;
 use std::alloc::Global;
@@ -70,37 +69,5 @@ impl TryClone for Given {
             owned: self.owned,
             ty: self.ty.try_clone(alloc)?,
         })
-    }
-}
-
-impl Same for Signature {
-    fn same(&self, other: &Signature) -> bool {
-        self.convention == other.convention
-            && self.params.same(&other.params)
-            && self.results.same(&other.results)
-    }
-}
-
-impl Same for Param {
-    fn same(&self, other: &Param) -> bool {
-        self.passing == other.passing && self.ty.same(&other.ty)
-    }
-}
-
-impl Same for Given {
-    fn same(&self, other: &Given) -> bool {
-        self.owned == other.owned && self.ty.same(&other.ty)
-    }
-}
-
-impl Same for Convention {
-    fn same(&self, other: &Convention) -> bool {
-        self == other
-    }
-}
-
-impl Same for Passing {
-    fn same(&self, other: &Passing) -> bool {
-        self == other
     }
 }

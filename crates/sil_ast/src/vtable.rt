@@ -2,7 +2,6 @@
 
 use crate::exhausted::Exhausted;
 use crate::place::FuncId;
-use crate::same::Same;
 use crate::text::Text;
 use crate::try_clone::TryClone;
 use std::alloc::Global;
@@ -36,17 +35,5 @@ impl TryClone for DeinitEntry {
             owner: self.owner.try_clone(alloc)?,
             function: self.function,
         })
-    }
-}
-
-impl Same for Vtable {
-    fn same(&self, other: &Vtable) -> bool {
-        self.class_name.same(&other.class_name) && self.entry.same(&other.entry)
-    }
-}
-
-impl Same for DeinitEntry {
-    fn same(&self, other: &DeinitEntry) -> bool {
-        self.function == other.function && self.owner.same(&other.owner)
     }
 }

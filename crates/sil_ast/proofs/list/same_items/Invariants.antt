@@ -1,6 +1,0 @@
--- `same` decides equality: the elements so far are equal.
-use Rattle.std.proofs.Common.{◌≡◌, take}
-use Rattle.sil_ast.proofs.list.same_items.Given as goal
-
-abbrev pub invariant-loop-i : goal.invariant-loop-i
-invariant-loop-i g l = take l.i l.a ≡ take l.i l.b
