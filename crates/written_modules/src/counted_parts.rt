@@ -6,10 +6,8 @@ ghost use Rattle.written_modules.specs.Found.{Finds, decl_places, function_place
 ghost use Rattle.written_tree.specs.Places as placed;
 
 use crate::found::{Found, Holds, find_listed, find_one};
-use sil_ast::{Op, Qualifier};
-use written_tree::{
-    WrittenBlock, WrittenDecl, WrittenInst, WrittenItem, WrittenToken, has_one_result,
-};
+use sil_ast::{ExtraValue, Qualifier, extra_value_of, has_one_result};
+use written_tree::{WrittenBlock, WrittenInst, WrittenItem, WrittenToken};
 
 /// Declarations, at their names.
 pub(crate) struct Declarations;
@@ -21,19 +19,9 @@ impl Holds for Declarations {
 
     fn find(item: &WrittenItem, i: usize) -> Found {
         match item {
-            WrittenItem::Decl(decl) => find_one(name_of(decl).place, i),
+            WrittenItem::Decl(decl) => find_one(decl.name().place, i),
             _ => Found::Past(i),
         }
-    }
-}
-
-fn name_of(decl: &WrittenDecl) -> &WrittenToken
-    ensures { result.now ≡ placed.name_of_decl decl.now }
-{
-    match decl {
-        WrittenDecl::Class { name, .. } => name,
-        WrittenDecl::Struct { name, .. } => name,
-        WrittenDecl::Enum { name, .. } => name,
     }
 }
 
@@ -62,7 +50,7 @@ impl Holds for Attributes {
     ghost places = { kept_places };
 
     fn find(word: &WrittenToken, i: usize) -> Found {
-        if word.text.as_slice() == b"ossa".as_slice() {
+        if word.is_ossa() {
             Found::Past(i)
         } else {
             find_one(word.place, i)
@@ -141,12 +129,12 @@ fn find_result(inst: &WrittenInst, i: usize) -> Found
 fn find_extra(inst: &WrittenInst, i: usize) -> Found
     ensures { Finds (placed.extra_places inst.now.op inst.now.mnemonic inst.now.qualifier.word inst.now.qualifier.place) i result }
 {
-    match inst.op {
-        Op::DestroyAddr => find_one(inst.mnemonic, i),
-        Op::Store => match inst.qualifier.word {
+    match extra_value_of(inst.op) {
+        ExtraValue::Never => Found::Past(i),
+        ExtraValue::Always => find_one(inst.mnemonic, i),
+        ExtraValue::WhereAssigned => match inst.qualifier.word {
             Qualifier::Assign => find_one(inst.qualifier.place, i),
             _ => Found::Past(i),
         },
-        _ => Found::Past(i),
     }
 }

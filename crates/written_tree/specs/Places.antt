@@ -1,11 +1,13 @@
 -- The tokens by which the parts of a written module are counted.
-use Rattle.std.specs.Prelude.{List, [], ◌∷◌, ◌++◌, Bool, true, false, if◌then◌else◌, not, map, filter, codes}
+use Rattle.std.specs.Prelude.{List, [], ◌∷◌, ◌++◌, Bool, if◌then◌else◌, not, map, filter, codes}
 use Rattle.std.specs.List.{flat_map}
 use Rattle.std.specs.Str.{bytes_eq}
+use Rattle.sil_ast.specs.Forms.{extra_value_of, has_one_result}
+use Rattle.sil_ast.specs.declared.entries.ExtraValue.{ExtraValue}
+use Rattle.sil_ast.specs.declared.entries.ExtraValue.TheVariants as extra
 use Rattle.sil_ast.specs.declared.inst.Qualifier.{Qualifier}
 use Rattle.sil_ast.specs.declared.inst.Qualifier.TheVariants as qualifier
 use Rattle.sil_ast.specs.declared.op.Op.{Op}
-use Rattle.sil_ast.specs.declared.op.Op.TheVariants as op
 use Rattle.sil_ast.specs.declared.place.Place.{Place}
 use Rattle.written_tree.specs.declared.written_declarations.WrittenCase.{WrittenCase}
 use Rattle.written_tree.specs.declared.written_declarations.WrittenDecl.{WrittenDecl}
@@ -69,41 +71,20 @@ mnemonic_place i = i.mnemonic
 abbrev pub mnemonics_of : WrittenBlock → List Place
 mnemonics_of b = map mnemonic_place b.insts ++ b.terminator.mnemonic ∷ []
 
--- the instructions that have one result, which may be left without a name
-unfoldable pub has_one_result : Op → Bool
-has_one_result op.IntegerLiteral = true
-has_one_result op.FunctionRef = true
-has_one_result op.Builtin = true
-has_one_result op.AllocRef = true
-has_one_result op.AllocStack = true
-has_one_result op.CopyValue = true
-has_one_result op.MoveValue = true
-has_one_result op.BeginBorrow = true
-has_one_result op.Load = true
-has_one_result op.LoadBorrow = true
-has_one_result op.LoadWeak = true
-has_one_result op.LoadUnowned = true
-has_one_result op.Struct = true
-has_one_result op.Tuple = true
-has_one_result op.Enum = true
-has_one_result op.StructExtract = true
-has_one_result op.TupleExtract = true
-has_one_result op.StructElementAddr = true
-has_one_result op.TupleElementAddr = true
-has_one_result op.RefElementAddr = true
-has_one_result op.Apply = true
-has_one_result _ = false
-
 -- where the results of an instruction are defined: at their names, or without any at the mnemonic
 abbrev pub result_places : Op → Place → List WrittenToken → List Place
 result_places o mnemonic [] = if has_one_result o then mnemonic ∷ [] else []
 result_places o mnemonic (name ∷ names) = map token_place (name ∷ names)
 
+abbrev pub extra_places_by : ExtraValue → Place → Qualifier → Place → List Place
+extra_places_by extra.Never mnemonic word place = []
+extra_places_by extra.Always mnemonic word place = mnemonic ∷ []
+extra_places_by extra.WhereAssigned mnemonic qualifier.Assign place = place ∷ []
+extra_places_by extra.WhereAssigned mnemonic _ place = []
+
 -- a `store [assign]` and a `destroy_addr` count as one value more
 unfoldable pub extra_places : Op → Place → Qualifier → Place → List Place
-extra_places op.DestroyAddr mnemonic word place = mnemonic ∷ []
-extra_places op.Store mnemonic qualifier.Assign place = place ∷ []
-extra_places _ mnemonic word place = []
+extra_places o mnemonic word place = extra_places_by (extra_value_of o) mnemonic word place
 
 -- where the values that an instruction counts for are defined
 abbrev pub value_places_of : WrittenInst → List Place

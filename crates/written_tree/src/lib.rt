@@ -4,7 +4,6 @@
 
 mod fault;
 mod fault_order;
-mod one_result;
 mod written_declarations;
 mod written_functions;
 mod written_instructions;
@@ -12,7 +11,6 @@ mod written_module;
 
 pub use fault::{Fault, FaultKind, LimitWord};
 pub use fault_order::{earlier, limit_fault, out_of_range, passed};
-pub use one_result::has_one_result;
 pub use written_declarations::{WrittenCase, WrittenDecl, WrittenField, WrittenToken};
 pub use written_functions::{WrittenArg, WrittenBlock, WrittenFunction};
 pub use written_instructions::{WrittenEdge, WrittenInst, WrittenOperand, WrittenQualifier};

@@ -1,5 +1,8 @@
 //! Tokens that a module keeps, and declarations as a text writes them.
 
+ghost use Rattle.std.specs.Prelude.{◌≡◌};
+ghost use Rattle.written_tree.specs.Places as placed;
+
 use sil_ast::{List, Place, Storage, Text, TypeName};
 
 /// What a token says, and where it stands: a word, a name without its sigil, a text without its quotes, a number as it
@@ -8,6 +11,15 @@ use sil_ast::{List, Place, Storage, Text, TypeName};
 pub struct WrittenToken {
     pub text: Text,
     pub place: Place,
+}
+
+impl WrittenToken {
+    /// Whether it is the word `ossa`, as an attribute.
+    pub fn is_ossa(&self) -> bool
+        ensures { result ≡ placed.is_ossa self.now }
+    {
+        self.text.as_slice() == b"ossa".as_slice()
+    }
 }
 
 /// `class C { .. }`, `struct S { .. }` or `enum E { .. }`. Words that a module doesn't keep are gone.
@@ -25,6 +37,18 @@ pub enum WrittenDecl {
         name: WrittenToken,
         cases: List<WrittenCase>,
     },
+}
+
+impl WrittenDecl {
+    pub fn name(&self) -> &WrittenToken
+        ensures { result.now ≡ placed.name_of_decl self.now }
+    {
+        match self {
+            WrittenDecl::Class { name, .. } => name,
+            WrittenDecl::Struct { name, .. } => name,
+            WrittenDecl::Enum { name, .. } => name,
+        }
+    }
 }
 
 /// `weak var f: T`. `let` is read as `var`.
