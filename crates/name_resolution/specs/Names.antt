@@ -41,11 +41,6 @@ vtables_of (item.Decl d) = []
 vtables_of (item.Function f) = []
 vtables_of (item.Vtable t) = t ∷ []
 
-abbrev pub decl_name : WrittenDecl → WrittenToken
-decl_name (decl.Class name fields) = name
-decl_name (decl.Struct name fields) = name
-decl_name (decl.Enum name cases) = name
-
 abbrev pub field_name : WrittenField → WrittenToken
 field_name f = f.name
 

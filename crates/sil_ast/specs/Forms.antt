@@ -12,6 +12,7 @@ use Rattle.sil_ast.specs.declared.entries.Results.TheVariants.{NoResult, OneResu
 use Rattle.sil_ast.specs.declared.entries.Words.{Words}
 use Rattle.sil_ast.specs.declared.entries.Words.TheVariants.{NoWord}
 use Rattle.sil_ast.specs.declared.forms.Part.{Part}
+use Rattle.sil_ast.specs.declared.forms.Part.TheVariants as part
 use Rattle.sil_ast.specs.declared.op.Op.{Op}
 use Rattle.sil_ast.specs.declared.op.Op.TheVariants as op
 
@@ -67,6 +68,25 @@ mnemonic_of o = slice_index_or (map (λ row. row.now) MNEMONICS) (number_of o) [
 abbrev pub parts_of : Op → List Part
 parts_of o = slice_index_or (map (λ row. row.now) PARTS) (number_of o) []
 
+-- the parts that are items: a comma stands between one and the next
+abbrev pub is_item : Part → Bool
+is_item part.Flags = false
+is_item part.Qualifier = false
+is_item part.Typed = true
+is_item part.Bare = true
+is_item part.To = false
+is_item part.TypeWord = true
+is_item part.Member = true
+is_item part.Number = true
+is_item part.Text = true
+is_item part.Callee = false
+is_item part.BareArgs = false
+is_item part.TypedArgs = false
+is_item part.ResultType = false
+is_item part.SignatureWord = false
+is_item part.Debug = false
+is_item part.Edges = true
+
 -- how many results it has
 abbrev pub results_of : Op → Results
 results_of o = slice_index_or RESULTS (number_of o) NoResult
@@ -79,6 +99,15 @@ is_one ResultList = false
 -- it has one result, which may be left without a name
 unfoldable pub has_one_result : Op → Bool
 has_one_result o = is_one (results_of o)
+
+abbrev pub is_list : Results → Bool
+is_list NoResult = false
+is_list OneResult = false
+is_list ResultList = true
+
+-- its results are a list in parentheses, even one
+abbrev pub has_result_list : Op → Bool
+has_result_list o = is_list (results_of o)
 
 -- whether it ends a block, and what comes then
 abbrev pub ending_of : Op → Ending

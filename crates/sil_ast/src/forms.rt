@@ -1,5 +1,8 @@
 //! The form of an instruction: its mnemonic, and the parts that stand behind it.
 
+ghost use Rattle.std.specs.Prelude.{◌≡◌};
+ghost use Rattle.sil_ast.specs.Forms as form;
+
 /// The form of an instruction: its mnemonic, and its parts from left to right. Results stand before it and aren't among them.
 #[derive(Clone, Copy)]
 pub struct FormRow {
@@ -42,4 +45,30 @@ pub enum Part {
     Debug,
     /// The blocks that a terminator goes to, each with its arguments, or the cases and the default of `switch_enum`.
     Edges,
+}
+
+impl Part {
+    /// Whether it is an item: a comma stands between one item and the next.
+    pub fn is_item(self) -> bool
+        ensures { result ≡ form.is_item self }
+    {
+        match self {
+            Part::Typed
+            | Part::Bare
+            | Part::TypeWord
+            | Part::Member
+            | Part::Number
+            | Part::Text
+            | Part::Edges => true,
+            Part::Flags
+            | Part::Qualifier
+            | Part::To
+            | Part::Callee
+            | Part::BareArgs
+            | Part::TypedArgs
+            | Part::ResultType
+            | Part::SignatureWord
+            | Part::Debug => false,
+        }
+    }
 }

@@ -40,8 +40,8 @@ pub use op::Op;
 pub use operands::{Operand, Operands};
 pub use place::{BlockId, EdgeId, FuncId, ObjectId, Place, PointId, ValueId};
 pub use rows::{
-    detail_of, ending_of, extra_value_of, has_one_result, may_lack_operand, results_of, row_of,
-    words_of,
+    detail_of, ending_of, extra_value_of, has_one_result, has_result_list, may_lack_operand,
+    results_of, row_of, words_of,
 };
 pub use same::Same;
 pub use signature::{Convention, Given, Param, Passing, Signature};

@@ -39,6 +39,16 @@ pub fn has_one_result(op: Op) -> bool
     }
 }
 
+/// Whether an instruction's results are a list in parentheses, even one.
+pub fn has_result_list(op: Op) -> bool
+    ensures { result ≡ form.has_result_list op }
+{
+    match results_of(op) {
+        Results::ResultList => true,
+        Results::NoResult | Results::OneResult => false,
+    }
+}
+
 /// Whether an instruction ends a block, and what comes then.
 pub fn ending_of(op: Op) -> Ending
     ensures { result ≡ form.ending_of op }

@@ -1,10 +1,17 @@
 -- How each kind of token is spelled, and where a spelling ends.
-use Rattle.std.specs.Prelude.{ℕ, ◌-◌, Bool, false, List, [], ◌∷◌, ◌++◌, length, IsTrue, IsFalse}
+use Rattle.std.specs.Prelude.{ℕ, ◌-◌, Bool, false, List, [], ◌∷◌, ◌++◌, drop, length, slice_range, IsTrue, IsFalse}
 use Rattle.std.specs.List.{list_all}
 use Rattle.std.specs.Char.{is_ascii_digit}
 use Rattle.sil_lexer.specs.declared.token.TokenKind.{TokenKind}
 use Rattle.sil_lexer.specs.declared.token.TokenKind.TheVariants.{Word, AtName, Percent, Number, Text, Punctuation}
 use Rattle.sil_lexer.specs.Bytes.{is_word_start, is_name_byte, is_text_byte, is_punctuation}
+
+-- a name without its sigil, and a text without its quotes
+abbrev pub without_sigil : List ℕ → List ℕ
+without_sigil spelling = drop 1 spelling
+
+abbrev pub without_quotes : List ℕ → List ℕ
+without_quotes spelling = slice_range spelling 1 (length spelling - 1)
 
 -- these bytes spell a token of the kind. 64 is `@`, 37 is `%`, 45 is `-`, 34 is `"`, 62 is `>`
 pub data Spells : TokenKind → List ℕ → Type 0 where

@@ -12,12 +12,10 @@ use crate::token::Token;
 use crate::tokens::Tokens;
 use sil_ast::Exhausted;
 use std::alloc::Global;
-use thiserror::Error;
 
 /// Why a text was not cut into tokens.
-#[derive(Clone, Copy, Debug, PartialEq, Eq, Error)]
+#[derive(Clone, Copy, Debug, PartialEq, Eq)]
 pub enum LexStop {
-    #[error("out of memory")]
     Memory,
 }
 

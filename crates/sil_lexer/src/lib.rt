@@ -7,10 +7,12 @@ mod lexer;
 mod place;
 mod scan;
 mod skip;
+mod spelling;
 mod token;
 mod tokens;
 
 pub use lexer::{LexStop, lex, lexed_in_order, lexed_one_way, longest_taken};
 pub use place::{end_place, place_at};
+pub use spelling::{without_quotes, without_sigil};
 pub use token::{LexRefusal, TokenKind};
 pub use tokens::Tokens;

@@ -1,6 +1,6 @@
 -- What the parts of a text stand for: a token by its bytes and its place, and a production by what the parts of its
 -- body stand for.
-use Rattle.std.specs.Prelude.{ℕ, List, [], ◌∷◌, ◌-◌, drop, map, length, Bool, true, false, ◌||◌, Option, Some, None, slice_index_or, slice_range, codes, nat_eq, ℤ, pos}
+use Rattle.std.specs.Prelude.{ℕ, List, [], ◌∷◌, drop, map, length, Bool, true, false, ◌||◌, Option, Some, None, slice_index_or, codes, nat_eq, ℤ, pos}
 use Rattle.std.specs.Option.{option_map}
 use Rattle.std.specs.Cmp.Lexicographic.{pointwise}
 use Rattle.sil_ast.specs.declared.debug.Binding.TheVariants as debugged
@@ -19,6 +19,7 @@ use Rattle.sil_ast.specs.declared.signature.Passing.TheVariants as passing
 use Rattle.sil_ast.specs.declared.signature.Passing.{Passing}
 use Rattle.sil_ast.specs.declared.type_name.TypeName.TheVariants as ty
 use Rattle.sil_lexer.specs.Lexes.{Lexeme}
+use Rattle.sil_lexer.specs.Spelling.{without_quotes, without_sigil}
 use Rattle.sil_lexer.specs.declared.token.TokenKind.{TokenKind}
 use Rattle.sil_lexer.specs.declared.token.TokenKind.TheVariants as token
 use Rattle.sil_shape.specs.declared.grammar.Production.{Production}
@@ -37,10 +38,10 @@ use Rattle.written_modules.specs.Values.{token_of, stage_of, imports_of, items_o
 -- what is kept of a token's bytes
 unfoldable pub kept_of : TokenKind → List ℕ → List ℕ
 kept_of token.Word spelling = spelling
-kept_of token.AtName spelling = drop 1 spelling
-kept_of token.Percent spelling = drop 1 spelling
+kept_of token.AtName spelling = without_sigil spelling
+kept_of token.Percent spelling = without_sigil spelling
 kept_of token.Number spelling = spelling
-kept_of token.Text spelling = slice_range spelling 1 (length spelling - 1)
+kept_of token.Text spelling = without_quotes spelling
 kept_of token.Punctuation spelling = []
 
 abbrev pub leaf_of : Lexeme → Value

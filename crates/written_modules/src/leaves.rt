@@ -1,35 +1,15 @@
 //! What the tokens of a text stand for.
 
-ghost use Rattle.std.specs.Prelude.{◌≡◌, ◌<◌, ◌-◌, drop, length, slice_range, IfOk};
+ghost use Rattle.std.specs.Prelude.{◌≡◌, ◌<◌, length, IfOk};
 ghost use Rattle.sil_lexer.specs.Lexing.{IsLexingOf, lexemes_of};
 ghost use Rattle.written_modules.specs.Meaning as meant;
 ghost use Rattle.written_modules.specs.Replay.{IsLeafAt};
 
 use crate::value::Value;
 use sil_ast::{Exhausted, Text};
-use sil_lexer::{TokenKind, Tokens};
+use sil_lexer::{TokenKind, Tokens, without_quotes, without_sigil};
 use std::alloc::Global;
 use written_tree::WrittenToken;
-
-fn without_sigil(spelling: &[u8]) -> &[u8]
-    ensures { result.now ≡ drop 1 spelling.now }
-{
-    if spelling.is_empty() {
-        spelling
-    } else {
-        &spelling[1..]
-    }
-}
-
-fn without_quotes(spelling: &[u8]) -> &[u8]
-    ensures { result.now ≡ slice_range spelling.now 1 (length spelling.now - 1) }
-{
-    if spelling.len() < 2 {
-        &[]
-    } else {
-        &spelling[1..spelling.len() - 1]
-    }
-}
 
 /// What is kept of a token's bytes.
 #[tactic(auto, unfolding(crate::specs::Meaning::kept_of))]
