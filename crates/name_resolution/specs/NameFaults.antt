@@ -10,7 +10,8 @@ use Rattle.written_tree.specs.declared.written_declarations.WrittenToken.{Writte
 use Rattle.written_tree.specs.declared.written_functions.WrittenFunction.{WrittenFunction}
 use Rattle.written_tree.specs.declared.written_module.WrittenModule.{WrittenModule}
 use Rattle.written_tree.specs.Faults.{earlier, earliest, fault}
-use Rattle.name_resolution.specs.Names.{Name, decl_name, decls_of, edge_label, function_name, functions_of, insts_of, label_of, labels_used, member_names, name_of, reserved, used_by_item, values_defined, values_used, vtable_name, vtables_of}
+use Rattle.written_tree.specs.Places.{name_of_decl}
+use Rattle.name_resolution.specs.Names.{Name, decls_of, edge_label, function_name, functions_of, insts_of, label_of, labels_used, member_names, name_of, reserved, used_by_item, values_defined, values_used, vtable_name, vtables_of}
 
 -- whether a name stands among these
 abbrev pub is_among : List Name → WrittenToken → Bool
@@ -56,7 +57,7 @@ name_fault w =
     let decls : List WrittenDecl = flat_map decls_of w.items in
     let functions : List WrittenFunction = flat_map functions_of w.items in
     earliest (
-    twice_after (reserved w.imports) (map decl_name decls)
+    twice_after (reserved w.imports) (map name_of_decl decls)
     ∷ twice_after [] (map function_name functions)
     ∷ twice_after [] (map vtable_name (flat_map vtables_of w.items))
     ∷ unknown_among (map function_name functions) (flat_map used_by_item w.items)

@@ -4,6 +4,7 @@ use Rattle.std.specs.Prelude.{ℕ, ◌+◌, List, [], ◌∷◌, ◌++◌, lengt
 use Rattle.std.specs.List.{flat_map, list_any}
 use Rattle.std.specs.Option.{option_map}
 use Rattle.std.specs.Str.{bytes_eq}
+use Rattle.sil_ast.specs.Forms.{has_one_result}
 use Rattle.sil_ast.specs.declared.decl.Case.{Case}
 use Rattle.sil_ast.specs.declared.decl.Decl.{Decl}
 use Rattle.sil_ast.specs.declared.decl.Decl.TheVariants as kept
@@ -37,7 +38,7 @@ use Rattle.written_tree.specs.declared.written_instructions.WrittenOperand.{Writ
 use Rattle.written_tree.specs.declared.written_module.WrittenEntry.{WrittenEntry}
 use Rattle.written_tree.specs.declared.written_module.WrittenModule.{WrittenModule}
 use Rattle.written_tree.specs.declared.written_module.WrittenVtable.{WrittenVtable}
-use Rattle.written_tree.specs.Places.{has_one_result, is_kept, is_ossa}
+use Rattle.written_tree.specs.Places.{is_kept, is_ossa}
 use Rattle.name_resolution.specs.Names.{Name, decls_of, functions_of, function_name, label_of, name_of, vtables_of}
 
 -- the values that an instruction defines, each with its name: a single result may be left without one

@@ -2,8 +2,9 @@
 
 ghost use Rattle.std.specs.Prelude.{◌≡◌, [], map, IfOk, OnOk};
 ghost use Rattle.std.specs.List.{flat_map};
+ghost use Rattle.written_tree.specs.Places.{name_of_decl};
 ghost use Rattle.name_resolution.specs.Defined.{reserved_only, with_tokens};
-ghost use Rattle.name_resolution.specs.Names.{arg_name, case_name, decl_name, decls_of, field_name, function_name, functions_of, label_of, member_names, reserved, results_of, values_defined, vtable_name, vtables_of};
+ghost use Rattle.name_resolution.specs.Names.{arg_name, case_name, decls_of, field_name, function_name, functions_of, label_of, member_names, reserved, results_of, values_defined, vtable_name, vtables_of};
 
 use crate::definitions::Definitions;
 use sil_ast::{Exhausted, Imports};
@@ -19,25 +20,15 @@ pub(crate) fn declared(
     imports: Imports,
     items: &[WrittenItem],
 ) -> Result<Definitions, Exhausted>
-    ensures { IfOk result (λ d. d ≡ with_tokens (reserved_only (reserved imports)) (map decl_name (flat_map decls_of items.now))) }
+    ensures { IfOk result (λ d. d ≡ with_tokens (reserved_only (reserved imports)) (map name_of_decl (flat_map decls_of items.now))) }
 {
     let mut defined = Definitions::of_imports(alloc, imports)?;
     for item in items {
         if let WrittenItem::Decl(decl) = item {
-            defined.define(alloc, name_of_decl(decl))?;
+            defined.define(alloc, decl.name())?;
         }
     }
     Ok(defined)
-}
-
-fn name_of_decl(decl: &WrittenDecl) -> &WrittenToken
-    ensures { result.now ≡ decl_name decl.now }
-{
-    match decl {
-        WrittenDecl::Class { name, .. } => name,
-        WrittenDecl::Struct { name, .. } => name,
-        WrittenDecl::Enum { name, .. } => name,
-    }
 }
 
 pub(crate) fn defined_functions(

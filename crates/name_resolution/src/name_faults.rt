@@ -3,8 +3,9 @@
 ghost use Rattle.std.specs.Prelude.{◌≡◌, [], map, IfOk};
 ghost use Rattle.std.specs.List.{flat_map};
 ghost use Rattle.written_tree.specs.Faults.{earlier, earliest};
+ghost use Rattle.written_tree.specs.Places.{name_of_decl};
 ghost use Rattle.name_resolution.specs.NameFaults.{function_fault, members_fault, name_fault, twice_after, twice_or_unknown};
-ghost use Rattle.name_resolution.specs.Names.{code_of, decl_name, decls_of, functions_of, label_of, labels_used, reserved, values_defined, values_used, vtable_name, vtables_of};
+ghost use Rattle.name_resolution.specs.Names.{code_of, decls_of, functions_of, label_of, labels_used, reserved, values_defined, values_used, vtable_name, vtables_of};
 
 use crate::defining::{
     classes_of_vtables, declared, defined_functions, defined_labels, defined_members,
@@ -39,7 +40,7 @@ fn decls_fault(
     imports: Imports,
     items: &[WrittenItem],
 ) -> Result<Option<Fault>, Exhausted>
-    ensures { IfOk result (λ fault. fault ≡ twice_after (reserved imports) (map decl_name (flat_map decls_of items.now))) }
+    ensures { IfOk result (λ fault. fault ≡ twice_after (reserved imports) (map name_of_decl (flat_map decls_of items.now))) }
 {
     Ok(declared(alloc, imports, items)?.twice())
 }

@@ -7,11 +7,9 @@ ghost use Rattle.name_resolution.specs.Numbered.{named, nothing_numbered, with_v
 ghost use Rattle.name_resolution.specs.Resolved.{defined_by, defined_by_arg, defined_by_inst, defined_in};
 
 use crate::numbering::Numbering;
-use sil_ast::Exhausted;
+use sil_ast::{Exhausted, has_one_result};
 use std::alloc::Global;
-use written_tree::{
-    WrittenArg, WrittenBlock, WrittenInst, WrittenItem, WrittenToken, has_one_result,
-};
+use written_tree::{WrittenArg, WrittenBlock, WrittenInst, WrittenItem, WrittenToken};
 
 pub(crate) fn numbered_functions(
     alloc: Global,

@@ -4,17 +4,14 @@ ghost use Rattle.std.specs.Prelude.{◌≡◌};
 ghost use Rattle.name_resolution.specs.declared.refusal.NameRefusal.TheVariants.{Memory};
 
 use sil_ast::Exhausted;
-use thiserror::Error;
 use written_tree::Fault;
 
 /// Why a written module stands for no module.
-#[derive(Clone, Copy, Debug, PartialEq, Eq, Error)]
+#[derive(Clone, Copy, Debug, PartialEq, Eq)]
 pub enum NameRefusal {
     /// A name is defined twice, or used and not defined; of all such names it is the first in the text.
-    #[error("{0:?}")]
     Name(Fault),
     /// There was no memory left.
-    #[error("out of memory")]
     Memory,
 }
 

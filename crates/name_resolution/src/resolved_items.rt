@@ -156,13 +156,7 @@ fn form_of(words: &[WrittenToken], blocks: &[WrittenBlock]) -> Form
 fn has_ossa(words: &[WrittenToken]) -> bool
     ensures { result ≡ list_any is_ossa words.now }
 {
-    words.iter().any(|word| is_ossa(word))
-}
-
-fn is_ossa(word: &WrittenToken) -> bool
-    ensures { result ≡ is_ossa word.now }
-{
-    word.text.as_slice() == b"ossa".as_slice()
+    words.iter().any(|word| word.is_ossa())
 }
 
 fn kept_attributes(alloc: Global, words: &[WrittenToken]) -> Result<List<Text>, Exhausted>
@@ -170,7 +164,7 @@ fn kept_attributes(alloc: Global, words: &[WrittenToken]) -> Result<List<Text>, 
 {
     let mut kept = List::new(alloc);
     for word in words {
-        if !is_ossa(word) {
+        if !word.is_ossa() {
             kept.push(word.text.try_clone(alloc)?)?;
         }
     }

@@ -1,7 +1,10 @@
 -- The limits on reading. Those of names are in `Names`, and those of types in `Types`.
 use Rattle.std.specs.Prelude.{◌+◌, ◌≤◌, ℕ, List, Bool, true, false, length, IfSome}
 use Rattle.std.specs.List.{count_by}
+use Rattle.sil_ast.specs.Forms.{extra_value_of}
 use Rattle.sil_ast.specs.declared.decl.Decl.{Decl}
+use Rattle.sil_ast.specs.declared.entries.ExtraValue.{ExtraValue}
+use Rattle.sil_ast.specs.declared.entries.ExtraValue.TheVariants as extra
 use Rattle.sil_ast.specs.declared.function.Block.{Block}
 use Rattle.sil_ast.specs.declared.function.Function.{Function}
 use Rattle.sil_ast.specs.declared.inst.Edge.{Edge}
@@ -10,7 +13,6 @@ use Rattle.sil_ast.specs.declared.inst.Qualifier.{Qualifier}
 use Rattle.sil_ast.specs.declared.inst.Qualifier.TheVariants as qualifier
 use Rattle.sil_ast.specs.declared.module.Module.{Module}
 use Rattle.sil_ast.specs.declared.op.Op.{Op}
-use Rattle.sil_ast.specs.declared.op.Op.TheVariants as op
 use Rattle.sil_ast.specs.declared.signature.Signature.{Signature}
 use Rattle.numbered_form.specs.Lists.{Each}
 use Rattle.numbered_form.specs.Insts.{insts_in, EachInBlock}
@@ -38,11 +40,14 @@ abbrev pub is_assign : Qualifier → Bool
 is_assign qualifier.Assign = true
 is_assign _ = false
 
+abbrev pub takes_value_by : ExtraValue → Qualifier → Bool
+takes_value_by extra.Never q = false
+takes_value_by extra.WhereAssigned q = is_assign q
+takes_value_by extra.Always q = true
+
 -- lowering the instruction takes one more value, for what was stored before
 abbrev pub takes_value : Op → Qualifier → Bool
-takes_value op.Store q = is_assign q
-takes_value op.DestroyAddr q = true
-takes_value _ q = false
+takes_value o q = takes_value_by (extra_value_of o) q
 
 abbrev pub inst_takes_value : Inst → Bool
 inst_takes_value i = takes_value i.op i.qualifier

@@ -1,8 +1,12 @@
 -- Each instruction has just the parts of its row in the table of instructions.
 use Rattle.std.specs.Prelude.{◌≡◌, List, [], ◌∷◌, length, Bool, true, false, not, ◌&&◌, ◌||◌, ◌==◌, if◌then◌else◌, is_some, is_none, IsTrue, IsFalse}
 use Rattle.std.specs.List.{list_any, list_all}
-use Rattle.sil_ast.specs.Forms.{parts_of}
+use Rattle.sil_ast.specs.Forms.{ending_of, has_one_result, is_terminator, may_lack_operand, parts_of, words_of}
 use Rattle.sil_ast.specs.declared.debug.Debug.{Debug}
+use Rattle.sil_ast.specs.declared.entries.Ending.{Ending}
+use Rattle.sil_ast.specs.declared.entries.Ending.TheVariants as ending
+use Rattle.sil_ast.specs.declared.entries.Words.{Words}
+use Rattle.sil_ast.specs.declared.entries.Words.TheVariants as words
 use Rattle.sil_ast.specs.declared.forms.Part.{Part}
 use Rattle.sil_ast.specs.declared.forms.Part.TheVariants as part
 use Rattle.sil_ast.specs.declared.function.Block.{Block}
@@ -13,7 +17,6 @@ use Rattle.sil_ast.specs.declared.inst.Qualifier.{Qualifier}
 use Rattle.sil_ast.specs.declared.inst.Qualifier.TheVariants as qualifier
 use Rattle.sil_ast.specs.declared.module.Module.{Module}
 use Rattle.sil_ast.specs.declared.op.Op.{Op}
-use Rattle.sil_ast.specs.declared.op.Op.TheVariants as op
 use Rattle.sil_ast.specs.declared.operands.Operand.{Operand}
 use Rattle.sil_ast.specs.declared.place.ValueId.{ValueId}
 use Rattle.numbered_form.specs.Lists.{Each, is_empty}
@@ -73,15 +76,15 @@ is_plain_or_init qualifier.Plain = true
 is_plain_or_init qualifier.Init = true
 is_plain_or_init _ = false
 
+abbrev pub is_among : Words → Qualifier → Bool
+is_among words.NoWord q = is_plain q
+is_among words.AnyWord q = true
+is_among words.TakeWord q = is_plain_or_take q
+is_among words.InitWord q = is_plain_or_init q
+
 -- the qualifier may stand in the row
 abbrev pub may_have : Op → Qualifier → Bool
-may_have op.Load q = true
-may_have op.Store q = true
-may_have op.LoadWeak q = is_plain_or_take q
-may_have op.LoadUnowned q = is_plain_or_take q
-may_have op.StoreWeak q = is_plain_or_init q
-may_have op.StoreUnowned q = is_plain_or_init q
-may_have _ q = is_plain q
+may_have o q = is_among (words_of o) q
 
 abbrev pub is_typed : Operand → Bool
 is_typed o = is_some o.ty
@@ -107,11 +110,7 @@ abbrev pub are_of_parts : List Part → List Operand → Bool
 are_of_parts [] os = is_empty os
 are_of_parts (p ∷ ps) os = are_of_part p (are_of_parts ps) os
 
--- the value of `enum` is left out where the case has no payload
-abbrev pub may_lack_operand : Op → Bool
-may_lack_operand op.Enum = true
-may_lack_operand _ = false
-
+-- the operands are those of the row. The value of `enum` is left out where the case has no payload
 abbrev pub has_operands : Op → List Operand → Bool
 has_operands o os = are_of_parts (parts_of o) os || (may_lack_operand o && is_empty os)
 
@@ -132,39 +131,20 @@ abbrev pub are_cases : List Edge → Bool
 are_cases [] = true
 are_cases (e ∷ es) = if is_case e then are_cases es else (is_default e && is_empty es)
 
+abbrev pub are_edges_by : Ending → List Edge → Bool
+are_edges_by ending.Inside es = is_empty es
+are_edges_by ending.OneBranch es = length es == 1 && list_all is_branch es
+are_edges_by ending.TwoBranches es = length es == 2 && list_all is_branch es
+are_edges_by ending.Cases es = not (is_empty es) && are_cases es
+are_edges_by ending.Return es = is_empty es
+are_edges_by ending.Unreachable es = is_empty es
+
 abbrev pub has_edges : Op → List Edge → Bool
-has_edges op.Br es = length es == 1 && list_all is_branch es
-has_edges op.CondBr es = length es == 2 && list_all is_branch es
-has_edges op.SwitchEnum es = not (is_empty es) && are_cases es
-has_edges _ es = is_empty es
+has_edges o es = are_edges_by (ending_of o) es
 
--- the row gives one result
-abbrev pub gives_result : Op → Bool
-gives_result op.CondFail = false
-gives_result op.DeallocStack = false
-gives_result op.DestroyValue = false
-gives_result op.EndBorrow = false
-gives_result op.Store = false
-gives_result op.DestroyAddr = false
-gives_result op.StoreWeak = false
-gives_result op.StoreUnowned = false
-gives_result op.DestructureStruct = false
-gives_result op.DestructureTuple = false
-gives_result op.DebugValue = false
-gives_result op.StrongRetain = false
-gives_result op.StrongRelease = false
-gives_result op.RetainValue = false
-gives_result op.ReleaseValue = false
-gives_result op.Br = false
-gives_result op.CondBr = false
-gives_result op.SwitchEnum = false
-gives_result op.Return = false
-gives_result op.Unreachable = false
-gives_result _ = true
-
--- a result that the row gives is there. How many there must be is a question of types
+-- the one result of a row is there. How many there must be is a question of types
 abbrev pub has_results : Op → List ValueId → Bool
-has_results o rs = not (gives_result o && is_empty rs)
+has_results o rs = not (has_one_result o && is_empty rs)
 
 -- the instruction has just the parts of its row
 pub record HasItsParts (i : Inst) : Type 0 where
@@ -180,15 +160,6 @@ pub record HasItsParts (i : Inst) : Type 0 where
   pub operands : IsTrue (has_operands i.op i.operands)
   pub edges : IsTrue (has_edges i.op i.edges)
   pub results : IsTrue (has_results i.op i.results)
-
--- the row ends a block
-abbrev pub is_terminator : Op → Bool
-is_terminator op.Br = true
-is_terminator op.CondBr = true
-is_terminator op.SwitchEnum = true
-is_terminator op.Return = true
-is_terminator op.Unreachable = true
-is_terminator _ = false
 
 -- an instruction that ends no block
 pub record IsInside (i : Inst) : Type 0 where

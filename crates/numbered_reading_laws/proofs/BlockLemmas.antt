@@ -8,12 +8,12 @@ use Rattle.written_tree.specs.declared.written_declarations.WrittenToken.{Writte
 use Rattle.written_tree.specs.declared.written_functions.WrittenArg.{WrittenArg}
 use Rattle.written_tree.specs.declared.written_functions.WrittenBlock.{WrittenBlock}
 use Rattle.written_tree.specs.declared.written_instructions.WrittenInst.{WrittenInst}
-use Rattle.written_tree.specs.Places.{has_one_result}
 use Rattle.name_resolution.specs.Resolved.{Scope, counted, defined_by, defined_by_inst, defined_in, resolved_args, resolved_block, resolved_blocks, resolved_inst, resolved_insts}
 use Rattle.numbered_form.specs.Lists.{Each}
 use Rattle.numbered_form.specs.Insts.{EachInBlock}
 use Rattle.numbered_form.specs.Limits.{IsBlockInLimits, IsInstInLimits}
-use Rattle.numbered_form.specs.Parts.{BlockHasParts, IsInside, is_terminator}
+use Rattle.sil_ast.specs.Forms.{has_one_result, is_terminator}
+use Rattle.numbered_form.specs.Parts.{BlockHasParts, IsInside}
 use Rattle.numbered_form.specs.Types.{HasArgType, HasBlockTypes, HasInstTypes}
 use Rattle.numbered_reading_laws.proofs.FaultlessParts.{IsGoodArg, IsGoodBlock, IsGoodEnd, IsGoodInside, IsGoodInst}
 

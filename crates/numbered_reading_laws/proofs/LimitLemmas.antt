@@ -16,7 +16,7 @@ use Rattle.written_tree.specs.declared.written_instructions.WrittenInst.{Written
 use Rattle.written_tree.specs.declared.written_module.WrittenItem.{WrittenItem}
 use Rattle.written_tree.specs.declared.written_module.WrittenItem.TheVariants as item
 use Rattle.written_tree.specs.declared.written_module.WrittenModule.{WrittenModule}
-use Rattle.written_tree.specs.Places.{arg_place, attribute_places, decl_names, extra_places, function_names, has_one_result, is_kept, mnemonic_place, mnemonics_of, result_places, token_place, value_places_of, values_of_block}
+use Rattle.written_tree.specs.Places.{arg_place, attribute_places, decl_names, extra_places, function_names, is_kept, mnemonic_place, mnemonics_of, result_places, token_place, value_places_of, values_of_block}
 use Rattle.name_resolution.specs.Names.{Name, decls_of, functions_of, name_of}
 use Rattle.name_resolution.specs.Resolved.{Scope, counted, defined_by, defined_by_inst, defined_in, resolved, resolved_block, resolved_blocks, resolved_decl, resolved_function, resolved_inst, resolved_insts, scope_of}
 use Rattle.numbered_form.specs.Lists.{Each}
@@ -24,7 +24,7 @@ use Rattle.numbered_form.specs.Insts.{insts_in, insts_of}
 use Rattle.numbered_form.specs.Limits.{AreLimitsKept, IsBlockInLimits, IsDeclInLimits, IsFunctionInLimits, inst_takes_value, takes_value, value_count}
 use Rattle.numbered_form.specs.Numbering.{results_of, value_of, values_of}
 use Rattle.numbered_form.specs.Numbering as numbering
-use Rattle.numbered_form.specs.Parts.{is_terminator}
+use Rattle.sil_ast.specs.Forms.{has_one_result, is_terminator}
 use Rattle.numbered_reading_laws.proofs.BlockLemmas.{Each-blocks, block_limits, end_defines_none, length-args, length-blocks}
 use Rattle.numbered_reading_laws.proofs.FieldLemmas.{in_decls, in_functions}
 use Rattle.numbered_reading_laws.proofs.FaultlessParts.{IsGoodBlock, IsGoodEnd, IsGoodFunction, IsGoodModule}

@@ -15,6 +15,7 @@ use Rattle.written_tree.specs.declared.written_functions.WrittenFunction.{Writte
 use Rattle.written_tree.specs.declared.written_module.WrittenModule.{WrittenModule}
 use Rattle.written_tree.specs.declared.written_module.WrittenVtable.{WrittenVtable}
 use Rattle.written_tree.specs.Faults.{earliest, fault}
+use Rattle.written_tree.specs.Places.{name_of_decl}
 use Rattle.name_resolution.specs.NameFaults.{is_among, members_fault, name_fault, twice_after}
 use Rattle.name_resolution.specs.Names.{Name, decls_of, functions_of, name_of, vtables_of}
 use Rattle.name_resolution.specs.Names as written
@@ -69,7 +70,7 @@ pub names_kept : {A B : Type 0} (f : A → B) (name : B → Name) (token : A →
 names_kept f name token e [] = refl
 names_kept f name token e (x ∷ xs) = ap₂ (λ n ns. n ∷ ns) (sym (e x)) (names_kept f name token e xs)
 
-pub decl_kept : (d : WrittenDecl) → decl_name (resolved_decl d) ≡ (written.decl_name d).text
+pub decl_kept : (d : WrittenDecl) → decl_name (resolved_decl d) ≡ (name_of_decl d).text
 decl_kept (decl.Class name fields) = refl
 decl_kept (decl.Struct name fields) = refl
 decl_kept (decl.Enum name cases) = refl
@@ -99,7 +100,7 @@ read_once w e =
     let behind_vtables = no_second _ _ behind_functions in
     let behind_uses = no_second _ _ behind_vtables in
     record {
-      declarations = once_kept resolved_decl decl_name written.decl_name decl_kept (reserved w.imports) decls (once_reserved w.imports w.imports.swift refl) (no_first _ _ e);
+      declarations = once_kept resolved_decl decl_name name_of_decl decl_kept (reserved w.imports) decls (once_reserved w.imports w.imports.swift refl) (no_first _ _ e);
       members = members_once decls (no_first _ _ behind_uses);
       functions = once_kept (resolved_function names) function_name written.function_name (λ f. refl) [] functions tt (no_first _ _ behind_decls);
       vtables = once_kept (resolved_vtable names) class_name written.vtable_name (λ t. refl) [] vtables tt (no_first _ _ behind_functions);

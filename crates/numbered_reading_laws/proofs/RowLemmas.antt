@@ -1,22 +1,21 @@
 -- An instruction with the parts of its row is good, whatever names its results have.
-use Rattle.std.proofs.Common.{◌≡◌, ℕ, suc, ◌≤◌, ◌+◌, List, [], ◌∷◌, length, map, Option, Some, None, Bool, true, false, ◌&&◌, ◌||◌, not, is_some, IfSome, IsTrue, ap, sym, refl, ◌∙◌, arith}
+use Rattle.std.proofs.Common.{◌≡◌, ℕ, suc, ◌≤◌, ◌+◌, List, [], ◌∷◌, length, map, Option, Some, None, Bool, true, false, ◌&&◌, ◌||◌, not, if◌then◌else◌, is_some, IfSome, IsTrue, ap, sym, refl, ◌∙◌, arith}
 use Rattle.std.specs.List.{list_any}
 use Rattle.std.specs.Option.{option_map}
 use Rattle.std.proofs.lemmas.List.{length-map}
-use Rattle.sil_ast.specs.Forms.{parts_of}
+use Rattle.sil_ast.specs.Forms.{has_one_result, parts_of}
 use Rattle.sil_ast.specs.declared.forms.Part.{Part}
 use Rattle.sil_ast.specs.declared.op.Op.{Op}
 use Rattle.sil_ast.specs.declared.op.Op.TheVariants as op
 use Rattle.sil_ast.specs.declared.signature.Signature.{Signature}
 use Rattle.written_tree.specs.declared.written_declarations.WrittenToken.{WrittenToken}
 use Rattle.written_tree.specs.declared.written_instructions.WrittenInst.{WrittenInst}
-use Rattle.written_tree.specs.Places.{has_one_result}
 use Rattle.name_resolution.specs.Resolved.{Scope, counted, defined_by, function_of, resolved_edge, resolved_inst, resolved_operand}
-use Rattle.numbered_form.specs.Lists.{Each}
+use Rattle.numbered_form.specs.Lists.{Each, is_empty}
 use Rattle.numbered_form.specs.Limits.{IsEdgeInLimits, IsSignatureInLimits}
 use Rattle.numbered_form.specs.Literals.{is_number_of, is_text_of}
 use Rattle.numbered_form.specs.Names.{IsEdgeSpelled, IsMemberSpelled, is_quotable}
-use Rattle.numbered_form.specs.Parts.{gives_result, has_edges, has_operands, has_results, is_callee, is_debug, is_flags, is_member, is_number, is_silent, is_signature, is_text, is_type, may_have}
+use Rattle.numbered_form.specs.Parts.{has_edges, has_operands, has_results, is_callee, is_debug, is_flags, is_member, is_number, is_silent, is_signature, is_text, is_type, may_have}
 use Rattle.numbered_form.specs.Types.{HasEdgeTypes, HasOperandType, HasSignatureTypes, IsPlainType}
 use Rattle.numbered_reading_laws.proofs.ListsAndFaults.{Each-weaker}
 use Rattle.numbered_reading_laws.proofs.FaultlessParts.{IsGoodDebug, IsGoodEdge, IsGoodInst, IsGoodSignature}
@@ -53,14 +52,13 @@ not_and_false : (b : Bool) → not (b && false) ≡ true
 not_and_false true = refl
 not_and_false false = refl
 
-unnamed_results : (o : Op) (first : ℕ) → has_results o (counted first (defined_by o [])) ≡ true
-unfolding has_one_result
-unnamed_results op.IntegerLiteral first = refl
-unnamed_results _ first = refl
+unnamed_results : (one : Bool) (first : ℕ) → not (one && is_empty (counted first (if one then None ∷ [] else []))) ≡ true
+unnamed_results true first = refl
+unnamed_results false first = refl
 
 pub results_there : (o : Op) (first : ℕ) (tokens : List WrittenToken) → has_results o (counted first (defined_by o tokens)) ≡ true
-results_there o first [] = unnamed_results o first
-results_there o first (token ∷ tokens) = not_and_false (gives_result o)
+results_there o first [] = unnamed_results (has_one_result o) first
+results_there o first (token ∷ tokens) = not_and_false (has_one_result o)
 
 pub length-counted : (first : ℕ) (values : List (Option (List ℕ))) → length (counted first values) ≡ length values
 length-counted first [] = refl

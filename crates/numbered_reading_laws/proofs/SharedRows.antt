@@ -2,7 +2,7 @@
 use Rattle.std.proofs.Common.{◌≡◌, List, [], ◌∷◌, Option, Some, None, Bool, true, ◌&&◌, is_some, IfSome, IsTrue, ap, refl, ◌∙◌, arith}
 use Rattle.std.specs.List.{list_all}
 use Rattle.std.specs.Prelude.{ℤ}
-use Rattle.sil_ast.specs.Forms.{parts_of}
+use Rattle.sil_ast.specs.Forms.{may_lack_operand, parts_of}
 use Rattle.sil_ast.specs.declared.forms.Part.{Part}
 use Rattle.sil_ast.specs.declared.forms.Part.TheVariants as part
 use Rattle.sil_ast.specs.declared.inst.Qualifier.TheVariants as qualifier
@@ -19,7 +19,7 @@ use Rattle.name_resolution.specs.Resolved.{Scope, resolved_operand}
 use Rattle.numbered_form.specs.Lists.{Each, is_empty}
 use Rattle.numbered_form.specs.Literals.{is_number_of}
 use Rattle.numbered_form.specs.Names.{IsMemberSpelled}
-use Rattle.numbered_form.specs.Parts.{are_of_parts, has_edges, has_operands, is_typed, may_have, may_lack_operand}
+use Rattle.numbered_form.specs.Parts.{are_of_parts, has_edges, has_operands, is_typed, may_have}
 use Rattle.numbered_form.specs.Types.{HasOperandType}
 use Rattle.numbered_reading_laws.proofs.ListsAndFaults.{Each-weaker, all_each, both, either_first}
 use Rattle.numbered_reading_laws.proofs.FaultlessParts.{IsGoodAnywhere, IsGoodOperand, nothing_shown}

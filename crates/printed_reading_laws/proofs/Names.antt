@@ -6,7 +6,8 @@ use Rattle.sil_ast.specs.declared.module.Module.{Module}
 use Rattle.written_tree.specs.declared.written_declarations.WrittenDecl.{WrittenDecl}
 use Rattle.written_tree.specs.declared.written_module.WrittenModule.{WrittenModule}
 use Rattle.name_resolution.specs.NameFaults.{function_fault, members_fault, name_fault, twice_after}
-use Rattle.name_resolution.specs.Names.{Name, decl_name, function_name, member_names, name_of, used_by_item, vtable_name}
+use Rattle.written_tree.specs.Places.{name_of_decl}
+use Rattle.name_resolution.specs.Names.{Name, function_name, member_names, name_of, used_by_item, vtable_name}
 use Rattle.name_resolution.specs.Resolved.{resolved, resolved_decl, resolved_function, resolved_vtable}
 use Rattle.numbered_form.specs.Lists.{Each}
 use Rattle.numbered_form.specs.Names.{AreMembersOnce, AreOnce, reserved}
@@ -19,11 +20,11 @@ use Rattle.printed_reading_laws.proofs.ResolvedModules.{decls_are, decls_read, f
 use Rattle.printed_reading_laws.proofs.SideBySide.{zip_each, zip_read, zip_same, zip_weaker}
 use Rattle.printed_reading_laws.proofs.Written.{IsModuleWritten, IsVtableWritten}
 
-decls_once : (m : Module) (w : WrittenModule) → IsNumbered m → (r : IsModuleWritten m w) → twice_after (reserved w.imports) (map decl_name r.decls) ≡ None
+decls_once : (m : Module) (w : WrittenModule) → IsNumbered m → (r : IsModuleWritten m w) → twice_after (reserved w.imports) (map name_of_decl r.decls) ≡ None
 decls_once m w n r =
-    let names : map name_of (map decl_name r.decls) ≡ map spelled.decl_name m.decls =
-    names_kept resolved_decl spelled.decl_name decl_name decl_kept r.decls ∙ ap (map spelled.decl_name) (sym (decls_read m w r)) in
-    never_twice (reserved w.imports) (map decl_name r.decls)
+    let names : map name_of (map name_of_decl r.decls) ≡ map spelled.decl_name m.decls =
+    names_kept resolved_decl spelled.decl_name name_of_decl decl_kept r.decls ∙ ap (map spelled.decl_name) (sym (decls_read m w r)) in
+    never_twice (reserved w.imports) (map name_of_decl r.decls)
     (subst (λ (ns : List Name). AreOnce (reserved w.imports ++ ns)) (sym names) (subst (λ (i : Imports). AreOnce (reserved i ++ map spelled.decl_name m.decls)) (sym r.imports) n.once.declarations))
 
 functions_once : (m : Module) (w : WrittenModule) → IsNumbered m → (r : IsModuleWritten m w) → twice_after [] (map function_name r.functions) ≡ None

@@ -1,6 +1,6 @@
 -- Each row of the table of instructions reads as itself.
 use Rattle.std.proofs.Common.{◌≡◌, ℕ, List, IsTrue, IsFalse, refl, sym, subst, true≢false}
-use Rattle.sil_ast.specs.Forms.{parts_of}
+use Rattle.sil_ast.specs.Forms.{is_terminator, parts_of}
 use Rattle.sil_ast.specs.declared.function.Function.{Function}
 use Rattle.sil_ast.specs.declared.inst.Inst.{Inst}
 use Rattle.sil_ast.specs.declared.op.Op.{Op}
@@ -13,7 +13,6 @@ use Rattle.sil_shape.specs.declared.grammar.Nonterminal.TheVariants as n
 use Rattle.sil_shape.specs.declared.grammar.Production.TheVariants as p
 use Rattle.written_modules.specs.Meaning.{meaning}
 use Rattle.written_modules.specs.PartFaults.{part_fault}
-use Rattle.numbered_form.specs.Parts.{is_terminator}
 use Rattle.printed_reading_laws.proofs.AggregateRows.{apply_row, enum_row, struct_row, tuple_row}
 use Rattle.printed_reading_laws.proofs.EdgeForms.{one_branch, switch_edges, two_branches}
 use Rattle.printed_reading_laws.proofs.OperandForms.{all_typed, are_bare, at_most_one, bare_then_typed, is_there, just_bare, one_typed}

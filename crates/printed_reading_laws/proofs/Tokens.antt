@@ -13,7 +13,7 @@ use lib.Signed.{mag}
 use Rattle.std.specs.List.{list_all}
 use Rattle.std.specs.Fmt.{signed_decimal}
 use Rattle.sil_lexer.specs.Bytes.{is_punctuation, is_name_byte, is_word_start}
-use Rattle.sil_lexer.specs.Spelling.{Spells, Spells as spells, begins_with, continues, name_length}
+use Rattle.sil_lexer.specs.Spelling.{Spells, Spells as spells, begins_with, continues, name_length, without_quotes}
 use Rattle.sil_lexer.specs.declared.token.TokenKind.TheVariants as kind
 use Rattle.sil_shape.specs.declared.classes.Class.TheVariants as c
 use Rattle.sil_shape.specs.declared.grammar.Symbol.{Symbol}
@@ -28,7 +28,7 @@ use Rattle.written_modules.specs.Opened.{PartValue}
 use Rattle.written_numbers.specs.Numbers.{next_number, number_of}
 use Rattle.numbered_form.specs.Names.{is_at_name, is_quotable, is_short, is_word}
 use Rattle.numbered_reading_laws.proofs.ListsAndFaults.{both, first_of_both, second_of_both}
-use Rattle.sil_grammar.specs.Classes.{class_by, inside_quotes, punctuation_class, text_class}
+use Rattle.sil_grammar.specs.Classes.{class_by, punctuation_class, text_class}
 use Rattle.printed_reading_laws.proofs.Pieces.{Ends, Reads, Reads as reads, lexeme_before}
 
 is_digit : (d : ℕ) → IsInRange 48 57 d → is_ascii_digit d ≡ true
@@ -120,7 +120,7 @@ quoted_length : (inside : List ℕ) → length (34 ∷ inside ++ 34 ∷ []) - 1 
 quoted_length inside = let e : length (inside ++ 34 ∷ []) ≡ length inside + 1 = length-append inside (34 ∷ []) in omega (arith, e)
 
 -- what stands between the quotes
-pub between_quotes : (inside : List ℕ) → inside_quotes (34 ∷ inside ++ 34 ∷ []) ≡ inside
+pub between_quotes : (inside : List ℕ) → without_quotes (34 ∷ inside ++ 34 ∷ []) ≡ inside
 between_quotes inside = ap (λ n. take n (inside ++ 34 ∷ [])) (quoted_length inside) ∙ take-append_seam inside (34 ∷ [])
 
 -- a word

@@ -6,7 +6,7 @@ use Rattle.sil_lexer.specs.declared.token.LexRefusal.{LexRefusal}
 use Rattle.sil_lexer.specs.declared.token.TokenKind.{TokenKind}
 use Rattle.sil_lexer.specs.Bytes.{is_name_byte, is_word_start}
 use Rattle.sil_lexer.specs.Lexes.{Lexeme, Lexes, end, token, stop}
-use Rattle.sil_lexer.specs.Spelling.{Spells, arrow, at_name, punctuation, name_length, negative, number, percent, quoted, word}
+use Rattle.sil_lexer.specs.Spelling.{Spells, arrow, at_name, name_length, negative, number, percent, punctuation, quoted, without_quotes, word}
 use Rattle.sil_shape.specs.declared.classes.Punctuation as sign
 use Rattle.sil_shape.specs.BuiltinNames.{is_builtin_name}
 use Rattle.sil_shape.specs.Spelling.{punctuation_of}
@@ -16,10 +16,10 @@ use Rattle.numbered_form.specs.NumberedForm.{IsNumbered}
 use Rattle.numbered_reading_laws.specs.Leaves.{AreOfClasses, IsTextOf}
 use Rattle.numbered_reading_laws.proofs.ListsAndFaults.{both}
 use Rattle.numbered_reading_laws.proofs.Numbered.{written_numbered}
-use Rattle.sil_grammar.specs.Classes.{class_by, inside_quotes, punctuation_class, text_class, token_class}
+use Rattle.sil_grammar.specs.Classes.{class_by, punctuation_class, text_class, token_class}
 use Rattle.sil_grammar.specs.Spells as text
 
-inside_is : (inside : List ℕ) → inside_quotes (34 ∷ inside ++ 34 ∷ []) ≡ inside
+inside_is : (inside : List ℕ) → without_quotes (34 ∷ inside ++ 34 ∷ []) ≡ inside
 inside_is inside =
     let n : length (34 ∷ inside ++ 34 ∷ []) - 1 - 1 ≡ length inside = omega (arith, length-append inside (34 ∷ [])) in
     rw n (take-append_seam inside (34 ∷ []))
@@ -46,7 +46,7 @@ kept_text k spelling (percent _ _ _) short = tt
 kept_text k spelling (number _ _ _) short = tt
 kept_text k spelling (negative _ _ _) short = tt
 kept_text k spelling (quoted inside bytes) short =
-    let kept : List ℕ = inside_quotes (34 ∷ inside ++ 34 ∷ []) in
+    let kept : List ℕ = without_quotes (34 ∷ inside ++ 34 ∷ []) in
     text_of (is_builtin_name kept) kept refl (ap is_quotable (inside_is inside) ∙ bytes)
 kept_text k spelling (punctuation byte _) short = punctuation_text (punctuation_of (byte ∷ []))
 kept_text k spelling arrow short = punctuation_text (punctuation_of (45 ∷ 62 ∷ []))

@@ -1,19 +1,16 @@
 -- The class of a token, by its kind and its bytes.
-use Rattle.std.specs.Prelude.{◌≡◌, ℕ, ◌-◌, Bool, true, false, List, drop, length, slice_range, Option, Some, None}
+use Rattle.std.specs.Prelude.{◌≡◌, ℕ, Bool, true, false, List, Option, Some, None}
 use Rattle.std.specs.List.{HoldsAt}
 use Rattle.sil_lexer.specs.declared.token.TokenKind.{TokenKind}
 use Rattle.sil_lexer.specs.declared.token.TokenKind.TheVariants as kind
 use Rattle.sil_lexer.specs.Lexes.{Lexeme}
 use Rattle.sil_lexer.specs.Lexing.{Lexing, lexeme_of}
+use Rattle.sil_lexer.specs.Spelling.{without_quotes, without_sigil}
 use Rattle.sil_shape.specs.declared.classes.Class.{Class}
 use Rattle.sil_shape.specs.declared.classes.Class.TheVariants.{Word, At, Percent, Number, BuiltinText, OtherText, Punctuation}
 use Rattle.sil_shape.specs.declared.classes.Punctuation as punctuation
 use Rattle.sil_shape.specs.BuiltinNames.{is_builtin_name}
 use Rattle.sil_shape.specs.Spelling.{keyword_of, at_word_of, punctuation_of}
-
--- a text without its quotes
-abbrev pub inside_quotes : List ℕ → List ℕ
-inside_quotes spelling = slice_range spelling 1 (length spelling - 1)
 
 abbrev pub text_class : Bool → Class
 text_class true = BuiltinText
@@ -26,10 +23,10 @@ punctuation_class None = OtherText
 
 unfoldable pub class_by : TokenKind → List ℕ → Class
 class_by kind.Word spelling = Word (keyword_of spelling)
-class_by kind.AtName spelling = At (at_word_of (drop 1 spelling))
+class_by kind.AtName spelling = At (at_word_of (without_sigil spelling))
 class_by kind.Percent spelling = Percent
 class_by kind.Number spelling = Number
-class_by kind.Text spelling = text_class (is_builtin_name (inside_quotes spelling))
+class_by kind.Text spelling = text_class (is_builtin_name (without_quotes spelling))
 class_by kind.Punctuation spelling = punctuation_class (punctuation_of spelling)
 
 abbrev pub token_class : Lexeme → Class

@@ -1,38 +1,17 @@
 //! The classes of the tokens of a text, by which its shape is found.
 
-ghost use Rattle.std.specs.Prelude.{◌≡◌, ◌-◌, ◌<◌, drop, length, map, slice_range, IfOk};
+ghost use Rattle.std.specs.Prelude.{◌≡◌, ◌<◌, length, map, IfOk};
 ghost use Rattle.sil_lexer.specs.Lexing.{IsLexingOf, lexemes_of};
 ghost use Rattle.sil_shape.specs.BuiltinNames.{is_builtin_name};
 ghost use Rattle.sil_shape.specs.Spelling.{punctuation_of};
-ghost use Rattle.sil_grammar.specs.Classes.{class_by, inside_quotes, punctuation_class, text_class, token_class, IsClassAt};
+ghost use Rattle.sil_grammar.specs.Classes.{class_by, punctuation_class, text_class, token_class, IsClassAt};
 
 use sil_ast::Exhausted;
-use sil_lexer::{TokenKind, Tokens};
+use sil_lexer::{TokenKind, Tokens, without_quotes, without_sigil};
 use sil_shape::builtin_names::is_builtin_name;
 use sil_shape::classes::Class;
 use sil_shape::spelling::{at_word, keyword, punctuation};
 use std::alloc::Global;
-
-/// What is behind the first byte.
-fn without_sigil(spelling: &[u8]) -> &[u8]
-    ensures { result.now ≡ drop 1 spelling.now }
-{
-    if spelling.is_empty() {
-        spelling
-    } else {
-        &spelling[1..]
-    }
-}
-
-fn without_quotes(spelling: &[u8]) -> &[u8]
-    ensures { result.now ≡ inside_quotes spelling.now }
-{
-    if spelling.len() < 2 {
-        &[]
-    } else {
-        &spelling[1..spelling.len() - 1]
-    }
-}
 
 fn text_class(content: &[u8]) -> Class
     ensures { result ≡ text_class (is_builtin_name content.now) }

@@ -10,35 +10,26 @@ use crate::first_bad::{BadKind, BadPlace};
 use name_resolution::NameRefusal;
 use sil_ast::{Exhausted, Place};
 use sil_lexer::{LexRefusal, LexStop};
-use thiserror::Error;
 use written_tree::{Fault, FaultKind, LimitWord};
 
 /// Why a text is not read. All places are those of tokens, or the end of the text.
-#[derive(Clone, Copy, Debug, PartialEq, Eq, Error)]
+#[derive(Clone, Copy, Debug, PartialEq, Eq)]
 pub enum ReadRefusal {
     /// The tokens stop: a byte that begins none, a text that isn't closed, or a name of more than 255 bytes.
-    #[error("{0:?}")]
     Lex(LexRefusal),
     /// No module goes on with this token, or ends here.
-    #[error("unexpected at {0:?}")]
     Unexpected(Place),
     /// No module goes on with this token, and it stands where a mnemonic, a builtin's name or an integer's width would.
-    #[error("unsupported at {0:?}")]
     Unsupported(Place),
     /// A number isn't in its range.
-    #[error("number out of range at {0:?}")]
     NumberRange(Place),
     /// The token passes a limit.
-    #[error("limit {what:?} at {place:?}")]
     Limit { what: LimitWord, place: Place },
     /// A name is defined a second time.
-    #[error("defined twice at {0:?}")]
     Twice(Place),
     /// A name of a value, a block or a function is used, and not defined.
-    #[error("unknown name at {0:?}")]
     UnknownName(Place),
     /// There was no memory left.
-    #[error("out of memory")]
     Memory,
 }
 
