@@ -1,11 +1,11 @@
 -- The printed results of an instruction, in front of its row.
 use Rattle.std.proofs.Common.{◌≡◌, ℕ, ◌≤◌, List, [], ◌∷◌, ◌++◌, length, Bool, true, false, None, refl, codes, decimal, if◌then◌else◌, arith, sym, subst}
 use Rattle.std.proofs.lemmas.List.{append_assoc}
-use Rattle.sil_ast.specs.Forms.{mnemonic_of, parts_of}
+use Rattle.sil_ast.specs.Forms.{has_result_list, mnemonic_of, parts_of}
 use Rattle.sil_ast.specs.declared.function.Function.{Function}
 use Rattle.sil_ast.specs.declared.inst.Inst.{Inst}
 use Rattle.sil_ast.specs.declared.place.ValueId.{ValueId}
-use Rattle.sil_printer.specs.CanonicalInsts.{has_result_list, inst_text, parts_text, results_text, value_text}
+use Rattle.sil_printer.specs.CanonicalInsts.{inst_text, parts_text, results_text, value_text}
 use Rattle.sil_printer.specs.Words.{in_parens, listed}
 use Rattle.sil_shape.specs.Accepts.{accepts, class_number, punctuation_number}
 use Rattle.sil_shape.specs.Grammar.{body, written}

@@ -9,11 +9,11 @@ use Rattle.sil_shape.specs.declared.grammar.Production.{Production}
 use Rattle.sil_shape.specs.declared.grammar.Production.TheVariants as p
 use Rattle.sil_shape.specs.Grammar.{written, body}
 use Rattle.sil_shape.specs.Spelling.{spelling, keywords_of_length, known_keyword, keyword_of}
-use Rattle.row_table_laws.specs.Rows.{production_of, row_part, operand_of, member_of, qualifier_of, text_of, edges_of, symbols_of, is_item_operand, is_item, comma_between, parts_row, row_body}
-use Rattle.row_table_laws.specs.Laws.{WritesForms, SpellsMnemonics, PutsTerminatorsLast, HasNoOtherRow, HasOneRowEach}
+use Rattle.row_table_laws.specs.Rows.{production_of, row_part, operand_of, member_of, qualifier_of, text_of, edges_of, symbols_of, brings_comma, comma_between, parts_row, row_body}
+use Rattle.row_table_laws.specs.Laws.{WritesForms, SpellsMnemonics, TellsTerminators, HasNoOtherRow, HasOneRowEach}
 
 pub writes_forms : WritesForms
-unfolding body production_of row_body parts_row comma_between is_item is_item_operand symbols_of operand_of member_of qualifier_of text_of edges_of keyword_of known_keyword keywords_of_length spelling
+unfolding body production_of row_body parts_row comma_between brings_comma symbols_of operand_of member_of qualifier_of text_of edges_of keyword_of known_keyword keywords_of_length spelling
 writes_forms op.IntegerLiteral = refl
 writes_forms _ = refl
 
@@ -22,10 +22,10 @@ unfolding keyword_of known_keyword keywords_of_length spelling
 spells_mnemonics op.IntegerLiteral = refl
 spells_mnemonics _ = refl
 
-pub puts_terminators_last : PutsTerminatorsLast
+pub tells_terminators : TellsTerminators
 unfolding written production_of row_part
-puts_terminators_last op.IntegerLiteral = refl
-puts_terminators_last _ = refl
+tells_terminators op.IntegerLiteral = refl
+tells_terminators _ = refl
 
 -- the instruction of a row
 op_of : Production → Op

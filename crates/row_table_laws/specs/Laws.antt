@@ -16,9 +16,9 @@ WritesForms = (o : Op) → body (production_of o) ≡ row_body o
 abbrev pub SpellsMnemonics : Type 0
 SpellsMnemonics = (o : Op) → spelling (keyword_of (mnemonic_of o)) ≡ mnemonic_of o
 
--- the last five instructions are terminators, and the others aren't
-abbrev pub PutsTerminatorsLast : Type 0
-PutsTerminatorsLast = (o : Op) → written (production_of o) ≡ row_part o
+-- just the instructions that end a block are terminators
+abbrev pub TellsTerminators : Type 0
+TellsTerminators = (o : Op) → written (production_of o) ≡ row_part o
 
 -- each production of a row or a terminator is that of an instruction
 abbrev pub HasNoOtherRow : Type 0

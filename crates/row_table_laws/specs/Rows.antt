@@ -1,10 +1,16 @@
 -- The rows of the grammar as the table of instructions gives them: which production an instruction has, and what it writes there.
-use Rattle.std.specs.Prelude.{List, [], ◌∷◌, ◌++◌, Bool, true, false, if◌then◌else◌, ◌&&◌}
+use Rattle.std.specs.Prelude.{List, [], ◌∷◌, ◌++◌, Bool, false, if◌then◌else◌, ◌&&◌, not}
+use Rattle.sil_ast.specs.declared.entries.Detail.{Detail}
+use Rattle.sil_ast.specs.declared.entries.Detail.TheVariants as detail
+use Rattle.sil_ast.specs.declared.entries.Ending.{Ending}
+use Rattle.sil_ast.specs.declared.entries.Ending.TheVariants as ending
+use Rattle.sil_ast.specs.declared.entries.Words.{Words}
+use Rattle.sil_ast.specs.declared.entries.Words.TheVariants as words
 use Rattle.sil_ast.specs.declared.forms.Part.{Part}
 use Rattle.sil_ast.specs.declared.forms.Part.TheVariants as part
 use Rattle.sil_ast.specs.declared.op.Op.{Op}
 use Rattle.sil_ast.specs.declared.op.Op.TheVariants as op
-use Rattle.sil_ast.specs.Forms.{mnemonic_of, parts_of}
+use Rattle.sil_ast.specs.Forms.{detail_of, ending_of, is_item, may_lack_operand, mnemonic_of, parts_of, words_of}
 use Rattle.sil_shape.specs.declared.classes.Class.TheVariants as c
 use Rattle.sil_shape.specs.declared.classes.Keyword.TheVariants as k
 use Rattle.sil_shape.specs.declared.classes.Punctuation.TheVariants as m
@@ -63,43 +69,69 @@ production_of op.SwitchEnum = p.RowSwitchEnum
 production_of op.Return = p.RowReturn
 production_of op.Unreachable = p.RowUnreachable
 
--- the part of the grammar that its production writes: the last five instructions end a block
+abbrev pub part_by : Ending → Nonterminal
+part_by ending.Inside = n.Row
+part_by ending.OneBranch = n.Terminator
+part_by ending.TwoBranches = n.Terminator
+part_by ending.Cases = n.Terminator
+part_by ending.Return = n.Terminator
+part_by ending.Unreachable = n.Terminator
+
+-- the part of the grammar that its production writes
 unfoldable pub row_part : Op → Nonterminal
-row_part op.Br = n.Terminator
-row_part op.CondBr = n.Terminator
-row_part op.SwitchEnum = n.Terminator
-row_part op.Return = n.Terminator
-row_part op.Unreachable = n.Terminator
-row_part other = n.Row
+row_part o = part_by (ending_of o)
 
--- an operand with its type: `enum` may have none, and the comma before it belongs to it
+-- an operand with its type: where it may be left out, the comma before it belongs to it
 unfoldable pub operand_of : Op → Nonterminal
-operand_of op.Enum = n.EnumOperand
-operand_of other = n.Operand
+operand_of o = if may_lack_operand o then n.EnumOperand else n.Operand
 
--- a member: `enum` names a case, and any other instruction a field
+abbrev pub member_by : Detail → Nonterminal
+member_by detail.Case = n.EnumElement
+member_by detail.Field = n.MemberName
+member_by detail.NoDetail = n.MemberName
+member_by detail.Literal = n.MemberName
+member_by detail.Element = n.MemberName
+member_by detail.Operation = n.MemberName
+member_by detail.Message = n.MemberName
+
+-- a member: a case, or a field
 unfoldable pub member_of : Op → Nonterminal
-member_of op.Enum = n.EnumElement
-member_of other = n.MemberName
+member_of o = member_by (detail_of o)
 
--- a word in brackets: any at `load` and `store`, `[take]` at the loads of weak and unowned places, `[init]` at the stores to them
+abbrev pub word_by : Words → Nonterminal
+word_by words.AnyWord = n.Qualifier
+word_by words.TakeWord = n.TakeFlag
+word_by words.InitWord = n.InitFlag
+word_by words.NoWord = n.Qualifier
+
+-- a word in brackets: any, `[take]` alone, or `[init]` alone
 unfoldable pub qualifier_of : Op → Nonterminal
-qualifier_of op.LoadWeak = n.TakeFlag
-qualifier_of op.LoadUnowned = n.TakeFlag
-qualifier_of op.StoreWeak = n.InitFlag
-qualifier_of op.StoreUnowned = n.InitFlag
-qualifier_of other = n.Qualifier
+qualifier_of o = word_by (words_of o)
 
--- a text: `builtin` names an operation, and any other instruction has any text
+abbrev pub text_by : Detail → Terminal
+text_by detail.Operation = t.Just c.BuiltinText
+text_by detail.Message = t.AnyText
+text_by detail.NoDetail = t.AnyText
+text_by detail.Literal = t.AnyText
+text_by detail.Element = t.AnyText
+text_by detail.Field = t.AnyText
+text_by detail.Case = t.AnyText
+
+-- a text: the name of an operation, or any text
 unfoldable pub text_of : Op → Terminal
-text_of op.Builtin = t.Just c.BuiltinText
-text_of other = t.AnyText
+text_of o = text_by (detail_of o)
 
--- the blocks: two at `cond_br`, cases and a default at `switch_enum`, one at `br`
+abbrev pub edges_by : Ending → List Symbol
+edges_by ending.OneBranch = s.Part n.Edge ∷ []
+edges_by ending.TwoBranches = s.Part n.Edge ∷ s.Read (punctuation m.Comma) ∷ s.Part n.Edge ∷ []
+edges_by ending.Cases = s.Part n.SwitchPart ∷ []
+edges_by ending.Inside = []
+edges_by ending.Return = []
+edges_by ending.Unreachable = []
+
+-- the blocks: one, two, or cases and a default
 unfoldable pub edges_of : Op → List Symbol
-edges_of op.CondBr = s.Part n.Edge ∷ s.Read (punctuation m.Comma) ∷ s.Part n.Edge ∷ []
-edges_of op.SwitchEnum = s.Part n.SwitchPart ∷ []
-edges_of other = s.Part n.Edge ∷ []
+edges_of o = edges_by (ending_of o)
 
 -- `$T`, `: $T` and `( .. )` around a part of the grammar
 abbrev pub behind_dollar : Nonterminal → List Symbol
@@ -130,25 +162,14 @@ symbols_of o part.SignatureWord = behind_colon n.FunctionType
 symbols_of o part.Debug = s.Part n.Debug ∷ []
 symbols_of o part.Edges = edges_of o
 
--- an operand is an item, unless it brings its own comma
-unfoldable pub is_item_operand : Op → Bool
-is_item_operand op.Enum = false
-is_item_operand other = true
-
--- the parts that are items
-unfoldable pub is_item : Op → Part → Bool
-is_item o part.Typed = is_item_operand o
-is_item o part.Bare = true
-is_item o part.TypeWord = true
-is_item o part.Member = true
-is_item o part.Number = true
-is_item o part.Text = true
-is_item o part.Edges = true
-is_item o other = false
+-- the part brings its own comma: it is an operand that may be left out
+unfoldable pub brings_comma : Op → Part → Bool
+brings_comma o part.Typed = may_lack_operand o
+brings_comma o other = false
 
 -- a comma stands between one item and the next
 unfoldable pub comma_between : Op → Part → Part → List Symbol
-comma_between o before here = if is_item o before && is_item o here then s.Read (punctuation m.Comma) ∷ [] else []
+comma_between o before here = if is_item before && is_item here && not (brings_comma o here) then s.Read (punctuation m.Comma) ∷ [] else []
 
 -- parts in a row, with their commas
 unfoldable pub parts_row : Op → List Part → List Symbol

@@ -2,14 +2,14 @@
 //! It has no code that runs: its call is a law about the tables of two crates below.
 #![tactic(auto)]
 
-ghost use Rattle.row_table_laws.specs.Laws.{HasNoOtherRow, HasOneRowEach, PutsTerminatorsLast, SpellsMnemonics, WritesForms};
+ghost use Rattle.row_table_laws.specs.Laws.{HasNoOtherRow, HasOneRowEach, TellsTerminators, SpellsMnemonics, WritesForms};
 
 /// The grammar has one row for each instruction and no other, and writes there the instruction's form: the keyword that its
 /// mnemonic spells, and its parts from left to right with commas between items.
 pub fn rows_are_forms()
     ensures forms { WritesForms }
     ensures mnemonics { SpellsMnemonics }
-    ensures terminators { PutsTerminatorsLast }
+    ensures terminators { TellsTerminators }
     ensures no_other { HasNoOtherRow }
     ensures one_each { HasOneRowEach }
 {}

@@ -4,6 +4,10 @@ use Rattle.std.specs.Fmt.{signed_decimal}
 use Rattle.sil_ast.specs.declared.debug.Binding.{Binding}
 use Rattle.sil_ast.specs.declared.debug.Binding.TheVariants.{Let, Var}
 use Rattle.sil_ast.specs.declared.debug.Debug.{Debug}
+use Rattle.sil_ast.specs.declared.entries.Detail.{Detail}
+use Rattle.sil_ast.specs.declared.entries.Detail.TheVariants as detail
+use Rattle.sil_ast.specs.declared.entries.Ending.{Ending}
+use Rattle.sil_ast.specs.declared.entries.Ending.TheVariants as ending
 use Rattle.sil_ast.specs.declared.forms.Part.{Part}
 use Rattle.sil_ast.specs.declared.forms.Part.TheVariants as part
 use Rattle.sil_ast.specs.declared.function.Function.{Function}
@@ -13,13 +17,12 @@ use Rattle.sil_ast.specs.declared.inst.Qualifier.{Qualifier}
 use Rattle.sil_ast.specs.declared.inst.Qualifier.TheVariants.{Plain, Copy, Take, Trivial, Init, Assign}
 use Rattle.sil_ast.specs.declared.member.Member.{Member}
 use Rattle.sil_ast.specs.declared.op.Op.{Op}
-use Rattle.sil_ast.specs.declared.op.Op.TheVariants as op
 use Rattle.sil_ast.specs.declared.operands.Operand.{Operand}
 use Rattle.sil_ast.specs.declared.place.FuncId.{FuncId}
 use Rattle.sil_ast.specs.declared.place.ValueId.{ValueId}
 use Rattle.sil_ast.specs.declared.signature.Signature.{Signature}
 use Rattle.sil_ast.specs.declared.type_name.TypeName.{TypeName}
-use Rattle.sil_ast.specs.Forms.{mnemonic_of, parts_of}
+use Rattle.sil_ast.specs.Forms.{detail_of, ending_of, has_result_list, is_item, mnemonic_of, parts_of}
 use Rattle.sil_printer.specs.Words.{quote, listed, in_parens, parens_if_any, if_there, if_set}
 use Rattle.sil_printer.specs.CanonicalTypes.{type_text}
 use Rattle.sil_printer.specs.CanonicalSignatures.{signature_text}
@@ -61,10 +64,18 @@ field_name m = codes "#" ++ m.owner ++ codes "." ++ m.name
 abbrev pub case_name : Member → List ℕ
 case_name m = field_name m ++ codes "!enumelt"
 
--- the member of an `enum` is a case, and any other is a field
+abbrev pub member_by : Detail → Member → List ℕ
+member_by detail.Case m = case_name m
+member_by detail.Field m = field_name m
+member_by detail.NoDetail m = field_name m
+member_by detail.Literal m = field_name m
+member_by detail.Element m = field_name m
+member_by detail.Operation m = field_name m
+member_by detail.Message m = field_name m
+
+-- a case, or a field
 abbrev pub member_text : Op → Member → List ℕ
-member_text op.Enum m = case_name m
-member_text other m = field_name m
+member_text o m = member_by (detail_of o) m
 
 abbrev pub qualifier_text : Qualifier → List ℕ
 qualifier_text Plain = []
@@ -89,25 +100,22 @@ debug_text d =
     ++ if_there (codes ", argno ") decimal d.argno
     ++ if_set (codes ", expr op_deref") d.deref
 
+-- `default ` before a block that goes with no case, where others do
+abbrev pub default_word : Ending → List ℕ
+default_word ending.Cases = codes "default "
+default_word ending.Inside = []
+default_word ending.OneBranch = []
+default_word ending.TwoBranches = []
+default_word ending.Return = []
+default_word ending.Unreachable = []
+
 -- `case #E.c!enumelt: ` and `default ` before a block of `switch_enum`
 abbrev pub edge_word : Op → Option Member → List ℕ
 edge_word o (Some m) = codes "case " ++ case_name m ++ codes ": "
-edge_word op.SwitchEnum None = codes "default "
-edge_word other None = []
+edge_word o None = default_word (ending_of o)
 
 abbrev pub edge_text : Op → Edge → List ℕ
 edge_text o e = edge_word o e.case_of ++ block_name e.block.0 ++ parens_if_any typed_text e.args
-
--- the parts that are items: a comma stands between one and the next
-abbrev pub is_item : Part → Bool
-is_item part.Typed = true
-is_item part.Bare = true
-is_item part.TypeWord = true
-is_item part.Member = true
-is_item part.Number = true
-is_item part.Text = true
-is_item part.Edges = true
-is_item other = false
 
 -- what stands before a part, behind the part before it or the mnemonic: a colon, nothing, a comma or a space
 abbrev pub gap : Option Part → Part → List ℕ
@@ -147,12 +155,6 @@ abbrev pub parts_text : List Function → Inst → Option Part → List Operand 
 parts_text functions i before os [] = []
 parts_text functions i before os (here ∷ others) =
     part_text functions i os (gap before here) here ++ parts_text functions i (Some here) (operands_after here os) others
-
--- the instructions whose results are a list in parentheses, even one
-abbrev pub has_result_list : Op → Bool
-has_result_list op.DestructureStruct = true
-has_result_list op.DestructureTuple = true
-has_result_list other = false
 
 -- `%1 = `, `(%1, %2) = `, or nothing
 abbrev pub results_text : Op → List ValueId → List ℕ

@@ -1,12 +1,13 @@
 //! The texts of what a terminator goes to.
 
 ghost use Rattle.std.specs.Prelude.{◌≡◌, ◌++◌, OnOk};
+ghost use Rattle.sil_ast.specs.Forms.{ending_of};
 ghost use Rattle.sil_printer.specs.Words.{listed};
-ghost use Rattle.sil_printer.specs.CanonicalInsts.{block_name, edge_word, edge_text};
+ghost use Rattle.sil_printer.specs.CanonicalInsts.{block_name, default_word, edge_word, edge_text};
 
 use crate::operands::push_case_name;
 use crate::pieces::{push_bytes, push_decimal, push_parens_if_any, push_separator};
-use sil_ast::{Edge, Exhausted, Member, Op};
+use sil_ast::{Edge, Ending, Exhausted, Member, Op, ending_of};
 
 /// Puts the edges of an instruction behind `lead`.
 pub(crate) fn push_edges(
@@ -42,8 +43,20 @@ fn push_edge_word(out: &mut Vec<u8>, op: Op, case_of: &Option<Member>) -> Result
             push_case_name(out, member)?;
             push_bytes(out, b": ")
         }
-        None if op == Op::SwitchEnum => push_bytes(out, b"default "),
-        None => Ok(()),
+        None => push_bytes(out, default_word(op)),
+    }
+}
+
+fn default_word(op: Op) -> &'static [u8]
+    ensures { result.now ≡ default_word (ending_of op) }
+{
+    match ending_of(op) {
+        Ending::Cases => b"default ",
+        Ending::Inside
+        | Ending::OneBranch
+        | Ending::TwoBranches
+        | Ending::Return
+        | Ending::Unreachable => b"",
     }
 }
 

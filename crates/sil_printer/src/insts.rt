@@ -1,7 +1,7 @@
 //! The texts of instructions, by the parts of their forms.
 
 ghost use Rattle.std.specs.Prelude.{◌≡◌, ◌++◌, OnOk, codes};
-ghost use Rattle.sil_printer.specs.CanonicalInsts.{flags_text, qualifier_text, is_item, gap, operands_after, part_text, parts_text, has_result_list, results_text, inst_text};
+ghost use Rattle.sil_printer.specs.CanonicalInsts.{flags_text, qualifier_text, gap, operands_after, part_text, parts_text, results_text, inst_text};
 
 use crate::edges::push_edges;
 use crate::operands::{
@@ -9,7 +9,9 @@ use crate::operands::{
     push_quoted, push_signature_word, push_type_word, push_typed_args,
 };
 use crate::pieces::{Canonical, push_bytes, push_if_set, push_in_parens};
-use sil_ast::{Exhausted, Function, Inst, Op, Operand, Part, Qualifier, ValueId, row_of};
+use sil_ast::{
+    Exhausted, Function, Inst, Op, Operand, Part, Qualifier, ValueId, has_result_list, row_of,
+};
 
 /// Puts an instruction; `functions` are those of its module.
 pub(crate) fn push_inst(
@@ -30,16 +32,10 @@ fn push_results(out: &mut Vec<u8>, op: Op, results: &[ValueId]) -> Result<(), Ex
 {
     match results {
         [] => return Ok(()),
-        [value] if !gives_list(op) => value.push_to(out)?,
+        [value] if !has_result_list(op) => value.push_to(out)?,
         _ => push_in_parens(out, results)?,
     }
     push_bytes(out, b" = ")
-}
-
-fn gives_list(op: Op) -> bool
-    ensures { result ≡ has_result_list op }
-{
-    matches!(op, Op::DestructureStruct | Op::DestructureTuple)
 }
 
 fn push_parts(
@@ -75,24 +71,9 @@ fn gap_before(before: Option<Part>, part: Part) -> &'static [u8]
         (_, Part::ResultType | Part::SignatureWord) => b" : ",
         (_, Part::BareArgs) => b"",
         (Some(Part::Text), Part::TypedArgs) => b"",
-        (Some(before), _) if is_list_item(before) && is_list_item(part) => b", ",
+        (Some(before), _) if before.is_item() && part.is_item() => b", ",
         _ => b" ",
     }
-}
-
-fn is_list_item(part: Part) -> bool
-    ensures { result ≡ is_item part }
-{
-    matches!(
-        part,
-        Part::Typed
-            | Part::Bare
-            | Part::TypeWord
-            | Part::Member
-            | Part::Number
-            | Part::Text
-            | Part::Edges
-    )
 }
 
 /// The operands that a part leaves to those behind it.

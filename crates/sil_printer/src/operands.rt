@@ -10,7 +10,8 @@ use crate::pieces::{
 };
 use crate::types::push_type;
 use sil_ast::{
-    Exhausted, FuncId, Function, Member, Op, Operand, Signature, Text, TypeName, ValueId,
+    Detail, Exhausted, FuncId, Function, Member, Op, Operand, Signature, Text, TypeName, ValueId,
+    detail_of,
 };
 
 impl Canonical for ValueId {
@@ -213,10 +214,15 @@ pub(crate) fn push_member(
     match member {
         Some(member) => {
             push_bytes(out, lead)?;
-            if op == Op::Enum {
-                return push_case_name(out, member);
+            match detail_of(op) {
+                Detail::Case => push_case_name(out, member),
+                Detail::Field
+                | Detail::NoDetail
+                | Detail::Literal
+                | Detail::Element
+                | Detail::Operation
+                | Detail::Message => push_field_name(out, member),
             }
-            push_field_name(out, member)
         }
         None => Ok(()),
     }

@@ -1,13 +1,33 @@
 -- An instruction of a simple function has exactly the parts of its kind.
 use Rattle.std.proofs.Common.{◌≡◌, ℕ, List, [], ◌∷◌, length, None, refl, sym, subst, arith}
 use Rattle.sil_ast.specs.declared.inst.Inst.{Inst}
+use Rattle.sil_ast.specs.declared.op.Op.{Op}
 use Rattle.sil_ast.specs.declared.op.Op.TheVariants as op
 use Rattle.sil_ast.specs.declared.type_name.TypeName.{TypeName}
 use Rattle.sil_ast.specs.declared.type_name.TypeName.TheVariants.{Named}
+use Rattle.simple_modules.specs.declared.kinds.SimpleKind.TheVariants as kind
+use Rattle.simple_modules.specs.Kinds.{simple_kind_of}
 use Rattle.simple_modules.specs.Instructions.{alloc_ref, copy_value, destroy_value, unit_value}
 use Rattle.simple_modules.specs.Parts.{IsPlain, NamesClass, TakesObject}
 use Rattle.simple_modules.specs.Simple.{IsSimpleInst}
 use Rattle.simple_modules.specs.Simple.IsSimpleInst.{object, copy, destroy, unit}
+
+-- only one instruction is of each kind
+pub op_object : (o : Op) → simple_kind_of o ≡ kind.Object → o ≡ op.AllocRef
+op_object op.AllocRef e = refl
+op_object _ e = cc
+
+pub op_copy : (o : Op) → simple_kind_of o ≡ kind.Copy → o ≡ op.CopyValue
+op_copy op.CopyValue e = refl
+op_copy _ e = cc
+
+pub op_destroy : (o : Op) → simple_kind_of o ≡ kind.Destroy → o ≡ op.DestroyValue
+op_destroy op.DestroyValue e = refl
+op_destroy _ e = cc
+
+pub op_unit : (o : Op) → simple_kind_of o ≡ kind.Unit → o ≡ op.Tuple
+op_unit op.Tuple e = refl
+op_unit _ e = cc
 
 -- the one element of a list
 only : {X : Type 0} (xs : List X) → length xs ≡ 1 → (x : X) × (xs ≡ x ∷ [])

@@ -1,4 +1,5 @@
 pub mod ClassNames
 pub mod Instructions
+pub mod Kinds
 pub mod Parts
 pub mod Simple

@@ -11,13 +11,14 @@ use Rattle.sil_ast.specs.declared.function.Linkage.TheVariants as linkage
 use Rattle.sil_ast.specs.declared.inst.Inst.{Inst}
 use Rattle.sil_ast.specs.declared.operands.Operand.{Operand}
 use Rattle.sil_ast.specs.declared.module.Module.{Module}
-use Rattle.sil_ast.specs.declared.op.Op.{Op}
-use Rattle.sil_ast.specs.declared.op.Op.TheVariants as op
 use Rattle.sil_ast.specs.declared.place.ValueId.{ValueId}
 use Rattle.sil_ast.specs.declared.signature.Convention.TheVariants.{Thin}
 use Rattle.sil_ast.specs.declared.signature.Signature.{Signature}
 use Rattle.sil_ast.specs.declared.type_name.TypeName.{TypeName}
 use Rattle.sil_ast.specs.declared.type_name.TypeName.TheVariants.{Named}
+use Rattle.simple_modules.specs.declared.kinds.SimpleKind.{SimpleKind}
+use Rattle.simple_modules.specs.declared.kinds.SimpleKind.TheVariants as kind
+use Rattle.simple_modules.specs.Kinds.{simple_kind_of}
 use Rattle.simple_modules.specs.Instructions.{alloc_ref, copy_value, destroy_value, unit_value, return_unit, unit_type}
 
 -- the type that an operand has in the text, if any
@@ -25,14 +26,16 @@ abbrev pub written_types : List Operand → List TypeName
 written_types os = flat_map (λ o. option_to_list o.ty) os
 
 -- the types of an instruction's results: of the object, of what is copied, or `()`
-abbrev pub result_types_by : Op → Inst → List TypeName
-result_types_by op.AllocRef i = option_to_list i.ty
-result_types_by op.CopyValue i = written_types i.operands
-result_types_by op.Tuple i = unit_type ∷ []
-result_types_by _ i = []
+abbrev pub result_types_by : SimpleKind → Inst → List TypeName
+result_types_by kind.Object i = option_to_list i.ty
+result_types_by kind.Copy i = written_types i.operands
+result_types_by kind.Unit i = unit_type ∷ []
+result_types_by kind.Destroy i = []
+result_types_by kind.Return i = []
+result_types_by kind.NotSimple i = []
 
 abbrev pub result_types : Inst → List TypeName
-result_types i = result_types_by i.op i
+result_types i = result_types_by (simple_kind_of i.op) i
 
 -- the type of each value of a block, in order of definition
 abbrev pub value_types : Block → List TypeName

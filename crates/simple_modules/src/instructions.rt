@@ -7,6 +7,7 @@ ghost use Rattle.simple_modules.specs.Instructions.{no_debug, typed, unit_type};
 ghost use Rattle.simple_modules.specs.Parts.{IsClass, IsPlain, NamesClass, TakesObject, TakesUnit};
 ghost use Rattle.simple_modules.specs.Simple.{HasType, IsSimpleInst, IsSimpleReturn};
 
+use crate::kinds::{SimpleKind, simple_kind_of};
 use indexmap::IndexSet;
 use sil_ast::{Debug, Inst, Op, Operand, Qualifier, Same, Text, TypeName, ValueId};
 
@@ -17,22 +18,24 @@ pub(crate) fn is_simple_inst(classes: &IndexSet<Text>, types: &[TypeName], inst:
     if !is_plain(inst) {
         return false;
     }
-    match inst.op {
-        Op::AllocRef => {
+    match simple_kind_of(inst.op) {
+        SimpleKind::Object => {
             inst.results.len() == 1 && inst.operands.is_empty() && names_class(classes, &inst.ty)
         }
-        Op::CopyValue => {
+        SimpleKind::Copy => {
             inst.results.len() == 1
                 && inst.ty.is_none()
                 && takes_object(classes, types, inst.operands.as_slice())
         }
-        Op::DestroyValue => {
+        SimpleKind::Destroy => {
             inst.results.is_empty()
                 && inst.ty.is_none()
                 && takes_object(classes, types, inst.operands.as_slice())
         }
-        Op::Tuple => { inst.results.len() == 1 && inst.operands.is_empty() && inst.ty.is_none() }
-        _ => false,
+        SimpleKind::Unit => {
+            inst.results.len() == 1 && inst.operands.is_empty() && inst.ty.is_none()
+        }
+        SimpleKind::Return | SimpleKind::NotSimple => false,
     }
 }
 

@@ -4,7 +4,9 @@
 
 mod functions;
 mod instructions;
+mod kinds;
 mod module;
 mod values;
 
+pub use kinds::{SimpleKind, simple_kind_of};
 pub use module::is_simple;

@@ -4,7 +4,8 @@ ghost use Rattle.std.specs.Prelude.{◌≡◌, ◌↔◌, ◌≤◌, ◌+◌, �
 ghost use Rattle.std.specs.Option.{SomeIff, option_to_list};
 ghost use Rattle.simple_modules.specs.Simple.{AreCountedFrom, defined_values, result_types, value_types, written_types};
 
-use sil_ast::{Block, Exhausted, Inst, List, Op, Operand, TryClone, TypeName, ValueId};
+use crate::kinds::{SimpleKind, simple_kind_of};
+use sil_ast::{Block, Exhausted, Inst, List, Operand, TryClone, TypeName, ValueId};
 use std::alloc::Global;
 
 /// The type of each value that a block makes, in order.
@@ -25,11 +26,11 @@ fn push_result_types(
 ) -> Result<(), Exhausted>
     ensures { OnOk result (types.new ≡ types.old ++ result_types inst.now) }
 {
-    match inst.op {
-        Op::AllocRef => push_type(alloc, types, &inst.ty),
-        Op::CopyValue => push_written_types(alloc, types, inst.operands.as_slice()),
-        Op::Tuple => types.push(TypeName::Tuple(List::new(alloc))),
-        _ => Ok(()),
+    match simple_kind_of(inst.op) {
+        SimpleKind::Object => push_type(alloc, types, &inst.ty),
+        SimpleKind::Copy => push_written_types(alloc, types, inst.operands.as_slice()),
+        SimpleKind::Unit => types.push(TypeName::Tuple(List::new(alloc))),
+        SimpleKind::Destroy | SimpleKind::Return | SimpleKind::NotSimple => Ok(()),
     }
 }
 
