@@ -1,12 +1,17 @@
 -- What the instructions of a block do to a value.
 use Rattle.std.specs.Prelude.{ℕ, ◌==◌, Bool, true, false, if◌then◌else◌, List, [], ◌∷◌, ◌++◌, map, count_by, replicate, Contains}
 use Rattle.std.specs.List.{flat_map}
+use Rattle.sil_ast.specs.Forms.{ending_of}
+use Rattle.sil_ast.specs.declared.entries.Ending.{Ending}
+use Rattle.sil_ast.specs.declared.entries.Ending.TheVariants as ending
 use Rattle.sil_ast.specs.declared.function.Block.{Block}
 use Rattle.sil_ast.specs.declared.inst.Inst.{Inst}
 use Rattle.sil_ast.specs.declared.operands.Operand.{Operand}
 use Rattle.sil_ast.specs.declared.op.Op.{Op}
-use Rattle.sil_ast.specs.declared.op.Op.TheVariants as op
 use Rattle.sil_ast.specs.declared.place.ValueId.{ValueId}
+use Rattle.simple_modules.specs.declared.kinds.SimpleKind.{SimpleKind}
+use Rattle.simple_modules.specs.declared.kinds.SimpleKind.TheVariants as kind
+use Rattle.simple_modules.specs.Kinds.{simple_kind_of}
 use Rattle.mark_patterns.specs.declared.pattern.MarkSort.{MarkSort}
 use Rattle.mark_patterns.specs.declared.pattern.MarkSort.TheVariants.{End, Use, Begin}
 
@@ -14,21 +19,40 @@ use Rattle.mark_patterns.specs.declared.pattern.MarkSort.TheVariants.{End, Use, 
 abbrev pub points_of : Block → List Inst
 points_of b = b.insts ++ b.terminator ∷ []
 
+abbrev pub consumes_by : SimpleKind → Bool
+consumes_by kind.Object = false
+consumes_by kind.Copy = false
+consumes_by kind.Destroy = true
+consumes_by kind.Unit = false
+consumes_by kind.Return = true
+consumes_by kind.NotSimple = false
+
 -- whether an instruction consumes its operands
 abbrev pub consumes : Op → Bool
-consumes op.DestroyValue = true
-consumes op.Return = true
-consumes _ = false
+consumes o = consumes_by (simple_kind_of o)
+
+abbrev pub makes_owned_by : SimpleKind → Bool
+makes_owned_by kind.Object = true
+makes_owned_by kind.Copy = true
+makes_owned_by kind.Destroy = false
+makes_owned_by kind.Unit = false
+makes_owned_by kind.Return = false
+makes_owned_by kind.NotSimple = false
 
 -- whether an instruction's results are owned values
 abbrev pub makes_owned : Op → Bool
-makes_owned op.AllocRef = true
-makes_owned op.CopyValue = true
-makes_owned _ = false
+makes_owned o = makes_owned_by (simple_kind_of o)
+
+abbrev pub leaves_by_return : Ending → Bool
+leaves_by_return ending.Inside = false
+leaves_by_return ending.OneBranch = false
+leaves_by_return ending.TwoBranches = false
+leaves_by_return ending.Cases = false
+leaves_by_return ending.Return = true
+leaves_by_return ending.Unreachable = false
 
 abbrev pub is_return : Op → Bool
-is_return op.Return = true
-is_return _ = false
+is_return o = leaves_by_return (ending_of o)
 
 abbrev pub returns_at : Inst → Bool
 returns_at i = is_return i.op

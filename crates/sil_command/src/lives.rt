@@ -9,6 +9,7 @@ ghost use Rattle.sil_command.specs.Lives.{marks_life, return_life, inst_life, Ch
 use crate::life::Life;
 use mark_patterns::MarkSort;
 use sil_ast::{Block, Exhausted, Inst, Op, Operand, ValueId};
+use simple_modules::{SimpleKind, simple_kind_of};
 use std::alloc::Global;
 
 /// The states of the block's values behind its `return`, by their numbers.
@@ -63,9 +64,11 @@ fn take_inst(lives: &mut [Life], inst: &Inst, point: u32)
 fn operand_mark_of(op: Op) -> MarkSort
     ensures { result ≡ operand_mark op }
 {
-    match op {
-        Op::DestroyValue | Op::Return => MarkSort::End,
-        _ => MarkSort::Use,
+    match simple_kind_of(op) {
+        SimpleKind::Destroy | SimpleKind::Return => MarkSort::End,
+        SimpleKind::Object | SimpleKind::Copy | SimpleKind::Unit | SimpleKind::NotSimple => {
+            MarkSort::Use
+        }
     }
 }
 

@@ -14,6 +14,7 @@ use crate::life::Life;
 use crate::lives::lives_of;
 use crate::rule::Rule;
 use sil_ast::{Block, Exhausted, FuncId, Inst, Module, Op, ValueId};
+use simple_modules::{SimpleKind, simple_kind_of};
 use std::alloc::Global;
 
 /// The first fault of the first function that has one, or none where the module is accepted. Memory is the only error.
@@ -77,7 +78,12 @@ fn least_broken(lives: &[Life], insts: &[Inst]) -> Option<Fault>
 fn is_maker_of_owned(op: Op) -> bool
     ensures { result ≡ makes_owned op }
 {
-    matches!(op, Op::AllocRef | Op::CopyValue)
+    match simple_kind_of(op) {
+        SimpleKind::Object | SimpleKind::Copy => true,
+        SimpleKind::Destroy | SimpleKind::Unit | SimpleKind::Return | SimpleKind::NotSimple => {
+            false
+        }
+    }
 }
 
 /// What was found before, or a broken one of these values that is less.
