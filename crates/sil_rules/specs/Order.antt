@@ -65,6 +65,10 @@ point_key function block index r = stage_of (group_of r) ∷ function ∷ 1 ∷ 
 abbrev pub vtable_key : ℕ → List ℕ
 vtable_key vtable = stage_of group.Deinitialisers ∷ vtable ∷ []
 
--- 301 to 611, by function, by group, by the subject's number and then by rule
+-- 301 to 611 within a function, by group, by the subject's number and then by rule
+abbrev pub key_in_function : ℕ → Rule → List ℕ
+key_in_function subject r = group_number (group_of r) ∷ subject ∷ number_of r ∷ []
+
+-- 301 to 611, function by function
 abbrev pub subject_key : ℕ → ℕ → Rule → List ℕ
-subject_key function subject r = stage_of (group_of r) ∷ function ∷ group_number (group_of r) ∷ subject ∷ number_of r ∷ []
+subject_key function subject r = stage_of (group_of r) ∷ function ∷ key_in_function subject r
