@@ -9,8 +9,8 @@ use Rattle.sil_grammar.specs.declared.refusal.ReadRefusal.{ReadRefusal}
 use Rattle.sil_grammar.specs.Refusals.{IsRefusalOf}
 use Rattle.sil_grammar.specs.Spells.{Spells}
 use Rattle.simple_modules.specs.Simple.{IsSimple}
-use Rattle.sil_command.specs.declared.fault.Refusal.{Refusal}
-use Rattle.sil_command.specs.Faults.{IsRefusal}
+use Rattle.sil_command.specs.declared.violation.Refusal.{Refusal}
+use Rattle.sil_command.specs.Violations.{IsRefusal}
 use Rattle.sil_command.specs.Texts.{limit_text, usage_text, refusal_text}
 use Rattle.sil_command.specs.declared.words.Mode.{Mode}
 use Rattle.sil_command.specs.Words.{AsksFor, IsCommandLine}
@@ -62,8 +62,8 @@ unread_answer (Err e) text_of status_of mode within refusal answer = tt
 
 -- the module's first refusal, by the function that has it
 pub refusal_answer : (m : Module) (r : Refusal) (f : Function) (text : List ℕ) → IsSimple m → IsRefusal m r → f ≡ get_or m.functions r.function.0 f
-    → text ≡ refusal_text f.name r.fault → AnswersCheck m text 1
+    → text ≡ refusal_text f.name r.violation → AnswersCheck m text 1
 refusal_answer m r f text simple refusal is e =
     let at : get_or m.functions r.function.0 f ≡ refusal.function =
     ap (λ fs. get_or fs r.function.0 f) refusal.parts ∙ ap (λ k. get_or (refusal.before ++ refusal.function ∷ refusal.after) k f) refusal.place ∙ get_or-append_seam refusal.before refusal.function refusal.after f in
-    subst (λ t. AnswersCheck m t 1) (ap (λ g. refusal_text g.name r.fault) (sym (is ∙ at)) ∙ sym e) (refused r refusal simple)
+    subst (λ t. AnswersCheck m t 1) (ap (λ g. refusal_text g.name r.violation) (sym (is ∙ at)) ∙ sym e) (refused r refusal simple)

@@ -5,10 +5,10 @@ use Rattle.sil_ast.specs.declared.function.Function.{Function}
 use Rattle.sil_ast.specs.declared.module.Module.{Module}
 use Rattle.sil_grammar.specs.Spells.{AreSpelledOnce, Spells}
 use Rattle.simple_modules.specs.Simple.{IsSimple}
-use Rattle.sil_command.specs.declared.fault.Refusal.{Refusal}
+use Rattle.sil_command.specs.declared.violation.Refusal.{Refusal}
 use Rattle.sil_command.specs.declared.words.Mode.{Mode}
 use Rattle.sil_command.specs.declared.words.Mode.TheVariants.{Check, Print}
-use Rattle.sil_command.specs.Faults.{KeepsRules, AllKeepRules, Accepted, IsRefusal}
+use Rattle.sil_command.specs.Violations.{KeepsRules, AllKeepRules, Accepted, IsRefusal}
 use Rattle.sil_command.specs.Words.{AsksFor, word_of}
 use Rattle.sil_command.specs.Answers.{text_limit, Answers, usage, in_mode, AnswersExactly, AnswersText, too_long, unread, spelled, AnswersModule, AnswersCheck, not_built, refused, accepted, AnswersPrint, printed, AreAcceptedExactly, AreNotBuiltExactly, ArePrintedExactly}
 use Rattle.sil_command.proofs.Unread.{unread_none, unread_status}
@@ -20,7 +20,7 @@ keeps_inside (g ∷ before) f after kept = keeps_inside before f after kept.1
 -- a module that keeps the rules has no refusal
 kept_not_refused : (m : Module) (r : Refusal) → Accepted m → IsRefusal m r → ⊥
 kept_not_refused m r kept refusal =
-    keeps_inside refusal.before refusal.function refusal.after (subst AllKeepRules refusal.parts kept) refusal.block refusal.one_block r.fault refusal.fault.shown
+    keeps_inside refusal.before refusal.function refusal.after (subst AllKeepRules refusal.parts kept) refusal.block refusal.one_block r.violation refusal.violation.shown
 
 different_words : word_of Check ∷ [] ≡ word_of Print ∷ [] → ⊥
 different_words e =

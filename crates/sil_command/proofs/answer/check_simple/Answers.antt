@@ -15,4 +15,4 @@ returns c =
     refusal_answer c.args.module.now c.in-Some.refusal c.index-as_slice-refusal.result _ c.requires
     (rw c.in-Some.is at c.in_ok-refusal.ensures)
     (c.index-as_slice-refusal.is ∙ ap (λ fs. get_or fs c.in-Some.refusal.function.0 c.index-as_slice-refusal.result) c.as_slice.ensures)
-    (c.in_ok-refusal-2.ensures ∙ ap (λ name. refusal_text name c.in-Some.refusal.fault) c.as_slice-2.ensures)
+    (c.in_ok-refusal-2.ensures ∙ ap (λ name. refusal_text name c.in-Some.refusal.violation) c.as_slice-2.ensures)
