@@ -14,7 +14,7 @@ use crate::texts;
 use crate::words::mode_of;
 use sil_ast::Exhausted;
 use sil_io::{ReadEnd, Sink, Source, read_all, write_all};
-use sil_rules::{Status, TEXT_BYTES};
+use sil_rules::{Status, limits};
 use std::alloc::Global;
 
 /// Does what the words ask for: reads a text from the source, writes one answer to the sink, and answers the status.
@@ -74,7 +74,7 @@ fn run<'a, S: Source, K: Sink>(
     let Some(mode) = mode_of(words) else {
         return finish(out, texts::usage(), Status::Usage);
     };
-    match read_all(alloc, source, TEXT_BYTES) {
+    match read_all(alloc, source, limits::TEXT_BYTES) {
         Ok(text) => match answer_to(alloc, mode, text.as_slice()) {
             Ok(answer) => finish(out, answer.text.as_slice(), answer.status),
             Err(Exhausted) => Status::OutOfMemory.code(),

@@ -5,16 +5,12 @@
 mod group;
 mod laws;
 mod limit_word;
-mod limits;
+pub mod limits;
 mod rule;
 mod status;
 
 pub use group::Group;
 pub use laws::{keys_are_ordered, numbers_go_up};
 pub use limit_word::LimitWord;
-pub use limits::{
-    ARGUMENTS, BLOCKS, DECLARATIONS, DEPTH, FUNCTIONS, INSTRUCTIONS, LEAVES, MEMBERS, NAME_BYTES,
-    TEXT_BYTES, VALUES,
-};
 pub use rule::Rule;
 pub use status::Status;
