@@ -7,6 +7,7 @@ use Rattle.sil_ast.specs.declared.op.Op.TheVariants as op
 use Rattle.sil_ast.specs.declared.type_name.TypeName.{TypeName, out-TypeName}
 use Rattle.sil_ast.specs.declared.type_name.TypeName.TheOpen.{TypeName-F, Int}
 use Rattle.sil_shape.specs.BuiltinNames.{is_builtin_name}
+use Rattle.sil_rules.specs.declared.limits.TheConstants.{ARGUMENTS}
 use Rattle.numbered_form.specs.Insts.{EachInst}
 
 -- the width of a builtin integer, and 64 for every other type
@@ -24,7 +25,7 @@ is_residue width n = int_le (neg_ℤ (pos (2 ^ (width - 1)))) n && int_lt n (pos
 
 -- the number of a tuple's element
 abbrev pub is_element_number : ℤ → Bool
-is_element_number n = int_le (pos 0) n && int_le n (pos 63)
+is_element_number n = int_le (pos 0) n && int_le n (pos (ARGUMENTS - 1))
 
 -- the number may stand in the row, at the type
 abbrev pub is_number_of : Op → Option TypeName → ℤ → Bool

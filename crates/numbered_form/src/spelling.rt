@@ -6,16 +6,15 @@ ghost use Rattle.sil_lexer.specs.Bytes as bytes;
 ghost use Rattle.numbered_form.specs.Names as spec;
 
 use sil_ast::Text;
+use sil_rules::limits;
 
-const MAX_NAME: usize = 255;
-
-/// Whether the name is a word of the language, of at most 255 bytes.
+/// Whether the name is a word of the language, and no longer than the limit.
 pub(crate) fn is_word(name: &Text) -> bool
     ensures { result ≡ spec.is_word name.now }
 {
     match name.as_slice() {
         [first, others @ ..] => {
-            is_word_start(*first) && are_name_bytes(others) && name.len() <= MAX_NAME
+            is_word_start(*first) && are_name_bytes(others) && name.len() <= limits::NAME_BYTES
         }
         [] => false,
     }
@@ -44,7 +43,7 @@ pub(crate) fn is_at_name(name: &Text) -> bool
     ensures { result ≡ spec.is_at_name name.now }
 {
     let bytes = name.as_slice();
-    !bytes.is_empty() && are_name_bytes(bytes) && bytes.len() <= MAX_NAME
+    !bytes.is_empty() && are_name_bytes(bytes) && bytes.len() <= limits::NAME_BYTES
 }
 
 /// Whether the text can stand between quotes.

@@ -7,23 +7,20 @@ ghost use Rattle.numbered_form.specs.Types as spec;
 
 use crate::spelling::is_word;
 use sil_ast::TypeName;
+use sil_rules::limits;
 
-const MAX_DEPTH: u32 = 32;
-
-const MAX_ELEMENTS: usize = 64;
-
-/// Whether the type is at most 32 deep and has no `*`.
+/// Whether the type is no deeper than the limit and has no `*`.
 pub(crate) fn is_plain_type(ty: &TypeName) -> bool
     ensures { IsTrue result ↔ IsPlainType ty.now }
 {
-    ty.depth() <= MAX_DEPTH && is_plain(ty)
+    ty.depth() <= limits::DEPTH && is_plain(ty)
 }
 
-/// Whether the type is at most 32 deep and has no `*` but one in front.
+/// Whether the type is no deeper than the limit and has no `*` but one in front.
 pub(crate) fn is_placed_type(ty: &TypeName) -> bool
     ensures { IsTrue result ↔ IsPlacedType ty.now }
 {
-    ty.depth() <= MAX_DEPTH && is_placed(ty)
+    ty.depth() <= limits::DEPTH && is_placed(ty)
 }
 
 fn is_placed(ty: &TypeName) -> bool
@@ -44,7 +41,9 @@ fn is_plain(ty: &TypeName) -> bool
         TypeName::Named(name) => is_word(name),
         TypeName::Optional(target) => is_plain(target.get()),
         TypeName::Tuple(elements) => {
-            elements.len() != 1 && elements.len() <= MAX_ELEMENTS && are_plain(elements.as_slice())
+            elements.len() != 1
+                && elements.len() <= limits::ARGUMENTS
+                && are_plain(elements.as_slice())
         }
         TypeName::Weak(target) => is_plain(target.get()),
         TypeName::Unowned(target) => is_plain(target.get()),

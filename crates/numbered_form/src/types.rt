@@ -11,7 +11,7 @@ use sil_ast::{
     Signature, TypeName,
 };
 
-/// Whether every type is written with `*` only where the grammar has it, and at most 32 deep.
+/// Whether every type is written with `*` only where the grammar has it, and no deeper than the limit.
 pub fn are_types_written(m: &Module) -> bool
     ensures { IsTrue result ↔ AreTypesWritten m.now }
 {
