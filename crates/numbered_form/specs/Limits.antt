@@ -14,26 +14,27 @@ use Rattle.sil_ast.specs.declared.inst.Qualifier.TheVariants as qualifier
 use Rattle.sil_ast.specs.declared.module.Module.{Module}
 use Rattle.sil_ast.specs.declared.op.Op.{Op}
 use Rattle.sil_ast.specs.declared.signature.Signature.{Signature}
+use Rattle.sil_rules.specs.declared.limits.TheConstants.{ARGUMENTS, BLOCKS, DECLARATIONS, FUNCTIONS, INSTRUCTIONS, MEMBERS, VALUES}
 use Rattle.numbered_form.specs.Lists.{Each}
 use Rattle.numbered_form.specs.Insts.{insts_in, EachInBlock}
 use Rattle.numbered_form.specs.Numbering.{values_of}
 use Rattle.numbered_form.specs.Names.{member_names}
 
 pub record IsSignatureInLimits (s : Signature) : Type 0 where
-  pub params : length s.params ≤ 64
-  pub results : length s.results ≤ 64
+  pub params : length s.params ≤ ARGUMENTS
+  pub results : length s.results ≤ ARGUMENTS
 
 abbrev pub IsEdgeInLimits : Edge → Type 0
-IsEdgeInLimits e = length e.args ≤ 64
+IsEdgeInLimits e = length e.args ≤ ARGUMENTS
 
 pub record IsInstInLimits (i : Inst) : Type 0 where
-  pub operands : length i.operands ≤ 64
-  pub results : length i.results ≤ 64
+  pub operands : length i.operands ≤ ARGUMENTS
+  pub results : length i.results ≤ ARGUMENTS
   pub signature : IfSome i.signature IsSignatureInLimits
   pub edges : Each IsEdgeInLimits i.edges
 
 pub record IsBlockInLimits (b : Block) : Type 0 where
-  pub args : length b.args ≤ 64
+  pub args : length b.args ≤ ARGUMENTS
   pub insts : EachInBlock IsInstInLimits b
 
 abbrev pub is_assign : Qualifier → Bool
@@ -57,18 +58,18 @@ abbrev pub value_count : List Block → ℕ
 value_count blocks = length (values_of blocks) + count_by inst_takes_value (insts_in blocks)
 
 pub record IsFunctionInLimits (f : Function) : Type 0 where
-  pub attributes : length f.attributes ≤ 64
+  pub attributes : length f.attributes ≤ ARGUMENTS
   pub signature : IsSignatureInLimits f.signature
-  pub blocks : length f.blocks ≤ 512
-  pub insts : length (insts_in f.blocks) ≤ 4096
-  pub values : value_count f.blocks ≤ 1024
+  pub blocks : length f.blocks ≤ BLOCKS
+  pub insts : length (insts_in f.blocks) ≤ INSTRUCTIONS
+  pub values : value_count f.blocks ≤ VALUES
   pub each : Each IsBlockInLimits f.blocks
 
 abbrev pub IsDeclInLimits : Decl → Type 0
-IsDeclInLimits d = length (member_names d) ≤ 64
+IsDeclInLimits d = length (member_names d) ≤ MEMBERS
 
 pub record AreLimitsKept (m : Module) : Type 0 where
-  pub declarations : length m.decls ≤ 1024
+  pub declarations : length m.decls ≤ DECLARATIONS
   pub members : Each IsDeclInLimits m.decls
-  pub functions : length m.functions ≤ 1024
+  pub functions : length m.functions ≤ FUNCTIONS
   pub each : Each IsFunctionInLimits m.functions

@@ -9,6 +9,7 @@ use Rattle.sil_ast.specs.declared.op.Op.{Op}
 use Rattle.sil_ast.specs.declared.type_name.TypeName.{TypeName, out-TypeName}
 use Rattle.sil_ast.specs.declared.type_name.TypeName.TheOpen.{TypeName-F, Int}
 use Rattle.sil_shape.specs.BuiltinNames.{is_builtin_name}
+use Rattle.sil_rules.specs.declared.limits.TheConstants.{ARGUMENTS}
 use Rattle.numbered_form.specs.Insts.{EachInst}
 
 -- the width of a builtin integer, and 64 for every other type
@@ -26,7 +27,7 @@ is_residue width n = int_le (neg_ℤ (pos (2 ^ (width - 1)))) n && int_lt n (pos
 
 -- the number of a tuple's element
 abbrev pub is_element_number : ℤ → Bool
-is_element_number n = int_le (pos 0) n && int_le n (pos 63)
+is_element_number n = int_le (pos 0) n && int_le n (pos (ARGUMENTS - 1))
 
 abbrev pub is_number_by : Detail → Option TypeName → ℤ → Bool
 is_number_by detail.Literal ty n = is_residue (literal_width ty) n

@@ -13,6 +13,7 @@ use Rattle.sil_ast.specs.declared.module.Imports.{Imports}
 use Rattle.sil_ast.specs.declared.module.Module.{Module}
 use Rattle.sil_ast.specs.declared.vtable.Vtable.{Vtable}
 use Rattle.sil_lexer.specs.Bytes.{is_word_start, is_name_byte, is_text_byte}
+use Rattle.sil_rules.specs.declared.limits.TheConstants.{NAME_BYTES}
 use Rattle.numbered_form.specs.Lists.{Each, is_empty}
 use Rattle.numbered_form.specs.Insts.{EachInst}
 
@@ -20,9 +21,9 @@ use Rattle.numbered_form.specs.Insts.{EachInst}
 abbrev pub Name : Type 0
 Name = List ℕ
 
--- a name has at most 255 bytes
+-- a name isn't longer than the limit
 abbrev pub is_short : Name → Bool
-is_short name = nat_le (length name) 255
+is_short name = nat_le (length name) NAME_BYTES
 
 -- the bytes of a word
 abbrev pub is_word : Name → Bool

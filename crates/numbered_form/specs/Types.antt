@@ -18,6 +18,7 @@ use Rattle.sil_ast.specs.declared.signature.Param.{Param}
 use Rattle.sil_ast.specs.declared.signature.Signature.{Signature}
 use Rattle.sil_ast.specs.declared.type_name.TypeName.{TypeName, fold-TypeName, out-TypeName}
 use Rattle.sil_ast.specs.declared.type_name.TypeName.TheOpen.{TypeName-F, Int, Named, Optional, Tuple, Weak, Unowned, Address}
+use Rattle.sil_rules.specs.declared.limits.TheConstants.{ARGUMENTS, DEPTH}
 use Rattle.numbered_form.specs.Lists.{Each}
 use Rattle.numbered_form.specs.Names.{is_word}
 use Rattle.numbered_form.specs.Insts.{EachInBlock}
@@ -29,9 +30,9 @@ is_width w = w == 1 || w == 8 || w == 16 || w == 32 || w == 64
 abbrev pub same : Bool → Bool
 same b = b
 
--- a tuple has at most 64 elements, and never one: in parentheses one type is itself
+-- a tuple never has one element: in parentheses one type is itself
 abbrev pub is_tuple : List Bool → Bool
-is_tuple elements = not (length elements == 1) && nat_le (length elements) 64 && list_all same elements
+is_tuple elements = not (length elements == 1) && nat_le (length elements) ARGUMENTS && list_all same elements
 
 -- a type whose parts are written so, or not, as told in their places
 abbrev pub is_written : TypeName-F Bool → Bool
@@ -55,15 +56,15 @@ is_placed_at t other = is_plain_type t
 abbrev pub is_placed_type : TypeName → Bool
 is_placed_type t = is_placed_at t (out-TypeName t)
 
--- a type where no `*` may stand, at most 32 deep
+-- a type where no `*` may stand, no deeper than the limit
 pub record IsPlainType (t : TypeName) : Type 0 where
   pub written : IsTrue (is_plain_type t)
-  pub depth : depth_of t ≤ 32
+  pub depth : depth_of t ≤ DEPTH
 
--- a type where one `*` may stand, at most 32 deep
+-- a type where one `*` may stand, no deeper than the limit
 pub record IsPlacedType (t : TypeName) : Type 0 where
   pub written : IsTrue (is_placed_type t)
-  pub depth : depth_of t ≤ 32
+  pub depth : depth_of t ≤ DEPTH
 
 abbrev pub HasFieldType : Field → Type 0
 HasFieldType f = IsPlainType f.ty

@@ -5,7 +5,7 @@ use Rattle.std.specs.Option.{option_map}
 use Rattle.std.proofs.lemmas.List.{length-map}
 use Rattle.sil_ast.specs.declared.place.Place.{Place}
 use Rattle.written_tree.specs.declared.fault.Fault.{Fault}
-use Rattle.written_tree.specs.declared.fault.LimitWord.{LimitWord}
+use Rattle.sil_rules.specs.declared.limit_word.LimitWord.{LimitWord}
 use Rattle.written_tree.specs.declared.fault.FaultKind.TheVariants.{Limit}
 use Rattle.written_tree.specs.Faults.{comes_before, earlier, fault, passed}
 use Rattle.numbered_form.specs.Lists.{Each}

@@ -9,7 +9,7 @@ use Rattle.sil_ast.specs.declared.type_name.TypeName.{TypeName, TypeName-F, fold
 use Rattle.sil_ast.specs.declared.type_name.TypeName.TheVariants.{Int, Named, Optional, Tuple, Weak, Unowned, Address, rolls-Int, rolls-Named, rolls-Optional, rolls-Tuple, rolls-Weak, rolls-Unowned, rolls-Address}
 use Rattle.written_tree.specs.declared.fault.Fault.{Fault}
 use Rattle.written_tree.specs.declared.fault.FaultKind.TheVariants.{Limit}
-use Rattle.written_tree.specs.declared.fault.LimitWord.TheVariants as limit
+use Rattle.sil_rules.specs.declared.limit_word.LimitWord.TheVariants as limit
 use Rattle.written_tree.specs.declared.written_declarations.WrittenToken.{WrittenToken}
 use Rattle.written_tree.specs.Faults.{fault, passed}
 use Rattle.written_modules.specs.Opened.{PartType, PartTypes}

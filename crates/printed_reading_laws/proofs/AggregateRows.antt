@@ -23,7 +23,7 @@ use Rattle.written_modules.specs.Meaning.{kept_of, leaf_of, meaning}
 use Rattle.written_modules.specs.PartFaults.{part_fault}
 use Rattle.written_tree.specs.Places.{operand_place, token_place}
 use Rattle.written_modules.specs.Values.{inst_of, operands_of, token_of, tokens_of}
-use Rattle.written_tree.specs.declared.fault.LimitWord.TheVariants as limit
+use Rattle.sil_rules.specs.declared.limit_word.LimitWord.TheVariants as limit
 use Rattle.written_tree.specs.declared.written_declarations.WrittenToken.{WrittenToken}
 use Rattle.numbered_form.specs.Lists.{Each}
 use Rattle.numbered_form.specs.Types.{HasOperandType}

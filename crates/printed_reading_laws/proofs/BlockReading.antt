@@ -20,7 +20,7 @@ use Rattle.sil_shape.specs.declared.grammar.Production.TheVariants as p
 use Rattle.sil_shape.specs.declared.grammar.Symbol.TheVariants.{Part}
 use Rattle.sil_shape.specs.Grammar.{body, written}
 use Rattle.sil_shape.specs.Spelling.{at_spelling, punctuation_spelling}
-use Rattle.written_tree.specs.declared.fault.LimitWord.TheVariants as limit
+use Rattle.sil_rules.specs.declared.limit_word.LimitWord.TheVariants as limit
 use Rattle.written_tree.specs.Faults.{passed}
 use Rattle.written_modules.specs.Meaning.{kept_of, meaning}
 use Rattle.written_modules.specs.Opened.{PartValue}

@@ -19,7 +19,7 @@ use Rattle.sil_shape.specs.Grammar.{body, written}
 use Rattle.sil_shape.specs.Spelling.{punctuation_spelling, spelling}
 use Rattle.written_tree.specs.declared.written_declarations.WrittenField.{WrittenField}
 use Rattle.written_tree.specs.declared.written_module.WrittenItem.TheVariants as item
-use Rattle.written_tree.specs.declared.fault.LimitWord.TheVariants as limit
+use Rattle.sil_rules.specs.declared.limit_word.LimitWord.TheVariants as limit
 use Rattle.written_tree.specs.Faults.{passed}
 use Rattle.written_tree.specs.Places.{case_place, field_place}
 use Rattle.written_modules.specs.Meaning.{kept_of, meaning}

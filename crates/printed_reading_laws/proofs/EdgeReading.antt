@@ -19,7 +19,7 @@ use Rattle.written_modules.specs.Meaning.{kept_of, meaning}
 use Rattle.written_modules.specs.PartFaults.{part_fault}
 use Rattle.written_tree.specs.Places.{operand_place}
 use Rattle.written_modules.specs.Values.{edge_of, edges_of, operands_of, token_of}
-use Rattle.written_tree.specs.declared.fault.LimitWord.TheVariants as limit
+use Rattle.sil_rules.specs.declared.limit_word.LimitWord.TheVariants as limit
 use Rattle.numbered_form.specs.Lists.{is_empty}
 use Rattle.numbered_form.specs.Names.{IsMemberSpelled}
 use Rattle.printed_reading_laws.proofs.EdgeForms.{AreCases, AreSwitchEdges, branch_to, case_before, default_last, no_case}

@@ -4,7 +4,7 @@ use Rattle.std.specs.List.{AllZip}
 use Rattle.std.proofs.lemmas.List.{length-map}
 use Rattle.std.proofs.lemmas.Slice.Zip.{AllZip-long}
 use Rattle.sil_ast.specs.declared.place.Place.{Place}
-use Rattle.written_tree.specs.declared.fault.LimitWord.{LimitWord}
+use Rattle.sil_rules.specs.declared.limit_word.LimitWord.{LimitWord}
 use Rattle.written_tree.specs.Faults.{passed}
 use Rattle.printed_reading_laws.proofs.PartLimits.{not_passed}
 

@@ -6,7 +6,7 @@ use Rattle.std.proofs.lemmas.Option.{slice_get_past}
 use Rattle.sil_ast.specs.declared.place.Place.{Place}
 use Rattle.sil_ast.specs.declared.type_name.TypeName.{TypeName}
 use Rattle.written_tree.specs.declared.fault.FaultKind.TheVariants.{Limit}
-use Rattle.written_tree.specs.declared.fault.LimitWord.{LimitWord}
+use Rattle.sil_rules.specs.declared.limit_word.LimitWord.{LimitWord}
 use Rattle.written_tree.specs.Faults.{fault, passed}
 use Rattle.written_modules.specs.PartFaults.{too_deep}
 use Rattle.written_modules.specs.Types.{deeper, kept}

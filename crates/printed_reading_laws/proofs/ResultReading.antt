@@ -16,7 +16,7 @@ use Rattle.written_modules.specs.Meaning.{kept_of, meaning}
 use Rattle.written_modules.specs.PartFaults.{part_fault}
 use Rattle.written_tree.specs.Places.{token_place}
 use Rattle.written_modules.specs.Values.{inst_of, token_of, tokens_of}
-use Rattle.written_tree.specs.declared.fault.LimitWord.TheVariants as limit
+use Rattle.sil_rules.specs.declared.limit_word.LimitWord.TheVariants as limit
 use Rattle.numbered_form.specs.Lists.{Each}
 use Rattle.printed_reading_laws.proofs.ListLimits.{none_passed}
 use Rattle.printed_reading_laws.proofs.NameReading.{result_names_read}

@@ -19,7 +19,7 @@ use Rattle.sil_shape.specs.declared.grammar.Symbol.TheVariants.{Part}
 use Rattle.sil_shape.specs.Accepts.{accepts, at_number, class_number, keyword_number, punctuation_number}
 use Rattle.sil_shape.specs.Grammar.{body, written}
 use Rattle.sil_shape.specs.Spelling.{at_spelling, at_word_of, at_words, keyword_of, keywords_of_length, known_at_word, known_keyword, punctuation_of, punctuation_spelling, signs, spelling}
-use Rattle.written_tree.specs.declared.fault.LimitWord.TheVariants as limit
+use Rattle.sil_rules.specs.declared.limit_word.LimitWord.TheVariants as limit
 use Rattle.written_modules.specs.Meaning.{meaning}
 use Rattle.written_modules.specs.Opened.{PartGivens, PartParams, PartValue}
 use Rattle.written_modules.specs.PartFaults.{part_fault}

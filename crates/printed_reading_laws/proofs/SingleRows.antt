@@ -30,7 +30,7 @@ use Rattle.written_modules.specs.PartFaults.{part_fault}
 use Rattle.written_tree.specs.Places.{operand_place}
 use Rattle.written_modules.specs.Types.{width_of}
 use Rattle.written_modules.specs.Values.{inst_of, operands_of, token_of, type_of}
-use Rattle.written_tree.specs.declared.fault.LimitWord.TheVariants as limit
+use Rattle.sil_rules.specs.declared.limit_word.LimitWord.TheVariants as limit
 use Rattle.sil_grammar.specs.Classes.{text_class}
 use Rattle.printed_reading_laws.proofs.DebugReading.{any_text, debug_reads, ends_debug}
 use Rattle.printed_reading_laws.proofs.FunctionNames.{is_name_at}

@@ -14,7 +14,7 @@ use Rattle.sil_shape.specs.declared.grammar.Symbol.TheVariants.{Part}
 use Rattle.sil_shape.specs.Accepts.{accepts, class_number, punctuation_number}
 use Rattle.sil_shape.specs.Grammar.{body, written}
 use Rattle.sil_shape.specs.Spelling.{punctuation_of, punctuation_spelling, signs}
-use Rattle.written_tree.specs.declared.fault.LimitWord.TheVariants as limit
+use Rattle.sil_rules.specs.declared.limit_word.LimitWord.TheVariants as limit
 use Rattle.written_modules.specs.Meaning.{meaning}
 use Rattle.written_modules.specs.Opened.{PartType, PartTypes, PartValue}
 use Rattle.written_modules.specs.PartFaults.{part_fault, too_deep_among, tuple_fault}

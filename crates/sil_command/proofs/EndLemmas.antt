@@ -3,6 +3,8 @@ use Rattle.std.proofs.Common.{◌≡◌, ◌⊎◌, inl, inr, ℕ, ◌<◌, List
 use Rattle.std.specs.Io.KnownBytes.{Keeps}
 use Rattle.sil_ast.specs.declared.module.Module.{Module}
 use Rattle.sil_io.specs.Count.{MayFail}
+use Rattle.sil_rules.specs.declared.status.Status.TheVariants.{Done, Refused, Usage, NotAModule, ReadFault, WriteFault, Limit, OutOfMemory, NotBuilt}
+use Rattle.sil_rules.specs.Statuses.{code_of}
 use Rattle.sil_command.specs.Texts.{read_fault_text}
 use Rattle.sil_command.specs.declared.words.Mode.{Mode}
 use Rattle.sil_command.specs.declared.words.Mode.TheVariants.{Check, Print}
@@ -12,21 +14,22 @@ use Rattle.sil_command.proofs.Unread.{unread_status}
 
 -- the statuses of answers: neither a fault nor want of memory
 abbrev IsAnswerStatus : ℕ → Type 0
-IsAnswerStatus status = (status ≡ 0) ⊎ (status ≡ 1) ⊎ (status ≡ 2) ⊎ (status ≡ 3) ⊎ (status ≡ 8) ⊎ (status ≡ 11)
+IsAnswerStatus status =
+    (status ≡ code_of Done) ⊎ (status ≡ code_of Refused) ⊎ (status ≡ code_of Usage) ⊎ (status ≡ code_of NotAModule) ⊎ (status ≡ code_of Limit) ⊎ (status ≡ code_of NotBuilt)
 
-zero_is : IsAnswerStatus 0
+zero_is : IsAnswerStatus (code_of Done)
 zero_is = inl refl
 
-one_is : IsAnswerStatus 1
+one_is : IsAnswerStatus (code_of Refused)
 one_is = inr (inl refl)
 
-two_is : IsAnswerStatus 2
+two_is : IsAnswerStatus (code_of Usage)
 two_is = inr (inr (inl refl))
 
-eight_is : IsAnswerStatus 8
+eight_is : IsAnswerStatus (code_of Limit)
 eight_is = inr (inr (inr (inr (inl refl))))
 
-eleven_is : IsAnswerStatus 11
+eleven_is : IsAnswerStatus (code_of NotBuilt)
 eleven_is = inr (inr (inr (inr (inr refl))))
 
 check_status : (m : Module) (answer : List ℕ) (status : ℕ) → AnswersCheck m answer status → IsAnswerStatus status
@@ -41,7 +44,7 @@ module_status : (mode : Mode) (m : Module) (answer : List ℕ) (status : ℕ) �
 module_status Check m answer status answers = check_status m answer status answers
 module_status Print m answer status answers = print_status m answer status answers
 
-unread_is : (status : ℕ) → (status ≡ 3) ⊎ (status ≡ 8) → IsAnswerStatus status
+unread_is : (status : ℕ) → (status ≡ code_of NotAModule) ⊎ (status ≡ code_of Limit) → IsAnswerStatus status
 unread_is status (inl three) = inr (inr (inr (inl three)))
 unread_is status (inr eight) = inr (inr (inr (inr (inl eight))))
 
@@ -56,18 +59,18 @@ answer_status words text answer status (in_mode mode _ _ asks answers) = text_st
 
 -- an answer's status is one of all
 all_statuses : (status : ℕ) → IsAnswerStatus status → IsStatus status
-all_statuses status (inl zero) = inl zero
-all_statuses status (inr (inl one)) = inr (inl one)
-all_statuses status (inr (inr (inl two))) = inr (inr (inl two))
-all_statuses status (inr (inr (inr (inl three)))) = inr (inr (inr (inl three)))
-all_statuses status (inr (inr (inr (inr (inl eight))))) = inr (inr (inr (inr (inr (inr (inl eight))))))
-all_statuses status (inr (inr (inr (inr (inr eleven))))) = inr (inr (inr (inr (inr (inr (inr (inr eleven)))))))
+all_statuses status (inl zero) = (Done, zero)
+all_statuses status (inr (inl one)) = (Refused, one)
+all_statuses status (inr (inr (inl two))) = (Usage, two)
+all_statuses status (inr (inr (inr (inl three)))) = (NotAModule, three)
+all_statuses status (inr (inr (inr (inr (inl eight))))) = (Limit, eight)
+all_statuses status (inr (inr (inr (inr (inr eleven))))) = (NotBuilt, eleven)
 
-four_is : IsStatus 4
-four_is = inr (inr (inr (inr (inl refl))))
+four_is : IsStatus (code_of ReadFault)
+four_is = (ReadFault, refl)
 
-five_is : IsStatus 5
-five_is = inr (inr (inr (inr (inr (inl refl)))))
+five_is : IsStatus (code_of WriteFault)
+five_is = (WriteFault, refl)
 
 -- a count that stays may not have risen
 rose_not : (old new : ℕ) → new ≡ old → old < new → ⊥
@@ -83,7 +86,7 @@ whole_answers call status (answered answer wanted _ allowed calm (front gained f
 whole_answers call status (read_failed _ fault finished) reads writes = absurd (reads fault)
 whole_answers call _ (exhausted kept same) reads writes = inr (record { status_is = refl; kept = kept })
 
-pub four_is_read_fault : (call : Call) (status : ℕ) → Ends call status → status ≡ 4 → MayFail call.read_faults call.new_read_faults
+pub four_is_read_fault : (call : Call) (status : ℕ) → Ends call status → status ≡ code_of ReadFault → MayFail call.read_faults call.new_read_faults
 four_is_read_fault call status (answered answer wanted _ allowed calm (whole gained same)) four =
     let s = answer_status call.words allowed.text answer wanted allowed.allowed in
     absurd (omega (arith, s))
@@ -91,7 +94,7 @@ four_is_read_fault call status (answered answer wanted _ allowed calm (front gai
 four_is_read_fault call status (read_failed _ fault finished) four = fault
 four_is_read_fault call _ (exhausted kept same) four = absurd (omega arith)
 
-pub five_is_write_fault : (call : Call) (status : ℕ) → Ends call status → status ≡ 5 → MayFail call.write_faults call.new_write_faults
+pub five_is_write_fault : (call : Call) (status : ℕ) → Ends call status → status ≡ code_of WriteFault → MayFail call.write_faults call.new_write_faults
 five_is_write_fault call status (answered answer wanted _ allowed calm (whole gained same)) five =
     let s = answer_status call.words allowed.text answer wanted allowed.allowed in
     absurd (omega (arith, s))
@@ -102,20 +105,20 @@ five_is_write_fault call _ (exhausted kept same) five = absurd (omega arith)
 
 pub read_fault_ends : (call : Call) (status : ℕ) → Ends call status → call.read_faults < call.new_read_faults
     → (MayFail call.write_faults call.new_write_faults → ⊥)
-    → WritesWhole call.held call.new_held read_fault_text 4 status ⊎ Exhausts call.held call.new_held status
+    → WritesWhole call.held call.new_held read_fault_text (code_of ReadFault) status ⊎ Exhausts call.held call.new_held status
 read_fault_ends call status (answered answer wanted _ allowed calm finished) rose writes = absurd (rose_not _ _ calm rose)
 read_fault_ends call status (read_failed _ read (whole gained same)) rose writes = inl (record { status_is = refl; gained = gained })
 read_fault_ends call status (read_failed _ read (front gained fault)) rose writes = absurd (writes fault)
 read_fault_ends call _ (exhausted kept same) rose writes = inr (record { status_is = refl; kept = kept })
 
-pub write_fault_ends : (call : Call) (status : ℕ) → Ends call status → call.write_faults < call.new_write_faults → status ≡ 5
+pub write_fault_ends : (call : Call) (status : ℕ) → Ends call status → call.write_faults < call.new_write_faults → status ≡ code_of WriteFault
 write_fault_ends call status (answered answer wanted _ allowed calm (whole gained same)) rose = absurd (rose_not _ _ same rose)
 write_fault_ends call status (answered answer wanted _ allowed calm (front gained fault)) rose = refl
 write_fault_ends call status (read_failed _ read (whole gained same)) rose = absurd (rose_not _ _ same rose)
 write_fault_ends call status (read_failed _ read (front gained fault)) rose = refl
 write_fault_ends call _ (exhausted kept same) rose = absurd (rose_not _ _ same rose)
 
-pub five_writes_front : (call : Call) (status : ℕ) → Ends call status → status ≡ 5
+pub five_writes_front : (call : Call) (status : ℕ) → Ends call status → status ≡ code_of WriteFault
     → WritesFrontOfAnswer call.words call.left call.held call.new_held
     ⊎ (MayFail call.read_faults call.new_read_faults × GainsFront call.held call.new_held read_fault_text)
 five_writes_front call status (answered answer wanted _ allowed calm (whole gained same)) five =
@@ -127,7 +130,7 @@ five_writes_front call status (read_failed _ read (whole gained same)) five = ab
 five_writes_front call status (read_failed _ read (front gained fault)) five = inr (read, gained)
 five_writes_front call _ (exhausted kept same) five = absurd (omega arith)
 
-pub nine_keeps : (call : Call) (status : ℕ) → Ends call status → status ≡ 9 → Keeps call.held call.new_held
+pub nine_keeps : (call : Call) (status : ℕ) → Ends call status → status ≡ code_of OutOfMemory → Keeps call.held call.new_held
 nine_keeps call status (answered answer wanted _ allowed calm (whole gained same)) nine =
     let s = answer_status call.words allowed.text answer wanted allowed.allowed in
     absurd (omega (arith, s))
@@ -142,4 +145,4 @@ ends_status call status (answered answer wanted _ allowed calm (whole gained sam
 ends_status call status (answered answer wanted _ allowed calm (front gained fault)) = five_is
 ends_status call status (read_failed _ read (whole gained same)) = four_is
 ends_status call status (read_failed _ read (front gained fault)) = five_is
-ends_status call _ (exhausted kept same) = inr (inr (inr (inr (inr (inr (inr (inl refl)))))))
+ends_status call _ (exhausted kept same) = (OutOfMemory, refl)

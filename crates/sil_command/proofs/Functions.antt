@@ -7,8 +7,8 @@ use Rattle.sil_ast.specs.declared.function.Block.{Block}
 use Rattle.sil_ast.specs.declared.function.Function.{Function}
 use Rattle.sil_ast.specs.declared.module.Module.{Module}
 use Rattle.simple_modules.specs.Simple.{IsSimpleFunction, AllSimpleFunctions}
-use Rattle.sil_command.specs.declared.fault.Fault.{Fault}
-use Rattle.sil_command.specs.Faults.{KeepsRules, AllKeepRules, IsFaultless, IsFirstFault, IsRefusal}
+use Rattle.sil_command.specs.declared.violation.Violation.{Violation}
+use Rattle.sil_command.specs.Violations.{KeepsRules, AllKeepRules, ShowsNone, IsFirstViolation, IsRefusal}
 use Rattle.sil_command.specs.Lives.{IsPlainBlock}
 use Rattle.sil_command.proofs.PlainBlocks.{simple_plain}
 
@@ -34,12 +34,12 @@ module _ (classes : List (List ℕ)) (f : Function) (simple : IsSimpleFunction c
       let same : simple.block ≡ b = same_Some _ _ (sym (e ∙ ap (λ bs. slice_get bs 0) simple.one_block)) in
       subst IsPlainBlock same (simple_plain classes simple.block simple.simple)
 
--- a function keeps the rules where its block shows no fault, or where it has none
-pub faultless_keeps : (f : Function) (b : Block) → f.blocks ≡ b ∷ [] → IsFaultless b → KeepsRules f
-faultless_keeps f b e faultless other o =
+-- a function keeps the rules where its block shows no violation, or where it has none
+pub none_shown_keeps : (f : Function) (b : Block) → f.blocks ≡ b ∷ [] → ShowsNone b → KeepsRules f
+none_shown_keeps f b e none_shown other o =
     let lists : b ∷ [] ≡ other ∷ [] = sym e ∙ o in
     let same : b ≡ other = cc in
-    subst IsFaultless same faultless
+    subst ShowsNone same none_shown
 
 pub blockless_keeps : (f : Function) → None ≡ slice_get f.blocks 0 → KeepsRules f
 blockless_keeps f e b o = absurd (none-some b (e ∙ ap (λ bs. slice_get bs 0) o))
@@ -52,9 +52,9 @@ pub keep_step : (fs : List Function) (j : ℕ) (f : Function) → j < length fs 
 keep_step fs j f lt is all here =
     subst AllKeepRules (ap (λ x. take j fs ++ x ∷ []) is ∙ sym (take_more fs j f lt)) (keep_push (take j fs) f all here)
 
-pub refusal_at : (m : Module) (fs : List Function) (j : ℕ) (f : Function) (b : Block) (fault : Fault) → fs ≡ m.functions → j < length fs → f ≡ get_or fs j f →
-    AllKeepRules (take j fs) → f.blocks ≡ b ∷ [] → IsFirstFault b fault → IsRefusal m (record { function = record { 0 = j }; fault = fault })
-refusal_at m fs j f b fault e lt is all one first = record {
+pub refusal_at : (m : Module) (fs : List Function) (j : ℕ) (f : Function) (b : Block) (violation : Violation) → fs ≡ m.functions → j < length fs → f ≡ get_or fs j f →
+    AllKeepRules (take j fs) → f.blocks ≡ b ∷ [] → IsFirstViolation b violation → IsRefusal m (record { function = record { 0 = j }; violation = violation })
+refusal_at m fs j f b violation e lt is all one first = record {
   before = take j fs;
   function = f;
   after = drop (j + 1) fs;
@@ -63,5 +63,5 @@ refusal_at m fs j f b fault e lt is all one first = record {
   place = omega (arith, length-take j fs);
   kept = all;
   one_block = one;
-  fault = first;
+  violation = first;
 }

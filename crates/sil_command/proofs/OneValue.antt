@@ -16,7 +16,7 @@ use Rattle.mark_patterns.proofs.Trails.{bad_first_break}
 use Rattle.sil_command.specs.declared.life.Life.{Life}
 use Rattle.sil_command.specs.declared.life.Life.TheVariants.{Unborn, Undefined, Defined, Broken}
 use Rattle.sil_command.specs.Marks.{marks_of, operand_mark, consumes, returns_at, operands_that_are, results_that_are}
-use Rattle.sil_command.specs.Faults.{IsFirstUndefined}
+use Rattle.sil_command.specs.Violations.{IsFirstUndefined}
 use Rattle.sil_command.specs.Lives.{life_at, mark_life, marks_life, return_life, inst_life, IsDefinedFirst, IsLife}
 
 -- the state behind a point's marks, and then its `return`, if it is one

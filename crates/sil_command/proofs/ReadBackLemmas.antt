@@ -3,6 +3,8 @@ use Rattle.std.proofs.Common.{◌≡◌, ℕ, List, arith}
 use Rattle.sil_ast.specs.declared.module.Module.{Module}
 use Rattle.sil_grammar.specs.Spells.{AreSpelledNumbered, Spells}
 use Rattle.printed_reading_laws.specs.Laws.{ArePrintedSpelled}
+use Rattle.sil_rules.specs.declared.status.Status.TheVariants.{Done}
+use Rattle.sil_rules.specs.Statuses.{code_of}
 use Rattle.sil_command.specs.declared.words.Mode.TheVariants.{Print}
 use Rattle.sil_command.specs.Answers.{AnswersText, too_long, unread, spelled, AnswersPrint, printed, ArePrintedReadBack}
 use Rattle.sil_command.proofs.StatusLemmas.{mode_answers}
@@ -12,7 +14,7 @@ module _ (are_spelled : ArePrintedSpelled) (are_numbered : AreSpelledNumbered) w
   answer_spells : (m : Module) (text answer : List ℕ) (status : ℕ) → Spells m text → AnswersPrint m answer status → Spells m answer
   answer_spells m text _ _ spells printed = are_spelled m (are_numbered m text spells)
 
-  text_read_back : (text answer : List ℕ) (status : ℕ) → AnswersText Print text answer status → status ≡ 0 → (m : Module) × Spells m text × Spells m answer
+  text_read_back : (text answer : List ℕ) (status : ℕ) → AnswersText Print text answer status → status ≡ code_of Done → (m : Module) × Spells m text × Spells m answer
   text_read_back text _ _ (too_long long) zero = absurd (omega arith)
   text_read_back text answer status (unread reason _ _ inside refusal line) zero = absurd (omega (arith, unread_status reason answer status line))
   text_read_back text answer status (spelled m _ _ inside spells answers) zero = (m, spells, answer_spells m text answer status spells answers)

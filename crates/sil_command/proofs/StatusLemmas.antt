@@ -5,12 +5,15 @@ use Rattle.sil_ast.specs.declared.function.Function.{Function}
 use Rattle.sil_ast.specs.declared.module.Module.{Module}
 use Rattle.sil_grammar.specs.Spells.{AreSpelledOnce, Spells}
 use Rattle.simple_modules.specs.Simple.{IsSimple}
-use Rattle.sil_command.specs.declared.fault.Refusal.{Refusal}
+use Rattle.sil_rules.specs.declared.limits.TheConstants.{TEXT_BYTES}
+use Rattle.sil_rules.specs.declared.status.Status.TheVariants.{Done, NotAModule, Limit, NotBuilt}
+use Rattle.sil_rules.specs.Statuses.{code_of}
+use Rattle.sil_command.specs.declared.violation.Refusal.{Refusal}
 use Rattle.sil_command.specs.declared.words.Mode.{Mode}
 use Rattle.sil_command.specs.declared.words.Mode.TheVariants.{Check, Print}
-use Rattle.sil_command.specs.Faults.{KeepsRules, AllKeepRules, Accepted, IsRefusal}
+use Rattle.sil_command.specs.Violations.{KeepsRules, AllKeepRules, Accepted, IsRefusal}
 use Rattle.sil_command.specs.Words.{AsksFor, word_of}
-use Rattle.sil_command.specs.Answers.{text_limit, Answers, usage, in_mode, AnswersExactly, AnswersText, too_long, unread, spelled, AnswersModule, AnswersCheck, not_built, refused, accepted, AnswersPrint, printed, AreAcceptedExactly, AreNotBuiltExactly, ArePrintedExactly}
+use Rattle.sil_command.specs.Answers.{Answers, usage, in_mode, AnswersExactly, AnswersText, too_long, unread, spelled, AnswersModule, AnswersCheck, not_built, refused, accepted, AnswersPrint, printed, AreAcceptedExactly, AreNotBuiltExactly, ArePrintedExactly}
 use Rattle.sil_command.proofs.Unread.{unread_none, unread_status}
 
 keeps_inside : (before : List Function) (f : Function) (after : List Function) → AllKeepRules (before ++ f ∷ after) → KeepsRules f
@@ -20,7 +23,7 @@ keeps_inside (g ∷ before) f after kept = keeps_inside before f after kept.1
 -- a module that keeps the rules has no refusal
 kept_not_refused : (m : Module) (r : Refusal) → Accepted m → IsRefusal m r → ⊥
 kept_not_refused m r kept refusal =
-    keeps_inside refusal.before refusal.function refusal.after (subst AllKeepRules refusal.parts kept) refusal.block refusal.one_block r.fault refusal.fault.shown
+    keeps_inside refusal.before refusal.function refusal.after (subst AllKeepRules refusal.parts kept) refusal.block refusal.one_block r.violation refusal.violation.shown
 
 different_words : word_of Check ∷ [] ≡ word_of Print ∷ [] → ⊥
 different_words e =
@@ -43,8 +46,8 @@ mode_answers words mode text answer status asks (in_mode other _ _ again answers
 -- where the status is none of those of a text that isn't read, it tells of a text what it tells of the module
 module _ (once : AreSpelledOnce) (mode : Mode) (wanted : ℕ) (IsSuch : Module → Type 0)
     (tells : (m : Module) (answer : List ℕ) (status : ℕ) → AnswersModule mode m answer status → IsSuch m ↔ (status ≡ wanted))
-    (of_modules : (wanted ≡ 3 → ⊥) × (wanted ≡ 8 → ⊥)) where
-  spelled_wanted : (text answer : List ℕ) (status : ℕ) → length text ≤ text_limit → AnswersText mode text answer status
+    (of_modules : (wanted ≡ code_of NotAModule → ⊥) × (wanted ≡ code_of Limit → ⊥)) where
+  spelled_wanted : (text answer : List ℕ) (status : ℕ) → length text ≤ TEXT_BYTES → AnswersText mode text answer status
       → (m : Module) × Spells m text × IsSuch m → status ≡ wanted
   spelled_wanted text _ _ within (too_long long) known = absurd (omega arith)
   spelled_wanted text answer status within (unread reason _ _ inside refusal line) known = absurd (unread_none text reason answer status refusal line known.0 known.1)
@@ -55,7 +58,7 @@ module _ (once : AreSpelledOnce) (mode : Mode) (wanted : ℕ) (IsSuch : Module �
   wanted_spelled text _ _ (too_long long) is = absurd (of_modules.1 (sym is))
   wanted_spelled text answer status (unread reason _ _ inside refusal line) is = unread_not (unread_status reason answer status line)
     where
-      unread_not : (status ≡ 3) ⊎ (status ≡ 8) → (m : Module) × Spells m text × IsSuch m
+      unread_not : (status ≡ code_of NotAModule) ⊎ (status ≡ code_of Limit) → (m : Module) × Spells m text × IsSuch m
       unread_not (inl three) = absurd (of_modules.0 (sym is ∙ three))
       unread_not (inr eight) = absurd (of_modules.1 (sym is ∙ eight))
   wanted_spelled text answer status (spelled m _ _ inside spells answers) is = (m, spells, (tells m answer status answers).1 is)
@@ -65,24 +68,24 @@ module _ (once : AreSpelledOnce) (mode : Mode) (wanted : ℕ) (IsSuch : Module �
       let of_mode : AnswersText mode text answer status = mode_answers words mode text answer status asks answers in
       (spelled_wanted text answer status within of_mode, wanted_spelled text answer status of_mode)
 
-accepted_zero : (m : Module) (answer : List ℕ) (status : ℕ) → AnswersCheck m answer status → (IsSimple m × Accepted m) ↔ (status ≡ 0)
-accepted_zero m _ _ (not_built not_simple) = (λ known. absurd (not_simple known.0), λ zero. absurd (omega arith))
-accepted_zero m _ _ (refused r refusal simple) = (λ known. absurd (kept_not_refused m r known.1 refusal), λ zero. absurd (omega arith))
-accepted_zero m _ _ (accepted simple kept) = (λ known. refl, λ zero. (simple, kept))
+accepted_done : (m : Module) (answer : List ℕ) (status : ℕ) → AnswersCheck m answer status → (IsSimple m × Accepted m) ↔ (status ≡ code_of Done)
+accepted_done m _ _ (not_built not_simple) = (λ known. absurd (not_simple known.0), λ zero. absurd (omega arith))
+accepted_done m _ _ (refused r refusal simple) = (λ known. absurd (kept_not_refused m r known.1 refusal), λ zero. absurd (omega arith))
+accepted_done m _ _ (accepted simple kept) = (λ known. refl, λ zero. (simple, kept))
 
-not_built_eleven : (m : Module) (answer : List ℕ) (status : ℕ) → AnswersCheck m answer status → (IsSimple m → ⊥) ↔ (status ≡ 11)
-not_built_eleven m _ _ (not_built not_simple) = (λ none. refl, λ eleven. not_simple)
-not_built_eleven m _ _ (refused r refusal simple) = (λ none. absurd (none simple), λ eleven. absurd (omega arith))
-not_built_eleven m _ _ (accepted simple kept) = (λ none. absurd (none simple), λ eleven. absurd (omega arith))
+not_built_else : (m : Module) (answer : List ℕ) (status : ℕ) → AnswersCheck m answer status → (IsSimple m → ⊥) ↔ (status ≡ code_of NotBuilt)
+not_built_else m _ _ (not_built not_simple) = (λ none. refl, λ eleven. not_simple)
+not_built_else m _ _ (refused r refusal simple) = (λ none. absurd (none simple), λ eleven. absurd (omega arith))
+not_built_else m _ _ (accepted simple kept) = (λ none. absurd (none simple), λ eleven. absurd (omega arith))
 
-printed_zero : (m : Module) (answer : List ℕ) (status : ℕ) → AnswersPrint m answer status → ⊤ ↔ (status ≡ 0)
-printed_zero m _ _ printed = (λ known. refl, λ zero. tt)
+printed_done : (m : Module) (answer : List ℕ) (status : ℕ) → AnswersPrint m answer status → ⊤ ↔ (status ≡ code_of Done)
+printed_done m _ _ printed = (λ known. refl, λ zero. tt)
 
 pub accepted_exactly : AreSpelledOnce → AreAcceptedExactly
-accepted_exactly once = answers_exactly once Check 0 (λ m. IsSimple m × Accepted m) accepted_zero (λ e. omega arith, λ e. omega arith)
+accepted_exactly once = answers_exactly once Check (code_of Done) (λ m. IsSimple m × Accepted m) accepted_done (λ e. omega arith, λ e. omega arith)
 
 pub not_built_exactly : AreSpelledOnce → AreNotBuiltExactly
-not_built_exactly once = answers_exactly once Check 11 (λ m. IsSimple m → ⊥) not_built_eleven (λ e. omega arith, λ e. omega arith)
+not_built_exactly once = answers_exactly once Check (code_of NotBuilt) (λ m. IsSimple m → ⊥) not_built_else (λ e. omega arith, λ e. omega arith)
 
 pub printed_exactly : AreSpelledOnce → ArePrintedExactly
-printed_exactly once = answers_exactly once Print 0 (λ m. ⊤) printed_zero (λ e. omega arith, λ e. omega arith)
+printed_exactly once = answers_exactly once Print (code_of Done) (λ m. ⊤) printed_done (λ e. omega arith, λ e. omega arith)

@@ -3,9 +3,11 @@ use Rattle.std.proofs.Common.{◌≡◌, ◌⊎◌, inl, inr, ℕ, List, refl}
 use Rattle.sil_grammar.specs.declared.refusal.ReadRefusal.{ReadRefusal}
 use Rattle.sil_grammar.specs.declared.refusal.ReadRefusal.TheVariants.{Memory}
 use Rattle.sil_grammar.specs.Refusals.{IsRefusalOf, SpellsNone, shapeless, faulty, misnamed, exhausted}
+use Rattle.sil_rules.specs.declared.status.Status.TheVariants.{NotAModule, Limit}
+use Rattle.sil_rules.specs.Statuses.{code_of}
 use Rattle.sil_command.specs.Reading.{AnswersRefusal, bad_byte, unclosed_text, long_name, unexpected, unsupported, number_range, limit, twice, unknown_name}
 
-pub unread_status : (reason : ReadRefusal) (answer : List ℕ) (status : ℕ) → AnswersRefusal reason answer status → (status ≡ 3) ⊎ (status ≡ 8)
+pub unread_status : (reason : ReadRefusal) (answer : List ℕ) (status : ℕ) → AnswersRefusal reason answer status → (status ≡ code_of NotAModule) ⊎ (status ≡ code_of Limit)
 unread_status _ _ _ (bad_byte place) = inl refl
 unread_status _ _ _ (unclosed_text place) = inl refl
 unread_status _ _ _ (long_name place) = inr refl
@@ -18,8 +20,8 @@ unread_status _ _ _ (unknown_name place) = inl refl
 
 refusal_none : (text : List ℕ) (reason : ReadRefusal) → IsRefusalOf text reason → (reason ≡ Memory → ⊥) → SpellsNone text
 refusal_none text _ (shapeless place none first) known = none
-refusal_none text _ (faulty fault none first) known = none
-refusal_none text _ (misnamed fault none first) known = none
+refusal_none text _ (faulty found none first) known = none
+refusal_none text _ (misnamed found none first) known = none
 refusal_none text _ exhausted known = absurd (known refl)
 
 not_memory : (reason : ReadRefusal) (answer : List ℕ) (status : ℕ) → AnswersRefusal reason answer status → reason ≡ Memory → ⊥

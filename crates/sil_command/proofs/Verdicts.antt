@@ -1,4 +1,4 @@
--- What the states of a block's values tell of its faults.
+-- What the states of a block's values tell of its violations.
 use Rattle.std.proofs.Common.{◌≡◌, ◌≢◌, ℕ, ◌+◌, ◌<◌, ◌≤◌, ◌⊎◌, inl, inr, List, [], ◌∷◌, ◌++◌, length, get_or, refl, sym, ap, ◌∙◌, Bool, true, false, cond, eqb, arith, subst}
 use Rattle.std.specs.Prelude.{Option, Some, None, MatchOption, slice_get, map, All, count_by, sum_by}
 use Rattle.std.specs.List.{flat_map}
@@ -13,14 +13,17 @@ use Rattle.mark_patterns.specs.declared.pattern.Break.TheVariants.{UseOutside, E
 use Rattle.mark_patterns.specs.Along.{IsFirstBreak}
 use Rattle.mark_patterns.proofs.Runs.{go-bad}
 use Rattle.mark_patterns.proofs.Trails.{stops_at_first_break, is_first_break_unique}
-use Rattle.sil_command.specs.declared.rule.Rule.{Rule}
-use Rattle.sil_command.specs.declared.rule.Rule.TheVariants as rule
-use Rattle.sil_command.specs.declared.fault.Fault.{Fault}
+use Rattle.sil_rules.specs.declared.group.Group.TheVariants.{Definitions, Lifetimes}
+use Rattle.sil_rules.specs.declared.rule.Rule.{Rule}
+use Rattle.sil_rules.specs.Rules.{number_of, group_of, group_number}
+use Rattle.sil_rules.specs.Order.{NotAfter}
+use Rattle.sil_rules.proofs.Keys.{not_after_cons}
+use Rattle.sil_command.specs.declared.violation.Violation.{Violation}
 use Rattle.sil_command.specs.declared.life.Life.{Life}
 use Rattle.sil_command.specs.declared.life.Life.TheVariants.{Unborn, Undefined, Defined, Broken}
-use Rattle.sil_command.specs.Rules.{number_of, group_of, rule_of}
+use Rattle.sil_command.specs.Breaks.{rule_of}
 use Rattle.sil_command.specs.Marks.{points_of, marks_of, returns_at, operands_that_are, results_that_are, owned_by, makes_owned}
-use Rattle.sil_command.specs.Faults.{IsFirstUndefined, BreaksAt, Shows, ShowsFault, ComesBefore, IsFirstFault, IsFaultless}
+use Rattle.sil_command.specs.Violations.{IsFirstUndefined, BreaksAt, ShowsViolation, undefined, breaks, key_of, IsFirstViolation, ShowsNone}
 use Rattle.sil_command.specs.Lives.{IsDefinedFirst, IsLife, AreLives, NamesBelow, IsPlainBlock, number_of_values, NoneUndefined, IsLeastUndefined, NoneBroken, IsLeastBroken, FindsBroken}
 use Rattle.sil_command.proofs.OneValue.{items_unmarked}
 
@@ -102,6 +105,22 @@ owned_below n (i ∷ insts) all =
     own true = All-map (λ s. s < n) (λ v. v.0) i.results here.results
     own false = All-nil (λ s. s < n)
 
+-- the place of a rule's group in the order
+abbrev place_of_group : Rule → ℕ
+place_of_group r = group_number (group_of r)
+
+lifetimes : (reason : Break) → place_of_group (rule_of reason) ≡ group_number Lifetimes
+lifetimes UseOutside = refl
+lifetimes EndOutside = refl
+lifetimes ReturnInside = refl
+lifetimes BeginInside = refl
+
+-- in one group the lesser value comes first, and for one value all have one rule
+least_subject : (v w : Violation) → place_of_group v.rule ≡ place_of_group w.rule → v.subject.0 ≤ w.subject.0
+    → (v.subject.0 ≡ w.subject.0 → number_of v.rule ≡ number_of w.rule) → NotAfter (key_of v) (key_of w)
+least_subject v w group le number =
+    inr (group, not_after_cons v.subject.0 w.subject.0 (number_of v.rule ∷ []) (number_of w.rule ∷ []) (λ lt. omega arith) (λ same. inr (number same, tt)))
+
 -- the state of a value of the block
 record StateOf (b : Block) (lives : List Life) (s : ℕ) : Type 0 where
   life : Life
@@ -128,97 +147,45 @@ module _ (b : Block) (lives : List Life) (plain : IsPlainBlock b) (len : length 
       let is = broken_state (points_of b) s k reason state.life state.tells h.broken (λ p e. none s p (state.at ∙ ap Some e)) in
       (is.0, state.at ∙ ap Some is.1)
 
-  pub first_undefined : (f : Fault) → IsLeastUndefined lives f → IsFirstFault b f
-  first_undefined f least = record { shown = subst (λ r. Shows b r f.subject.0 f.point) (sym least.rule_is) (are f.subject.0 (Undefined f.point) least.undefined); first = first }
+  pub first_undefined : (v : Violation) → IsLeastUndefined lives v → IsFirstViolation b v
+  first_undefined v least = record { shown = undefined least.rule_is (are v.subject.0 (Undefined v.point) least.undefined); first = first }
     where
-      group : group_of f.rule ≡ 3
-      group = ap group_of least.rule_is
-
-      number : number_of f.rule ≡ 301
-      number = ap number_of least.rule_is
-
-      later : (g : Fault) (r : Rule) → g.rule ≡ r → 4 ≡ group_of r → ¬ ComesBefore g f
-      later g r e four (inl lt) = let same : group_of g.rule ≡ group_of r = ap group_of e in omega (arith, group)
-      later g r e four (inr p) = let same : group_of g.rule ≡ group_of r = ap group_of e in omega (arith, p.0, group)
-
-      same_group : (g : Fault) → g.rule ≡ rule.Undefined → IsFirstUndefined (points_of b) g.subject.0 g.point → ¬ ComesBefore g f
-      same_group g e u (inl lt) = let three : group_of g.rule ≡ 3 = ap group_of e in omega (arith, group)
-      same_group g e u (inr (same, inl lt)) =
-          let state = shows_undefined g.subject.0 g.point u in
-          omega (arith, least.least g.subject.0 state.0 state.1)
-      same_group g e u (inr (same, inr p)) = let n : number_of g.rule ≡ 301 = ap number_of e in omega (arith, p.1, number)
-
-      by_rule : (g : Fault) (r : Rule) → g.rule ≡ r → Shows b r g.subject.0 g.point → ¬ ComesBefore g f
-      by_rule g rule.Undefined e u = same_group g e u
-      by_rule g rule.UseAfterConsume e u = later g rule.UseAfterConsume e refl
-      by_rule g rule.DoubleConsume e u = later g rule.DoubleConsume e refl
-      by_rule g rule.Leak e u = later g rule.Leak e refl
-      by_rule g rule.Overwritten e u = later g rule.Overwritten e refl
-
-      first : (g : Fault) → ShowsFault b g → ¬ ComesBefore g f
-      first g = by_rule g g.rule refl
+      first : (w : Violation) → ShowsViolation b w → NotAfter (key_of v) (key_of w)
+      first w (undefined e u) =
+          let state = shows_undefined w.subject.0 w.point u in
+          least_subject v w (ap place_of_group (least.rule_is ∙ sym e)) (least.least w.subject.0 state.0 state.1) (λ same. ap number_of (least.rule_is ∙ sym e))
+      first w (breaks reason e h) =
+          let here : place_of_group v.rule ≡ group_number Definitions = ap place_of_group least.rule_is in
+          let there : place_of_group w.rule ≡ group_number Lifetimes = ap place_of_group e ∙ lifetimes reason in
+          inl (omega arith)
 
   module _ (none : NoneUndefined lives) where
-    shows_rule : (reason : Break) (s k : ℕ) → BreaksAt b s k reason → Shows b (rule_of reason) s k
-    shows_rule UseOutside s k h = h
-    shows_rule EndOutside s k h = h
-    shows_rule ReturnInside s k h = h
-    shows_rule BeginInside s k h = h
-
-    -- a fault that is shown is a break of an owned value
-    data ShownBreak (r : Rule) (s k : ℕ) : Type 0 where
-      breaks : (reason : Break) → r ≡ rule_of reason → BreaksAt b s k reason → ShownBreak r s k
-
-    shown_break : (r : Rule) (s k : ℕ) → Shows b r s k → ShownBreak r s k
-    shown_break rule.Undefined s k u = let state = shows_undefined s k u in absurd (none s state.0 state.1)
-    shown_break rule.UseAfterConsume s k h = breaks UseOutside refl h
-    shown_break rule.DoubleConsume s k h = breaks EndOutside refl h
-    shown_break rule.Leak s k h = breaks ReturnInside refl h
-    shown_break rule.Overwritten s k h = breaks BeginInside refl h
-
-    four : (reason : Break) → group_of (rule_of reason) ≡ 4
-    four UseOutside = refl
-    four EndOutside = refl
-    four ReturnInside = refl
-    four BeginInside = refl
-
-    first_broken : (f : Fault) → IsLeastBroken lives (flat_map owned_by b.insts) f → IsFirstFault b f
-    first_broken f least = record { shown = shown; first = λ g shows. first g (shown_break g.rule g.subject.0 g.point shows) }
+    first_broken : (v : Violation) → IsLeastBroken lives (flat_map owned_by b.insts) v → IsFirstViolation b v
+    first_broken v least = record { shown = breaks least.reason least.rule_is broken; first = first }
       where
-        shown : ShowsFault b f
-        shown =
-            subst (λ r. Shows b r f.subject.0 f.point) (sym least.rule_is)
-            (shows_rule least.reason f.subject.0 f.point
-            (record { owned = least.among; broken = (are f.subject.0 (Broken least.reason f.point) least.broken).1 }))
+        broken : BreaksAt b v.subject.0 v.point least.reason
+        broken = record { owned = least.among; broken = (are v.subject.0 (Broken least.reason v.point) least.broken).1 }
 
-        same_reason : (r q : Break) (p k s t : ℕ) → s ≡ t → slice_get lives s ≡ Some (Broken r p) → slice_get lives t ≡ Some (Broken q k) → number_of (rule_of r) ≡ number_of (rule_of q)
-        same_reason r q p k s t e x y =
+        same_rule : (r q : Break) (p k s t : ℕ) → s ≡ t → slice_get lives s ≡ Some (Broken r p) → slice_get lives t ≡ Some (Broken q k) → rule_of r ≡ rule_of q
+        same_rule r q p k s t e x y =
             let same : Broken r p ≡ Broken q k = same_Some _ _ (sym x ∙ ap (slice_get lives) e ∙ y) in
             let one : r ≡ q = cc in
-            ap (λ r. number_of (rule_of r)) one
+            ap rule_of one
 
-        first : (g : Fault) → ShownBreak g.rule g.subject.0 g.point → ¬ ComesBefore g f
-        first g (breaks reason e h) (inl lt) =
-            let a : group_of g.rule ≡ 4 = ap group_of e ∙ four reason in
-            let z : group_of f.rule ≡ 4 = ap group_of least.rule_is ∙ four least.reason in
-            omega arith
-        first g (breaks reason e h) (inr (same, inl lt)) =
-            let state = shows_broken g.subject.0 g.point reason none h in
-            omega (arith, least.least g.subject.0 state.0 reason h.owned state.1)
-        first g (breaks reason e h) (inr (same, inr p)) =
-            let state = shows_broken g.subject.0 g.point reason none h in
-            let a : number_of g.rule ≡ number_of (rule_of reason) = ap number_of e in
-            let z : number_of f.rule ≡ number_of (rule_of least.reason) = ap number_of least.rule_is in
-            omega (arith, p.1, same_reason reason least.reason state.0 f.point g.subject.0 f.subject.0 p.0 state.1 least.broken)
+        first : (w : Violation) → ShowsViolation b w → NotAfter (key_of v) (key_of w)
+        first w (undefined e u) = let state = shows_undefined w.subject.0 w.point u in absurd (none w.subject.0 state.0 state.1)
+        first w (breaks reason e h) =
+            let state = shows_broken w.subject.0 w.point reason none h in
+            least_subject v w (ap place_of_group least.rule_is ∙ lifetimes least.reason ∙ sym (ap place_of_group e ∙ lifetimes reason))
+            (least.least w.subject.0 state.0 reason h.owned state.1)
+            (λ same. ap number_of (least.rule_is ∙ same_rule least.reason reason v.point state.0 v.subject.0 w.subject.0 same least.broken state.1 ∙ sym e))
 
-    faultless : NoneBroken lives (flat_map owned_by b.insts) → IsFaultless b
-    faultless whole f shows = at (shown_break f.rule f.subject.0 f.point shows)
-      where
-        at : ShownBreak f.rule f.subject.0 f.point → ⊥
-        at (breaks reason e h) =
-            let state = shows_broken f.subject.0 f.point reason none h in
-            whole f.subject.0 state.0 reason h.owned state.1
+    none_shown : NoneBroken lives (flat_map owned_by b.insts) → ShowsNone b
+    none_shown whole v (undefined e u) = let state = shows_undefined v.subject.0 v.point u in absurd (none v.subject.0 state.0 state.1)
+    none_shown whole v (breaks reason e h) =
+        let state = shows_broken v.subject.0 v.point reason none h in
+        whole v.subject.0 state.0 reason h.owned state.1
 
-    pub judged : (found : Option Fault) → FindsBroken lives (flat_map owned_by b.insts) found → MatchOption found (IsFaultless b) (IsFirstFault b)
-    judged None whole = faultless whole
-    judged (Some f) least = first_broken f least
+    pub judged : (found : Option Violation) → FindsBroken lives (flat_map owned_by b.insts) found → MatchOption found (ShowsNone b) (IsFirstViolation b)
+    judged None whole = none_shown whole
+    judged (Some v) least = first_broken v least

@@ -2,6 +2,9 @@
 use Rattle.std.specs.Prelude.{◌≡◌, ◌⊎◌, ℕ, List, ◌++◌, Option, IfSome}
 use Rattle.std.specs.Io.KnownBytes.{Appends, Keeps}
 use Rattle.sil_io.specs.Count.{MayFail}
+use Rattle.sil_rules.specs.declared.status.Status.{Status}
+use Rattle.sil_rules.specs.declared.status.Status.TheVariants.{ReadFault, WriteFault, OutOfMemory}
+use Rattle.sil_rules.specs.Statuses.{code_of}
 use Rattle.sil_command.specs.Texts.{read_fault_text}
 use Rattle.sil_command.specs.Answers.{Answers}
 
@@ -24,7 +27,7 @@ pub record IsAnswer (words : List (List ℕ)) (left : Option (List ℕ)) (answer
 
 -- memory ran out before anything was written
 pub record Exhausts (old new : Option (List ℕ)) (status : ℕ) : Type 0 where
-  pub status_is : status ≡ 9
+  pub status_is : status ≡ code_of OutOfMemory
   pub kept : Keeps old new
 
 -- the whole text was written
@@ -47,8 +50,7 @@ pub record WritesFrontOfAnswer (words : List (List ℕ)) (left old new : Option 
 
 -- every status of the command
 abbrev pub IsStatus : ℕ → Type 0
-IsStatus status =
-    (status ≡ 0) ⊎ (status ≡ 1) ⊎ (status ≡ 2) ⊎ (status ≡ 3) ⊎ (status ≡ 4) ⊎ (status ≡ 5) ⊎ (status ≡ 8) ⊎ (status ≡ 9) ⊎ (status ≡ 11)
+IsStatus code = (status : Status) × (code ≡ code_of status)
 
 -- what a call was given and what it left: the words, the source's bytes and count of faults, and the sink's
 pub record Call : Type 0 where
@@ -64,7 +66,7 @@ pub record Call : Type 0 where
 -- the text was written whole with its status and no fault, or only a front of it, with a fault and the status 5
 pub data FinishesText (held new_held : Option (List ℕ)) (faults new_faults : ℕ) (text : List ℕ) (wanted : ℕ) : ℕ → Type 0 where
   whole : Appends held new_held text → new_faults ≡ faults → FinishesText held new_held faults new_faults text wanted wanted
-  front : GainsFront held new_held text → MayFail faults new_faults → FinishesText held new_held faults new_faults text wanted 5
+  front : GainsFront held new_held text → MayFail faults new_faults → FinishesText held new_held faults new_faults text wanted (code_of WriteFault)
 
 abbrev pub Finishes : Call → List ℕ → ℕ → ℕ → Type 0
 Finishes call text wanted status =
@@ -74,5 +76,5 @@ Finishes call text wanted status =
 pub data Ends (call : Call) : ℕ → Type 0 where
   answered : (answer : List ℕ) (wanted status : ℕ) → IsAnswer call.words call.left answer wanted → call.new_read_faults ≡ call.read_faults
       → Finishes call answer wanted status → Ends call status
-  read_failed : (status : ℕ) → MayFail call.read_faults call.new_read_faults → Finishes call read_fault_text 4 status → Ends call status
-  exhausted : Keeps call.held call.new_held → call.new_write_faults ≡ call.write_faults → Ends call 9
+  read_failed : (status : ℕ) → MayFail call.read_faults call.new_read_faults → Finishes call read_fault_text (code_of ReadFault) status → Ends call status
+  exhausted : Keeps call.held call.new_held → call.new_write_faults ≡ call.write_faults → Ends call (code_of OutOfMemory)

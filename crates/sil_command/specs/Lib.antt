@@ -1,6 +1,6 @@
-pub mod Rules
+pub mod Breaks
 pub mod Marks
-pub mod Faults
+pub mod Violations
 pub mod Lives
 pub mod Words
 pub mod Texts

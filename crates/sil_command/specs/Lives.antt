@@ -11,13 +11,14 @@ use Rattle.mark_patterns.specs.declared.pattern.MarkSort.{MarkSort}
 use Rattle.mark_patterns.specs.declared.pattern.MarkSort.TheVariants.{End, Use, Begin}
 use Rattle.mark_patterns.specs.Along.{IsFirstBreak}
 use Rattle.mark_patterns.specs.Automaton.{mark_step, items_step}
-use Rattle.sil_command.specs.declared.fault.Fault.{Fault}
+use Rattle.sil_command.specs.declared.violation.Violation.{Violation}
 use Rattle.sil_command.specs.declared.life.Life.{Life}
 use Rattle.sil_command.specs.declared.life.Life.TheVariants.{Unborn, Undefined, Defined, Broken}
-use Rattle.sil_command.specs.declared.rule.Rule.TheVariants as rule
-use Rattle.sil_command.specs.Rules.{rule_of}
+use Rattle.sil_rules.specs.declared.limits.TheConstants.{INSTRUCTIONS, VALUES}
+use Rattle.sil_rules.specs.declared.rule.Rule.TheVariants as rule
+use Rattle.sil_command.specs.Breaks.{rule_of}
 use Rattle.sil_command.specs.Marks.{marks_of, returns_at, operands_that_are, results_that_are}
-use Rattle.sil_command.specs.Faults.{IsFirstUndefined}
+use Rattle.sil_command.specs.Violations.{IsFirstUndefined}
 
 -- where a step of the value's automaton leads, at point k
 abbrev pub life_at : ℕ → Step → Life
@@ -88,15 +89,15 @@ pub record IsPlainBlock (b : Block) : Type 0 where
   pub last_names : NamesBelow (number_of_values b) b.terminator
   pub no_return : All (λ i. returns_at i ≡ false) b.insts
   pub returns : returns_at b.terminator ≡ true
-  pub instruction_limit : length b.insts + 1 ≤ 4096
-  pub value_limit : number_of_values b ≤ 1024
+  pub instruction_limit : length b.insts + 1 ≤ INSTRUCTIONS
+  pub value_limit : number_of_values b ≤ VALUES
 
 -- no value is undefined
 abbrev pub NoneUndefined : List Life → Type 0
 NoneUndefined lives = (s k : ℕ) → ¬ (slice_get lives s ≡ Some (Undefined k))
 
--- the fault is of the least undefined value
-pub record IsLeastUndefined (lives : List Life) (f : Fault) : Type 0 where
+-- the violation is of the least undefined value
+pub record IsLeastUndefined (lives : List Life) (f : Violation) : Type 0 where
   pub rule_is : f.rule ≡ rule.Undefined
   pub undefined : slice_get lives f.subject.0 ≡ Some (Undefined f.point)
   pub least : (s k : ℕ) → slice_get lives s ≡ Some (Undefined k) → f.subject.0 ≤ s
@@ -105,8 +106,8 @@ pub record IsLeastUndefined (lives : List Life) (f : Fault) : Type 0 where
 abbrev pub NoneBroken : List Life → List ℕ → Type 0
 NoneBroken lives values = (s k : ℕ) (reason : Break) → Contains values s → ¬ (slice_get lives s ≡ Some (Broken reason k))
 
--- the fault is of the least broken one among these values
-pub record IsLeastBroken (lives : List Life) (values : List ℕ) (f : Fault) : Type 0 where
+-- the violation is of the least broken one among these values
+pub record IsLeastBroken (lives : List Life) (values : List ℕ) (f : Violation) : Type 0 where
   pub among : Contains values f.subject.0
   pub reason : Break
   pub rule_is : f.rule ≡ rule_of reason
@@ -114,6 +115,6 @@ pub record IsLeastBroken (lives : List Life) (values : List ℕ) (f : Fault) : T
   pub least : (s k : ℕ) (other : Break) → Contains values s → slice_get lives s ≡ Some (Broken other k) → f.subject.0 ≤ s
 
 -- the least broken one among these values, if one is broken
-abbrev pub FindsBroken : List Life → List ℕ → Option Fault → Type 0
+abbrev pub FindsBroken : List Life → List ℕ → Option Violation → Type 0
 FindsBroken lives values None = NoneBroken lives values
 FindsBroken lives values (Some f) = IsLeastBroken lives values f

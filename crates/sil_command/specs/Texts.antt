@@ -1,11 +1,11 @@
 -- What the command writes, line by line.
 use Rattle.std.specs.Prelude.{ℕ, List, [], ◌∷◌, ◌++◌, codes, decimal}
 use Rattle.sil_ast.specs.declared.place.Place.{Place}
-use Rattle.written_tree.specs.declared.fault.LimitWord.{LimitWord}
-use Rattle.written_tree.specs.declared.fault.LimitWord.TheVariants as limit
-use Rattle.sil_command.specs.declared.rule.Rule.{Rule}
-use Rattle.sil_command.specs.declared.fault.Fault.{Fault}
-use Rattle.sil_command.specs.Rules.{number_of, name_of}
+use Rattle.sil_rules.specs.declared.limit_word.LimitWord.{LimitWord}
+use Rattle.sil_rules.specs.declared.rule.Rule.{Rule}
+use Rattle.sil_rules.specs.LimitWords.{word_of}
+use Rattle.sil_rules.specs.Rules.{number_of, name_of}
+use Rattle.sil_command.specs.declared.violation.Violation.{Violation}
 
 -- the bytes, and a line feed
 abbrev pub line : List ℕ → List ℕ
@@ -34,22 +34,9 @@ place_words place = codes " at " ++ decimal place.line ++ codes ":" ++ decimal p
 abbrev pub not_a_module_text : List ℕ → Place → List ℕ
 not_a_module_text what place = line (codes "not a module: " ++ what ++ place_words place)
 
-abbrev pub limit_word : LimitWord → List ℕ
-limit_word limit.Text = codes "text"
-limit_word limit.Name = codes "name"
-limit_word limit.Declarations = codes "declarations"
-limit_word limit.Members = codes "members"
-limit_word limit.Arguments = codes "arguments"
-limit_word limit.Functions = codes "functions"
-limit_word limit.Blocks = codes "blocks"
-limit_word limit.Instructions = codes "instructions"
-limit_word limit.Values = codes "values"
-limit_word limit.Depth = codes "depth"
-limit_word limit.Leaves = codes "leaves"
-
 -- the limit that is passed, and the token that passes it
 abbrev pub passed_limit_text : LimitWord → Place → List ℕ
-passed_limit_text what place = line (codes "limit " ++ limit_word what ++ place_words place)
+passed_limit_text what place = line (codes "limit " ++ word_of what ++ place_words place)
 
 -- the first words of a refusal by a rule
 abbrev pub rule_words : Rule → List ℕ
@@ -60,6 +47,6 @@ abbrev pub point_words : List ℕ → ℕ → List ℕ
 point_words function k = codes " @" ++ function ++ codes " bb0:" ++ decimal k
 
 -- the rule and the point, then the value, then the walk, which visits the one block
-abbrev pub refusal_text : List ℕ → Fault → List ℕ
-refusal_text function f =
-    line (rule_words f.rule ++ point_words function f.point) ++ line (codes "subject %" ++ decimal f.subject.0) ++ line (codes "walk bb0")
+abbrev pub refusal_text : List ℕ → Violation → List ℕ
+refusal_text function v =
+    line (rule_words v.rule ++ point_words function v.point) ++ line (codes "subject %" ++ decimal v.subject.0) ++ line (codes "walk bb0")

@@ -1,6 +1,8 @@
 //! The answer to a text: what is written, and the status. No byte is read or written here.
 
 ghost use Rattle.std.specs.Prelude.{◌≤◌, IfOk, length};
+ghost use Rattle.sil_rules.specs.declared.limits.TheConstants.{TEXT_BYTES};
+ghost use Rattle.sil_rules.specs.Statuses.{code_of};
 ghost use Rattle.sil_command.specs.Answers.{AnswersCheck, AnswersModule, AnswersPrint, AnswersText};
 ghost use Rattle.simple_modules.specs.Simple.{IsSimple};
 
@@ -11,6 +13,7 @@ use crate::words::Mode;
 use sil_ast::{Exhausted, Module};
 use sil_grammar::read;
 use sil_printer::print;
+use sil_rules::Status;
 use simple_modules::is_simple;
 use std::alloc::Global;
 
@@ -18,13 +21,13 @@ use std::alloc::Global;
 #[derive(Drop)]
 pub struct Answer {
     pub text: Vec<u8>,
-    pub status: u8,
+    pub status: Status,
 }
 
 /// The answer of a mode to a text: to the module that it spells, or why it isn't read.
 pub fn answer_to(alloc: Global, mode: Mode, text: &[u8]) -> Result<Answer, Exhausted>
-    requires { length text.now ≤ 1048576 }
-    ensures { IfOk result (λ a. AnswersText mode text.now a.text.items a.status) }
+    requires { length text.now ≤ TEXT_BYTES }
+    ensures { IfOk result (λ a. AnswersText mode text.now a.text.items (code_of a.status)) }
 {
     match read(alloc, text) {
         Ok(module) => answer_module(alloc, mode, &module),
@@ -33,7 +36,7 @@ pub fn answer_to(alloc: Global, mode: Mode, text: &[u8]) -> Result<Answer, Exhau
 }
 
 fn answer_module(alloc: Global, mode: Mode, module: &Module) -> Result<Answer, Exhausted>
-    ensures { IfOk result (λ a. AnswersModule mode «module».now a.text.items a.status) }
+    ensures { IfOk result (λ a. AnswersModule mode «module».now a.text.items (code_of a.status)) }
 {
     match mode {
         Mode::Check => check_module(alloc, module),
@@ -43,39 +46,39 @@ fn answer_module(alloc: Global, mode: Mode, module: &Module) -> Result<Answer, E
 
 /// Checks a module, where it is one that the checks know.
 fn check_module(alloc: Global, module: &Module) -> Result<Answer, Exhausted>
-    ensures { IfOk result (λ a. AnswersCheck «module».now a.text.items a.status) }
+    ensures { IfOk result (λ a. AnswersCheck «module».now a.text.items (code_of a.status)) }
 {
     if is_simple(alloc, module)? {
         return check_simple(alloc, module);
     }
     Ok(Answer {
         text: Vec::from_slice(alloc, texts::not_built())?,
-        status: 11,
+        status: Status::NotBuilt,
     })
 }
 
 fn check_simple(alloc: Global, module: &Module) -> Result<Answer, Exhausted>
     requires { IsSimple «module».now }
-    ensures { IfOk result (λ a. AnswersCheck «module».now a.text.items a.status) }
+    ensures { IfOk result (λ a. AnswersCheck «module».now a.text.items (code_of a.status)) }
 {
     let Some(refusal) = first_refusal(alloc, module)? else {
         return Ok(Answer {
             text: Vec::from_slice(alloc, texts::accepted())?,
-            status: 0,
+            status: Status::Done,
         });
     };
     let function = &module.functions.as_slice()[refusal.function.0 as usize];
     Ok(Answer {
-        text: texts::refusal(alloc, function.name.as_slice(), refusal.fault)?,
-        status: 1,
+        text: texts::refusal(alloc, function.name.as_slice(), refusal.violation)?,
+        status: Status::Refused,
     })
 }
 
 fn print_module(alloc: Global, module: &Module) -> Result<Answer, Exhausted>
-    ensures { IfOk result (λ a. AnswersPrint «module».now a.text.items a.status) }
+    ensures { IfOk result (λ a. AnswersPrint «module».now a.text.items (code_of a.status)) }
 {
     Ok(Answer {
         text: print(alloc, module)?.into_vec(),
-        status: 0,
+        status: Status::Done,
     })
 }

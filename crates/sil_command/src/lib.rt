@@ -3,16 +3,16 @@
 #![tactic(auto)]
 
 mod answer;
-mod fault;
+mod breaks;
 mod laws;
 mod life;
 mod lives;
 mod one_block;
 mod reading;
-mod rule;
 mod texts;
 mod top_call;
+mod violation;
 mod words;
 
 pub use laws::{accepted_exactly, not_built_exactly, printed_exactly, printed_texts_read_back};
-pub use top_call::{TEXT_LIMIT, command};
+pub use top_call::command;

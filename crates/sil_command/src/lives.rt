@@ -1,7 +1,8 @@
 //! One pass over a block that keeps the state of each value, by its number.
-//! It doesn't tell which states are faults.
+//! It doesn't tell which states are violations.
 
 ghost use Rattle.std.specs.Prelude.{◌≡◌, [], ◌<◌, ◌≤◌, length, replicate, IfOk, All};
+ghost use Rattle.sil_rules.specs.declared.limits.TheConstants.{VALUES};
 ghost use Rattle.mark_patterns.specs.declared.pattern.MarkSort.TheVariants.{Begin};
 ghost use Rattle.sil_command.specs.Marks.{points_of, operand_mark, operands_equal, results_equal};
 ghost use Rattle.sil_command.specs.Lives.{marks_life, return_life, inst_life, ChangesEach, AreLives, NamesBelow, IsPlainBlock, number_of_values};
@@ -24,7 +25,7 @@ pub(crate) fn lives_of(alloc: Global, block: &Block) -> Result<Vec<Life>, Exhaus
 }
 
 fn value_count(block: &Block) -> usize
-    requires { number_of_values block.now ≤ 1024 }
+    requires { number_of_values block.now ≤ VALUES }
     ensures { result ≡ number_of_values block.now }
 {
     let mut count = 0;

@@ -3,19 +3,22 @@
 
 ghost use Rattle.std.specs.Prelude.{◌≡◌, IfOk};
 ghost use Rattle.sil_grammar.specs.declared.refusal.ReadRefusal.TheVariants.{Lex};
+ghost use Rattle.sil_rules.specs.declared.status.Status.TheVariants.{NotAModule, Limit};
+ghost use Rattle.sil_rules.specs.Statuses.{code_of};
 ghost use Rattle.sil_command.specs.Reading.{AnswersRefusal};
 ghost use Rattle.sil_command.specs.Texts.{not_a_module_text, passed_limit_text};
 
 use crate::answer::Answer;
 use crate::texts;
 use sil_ast::{Exhausted, Place};
-use sil_grammar::{LimitWord, ReadRefusal};
+use sil_grammar::ReadRefusal;
 use sil_lexer::LexRefusal;
+use sil_rules::{LimitWord, Status};
 use std::alloc::Global;
 
 /// The answer to a text that is refused for this reason. Want of memory has none.
 pub(crate) fn answer_refusal(alloc: Global, reason: ReadRefusal) -> Result<Answer, Exhausted>
-    ensures { IfOk result (λ a. AnswersRefusal reason a.text.items a.status) }
+    ensures { IfOk result (λ a. AnswersRefusal reason a.text.items (code_of a.status)) }
 {
     match reason {
         ReadRefusal::Lex(stop) => answer_stop(alloc, stop),
@@ -30,7 +33,7 @@ pub(crate) fn answer_refusal(alloc: Global, reason: ReadRefusal) -> Result<Answe
 }
 
 fn answer_stop(alloc: Global, stop: LexRefusal) -> Result<Answer, Exhausted>
-    ensures { IfOk result (λ a. AnswersRefusal (Lex stop) a.text.items a.status) }
+    ensures { IfOk result (λ a. AnswersRefusal (Lex stop) a.text.items (code_of a.status)) }
 {
     match stop {
         LexRefusal::BadByte(place) => not_a_module(alloc, b"bad byte", place),
@@ -41,20 +44,20 @@ fn answer_stop(alloc: Global, stop: LexRefusal) -> Result<Answer, Exhausted>
 
 fn not_a_module(alloc: Global, what: &[u8], place: Place) -> Result<Answer, Exhausted>
     ensures text { IfOk result (λ a. a.text.items ≡ not_a_module_text what.now place) }
-    ensures status { IfOk result (λ a. a.status ≡ 3) }
+    ensures status { IfOk result (λ a. a.status ≡ NotAModule) }
 {
     Ok(Answer {
         text: texts::not_a_module(alloc, what, place)?,
-        status: 3,
+        status: Status::NotAModule,
     })
 }
 
 fn passed_limit(alloc: Global, what: LimitWord, place: Place) -> Result<Answer, Exhausted>
     ensures text { IfOk result (λ a. a.text.items ≡ passed_limit_text what place) }
-    ensures status { IfOk result (λ a. a.status ≡ 8) }
+    ensures status { IfOk result (λ a. a.status ≡ Limit) }
 {
     Ok(Answer {
         text: texts::passed_limit(alloc, what, place)?,
-        status: 8,
+        status: Status::Limit,
     })
 }

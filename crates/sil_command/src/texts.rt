@@ -1,12 +1,11 @@
 //! The lines of answers, made from typed values. Nothing is decided here.
 
 ghost use Rattle.std.specs.Prelude.{◌≡◌, ◌∷◌, [], ◌++◌, IfOk, OnOk, decimal};
-ghost use Rattle.sil_command.specs.Texts.{usage_text, limit_text, read_fault_text, accepted_text, not_built_text, place_words, not_a_module_text, limit_word, passed_limit_text, rule_words, point_words, refusal_text};
+ghost use Rattle.sil_command.specs.Texts.{usage_text, limit_text, read_fault_text, accepted_text, not_built_text, place_words, not_a_module_text, passed_limit_text, rule_words, point_words, refusal_text};
 
-use crate::fault::Fault;
-use crate::rule::Rule;
+use crate::violation::Violation;
 use sil_ast::{Exhausted, Place};
-use sil_grammar::LimitWord;
+use sil_rules::{LimitWord, Rule};
 use std::alloc::Global;
 
 /// The line for words that are no command line.
@@ -73,30 +72,12 @@ pub fn not_a_module(alloc: Global, what: &[u8], place: Place) -> Result<Vec<u8>,
     Ok(out)
 }
 
-fn limit_word(what: LimitWord) -> &'static [u8]
-    ensures { result.now ≡ limit_word what }
-{
-    match what {
-        LimitWord::Text => b"text",
-        LimitWord::Name => b"name",
-        LimitWord::Declarations => b"declarations",
-        LimitWord::Members => b"members",
-        LimitWord::Arguments => b"arguments",
-        LimitWord::Functions => b"functions",
-        LimitWord::Blocks => b"blocks",
-        LimitWord::Instructions => b"instructions",
-        LimitWord::Values => b"values",
-        LimitWord::Depth => b"depth",
-        LimitWord::Leaves => b"leaves",
-    }
-}
-
 /// The line for a text in which a token passes a limit: the limit, and where.
 pub fn passed_limit(alloc: Global, what: LimitWord, place: Place) -> Result<Vec<u8>, Exhausted>
     ensures { IfOk result (λ text. text.items ≡ passed_limit_text what place) }
 {
     let mut out = Vec::from_slice(alloc, b"limit ")?;
-    out.extend_from_slice(limit_word(what))?;
+    out.extend_from_slice(what.word())?;
     push_place(&mut out, place)?;
     out.push(b'\n')?;
     Ok(out)
@@ -123,14 +104,14 @@ fn push_point(out: &mut Vec<u8>, function: &[u8], point: u32) -> Result<(), Exha
 }
 
 /// The lines of a refusal: the rule and the point, the value, and the walk, which visits the one block.
-pub fn refusal(alloc: Global, function: &[u8], fault: Fault) -> Result<Vec<u8>, Exhausted>
-    ensures { IfOk result (λ text. text.items ≡ refusal_text function.now fault) }
+pub fn refusal(alloc: Global, function: &[u8], violation: Violation) -> Result<Vec<u8>, Exhausted>
+    ensures { IfOk result (λ text. text.items ≡ refusal_text function.now violation) }
 {
     let mut out = Vec::new(alloc);
-    push_rule(&mut out, fault.rule)?;
-    push_point(&mut out, function, fault.point)?;
+    push_rule(&mut out, violation.rule)?;
+    push_point(&mut out, function, violation.point)?;
     out.extend_from_slice(b"\nsubject %")?;
-    push_number(&mut out, fault.subject.0)?;
+    push_number(&mut out, violation.subject.0)?;
     out.extend_from_slice(b"\nwalk bb0\n")?;
     Ok(out)
 }

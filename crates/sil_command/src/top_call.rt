@@ -3,6 +3,8 @@
 ghost use Rattle.std.specs.Prelude.{◌≡◌, ◌⊎◌, ◌<◌, map};
 ghost use Rattle.std.specs.Io.KnownBytes.{Keeps};
 ghost use Rattle.sil_io.specs.Count.{MayFail};
+ghost use Rattle.sil_rules.specs.declared.status.Status.TheVariants.{ReadFault, WriteFault, OutOfMemory};
+ghost use Rattle.sil_rules.specs.Statuses.{code_of};
 ghost use Rattle.sil_command.specs.Words.{IsCommandLine};
 ghost use Rattle.sil_command.specs.Texts.{read_fault_text};
 ghost use Rattle.sil_command.specs.Ends.{WritesAnswer, Exhausts, WritesWhole, WritesFrontOfAnswer, GainsFront, IsStatus, FinishesText, Ends};
@@ -12,10 +14,8 @@ use crate::texts;
 use crate::words::mode_of;
 use sil_ast::Exhausted;
 use sil_io::{ReadEnd, Sink, Source, read_all, write_all};
+use sil_rules::{Status, limits};
 use std::alloc::Global;
-
-/// The most bytes that a text may have.
-pub const TEXT_LIMIT: usize = 1048576;
 
 /// Does what the words ask for: reads a text from the source, writes one answer to the sink, and answers the status.
 ///
@@ -36,17 +36,17 @@ pub fn command<'a, S: Source, K: Sink>(
     // Words that are no command line need no source.
     ensures source_untouched { ¬ IsCommandLine (map (λ w. w.now) words.entry.now) → source.new ≡ source.old }
 
-    ensures read_fault_cause { result ≡ 4 → MayFail (S.faults source.old) (S.faults source.new) }
+    ensures read_fault_cause { result ≡ code_of ReadFault → MayFail (S.faults source.old) (S.faults source.new) }
     ensures read_fault { S.faults source.old < S.faults source.new → ¬ MayFail (K.faults out.old) (K.faults out.new) →
-        WritesWhole (K.held out.old) (K.held out.new) read_fault_text 4 result ⊎ Exhausts (K.held out.old) (K.held out.new) result }
+        WritesWhole (K.held out.old) (K.held out.new) read_fault_text (code_of ReadFault) result ⊎ Exhausts (K.held out.old) (K.held out.new) result }
 
-    ensures write_fault_cause { result ≡ 5 → MayFail (K.faults out.old) (K.faults out.new) }
-    ensures write_fault { K.faults out.old < K.faults out.new → result ≡ 5 }
-    ensures written_front { result ≡ 5 →
+    ensures write_fault_cause { result ≡ code_of WriteFault → MayFail (K.faults out.old) (K.faults out.new) }
+    ensures write_fault { K.faults out.old < K.faults out.new → result ≡ code_of WriteFault }
+    ensures written_front { result ≡ code_of WriteFault →
         WritesFrontOfAnswer (map (λ w. w.now) words.entry.now) (S.left source.old) (K.held out.old) (K.held out.new)
         ⊎ (MayFail (S.faults source.old) (S.faults source.new) × GainsFront (K.held out.old) (K.held out.new) read_fault_text) }
 
-    ensures exhausted { result ≡ 9 → Keeps (K.held out.old) (K.held out.new) }
+    ensures exhausted { result ≡ code_of OutOfMemory → Keeps (K.held out.old) (K.held out.new) }
     ensures statuses { IsStatus result }
 {
     run(alloc, words, source, out)
@@ -72,25 +72,25 @@ fn run<'a, S: Source, K: Sink>(
     ensures source_untouched { ¬ IsCommandLine (map (λ w. w.now) words.entry.now) → source.new ≡ source.old }
 {
     let Some(mode) = mode_of(words) else {
-        return finish(out, texts::usage(), 2);
+        return finish(out, texts::usage(), Status::Usage);
     };
-    match read_all(alloc, source, TEXT_LIMIT) {
+    match read_all(alloc, source, limits::TEXT_BYTES) {
         Ok(text) => match answer_to(alloc, mode, text.as_slice()) {
             Ok(answer) => finish(out, answer.text.as_slice(), answer.status),
-            Err(Exhausted) => 9,
+            Err(Exhausted) => Status::OutOfMemory.code(),
         },
-        Err(ReadEnd::TooLong) => finish(out, texts::limit(), 8),
-        Err(ReadEnd::Fault) => finish(out, texts::read_fault(), 4),
-        Err(ReadEnd::Memory) => 9,
+        Err(ReadEnd::TooLong) => finish(out, texts::limit(), Status::Limit),
+        Err(ReadEnd::Fault) => finish(out, texts::read_fault(), Status::ReadFault),
+        Err(ReadEnd::Memory) => Status::OutOfMemory.code(),
     }
 }
 
-/// Writes a whole text and answers its status, or 5 where a write failed.
-fn finish<K: Sink>(out: &mut K, text: &[u8], status: u8) -> u8
-    ensures { FinishesText (K.held out.old) (K.held out.new) (K.faults out.old) (K.faults out.new) text.now status result }
+/// Writes a whole text and answers its status, or that of a failed write.
+fn finish<K: Sink>(out: &mut K, text: &[u8], status: Status) -> u8
+    ensures { FinishesText (K.held out.old) (K.held out.new) (K.faults out.old) (K.faults out.new) text.now (code_of status) result }
 {
     match write_all(out, text) {
-        Ok(()) => status,
-        Err(_fault) => 5,
+        Ok(()) => status.code(),
+        Err(_fault) => Status::WriteFault.code(),
     }
 }

@@ -10,4 +10,4 @@ mod refusal;
 pub use first_bad::{BadKind, BadPlace, first_bad_place};
 pub use reader::{read, spelled_modules_are_numbered, spelled_once};
 pub use refusal::ReadRefusal;
-pub use written_tree::LimitWord;
+pub use sil_rules::LimitWord;

@@ -10,7 +10,8 @@ use crate::first_bad::{BadKind, BadPlace};
 use name_resolution::NameRefusal;
 use sil_ast::{Exhausted, Place};
 use sil_lexer::{LexRefusal, LexStop};
-use written_tree::{Fault, FaultKind, LimitWord};
+use sil_rules::LimitWord;
+use written_tree::{Fault, FaultKind};
 
 /// Why a text is not read. All places are those of tokens, or the end of the text.
 #[derive(Clone, Copy, Debug, PartialEq, Eq)]

@@ -2,6 +2,7 @@
 use Rattle.std.specs.Prelude.{◌≢◌, ℕ, ◌<◌, ◌≤◌, Bool, false, ◌&&◌, ◌||◌, ◌==◌, List, [], ◌∷◌, ◌++◌, IsTrue, IsFalse, Option, Some, None}
 use Rattle.std.specs.List.{list_all}
 use Rattle.sil_ast.specs.declared.place.Place.{Place}
+use Rattle.sil_rules.specs.declared.limits.TheConstants.{NAME_BYTES}
 use Rattle.sil_lexer.specs.declared.token.TokenKind.{TokenKind}
 use Rattle.sil_lexer.specs.declared.token.LexRefusal.{LexRefusal}
 use Rattle.sil_lexer.specs.declared.token.LexRefusal.TheVariants.{BadByte, UnclosedText, NameTooLong}
@@ -48,14 +49,14 @@ pub data Stops (text : List ℕ) : List ℕ → LexRefusal → Type 0 where
       → Stops text (34 ∷ inside ++ 10 ∷ after) (UnclosedText (place_before text (34 ∷ inside ++ 10 ∷ after)))
   unclosed_at_end : (inside : List ℕ) → IsTrue (list_all is_text_byte inside)
       → Stops text (34 ∷ inside) (UnclosedText (place_before text (34 ∷ inside)))
-  name_too_long : (kind : TokenKind) (spelling after : List ℕ) → IsSpelled kind spelling after → 255 < name_length kind spelling
+  name_too_long : (kind : TokenKind) (spelling after : List ℕ) → IsSpelled kind spelling after → NAME_BYTES < name_length kind spelling
       → Stops text (spelling ++ after) (NameTooLong (place_before text (spelling ++ after)))
 
 -- what is left of the text has these tokens and this stop
 pub data Lexes (text : List ℕ) : List ℕ → List Lexeme → Option LexRefusal → Type 0 where
   end : (left : List ℕ) → Skips left [] → Lexes text left [] None
   token : (left spelling after : List ℕ) (kind : TokenKind) (lexemes : List Lexeme) (stop : Option LexRefusal)
-      → Skips left (spelling ++ after) → IsSpelled kind spelling after → name_length kind spelling ≤ 255
+      → Skips left (spelling ++ after) → IsSpelled kind spelling after → name_length kind spelling ≤ NAME_BYTES
       → Lexes text after lexemes stop
       → Lexes text left (record { kind = kind; place = place_before text (spelling ++ after); spelling = spelling } ∷ lexemes) stop
   stop : (left rest : List ℕ) (refusal : LexRefusal) → Skips left rest → Stops text rest refusal

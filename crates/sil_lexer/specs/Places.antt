@@ -2,6 +2,7 @@
 use Rattle.std.specs.Prelude.{◌≡◌, ℕ, ◌+◌, ◌-◌, ◌≤◌, List, length, take, count_by}
 use Rattle.std.specs.List.{suffix_len}
 use Rattle.sil_ast.specs.declared.place.Place.{Place}
+use Rattle.sil_rules.specs.declared.limits.TheConstants.{TEXT_BYTES}
 use Rattle.sil_lexer.specs.Bytes.{is_line_feed, is_in_line}
 
 -- one line more than there are line feeds before it, and one column more than there are bytes since the last of them
@@ -22,6 +23,6 @@ pub record IsPlaceIn (text : List ℕ) (at : Place) : Type 0 where
   pub inside : at.offset ≤ length text
   pub exact : at ≡ place_of text at.offset
 
--- a text of at most a mebibyte
+-- a text isn't longer than the limit
 abbrev pub IsInLimit : List ℕ → Type 0
-IsInLimit text = length text ≤ 1048576
+IsInLimit text = length text ≤ TEXT_BYTES

@@ -2,6 +2,7 @@
 use Rattle.std.specs.Prelude.{◌≡◌, ℕ, ◌+◌, ◌<◌, ◌≤◌, ◌^◌, Bool, false, ◌||◌, ◌==◌, List, length, take, drop, IsFalse, Result, Ok, Err}
 use Rattle.std.specs.Char.{is_ascii_digit}
 use Rattle.sil_ast.specs.declared.place.Place.{Place}
+use Rattle.sil_rules.specs.declared.limits.TheConstants.{NAME_BYTES}
 use Rattle.sil_lexer.specs.declared.token.TokenKind.{TokenKind}
 use Rattle.sil_lexer.specs.declared.token.TokenKind.TheVariants.{AtName, Percent}
 use Rattle.sil_lexer.specs.declared.token.Token.{Token}
@@ -44,7 +45,7 @@ pub record IsTokenAt (rest : List ℕ) (at : Place) (token : Token) : Type 0 whe
   pub some_byte : 0 < token.length
   pub inside : token.length ≤ length rest
   pub spelled : IsSpelled token.kind (take token.length rest) (drop token.length rest)
-  pub short : name_length token.kind (take token.length rest) ≤ 255
+  pub short : name_length token.kind (take token.length rest) ≤ NAME_BYTES
 
 -- the token at the front of the rest of any text that has the rest at the place, or why there is none
 abbrev pub IsScan : List ℕ → Place → Result Token LexRefusal → Type 0

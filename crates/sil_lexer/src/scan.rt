@@ -12,8 +12,7 @@ use crate::bytes::{digits_length, is_punctuation, is_word_start, name_length, te
 use crate::place::ahead;
 use crate::token::{LexRefusal, Token, TokenKind};
 use sil_ast::Place;
-
-const MAX_NAME_LENGTH: usize = 255;
+use sil_rules::limits;
 
 /// The token at the front of `rest`, which stands at `at` and begins with neither a blank nor a comment.
 pub(crate) fn token_at(rest: &[u8], at: Place) -> Result<Token, LexRefusal>
@@ -47,7 +46,7 @@ fn word_at(rest: &[u8], at: Place) -> Result<Token, LexRefusal>
     ensures { IsScan rest.now at result }
 {
     let length = name_length(rest);
-    if length > MAX_NAME_LENGTH {
+    if length > limits::NAME_BYTES {
         return Err(LexRefusal::NameTooLong(at));
     }
     Ok(Token {
@@ -66,7 +65,7 @@ fn sigil_name_at(rest: &[u8], at: Place, kind: TokenKind) -> Result<Token, LexRe
     if length == 0 {
         return Err(LexRefusal::BadByte(at));
     }
-    if length > MAX_NAME_LENGTH {
+    if length > limits::NAME_BYTES {
         return Err(LexRefusal::NameTooLong(at));
     }
     Ok(Token {

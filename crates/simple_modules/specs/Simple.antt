@@ -19,6 +19,7 @@ use Rattle.sil_ast.specs.declared.type_name.TypeName.TheVariants.{Named}
 use Rattle.simple_modules.specs.declared.kinds.SimpleKind.{SimpleKind}
 use Rattle.simple_modules.specs.declared.kinds.SimpleKind.TheVariants as kind
 use Rattle.simple_modules.specs.Kinds.{simple_kind_of}
+use Rattle.sil_rules.specs.declared.limits.TheConstants.{DECLARATIONS, FUNCTIONS, INSTRUCTIONS, VALUES}
 use Rattle.simple_modules.specs.Instructions.{alloc_ref, copy_value, destroy_value, unit_value, return_unit, unit_type}
 
 -- the type that an operand has in the text, if any
@@ -79,8 +80,8 @@ pub record IsSimpleBlock (classes : List (List ℕ)) (b : Block) : Type 0 where
   pub instructions : AllSimpleInsts classes (value_types b) b.insts
   pub terminator : IsSimpleReturn (value_types b) b.terminator
   pub numbered : AreCountedFrom 0 (defined_values b)
-  pub instruction_limit : length b.insts + 1 ≤ 4096
-  pub value_limit : length (defined_values b) ≤ 1024
+  pub instruction_limit : length b.insts + 1 ≤ INSTRUCTIONS
+  pub value_limit : length (defined_values b) ≤ VALUES
 
 -- `@convention(thin) () -> ()`
 abbrev pub plain_signature : Signature
@@ -109,5 +110,5 @@ pub record IsSimple (m : Module) : Type 0 where
   pub declarations : m.decls ≡ map empty_class classes
   pub functions : AllSimpleFunctions classes m.functions
   pub no_vtables : m.vtables ≡ []
-  pub declaration_limit : length m.decls ≤ 1024
-  pub function_limit : length m.functions ≤ 1024
+  pub declaration_limit : length m.decls ≤ DECLARATIONS
+  pub function_limit : length m.functions ≤ FUNCTIONS

@@ -1,6 +1,7 @@
 //! Simple functions: of one block without arguments, in ownership form, that take and give nothing.
 
 ghost use Rattle.std.specs.Prelude.{◌≡◌, ◌↔◌, ◌≤◌, length, IfOk, IsTrue};
+ghost use Rattle.sil_rules.specs.declared.limits.TheConstants.{VALUES};
 ghost use Rattle.simple_modules.specs.Simple.{AllSimpleFunctions, AllSimpleInsts, AreCountedFrom, IsSimpleBlock, IsSimpleFunction, defined_values, plain_signature};
 
 use crate::instructions::{is_simple_inst, is_simple_return};
@@ -9,11 +10,8 @@ use indexmap::IndexSet;
 use sil_ast::{
     Block, Convention, Exhausted, Form, Function, Inst, Linkage, Signature, Text, TypeName,
 };
+use sil_rules::limits;
 use std::alloc::Global;
-
-const MAX_INSTRUCTIONS: usize = 4096;
-
-const MAX_VALUES: u64 = 1024;
 
 /// Whether every function is a simple one, among the names of classes.
 pub(crate) fn are_simple_functions(
@@ -66,7 +64,7 @@ fn is_simple_block(
     ensures { IfOk result (λ yes. IsTrue yes ↔ IsSimpleBlock classes.now.keys block.now) }
 {
     let insts = block.insts.as_slice();
-    if !block.args.is_empty() || insts.len() >= MAX_INSTRUCTIONS || !are_few_values(block) {
+    if !block.args.is_empty() || insts.len() >= limits::INSTRUCTIONS || !are_few_values(block) {
         return Ok(false);
     }
     let types = value_types(alloc, block)?;
@@ -76,10 +74,10 @@ fn is_simple_block(
 
 // Whether the values are numbered in order, and no more than a function may have.
 fn are_few_values(block: &Block) -> bool
-    ensures { IsTrue result ↔ (AreCountedFrom 0 (defined_values block.now) × (length (defined_values block.now) ≤ 1024)) }
+    ensures { IsTrue result ↔ (AreCountedFrom 0 (defined_values block.now) × (length (defined_values block.now) ≤ VALUES)) }
 {
     match count_values(block) {
-        Some(count) => count <= MAX_VALUES,
+        Some(count) => count <= limits::VALUES as u64,
         None => false,
     }
 }

@@ -7,19 +7,16 @@ ghost use Rattle.simple_modules.specs.Simple.{IsSimple, empty_class};
 use crate::functions::are_simple_functions;
 use indexmap::IndexSet;
 use sil_ast::{Decl, Exhausted, Module, Text, TryClone};
+use sil_rules::limits;
 use std::alloc::Global;
-
-const MAX_DECLARATIONS: usize = 1024;
-
-const MAX_FUNCTIONS: usize = 1024;
 
 /// Whether a module is a simple one, in time in proportion to its size. `Err` comes only where there is no memory left.
 pub fn is_simple(alloc: Global, m: &Module) -> Result<bool, Exhausted>
     ensures { IfOk result (λ yes. IsTrue yes ↔ IsSimple m.now) }
 {
     if !m.vtables.is_empty()
-        || m.decls.len() > MAX_DECLARATIONS
-        || m.functions.len() > MAX_FUNCTIONS
+        || m.decls.len() > limits::DECLARATIONS
+        || m.functions.len() > limits::FUNCTIONS
     {
         return Ok(false);
     }

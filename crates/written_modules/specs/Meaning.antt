@@ -24,6 +24,7 @@ use Rattle.sil_lexer.specs.declared.token.TokenKind.{TokenKind}
 use Rattle.sil_lexer.specs.declared.token.TokenKind.TheVariants as token
 use Rattle.sil_shape.specs.declared.grammar.Production.{Production}
 use Rattle.sil_shape.specs.declared.grammar.Production.TheVariants as p
+use Rattle.sil_rules.specs.declared.limits.TheConstants.{ARGUMENTS}
 use Rattle.written_numbers.specs.Numbers.{literal_of, small_of}
 use Rattle.written_modules.specs.declared.value.Value.{Value}
 use Rattle.written_modules.specs.declared.value.Value.TheVariants as v
@@ -105,9 +106,9 @@ stored o parts = v.Inst (record (row o parts) {
 abbrev pub of_member : Op → List Value → Value
 of_member o parts = v.Inst (record (row o parts) { operands = operand_of (part 1 parts) ∷ []; member = Some (member_of (part 3 parts)) })
 
--- an element's number is from 0 to 63
+-- an element's number is less than the limit on elements
 abbrev pub element_of : List ℕ → Option ℤ
-element_of spelling = option_map pos (small_of 63 spelling)
+element_of spelling = option_map pos (small_of (ARGUMENTS - 1) spelling)
 
 -- a mnemonic, an operand, a comma and the number of an element
 abbrev pub of_element : Op → List Value → Value

@@ -8,7 +8,8 @@ use Rattle.sil_shape.specs.declared.grammar.Production.TheVariants as p
 use Rattle.written_numbers.specs.Numbers.{literal_of, small_of}
 use Rattle.written_tree.specs.declared.fault.Fault.{Fault}
 use Rattle.written_tree.specs.declared.fault.FaultKind.TheVariants.{Limit}
-use Rattle.written_tree.specs.declared.fault.LimitWord.TheVariants as limit
+use Rattle.sil_rules.specs.declared.limits.TheConstants.{ARGUMENTS, BLOCKS, DECLARATIONS, DEPTH, FUNCTIONS, INSTRUCTIONS, MEMBERS, VALUES}
+use Rattle.sil_rules.specs.declared.limit_word.LimitWord.TheVariants as limit
 use Rattle.written_modules.specs.declared.value.Value.{Value}
 use Rattle.written_tree.specs.declared.written_declarations.WrittenToken.{WrittenToken}
 use Rattle.written_tree.specs.declared.written_functions.WrittenBlock.{WrittenBlock}
@@ -17,16 +18,16 @@ use Rattle.written_modules.specs.declared.written_types.TypeList.{TypeList}
 use Rattle.written_tree.specs.Faults.{earlier, fault, out_of_range, passed}
 use Rattle.written_modules.specs.Meaning.{part, place_at, text_at}
 use Rattle.written_tree.specs.Places.{arg_place, attribute_places, case_place, decl_names, field_place, function_names, label_place, mnemonics_of, operand_place, token_place, values_of_block}
-use Rattle.written_modules.specs.Types.{depth_limit, in_parens, type_before, width_of}
+use Rattle.written_modules.specs.Types.{in_parens, type_before, width_of}
 use Rattle.written_modules.specs.Values.{args_of, blocks_of, cases_of, fields_of, givens_of, items_of, questions_of, operands_of, params_of, token_of, tokens_of, type_of, types_of}
 
 -- a type that is one level deeper than one at the limit
 abbrev pub too_deep : ℕ → Place → Option Fault
-too_deep depth last = if depth == depth_limit then Some (fault (Limit limit.Depth) last) else None
+too_deep depth last = if depth == DEPTH then Some (fault (Limit limit.Depth) last) else None
 
 -- a type with some `?` behind it, of which each ends a type of its own
 abbrev pub too_many_questions : ℕ → List Place → Option Fault
-too_many_questions depth questions = if nat_lt depth_limit depth then None else passed limit.Depth (depth_limit - depth) questions
+too_many_questions depth questions = if nat_lt DEPTH depth then None else passed limit.Depth (DEPTH - depth) questions
 
 -- types between two parentheses: one alone is no tuple
 abbrev pub too_deep_among : List TypeName → ℕ → Place → Option Fault
@@ -34,29 +35,29 @@ too_deep_among (t ∷ []) depth last = None
 too_deep_among types depth last = too_deep depth last
 
 abbrev pub tuple_fault : TypeList → Place → Option Fault
-tuple_fault list last = earlier (passed limit.Arguments 64 list.firsts) (too_deep_among list.types list.depth last)
+tuple_fault list last = earlier (passed limit.Arguments ARGUMENTS list.firsts) (too_deep_among list.types list.depth last)
 
 abbrev pub module_fault : List WrittenItem → Option Fault
 module_fault items = earlier
-    (passed limit.Declarations 1024 (map token_place (flat_map decl_names items)))
-    (passed limit.Functions 1024 (map token_place (flat_map function_names items)))
+    (passed limit.Declarations DECLARATIONS (map token_place (flat_map decl_names items)))
+    (passed limit.Functions FUNCTIONS (map token_place (flat_map function_names items)))
 
 abbrev pub body_fault : List WrittenBlock → Option Fault
 body_fault blocks = earlier
-    (passed limit.Blocks 512 (map label_place blocks))
+    (passed limit.Blocks BLOCKS (map label_place blocks))
     (earlier
-    (passed limit.Instructions 4096 (flat_map mnemonics_of blocks))
-    (passed limit.Values 1024 (flat_map values_of_block blocks)))
+    (passed limit.Instructions INSTRUCTIONS (flat_map mnemonics_of blocks))
+    (passed limit.Values VALUES (flat_map values_of_block blocks)))
 
 abbrev pub function_fault : List WrittenToken → List WrittenBlock → Option Fault
-function_fault attributes blocks = earlier (passed limit.Arguments 64 (attribute_places attributes)) (body_fault blocks)
+function_fault attributes blocks = earlier (passed limit.Arguments ARGUMENTS (attribute_places attributes)) (body_fault blocks)
 
 unfoldable pub part_fault : Production → List Value → Option Fault
 part_fault p.WholeModule parts = module_fault (items_of (part 2 parts))
-part_fault p.FinalClass parts = passed limit.Members 64 (map field_place (fields_of (part 4 parts)))
-part_fault p.PlainClass parts = passed limit.Members 64 (map field_place (fields_of (part 3 parts)))
-part_fault p.StructItem parts = passed limit.Members 64 (map field_place (fields_of (part 3 parts)))
-part_fault p.EnumItem parts = passed limit.Members 64 (map case_place (cases_of (part 3 parts)))
+part_fault p.FinalClass parts = passed limit.Members MEMBERS (map field_place (fields_of (part 4 parts)))
+part_fault p.PlainClass parts = passed limit.Members MEMBERS (map field_place (fields_of (part 3 parts)))
+part_fault p.StructItem parts = passed limit.Members MEMBERS (map field_place (fields_of (part 3 parts)))
+part_fault p.EnumItem parts = passed limit.Members MEMBERS (map case_place (cases_of (part 3 parts)))
 part_fault p.FunctionItem parts = function_fault (tokens_of (part 2 parts)) (blocks_of (part 7 parts))
 part_fault p.PayloadSome parts = tuple_fault (type_before (type_of (part 1 parts)) (types_of (part 2 parts))) (place_at 3 parts)
 part_fault p.ParenType parts = earlier
@@ -67,17 +68,17 @@ part_fault p.WeakOpen parts = too_deep (type_of (part 1 parts)).depth (type_of (
 part_fault p.UnownedOpen parts = too_deep (type_of (part 1 parts)).depth (type_of (part 1 parts)).last
 part_fault p.OptionalOf parts = too_deep (type_of (part 1 parts)).depth (place_at 2 parts)
 part_fault p.WholeFunctionType parts = earlier
-    (passed limit.Arguments 64 (params_of (part 5 parts)).firsts)
-    (passed limit.Arguments 64 (givens_of (part 8 parts)).firsts)
-part_fault p.WholeBlock parts = passed limit.Arguments 64 (map arg_place (args_of (part 1 parts)))
-part_fault p.InstNames parts = passed limit.Arguments 64 (map token_place (tokens_of (part 1 parts)))
+    (passed limit.Arguments ARGUMENTS (params_of (part 5 parts)).firsts)
+    (passed limit.Arguments ARGUMENTS (givens_of (part 8 parts)).firsts)
+part_fault p.WholeBlock parts = passed limit.Arguments ARGUMENTS (map arg_place (args_of (part 1 parts)))
+part_fault p.InstNames parts = passed limit.Arguments ARGUMENTS (map token_place (tokens_of (part 1 parts)))
 part_fault p.RowIntegerLiteral parts = out_of_range (literal_of (width_of (type_of (part 2 parts)).ty) (text_at 4 parts)) (place_at 4 parts)
-part_fault p.RowBuiltin parts = passed limit.Arguments 64 (map operand_place (operands_of (part 3 parts)))
-part_fault p.RowStruct parts = passed limit.Arguments 64 (map operand_place (operands_of (part 4 parts)))
-part_fault p.RowTuple parts = passed limit.Arguments 64 (map operand_place (operands_of (part 2 parts)))
-part_fault p.RowTupleExtract parts = out_of_range (small_of 63 (text_at 3 parts)) (place_at 3 parts)
-part_fault p.RowTupleElementAddr parts = out_of_range (small_of 63 (text_at 3 parts)) (place_at 3 parts)
-part_fault p.RowApply parts = passed limit.Arguments 64 (map token_place (token_of (part 1 parts) ∷ tokens_of (part 3 parts)))
-part_fault p.WholeEdge parts = passed limit.Arguments 64 (map operand_place (operands_of (part 1 parts)))
+part_fault p.RowBuiltin parts = passed limit.Arguments ARGUMENTS (map operand_place (operands_of (part 3 parts)))
+part_fault p.RowStruct parts = passed limit.Arguments ARGUMENTS (map operand_place (operands_of (part 4 parts)))
+part_fault p.RowTuple parts = passed limit.Arguments ARGUMENTS (map operand_place (operands_of (part 2 parts)))
+part_fault p.RowTupleExtract parts = out_of_range (small_of (ARGUMENTS - 1) (text_at 3 parts)) (place_at 3 parts)
+part_fault p.RowTupleElementAddr parts = out_of_range (small_of (ARGUMENTS - 1) (text_at 3 parts)) (place_at 3 parts)
+part_fault p.RowApply parts = passed limit.Arguments ARGUMENTS (map token_place (token_of (part 1 parts) ∷ tokens_of (part 3 parts)))
+part_fault p.WholeEdge parts = passed limit.Arguments ARGUMENTS (map operand_place (operands_of (part 1 parts)))
 part_fault p.DebugNumber parts = out_of_range (small_of 65535 (text_at 1 parts)) (place_at 1 parts)
 part_fault _ parts = None

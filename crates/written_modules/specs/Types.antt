@@ -1,27 +1,24 @@
--- Types built up level by level, with how deep they are and where they begin and end. The depth is counted up to 33.
+-- Types built up level by level, with how deep they are and where they begin and end. The depth is counted up to one past the limit.
 use Rattle.std.specs.Prelude.{ℕ, ◌+◌, List, [], ◌∷◌, if◌then◌else◌, ◌&&◌, max, nat_lt}
 use Rattle.sil_ast.specs.declared.place.Place.{Place}
 use Rattle.sil_ast.specs.declared.type_name.TypeName.{TypeName, out-TypeName}
 use Rattle.sil_ast.specs.declared.type_name.TypeName.TheOpen as level
 use Rattle.sil_ast.specs.declared.type_name.TypeName.TheOpen.{TypeName-F}
 use Rattle.sil_ast.specs.declared.type_name.TypeName.TheVariants as ty
+use Rattle.sil_rules.specs.declared.limits.TheConstants.{DEPTH}
 use Rattle.written_modules.specs.declared.value.Value.{Value}
 use Rattle.written_modules.specs.declared.value.Value.TheVariants as v
 use Rattle.written_tree.specs.declared.written_declarations.WrittenToken.{WrittenToken}
 use Rattle.written_modules.specs.declared.written_types.TypeList.{TypeList}
 use Rattle.written_modules.specs.declared.written_types.WrittenType.{WrittenType}
 
--- the limit on levels
-abbrev pub depth_limit : ℕ
-depth_limit = 32
-
 -- one level more
 abbrev pub deeper : ℕ → ℕ
-deeper depth = if nat_lt depth_limit depth then depth else depth + 1
+deeper depth = if nat_lt DEPTH depth then depth else depth + 1
 
 -- a type that is too deep isn't kept
 abbrev pub kept : ℕ → TypeName → TypeName
-kept depth t = if nat_lt depth_limit depth then ty.Tuple [] else t
+kept depth t = if nat_lt DEPTH depth then ty.Tuple [] else t
 
 -- a type one level deeper, and from where to where it stands
 abbrev pub one_deeper : ℕ → TypeName → Place → Place → WrittenType

@@ -8,6 +8,7 @@ use crate::nothing::{bare_inst, skip};
 use crate::prepended::Prepended;
 use crate::value::Value;
 use sil_ast::{Boxed, Exhausted, List, Op};
+use sil_rules::limits;
 use std::alloc::Global;
 use written_numbers::small_number;
 use written_tree::{WrittenInst, WrittenOperand, WrittenToken};
@@ -171,11 +172,11 @@ pub(crate) fn of_element(
     )
 }
 
-/// The number of an element, from 0 to 63.
+/// The number of an element, from 0 on.
 fn element_number(spelling: &[u8]) -> Option<i64>
     ensures { result ≡ element_of spelling.now }
 {
-    match small_number(spelling, 63) {
+    match small_number(spelling, (limits::ARGUMENTS - 1) as u16) {
         Some(number) => Some(i64::from(number)),
         None => None,
     }

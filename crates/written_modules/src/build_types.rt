@@ -8,12 +8,12 @@ ghost use Rattle.written_modules.specs.declared.value.Value.TheVariants as v;
 ghost use Rattle.written_modules.specs.Types.{deeper, in_parens, kept, with_questions, one_deeper, one_token, tailed, type_before};
 ghost use Rattle.written_modules.specs.Values.{token_of};
 
-use crate::limits;
 use crate::nothing::{discard, skip, unit_type};
 use crate::prepended::Prepended;
 use crate::value::Value;
 use crate::written_types::{TypeList, WrittenType};
 use sil_ast::{Boxed, Exhausted, Place, TypeName};
+use sil_rules::limits;
 use sil_shape::grammar::Production;
 use std::alloc::Global;
 use written_tree::WrittenToken;

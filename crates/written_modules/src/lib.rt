@@ -16,7 +16,6 @@ mod counted_parts;
 mod found;
 mod lacking;
 mod leaves;
-mod limits;
 mod list_faults;
 mod nothing;
 mod number_faults;

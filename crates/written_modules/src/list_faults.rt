@@ -1,7 +1,8 @@
 //! Lists that become too long.
 
 ghost use Rattle.std.specs.Prelude.{◌≡◌, ◌∷◌, ◌-◌, map};
-ghost use Rattle.written_tree.specs.declared.fault.LimitWord.TheVariants as limit;
+ghost use Rattle.sil_rules.specs.declared.limits.TheConstants.{ARGUMENTS, MEMBERS};
+ghost use Rattle.sil_rules.specs.declared.limit_word.LimitWord.TheVariants as limit;
 ghost use Rattle.written_tree.specs.Faults as faults;
 ghost use Rattle.written_modules.specs.PartFaults as said;
 ghost use Rattle.written_tree.specs.Places as placed;
@@ -9,10 +10,10 @@ ghost use Rattle.written_modules.specs.Values.{args_of, blocks_of, cases_of, fie
 
 use crate::counted_parts::{Attributes, Declarations, Functions, Instructions, Values};
 use crate::found::{held_place, place_of};
-use crate::limits;
 use crate::prepended::Prepended;
 use crate::value::Value;
-use written_tree::{Fault, LimitWord, WrittenBlock, WrittenItem, earlier, passed};
+use sil_rules::{LimitWord, limits};
+use written_tree::{Fault, WrittenBlock, WrittenItem, earlier, passed};
 
 #[tactic(auto, using(crate::proofs::FoundLemmas::decls_one_by_one, crate::proofs::FoundLemmas::functions_one_by_one))]
 fn module_fault(items: &Prepended<WrittenItem>) -> Option<Fault>
@@ -70,7 +71,7 @@ pub(crate) fn body_fault(value: &Value) -> Option<Fault>
 
 #[tactic(auto, unfolding(crate::specs::Values::fields_of))]
 pub(crate) fn fields_fault(value: &Value) -> Option<Fault>
-    ensures { result ≡ faults.passed limit.Members 64 (map placed.field_place (fields_of value.now)) }
+    ensures { result ≡ faults.passed limit.Members MEMBERS (map placed.field_place (fields_of value.now)) }
 {
     match value {
         Value::Fields(fields) => passed(LimitWord::Members, place_of(fields, limits::MEMBERS)),
@@ -80,7 +81,7 @@ pub(crate) fn fields_fault(value: &Value) -> Option<Fault>
 
 #[tactic(auto, unfolding(crate::specs::Values::cases_of))]
 pub(crate) fn cases_fault(value: &Value) -> Option<Fault>
-    ensures { result ≡ faults.passed limit.Members 64 (map placed.case_place (cases_of value.now)) }
+    ensures { result ≡ faults.passed limit.Members MEMBERS (map placed.case_place (cases_of value.now)) }
 {
     match value {
         Value::Cases(cases) => passed(LimitWord::Members, place_of(cases, limits::MEMBERS)),
@@ -90,7 +91,7 @@ pub(crate) fn cases_fault(value: &Value) -> Option<Fault>
 
 #[tactic(auto, unfolding(crate::specs::Values::args_of))]
 pub(crate) fn args_fault(value: &Value) -> Option<Fault>
-    ensures { result ≡ faults.passed limit.Arguments 64 (map placed.arg_place (args_of value.now)) }
+    ensures { result ≡ faults.passed limit.Arguments ARGUMENTS (map placed.arg_place (args_of value.now)) }
 {
     match value {
         Value::Args(args) => passed(LimitWord::Arguments, place_of(args, limits::ARGUMENTS)),
@@ -100,7 +101,7 @@ pub(crate) fn args_fault(value: &Value) -> Option<Fault>
 
 #[tactic(auto, unfolding(crate::specs::Values::operands_of))]
 pub(crate) fn operands_fault(value: &Value) -> Option<Fault>
-    ensures { result ≡ faults.passed limit.Arguments 64 (map placed.operand_place (operands_of value.now)) }
+    ensures { result ≡ faults.passed limit.Arguments ARGUMENTS (map placed.operand_place (operands_of value.now)) }
 {
     match value {
         Value::Operands(operands) => passed(
@@ -113,7 +114,7 @@ pub(crate) fn operands_fault(value: &Value) -> Option<Fault>
 
 #[tactic(auto, unfolding(crate::specs::Values::tokens_of))]
 pub(crate) fn names_fault(value: &Value) -> Option<Fault>
-    ensures { result ≡ faults.passed limit.Arguments 64 (map placed.token_place (tokens_of value.now)) }
+    ensures { result ≡ faults.passed limit.Arguments ARGUMENTS (map placed.token_place (tokens_of value.now)) }
 {
     match value {
         Value::Tokens(names) => passed(LimitWord::Arguments, place_of(names, limits::ARGUMENTS)),
@@ -124,7 +125,7 @@ pub(crate) fn names_fault(value: &Value) -> Option<Fault>
 /// The fault of names behind a first one.
 #[tactic(auto, unfolding(crate::specs::Values::tokens_of))]
 pub(crate) fn other_names_fault(first: &Value, others: &Value) -> Option<Fault>
-    ensures { result ≡ faults.passed limit.Arguments 64 (map placed.token_place (token_of first.now ∷ tokens_of others.now)) }
+    ensures { result ≡ faults.passed limit.Arguments ARGUMENTS (map placed.token_place (token_of first.now ∷ tokens_of others.now)) }
 {
     match others {
         Value::Tokens(names) => passed(
@@ -137,7 +138,7 @@ pub(crate) fn other_names_fault(first: &Value, others: &Value) -> Option<Fault>
 
 #[tactic(auto, using(crate::proofs::FoundLemmas::kept_one_by_one), unfolding(crate::specs::Values::tokens_of))]
 pub(crate) fn attributes_fault(value: &Value) -> Option<Fault>
-    ensures { result ≡ faults.passed limit.Arguments 64 (placed.attribute_places (tokens_of value.now)) }
+    ensures { result ≡ faults.passed limit.Arguments ARGUMENTS (placed.attribute_places (tokens_of value.now)) }
 {
     match value {
         Value::Tokens(words) => passed(
@@ -150,7 +151,7 @@ pub(crate) fn attributes_fault(value: &Value) -> Option<Fault>
 
 #[tactic(auto, unfolding(crate::specs::Values::params_of))]
 pub(crate) fn params_fault(value: &Value) -> Option<Fault>
-    ensures { result ≡ faults.passed limit.Arguments 64 (params_of value.now).firsts }
+    ensures { result ≡ faults.passed limit.Arguments ARGUMENTS (params_of value.now).firsts }
 {
     match value {
         Value::Params(list) => passed(
@@ -163,7 +164,7 @@ pub(crate) fn params_fault(value: &Value) -> Option<Fault>
 
 #[tactic(auto, unfolding(crate::specs::Values::givens_of))]
 pub(crate) fn givens_fault(value: &Value) -> Option<Fault>
-    ensures { result ≡ faults.passed limit.Arguments 64 (givens_of value.now).firsts }
+    ensures { result ≡ faults.passed limit.Arguments ARGUMENTS (givens_of value.now).firsts }
 {
     match value {
         Value::Givens(list) => passed(

@@ -16,6 +16,7 @@ use crate::type_faults::{
     one_deeper_fault, optional_fault, paren_fault, payload_fault, questions_fault,
 };
 use crate::value::Value;
+use sil_rules::limits;
 use sil_shape::grammar::Production;
 use written_tree::{Fault, earlier};
 
@@ -82,7 +83,7 @@ pub(crate) fn part_fault(production: Production, values: &Prepended<Value>) -> O
         Production::RowTuple => operands_fault(part(values, production, 2)),
         Production::RowTupleExtract | Production::RowTupleElementAddr => small_fault(
             part(values, production, 3),
-            63,
+            (limits::ARGUMENTS - 1) as u16,
         ),
         Production::RowApply => other_names_fault(
             part(values, production, 1),

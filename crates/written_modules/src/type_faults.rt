@@ -9,12 +9,12 @@ ghost use Rattle.written_modules.specs.Types.{in_parens, type_before};
 ghost use Rattle.written_modules.specs.Values.{questions_of, token_of, type_of, types_of};
 
 use crate::build_types::deeper;
-use crate::limits;
 use crate::nothing::NO_PLACE;
 use crate::number_faults::place_in;
 use crate::value::Value;
 use sil_ast::Place;
-use written_tree::{Fault, LimitWord, earlier, limit_fault, passed};
+use sil_rules::{LimitWord, limits};
+use written_tree::{Fault, earlier, limit_fault, passed};
 
 #[tactic(auto, unfolding(crate::specs::Values::type_of))]
 fn depth_of(ty: &Value) -> u32

@@ -5,8 +5,8 @@ use Rattle.sil_ast.specs.declared.place.Place.{Place}
 use Rattle.written_tree.specs.declared.fault.Fault.{Fault}
 use Rattle.written_tree.specs.declared.fault.FaultKind.{FaultKind}
 use Rattle.written_tree.specs.declared.fault.FaultKind.TheVariants.{NumberRange, Limit}
-use Rattle.written_tree.specs.declared.fault.LimitWord.{LimitWord}
-use Rattle.written_tree.specs.declared.fault.LimitWord.TheVariants as limit
+use Rattle.sil_rules.specs.declared.limit_word.LimitWord.{LimitWord}
+use Rattle.sil_rules.specs.declared.limit_word.LimitWord.TheVariants as limit
 
 -- where one token passes two limits, the order is this
 unfoldable pub limit_rank : LimitWord → ℕ

@@ -5,8 +5,9 @@ ghost use Rattle.std.specs.Option.{option_map};
 ghost use Rattle.written_tree.specs.declared.fault.FaultKind.TheVariants.{Limit};
 ghost use Rattle.written_tree.specs.Faults as said;
 
-use crate::fault::{Fault, FaultKind, LimitWord};
+use crate::fault::{Fault, FaultKind};
 use sil_ast::Place;
+use sil_rules::LimitWord;
 
 #[tactic(auto, unfolding(crate::specs::Faults::limit_rank))]
 fn limit_rank(what: LimitWord) -> u8

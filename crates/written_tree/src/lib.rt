@@ -9,7 +9,7 @@ mod written_functions;
 mod written_instructions;
 mod written_module;
 
-pub use fault::{Fault, FaultKind, LimitWord};
+pub use fault::{Fault, FaultKind};
 pub use fault_order::{earlier, limit_fault, out_of_range, passed};
 pub use written_declarations::{WrittenCase, WrittenDecl, WrittenField, WrittenToken};
 pub use written_functions::{WrittenArg, WrittenBlock, WrittenFunction};

@@ -12,8 +12,8 @@ returns-then-length-eq0 c =
     let count = rw take_rest at c.name_length-length.ensures.value in
     stops_at_sigil c.args.at c.args.kind c.args.rest.now c.requires.first (sym count ∙ c.if-length-eq0.true)
 
-pub returns-then-length-gt-MAX_NAME_LENGTH : goal.returns-then-length-gt-MAX_NAME_LENGTH
-returns-then-length-gt-MAX_NAME_LENGTH c =
+pub returns-then-length-gt-NAME_BYTES : goal.returns-then-length-gt-NAME_BYTES
+returns-then-length-gt-NAME_BYTES c =
     let rest = c.args.rest.now in
     let count = rw take_rest at c.name_length-length.ensures.value in
     let whole = length-drop 1 rest in

@@ -6,8 +6,8 @@ use Rattle.sil_lexer.proofs.SpellLemmas.{takes_word, token_is}
 use Rattle.sil_lexer.proofs.StopLemmas.{stops_at_long_name}
 use Rattle.sil_lexer.proofs.scan.word_at.Goals as goal
 
-pub returns-then-length-gt-MAX_NAME_LENGTH : goal.returns-then-length-gt-MAX_NAME_LENGTH
-returns-then-length-gt-MAX_NAME_LENGTH c =
+pub returns-then-length-gt-NAME_BYTES : goal.returns-then-length-gt-NAME_BYTES
+returns-then-length-gt-NAME_BYTES c =
     let rest = c.args.rest.now in
     let size = length-take-le (prefix_len is_name_byte rest) rest (omega arith) in
     stops_at_long_name rest c.args.at Word _ (takes_word rest c.requires.first) (omega arith)

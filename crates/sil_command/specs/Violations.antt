@@ -1,17 +1,17 @@
--- Which faults a function of one block shows, which of them comes first, and which modules are accepted.
-use Rattle.std.specs.Prelude.{◌≡◌, ℕ, ◌<◌, ◌⊎◌, List, [], ◌∷◌, ◌++◌, ⊤, length, sum_by}
+-- Which violations a function of one block shows, which of them comes first, and which modules are accepted.
+use Rattle.std.specs.Prelude.{◌≡◌, ℕ, ◌<◌, List, [], ◌∷◌, ◌++◌, ⊤, length, sum_by}
 use Rattle.sil_ast.specs.declared.function.Block.{Block}
 use Rattle.sil_ast.specs.declared.function.Function.{Function}
 use Rattle.sil_ast.specs.declared.inst.Inst.{Inst}
 use Rattle.sil_ast.specs.declared.module.Module.{Module}
 use Rattle.mark_patterns.specs.declared.pattern.Break.{Break}
-use Rattle.mark_patterns.specs.declared.pattern.Break.TheVariants.{UseOutside, EndOutside, ReturnInside, BeginInside}
 use Rattle.mark_patterns.specs.Along.{IsFirstBreak}
-use Rattle.sil_command.specs.declared.rule.Rule.{Rule}
-use Rattle.sil_command.specs.declared.rule.Rule.TheVariants as rule
-use Rattle.sil_command.specs.declared.fault.Fault.{Fault}
-use Rattle.sil_command.specs.declared.fault.Refusal.{Refusal}
-use Rattle.sil_command.specs.Rules.{number_of, group_of}
+use Rattle.sil_rules.specs.declared.rule.Rule.{Rule}
+use Rattle.sil_rules.specs.declared.rule.Rule.TheVariants.{Undefined}
+use Rattle.sil_rules.specs.Order.{IsLeast, key_in_function}
+use Rattle.sil_command.specs.declared.violation.Violation.{Violation}
+use Rattle.sil_command.specs.declared.violation.Refusal.{Refusal}
+use Rattle.sil_command.specs.Breaks.{rule_of}
 use Rattle.sil_command.specs.Marks.{points_of, marks_of, returns_at, operands_that_are, results_that_are, IsOwned}
 
 -- the value is an operand at point k, and neither an operand nor defined before it
@@ -31,33 +31,27 @@ pub record BreaksAt (b : Block) (s k : ℕ) (reason : Break) : Type 0 where
   pub broken : IsFirstBreak (marks_of s) returns_at (points_of b) k reason
 
 -- the walk from the entry to the end of the block shows the rule for the value, at the point
-abbrev pub Shows : Block → Rule → ℕ → ℕ → Type 0
-Shows b rule.Undefined s k = IsFirstUndefined (points_of b) s k
-Shows b rule.UseAfterConsume s k = BreaksAt b s k UseOutside
-Shows b rule.DoubleConsume s k = BreaksAt b s k EndOutside
-Shows b rule.Leak s k = BreaksAt b s k ReturnInside
-Shows b rule.Overwritten s k = BreaksAt b s k BeginInside
+pub data Shows (b : Block) (r : Rule) (s k : ℕ) : Type 0 where
+  undefined : r ≡ Undefined → IsFirstUndefined (points_of b) s k → Shows b r s k
+  breaks : (reason : Break) → r ≡ rule_of reason → BreaksAt b s k reason → Shows b r s k
 
-abbrev pub ShowsFault : Block → Fault → Type 0
-ShowsFault b f = Shows b f.rule f.subject.0 f.point
+abbrev pub ShowsViolation : Block → Violation → Type 0
+ShowsViolation b v = Shows b v.rule v.subject.0 v.point
 
 -- first by the group of the rule, then by the value, then by the rule
-abbrev pub ComesBefore : Fault → Fault → Type 0
-ComesBefore f g =
-    (group_of f.rule < group_of g.rule)
-    ⊎ ((group_of f.rule ≡ group_of g.rule) × ((f.subject.0 < g.subject.0) ⊎ ((f.subject.0 ≡ g.subject.0) × (number_of f.rule < number_of g.rule))))
+abbrev pub key_of : Violation → List ℕ
+key_of v = key_in_function v.subject.0 v.rule
 
-pub record IsFirstFault (b : Block) (f : Fault) : Type 0 where
-  pub shown : ShowsFault b f
-  pub first : (g : Fault) → ShowsFault b g → ¬ ComesBefore g f
+abbrev pub IsFirstViolation : Block → Violation → Type 0
+IsFirstViolation b = IsLeast key_of (ShowsViolation b)
 
--- the block shows no fault
-abbrev pub IsFaultless : Block → Type 0
-IsFaultless b = (f : Fault) → ¬ ShowsFault b f
+-- the block shows no violation
+abbrev pub ShowsNone : Block → Type 0
+ShowsNone b = (v : Violation) → ¬ ShowsViolation b v
 
--- the function keeps the rules: its block shows no fault
+-- the function keeps the rules: its block shows no violation
 abbrev pub KeepsRules : Function → Type 0
-KeepsRules f = (b : Block) → f.blocks ≡ b ∷ [] → IsFaultless b
+KeepsRules f = (b : Block) → f.blocks ≡ b ∷ [] → ShowsNone b
 
 abbrev pub AllKeepRules : List Function → Type 0
 AllKeepRules [] = ⊤
@@ -67,7 +61,7 @@ AllKeepRules (f ∷ fs) = KeepsRules f × AllKeepRules fs
 abbrev pub Accepted : Module → Type 0
 Accepted m = AllKeepRules m.functions
 
--- the functions before it keep the rules, and this is the first fault of the function
+-- the functions before it keep the rules, and this is the first violation of the function
 pub record IsRefusal (m : Module) (r : Refusal) : Type 0 where
   pub before : List Function
   pub function : Function
@@ -77,4 +71,4 @@ pub record IsRefusal (m : Module) (r : Refusal) : Type 0 where
   pub place : r.function.0 ≡ length before
   pub kept : AllKeepRules before
   pub one_block : function.blocks ≡ block ∷ []
-  pub fault : IsFirstFault block r.fault
+  pub violation : IsFirstViolation block r.violation

@@ -5,12 +5,12 @@ use Rattle.sil_command.specs.Marks.{owned_by}
 use Rattle.sil_command.specs.Lives.{NoneUndefined, IsLeastUndefined, FindsBroken, number_of_values}
 use Rattle.sil_command.proofs.PlainBlocks.{results_below}
 use Rattle.sil_command.proofs.Verdicts.{first_undefined, judged}
-use Rattle.sil_command.proofs.one_block.first_fault.Goals as goal
+use Rattle.sil_command.proofs.one_block.first_violation.Goals as goal
 
 pub returns-in-Some : goal.returns-in-Some
 returns-in-Some c =
-    first_undefined c.args.block.now c.in_ok-lives.lives.items c.requires c.in_ok-lives.ensures.len c.in_ok-lives.ensures.lives c.in-Some.fault
-    (subst (λ lives. IsLeastUndefined lives c.in-Some.fault) c.as_slice.ensures.value c.in-Some.ensures)
+    first_undefined c.args.block.now c.in_ok-lives.lives.items c.requires c.in_ok-lives.ensures.len c.in_ok-lives.ensures.lives c.in-Some.violation
+    (subst (λ lives. IsLeastUndefined lives c.in-Some.violation) c.as_slice.ensures.value c.in-Some.ensures)
 
 pub least_broken-requires : goal.least_broken-requires
 least_broken-requires c =
