@@ -75,7 +75,7 @@ fn print_module(alloc: Global, module: &Module) -> Result<Answer, Exhausted>
     ensures { IfOk result (λ a. AnswersPrint «module».now a.text.items a.status) }
 {
     Ok(Answer {
-        text: print(alloc, module)?.into_vec(),
+        text: print(alloc, module)?.into_vec()?,
         status: 0,
     })
 }
