@@ -1,9 +1,8 @@
 //! Instructions and blocks, with numbers for their names. What has no name is moved out of the written module.
 
-ghost use Rattle.std.specs.Prelude.{◌≡◌, ◌+◌, List, Option, length, map, IfOk, OnOk};
+ghost use Rattle.std.specs.Prelude.{◌≡◌, ◌+◌, length, map, IfOk, OnOk};
 ghost use Rattle.std.specs.List.{flat_map};
 ghost use Rattle.std.specs.Option.{option_map};
-ghost use Rattle.name_resolution.specs.Names.{Name};
 ghost use Rattle.name_resolution.specs.Resolved.{Scope, counted, defined_by_inst, defined_in, function_of, resolved_args, resolved_block, resolved_blocks, resolved_edge, resolved_inst, resolved_insts, resolved_operand};
 ghost use Rattle.name_resolution.specs.Tables.{FindsScope};
 
@@ -168,19 +167,20 @@ fn resolve_results(
     ensures results { IfOk result (λ results. results ≡ counted next.old (defined_by_inst inst.now)) }
     ensures next { OnOk result (next.new ≡ next.old + length (defined_by_inst inst.now)) }
 {
-    let count = count_of_results(inst);
-    let results = counted_from(alloc, *next, count)?;
-    *next = advanced(*next, count)?;
+    let results = counted_results(alloc, *next, inst)?;
+    *next = advanced(*next, count_of_results(inst))?;
     Ok(results)
 }
 
-// As many numbers as there are values.
 #[tactic(auto, using(std::proofs::lemmas::Grind::common_steps, crate::proofs::ResolvedLemmas::counted_more))]
-fn counted_from(alloc: Global, first: u32, count: usize) -> Result<List<ValueId>, Exhausted>
-    ghost values: { List (Option Name) }
-    requires { count ≡ length values }
-    ensures { IfOk result (λ results. results ≡ counted first values) }
+fn counted_results(
+    alloc: Global,
+    first: u32,
+    inst: &WrittenInst,
+) -> Result<List<ValueId>, Exhausted>
+    ensures { IfOk result (λ results. results ≡ counted first (defined_by_inst inst.now)) }
 {
+    let count = count_of_results(inst);
     let mut results = List::with_capacity(alloc, count)?;
     for i in 0..count {
         results.push(ValueId(advanced(first, i)?))?;

@@ -28,14 +28,14 @@ pub(crate) fn resolve_items(
     alloc: Global,
     numbering: &Numbering,
     items: List<WrittenItem>,
-    module: &mut Module,
+    whole: &mut Module,
 ) -> Result<(), Exhausted>
     ghost names: { List Name }
     requires { FindsNames numbering.now names }
-    ensures { OnOk result (module.new ≡ with_items names module.old items) }
+    ensures { OnOk result (whole.new ≡ with_items names whole.old items) }
 {
     for item in items.into_vec() {
-        resolve_item(alloc, numbering, item, module)?;
+        resolve_item(alloc, numbering, item, whole)?;
     }
     Ok(())
 }
@@ -44,20 +44,16 @@ fn resolve_item(
     alloc: Global,
     numbering: &Numbering,
     item: WrittenItem,
-    module: &mut Module,
+    whole: &mut Module,
 ) -> Result<(), Exhausted>
     ghost names: { List Name }
     requires { FindsNames numbering.now names }
-    ensures { OnOk result (module.new ≡ with_items names module.old (item ∷ [])) }
+    ensures { OnOk result (whole.new ≡ with_items names whole.old (item ∷ [])) }
 {
     match item {
-        WrittenItem::Decl(decl) => module.decls.push(resolve_decl(alloc, decl)?),
-        WrittenItem::Function(f) => {
-            module
-                .functions
-                .push(resolve_function(alloc, numbering, f)?)
-        }
-        WrittenItem::Vtable(vtable) => module.vtables.push(resolve_vtable(numbering, vtable)),
+        WrittenItem::Decl(decl) => whole.decls.push(resolve_decl(alloc, decl)?),
+        WrittenItem::Function(f) => { whole.functions.push(resolve_function(alloc, numbering, f)?) }
+        WrittenItem::Vtable(vtable) => whole.vtables.push(resolve_vtable(numbering, vtable)),
     }
 }
 

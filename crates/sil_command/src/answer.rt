@@ -13,6 +13,7 @@ use sil_grammar::read;
 use sil_printer::print;
 use simple_modules::is_simple;
 use std::alloc::Global;
+use std::mem::forget;
 
 /// What the command writes, and the status with which it ends.
 #[derive(Drop)]
@@ -27,7 +28,12 @@ pub fn answer_to(alloc: Global, mode: Mode, text: &[u8]) -> Result<Answer, Exhau
     ensures { IfOk result (λ a. AnswersText mode text.now a.text.items a.status) }
 {
     match read(alloc, text) {
-        Ok(module) => answer_module(alloc, mode, &module),
+        Ok(module) => {
+            let answer = answer_module(alloc, mode, &module);
+            // The program ends behind this: the memory needn't be given back piece by piece.
+            forget(module);
+            answer
+        }
         Err(reason) => answer_refusal(alloc, reason),
     }
 }

@@ -7,4 +7,4 @@ abbrev pub ghost-resolve_item : goal.ghost-resolve_item
 ghost-resolve_item g a = g.names
 
 abbrev pub invariant-loop-item : goal.invariant-loop-item
-invariant-loop-item g l = with_items g.names l.initial.module l.fn.items ≡ with_items g.names l.module (into_iter_items l.item-iterator)
+invariant-loop-item g l = with_items g.names l.initial.whole l.fn.items ≡ with_items g.names l.whole (into_iter_items l.item-iterator)
