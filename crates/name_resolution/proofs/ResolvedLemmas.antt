@@ -1,16 +1,19 @@
 -- What is resolved, in parts.
-use Rattle.std.proofs.Common.{◌≡◌, ℕ, ◌+◌, ◌<◌, List, [], ◌∷◌, ◌++◌, length, get_or, take, map, sym, ap, ◌∙◌, add_assoc, length-append, arith}
+use Rattle.std.proofs.Common.{◌≡◌, ℕ, ◌+◌, ◌<◌, List, [], ◌∷◌, ◌++◌, length, get_or, take, map, refl, sym, ap, ◌∙◌, add_assoc, append_assoc, length-append, arith}
 use Rattle.std.specs.Prelude.{Option, None}
 use Rattle.std.specs.List.{flat_map}
 use Rattle.std.proofs.lemmas.Grind.{flat_map-append}
 use Rattle.std.proofs.lemmas.List.{append-nil, length-take-le, map-append, take_more}
+use Rattle.name_resolution.specs.Items.{with_items}
+use Rattle.sil_ast.specs.declared.module.Module.{Module}
+use Rattle.written_tree.specs.declared.written_module.WrittenItem.{WrittenItem}
 use Rattle.sil_ast.specs.declared.function.Block.{Block}
 use Rattle.sil_ast.specs.declared.place.ValueId.{ValueId}
 use Rattle.written_tree.specs.declared.written_functions.WrittenArg.{WrittenArg}
 use Rattle.written_tree.specs.declared.written_functions.WrittenBlock.{WrittenBlock}
 use Rattle.written_tree.specs.declared.written_instructions.WrittenInst.{WrittenInst}
-use Rattle.name_resolution.specs.Names.{Name}
-use Rattle.name_resolution.specs.Resolved.{Scope, counted, defined_by_inst, defined_in, resolved_args, resolved_block, resolved_blocks, resolved_inst, resolved_insts}
+use Rattle.name_resolution.specs.Names.{Name, decls_of, functions_of, vtables_of}
+use Rattle.name_resolution.specs.Resolved.{Scope, counted, defined_by_inst, defined_in, resolved_args, resolved_block, resolved_blocks, resolved_decl, resolved_function, resolved_inst, resolved_insts, resolved_vtable}
 
 -- the numbers behind those of an element and of what follows it
 behind : {X : Type 0} (first : ℕ) (xs ys : List X) → (first + length xs) + length ys ≡ first + length (xs ++ ys)
@@ -54,23 +57,20 @@ counted_more first i values inside =
     ∙ counted_append first (take i values) (get_or values i None ∷ [])
     ∙ ap (λ n. counted first (take i values) ++ record { 0 = first + n } ∷ []) (length-take-le i values (omega arith))
 
-module _ {X : Type 0} (xs : List X) (i : ℕ) (x : X) (inside : i < length xs) (is : x ≡ get_or xs i x) where
-  take_on : take (i + 1) xs ≡ take i xs ++ x ∷ []
-  take_on = take_more xs i x inside ∙ ap (λ y. take i xs ++ y ∷ []) (sym is)
+-- one element on: what is built takes it over from what is left
+pub moved_on : {X : Type 0} (whole built after : List X) (x : X) (rest : List X) → whole ≡ built ++ x ∷ rest → after ≡ built ++ x ∷ [] → whole ≡ after ++ rest
+moved_on whole built after x rest w a = w ∙ sym (ap (λ l. l ++ rest) a ∙ append_assoc built (x ∷ []) rest)
 
-  -- one element on
-  pub built_more : {Y : Type 0} (f : X → Y) (built after : List Y) (y : Y) → built ≡ map f (take i xs) → after ≡ built ++ y ∷ [] → y ≡ f x → after ≡ map f (take (i + 1) xs)
-  built_more f built after y b a e =
-      a ∙ ap (λ l. l ++ y ∷ []) b ∙ ap (λ z. map f (take i xs) ++ z ∷ []) e ∙ sym (ap (map f) take_on ∙ map-append f (take i xs) (x ∷ []))
+-- as many of each kind, one by one
+pub mapped_more : {X Y Z : Type 0} (h : Y → Z) (f : X → List Y) (built : List Z) (x : X) (rest : List X) → (built ++ map h (flat_map f (x ∷ []))) ++ map h (flat_map f rest) ≡ built ++ map h (flat_map f (x ∷ rest))
+mapped_more h f built x rest =
+    append_assoc built (map h (f x ++ [])) (map h (flat_map f rest))
+    ∙ ap (λ l. built ++ (map h l ++ map h (flat_map f rest))) (append-nil (f x))
+    ∙ ap (λ l. built ++ l) (sym (map-append h (f x) (flat_map f rest)))
 
-  pub length_more : {Y : Type 0} (f : X → List Y) (next after : ℕ) → next ≡ length (flat_map f (take i xs)) → after ≡ next + length (f x) → after ≡ length (flat_map f (take (i + 1) xs))
-  length_more f next after n a =
-      a ∙ ap (λ m. m + length (f x)) n ∙ sym (ap (λ l. length (flat_map f l)) take_on ∙ ap length (flat_map-append f (take i xs) (x ∷ [])) ∙ length-append (flat_map f (take i xs)) (f x ++ []) ∙ ap (λ l. length (flat_map f (take i xs)) + length l) (append-nil (f x)))
+pub items_more : (names : List Name) (m : Module) (x : WrittenItem) (rest : List WrittenItem) → with_items names (with_items names m (x ∷ [])) rest ≡ with_items names m (x ∷ rest)
+items_more names m x rest =
+    rw (mapped_more resolved_decl decls_of m.decls x rest, mapped_more (resolved_function names) functions_of m.functions x rest, mapped_more (resolved_vtable names) vtables_of m.vtables x rest) refl
 
-pub blocks_more : (s : Scope) (xs : List WrittenBlock) (i : ℕ) (x : WrittenBlock) → i < length xs → x ≡ get_or xs i x → (built after : List Block) (y : Block) (next : ℕ) → built ≡ resolved_blocks s 0 (take i xs) → next ≡ length (flat_map defined_in (take i xs)) → after ≡ built ++ y ∷ [] → y ≡ resolved_block s next x → after ≡ resolved_blocks s 0 (take (i + 1) xs)
-blocks_more s xs i x inside is built after y next b n a e =
-    let first : next ≡ 0 + length (flat_map defined_in (take i xs)) = n ∙ (omega arith) in
-    a
-    ∙ ap (λ l. l ++ y ∷ []) b
-    ∙ ap (λ z. resolved_blocks s 0 (take i xs) ++ z ∷ []) (e ∙ ap (λ m. resolved_block s m x) first)
-    ∙ sym (ap (resolved_blocks s 0) (take_on xs i x inside is) ∙ resolved_blocks_append s 0 (take i xs) (x ∷ []))
+pub items_done : (names : List Name) (m : Module) → with_items names m [] ≡ m
+items_done names m = rw (append-nil m.decls, append-nil m.functions, append-nil m.vtables) refl

@@ -1,4 +1,5 @@
 pub mod Defined
+pub mod Items
 pub mod NameFaults
 pub mod Names
 pub mod Numbered

@@ -2,10 +2,11 @@
 use Rattle.std.specs.Prelude.{◌≡◌, List, Option, map, position, unwrap_or}
 use Rattle.std.specs.List.{flat_map}
 use Rattle.std.specs.Str.{bytes_eq}
+use Rattle.written_tree.specs.declared.written_functions.WrittenBlock.{WrittenBlock}
 use Rattle.written_tree.specs.declared.written_module.WrittenItem.{WrittenItem}
-use Rattle.name_resolution.specs.Names.{Name, function_name, functions_of, name_of}
+use Rattle.name_resolution.specs.Names.{Name, function_name, functions_of, label_of, name_of}
 use Rattle.name_resolution.specs.Numbered.{Numbered, number_in}
-use Rattle.name_resolution.specs.Resolved.{Scope, has_name}
+use Rattle.name_resolution.specs.Resolved.{Scope, defined_in, has_name}
 
 -- a look-up finds the place of a name in this list
 abbrev pub FindsNames : Numbered → List Name → Type 0
@@ -17,6 +18,10 @@ FindsValues n values = (name : Name) → number_in n name ≡ unwrap_or (positio
 -- the names by which functions are looked up
 abbrev pub names_of_functions : List WrittenItem → List Name
 names_of_functions items = map (λ f. name_of (function_name f)) (flat_map functions_of items)
+
+-- the names of a function with these blocks
+abbrev pub scope_in : List Name → List WrittenBlock → Scope
+scope_in functions blocks = record { functions = functions; blocks = map (λ b. name_of (label_of b)) blocks; values = flat_map defined_in blocks }
 
 -- look-ups find the places of functions, blocks and values
 pub record FindsScope (f b v : Numbered) (s : Scope) : Type 0 where

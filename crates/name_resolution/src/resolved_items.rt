@@ -1,18 +1,20 @@
-//! Declarations, functions and vtables, with numbers for their names.
+//! Declarations, functions and vtables, with numbers for their names. What has no number is moved out of the written
+//! module.
 
-ghost use Rattle.std.specs.Prelude.{◌≡◌, List, filter, map, IfOk};
-ghost use Rattle.std.specs.List.{flat_map, list_any};
+ghost use Rattle.std.specs.Prelude.{◌≡◌, List, [], ◌∷◌, filter, map, IfOk, OnOk};
+ghost use Rattle.std.specs.List.{list_any};
 ghost use Rattle.std.specs.Option.{option_map};
 ghost use Rattle.written_tree.specs.Places.{is_kept, is_ossa};
-ghost use Rattle.name_resolution.specs.Names.{Name, decls_of, functions_of, name_of, vtables_of};
-ghost use Rattle.name_resolution.specs.Resolved.{form_of, resolved_blocks, resolved_case, resolved_decl, resolved_entry, resolved_field, resolved_function, resolved_vtable, scope_of};
-ghost use Rattle.name_resolution.specs.Tables.{FindsNames};
+ghost use Rattle.name_resolution.specs.Items.{with_items};
+ghost use Rattle.name_resolution.specs.Names.{Name, name_of};
+ghost use Rattle.name_resolution.specs.Resolved.{form_of, resolved_blocks, resolved_case, resolved_decl, resolved_entry, resolved_field, resolved_function, resolved_vtable};
+ghost use Rattle.name_resolution.specs.Tables.{FindsNames, scope_in};
 
 use crate::numbered_values::{numbered_blocks, numbered_values};
 use crate::numbering::Numbering;
 use crate::resolved_code::{Tables, resolve_blocks};
 use sil_ast::{
-    Block, Case, Decl, DeinitEntry, Exhausted, Field, Form, FuncId, Function, List, Text, TryClone,
+    Block, Case, Decl, DeinitEntry, Exhausted, Field, Form, FuncId, Function, List, Module, Text,
     Vtable,
 };
 use std::alloc::Global;
@@ -21,99 +23,104 @@ use written_tree::{
     WrittenItem, WrittenToken, WrittenVtable,
 };
 
-pub(crate) fn resolve_decls(alloc: Global, items: &[WrittenItem]) -> Result<List<Decl>, Exhausted>
-    ensures { IfOk result (λ decls. decls ≡ map resolved_decl (flat_map decls_of items.now)) }
+/// Adds items to the lists of a module.
+pub(crate) fn resolve_items(
+    alloc: Global,
+    numbering: &Numbering,
+    items: List<WrittenItem>,
+    whole: &mut Module,
+) -> Result<(), Exhausted>
+    ghost names: { List Name }
+    requires { FindsNames numbering.now names }
+    ensures { OnOk result (whole.new ≡ with_items names whole.old items) }
 {
-    let mut decls = List::new(alloc);
-    for item in items {
-        if let WrittenItem::Decl(decl) = item {
-            decls.push(resolve_decl(alloc, decl)?)?;
-        }
+    for item in items.into_vec() {
+        resolve_item(alloc, numbering, item, whole)?;
     }
-    Ok(decls)
+    Ok(())
 }
 
-fn resolve_decl(alloc: Global, decl: &WrittenDecl) -> Result<Decl, Exhausted>
-    ensures { IfOk result (λ resolved. resolved ≡ resolved_decl decl.now) }
+fn resolve_item(
+    alloc: Global,
+    numbering: &Numbering,
+    item: WrittenItem,
+    whole: &mut Module,
+) -> Result<(), Exhausted>
+    ghost names: { List Name }
+    requires { FindsNames numbering.now names }
+    ensures { OnOk result (whole.new ≡ with_items names whole.old (item ∷ [])) }
+{
+    match item {
+        WrittenItem::Decl(decl) => whole.decls.push(resolve_decl(alloc, decl)?),
+        WrittenItem::Function(f) => { whole.functions.push(resolve_function(alloc, numbering, f)?) }
+        WrittenItem::Vtable(vtable) => whole.vtables.push(resolve_vtable(numbering, vtable)),
+    }
+}
+
+fn resolve_decl(alloc: Global, decl: WrittenDecl) -> Result<Decl, Exhausted>
+    ensures { IfOk result (λ resolved. resolved ≡ resolved_decl decl) }
 {
     match decl {
         WrittenDecl::Class { name, fields } => Ok(Decl::Class {
-            name: name.text.try_clone(alloc)?,
-            fields: resolve_fields(alloc, fields.as_slice())?,
+            name: name.text,
+            fields: resolve_fields(alloc, fields)?,
         }),
         WrittenDecl::Struct { name, fields } => Ok(Decl::Struct {
-            name: name.text.try_clone(alloc)?,
-            fields: resolve_fields(alloc, fields.as_slice())?,
+            name: name.text,
+            fields: resolve_fields(alloc, fields)?,
         }),
         WrittenDecl::Enum { name, cases } => Ok(Decl::Enum {
-            name: name.text.try_clone(alloc)?,
-            cases: resolve_cases(alloc, cases.as_slice())?,
+            name: name.text,
+            cases: resolve_cases(alloc, cases)?,
         }),
     }
 }
 
-fn resolve_fields(alloc: Global, fields: &[WrittenField]) -> Result<List<Field>, Exhausted>
-    ensures { IfOk result (λ resolved. resolved ≡ map resolved_field fields.now) }
+fn resolve_fields(alloc: Global, fields: List<WrittenField>) -> Result<List<Field>, Exhausted>
+    ensures { IfOk result (λ resolved. resolved ≡ map resolved_field fields) }
 {
-    let mut resolved = List::new(alloc);
-    for field in fields {
+    let mut resolved = List::with_capacity(alloc, fields.len())?;
+    for field in fields.into_vec() {
         resolved.push(Field {
-            name: field.name.text.try_clone(alloc)?,
+            name: field.name.text,
             storage: field.storage,
-            ty: field.ty.try_clone(alloc)?,
+            ty: field.ty,
         })?;
     }
     Ok(resolved)
 }
 
-fn resolve_cases(alloc: Global, cases: &[WrittenCase]) -> Result<List<Case>, Exhausted>
-    ensures { IfOk result (λ resolved. resolved ≡ map resolved_case cases.now) }
+fn resolve_cases(alloc: Global, cases: List<WrittenCase>) -> Result<List<Case>, Exhausted>
+    ensures { IfOk result (λ resolved. resolved ≡ map resolved_case cases) }
 {
-    let mut resolved = List::new(alloc);
-    for case in cases {
+    let mut resolved = List::with_capacity(alloc, cases.len())?;
+    for case in cases.into_vec() {
         resolved.push(Case {
-            name: case.name.text.try_clone(alloc)?,
-            payload: case.payload.try_clone(alloc)?,
+            name: case.name.text,
+            payload: case.payload,
         })?;
     }
     Ok(resolved)
-}
-
-pub(crate) fn resolve_functions(
-    alloc: Global,
-    numbering: &Numbering,
-    items: &[WrittenItem],
-) -> Result<List<Function>, Exhausted>
-    ghost names: { List Name }
-    requires { FindsNames numbering.now names }
-    ensures { IfOk result (λ functions. functions ≡ map (resolved_function names) (flat_map functions_of items.now)) }
-{
-    let mut functions = List::new(alloc);
-    for item in items {
-        if let WrittenItem::Function(function) = item {
-            functions.push(resolve_function(alloc, numbering, function)?)?;
-        }
-    }
-    Ok(functions)
 }
 
 fn resolve_function(
     alloc: Global,
     numbering: &Numbering,
-    f: &WrittenFunction,
+    f: WrittenFunction,
 ) -> Result<Function, Exhausted>
     ghost names: { List Name }
     requires { FindsNames numbering.now names }
-    ensures { IfOk result (λ function. function ≡ resolved_function names f.now) }
+    ensures { IfOk result (λ function. function ≡ resolved_function names f) }
 {
-    let words = f.attributes.as_slice();
+    let form = form_of(f.attributes.as_slice(), f.blocks.as_slice());
+    let attributes = kept_attributes(alloc, f.attributes)?;
     Ok(Function {
-        name: f.name.text.try_clone(alloc)?,
-        form: form_of(words, f.blocks.as_slice()),
+        name: f.name.text,
+        form,
         linkage: f.linkage,
-        attributes: kept_attributes(alloc, words)?,
-        signature: f.signature.try_clone(alloc)?,
-        blocks: resolve_body(alloc, numbering, f)?,
+        attributes,
+        signature: f.signature,
+        blocks: resolve_body(alloc, numbering, f.blocks)?,
     })
 }
 
@@ -121,15 +128,14 @@ fn resolve_function(
 fn resolve_body(
     alloc: Global,
     numbering: &Numbering,
-    f: &WrittenFunction,
+    blocks: List<WrittenBlock>,
 ) -> Result<List<Block>, Exhausted>
     ghost names: { List Name }
     requires { FindsNames numbering.now names }
-    ensures { IfOk result (λ blocks. blocks ≡ resolved_blocks (scope_of names f.now) 0 f.now.blocks) }
+    ensures { IfOk result (λ resolved. resolved ≡ resolved_blocks (scope_in names blocks) 0 blocks) }
 {
-    let blocks = f.blocks.as_slice();
-    let labels = numbered_blocks(alloc, blocks)?;
-    let values = numbered_values(alloc, blocks)?;
+    let labels = numbered_blocks(alloc, blocks.as_slice())?;
+    let values = numbered_values(alloc, blocks.as_slice())?;
     let tables = Tables {
         functions: numbering,
         blocks: &labels,
@@ -159,65 +165,42 @@ fn has_ossa(words: &[WrittenToken]) -> bool
     words.iter().any(|word| word.is_ossa())
 }
 
-fn kept_attributes(alloc: Global, words: &[WrittenToken]) -> Result<List<Text>, Exhausted>
-    ensures { IfOk result (λ kept. kept ≡ map name_of (filter is_kept words.now)) }
+fn kept_attributes(alloc: Global, words: List<WrittenToken>) -> Result<List<Text>, Exhausted>
+    ensures { IfOk result (λ kept. kept ≡ map name_of (filter is_kept words)) }
 {
     let mut kept = List::new(alloc);
-    for word in words {
+    for word in words.into_vec() {
         if !word.is_ossa() {
-            kept.push(word.text.try_clone(alloc)?)?;
+            kept.push(word.text)?;
         }
     }
     Ok(kept)
 }
 
-pub(crate) fn resolve_vtables(
-    alloc: Global,
-    numbering: &Numbering,
-    items: &[WrittenItem],
-) -> Result<List<Vtable>, Exhausted>
+fn resolve_vtable(numbering: &Numbering, vtable: WrittenVtable) -> Vtable
     ghost names: { List Name }
     requires { FindsNames numbering.now names }
-    ensures { IfOk result (λ vtables. vtables ≡ map (resolved_vtable names) (flat_map vtables_of items.now)) }
+    ensures { result ≡ resolved_vtable names vtable }
 {
-    let mut vtables = List::new(alloc);
-    for item in items {
-        if let WrittenItem::Vtable(vtable) = item {
-            vtables.push(resolve_vtable(alloc, numbering, vtable)?)?;
-        }
+    Vtable {
+        class_name: vtable.class_name.text,
+        entry: resolve_entry(numbering, vtable.entry),
     }
-    Ok(vtables)
 }
 
-fn resolve_vtable(
-    alloc: Global,
-    numbering: &Numbering,
-    vtable: &WrittenVtable,
-) -> Result<Vtable, Exhausted>
+fn resolve_entry(numbering: &Numbering, entry: Option<WrittenEntry>) -> Option<DeinitEntry>
     ghost names: { List Name }
     requires { FindsNames numbering.now names }
-    ensures { IfOk result (λ resolved. resolved ≡ resolved_vtable names vtable.now) }
-{
-    Ok(Vtable {
-        class_name: vtable.class_name.text.try_clone(alloc)?,
-        entry: resolve_entry(alloc, numbering, &vtable.entry)?,
-    })
-}
-
-fn resolve_entry(
-    alloc: Global,
-    numbering: &Numbering,
-    entry: &Option<WrittenEntry>,
-) -> Result<Option<DeinitEntry>, Exhausted>
-    ghost names: { List Name }
-    requires { FindsNames numbering.now names }
-    ensures { IfOk result (λ resolved. resolved ≡ option_map (resolved_entry names) entry.now) }
+    ensures { result ≡ option_map (resolved_entry names) entry }
 {
     match entry {
-        None => Ok(None),
-        Some(entry) => Ok(Some(DeinitEntry {
-            owner: entry.owner.try_clone(alloc)?,
-            function: FuncId(numbering.number_of(&entry.function.text)),
-        })),
+        None => None,
+        Some(entry) => {
+            let function = FuncId(numbering.number_of(&entry.function.text));
+            Some(DeinitEntry {
+                owner: entry.owner,
+                function,
+            })
+        }
     }
 }

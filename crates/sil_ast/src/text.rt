@@ -6,14 +6,16 @@ ghost use Rattle.std.specs.Option.{option_copied};
 use crate::exhausted::Exhausted;
 use crate::same::Same;
 use crate::try_clone::TryClone;
+use smallvec::SmallVec;
 use std::alloc::Global;
 use std::hash::{Hash, Hasher};
 use std::marker::Model;
 
-/// A name without its sigil (`main` of `@main`), or a text without its quotes. To a contract it is the list of its bytes.
+/// A name without its sigil (`main` of `@main`), or a text without its quotes. Up to 16 bytes stand in the value itself
+/// and take no memory, as most names do. To a contract it is the list of its bytes.
 #[derive(Drop)]
 pub struct Text {
-    bytes: Vec<u8>,
+    bytes: SmallVec<u8, 16>,
 }
 
 impl Model for Text {
@@ -28,7 +30,7 @@ impl Text {
         ensures { result ≡ [] }
     {
         Text {
-            bytes: Vec::new(alloc),
+            bytes: SmallVec::new(alloc),
         }
     }
 
@@ -37,7 +39,7 @@ impl Text {
         ensures { IfOk result (λ text. text ≡ bytes.now) }
     {
         Ok(Text {
-            bytes: Vec::from_slice(alloc, bytes)?,
+            bytes: SmallVec::from_slice(alloc, bytes)?,
         })
     }
 
@@ -45,15 +47,17 @@ impl Text {
     pub fn from_vec(bytes: Vec<u8>) -> Text
         ensures { result ≡ bytes.items }
     {
-        Text { bytes }
+        Text {
+            bytes: SmallVec::from_vec(bytes),
+        }
     }
 
-    /// The bytes, in the same memory.
-    pub fn into_vec(self) -> Vec<u8>
-        ensures { result.items ≡ self }
+    /// The bytes, in the same memory where they are more than 16.
+    pub fn into_vec(self) -> Result<Vec<u8>, Exhausted>
+        ensures { IfOk result (λ bytes. bytes.items ≡ self) }
     {
         let Text { bytes } = self;
-        bytes
+        Ok(bytes.into_vec()?)
     }
 
     pub fn len(&self) -> usize
@@ -73,7 +77,7 @@ impl Text {
         ensures value { option_copied result ≡ slice_get self.now i }
         ensures none { IsNone result ↔ (length self.now ≤ i) }
     {
-        self.bytes.get(i)
+        self.as_slice().get(i)
     }
 
     pub fn as_slice(&self) -> &[u8]

@@ -16,6 +16,7 @@ use sil_printer::print;
 use sil_rules::Status;
 use simple_modules::is_simple;
 use std::alloc::Global;
+use std::mem::forget;
 
 /// What the command writes, and the status with which it ends.
 #[derive(Drop)]
@@ -30,7 +31,12 @@ pub fn answer_to(alloc: Global, mode: Mode, text: &[u8]) -> Result<Answer, Exhau
     ensures { IfOk result (λ a. AnswersText mode text.now a.text.items (code_of a.status)) }
 {
     match read(alloc, text) {
-        Ok(module) => answer_module(alloc, mode, &module),
+        Ok(module) => {
+            let answer = answer_module(alloc, mode, &module);
+            // A program answers one text and ends: the module's memory is left to the system.
+            forget(module);
+            answer
+        }
         Err(reason) => answer_refusal(alloc, reason),
     }
 }
@@ -78,7 +84,7 @@ fn print_module(alloc: Global, module: &Module) -> Result<Answer, Exhausted>
     ensures { IfOk result (λ a. AnswersPrint «module».now a.text.items (code_of a.status)) }
 {
     Ok(Answer {
-        text: print(alloc, module)?.into_vec(),
+        text: print(alloc, module)?.into_vec()?,
         status: Status::Done,
     })
 }

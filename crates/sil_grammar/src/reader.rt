@@ -25,9 +25,9 @@ use written_modules::{build, front_fault};
 use written_tree::{Fault, WrittenModule};
 
 /// The module that a text spells which writes `written`.
-fn numbered(alloc: Global, written: &WrittenModule) -> Result<Module, ReadRefusal>
-    ensures found { IfOk result (λ m. (text : List ℕ) → SpellsWritten written.now text → Spells m text) }
-    ensures refused { IfErr result (λ r. (text : List ℕ) → SpellsWritten written.now text → IsRefusalOf text r) }
+fn numbered(alloc: Global, written: WrittenModule) -> Result<Module, ReadRefusal>
+    ensures found { IfOk result (λ m. (text : List ℕ) → SpellsWritten written text → Spells m text) }
+    ensures refused { IfErr result (λ r. (text : List ℕ) → SpellsWritten written text → IsRefusalOf text r) }
 {
     match resolve(alloc, written) {
         Ok(module) => Ok(module),
@@ -51,7 +51,7 @@ fn read_whole(
     let built = build(alloc, text, tokens, steps)?;
     match built.fault {
         Some(fault) => Err(refusal_of_fault(fault)),
-        None => numbered(alloc, &built.written),
+        None => numbered(alloc, built.written),
     }
 }
 

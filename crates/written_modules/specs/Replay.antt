@@ -13,7 +13,7 @@ use Rattle.written_modules.specs.declared.value.Value.{Value}
 use Rattle.written_modules.specs.declared.value.Value.TheVariants as v
 use Rattle.written_tree.specs.declared.written_module.WrittenModule.{WrittenModule}
 use Rattle.written_tree.specs.Faults.{earlier}
-use Rattle.written_modules.specs.Meaning.{leaf_of, meaning}
+use Rattle.written_modules.specs.Meaning.{kept_of, leaf_of, meaning}
 use Rattle.written_modules.specs.PartFaults.{part_fault}
 
 -- the values of the parts that a production has
@@ -37,6 +37,10 @@ first_fault [] lexemes = None
 first_fault (Take ∷ steps) [] = first_fault steps []
 first_fault (Take ∷ steps) (l ∷ lexemes) = first_fault steps lexemes
 first_fault (Expand p ∷ steps) lexemes = earlier (part_fault p (parts_of p (replay steps lexemes))) (first_fault steps lexemes)
+
+-- this is kept of the bytes of the token at i
+abbrev pub IsKeptAt : List ℕ → Lexing → ℕ → List ℕ → Type 0
+IsKeptAt text lexing i kept = HoldsAt (λ token. kept ≡ kept_of token.kind (lexeme_of text token).spelling) lexing.tokens i
 
 -- the token at i stands for the value
 abbrev pub IsLeafAt : List ℕ → Lexing → ℕ → Value → Type 0

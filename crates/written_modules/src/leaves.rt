@@ -3,7 +3,7 @@
 ghost use Rattle.std.specs.Prelude.{◌≡◌, ◌<◌, length, IfOk};
 ghost use Rattle.sil_lexer.specs.Lexing.{IsLexingOf, lexemes_of};
 ghost use Rattle.written_modules.specs.Meaning as meant;
-ghost use Rattle.written_modules.specs.Replay.{IsLeafAt};
+ghost use Rattle.written_modules.specs.Replay.{IsKeptAt, IsLeafAt};
 
 use crate::value::Value;
 use sil_ast::{Exhausted, Text};
@@ -26,6 +26,19 @@ fn kept_of(kind: TokenKind, spelling: &[u8]) -> &[u8]
     }
 }
 
+/// What is kept of the token at `i`. The bytes of punctuation aren't looked at.
+#[tactic(auto, unfolding(crate::specs::Meaning::kept_of))]
+fn kept_at(alloc: Global, text: &[u8], tokens: &Tokens, i: usize) -> Result<Text, Exhausted>
+    requires lexed { IsLexingOf text.now tokens.now }
+    requires in_range { i < length tokens.now.tokens }
+    ensures { IfOk result (λ kept. IsKeptAt text.now tokens.now i kept) }
+{
+    match tokens.kind(i) {
+        TokenKind::Punctuation => Ok(Text::new(alloc)),
+        kind => Text::from_slice(alloc, kept_of(kind, tokens.text(text, i))),
+    }
+}
+
 /// What the token at `i` stands for.
 pub(crate) fn leaf_at(
     alloc: Global,
@@ -38,7 +51,7 @@ pub(crate) fn leaf_at(
     ensures { IfOk result (λ value. IsLeafAt text.now tokens.now i value) }
 {
     Ok(Value::Token(WrittenToken {
-        text: Text::from_slice(alloc, kept_of(tokens.kind(i), tokens.text(text, i)))?,
+        text: kept_at(alloc, text, tokens, i)?,
         place: tokens.place(i),
     }))
 }

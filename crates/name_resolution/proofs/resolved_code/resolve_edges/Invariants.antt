@@ -1,9 +1,10 @@
-use Rattle.std.proofs.Common.{◌≡◌, map, take}
+use Rattle.std.proofs.Common.{◌≡◌, ◌++◌, map}
+use Rattle.std.specs.Vec.Iter.{into_iter_items}
 use Rattle.name_resolution.specs.Resolved.{resolved_edge}
 use Rattle.name_resolution.proofs.resolved_code.resolve_edges.Given as goal
 
-abbrev pub ghost-resolve_edge_args : goal.ghost-resolve_edge_args
-ghost-resolve_edge_args g a = g.s
+abbrev pub ghost-resolve_edge : goal.ghost-resolve_edge
+ghost-resolve_edge g a = g.s
 
 abbrev pub invariant-loop-edge : goal.invariant-loop-edge
-invariant-loop-edge g l = l.resolved ≡ map (resolved_edge g.s) (take l.edge-index l.edges)
+invariant-loop-edge g l = map (resolved_edge g.s) l.fn.edges ≡ l.resolved ++ map (resolved_edge g.s) (into_iter_items l.edge-iterator)

@@ -1,5 +1,6 @@
-use Rattle.std.proofs.Common.{◌≡◌, ◌+◌, length, take}
+use Rattle.std.proofs.Common.{◌≡◌, ◌+◌, ◌++◌, length}
 use Rattle.std.specs.List.{flat_map}
+use Rattle.std.specs.Vec.Iter.{into_iter_items}
 use Rattle.name_resolution.specs.Resolved.{defined_by_inst, resolved_insts}
 use Rattle.name_resolution.proofs.resolved_code.resolve_insts.Given as goal
 
@@ -8,6 +9,6 @@ ghost-resolve_inst g a = g.s
 
 abbrev pub invariant-loop-inst : goal.invariant-loop-inst
 invariant-loop-inst g l = record {
-  resolved : l.resolved ≡ resolved_insts g.s l.initial.next (take l.inst-index l.insts);
-  next : l.next ≡ l.initial.next + length (flat_map defined_by_inst (take l.inst-index l.insts));
+  resolved : resolved_insts g.s l.initial.next l.fn.insts ≡ l.resolved ++ resolved_insts g.s l.next (into_iter_items l.inst-iterator);
+  next : l.initial.next + length (flat_map defined_by_inst l.fn.insts) ≡ l.next + length (flat_map defined_by_inst (into_iter_items l.inst-iterator));
 }

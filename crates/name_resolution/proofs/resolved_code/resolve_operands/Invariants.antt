@@ -1,4 +1,5 @@
-use Rattle.std.proofs.Common.{◌≡◌, map, take}
+use Rattle.std.proofs.Common.{◌≡◌, ◌++◌, map}
+use Rattle.std.specs.Vec.Iter.{into_iter_items}
 use Rattle.name_resolution.specs.Resolved.{resolved_operand}
 use Rattle.name_resolution.proofs.resolved_code.resolve_operands.Given as goal
 
@@ -6,4 +7,4 @@ abbrev pub ghost-resolve_operand : goal.ghost-resolve_operand
 ghost-resolve_operand g a = g.s
 
 abbrev pub invariant-loop-operand : goal.invariant-loop-operand
-invariant-loop-operand g l = l.resolved ≡ map (resolved_operand g.s) (take l.operand-index l.operands)
+invariant-loop-operand g l = map (resolved_operand g.s) l.fn.operands ≡ l.resolved ++ map (resolved_operand g.s) (into_iter_items l.operand-iterator)
