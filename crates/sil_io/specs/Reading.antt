@@ -29,3 +29,9 @@ abbrev pub GivesUp : {S : Type 0} → (S → List ℕ → S → Type 0) → (S �
 GivesUp {S} gave missed limit old new Fault = (taken : List ℕ) × (between : S) × (length taken ≤ limit) × Gives gave old taken between × missed between new
 GivesUp {S} gave missed limit old new TooLong = (taken : List ℕ) × (length taken ≡ limit + 1) × Gives gave old taken new
 GivesUp {S} gave missed limit old new Memory = (taken : List ℕ) × (length taken ≤ limit) × Gives gave old taken new
+
+-- takes gave at most one byte past the limit, and none came behind the end or a fault
+pub data TakesWithin {S : Type 0} (gave : S → List ℕ → S → Type 0) (missed : S → S → Type 0) (limit : ℕ) (old new : S) : Type 0 where
+  stopped : (taken : List ℕ) → length taken ≤ limit + 1 → Gives gave old taken new → TakesWithin gave missed limit old new
+  ended : (taken : List ℕ) → length taken ≤ limit → GivesToEnd gave old taken new → TakesWithin gave missed limit old new
+  failed : (taken : List ℕ) (between : S) → length taken ≤ limit → Gives gave old taken between → missed between new → TakesWithin gave missed limit old new

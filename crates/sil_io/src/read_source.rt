@@ -43,6 +43,8 @@ impl<R: Reader> Source for ReadSource<R> {
 
     ghost missed = { λ old new. ReadFailed R.failed old.inner new.inner };
 
+    ghost from_left = { λ _ _ _ _. tt };
+
     fn take(&mut self, buf: &mut [u8]) -> Result<usize, Failed>
         requires { 0 < length buf.old }
         ensures within { IfOk result (λ n. n ≤ length buf.new) }

@@ -34,4 +34,7 @@ pub trait Source {
         ensures one_failure { OnErr result (missed self.old self.new) }
         ensures fault { OnErr result (MayFail (faults self.old) (faults self.new)) }
         ensures never_falls { faults self.old ≤ faults self.new };
+
+    // What a call gave are the first bytes that were left.
+    ghost from_left: { (old : Self) (bytes : List ℕ) (new : Self) → gave old bytes new → Consumes (left old) (left new) bytes };
 }

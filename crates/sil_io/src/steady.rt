@@ -41,6 +41,8 @@ impl Source for SteadySource {
 
     ghost missed = { λ _ _. ⊥ };
 
+    ghost from_left = { λ _ _ _ given. given };
+
     fn take(&mut self, buf: &mut [u8]) -> Result<usize, Failed>
         requires { 0 < length buf.old }
         ensures count { result ≡ Ok (min (length buf.old) (length self.old)) }
