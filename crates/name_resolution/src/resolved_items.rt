@@ -24,6 +24,7 @@ use written_tree::{
 };
 
 /// Adds items to the lists of a module.
+#[tactic(auto, using(std::proofs::lemmas::Grind::common_steps, crate::proofs::ResolvedLemmas::items_more, crate::proofs::ResolvedLemmas::items_done))]
 pub(crate) fn resolve_items(
     alloc: Global,
     numbering: &Numbering,

@@ -6,4 +6,4 @@ use Rattle.sil_command.specs.Answers.{AnswersPrint, printed}
 use Rattle.sil_command.proofs.answer.print_module.Goals as goal
 
 pub returns : goal.returns
-returns c = subst (λ t. AnswersPrint c.args.module.now t (code_of Done)) (sym (c.into_vec.ensures ∙ c.in_ok-print.ensures)) printed
+returns c = subst (λ t. AnswersPrint c.args.module.now t (code_of Done)) (sym (c.in_ok-into_vec.ensures ∙ c.in_ok-print.ensures)) printed
