@@ -1,8 +1,11 @@
 -- How an answer follows from what was read.
 use Rattle.std.proofs.Math.Seq.{get_or-append_seam}
-use Rattle.std.proofs.Common.{◌≡◌, ℕ, ◌+◌, ◌≤◌, List, [], ◌∷◌, ◌++◌, length, refl, sym, ap, subst, ◌∙◌, arith, length-append, get_or, Result, Ok, Err}
+use Rattle.std.proofs.Common.{◌≡◌, inl, inr, ℕ, ◌+◌, ◌≤◌, List, [], ◌∷◌, ◌++◌, length, refl, sym, ap, subst, ◌∙◌, arith, length-append, get_or, Result, Ok, Err}
 use Rattle.std.specs.Prelude.{Option, Some, None, IfSome, IfOk}
 use Rattle.std.specs.Io.KnownBytes.{Consumes}
+use Rattle.std.proofs.KnownBytes.{Consumes-nil, Consumes-trans}
+use Rattle.std.proofs.lemmas.List.{append-nil}
+use Rattle.sil_io.specs.Reading.{Gives, nothing, piece, GivesToEnd}
 use Rattle.sil_ast.specs.declared.function.Function.{Function}
 use Rattle.sil_ast.specs.declared.module.Module.{Module}
 use Rattle.sil_grammar.specs.declared.refusal.ReadRefusal.{ReadRefusal}
@@ -20,30 +23,53 @@ use Rattle.sil_command.specs.declared.words.Mode.{Mode}
 use Rattle.sil_command.specs.Words.{AsksFor, IsCommandLine}
 use Rattle.sil_command.specs.Answers.{AnswersCheck, AnswersModule, AnswersText, usage, in_mode, too_long, unread, spelled, refused}
 use Rattle.sil_command.specs.Reading.{AnswersRefusal}
-use Rattle.sil_command.specs.Ends.{IsAnswer}
+use Rattle.sil_command.specs.Ends.{IsAnswer, MayHave, TakesText}
 
 -- words that are no command line have one answer, whatever the source has
-pub usage_answer : (words : List (List ℕ)) (left : Option (List ℕ)) → (IsCommandLine words → ⊥) → IsAnswer words left usage_text (code_of Usage)
-usage_answer words None none = record { text = []; source = tt; allowed = usage none }
-usage_answer words (Some text) none = record { text = text; source = refl; allowed = usage none }
+pub usage_answer : (words : List (List ℕ)) (left : Option (List ℕ)) (Takes : List ℕ → Type 0) → (IsCommandLine words → ⊥) → IsAnswer words left Takes usage_text (code_of Usage)
+usage_answer words None Takes none = record { text = []; source = tt; taken = λ is. absurd (none is); allowed = usage none }
+usage_answer words (Some text) Takes none = record { text = text; source = refl; taken = λ is. absurd (none is); allowed = usage none }
 
--- the answer to the bytes that a source had left
-pub whole_answer : (words : List (List ℕ)) (mode : Mode) (left : Option (List ℕ)) (text bytes answer : List ℕ) (status : ℕ)
-    → AsksFor words mode → IfSome left (λ all. text ≡ all) → bytes ≡ text → AnswersText mode bytes answer status → IsAnswer words left answer status
-whole_answer words mode None text bytes answer status asks all same allowed =
-    record { text = bytes; source = tt; allowed = in_mode mode answer status asks allowed }
-whole_answer words mode (Some left) text bytes answer status asks all same allowed =
-    record { text = left; source = refl; allowed = in_mode mode answer status asks (subst (λ t. AnswersText mode t answer status) (same ∙ all) allowed) }
+told_text : (left : Option (List ℕ)) (text : List ℕ) → IfSome left (λ all. text ≡ all) → MayHave left text
+told_text None text all = tt
+told_text (Some told) text all = sym all
 
--- a source that gave more bytes than the limit had a text that is too long
-pub too_long_answer : (words : List (List ℕ)) (mode : Mode) (left new : Option (List ℕ)) (taken : List ℕ)
-    → AsksFor words mode → Consumes left new taken → length taken ≡ TEXT_BYTES + 1 → IsAnswer words left limit_text (code_of Limit)
-too_long_answer words mode None new taken asks consumed long =
-    record { text = taken; source = tt; allowed = in_mode mode _ _ asks (too_long (omega arith)) }
-too_long_answer words mode (Some text) None taken asks consumed long = absurd consumed
-too_long_answer words mode (Some text) (Some rest) taken asks consumed long =
-    let longer : length text ≡ length taken + length rest = ap length consumed ∙ length-append taken rest in
-    record { text = text; source = refl; allowed = in_mode mode _ _ asks (too_long (omega arith)) }
+module _ {S : Type 0} (gave : S → List ℕ → S → Type 0) where
+  -- the answer to the bytes that were taken from a source, up to its end
+  pub whole_answer : (old new : S) (words : List (List ℕ)) (mode : Mode) (left : Option (List ℕ)) (text bytes answer : List ℕ) (status : ℕ)
+      → AsksFor words mode → IfSome left (λ all. text ≡ all) → GivesToEnd gave old text new → bytes ≡ text → AnswersText mode bytes answer status
+      → IsAnswer words left (TakesText gave old new) answer status
+  whole_answer old new words mode left text bytes answer status asks all taken same allowed = record {
+    text = text;
+    source = told_text left text all;
+    taken = λ _. inl taken;
+    allowed = in_mode mode answer status asks (subst (λ t. AnswersText mode t answer status) same allowed);
+  }
+
+  module _ (left_of : S → Option (List ℕ)) (from_left : (old : S) (bytes : List ℕ) (new : S) → gave old bytes new → Consumes (left_of old) (left_of new) bytes) where
+    -- takes give the first bytes that were left
+    given_from_left : {old new : S} {bytes : List ℕ} → Gives gave old bytes new → Consumes (left_of old) (left_of new) bytes
+    given_from_left nothing = Consumes-nil _
+    given_from_left (piece given some one) = Consumes-trans _ _ _ _ _ (given_from_left given) (from_left _ _ _ one)
+
+    longer_text : (left rest : Option (List ℕ)) (taken : List ℕ) → Consumes left rest taken
+        → (text : List ℕ) × (behind : List ℕ) × MayHave left text × (text ≡ taken ++ behind)
+    longer_text None rest taken consumed = (taken, [], tt, sym (append-nil taken))
+    longer_text (Some text) None taken consumed = absurd consumed
+    longer_text (Some text) (Some rest) taken consumed = (text, rest, refl, consumed)
+
+    -- a source that gave more bytes than the limit had a text that is too long
+    pub too_long_answer : (old new : S) (words : List (List ℕ)) (mode : Mode) (taken : List ℕ)
+        → AsksFor words mode → length taken ≡ TEXT_BYTES + 1 → Gives gave old taken new → IsAnswer words (left_of old) (TakesText gave old new) limit_text (code_of Limit)
+    too_long_answer old new words mode taken asks long given =
+        let text = longer_text (left_of old) (left_of new) taken (given_from_left given) in
+        let longer : length text.0 ≡ length taken + length text.1 = ap length text.3 ∙ length-append taken text.1 in
+        record {
+          text = text.0;
+          source = text.2;
+          taken = λ _. inr (taken, text.1, text.3, long, given);
+          allowed = in_mode mode _ _ asks (too_long (omega arith));
+        }
 
 -- what is answered to the module is answered to its text
 pub read_answer : {A E : Type 0} (r : Result A E) (text_of : A → List ℕ) (status_of : A → ℕ) (mode : Mode) {text : List ℕ} {m : Module} → length text ≤ TEXT_BYTES → Spells m text

@@ -1,6 +1,5 @@
 -- What follows from how a call of the command ends: the clauses of the public call.
 use Rattle.std.proofs.Common.{◌≡◌, ◌⊎◌, inl, inr, ℕ, ◌<◌, List, refl, arith}
-use Rattle.std.specs.Io.KnownBytes.{Keeps}
 use Rattle.sil_ast.specs.declared.module.Module.{Module}
 use Rattle.sil_io.specs.Count.{MayFail}
 use Rattle.sil_rules.specs.declared.status.Status.TheVariants.{Done, Refused, Usage, NotAModule, ReadFault, WriteFault, Limit, OutOfMemory, NotBuilt}
@@ -9,7 +8,7 @@ use Rattle.sil_command.specs.Texts.{read_fault_text}
 use Rattle.sil_command.specs.declared.words.Mode.{Mode}
 use Rattle.sil_command.specs.declared.words.Mode.TheVariants.{Check, Print}
 use Rattle.sil_command.specs.Answers.{Answers, usage, in_mode, AnswersText, too_long, unread, spelled, AnswersModule, AnswersCheck, not_built, refused, accepted, AnswersPrint, printed}
-use Rattle.sil_command.specs.Ends.{Call, Ends, answered, read_failed, exhausted, whole, front, WritesAnswer, Exhausts, WritesWhole, WritesFrontOfAnswer, GainsFront, IsStatus}
+use Rattle.sil_command.specs.Ends.{Call, Ends, answered, read_failed, exhausted, whole, front, WritesAnswer, Exhausts, WritesWhole, WritesFrontOfAnswer, IsStatus}
 use Rattle.sil_command.proofs.Unread.{unread_status}
 
 -- the statuses of answers: neither a fault nor want of memory
@@ -79,12 +78,12 @@ rose_not old new e h = omega arith
 -- an answer is finished whole, or not at all
 pub whole_answers : (call : Call) (status : ℕ) → Ends call status
     → (MayFail call.read_faults call.new_read_faults → ⊥) → (MayFail call.write_faults call.new_write_faults → ⊥)
-    → WritesAnswer call.words call.left call.held call.new_held status ⊎ Exhausts call.held call.new_held status
+    → WritesAnswer call.words call.left call.Takes call.Gains status ⊎ Exhausts call.IsUntouched status
 whole_answers call status (answered answer wanted _ allowed calm (whole gained same)) reads writes =
     inl (record { answer = answer; allowed = allowed; gained = gained })
 whole_answers call status (answered answer wanted _ allowed calm (front gained fault)) reads writes = absurd (writes fault)
 whole_answers call status (read_failed _ fault finished) reads writes = absurd (reads fault)
-whole_answers call _ (exhausted kept same) reads writes = inr (record { status_is = refl; kept = kept })
+whole_answers call _ (exhausted untouched same) reads writes = inr (record { status_is = refl; untouched = untouched })
 
 pub four_is_read_fault : (call : Call) (status : ℕ) → Ends call status → status ≡ code_of ReadFault → MayFail call.read_faults call.new_read_faults
 four_is_read_fault call status (answered answer wanted _ allowed calm (whole gained same)) four =
@@ -92,7 +91,7 @@ four_is_read_fault call status (answered answer wanted _ allowed calm (whole gai
     absurd (omega (arith, s))
 four_is_read_fault call status (answered answer wanted _ allowed calm (front gained fault)) four = absurd (omega arith)
 four_is_read_fault call status (read_failed _ fault finished) four = fault
-four_is_read_fault call _ (exhausted kept same) four = absurd (omega arith)
+four_is_read_fault call _ (exhausted untouched same) four = absurd (omega arith)
 
 pub five_is_write_fault : (call : Call) (status : ℕ) → Ends call status → status ≡ code_of WriteFault → MayFail call.write_faults call.new_write_faults
 five_is_write_fault call status (answered answer wanted _ allowed calm (whole gained same)) five =
@@ -101,26 +100,26 @@ five_is_write_fault call status (answered answer wanted _ allowed calm (whole ga
 five_is_write_fault call status (answered answer wanted _ allowed calm (front gained fault)) five = fault
 five_is_write_fault call status (read_failed _ read (whole gained same)) five = absurd (omega arith)
 five_is_write_fault call status (read_failed _ read (front gained fault)) five = fault
-five_is_write_fault call _ (exhausted kept same) five = absurd (omega arith)
+five_is_write_fault call _ (exhausted untouched same) five = absurd (omega arith)
 
 pub read_fault_ends : (call : Call) (status : ℕ) → Ends call status → call.read_faults < call.new_read_faults
     → (MayFail call.write_faults call.new_write_faults → ⊥)
-    → WritesWhole call.held call.new_held read_fault_text (code_of ReadFault) status ⊎ Exhausts call.held call.new_held status
+    → WritesWhole call.Gains read_fault_text (code_of ReadFault) status ⊎ Exhausts call.IsUntouched status
 read_fault_ends call status (answered answer wanted _ allowed calm finished) rose writes = absurd (rose_not _ _ calm rose)
 read_fault_ends call status (read_failed _ read (whole gained same)) rose writes = inl (record { status_is = refl; gained = gained })
 read_fault_ends call status (read_failed _ read (front gained fault)) rose writes = absurd (writes fault)
-read_fault_ends call _ (exhausted kept same) rose writes = inr (record { status_is = refl; kept = kept })
+read_fault_ends call _ (exhausted untouched same) rose writes = inr (record { status_is = refl; untouched = untouched })
 
 pub write_fault_ends : (call : Call) (status : ℕ) → Ends call status → call.write_faults < call.new_write_faults → status ≡ code_of WriteFault
 write_fault_ends call status (answered answer wanted _ allowed calm (whole gained same)) rose = absurd (rose_not _ _ same rose)
 write_fault_ends call status (answered answer wanted _ allowed calm (front gained fault)) rose = refl
 write_fault_ends call status (read_failed _ read (whole gained same)) rose = absurd (rose_not _ _ same rose)
 write_fault_ends call status (read_failed _ read (front gained fault)) rose = refl
-write_fault_ends call _ (exhausted kept same) rose = absurd (rose_not _ _ same rose)
+write_fault_ends call _ (exhausted untouched same) rose = absurd (rose_not _ _ same rose)
 
 pub five_writes_front : (call : Call) (status : ℕ) → Ends call status → status ≡ code_of WriteFault
-    → WritesFrontOfAnswer call.words call.left call.held call.new_held
-    ⊎ (MayFail call.read_faults call.new_read_faults × GainsFront call.held call.new_held read_fault_text)
+    → WritesFrontOfAnswer call.words call.left call.Takes call.GainsFront
+    ⊎ (MayFail call.read_faults call.new_read_faults × call.GainsFront read_fault_text)
 five_writes_front call status (answered answer wanted _ allowed calm (whole gained same)) five =
     let s = answer_status call.words allowed.text answer wanted allowed.allowed in
     absurd (omega (arith, s))
@@ -128,16 +127,16 @@ five_writes_front call status (answered answer wanted _ allowed calm (front gain
     inl (record { answer = answer; status = wanted; allowed = allowed; gained = gained })
 five_writes_front call status (read_failed _ read (whole gained same)) five = absurd (omega arith)
 five_writes_front call status (read_failed _ read (front gained fault)) five = inr (read, gained)
-five_writes_front call _ (exhausted kept same) five = absurd (omega arith)
+five_writes_front call _ (exhausted untouched same) five = absurd (omega arith)
 
-pub nine_keeps : (call : Call) (status : ℕ) → Ends call status → status ≡ code_of OutOfMemory → Keeps call.held call.new_held
+pub nine_keeps : (call : Call) (status : ℕ) → Ends call status → status ≡ code_of OutOfMemory → call.IsUntouched
 nine_keeps call status (answered answer wanted _ allowed calm (whole gained same)) nine =
     let s = answer_status call.words allowed.text answer wanted allowed.allowed in
     absurd (omega (arith, s))
 nine_keeps call status (answered answer wanted _ allowed calm (front gained fault)) nine = absurd (omega arith)
 nine_keeps call status (read_failed _ read (whole gained same)) nine = absurd (omega arith)
 nine_keeps call status (read_failed _ read (front gained fault)) nine = absurd (omega arith)
-nine_keeps call _ (exhausted kept same) nine = kept
+nine_keeps call _ (exhausted untouched same) nine = untouched
 
 pub ends_status : (call : Call) (status : ℕ) → Ends call status → IsStatus status
 ends_status call status (answered answer wanted _ allowed calm (whole gained same)) =
@@ -145,4 +144,4 @@ ends_status call status (answered answer wanted _ allowed calm (whole gained sam
 ends_status call status (answered answer wanted _ allowed calm (front gained fault)) = five_is
 ends_status call status (read_failed _ read (whole gained same)) = four_is
 ends_status call status (read_failed _ read (front gained fault)) = five_is
-ends_status call _ (exhausted kept same) = (OutOfMemory, refl)
+ends_status call _ (exhausted untouched same) = (OutOfMemory, refl)

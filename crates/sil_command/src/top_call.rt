@@ -1,13 +1,14 @@
 //! The top call: words and bytes in, bytes and a status out. What the answer is, is decided elsewhere.
 
 ghost use Rattle.std.specs.Prelude.{◌≡◌, ◌⊎◌, ◌<◌, map};
-ghost use Rattle.std.specs.Io.KnownBytes.{Keeps};
 ghost use Rattle.sil_io.specs.Count.{MayFail};
+ghost use Rattle.sil_io.specs.Reading.{TakesWithin};
+ghost use Rattle.sil_rules.specs.declared.limits.TheConstants.{TEXT_BYTES};
 ghost use Rattle.sil_rules.specs.declared.status.Status.TheVariants.{ReadFault, WriteFault, OutOfMemory};
 ghost use Rattle.sil_rules.specs.Statuses.{code_of};
 ghost use Rattle.sil_command.specs.Words.{IsCommandLine};
 ghost use Rattle.sil_command.specs.Texts.{read_fault_text};
-ghost use Rattle.sil_command.specs.Ends.{WritesAnswer, Exhausts, WritesWhole, WritesFrontOfAnswer, GainsFront, IsStatus, FinishesText, Ends};
+ghost use Rattle.sil_command.specs.Ends.{TakesText, Gains, GainsFront, WritesAnswer, Exhausts, WritesWhole, WritesFrontOfAnswer, IsStatus, FinishesText, call_between, Ends};
 
 use crate::answer::answer_to;
 use crate::texts;
@@ -31,23 +32,27 @@ pub fn command<'a, S: Source, K: Sink>(
 ) -> u8
     // Without faults, an allowed answer is written whole, or memory ran out.
     ensures answers { ¬ MayFail (S.faults source.old) (S.faults source.new) → ¬ MayFail (K.faults out.old) (K.faults out.new) →
-        WritesAnswer (map (λ w. w.now) words.entry.now) (S.left source.old) (K.held out.old) (K.held out.new) result
-        ⊎ Exhausts (K.held out.old) (K.held out.new) result }
-    // Words that are no command line need no source.
+        WritesAnswer (map (λ w. w.now) words.entry.now) (S.left source.old) (TakesText S.gave source.old source.new) (Gains K.held K.took out.old out.new) result
+        ⊎ Exhausts (out.new ≡ out.old) result }
+    // Words that are no command line need no source. Others take it to its end, or to the first byte past the limit, and no further.
     ensures source_untouched { ¬ IsCommandLine (map (λ w. w.now) words.entry.now) → source.new ≡ source.old }
+    ensures takes { TakesWithin S.gave S.missed TEXT_BYTES source.old source.new }
 
     ensures read_fault_cause { result ≡ code_of ReadFault → MayFail (S.faults source.old) (S.faults source.new) }
     ensures read_fault { S.faults source.old < S.faults source.new → ¬ MayFail (K.faults out.old) (K.faults out.new) →
-        WritesWhole (K.held out.old) (K.held out.new) read_fault_text (code_of ReadFault) result ⊎ Exhausts (K.held out.old) (K.held out.new) result }
+        WritesWhole (Gains K.held K.took out.old out.new) read_fault_text (code_of ReadFault) result ⊎ Exhausts (out.new ≡ out.old) result }
 
     ensures write_fault_cause { result ≡ code_of WriteFault → MayFail (K.faults out.old) (K.faults out.new) }
     ensures write_fault { K.faults out.old < K.faults out.new → result ≡ code_of WriteFault }
     ensures written_front { result ≡ code_of WriteFault →
-        WritesFrontOfAnswer (map (λ w. w.now) words.entry.now) (S.left source.old) (K.held out.old) (K.held out.new)
-        ⊎ (MayFail (S.faults source.old) (S.faults source.new) × GainsFront (K.held out.old) (K.held out.new) read_fault_text) }
+        WritesFrontOfAnswer (map (λ w. w.now) words.entry.now) (S.left source.old) (TakesText S.gave source.old source.new) (GainsFront K.held K.took K.refused out.old out.new)
+        ⊎ (MayFail (S.faults source.old) (S.faults source.new) × GainsFront K.held K.took K.refused out.old out.new read_fault_text) }
 
-    ensures exhausted { result ≡ code_of OutOfMemory → Keeps (K.held out.old) (K.held out.new) }
+    ensures exhausted { result ≡ code_of OutOfMemory → out.new ≡ out.old }
     ensures statuses { IsStatus result }
+
+    // The clauses above, but for those on the source alone, as one relation.
+    ensures ends { Ends (call_between (map (λ w. w.now) words.entry.now) S.left S.gave S.faults source.old source.new K.held K.took K.refused K.faults out.old out.new) result }
 {
     run(alloc, words, source, out)
 }
@@ -59,17 +64,9 @@ fn run<'a, S: Source, K: Sink>(
     source: &mut S,
     out: &mut K,
 ) -> u8
-    ensures ends { Ends (record {
-      words = map (λ w. w.now) words.entry.now;
-      left = S.left source.old;
-      read_faults = S.faults source.old;
-      new_read_faults = S.faults source.new;
-      held = K.held out.old;
-      new_held = K.held out.new;
-      write_faults = K.faults out.old;
-      new_write_faults = K.faults out.new;
-    }) result }
+    ensures ends { Ends (call_between (map (λ w. w.now) words.entry.now) S.left S.gave S.faults source.old source.new K.held K.took K.refused K.faults out.old out.new) result }
     ensures source_untouched { ¬ IsCommandLine (map (λ w. w.now) words.entry.now) → source.new ≡ source.old }
+    ensures takes { TakesWithin S.gave S.missed TEXT_BYTES source.old source.new }
 {
     let Some(mode) = mode_of(words) else {
         return finish(out, texts::usage(), Status::Usage);
@@ -87,7 +84,7 @@ fn run<'a, S: Source, K: Sink>(
 
 /// Writes a whole text and answers its status, or that of a failed write.
 fn finish<K: Sink>(out: &mut K, text: &[u8], status: Status) -> u8
-    ensures { FinishesText (K.held out.old) (K.held out.new) (K.faults out.old) (K.faults out.new) text.now (code_of status) result }
+    ensures { FinishesText (Gains K.held K.took out.old out.new) (GainsFront K.held K.took K.refused out.old out.new) (K.faults out.old) (K.faults out.new) text.now (code_of status) result }
 {
     match write_all(out, text) {
         Ok(()) => status.code(),

@@ -1,9 +1,13 @@
 -- One more piece in the loops of `read_all` and `write_all`.
-use Rattle.std.proofs.Common.{◌≡◌, ℕ, ◌+◌, ◌-◌, ◌≤◌, List, Option, ◌++◌, length, take, drop, sym, ap, ◌∙◌, subst, length-append, length-drop}
+use Rattle.std.proofs.Common.{◌≡◌, ℕ, Result, Err, ◌+◌, ◌-◌, ◌≤◌, List, Option, ◌++◌, length, take, drop, sym, ap, ◌∙◌, subst, length-append, length-drop}
 use Rattle.std.proofs.Math.Seq.{take-add, take-length}
 use Rattle.std.proofs.lemmas.List.{length-take-le}
 use Rattle.std.proofs.KnownBytes.{Appends-trans, Consumes-trans}
+use Rattle.std.specs.Prelude.{IfErr}
 use Rattle.std.specs.Io.KnownBytes.{Appends, Consumes}
+use Rattle.sil_io.specs.declared.reading.ReadEnd.{ReadEnd}
+use Rattle.sil_io.specs.declared.reading.ReadEnd.TheVariants.{Memory}
+use Rattle.sil_io.specs.Reading.{GivesUp}
 
 -- the rest of a list behind its first n, as code slices it
 pub take-rest : (n : ℕ) (xs : List ℕ) → take (length xs - n) (drop n xs) ≡ drop n xs
@@ -25,3 +29,8 @@ gives_more a b c xs piece n within first second = record {
   taken = Consumes-trans a b c xs (take n piece) first second;
   count = length-append xs (take n piece) ∙ ap (λ m. length xs + m) (length-take-le n piece within);
 }
+
+-- a reading that ended for want of memory
+pub no_memory : {T S : Type 0} (gave : S → List ℕ → S → Type 0) (missed : S → S → Type 0) (limit : ℕ) (old new : S) (r : Result T ReadEnd) {end : ReadEnd}
+    → r ≡ Err end → end ≡ Memory → GivesUp gave missed limit old new Memory → IfErr r (GivesUp gave missed limit old new)
+no_memory gave missed limit old new r is memory known = subst (λ r. IfErr r (GivesUp gave missed limit old new)) (sym (is ∙ ap Err memory)) known

@@ -1,4 +1,6 @@
+pub mod Calls
 pub mod Count
 pub mod MemorySink
 pub mod MemorySource
 pub mod Reading
+pub mod Writing

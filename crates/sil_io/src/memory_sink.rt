@@ -1,7 +1,7 @@
 //! A sink in memory that takes short pieces, fails at chosen calls and has room for so many bytes.
 //! It stands in for an output that nobody can foresee.
 
-ghost use Rattle.std.specs.Prelude.{◌≡◌, ℕ, ◌↔◌, ◌<◌, ◌≤◌, [], Some, IfOk, IsOk, IsErr, IsTrue, MatchResult, length, vec_len, take};
+ghost use Rattle.std.specs.Prelude.{◌≡◌, ℕ, ◌↔◌, ◌<◌, ◌≤◌, [], ◌++◌, Some, IfOk, IsOk, IsErr, IsTrue, MatchResult, length, vec_len, take};
 ghost use Rattle.std.specs.Vec.{vec_capacity};
 ghost use Rattle.sil_io.specs.MemorySink.{SinkState, refuses_next, next_taken, after_taking, after_refusal};
 
@@ -65,6 +65,10 @@ impl Sink for MemorySink {
     ghost held = { λ s. Some s.held };
 
     ghost faults = { λ s. s.faults };
+
+    ghost took = { λ old given n new. new.held ≡ old.held ++ take n given };
+
+    ghost refused = { λ old _ new. new.held ≡ old.held };
 
     fn put(&mut self, bytes: &[u8]) -> Result<usize, Failed>
         requires { 0 < length bytes.now }

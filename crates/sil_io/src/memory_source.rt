@@ -50,6 +50,12 @@ impl Source for MemorySource {
 
     ghost faults = { λ s. s.faults };
 
+    ghost gave = { λ old bytes new. old.left ≡ bytes ++ new.left };
+
+    ghost missed = { λ old new. new.left ≡ old.left };
+
+    ghost from_left = { λ _ _ _ given. given };
+
     fn take(&mut self, buf: &mut [u8]) -> Result<usize, Failed>
         requires { 0 < length buf.old }
         ensures failed { IsErr result ↔ IsTrue (fails_next self.old) }

@@ -2,7 +2,7 @@
 
 ghost use Rattle.std.specs.Prelude.{◌≡◌, ℕ, ◌↔◌, ◌+◌, ◌<◌, ◌≤◌, IfOk, IfErr, IfSome, IsErrOf, OnOk, length, vec_len};
 ghost use Rattle.std.specs.Io.KnownBytes.{IsAtEnd};
-ghost use Rattle.sil_io.specs.Reading.{SomeTaken, CountAfter};
+ghost use Rattle.sil_io.specs.Reading.{SomeTaken, CountAfter, GivesToEnd, GivesUp};
 ghost use Rattle.sil_io.specs.declared.reading.ReadEnd.TheVariants.{Fault, Memory};
 
 use crate::failed::Failed;
@@ -52,6 +52,10 @@ pub fn read_all<S: Source>(alloc: Global, src: &mut S, limit: usize) -> Result<V
 
     ensures gives_up { SomeTaken (S.left src.old) (S.left src.new) (λ taken.
         IsErrOf result ReadEnd.TooLong ↔ (length taken ≡ limit + 1)) }
+
+    // What each take gave, and that none came behind the end, the first byte past the limit or a fault.
+    ensures to_end { IfOk result (λ bytes. GivesToEnd S.gave src.old bytes.items src.new) }
+    ensures cut_off { IfErr result (λ end. GivesUp S.gave S.missed limit src.old src.new end) }
 
     ensures no_fault { OnOk result (S.faults src.new ≡ S.faults src.old) }
     ensures refused { IfErr result (λ end. CountAfter end (S.faults src.old) (S.faults src.new)) }

@@ -14,6 +14,12 @@ pub trait Sink {
     // How many calls failed.
     ghost faults: { Self → ℕ };
 
+    // `took old given n new`: one call was given these bytes and took the first n.
+    ghost took: { Self → List ℕ → ℕ → Self → Type 0 };
+
+    // `refused old given new`: one call was given these bytes and failed.
+    ghost refused: { Self → List ℕ → Self → Type 0 };
+
     /// Appends the first bytes of `bytes`, at least one, and answers how many.
     /// `Failed` comes only with a fault of the sink, and appends nothing.
     fn put(&mut self, bytes: &[u8]) -> Result<usize, Failed>
@@ -21,9 +27,11 @@ pub trait Sink {
         ensures some { IfOk result (λ n. 1 ≤ n) }
         ensures within { IfOk result (λ n. n ≤ length bytes.now) }
         ensures appended { IfOk result (λ n. Appends (held self.old) (held self.new) (take n bytes.now)) }
+        ensures one_call { IfOk result (λ n. took self.old bytes.now n self.new) }
         ensures no_fault { OnOk result (faults self.new ≡ faults self.old) }
 
         ensures nothing_appended { OnErr result (Keeps (held self.old) (held self.new)) }
+        ensures one_failure { OnErr result (refused self.old bytes.now self.new) }
         ensures fault { OnErr result (MayFail (faults self.old) (faults self.new)) }
         ensures never_falls { faults self.old ≤ faults self.new };
 }

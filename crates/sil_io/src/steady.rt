@@ -37,6 +37,12 @@ impl Source for SteadySource {
 
     ghost faults = { λ _. 0 };
 
+    ghost gave = { λ old bytes new. old ≡ bytes ++ new };
+
+    ghost missed = { λ _ _. ⊥ };
+
+    ghost from_left = { λ _ _ _ given. given };
+
     fn take(&mut self, buf: &mut [u8]) -> Result<usize, Failed>
         requires { 0 < length buf.old }
         ensures count { result ≡ Ok (min (length buf.old) (length self.old)) }
@@ -66,6 +72,10 @@ impl Sink for NullSink {
     ghost held = { λ _. None };
 
     ghost faults = { λ _. 0 };
+
+    ghost took = { λ _ given n _. n ≡ length given };
+
+    ghost refused = { λ _ _ _. ⊥ };
 
     fn put(&mut self, bytes: &[u8]) -> Result<usize, Failed>
         requires { 0 < length bytes.now }

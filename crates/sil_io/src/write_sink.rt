@@ -1,13 +1,14 @@
-//! A sink over a writer of the system. It counts what goes wrong, and tells nothing of the bytes:
-//! a flush that failed doesn't say how much of the piece went out.
+//! A sink over a writer to the outside: a call is one write and one flush. It counts what goes wrong, and doesn't tell what it holds,
+//! since a flush that failed doesn't say how much of the piece went out.
 
-ghost use Rattle.std.specs.Prelude.{◌≡◌, ℕ, ◌<◌, ◌≤◌, None, IfOk, IfSome, OnOk, OnErr, length, take};
+ghost use Rattle.std.specs.Prelude.{◌≡◌, ℕ, ◌<◌, ◌≤◌, None, IfOk, OnOk, OnErr, length, take};
 ghost use Rattle.std.specs.Io.KnownBytes.{Appends};
+ghost use Rattle.sil_io.specs.Calls.{WritesAndFlushes, Breaks};
 ghost use Rattle.sil_io.specs.Count.{Counted, next_count};
 
 use crate::failed::Failed;
 use crate::sink::Sink;
-use std::io::Write;
+use crate::writer::Writer;
 use std::marker::Model;
 
 /// The bytes that go to a writer, each piece flushed. A fault is an error of the writer, in a write or a flush,
@@ -25,7 +26,7 @@ impl<W> Model for WriteSink<W> {
     ghost view = { λ s. record { inner = s.writer; faults = s.faults } };
 }
 
-impl<W: Write> WriteSink<W> {
+impl<W: Writer> WriteSink<W> {
     /// A sink that hands on to `writer`, with no fault yet.
     pub fn new(writer: W) -> WriteSink<W>
         ensures { result ≡ record { inner = writer; faults = 0 } }
@@ -34,23 +35,30 @@ impl<W: Write> WriteSink<W> {
     }
 }
 
-impl<W: Write> Sink for WriteSink<W> {
+impl<W: Writer> Sink for WriteSink<W> {
     ghost held = { λ _. None };
 
     ghost faults = { λ s. s.faults };
+
+    ghost took = { λ old given n new. WritesAndFlushes W.writes W.flushed old.inner given n new.inner };
+
+    ghost refused = { λ old given new. Breaks W.writes W.failed W.flush_failed old.inner given new.inner };
 
     fn put(&mut self, bytes: &[u8]) -> Result<usize, Failed>
         requires { 0 < length bytes.now }
         ensures some { IfOk result (λ n. 1 ≤ n) }
         ensures within { IfOk result (λ n. n ≤ length bytes.now) }
         ensures written { IfOk result (λ n. Appends (W.contents self.old.inner) (W.contents self.new.inner) (take n bytes.now)) }
+        // One write is given the whole piece, and behind it comes one flush. The answer is the count of that write, if neither failed.
+        ensures went_out { IfOk result (λ n. WritesAndFlushes W.writes W.flushed self.old.inner bytes.now n self.new.inner) }
+        ensures broke { OnErr result (Breaks W.writes W.failed W.flush_failed self.old.inner bytes.now self.new.inner) }
         ensures no_fault { OnOk result (self.new.faults ≡ self.old.faults) }
         ensures fault { OnErr result (self.new.faults ≡ next_count self.old.faults) }
         ensures never_falls { self.old.faults ≤ self.new.faults }
     {
         match write_and_flush(&mut self.writer, bytes) {
-            Some(count) => Ok(count),
-            None => {
+            Ok(count) => Ok(count),
+            Err(_) => {
                 self.faults = self.faults.saturating_add(1);
                 Err(Failed)
             }
@@ -58,22 +66,27 @@ impl<W: Write> Sink for WriteSink<W> {
     }
 }
 
-/// One write and one flush: how many bytes the writer took, if it took any and neither failed.
-fn write_and_flush<W: Write>(writer: &mut W, bytes: &[u8]) -> Option<usize>
-    ensures some { IfSome result (λ n. 1 ≤ n) }
-    ensures within { IfSome result (λ n. n ≤ length bytes.now) }
-    ensures written { IfSome result (λ n. Appends (W.contents writer.old) (W.contents writer.new) (take n bytes.now)) }
+/// One write of the whole piece, and behind it one flush: how many bytes the writer took, if it took any and neither failed.
+fn write_and_flush<W: Writer>(writer: &mut W, bytes: &[u8]) -> Result<usize, Failed>
+    ensures within { IfOk result (λ n. n ≤ length bytes.now) }
+    ensures written { IfOk result (λ n. Appends (W.contents writer.old) (W.contents writer.new) (take n bytes.now)) }
+    ensures went_out { IfOk result (λ n. WritesAndFlushes W.writes W.flushed writer.old bytes.now n writer.new) }
+    ensures broke { OnErr result (Breaks W.writes W.failed W.flush_failed writer.old bytes.now writer.new) }
 {
-    let count = writer.write(bytes).ok().filter(|count| *count > 0)?;
-    writer.flush().ok()?;
-    Some(count)
+    match writer.write_once(bytes) {
+        Ok(count) if count > 0 => match writer.flush_once() {
+            Ok(()) => Ok(count),
+            Err(_) => Err(Failed),
+        },
+        _ => Err(Failed),
+    }
 }
 
 #[cfg(test)]
 mod tests {
     use super::*;
     use std::io;
-    use std::io::ErrorKind;
+    use std::io::{ErrorKind, Write};
 
     /// Takes three bytes at a time. The second write fails, the third takes nothing, and the fourth flush fails.
     #[derive(Drop)]

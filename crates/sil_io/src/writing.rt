@@ -3,6 +3,7 @@
 ghost use Rattle.std.specs.Prelude.{◌≡◌, ℕ, ◌<◌, ◌≤◌, IfErr, OnOk, OnErr, length, take};
 ghost use Rattle.std.specs.Io.KnownBytes.{Appends};
 ghost use Rattle.sil_io.specs.Count.{MayFail};
+ghost use Rattle.sil_io.specs.Writing.{Puts, PutsUntilRefused};
 
 use crate::sink::Sink;
 use thiserror::Error;
@@ -19,6 +20,10 @@ pub struct WriteFault {
 pub fn write_all<K: Sink>(sink: &mut K, bytes: &[u8]) -> Result<(), WriteFault>
     ensures all { OnOk result (Appends (K.held sink.old) (K.held sink.new) bytes.now) }
     ensures no_fault { OnOk result (K.faults sink.new ≡ K.faults sink.old) }
+
+    // Each put is given all the bytes that are left, and none comes behind a fault.
+    ensures puts { OnOk result (Puts K.took bytes.now sink.old (length bytes.now) sink.new) }
+    ensures refused { IfErr result (λ fault. PutsUntilRefused K.took K.refused sink.old bytes.now fault.written sink.new) }
 
     ensures written { IfErr result (λ fault. Appends (K.held sink.old) (K.held sink.new) (take fault.written bytes.now)) }
     ensures not_all { IfErr result (λ fault. fault.written < length bytes.now) }

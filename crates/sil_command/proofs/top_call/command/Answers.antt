@@ -6,6 +6,7 @@ pub returns : goal.returns
 returns g c = record {
   answers = whole_answers _ _ c.run.ensures.ends;
   source_untouched = c.run.ensures.source_untouched;
+  takes = c.run.ensures.takes;
   read_fault_cause = four_is_read_fault _ _ c.run.ensures.ends;
   read_fault = read_fault_ends _ _ c.run.ensures.ends;
   write_fault_cause = five_is_write_fault _ _ c.run.ensures.ends;
@@ -13,4 +14,5 @@ returns g c = record {
   written_front = five_writes_front _ _ c.run.ensures.ends;
   exhausted = nine_keeps _ _ c.run.ensures.ends;
   statuses = ends_status _ _ c.run.ensures.ends;
+  ends = c.run.ensures.ends;
 }

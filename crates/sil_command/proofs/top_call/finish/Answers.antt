@@ -1,16 +1,10 @@
 -- The two ends of writing a text.
-use Rattle.std.proofs.Common.{take, drop, sym, take-append-drop}
 use Rattle.sil_command.specs.Ends.{whole, front}
 use Rattle.sil_command.proofs.top_call.finish.Goals as goal
 
 pub returns-in-Ok : goal.returns-in-Ok
-returns-in-Ok g c = whole c.in-Ok.ensures.all c.in-Ok.ensures.no_fault
+returns-in-Ok g c = whole (c.in-Ok.ensures.all, c.in-Ok.ensures.puts) c.in-Ok.ensures.no_fault
 
 pub returns-in-Err : goal.returns-in-Err
 returns-in-Err g c =
-    front (record {
-      front = take c.in-Err._fault.written c.args.text.now;
-      rest = drop c.in-Err._fault.written c.args.text.now;
-      parts = sym (take-append-drop c.in-Err._fault.written c.args.text.now);
-      gained = c.in-Err.ensures.written;
-    }) c.in-Err.ensures.fault
+    front (c.in-Err._fault.written, c.in-Err.ensures.not_all, c.in-Err.ensures.written, c.in-Err.ensures.refused) c.in-Err.ensures.fault

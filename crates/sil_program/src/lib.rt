@@ -1,0 +1,69 @@
+//! The program between its two ends: the words of a command line, or why they aren't there, in, and a status out.
+//! It knows of no mode and no text: what is answered is the command's.
+#![tactic(auto)]
+
+ghost use Rattle.std.specs.Prelude.{◌≡◌, IfOk, IfErr, OnErr, map, drop, string_bytes, [], ◌∷◌};
+ghost use Rattle.std.specs.IoError.{error_kind};
+ghost use Rattle.std.specs.Vec.Iter.{into_iter_items};
+ghost use Rattle.sil_rules.specs.declared.status.Status.TheVariants.{OutOfMemory};
+ghost use Rattle.sil_rules.specs.Statuses.{code_of};
+ghost use Rattle.sil_command.specs.Ends.{call_between, Ends};
+
+use sil_command::command;
+use sil_io::{Sink, Source};
+use sil_rules::Status;
+use std::alloc::{AllocError, Global};
+use std::env::Args;
+use std::io;
+use std::io::ErrorKind;
+
+/// Runs the command with the words behind the program's name, over these two ends, and answers its status.
+///
+/// Where a word isn't text, no mode is asked for: the command has one empty word in place of all. Where the words couldn't
+/// be read for another reason, no memory was left for them, and nothing is read or written.
+pub fn run<S: Source, K: Sink>(
+    alloc: Global,
+    args: io::Result<Args>,
+    source: &mut S,
+    out: &mut K,
+) -> u8
+    ensures words { IfOk args (λ all. Ends (call_between (map string_bytes (drop 1 (into_iter_items all)))
+        S.left S.gave S.faults source.old source.new K.held K.took K.refused K.faults out.old out.new) result) }
+    ensures no_text { IfErr args (λ error. error_kind error ≡ ErrorKind.InvalidData → Ends (call_between ([] ∷ [])
+        S.left S.gave S.faults source.old source.new K.held K.took K.refused K.faults out.old out.new) result) }
+    ensures no_words { IfErr args (λ error. ¬ error_kind error ≡ ErrorKind.InvalidData →
+        (result ≡ code_of OutOfMemory) × (source.new ≡ source.old) × (out.new ≡ out.old)) }
+{
+    match args {
+        Ok(args) => run_words(alloc, args, source, out).unwrap_or(Status::OutOfMemory.code()),
+        Err(error) if error.kind() == ErrorKind::InvalidData => command(alloc, &[""], source, out),
+        Err(_) => Status::OutOfMemory.code(),
+    }
+}
+
+/// Runs the command with all of these words but the first.
+fn run_words<S: Source, K: Sink>(
+    alloc: Global,
+    args: Args,
+    source: &mut S,
+    out: &mut K,
+) -> Result<u8, AllocError>
+    ensures ran { IfOk result (λ status. Ends (call_between (map string_bytes (drop 1 (into_iter_items args)))
+        S.left S.gave S.faults source.old source.new K.held K.took K.refused K.faults out.old out.new) status) }
+    ensures untouched { OnErr result ((source.new ≡ source.old) × (out.new ≡ out.old)) }
+{
+    let words: Vec<String> = args.skip(1).collect(alloc)?;
+    let texts = texts_of(alloc, words.as_slice())?;
+    Ok(command(alloc, texts.as_slice(), source, out))
+}
+
+/// The texts of these words.
+fn texts_of<'a>(alloc: Global, words: &'a [String]) -> Result<Vec<&'a str>, AllocError>
+    ensures { IfOk result (λ texts. map (λ text. text.now) texts.items ≡ map string_bytes words.now) }
+{
+    let mut texts = Vec::new(alloc);
+    for word in words {
+        texts.push(word.as_str())?;
+    }
+    Ok(texts)
+}
