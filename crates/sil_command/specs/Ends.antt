@@ -4,12 +4,12 @@ use Rattle.std.specs.Io.KnownBytes.{Appends}
 use Rattle.sil_io.specs.Count.{MayFail}
 use Rattle.sil_io.specs.Reading.{Gives, GivesToEnd}
 use Rattle.sil_io.specs.Writing.{Puts, PutsUntilRefused}
-use Rattle.sil_command.specs.Texts.{read_fault_text}
-use Rattle.sil_command.specs.Words.{IsCommandLine}
 use Rattle.sil_rules.specs.declared.limits.TheConstants.{TEXT_BYTES}
 use Rattle.sil_rules.specs.declared.status.Status.{Status}
 use Rattle.sil_rules.specs.declared.status.Status.TheVariants.{ReadFault, WriteFault, OutOfMemory}
 use Rattle.sil_rules.specs.Statuses.{code_of}
+use Rattle.sil_command.specs.Texts.{read_fault_text}
+use Rattle.sil_command.specs.Words.{IsCommandLine}
 use Rattle.sil_command.specs.Answers.{Answers}
 
 -- the source may have had this text left: where it tells what it has left, that is the text
@@ -95,7 +95,7 @@ call_between words left gave read_faults source new_source held took refused wri
   new_write_faults = write_faults new_sink;
 }
 
--- the text was written whole with its status and no fault, or only a front of it, with a fault and the status 5
+-- the text was written whole with its status and no fault, or only a front of it, with a fault and the status of a failed write
 pub data FinishesText (Gains GainsFront : List ℕ → Type 0) (faults new_faults : ℕ) (text : List ℕ) (wanted : ℕ) : ℕ → Type 0 where
   whole : Gains text → new_faults ≡ faults → FinishesText Gains GainsFront faults new_faults text wanted wanted
   front : GainsFront text → MayFail faults new_faults → FinishesText Gains GainsFront faults new_faults text wanted (code_of WriteFault)

@@ -20,7 +20,7 @@ use std::io::ErrorKind;
 /// Runs the command with the words behind the program's name, over these two ends, and answers its status.
 ///
 /// Where a word isn't text, no mode is asked for: the command has one empty word in place of all. Where the words couldn't
-/// be read for another reason, the status is 9, and nothing is read or written.
+/// be read for another reason, no memory was left for them, and nothing is read or written.
 pub fn run<S: Source, K: Sink>(
     alloc: Global,
     args: io::Result<Args>,
