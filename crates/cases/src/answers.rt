@@ -8,7 +8,7 @@ use sil_io::{MemorySink, MemorySource};
 use std::alloc::Global;
 
 /// What the command writes, and its status.
-#[derive(Drop)]
+#[derive(PartialEq, Drop)]
 pub struct Answer {
     pub written: Vec<u8>,
     pub status: u8,

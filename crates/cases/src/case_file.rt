@@ -1,14 +1,21 @@
 //! What a case file asks for: the comments at its head say the words, the status and the answer.
 //! `docs/CASES.md` describes the form.
 
+use crate::answers::Answer;
 use std::alloc::{AllocError, Global};
 
 /// The words of a call, and what the command has to answer.
 #[derive(Drop)]
 pub struct Case<'a> {
     pub words: Vec<&'a str>,
-    pub status: u8,
-    pub answer: Vec<u8>,
+    pub wanted: Answer,
+}
+
+impl Case<'_> {
+    /// Whether a module is printed, so that the answer is a text of its own.
+    pub fn prints(&self) -> bool {
+        self.wanted.status == 0 && self.words.contains(&"print")
+    }
 }
 
 /// What the comments at the head of a file ask for, or none where they don't have the form of a case.
@@ -31,13 +38,12 @@ pub fn case_of(alloc: Global, file: &[u8]) -> Result<Option<Case<'_>>, AllocErro
     if !shows.starts_with("// ") || words.contains('\n') {
         return Ok(None);
     }
-    let Some(answer) = answer_of(alloc, lines)? else {
+    let Some(written) = answer_of(alloc, lines)? else {
         return Ok(None);
     };
     Ok(Some(Case {
         words: words_of(alloc, words)?,
-        status,
-        answer,
+        wanted: Answer { written, status },
     }))
 }
 

@@ -1,12 +1,13 @@
 //! One case: whether it passes, and where it doesn't, what was wanted and what came.
 
-use crate::answers::answer_to;
-use crate::case_file::case_of;
+use crate::answers::{Answer, answer_to};
+use crate::case_file::{Case, case_of};
 use std::alloc::Global;
 use std::rt::Files;
 use std::{fs, io};
 
 /// Whether the command gives the answer and the status of a case file. One that fails is printed with both answers.
+/// What `print` writes has to print as itself too.
 pub fn passes<R: AllocGlobal + Files + Print>(
     rt: &R,
     alloc: Global,
@@ -17,26 +18,44 @@ pub fn passes<R: AllocGlobal + Files + Print>(
         println!(rt; "{path}: not in the form of a case\n")?;
         return Ok(false);
     };
-    let text = Vec::from_slice(alloc, &file)?;
+    if !gives(rt, path, &case, &file)? {
+        return Ok(false);
+    }
+    if case.prints() {
+        return gives(rt, path, &case, &case.wanted.written);
+    }
+    Ok(true)
+}
+
+/// Whether the command gives a case's answer and status to this text.
+fn gives<R: AllocGlobal + Print>(
+    rt: &R,
+    path: &str,
+    case: &Case<'_>,
+    text: &[u8],
+) -> io::Result<bool> {
+    let alloc = rt.alloc();
+    let text = Vec::from_slice(alloc, text)?;
     let Ok(answer) = answer_to(alloc, &case.words, text) else {
         println!(rt; "{path}: out of memory\n")?;
         return Ok(false);
     };
-    if answer.status == case.status && answer.written == case.answer {
+    if answer == case.wanted {
         return Ok(true);
     }
     println!(rt; "{path} failed")?;
-    print_answer(rt, "wanted", case.status, &case.answer)?;
-    print_answer(rt, "got", answer.status, &answer.written)?;
+    print_answer(rt, "wanted", &case.wanted)?;
+    print_answer(rt, "got", &answer)?;
     println!(rt)?;
     Ok(false)
 }
 
 /// Prints a status and an answer's lines.
-fn print_answer<R: Print>(rt: &R, which: &str, status: u8, answer: &[u8]) -> io::Result<()> {
-    println!(rt; "{which} status {status} and")?;
-    match str::from_utf8(answer) {
+fn print_answer<R: Print>(rt: &R, which: &str, answer: &Answer) -> io::Result<()> {
+    let written = answer.written.as_slice();
+    println!(rt; "{which} status {} and", answer.status)?;
+    match str::from_utf8(written) {
         Ok(text) => print!(rt; "{text}"),
-        Err(_) => println!(rt; "{answer:?}"),
+        Err(_) => println!(rt; "{written:?}"),
     }
 }
