@@ -1,6 +1,6 @@
 //! Sources and sinks that fail at one call, in pieces of several sizes.
 
-use crate::call::{Ended, call};
+use crate::call::{Ended, call, call_with_room};
 use std::process::Abort;
 use std::test::Fail;
 
@@ -10,6 +10,9 @@ const OBJECT: &[u8] =
 /// How many calls of a source in pieces of 16 bytes read `OBJECT` to its end: one a piece, and one that finds the end.
 const READS: u64 = (OBJECT.len() as u64 + 15) / 16 + 1;
 
+const USAGE: &[u8] =
+    b"usage: sil check, print, lower, optimize, run or generate N [--turns N] [--entry NAME] [--optimize]\n";
+
 fn assert_ended(rt: &impl Abort, fail: u64, ended: &Ended, written: &[u8], status: u8) {
     assert_eq!(rt; ended.status, status, "call {fail}");
     assert_eq!(rt; ended.written.as_slice(), written, "call {fail}");
@@ -17,7 +20,7 @@ fn assert_ended(rt: &impl Abort, fail: u64, ended: &Ended, written: &[u8], statu
 
 // A source that fails at call k gives `read fault`, where the text isn't read to its end by then.
 #[test]
-fn a_failed_read_is_told(rt: HostRuntime) -> Result<(), Fail> {
+fn a_failed_read_is_reported(rt: HostRuntime) -> Result<(), Fail> {
     let alloc = rt.alloc();
     for fail in 1..=200 {
         let ended = call(
@@ -39,7 +42,7 @@ fn a_failed_read_is_told(rt: HostRuntime) -> Result<(), Fail> {
 
 // A sink in pieces of 4 bytes that fails at call k holds the pieces before it, of `accepted` and its line feed in three.
 #[test]
-fn a_failed_write_leaves_a_front(rt: HostRuntime) -> Result<(), Fail> {
+fn a_failed_write_leaves_a_prefix(rt: HostRuntime) -> Result<(), Fail> {
     let alloc = rt.alloc();
     for fail in 1..=200 {
         let ended = call(
@@ -73,5 +76,67 @@ fn a_failed_read_is_no_end(rt: HostRuntime) -> Result<(), Fail> {
     )?;
     assert_eq!(rt; ended.status, 4);
     assert_eq!(rt; ended.written.as_slice(), b"read fault\n".as_slice());
+    Ok(())
+}
+
+// Pieces of 16 bytes whose second read fails, and a sink that holds 100 bytes and takes all it is given.
+#[test]
+fn a_failed_second_read_is_reported(rt: HostRuntime) -> Result<(), Fail> {
+    let alloc = rt.alloc();
+    let ended = call_with_room(
+        alloc,
+        &["check"],
+        OBJECT,
+        (16, vec![in alloc; 2]?),
+        (100, Vec::new(alloc)),
+        100,
+    )?;
+    assert_ended(&rt, 2, &ended, b"read fault\n", 4);
+    Ok(())
+}
+
+// The same sink takes four bytes a call, and its second call fails.
+#[test]
+fn a_failed_second_write_leaves_four_bytes(rt: HostRuntime) -> Result<(), Fail> {
+    let alloc = rt.alloc();
+    let ended = call_with_room(
+        alloc,
+        &["check"],
+        OBJECT,
+        (16, Vec::new(alloc)),
+        (4, vec![in alloc; 2]?),
+        100,
+    )?;
+    assert_ended(&rt, 2, &ended, b"acce", 5);
+    Ok(())
+}
+
+// A source that fails at its first call makes no fault, since nothing is read for these words.
+#[test]
+fn other_words_need_no_source(rt: HostRuntime) -> Result<(), Fail> {
+    let alloc = rt.alloc();
+    let lines: [&[&str]; 11] = [
+        &[],
+        &["Check"],
+        &["Print"],
+        &["lower"],
+        &["check", "check"],
+        &["check", "print"],
+        &["print", "print"],
+        &["print", "1"],
+        &["check", "--turns", "5"],
+        &["--help"],
+        &[""],
+    ];
+    for words in lines {
+        let ended = call(
+            alloc,
+            words,
+            OBJECT,
+            (4096, vec![in alloc; 1]?),
+            (7, Vec::new(alloc)),
+        )?;
+        assert_ended(&rt, 1, &ended, USAGE, 2);
+    }
     Ok(())
 }

@@ -1,4 +1,4 @@
-//! Texts told by patterns, and tables of texts with the answer of `check` to each.
+//! Long texts written as patterns, and tables of them with the answer of `check` to each.
 //! In a pattern, what stands between two backquotes is repeated, and `~` in it is the number of the copy, from 0.
 
 use crate::call::check;
@@ -15,29 +15,12 @@ pub const ONE_VALUE: &str = "sil [ossa] @f : $@convention(thin) () -> () {\nb(%0
 /// Nothing stands before the texts of a table.
 pub const NO_HEAD: &str = "";
 
-/// What stands behind the head, and the answer.
-pub type Answered = (&'static str, &'static str);
-
 /// The pattern of what stands behind the head, how often its repeated parts stand, and the answer.
 pub type Counted = (&'static str, u32, &'static str);
 
 /// The pattern of what stands behind the head, how often its repeated parts may stand, and where a text with one more
 /// passes the limit.
 pub type Limited = (&'static str, u16, &'static str);
-
-/// The texts of the rows have these answers.
-pub fn assert_texts(
-    rt: &impl Abort,
-    alloc: Global,
-    head: &str,
-    rows: &[Answered],
-) -> Result<(), Fail> {
-    for (text, answer) in rows {
-        let whole = format!(in alloc; "{head}{text}")?;
-        assert_answer(rt, alloc, whole.as_bytes(), text, answer)?;
-    }
-    Ok(())
-}
 
 /// The texts of the rows have these answers.
 pub fn assert_counted(
