@@ -14,13 +14,17 @@ pub struct Answer {
     pub status: u8,
 }
 
-/// Room for every answer: a case's answer stands in its file, and a longer one fails the case.
-const ROOM: usize = 1 << 20;
-
-/// Calls the command on a text that is read and an answer that is written without faults.
-pub fn answer_to(alloc: Global, words: &[&str], text: Vec<u8>) -> Result<Answer, Exhausted> {
+/// Calls the command on a text that is read without faults. The answer is written without faults too, where it has at
+/// most `room` bytes.
+pub fn answer_to(
+    alloc: Global,
+    words: &[&str],
+    text: &[u8],
+    room: usize,
+) -> Result<Answer, Exhausted> {
+    let text = Vec::from_slice(alloc, text)?;
     let mut source = MemorySource::new(text, 4096, Vec::new(alloc));
-    let mut sink = MemorySink::new(alloc, ROOM, 4096, Vec::new(alloc))?;
+    let mut sink = MemorySink::new(alloc, room, 4096, Vec::new(alloc))?;
     let status = command(alloc, words, &mut source, &mut sink);
     Ok(Answer {
         written: Vec::from_slice(alloc, sink.bytes())?,

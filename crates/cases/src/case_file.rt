@@ -72,8 +72,10 @@ fn words_of<'a>(alloc: Global, line: &'a str) -> Result<Vec<&'a str>, AllocError
 fn answer_of(alloc: Global, lines: &str) -> Result<Option<Vec<u8>>, AllocError> {
     let mut answer = Vec::new(alloc);
     for line in lines.split_terminator('\n') {
-        let Some(text) = line.strip_prefix("// ").or(line.strip_prefix("//")) else {
-            return Ok(None);
+        let text = match line.strip_prefix("// ") {
+            Some(text) => text,
+            None if line == "//" => "",
+            None => return Ok(None),
         };
         answer.extend_from_slice(text.as_bytes())?;
         answer.push(b'\n')?;

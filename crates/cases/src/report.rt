@@ -6,8 +6,11 @@ use std::alloc::Global;
 use std::rt::Files;
 use std::{fs, io};
 
+/// Room for an answer of one line or a few, behind that of the answer that is wanted.
+const ROOM: usize = 4096;
+
 /// Whether the command gives the answer and the status of a case file. One that fails is printed with both answers.
-/// What `print` writes has to print as itself too.
+/// Where `print` writes a module, this has to print as itself too, and `check` has to read it.
 pub fn passes<R: AllocGlobal + Files + Print>(
     rt: &R,
     alloc: Global,
@@ -22,9 +25,25 @@ pub fn passes<R: AllocGlobal + Files + Print>(
         return Ok(false);
     }
     if case.prints() {
-        return gives(rt, path, &case, &case.wanted.written);
+        return Ok(gives(rt, path, &case, &case.wanted.written)? && is_read(rt, path, &file)?);
     }
     Ok(true)
+}
+
+/// Whether `check` takes the text for a module: it accepts or refuses it, or has no rules for it.
+fn is_read<R: AllocGlobal + Print>(rt: &R, path: &str, text: &[u8]) -> io::Result<bool> {
+    let alloc = rt.alloc();
+    let Ok(answer) = answer_to(alloc, &["check"], text, ROOM) else {
+        println!(rt; "{path}: out of memory\n")?;
+        return Ok(false);
+    };
+    if matches!(answer.status, 0 | 1 | 11) {
+        return Ok(true);
+    }
+    println!(rt; "{path} is printed, and not read by `check`")?;
+    print_answer(rt, "got", &answer)?;
+    println!(rt)?;
+    Ok(false)
 }
 
 /// Whether the command gives a case's answer and status to this text.
@@ -35,8 +54,8 @@ fn gives<R: AllocGlobal + Print>(
     text: &[u8],
 ) -> io::Result<bool> {
     let alloc = rt.alloc();
-    let text = Vec::from_slice(alloc, text)?;
-    let Ok(answer) = answer_to(alloc, &case.words, text) else {
+    let room = case.wanted.written.len().saturating_add(ROOM);
+    let Ok(answer) = answer_to(alloc, &case.words, text, room) else {
         println!(rt; "{path}: out of memory\n")?;
         return Ok(false);
     };
