@@ -4,7 +4,7 @@ use sil_shape::classes::Class;
 use sil_shape::grammar::Symbol;
 use sil_shape::machine::{ShapeRefusal, steps_of};
 use sil_shape::shortest_steps::shortest_steps;
-use sil_shape::spelling::{at_word, keyword, mark};
+use sil_shape::spelling::{at_word, keyword, punctuation};
 use sil_shape::steps::{Front, Step};
 use std::alloc::{AllocError, Global};
 use std::test::Fail;
@@ -34,8 +34,8 @@ fn class_of(word: &[u8]) -> Class {
     match word {
         [b'@', name @ ..] => Class::At(at_word(name)),
         [b'%', ..] => Class::Percent,
-        _ => match mark(word) {
-            Some(mark) => Class::Mark(mark),
+        _ => match punctuation(word) {
+            Some(punctuation) => Class::Punctuation(punctuation),
             None => Class::Word(keyword(word)),
         },
     }
@@ -82,7 +82,7 @@ fn count_shortest(alloc: Global, classes: &[Class]) -> Result<Option<usize>, Fai
     }
 }
 
-// A mark that fits nowhere here stands behind each list.
+// Punctuation that fits nowhere here stands behind each list.
 #[test]
 fn a_begun_list_goes_on_to_the_shortest_end(rt: HostRuntime) -> Result<(), Fail> {
     let alloc = rt.alloc();

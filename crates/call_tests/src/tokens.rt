@@ -2,7 +2,7 @@
 
 use sil_ast::Place;
 use sil_lexer::LexRefusal::{BadByte, NameTooLong, UnclosedText};
-use sil_lexer::TokenKind::{AtName, Mark, Number, Percent, Text, Word};
+use sil_lexer::TokenKind::{AtName, Number, Percent, Punctuation, Text, Word};
 use sil_lexer::{LexRefusal, TokenKind, end_place, lex, place_at};
 use std::test::Fail;
 
@@ -59,7 +59,10 @@ static CASES: [Case; 23] = [
     },
     Case {
         text: b"->-1",
-        tokens: &[(Mark, at!(0, 1, 1), b"->"), (Number, at!(2, 1, 3), b"-1")],
+        tokens: &[
+            (Punctuation, at!(0, 1, 1), b"->"),
+            (Number, at!(2, 1, 3), b"-1"),
+        ],
         stop: None,
     },
     Case {
@@ -173,7 +176,7 @@ fn marks_of_one_byte(rt: HostRuntime) -> Result<(), Fail> {
     let tokens = lex(rt.alloc(), text)?;
     assert_eq!(rt; tokens.len(), 17);
     for i in 0..17 {
-        assert_eq!(rt; tokens.kind(i), Mark);
+        assert_eq!(rt; tokens.kind(i), Punctuation);
         assert_eq!(rt; tokens.text(text, i).len(), 1);
     }
     assert_eq!(rt; tokens.stop(), None);

@@ -2,7 +2,7 @@
 
 ghost use Rattle.sil_command.specs.Answers.{AreAcceptedExactly, AreNotBuiltExactly, ArePrintedExactly, ArePrintedReadBack};
 
-use printed_reading::printed_modules_are_spelled;
+use printed_reading_laws::printed_modules_are_spelled;
 use sil_grammar::{spelled_modules_are_numbered, spelled_once};
 
 /// `check` answers a text that spells an accepted simple module with status 0, and one that is answered so spells such a

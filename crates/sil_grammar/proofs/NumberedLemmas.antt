@@ -6,17 +6,17 @@ use Rattle.sil_lexer.specs.declared.token.LexRefusal.{LexRefusal}
 use Rattle.sil_lexer.specs.declared.token.TokenKind.{TokenKind}
 use Rattle.sil_lexer.specs.Bytes.{is_name_byte, is_word_start}
 use Rattle.sil_lexer.specs.Lexes.{Lexeme, Lexes, end, token, stop}
-use Rattle.sil_lexer.specs.Spelling.{Spells, arrow, at_name, mark, name_length, negative, number, percent, quoted, word}
-use Rattle.sil_shape.specs.declared.classes.Mark as sign
+use Rattle.sil_lexer.specs.Spelling.{Spells, arrow, at_name, punctuation, name_length, negative, number, percent, quoted, word}
+use Rattle.sil_shape.specs.declared.classes.Punctuation as sign
 use Rattle.sil_shape.specs.BuiltinNames.{is_builtin_name}
-use Rattle.sil_shape.specs.Spelling.{mark_of}
+use Rattle.sil_shape.specs.Spelling.{punctuation_of}
 use Rattle.written_modules.specs.Meaning.{kept_of}
 use Rattle.numbered_form.specs.Names.{is_quotable, is_short}
 use Rattle.numbered_form.specs.NumberedForm.{IsNumbered}
-use Rattle.numbered_reading.specs.Leaves.{AreOfClasses, IsTextOf}
-use Rattle.numbered_reading.proofs.Basics.{both}
-use Rattle.numbered_reading.proofs.Numbered.{written_numbered}
-use Rattle.sil_grammar.specs.Classes.{class_by, inside_quotes, mark_class, text_class, token_class}
+use Rattle.numbered_reading_laws.specs.Leaves.{AreOfClasses, IsTextOf}
+use Rattle.numbered_reading_laws.proofs.ListsAndFaults.{both}
+use Rattle.numbered_reading_laws.proofs.Numbered.{written_numbered}
+use Rattle.sil_grammar.specs.Classes.{class_by, inside_quotes, punctuation_class, text_class, token_class}
 use Rattle.sil_grammar.specs.Spells as text
 
 inside_is : (inside : List ℕ) → inside_quotes (34 ∷ inside ++ 34 ∷ []) ≡ inside
@@ -28,9 +28,9 @@ text_of : (known : Bool) (text : List ℕ) → is_builtin_name text ≡ known �
 text_of true text e quotable = record { quotable = quotable; known = e }
 text_of false text e quotable = quotable
 
-mark_text : (m : Option sign.Mark) → IsTextOf (mark_class m) []
-mark_text (Some m) = tt
-mark_text None = refl
+punctuation_text : (m : Option sign.Punctuation) → IsTextOf (punctuation_class m) []
+punctuation_text (Some m) = tt
+punctuation_text None = refl
 
 -- the text that a token keeps is one of its class
 kept_text : (k : TokenKind) (spelling : List ℕ) → Spells k spelling → name_length k spelling ≤ 255 → IsTextOf (class_by k spelling) (kept_of k spelling)
@@ -48,8 +48,8 @@ kept_text k spelling (negative _ _ _) short = tt
 kept_text k spelling (quoted inside bytes) short =
     let kept : List ℕ = inside_quotes (34 ∷ inside ++ 34 ∷ []) in
     text_of (is_builtin_name kept) kept refl (ap is_quotable (inside_is inside) ∙ bytes)
-kept_text k spelling (mark byte _) short = mark_text (mark_of (byte ∷ []))
-kept_text k spelling arrow short = mark_text (mark_of (45 ∷ 62 ∷ []))
+kept_text k spelling (punctuation byte _) short = punctuation_text (punctuation_of (byte ∷ []))
+kept_text k spelling arrow short = punctuation_text (punctuation_of (45 ∷ 62 ∷ []))
 
 lexed_classes : (all left : List ℕ) (lexemes : List Lexeme) (refusal : Option LexRefusal) → Lexes all left lexemes refusal → AreOfClasses (map token_class lexemes) lexemes
 lexed_classes all left lexemes refusal (end _ _) = tt

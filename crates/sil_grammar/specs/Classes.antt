@@ -6,10 +6,10 @@ use Rattle.sil_lexer.specs.declared.token.TokenKind.TheVariants as kind
 use Rattle.sil_lexer.specs.Lexes.{Lexeme}
 use Rattle.sil_lexer.specs.Lexing.{Lexing, lexeme_of}
 use Rattle.sil_shape.specs.declared.classes.Class.{Class}
-use Rattle.sil_shape.specs.declared.classes.Class.TheVariants.{Word, At, Percent, Number, BuiltinText, OtherText, Mark}
-use Rattle.sil_shape.specs.declared.classes.Mark as mark
+use Rattle.sil_shape.specs.declared.classes.Class.TheVariants.{Word, At, Percent, Number, BuiltinText, OtherText, Punctuation}
+use Rattle.sil_shape.specs.declared.classes.Punctuation as punctuation
 use Rattle.sil_shape.specs.BuiltinNames.{is_builtin_name}
-use Rattle.sil_shape.specs.Spelling.{keyword_of, at_word_of, mark_of}
+use Rattle.sil_shape.specs.Spelling.{keyword_of, at_word_of, punctuation_of}
 
 -- a text without its quotes
 abbrev pub inside_quotes : List ℕ → List ℕ
@@ -19,10 +19,10 @@ abbrev pub text_class : Bool → Class
 text_class true = BuiltinText
 text_class false = OtherText
 
--- every token of the kind `Mark` spells a mark
-abbrev pub mark_class : Option mark.Mark → Class
-mark_class (Some m) = Mark m
-mark_class None = OtherText
+-- every token of the kind `Punctuation` spells a punctuation token
+abbrev pub punctuation_class : Option punctuation.Punctuation → Class
+punctuation_class (Some m) = Punctuation m
+punctuation_class None = OtherText
 
 unfoldable pub class_by : TokenKind → List ℕ → Class
 class_by kind.Word spelling = Word (keyword_of spelling)
@@ -30,7 +30,7 @@ class_by kind.AtName spelling = At (at_word_of (drop 1 spelling))
 class_by kind.Percent spelling = Percent
 class_by kind.Number spelling = Number
 class_by kind.Text spelling = text_class (is_builtin_name (inside_quotes spelling))
-class_by kind.Mark spelling = mark_class (mark_of spelling)
+class_by kind.Punctuation spelling = punctuation_class (punctuation_of spelling)
 
 abbrev pub token_class : Lexeme → Class
 token_class l = class_by l.kind l.spelling

@@ -3,14 +3,14 @@
 ghost use Rattle.std.specs.Prelude.{◌≡◌, ◌-◌, ◌<◌, drop, length, map, slice_range, IfOk};
 ghost use Rattle.sil_lexer.specs.Lexing.{IsLexingOf, lexemes_of};
 ghost use Rattle.sil_shape.specs.BuiltinNames.{is_builtin_name};
-ghost use Rattle.sil_shape.specs.Spelling.{mark_of};
-ghost use Rattle.sil_grammar.specs.Classes.{class_by, inside_quotes, mark_class, text_class, token_class, IsClassAt};
+ghost use Rattle.sil_shape.specs.Spelling.{punctuation_of};
+ghost use Rattle.sil_grammar.specs.Classes.{class_by, inside_quotes, punctuation_class, text_class, token_class, IsClassAt};
 
 use sil_ast::Exhausted;
 use sil_lexer::{TokenKind, Tokens};
 use sil_shape::builtin_names::is_builtin_name;
 use sil_shape::classes::Class;
-use sil_shape::spelling::{at_word, keyword, mark};
+use sil_shape::spelling::{at_word, keyword, punctuation};
 use std::alloc::Global;
 
 /// What is behind the first byte.
@@ -44,11 +44,11 @@ fn text_class(content: &[u8]) -> Class
     }
 }
 
-fn mark_class(spelling: &[u8]) -> Class
-    ensures { result ≡ mark_class (mark_of spelling.now) }
+fn punctuation_class(spelling: &[u8]) -> Class
+    ensures { result ≡ punctuation_class (punctuation_of spelling.now) }
 {
-    match mark(spelling) {
-        Some(mark) => Class::Mark(mark),
+    match punctuation(spelling) {
+        Some(punctuation) => Class::Punctuation(punctuation),
         None => Class::OtherText,
     }
 }
@@ -63,7 +63,7 @@ fn class_by(kind: TokenKind, spelling: &[u8]) -> Class
         TokenKind::Percent => Class::Percent,
         TokenKind::Number => Class::Number,
         TokenKind::Text => text_class(without_quotes(spelling)),
-        TokenKind::Mark => mark_class(spelling),
+        TokenKind::Punctuation => punctuation_class(spelling),
     }
 }
 

@@ -6,9 +6,9 @@ use Rattle.std.specs.Char.{is_ascii_digit}
 use Rattle.std.proofs.lemmas.List.{length_push}
 use Rattle.std.proofs.lemmas.Bool.{and_parts, and_left, or_from, or_cases, or_parts, eqb-true, leb-true, lt-leb, false≢true, not-true, ne_eqb}
 use Rattle.sil_lexer.specs.declared.token.TokenKind.{TokenKind}
-use Rattle.sil_lexer.specs.declared.token.TokenKind.TheVariants.{Word, AtName, Percent, Number, Text, Mark}
-use Rattle.sil_lexer.specs.Bytes.{is_word_start, is_name_byte, is_text_byte, is_mark}
-use Rattle.sil_lexer.specs.Spelling.{Spells, word, at_name, percent, number, negative, quoted, mark, arrow, IsSpelled, begins_with, continues}
+use Rattle.sil_lexer.specs.declared.token.TokenKind.TheVariants.{Word, AtName, Percent, Number, Text, Punctuation}
+use Rattle.sil_lexer.specs.Bytes.{is_word_start, is_name_byte, is_text_byte, is_punctuation}
+use Rattle.sil_lexer.specs.Spelling.{Spells, word, at_name, percent, number, negative, quoted, punctuation, arrow, IsSpelled, begins_with, continues}
 use Rattle.sil_lexer.specs.Lexing.{IsLongestTaken}
 
 -- a kind and a number of bytes
@@ -17,15 +17,15 @@ Front = TokenKind × ℕ
 
 -- the token that begins the list, where one does
 front_of : List ℕ → Front
-front_of [] = (Mark, 0)
+front_of [] = (Punctuation, 0)
 front_of (b ∷ bytes) =
     cond (is_word_start b) (Word, 1 + prefix_len is_name_byte bytes)
     (cond (is_ascii_digit b) (Number, 1 + prefix_len is_ascii_digit bytes)
     (cond (b == 64) (AtName, 1 + prefix_len is_name_byte bytes)
     (cond (b == 37) (Percent, 1 + prefix_len is_name_byte bytes)
     (cond (b == 34) (Text, 2 + prefix_len is_text_byte bytes)
-    (cond (b == 45) (cond (begins_with is_ascii_digit bytes) (Number, 1 + prefix_len is_ascii_digit bytes) (Mark, 2))
-    (Mark, 1))))))
+    (cond (b == 45) (cond (begins_with is_ascii_digit bytes) (Number, 1 + prefix_len is_ascii_digit bytes) (Punctuation, 2))
+    (Punctuation, 1))))))
 
 -- a run and what goes on behind it
 pub run_goes_on : (p : ℕ → Bool) (run after : List ℕ) → list_all p run ≡ true → prefix_len p (run ++ after) ≡ length run + prefix_len p after
@@ -41,25 +41,25 @@ digit_starts_no_word b digit =
     let high = leb-true b 57 (and_parts (leb 48 b) (leb b 57) digit).1 in
     or_from _ (b == 95) (or_from _ _ (and_left _ _ (lt-leb 65 b (omega arith))) (and_left _ _ (lt-leb 97 b (omega arith)))) (ne_eqb b 95 (λ same. omega arith))
 
--- what holds of each mark holds of a mark
-marks_all : (q : ℕ → Bool) (b : ℕ) (marks : List ℕ) → list_all q marks ≡ true → list_any (λ m. b == m) marks ≡ true → q b ≡ true
-marks_all q b [] pass one = absurd (false≢true one)
-marks_all q b (m ∷ marks) pass one =
-    let parts = and_parts (q m) (list_all q marks) pass in
-    ⊎_elim (λ same. ap q (eqb-true b m same) ∙ parts.0) (λ later. marks_all q b marks parts.1 later) (or_cases (b == m) (list_any (λ m. b == m) marks) one)
+-- what holds of each sign holds of any of them
+signs_all : (q : ℕ → Bool) (b : ℕ) (signs : List ℕ) → list_all q signs ≡ true → list_any (λ m. b == m) signs ≡ true → q b ≡ true
+signs_all q b [] pass one = absurd (false≢true one)
+signs_all q b (m ∷ signs) pass one =
+    let parts = and_parts (q m) (list_all q signs) pass in
+    ⊎_elim (λ same. ap q (eqb-true b m same) ∙ parts.0) (λ later. signs_all q b signs parts.1 later) (or_cases (b == m) (list_any (λ m. b == m) signs) one)
 
 none_continued : (after : List ℕ) → prefix_len (λ _. false) after ≡ 0
 none_continued [] = refl
 none_continued (b ∷ after) = refl
 
--- the tests that lead past a mark
+-- the tests that lead past punctuation
 is_other : ℕ → Bool
 is_other b = is_word_start b || is_ascii_digit b || b == 64 || b == 37 || b == 34 || b == 45
 
-front-mark : (b : ℕ) (after : List ℕ) → is_mark b ≡ true → front_of (b ∷ after) ≡ (Mark, 1)
+front-punctuation : (b : ℕ) (after : List ℕ) → is_punctuation b ≡ true → front_of (b ∷ after) ≡ (Punctuation, 1)
 unfolding front_of is_other
-front-mark b after passes =
-    let other = not-true _ (marks_all (λ m. not (is_other m)) b (codes "{}()[]<>,:.?*=!$#") refl passes) in
+front-punctuation b after passes =
+    let other = not-true _ (signs_all (λ m. not (is_other m)) b (codes "{}()[]<>,:.?*=!$#") refl passes) in
     let minus = or_parts _ (b == 45) other in
     let quote = or_parts _ (b == 34) minus.0 in
     let percent_sign = or_parts _ (b == 37) quote.0 in
@@ -95,12 +95,12 @@ front-spelling kind spelling after (quoted inside passes) =
     let size = length_push inside 34 in
     let none = none_continued after in
     rw (append_assoc inside (34 ∷ []) after) (same_kind Text _ _ (omega arith))
-front-spelling kind spelling after (mark b passes) =
+front-spelling kind spelling after (punctuation b passes) =
     let none = none_continued after in
-    front-mark b after passes ∙ same_kind Mark _ _ (omega arith)
+    front-punctuation b after passes ∙ same_kind Punctuation _ _ (omega arith)
 front-spelling kind spelling after arrow =
     let none = none_continued after in
-    same_kind Mark _ _ (omega arith)
+    same_kind Punctuation _ _ (omega arith)
 
 pub ended_run : (p : ℕ → Bool) (after : List ℕ) → begins_with p after ≡ false → prefix_len p after ≡ 0
 ended_run p [] ended = refl

@@ -12,9 +12,9 @@ use Rattle.sil_ast.specs.declared.place.Place.{Place}
 use Rattle.sil_lexer.specs.declared.token.TokenKind.{TokenKind}
 use Rattle.sil_lexer.specs.declared.token.LexRefusal.{LexRefusal}
 use Rattle.sil_lexer.specs.declared.token.Token.{Token}
-use Rattle.sil_lexer.specs.Bytes.{is_line_feed, is_in_line, is_word_start, is_name_byte, is_text_byte, is_mark}
+use Rattle.sil_lexer.specs.Bytes.{is_line_feed, is_in_line, is_word_start, is_name_byte, is_text_byte, is_punctuation}
 use Rattle.sil_lexer.specs.Places.{place_before, ahead_of, IsPlaceIn}
-use Rattle.sil_lexer.specs.Spelling.{Spells, word, at_name, percent, number, negative, quoted, mark, arrow}
+use Rattle.sil_lexer.specs.Spelling.{Spells, word, at_name, percent, number, negative, quoted, punctuation, arrow}
 use Rattle.sil_lexer.specs.Lexes.{Lexeme, Skips, nothing, Stops, Lexes, end, token, stop}
 use Rattle.sil_lexer.specs.Lexing.{Lexing, spelling_of, lexeme_of, IsInside, IsLexingOf}
 use Rattle.sil_lexer.specs.Scan.{SkipsTo, IsTokenAt}
@@ -42,7 +42,7 @@ spelling_in_line kind spelling (percent b more passes) = bytes_in_line is_name_b
 spelling_in_line kind spelling (number b more passes) = bytes_in_line is_ascii_digit refl (b ∷ more) passes
 spelling_in_line kind spelling (negative b more passes) = bytes_in_line is_ascii_digit refl (b ∷ more) passes
 spelling_in_line kind spelling (quoted inside passes) = list_all-append is_in_line inside (34 ∷ []) ∙ and_from _ _ (bytes_in_line is_text_byte refl inside passes) refl
-spelling_in_line kind spelling (mark b passes) = and_from _ _ (byte_in_line is_mark refl b passes) refl
+spelling_in_line kind spelling (punctuation b passes) = and_from _ _ (byte_in_line is_punctuation refl b passes) refl
 spelling_in_line kind spelling arrow = refl
 
 -- the place behind a token

@@ -10,9 +10,9 @@ use Rattle.sil_ast.specs.declared.place.Place.{Place}
 use Rattle.sil_lexer.specs.declared.token.TokenKind.{TokenKind}
 use Rattle.sil_lexer.specs.declared.token.LexRefusal.{LexRefusal}
 use Rattle.sil_lexer.specs.declared.token.LexRefusal.TheVariants.{BadByte, UnclosedText, NameTooLong}
-use Rattle.sil_lexer.specs.Bytes.{is_line_feed, is_word_start, is_name_byte, is_text_byte, is_mark}
+use Rattle.sil_lexer.specs.Bytes.{is_line_feed, is_word_start, is_name_byte, is_text_byte, is_punctuation}
 use Rattle.sil_lexer.specs.Places.{place_of, place_before, ahead_of, IsPlaceIn}
-use Rattle.sil_lexer.specs.Spelling.{Spells, word, at_name, percent, number, negative, quoted, mark, arrow, begins_with, name_length}
+use Rattle.sil_lexer.specs.Spelling.{Spells, word, at_name, percent, number, negative, quoted, punctuation, arrow, begins_with, name_length}
 use Rattle.sil_lexer.specs.Lexes.{Stops, bad_byte, bad_text_byte, unclosed_at_line_end, unclosed_at_end, name_too_long, begins_skipped}
 use Rattle.sil_lexer.specs.Scan.{is_sigil, begins_longer}
 use Rattle.sil_lexer.proofs.PlaceLemmas.{place_ahead}
@@ -47,7 +47,7 @@ begins_token : List ℕ → Bool
 begins_token [] = false
 begins_token (b ∷ bytes) =
     is_word_start b || ((b == 64 || b == 37) && begins_with is_name_byte bytes) || is_ascii_digit b
-    || (b == 45 && (begins_with is_ascii_digit bytes || begins_with (λ next. next == 62) bytes)) || b == 34 || is_mark b
+    || (b == 45 && (begins_with is_ascii_digit bytes || begins_with (λ next. next == 62) bytes)) || b == 34 || is_punctuation b
 
 -- a list that begins with a spelling begins with a token
 spelling_begins : (kind : TokenKind) (spelling after : List ℕ) → Spells kind spelling → begins_token (spelling ++ after) ≡ true
@@ -59,7 +59,7 @@ spelling_begins kind spelling after (number b more passes) =
     or_left _ _ (or_left _ _ (or_left _ _ (or_right _ _ (and_parts (is_ascii_digit b) (list_all is_ascii_digit more) passes).0)))
 spelling_begins kind spelling after (negative b more passes) = rw (and_parts (is_ascii_digit b) (list_all is_ascii_digit more) passes).0 refl
 spelling_begins kind spelling after (quoted inside _) = refl
-spelling_begins kind spelling after (mark b passes) = or_right _ _ passes
+spelling_begins kind spelling after (punctuation b passes) = or_right _ _ passes
 spelling_begins kind spelling after arrow = refl
 
 -- and so no spelling begins a list that begins with no token
@@ -93,10 +93,10 @@ stops_at_minus at rest first no_digit not_arrow =
     (stops_at_nothing (45 ∷ drop 1 rest) at (λ same. cc) refl refl (rw (run_none is_ascii_digit (drop 1 rest) no_digit, not_arrow) refl))
 
 pub stops_at_byte : (at : Place) (rest : List ℕ) → 0 < length rest → begins_skipped rest ≡ false → begins_with begins_longer rest ≡ false
-    → is_mark (get_or rest 0 0) ≡ false → StopsAt rest at (BadByte at)
+    → is_punctuation (get_or rest 0 0) ≡ false → StopsAt rest at (BadByte at)
 unfolding begins_token
-stops_at_byte at [] some no_gap no_longer no_mark = absurd (omega arith)
-stops_at_byte at (b ∷ rest) some no_gap no_longer no_mark =
+stops_at_byte at [] some no_gap no_longer no_punctuation = absurd (omega arith)
+stops_at_byte at (b ∷ rest) some no_gap no_longer no_punctuation =
     let quote = or_parts _ (b == 34) no_longer in
     let minus = or_parts _ (b == 45) quote.0 in
     let digit = or_parts _ (is_ascii_digit b) minus.0 in
@@ -105,7 +105,7 @@ stops_at_byte at (b ∷ rest) some no_gap no_longer no_mark =
     let no_sigil = and_left _ (begins_with is_name_byte rest) (or_from _ _ at_sign.1 percent_sign.1) in
     let no_minus = and_left _ (begins_with is_ascii_digit rest || begins_with (λ next. next == 62) rest) minus.1 in
     stops_at_nothing (b ∷ rest) at (λ same. cc) no_gap quote.1
-    (or_from _ _ (or_from _ _ (or_from _ _ (or_from _ _ (or_from _ _ percent_sign.0 no_sigil) digit.1) no_minus) quote.1) no_mark)
+    (or_from _ _ (or_from _ _ (or_from _ _ (or_from _ _ (or_from _ _ percent_sign.0 no_sigil) digit.1) no_minus) quote.1) no_punctuation)
 
 -- a byte of a text is no line feed
 text_byte_in_line : (b : ℕ) → is_text_byte b ≡ true → is_line_feed b ≡ false

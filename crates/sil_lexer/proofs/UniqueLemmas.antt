@@ -8,9 +8,9 @@ use Rattle.std.proofs.lemmas.Bool.{and_parts, or_parts, or_from, and_left, eqb-t
 use Rattle.sil_lexer.specs.declared.token.TokenKind.{TokenKind}
 use Rattle.sil_lexer.specs.declared.token.LexRefusal.{LexRefusal}
 use Rattle.sil_lexer.specs.declared.token.LexRefusal.TheVariants.{BadByte, UnclosedText, NameTooLong}
-use Rattle.sil_lexer.specs.Bytes.{is_line_feed, is_in_line, is_blank, is_word_start, is_text_byte, is_mark}
+use Rattle.sil_lexer.specs.Bytes.{is_line_feed, is_in_line, is_blank, is_word_start, is_text_byte, is_punctuation}
 use Rattle.sil_lexer.specs.Places.{place_before}
-use Rattle.sil_lexer.specs.Spelling.{Spells, word, at_name, percent, number, negative, quoted, mark, arrow, IsSpelled, begins_with, name_length}
+use Rattle.sil_lexer.specs.Spelling.{Spells, word, at_name, percent, number, negative, quoted, punctuation, arrow, IsSpelled, begins_with, name_length}
 use Rattle.sil_lexer.specs.Lexes.{Lexeme, Skips, nothing, blank, comment, last_comment, begins_comment, begins_skipped, BeginsNothing, Stops, bad_byte, bad_text_byte, unclosed_at_line_end, unclosed_at_end, name_too_long, Lexes, end, token, stop}
 use Rattle.sil_lexer.specs.Lexing.{IsLexedOneWay}
 use Rattle.sil_lexer.proofs.FrontLemmas.{one_spelling, run_goes_on, ended_run}
@@ -87,7 +87,7 @@ spelling_not_skipped kind spelling after (percent _ _ _) = refl
 spelling_not_skipped kind spelling after (number b more passes) = not_skipped is_ascii_digit b (more ++ after) refl (and_parts (is_ascii_digit b) (list_all is_ascii_digit more) passes).0
 spelling_not_skipped kind spelling after (negative _ _ _) = refl
 spelling_not_skipped kind spelling after (quoted _ _) = refl
-spelling_not_skipped kind spelling after (mark b passes) = not_skipped is_mark b after refl passes
+spelling_not_skipped kind spelling after (punctuation b passes) = not_skipped is_punctuation b after refl passes
 spelling_not_skipped kind spelling after arrow = refl
 
 stop_not_skipped : (text rest : List ℕ) (refusal : LexRefusal) → Stops text rest refusal → begins_skipped rest ≡ false
@@ -122,7 +122,7 @@ text_end-spelling kind spelling after (number b more passes) quote =
 text_end-spelling kind spelling after (negative _ _ _) quote = absurd (false≢true quote)
 text_end-spelling kind spelling after (quoted inside pass) quote =
     ap (λ bs. text_end (34 ∷ bs)) (append_assoc inside (34 ∷ []) after) ∙ text_end-run inside (34 ∷ after) pass refl
-text_end-spelling kind spelling after (mark b passes) quote = absurd (false≢true (sym (byte_apart is_mark b 34 refl passes) ∙ quote))
+text_end-spelling kind spelling after (punctuation b passes) quote = absurd (false≢true (sym (byte_apart is_punctuation b 34 refl passes) ∙ quote))
 text_end-spelling kind spelling after arrow quote = absurd (false≢true quote)
 
 -- a long name begins with no quote
@@ -134,7 +134,7 @@ long_name_unquoted kind spelling after (percent _ _ _) long = refl
 long_name_unquoted kind spelling after (number _ _ _) long = absurd (omega arith)
 long_name_unquoted kind spelling after (negative _ _ _) long = absurd (omega arith)
 long_name_unquoted kind spelling after (quoted _ _) long = absurd (omega arith)
-long_name_unquoted kind spelling after (mark _ _) long = absurd (omega arith)
+long_name_unquoted kind spelling after (punctuation _ _) long = absurd (omega arith)
 long_name_unquoted kind spelling after arrow long = absurd (omega arith)
 
 -- the refusal of a text, by what stands behind its bytes

@@ -26,5 +26,5 @@ is_name_byte b = is_ascii_alphabetic b || is_ascii_digit b || b == 95 || b == 36
 abbrev pub is_text_byte : ℕ → Bool
 is_text_byte b = nat_le 0x20 b && nat_le b 0x7E && not (b == 34) && not (b == 92)
 
-abbrev pub is_mark : ℕ → Bool
-is_mark b = list_any (λ mark. b == mark) (codes "{}()[]<>,:.?*=!$#")
+abbrev pub is_punctuation : ℕ → Bool
+is_punctuation b = list_any (λ punctuation. b == punctuation) (codes "{}()[]<>,:.?*=!$#")

@@ -34,7 +34,7 @@ is_sigil AtName b = b == 64
 is_sigil Percent b = b == 37
 is_sigil _ b = false
 
--- a token that isn't a mark of one byte may begin with this byte
+-- a token that isn't punctuation of one byte may begin with this byte
 abbrev pub begins_longer : ℕ → Bool
 begins_longer b = is_word_start b || b == 37 || b == 64 || is_ascii_digit b || b == 45 || b == 34
 

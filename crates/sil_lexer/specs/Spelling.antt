@@ -3,8 +3,8 @@ use Rattle.std.specs.Prelude.{ℕ, ◌-◌, Bool, false, List, [], ◌∷◌, �
 use Rattle.std.specs.List.{list_all}
 use Rattle.std.specs.Char.{is_ascii_digit}
 use Rattle.sil_lexer.specs.declared.token.TokenKind.{TokenKind}
-use Rattle.sil_lexer.specs.declared.token.TokenKind.TheVariants.{Word, AtName, Percent, Number, Text, Mark}
-use Rattle.sil_lexer.specs.Bytes.{is_word_start, is_name_byte, is_text_byte, is_mark}
+use Rattle.sil_lexer.specs.declared.token.TokenKind.TheVariants.{Word, AtName, Percent, Number, Text, Punctuation}
+use Rattle.sil_lexer.specs.Bytes.{is_word_start, is_name_byte, is_text_byte, is_punctuation}
 
 -- these bytes spell a token of the kind. 64 is `@`, 37 is `%`, 45 is `-`, 34 is `"`, 62 is `>`
 pub data Spells : TokenKind → List ℕ → Type 0 where
@@ -19,8 +19,8 @@ pub data Spells : TokenKind → List ℕ → Type 0 where
   negative : (first : ℕ) (more : List ℕ) → IsTrue (list_all is_ascii_digit (first ∷ more))
       → Spells Number (45 ∷ first ∷ more)
   quoted : (inside : List ℕ) → IsTrue (list_all is_text_byte inside) → Spells Text (34 ∷ inside ++ 34 ∷ [])
-  mark : (byte : ℕ) → IsTrue (is_mark byte) → Spells Mark (byte ∷ [])
-  arrow : Spells Mark (45 ∷ 62 ∷ [])
+  punctuation : (byte : ℕ) → IsTrue (is_punctuation byte) → Spells Punctuation (byte ∷ [])
+  arrow : Spells Punctuation (45 ∷ 62 ∷ [])
 
 -- a spelling of the kind would go on with this byte
 abbrev pub continues : TokenKind → ℕ → Bool
@@ -29,7 +29,7 @@ continues AtName b = is_name_byte b
 continues Percent b = is_name_byte b
 continues Number b = is_ascii_digit b
 continues Text b = false
-continues Mark b = false
+continues Punctuation b = false
 
 -- the first byte, if there is one, passes the test
 abbrev pub begins_with : (ℕ → Bool) → List ℕ → Bool
@@ -43,7 +43,7 @@ name_length AtName spelling = length spelling - 1
 name_length Percent spelling = length spelling - 1
 name_length Number spelling = 0
 name_length Text spelling = 0
-name_length Mark spelling = 0
+name_length Punctuation spelling = 0
 
 -- the spelling is the longest one in front of the bytes that follow it
 pub record IsSpelled (kind : TokenKind) (spelling after : List ℕ) : Type 0 where

@@ -3,7 +3,7 @@
 ghost use Rattle.std.specs.Prelude.{◌≡◌, ◌≤◌, length};
 ghost use Rattle.std.specs.List.{prefix_len};
 ghost use Rattle.std.specs.Char.{is_ascii_digit};
-ghost use Rattle.sil_lexer.specs.Bytes.{is_blank, is_in_line, is_mark, is_name_byte, is_text_byte, is_word_start};
+ghost use Rattle.sil_lexer.specs.Bytes.{is_blank, is_in_line, is_punctuation, is_name_byte, is_text_byte, is_word_start};
 
 pub(crate) fn is_blank(b: u8) -> bool
     ensures { result ≡ is_blank b }
@@ -29,8 +29,8 @@ fn is_text_byte(b: u8) -> bool
     0x20 <= b && b <= 0x7E && b != b'"' && b != b'\\'
 }
 
-pub(crate) fn is_mark(b: u8) -> bool
-    ensures { result ≡ is_mark b }
+pub(crate) fn is_punctuation(b: u8) -> bool
+    ensures { result ≡ is_punctuation b }
 {
     matches!(
         b,

@@ -8,7 +8,7 @@ ghost use Rattle.sil_lexer.specs.Places.{IsInLimit};
 ghost use Rattle.sil_lexer.specs.Lexes.{begins_skipped};
 ghost use Rattle.sil_lexer.specs.Scan.{begins_longer, is_sigil, HasRoom, IsScan};
 
-use crate::bytes::{digits_length, is_mark, is_word_start, name_length, text_length};
+use crate::bytes::{digits_length, is_punctuation, is_word_start, name_length, text_length};
 use crate::place::ahead;
 use crate::token::{LexRefusal, Token, TokenKind};
 use sil_ast::Place;
@@ -37,7 +37,7 @@ pub(crate) fn token_at(rest: &[u8], at: Place) -> Result<Token, LexRefusal>
     } else if first == b'"' {
         text_at(rest, at)
     } else {
-        mark_at(rest, at)
+        punctuation_at(rest, at)
     }
 }
 
@@ -104,7 +104,7 @@ fn minus_at(rest: &[u8], at: Place) -> Result<Token, LexRefusal>
     }
     if rest.len() > 1 && rest[1] == b'>' {
         return Ok(Token {
-            kind: TokenKind::Mark,
+            kind: TokenKind::Punctuation,
             place: at,
             length: 2,
         });
@@ -132,18 +132,18 @@ fn text_at(rest: &[u8], at: Place) -> Result<Token, LexRefusal>
     })
 }
 
-/// A mark of one byte, where no other token begins.
-fn mark_at(rest: &[u8], at: Place) -> Result<Token, LexRefusal>
+/// Punctuation of one byte, where no other token begins.
+fn punctuation_at(rest: &[u8], at: Place) -> Result<Token, LexRefusal>
     requires some_byte { 0 < length rest.now }
     requires no_gap { IsFalse (begins_skipped rest.now) }
     requires no_other { IsFalse (begins_with begins_longer rest.now) }
     ensures { IsScan rest.now at result }
 {
-    if !is_mark(rest[0]) {
+    if !is_punctuation(rest[0]) {
         return Err(LexRefusal::BadByte(at));
     }
     Ok(Token {
-        kind: TokenKind::Mark,
+        kind: TokenKind::Punctuation,
         place: at,
         length: 1,
     })

@@ -11,7 +11,7 @@ use Rattle.sil_shape.specs.declared.steps.Step.TheVariants.{Take}
 use Rattle.sil_shape.specs.Grammar.{written, body}
 use Rattle.sil_shape.specs.Derivation.{Accepts, Derives, nothing, token, rule, start, HasShape, BeginsShape, IsFirstBad}
 use Rattle.sil_shape.proofs.Derived.{Derives-nothing}
-use Rattle.sil_shape.proofs.Ahead.{Fits, Fits-expand, FitsOne-start, Derives-inner}
+use Rattle.sil_shape.proofs.NextClasses.{Fits, Fits-expand, FitsOne-start, Derives-inner}
 
 -- what is left once the first token is taken
 record Taken (ss : List Symbol) (ks : List Class) (steps : List Step) : Type 0 where

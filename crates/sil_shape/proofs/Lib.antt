@@ -4,7 +4,7 @@ pub mod Sets
 pub mod Numbered
 pub mod Computed
 pub mod Shortened
-pub mod Ahead
+pub mod NextClasses
 pub mod TurnLemmas
 pub mod Reached
 pub mod DerivedOnce

@@ -5,18 +5,18 @@ use Rattle.std.proofs.lemmas.Bool.{and_parts, eqb-true}
 use Rattle.std.specs.List.{list_all}
 use Rattle.sil_shape.specs.declared.classes.Keyword.TheVariants as k
 use Rattle.sil_shape.specs.declared.classes.AtWord.TheVariants as a
-use Rattle.sil_shape.specs.declared.classes.Mark.TheVariants as m
+use Rattle.sil_shape.specs.declared.classes.Punctuation.TheVariants as m
 use Rattle.sil_shape.specs.declared.classes.Class.{Class}
 use Rattle.sil_shape.specs.declared.classes.Class.TheVariants as c
 use Rattle.sil_shape.specs.declared.grammar.Nonterminal.{Nonterminal}
 use Rattle.sil_shape.specs.declared.grammar.Nonterminal.TheVariants as n
 use Rattle.sil_shape.specs.declared.grammar.Production.{Production}
 use Rattle.sil_shape.specs.declared.grammar.Production.TheVariants as p
-use Rattle.sil_shape.specs.Accepts.{keyword_number, at_number, mark_number, class_number}
+use Rattle.sil_shape.specs.Accepts.{keyword_number, at_number, punctuation_number, class_number}
 
 -- the end, and each class
 unfoldable pub all_looks : List (Option Class)
-all_looks = None ∷ Some (c.Word k.Other) ∷ Some (c.Word k.SilStage) ∷ Some (c.Word k.Raw) ∷ Some (c.Word k.Canonical) ∷ Some (c.Word k.Import) ∷ Some (c.Word k.Final) ∷ Some (c.Word k.Class) ∷ Some (c.Word k.Struct) ∷ Some (c.Word k.Enum) ∷ Some (c.Word k.Sil) ∷ Some (c.Word k.SilVtable) ∷ Some (c.Word k.Deinit) ∷ Some (c.Word k.Init) ∷ Some (c.Word k.Weak) ∷ Some (c.Word k.Unowned) ∷ Some (c.Word k.Var) ∷ Some (c.Word k.Let) ∷ Some (c.Word k.Get) ∷ Some (c.Word k.Set) ∷ Some (c.Word k.Case) ∷ Some (c.Word k.Builtin) ∷ Some (c.Word k.Optional) ∷ Some (c.Word k.Int1) ∷ Some (c.Word k.Int8) ∷ Some (c.Word k.Int16) ∷ Some (c.Word k.Int32) ∷ Some (c.Word k.Int64) ∷ Some (c.Word k.Hidden) ∷ Some (c.Word k.Private) ∷ Some (c.Word k.Shared) ∷ Some (c.Word k.Public) ∷ Some (c.Word k.Thin) ∷ Some (c.Word k.Method) ∷ Some (c.Word k.IntegerLiteral) ∷ Some (c.Word k.FunctionRef) ∷ Some (c.Word k.BuiltinMnemonic) ∷ Some (c.Word k.CondFail) ∷ Some (c.Word k.AllocRef) ∷ Some (c.Word k.AllocStack) ∷ Some (c.Word k.DeallocStack) ∷ Some (c.Word k.CopyValue) ∷ Some (c.Word k.DestroyValue) ∷ Some (c.Word k.MoveValue) ∷ Some (c.Word k.BeginBorrow) ∷ Some (c.Word k.EndBorrow) ∷ Some (c.Word k.Load) ∷ Some (c.Word k.Store) ∷ Some (c.Word k.To) ∷ Some (c.Word k.LoadBorrow) ∷ Some (c.Word k.DestroyAddr) ∷ Some (c.Word k.LoadWeak) ∷ Some (c.Word k.StoreWeak) ∷ Some (c.Word k.LoadUnowned) ∷ Some (c.Word k.StoreUnowned) ∷ Some (c.Word k.Tuple) ∷ Some (c.Word k.StructExtract) ∷ Some (c.Word k.TupleExtract) ∷ Some (c.Word k.DestructureStruct) ∷ Some (c.Word k.DestructureTuple) ∷ Some (c.Word k.StructElementAddr) ∷ Some (c.Word k.TupleElementAddr) ∷ Some (c.Word k.RefElementAddr) ∷ Some (c.Word k.Apply) ∷ Some (c.Word k.DebugValue) ∷ Some (c.Word k.StrongRetain) ∷ Some (c.Word k.StrongRelease) ∷ Some (c.Word k.RetainValue) ∷ Some (c.Word k.ReleaseValue) ∷ Some (c.Word k.Br) ∷ Some (c.Word k.CondBr) ∷ Some (c.Word k.SwitchEnum) ∷ Some (c.Word k.Return) ∷ Some (c.Word k.Unreachable) ∷ Some (c.Word k.Default) ∷ Some (c.Word k.Enumelt) ∷ Some (c.Word k.Lexical) ∷ Some (c.Word k.VarDecl) ∷ Some (c.Word k.Copy) ∷ Some (c.Word k.Take) ∷ Some (c.Word k.Trivial) ∷ Some (c.Word k.Assign) ∷ Some (c.Word k.Initialization) ∷ Some (c.Word k.Name) ∷ Some (c.Word k.Argno) ∷ Some (c.Word k.Expr) ∷ Some (c.Word k.OpDeref) ∷ Some (c.Word k.Destroyer) ∷ Some (c.At a.Other) ∷ Some (c.At a.HasStorage) ∷ Some (c.At a.SilWeak) ∷ Some (c.At a.SilUnowned) ∷ Some (c.At a.Convention) ∷ Some (c.At a.Owned) ∷ Some (c.At a.Guaranteed) ∷ Some (c.At a.Inout) ∷ Some (c.Mark m.LeftBrace) ∷ Some (c.Mark m.RightBrace) ∷ Some (c.Mark m.LeftParen) ∷ Some (c.Mark m.RightParen) ∷ Some (c.Mark m.LeftBracket) ∷ Some (c.Mark m.RightBracket) ∷ Some (c.Mark m.Less) ∷ Some (c.Mark m.Greater) ∷ Some (c.Mark m.Comma) ∷ Some (c.Mark m.Colon) ∷ Some (c.Mark m.Dot) ∷ Some (c.Mark m.Question) ∷ Some (c.Mark m.Star) ∷ Some (c.Mark m.Equals) ∷ Some (c.Mark m.Bang) ∷ Some (c.Mark m.Dollar) ∷ Some (c.Mark m.Hash) ∷ Some (c.Mark m.Arrow) ∷ Some c.Percent ∷ Some c.Number ∷ Some c.BuiltinText ∷ Some c.OtherText ∷ []
+all_looks = None ∷ Some (c.Word k.Other) ∷ Some (c.Word k.SilStage) ∷ Some (c.Word k.Raw) ∷ Some (c.Word k.Canonical) ∷ Some (c.Word k.Import) ∷ Some (c.Word k.Final) ∷ Some (c.Word k.Class) ∷ Some (c.Word k.Struct) ∷ Some (c.Word k.Enum) ∷ Some (c.Word k.Sil) ∷ Some (c.Word k.SilVtable) ∷ Some (c.Word k.Deinit) ∷ Some (c.Word k.Init) ∷ Some (c.Word k.Weak) ∷ Some (c.Word k.Unowned) ∷ Some (c.Word k.Var) ∷ Some (c.Word k.Let) ∷ Some (c.Word k.Get) ∷ Some (c.Word k.Set) ∷ Some (c.Word k.Case) ∷ Some (c.Word k.Builtin) ∷ Some (c.Word k.Optional) ∷ Some (c.Word k.Int1) ∷ Some (c.Word k.Int8) ∷ Some (c.Word k.Int16) ∷ Some (c.Word k.Int32) ∷ Some (c.Word k.Int64) ∷ Some (c.Word k.Hidden) ∷ Some (c.Word k.Private) ∷ Some (c.Word k.Shared) ∷ Some (c.Word k.Public) ∷ Some (c.Word k.Thin) ∷ Some (c.Word k.Method) ∷ Some (c.Word k.IntegerLiteral) ∷ Some (c.Word k.FunctionRef) ∷ Some (c.Word k.BuiltinMnemonic) ∷ Some (c.Word k.CondFail) ∷ Some (c.Word k.AllocRef) ∷ Some (c.Word k.AllocStack) ∷ Some (c.Word k.DeallocStack) ∷ Some (c.Word k.CopyValue) ∷ Some (c.Word k.DestroyValue) ∷ Some (c.Word k.MoveValue) ∷ Some (c.Word k.BeginBorrow) ∷ Some (c.Word k.EndBorrow) ∷ Some (c.Word k.Load) ∷ Some (c.Word k.Store) ∷ Some (c.Word k.To) ∷ Some (c.Word k.LoadBorrow) ∷ Some (c.Word k.DestroyAddr) ∷ Some (c.Word k.LoadWeak) ∷ Some (c.Word k.StoreWeak) ∷ Some (c.Word k.LoadUnowned) ∷ Some (c.Word k.StoreUnowned) ∷ Some (c.Word k.Tuple) ∷ Some (c.Word k.StructExtract) ∷ Some (c.Word k.TupleExtract) ∷ Some (c.Word k.DestructureStruct) ∷ Some (c.Word k.DestructureTuple) ∷ Some (c.Word k.StructElementAddr) ∷ Some (c.Word k.TupleElementAddr) ∷ Some (c.Word k.RefElementAddr) ∷ Some (c.Word k.Apply) ∷ Some (c.Word k.DebugValue) ∷ Some (c.Word k.StrongRetain) ∷ Some (c.Word k.StrongRelease) ∷ Some (c.Word k.RetainValue) ∷ Some (c.Word k.ReleaseValue) ∷ Some (c.Word k.Br) ∷ Some (c.Word k.CondBr) ∷ Some (c.Word k.SwitchEnum) ∷ Some (c.Word k.Return) ∷ Some (c.Word k.Unreachable) ∷ Some (c.Word k.Default) ∷ Some (c.Word k.Enumelt) ∷ Some (c.Word k.Lexical) ∷ Some (c.Word k.VarDecl) ∷ Some (c.Word k.Copy) ∷ Some (c.Word k.Take) ∷ Some (c.Word k.Trivial) ∷ Some (c.Word k.Assign) ∷ Some (c.Word k.Initialization) ∷ Some (c.Word k.Name) ∷ Some (c.Word k.Argno) ∷ Some (c.Word k.Expr) ∷ Some (c.Word k.OpDeref) ∷ Some (c.Word k.Destroyer) ∷ Some (c.At a.Other) ∷ Some (c.At a.HasStorage) ∷ Some (c.At a.SilWeak) ∷ Some (c.At a.SilUnowned) ∷ Some (c.At a.Convention) ∷ Some (c.At a.Owned) ∷ Some (c.At a.Guaranteed) ∷ Some (c.At a.Inout) ∷ Some (c.Punctuation m.LeftBrace) ∷ Some (c.Punctuation m.RightBrace) ∷ Some (c.Punctuation m.LeftParen) ∷ Some (c.Punctuation m.RightParen) ∷ Some (c.Punctuation m.LeftBracket) ∷ Some (c.Punctuation m.RightBracket) ∷ Some (c.Punctuation m.Less) ∷ Some (c.Punctuation m.Greater) ∷ Some (c.Punctuation m.Comma) ∷ Some (c.Punctuation m.Colon) ∷ Some (c.Punctuation m.Dot) ∷ Some (c.Punctuation m.Question) ∷ Some (c.Punctuation m.Star) ∷ Some (c.Punctuation m.Equals) ∷ Some (c.Punctuation m.Bang) ∷ Some (c.Punctuation m.Dollar) ∷ Some (c.Punctuation m.Hash) ∷ Some (c.Punctuation m.Arrow) ∷ Some c.Percent ∷ Some c.Number ∷ Some c.BuiltinText ∷ Some c.OtherText ∷ []
 
 unfoldable pub each_look : (Option Class → Bool) → Bool
 each_look f = list_all f all_looks
@@ -81,8 +81,8 @@ production_number p.Width8 = 55
 production_number p.Width16 = 56
 production_number p.Width32 = 57
 production_number p.Width64 = 58
-production_number p.OptionalMarksMore = 59
-production_number p.OptionalMarksEnd = 60
+production_number p.QuestionsMore = 59
+production_number p.QuestionsEnd = 60
 production_number p.TypesSome = 61
 production_number p.TypesNone = 62
 production_number p.MoreTypesMore = 63
@@ -240,7 +240,7 @@ production_number p.EntrySome = 214
 production_number p.EntryNone = 215
 
 all_productions : List Production
-all_productions = p.WholeModule ∷ p.StageSome ∷ p.StageNone ∷ p.Raw ∷ p.Canonical ∷ p.ImportsMore ∷ p.ImportsEnd ∷ p.ItemsMore ∷ p.ItemsEnd ∷ p.FinalClass ∷ p.PlainClass ∷ p.StructItem ∷ p.EnumItem ∷ p.FunctionItem ∷ p.VtableItem ∷ p.MembersMore ∷ p.MembersEnd ∷ p.StoredMember ∷ p.FinalMember ∷ p.PlainMember ∷ p.DeinitMember ∷ p.InitMember ∷ p.ModifiedStored ∷ p.ModifiedFinal ∷ p.ModifiedVariable ∷ p.WeakVariable ∷ p.UnownedVariable ∷ p.StrongVariable ∷ p.VarBinding ∷ p.LetBinding ∷ p.FieldsMore ∷ p.FieldsEnd ∷ p.StoredField ∷ p.PlainField ∷ p.AccessorsSome ∷ p.AccessorsNone ∷ p.SetterSome ∷ p.SetterNone ∷ p.CasesMore ∷ p.CasesEnd ∷ p.PayloadSome ∷ p.PayloadNone ∷ p.BareType ∷ p.ParenType ∷ p.BaseOpen ∷ p.WeakOpen ∷ p.UnownedOpen ∷ p.BuiltinBase ∷ p.OptionalBase ∷ p.NamedBase ∷ p.BuiltinInt ∷ p.BuiltinName ∷ p.OptionalOf ∷ p.OptionalName ∷ p.Width1 ∷ p.Width8 ∷ p.Width16 ∷ p.Width32 ∷ p.Width64 ∷ p.OptionalMarksMore ∷ p.OptionalMarksEnd ∷ p.TypesSome ∷ p.TypesNone ∷ p.MoreTypesMore ∷ p.MoreTypesEnd ∷ p.LinkageHidden ∷ p.LinkagePrivate ∷ p.LinkageShared ∷ p.LinkagePublic ∷ p.LinkagePlain ∷ p.AttributesMore ∷ p.AttributesEnd ∷ p.BodySome ∷ p.BodyNone ∷ p.WholeFunctionType ∷ p.Thin ∷ p.Method ∷ p.ParamsSome ∷ p.ParamsNone ∷ p.MoreParamsMore ∷ p.MoreParamsEnd ∷ p.ParamOwned ∷ p.ParamGuaranteed ∷ p.ParamInout ∷ p.ParamPlain ∷ p.ResultList ∷ p.ResultOwned ∷ p.ResultPlain ∷ p.InsideSome ∷ p.InsideNone ∷ p.MoreGivensMore ∷ p.MoreGivensEnd ∷ p.GivenOwned ∷ p.GivenPlain ∷ p.WholeBlock ∷ p.BlocksMore ∷ p.BlocksEnd ∷ p.BlockArgsSome ∷ p.BlockArgsNone ∷ p.MoreBlockArgsMore ∷ p.MoreBlockArgsEnd ∷ p.WholeBlockArg ∷ p.OwnershipOwned ∷ p.OwnershipGuaranteed ∷ p.OwnershipNone ∷ p.StarSome ∷ p.StarNone ∷ p.CodeInst ∷ p.CodeEnd ∷ p.InstOneName ∷ p.InstNames ∷ p.InstUnnamed ∷ p.NamesSome ∷ p.NamesNone ∷ p.MoreNamesMore ∷ p.MoreNamesEnd ∷ p.RowIntegerLiteral ∷ p.RowFunctionRef ∷ p.RowBuiltin ∷ p.RowCondFail ∷ p.RowAllocRef ∷ p.RowAllocStack ∷ p.RowDeallocStack ∷ p.RowCopyValue ∷ p.RowDestroyValue ∷ p.RowMoveValue ∷ p.RowBeginBorrow ∷ p.RowEndBorrow ∷ p.RowLoad ∷ p.RowStore ∷ p.RowLoadBorrow ∷ p.RowDestroyAddr ∷ p.RowLoadWeak ∷ p.RowStoreWeak ∷ p.RowLoadUnowned ∷ p.RowStoreUnowned ∷ p.RowStruct ∷ p.RowTuple ∷ p.RowEnum ∷ p.RowStructExtract ∷ p.RowTupleExtract ∷ p.RowDestructureStruct ∷ p.RowDestructureTuple ∷ p.RowStructElementAddr ∷ p.RowTupleElementAddr ∷ p.RowRefElementAddr ∷ p.RowApply ∷ p.RowDebugValue ∷ p.RowStrongRetain ∷ p.RowStrongRelease ∷ p.RowRetainValue ∷ p.RowReleaseValue ∷ p.RowBr ∷ p.RowCondBr ∷ p.RowSwitchEnum ∷ p.RowReturn ∷ p.RowUnreachable ∷ p.WholeOperand ∷ p.OperandsSome ∷ p.OperandsNone ∷ p.MoreOperandsMore ∷ p.MoreOperandsEnd ∷ p.BareNamesSome ∷ p.BareNamesNone ∷ p.WholeEdge ∷ p.EdgeArgsSome ∷ p.EdgeArgsNone ∷ p.SwitchCase ∷ p.SwitchDefault ∷ p.SwitchMoreSome ∷ p.SwitchMoreEnd ∷ p.WholeEnumElement ∷ p.SuffixSome ∷ p.SuffixNone ∷ p.EnumOperandSome ∷ p.EnumOperandNone ∷ p.WholeMemberName ∷ p.FlagsSome ∷ p.FlagsNone ∷ p.LexicalFirst ∷ p.VarDeclFirst ∷ p.VarDeclAfterSome ∷ p.VarDeclAfterNone ∷ p.LexicalAfterSome ∷ p.LexicalAfterNone ∷ p.QualifierSome ∷ p.QualifierNone ∷ p.QualifierCopy ∷ p.QualifierTake ∷ p.QualifierTrivial ∷ p.QualifierInit ∷ p.QualifierAssign ∷ p.TakeFlagSome ∷ p.TakeFlagNone ∷ p.InitFlagSome ∷ p.InitFlagNone ∷ p.InitShort ∷ p.InitLong ∷ p.DebugSome ∷ p.DebugNone ∷ p.DebugLet ∷ p.DebugVar ∷ p.DebugRest ∷ p.DebugAfterBindingSome ∷ p.DebugAfterBindingNone ∷ p.DebugName ∷ p.DebugNoName ∷ p.DebugAfterNameSome ∷ p.DebugAfterNameNone ∷ p.DebugNumber ∷ p.DebugNoNumber ∷ p.DebugAfterNumberSome ∷ p.DebugAfterNumberNone ∷ p.DebugDeref ∷ p.EntrySome ∷ p.EntryNone ∷ []
+all_productions = p.WholeModule ∷ p.StageSome ∷ p.StageNone ∷ p.Raw ∷ p.Canonical ∷ p.ImportsMore ∷ p.ImportsEnd ∷ p.ItemsMore ∷ p.ItemsEnd ∷ p.FinalClass ∷ p.PlainClass ∷ p.StructItem ∷ p.EnumItem ∷ p.FunctionItem ∷ p.VtableItem ∷ p.MembersMore ∷ p.MembersEnd ∷ p.StoredMember ∷ p.FinalMember ∷ p.PlainMember ∷ p.DeinitMember ∷ p.InitMember ∷ p.ModifiedStored ∷ p.ModifiedFinal ∷ p.ModifiedVariable ∷ p.WeakVariable ∷ p.UnownedVariable ∷ p.StrongVariable ∷ p.VarBinding ∷ p.LetBinding ∷ p.FieldsMore ∷ p.FieldsEnd ∷ p.StoredField ∷ p.PlainField ∷ p.AccessorsSome ∷ p.AccessorsNone ∷ p.SetterSome ∷ p.SetterNone ∷ p.CasesMore ∷ p.CasesEnd ∷ p.PayloadSome ∷ p.PayloadNone ∷ p.BareType ∷ p.ParenType ∷ p.BaseOpen ∷ p.WeakOpen ∷ p.UnownedOpen ∷ p.BuiltinBase ∷ p.OptionalBase ∷ p.NamedBase ∷ p.BuiltinInt ∷ p.BuiltinName ∷ p.OptionalOf ∷ p.OptionalName ∷ p.Width1 ∷ p.Width8 ∷ p.Width16 ∷ p.Width32 ∷ p.Width64 ∷ p.QuestionsMore ∷ p.QuestionsEnd ∷ p.TypesSome ∷ p.TypesNone ∷ p.MoreTypesMore ∷ p.MoreTypesEnd ∷ p.LinkageHidden ∷ p.LinkagePrivate ∷ p.LinkageShared ∷ p.LinkagePublic ∷ p.LinkagePlain ∷ p.AttributesMore ∷ p.AttributesEnd ∷ p.BodySome ∷ p.BodyNone ∷ p.WholeFunctionType ∷ p.Thin ∷ p.Method ∷ p.ParamsSome ∷ p.ParamsNone ∷ p.MoreParamsMore ∷ p.MoreParamsEnd ∷ p.ParamOwned ∷ p.ParamGuaranteed ∷ p.ParamInout ∷ p.ParamPlain ∷ p.ResultList ∷ p.ResultOwned ∷ p.ResultPlain ∷ p.InsideSome ∷ p.InsideNone ∷ p.MoreGivensMore ∷ p.MoreGivensEnd ∷ p.GivenOwned ∷ p.GivenPlain ∷ p.WholeBlock ∷ p.BlocksMore ∷ p.BlocksEnd ∷ p.BlockArgsSome ∷ p.BlockArgsNone ∷ p.MoreBlockArgsMore ∷ p.MoreBlockArgsEnd ∷ p.WholeBlockArg ∷ p.OwnershipOwned ∷ p.OwnershipGuaranteed ∷ p.OwnershipNone ∷ p.StarSome ∷ p.StarNone ∷ p.CodeInst ∷ p.CodeEnd ∷ p.InstOneName ∷ p.InstNames ∷ p.InstUnnamed ∷ p.NamesSome ∷ p.NamesNone ∷ p.MoreNamesMore ∷ p.MoreNamesEnd ∷ p.RowIntegerLiteral ∷ p.RowFunctionRef ∷ p.RowBuiltin ∷ p.RowCondFail ∷ p.RowAllocRef ∷ p.RowAllocStack ∷ p.RowDeallocStack ∷ p.RowCopyValue ∷ p.RowDestroyValue ∷ p.RowMoveValue ∷ p.RowBeginBorrow ∷ p.RowEndBorrow ∷ p.RowLoad ∷ p.RowStore ∷ p.RowLoadBorrow ∷ p.RowDestroyAddr ∷ p.RowLoadWeak ∷ p.RowStoreWeak ∷ p.RowLoadUnowned ∷ p.RowStoreUnowned ∷ p.RowStruct ∷ p.RowTuple ∷ p.RowEnum ∷ p.RowStructExtract ∷ p.RowTupleExtract ∷ p.RowDestructureStruct ∷ p.RowDestructureTuple ∷ p.RowStructElementAddr ∷ p.RowTupleElementAddr ∷ p.RowRefElementAddr ∷ p.RowApply ∷ p.RowDebugValue ∷ p.RowStrongRetain ∷ p.RowStrongRelease ∷ p.RowRetainValue ∷ p.RowReleaseValue ∷ p.RowBr ∷ p.RowCondBr ∷ p.RowSwitchEnum ∷ p.RowReturn ∷ p.RowUnreachable ∷ p.WholeOperand ∷ p.OperandsSome ∷ p.OperandsNone ∷ p.MoreOperandsMore ∷ p.MoreOperandsEnd ∷ p.BareNamesSome ∷ p.BareNamesNone ∷ p.WholeEdge ∷ p.EdgeArgsSome ∷ p.EdgeArgsNone ∷ p.SwitchCase ∷ p.SwitchDefault ∷ p.SwitchMoreSome ∷ p.SwitchMoreEnd ∷ p.WholeEnumElement ∷ p.SuffixSome ∷ p.SuffixNone ∷ p.EnumOperandSome ∷ p.EnumOperandNone ∷ p.WholeMemberName ∷ p.FlagsSome ∷ p.FlagsNone ∷ p.LexicalFirst ∷ p.VarDeclFirst ∷ p.VarDeclAfterSome ∷ p.VarDeclAfterNone ∷ p.LexicalAfterSome ∷ p.LexicalAfterNone ∷ p.QualifierSome ∷ p.QualifierNone ∷ p.QualifierCopy ∷ p.QualifierTake ∷ p.QualifierTrivial ∷ p.QualifierInit ∷ p.QualifierAssign ∷ p.TakeFlagSome ∷ p.TakeFlagNone ∷ p.InitFlagSome ∷ p.InitFlagNone ∷ p.InitShort ∷ p.InitLong ∷ p.DebugSome ∷ p.DebugNone ∷ p.DebugLet ∷ p.DebugVar ∷ p.DebugRest ∷ p.DebugAfterBindingSome ∷ p.DebugAfterBindingNone ∷ p.DebugName ∷ p.DebugNoName ∷ p.DebugAfterNameSome ∷ p.DebugAfterNameNone ∷ p.DebugNumber ∷ p.DebugNoNumber ∷ p.DebugAfterNumberSome ∷ p.DebugAfterNumberNone ∷ p.DebugDeref ∷ p.EntrySome ∷ p.EntryNone ∷ []
 
 unfoldable pub part_number : Nonterminal → ℕ
 part_number n.Module = 0
@@ -266,7 +266,7 @@ part_number n.Base = 19
 part_number n.BuiltinTail = 20
 part_number n.OptionalTail = 21
 part_number n.Width = 22
-part_number n.OptionalMarks = 23
+part_number n.Questions = 23
 part_number n.Types = 24
 part_number n.MoreTypes = 25
 part_number n.Linkage = 26
@@ -326,7 +326,7 @@ part_number n.DebugDerefPart = 79
 part_number n.VtableEntry = 80
 
 all_parts : List Nonterminal
-all_parts = n.Module ∷ n.Stage ∷ n.StageWord ∷ n.Imports ∷ n.Items ∷ n.Item ∷ n.Members ∷ n.Member ∷ n.Modified ∷ n.Variable ∷ n.Binding ∷ n.Fields ∷ n.Field ∷ n.Accessors ∷ n.Setter ∷ n.Cases ∷ n.Payload ∷ n.Type ∷ n.OpenType ∷ n.Base ∷ n.BuiltinTail ∷ n.OptionalTail ∷ n.Width ∷ n.OptionalMarks ∷ n.Types ∷ n.MoreTypes ∷ n.Linkage ∷ n.Attributes ∷ n.Body ∷ n.FunctionType ∷ n.Convention ∷ n.Params ∷ n.MoreParams ∷ n.Param ∷ n.Results ∷ n.ResultsInside ∷ n.MoreGivens ∷ n.Given ∷ n.Block ∷ n.Blocks ∷ n.BlockArgs ∷ n.MoreBlockArgs ∷ n.BlockArg ∷ n.Ownership ∷ n.Star ∷ n.Code ∷ n.Inst ∷ n.Names ∷ n.MoreNames ∷ n.Row ∷ n.Terminator ∷ n.Operand ∷ n.Operands ∷ n.MoreOperands ∷ n.BareNames ∷ n.Edge ∷ n.EdgeArgs ∷ n.SwitchPart ∷ n.SwitchMore ∷ n.EnumElement ∷ n.ElementSuffix ∷ n.EnumOperand ∷ n.MemberName ∷ n.Flags ∷ n.FirstFlag ∷ n.VarDeclAfter ∷ n.LexicalAfter ∷ n.Qualifier ∷ n.QualifierWord ∷ n.TakeFlag ∷ n.InitFlag ∷ n.InitWord ∷ n.Debug ∷ n.DebugPart ∷ n.DebugAfterBinding ∷ n.DebugNamePart ∷ n.DebugAfterName ∷ n.DebugNumberPart ∷ n.DebugAfterNumber ∷ n.DebugDerefPart ∷ n.VtableEntry ∷ []
+all_parts = n.Module ∷ n.Stage ∷ n.StageWord ∷ n.Imports ∷ n.Items ∷ n.Item ∷ n.Members ∷ n.Member ∷ n.Modified ∷ n.Variable ∷ n.Binding ∷ n.Fields ∷ n.Field ∷ n.Accessors ∷ n.Setter ∷ n.Cases ∷ n.Payload ∷ n.Type ∷ n.OpenType ∷ n.Base ∷ n.BuiltinTail ∷ n.OptionalTail ∷ n.Width ∷ n.Questions ∷ n.Types ∷ n.MoreTypes ∷ n.Linkage ∷ n.Attributes ∷ n.Body ∷ n.FunctionType ∷ n.Convention ∷ n.Params ∷ n.MoreParams ∷ n.Param ∷ n.Results ∷ n.ResultsInside ∷ n.MoreGivens ∷ n.Given ∷ n.Block ∷ n.Blocks ∷ n.BlockArgs ∷ n.MoreBlockArgs ∷ n.BlockArg ∷ n.Ownership ∷ n.Star ∷ n.Code ∷ n.Inst ∷ n.Names ∷ n.MoreNames ∷ n.Row ∷ n.Terminator ∷ n.Operand ∷ n.Operands ∷ n.MoreOperands ∷ n.BareNames ∷ n.Edge ∷ n.EdgeArgs ∷ n.SwitchPart ∷ n.SwitchMore ∷ n.EnumElement ∷ n.ElementSuffix ∷ n.EnumOperand ∷ n.MemberName ∷ n.Flags ∷ n.FirstFlag ∷ n.VarDeclAfter ∷ n.LexicalAfter ∷ n.Qualifier ∷ n.QualifierWord ∷ n.TakeFlag ∷ n.InitFlag ∷ n.InitWord ∷ n.Debug ∷ n.DebugPart ∷ n.DebugAfterBinding ∷ n.DebugNamePart ∷ n.DebugAfterName ∷ n.DebugNumberPart ∷ n.DebugAfterNumber ∷ n.DebugDerefPart ∷ n.VtableEntry ∷ []
 
 -- each stands in the list of all, at its number
 look_number : Option Class → ℕ
@@ -334,14 +334,14 @@ look_number None = 0
 look_number (Some k) = class_number k
 
 all_looks-at : (l : Option Class) → slice_index_or all_looks (look_number l) None ≡ l
-unfolding all_looks look_number class_number keyword_number at_number mark_number
+unfolding all_looks look_number class_number keyword_number at_number punctuation_number
 all_looks-at None = refl
 all_looks-at (Some (c.Word k.Other)) = refl
 all_looks-at (Some (c.Word _)) = refl
 all_looks-at (Some (c.At a.Other)) = refl
 all_looks-at (Some (c.At _)) = refl
-all_looks-at (Some (c.Mark m.LeftParen)) = refl
-all_looks-at (Some (c.Mark _)) = refl
+all_looks-at (Some (c.Punctuation m.LeftParen)) = refl
+all_looks-at (Some (c.Punctuation _)) = refl
 all_looks-at (Some c.Percent) = refl
 all_looks-at (Some c.Number) = refl
 all_looks-at (Some c.BuiltinText) = refl

@@ -16,7 +16,7 @@ use Rattle.sil_shape.specs.Derivation.{Accepts, Derives, nothing, token, rule, s
 use Rattle.sil_shape.specs.Begun.{LeadsTo}
 use Rattle.sil_shape.specs.Turns.{Turns, stay, turn, IsStuck, IsStuckAt, Takes, Refuses}
 use Rattle.sil_shape.proofs.Derived.{Derives-nothing}
-use Rattle.sil_shape.proofs.Ahead.{look, Fits, Fits-expand, choose-way, Inner, Derives-inner, FitsOne, FitsOne-start}
+use Rattle.sil_shape.proofs.NextClasses.{look, Fits, Fits-expand, choose-way, Inner, Derives-inner, FitsOne, FitsOne-start}
 use Rattle.sil_shape.proofs.Shortened.{shortened, Shortens-derives}
 
 -- what the next token is known to be, if anything

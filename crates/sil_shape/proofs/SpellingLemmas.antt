@@ -6,9 +6,9 @@ use Rattle.sil_shape.specs.declared.classes.Keyword.{Keyword}
 use Rattle.sil_shape.specs.declared.classes.Keyword.TheVariants as k
 use Rattle.sil_shape.specs.declared.classes.AtWord.{AtWord}
 use Rattle.sil_shape.specs.declared.classes.AtWord.TheVariants as a
-use Rattle.sil_shape.specs.declared.classes.Mark.{Mark}
-use Rattle.sil_shape.specs.declared.classes.Mark.TheVariants as m
-use Rattle.sil_shape.specs.Spelling.{spelling, keywords_of_length, known_keyword, keyword_of, at_spelling, at_words, known_at_word, at_word_of, mark_spelling, marks, mark_of}
+use Rattle.sil_shape.specs.declared.classes.Punctuation.{Punctuation}
+use Rattle.sil_shape.specs.declared.classes.Punctuation.TheVariants as m
+use Rattle.sil_shape.specs.Spelling.{spelling, keywords_of_length, known_keyword, keyword_of, at_spelling, at_words, known_at_word, at_word_of, punctuation_spelling, signs, punctuation_of}
 
 pub keyword_of-spelling : (keyword : Keyword) → keyword_of (spelling keyword) ≡ keyword
 unfolding keyword_of known_keyword keywords_of_length spelling
@@ -20,10 +20,10 @@ unfolding at_word_of known_at_word at_words at_spelling
 at_word_of-at_spelling a.Other = refl
 at_word_of-at_spelling _ = refl
 
-pub mark_of-mark_spelling : (sign : Mark) → mark_of (mark_spelling sign) ≡ Some sign
-unfolding mark_of marks mark_spelling
-mark_of-mark_spelling m.Comma = refl
-mark_of-mark_spelling _ = refl
+pub punctuation_of-punctuation_spelling : (sign : Punctuation) → punctuation_of (punctuation_spelling sign) ≡ Some sign
+unfolding punctuation_of signs punctuation_spelling
+punctuation_of-punctuation_spelling m.Comma = refl
+punctuation_of-punctuation_spelling _ = refl
 
 bytes_eq-true : (xs ys : List ℕ) → bytes_eq xs ys ≡ true → xs ≡ ys
 bytes_eq-true xs ys h = search (rules, bytes_eq-Decides)

@@ -14,7 +14,7 @@ use Rattle.sil_shape.specs.Choice.{choose}
 use Rattle.sil_shape.specs.Turns.{Turns, turn, Pops, Expands, IsSettled, Settles, IsAccepted, IsStuck, Takes, Refuses}
 use Rattle.sil_shape.proofs.Sets.{weight}
 use Rattle.sil_shape.proofs.Computed.{lead, weight_one, if_vanishes, vanishes, vanishes_one, computed_weight}
-use Rattle.sil_shape.proofs.Ahead.{choose-way, vanishes_part}
+use Rattle.sil_shape.proofs.NextClasses.{choose-way, vanishes_part}
 
 if_both : (a b : Bool) (m n : ℕ) → if_vanishes a (m + if_vanishes b n) ≡ if_vanishes a m + if_vanishes (a && b) n
 unfolding if_vanishes

@@ -4,8 +4,8 @@ use Rattle.sil_shape.specs.declared.classes.Keyword.{Keyword}
 use Rattle.sil_shape.specs.declared.classes.Keyword.TheVariants as k
 use Rattle.sil_shape.specs.declared.classes.AtWord.{AtWord}
 use Rattle.sil_shape.specs.declared.classes.AtWord.TheVariants as a
-use Rattle.sil_shape.specs.declared.classes.Mark.{Mark}
-use Rattle.sil_shape.specs.declared.classes.Mark.TheVariants as m
+use Rattle.sil_shape.specs.declared.classes.Punctuation.{Punctuation}
+use Rattle.sil_shape.specs.declared.classes.Punctuation.TheVariants as m
 use Rattle.sil_shape.specs.declared.classes.Class.{Class}
 use Rattle.sil_shape.specs.declared.classes.Class.TheVariants as c
 use Rattle.sil_shape.specs.declared.grammar.Terminal.{Terminal}
@@ -111,30 +111,30 @@ at_number a.Owned = 5
 at_number a.Guaranteed = 6
 at_number a.Inout = 7
 
-unfoldable pub mark_number : Mark → ℕ
-mark_number m.LeftBrace = 0
-mark_number m.RightBrace = 1
-mark_number m.LeftParen = 2
-mark_number m.RightParen = 3
-mark_number m.LeftBracket = 4
-mark_number m.RightBracket = 5
-mark_number m.Less = 6
-mark_number m.Greater = 7
-mark_number m.Comma = 8
-mark_number m.Colon = 9
-mark_number m.Dot = 10
-mark_number m.Question = 11
-mark_number m.Star = 12
-mark_number m.Equals = 13
-mark_number m.Bang = 14
-mark_number m.Dollar = 15
-mark_number m.Hash = 16
-mark_number m.Arrow = 17
+unfoldable pub punctuation_number : Punctuation → ℕ
+punctuation_number m.LeftBrace = 0
+punctuation_number m.RightBrace = 1
+punctuation_number m.LeftParen = 2
+punctuation_number m.RightParen = 3
+punctuation_number m.LeftBracket = 4
+punctuation_number m.RightBracket = 5
+punctuation_number m.Less = 6
+punctuation_number m.Greater = 7
+punctuation_number m.Comma = 8
+punctuation_number m.Colon = 9
+punctuation_number m.Dot = 10
+punctuation_number m.Question = 11
+punctuation_number m.Star = 12
+punctuation_number m.Equals = 13
+punctuation_number m.Bang = 14
+punctuation_number m.Dollar = 15
+punctuation_number m.Hash = 16
+punctuation_number m.Arrow = 17
 
 unfoldable pub class_number : Class → ℕ
 class_number (c.Word w) = 1 + keyword_number w
 class_number (c.At w) = 88 + at_number w
-class_number (c.Mark x) = 96 + mark_number x
+class_number (c.Punctuation x) = 96 + punctuation_number x
 class_number c.Percent = 114
 class_number c.Number = 115
 class_number c.BuiltinText = 116

@@ -1,11 +1,11 @@
--- How the words, the names with `@` and the marks of the grammar are spelled.
+-- How the words, the names with `@` and the punctuation of the grammar are spelled.
 use Rattle.std.specs.Prelude.{ℕ, ◌==◌, List, [], ◌∷◌, length, Option, codes, bytes_eq, find, unwrap_or, if◌then◌else◌}
 use Rattle.sil_shape.specs.declared.classes.Keyword.{Keyword}
 use Rattle.sil_shape.specs.declared.classes.Keyword.TheVariants as k
 use Rattle.sil_shape.specs.declared.classes.AtWord.{AtWord}
 use Rattle.sil_shape.specs.declared.classes.AtWord.TheVariants as a
-use Rattle.sil_shape.specs.declared.classes.Mark.{Mark}
-use Rattle.sil_shape.specs.declared.classes.Mark.TheVariants as m
+use Rattle.sil_shape.specs.declared.classes.Punctuation.{Punctuation}
+use Rattle.sil_shape.specs.declared.classes.Punctuation.TheVariants as m
 
 -- how a keyword is spelled
 unfoldable pub spelling : Keyword → List ℕ
@@ -148,29 +148,29 @@ known_at_word name = find (λ a. bytes_eq (at_spelling a) name) at_words
 unfoldable pub at_word_of : List ℕ → AtWord
 at_word_of name = unwrap_or (known_at_word name) a.Other
 
-unfoldable pub mark_spelling : Mark → List ℕ
-mark_spelling m.LeftBrace = codes "{"
-mark_spelling m.RightBrace = codes "}"
-mark_spelling m.LeftParen = codes "("
-mark_spelling m.RightParen = codes ")"
-mark_spelling m.LeftBracket = codes "["
-mark_spelling m.RightBracket = codes "]"
-mark_spelling m.Less = codes "<"
-mark_spelling m.Greater = codes ">"
-mark_spelling m.Comma = codes ","
-mark_spelling m.Colon = codes ":"
-mark_spelling m.Dot = codes "."
-mark_spelling m.Question = codes "?"
-mark_spelling m.Star = codes "*"
-mark_spelling m.Equals = codes "="
-mark_spelling m.Bang = codes "!"
-mark_spelling m.Dollar = codes "$"
-mark_spelling m.Hash = codes "#"
-mark_spelling m.Arrow = codes "->"
+unfoldable pub punctuation_spelling : Punctuation → List ℕ
+punctuation_spelling m.LeftBrace = codes "{"
+punctuation_spelling m.RightBrace = codes "}"
+punctuation_spelling m.LeftParen = codes "("
+punctuation_spelling m.RightParen = codes ")"
+punctuation_spelling m.LeftBracket = codes "["
+punctuation_spelling m.RightBracket = codes "]"
+punctuation_spelling m.Less = codes "<"
+punctuation_spelling m.Greater = codes ">"
+punctuation_spelling m.Comma = codes ","
+punctuation_spelling m.Colon = codes ":"
+punctuation_spelling m.Dot = codes "."
+punctuation_spelling m.Question = codes "?"
+punctuation_spelling m.Star = codes "*"
+punctuation_spelling m.Equals = codes "="
+punctuation_spelling m.Bang = codes "!"
+punctuation_spelling m.Dollar = codes "$"
+punctuation_spelling m.Hash = codes "#"
+punctuation_spelling m.Arrow = codes "->"
 
-unfoldable pub marks : List Mark
-marks = m.LeftBrace ∷ m.RightBrace ∷ m.LeftParen ∷ m.RightParen ∷ m.LeftBracket ∷ m.RightBracket ∷ m.Less ∷ m.Greater ∷ m.Comma ∷ m.Colon ∷ m.Dot ∷ m.Question ∷ m.Star ∷ m.Equals ∷ m.Bang ∷ m.Dollar ∷ m.Hash ∷ m.Arrow ∷ []
+unfoldable pub signs : List Punctuation
+signs = m.LeftBrace ∷ m.RightBrace ∷ m.LeftParen ∷ m.RightParen ∷ m.LeftBracket ∷ m.RightBracket ∷ m.Less ∷ m.Greater ∷ m.Comma ∷ m.Colon ∷ m.Dot ∷ m.Question ∷ m.Star ∷ m.Equals ∷ m.Bang ∷ m.Dollar ∷ m.Hash ∷ m.Arrow ∷ []
 
--- the mark that these bytes spell
-unfoldable pub mark_of : List ℕ → Option Mark
-mark_of bytes = find (λ m. bytes_eq (mark_spelling m) bytes) marks
+-- the punctuation that these bytes spell
+unfoldable pub punctuation_of : List ℕ → Option Punctuation
+punctuation_of bytes = find (λ m. bytes_eq (punctuation_spelling m) bytes) signs

@@ -69,10 +69,7 @@ pub fn alternatives(part: Nonterminal) -> &'static [Production]
             Production::Width32,
             Production::Width64,
         ],
-        Nonterminal::OptionalMarks => &[
-            Production::OptionalMarksMore,
-            Production::OptionalMarksEnd,
-        ],
+        Nonterminal::Questions => &[Production::QuestionsMore, Production::QuestionsEnd],
         Nonterminal::Types => &[Production::TypesSome, Production::TypesNone],
         Nonterminal::MoreTypes => &[Production::MoreTypesMore, Production::MoreTypesEnd],
         Nonterminal::Linkage => &[

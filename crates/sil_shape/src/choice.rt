@@ -1,12 +1,12 @@
 //! The choice of a production by the next token.
 
 ghost use Rattle.std.specs.Prelude.{◌≡◌, ◌↔◌, IsTrue};
-ghost use Rattle.sil_shape.specs.Accepts.{keyword_number, at_number, mark_number, class_number, is_type_word, accepts};
+ghost use Rattle.sil_shape.specs.Accepts.{keyword_number, at_number, punctuation_number, class_number, is_type_word, accepts};
 ghost use Rattle.sil_shape.specs.Derivation.{Accepts};
 ghost use Rattle.sil_shape.specs.Choice.{has_class, has, started, choose};
 
 use crate::alternatives::alternatives;
-use crate::classes::{AtWord, Class, Keyword, Mark};
+use crate::classes::{AtWord, Class, Keyword, Punctuation};
 use crate::grammar::{Nonterminal, Production, Symbol, Terminal};
 use crate::starts::{empty_choice, starts};
 
@@ -24,11 +24,11 @@ fn at_number(word: AtWord) -> u8
     word as u8
 }
 
-#[tactic(auto, unfolding(crate::specs::Accepts::mark_number))]
-fn mark_number(mark: Mark) -> u8
-    ensures { result ≡ mark_number mark }
+#[tactic(auto, unfolding(crate::specs::Accepts::punctuation_number))]
+fn punctuation_number(punctuation: Punctuation) -> u8
+    ensures { result ≡ punctuation_number punctuation }
 {
-    mark as u8
+    punctuation as u8
 }
 
 #[tactic(auto, unfolding(crate::specs::Accepts::class_number))]
@@ -38,7 +38,7 @@ fn class_number(class: Class) -> u16
     match class {
         Class::Word(word) => 1 + keyword_number(word) as u16,
         Class::At(word) => 88 + at_number(word) as u16,
-        Class::Mark(mark) => 96 + mark_number(mark) as u16,
+        Class::Punctuation(punctuation) => 96 + punctuation_number(punctuation) as u16,
         Class::Percent => 114,
         Class::Number => 115,
         Class::BuiltinText => 116,

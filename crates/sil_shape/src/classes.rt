@@ -107,9 +107,9 @@ pub enum AtWord {
     Inout,
 }
 
-/// A mark.
+/// Punctuation.
 #[derive(Clone, Copy, Debug, PartialEq, Eq)]
-pub enum Mark {
+pub enum Punctuation {
     LeftBrace,
     RightBrace,
     LeftParen,
@@ -140,5 +140,5 @@ pub enum Class {
     /// a text that names a builtin operation
     BuiltinText,
     OtherText,
-    Mark(Mark),
+    Punctuation(Punctuation),
 }

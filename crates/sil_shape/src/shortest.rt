@@ -34,7 +34,7 @@ pub fn shortest(part: Nonterminal) -> Production
         Nonterminal::BuiltinTail => Production::BuiltinName,
         Nonterminal::OptionalTail => Production::OptionalName,
         Nonterminal::Width => Production::Width1,
-        Nonterminal::OptionalMarks => Production::OptionalMarksEnd,
+        Nonterminal::Questions => Production::QuestionsEnd,
         Nonterminal::Types => Production::TypesNone,
         Nonterminal::MoreTypes => Production::MoreTypesEnd,
         Nonterminal::Linkage => Production::LinkagePlain,

@@ -1,12 +1,12 @@
-//! How the words, the names with `@` and the marks of the grammar are spelled, and which class a spelling has.
+//! How the words, the names with `@` and the punctuation of the grammar are spelled, and which class a spelling has.
 
 ghost use Rattle.std.specs.Prelude.{◌≡◌, ◌⊎◌, IfSome};
 ghost use Rattle.sil_shape.specs.declared.classes.Keyword.{Keyword};
 ghost use Rattle.sil_shape.specs.declared.classes.AtWord.{AtWord};
-ghost use Rattle.sil_shape.specs.declared.classes.Mark.{Mark};
-ghost use Rattle.sil_shape.specs.Spelling.{spelling, keywords_of_length, known_keyword, keyword_of, at_spelling, at_words, known_at_word, at_word_of, mark_spelling, marks, mark_of};
+ghost use Rattle.sil_shape.specs.declared.classes.Punctuation.{Punctuation};
+ghost use Rattle.sil_shape.specs.Spelling.{spelling, keywords_of_length, known_keyword, keyword_of, at_spelling, at_words, known_at_word, at_word_of, punctuation_spelling, signs, punctuation_of};
 
-use crate::classes::{AtWord, Keyword, Mark};
+use crate::classes::{AtWord, Keyword, Punctuation};
 
 /// How a keyword is spelled; nothing for `Other`.
 #[tactic(auto, unfolding(crate::specs::Spelling::spelling))]
@@ -257,30 +257,30 @@ pub fn at_spelling(at_word: AtWord) -> &'static [u8]
     }
 }
 
-/// How a mark is spelled.
-#[tactic(auto, unfolding(crate::specs::Spelling::mark_spelling))]
-pub fn mark_spelling(mark: Mark) -> &'static [u8]
-    ensures { result.now ≡ mark_spelling mark }
+/// How a piece of punctuation is spelled.
+#[tactic(auto, unfolding(crate::specs::Spelling::punctuation_spelling))]
+pub fn punctuation_spelling(punctuation: Punctuation) -> &'static [u8]
+    ensures { result.now ≡ punctuation_spelling punctuation }
 {
-    match mark {
-        Mark::LeftBrace => b"{",
-        Mark::RightBrace => b"}",
-        Mark::LeftParen => b"(",
-        Mark::RightParen => b")",
-        Mark::LeftBracket => b"[",
-        Mark::RightBracket => b"]",
-        Mark::Less => b"<",
-        Mark::Greater => b">",
-        Mark::Comma => b",",
-        Mark::Colon => b":",
-        Mark::Dot => b".",
-        Mark::Question => b"?",
-        Mark::Star => b"*",
-        Mark::Equals => b"=",
-        Mark::Bang => b"!",
-        Mark::Dollar => b"$",
-        Mark::Hash => b"#",
-        Mark::Arrow => b"->",
+    match punctuation {
+        Punctuation::LeftBrace => b"{",
+        Punctuation::RightBrace => b"}",
+        Punctuation::LeftParen => b"(",
+        Punctuation::RightParen => b")",
+        Punctuation::LeftBracket => b"[",
+        Punctuation::RightBracket => b"]",
+        Punctuation::Less => b"<",
+        Punctuation::Greater => b">",
+        Punctuation::Comma => b",",
+        Punctuation::Colon => b":",
+        Punctuation::Dot => b".",
+        Punctuation::Question => b"?",
+        Punctuation::Star => b"*",
+        Punctuation::Equals => b"=",
+        Punctuation::Bang => b"!",
+        Punctuation::Dollar => b"$",
+        Punctuation::Hash => b"#",
+        Punctuation::Arrow => b"->",
     }
 }
 
@@ -314,35 +314,35 @@ pub fn at_word(name: &[u8]) -> AtWord
     known_at_word(name).unwrap_or(AtWord::Other)
 }
 
-/// The mark that these bytes spell, if they spell one.
-#[tactic(auto, unfolding(crate::specs::Spelling::mark_of, crate::specs::Spelling::marks))]
-pub fn mark(bytes: &[u8]) -> Option<Mark>
-    ensures value { result ≡ mark_of bytes.now }
+/// The punctuation that these bytes spell, if they spell one.
+#[tactic(auto, unfolding(crate::specs::Spelling::punctuation_of, crate::specs::Spelling::signs))]
+pub fn punctuation(bytes: &[u8]) -> Option<Punctuation>
+    ensures value { result ≡ punctuation_of bytes.now }
 
-    ensures known { IfSome result (λ m. mark_spelling m ≡ bytes.now) }
+    ensures known { IfSome result (λ m. punctuation_spelling m ≡ bytes.now) }
 {
-    let marks: &[Mark] = &[
-        Mark::LeftBrace,
-        Mark::RightBrace,
-        Mark::LeftParen,
-        Mark::RightParen,
-        Mark::LeftBracket,
-        Mark::RightBracket,
-        Mark::Less,
-        Mark::Greater,
-        Mark::Comma,
-        Mark::Colon,
-        Mark::Dot,
-        Mark::Question,
-        Mark::Star,
-        Mark::Equals,
-        Mark::Bang,
-        Mark::Dollar,
-        Mark::Hash,
-        Mark::Arrow,
+    let signs: &[Punctuation] = &[
+        Punctuation::LeftBrace,
+        Punctuation::RightBrace,
+        Punctuation::LeftParen,
+        Punctuation::RightParen,
+        Punctuation::LeftBracket,
+        Punctuation::RightBracket,
+        Punctuation::Less,
+        Punctuation::Greater,
+        Punctuation::Comma,
+        Punctuation::Colon,
+        Punctuation::Dot,
+        Punctuation::Question,
+        Punctuation::Star,
+        Punctuation::Equals,
+        Punctuation::Bang,
+        Punctuation::Dollar,
+        Punctuation::Hash,
+        Punctuation::Arrow,
     ];
-    marks
+    signs
         .iter()
         .copied()
-        .find(|mark| mark_spelling(*mark) == bytes)
+        .find(|punctuation| punctuation_spelling(*punctuation) == bytes)
 }

@@ -31,8 +31,8 @@ use Rattle.written_tree.specs.declared.written_declarations.WrittenToken.{Writte
 use Rattle.written_tree.specs.declared.written_instructions.WrittenInst.{WrittenInst}
 use Rattle.written_tree.specs.declared.written_instructions.WrittenOperand.{WrittenOperand}
 use Rattle.written_tree.specs.declared.written_module.WrittenItem.TheVariants as item
-use Rattle.written_modules.specs.Types.{in_parens, marked, named_type, one_deeper, one_token, tailed, type_before, width_of}
-use Rattle.written_modules.specs.Values.{token_of, stage_of, imports_of, items_of, item_of, fields_of, field_of, field_before, cases_of, type_of, payload_of, types_of, marks_of, linkage_of, tokens_of, convention_of, params_of, param_before, givens_of, given_before, signature_of, blocks_of, block_of, args_of, arg_of, ownership_of, starred, insts_of, terminator_of, inst_of, operands_of, operand_of, edges_of, edge_of, member_of, flags_of, qualifier_of, debug_of, entry_of, bare_inst, no_debug, no_givens, no_params, no_qualifier, no_types}
+use Rattle.written_modules.specs.Types.{in_parens, with_questions, named_type, one_deeper, one_token, tailed, type_before, width_of}
+use Rattle.written_modules.specs.Values.{token_of, stage_of, imports_of, items_of, item_of, fields_of, field_of, field_before, cases_of, type_of, payload_of, types_of, questions_of, linkage_of, tokens_of, convention_of, params_of, param_before, givens_of, given_before, signature_of, blocks_of, block_of, args_of, arg_of, ownership_of, starred, insts_of, terminator_of, inst_of, operands_of, operand_of, edges_of, edge_of, member_of, flags_of, qualifier_of, debug_of, entry_of, bare_inst, no_debug, no_givens, no_params, no_qualifier, no_types}
 
 -- what is kept of a token's bytes
 unfoldable pub kept_of : TokenKind → List ℕ → List ℕ
@@ -41,7 +41,7 @@ kept_of token.AtName spelling = drop 1 spelling
 kept_of token.Percent spelling = drop 1 spelling
 kept_of token.Number spelling = spelling
 kept_of token.Text spelling = slice_range spelling 1 (length spelling - 1)
-kept_of token.Mark spelling = []
+kept_of token.Punctuation spelling = []
 
 abbrev pub leaf_of : Lexeme → Value
 leaf_of l = v.Token (record { text = kept_of l.kind l.spelling; place = l.place })
@@ -170,8 +170,8 @@ meaning p.CasesEnd parts = v.Cases []
 meaning p.PayloadSome parts = v.Type (in_parens (place_at 0 parts) (type_before (type_of (part 1 parts)) (types_of (part 2 parts))) (place_at 3 parts))
 -- types
 meaning p.BareType parts = part 0 parts
-meaning p.ParenType parts = v.Type (marked (in_parens (place_at 0 parts) (types_of (part 1 parts)) (place_at 2 parts)) (marks_of (part 3 parts)))
-meaning p.BaseOpen parts = v.Type (marked (type_of (part 0 parts)) (marks_of (part 1 parts)))
+meaning p.ParenType parts = v.Type (with_questions (in_parens (place_at 0 parts) (types_of (part 1 parts)) (place_at 2 parts)) (questions_of (part 3 parts)))
+meaning p.BaseOpen parts = v.Type (with_questions (type_of (part 0 parts)) (questions_of (part 1 parts)))
 meaning p.WeakOpen parts = v.Type (one_deeper (type_of (part 1 parts)).depth (ty.Weak (type_of (part 1 parts)).ty) (place_at 0 parts) (type_of (part 1 parts)).last)
 meaning p.UnownedOpen parts = v.Type (one_deeper (type_of (part 1 parts)).depth (ty.Unowned (type_of (part 1 parts)).ty) (place_at 0 parts) (type_of (part 1 parts)).last)
 meaning p.BuiltinBase parts = v.Type (tailed (token_of (part 0 parts)) (part 1 parts))
@@ -184,8 +184,8 @@ meaning p.Width8 parts = v.Type (one_token (ty.Int 8) (place_at 0 parts))
 meaning p.Width16 parts = v.Type (one_token (ty.Int 16) (place_at 0 parts))
 meaning p.Width32 parts = v.Type (one_token (ty.Int 32) (place_at 0 parts))
 meaning p.Width64 parts = v.Type (one_token (ty.Int 64) (place_at 0 parts))
-meaning p.OptionalMarksMore parts = v.Marks (place_at 0 parts ∷ marks_of (part 1 parts))
-meaning p.OptionalMarksEnd parts = v.Marks []
+meaning p.QuestionsMore parts = v.Questions (place_at 0 parts ∷ questions_of (part 1 parts))
+meaning p.QuestionsEnd parts = v.Questions []
 meaning p.TypesSome parts = v.Types (type_before (type_of (part 0 parts)) (types_of (part 1 parts)))
 meaning p.TypesNone parts = v.Types no_types
 meaning p.MoreTypesMore parts = v.Types (type_before (type_of (part 1 parts)) (types_of (part 2 parts)))

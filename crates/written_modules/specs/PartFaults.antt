@@ -18,15 +18,15 @@ use Rattle.written_tree.specs.Faults.{earlier, fault, out_of_range, passed}
 use Rattle.written_modules.specs.Meaning.{part, place_at, text_at}
 use Rattle.written_tree.specs.Places.{arg_place, attribute_places, case_place, decl_names, field_place, function_names, label_place, mnemonics_of, operand_place, token_place, values_of_block}
 use Rattle.written_modules.specs.Types.{depth_limit, in_parens, type_before, width_of}
-use Rattle.written_modules.specs.Values.{args_of, blocks_of, cases_of, fields_of, givens_of, items_of, marks_of, operands_of, params_of, token_of, tokens_of, type_of, types_of}
+use Rattle.written_modules.specs.Values.{args_of, blocks_of, cases_of, fields_of, givens_of, items_of, questions_of, operands_of, params_of, token_of, tokens_of, type_of, types_of}
 
 -- a type that is one level deeper than one at the limit
 abbrev pub too_deep : ℕ → Place → Option Fault
 too_deep depth last = if depth == depth_limit then Some (fault (Limit limit.Depth) last) else None
 
 -- a type with some `?` behind it, of which each ends a type of its own
-abbrev pub too_marked : ℕ → List Place → Option Fault
-too_marked depth marks = if nat_lt depth_limit depth then None else passed limit.Depth (depth_limit - depth) marks
+abbrev pub too_many_questions : ℕ → List Place → Option Fault
+too_many_questions depth questions = if nat_lt depth_limit depth then None else passed limit.Depth (depth_limit - depth) questions
 
 -- types between two parentheses: one alone is no tuple
 abbrev pub too_deep_among : List TypeName → ℕ → Place → Option Fault
@@ -61,8 +61,8 @@ part_fault p.FunctionItem parts = function_fault (tokens_of (part 2 parts)) (blo
 part_fault p.PayloadSome parts = tuple_fault (type_before (type_of (part 1 parts)) (types_of (part 2 parts))) (place_at 3 parts)
 part_fault p.ParenType parts = earlier
     (tuple_fault (types_of (part 1 parts)) (place_at 2 parts))
-    (too_marked (in_parens (place_at 0 parts) (types_of (part 1 parts)) (place_at 2 parts)).depth (marks_of (part 3 parts)))
-part_fault p.BaseOpen parts = too_marked (type_of (part 0 parts)).depth (marks_of (part 1 parts))
+    (too_many_questions (in_parens (place_at 0 parts) (types_of (part 1 parts)) (place_at 2 parts)).depth (questions_of (part 3 parts)))
+part_fault p.BaseOpen parts = too_many_questions (type_of (part 0 parts)).depth (questions_of (part 1 parts))
 part_fault p.WeakOpen parts = too_deep (type_of (part 1 parts)).depth (type_of (part 1 parts)).last
 part_fault p.UnownedOpen parts = too_deep (type_of (part 1 parts)).depth (type_of (part 1 parts)).last
 part_fault p.OptionalOf parts = too_deep (type_of (part 1 parts)).depth (place_at 2 parts)

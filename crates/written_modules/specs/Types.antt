@@ -40,9 +40,9 @@ tailed token (v.Type t) = record t { first = token.place }
 tailed token _ = named_type token
 
 -- a type with some `?` behind it
-abbrev pub marked : WrittenType → List Place → WrittenType
-marked t [] = t
-marked t (mark ∷ marks) = marked (one_deeper t.depth (ty.Optional t.ty) t.first mark) marks
+abbrev pub with_questions : WrittenType → List Place → WrittenType
+with_questions t [] = t
+with_questions t (question ∷ questions) = with_questions (one_deeper t.depth (ty.Optional t.ty) t.first question) questions
 
 -- the types between two parentheses: one alone is that type, and others are a tuple
 abbrev pub between : List TypeName → ℕ → Place → Place → WrittenType

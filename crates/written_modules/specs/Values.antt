@@ -140,9 +140,9 @@ unfoldable pub types_of : Value → TypeList
 types_of (v.Types types) = types
 types_of _ = no_types
 
-unfoldable pub marks_of : Value → List Place
-marks_of (v.Marks marks) = marks
-marks_of _ = []
+unfoldable pub questions_of : Value → List Place
+questions_of (v.Questions questions) = questions
+questions_of _ = []
 
 unfoldable pub linkage_of : Value → Linkage
 linkage_of (v.Linkage l) = l

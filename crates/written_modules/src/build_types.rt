@@ -5,7 +5,7 @@ ghost use Rattle.sil_shape.specs.declared.grammar.Production.{Production};
 ghost use Rattle.written_modules.specs.Replay.{reduced};
 ghost use Rattle.sil_ast.specs.declared.type_name.TypeName.TheVariants as ty;
 ghost use Rattle.written_modules.specs.declared.value.Value.TheVariants as v;
-ghost use Rattle.written_modules.specs.Types.{deeper, in_parens, kept, marked, one_deeper, one_token, tailed, type_before};
+ghost use Rattle.written_modules.specs.Types.{deeper, in_parens, kept, with_questions, one_deeper, one_token, tailed, type_before};
 ghost use Rattle.written_modules.specs.Values.{token_of};
 
 use crate::limits;
@@ -77,17 +77,17 @@ fn optional(alloc: Global, inner: WrittenType, last: Place) -> Result<WrittenTyp
 }
 
 /// A type with all the `?` behind it.
-fn marked(
+fn with_questions(
     alloc: Global,
     inner: WrittenType,
-    marks: Prepended<Place>,
+    questions: Prepended<Place>,
 ) -> Result<WrittenType, Exhausted>
-    ensures { IfOk result (λ made. made ≡ marked inner marks) }
+    ensures { IfOk result (λ made. made ≡ with_questions inner questions) }
 {
-    let marks = marks.into_list();
+    let questions = questions.into_list();
     let mut ty = inner;
-    for mark in marks.as_slice() {
-        ty = optional(alloc, ty, *mark)?;
+    for question in questions.as_slice() {
+        ty = optional(alloc, ty, *question)?;
     }
     Ok(ty)
 }
@@ -174,9 +174,9 @@ pub(crate) fn paren_type(alloc: Global, values: &mut Prepended<Value>) -> Result
     let first = values.pop_front().into_token(alloc).place;
     let types = values.pop_front().into_types(alloc);
     let last = values.pop_front().into_token(alloc).place;
-    let marks = values.pop_front().into_marks(alloc);
+    let questions = values.pop_front().into_questions(alloc);
     let inner = in_parens(alloc, first, types, last);
-    Ok(Value::Type(marked(alloc, inner, marks)?))
+    Ok(Value::Type(with_questions(alloc, inner, questions)?))
 }
 
 #[tactic(auto, unfolding(crate::specs::Replay::reduced, crate::specs::Meaning::meaning, sil_shape::specs::Grammar::body))]
@@ -185,8 +185,8 @@ pub(crate) fn base_type(alloc: Global, values: &mut Prepended<Value>) -> Result<
     ensures { IfOk result (λ value. reduced Production.BaseOpen values.old ≡ value ∷ values.new) }
 {
     let base = values.pop_front().into_type(alloc);
-    let marks = values.pop_front().into_marks(alloc);
-    Ok(Value::Type(marked(alloc, base, marks)?))
+    let questions = values.pop_front().into_questions(alloc);
+    Ok(Value::Type(with_questions(alloc, base, questions)?))
 }
 
 #[tactic(auto, unfolding(crate::specs::Replay::reduced, crate::specs::Meaning::meaning, sil_shape::specs::Grammar::body))]
@@ -260,14 +260,17 @@ pub(crate) fn int_type(alloc: Global, width: u8, values: &mut Prepended<Value>) 
 }
 
 #[tactic(auto, unfolding(crate::specs::Replay::reduced, crate::specs::Meaning::meaning, sil_shape::specs::Grammar::body))]
-pub(crate) fn more_marks(alloc: Global, values: &mut Prepended<Value>) -> Result<Value, Exhausted>
+pub(crate) fn more_questions(
+    alloc: Global,
+    values: &mut Prepended<Value>,
+) -> Result<Value, Exhausted>
     requires { 2 ≤ length values.old }
-    ensures { IfOk result (λ value. reduced Production.OptionalMarksMore values.old ≡ value ∷ values.new) }
+    ensures { IfOk result (λ value. reduced Production.QuestionsMore values.old ≡ value ∷ values.new) }
 {
-    let mark = values.pop_front().into_token(alloc).place;
-    let mut marks = values.pop_front().into_marks(alloc);
-    marks.push_front(mark)?;
-    Ok(Value::Marks(marks))
+    let question = values.pop_front().into_token(alloc).place;
+    let mut questions = values.pop_front().into_questions(alloc);
+    questions.push_front(question)?;
+    Ok(Value::Questions(questions))
 }
 
 #[tactic(auto, unfolding(crate::specs::Replay::reduced, crate::specs::Meaning::meaning, sil_shape::specs::Grammar::body))]

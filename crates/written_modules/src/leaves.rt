@@ -42,7 +42,7 @@ fn kept_of(kind: TokenKind, spelling: &[u8]) -> &[u8]
         TokenKind::Percent => without_sigil(spelling),
         TokenKind::Number => spelling,
         TokenKind::Text => without_quotes(spelling),
-        TokenKind::Mark => &[],
+        TokenKind::Punctuation => &[],
     }
 }
 

@@ -13,7 +13,7 @@ use crate::list_faults::{
 use crate::number_faults::{literal_fault, small_fault};
 use crate::prepended::Prepended;
 use crate::type_faults::{
-    marks_fault, one_deeper_fault, optional_fault, paren_fault, payload_fault,
+    one_deeper_fault, optional_fault, paren_fault, payload_fault, questions_fault,
 };
 use crate::value::Value;
 use sil_shape::grammar::Production;
@@ -56,7 +56,7 @@ pub(crate) fn part_fault(production: Production, values: &Prepended<Value>) -> O
             part(values, production, 2),
             part(values, production, 3),
         ),
-        Production::BaseOpen => marks_fault(
+        Production::BaseOpen => questions_fault(
             part(values, production, 0),
             part(values, production, 1),
         ),

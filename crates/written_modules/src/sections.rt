@@ -82,8 +82,8 @@ pub(crate) fn section_of(production: Production) -> Section
         | Production::BaseOpen
         | Production::WeakOpen
         | Production::UnownedOpen
-        | Production::OptionalMarksMore
-        | Production::OptionalMarksEnd
+        | Production::QuestionsMore
+        | Production::QuestionsEnd
         | Production::TypesSome
         | Production::TypesNone
         | Production::MoreTypesMore

@@ -6,7 +6,7 @@ ghost use Rattle.sil_ast.specs.declared.type_name.TypeName.{TypeName};
 ghost use Rattle.written_tree.specs.Faults.{earlier};
 ghost use Rattle.written_modules.specs.PartFaults as said;
 ghost use Rattle.written_modules.specs.Types.{in_parens, type_before};
-ghost use Rattle.written_modules.specs.Values.{marks_of, token_of, type_of, types_of};
+ghost use Rattle.written_modules.specs.Values.{questions_of, token_of, type_of, types_of};
 
 use crate::build_types::deeper;
 use crate::limits;
@@ -68,12 +68,12 @@ fn first_of(types: &Value, i: usize) -> Option<Place>
     }
 }
 
-#[tactic(auto, unfolding(crate::specs::Values::marks_of))]
-fn mark_at(marks: &Value, i: usize) -> Option<Place>
-    ensures { result ≡ slice_get (marks_of marks.now) i }
+#[tactic(auto, unfolding(crate::specs::Values::questions_of))]
+fn mark_at(questions: &Value, i: usize) -> Option<Place>
+    ensures { result ≡ slice_get (questions_of questions.now) i }
 {
-    match marks {
-        Value::Marks(marks) => marks.get(i).copied(),
+    match questions {
+        Value::Questions(questions) => questions.get(i).copied(),
         _ => None,
     }
 }
@@ -90,15 +90,15 @@ fn too_deep(depth: u32, last: Place) -> Option<Fault>
 }
 
 /// The fault of a type of this depth with some `?` behind it.
-fn too_marked(depth: u32, marks: &Value) -> Option<Fault>
-    ensures { result ≡ said.too_marked depth (marks_of marks.now) }
+fn too_many_questions(depth: u32, questions: &Value) -> Option<Fault>
+    ensures { result ≡ said.too_many_questions depth (questions_of questions.now) }
 {
     if limits::DEPTH < depth {
         None
     } else {
         passed(
             LimitWord::Depth,
-            mark_at(marks, (limits::DEPTH - depth) as usize),
+            mark_at(questions, (limits::DEPTH - depth) as usize),
         )
     }
 }
@@ -156,23 +156,23 @@ pub(crate) fn paren_fault(
     opening: &Value,
     types: &Value,
     closing: &Value,
-    marks: &Value,
+    questions: &Value,
 ) -> Option<Fault>
-    ensures { result ≡ earlier (said.tuple_fault (types_of types.now) (token_of closing.now).place) (said.too_marked (in_parens (token_of opening.now).place (types_of types.now) (token_of closing.now).place).depth (marks_of marks.now)) }
+    ensures { result ≡ earlier (said.tuple_fault (types_of types.now) (token_of closing.now).place) (said.too_many_questions (in_parens (token_of opening.now).place (types_of types.now) (token_of closing.now).place).depth (questions_of questions.now)) }
 {
     let last = place_in(closing);
     let tuple = earlier(
         passed(LimitWord::Arguments, first_of(types, limits::ARGUMENTS)),
         too_deep_among(types_len(types), types_depth(types), last),
     );
-    earlier(tuple, too_marked(depth_in_parens(types), marks))
+    earlier(tuple, too_many_questions(depth_in_parens(types), questions))
 }
 
 /// `T??`
-pub(crate) fn marks_fault(ty: &Value, marks: &Value) -> Option<Fault>
-    ensures { result ≡ said.too_marked (type_of ty.now).depth (marks_of marks.now) }
+pub(crate) fn questions_fault(ty: &Value, questions: &Value) -> Option<Fault>
+    ensures { result ≡ said.too_many_questions (type_of ty.now).depth (questions_of questions.now) }
 {
-    too_marked(depth_of(ty), marks)
+    too_many_questions(depth_of(ty), questions)
 }
 
 /// `@sil_weak T`

@@ -28,7 +28,7 @@ pub(crate) enum Value {
     Type(WrittenType),
     Types(TypeList),
     /// Where the `?` behind a type stand.
-    Marks(Prepended<Place>),
+    Questions(Prepended<Place>),
     Linkage(Linkage),
     Tokens(Prepended<WrittenToken>),
     Convention(Convention),

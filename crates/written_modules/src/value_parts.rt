@@ -3,7 +3,7 @@
 ghost use Rattle.std.specs.Prelude.{◌≡◌};
 ghost use Rattle.written_modules.specs.declared.value.Value.TheVariants as v;
 ghost use Rattle.written_tree.specs.declared.written_module.WrittenModule.{WrittenModule};
-ghost use Rattle.written_modules.specs.Values.{token_of, stage_of, imports_of, items_of, item_of, fields_of, field_of, cases_of, type_of, payload_of, types_of, marks_of, linkage_of, tokens_of, convention_of, params_of, givens_of, signature_of};
+ghost use Rattle.written_modules.specs.Values.{token_of, stage_of, imports_of, items_of, item_of, fields_of, field_of, cases_of, type_of, payload_of, types_of, questions_of, linkage_of, tokens_of, convention_of, params_of, givens_of, signature_of};
 
 use crate::nothing::{discard, no_givens, no_params, no_token, no_type, no_types, unit_type};
 use crate::prepended::Prepended;
@@ -169,12 +169,12 @@ impl Value {
         }
     }
 
-    #[tactic(auto, unfolding(crate::specs::Values::marks_of))]
-    pub(crate) fn into_marks(self, alloc: Global) -> Prepended<Place>
-        ensures { result ≡ marks_of self }
+    #[tactic(auto, unfolding(crate::specs::Values::questions_of))]
+    pub(crate) fn into_questions(self, alloc: Global) -> Prepended<Place>
+        ensures { result ≡ questions_of self }
     {
         match self {
-            Value::Marks(kept) => kept,
+            Value::Questions(kept) => kept,
             other => {
                 discard(other);
                 Prepended::new(alloc)

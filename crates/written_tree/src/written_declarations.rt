@@ -3,7 +3,7 @@
 use sil_ast::{List, Place, Storage, Text, TypeName};
 
 /// What a token says, and where it stands: a word, a name without its sigil, a text without its quotes, a number as it
-/// is spelled. Of a mark nothing is kept but its place.
+/// is spelled. Of punctuation nothing is kept but its place.
 #[derive(Drop)]
 pub struct WrittenToken {
     pub text: Text,

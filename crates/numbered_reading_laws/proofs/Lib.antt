@@ -1,0 +1,17 @@
+pub mod ListsAndFaults
+pub mod FaultlessParts
+pub mod TypeLemmas
+pub mod NumberLemmas
+pub mod RowLemmas
+pub mod SharedRows
+pub mod SingleRows
+pub mod PartLemmas
+pub mod ReplayLemmas
+pub mod ModuleLemmas
+pub mod BlockLemmas
+pub mod FieldLemmas
+pub mod LimitLemmas
+pub mod OnceLemmas
+pub mod NumberingLemmas
+pub mod UsedLemmas
+pub mod Numbered

@@ -1,0 +1,336 @@
+-- Each part is good where the parts of its body are, and nothing in it is at fault.
+use Rattle.std.proofs.Common.{◌≡◌, ℕ, ◌≤◌, suc, List, [], ◌∷◌, length, map, Some, None, true, IsTrue, ap, refl, subst, arith, flat_map}
+use Rattle.std.proofs.lemmas.List.{length-map}
+use Rattle.sil_ast.specs.declared.function.Linkage.{Linkage}
+use Rattle.sil_ast.specs.declared.member.Member.{Member}
+use Rattle.sil_ast.specs.declared.op.Op.TheVariants as op
+use Rattle.sil_ast.specs.declared.place.Place.{Place}
+use Rattle.sil_ast.specs.declared.signature.Convention.{Convention}
+use Rattle.sil_ast.specs.declared.signature.Given.{Given}
+use Rattle.sil_ast.specs.declared.signature.Param.{Param}
+use Rattle.sil_ast.specs.declared.signature.Signature.{Signature}
+use Rattle.sil_shape.specs.declared.grammar.Production.{Production}
+use Rattle.sil_shape.specs.declared.grammar.Production.TheVariants as p
+use Rattle.sil_shape.specs.Grammar.{written, body}
+use Rattle.written_numbers.specs.Numbers.{literal_of}
+use Rattle.written_tree.specs.declared.fault.LimitWord.TheVariants as limit
+use Rattle.written_tree.specs.declared.written_declarations.WrittenCase.{WrittenCase}
+use Rattle.written_tree.specs.declared.written_declarations.WrittenDecl.TheVariants as decl
+use Rattle.written_tree.specs.declared.written_declarations.WrittenField.{WrittenField}
+use Rattle.written_tree.specs.declared.written_declarations.WrittenToken.{WrittenToken}
+use Rattle.written_tree.specs.declared.written_functions.WrittenBlock.{WrittenBlock}
+use Rattle.written_tree.specs.declared.written_instructions.WrittenEdge.{WrittenEdge}
+use Rattle.written_tree.specs.declared.written_instructions.WrittenOperand.{WrittenOperand}
+use Rattle.written_tree.specs.declared.written_module.WrittenModule.{WrittenModule}
+use Rattle.written_tree.specs.Faults.{earlier, passed}
+use Rattle.written_modules.specs.Meaning.{element_of, meaning, part, place_at, text_at}
+use Rattle.written_modules.specs.Opened.{PartGivens, PartParams, PartType, PartValue}
+use Rattle.written_modules.specs.PartFaults.{body_fault, function_fault, module_fault, part_fault}
+use Rattle.written_tree.specs.Places.{arg_place, attribute_places, case_place, decl_names, field_place, function_names, label_place, operand_place, token_place}
+use Rattle.written_modules.specs.Types.{in_parens, tailed, type_before, width_of}
+use Rattle.written_modules.specs.Values.{token_of, stage_of, imports_of, items_of, item_of, fields_of, field_of, field_before, cases_of, type_of, payload_of, types_of, questions_of, linkage_of, tokens_of, params_of, param_before, givens_of, given_before, signature_of, blocks_of, block_of, args_of, arg_of, starred, insts_of, terminator_of, inst_of, operands_of, operand_of, edges_of, edge_of, member_of, flags_of, qualifier_of, debug_of, entry_of}
+use Rattle.name_resolution.specs.Resolved.{Scope, resolved_case, resolved_decl, resolved_field, resolved_operand}
+use Rattle.numbered_form.specs.Lists.{Each}
+use Rattle.numbered_form.specs.Fields.{IsStrong}
+use Rattle.numbered_form.specs.Names.{IsMemberSpelled, IsWord, case_name, field_name, is_at_name}
+use Rattle.numbered_form.specs.Types.{HasFieldType, HasPayloadType, IsPlainType}
+use Rattle.numbered_reading_laws.proofs.ListsAndFaults.{Each-map, both, either_first, no_first, no_second, not_passed, not_passed-map}
+use Rattle.numbered_reading_laws.proofs.FaultlessParts.{AreEnumOperands, AreGoodCases, AreGoodFrom, AreGoodGivens, AreGoodOperands, AreGoodParams, AreGoodSwitch, IsGoodBlock, IsGoodBranch, IsGoodCase, IsGoodDecl, IsGoodField, IsGoodFunction, IsGoodItem, IsGoodModule, IsGoodPart, IsGoodSignature, IsGoodToken, IsGoodType, IsStrongField, IsWordToken, nothing_shown}
+use Rattle.numbered_reading_laws.proofs.NumberLemmas.{good_element, good_literal, good_small}
+use Rattle.numbered_reading_laws.proofs.RowLemmas.{renamed}
+use Rattle.numbered_reading_laws.proofs.SharedRows.{element_row, flagged_row, loaded_row, member_row, operands_have_types, operands_typed, over_one_row, stored_row}
+use Rattle.numbered_reading_laws.proofs.SingleRows.{alloc_ref_row, alloc_stack_row, apply_row, br_row, builtin_row, cond_br_row, debug_row, enum_row, fail_row, function_row, literal_row, struct_row, switch_row, tuple_row, unreachable_row}
+use Rattle.numbered_reading_laws.proofs.TypeLemmas.{good_questions, good_name, good_optional, good_parens, good_unowned, good_weak, good_width, more_good_types, no_good_types, placed_address, placed_plain, plain_type, room}
+
+-- a type that begins elsewhere
+other_first : {t : PartType} → (first : Place) → IsGoodType t → IsGoodType (record t { first = first })
+other_first first g = record { written = g.written; deep = g.deep; limit = g.limit }
+
+-- declarations
+
+field_words : (fields : List WrittenField) → Each IsGoodField fields → Each IsWord (map field_name (map resolved_field fields))
+field_words [] g = tt
+field_words (f ∷ fields) g = (g.0.name, field_words fields g.1)
+
+field_types : (fields : List WrittenField) → Each IsGoodField fields → Each HasFieldType (map resolved_field fields)
+field_types fields g = Each-map resolved_field IsGoodField HasFieldType (λ f h. h.ty) fields g
+
+case_words : (cases : List WrittenCase) → Each IsGoodCase cases → Each IsWord (map case_name (map resolved_case cases))
+case_words [] g = tt
+case_words (c ∷ cases) g = (g.0.name, case_words cases g.1)
+
+few_names : {A B : Type 0} (f : A → B) (name : B → List ℕ) (xs : List A) → length xs ≤ 64 → length (map name (map f xs)) ≤ 64
+few_names f name xs h = rw (length-map, length-map) h
+
+good_class : (name : WrittenToken) (fields : List WrittenField) → IsWord name.text → Each IsGoodField fields → passed limit.Members 64 (map field_place fields) ≡ None
+    → IsGoodDecl (resolved_decl (decl.Class name fields))
+good_class name fields word g h = record {
+  spelled = record { name = word; members = field_words fields g };
+  strong = tt;
+  types = field_types fields g;
+  limits = few_names resolved_field field_name fields (not_passed-map field_place limit.Members 64 fields h);
+}
+
+good_struct : (name : WrittenToken) (fields : List WrittenField) → IsWord name.text → Each IsGoodField fields → Each IsStrongField fields → passed limit.Members 64 (map field_place fields) ≡ None
+    → IsGoodDecl (resolved_decl (decl.Struct name fields))
+good_struct name fields word g strong h = record {
+  spelled = record { name = word; members = field_words fields g };
+  strong = Each-map resolved_field IsStrongField IsStrong (λ f e. e) fields strong;
+  types = field_types fields g;
+  limits = few_names resolved_field field_name fields (not_passed-map field_place limit.Members 64 fields h);
+}
+
+good_enum : (name : WrittenToken) (cases : List WrittenCase) → IsWord name.text → Each IsGoodCase cases → passed limit.Members 64 (map case_place cases) ≡ None
+    → IsGoodDecl (resolved_decl (decl.Enum name cases))
+good_enum name cases word g h = record {
+  spelled = record { name = word; members = case_words cases g };
+  strong = tt;
+  types = Each-map resolved_case IsGoodCase HasPayloadType (λ c h. h.payload) cases g;
+  limits = few_names resolved_case case_name cases (not_passed-map case_place limit.Members 64 cases h);
+}
+
+-- functions
+
+good_function : (name : WrittenToken) (linkage : Linkage) (attributes : List WrittenToken) (signature : Signature) (blocks : List WrittenBlock)
+    → IsTrue (is_at_name name.text) → Each IsWordToken attributes → IsGoodSignature signature → Each IsGoodBlock blocks → function_fault attributes blocks ≡ None
+    → IsGoodFunction (record { name = name; linkage = linkage; attributes = attributes; signature = signature; blocks = blocks })
+good_function name linkage attributes signature blocks spelled words g gs h =
+    let body : body_fault blocks ≡ None = no_second _ _ h in
+    let counts = no_second _ _ body in
+    record {
+      name = spelled;
+      attributes = words;
+      signature = g;
+      blocks = gs;
+      attribute_count = not_passed limit.Arguments 64 (attribute_places attributes) (no_first _ _ h);
+      block_count = not_passed-map label_place limit.Blocks 512 blocks (no_first _ _ body);
+      inst_count = not_passed limit.Instructions 4096 _ (no_first _ _ counts);
+      value_count = not_passed limit.Values 1024 _ (no_second _ _ counts);
+    }
+
+good_signature : (convention : Convention) (params : PartParams) (givens : PartGivens) → AreGoodParams params → AreGoodGivens givens
+    → earlier (passed limit.Arguments 64 params.firsts) (passed limit.Arguments 64 givens.firsts) ≡ None
+    → IsGoodSignature (record { convention = convention; params = params.params; results = givens.givens })
+good_signature convention params givens g k h =
+    let few_params : length params.firsts ≤ 64 = not_passed limit.Arguments 64 params.firsts (no_first _ _ h) in
+    let few_givens : length givens.firsts ≤ 64 = not_passed limit.Arguments 64 givens.firsts (no_second _ _ h) in
+    record {
+      types = record { params = g.types; results = k.types };
+      limits = record { params = omega (arith, g.counted); results = omega (arith, k.counted) };
+    }
+
+no_params_good : AreGoodParams (record { params = []; firsts = [] })
+no_params_good = record { types = tt; counted = refl }
+
+one_more_param : (param : Param) (first : Place) (others : PartParams) → IsPlainType param.ty → AreGoodParams others → AreGoodParams (record { params = param ∷ others.params; firsts = first ∷ others.firsts })
+one_more_param param first others plain g = record { types = (plain, g.types); counted = ap suc g.counted }
+
+no_givens_good : AreGoodGivens (record { givens = []; firsts = [] })
+no_givens_good = record { types = tt; counted = refl }
+
+one_more_given : (given : Given) (first : Place) (others : PartGivens) → IsPlainType given.ty → AreGoodGivens others → AreGoodGivens (record { givens = given ∷ others.givens; firsts = first ∷ others.firsts })
+one_more_given given first others plain g = record { types = (plain, g.types); counted = ap suc g.counted }
+
+-- modules
+
+good_items : (w : WrittenModule) → Each IsGoodItem w.items → module_fault w.items ≡ None → IsGoodModule w
+good_items w g h = record {
+  items = g;
+  declarations = not_passed-map token_place limit.Declarations 1024 (flat_map decl_names w.items) (no_first _ _ h);
+  functions = not_passed-map token_place limit.Functions 1024 (flat_map function_names w.items) (no_second _ _ h);
+}
+
+-- edges
+
+few_resolved : (s : Scope) (os : List WrittenOperand) → length os ≤ 64 → length (map (resolved_operand s) os) ≤ 64
+few_resolved s os h = rw length-map h
+
+good_branch : (label : WrittenToken) (os : List WrittenOperand) → AreGoodOperands os → length os ≤ 64 → IsGoodBranch (record { label = label; args = os; case_of = None })
+good_branch label os g few = record {
+  good = λ s. record { types = operands_have_types (map (resolved_operand s) os) (g s); spelled = tt; limits = few_resolved s os few };
+  branch = λ s. operands_typed (map (resolved_operand s) os) (g s);
+}
+
+good_case : (label : WrittenToken) (m : Member) (es : List WrittenEdge) → IsMemberSpelled m → AreGoodCases es → AreGoodSwitch (record { label = label; args = []; case_of = Some m } ∷ es)
+good_case label m es spelled g = record {
+  good = record { good = λ s. (record { types = tt; spelled = spelled; limits = omega arith }, g.good s); cases = g.cases };
+  some = λ s. refl;
+}
+
+good_default : (label : WrittenToken) → AreGoodSwitch (record { label = label; args = []; case_of = None } ∷ [])
+good_default label = record {
+  good = record { good = λ s. (record { types = tt; spelled = tt; limits = omega arith }, tt); cases = λ s. refl };
+  some = λ s. refl;
+}
+
+one_enum_operand : (o : WrittenOperand) → AreGoodOperands (o ∷ []) → AreEnumOperands (o ∷ [])
+one_enum_operand o g = record {
+  good = g;
+  operands = λ s. either_first _ _ (both _ true (g s).0.typed refl);
+  few = omega arith;
+}
+
+pub good_part : (q : Production) (parts : List PartValue) → AreGoodFrom 0 (body q) parts → part_fault q parts ≡ None → IsGoodPart (written q) (meaning q parts)
+unfolding body written meaning part_fault tailed IsGoodPart IsGoodToken token_of stage_of imports_of items_of item_of fields_of field_of field_before cases_of type_of payload_of types_of questions_of tokens_of params_of param_before givens_of given_before signature_of blocks_of block_of args_of arg_of starred insts_of terminator_of inst_of operands_of operand_of edges_of edge_of member_of flags_of qualifier_of debug_of entry_of
+good_part p.WholeModule parts g h = λ w e. let whole : WrittenModule = record { stage = stage_of (part 0 parts); imports = imports_of (part 1 parts); items = items_of (part 2 parts) } in let same : whole ≡ w = (cc) in subst IsGoodModule same (good_items whole g.1.1.0 h)
+good_part p.ItemsMore parts g h = (g.0, g.1.0)
+good_part p.FinalClass parts g h = good_class (token_of (part 2 parts)) (fields_of (part 4 parts)) g.1.1.0 g.1.1.1.1.0 h
+good_part p.PlainClass parts g h = good_class (token_of (part 1 parts)) (fields_of (part 3 parts)) g.1.0 g.1.1.1.0 h
+good_part p.StructItem parts g h = good_struct (token_of (part 1 parts)) (fields_of (part 3 parts)) g.1.0 g.1.1.1.0.0 g.1.1.1.0.1 h
+good_part p.EnumItem parts g h = good_enum (token_of (part 1 parts)) (cases_of (part 3 parts)) g.1.0 g.1.1.1.0 h
+good_part p.FunctionItem parts g h = good_function (token_of (part 3 parts)) (linkage_of (part 1 parts)) (tokens_of (part 2 parts)) (signature_of (part 6 parts)) (blocks_of (part 7 parts)) g.1.1.1.0 g.1.1.0 g.1.1.1.1.1.1.0 g.1.1.1.1.1.1.1.0 h
+good_part p.VtableItem parts g h = record { name = g.1.0; entry = g.1.1.1.0 }
+good_part p.MembersMore parts g h = g.0 (fields_of (part 1 parts)) g.1.0
+good_part p.StoredMember parts g h = g.1.0
+good_part p.FinalMember parts g h = g.1.0
+good_part p.PlainMember parts g h = g.0
+good_part p.DeinitMember parts g h = λ others k. k
+good_part p.InitMember parts g h = λ others k. k
+good_part p.ModifiedStored parts g h = g.1.0
+good_part p.ModifiedFinal parts g h = g.1.0
+good_part p.ModifiedVariable parts g h = g.0
+good_part p.WeakVariable parts g h = λ others k. (record { name = g.1.0.0.name; ty = g.1.0.0.ty }, k)
+good_part p.UnownedVariable parts g h = λ others k. (record { name = g.1.0.0.name; ty = g.1.0.0.ty }, k)
+good_part p.StrongVariable parts g h = g.0.1
+good_part p.VarBinding parts g h = let f : IsGoodField (field_of (meaning p.VarBinding parts)) = record { name = g.1.0; ty = (plain_type (type_of (part 3 parts)) g.1.1.1.0) } in (f, λ others k. (f, k), λ others k. (refl, k))
+good_part p.LetBinding parts g h = let f : IsGoodField (field_of (meaning p.LetBinding parts)) = record { name = g.1.0; ty = (plain_type (type_of (part 3 parts)) g.1.1.1.0) } in (f, λ others k. (f, k), λ others k. (refl, k))
+good_part p.FieldsMore parts g h = (g.0.0 (fields_of (part 1 parts)) g.1.0.0, g.0.1 (fields_of (part 1 parts)) g.1.0.1)
+good_part p.FieldsEnd parts g h = (tt, tt)
+good_part p.StoredField parts g h = g.1.0
+good_part p.PlainField parts g h = (g.0.1, g.0.2)
+good_part p.CasesMore parts g h = (record { name = g.1.0; payload = g.1.1.0 }, g.1.1.1.0)
+good_part p.PayloadSome parts g h = plain_type (in_parens (place_at 0 parts) (type_before (type_of (part 1 parts)) (types_of (part 2 parts))) (place_at 3 parts)) (good_parens (place_at 0 parts) (type_before (type_of (part 1 parts)) (types_of (part 2 parts))) (place_at 3 parts) (more_good_types (type_of (part 1 parts)) (types_of (part 2 parts)) g.1.0 g.1.1.0) h)
+good_part p.BareType parts g h = g.0
+good_part p.ParenType parts g h = good_questions (in_parens (place_at 0 parts) (types_of (part 1 parts)) (place_at 2 parts)) (questions_of (part 3 parts)) (good_parens (place_at 0 parts) (types_of (part 1 parts)) (place_at 2 parts) g.1.0 (no_first _ _ h)) (no_second _ _ h)
+good_part p.BaseOpen parts g h = good_questions (type_of (part 0 parts)) (questions_of (part 1 parts)) g.0 h
+good_part p.WeakOpen parts g h = good_weak (type_of (part 1 parts)) (place_at 0 parts) (type_of (part 1 parts)).last g.1.0 (room (type_of (part 1 parts)).depth (type_of (part 1 parts)).last g.1.0.limit h)
+good_part p.UnownedOpen parts g h = good_unowned (type_of (part 1 parts)) (place_at 0 parts) (type_of (part 1 parts)).last g.1.0 (room (type_of (part 1 parts)).depth (type_of (part 1 parts)).last g.1.0.limit h)
+good_part p.BuiltinBase parts g h = g.1.0 (token_of (part 0 parts)) g.0
+good_part p.OptionalBase parts g h = g.1.0 (token_of (part 0 parts)) g.0
+good_part p.NamedBase parts g h = good_name (token_of (part 0 parts)) g.0
+good_part p.BuiltinInt parts g h = g.1.0
+good_part p.BuiltinName parts g h = λ token word. good_name token word
+good_part p.OptionalOf parts g h = λ token word. good_optional (type_of (part 1 parts)) token.place (place_at 2 parts) g.1.0 (room (type_of (part 1 parts)).depth (place_at 2 parts) g.1.0.limit h)
+good_part p.OptionalName parts g h = λ token word. good_name token word
+good_part p.Width1 parts g h = λ token word. other_first token.place (good_width 1 (place_at 0 parts) refl)
+good_part p.Width8 parts g h = λ token word. other_first token.place (good_width 8 (place_at 0 parts) refl)
+good_part p.Width16 parts g h = λ token word. other_first token.place (good_width 16 (place_at 0 parts) refl)
+good_part p.Width32 parts g h = λ token word. other_first token.place (good_width 32 (place_at 0 parts) refl)
+good_part p.Width64 parts g h = λ token word. other_first token.place (good_width 64 (place_at 0 parts) refl)
+good_part p.TypesSome parts g h = more_good_types (type_of (part 0 parts)) (types_of (part 1 parts)) g.0 g.1.0
+good_part p.TypesNone parts g h = no_good_types
+good_part p.MoreTypesMore parts g h = more_good_types (type_of (part 1 parts)) (types_of (part 2 parts)) g.1.0 g.1.1.0
+good_part p.MoreTypesEnd parts g h = no_good_types
+good_part p.AttributesMore parts g h = (g.1.0, g.1.1.1.0)
+good_part p.BodySome parts g h = (g.1.0, g.1.1.0)
+good_part p.WholeFunctionType parts g h = good_signature _ (params_of (part 5 parts)) (givens_of (part 8 parts)) g.1.1.1.1.1.0 g.1.1.1.1.1.1.1.1.0 h
+good_part p.ParamsSome parts g h = g.0 (params_of (part 1 parts)) g.1.0
+good_part p.ParamsNone parts g h = no_params_good
+good_part p.MoreParamsMore parts g h = g.1.0 (params_of (part 2 parts)) g.1.1.0
+good_part p.MoreParamsEnd parts g h = no_params_good
+good_part p.ParamOwned parts g h = λ others k. one_more_param _ _ others (plain_type (type_of (part 1 parts)) g.1.0) k
+good_part p.ParamGuaranteed parts g h = λ others k. one_more_param _ _ others (plain_type (type_of (part 1 parts)) g.1.0) k
+good_part p.ParamInout parts g h = λ others k. one_more_param _ _ others (plain_type (type_of (part 1 parts)) g.1.0) k
+good_part p.ParamPlain parts g h = λ others k. one_more_param _ _ others (plain_type (type_of (part 0 parts)) g.0) k
+good_part p.ResultList parts g h = g.1.0
+good_part p.ResultOwned parts g h = record { types = ((plain_type (type_of (part 1 parts)) g.1.0), tt); counted = refl }
+good_part p.ResultPlain parts g h = record { types = ((plain_type (type_of (part 0 parts)) g.0), tt); counted = refl }
+good_part p.InsideSome parts g h = g.0 (givens_of (part 1 parts)) g.1.0
+good_part p.InsideNone parts g h = no_givens_good
+good_part p.MoreGivensMore parts g h = g.1.0 (givens_of (part 2 parts)) g.1.1.0
+good_part p.MoreGivensEnd parts g h = no_givens_good
+good_part p.GivenOwned parts g h = λ others k. one_more_given _ _ others (plain_type (type_of (part 1 parts)) g.1.0) k
+good_part p.GivenPlain parts g h = λ others k. one_more_given _ _ others (plain_type (type_of (part 0 parts)) g.0) k
+good_part p.WholeBlock parts g h = record { args = g.1.0; few = not_passed-map arg_place limit.Arguments 64 (args_of (part 1 parts)) h; insts = g.1.1.1.0.0; terminator = g.1.1.1.0.1 }
+good_part p.BlocksMore parts g h = (g.0, g.1.0)
+good_part p.BlockArgsSome parts g h = (g.1.0, g.1.1.0)
+good_part p.MoreBlockArgsMore parts g h = (g.1.0, g.1.1.0)
+good_part p.WholeBlockArg parts g h = g.1.1.1.1.0 (type_of (part 5 parts)).ty (plain_type (type_of (part 5 parts)) g.1.1.1.1.1.0)
+good_part p.StarSome parts g h = placed_address
+good_part p.StarNone parts g h = placed_plain
+good_part p.CodeInst parts g h = ((g.0, g.1.0.0), g.1.0.1)
+good_part p.CodeEnd parts g h = (tt, g.0)
+good_part p.InstOneName parts g h = record { goes_on = g.1.1.0.goes_on; good = λ s first. renamed s first (inst_of (part 2 parts)) (token_of (part 0 parts) ∷ []) (omega arith) (g.1.1.0.good s first) }
+good_part p.InstNames parts g h = record { goes_on = g.1.1.1.1.0.goes_on; good = λ s first. renamed s first (inst_of (part 4 parts)) (tokens_of (part 1 parts)) (not_passed-map token_place limit.Arguments 64 (tokens_of (part 1 parts)) h) (g.1.1.1.1.0.good s first) }
+good_part p.InstUnnamed parts g h = record { goes_on = g.0.goes_on; good = g.0.good }
+good_part p.RowIntegerLiteral parts g h = record { goes_on = refl; no_results = refl; good = (let l = good_literal (type_of (part 2 parts)).ty (text_at 4 parts) (place_at 4 parts) g.1.1.0.written h in literal_row (place_at 0 parts) (type_of (part 2 parts)).ty (literal_of (width_of (type_of (part 2 parts)).ty) (text_at 4 parts)) (plain_type (type_of (part 2 parts)) g.1.1.0) l.there l.residue) }
+good_part p.RowFunctionRef parts g h = record { goes_on = refl; no_results = refl; good = function_row (place_at 0 parts) (token_of (part 1 parts)) (signature_of (part 4 parts)) g.1.1.1.1.0 }
+good_part p.RowBuiltin parts g h = record { goes_on = refl; no_results = refl; good = builtin_row (place_at 0 parts) (text_at 1 parts) (operands_of (part 3 parts)) (type_of (part 7 parts)).ty g.1.0.known g.1.0.quotable g.1.1.1.0 (not_passed-map operand_place limit.Arguments 64 (operands_of (part 3 parts)) h) (plain_type (type_of (part 7 parts)) g.1.1.1.1.1.1.1.0) }
+good_part p.RowCondFail parts g h = record { goes_on = refl; no_results = refl; good = fail_row (place_at 0 parts) (operand_of (part 1 parts)) (text_at 3 parts) g.1.1.1.0 g.1.0 }
+good_part p.RowAllocRef parts g h = record { goes_on = refl; no_results = refl; good = alloc_ref_row (place_at 0 parts) (type_of (part 2 parts)).ty (plain_type (type_of (part 2 parts)) g.1.1.0) }
+good_part p.RowAllocStack parts g h = record { goes_on = refl; no_results = refl; good = alloc_stack_row (place_at 0 parts) (flags_of (part 1 parts)).lexical (flags_of (part 1 parts)).var_decl (type_of (part 3 parts)).ty (debug_of (part 4 parts)) (plain_type (type_of (part 3 parts)) g.1.1.1.0) g.1.1.1.1.0 }
+good_part p.RowDeallocStack parts g h = record { goes_on = refl; no_results = refl; good = over_one_row op.DeallocStack (place_at 0 parts) (operand_of (part 1 parts)) refl refl refl g.1.0 }
+good_part p.RowCopyValue parts g h = record { goes_on = refl; no_results = refl; good = over_one_row op.CopyValue (place_at 0 parts) (operand_of (part 1 parts)) refl refl refl g.1.0 }
+good_part p.RowDestroyValue parts g h = record { goes_on = refl; no_results = refl; good = over_one_row op.DestroyValue (place_at 0 parts) (operand_of (part 1 parts)) refl refl refl g.1.0 }
+good_part p.RowMoveValue parts g h = record { goes_on = refl; no_results = refl; good = flagged_row op.MoveValue (place_at 0 parts) (operand_of (part 2 parts)) (flags_of (part 1 parts)).lexical (flags_of (part 1 parts)).var_decl refl refl refl g.1.1.0 }
+good_part p.RowBeginBorrow parts g h = record { goes_on = refl; no_results = refl; good = flagged_row op.BeginBorrow (place_at 0 parts) (operand_of (part 2 parts)) (flags_of (part 1 parts)).lexical (flags_of (part 1 parts)).var_decl refl refl refl g.1.1.0 }
+good_part p.RowEndBorrow parts g h = record { goes_on = refl; no_results = refl; good = over_one_row op.EndBorrow (place_at 0 parts) (operand_of (part 1 parts)) refl refl refl g.1.0 }
+good_part p.RowLoad parts g h = record { goes_on = refl; no_results = refl; good = loaded_row op.Load (place_at 0 parts) (operand_of (part 2 parts)) (qualifier_of (part 1 parts)) refl refl refl g.1.1.0 }
+good_part p.RowStore parts g h = record { goes_on = refl; no_results = refl; good = stored_row op.Store (place_at 0 parts) (token_of (part 1 parts)) (operand_of (part 4 parts)) (qualifier_of (part 3 parts)) refl refl refl g.1.1.1.1.0 }
+good_part p.RowLoadBorrow parts g h = record { goes_on = refl; no_results = refl; good = over_one_row op.LoadBorrow (place_at 0 parts) (operand_of (part 1 parts)) refl refl refl g.1.0 }
+good_part p.RowDestroyAddr parts g h = record { goes_on = refl; no_results = refl; good = over_one_row op.DestroyAddr (place_at 0 parts) (operand_of (part 1 parts)) refl refl refl g.1.0 }
+good_part p.RowLoadWeak parts g h = record { goes_on = refl; no_results = refl; good = loaded_row op.LoadWeak (place_at 0 parts) (operand_of (part 2 parts)) (qualifier_of (part 1 parts)) refl refl g.1.0 g.1.1.0 }
+good_part p.RowStoreWeak parts g h = record { goes_on = refl; no_results = refl; good = stored_row op.StoreWeak (place_at 0 parts) (token_of (part 1 parts)) (operand_of (part 4 parts)) (qualifier_of (part 3 parts)) refl refl g.1.1.1.0 g.1.1.1.1.0 }
+good_part p.RowLoadUnowned parts g h = record { goes_on = refl; no_results = refl; good = loaded_row op.LoadUnowned (place_at 0 parts) (operand_of (part 2 parts)) (qualifier_of (part 1 parts)) refl refl g.1.0 g.1.1.0 }
+good_part p.RowStoreUnowned parts g h = record { goes_on = refl; no_results = refl; good = stored_row op.StoreUnowned (place_at 0 parts) (token_of (part 1 parts)) (operand_of (part 4 parts)) (qualifier_of (part 3 parts)) refl refl g.1.1.1.0 g.1.1.1.1.0 }
+good_part p.RowStruct parts g h = record { goes_on = refl; no_results = refl; good = struct_row (place_at 0 parts) (type_of (part 2 parts)).ty (operands_of (part 4 parts)) g.1.1.1.1.0 (not_passed-map operand_place limit.Arguments 64 (operands_of (part 4 parts)) h) (plain_type (type_of (part 2 parts)) g.1.1.0) }
+good_part p.RowTuple parts g h = record { goes_on = refl; no_results = refl; good = tuple_row (place_at 0 parts) (operands_of (part 2 parts)) g.1.1.0 (not_passed-map operand_place limit.Arguments 64 (operands_of (part 2 parts)) h) }
+good_part p.RowEnum parts g h = record { goes_on = refl; no_results = refl; good = enum_row (place_at 0 parts) (type_of (part 2 parts)).ty (member_of (part 4 parts)) (operands_of (part 5 parts)) (plain_type (type_of (part 2 parts)) g.1.1.0) g.1.1.1.1.0 g.1.1.1.1.1.0 }
+good_part p.RowStructExtract parts g h = record { goes_on = refl; no_results = refl; good = member_row op.StructExtract (place_at 0 parts) (operand_of (part 1 parts)) (member_of (part 3 parts)) refl refl refl g.1.1.1.0 g.1.0 }
+good_part p.RowTupleExtract parts g h = record { goes_on = refl; no_results = refl; good = (let e = good_element (text_at 3 parts) (place_at 3 parts) h in element_row op.TupleExtract (place_at 0 parts) (operand_of (part 1 parts)) (element_of (text_at 3 parts)) refl refl refl e.small e.there g.1.0) }
+good_part p.RowDestructureStruct parts g h = record { goes_on = refl; no_results = refl; good = over_one_row op.DestructureStruct (place_at 0 parts) (operand_of (part 1 parts)) refl refl refl g.1.0 }
+good_part p.RowDestructureTuple parts g h = record { goes_on = refl; no_results = refl; good = over_one_row op.DestructureTuple (place_at 0 parts) (operand_of (part 1 parts)) refl refl refl g.1.0 }
+good_part p.RowStructElementAddr parts g h = record { goes_on = refl; no_results = refl; good = member_row op.StructElementAddr (place_at 0 parts) (operand_of (part 1 parts)) (member_of (part 3 parts)) refl refl refl g.1.1.1.0 g.1.0 }
+good_part p.RowTupleElementAddr parts g h = record { goes_on = refl; no_results = refl; good = (let e = good_element (text_at 3 parts) (place_at 3 parts) h in element_row op.TupleElementAddr (place_at 0 parts) (operand_of (part 1 parts)) (element_of (text_at 3 parts)) refl refl refl e.small e.there g.1.0) }
+good_part p.RowRefElementAddr parts g h = record { goes_on = refl; no_results = refl; good = member_row op.RefElementAddr (place_at 0 parts) (operand_of (part 1 parts)) (member_of (part 3 parts)) refl refl refl g.1.1.1.0 g.1.0 }
+good_part p.RowApply parts g h = record { goes_on = refl; no_results = refl; good = apply_row (place_at 0 parts) (token_of (part 1 parts)) (tokens_of (part 3 parts)) (signature_of (part 7 parts)) (not_passed-map token_place limit.Arguments 64 (token_of (part 1 parts) ∷ tokens_of (part 3 parts)) h) g.1.1.1.1.1.1.1.0 }
+good_part p.RowDebugValue parts g h = record { goes_on = refl; no_results = refl; good = debug_row (place_at 0 parts) (operand_of (part 1 parts)) (debug_of (part 2 parts)) g.1.1.0 g.1.0 }
+good_part p.RowStrongRetain parts g h = record { goes_on = refl; no_results = refl; good = over_one_row op.StrongRetain (place_at 0 parts) (operand_of (part 1 parts)) refl refl refl g.1.0 }
+good_part p.RowStrongRelease parts g h = record { goes_on = refl; no_results = refl; good = over_one_row op.StrongRelease (place_at 0 parts) (operand_of (part 1 parts)) refl refl refl g.1.0 }
+good_part p.RowRetainValue parts g h = record { goes_on = refl; no_results = refl; good = over_one_row op.RetainValue (place_at 0 parts) (operand_of (part 1 parts)) refl refl refl g.1.0 }
+good_part p.RowReleaseValue parts g h = record { goes_on = refl; no_results = refl; good = over_one_row op.ReleaseValue (place_at 0 parts) (operand_of (part 1 parts)) refl refl refl g.1.0 }
+good_part p.RowBr parts g h = record { ends = refl; no_results = refl; good = br_row (place_at 0 parts) (edge_of (part 1 parts)) g.1.0 }
+good_part p.RowCondBr parts g h = record { ends = refl; no_results = refl; good = cond_br_row (place_at 0 parts) (token_of (part 1 parts)) (edge_of (part 3 parts)) (edge_of (part 5 parts)) g.1.1.1.0 g.1.1.1.1.1.0 }
+good_part p.RowSwitchEnum parts g h = record { ends = refl; no_results = refl; good = switch_row (place_at 0 parts) (operand_of (part 1 parts)) (edges_of (part 3 parts)) g.1.1.1.0 g.1.0 }
+good_part p.RowReturn parts g h = record { ends = refl; no_results = refl; good = over_one_row op.Return (place_at 0 parts) (operand_of (part 1 parts)) refl refl refl g.1.0 }
+good_part p.RowUnreachable parts g h = record { ends = refl; no_results = refl; good = unreachable_row (place_at 0 parts) }
+good_part p.WholeOperand parts g h = λ s. record { typed = refl; ty = g.1.1.1.0 (type_of (part 4 parts)).ty (plain_type (type_of (part 4 parts)) g.1.1.1.1.0) }
+good_part p.OperandsSome parts g h = λ s. (g.0 s, g.1.0 s)
+good_part p.OperandsNone parts g h = λ s. tt
+good_part p.MoreOperandsMore parts g h = λ s. (g.1.0 s, g.1.1.0 s)
+good_part p.MoreOperandsEnd parts g h = λ s. tt
+good_part p.WholeEdge parts g h = good_branch (token_of (part 0 parts)) (operands_of (part 1 parts)) g.1.0 (not_passed-map operand_place limit.Arguments 64 (operands_of (part 1 parts)) h)
+good_part p.EdgeArgsSome parts g h = λ s. (g.1.0 s, g.1.1.0 s)
+good_part p.EdgeArgsNone parts g h = λ s. tt
+good_part p.SwitchCase parts g h = good_case (token_of (part 3 parts)) (member_of (part 1 parts)) (edges_of (part 4 parts)) g.1.0 g.1.1.1.1.0
+good_part p.SwitchDefault parts g h = good_default (token_of (part 1 parts))
+good_part p.SwitchMoreSome parts g h = g.1.0.good
+good_part p.SwitchMoreEnd parts g h = record { good = λ s. tt; cases = λ s. refl }
+good_part p.WholeEnumElement parts g h = record { owner = g.1.0; name = g.1.1.1.0 }
+good_part p.EnumOperandSome parts g h = one_enum_operand (operand_of (part 1 parts)) (λ s. (g.1.0 s, tt))
+good_part p.EnumOperandNone parts g h = record { good = λ s. tt; operands = λ s. refl; few = omega arith }
+good_part p.WholeMemberName parts g h = record { owner = g.1.0; name = g.1.1.1.0 }
+good_part p.TakeFlagSome parts g h = refl
+good_part p.TakeFlagNone parts g h = refl
+good_part p.InitFlagSome parts g h = g.1.0
+good_part p.InitFlagNone parts g h = refl
+good_part p.InitShort parts g h = refl
+good_part p.InitLong parts g h = refl
+good_part p.DebugSome parts g h = g.1.0
+good_part p.DebugNone parts g h = nothing_shown
+good_part p.DebugLet parts g h = g.1.0
+good_part p.DebugVar parts g h = g.1.0
+good_part p.DebugRest parts g h = g.0
+good_part p.DebugAfterBindingSome parts g h = g.1.0
+good_part p.DebugAfterBindingNone parts g h = nothing_shown
+good_part p.DebugName parts g h = (g.1.0, g.1.1.0.1)
+good_part p.DebugNoName parts g h = g.0
+good_part p.DebugAfterNameSome parts g h = g.1.0
+good_part p.DebugAfterNameNone parts g h = nothing_shown
+good_part p.DebugNumber parts g h = (g.1.1.0.0, good_small 65535 (text_at 1 parts))
+good_part p.DebugNoNumber parts g h = g.0
+good_part p.DebugAfterNumberSome parts g h = g.1.0
+good_part p.DebugAfterNumberNone parts g h = nothing_shown
+good_part p.DebugDeref parts g h = nothing_shown
+good_part p.EntrySome parts g h = g.1.0
+good_part _ parts g h = tt

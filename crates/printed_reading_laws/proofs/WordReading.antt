@@ -1,0 +1,46 @@
+-- Tokens that spell a word which the grammar knows, and types behind such a word.
+use Rattle.std.proofs.Common.{◌≡◌, ℕ, List, [], ◌∷◌, ◌++◌, None, true, ◌==◌, IsTrue, refl, ap, ◌∙◌, arith}
+use Rattle.std.proofs.lemmas.Bool.Decides.{nat_tests}
+use Rattle.sil_shape.specs.declared.classes.AtWord.{AtWord}
+use Rattle.sil_shape.specs.declared.classes.Class.TheVariants as c
+use Rattle.sil_shape.specs.declared.classes.Keyword.{Keyword}
+use Rattle.sil_shape.specs.declared.grammar.Nonterminal.{Nonterminal}
+use Rattle.sil_shape.specs.declared.grammar.Nonterminal.TheVariants as n
+use Rattle.sil_shape.specs.declared.grammar.Production.{Production}
+use Rattle.sil_shape.specs.declared.grammar.Symbol.TheVariants.{Read, Part}
+use Rattle.sil_shape.specs.Accepts.{accepts, class_number}
+use Rattle.sil_shape.specs.Grammar.{at, body, word, written}
+use Rattle.sil_shape.specs.Spelling.{at_spelling, at_word_of, keyword_of}
+use Rattle.written_modules.specs.Meaning.{meaning}
+use Rattle.written_modules.specs.Opened.{PartValue}
+use Rattle.written_modules.specs.PartFaults.{part_fault}
+use Rattle.numbered_form.specs.Names.{is_at_name}
+use Rattle.printed_reading_laws.proofs.Commas.{by_rule}
+use Rattle.printed_reading_laws.proofs.Pieces.{Reads as reads, Stands}
+use Rattle.printed_reading_laws.proofs.Tokens.{at_token}
+
+itself : (number : ℕ) → (number == number) ≡ true
+itself number = grind (arith, nat_tests)
+
+-- a word is one that is asked for where it spells it
+pub word_accepted : (name : List ℕ) (keyword : Keyword) → keyword_of name ≡ keyword → accepts (word keyword) (c.Word (keyword_of name)) ≡ true
+unfolding accepts
+word_accepted name keyword e = ap (λ known. class_number (c.Word keyword) == class_number (c.Word known)) e ∙ itself (class_number (c.Word keyword))
+
+pub at_accepted : (name : List ℕ) (known : AtWord) → at_word_of name ≡ known → accepts (at known) (c.At (at_word_of name)) ≡ true
+unfolding accepts
+at_accepted name known e = ap (λ found. class_number (c.At known) == class_number (c.At found)) e ∙ itself (class_number (c.At known))
+
+-- `@owned T`: a word, a blank and a type
+pub worded_reads : {text : List ℕ} {part : Nonterminal} {P Q : PartValue → Type 0} {left after : List ℕ} → (rule : Production) (known : AtWord)
+    → written rule ≡ part → body rule ≡ Read (at known) ∷ Part n.Type ∷ []
+    → IsTrue (is_at_name (at_spelling known)) → at_word_of (at_spelling known) ≡ known
+    → ((sigil inside : PartValue) → P inside → Q (meaning rule (sigil ∷ inside ∷ [])))
+    → ((sigil inside : PartValue) → P inside → part_fault rule (sigil ∷ inside ∷ []) ≡ None)
+    → Stands text n.Type P left after → Stands text part Q (64 ∷ at_spelling known ++ 32 ∷ left) after
+worded_reads rule known is_written is_body spelled is_known makes faultless r = record {
+  value = _;
+  stands = makes _ r.value r.stands;
+  reads = by_rule rule is_written is_body (at_token (at_spelling known) spelled (at_accepted (at_spelling known) known is_known) refl (reads.blank 32 refl r.reads))
+      (faultless _ r.value r.stands) reads.nothing;
+}
