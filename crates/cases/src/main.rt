@@ -15,7 +15,10 @@ fn main(rt: HostRuntime) -> ExitCode {
     match run_all(&rt) {
         Ok(true) => ExitCode::SUCCESS,
         Ok(false) => ExitCode::from(1),
-        Err(_) => ExitCode::from(2),
+        Err(error) => {
+            let _ = eprintln!(rt; "cases: {error}");
+            ExitCode::from(2)
+        }
     }
 }
 
