@@ -1,52 +1,10 @@
-//! Copies and comparisons of modules, how lists grow, and one row of the table of forms.
+//! How lists and texts grow, how deep a type is, and one row of the table of instructions.
 
-use sil_ast::{
-    Boxed, Exhausted, List, Module, Op, Part, Same, Text, TryClone, TypeName, ValueId, row_of,
-};
+use sil_ast::{Boxed, Exhausted, List, Module, Op, Part, Text, TypeName, ValueId, row_of};
 use sil_grammar::{ReadRefusal, read};
 use std::alloc::{AllocError, Global};
 use std::process::Abort;
 use std::test::Fail;
-
-// two texts of modules that differ in one part
-const PAIRS: [(&str, &str); 14] = [
-    ("sil_stage raw", "sil_stage canonical"),
-    ("import Builtin", "import Swift"),
-    ("class C { }", "class D { }"),
-    ("class C { var x: A }", "struct C { var x: A }"),
-    ("class C { var x: A }", "class C { weak var x: A }"),
-    (
-        "class C { var x: (Optional<A>, Builtin.Int64) }",
-        "class C { var x: (Optional<A>, Builtin.Int8) }",
-    ),
-    ("enum E { case a case b(A) }", "enum E { case a case b }"),
-    (
-        "sil @f : $@convention(thin) (@owned A) -> ()",
-        "sil @f : $@convention(thin) (A) -> ()",
-    ),
-    (
-        "sil hidden @f : $@convention(thin) () -> ()",
-        "sil @f : $@convention(thin) () -> ()",
-    ),
-    ("sil_vtable C { }", ""),
-    // six operands, more than stand in place
-    (
-        "sil [ossa] @f : $@convention(thin) () -> () { bb0: %0 = tuple () %1 = tuple (%0 : $(), %0 : $(), %0 : $(), %0 : $(), %0 : $(), %0 : $()) unreachable }",
-        "sil [ossa] @f : $@convention(thin) () -> () { bb0: %0 = tuple () %1 = tuple (%0 : $(), %0 : $(), %0 : $(), %0 : $(), %0 : $()) unreachable }",
-    ),
-    (
-        "sil [ossa] @f : $@convention(thin) () -> () { bb0: %0 = tuple () return %0 : $() }",
-        "sil [ossa] @f : $@convention(thin) () -> () { bb0: %0 = tuple () unreachable }",
-    ),
-    (
-        "sil [ossa] @f : $@convention(thin) () -> () { bb0: %0 = integer_literal $Builtin.Int8, 1 unreachable }",
-        "sil [ossa] @f : $@convention(thin) () -> () { bb0: %0 = integer_literal $Builtin.Int8, 2 unreachable }",
-    ),
-    (
-        "sil [ossa] @f : $@convention(thin) () -> () { bb0: br bb1 bb1: unreachable }",
-        "sil [ossa] @f : $@convention(thin) () -> () { bb0: unreachable bb1: unreachable }",
-    ),
-];
 
 /// The module that a text spells.
 pub fn module_of(rt: &impl Abort, alloc: Global, text: &str) -> Result<Module, Fail> {
@@ -56,30 +14,6 @@ pub fn module_of(rt: &impl Abort, alloc: Global, text: &str) -> Result<Module, F
         Err(ReadRefusal::Memory) => Err(Fail::from(AllocError)),
         Err(_refusal) => panic!(rt; "{text}"),
     }
-}
-
-fn is_copied(alloc: Global, module: &Module) -> Result<bool, Exhausted> {
-    Ok(module.try_clone(alloc)?.same(module))
-}
-
-#[test]
-fn a_copy_is_the_same(rt: HostRuntime) -> Result<(), Fail> {
-    let alloc = rt.alloc();
-    for (text, _other) in PAIRS {
-        let module = module_of(&rt, alloc, text)?;
-        assert!(rt; is_copied(alloc, &module)?, "{text}");
-    }
-    Ok(())
-}
-
-#[test]
-fn another_module_is_not_the_same(rt: HostRuntime) -> Result<(), Fail> {
-    let alloc = rt.alloc();
-    for (text, other) in PAIRS {
-        let module = module_of(&rt, alloc, text)?;
-        assert!(rt; !module.same(&module_of(&rt, alloc, other)?), "{text}");
-    }
-    Ok(())
 }
 
 /// `Optional<Node>`

@@ -1,8 +1,5 @@
 //! The one refusal of a call on a source or a sink. What went wrong is not told, only counted.
 
-use thiserror::Error;
-
 /// A source gave no byte, or a sink took none, since something went wrong outside.
-#[derive(Clone, Copy, Debug, PartialEq, Eq, Error)]
-#[error("input or output failed")]
+#[derive(Clone, Copy, Debug, PartialEq, Eq)]
 pub struct Failed;

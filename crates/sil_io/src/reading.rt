@@ -8,19 +8,15 @@ ghost use Rattle.sil_io.specs.declared.reading.ReadEnd.TheVariants.{Fault, Memor
 use crate::failed::Failed;
 use crate::source::Source;
 use std::alloc::{AllocError, Global};
-use thiserror::Error;
 
 /// How many bytes are asked for at once, at most.
 const CHUNK: usize = 64 * 1024;
 
 /// Why a source was not read to its end.
-#[derive(Clone, Copy, Debug, PartialEq, Eq, Error)]
+#[derive(Clone, Copy, Debug, PartialEq, Eq)]
 pub enum ReadEnd {
-    #[error("read fault")]
     Fault,
-    #[error("too many bytes")]
     TooLong,
-    #[error("out of memory")]
     Memory,
 }
 

@@ -5,11 +5,9 @@ ghost use Rattle.std.specs.Io.KnownBytes.{Appends};
 ghost use Rattle.sil_io.specs.Count.{MayFail};
 
 use crate::sink::Sink;
-use thiserror::Error;
 
 /// A sink failed when it had taken the first `written` bytes.
-#[derive(Clone, Copy, Debug, PartialEq, Eq, Error)]
-#[error("write fault after {written} bytes")]
+#[derive(Clone, Copy, Debug, PartialEq, Eq)]
 pub struct WriteFault {
     pub written: usize,
 }
