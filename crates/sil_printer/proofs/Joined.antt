@@ -1,12 +1,12 @@
 -- Texts of items one behind the other: the step of a loop, and what is made of each item.
 use Rattle.std.proofs.Common.{◌≡◌, ℕ, ◌+◌, ◌<◌, ◌≤◌, List, [], ◌∷◌, ◌++◌, length, take, get_or, map, refl, ap, sym, ◌∙◌, zero-add, arith}
-use Rattle.std.specs.List.{flat_map, join_by, enumerate_from}
+use Rattle.std.specs.List.{join_by, enumerate_from}
 use Rattle.std.proofs.lemmas.Grind.{common_steps}
 use Rattle.std.proofs.lemmas.List.{take_more, take_all}
 use Rattle.std.proofs.lemmas.List.FromFn.{length-enumerate_from, get_or-enumerate_from}
 use Rattle.std.proofs.lemmas.List.Folds.{flat_map-map}
 use Rattle.sil_printer.specs.Words.{separator_before, each_behind}
-use Rattle.sil_printer.proofs.Appended.{appended_two, appended_three}
+use Rattle.sil_printer.proofs.Appended.{appended_three}
 
 -- one more item behind the same bytes
 pub each_behind_step : {X : Type 0} (lead : List ℕ) (f : X → List ℕ) (xs : List X) (i : ℕ) (x : X) (start before led after : List ℕ)

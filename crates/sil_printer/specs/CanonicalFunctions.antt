@@ -11,7 +11,6 @@ use Rattle.sil_ast.specs.declared.function.Function.{Function}
 use Rattle.sil_ast.specs.declared.function.Linkage.{Linkage}
 use Rattle.sil_ast.specs.declared.function.Linkage.TheVariants as linkage
 use Rattle.sil_printer.specs.Words.{line_feed, line, parens_if_any, each_behind, indented}
-use Rattle.sil_printer.specs.CanonicalSignatures.{signature_text}
 use Rattle.sil_printer.specs.CanonicalInsts.{value_text, block_name, type_word, signature_word, inst_text}
 
 abbrev pub kind_text : ArgKind → List ℕ

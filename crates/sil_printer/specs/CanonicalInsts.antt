@@ -1,5 +1,5 @@
 -- Instructions: the results, the mnemonic, and the parts of the form, each behind what parts it from the one before.
-use Rattle.std.specs.Prelude.{ℕ, List, [], ◌∷◌, ◌++◌, drop, Option, Some, None, Bool, true, false, if◌then◌else◌, ◌&&◌, codes, decimal, slice_get}
+use Rattle.std.specs.Prelude.{ℕ, List, [], ◌∷◌, ◌++◌, drop, Option, Some, None, if◌then◌else◌, ◌&&◌, codes, decimal, slice_get}
 use Rattle.std.specs.Fmt.{signed_decimal}
 use Rattle.sil_ast.specs.declared.debug.Binding.{Binding}
 use Rattle.sil_ast.specs.declared.debug.Binding.TheVariants.{Let, Var}

@@ -1,5 +1,5 @@
 -- Signatures of functions: `@convention(thin) (@guaranteed C, Builtin.Int64) -> @owned C`.
-use Rattle.std.specs.Prelude.{ℕ, List, [], ◌∷◌, ◌++◌, Bool, true, false, if◌then◌else◌, codes}
+use Rattle.std.specs.Prelude.{ℕ, List, [], ◌∷◌, ◌++◌, if◌then◌else◌, codes}
 use Rattle.sil_ast.specs.declared.signature.Convention.{Convention}
 use Rattle.sil_ast.specs.declared.signature.Convention.TheVariants.{Thin, Method}
 use Rattle.sil_ast.specs.declared.signature.Given.{Given}

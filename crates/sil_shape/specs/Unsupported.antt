@@ -1,55 +1,30 @@
 -- When the first bad token is unsupported: it names something of a kind that the grammar knows, and the grammar lacks it.
-use Rattle.std.specs.Prelude.{◌≡◌, ◌⊎◌, ℕ, Bool, true, false, List, [], ◌∷◌, ◌++◌, take, slice_get, Some}
+use Rattle.std.specs.Prelude.{◌≡◌, ◌⊎◌, ℕ, Bool, false, ◌||◌, List, [], ◌∷◌, ◌++◌, take, slice_get, Some}
+use Rattle.std.specs.List.{list_any}
 use Rattle.sil_shape.specs.declared.classes.Keyword.{Keyword}
 use Rattle.sil_shape.specs.declared.classes.Keyword.TheVariants as k
 use Rattle.sil_shape.specs.declared.classes.Class.{Class}
 use Rattle.sil_shape.specs.declared.classes.Class.TheVariants as c
+use Rattle.sil_shape.specs.declared.grammar.Nonterminal.{Nonterminal}
+use Rattle.sil_shape.specs.declared.grammar.Nonterminal.TheVariants as n
+use Rattle.sil_shape.specs.declared.grammar.Symbol.{Symbol}
+use Rattle.sil_shape.specs.declared.grammar.Symbol.TheVariants as s
+use Rattle.sil_shape.specs.Accepts.{accepts}
+use Rattle.sil_shape.specs.Grammar.{alternatives, body}
 use Rattle.sil_shape.specs.Derivation.{BeginsShape, IsFirstBad}
 
--- whether a word is the mnemonic of a row
+-- what a production writes begins with a token of the class
+abbrev pub begins_by : List Symbol → Class → Bool
+begins_by [] class = false
+begins_by (s.Read terminal ∷ symbols) class = accepts terminal class
+begins_by (s.Part n ∷ symbols) class = false
+
+abbrev pub begins_some : Nonterminal → Class → Bool
+begins_some part class = list_any (λ p. begins_by (body p) class) (alternatives part)
+
+-- a word is a mnemonic: a row begins with it
 unfoldable pub is_mnemonic : Keyword → Bool
-is_mnemonic k.IntegerLiteral = true
-is_mnemonic k.FunctionRef = true
-is_mnemonic k.BuiltinMnemonic = true
-is_mnemonic k.CondFail = true
-is_mnemonic k.AllocRef = true
-is_mnemonic k.AllocStack = true
-is_mnemonic k.DeallocStack = true
-is_mnemonic k.CopyValue = true
-is_mnemonic k.DestroyValue = true
-is_mnemonic k.MoveValue = true
-is_mnemonic k.BeginBorrow = true
-is_mnemonic k.EndBorrow = true
-is_mnemonic k.Load = true
-is_mnemonic k.Store = true
-is_mnemonic k.LoadBorrow = true
-is_mnemonic k.DestroyAddr = true
-is_mnemonic k.LoadWeak = true
-is_mnemonic k.StoreWeak = true
-is_mnemonic k.LoadUnowned = true
-is_mnemonic k.StoreUnowned = true
-is_mnemonic k.Struct = true
-is_mnemonic k.Tuple = true
-is_mnemonic k.Enum = true
-is_mnemonic k.StructExtract = true
-is_mnemonic k.TupleExtract = true
-is_mnemonic k.DestructureStruct = true
-is_mnemonic k.DestructureTuple = true
-is_mnemonic k.StructElementAddr = true
-is_mnemonic k.TupleElementAddr = true
-is_mnemonic k.RefElementAddr = true
-is_mnemonic k.Apply = true
-is_mnemonic k.DebugValue = true
-is_mnemonic k.StrongRetain = true
-is_mnemonic k.StrongRelease = true
-is_mnemonic k.RetainValue = true
-is_mnemonic k.ReleaseValue = true
-is_mnemonic k.Br = true
-is_mnemonic k.CondBr = true
-is_mnemonic k.SwitchEnum = true
-is_mnemonic k.Return = true
-is_mnemonic k.Unreachable = true
-is_mnemonic _ = false
+is_mnemonic word = begins_some n.Row (c.Word word) || begins_some n.Terminator (c.Word word)
 
 -- some list that has shape begins with these classes and then this one
 abbrev pub GoesOn : List Class → Class → Type 0

@@ -58,7 +58,7 @@ fn is_type_word(word: Keyword) -> bool
 
 /// Whether a token of this class may stand for the terminal.
 #[tactic(auto, unfolding(crate::specs::Accepts::accepts))]
-fn accepts_terminal(terminal: Terminal, class: Class) -> bool
+pub(crate) fn accepts_terminal(terminal: Terminal, class: Class) -> bool
     ensures { result ≡ accepts terminal class }
 {
     match terminal {

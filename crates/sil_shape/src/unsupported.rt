@@ -2,62 +2,42 @@
 
 ghost use Rattle.std.specs.Prelude.{◌≡◌, ◌++◌, ◌∷◌, [], ◌↔◌, IfOk, IsTrue};
 ghost use Rattle.sil_shape.specs.Derivation.{BeginsShape, IsFirstBad};
-ghost use Rattle.sil_shape.specs.Unsupported.{is_mnemonic, GoesOn, IsUnknown, IsUnsupported};
+ghost use Rattle.sil_shape.specs.Unsupported.{begins_by, begins_some, is_mnemonic, GoesOn, IsUnknown, IsUnsupported};
 ghost use Rattle.sil_shape.specs.declared.classes.Class.TheVariants.{Word};
 
+use crate::alternatives::alternatives;
+use crate::bodies::body;
+use crate::choice::accepts_terminal;
 use crate::classes::{Class, Keyword};
+use crate::grammar::{Nonterminal, Symbol};
 use crate::machine::{ShapeRefusal, steps_of};
 use std::alloc::{AllocError, Global};
 
-/// Whether a word is the mnemonic of a row.
+fn begins_by(symbols: &[Symbol], class: Class) -> bool
+    ensures { result ≡ begins_by symbols.now class }
+{
+    match symbols {
+        [Symbol::Read(terminal), ..] => accepts_terminal(*terminal, class),
+        [Symbol::Part(_), ..] => false,
+        [] => false,
+    }
+}
+
+fn begins_some(part: Nonterminal, class: Class) -> bool
+    ensures { result ≡ begins_some part class }
+{
+    alternatives(part)
+        .iter()
+        .any(|production| begins_by(body(*production), class))
+}
+
+/// Whether a row begins with the word.
 #[tactic(auto, unfolding(crate::specs::Unsupported::is_mnemonic))]
 fn is_mnemonic(word: Keyword) -> bool
     ensures { result ≡ is_mnemonic word }
 {
-    match word {
-        Keyword::IntegerLiteral => true,
-        Keyword::FunctionRef => true,
-        Keyword::BuiltinMnemonic => true,
-        Keyword::CondFail => true,
-        Keyword::AllocRef => true,
-        Keyword::AllocStack => true,
-        Keyword::DeallocStack => true,
-        Keyword::CopyValue => true,
-        Keyword::DestroyValue => true,
-        Keyword::MoveValue => true,
-        Keyword::BeginBorrow => true,
-        Keyword::EndBorrow => true,
-        Keyword::Load => true,
-        Keyword::Store => true,
-        Keyword::LoadBorrow => true,
-        Keyword::DestroyAddr => true,
-        Keyword::LoadWeak => true,
-        Keyword::StoreWeak => true,
-        Keyword::LoadUnowned => true,
-        Keyword::StoreUnowned => true,
-        Keyword::Struct => true,
-        Keyword::Tuple => true,
-        Keyword::Enum => true,
-        Keyword::StructExtract => true,
-        Keyword::TupleExtract => true,
-        Keyword::DestructureStruct => true,
-        Keyword::DestructureTuple => true,
-        Keyword::StructElementAddr => true,
-        Keyword::TupleElementAddr => true,
-        Keyword::RefElementAddr => true,
-        Keyword::Apply => true,
-        Keyword::DebugValue => true,
-        Keyword::StrongRetain => true,
-        Keyword::StrongRelease => true,
-        Keyword::RetainValue => true,
-        Keyword::ReleaseValue => true,
-        Keyword::Br => true,
-        Keyword::CondBr => true,
-        Keyword::SwitchEnum => true,
-        Keyword::Return => true,
-        Keyword::Unreachable => true,
-        _ => false,
-    }
+    let class = Class::Word(word);
+    begins_some(Nonterminal::Row, class) || begins_some(Nonterminal::Terminator, class)
 }
 
 /// Whether some list goes on with this class.
