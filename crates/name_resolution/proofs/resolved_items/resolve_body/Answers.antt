@@ -10,5 +10,5 @@ resolve_blocks-requires g c =
     record {
       functions = c.requires;
       blocks = rw (c.in_ok-labels.ensures, c.as_slice.ensures) (finds_each label_of blocks);
-      values = rw (c.in_ok-values.ensures, c.as_slice'2.ensures) (finds_values (flat_map defined_in blocks));
+      values = rw (c.in_ok-values.ensures, c.as_slice-2.ensures) (finds_values (flat_map defined_in blocks));
     }
