@@ -15,8 +15,8 @@ use crate::life::Life;
 use crate::lives::lives_of;
 use crate::violation::{Refusal, Violation};
 use sil_ast::{Block, Exhausted, FuncId, Inst, Module, Op, ValueId};
-use simple_modules::{SimpleKind, simple_kind_of};
 use sil_rules::Rule;
+use simple_modules::{SimpleKind, simple_kind_of};
 use std::alloc::Global;
 
 /// The first violation of the first function that has one, or none where the module is accepted. Memory is the only error.
