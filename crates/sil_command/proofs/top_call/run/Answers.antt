@@ -24,7 +24,7 @@ pub returns-in-Ok-answer_to-clause-takes : goal.returns-in-Ok-answer_to-clause-t
 returns-in-Ok-answer_to-clause-takes g c = ended c.in-Ok.text.items (omega (arith, c.in-Ok.ensures.within, c.in-Ok.text.ok.0)) c.in-Ok.ensures.to_end
 
 pub returns-in-Ok-clause-ends : goal.returns-in-Ok-clause-ends
-returns-in-Ok-clause-ends g c = exhausted refl refl
+returns-in-Ok-clause-ends g c = rw c.code.ensures (exhausted refl refl)
 
 pub returns-in-Ok-clause-takes : goal.returns-in-Ok-clause-takes
 returns-in-Ok-clause-takes g c = ended c.in-Ok.text.items (omega (arith, c.in-Ok.ensures.within, c.in-Ok.text.ok.0)) c.in-Ok.ensures.to_end
@@ -53,7 +53,7 @@ returns-in-Err-Fault-clause-takes g c =
     failed _ _ cut.2 cut.3 cut.4
 
 pub returns-clause-ends : goal.returns-clause-ends
-returns-clause-ends g c = exhausted refl refl
+returns-clause-ends g c = rw c.code-in-Err-Memory.ensures (exhausted refl refl)
 
 pub returns-clause-takes : goal.returns-clause-takes
 returns-clause-takes g c =
