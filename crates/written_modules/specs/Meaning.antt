@@ -1,6 +1,6 @@
 -- What the parts of a text stand for: a token by its bytes and its place, and a production by what the parts of its
 -- body stand for.
-use Rattle.std.specs.Prelude.{ℕ, List, [], ◌∷◌, drop, map, length, Bool, true, false, ◌||◌, Option, Some, None, slice_index_or, codes, nat_eq, ℤ, pos}
+use Rattle.std.specs.Prelude.{◌-◌, ℕ, List, [], ◌∷◌, drop, map, length, Bool, true, false, ◌||◌, Option, Some, None, slice_index_or, codes, nat_eq, ℤ, pos}
 use Rattle.std.specs.Option.{option_map}
 use Rattle.std.specs.Cmp.Lexicographic.{pointwise}
 use Rattle.sil_ast.specs.declared.debug.Binding.TheVariants as debugged
