@@ -1,18 +1,17 @@
 -- What stands defined after some tokens: their names, and the first of them whose name stood before.
-use Rattle.std.proofs.Common.{◌≡◌, ℕ, Bool, true, false, List, [], ◌∷◌, ◌++◌, map, refl, sym, ap, subst, ◌∙◌, append_assoc, arith}
-use Rattle.std.specs.Prelude.{Option, Some, None, if◌then◌else◌, ◌||◌}
+use Rattle.std.proofs.Common.{◌≡◌, Bool, true, false, List, [], ◌∷◌, ◌++◌, map, refl, sym, ap, subst, ◌∙◌, append_assoc, arith}
+use Rattle.std.specs.Prelude.{Some, None, if◌then◌else◌, ◌||◌}
 use Rattle.std.specs.List.{list_any}
 use Rattle.std.specs.Str.{bytes_eq}
 use Rattle.std.specs.Cmp.Lexicographic.{bytes_decides}
 use Rattle.std.proofs.lemmas.List.{append-nil}
 use Rattle.std.proofs.lemmas.List.Folds.{list_any-append}
 use Rattle.indexmap.specs.IndexSet.{insert_key}
-use Rattle.written_tree.specs.declared.fault.Fault.{Fault}
 use Rattle.written_tree.specs.declared.fault.FaultKind.TheVariants.{Twice, UnknownName}
 use Rattle.written_tree.specs.declared.written_declarations.WrittenToken.{WrittenToken}
-use Rattle.written_tree.specs.Faults.{earlier, earliest, fault}
+use Rattle.written_tree.specs.Faults.{earlier, fault}
 use Rattle.name_resolution.specs.Defined.{Defined, reserved_only, twice_here, unknown_of, with_token, with_tokens}
-use Rattle.name_resolution.specs.NameFaults.{is_among, twice_after, unknown_in}
+use Rattle.name_resolution.specs.NameFaults.{twice_after, unknown_in}
 use Rattle.name_resolution.specs.Names.{Name, name_of}
 use Rattle.name_resolution.proofs.FaultOrder.{earlier_assoc, earlier_none}
 

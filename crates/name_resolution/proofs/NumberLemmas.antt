@@ -1,5 +1,5 @@
 -- A look-up finds the place at which a name is defined first.
-use Rattle.std.proofs.Common.{◌≡◌, ℕ, ◌+◌, Bool, true, false, List, [], ◌∷◌, ◌++◌, map, refl, sym, ap, subst, ◌∙◌, true≢false, is_some, position, arith}
+use Rattle.std.proofs.Common.{◌≡◌, ℕ, ◌+◌, Bool, true, false, List, [], ◌∷◌, ◌++◌, map, refl, sym, ap, subst, ◌∙◌, true≢false, is_some}
 use Rattle.std.specs.Prelude.{Option, Some, None, if◌then◌else◌, cond, unwrap_or}
 use Rattle.std.specs.List.{position_from}
 use Rattle.std.specs.Map.{lookup}
@@ -10,7 +10,7 @@ use Rattle.std.proofs.lemmas.Iterator.Adapters.{position_from-zero}
 use Rattle.indexmap.specs.IndexMap.{insert_entry}
 use Rattle.written_tree.specs.declared.written_declarations.WrittenToken.{WrittenToken}
 use Rattle.name_resolution.specs.Names.{Name, name_of}
-use Rattle.name_resolution.specs.Numbered.{Numbered, named, nothing_numbered, number_in, with_entry, with_value, with_values}
+use Rattle.name_resolution.specs.Numbered.{Numbered, named, nothing_numbered, with_entry, with_value, with_values}
 use Rattle.name_resolution.specs.Resolved.{has_name}
 use Rattle.name_resolution.specs.Tables.{FindsNames, FindsValues}
 

@@ -2,18 +2,13 @@
 use Rattle.std.proofs.Common.{◌≡◌, ℕ, ◌+◌, ◌<◌, List, [], ◌∷◌, ◌++◌, length, get_or, take, map, refl, sym, ap, ◌∙◌, add_assoc, append_assoc, length-append, arith}
 use Rattle.std.specs.Prelude.{Option, None}
 use Rattle.std.specs.List.{flat_map}
-use Rattle.std.proofs.lemmas.Grind.{flat_map-append}
 use Rattle.std.proofs.lemmas.List.{append-nil, length-take-le, map-append, take_more}
 use Rattle.name_resolution.specs.Items.{with_items}
 use Rattle.sil_ast.specs.declared.module.Module.{Module}
 use Rattle.written_tree.specs.declared.written_module.WrittenItem.{WrittenItem}
-use Rattle.sil_ast.specs.declared.function.Block.{Block}
 use Rattle.sil_ast.specs.declared.place.ValueId.{ValueId}
-use Rattle.written_tree.specs.declared.written_functions.WrittenArg.{WrittenArg}
-use Rattle.written_tree.specs.declared.written_functions.WrittenBlock.{WrittenBlock}
-use Rattle.written_tree.specs.declared.written_instructions.WrittenInst.{WrittenInst}
 use Rattle.name_resolution.specs.Names.{Name, decls_of, functions_of, vtables_of}
-use Rattle.name_resolution.specs.Resolved.{Scope, counted, defined_by_inst, defined_in, resolved_args, resolved_block, resolved_blocks, resolved_decl, resolved_function, resolved_inst, resolved_insts, resolved_vtable}
+use Rattle.name_resolution.specs.Resolved.{counted, resolved_decl, resolved_function, resolved_vtable}
 
 -- the numbers behind those of an element and of what follows it
 behind : {X : Type 0} (first : ℕ) (xs ys : List X) → (first + length xs) + length ys ≡ first + length (xs ++ ys)
@@ -21,27 +16,6 @@ behind first xs ys = add_assoc first (length xs) (length ys) ∙ ap (λ n. first
 
 none_behind : (first : ℕ) → first ≡ first + 0
 none_behind first = omega arith
-
-pub resolved_insts_append : (s : Scope) (first : ℕ) (xs ys : List WrittenInst) → resolved_insts s first (xs ++ ys) ≡ resolved_insts s first xs ++ resolved_insts s (first + length (flat_map defined_by_inst xs)) ys
-resolved_insts_append s first [] ys = ap (λ n. resolved_insts s n ys) (none_behind first)
-resolved_insts_append s first (x ∷ xs) ys =
-    ap (λ l. resolved_inst s first x ∷ l)
-    (resolved_insts_append s (first + length (defined_by_inst x)) xs ys
-    ∙ ap (λ n. resolved_insts s (first + length (defined_by_inst x)) xs ++ resolved_insts s n ys) (behind first (defined_by_inst x) (flat_map defined_by_inst xs)))
-
-pub resolved_blocks_append : (s : Scope) (first : ℕ) (xs ys : List WrittenBlock) → resolved_blocks s first (xs ++ ys) ≡ resolved_blocks s first xs ++ resolved_blocks s (first + length (flat_map defined_in xs)) ys
-resolved_blocks_append s first [] ys = ap (λ n. resolved_blocks s n ys) (none_behind first)
-resolved_blocks_append s first (x ∷ xs) ys =
-    ap (λ l. resolved_block s first x ∷ l)
-    (resolved_blocks_append s (first + length (defined_in x)) xs ys
-    ∙ ap (λ n. resolved_blocks s (first + length (defined_in x)) xs ++ resolved_blocks s n ys) (behind first (defined_in x) (flat_map defined_in xs)))
-
-pub resolved_args_append : (first : ℕ) (xs ys : List WrittenArg) → resolved_args first (xs ++ ys) ≡ resolved_args first xs ++ resolved_args (first + length xs) ys
-resolved_args_append first [] ys = ap (λ n. resolved_args n ys) (none_behind first)
-resolved_args_append first (x ∷ xs) ys =
-    ap (λ l. record { value = record { 0 = first }; kind = x.kind; ty = x.ty } ∷ l)
-    (resolved_args_append (first + 1) xs ys
-    ∙ ap (λ n. resolved_args (first + 1) xs ++ resolved_args n ys) (behind first (x ∷ []) xs))
 
 pub counted_append : (first : ℕ) (xs ys : List (Option Name)) → counted first (xs ++ ys) ≡ counted first xs ++ counted (first + length xs) ys
 counted_append first [] ys = ap (λ n. counted n ys) (none_behind first)
@@ -56,10 +30,6 @@ counted_more first i values inside =
     ap (counted first) (take_more values i None inside)
     ∙ counted_append first (take i values) (get_or values i None ∷ [])
     ∙ ap (λ n. counted first (take i values) ++ record { 0 = first + n } ∷ []) (length-take-le i values (omega arith))
-
--- one element on: what is built takes it over from what is left
-pub moved_on : {X : Type 0} (whole built after : List X) (x : X) (rest : List X) → whole ≡ built ++ x ∷ rest → after ≡ built ++ x ∷ [] → whole ≡ after ++ rest
-moved_on whole built after x rest w a = w ∙ sym (ap (λ l. l ++ rest) a ∙ append_assoc built (x ∷ []) rest)
 
 -- as many of each kind, one by one
 pub mapped_more : {X Y Z : Type 0} (h : Y → Z) (f : X → List Y) (built : List Z) (x : X) (rest : List X) → (built ++ map h (flat_map f (x ∷ []))) ++ map h (flat_map f rest) ≡ built ++ map h (flat_map f (x ∷ rest))

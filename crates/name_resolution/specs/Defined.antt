@@ -1,9 +1,9 @@
 -- What stands defined while the names of a module are gone through.
-use Rattle.std.specs.Prelude.{ℕ, List, [], ◌∷◌, ◌++◌, Option, Some, None, Bool, if◌then◌else◌, fold, map}
+use Rattle.std.specs.Prelude.{List, Option, Some, None, if◌then◌else◌, fold, map}
 use Rattle.std.specs.Str.{bytes_eq}
 use Rattle.indexmap.specs.IndexSet.{insert_key}
 use Rattle.written_tree.specs.declared.fault.Fault.{Fault}
-use Rattle.written_tree.specs.declared.fault.FaultKind.TheVariants.{Twice, UnknownName}
+use Rattle.written_tree.specs.declared.fault.FaultKind.TheVariants.{Twice}
 use Rattle.written_tree.specs.declared.written_declarations.WrittenToken.{WrittenToken}
 use Rattle.written_tree.specs.Faults.{earlier, earliest, fault}
 use Rattle.name_resolution.specs.Names.{Name}

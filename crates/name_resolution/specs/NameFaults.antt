@@ -1,8 +1,7 @@
 -- The first name that is defined twice, or used and not defined.
-use Rattle.std.specs.Prelude.{ℕ, List, [], ◌∷◌, ◌++◌, Option, Some, None, Bool, if◌then◌else◌, map}
+use Rattle.std.specs.Prelude.{List, [], ◌∷◌, ◌++◌, Option, Some, None, Bool, if◌then◌else◌, map}
 use Rattle.std.specs.List.{flat_map, list_any}
 use Rattle.std.specs.Str.{bytes_eq}
-use Rattle.sil_ast.specs.declared.place.Place.{Place}
 use Rattle.written_tree.specs.declared.fault.Fault.{Fault}
 use Rattle.written_tree.specs.declared.fault.FaultKind.TheVariants.{Twice, UnknownName}
 use Rattle.written_tree.specs.declared.written_declarations.WrittenDecl.{WrittenDecl}
@@ -11,7 +10,7 @@ use Rattle.written_tree.specs.declared.written_functions.WrittenFunction.{Writte
 use Rattle.written_tree.specs.declared.written_module.WrittenModule.{WrittenModule}
 use Rattle.written_tree.specs.Faults.{earlier, earliest, fault}
 use Rattle.written_tree.specs.Places.{name_of_decl}
-use Rattle.name_resolution.specs.Names.{Name, decls_of, edge_label, function_name, functions_of, insts_of, label_of, labels_used, member_names, name_of, reserved, used_by_item, values_defined, values_used, vtable_name, vtables_of}
+use Rattle.name_resolution.specs.Names.{Name, decls_of, function_name, functions_of, insts_of, label_of, labels_used, member_names, name_of, reserved, used_by_item, values_defined, values_used, vtable_name, vtables_of}
 
 -- whether a name stands among these
 abbrev pub is_among : List Name → WrittenToken → Bool

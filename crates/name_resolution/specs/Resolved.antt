@@ -1,6 +1,6 @@
 -- The module that a written module stands for: values are numbered in the order of their definitions, blocks and
 -- functions in the order of the text.
-use Rattle.std.specs.Prelude.{ℕ, ◌+◌, List, [], ◌∷◌, ◌++◌, length, map, filter, Option, Some, None, Bool, true, false, if◌then◌else◌, unwrap_or, position}
+use Rattle.std.specs.Prelude.{ℕ, ◌+◌, List, [], ◌∷◌, ◌++◌, length, map, filter, Option, Some, None, Bool, false, if◌then◌else◌, unwrap_or, position}
 use Rattle.std.specs.List.{flat_map, list_any}
 use Rattle.std.specs.Option.{option_map}
 use Rattle.std.specs.Str.{bytes_eq}
@@ -19,7 +19,6 @@ use Rattle.sil_ast.specs.declared.inst.Inst.{Inst}
 use Rattle.sil_ast.specs.declared.module.Module.{Module}
 use Rattle.sil_ast.specs.declared.op.Op.{Op}
 use Rattle.sil_ast.specs.declared.operands.Operand.{Operand}
-use Rattle.sil_ast.specs.declared.place.BlockId.{BlockId}
 use Rattle.sil_ast.specs.declared.place.FuncId.{FuncId}
 use Rattle.sil_ast.specs.declared.place.ValueId.{ValueId}
 use Rattle.sil_ast.specs.declared.vtable.DeinitEntry.{DeinitEntry}

@@ -1,6 +1,6 @@
 use Rattle.std.proofs.Common.{◌≡◌, ℕ, ◌+◌, List, Some, ap, sym, ◌∙◌}
 use Rattle.name_resolution.specs.Numbered.{with_entry, with_value}
-use Rattle.name_resolution.proofs.NumberLemmas.{entry_added, entry_kept, finds_names, finds_values}
+use Rattle.name_resolution.proofs.NumberLemmas.{entry_added, entry_kept}
 use Rattle.name_resolution.proofs.numbering.Numbering.define.Goals as goal
 use Rattle.name_resolution.proofs.numbering.Numbering.define.Goals.{then-not-contains_key+in_ok-try_clone+in_ok-insert, else-not-contains_key}
 
