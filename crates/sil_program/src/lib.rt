@@ -2,25 +2,25 @@
 //! It knows of no mode and no text: what is answered is the command's.
 #![tactic(auto)]
 
-ghost use Rattle.std.specs.Prelude.{◌≡◌, IfOk, IfErr, OnErr, map, drop, string_bytes, [], ◌∷◌};
+ghost use Rattle.std.specs.Prelude.{◌≡◌, IfOk, IfErr, map, drop, string_bytes, [], ◌∷◌};
 ghost use Rattle.std.specs.IoError.{error_kind};
 ghost use Rattle.std.specs.Vec.Iter.{into_iter_items};
-ghost use Rattle.sil_rules.specs.declared.status.Status.TheVariants.{OutOfMemory};
-ghost use Rattle.sil_rules.specs.Statuses.{code_of};
 ghost use Rattle.sil_command.specs.Ends.{call_between, Ends};
 
 use sil_command::command;
 use sil_io::{Sink, Source};
-use sil_rules::Status;
 use std::alloc::{AllocError, Global};
 use std::env::Args;
 use std::io;
 use std::io::ErrorKind;
 
+/// The status where the words can't be read, since no memory is left for them.
+const NO_MEMORY: u8 = 9;
+
 /// Runs the command with the words behind the program's name, over these two ends, and answers its status.
 ///
 /// Where a word isn't text, no mode is asked for: the command has one empty word in place of all. Where the words couldn't
-/// be read for another reason, no memory was left for them, and nothing is read or written.
+/// be read for another reason, the status is 9, and nothing is read or written.
 pub fn run<S: Source, K: Sink>(
     alloc: Global,
     args: io::Result<Args>,
@@ -32,29 +32,40 @@ pub fn run<S: Source, K: Sink>(
     ensures no_text { IfErr args (λ error. error_kind error ≡ ErrorKind.InvalidData → Ends (call_between ([] ∷ [])
         S.left S.gave S.faults source.old source.new K.held K.took K.refused K.faults out.old out.new) result) }
     ensures no_words { IfErr args (λ error. ¬ error_kind error ≡ ErrorKind.InvalidData →
-        (result ≡ code_of OutOfMemory) × (source.new ≡ source.old) × (out.new ≡ out.old)) }
+        (result ≡ 9) × (source.new ≡ source.old) × (out.new ≡ out.old)) }
 {
     match args {
-        Ok(args) => run_words(alloc, args, source, out).unwrap_or(Status::OutOfMemory.code()),
+        Ok(args) => run_words(alloc, args, source, out),
         Err(error) if error.kind() == ErrorKind::InvalidData => command(alloc, &[""], source, out),
-        Err(_) => Status::OutOfMemory.code(),
+        Err(_) => NO_MEMORY,
     }
 }
 
 /// Runs the command with all of these words but the first.
-fn run_words<S: Source, K: Sink>(
-    alloc: Global,
-    args: Args,
-    source: &mut S,
-    out: &mut K,
-) -> Result<u8, AllocError>
-    ensures ran { IfOk result (λ status. Ends (call_between (map string_bytes (drop 1 (into_iter_items args)))
-        S.left S.gave S.faults source.old source.new K.held K.took K.refused K.faults out.old out.new) status) }
-    ensures untouched { OnErr result ((source.new ≡ source.old) × (out.new ≡ out.old)) }
+fn run_words<S: Source, K: Sink>(alloc: Global, args: Args, source: &mut S, out: &mut K) -> u8
+    ensures { Ends (call_between (map string_bytes (drop 1 (into_iter_items args)))
+        S.left S.gave S.faults source.old source.new K.held K.took K.refused K.faults out.old out.new) result }
 {
-    let words: Vec<String> = args.skip(1).collect(alloc)?;
-    let texts = texts_of(alloc, words.as_slice())?;
-    Ok(command(alloc, texts.as_slice(), source, out))
+    let words = match all_but_first(alloc, args) {
+        Ok(words) => words,
+        Err(_) => return NO_MEMORY,
+    };
+    match texts_of(alloc, words.as_slice()) {
+        Ok(texts) => command(alloc, texts.as_slice(), source, out),
+        Err(_) => NO_MEMORY,
+    }
+}
+
+/// These words without the first.
+fn all_but_first(alloc: Global, mut args: Args) -> Result<Vec<String>, AllocError>
+    ensures { IfOk result (λ words. words.items ≡ drop 1 (into_iter_items args)) }
+{
+    let _name = args.next();
+    let mut words = Vec::new(alloc);
+    while let Some(word) = args.next() {
+        words.push(word)?;
+    }
+    Ok(words)
 }
 
 /// The texts of these words.
