@@ -5,22 +5,22 @@
 ghost use Rattle.std.specs.Prelude.{◌≡◌, IfOk, IfErr, map, drop, string_bytes, [], ◌∷◌};
 ghost use Rattle.std.specs.IoError.{error_kind};
 ghost use Rattle.std.specs.Vec.Iter.{into_iter_items};
-ghost use Rattle.sil_rules.specs.declared.status.Status.TheVariants.{OutOfMemory};
-ghost use Rattle.sil_rules.specs.Statuses.{code_of};
 ghost use Rattle.sil_command.specs.Ends.{call_between, Ends};
 
 use sil_command::command;
 use sil_io::{Sink, Source};
-use sil_rules::Status;
 use std::alloc::{AllocError, Global};
 use std::env::Args;
 use std::io;
 use std::io::ErrorKind;
 
+/// The status where the words can't be read, since no memory is left for them.
+const NO_MEMORY: u8 = 9;
+
 /// Runs the command with the words behind the program's name, over these two ends, and answers its status.
 ///
 /// Where a word isn't text, no mode is asked for: the command has one empty word in place of all. Where the words couldn't
-/// be read for another reason, no memory was left for them, and nothing is read or written.
+/// be read for another reason, the status is 9, and nothing is read or written.
 pub fn run<S: Source, K: Sink>(
     alloc: Global,
     args: io::Result<Args>,
@@ -32,12 +32,12 @@ pub fn run<S: Source, K: Sink>(
     ensures no_text { IfErr args (λ error. error_kind error ≡ ErrorKind.InvalidData → Ends (call_between ([] ∷ [])
         S.left S.gave S.faults source.old source.new K.held K.took K.refused K.faults out.old out.new) result) }
     ensures no_words { IfErr args (λ error. ¬ error_kind error ≡ ErrorKind.InvalidData →
-        (result ≡ code_of OutOfMemory) × (source.new ≡ source.old) × (out.new ≡ out.old)) }
+        (result ≡ 9) × (source.new ≡ source.old) × (out.new ≡ out.old)) }
 {
     match args {
         Ok(args) => run_words(alloc, args, source, out),
         Err(error) if error.kind() == ErrorKind::InvalidData => command(alloc, &[""], source, out),
-        Err(_) => Status::OutOfMemory.code(),
+        Err(_) => NO_MEMORY,
     }
 }
 
