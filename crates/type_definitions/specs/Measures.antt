@@ -8,14 +8,9 @@ use Rattle.sil_ast.specs.declared.decl.Decl.TheVariants.{Struct, Enum, Class}
 use Rattle.sil_ast.specs.declared.type_name.TypeName.{TypeName, fold-TypeName}
 use Rattle.sil_ast.specs.declared.type_name.TypeName.TheOpen.{TypeName-F, Int, Named, Optional, Tuple, Weak, Unowned, Address}
 use Rattle.numbered_form.specs.Names.{Name}
+use Rattle.type_definitions.specs.declared.measure.Measure.{Measure}
 use Rattle.type_definitions.specs.Contained.{held_types}
 use Rattle.type_definitions.specs.Declarations.{Declarations, all_decls, all_names, at_place, place_of}
-
--- what is measured on a type
-pub record Measure : Type 0 where
-  pub trivial : Bool
-  pub leaves : ℕ
-  pub depth : ℕ
 
 abbrev pub is_trivial_measure : Measure → Bool
 is_trivial_measure m = m.trivial

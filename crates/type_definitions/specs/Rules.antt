@@ -10,6 +10,7 @@ use Rattle.sil_ast.specs.declared.type_name.TypeName.TheOpen.{TypeName-F, Int, N
 use Rattle.sil_ast.specs.declared.vtable.DeinitEntry.{DeinitEntry}
 use Rattle.sil_ast.specs.declared.vtable.Vtable.{Vtable}
 use Rattle.containment.specs.Chains.{IsCyclic}
+use Rattle.sil_rules.specs.declared.limits.TheConstants.{DEPTH, LEAVES}
 use Rattle.type_definitions.specs.declared.standing.Standing.{Standing}
 use Rattle.type_definitions.specs.declared.standing.Standing.TheVariants.{Object, WeakField, UnownedField, Slot, Value, Unwritten}
 use Rattle.type_definitions.specs.Contained.{containment}
@@ -154,17 +155,11 @@ pub record Declared (m : Module) : Type 0 where
 
 -- the limits
 
-abbrev pub depth_limit : ℕ
-depth_limit = 32
-
-abbrev pub leaves_limit : ℕ
-leaves_limit = 64
-
 abbrev pub is_too_deep : Declarations → Mention → Bool
-is_too_deep d t = not (nat_le (depth_of d t.ty) depth_limit)
+is_too_deep d t = not (nat_le (depth_of d t.ty) DEPTH)
 
 abbrev pub has_too_many_leaves : Declarations → Mention → Bool
-has_too_many_leaves d t = not (nat_le (leaves_of d t.ty) leaves_limit)
+has_too_many_leaves d t = not (nat_le (leaves_of d t.ty) LEAVES)
 
 -- a type that the module mentions is deeper than the limit
 abbrev pub exceeds_depth : Module → Bool

@@ -3,7 +3,9 @@
 #![tactic(auto)]
 
 mod kind;
+mod measure;
 mod standing;
 
 pub use kind::Kind;
+pub use measure::Measure;
 pub use standing::Standing;

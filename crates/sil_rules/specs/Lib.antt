@@ -1,0 +1,5 @@
+pub mod Rules
+pub mod LimitWords
+pub mod Statuses
+pub mod Order
+pub mod Laws

@@ -1,0 +1,106 @@
+//! For each declaration the places of those that it holds.
+
+ghost use Rattle.std.specs.Prelude.{◌≡◌, ◌++◌, map, IfOk, OnOk};
+ghost use Rattle.std.specs.List.{flat_map};
+ghost use Rattle.containment.specs.Chains.{IsInRange};
+ghost use Rattle.type_definitions.specs.Contained as contained;
+ghost use Rattle.type_definitions.specs.Contained.{field_type, held_places, payload_types};
+ghost use Rattle.type_definitions.specs.Declarations.{all_names};
+ghost use Rattle.type_measures.specs.Places.{places_in};
+
+use declaration_table::DeclarationTable;
+use sil_ast::{Case, Decl, Exhausted, Field, List, TypeName};
+use std::alloc::Global;
+
+/// For each declaration the places of those that it holds, a name as often as it stands there.
+pub fn containment(alloc: Global, table: &DeclarationTable) -> Result<List<List<usize>>, Exhausted>
+    ensures graph { IfOk result (λ graph. graph ≡ contained.containment table.now) }
+    ensures range { IfOk result IsInRange }
+{
+    let mut graph = List::new(alloc);
+    for decl in table.decls() {
+        graph.push(held_places(alloc, table, decl)?)?;
+    }
+    Ok(graph)
+}
+
+fn held_places(
+    alloc: Global,
+    table: &DeclarationTable,
+    decl: &Decl,
+) -> Result<List<usize>, Exhausted>
+    ensures { IfOk result (λ places. places ≡ held_places (all_names table.now) decl.now) }
+{
+    let mut places = List::new(alloc);
+    match decl {
+        Decl::Struct { fields, .. } => add_fields(&mut places, table, fields.as_slice())?,
+        Decl::Enum { cases, .. } => add_cases(&mut places, table, cases.as_slice())?,
+        Decl::Class { .. } => {}
+    }
+    Ok(places)
+}
+
+fn add_fields(
+    places: &mut List<usize>,
+    table: &DeclarationTable,
+    fields: &[Field],
+) -> Result<(), Exhausted>
+    ensures { OnOk result (places.new ≡ places.old ++ flat_map (places_in (all_names table.now)) (map field_type fields.now)) }
+{
+    for field in fields {
+        add_places(places, table, &field.ty)?;
+    }
+    Ok(())
+}
+
+fn add_cases(
+    places: &mut List<usize>,
+    table: &DeclarationTable,
+    cases: &[Case],
+) -> Result<(), Exhausted>
+    ensures { OnOk result (places.new ≡ places.old ++ flat_map (places_in (all_names table.now)) (flat_map payload_types cases.now)) }
+{
+    for case in cases {
+        if let Some(payload) = &case.payload {
+            add_places(places, table, payload)?;
+        }
+    }
+    Ok(())
+}
+
+/// Adds the places of the names that the type is made of.
+#[cycle(places)]
+fn add_places(
+    places: &mut List<usize>,
+    table: &DeclarationTable,
+    ty: &TypeName,
+) -> Result<(), Exhausted>
+    ensures { OnOk result (places.new ≡ places.old ++ places_in (all_names table.now) ty.now) }
+{
+    match ty {
+        TypeName::Int(_) => Ok(()),
+        TypeName::Named(name) => match table.place(name) {
+            Some(place) => places.push(place),
+            None => Ok(()),
+        },
+        TypeName::Optional(target) => add_places(places, table, target.get()),
+        TypeName::Tuple(elements) => add_all_places(places, table, elements.as_slice()),
+        TypeName::Weak(target) => add_places(places, table, target.get()),
+        TypeName::Unowned(target) => add_places(places, table, target.get()),
+        TypeName::Address(target) => add_places(places, table, target.get()),
+    }
+}
+
+#[cycle(places)]
+fn add_all_places(
+    places: &mut List<usize>,
+    table: &DeclarationTable,
+    elements: &[TypeName],
+) -> Result<(), Exhausted>
+    ensures { OnOk result (places.new ≡ places.old ++ flat_map (places_in (all_names table.now)) elements.now) }
+{
+    for element in elements {
+        add_places(places, table, element)?;
+    }
+    Ok(())
+}
