@@ -1,2 +1,4 @@
 mod Gathering
 mod Placing
+mod Agreement
+pub mod Ordered

@@ -1,10 +1,10 @@
 //! What the measures of some members or payloads come to, counted just past the limits.
 
 ghost use Rattle.std.specs.Prelude.{◌≡◌, ◌≤◌, [], ◌∷◌};
-ghost use Rattle.type_definitions.specs.Measures.{all_trivial};
+ghost use Rattle.type_definitions.specs.Measures.{measured};
 ghost use Rattle.type_measures.specs.Gathered.{gathered, with_member, as_members, as_payloads};
 
-use sil_rules::{DEPTH, LEAVES};
+use sil_rules::limits::{DEPTH, LEAVES};
 use type_definitions::Measure;
 
 /// The most leaves that are told apart: one more than the limit stands for any number above it.
@@ -57,6 +57,17 @@ impl Gathered {
             trivial: self.trivial,
             leaves: self.leaves,
             depth: self.depth.saturating_add(1).min(MOST_DEPTH),
+        }
+    }
+
+    /// Of the one that there is.
+    pub(crate) fn as_itself(self) -> Measure
+        ensures { result ≡ measured self.trivial self.leaves self.depth }
+    {
+        Measure {
+            trivial: self.trivial,
+            leaves: self.leaves,
+            depth: self.depth,
         }
     }
 

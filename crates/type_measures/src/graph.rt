@@ -2,9 +2,10 @@
 
 ghost use Rattle.std.specs.Prelude.{◌≡◌, ◌++◌, map, IfOk, OnOk};
 ghost use Rattle.std.specs.List.{flat_map};
+ghost use Rattle.std.specs.Option.{option_to_list};
 ghost use Rattle.containment.specs.Chains.{IsInRange};
 ghost use Rattle.type_definitions.specs.Contained as contained;
-ghost use Rattle.type_definitions.specs.Contained.{field_type, held_places, payload_types};
+ghost use Rattle.type_definitions.specs.Contained.{field_type, held_places, names_in, payload_types, place_list};
 ghost use Rattle.type_definitions.specs.Declarations.{all_names};
 ghost use Rattle.type_measures.specs.Places.{places_in};
 
@@ -31,45 +32,57 @@ fn held_places(
 ) -> Result<List<usize>, Exhausted>
     ensures { IfOk result (λ places. places ≡ held_places (all_names table.now) decl.now) }
 {
-    let mut places = List::new(alloc);
     match decl {
-        Decl::Struct { fields, .. } => add_fields(&mut places, table, fields.as_slice())?,
-        Decl::Enum { cases, .. } => add_cases(&mut places, table, cases.as_slice())?,
-        Decl::Class { .. } => {}
+        Decl::Struct { fields, .. } => field_places(alloc, table, fields.as_slice()),
+        Decl::Enum { cases, .. } => payload_places(alloc, table, cases.as_slice()),
+        Decl::Class { .. } => Ok(List::new(alloc)),
+    }
+}
+
+fn field_places(
+    alloc: Global,
+    table: &DeclarationTable,
+    fields: &[Field],
+) -> Result<List<usize>, Exhausted>
+    ensures { IfOk result (λ places. places ≡ flat_map (place_list (all_names table.now)) (flat_map names_in (map field_type fields.now))) }
+{
+    let mut places = List::new(alloc);
+    for field in fields {
+        add_places(&mut places, table, &field.ty)?;
     }
     Ok(places)
 }
 
-fn add_fields(
-    places: &mut List<usize>,
-    table: &DeclarationTable,
-    fields: &[Field],
-) -> Result<(), Exhausted>
-    ensures { OnOk result (places.new ≡ places.old ++ flat_map (places_in (all_names table.now)) (map field_type fields.now)) }
-{
-    for field in fields {
-        add_places(places, table, &field.ty)?;
-    }
-    Ok(())
-}
-
-fn add_cases(
-    places: &mut List<usize>,
+fn payload_places(
+    alloc: Global,
     table: &DeclarationTable,
     cases: &[Case],
-) -> Result<(), Exhausted>
-    ensures { OnOk result (places.new ≡ places.old ++ flat_map (places_in (all_names table.now)) (flat_map payload_types cases.now)) }
+) -> Result<List<usize>, Exhausted>
+    ensures { IfOk result (λ places. places ≡ flat_map (place_list (all_names table.now)) (flat_map names_in (flat_map payload_types cases.now))) }
 {
+    let mut places = List::new(alloc);
     for case in cases {
-        if let Some(payload) = &case.payload {
-            add_places(places, table, payload)?;
-        }
+        add_payload(&mut places, table, &case.payload)?;
     }
-    Ok(())
+    Ok(places)
+}
+
+fn add_payload(
+    places: &mut List<usize>,
+    table: &DeclarationTable,
+    payload: &Option<TypeName>,
+) -> Result<(), Exhausted>
+    ensures { OnOk result (places.new ≡ places.old ++ flat_map (places_in (all_names table.now)) (option_to_list payload.now)) }
+{
+    match payload {
+        Some(payload) => add_places(places, table, payload),
+        None => Ok(()),
+    }
 }
 
 /// Adds the places of the names that the type is made of.
 #[cycle(places)]
+#[tactic(auto, using(crate::proofs::Placing::by_form))]
 fn add_places(
     places: &mut List<usize>,
     table: &DeclarationTable,

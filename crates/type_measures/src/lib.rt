@@ -5,8 +5,8 @@
 mod gathered;
 mod graph;
 mod measure;
-
+mod table;
 
 pub use graph::containment;
-pub use measure::{measure_name, measure_results, measure_type};
-
+pub use measure::{measure_name, measure_operands, measure_results, measure_type};
+pub use table::measures;

@@ -1,6 +1,7 @@
 //! The measures of types, from those of the declarations.
 
-ghost use Rattle.std.specs.Prelude.{◌≡◌, ℕ, map};
+ghost use Rattle.std.specs.Prelude.{◌≡◌, ◌++◌, ℕ, List, length, map};
+ghost use Rattle.std.specs.Option.{option_to_list};
 ghost use Rattle.std.specs.List.{flat_map};
 ghost use Rattle.type_definitions.specs.Contained.{field_type, payload_types};
 ghost use Rattle.type_definitions.specs.Declarations.{all_names};
@@ -113,11 +114,23 @@ fn gather_payloads(table: &DeclarationTable, known: &[Measure], cases: &[Case]) 
 {
     let mut all = Gathered::new();
     for case in cases {
-        if let Some(payload) = &case.payload {
-            all = all.and(measure_type(table, known, payload));
-        }
+        all = with_payload(table, known, all, &case.payload);
     }
     all
+}
+
+fn with_payload(
+    table: &DeclarationTable,
+    known: &[Measure],
+    all: Gathered,
+    payload: &Option<TypeName>,
+) -> Gathered
+    ensures { (ms : List Measure) → all ≡ gathered ms → result ≡ gathered (ms ++ map (measure_with (measure_at (all_names table.now) known.now)) (option_to_list payload.now)) }
+{
+    match payload {
+        Some(payload) => all.and(measure_type(table, known, payload)),
+        None => all,
+    }
 }
 
 /// Of a declared type, by the measures of the declarations that it holds.
@@ -153,4 +166,56 @@ pub fn measure_results(table: &DeclarationTable, known: &[Measure], results: &[G
         return measure_type(table, known, &results[0].ty);
     }
     gather_results(table, known, results).as_members()
+}
+
+/// What the operands' types come to, an address as its target.
+fn gather_operands(table: &DeclarationTable, known: &[Measure], operands: &[Operand]) -> Gathered
+    ensures { result ≡ gathered (map (measure_with (measure_at (all_names table.now) known.now)) (flat_map operand_types operands.now)) }
+{
+    let mut all = Gathered::new();
+    for operand in operands {
+        all = with_operand(table, known, all, operand);
+    }
+    all
+}
+
+fn with_operand(
+    table: &DeclarationTable,
+    known: &[Measure],
+    all: Gathered,
+    operand: &Operand,
+) -> Gathered
+    ensures { (ms : List Measure) → all ≡ gathered ms → result ≡ gathered (ms ++ map (measure_with (measure_at (all_names table.now) known.now)) (operand_types operand.now)) }
+{
+    match &operand.ty {
+        Some(ty) => all.and(measure_type(table, known, ty)),
+        None => all,
+    }
+}
+
+fn typed_count(operands: &[Operand]) -> usize
+    ensures { result ≡ length (flat_map operand_types operands.now) }
+{
+    let mut count = 0;
+    for operand in operands {
+        if operand.ty.is_some() {
+            count += 1;
+        }
+    }
+    count
+}
+
+/// Of the type that a `tuple` instruction with these operands mentions.
+pub fn measure_operands(
+    table: &DeclarationTable,
+    known: &[Measure],
+    operands: &[Operand],
+) -> Measure
+    ensures { result ≡ capped (measure_with (measure_at (all_names table.now) known.now) (together (flat_map operand_types operands.now))) }
+{
+    let all = gather_operands(table, known, operands);
+    if typed_count(operands) == 1 {
+        return all.as_itself();
+    }
+    all.as_members()
 }
