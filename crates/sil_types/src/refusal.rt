@@ -1,5 +1,8 @@
 //! Why a module has no type table.
 
+ghost use Rattle.std.specs.Prelude.{◌≡◌};
+ghost use Rattle.sil_types.specs.declared.refusal.TypeRefusal.TheVariants.{Memory};
+
 use sil_ast::Exhausted;
 use sil_rules::{LimitWord, Rule};
 

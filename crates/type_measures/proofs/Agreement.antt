@@ -16,6 +16,9 @@ use Rattle.type_measures.specs.Gathered.{capped, gathered, as_members, as_payloa
 use Rattle.type_measures.proofs.Gathering.{gathered_same, members_capped, payloads_capped, storage_capped}
 
 -- the names of a type, by its form
+pub names-Int : (width : ℕ) → names_in (Int width) ≡ []
+names-Int width = ap names_in (sym (rolls-Int width)) ∙ fold-roll-TypeName (List Name) names_over (TypeName-F.Int width)
+
 names-Named : (n : Name) → names_in (Named n) ≡ n ∷ []
 names-Named n = ap names_in (sym (rolls-Named n)) ∙ fold-roll-TypeName (List Name) names_over (TypeName-F.Named n)
 

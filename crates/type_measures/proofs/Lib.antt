@@ -1,4 +1,4 @@
 mod Gathering
 mod Placing
-mod Agreement
+pub mod Agreement
 pub mod Ordered

@@ -99,7 +99,7 @@ one_stage d i _ (unknown_type h) = refl
 one_stage d i _ (bad_member h) = refl
 one_stage d i _ (misplaced_storage h) = refl
 
-stage_at : (d : Declarations) (items : List Item) (f : ItemFault) (k : ℕ) → IsSomeAnd (slice_get items k) (λ i. Breaks d i f.rule) → stage_of (group_of f.rule) ≡ 1
+pub stage_at : (d : Declarations) (items : List Item) (f : ItemFault) (k : ℕ) → IsSomeAnd (slice_get items k) (λ i. Breaks d i f.rule) → stage_of (group_of f.rule) ≡ 1
 stage_at d items f k h = by (slice_get items k) h
   where
     by : (o : Option Item) → IsSomeAnd o (λ i. Breaks d i f.rule) → stage_of (group_of f.rule) ≡ 1
