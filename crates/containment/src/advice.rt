@@ -12,41 +12,42 @@ fn turns(graph: &[List<usize>]) -> usize {
     count
 }
 
-/// Puts the number and its parts on the stack, or places it once its parts are behind it.
-fn turn(
+/// What is left to do of a number: to go on to its parts, or, with these behind it, to place it.
+#[derive(Clone, Copy)]
+enum Visit {
+    Enter(usize),
+    Leave(usize),
+}
+
+/// Puts a number's parts on the stack when it is met first.
+fn enter(
     graph: &[List<usize>],
-    stack: &mut Vec<usize>,
-    states: &mut [u8],
-    order: &mut Vec<usize>,
+    stack: &mut Vec<Visit>,
+    met: &mut [bool],
     value: usize,
 ) -> Result<(), Exhausted> {
-    if value >= states.len() || value >= graph.len() {
-        return Ok(());
-    }
-    if states[value] == 0 {
-        states[value] = 1;
-        stack.push(value)?;
+    if value < met.len() && value < graph.len() && !met[value] {
+        met[value] = true;
+        stack.push(Visit::Leave(value))?;
         for part in graph[value].as_slice() {
-            stack.push(*part)?;
+            stack.push(Visit::Enter(*part))?;
         }
-    } else if states[value] == 1 {
-        states[value] = 2;
-        order.push(value)?;
     }
     Ok(())
 }
 
-/// All numbers, parts before wholes wherever no ring is in the way.
+/// All numbers as a walk in depth leaves them: parts before wholes wherever no ring is in the way.
 pub(crate) fn parts_first(alloc: Global, graph: &[List<usize>]) -> Result<Vec<usize>, Exhausted> {
     let mut order = Vec::new(alloc);
     let mut stack = Vec::new(alloc);
-    let mut states = vec![in alloc; 0; graph.len()]?;
+    let mut met = vec![in alloc; false; graph.len()]?;
     for root in 0..graph.len() {
-        stack.push(root)?;
+        stack.push(Visit::Enter(root))?;
     }
     for _ in 0..turns(graph) {
         match stack.pop() {
-            Some(value) => turn(graph, &mut stack, states.as_mut_slice(), &mut order, value)?,
+            Some(Visit::Enter(value)) => enter(graph, &mut stack, met.as_mut_slice(), value)?,
+            Some(Visit::Leave(value)) => order.push(value)?,
             None => return Ok(order),
         }
     }
