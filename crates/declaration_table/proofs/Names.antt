@@ -1,6 +1,6 @@
 -- Names that differ: none stands before its place, and a new one goes to the end.
 use Rattle.std.proofs.Common.{◌≡◌, ℕ, zero, suc, ◌<◌, List, [], ◌∷◌, ◌++◌, length, get_or, take, map, Contains, refl, sym, ap, ◌∙◌, subst, arith, Bool, true, false}
-use Rattle.std.specs.Prelude.{◌⊎◌, if◌then◌else◌}
+use Rattle.std.specs.Prelude.{◌⊎◌, if◌then◌else◌, drop, slice_get, ◌+◌}
 use Rattle.std.proofs.Common.{inl, inr}
 use Rattle.std.specs.List.{list_any}
 use Rattle.std.specs.Str.{bytes_eq}
@@ -50,3 +50,8 @@ alone x = (λ c. let none : c.0 < 0 = c.1 in absurd (omega arith), tt)
 pub members_once : (swift : Bool) (decls : List Decl) → Each AreMembersOnce decls → Each AreMembersOnce (swift_structs swift ++ decls)
 members_once false decls h = h
 members_once true decls h = (alone (codes "_value"), (alone (codes "_value"), h))
+
+pub slice_get_drop : {X : Type 0} (xs : List X) (n i : ℕ) → slice_get (drop n xs) i ≡ slice_get xs (i + n)
+slice_get_drop xs zero i = ap (slice_get xs) (let same : i ≡ i + 0 = omega arith in same)
+slice_get_drop [] (suc n) i = refl
+slice_get_drop (x ∷ xs) (suc n) i = slice_get_drop xs n i ∙ ap (slice_get (x ∷ xs)) (let same : suc (i + n) ≡ i + suc n = omega arith in same)

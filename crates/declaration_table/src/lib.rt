@@ -3,9 +3,9 @@
 #![tactic(auto)]
 
 mod build;
-
+mod lookups;
 mod name_index;
 mod table;
 
-
+pub use lookups::{FieldRef, PayloadRef};
 pub use table::DeclarationTable;

@@ -51,4 +51,14 @@ impl NameIndex {
     {
         self.names.get_index_of(name)
     }
+
+    /// The place of a name, as the number that callers see.
+    pub(crate) fn number(&self, name: &Text) -> Option<u32>
+        ensures { result ≡ place_of self.now name.now }
+    {
+        match self.names.get_index_of(name) {
+            Some(place) => Some(place as u32),
+            None => None,
+        }
+    }
 }

@@ -1,5 +1,5 @@
 -- What look-ups give: fields, payloads, deinitialisers, and classes by their places.
-use Rattle.std.specs.Prelude.{ℕ, ◌-◌, List, [], ◌∷◌, Bool, true, false, Option, Some, None, map, slice_get, codes, option_map, cond, if◌then◌else◌, ◌==◌}
+use Rattle.std.specs.Prelude.{ℕ, ◌-◌, List, [], ◌∷◌, Bool, true, false, Option, Some, None, map, slice_get, codes, option_map, cond, if◌then◌else◌, ◌==◌, length}
 use Rattle.std.specs.Str.{bytes_eq}
 use Rattle.sil_ast.specs.declared.decl.Case.{Case}
 use Rattle.sil_ast.specs.declared.decl.Decl.{Decl}
@@ -11,7 +11,7 @@ use Rattle.sil_ast.specs.declared.type_name.TypeName.TheOpen.{TypeName-F, Int, N
 use Rattle.sil_ast.specs.declared.vtable.DeinitEntry.{DeinitEntry}
 use Rattle.sil_ast.specs.declared.vtable.Vtable.{Vtable}
 use Rattle.numbered_form.specs.Names.{Name, decl_name, field_name, case_name, class_name}
-use Rattle.type_definitions.specs.Declarations.{Declarations, decl_of, at_place, place_of, is_class_decl, optional_cases}
+use Rattle.type_definitions.specs.Declarations.{Declarations, all_names, decl_of, at_place, place_of, is_class, is_class_decl, optional_cases, swift_structs}
 
 abbrev pub decl_fields : Option Decl → List Field
 decl_fields None = []
@@ -33,9 +33,18 @@ fields_of d owner = decl_fields (decl_of d owner)
 abbrev pub cases_of : Declarations → Name → List Case
 cases_of d owner = decl_cases (decl_of d owner)
 
--- the field's place among those of its owner
-abbrev pub field_place : Declarations → Name → Name → Option ℕ
-field_place d owner name = place_of (map field_name (fields_of d owner)) name
+-- a field, with its place among those of its owner
+pub record FoundField : Type 0 where
+  pub place : ℕ
+  pub field : Field
+
+abbrev pub field_at_place : List Field → Option ℕ → Option FoundField
+field_at_place fields None = None
+field_at_place fields (Some place) = option_map (λ f. record { place = place; field = f }) (slice_get fields place)
+
+-- the field with this name of a struct or class
+abbrev pub field_of : Declarations → Name → Name → Option FoundField
+field_of d owner name = field_at_place (fields_of d owner) (place_of (map field_name (fields_of d owner)) name)
 
 -- the field of a struct or class at a place
 abbrev pub field_at : Declarations → Name → ℕ → Option Field
@@ -57,10 +66,14 @@ abbrev pub optional_payload : TypeName → Option ℕ → Option Payload
 optional_payload target None = None
 optional_payload target (Some place) = Some (record { place = place; ty = cond (place == 0) None (Some target) })
 
+-- the case with this name of an enum that the text declares
+abbrev pub declared_payload : Declarations → Name → Name → Option Payload
+declared_payload d owner name = payload_at (cases_of d owner) (place_of (map case_name (cases_of d owner)) name)
+
 -- by the type's outermost layer: `none` and `some` of an Optional, or a case of a declared enum
 abbrev pub payload_in : Declarations → Name → TypeName-F TypeName → Option Payload
 payload_in d name (Int width) = None
-payload_in d name (Named owner) = payload_at (cases_of d owner) (place_of (map case_name (cases_of d owner)) name)
+payload_in d name (Named owner) = declared_payload d owner name
 payload_in d name (Optional target) = optional_payload target (place_of optional_cases name)
 payload_in d name (Tuple parts) = None
 payload_in d name (Weak target) = None
@@ -90,10 +103,6 @@ class_named (Some d) = cond (is_class_decl d) (Some (decl_name d)) None
 abbrev pub class_at : Declarations → ℕ → Option Name
 class_at d place = class_named (slice_get d.decls place)
 
-abbrev pub where_class : List Decl → Option ℕ → Option ℕ
-where_class decls None = None
-where_class decls (Some place) = option_map (λ _. place) (class_named (slice_get decls place))
-
 -- the place of the class with this name among the declarations of the text
 abbrev pub class_place : Declarations → Name → Option ℕ
-class_place d name = where_class d.decls (place_of (map decl_name d.decls) name)
+class_place d name = cond (is_class d name) (option_map (λ place. place - length (swift_structs d.swift)) (place_of (all_names d) name)) None

@@ -62,7 +62,9 @@ pub fn measure_type(table: &DeclarationTable, known: &[Measure], ty: &TypeName) 
         },
         TypeName::Named(name) => measure_name(table, known, name),
         TypeName::Optional(target) => {
-            Gathered::new().and(measure_type(table, known, target.get())).as_payloads()
+            Gathered::new()
+                .and(measure_type(table, known, target.get()))
+                .as_payloads()
         }
         TypeName::Tuple(elements) => {
             gather_elements(table, known, elements.as_slice()).as_members()
@@ -74,11 +76,7 @@ pub fn measure_type(table: &DeclarationTable, known: &[Measure], ty: &TypeName) 
 }
 
 #[cycle(measure)]
-fn gather_elements(
-    table: &DeclarationTable,
-    known: &[Measure],
-    elements: &[TypeName],
-) -> Gathered
+fn gather_elements(table: &DeclarationTable, known: &[Measure], elements: &[TypeName]) -> Gathered
     ensures { result ≡ gathered (map (measure_with (measure_at (all_names table.now) known.now)) elements.now) }
 {
     let mut all = Gathered::new();
