@@ -5,9 +5,11 @@
 mod build;
 mod items;
 mod limits;
+mod lookups;
 mod refusal;
 mod ring;
 mod table;
 
+pub use declaration_table::{FieldRef, PayloadRef};
 pub use refusal::TypeRefusal;
 pub use table::TypeTable;
