@@ -110,14 +110,14 @@ cyclic_inside graph none v h = at (cases_lt v (length graph))
 -- where nothing more can be placed and there is no ring, all numbers are in order
 pub in_order : (graph : Graph) (marks : List Bool) (order : List ℕ) → IsInRange graph → Settles graph marks order → ((v : ℕ) → v < length graph → IsStuck graph marks v) → ((v : ℕ) → v < length graph → IsCyclic graph v → ⊥) → IsOrder graph order × ((v : ℕ) → IsCyclic graph v → ⊥)
 in_order graph marks order range s stuck none = (
-    record {
-      all = λ v lt. s.placed v (all_marked graph marks range stuck none v lt);
-      inside = All-weaker (IsMarked marks) (λ v. v < length graph) (λ v h. let lt : v < length marks = marked_lt marks v h in let size : length marks ≡ length graph = s.size in omega arith) order s.marked;
-      parts = s.parts;
-      once = let count : count_by not marks + length order ≡ length graph = s.count in omega arith;
-    },
-    cyclic_inside graph none,
-  )
+  record {
+    all = λ v lt. s.placed v (all_marked graph marks range stuck none v lt);
+    inside = All-weaker (IsMarked marks) (λ v. v < length graph) (λ v h. let lt : v < length marks = marked_lt marks v h in let size : length marks ≡ length graph = s.size in omega arith) order s.marked;
+    parts = s.parts;
+    once = let count : count_by not marks + length order ≡ length graph = s.count in omega arith;
+  },
+  cyclic_inside graph none,
+)
 
 -- where ranks never fall, a chain never leads to a lower one
 module _ (graph : Graph) (ranks : List ℕ) (ranked : NeverFall graph ranks) where

@@ -111,7 +111,13 @@ pub(crate) fn ranks_along(
     let mut rank: usize = 1;
     for value in order.iter().rev() {
         stack.push(*value)?;
-        rank_from(wholes.as_slice(), &mut stack, ranks.as_mut_slice(), turns, rank)?;
+        rank_from(
+            wholes.as_slice(),
+            &mut stack,
+            ranks.as_mut_slice(),
+            turns,
+            rank,
+        )?;
         rank = rank.saturating_add(1);
     }
     Ok(ranks)

@@ -54,9 +54,5 @@ pub(crate) fn rises(graph: &[List<usize>], ranks: &[usize], value: usize) -> boo
     requires { value < length graph.now }
     ensures { OnTrue result (Rises graph.now ranks.now value) }
 {
-    are_above(
-        ranks,
-        rank_of(ranks, value),
-        graph[value].as_slice(),
-    )
+    are_above(ranks, rank_of(ranks, value), graph[value].as_slice())
 }

@@ -173,7 +173,10 @@ impl DeclarationTable {
     pub fn class_at(&self, index: u32) -> Option<&Text>
         ensures { option_copied result ≡ lookups.class_at self.now index }
     {
-        match self.all.get(index as usize + self.imported_count() as usize) {
+        match self
+            .all
+            .get(index as usize + self.imported_count() as usize)
+        {
             Some(Decl::Class { name, .. }) => Some(name),
             Some(Decl::Struct { .. }) => None,
             Some(Decl::Enum { .. }) => None,
