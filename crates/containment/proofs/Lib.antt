@@ -1,0 +1,3 @@
+mod Chaining
+mod Settled
+mod RingLemmas

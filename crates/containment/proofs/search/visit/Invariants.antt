@@ -1,0 +1,6 @@
+use Rattle.std.proofs.Common.{take}
+use Rattle.containment.specs.Search.{Visits}
+use Rattle.containment.proofs.search.visit.Given as goal
+
+abbrev pub invariant-loop-part : goal.invariant-loop-part
+invariant-loop-part l = Visits (take l.part-index l.parts) l.initial.marks l.initial.stack.items l.marks l.stack.items

@@ -1,0 +1,5 @@
+use Rattle.containment.specs.Settling.{Settles}
+use Rattle.containment.proofs.settle.settle_along.Given as goal
+
+abbrev pub invariant-loop-value : goal.invariant-loop-value
+invariant-loop-value l = Settles l.graph l.marks l.order.items

@@ -1,0 +1,6 @@
+pub mod Chains
+pub mod Order
+pub mod Search
+pub mod Settling
+pub mod Ranks
+pub mod Outcome

@@ -1,0 +1,12 @@
+//! Graphs of containment, as lists of numbers: an order in which parts stand before wholes, or the first number on a ring.
+//! It knows of no declaration and no type.
+#![tactic(auto)]
+
+mod advice;
+mod outcome;
+mod ranks;
+mod rings;
+mod search;
+mod settle;
+
+pub use outcome::{Containment, order_or_ring};

@@ -1,0 +1,52 @@
+//! The first number on a ring.
+
+ghost use Rattle.std.specs.Prelude.{◌≡◌, ℕ, ◌<◌, ◌↔◌, IsTrue, IfOk, IfSome, IfNone, length};
+ghost use Rattle.std.specs.Bool.{OnTrue};
+ghost use Rattle.containment.specs.Chains.{IsCyclic, IsFirstCyclic, IsInRange};
+ghost use Rattle.containment.specs.Ranks.{NeverFall};
+
+use crate::ranks::{never_fall, rises};
+use crate::search::is_cyclic;
+use sil_ast::{Exhausted, List};
+use std::alloc::Global;
+
+/// Whether the number is on a ring. Where ranks never fall, one whose parts all rise isn't, and no search is made.
+fn is_on_ring(
+    alloc: Global,
+    graph: &[List<usize>],
+    ranks: &[usize],
+    are_ranked: bool,
+    marks: &mut [bool],
+    value: usize,
+) -> Result<bool, Exhausted>
+    requires value { value < length graph.now }
+    requires range { IsInRange graph.now }
+    requires size { length marks.old ≡ length graph.now }
+    requires ranked { OnTrue are_ranked (NeverFall graph.now ranks.now) }
+    ensures { IfOk result (λ cyclic. IsTrue cyclic ↔ IsCyclic graph.now value) }
+{
+    if are_ranked && rises(graph, ranks, value) {
+        return Ok(false);
+    }
+    is_cyclic(alloc, graph, marks, value)
+}
+
+/// The first number on a ring, if there is one. With good ranks one search is made.
+pub(crate) fn first_on_ring(
+    alloc: Global,
+    graph: &[List<usize>],
+    ranks: &[usize],
+) -> Result<Option<usize>, Exhausted>
+    requires { IsInRange graph.now }
+    ensures some { IfOk result (λ o. IfSome o (IsFirstCyclic graph.now)) }
+    ensures none { IfOk result (λ o. IfNone o ((v : ℕ) → v < length graph.now → IsCyclic graph.now v → ⊥)) }
+{
+    let are_ranked = never_fall(graph, ranks);
+    let mut marks = vec![in alloc; false; graph.len()]?;
+    for value in 0..graph.len() {
+        if is_on_ring(alloc, graph, ranks, are_ranked, marks.as_mut_slice(), value)? {
+            return Ok(Some(value));
+        }
+    }
+    Ok(None)
+}

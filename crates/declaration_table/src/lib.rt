@@ -1,0 +1,11 @@
+//! The declarations and vtables of a module, copied, with look-ups by name that take no memory.
+//! It knows of no rule and measures nothing.
+#![tactic(auto)]
+
+mod build;
+mod lookups;
+mod name_index;
+mod table;
+
+pub use lookups::{FieldRef, PayloadRef};
+pub use table::DeclarationTable;

@@ -1,0 +1,62 @@
+//! Makes a module's type table, or says why it has none.
+
+ghost use Rattle.std.specs.Prelude.{◌≡◌, ℕ, OnOk, IfOk, IfErr};
+ghost use Rattle.numbered_form.specs.NumberedForm.{IsNumbered};
+ghost use Rattle.type_definitions.specs.Declarations.{declarations_of};
+ghost use Rattle.type_definitions.specs.Rules.{AreDeclarationsOf, HoldsItself, InLimits};
+ghost use Rattle.type_rules.specs.Faults.{BreaksIn};
+ghost use Rattle.type_rules.specs.declared.by_item.ItemFault.{ItemFault};
+ghost use Rattle.sil_types.specs.Refusals.{IsRefusal};
+
+use crate::items::check_items;
+use crate::limits::any_past;
+use crate::refusal::TypeRefusal;
+use crate::ring::order_of;
+use crate::table::TypeTable;
+use declaration_table::DeclarationTable;
+use sil_ast::Module;
+use sil_rules::LimitWord;
+use std::alloc::Global;
+use type_measures::measures;
+
+impl TypeTable {
+    /// The type table of a module. The refusal is the first of all that is wrong: 101, 103 and 104 by item and then by rule,
+    /// then 102 by item, then the limit on depth, and then the limit on leaves.
+    pub fn build(alloc: Global, m: &Module) -> Result<TypeTable, TypeRefusal>
+        requires { IsNumbered m.now }
+        ensures ok { IfOk result (λ table. AreDeclarationsOf table m.now) }
+        ensures err { IfErr result (IsRefusal m.now) }
+    {
+        let declarations = DeclarationTable::build(alloc, m)?;
+        check_items(&declarations, m)?;
+        let order = order_of(alloc, &declarations, m)?;
+        let measures = measures(alloc, &declarations, order.as_slice())?;
+        let table = TypeTable {
+            declarations,
+            measures,
+        };
+        check_limits(&table, m)?;
+        Ok(table)
+    }
+}
+
+/// Refuses a module that mentions a type past a limit.
+fn check_limits(table: &TypeTable, m: &Module) -> Result<(), TypeRefusal>
+    requires table { table.now ≡ declarations_of m.now }
+    requires items { (f : ItemFault) → BreaksIn (declarations_of m.now) m.now f → ⊥ }
+    requires finite { (n : ℕ) → HoldsItself (declarations_of m.now) n → ⊥ }
+    ensures ok { OnOk result (InLimits m.now) }
+    ensures err { IfErr result (IsRefusal m.now) }
+{
+    if any_past(LimitWord::Depth, table, m) {
+        return Err(TypeRefusal::Limit {
+            what: LimitWord::Depth,
+        });
+    }
+    if any_past(LimitWord::Leaves, table, m) {
+        return Err(TypeRefusal::Limit {
+            what: LimitWord::Leaves,
+        });
+    }
+    Ok(())
+}

@@ -1,0 +1,15 @@
+//! The type table of a module: what it declares, and that its types are declared, finite and within the limits.
+//! It knows of no graph, no value and no ownership.
+#![tactic(auto)]
+
+mod build;
+mod items;
+mod limits;
+mod lookups;
+mod refusal;
+mod ring;
+mod table;
+
+pub use declaration_table::{FieldRef, PayloadRef};
+pub use refusal::TypeRefusal;
+pub use table::TypeTable;

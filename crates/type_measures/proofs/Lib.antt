@@ -1,0 +1,4 @@
+mod Gathering
+mod Placing
+pub mod Agreement
+pub mod Ordered

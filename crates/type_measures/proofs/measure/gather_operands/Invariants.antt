@@ -1,0 +1,10 @@
+use Rattle.std.proofs.Common.{◌≡◌, take, map}
+use Rattle.std.specs.List.{flat_map}
+use Rattle.type_definitions.specs.Declarations.{all_names}
+use Rattle.type_definitions.specs.Measures.{measure_at, measure_with}
+use Rattle.type_definitions.specs.Mentions.{operand_types}
+use Rattle.type_measures.specs.Gathered.{gathered}
+use Rattle.type_measures.proofs.measure.gather_operands.Given as goal
+
+abbrev pub invariant-loop-operand : goal.invariant-loop-operand
+invariant-loop-operand l = l.all ≡ gathered (map (measure_with (measure_at (all_names l.table) l.known)) (flat_map operand_types (take l.operand-index l.operands)))
