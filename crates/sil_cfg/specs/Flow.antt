@@ -27,6 +27,10 @@ items_at g b = g.items b
 abbrev pub edge_count : {A : Type 0} → Flow A → ℕ → ℕ
 edge_count g b = length (g.targets b)
 
+-- the edge of a block with an index
+abbrev pub edge_id : ℕ → ℕ → EdgeId
+edge_id b j = record { block = record { 0 = b }; index = j }
+
 -- the block has an edge with this index
 abbrev pub IsEdge : {A : Type 0} → Flow A → EdgeId → Type 0
 IsEdge g e = e.index < edge_count g e.block.0

@@ -8,11 +8,9 @@ use Rattle.sil_cfg.specs.declared.item.Item.{Item}
 use Rattle.sil_cfg.specs.declared.item.Item.TheVariants.{Entry, Inst, Edge, Exit}
 use Rattle.sil_cfg.specs.declared.layout.EdgeFlow.{EdgeFlow}
 use Rattle.sil_cfg.specs.Layout.{BlockLayout}
+use Rattle.sil_cfg.specs.Flow.{edge_id}
 use Rattle.sil_cfg.specs.Items.{own_items, IsItem, IsExit}
 use Rattle.sil_cfg.specs.Build.{AreItems}
-
-abbrev pub edge_id : ℕ → ℕ → EdgeId
-edge_id b j = record { block = record { 0 = b }; index = j }
 
 -- an item of the block with this number
 abbrev pub IsItemOf : ℕ → Block → Item → Type 0

@@ -5,7 +5,8 @@ use Rattle.sil_ast.specs.declared.inst.Edge as edge
 use Rattle.sil_cfg.specs.declared.item.Item.{Item}
 use Rattle.sil_cfg.specs.declared.item.Item.TheVariants.{Edge}
 use Rattle.sil_cfg.specs.declared.layout.EdgeFlow.{EdgeFlow}
-use Rattle.sil_cfg.specs.Laying.{edge_id, Adds, AreEdgesLaid}
+use Rattle.sil_cfg.specs.Flow.{edge_id}
+use Rattle.sil_cfg.specs.Laying.{Adds, AreEdgesLaid}
 use Rattle.sil_cfg.proofs.Gets.{length_push}
 use Rattle.sil_cfg.proofs.Numbers.{adds_push, edges_push}
 use Rattle.sil_cfg.proofs.build.lay_edges.Goals as goal
