@@ -1,10 +1,10 @@
 -- The items of a trail are items of the graph.
-use Rattle.std.proofs.Common.{◌≡◌, ℕ, ◌<◌, List, [], ◌∷◌, ◌++◌, length, take, map, get_or, refl, sym, ap, ◌∙◌, subst, Option, Some, None, All, arith}
-use Rattle.std.specs.Prelude.{unwrap_or}
+use Rattle.std.proofs.Common.{◌≡◌, ℕ, ◌<◌, List, [], ◌∷◌, ◌++◌, length, map, get_or, refl, sym, ap, ◌∙◌, subst, Option, Some, None, All, arith}
+use Rattle.std.specs.Prelude.{unwrap_or, option_map}
 use Rattle.std.specs.List.{slice_get}
-use Rattle.std.proofs.lemmas.List.{length-map, length-append}
+use Rattle.std.proofs.lemmas.List.{length-map}
 use Rattle.std.proofs.lemmas.List.Elements.{All-append, All-nil, All-cons, All-take}
-use Rattle.std.proofs.lemmas.Option.{slice_get-get_or, slice_get_within}
+use Rattle.std.proofs.lemmas.Option.{slice_get-get_or, slice_get-map}
 use Rattle.sil_ast.specs.declared.place.EdgeId.{EdgeId}
 use Rattle.sil_cfg.specs.declared.layout.EdgeFlow.{EdgeFlow}
 use Rattle.sil_cfg.specs.Layout.{Layout, BlockLayout, no_block, no_edge, block_at, edge_at, item_count, IsEdgeSound, IsBlockSound, IsSound}
@@ -30,6 +30,17 @@ edge_is_sound g sound e is =
     let within : e.index < length edges = omega arith in
     let there : slice_get edges e.index ≡ Some (get_or edges e.index no_edge) = slice_get-get_or edges e.index no_edge within in
     subst (λ (o : Option EdgeFlow). IsEdgeSound g (unwrap_or o no_edge)) (sym there) (all_get (IsEdgeSound g) edges e.index (get_or edges e.index no_edge) (block_is_sound g sound e.block.0).edges there)
+
+-- an edge goes to a block of the graph
+pub edge_target : (g : Layout) → IsSound g → (e : EdgeId) → IsEdge (numbered g) e → edge_to (numbered g) e < block_count (numbered g)
+edge_target g sound e is =
+    let edges : List EdgeFlow = (block_at g e.block.0).edges in
+    let long : length (map (λ (x : EdgeFlow). x.target) edges) ≡ length edges = simp length-map in
+    let within : e.index < length edges = omega arith in
+    let there : slice_get edges e.index ≡ Some (get_or edges e.index no_edge) = slice_get-get_or edges e.index no_edge within in
+    let target : edge_to (numbered g) e ≡ (get_or edges e.index no_edge).target = ap (λ (o : Option ℕ). unwrap_or o 0) (slice_get-map (λ (x : EdgeFlow). x.target) edges e.index ∙ ap (option_map (λ (x : EdgeFlow). x.target)) there) in
+    let below = all_get (IsEdgeSound g) edges e.index (get_or edges e.index no_edge) (block_is_sound g sound e.block.0).edges there in
+    subst (λ n. n < block_count (numbered g)) (sym target) below.0
 
 pub items_below : (g : Layout) → IsSound g → (b : ℕ) → All (λ i. i < item_count g) (items_at (numbered g) b)
 items_below g sound b = (block_is_sound g sound b).items

@@ -2,11 +2,19 @@
 //! It knows blocks, edges and the numbers of items, and nothing of what an item does.
 #![tactic(auto)]
 
+mod bits;
+mod bundle;
+mod family;
 mod found;
 mod frontier;
+mod member;
+mod rows;
 mod scan;
+mod together;
 mod worklist;
 
+pub use family::Family;
 pub use found::{Found, StateMap};
 pub use scan::{Scan, Step};
+pub use together::{FamilyMap, FoundAll, search_all};
 pub use worklist::search;
