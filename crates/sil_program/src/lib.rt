@@ -48,11 +48,11 @@ fn run_words<S: Source, K: Sink>(alloc: Global, args: Args, source: &mut S, out:
 {
     let words = match all_but_first(alloc, args) {
         Ok(words) => words,
-        Err(_) => return Status::OutOfMemory.code(),
+        Err(_) => return NO_MEMORY,
     };
     match texts_of(alloc, words.as_slice()) {
         Ok(texts) => command(alloc, texts.as_slice(), source, out),
-        Err(_) => Status::OutOfMemory.code(),
+        Err(_) => NO_MEMORY,
     }
 }
 

@@ -1,0 +1,5 @@
+pub mod PushedMarks
+pub mod PatternsDecided
+pub mod ReadingsDecided
+pub mod SwitchDecided
+pub mod GraphPatterns

@@ -1,0 +1,7 @@
+use Rattle.path_patterns.specs.Switch.{IsInPlace, code_of, mark_step}
+use Rattle.path_patterns.proofs.SwitchDecided.{switch_decides}
+use Rattle.path_patterns.proofs.PatternsDecided.{reached_shown, shown_reached}
+use Rattle.path_patterns.proofs.laws.automaton_breaks_where_the_switch_does.Goals as goal
+
+pub returns : goal.returns
+returns c = λ g marks w code item. (reached_shown mark_step IsInPlace code_of switch_decides marks g w code item, shown_reached mark_step IsInPlace code_of switch_decides marks g w code item)

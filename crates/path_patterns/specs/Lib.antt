@@ -1,0 +1,6 @@
+pub mod Lawful
+pub mod Along
+pub mod Decides
+pub mod Switch
+pub mod Reads
+pub mod Laws

@@ -1,0 +1,23 @@
+//! The laws of patterns that a contract can state, each on a call that does nothing. The general ones, over any pattern, are lemmas in `proofs/`.
+
+ghost use Rattle.path_patterns.specs.Laws.{IsSwitchDecided, BreaksWithSwitch, BreaksOnFunction, KeepsWithoutBreak};
+
+/// The automaton of two states decides the switch: it goes on at just the marks that are in place.
+pub fn switch_is_decided()
+    ensures { IsSwitchDecided }
+{}
+
+/// Along every walk of a graph the automaton reaches its first break exactly where the switch's pattern breaks, with the same code.
+pub fn automaton_breaks_where_the_switch_does()
+    ensures { BreaksWithSwitch }
+{}
+
+/// Where no walk shows a break, every trail keeps the switch's pattern, and the other way round.
+pub fn kept_where_nothing_is_shown()
+    ensures { KeepsWithoutBreak }
+{}
+
+/// What a walk shows on a function's graph, by numbers of items, it shows on the function.
+pub fn graph_shows_what_its_function_does()
+    ensures { BreaksOnFunction }
+{}

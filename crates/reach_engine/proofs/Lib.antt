@@ -1,0 +1,15 @@
+pub mod ItemsInRange
+pub mod Runs
+pub mod FrontierKept
+pub mod AlongWalks
+pub mod EveryWalk
+pub mod EdgesFollowed
+pub mod AnswerIsExact
+pub mod BitLists
+pub mod ColumnTaken
+pub mod SubjectTurned
+pub mod SubjectsMoved
+pub mod RowsMoved
+pub mod RowsAreSound
+pub mod RowsAreExact
+pub mod DirtyBlocks

@@ -1,0 +1,29 @@
+use Rattle.std.proofs.Common.{◌≡◌, ◌+◌, ◌*◌, ◌<◌, ℕ, sym, subst, ◌∙◌, arith, true, false}
+use Rattle.reach_engine.specs.declared.scan.Step.{Step}
+use Rattle.reach_engine.specs.Columns.{Has}
+use Rattle.reach_engine.proofs.SubjectTurned.{Turning, turn_put, turn_skip}
+use Rattle.reach_engine.proofs.bundle.turn.Goals as goal
+use Rattle.reach_engine.proofs.bundle.turn.Goals.{then-taken-state, else-taken-state}
+
+pub loop-state-preserved : goal.loop-state-preserved
+loop-state-preserved g c =
+    let f : ℕ → ℕ → Step = g.F.Family.step_of c.args.family.now c.args.subject in
+    let states : ℕ = g.F.Family.state_count c.args.family.now in
+    let lu : c.args.subject < 64 * c.args.width = omega (arith, c.requires.subject, c.requires.fits) in
+    let within : c.loop-state.state < c.states-states.result = c.loop-state-test.true in
+    let taken = c.take_column-taken.ensures.taken c.loop-state.state within in
+    elim c.if-taken-state.branch [
+      | then-taken-state w ↦
+          let put = turn_put f states c.args.width c.args.subject c.args.item lu c.args.bundle.now c.loop-state.bundle w.put.new.bundle c.args.bad.now c.loop-state.bad w.put.new.bad c.loop-state.state
+          c.loop-state.invariant (taken.0 w.if-taken-state.true) w.put.auto.bundle w.put.auto.bad w.put.ensures in
+          subst (λ b. Turning f states c.args.width c.args.subject c.args.item c.args.bundle.now b c.args.bad.now c.if-taken-state.bad (c.loop-state.state + 1)) (sym w.bundle-is)
+          (subst (λ d. Turning f states c.args.width c.args.subject c.args.item c.args.bundle.now w.put.new.bundle c.args.bad.now d (c.loop-state.state + 1)) (sym w.bad-is) put)
+      | else-taken-state w ↦
+          let none : Has c.args.bundle.now c.args.width c.loop-state.state c.args.subject → ⊥ = λ h. false_true (sym w.if-taken-state.false ∙ taken.1 h) in
+          let skip = turn_skip f states c.args.width c.args.subject c.args.item lu c.args.bundle.now c.loop-state.bundle c.args.bad.now c.loop-state.bad c.loop-state.state c.loop-state.invariant none in
+          subst (λ b. Turning f states c.args.width c.args.subject c.args.item c.args.bundle.now b c.args.bad.now c.if-taken-state.bad (c.loop-state.state + 1)) (sym w.bundle-is)
+          (subst (λ d. Turning f states c.args.width c.args.subject c.args.item c.args.bundle.now c.loop-state.bundle c.args.bad.now d (c.loop-state.state + 1)) (sym w.bad-is) skip)
+    ]
+  where
+    false_true : false ≡ true → ⊥
+    false_true h = cc

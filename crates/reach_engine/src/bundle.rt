@@ -1,0 +1,125 @@
+//! The rows of one block, while its items are passed: a bundle has a row for each state, with one bit for each subject.
+
+ghost use Rattle.std.specs.Prelude.{◌≡◌, ◌≢◌, ℕ, ◌+◌, ◌*◌, ◌<◌, ◌≤◌, ◌↔◌, ◌∷◌, [], IsTrue, false, length, slice_index_or, All};
+ghost use Rattle.reach_engine.specs.Bits.{bit_in};
+ghost use Rattle.reach_engine.specs.Columns.{cell, Has, Moved, Blamed, OthersStay, Put, AllMoved};
+
+use crate::bits::{clear_bit, has_bit, set_bit};
+use crate::family::Family;
+use crate::scan::Step;
+
+/// Takes a subject out of each row, and tells which rows had it.
+fn take_column(bundle: &mut [u64], width: usize, states: usize, subject: usize) -> [bool; 256]
+    requires subject { subject < 64 * width }
+    requires width { width ≤ 16 }
+    requires states { states < 256 }
+    requires size { length bundle.old ≡ states * width }
+    ensures taken { (s : ℕ) → s < states → IsTrue (slice_index_or result s false) ↔ Has bundle.old width s subject }
+    ensures clear { (s : ℕ) → s < states → bit_in bundle.new (cell width s subject) ≡ 0 }
+    ensures others { OthersStay states width subject bundle.old bundle.new }
+{
+    let mut taken = [false; 256];
+    for state in 0..states {
+        let k = state * (64 * width) + subject;
+        if has_bit(bundle, k) {
+            taken[state] = true;
+            clear_bit(bundle, k);
+        }
+    }
+    taken
+}
+
+/// Takes the subject's step from one state.
+fn put<F: Family>(
+    family: &F,
+    width: usize,
+    subject: usize,
+    item: usize,
+    state: u8,
+    bundle: &mut [u64],
+    bad: &mut [u64],
+)
+    requires subject { subject < F.subject_count family.now }
+    requires fits { F.subject_count family.now ≤ 64 * width }
+    requires width { width ≤ 16 }
+    requires item { item < F.item_count family.now }
+    requires state { state < F.state_count family.now }
+    requires size { length bundle.old ≡ F.state_count family.now * width }
+    requires bad { length bad.old ≡ width }
+    ensures { Put (F.step_of family.now subject state item) width subject bundle.old bundle.new bad.old bad.new }
+{
+    match family.step(subject, state, item) {
+        Step::Go(next) => set_bit(bundle, next as usize * (64 * width) + subject),
+        Step::Bad(_) => set_bit(bad, subject),
+    }
+}
+
+/// Moves one subject over an item.
+fn turn<F: Family>(
+    family: &F,
+    width: usize,
+    subject: usize,
+    item: usize,
+    bundle: &mut [u64],
+    bad: &mut [u64],
+)
+    requires subject { subject < F.subject_count family.now }
+    requires fits { F.subject_count family.now ≤ 64 * width }
+    requires width { width ≤ 16 }
+    requires item { item < F.item_count family.now }
+    requires size { length bundle.old ≡ F.state_count family.now * width }
+    requires bad { length bad.old ≡ width }
+    ensures moved { Moved (F.step_of family.now subject) (F.state_count family.now) width subject (item ∷ []) bundle.old bundle.new }
+    ensures others { OthersStay (F.state_count family.now) width subject bundle.old bundle.new }
+    ensures blamed { Blamed (F.step_of family.now subject) (F.state_count family.now) width subject (item ∷ []) bundle.old bad.old bad.new }
+    ensures innocent { (v : ℕ) → v ≢ subject → bit_in bad.new v ≡ bit_in bad.old v }
+{
+    let states = family.states();
+    let taken = take_column(bundle, width, states as usize, subject);
+    for state in 0..states {
+        if taken[state as usize] {
+            put(family, width, subject, item, state, bundle, bad);
+        }
+    }
+}
+
+/// Moves each subject over an item.
+pub fn turn_all<F: Family>(
+    family: &F,
+    width: usize,
+    item: usize,
+    bundle: &mut [u64],
+    bad: &mut [u64],
+)
+    requires fits { F.subject_count family.now ≤ 64 * width }
+    requires width { width ≤ 16 }
+    requires item { item < F.item_count family.now }
+    requires size { length bundle.old ≡ F.state_count family.now * width }
+    requires bad { length bad.old ≡ width }
+    ensures { AllMoved (F.step_of family.now) (F.state_count family.now) (F.subject_count family.now) width (item ∷ []) bundle.old bundle.new bad.old bad.new }
+{
+    let touched = family.touched(item);
+    for subject in touched {
+        turn(family, width, *subject as usize, item, bundle, bad);
+    }
+}
+
+/// Moves each subject over the items, one after another.
+pub fn pass_all<F: Family>(
+    family: &F,
+    width: usize,
+    items: &[usize],
+    bundle: &mut [u64],
+    bad: &mut [u64],
+)
+    requires fits { F.subject_count family.now ≤ 64 * width }
+    requires width { width ≤ 16 }
+    requires items { All (λ i. i < F.item_count family.now) items.now }
+    requires size { length bundle.old ≡ F.state_count family.now * width }
+    requires bad { length bad.old ≡ width }
+    ensures { AllMoved (F.step_of family.now) (F.state_count family.now) (F.subject_count family.now) width items.now bundle.old bundle.new bad.old bad.new }
+{
+    for item in items {
+        turn_all(family, width, *item, bundle, bad);
+    }
+}

@@ -1,0 +1,20 @@
+//! Searches every walk of a graph by a small automaton over items, for one subject or for many at once.
+//! It knows blocks, edges and the numbers of items, and nothing of what an item does.
+#![tactic(auto)]
+
+mod bits;
+mod bundle;
+mod family;
+mod found;
+mod frontier;
+mod member;
+mod rows;
+mod scan;
+mod together;
+mod worklist;
+
+pub use family::Family;
+pub use found::{Found, StateMap};
+pub use scan::{Scan, Step};
+pub use together::{FamilyMap, FoundAll, search_all};
+pub use worklist::search;

@@ -1,0 +1,293 @@
+//! Rows of bits for each block and state: whole rows are moved along edges until no block is dirty.
+//! A block is dirty where one of its rows has gained a subject since the block was last taken.
+
+ghost use Rattle.std.specs.Prelude.{◌≡◌, ℕ, ◌+◌, ◌*◌, ◌<◌, ◌≤◌, IfOk, OnOk, length, take, drop, slice_index_or, true, false};
+ghost use Rattle.sil_cfg.specs.Layout.{item_count};
+ghost use Rattle.sil_cfg.specs.Flow.{block_count, edge_count, IsEdge, numbered};
+ghost use Rattle.reach_engine.specs.Bits.{bit_in};
+ghost use Rattle.reach_engine.specs.Reached.{AreExact, AreBad, EdgeTaken, EdgesTaken, BlockTaken, MarksGains, IsSettled, DirtyTaken, Swept, IsClosed};
+
+use crate::bits::{merge, set_bit};
+use crate::bundle::{pass_all, turn_all};
+use crate::family::Family;
+use sil_ast::{BlockId, EdgeId, Exhausted};
+use sil_cfg::Graph;
+use std::alloc::Global;
+
+/// The rows that walks reach, and the subjects that some walk brings to a bad item.
+#[derive(Drop)]
+pub struct Reached {
+    pub rows: Vec<u64>,
+    pub bad: Vec<u64>,
+}
+
+/// Moves a bundle along an edge, and tells whether a row gained a subject.
+fn take_edge<F: Family>(
+    family: &F,
+    g: &Graph,
+    width: usize,
+    edge: EdgeId,
+    bundle: &mut [u64],
+    rows: &mut [u64],
+    bad: &mut [u64],
+) -> bool
+    requires items { F.item_count family.now ≡ item_count g.now }
+    requires fits { F.subject_count family.now ≤ 64 * width }
+    requires width { width ≤ 16 }
+    requires edge { IsEdge (numbered g.now) edge }
+    requires bundle { length bundle.old ≡ F.state_count family.now * width }
+    requires rows { length rows.old ≡ block_count (numbered g.now) * (F.state_count family.now * width) }
+    requires bad { length bad.old ≡ width }
+    ensures { EdgeTaken (numbered g.now) (F.step_of family.now) (F.state_count family.now) (F.subject_count family.now) width edge bundle.old rows.old rows.new bad.old bad.new result }
+{
+    turn_all(family, width, g.edge_item(edge), bundle, bad);
+    let row = family.states() as usize * width;
+    let offset = g.edge_to(edge).0 as usize * row;
+    merge(rows, offset, bundle)
+}
+
+/// Moves the rows of one block along its edges, marks the blocks that gain a subject, and tells whether there are any.
+fn take_block<F: Family>(
+    alloc: Global,
+    family: &F,
+    g: &Graph,
+    width: usize,
+    block: BlockId,
+    rows: &mut [u64],
+    bad: &mut [u64],
+    dirty: &mut [bool],
+) -> Result<bool, Exhausted>
+    requires items { F.item_count family.now ≡ item_count g.now }
+    requires fits { F.subject_count family.now ≤ 64 * width }
+    requires width { width ≤ 16 }
+    requires block { block.0 < block_count (numbered g.now) }
+    requires rows { length rows.old ≡ block_count (numbered g.now) * (F.state_count family.now * width) }
+    requires bad { length bad.old ≡ width }
+    requires dirty { length dirty.old ≡ block_count (numbered g.now) }
+    ensures taken { IfOk result (BlockTaken (numbered g.now) (F.step_of family.now) (F.state_count family.now) (F.subject_count family.now) width block.0 rows.old rows.new bad.old bad.new) }
+    ensures marks { IfOk result (MarksGains (F.state_count family.now) (F.subject_count family.now) width rows.old rows.new dirty.old dirty.new) }
+{
+    let row = family.states() as usize * width;
+    let first = block.0 as usize * row;
+    let mut bundle = rows[first..first + row].to_vec(alloc)?;
+    take_bundle(
+        alloc,
+        family,
+        g,
+        width,
+        block,
+        bundle.as_mut_slice(),
+        rows,
+        bad,
+        dirty,
+    )
+}
+
+/// Moves a copy of the block's rows over its items, and then along its edges.
+fn take_bundle<F: Family>(
+    alloc: Global,
+    family: &F,
+    g: &Graph,
+    width: usize,
+    block: BlockId,
+    bundle: &mut [u64],
+    rows: &mut [u64],
+    bad: &mut [u64],
+    dirty: &mut [bool],
+) -> Result<bool, Exhausted>
+    requires items { F.item_count family.now ≡ item_count g.now }
+    requires fits { F.subject_count family.now ≤ 64 * width }
+    requires width { width ≤ 16 }
+    requires block { block.0 < block_count (numbered g.now) }
+    requires size { length bundle.old ≡ F.state_count family.now * width }
+    requires bundle { bundle.old ≡ take (F.state_count family.now * width) (drop (block.0 * (F.state_count family.now * width)) rows.old) }
+    requires rows { length rows.old ≡ block_count (numbered g.now) * (F.state_count family.now * width) }
+    requires bad { length bad.old ≡ width }
+    requires dirty { length dirty.old ≡ block_count (numbered g.now) }
+    ensures taken { IfOk result (BlockTaken (numbered g.now) (F.step_of family.now) (F.state_count family.now) (F.subject_count family.now) width block.0 rows.old rows.new bad.old bad.new) }
+    ensures marks { IfOk result (MarksGains (F.state_count family.now) (F.subject_count family.now) width rows.old rows.new dirty.old dirty.new) }
+{
+    pass_all(family, width, g.items_of(block), bundle, bad);
+    let is_new = take_edges(alloc, family, g, width, block, bundle, rows, bad, dirty)?;
+    Ok(is_new)
+}
+
+/// Moves a bundle along each edge of the block.
+fn take_edges<F: Family>(
+    alloc: Global,
+    family: &F,
+    g: &Graph,
+    width: usize,
+    block: BlockId,
+    bundle: &[u64],
+    rows: &mut [u64],
+    bad: &mut [u64],
+    dirty: &mut [bool],
+) -> Result<bool, Exhausted>
+    requires items { F.item_count family.now ≡ item_count g.now }
+    requires fits { F.subject_count family.now ≤ 64 * width }
+    requires width { width ≤ 16 }
+    requires block { block.0 < block_count (numbered g.now) }
+    requires bundle { length bundle.now ≡ F.state_count family.now * width }
+    requires rows { length rows.old ≡ block_count (numbered g.now) * (F.state_count family.now * width) }
+    requires bad { length bad.old ≡ width }
+    requires dirty { length dirty.old ≡ block_count (numbered g.now) }
+    ensures taken { IfOk result (EdgesTaken (numbered g.now) (F.step_of family.now) (F.state_count family.now) (F.subject_count family.now) width block.0 bundle.now rows.old rows.new bad.old bad.new (edge_count (numbered g.now) block.0)) }
+    ensures marks { IfOk result (MarksGains (F.state_count family.now) (F.subject_count family.now) width rows.old rows.new dirty.old dirty.new) }
+{
+    let mut is_new = false;
+    for index in 0..g.edges(block) {
+        let edge = EdgeId { block, index };
+        let mut copy = bundle.to_vec(alloc)?;
+        let target = g.edge_to(edge).0 as usize;
+        if take_edge(family, g, width, edge, copy.as_mut_slice(), rows, bad) {
+            is_new = true;
+            dirty[target] = true;
+        }
+    }
+    Ok(is_new)
+}
+
+/// Takes the block if it is dirty, and tells whether it was.
+fn take_dirty<F: Family>(
+    alloc: Global,
+    family: &F,
+    g: &Graph,
+    width: usize,
+    block: BlockId,
+    rows: &mut [u64],
+    bad: &mut [u64],
+    dirty: &mut [bool],
+) -> Result<bool, Exhausted>
+    requires items { F.item_count family.now ≡ item_count g.now }
+    requires fits { F.subject_count family.now ≤ 64 * width }
+    requires width { width ≤ 16 }
+    requires block { block.0 < block_count (numbered g.now) }
+    requires settled { IsSettled (numbered g.now) (F.step_of family.now) (F.state_count family.now) (F.subject_count family.now) width rows.old bad.old dirty.old }
+    ensures { IfOk result (DirtyTaken (numbered g.now) (F.step_of family.now) (F.state_count family.now) (F.subject_count family.now) width block.0 rows.old rows.new bad.new dirty.old dirty.new) }
+{
+    let at = block.0 as usize;
+    if !dirty[at] {
+        return Ok(false);
+    }
+    dirty[at] = false;
+    take_block(alloc, family, g, width, block, rows, bad, dirty)?;
+    Ok(true)
+}
+
+/// Takes each dirty block once, and tells whether there was one.
+fn sweep<F: Family>(
+    alloc: Global,
+    family: &F,
+    g: &Graph,
+    width: usize,
+    rows: &mut [u64],
+    bad: &mut [u64],
+    dirty: &mut [bool],
+) -> Result<bool, Exhausted>
+    requires items { F.item_count family.now ≡ item_count g.now }
+    requires fits { F.subject_count family.now ≤ 64 * width }
+    requires width { width ≤ 16 }
+    requires settled { IsSettled (numbered g.now) (F.step_of family.now) (F.state_count family.now) (F.subject_count family.now) width rows.old bad.old dirty.old }
+    ensures { IfOk result (Swept (numbered g.now) (F.step_of family.now) (F.state_count family.now) (F.subject_count family.now) width rows.old rows.new bad.new dirty.old dirty.new (block_count (numbered g.now))) }
+{
+    let mut changed = false;
+    for block in 0..g.blocks() {
+        if take_dirty(alloc, family, g, width, BlockId(block), rows, bad, dirty)? {
+            changed = true;
+        }
+    }
+    Ok(changed)
+}
+
+/// Goes on until no block is dirty.
+fn settle<F: Family>(
+    alloc: Global,
+    family: &F,
+    g: &Graph,
+    width: usize,
+    rows: &mut [u64],
+    bad: &mut [u64],
+    dirty: &mut [bool],
+) -> Result<(), Exhausted>
+    requires items { F.item_count family.now ≡ item_count g.now }
+    requires fits { F.subject_count family.now ≤ 64 * width }
+    requires width { width ≤ 16 }
+    requires settled { IsSettled (numbered g.now) (F.step_of family.now) (F.state_count family.now) (F.subject_count family.now) width rows.old bad.old dirty.old }
+    ensures { OnOk result (IsClosed (numbered g.now) (F.step_of family.now) (F.state_count family.now) (F.subject_count family.now) width rows.new bad.new) }
+{
+    let mut changed = true;
+    while changed {
+        changed = sweep(alloc, family, g, width, rows, bad, dirty)?;
+    }
+    Ok(())
+}
+
+/// Puts each subject into the first row.
+fn seed(rows: &mut [u64], subjects: usize)
+    requires room { subjects ≤ 64 * length rows.old }
+    requires clear { (k : ℕ) → bit_in rows.old k ≡ 0 }
+    ensures set { (k : ℕ) → k < subjects → bit_in rows.new k ≡ 1 }
+    ensures rest { (k : ℕ) → subjects ≤ k → bit_in rows.new k ≡ 0 }
+{
+    for k in 0..subjects {
+        set_bit(rows, k);
+    }
+}
+
+/// Moves whole rows along edges until none is new, beginning at the entry.
+fn fill<F: Family>(
+    alloc: Global,
+    family: &F,
+    g: &Graph,
+    width: usize,
+    rows: &mut [u64],
+    bad: &mut [u64],
+    dirty: &mut [bool],
+) -> Result<(), Exhausted>
+    requires items { F.item_count family.now ≡ item_count g.now }
+    requires states { 0 < F.state_count family.now }
+    requires fits { F.subject_count family.now ≤ 64 * width }
+    requires width { width ≤ 16 }
+    requires size { length rows.old ≡ block_count (numbered g.now) * (F.state_count family.now * width) }
+    requires rows { (k : ℕ) → bit_in rows.old k ≡ 0 }
+    requires bad_size { length bad.old ≡ width }
+    requires bad { (k : ℕ) → bit_in bad.old k ≡ 0 }
+    requires dirty_size { length dirty.old ≡ block_count (numbered g.now) }
+    requires dirty { (b : ℕ) → b < block_count (numbered g.now) → slice_index_or dirty.old b false ≡ true }
+    ensures { OnOk result (IsClosed (numbered g.now) (F.step_of family.now) (F.state_count family.now) (F.subject_count family.now) width rows.new bad.new) }
+{
+    let _blocks = g.blocks();
+    seed(rows, family.subjects());
+    settle(alloc, family, g, width, rows, bad, dirty)
+}
+
+/// The rows that walks reach, and the subjects that some walk brings to a bad item.
+pub fn reach_rows<F: Family>(
+    alloc: Global,
+    family: &F,
+    g: &Graph,
+    width: usize,
+) -> Result<Reached, Exhausted>
+    requires items { F.item_count family.now ≡ item_count g.now }
+    requires states { 0 < F.state_count family.now }
+    requires fits { F.subject_count family.now ≤ 64 * width }
+    requires width { width ≤ 16 }
+    ensures rows { IfOk result (λ r. AreExact (numbered g.now) (F.step_of family.now) (F.state_count family.now) (F.subject_count family.now) width r.rows.items) }
+    ensures bad { IfOk result (λ r. AreBad (numbered g.now) (F.step_of family.now) (F.subject_count family.now) width r.bad.items) }
+{
+    let row = family.states() as usize * width;
+    let mut rows = vec![in alloc; 0u64; g.blocks() as usize * row]?;
+    let mut bad = vec![in alloc; 0u64; width]?;
+    let mut dirty = vec![in alloc; true; g.blocks() as usize]?;
+    fill(
+        alloc,
+        family,
+        g,
+        width,
+        rows.as_mut_slice(),
+        bad.as_mut_slice(),
+        dirty.as_mut_slice(),
+    )?;
+    Ok(Reached { rows, bad })
+}

@@ -1,0 +1,17 @@
+//! The control-flow graph of a function: its blocks, its edges, and the items that a walk meets.
+//! It knows what a block and an edge are, and nothing of what an instruction does.
+#![tactic(auto)]
+
+mod build;
+mod exits;
+mod fault;
+mod graph;
+mod item;
+mod laws;
+mod layout;
+
+pub use exits::is_exit;
+pub use fault::{RuleEnd, RuleFault};
+pub use graph::Graph;
+pub use item::Item;
+pub use laws::{graph_has_the_trails_of_its_function, splicing};
