@@ -26,7 +26,7 @@ pub enum TypeName {
     Weak(Boxed<TypeName>),
     /// `@sil_unowned T`, a storage type.
     Unowned(Boxed<TypeName>),
-    /// `*T`, the address of a place of type `T`.
+    /// `*T`, the address of a location that holds a `T`.
     Address(Boxed<TypeName>),
 }
 

@@ -98,7 +98,7 @@ measure_of d = measure_with (measure_at (all_names d) (measures_of d))
 abbrev pub is_trivial : Declarations → TypeName → Bool
 is_trivial d t = (measure_of d t).trivial
 
--- the integers, references and other places in a value, and for each enum in it one place that tells its case
+-- the integers, references and weak or unowned storage in a value, and for each enum in it one more that tells its case
 abbrev pub leaves_of : Declarations → TypeName → ℕ
 leaves_of d t = (measure_of d t).leaves
 
