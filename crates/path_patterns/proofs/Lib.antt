@@ -3,3 +3,4 @@ pub mod PatternsDecided
 pub mod ReadingsDecided
 pub mod SwitchDecided
 pub mod GraphPatterns
+pub mod RunsAreLawful

@@ -4,3 +4,4 @@ pub mod Decides
 pub mod Switch
 pub mod Reads
 pub mod Laws
+pub mod Runs

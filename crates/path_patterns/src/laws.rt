@@ -1,6 +1,7 @@
 //! The laws of patterns that a contract can state, each on a call that does nothing. The general ones, over any pattern, are lemmas in `proofs/`.
 
 ghost use Rattle.path_patterns.specs.Laws.{IsSwitchDecided, BreaksWithSwitch, BreaksOnFunction, KeepsWithoutBreak};
+ghost use Rattle.path_patterns.specs.Runs.{ReadsRuns, ReadsEndedRuns};
 
 /// The automaton of two states decides the switch: it goes on at just the marks that are in place.
 pub fn switch_is_decided()
@@ -20,4 +21,11 @@ pub fn kept_where_nothing_is_shown()
 /// What a walk shows on a function's graph, by numbers of items, it shows on the function.
 pub fn graph_shows_what_its_function_does()
     ensures { BreaksOnFunction }
+{}
+
+/// The marks of a value that is held are lawful exactly where they are runs of a begin, any number of uses, and an end.
+/// Before a `return` each run has its end.
+pub fn lawful_marks_are_runs()
+    ensures runs { ReadsRuns }
+    ensures ended { ReadsEndedRuns }
 {}

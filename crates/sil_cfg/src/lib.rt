@@ -9,9 +9,11 @@ mod graph;
 mod item;
 mod laws;
 mod layout;
+mod linked;
 
 pub use exits::is_exit;
 pub use fault::{RuleEnd, RuleFault};
 pub use graph::Graph;
 pub use item::Item;
 pub use laws::{graph_has_the_trails_of_its_function, splicing};
+pub use linked::has_graph;

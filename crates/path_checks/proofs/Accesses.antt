@@ -1,0 +1,24 @@
+-- The accesses of an item that was read from its vector.
+use Rattle.std.proofs.Common.{◌≡◌, ℕ, ◌<◌, ◌≤◌, List, [], ◌∷◌, ◌++◌, length, get_or, sym, ap, ◌∙◌, Some}
+use Rattle.std.specs.Prelude.{unwrap_or, option_map}
+use Rattle.std.specs.List.{slice_get}
+use Rattle.std.specs.declared.vec.Vec.{Vec}
+use Rattle.std.specs.declared.alloc.Global.{Global}
+use Rattle.std.proofs.lemmas.Option.{slice_get-get_or, slice_get-map, slice_get_past}
+use Rattle.sil_cfg.proofs.Gets.{kept_get, last_get}
+use Rattle.path_patterns.specs.Reads.{accesses_at}
+
+pub accesses_there : {A : Type 0} (xs : List (Vec A Global)) (i : ℕ) (x : Vec A Global) → i < length xs → x ≡ get_or xs i x → accesses_at xs i ≡ x.items
+accesses_there xs i x lt e = ap (λ o. unwrap_or o []) (slice_get-map (λ v. v.items) xs i ∙ ap (option_map (λ v. v.items)) (slice_get-get_or xs i x lt ∙ ap (λ v. Some v) (sym e)))
+
+pub accesses_past : {A : Type 0} (xs : List (Vec A Global)) (i : ℕ) → length xs ≤ i → accesses_at xs i ≡ []
+accesses_past xs i le = ap (λ o. unwrap_or o []) (slice_get-map (λ v. v.items) xs i ∙ ap (option_map (λ v. v.items)) (slice_get_past xs i le))
+
+pub accesses_kept : {A : Type 0} (xs : List (Vec A Global)) (x : Vec A Global) (i : ℕ) → i < length xs → accesses_at (xs ++ x ∷ []) i ≡ accesses_at xs i
+accesses_kept xs x i lt =
+    let y = get_or xs i x in
+    let old = slice_get-get_or xs i x lt in
+    ap (λ o. unwrap_or o []) (slice_get-map (λ v. v.items) (xs ++ x ∷ []) i ∙ ap (option_map (λ v. v.items)) (kept_get xs (x ∷ []) i y old ∙ sym old) ∙ sym (slice_get-map (λ v. v.items) xs i))
+
+pub accesses_last : {A : Type 0} (xs : List (Vec A Global)) (x : Vec A Global) (i : ℕ) → i ≡ length xs → accesses_at (xs ++ x ∷ []) i ≡ x.items
+accesses_last xs x i e = ap (λ o. unwrap_or o []) (slice_get-map (λ v. v.items) (xs ++ x ∷ []) i ∙ ap (option_map (λ v. v.items)) (ap (slice_get (xs ++ x ∷ [])) e ∙ last_get xs x))

@@ -1,0 +1,98 @@
+-- What the automata reach on the graph is what the table shows on the function.
+use Rattle.std.proofs.Common.{◌≡◌, ◌≢◌, ℕ, ◌+◌, ◌-◌, ◌<◌, ◌≤◌, List, [], ◌∷◌, length, refl, sym, ap, ◌∙◌, subst, ◌⊎◌, inl, inr, Some, None, All, arith}
+use Rattle.std.proofs.lemmas.Bool.{cases_eq}
+use Rattle.sil_ast.specs.declared.place.EdgeId.{EdgeId}
+use Rattle.sil_ast.specs.declared.place.PointId.{PointId}
+use Rattle.sil_ast.specs.declared.function.Function.{Function}
+use Rattle.sil_cfg.specs.declared.item.Item.{Item}
+use Rattle.sil_cfg.specs.declared.item.Item.TheVariants.{Entry, Inst, Edge, Exit}
+use Rattle.sil_cfg.specs.Layout.{Layout}
+use Rattle.sil_cfg.specs.Flow.{numbered, point_of}
+use Rattle.sil_cfg.specs.Items.{flow_of}
+use Rattle.sil_cfg.specs.Build.{IsGraphOf}
+use Rattle.reach_engine.specs.Reach.{ReachesFirst, ReachesPoint}
+use Rattle.reach_engine.specs.Search.{IsClean}
+use Rattle.reach_engine.proofs.Runs.{go-bad}
+use Rattle.path_patterns.specs.Reads.{AgreesWith, FitsRead, read_code, read_step}
+use Rattle.path_patterns.specs.Switch.{IsInPlace, code_of, mark_step}
+use Rattle.path_patterns.proofs.SwitchDecided.{reading_decides}
+use Rattle.path_patterns.proofs.PatternsDecided.{reached_shown, shown_reached}
+use Rattle.path_patterns.proofs.GraphPatterns.{shown_there, shown_back}
+use Rattle.path_checks.specs.declared.entry.Entry as entry
+use Rattle.path_checks.specs.declared.entry.PathFault.{PathFault}
+use Rattle.path_checks.specs.Entries.{means, subject_step}
+use Rattle.path_checks.specs.Chunks.{IsChunkFault}
+use Rattle.path_checks.specs.First.{IsShown, NotAfter, IsFirst}
+use Rattle.path_checks.proofs.OtherSubjects.{quiet_run}
+
+point_same : (g : Layout) (f : Function) → IsGraphOf g f → (item : Item) → point_of (numbered g) item ≡ point_of (flow_of f) item
+point_same g f is Entry = refl
+point_same g f is (Inst p) = refl
+point_same g f is (Edge e) = ap (λ n. record { block = e.block; index = n }) (is.last e.block.0)
+point_same g f is (Exit p) = refl
+
+-- a number is at most another one: it is less, or the same
+first_then : (x y : ℕ) (xs ys : List ℕ) → x ≤ y → (x ≡ y → NotAfter xs ys) → NotAfter (x ∷ xs) (y ∷ ys)
+first_then x y xs ys le more = at (cases_eq x y)
+  where
+    at : (x ≡ y) ⊎ (x ≢ y) → NotAfter (x ∷ xs) (y ∷ ys)
+    at (inl e) = inr (e, more e)
+    at (inr n) = inl (omega arith)
+
+at_most : (x y : ℕ) → (y < x → ⊥) → x ≤ y
+at_most x y h = grind (arith, h)
+
+module _ (g : Layout) (f : Function) (is : IsGraphOf g f) (entries : ℕ → List entry.Entry) (table : Item → List entry.Entry) (agrees : AgreesWith g entries table) where
+  -- what is shown is reached
+  pub shown_is_reached : (subject code : ℕ) (walk : List EdgeId) (point : PointId) → IsShown f table subject code walk point → (i : ℕ) × ReachesFirst (numbered g) (subject_step entries subject) walk code i
+  shown_is_reached subject code walk point h =
+      let r = shown_back g f is entries table agrees (FitsRead IsInPlace (means subject)) (read_code code_of (means subject)) walk code h.item h.shows in
+      (r.0, shown_reached (read_step mark_step (means subject)) (FitsRead IsInPlace (means subject)) (read_code code_of (means subject)) (reading_decides (means subject)) entries (numbered g) walk code r.0 r.2)
+
+  -- and what is reached is shown
+  pub reached_is_shown : (subject code : ℕ) (walk : List EdgeId) (point : PointId) → ReachesPoint g (subject_step entries subject) walk code point → IsShown f table subject code walk point
+  reached_is_shown subject code walk point h =
+      let shows = reached_shown (read_step mark_step (means subject)) (FitsRead IsInPlace (means subject)) (read_code code_of (means subject)) (reading_decides (means subject)) entries (numbered g) walk code h.item h.reaches in
+      record {
+        item = h.point_is.kind;
+        point_is = h.point_is.point_is ∙ point_same g f is h.point_is.kind;
+        shows = shown_there g f is entries table agrees (FitsRead IsInPlace (means subject)) (read_code code_of (means subject)) walk code h.item h.point_is.kind h.point_is.there shows;
+      }
+
+  -- a subject without entries is clean
+  pub absent_clean : (subject : ℕ) → ((i : ℕ) → All (λ e. e.subject ≡ subject → ⊥) (entries i)) → IsClean (numbered g) (subject_step entries subject)
+  absent_clean subject none w code item h = go-bad h.state code (sym (quiet_run subject h.state (entries item) (none item)) ∙ h.breaks)
+
+  clean_unshown : (subject : ℕ) → IsClean (numbered g) (subject_step entries subject) → (code : ℕ) (walk : List EdgeId) (point : PointId) → IsShown f table subject code walk point → ⊥
+  clean_unshown subject clean code walk point h = let r = shown_is_reached subject code walk point h in clean walk code r.0 r.1
+
+  -- where all subjects are clean nothing is shown
+  pub nothing_shown : ((subject : ℕ) → IsClean (numbered g) (subject_step entries subject)) → IsFirst f table None
+  nothing_shown clean subject code walk point h = clean_unshown subject (clean subject) code walk point h
+
+  -- where those before are clean, the chunk's fault is the first
+  pub chunk_fault_first : (first count : ℕ) (fault : PathFault) → ((v : ℕ) → v < first → IsClean (numbered g) (subject_step entries v)) → IsChunkFault g entries first count fault → IsFirst f table (Some fault)
+  chunk_fault_first first count fault before h = (
+    reached_is_shown fault.subject fault.code fault.walk fault.point h.reaches,
+    λ subject code walk point s.
+        first_then fault.subject subject (fault.code ∷ (length fault.walk ∷ [])) (code ∷ (length walk ∷ [])) (at_most fault.subject subject (λ lt. clean_unshown subject (earlier subject lt) code walk point s))
+        (λ same.
+        let r : (i : ℕ) × ReachesFirst (numbered g) (subject_step entries fault.subject) walk code i = subst (λ v. (i : ℕ) × ReachesFirst (numbered g) (subject_step entries v) walk code i) (sym same) (shown_is_reached subject code walk point s) in
+        first_then fault.code code (length fault.walk ∷ []) (length walk ∷ []) (h.least walk code r.0 r.1)
+        (λ again.
+        let t : ReachesFirst (numbered g) (subject_step entries fault.subject) walk fault.code r.0 = subst (λ c. ReachesFirst (numbered g) (subject_step entries fault.subject) walk c r.0) (sym again) r.1 in
+        first_then (length fault.walk) (length walk) [] [] (h.shortest walk r.0 t) (λ _. tt))),
+  )
+    where
+      earlier : (v : ℕ) → v < fault.subject → IsClean (numbered g) (subject_step entries v)
+      earlier v lt = at (less_or_not v first)
+        where
+          less_or_not : (x y : ℕ) → (x < y) ⊎ (y ≤ x)
+          less_or_not x y = grind arith
+
+          at : (v < first) ⊎ (first ≤ v) → IsClean (numbered g) (subject_step entries v)
+          at (inl l) = before v l
+          at (inr le) =
+              let subject : fault.subject ≡ first + h.offset = h.subject in
+              let place : first + (v - first) ≡ v = omega arith in
+              subst (λ x. IsClean (numbered g) (subject_step entries x)) place (h.clean (v - first) (omega arith))

@@ -1,0 +1,4 @@
+pub mod Accesses
+pub mod OtherSubjects
+pub mod FirstShown
+pub mod Touching

@@ -1,0 +1,24 @@
+-- Entries of other subjects are nothing to a subject.
+use Rattle.std.proofs.Common.{◌≡◌, ℕ, List, [], ◌∷◌, refl, ap, ◌∙◌, Bool, true, false, Some, None}
+use Rattle.std.specs.Prelude.{All, ◌==◌, cond}
+use Rattle.std.proofs.lemmas.Bool.{eqb-true}
+use Rattle.std.proofs.lemmas.List.Elements.{All-head, All-tail}
+use Rattle.reach_engine.specs.declared.scan.Step.TheVariants.{Go}
+use Rattle.reach_engine.specs.Run.{run}
+use Rattle.path_patterns.specs.Reads.{read_step, step_in}
+use Rattle.path_patterns.specs.Switch.{mark_step}
+use Rattle.path_checks.specs.declared.entry.Entry.{Entry}
+use Rattle.path_checks.specs.Entries.{means}
+
+no_mark : (subject : ℕ) (e : Entry) → (e.subject ≡ subject → ⊥) → means subject e ≡ None
+no_mark subject e other = at (e.subject == subject) refl
+  where
+    at : (b : Bool) → (e.subject == subject) ≡ b → means subject e ≡ None
+    at true q = absurd (other (eqb-true e.subject subject q))
+    at false q = ap (λ b. cond b (Some e.mark) None) q
+
+pub quiet_run : (subject s : ℕ) (entries : List Entry) → All (λ e. e.subject ≡ subject → ⊥) entries → run (read_step mark_step (means subject)) (Go s) entries ≡ Go s
+quiet_run subject s [] h = refl
+quiet_run subject s (e ∷ entries) h =
+    ap (λ o. run (read_step mark_step (means subject)) (step_in mark_step s o) entries) (no_mark subject e (All-head (λ (x : Entry). x.subject ≡ subject → ⊥) e entries h))
+    ∙ quiet_run subject s entries (All-tail (λ (x : Entry). x.subject ≡ subject → ⊥) e entries h)

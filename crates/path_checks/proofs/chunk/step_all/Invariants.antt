@@ -1,0 +1,10 @@
+use Rattle.std.proofs.Common.{◌≡◌, ◌<◌, take}
+use Rattle.reach_engine.specs.declared.scan.Step.TheVariants.{Go}
+use Rattle.reach_engine.specs.Run.{run}
+use Rattle.path_patterns.specs.Reads.{read_step}
+use Rattle.path_patterns.specs.Switch.{mark_step}
+use Rattle.path_checks.specs.Entries.{means}
+use Rattle.path_checks.proofs.chunk.step_all.Given as goal
+
+abbrev pub invariant-loop-entry : goal.invariant-loop-entry
+invariant-loop-entry l = (run (read_step mark_step (means l.subject)) (Go l.state) (take l.entry-index l.entries) ≡ Go l.current) × (l.current < 2)

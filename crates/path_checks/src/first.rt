@@ -1,0 +1,81 @@
+//! The first fault of all subjects.
+
+ghost use Rattle.std.specs.Prelude.{◌≡◌, ℕ, ◌+◌, ◌<◌, ◌≤◌, ◌^◌, List, length, IfOk};
+ghost use Rattle.sil_cfg.specs.declared.item.Item.{Item};
+ghost use Rattle.sil_cfg.specs.Layout.{item_count};
+ghost use Rattle.sil_cfg.specs.Build.{IsGraphOf};
+ghost use Rattle.path_patterns.specs.Reads.{accesses_at, AgreesWith};
+ghost use Rattle.path_checks.specs.declared.entry.Entry as entry;
+ghost use Rattle.path_checks.specs.Chunks.{IsFirstOfChunk};
+ghost use Rattle.path_checks.specs.First.{IsFirst};
+
+use crate::chunk::Chunk;
+use crate::entry::{Entry, PathFault};
+use crate::touched::{subject_bound, touched_subjects};
+use reach_engine::{FoundAll, search_all};
+use sil_ast::{Exhausted, Function};
+use sil_cfg::Graph;
+use std::alloc::Global;
+
+/// The most subjects that are searched together.
+const CHUNK: usize = 1024;
+
+/// The first fault of the `count` subjects from `first` on.
+fn first_of_chunk(
+    alloc: Global,
+    g: &Graph,
+    entries: &[Vec<Entry>],
+    first: usize,
+    count: usize,
+) -> Result<Option<PathFault>, Exhausted>
+    requires items { length entries.now ≡ item_count g.now }
+    requires few { count ≤ 1024 }
+    requires fits { first + count ≤ 2 ^ 32 }
+    ensures { IfOk result (IsFirstOfChunk g.now (accesses_at entries.now) first count) }
+{
+    let touched = touched_subjects(alloc, entries, first, count)?;
+    let chunk = Chunk {
+        entries,
+        first,
+        count,
+        touched,
+    };
+    match search_all(alloc, g, &chunk)? {
+        FoundAll::Clean(_) => Ok(None),
+        FoundAll::Fault {
+            subject,
+            walk,
+            point,
+            code,
+        } => Ok(Some(PathFault {
+            subject: (first + subject) as u32,
+            code,
+            walk,
+            point,
+        })),
+    }
+}
+
+/// The first fault that some walk of the function shows: by subject, then by code, then with fewest edges; none where nothing is shown.
+/// `entries` has what each item of the function's graph does, by the item's number.
+pub fn first_fault(
+    alloc: Global,
+    f: &Function,
+    g: &Graph,
+    entries: &[Vec<Entry>],
+) -> Result<Option<PathFault>, Exhausted>
+    requires graph { IsGraphOf g.now f.now }
+    requires items { length entries.now ≡ item_count g.now }
+    ensures { IfOk result (λ r. (table : Item → List entry.Entry) → AgreesWith g.now (accesses_at entries.now) table → IsFirst f.now table r) }
+{
+    let subjects = subject_bound(entries);
+    let mut first = 0;
+    while first < subjects {
+        let count = CHUNK.min(subjects - first);
+        if let Some(fault) = first_of_chunk(alloc, g, entries, first, count)? {
+            return Ok(Some(fault));
+        }
+        first += count;
+    }
+    Ok(None)
+}
