@@ -1,0 +1,7 @@
+//! Tests of graphs, walks and the checks over them, on functions that are read from text.
+#![tactic(auto)]
+
+#[cfg(test)]
+mod availability;
+#[cfg(test)]
+mod outcome;
