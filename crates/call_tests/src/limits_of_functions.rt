@@ -46,7 +46,11 @@ const INSTRUCTIONS_LIMITS: [Limited; 2] = [
 
 const INSTRUCTIONS_COUNTED_WITH_VALUE: [Counted; 4] = [
     // an instruction is one too many: at the limit
-    ("`debug_value %0 : $A\n`unreachable\n}\nclass A {}\n", 4095, "not built"),
+    (
+        "`debug_value %0 : $A\n`unreachable\n}\nclass A {}\n",
+        4095,
+        "not built",
+    ),
     // an instruction is one too many: past it
     (
         "`debug_value %0 : $A\n`unreachable\n}\nclass A {}\n",
@@ -84,13 +88,29 @@ const INSTRUCTIONS_COUNTED: [Counted; 2] = [
 
 const VALUES_LIMITS_WITHOUT_VALUE: [Limited; 4] = [
     // named
-    ("`%~ = alloc_ref $A\n`unreachable\n}\nclass A {}\n", 1024, "1027:1"),
+    (
+        "`%~ = alloc_ref $A\n`unreachable\n}\nclass A {}\n",
+        1024,
+        "1027:1",
+    ),
     // unnamed
-    ("`alloc_ref $A\n`unreachable\n}\nclass A {}\n", 1024, "1027:1"),
+    (
+        "`alloc_ref $A\n`unreachable\n}\nclass A {}\n",
+        1024,
+        "1027:1",
+    ),
     // unnamed behind empty parentheses
-    ("`() = alloc_ref $A\n`unreachable\n}\nclass A {}\n", 1024, "1027:6"),
+    (
+        "`() = alloc_ref $A\n`unreachable\n}\nclass A {}\n",
+        1024,
+        "1027:6",
+    ),
     // in parentheses
-    ("`(%~) = alloc_ref $A\n`unreachable\n}\nclass A {}\n", 1024, "1027:2"),
+    (
+        "`(%~) = alloc_ref $A\n`unreachable\n}\nclass A {}\n",
+        1024,
+        "1027:2",
+    ),
 ];
 
 const VALUES_LIMITS: [Limited; 6] = [
