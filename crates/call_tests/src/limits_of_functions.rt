@@ -14,7 +14,7 @@ const BLOCKS_LIMITS: [Limited; 2] = [
     ),
     // with arguments
     (
-        "sil @f : $@convention(thin) () -> () {\n`b~(%a~ : $A):\nbr b0(%a0 : $A)\n`}\n",
+        "sil @f : $@convention(thin) () -> () {\n`b~(%a~ : $A):\nbr b0(%a0 : $A)\n`}\nclass A {}\n",
         512,
         "1026:1",
     ),
@@ -32,13 +32,13 @@ const BLOCKS_COUNTED: [Counted; 1] = [
 const INSTRUCTIONS_LIMITS: [Limited; 2] = [
     // of all blocks together
     (
-        "sil @f : $@convention(thin) () -> () {\n`b~(%~ : $A):\ndebug_value %0 : $A\ndebug_value %0 : $A\ndebug_value %0 : $A\ndebug_value %0 : $A\ndebug_value %0 : $A\ndebug_value %0 : $A\ndebug_value %0 : $A\ndebug_value %0 : $A\ndebug_value %0 : $A\ndebug_value %0 : $A\ndebug_value %0 : $A\ndebug_value %0 : $A\ndebug_value %0 : $A\ndebug_value %0 : $A\ndebug_value %0 : $A\nunreachable\n`}\n",
+        "sil @f : $@convention(thin) () -> () {\n`b~(%~ : $A):\ndebug_value %0 : $A\ndebug_value %0 : $A\ndebug_value %0 : $A\ndebug_value %0 : $A\ndebug_value %0 : $A\ndebug_value %0 : $A\ndebug_value %0 : $A\ndebug_value %0 : $A\ndebug_value %0 : $A\ndebug_value %0 : $A\ndebug_value %0 : $A\ndebug_value %0 : $A\ndebug_value %0 : $A\ndebug_value %0 : $A\ndebug_value %0 : $A\nunreachable\n`}\nclass A {}\n",
         256,
         "4355:1",
     ),
     // the terminator is one too many
     (
-        "sil [ossa] @f : $@convention(thin) () -> () {\nb(%0 : $A):\n`debug_value %0 : $A\n`unreachable\n}\n",
+        "sil [ossa] @f : $@convention(thin) () -> () {\nb(%0 : $A):\n`debug_value %0 : $A\n`unreachable\n}\nclass A {}\n",
         4095,
         "4099:1",
     ),
@@ -46,10 +46,14 @@ const INSTRUCTIONS_LIMITS: [Limited; 2] = [
 
 const INSTRUCTIONS_COUNTED_WITH_VALUE: [Counted; 4] = [
     // an instruction is one too many: at the limit
-    ("`debug_value %0 : $A\n`unreachable\n}\n", 4095, "not built"),
+    (
+        "`debug_value %0 : $A\n`unreachable\n}\nclass A {}\n",
+        4095,
+        "not built",
+    ),
     // an instruction is one too many: past it
     (
-        "`debug_value %0 : $A\n`unreachable\n}\n",
+        "`debug_value %0 : $A\n`unreachable\n}\nclass A {}\n",
         4097,
         "limit instructions at 4099:1",
     ),
@@ -84,49 +88,65 @@ const INSTRUCTIONS_COUNTED: [Counted; 2] = [
 
 const VALUES_LIMITS_WITHOUT_VALUE: [Limited; 4] = [
     // named
-    ("`%~ = alloc_ref $A\n`unreachable\n}\n", 1024, "1027:1"),
+    (
+        "`%~ = alloc_ref $A\n`unreachable\n}\nclass A {}\n",
+        1024,
+        "1027:1",
+    ),
     // unnamed
-    ("`alloc_ref $A\n`unreachable\n}\n", 1024, "1027:1"),
+    (
+        "`alloc_ref $A\n`unreachable\n}\nclass A {}\n",
+        1024,
+        "1027:1",
+    ),
     // unnamed behind empty parentheses
-    ("`() = alloc_ref $A\n`unreachable\n}\n", 1024, "1027:6"),
+    (
+        "`() = alloc_ref $A\n`unreachable\n}\nclass A {}\n",
+        1024,
+        "1027:6",
+    ),
     // in parentheses
-    ("`(%~) = alloc_ref $A\n`unreachable\n}\n", 1024, "1027:2"),
+    (
+        "`(%~) = alloc_ref $A\n`unreachable\n}\nclass A {}\n",
+        1024,
+        "1027:2",
+    ),
 ];
 
 const VALUES_LIMITS: [Limited; 6] = [
     // arguments of blocks
     (
-        "sil @f : $@convention(thin) () -> () {\n`b~(%a~ : $A, %b~ : $A, %c~ : $A, %d~ : $A):\nunreachable\n`}\n",
+        "sil @f : $@convention(thin) () -> () {\n`b~(%a~ : $A, %b~ : $A, %c~ : $A, %d~ : $A):\nunreachable\n`}\nclass A {}\n",
         256,
         "514:6",
     ),
     // destroy_addr
     (
-        "sil [ossa] @f : $@convention(thin) () -> () {\nb(%0 : $*A):\n`destroy_addr %0 : $*A\n`unreachable\n}\n",
+        "sil [ossa] @f : $@convention(thin) () -> () {\nb(%0 : $*A):\n`destroy_addr %0 : $*A\n`unreachable\n}\nclass A {}\n",
         1023,
         "1026:1",
     ),
     // destroy_addr with a name, at its mnemonic
     (
-        "sil [ossa] @f : $@convention(thin) () -> () {\nb(%0 : $*A):\n`%a~ = destroy_addr %0 : $*A\n`unreachable\n}\n",
+        "sil [ossa] @f : $@convention(thin) () -> () {\nb(%0 : $*A):\n`%a~ = destroy_addr %0 : $*A\n`unreachable\n}\nclass A {}\n",
         511,
         "514:9",
     ),
     // destroy_addr with a name, at its name
     (
-        "sil [ossa] @f : $@convention(thin) () -> () {\nb(%0 : $*A, %1 : $*A):\n`%a~ = destroy_addr %0 : $*A\n`unreachable\n}\n",
+        "sil [ossa] @f : $@convention(thin) () -> () {\nb(%0 : $*A, %1 : $*A):\n`%a~ = destroy_addr %0 : $*A\n`unreachable\n}\nclass A {}\n",
         511,
         "514:1",
     ),
     // store [assign]
     (
-        "sil [ossa] @f : $@convention(thin) () -> () {\nb(%0 : $*A):\n`store %0 to [assign] %0 : $*A\n`unreachable\n}\n",
+        "sil [ossa] @f : $@convention(thin) () -> () {\nb(%0 : $*A):\n`store %0 to [assign] %0 : $*A\n`unreachable\n}\nclass A {}\n",
         1023,
         "1026:14",
     ),
     // two names
     (
-        "sil [ossa] @f : $@convention(thin) () -> () {\nb(%0 : $A):\n`(%a~, %b~) = destructure_tuple %0 : $(A, A)\n`unreachable\n}\n",
+        "sil [ossa] @f : $@convention(thin) () -> () {\nb(%0 : $A):\n`(%a~, %b~) = destructure_tuple %0 : $(A, A)\n`unreachable\n}\nclass A {}\n",
         511,
         "514:9",
     ),
@@ -135,13 +155,13 @@ const VALUES_LIMITS: [Limited; 6] = [
 const VALUES_COUNTED: [Counted; 5] = [
     // other stores are none
     (
-        "sil [ossa] @f : $@convention(thin) () -> () {\nb(%0 : $*A):\n`store %0 to [init] %0 : $*A\nstore %0 to [trivial] %0 : $*A\n`unreachable\n}\n",
+        "sil [ossa] @f : $@convention(thin) () -> () {\nb(%0 : $*A):\n`store %0 to [init] %0 : $*A\nstore %0 to [trivial] %0 : $*A\n`unreachable\n}\nclass A {}\n",
         1100,
         "not built",
     ),
     // are counted for each function
     (
-        "`sil @f~ : $@convention(thin) () -> () { b(%0 : $A, %1 : $A, %2 : $A, %3 : $A): unreachable }\n`",
+        "`sil @f~ : $@convention(thin) () -> () { b(%0 : $A, %1 : $A, %2 : $A, %3 : $A): unreachable }\n`class A {}\n",
         300,
         "not built",
     ),
@@ -159,7 +179,7 @@ const VALUES_COUNTED: [Counted; 5] = [
     ),
     // rows with no result or several are none without names
     (
-        "sil [ossa] @f : $@convention(thin) () -> () {\nb(%0 : $A):\n`destructure_struct %0 : $A\n() = destructure_tuple %0 : $(A, A)\n`unreachable\n}\n",
+        "sil [ossa] @f : $@convention(thin) () -> () {\nb(%0 : $A):\n`destructure_struct %0 : $A\n() = destructure_tuple %0 : $(A, A)\n`unreachable\n}\nclass A {}\n",
         1100,
         "not built",
     ),
