@@ -21,7 +21,7 @@ use Rattle.sil_command.specs.Violations.{IsRefusal}
 use Rattle.sil_command.specs.Texts.{limit_text, usage_text, refusal_text}
 use Rattle.sil_command.specs.declared.words.Mode.{Mode}
 use Rattle.sil_command.specs.Words.{AsksFor, IsCommandLine}
-use Rattle.sil_command.specs.Answers.{AnswersCheck, AnswersModule, AnswersText, usage, in_mode, too_long, unread, spelled, refused}
+use Rattle.sil_command.specs.Answers.{AnswersCheck, AnswersModule, AnswersText, HasDeclaredTypes, usage, in_mode, too_long, unread, spelled, refused}
 use Rattle.sil_command.specs.Reading.{AnswersRefusal}
 use Rattle.sil_command.specs.Ends.{IsAnswer, MayHave, TakesText}
 
@@ -77,12 +77,12 @@ pub read_answer : {A E : Type 0} (r : Result A E) (text_of : A → List ℕ) (st
 read_answer (Ok a) text_of status_of mode {m = m} within spells answer = spelled m _ _ within spells answer
 read_answer (Err e) text_of status_of mode within spells answer = tt
 
--- a line with its status is an answer where it is the line for the reason
-pub told_line : {A E : Type 0} (r : Result A E) (text_of : A → List ℕ) (status_of : A → Status) (status : Status) {reason : ReadRefusal} {text : List ℕ} → AnswersRefusal reason text (code_of status)
-    → IfOk r (λ a. text_of a ≡ text) → IfOk r (λ a. status_of a ≡ status) → IfOk r (λ a. AnswersRefusal reason (text_of a) (code_of (status_of a)))
-told_line (Ok a) text_of status_of status {reason = reason} {text = text} told same status_is =
-    subst (λ t. AnswersRefusal reason t (code_of (status_of a))) (sym same) (subst (λ s. AnswersRefusal reason text (code_of s)) (sym status_is) told)
-told_line (Err e) text_of status_of status told same status_is = tt
+-- what is told of a line and a status is told of a result with that line and that status
+pub told_line : {A E : Type 0} (Told : List ℕ → ℕ → Type 0) (r : Result A E) (text_of : A → List ℕ) (status_of : A → Status) (status : Status) {text : List ℕ} → Told text (code_of status)
+    → IfOk r (λ a. text_of a ≡ text) → IfOk r (λ a. status_of a ≡ status) → IfOk r (λ a. Told (text_of a) (code_of (status_of a)))
+told_line Told (Ok a) text_of status_of status {text = text} told same status_is =
+    subst (λ t. Told t (code_of (status_of a))) (sym same) (subst (λ s. Told text (code_of s)) (sym status_is) told)
+told_line Told (Err e) text_of status_of status told same status_is = tt
 
 -- what is answered to the reason is answered to the text that isn't read
 pub unread_answer : {A E : Type 0} (r : Result A E) (text_of : A → List ℕ) (status_of : A → ℕ) (mode : Mode) {text : List ℕ} {reason : ReadRefusal} → length text ≤ TEXT_BYTES
@@ -91,9 +91,9 @@ unread_answer (Ok a) text_of status_of mode {reason = reason} within refusal ans
 unread_answer (Err e) text_of status_of mode within refusal answer = tt
 
 -- the module's first refusal, by the function that has it
-pub refusal_answer : (m : Module) (r : Refusal) (f : Function) (text : List ℕ) → IsSimple m → IsRefusal m r → f ≡ get_or m.functions r.function.0 f
+pub refusal_answer : (m : Module) (r : Refusal) (f : Function) (text : List ℕ) → HasDeclaredTypes m → IsSimple m → IsRefusal m r → f ≡ get_or m.functions r.function.0 f
     → text ≡ refusal_text f.name r.violation → AnswersCheck m text (code_of Refused)
-refusal_answer m r f text simple refusal is e =
+refusal_answer m r f text types simple refusal is e =
     let at : get_or m.functions r.function.0 f ≡ refusal.function =
     ap (λ fs. get_or fs r.function.0 f) refusal.parts ∙ ap (λ k. get_or (refusal.before ++ refusal.function ∷ refusal.after) k f) refusal.place ∙ get_or-append_seam refusal.before refusal.function refusal.after f in
-    subst (λ t. AnswersCheck m t (code_of Refused)) (ap (λ g. refusal_text g.name r.violation) (sym (is ∙ at)) ∙ sym e) (refused r refusal simple)
+    subst (λ t. AnswersCheck m t (code_of Refused)) (ap (λ g. refusal_text g.name r.violation) (sym (is ∙ at)) ∙ sym e) (refused r refusal types simple)

@@ -1,4 +1,5 @@
 pub mod AnswerLemmas
+pub mod DeclaredTypes
 pub mod EndLemmas
 pub mod Functions
 pub mod LeastBroken

@@ -50,3 +50,11 @@ point_words function k = codes " @" ++ function ++ codes " bb0:" ++ decimal k
 abbrev pub refusal_text : List ℕ → Violation → List ℕ
 refusal_text function v =
     line (rule_words v.rule ++ point_words function v.point) ++ line (codes "subject %" ++ decimal v.subject.0) ++ line (codes "walk bb0")
+
+-- the rule, and the item by its number, from 0 over declarations, functions and vtables, in that order
+abbrev pub refused_item_text : Rule → ℕ → List ℕ
+refused_item_text r item = line (rule_words r ++ codes " item " ++ decimal item)
+
+-- the limit that a type is past, which has no place
+abbrev pub type_limit_text : LimitWord → List ℕ
+type_limit_text what = line (codes "limit " ++ word_of what)

@@ -3,17 +3,20 @@
 ghost use Rattle.std.specs.Prelude.{◌≤◌, IfOk, length};
 ghost use Rattle.sil_rules.specs.declared.limits.TheConstants.{TEXT_BYTES};
 ghost use Rattle.sil_rules.specs.Statuses.{code_of};
-ghost use Rattle.sil_command.specs.Answers.{AnswersCheck, AnswersModule, AnswersPrint, AnswersText};
+ghost use Rattle.numbered_form.specs.NumberedForm.{IsNumbered};
 ghost use Rattle.simple_modules.specs.Simple.{IsSimple};
+ghost use Rattle.sil_command.specs.Answers.{AnswersCheck, AnswersModule, AnswersPrint, AnswersText, HasDeclaredTypes};
 
 use crate::one_block::first_refusal;
 use crate::reading::answer_refusal;
 use crate::texts;
+use crate::types::answer_type_refusal;
 use crate::words::Mode;
 use sil_ast::{Exhausted, Module};
 use sil_grammar::read;
 use sil_printer::print;
 use sil_rules::Status;
+use sil_types::TypeTable;
 use simple_modules::is_simple;
 use std::alloc::Global;
 use std::mem::forget;
@@ -42,6 +45,7 @@ pub fn answer_to(alloc: Global, mode: Mode, text: &[u8]) -> Result<Answer, Exhau
 }
 
 fn answer_module(alloc: Global, mode: Mode, module: &Module) -> Result<Answer, Exhausted>
+    requires { IsNumbered «module».now }
     ensures { IfOk result (λ a. AnswersModule mode «module».now a.text.items (code_of a.status)) }
 {
     match mode {
@@ -50,8 +54,20 @@ fn answer_module(alloc: Global, mode: Mode, module: &Module) -> Result<Answer, E
     }
 }
 
-/// Checks a module, where it is one that the checks know.
+/// Checks the types of a module, and then the module.
 fn check_module(alloc: Global, module: &Module) -> Result<Answer, Exhausted>
+    requires { IsNumbered «module».now }
+    ensures { IfOk result (λ a. AnswersCheck «module».now a.text.items (code_of a.status)) }
+{
+    match TypeTable::build(alloc, module) {
+        Ok(_table) => check_declared(alloc, module),
+        Err(reason) => answer_type_refusal(alloc, reason),
+    }
+}
+
+/// Checks a module with declared types, where it is one that the further checks know.
+fn check_declared(alloc: Global, module: &Module) -> Result<Answer, Exhausted>
+    requires { HasDeclaredTypes «module».now }
     ensures { IfOk result (λ a. AnswersCheck «module».now a.text.items (code_of a.status)) }
 {
     if is_simple(alloc, module)? {
@@ -64,7 +80,8 @@ fn check_module(alloc: Global, module: &Module) -> Result<Answer, Exhausted>
 }
 
 fn check_simple(alloc: Global, module: &Module) -> Result<Answer, Exhausted>
-    requires { IsSimple «module».now }
+    requires types { HasDeclaredTypes «module».now }
+    requires simple { IsSimple «module».now }
     ensures { IfOk result (λ a. AnswersCheck «module».now a.text.items (code_of a.status)) }
 {
     let Some(refusal) = first_refusal(alloc, module)? else {

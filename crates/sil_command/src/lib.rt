@@ -11,6 +11,7 @@ mod one_block;
 mod reading;
 mod texts;
 mod top_call;
+mod types;
 mod violation;
 mod words;
 

@@ -1,7 +1,7 @@
 //! The lines of answers, made from typed values. Nothing is decided here.
 
 ghost use Rattle.std.specs.Prelude.{◌≡◌, ◌∷◌, [], ◌++◌, IfOk, OnOk, decimal};
-ghost use Rattle.sil_command.specs.Texts.{usage_text, limit_text, read_fault_text, accepted_text, not_built_text, place_words, not_a_module_text, passed_limit_text, rule_words, point_words, refusal_text};
+ghost use Rattle.sil_command.specs.Texts.{usage_text, limit_text, read_fault_text, accepted_text, not_built_text, place_words, not_a_module_text, passed_limit_text, rule_words, point_words, refusal_text, refused_item_text, type_limit_text};
 
 use crate::violation::Violation;
 use sil_ast::{Exhausted, Place};
@@ -113,5 +113,27 @@ pub fn refusal(alloc: Global, function: &[u8], violation: Violation) -> Result<V
     out.extend_from_slice(b"\nsubject %")?;
     push_number(&mut out, violation.subject.0)?;
     out.extend_from_slice(b"\nwalk bb0\n")?;
+    Ok(out)
+}
+
+/// The line of a refused item: the rule, and the item's number.
+pub fn refused_item(alloc: Global, rule: Rule, item: u32) -> Result<Vec<u8>, Exhausted>
+    ensures { IfOk result (λ text. text.items ≡ refused_item_text rule item) }
+{
+    let mut out = Vec::new(alloc);
+    push_rule(&mut out, rule)?;
+    out.extend_from_slice(b" item ")?;
+    push_number(&mut out, item)?;
+    out.push(b'\n')?;
+    Ok(out)
+}
+
+/// The line for a module with a type past a limit, which has no place.
+pub fn type_limit(alloc: Global, what: LimitWord) -> Result<Vec<u8>, Exhausted>
+    ensures { IfOk result (λ text. text.items ≡ type_limit_text what) }
+{
+    let mut out = Vec::from_slice(alloc, b"limit ")?;
+    out.extend_from_slice(what.word())?;
+    out.push(b'\n')?;
     Ok(out)
 }

@@ -10,11 +10,11 @@ use Rattle.sil_command.proofs.answer.check_simple.Goals as goal
 pub returns-in_default : goal.returns-in_default
 returns-in_default c =
     subst (λ t. AnswersCheck c.args.module.now t (code_of Done)) (sym (c.in_ok-from_slice.ensures.items ∙ c.accepted.ensures))
-    (accepted c.requires (rw c.in_default.is at c.in_ok-refusal.ensures))
+    (accepted c.requires.types c.requires.simple (rw c.in_default.is at c.in_ok-refusal.ensures))
 
 pub returns : goal.returns
 returns c =
-    refusal_answer c.args.module.now c.in-Some.refusal c.index-as_slice-refusal.result _ c.requires
+    refusal_answer c.args.module.now c.in-Some.refusal c.index-as_slice-refusal.result _ c.requires.types c.requires.simple
     (rw c.in-Some.is at c.in_ok-refusal.ensures)
     (c.index-as_slice-refusal.is ∙ ap (λ fs. get_or fs c.in-Some.refusal.function.0 c.index-as_slice-refusal.result) c.as_slice.ensures)
     (c.in_ok-refusal-2.ensures ∙ ap (λ name. refusal_text name c.in-Some.refusal.violation) c.as_slice-2.ensures)
