@@ -1,5 +1,5 @@
 -- A module with declared types has no refusal of an item or a type.
-use Rattle.std.proofs.Common.{◌≡◌, ◌⊎◌, inl, inr, ℕ, ◌<◌, ◌≤◌, List, length, get_or, subst, sym, ◌∙◌, Bool, true, false, All, Option, Some, None, IsSomeAnd, slice_get}
+use Rattle.std.proofs.Common.{◌≡◌, ◌⊎◌, inl, inr, ℕ, ◌<◌, ◌≤◌, List, length, get_or, subst, sym, ◌∙◌, All, Some, None, IsSomeAnd, slice_get}
 use Rattle.std.proofs.lemmas.Bool.{false≢true}
 use Rattle.std.proofs.lemmas.List.Elements.{All-get_or}
 use Rattle.std.proofs.lemmas.Option.{slice_get_cases}
