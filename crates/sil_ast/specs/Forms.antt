@@ -7,14 +7,23 @@ use Rattle.sil_ast.specs.declared.entries.Ending.{Ending}
 use Rattle.sil_ast.specs.declared.entries.Ending.TheVariants as ending
 use Rattle.sil_ast.specs.declared.entries.ExtraValue.{ExtraValue}
 use Rattle.sil_ast.specs.declared.entries.ExtraValue.TheVariants.{Never}
+use Rattle.sil_ast.specs.declared.entries.InForms.{InForms}
+use Rattle.sil_ast.specs.declared.entries.InForms.TheVariants.{BothForms}
+use Rattle.sil_ast.specs.declared.entries.ResultKind.{ResultKind}
+use Rattle.sil_ast.specs.declared.entries.ResultKind.TheVariants.{NoneResult}
 use Rattle.sil_ast.specs.declared.entries.Results.{Results}
 use Rattle.sil_ast.specs.declared.entries.Results.TheVariants.{NoResult, OneResult, ResultList}
+use Rattle.sil_ast.specs.declared.entries.Role.{Role}
+use Rattle.sil_ast.specs.declared.entries.TypeWords.{TypeWords}
+use Rattle.sil_ast.specs.declared.entries.TypeWords.TheVariants.{AnyType}
 use Rattle.sil_ast.specs.declared.entries.Words.{Words}
 use Rattle.sil_ast.specs.declared.entries.Words.TheVariants.{NoWord}
 use Rattle.sil_ast.specs.declared.forms.Part.{Part}
 use Rattle.sil_ast.specs.declared.forms.Part.TheVariants as part
 use Rattle.sil_ast.specs.declared.op.Op.{Op}
 use Rattle.sil_ast.specs.declared.op.Op.TheVariants as op
+use Rattle.sil_ast.specs.declared.ownership_columns.TheConstants.{ROLES, RESULT_KINDS}
+use Rattle.sil_ast.specs.declared.typing_columns.TheConstants.{STORAGE_TYPES, OPERAND_TUPLES, FORMS, TYPE_WORDS}
 
 -- the number of an instruction, which is its place in each column
 abbrev pub number_of : Op → ℕ
@@ -140,3 +149,27 @@ detail_of o = slice_index_or DETAILS (number_of o) NoDetail
 -- whether it counts for one value more than it defines
 abbrev pub extra_value_of : Op → ExtraValue
 extra_value_of o = slice_index_or EXTRA_VALUES (number_of o) Never
+
+-- weak and unowned storage may stand behind it as its type
+abbrev pub may_have_storage : Op → Bool
+may_have_storage o = slice_index_or STORAGE_TYPES (number_of o) false
+
+-- it makes the tuple of its operands
+abbrev pub makes_tuple : Op → Bool
+makes_tuple o = slice_index_or OPERAND_TUPLES (number_of o) false
+
+-- in functions of which form it may stand
+abbrev pub forms_of : Op → InForms
+forms_of o = slice_index_or FORMS (number_of o) BothForms
+
+-- which words it takes for which types
+abbrev pub type_words_of : Op → TypeWords
+type_words_of o = slice_index_or TYPE_WORDS (number_of o) AnyType
+
+-- what it does to its operands, in order; the last role is that of all operands behind it
+abbrev pub roles_of : Op → List Role
+roles_of o = slice_index_or (map (λ row. row.now) ROLES) (number_of o) []
+
+-- of what kind its results are, where their types aren't trivial
+abbrev pub result_kind_of : Op → ResultKind
+result_kind_of o = slice_index_or RESULT_KINDS (number_of o) NoneResult

@@ -65,3 +65,66 @@ pub enum ExtraValue {
     WhereAssigned,
     Always,
 }
+
+/// In functions of which form an instruction may stand.
+#[derive(Clone, Copy, PartialEq, Eq)]
+pub enum InForms {
+    BothForms,
+    /// With `[ossa]` alone.
+    OwnershipForm,
+    /// Without `[ossa]` alone.
+    LoweredForm,
+    /// In both: with a word in brackets as `[copy]` where there is `[ossa]`, and without one where there isn't.
+    ByWord,
+    /// In both where its operand is the address of weak or unowned storage, else with `[ossa]` alone.
+    ByStorage,
+}
+
+/// Which words in brackets an instruction takes, by the type at its address.
+#[derive(Clone, Copy, PartialEq, Eq)]
+pub enum TypeWords {
+    /// Those that it may have, for any type.
+    AnyType,
+    /// `[copy]` and `[take]` for a type that isn't trivial, `[trivial]` for one that is.
+    ReadWords,
+    /// `[init]` and `[assign]` for a type that isn't trivial, `[trivial]` for one that is.
+    WriteWords,
+}
+
+/// What an instruction does to an operand.
+#[derive(Clone, Copy, PartialEq, Eq)]
+pub enum Role {
+    /// It consumes it: an Owned value ends here.
+    Consumed,
+    /// It uses it, of whatever kind.
+    Used,
+    /// It uses it, and it may not be Owned.
+    Lent,
+    /// It forwards it: an Owned value ends here, and the results are of its kind.
+    Forwarded,
+    /// It is an address.
+    AddressRole,
+    /// It is a value or an address.
+    AnyRole,
+    /// It is a scope itself, which ends here.
+    ScopeRole,
+    /// As the parameter of the callee says: consumed for `@owned`, an address for `@inout`, else used.
+    ByParameter,
+    /// Its references are counted, which only lowered functions do.
+    Counted,
+}
+
+/// Of what kind results are that aren't of a trivial type.
+#[derive(Clone, Copy, PartialEq, Eq)]
+pub enum ResultKind {
+    /// None, or there are no results.
+    NoneResult,
+    OwnedResult,
+    /// Guaranteed, and a scope of its own.
+    ScopeResult,
+    AddressResult,
+    /// Of the kind of the operands, which are forwarded.
+    ForwardedResult,
+    /// Of the operand's kind, which stays as it is.
+    OperandResult,
+}

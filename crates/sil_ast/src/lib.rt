@@ -16,6 +16,7 @@ mod member;
 mod module;
 mod op;
 mod operands;
+mod ownership_columns;
 mod place;
 mod rows;
 mod same;
@@ -23,12 +24,15 @@ mod signature;
 mod text;
 mod try_clone;
 mod type_name;
+mod typing_columns;
 mod vtable;
 
 pub use boxed::Boxed;
 pub use debug::{Binding, Debug};
 pub use decl::{Case, Decl, Field, Storage};
-pub use entries::{Detail, Ending, ExtraValue, Results, Words};
+pub use entries::{
+    Detail, Ending, ExtraValue, InForms, ResultKind, Results, Role, TypeWords, Words,
+};
 pub use exhausted::Exhausted;
 pub use forms::{FormRow, Part};
 pub use function::{ArgKind, Block, BlockArg, Form, Function, Linkage};
@@ -40,8 +44,9 @@ pub use op::Op;
 pub use operands::{Operand, Operands};
 pub use place::{BlockId, EdgeId, FuncId, ObjectId, Place, PointId, ValueId};
 pub use rows::{
-    detail_of, ending_of, extra_value_of, has_one_result, has_result_list, may_lack_operand,
-    results_of, row_of, words_of,
+    detail_of, ending_of, extra_value_of, forms_of, has_one_result, has_result_list, makes_tuple,
+    may_have_storage, may_lack_operand, result_kind_of, results_of, roles_of, row_of,
+    type_words_of, words_of,
 };
 pub use same::Same;
 pub use signature::{Convention, Given, Param, Passing, Signature};

@@ -6,9 +6,13 @@ ghost use Rattle.sil_ast.specs.Forms as form;
 use crate::columns::{
     DETAILS, ENDINGS, EXTRA_VALUES, MNEMONICS, OPTIONAL_OPERANDS, PARTS, RESULTS, WORDS,
 };
-use crate::entries::{Detail, Ending, ExtraValue, Results, Words};
+use crate::entries::{
+    Detail, Ending, ExtraValue, InForms, ResultKind, Results, Role, TypeWords, Words,
+};
 use crate::forms::FormRow;
 use crate::op::Op;
+use crate::ownership_columns::{RESULT_KINDS, ROLES};
+use crate::typing_columns::{FORMS, OPERAND_TUPLES, STORAGE_TYPES, TYPE_WORDS};
 
 /// The form of an instruction.
 pub fn row_of(op: Op) -> FormRow
@@ -82,4 +86,46 @@ pub fn extra_value_of(op: Op) -> ExtraValue
     ensures { result ≡ form.extra_value_of op }
 {
     EXTRA_VALUES[op as usize]
+}
+
+/// Whether weak and unowned storage may stand behind an instruction as its type.
+pub fn may_have_storage(op: Op) -> bool
+    ensures { result ≡ form.may_have_storage op }
+{
+    STORAGE_TYPES[op as usize]
+}
+
+/// Whether an instruction makes the tuple of its operands.
+pub fn makes_tuple(op: Op) -> bool
+    ensures { result ≡ form.makes_tuple op }
+{
+    OPERAND_TUPLES[op as usize]
+}
+
+/// In functions of which form an instruction may stand.
+pub fn forms_of(op: Op) -> InForms
+    ensures { result ≡ form.forms_of op }
+{
+    FORMS[op as usize]
+}
+
+/// Which words an instruction takes for which types, in a function in ownership form.
+pub fn type_words_of(op: Op) -> TypeWords
+    ensures { result ≡ form.type_words_of op }
+{
+    TYPE_WORDS[op as usize]
+}
+
+/// What an instruction does to its operands, in order. The last role is that of all operands behind it.
+pub fn roles_of(op: Op) -> &'static [Role]
+    ensures { result.now ≡ form.roles_of op }
+{
+    ROLES[op as usize]
+}
+
+/// Of what kind an instruction's results are, where their types aren't trivial.
+pub fn result_kind_of(op: Op) -> ResultKind
+    ensures { result ≡ form.result_kind_of op }
+{
+    RESULT_KINDS[op as usize]
 }

@@ -2,7 +2,9 @@
 use Rattle.std.specs.Prelude.{◌≡◌, ℕ, zero, suc, ◌<◌, List, [], ◌∷◌, ◌++◌, length, map, slice_get, Option, Some, None, Bool, true, false, IsTrue, IsSomeAnd}
 use Rattle.sil_ast.specs.declared.place.PointId.{PointId}
 use Rattle.sil_ast.specs.declared.op.Op.{Op}
-use Rattle.sil_ast.specs.declared.op.Op.TheVariants as op
+use Rattle.sil_ast.specs.declared.entries.Ending.{Ending}
+use Rattle.sil_ast.specs.declared.entries.Ending.TheVariants as ending
+use Rattle.sil_ast.specs.Forms.{ending_of}
 use Rattle.sil_ast.specs.declared.inst.Inst as inst
 use Rattle.sil_ast.specs.declared.function.Function.{Function}
 use Rattle.sil_ast.specs.declared.function.Block.{Block}
@@ -10,49 +12,18 @@ use Rattle.sil_cfg.specs.declared.item.Item.{Item}
 use Rattle.sil_cfg.specs.declared.item.Item.TheVariants.{Entry, Inst, Edge, Exit}
 use Rattle.sil_cfg.specs.Flow.{Flow, IsEdge}
 
+-- control leaves the function there
+abbrev pub leaves_function : Ending → Bool
+leaves_function ending.Inside = false
+leaves_function ending.OneBranch = false
+leaves_function ending.TwoBranches = false
+leaves_function ending.Cases = false
+leaves_function ending.Return = true
+leaves_function ending.Unreachable = true
+
 -- the instruction ends the function: `return` and `unreachable`
 abbrev pub ends_function : Op → Bool
-ends_function op.IntegerLiteral = false
-ends_function op.FunctionRef = false
-ends_function op.Builtin = false
-ends_function op.CondFail = false
-ends_function op.AllocRef = false
-ends_function op.AllocStack = false
-ends_function op.DeallocStack = false
-ends_function op.CopyValue = false
-ends_function op.DestroyValue = false
-ends_function op.MoveValue = false
-ends_function op.BeginBorrow = false
-ends_function op.EndBorrow = false
-ends_function op.Load = false
-ends_function op.Store = false
-ends_function op.LoadBorrow = false
-ends_function op.DestroyAddr = false
-ends_function op.LoadWeak = false
-ends_function op.StoreWeak = false
-ends_function op.LoadUnowned = false
-ends_function op.StoreUnowned = false
-ends_function op.Struct = false
-ends_function op.Tuple = false
-ends_function op.Enum = false
-ends_function op.StructExtract = false
-ends_function op.TupleExtract = false
-ends_function op.DestructureStruct = false
-ends_function op.DestructureTuple = false
-ends_function op.StructElementAddr = false
-ends_function op.TupleElementAddr = false
-ends_function op.RefElementAddr = false
-ends_function op.Apply = false
-ends_function op.DebugValue = false
-ends_function op.StrongRetain = false
-ends_function op.StrongRelease = false
-ends_function op.RetainValue = false
-ends_function op.ReleaseValue = false
-ends_function op.Br = false
-ends_function op.CondBr = false
-ends_function op.SwitchEnum = false
-ends_function op.Return = true
-ends_function op.Unreachable = true
+ends_function o = leaves_function (ending_of o)
 
 abbrev pub point_at : ℕ → ℕ → PointId
 point_at b k = record { block = record { 0 = b }; index = k }

@@ -2,6 +2,7 @@
 use Rattle.std.specs.Prelude.{ℕ, List, [], ◌∷◌, ◌++◌, Bool, true, false, Option, Some, None, map, if◌then◌else◌}
 use Rattle.std.specs.List.{flat_map}
 use Rattle.std.specs.Option.{option_to_list}
+use Rattle.sil_ast.specs.Forms.{makes_tuple, may_have_storage}
 use Rattle.sil_ast.specs.declared.decl.Case.{Case}
 use Rattle.sil_ast.specs.declared.decl.Decl.{Decl}
 use Rattle.sil_ast.specs.declared.decl.Decl.TheVariants.{Struct, Enum, Class}
@@ -16,7 +17,6 @@ use Rattle.sil_ast.specs.declared.inst.Inst.{Inst}
 use Rattle.sil_ast.specs.declared.member.Member.{Member}
 use Rattle.sil_ast.specs.declared.module.Module.{Module}
 use Rattle.sil_ast.specs.declared.op.Op.{Op}
-use Rattle.sil_ast.specs.declared.op.Op.TheVariants as op
 use Rattle.sil_ast.specs.declared.operands.Operand.{Operand}
 use Rattle.sil_ast.specs.declared.signature.Given.{Given}
 use Rattle.sil_ast.specs.declared.signature.Param.{Param}
@@ -102,18 +102,13 @@ target_of t = target_at t (out-TypeName t)
 abbrev pub operand_types : Operand → List TypeName
 operand_types o = map target_of (option_to_list o.ty)
 
-abbrev pub is_tuple : Op → Bool
-is_tuple op.Tuple = true
-is_tuple _ = false
-
 -- a `tuple` instruction mentions the tuple of its operands' types
 abbrev pub in_tuple : Inst → List Mention
-in_tuple i = if is_tuple i.op then mention Unwritten (together (flat_map operand_types i.operands)) ∷ [] else []
+in_tuple i = if makes_tuple i.op then mention Unwritten (together (flat_map operand_types i.operands)) ∷ [] else []
 
--- weak and unowned storage may stand directly behind `alloc_stack`, and behind no other instruction
+-- weak and unowned storage may stand directly behind `alloc_stack`
 abbrev pub standing_in : Op → Standing
-standing_in op.AllocStack = Slot
-standing_in _ = Object
+standing_in o = if may_have_storage o then Slot else Object
 
 abbrev pub in_inst : Inst → List Mention
 in_inst i =

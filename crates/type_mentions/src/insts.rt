@@ -8,7 +8,7 @@ ghost use Rattle.type_definitions.specs.Mentions.{in_edge, in_inst, in_operand, 
 
 use crate::decls::{any_if_there, any_in_signature};
 use crate::tests::MentionTest;
-use sil_ast::{Edge, Inst, Op, Operand, Signature};
+use sil_ast::{Edge, Inst, Op, Operand, Signature, makes_tuple, may_have_storage};
 use type_definitions::Standing;
 
 pub(crate) fn any_in_inst<T: MentionTest>(test: &T, inst: &Inst) -> bool
@@ -24,9 +24,10 @@ pub(crate) fn any_in_inst<T: MentionTest>(test: &T, inst: &Inst) -> bool
 fn standing_in(op: Op) -> Standing
     ensures { result ≡ spec.standing_in op }
 {
-    match op {
-        Op::AllocStack => Standing::Slot,
-        _ => Standing::Object,
+    if may_have_storage(op) {
+        Standing::Slot
+    } else {
+        Standing::Object
     }
 }
 
@@ -64,8 +65,5 @@ fn any_in_edges<T: MentionTest>(test: &T, edges: &[Edge]) -> bool
 fn any_in_tuple<T: MentionTest>(test: &T, inst: &Inst) -> bool
     ensures { result ≡ list_any (T.holds test.now) (in_tuple inst.now) }
 {
-    match inst.op {
-        Op::Tuple => test.of_operands(inst.operands.as_slice()),
-        _ => false,
-    }
+    makes_tuple(inst.op) && test.of_operands(inst.operands.as_slice())
 }
