@@ -1,6 +1,8 @@
 -- The table of instructions: what each of its columns says of an instruction.
 use Rattle.std.specs.Prelude.{ℕ, List, [], Bool, true, false, map, slice_index_or}
 use Rattle.sil_ast.specs.declared.columns.TheConstants.{MNEMONICS, PARTS, RESULTS, ENDINGS, WORDS, OPTIONAL_OPERANDS, DETAILS, EXTRA_VALUES}
+use Rattle.sil_ast.specs.declared.entries.BareOperands.{BareOperands}
+use Rattle.sil_ast.specs.declared.entries.BareOperands.TheVariants.{NoBare}
 use Rattle.sil_ast.specs.declared.entries.Detail.{Detail}
 use Rattle.sil_ast.specs.declared.entries.Detail.TheVariants.{NoDetail}
 use Rattle.sil_ast.specs.declared.entries.Ending.{Ending}
@@ -23,7 +25,7 @@ use Rattle.sil_ast.specs.declared.forms.Part.TheVariants as part
 use Rattle.sil_ast.specs.declared.op.Op.{Op}
 use Rattle.sil_ast.specs.declared.op.Op.TheVariants as op
 use Rattle.sil_ast.specs.declared.ownership_columns.TheConstants.{ROLES, RESULT_KINDS}
-use Rattle.sil_ast.specs.declared.typing_columns.TheConstants.{STORAGE_TYPES, OPERAND_TUPLES, FORMS, TYPE_WORDS}
+use Rattle.sil_ast.specs.declared.typing_columns.TheConstants.{STORAGE_TYPES, OPERAND_TUPLES, FORMS, TYPE_WORDS, BARE_OPERANDS}
 
 -- the number of an instruction, which is its place in each column
 abbrev pub number_of : Op → ℕ
@@ -165,6 +167,10 @@ forms_of o = slice_index_or FORMS (number_of o) BothForms
 -- which words it takes for which types
 abbrev pub type_words_of : Op → TypeWords
 type_words_of o = slice_index_or TYPE_WORDS (number_of o) AnyType
+
+-- what its operands without a written type stand for
+abbrev pub bare_operands_of : Op → BareOperands
+bare_operands_of o = slice_index_or BARE_OPERANDS (number_of o) NoBare
 
 -- what it does to its operands, in order; the last role is that of all operands behind it
 abbrev pub roles_of : Op → List Role

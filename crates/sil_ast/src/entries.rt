@@ -91,6 +91,23 @@ pub enum TypeWords {
     WriteWords,
 }
 
+/// What the operands stand for that have no written type.
+#[derive(Clone, Copy, PartialEq, Eq)]
+pub enum BareOperands {
+    /// There are none.
+    NoBare,
+    /// The first: a value of the type at the address behind it.
+    StoredValue,
+    /// The first: a value for the weak storage at the address behind it.
+    WeakValue,
+    /// The first: a value for the unowned storage at the address behind it.
+    UnownedValue,
+    /// The first: a bit.
+    Condition,
+    /// The function that is called, and then its arguments.
+    Arguments,
+}
+
 /// What an instruction does to an operand.
 #[derive(Clone, Copy, PartialEq, Eq)]
 pub enum Role {

@@ -31,7 +31,7 @@ pub use boxed::Boxed;
 pub use debug::{Binding, Debug};
 pub use decl::{Case, Decl, Field, Storage};
 pub use entries::{
-    Detail, Ending, ExtraValue, InForms, ResultKind, Results, Role, TypeWords, Words,
+    BareOperands, Detail, Ending, ExtraValue, InForms, ResultKind, Results, Role, TypeWords, Words,
 };
 pub use exhausted::Exhausted;
 pub use forms::{FormRow, Part};
@@ -44,9 +44,9 @@ pub use op::Op;
 pub use operands::{Operand, Operands};
 pub use place::{BlockId, EdgeId, FuncId, ObjectId, Place, PointId, ValueId};
 pub use rows::{
-    detail_of, ending_of, extra_value_of, forms_of, has_one_result, has_result_list, makes_tuple,
-    may_have_storage, may_lack_operand, result_kind_of, results_of, roles_of, row_of,
-    type_words_of, words_of,
+    bare_operands_of, detail_of, ending_of, extra_value_of, forms_of, has_one_result,
+    has_result_list, makes_tuple, may_have_storage, may_lack_operand, result_kind_of, results_of,
+    roles_of, row_of, type_words_of, words_of,
 };
 pub use same::Same;
 pub use signature::{Convention, Given, Param, Passing, Signature};

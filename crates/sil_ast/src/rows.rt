@@ -7,12 +7,12 @@ use crate::columns::{
     DETAILS, ENDINGS, EXTRA_VALUES, MNEMONICS, OPTIONAL_OPERANDS, PARTS, RESULTS, WORDS,
 };
 use crate::entries::{
-    Detail, Ending, ExtraValue, InForms, ResultKind, Results, Role, TypeWords, Words,
+    BareOperands, Detail, Ending, ExtraValue, InForms, ResultKind, Results, Role, TypeWords, Words,
 };
 use crate::forms::FormRow;
 use crate::op::Op;
 use crate::ownership_columns::{RESULT_KINDS, ROLES};
-use crate::typing_columns::{FORMS, OPERAND_TUPLES, STORAGE_TYPES, TYPE_WORDS};
+use crate::typing_columns::{BARE_OPERANDS, FORMS, OPERAND_TUPLES, STORAGE_TYPES, TYPE_WORDS};
 
 /// The form of an instruction.
 pub fn row_of(op: Op) -> FormRow
@@ -114,6 +114,13 @@ pub fn type_words_of(op: Op) -> TypeWords
     ensures { result ≡ form.type_words_of op }
 {
     TYPE_WORDS[op as usize]
+}
+
+/// What the operands without a written type stand for.
+pub fn bare_operands_of(op: Op) -> BareOperands
+    ensures { result ≡ form.bare_operands_of op }
+{
+    BARE_OPERANDS[op as usize]
 }
 
 /// What an instruction does to its operands, in order. The last role is that of all operands behind it.

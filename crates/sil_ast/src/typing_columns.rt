@@ -1,8 +1,11 @@
 //! The table of instructions, the columns on types: what stands in which form, and which types an instruction mentions or asks for.
 
+use crate::entries::BareOperands::{
+    Arguments, Condition, NoBare, StoredValue, UnownedValue, WeakValue,
+};
 use crate::entries::InForms::{BothForms, ByStorage, ByWord, LoweredForm, OwnershipForm};
 use crate::entries::TypeWords::{AnyType, ReadWords, WriteWords};
-use crate::entries::{InForms, TypeWords};
+use crate::entries::{BareOperands, InForms, TypeWords};
 
 /// Whether weak and unowned storage may stand behind an instruction as its type.
 pub static STORAGE_TYPES: [bool; 41] = [
@@ -182,4 +185,49 @@ pub static TYPE_WORDS: [TypeWords; 41] = [
     AnyType, // switch_enum
     AnyType, // return
     AnyType, // unreachable
+];
+
+/// What the operands without a written type stand for, which tells their types.
+pub static BARE_OPERANDS: [BareOperands; 41] = [
+    NoBare, // integer_literal
+    NoBare, // function_ref
+    NoBare, // builtin
+    NoBare, // cond_fail
+    NoBare, // alloc_ref
+    NoBare, // alloc_stack
+    NoBare, // dealloc_stack
+    NoBare, // copy_value
+    NoBare, // destroy_value
+    NoBare, // move_value
+    NoBare, // begin_borrow
+    NoBare, // end_borrow
+    NoBare, // load
+    StoredValue, // store
+    NoBare, // load_borrow
+    NoBare, // destroy_addr
+    NoBare, // load_weak
+    WeakValue, // store_weak
+    NoBare, // load_unowned
+    UnownedValue, // store_unowned
+    NoBare, // struct
+    NoBare, // tuple
+    NoBare, // enum
+    NoBare, // struct_extract
+    NoBare, // tuple_extract
+    NoBare, // destructure_struct
+    NoBare, // destructure_tuple
+    NoBare, // struct_element_addr
+    NoBare, // tuple_element_addr
+    NoBare, // ref_element_addr
+    Arguments, // apply
+    NoBare, // debug_value
+    NoBare, // strong_retain
+    NoBare, // strong_release
+    NoBare, // retain_value
+    NoBare, // release_value
+    NoBare, // br
+    Condition, // cond_br
+    NoBare, // switch_enum
+    NoBare, // return
+    NoBare, // unreachable
 ];
