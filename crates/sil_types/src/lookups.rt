@@ -2,6 +2,7 @@
 
 ghost use Rattle.std.specs.Prelude.{◌≡◌, ◌≤◌, option_map};
 ghost use Rattle.std.specs.Option.{option_copied};
+ghost use Rattle.type_definitions.specs.Declarations.{decl_of};
 ghost use Rattle.type_definitions.specs.Lookups as lookups;
 ghost use Rattle.type_definitions.specs.Lookups.{class_place, field_of, payload_of};
 ghost use Rattle.type_definitions.specs.Measures as measures;
@@ -10,7 +11,7 @@ ghost use Rattle.declaration_table.specs.Found.{field_told, payload_told};
 
 use crate::table::TypeTable;
 use declaration_table::{FieldRef, PayloadRef};
-use sil_ast::{Field, FuncId, Text, TypeName};
+use sil_ast::{Decl, Field, FuncId, Text, TypeName};
 use sil_rules::limits::LEAVES;
 
 impl TypeTable {
@@ -27,6 +28,13 @@ impl TypeTable {
         ensures { result ≡ leaves_of self.now ty.now }
     {
         self.measure(ty).leaves
+    }
+
+    /// The struct, enum or class with this name: one of `Swift`, or one that the text declares.
+    pub fn decl(&self, name: &Text) -> Option<&Decl>
+        ensures { option_copied result ≡ decl_of self.now name.now }
+    {
+        self.declarations.decl_of(name)
     }
 
     /// The field with this name of a struct or class.

@@ -1,0 +1,12 @@
+pub mod Same
+pub mod Shapes
+pub mod Builtins
+pub mod RowTypes
+pub mod Values
+pub mod OperandTypes
+pub mod ResultCounts
+pub mod EdgeRules
+pub mod SignatureRules
+pub mod FormRules
+pub mod SwitchRules
+pub mod Typed

@@ -1,0 +1,57 @@
+-- 203, 210 and 211: what edges bring to blocks.
+use Rattle.std.specs.Prelude.{ℕ, List, [], Bool, true, false, not, ◌==◌, Option, Some, None, drop, map, slice_get}
+use Rattle.std.specs.List.{list_all, list_any}
+use Rattle.sil_ast.specs.Forms.{ending_of}
+use Rattle.sil_ast.specs.declared.entries.Ending.{Ending}
+use Rattle.sil_ast.specs.declared.entries.Ending.TheVariants as ending
+use Rattle.sil_ast.specs.declared.function.Block.{Block}
+use Rattle.sil_ast.specs.declared.function.BlockArg.{BlockArg}
+use Rattle.sil_ast.specs.declared.function.Function.{Function}
+use Rattle.sil_ast.specs.declared.inst.Edge.{Edge}
+use Rattle.sil_ast.specs.declared.inst.Inst.{Inst}
+use Rattle.sil_ast.specs.declared.type_name.TypeName.{TypeName}
+use Rattle.sil_types.specs.Typing.RowTypes.{all_written}
+use Rattle.sil_types.specs.Typing.Same.{are_same_types}
+use Rattle.sil_types.specs.Typing.Shapes.{is_address}
+use Rattle.sil_types.specs.Typing.Values.{arg_type}
+
+abbrev pub args_in : Option Block → List BlockArg
+args_in None = []
+args_in (Some b) = b.args
+
+-- the arguments of the block with this number
+abbrev pub args_of : Function → ℕ → List BlockArg
+args_of f b = args_in (slice_get f.blocks b)
+
+-- the edge's arguments have the types of its block's, in order
+abbrev pub has_block_types : Function → Edge → Bool
+has_block_types f e = are_same_types (all_written e.args) (map arg_type (args_of f e.block.0))
+
+abbrev pub have_block_types_by : Ending → Function → List Edge → Bool
+have_block_types_by ending.Inside f es = true
+have_block_types_by ending.OneBranch f es = list_all (has_block_types f) es
+have_block_types_by ending.TwoBranches f es = list_all (has_block_types f) es
+have_block_types_by ending.Cases f es = true
+have_block_types_by ending.Return f es = true
+have_block_types_by ending.Unreachable f es = true
+
+-- 203: an edge of `br` or `cond_br` has other arguments than its block, in number or type
+abbrev pub has_wrong_edge_arguments : Function → Inst → Bool
+has_wrong_edge_arguments f i = not (have_block_types_by (ending_of i.op) f i.edges)
+
+abbrev pub has_address_type : BlockArg → Bool
+has_address_type a = is_address a.ty
+
+abbrev pub takes_address : Block → Bool
+takes_address b = list_any has_address_type b.args
+
+-- 210: an argument of a block other than the entry has an address type
+abbrev pub lets_address_escape : Function → Bool
+lets_address_escape f = list_any takes_address (drop 1 f.blocks)
+
+abbrev pub is_to_entry : Edge → Bool
+is_to_entry e = e.block.0 == 0
+
+-- 211: an edge goes to the entry
+abbrev pub goes_to_entry : Inst → Bool
+goes_to_entry i = list_any is_to_entry i.edges

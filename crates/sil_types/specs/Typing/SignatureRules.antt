@@ -1,0 +1,192 @@
+-- 204 to 206 and 208: what functions take and give, at themselves, at calls and at returns.
+use Rattle.std.specs.Prelude.{ℕ, List, [], ◌∷◌, Bool, true, false, not, ◌&&◌, ◌||◌, Option, Some, None, is_none, is_some, option_and_then, option_map, slice_get, map}
+use Rattle.std.specs.List.{list_all, list_any}
+use Rattle.std.specs.Option.{option_to_list}
+use Rattle.std.specs.Str.{bytes_eq}
+use Rattle.sil_ast.specs.Forms.{bare_operands_of, ending_of}
+use Rattle.sil_ast.specs.declared.entries.BareOperands.{BareOperands}
+use Rattle.sil_ast.specs.declared.entries.BareOperands.TheVariants.{NoBare, StoredValue, WeakValue, UnownedValue, Condition, Arguments}
+use Rattle.sil_ast.specs.declared.entries.Ending.{Ending}
+use Rattle.sil_ast.specs.declared.entries.Ending.TheVariants as ending
+use Rattle.sil_ast.specs.declared.function.ArgKind.{ArgKind}
+use Rattle.sil_ast.specs.declared.function.ArgKind.TheVariants as kind
+use Rattle.sil_ast.specs.declared.function.BlockArg.{BlockArg}
+use Rattle.sil_ast.specs.declared.function.Form.{Form}
+use Rattle.sil_ast.specs.declared.function.Form.TheVariants.{Ossa, Lowered, External}
+use Rattle.sil_ast.specs.declared.function.Function.{Function}
+use Rattle.sil_ast.specs.declared.inst.Inst.{Inst}
+use Rattle.sil_ast.specs.declared.module.Module.{Module}
+use Rattle.sil_ast.specs.declared.operands.Operand.{Operand}
+use Rattle.sil_ast.specs.declared.place.FuncId.{FuncId}
+use Rattle.sil_ast.specs.declared.signature.Convention.TheVariants.{Method}
+use Rattle.sil_ast.specs.declared.signature.Given.{Given}
+use Rattle.sil_ast.specs.declared.signature.Param.{Param}
+use Rattle.sil_ast.specs.declared.signature.Passing.{Passing}
+use Rattle.sil_ast.specs.declared.signature.Passing.TheVariants as passing
+use Rattle.sil_ast.specs.declared.signature.Signature.{Signature}
+use Rattle.sil_ast.specs.declared.type_name.TypeName.{TypeName}
+use Rattle.sil_ast.specs.declared.type_name.TypeName.TheVariants as type
+use Rattle.sil_ast.specs.declared.vtable.DeinitEntry.{DeinitEntry}
+use Rattle.sil_ast.specs.declared.vtable.Vtable.{Vtable}
+use Rattle.numbered_form.specs.Names.{Name}
+use Rattle.type_definitions.specs.Declarations.{Declarations}
+use Rattle.type_definitions.specs.Measures.{is_trivial}
+use Rattle.type_definitions.specs.Mentions.{given_type}
+use Rattle.sil_types.specs.Typing.EdgeRules.{args_of}
+use Rattle.sil_types.specs.Typing.OperandTypes.{param_type}
+use Rattle.sil_types.specs.Typing.RowTypes.{passes, written}
+use Rattle.sil_types.specs.Typing.Same.{all_pairs, is_same_flag, is_same_signature, is_same_type}
+use Rattle.sil_types.specs.Typing.Shapes.{is_integer, is_nontrivial, is_object, is_trivial_object}
+use Rattle.sil_types.specs.Typing.Values.{function_at}
+
+-- 204
+
+abbrev pub callee_value : List (Option FuncId) → Operand → Option FuncId
+callee_value functions o = function_at functions o.value.0
+
+-- the function that the first operand stands for
+abbrev pub callee : List (Option FuncId) → Inst → Option FuncId
+callee functions i = option_and_then (callee_value functions) (slice_get i.operands 0)
+
+abbrev pub calls_by : BareOperands → Bool
+calls_by NoBare = false
+calls_by StoredValue = false
+calls_by WeakValue = false
+calls_by UnownedValue = false
+calls_by Condition = false
+calls_by Arguments = true
+
+-- the instruction calls its first operand
+abbrev pub calls : Inst → Bool
+calls i = calls_by (bare_operands_of i.op)
+
+-- 204: what is called isn't the result of a `function_ref`
+abbrev pub calls_no_function : List (Option FuncId) → Inst → Bool
+calls_no_function functions i = calls i && is_none (callee functions i)
+
+-- 205
+
+abbrev pub is_external : Form → Bool
+is_external Ossa = false
+is_external Lowered = false
+is_external External = true
+
+abbrev pub is_plain_passing : Passing → Bool
+is_plain_passing passing.Plain = true
+is_plain_passing passing.Owned = false
+is_plain_passing passing.Guaranteed = false
+is_plain_passing passing.Inout = false
+
+abbrev pub is_plain_integer : Param → Bool
+is_plain_integer p = is_plain_passing p.passing && is_integer p.ty
+
+abbrev pub gives_nothing : List Given → Bool
+gives_nothing [] = true
+gives_nothing (r ∷ rs) = false
+
+-- 205: a function without a body has a parameter that isn't a plain builtin integer, or a result
+abbrev pub is_no_output_call : Function → Bool
+is_no_output_call f = is_external f.form && not (list_all is_plain_integer f.signature.params && gives_nothing f.signature.results)
+
+-- 206 at a function
+
+abbrev pub fits_passing : Declarations → Passing → TypeName → Bool
+fits_passing d passing.Plain t = is_trivial_object d t
+fits_passing d passing.Owned t = is_nontrivial d t
+fits_passing d passing.Guaranteed t = is_nontrivial d t
+fits_passing d passing.Inout t = is_object t
+
+-- `@owned` and `@guaranteed` fit types that aren't trivial, no word those that are, and `@inout` each object's type
+abbrev pub fits_param : Declarations → Param → Bool
+fits_param d p = fits_passing d p.passing p.ty
+
+-- a result has `@owned` exactly where its type isn't trivial
+abbrev pub fits_result : Declarations → Given → Bool
+fits_result d r = is_object r.ty && is_same_flag r.owned (not (is_trivial d r.ty))
+
+abbrev pub has_fitting_conventions : Declarations → Signature → Bool
+has_fitting_conventions d s = list_all (fits_param d) s.params && list_all (fits_result d) s.results
+
+abbrev pub annotation_of : Passing → ArgKind
+annotation_of passing.Plain = kind.Plain
+annotation_of passing.Owned = kind.Owned
+annotation_of passing.Guaranteed = kind.Guaranteed
+annotation_of passing.Inout = kind.Plain
+
+abbrev pub is_same_kind : ArgKind → ArgKind → Bool
+is_same_kind kind.Plain kind.Plain = true
+is_same_kind kind.Owned kind.Owned = true
+is_same_kind kind.Guaranteed kind.Guaranteed = true
+is_same_kind _ _ = false
+
+-- in ownership form an entry argument is annotated as its parameter; in lowered form its type alone counts
+abbrev pub is_annotated_for : Form → Param → BlockArg → Bool
+is_annotated_for Ossa p a = is_same_kind a.kind (annotation_of p.passing)
+is_annotated_for Lowered p a = true
+is_annotated_for External p a = true
+
+abbrev pub is_argument_for : Form → Param → BlockArg → Bool
+is_argument_for form p a = is_same_type a.ty (param_type p) && is_annotated_for form p a
+
+abbrev pub has_entry_arguments : Function → Bool
+has_entry_arguments f = is_external f.form || all_pairs (is_argument_for f.form) f.signature.params (args_of f 0)
+
+-- 206: a convention doesn't fit its type, or the entry's arguments don't fit the parameters
+abbrev pub has_wrong_signature : Declarations → Function → Bool
+has_wrong_signature d f = not (has_fitting_conventions d f.signature && has_entry_arguments f)
+
+-- 206 at a point
+
+abbrev pub signature_of : Module → FuncId → Option Signature
+signature_of m f = option_map (λ g. g.signature) (slice_get m.functions f.0)
+
+abbrev pub named_by : Bool → List (Option FuncId) → Inst → Option FuncId
+named_by true functions i = callee functions i
+named_by false functions i = i.function
+
+-- the function that the instruction names, or calls
+abbrev pub named_function : List (Option FuncId) → Inst → Option FuncId
+named_function functions i = named_by (calls i) functions i
+
+abbrev pub is_signature_of : Option Signature → Signature → Bool
+is_signature_of None s = true
+is_signature_of (Some t) s = is_same_signature s t
+
+abbrev pub has_named_signature : Module → List (Option FuncId) → Inst → Bool
+has_named_signature m functions i =
+    list_all (is_signature_of (option_and_then (signature_of m) (named_function functions i))) (option_to_list i.signature)
+
+abbrev pub returns_by : Ending → Function → Inst → Bool
+returns_by ending.Inside f i = true
+returns_by ending.OneBranch f i = true
+returns_by ending.TwoBranches f i = true
+returns_by ending.Cases f i = true
+returns_by ending.Return f i = passes (is_same_type (given_type f.signature)) (written 0 i)
+returns_by ending.Unreachable f i = true
+
+-- a `return` gives the type that the function's signature gives
+abbrev pub returns_what_is_given : Function → Inst → Bool
+returns_what_is_given f i = returns_by (ending_of i.op) f i
+
+-- 206: `function_ref`, `apply` or `return` differs from the signature
+abbrev pub differs_from_signature : Module → Function → List (Option FuncId) → Inst → Bool
+differs_from_signature m f functions i = not (has_named_signature m functions i && returns_what_is_given f i)
+
+-- 208
+
+abbrev pub deinit_signature : Name → Signature
+deinit_signature class = record {
+  convention = Method;
+  params = record { passing = passing.Guaranteed; ty = type.Named class } ∷ [];
+  results = [];
+}
+
+abbrev pub is_deinitialiser : Name → Function → Bool
+is_deinitialiser class f = not (is_external f.form) && is_same_signature f.signature (deinit_signature class)
+
+abbrev pub names_deinitialiser : Module → Name → DeinitEntry → Bool
+names_deinitialiser m class e = passes (is_deinitialiser class) (slice_get m.functions e.function.0)
+
+-- 208: a deinitialiser has no body, or isn't `@convention(method) (@guaranteed C) -> ()`
+abbrev pub has_wrong_deinitialiser : Module → Vtable → Bool
+has_wrong_deinitialiser m v = not (list_all (names_deinitialiser m v.class_name) (option_to_list v.entry))

@@ -1,0 +1,56 @@
+-- The types of a function's values, and the functions that they stand for.
+use Rattle.std.specs.Prelude.{ℕ, List, ◌++◌, Bool, Option, Some, None, map, length, slice_get, replicate, unwrap_or}
+use Rattle.std.specs.List.{flat_map, range_with_len}
+use Rattle.sil_ast.specs.declared.function.Block.{Block}
+use Rattle.sil_ast.specs.declared.function.BlockArg.{BlockArg}
+use Rattle.sil_ast.specs.declared.function.Function.{Function}
+use Rattle.sil_ast.specs.declared.inst.Inst.{Inst}
+use Rattle.sil_ast.specs.declared.operands.Operand.{Operand}
+use Rattle.sil_ast.specs.declared.place.FuncId.{FuncId}
+use Rattle.sil_ast.specs.declared.type_name.TypeName.{TypeName}
+use Rattle.numbered_form.specs.Insts.{insts_of}
+use Rattle.type_definitions.specs.Declarations.{Declarations}
+use Rattle.sil_types.specs.Typing.RowTypes.{made_types}
+
+-- the types of an instruction's results, in order; one that its row doesn't give has none
+abbrev pub result_types : Declarations → Inst → List (Option TypeName)
+result_types d i = map (slice_get (made_types d i)) (range_with_len 0 (length i.results))
+
+abbrev pub arg_type : BlockArg → TypeName
+arg_type a = a.ty
+
+abbrev pub arg_has : BlockArg → Option TypeName
+arg_has a = Some a.ty
+
+abbrev pub block_types : Declarations → Block → List (Option TypeName)
+block_types d b = map arg_has b.args ++ flat_map (result_types d) (insts_of b)
+
+-- the types of a function's values, by their numbers
+abbrev pub value_types : Declarations → Function → List (Option TypeName)
+value_types d f = flat_map (block_types d) f.blocks
+
+-- the type of the value with this number
+abbrev pub type_at : List (Option TypeName) → ℕ → Option TypeName
+type_at types v = unwrap_or (slice_get types v) None
+
+-- the type of an operand's value
+abbrev pub type_of_value : List (Option TypeName) → Operand → Option TypeName
+type_of_value types o = type_at types o.value.0
+
+-- each result of a `function_ref` stands for the function that it names, and no other value stands for one
+abbrev pub result_functions : Inst → List (Option FuncId)
+result_functions i = replicate (length i.results) i.function
+
+abbrev pub no_function : BlockArg → Option FuncId
+no_function a = None
+
+abbrev pub block_functions : Block → List (Option FuncId)
+block_functions b = map no_function b.args ++ flat_map result_functions (insts_of b)
+
+-- the functions that a function's values stand for, by the values' numbers
+abbrev pub value_functions : Function → List (Option FuncId)
+value_functions f = flat_map block_functions f.blocks
+
+-- the function that the value with this number stands for
+abbrev pub function_at : List (Option FuncId) → ℕ → Option FuncId
+function_at functions v = unwrap_or (slice_get functions v) None
