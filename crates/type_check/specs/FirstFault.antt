@@ -1,5 +1,5 @@
 -- The first fault of a module, place by place.
-use Rattle.std.specs.Prelude.{ℕ, List, [], ◌∷◌, Option, option_map}
+use Rattle.std.specs.Prelude.{ℕ, List, [], ◌∷◌, ◌++◌, Option, option_map}
 use Rattle.std.specs.Option.{option_or}
 use Rattle.sil_ast.specs.declared.function.Block.{Block}
 use Rattle.sil_ast.specs.declared.function.Function.{Function}
@@ -31,19 +31,28 @@ judged_function m f =
     ∷ judged rule.AddressEscapes (lets_address_escape f)
     ∷ []
 
--- the rules that an instruction can break, in order
-abbrev pub judged_point : Module → Function → ℕ → ℕ → Inst → List Judged
-judged_point m f block index i =
+-- the rules that an instruction can break by its types, its results and the arguments of its edges
+abbrev pub judged_types : Module → Function → Inst → List Judged
+judged_types m f i =
     judged rule.OperandType (has_wrong_operand_type (declarations_of m) (value_types (declarations_of m) f) i)
     ∷ judged rule.ResultCount (has_wrong_result_count (declarations_of m) i)
     ∷ judged rule.EdgeArguments (has_wrong_edge_arguments f i)
-    ∷ judged rule.Callee (calls_no_function (value_functions f) i)
+    ∷ []
+
+-- and those that it can break by what it calls, where it stands and where it goes
+abbrev pub judged_use : Module → Function → ℕ → ℕ → Inst → List Judged
+judged_use m f block index i =
+    judged rule.Callee (calls_no_function (value_functions f) i)
     ∷ judged rule.Signature (differs_from_signature m f (value_functions f) i)
     ∷ judged rule.MixedForms (is_of_other_form f block index i)
     ∷ judged rule.SwitchCases (has_wrong_cases (declarations_of m) f i)
     ∷ judged rule.EntryHasPredecessor (goes_to_entry i)
     ∷ judged rule.Qualifier (has_wrong_qualifier (declarations_of m) f i)
     ∷ []
+
+-- the rules that an instruction can break, in order
+abbrev pub judged_point : Module → Function → ℕ → ℕ → Inst → List Judged
+judged_point m f block index i = judged_types m f i ++ judged_use m f block index i
 
 abbrev pub judged_vtable : Module → Vtable → List Judged
 judged_vtable m v = judged rule.DeinitSignature (has_wrong_deinitialiser m v) ∷ []
