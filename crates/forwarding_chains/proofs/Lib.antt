@@ -1,0 +1,6 @@
+mod Listed
+mod Together
+mod Depths
+mod Settled
+mod Chaining
+mod RingLemmas
