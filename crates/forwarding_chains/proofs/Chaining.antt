@@ -126,7 +126,7 @@ module _ (defs : List Definition) (from : ValueId) where
   -- the value on top of the stack was visited
   pub searches_more : (marks : List Bool) (rest : List ValueId) (top : ValueId) (stack : List ValueId) (marks' : List Bool) (stack' : List ValueId) → stack ≡ rest ++ top ∷ [] → Searches defs from marks stack →
       Visits (operands_at defs top) marks rest marks' stack' → Searches defs from marks' stack'
-  searches_more marks rest top stack marks' stack' operands s v = record {
+  searches_more marks rest top stack marks' stack' popped s v = record {
     size = v.size ∙ s.size;
     sound = λ x h. sound x (v.only x h);
     begun = All-weaker (IsMarked marks) (IsMarked marks') v.kept (operands_at defs from) s.begun;
@@ -135,10 +135,10 @@ module _ (defs : List Definition) (from : ValueId) where
   }
     where
       all : All (IsMarked marks) (rest ++ top ∷ [])
-      all = subst (All (IsMarked marks)) operands s.waits
+      all = subst (All (IsMarked marks)) popped s.waits
 
       waiting : All (IsMarked marks) rest
-      waiting = (All-pop (IsMarked marks) stack rest (Some top) operands s.waits).0
+      waiting = (All-pop (IsMarked marks) stack rest (Some top) popped s.waits).0
 
       here : IsMarked marks top
       here = All-contains (IsMarked marks) (rest ++ top ∷ []) top all (Contains-push rest top)
@@ -156,7 +156,7 @@ module _ (defs : List Definition) (from : ValueId) where
           place (inr e) = inr (subst (λ y. All (IsMarked marks') (operands_at defs y)) e v.all)
 
           old : Contains stack x ⊎ All (IsMarked marks) (operands_at defs x) → Contains stack' x ⊎ All (IsMarked marks') (operands_at defs x)
-          old (inl c) = place (Contains-push_cases rest top x (subst (λ t. Contains t x) operands c))
+          old (inl c) = place (Contains-push_cases rest top x (subst (λ t. Contains t x) popped c))
           old (inr a) = inr (All-weaker (IsMarked marks) (IsMarked marks') v.kept (operands_at defs x) a)
 
   -- at the end exactly what chains lead to is marked
@@ -178,8 +178,8 @@ pub visits_same : (operands : List ValueId) (marks : List Bool) (stack : List Va
 visits_same operands marks stack marks' m stack' s a b h = subst (λ x. Visits operands marks stack x stack') (sym a) (subst (λ y. Visits operands marks stack m y) (sym b) h)
 
 -- the operands of a value stand at its place
-pub operands_are : (defs : List Definition) (v : ValueId) (d : Definition) → d ≡ get_or defs v.0 d → v.0 < length defs → d.operands ≡ operands_at defs v
-operands_are defs v d is lt = ap (λ x. x.operands) is ∙ at defs v.0 lt
+pub operands_are : (defs : List Definition) (v : ValueId) (d : Definition) → v.0 < length defs → (get_or defs v.0 d).operands ≡ operands_at defs v
+operands_are defs v d lt = at defs v.0 lt
   where
     at : (defs : List Definition) (n : ℕ) → n < length defs → (get_or defs n d).operands ≡ unwrap_or (slice_get (map (λ x. x.operands) defs) n) []
     at [] n lt = absurd (omega arith)
@@ -188,8 +188,8 @@ operands_are defs v d is lt = ap (λ x. x.operands) is ∙ at defs v.0 lt
 
 -- what waits on the stack is a number of the defs
 pub waiting_inside : (defs : List Definition) (from : ValueId) (marks : List Bool) (stack rest : List ValueId) (top : ValueId) → stack ≡ rest ++ top ∷ [] → Searches defs from marks stack → top.0 < length defs
-waiting_inside defs from marks stack rest top operands s =
-    let here : IsMarked marks top = All-contains (IsMarked marks) (rest ++ top ∷ []) top (subst (All (IsMarked marks)) operands s.waits) (Contains-push rest top) in
+waiting_inside defs from marks stack rest top popped s =
+    let here : IsMarked marks top = All-contains (IsMarked marks) (rest ++ top ∷ []) top (subst (All (IsMarked marks)) popped s.waits) (Contains-push rest top) in
     let lt : top.0 < length marks = marked_lt marks top here in
     let size : length marks ≡ length defs = s.size in
     omega arith

@@ -1,35 +1,42 @@
--- Where each of some numbers has a part among them, one is on a ring; numbers in an order and numbers whose parts rise are on none.
-use Rattle.std.proofs.Common.{◌≡◌, ℕ, zero, suc, ◌+◌, ◌<◌, ◌≤◌, List, [], ◌∷◌, length, get_or, set, take, replicate, refl, sym, ap, ◌∙◌, subst, arith, Bool, true, false, not, ◌⊎◌, inl, inr}
-use Rattle.std.specs.Prelude.{All, Contains, count_by, ◌&&◌}
+-- Values with facts are on no ring; where each of some values has an operand among them, one is on a ring.
+use Rattle.std.proofs.Common.{◌≡◌, ℕ, zero, suc, ◌+◌, ◌<◌, ◌≤◌, List, [], ◌∷◌, length, get_or, set, replicate, refl, sym, ap, ◌∙◌, subst, arith, Bool, true, false, not, ◌⊎◌, inl, inr, Option, Some, None}
+use Rattle.std.specs.Prelude.{All, Contains, count_by, map, slice_get, unwrap_or, ◌&&◌, is_some, IsSomeAnd, IfNone}
 use Rattle.std.specs.List.{list_all}
 use Rattle.std.proofs.lemmas.Bool.{cases_lt}
+use Rattle.std.proofs.lemmas.Option.{none-some}
 use Rattle.std.proofs.lemmas.List.{length-set, length-replicate, get_or-replicate}
-use Rattle.std.proofs.lemmas.List.Elements.{All-contains, All-weaker, Contains-append_right}
-use Rattle.forwarding_chains.specs.Chains.{List Definition, operands_at, Chain, one, more, IsCyclic, IsInRange}
-use Rattle.forwarding_chains.specs.Order.{ArePartsBefore, IsOrder}
-use Rattle.forwarding_chains.specs.Ranks.{NeverFall, Rises}
+use Rattle.std.proofs.lemmas.List.Sums.{AllPass-from_list_all}
+use Rattle.std.proofs.lemmas.List.Elements.{All-contains, Contains-append_right}
+use Rattle.sil_ast.specs.declared.place.ValueId.{ValueId}
+use Rattle.forwarding_chains.specs.declared.definition.Definition.{Definition}
+use Rattle.forwarding_chains.specs.declared.facts.Facts.{Facts}
+use Rattle.forwarding_chains.specs.Chains.{operands_at, Chain, one, more, IsCyclic, IsInRange, HasNoRing}
+use Rattle.forwarding_chains.specs.Facts.{is_known, told_in, told_at}
+use Rattle.forwarding_chains.specs.Outcome.{IsExact, AreAll}
+use Rattle.forwarding_chains.specs.Ranks.{rank, NeverFall, Rises}
 use Rattle.forwarding_chains.specs.Search.{IsMarked}
-use Rattle.forwarding_chains.specs.Settling.{Settles, IsStuck, is_marked}
+use Rattle.forwarding_chains.specs.Settling.{AreStuck}
+use Rattle.forwarding_chains.proofs.Depths.{all_from}
 use Rattle.forwarding_chains.proofs.Chaining.{count_set, set_only, chain_push, marked_lt}
 
 abbrev Ring : List Definition → Type 0
-Ring defs = (v : ℕ) × (v < length defs) × IsCyclic defs v
+Ring defs = (v : ValueId) × (v.0 < length defs) × IsCyclic defs v
 
-module _ (defs : List Definition) (P : ℕ → Type 0) (next : (v : ℕ) → P v → (w : ℕ) × Contains (operands_at defs v) w × (w < length defs) × P w) where
-  -- the next number was passed before, or it wasn't
-  turn : (marks : List Bool) (v : ℕ) (p : P v) → ((x : ℕ) → IsMarked marks x → (x ≡ v) ⊎ Chain defs x v) → (get_or marks (next v p).0 false ≡ false → Ring defs) → Ring defs
-  turn marks v p reach other = at (get_or marks (next v p).0 false) refl
+module _ (defs : List Definition) (P : ValueId → Type 0) (next : (v : ValueId) → P v → (w : ValueId) × Contains (operands_at defs v) w × (w.0 < length defs) × P w) where
+  -- the next value was passed before, or it wasn't
+  turn : (marks : List Bool) (v : ValueId) (p : P v) → ((x : ValueId) → IsMarked marks x → (x ≡ v) ⊎ Chain defs x v) → (get_or marks (next v p).0.0 false ≡ false → Ring defs) → Ring defs
+  turn marks v p reach other = at (get_or marks (next v p).0.0 false) refl
     where
       ring : ((next v p).0 ≡ v) ⊎ Chain defs (next v p).0 v → IsCyclic defs (next v p).0
       ring (inl e) = subst (λ x. Chain defs x (next v p).0) (sym e) (one v (next v p).0 (next v p).1)
       ring (inr h) = chain_push defs v (next v p).0 v (next v p).0 h (next v p).1
 
-      at : (b : Bool) → get_or marks (next v p).0 false ≡ b → Ring defs
+      at : (b : Bool) → get_or marks (next v p).0.0 false ≡ b → Ring defs
       at true e = ((next v p).0, (next v p).2, ring (reach (next v p).0 e))
       at false e = other e
 
-  reach_next : (marks : List Bool) (v : ℕ) (p : P v) → ((x : ℕ) → IsMarked marks x → (x ≡ v) ⊎ Chain defs x v) →
-      (x : ℕ) → IsMarked (set marks (next v p).0 true) x → (x ≡ (next v p).0) ⊎ Chain defs x (next v p).0
+  reach_next : (marks : List Bool) (v : ValueId) (p : P v) → ((x : ValueId) → IsMarked marks x → (x ≡ v) ⊎ Chain defs x v) →
+      (x : ValueId) → IsMarked (set marks (next v p).0.0 true) x → (x ≡ (next v p).0) ⊎ Chain defs x (next v p).0
   reach_next marks v p reach x h = at (set_only marks (next v p).0 x h)
     where
       old : (x ≡ v) ⊎ Chain defs x v → (x ≡ (next v p).0) ⊎ Chain defs x (next v p).0
@@ -41,106 +48,107 @@ module _ (defs : List Definition) (P : ℕ → Type 0) (next : (v : ℕ) → P v
       at (inr e) = inl e
 
   -- a walk that marks where it was comes to a mark
-  ring_from : (fuel : ℕ) (marks : List Bool) (v : ℕ) (p : P v) → length marks ≡ length defs → count_by not marks ≤ fuel →
-      ((x : ℕ) → IsMarked marks x → (x ≡ v) ⊎ Chain defs x v) → Ring defs
+  ring_from : (fuel : ℕ) (marks : List Bool) (v : ValueId) (p : P v) → length marks ≡ length defs → count_by not marks ≤ fuel →
+      ((x : ValueId) → IsMarked marks x → (x ≡ v) ⊎ Chain defs x v) → Ring defs
   ring_from zero marks v p size few reach =
       turn marks v p reach (λ off.
       let w = (next v p).0 in
-      let lt : w < length defs = (next v p).2 in
-      let fewer : suc (count_by not (set marks w true)) ≡ count_by not marks = count_set marks w (omega arith) off in
+      let lt : w.0 < length defs = (next v p).2 in
+      let fewer : suc (count_by not (set marks w.0 true)) ≡ count_by not marks = count_set marks w.0 (omega arith) off in
       absurd (omega arith))
   ring_from (suc fuel) marks v p size few reach =
       turn marks v p reach (λ off.
-      let lt : (next v p).0 < length defs = (next v p).2 in
-      let fewer : suc (count_by not (set marks (next v p).0 true)) ≡ count_by not marks = count_set marks (next v p).0 (omega arith) off in
-      ring_from fuel (set marks (next v p).0 true) (next v p).0 (next v p).3 (length-set marks (next v p).0 true ∙ size) (omega arith) (reach_next marks v p reach))
+      let lt : (next v p).0.0 < length defs = (next v p).2 in
+      let fewer : suc (count_by not (set marks (next v p).0.0 true)) ≡ count_by not marks = count_set marks (next v p).0.0 (omega arith) off in
+      ring_from fuel (set marks (next v p).0.0 true) (next v p).0 (next v p).3 (length-set marks (next v p).0.0 true ∙ size) (omega arith) (reach_next marks v p reach))
 
-  some_ring : (v : ℕ) → P v → Ring defs
+  some_ring : (v : ValueId) → P v → Ring defs
   some_ring v p =
       let none = replicate (length defs) false in
-      ring_from (count_by not none) none v p (length-replicate (length defs) false) (omega arith) (λ x h. absurd (let lt : x < length defs = marked_lt_all x h in let off : get_or none x false ≡ false = get_or-replicate (length defs) x false false lt in cc (off, h)))
+      ring_from (count_by not none) none v p (length-replicate (length defs) false) (omega arith) (λ x h. absurd (let lt : x.0 < length defs = marked_lt_all x h in let off : get_or none x.0 false ≡ false = get_or-replicate (length defs) x.0 false false lt in cc (off, h)))
     where
-      marked_lt_all : (x : ℕ) → IsMarked (replicate (length defs) false) x → x < length defs
-      marked_lt_all x h = let lt : x < length (replicate (length defs) false) = marked_lt (replicate (length defs) false) x h in let long : length (replicate (length defs) false) ≡ length defs = length-replicate (length defs) false in omega arith
+      marked_lt_all : (x : ValueId) → IsMarked (replicate (length defs) false) x → x.0 < length defs
+      marked_lt_all x h = let lt : x.0 < length (replicate (length defs) false) = marked_lt (replicate (length defs) false) x h in let long : length (replicate (length defs) false) ≡ length defs = length-replicate (length defs) false in omega arith
 
--- a part that isn't marked
-some_unmarked : (marks : List Bool) (parts : List ℕ) → list_all (is_marked marks) parts ≡ false → (w : ℕ) × Contains parts w × (is_marked marks w ≡ false)
-some_unmarked marks [] h = absurd (cc)
-some_unmarked marks (x ∷ parts) h = at (is_marked marks x) refl (λ e. some_unmarked marks parts (sym (ap (λ b. b && list_all (is_marked marks) parts) e) ∙ h))
+-- an operand of which nothing is known
+some_unknown : (known : ValueId → Option Facts) (ops : List ValueId) → list_all (is_known known) ops ≡ false → (w : ValueId) × Contains ops w × (known w ≡ None)
+some_unknown known [] h = absurd (cc)
+some_unknown known (x ∷ ops) h = at (known x) refl (λ e. some_unknown known ops (sym (ap (λ b. b && list_all (is_known known) ops) e) ∙ h))
   where
-    at : (b : Bool) → is_marked marks x ≡ b → (is_marked marks x ≡ true → (w : ℕ) × Contains parts w × (is_marked marks w ≡ false)) → (w : ℕ) × Contains (x ∷ parts) w × (is_marked marks w ≡ false)
-    at false e rest = (x, (0, omega arith, refl), e)
-    at true e rest = let m = rest e in (m.0, Contains-append_right (x ∷ []) parts m.0 m.1, m.2)
+    at : (o : Option Facts) → known x ≡ o → (is_known known x ≡ true → (w : ValueId) × Contains ops w × (known w ≡ None)) → (w : ValueId) × Contains (x ∷ ops) w × (known w ≡ None)
+    at None e rest = (x, (0, omega arith, refl), e)
+    at (Some f) e rest = let m = rest (ap is_some e) in (m.0, Contains-append_right (x ∷ []) ops m.0 m.1, m.2)
 
-abbrev IsLeft : List Definition → List Bool → ℕ → Type 0
-IsLeft defs marks v = (v < length defs) × (is_marked marks v ≡ false)
+abbrev IsLeft : List Definition → (ValueId → Option Facts) → ValueId → Type 0
+IsLeft defs known v = (v.0 < length defs) × (known v ≡ None)
 
-stuck_next : (defs : List Definition) (marks : List Bool) → IsInRange defs → ((v : ℕ) → v < length defs → IsStuck defs marks v) →
-    (v : ℕ) → IsLeft defs marks v → (w : ℕ) × Contains (operands_at defs v) w × (w < length defs) × IsLeft defs marks w
-stuck_next defs marks range stuck v p =
-    let u = some_unmarked marks (operands_at defs v) (stuck v p.0 p.1) in
-    let lt = All-contains (λ w. w < length defs) (operands_at defs v) u.0 (range v p.0) u.1 in
-    (u.0, u.1, lt, (lt, u.2))
-
--- without a ring each number is marked, once nothing more can be placed
-all_marked : (defs : List Definition) (marks : List Bool) → IsInRange defs → ((v : ℕ) → v < length defs → IsStuck defs marks v) → ((v : ℕ) → v < length defs → IsCyclic defs v → ⊥) → (v : ℕ) → v < length defs → IsMarked marks v
-all_marked defs marks range stuck none v lt = at (is_marked marks v) refl
+stuck_next : (defs : List Definition) (known : ValueId → Option Facts) → IsInRange defs → AreStuck defs known (length defs) →
+    (v : ValueId) → IsLeft defs known v → (w : ValueId) × Contains (operands_at defs v) w × (w.0 < length defs) × IsLeft defs known w
+stuck_next defs known range stuck v p = at (list_all (is_known known) (operands_at defs v)) refl
   where
-    at : (b : Bool) → is_marked marks v ≡ b → IsMarked marks v
-    at true e = e
-    at false e = let r = some_ring defs (IsLeft defs marks) (stuck_next defs marks range stuck) v (lt, e) in absurd (none r.0 r.1 r.2)
+    found : (w : ValueId) × Contains (operands_at defs v) w × (known w ≡ None) → (w : ValueId) × Contains (operands_at defs v) w × (w.0 < length defs) × IsLeft defs known w
+    found u = let lt = All-contains (λ w. w.0 < length defs) (operands_at defs v) u.0 (range.inside v p.0) u.1 in (u.0, u.1, lt, (lt, u.2))
 
--- beyond the defs nothing has parts
-no_parts : (defs : List Definition) (v : ℕ) → length defs ≤ v → operands_at defs v ≡ []
-no_parts [] v le = refl
-no_parts (x ∷ defs) zero le = absurd (omega arith)
-no_parts (x ∷ defs) (suc v) le = no_parts defs v (omega arith)
+    at : (b : Bool) → list_all (is_known known) (operands_at defs v) ≡ b → (w : ValueId) × Contains (operands_at defs v) w × (w.0 < length defs) × IsLeft defs known w
+    at true e = absurd (none-some _ (sym (stuck v p.0 p.1) ∙ all_from defs known v e))
+    at false e = found (some_unknown known (operands_at defs v) e)
 
-no_chain : (defs : List Definition) (v w : ℕ) → operands_at defs v ≡ [] → Chain defs v w → ⊥
+-- without a ring each value has facts
+all_known : (defs : List Definition) (table : List (Option Facts)) → IsInRange defs → IsExact defs (told_at table) → AreStuck defs (told_at table) (length defs) → HasNoRing defs → AreAll defs table
+all_known defs table range exact stuck none v lt = at (told_at table v) refl
+  where
+    at : (o : Option Facts) → told_at table v ≡ o → IsSomeAnd (told_at table v) (λ f. (n : ℕ) × (told_in defs n v ≡ Some f))
+    at None e = let r = some_ring defs (IsLeft defs (told_at table)) (stuck_next defs (told_at table) range stuck) v (lt, e) in absurd (none r.0 r.2)
+    at (Some f) e = subst (λ o. IsSomeAnd o (λ f. (n : ℕ) × (told_in defs n v ≡ Some f))) (sym e) ((exact v f lt).0 e)
+
+pub all_unless : (defs : List Definition) (table : List (Option Facts)) (o : Option ValueId) → IsInRange defs → IsExact defs (told_at table) → AreStuck defs (told_at table) (length defs) →
+    IfNone o (HasNoRing defs) → IfNone o (AreAll defs table)
+all_unless defs table None range exact stuck none = all_known defs table range exact stuck none
+all_unless defs table (Some v) range exact stuck none = tt
+
+-- beyond the function nothing has operands
+no_operands : (defs : List Definition) (v : ValueId) → length defs ≤ v.0 → operands_at defs v ≡ []
+no_operands defs v le = at defs v.0 le
+  where
+    at : (defs : List Definition) (n : ℕ) → length defs ≤ n → unwrap_or (slice_get (map (λ x. x.operands) defs) n) [] ≡ []
+    at [] zero le = refl
+    at [] (suc n) le = refl
+    at (x ∷ defs) zero le = absurd (omega arith)
+    at (x ∷ defs) (suc n) le = at defs n (omega arith)
+
+no_chain : (defs : List Definition) (v w : ValueId) → operands_at defs v ≡ [] → Chain defs v w → ⊥
 no_chain defs v w e (one _ _ c) = let c' : Contains [] w = subst (λ xs. Contains xs w) e c in let lt : c'.0 < 0 = c'.1 in omega arith
 no_chain defs v w e (more _ u _ c h) = let c' : Contains [] u = subst (λ xs. Contains xs u) e c in let lt : c'.0 < 0 = c'.1 in omega arith
 
-cyclic_inside : (defs : List Definition) → ((v : ℕ) → v < length defs → IsCyclic defs v → ⊥) → (v : ℕ) → IsCyclic defs v → ⊥
-cyclic_inside defs none v h = at (cases_lt v (length defs))
+pub no_ring : (defs : List Definition) (n : ℕ) → length defs ≤ n → ((v : ValueId) → v.0 < n → IsCyclic defs v → ⊥) → HasNoRing defs
+no_ring defs n long none v h = at (cases_lt v.0 n)
   where
-    at : (v < length defs) ⊎ (length defs ≤ v) → ⊥
+    at : (v.0 < n) ⊎ (n ≤ v.0) → ⊥
     at (inl lt) = none v lt h
-    at (inr le) = no_chain defs v v (no_parts defs v le) h
-
--- where nothing more can be placed and there is no ring, all numbers are in order
-pub in_order : (defs : List Definition) (marks : List Bool) (order : List ℕ) → IsInRange defs → Settles defs marks order → ((v : ℕ) → v < length defs → IsStuck defs marks v) → ((v : ℕ) → v < length defs → IsCyclic defs v → ⊥) → IsOrder defs order × ((v : ℕ) → IsCyclic defs v → ⊥)
-in_order defs marks order range s stuck none = (
-  record {
-    all = λ v lt. s.placed v (all_marked defs marks range stuck none v lt);
-    inside = All-weaker (IsMarked marks) (λ v. v < length defs) (λ v h. let lt : v < length marks = marked_lt marks v h in let size : length marks ≡ length defs = s.size in omega arith) order s.marked;
-    parts = s.parts;
-    once = let count : count_by not marks + length order ≡ length defs = s.count in omega arith;
-  },
-  cyclic_inside defs none,
-)
+    at (inr le) = no_chain defs v v (no_operands defs v (omega arith)) h
 
 -- where ranks never fall, a chain never leads to a lower one
 module _ (defs : List Definition) (ranks : List ℕ) (ranked : NeverFall defs ranks) where
-  part_not_lower : (v w : ℕ) → Contains (operands_at defs v) w → get_or ranks v 0 ≤ get_or ranks w 0
-  part_not_lower v w c = at (cases_lt v (length defs))
+  operand_not_lower : (v w : ValueId) → Contains (operands_at defs v) w → rank ranks v ≤ rank ranks w
+  operand_not_lower v w c = at (cases_lt v.0 (length defs))
     where
-      at : (v < length defs) ⊎ (length defs ≤ v) → get_or ranks v 0 ≤ get_or ranks w 0
-      at (inl lt) = All-contains (λ x. get_or ranks v 0 ≤ get_or ranks x 0) (operands_at defs v) w (ranked v lt) c
-      at (inr le) = absurd (no_chain defs v w (no_parts defs v le) (one v w c))
+      at : (v.0 < length defs) ⊎ (length defs ≤ v.0) → rank ranks v ≤ rank ranks w
+      at (inl lt) = All-contains (λ x. rank ranks v ≤ rank ranks x) (operands_at defs v) w (ranked v lt) c
+      at (inr le) = absurd (no_chain defs v w (no_operands defs v le) (one v w c))
 
-  never_lower : (v w : ℕ) → Chain defs v w → get_or ranks v 0 ≤ get_or ranks w 0
-  never_lower v w (one _ _ c) = part_not_lower v w c
+  never_lower : (v w : ValueId) → Chain defs v w → rank ranks v ≤ rank ranks w
+  never_lower v w (one _ _ c) = operand_not_lower v w c
   never_lower v w (more _ u _ c h) =
-      let a : get_or ranks v 0 ≤ get_or ranks u 0 = part_not_lower v u c in
-      let b : get_or ranks u 0 ≤ get_or ranks w 0 = never_lower u w h in
+      let a : rank ranks v ≤ rank ranks u = operand_not_lower v u c in
+      let b : rank ranks u ≤ rank ranks w = never_lower u w h in
       omega arith
 
-  -- and a number whose parts all rise is on no ring
-  pub rising_off : (v : ℕ) → Rises defs ranks v → IsCyclic defs v → ⊥
+  -- and a number whose operands all rise is on no ring
+  pub rising_off : (v : ValueId) → Rises defs ranks v → IsCyclic defs v → ⊥
   rising_off v rises (one _ _ c) =
-      let a : get_or ranks v 0 < get_or ranks v 0 = All-contains (λ x. get_or ranks v 0 < get_or ranks x 0) (operands_at defs v) v rises c in
+      let a : rank ranks v < rank ranks v = All-contains (λ x. rank ranks v < rank ranks x) (operands_at defs v) v rises c in
       omega arith
   rising_off v rises (more _ u _ c h) =
-      let a : get_or ranks v 0 < get_or ranks u 0 = All-contains (λ x. get_or ranks v 0 < get_or ranks x 0) (operands_at defs v) u rises c in
-      let b : get_or ranks u 0 ≤ get_or ranks v 0 = never_lower u v h in
+      let a : rank ranks v < rank ranks u = All-contains (λ x. rank ranks v < rank ranks x) (operands_at defs v) u rises c in
+      let b : rank ranks u ≤ rank ranks v = never_lower u v h in
       omega arith
