@@ -3,4 +3,5 @@ mod Together
 mod Depths
 mod Settled
 mod Chaining
+pub mod FactLemmas
 mod RingLemmas

@@ -10,29 +10,31 @@ use Rattle.std.proofs.lemmas.List.Elements.{All-contains, Contains-append_right}
 use Rattle.sil_ast.specs.declared.place.ValueId.{ValueId}
 use Rattle.forwarding_chains.specs.declared.definition.Definition.{Definition}
 use Rattle.forwarding_chains.specs.declared.facts.Facts.{Facts}
-use Rattle.forwarding_chains.specs.Chains.{operands_at, Chain, one, more, IsCyclic, IsInRange, HasNoRing}
+use Rattle.forwarding_chains.specs.Chains.{operands_at, Chain, one, more, IsCyclic, IsInRange, HasNoRing, LeadsIntoRing}
 use Rattle.forwarding_chains.specs.Facts.{is_known, told_in, told_at}
-use Rattle.forwarding_chains.specs.Outcome.{IsExact, AreAll}
+use Rattle.forwarding_chains.specs.Outcome.{IsExact, AreAll, HasUnknown}
 use Rattle.forwarding_chains.specs.Ranks.{rank, NeverFall, Rises}
 use Rattle.forwarding_chains.specs.Search.{IsMarked}
 use Rattle.forwarding_chains.specs.Settling.{AreStuck}
 use Rattle.forwarding_chains.proofs.Depths.{all_from}
+use Rattle.forwarding_chains.proofs.FactLemmas.{end_at_rings}
 use Rattle.forwarding_chains.proofs.Chaining.{count_set, set_only, chain_push, marked_lt}
 
-abbrev Ring : List Definition → Type 0
-Ring defs = (v : ValueId) × (v.0 < length defs) × IsCyclic defs v
+-- a value on a ring, of which P holds
+abbrev Ring : List Definition → (ValueId → Type 0) → Type 0
+Ring defs P = (v : ValueId) × (v.0 < length defs) × IsCyclic defs v × P v
 
 module _ (defs : List Definition) (P : ValueId → Type 0) (next : (v : ValueId) → P v → (w : ValueId) × Contains (operands_at defs v) w × (w.0 < length defs) × P w) where
   -- the next value was passed before, or it wasn't
-  turn : (marks : List Bool) (v : ValueId) (p : P v) → ((x : ValueId) → IsMarked marks x → (x ≡ v) ⊎ Chain defs x v) → (get_or marks (next v p).0.0 false ≡ false → Ring defs) → Ring defs
+  turn : (marks : List Bool) (v : ValueId) (p : P v) → ((x : ValueId) → IsMarked marks x → (x ≡ v) ⊎ Chain defs x v) → (get_or marks (next v p).0.0 false ≡ false → Ring defs P) → Ring defs P
   turn marks v p reach other = at (get_or marks (next v p).0.0 false) refl
     where
       ring : ((next v p).0 ≡ v) ⊎ Chain defs (next v p).0 v → IsCyclic defs (next v p).0
       ring (inl e) = subst (λ x. Chain defs x (next v p).0) (sym e) (one v (next v p).0 (next v p).1)
       ring (inr h) = chain_push defs v (next v p).0 v (next v p).0 h (next v p).1
 
-      at : (b : Bool) → get_or marks (next v p).0.0 false ≡ b → Ring defs
-      at true e = ((next v p).0, (next v p).2, ring (reach (next v p).0 e))
+      at : (b : Bool) → get_or marks (next v p).0.0 false ≡ b → Ring defs P
+      at true e = ((next v p).0, (next v p).2, ring (reach (next v p).0 e), (next v p).3)
       at false e = other e
 
   reach_next : (marks : List Bool) (v : ValueId) (p : P v) → ((x : ValueId) → IsMarked marks x → (x ≡ v) ⊎ Chain defs x v) →
@@ -49,7 +51,7 @@ module _ (defs : List Definition) (P : ValueId → Type 0) (next : (v : ValueId)
 
   -- a walk that marks where it was comes to a mark
   ring_from : (fuel : ℕ) (marks : List Bool) (v : ValueId) (p : P v) → length marks ≡ length defs → count_by not marks ≤ fuel →
-      ((x : ValueId) → IsMarked marks x → (x ≡ v) ⊎ Chain defs x v) → Ring defs
+      ((x : ValueId) → IsMarked marks x → (x ≡ v) ⊎ Chain defs x v) → Ring defs P
   ring_from zero marks v p size few reach =
       turn marks v p reach (λ off.
       let w = (next v p).0 in
@@ -62,7 +64,7 @@ module _ (defs : List Definition) (P : ValueId → Type 0) (next : (v : ValueId)
       let fewer : suc (count_by not (set marks (next v p).0.0 true)) ≡ count_by not marks = count_set marks (next v p).0.0 (omega arith) off in
       ring_from fuel (set marks (next v p).0.0 true) (next v p).0 (next v p).3 (length-set marks (next v p).0.0 true ∙ size) (omega arith) (reach_next marks v p reach))
 
-  some_ring : (v : ValueId) → P v → Ring defs
+  some_ring : (v : ValueId) → P v → Ring defs P
   some_ring v p =
       let none = replicate (length defs) false in
       ring_from (count_by not none) none v p (length-replicate (length defs) false) (omega arith) (λ x h. absurd (let lt : x.0 < length defs = marked_lt_all x h in let off : get_or none x.0 false ≡ false = get_or-replicate (length defs) x.0 false false lt in cc (off, h)))
@@ -79,27 +81,52 @@ some_unknown known (x ∷ ops) h = at (known x) refl (λ e. some_unknown known o
     at None e rest = (x, (0, omega arith, refl), e)
     at (Some f) e rest = let m = rest (ap is_some e) in (m.0, Contains-append_right (x ∷ []) ops m.0 m.1, m.2)
 
-abbrev IsLeft : List Definition → (ValueId → Option Facts) → ValueId → Type 0
-IsLeft defs known v = (v.0 < length defs) × (known v ≡ None)
+-- nothing is known of the value, and it is where a chain from the first one leads
+abbrev IsLeft : List Definition → (ValueId → Option Facts) → ValueId → ValueId → Type 0
+IsLeft defs known first v = (v.0 < length defs) × (known v ≡ None) × ((first ≡ v) ⊎ Chain defs first v)
 
-stuck_next : (defs : List Definition) (known : ValueId → Option Facts) → IsInRange defs → AreStuck defs known (length defs) →
-    (v : ValueId) → IsLeft defs known v → (w : ValueId) × Contains (operands_at defs v) w × (w.0 < length defs) × IsLeft defs known w
-stuck_next defs known range stuck v p = at (list_all (is_known known) (operands_at defs v)) refl
+leads_on : (defs : List Definition) (first v w : ValueId) → (first ≡ v) ⊎ Chain defs first v → Contains (operands_at defs v) w → (first ≡ w) ⊎ Chain defs first w
+leads_on defs first v w (inl e) c = inr (subst (λ x. Chain defs x w) (sym e) (one v w c))
+leads_on defs first v w (inr h) c = inr (chain_push defs first first v w h c)
+
+stuck_next : (defs : List Definition) (known : ValueId → Option Facts) (first : ValueId) → IsInRange defs → AreStuck defs known (length defs) →
+    (v : ValueId) → IsLeft defs known first v → (w : ValueId) × Contains (operands_at defs v) w × (w.0 < length defs) × IsLeft defs known first w
+stuck_next defs known first range stuck v p = at (list_all (is_known known) (operands_at defs v)) refl
   where
-    found : (w : ValueId) × Contains (operands_at defs v) w × (known w ≡ None) → (w : ValueId) × Contains (operands_at defs v) w × (w.0 < length defs) × IsLeft defs known w
-    found u = let lt = All-contains (λ w. w.0 < length defs) (operands_at defs v) u.0 (range.inside v p.0) u.1 in (u.0, u.1, lt, (lt, u.2))
+    found : (w : ValueId) × Contains (operands_at defs v) w × (known w ≡ None) → (w : ValueId) × Contains (operands_at defs v) w × (w.0 < length defs) × IsLeft defs known first w
+    found u =
+        let lt = All-contains (λ w. w.0 < length defs) (operands_at defs v) u.0 (range.inside v p.0) u.1 in
+        (u.0, u.1, lt, (lt, u.2, leads_on defs first v u.0 p.2 u.1))
 
-    at : (b : Bool) → list_all (is_known known) (operands_at defs v) ≡ b → (w : ValueId) × Contains (operands_at defs v) w × (w.0 < length defs) × IsLeft defs known w
+    at : (b : Bool) → list_all (is_known known) (operands_at defs v) ≡ b → (w : ValueId) × Contains (operands_at defs v) w × (w.0 < length defs) × IsLeft defs known first w
     at true e = absurd (none-some _ (sym (stuck v p.0 p.1) ∙ all_from defs known v e))
     at false e = found (some_unknown known (operands_at defs v) e)
+
+-- from an unknown value a chain leads into a ring
+unknown_leads : (defs : List Definition) (table : List (Option Facts)) → IsInRange defs → AreStuck defs (told_at table) (length defs) → (v : ValueId) → v.0 < length defs → told_at table v ≡ None → LeadsIntoRing defs v
+unknown_leads defs table range stuck v lt none = found (some_ring defs (IsLeft defs (told_at table) v) (stuck_next defs (told_at table) v range stuck) v (lt, none, inl refl))
+  where
+    found : Ring defs (IsLeft defs (told_at table) v) → LeadsIntoRing defs v
+    found r = (r.0, at r.3.2, r.2)
+      where
+        at : (v ≡ r.0) ⊎ Chain defs v r.0 → Chain defs v r.0
+        at (inl e) = subst (λ x. Chain defs x r.0) (sym e) r.2
+        at (inr h) = h
 
 -- without a ring each value has facts
 all_known : (defs : List Definition) (table : List (Option Facts)) → IsInRange defs → IsExact defs (told_at table) → AreStuck defs (told_at table) (length defs) → HasNoRing defs → AreAll defs table
 all_known defs table range exact stuck none v lt = at (told_at table v) refl
   where
     at : (o : Option Facts) → told_at table v ≡ o → IsSomeAnd (told_at table v) (λ f. (n : ℕ) × (told_in defs n v ≡ Some f))
-    at None e = let r = some_ring defs (IsLeft defs (told_at table)) (stuck_next defs (told_at table) range stuck) v (lt, e) in absurd (none r.0 r.2)
+    at None e = let r = unknown_leads defs table range stuck v lt e in absurd (none r.0 r.2)
     at (Some f) e = subst (λ o. IsSomeAnd o (λ f. (n : ℕ) × (told_in defs n v ≡ Some f))) (sym e) ((exact v f lt).0 e)
+
+pub just_unknown : (defs : List Definition) (table : List (Option Facts)) → IsInRange defs → IsExact defs (told_at table) → AreStuck defs (told_at table) (length defs) → HasUnknown defs table
+just_unknown defs table range exact stuck v lt = (unknown_leads defs table range stuck v lt, λ h. at h (told_at table v) refl)
+  where
+    at : LeadsIntoRing defs v → (o : Option Facts) → told_at table v ≡ o → told_at table v ≡ None
+    at h None e = e
+    at h (Some f) e = absurd (end_at_rings defs v f ((exact v f lt).0 e) h)
 
 pub all_unless : (defs : List Definition) (table : List (Option Facts)) (o : Option ValueId) → IsInRange defs → IsExact defs (told_at table) → AreStuck defs (told_at table) (length defs) →
     IfNone o (HasNoRing defs) → IfNone o (AreAll defs table)

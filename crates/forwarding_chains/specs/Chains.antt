@@ -16,6 +16,10 @@ pub data Chain (defs : List Definition) : ValueId → ValueId → Type 0 where
 abbrev pub IsCyclic : List Definition → ValueId → Type 0
 IsCyclic defs v = Chain defs v v
 
+-- a chain from the value leads to one on a ring, as one on a ring does itself
+abbrev pub LeadsIntoRing : List Definition → ValueId → Type 0
+LeadsIntoRing defs v = (w : ValueId) × Chain defs v w × IsCyclic defs w
+
 -- values have numbers that fit, and each operand is a value of the function
 pub record IsInRange (defs : List Definition) : Type 0 where
   pub few : length defs ≤ 2 ^ 32

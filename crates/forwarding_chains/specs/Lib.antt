@@ -5,3 +5,4 @@ pub mod Settling
 pub mod Union
 pub mod Search
 pub mod Ranks
+pub mod Laws

@@ -1,13 +1,18 @@
 -- What is known of the values of a function.
-use Rattle.std.specs.Prelude.{◌≡◌, ◌↔◌, ℕ, ◌<◌, List, length, Option, Some, IsSomeAnd}
+use Rattle.std.specs.Prelude.{◌≡◌, ◌↔◌, ℕ, ◌<◌, List, length, Option, Some, None, IsSomeAnd}
 use Rattle.sil_ast.specs.declared.place.ValueId.{ValueId}
 use Rattle.forwarding_chains.specs.declared.definition.Definition.{Definition}
 use Rattle.forwarding_chains.specs.declared.facts.Facts.{Facts}
+use Rattle.forwarding_chains.specs.Chains.{LeadsIntoRing}
 use Rattle.forwarding_chains.specs.Facts.{Has, told_at}
 
 -- exactly the values whose chains end are known, with their kind and bases
 abbrev pub IsExact : List Definition → (ValueId → Option Facts) → Type 0
 IsExact defs known = (v : ValueId) (f : Facts) → v.0 < length defs → (known v ≡ Some f) ↔ Has defs v f
+
+-- just the values from which a chain leads into a ring are unknown
+abbrev pub HasUnknown : List Definition → List (Option Facts) → Type 0
+HasUnknown defs table = (v : ValueId) → v.0 < length defs → (told_at table v ≡ None) ↔ LeadsIntoRing defs v
 
 -- each value is known, with its kind and bases
 abbrev pub AreAll : List Definition → List (Option Facts) → Type 0

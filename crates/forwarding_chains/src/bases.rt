@@ -6,7 +6,7 @@ ghost use Rattle.forwarding_chains.specs.Facts.{bases_together, known_or, listed
 ghost use Rattle.forwarding_chains.specs.Settling.{AreListed};
 ghost use Rattle.forwarding_chains.specs.Union.{IsTurn};
 
-use crate::facts::{Facts, is_guaranteed};
+use crate::facts::{Facts, bases_of, is_guaranteed, kind_at};
 use sil_ast::{Exhausted, List, ValueId};
 use std::alloc::Global;
 
@@ -64,15 +64,10 @@ fn union(alloc: Global, one: &[ValueId], other: &[ValueId]) -> Result<List<Value
 fn handed_on(table: &[Option<Facts>], operand: ValueId, only_guaranteed: bool) -> &[ValueId]
     ensures { result.now ≡ facts.handed_on only_guaranteed (known_or (told_at table.now) operand) }
 {
-    match table.get(operand.0 as usize) {
-        Some(Some(facts)) => {
-            if only_guaranteed && !is_guaranteed(facts.kind) {
-                &[]
-            } else {
-                facts.bases.as_slice()
-            }
-        }
-        _ => &[],
+    if only_guaranteed && !is_guaranteed(kind_at(table, operand)) {
+        &[]
+    } else {
+        bases_of(table, operand)
     }
 }
 

@@ -1,6 +1,6 @@
 //! What is known of the values so far.
 
-ghost use Rattle.std.specs.Prelude.{◌≡◌};
+ghost use Rattle.std.specs.Prelude.{◌≡◌, option_map};
 ghost use Rattle.std.specs.List.{list_all};
 ghost use Rattle.forwarding_chains.specs.Facts as facts;
 ghost use Rattle.forwarding_chains.specs.Facts.{told_at, is_known, known_or};
@@ -25,6 +25,26 @@ pub(crate) fn is_guaranteed(kind: Kind) -> bool
     ensures { result ≡ facts.is_guaranteed kind }
 {
     matches!(kind, Kind::Guaranteed)
+}
+
+/// The kind of the value, where a table tells it.
+pub fn kind_of(table: &[Option<Facts>], value: ValueId) -> Option<Kind>
+    ensures { result ≡ option_map (λ f. f.kind) (told_at table.now value) }
+{
+    match table.get(value.0 as usize) {
+        Some(Some(facts)) => Some(facts.kind),
+        _ => None,
+    }
+}
+
+/// The bases of the value in ascending order, and none where a table doesn't tell them.
+pub fn bases_of(table: &[Option<Facts>], value: ValueId) -> &[ValueId]
+    ensures { result.now ≡ (known_or (told_at table.now) value).bases }
+{
+    match table.get(value.0 as usize) {
+        Some(Some(facts)) => facts.bases.as_slice(),
+        _ => &[],
+    }
 }
 
 /// Whether something is known of the value.

@@ -7,6 +7,7 @@ mod bases;
 mod definition;
 mod derive;
 mod facts;
+mod laws;
 mod outcome;
 mod ranks;
 mod rings;
@@ -14,6 +15,7 @@ mod search;
 mod settle;
 
 pub use definition::{Definition, Origin};
-pub use facts::Facts;
+pub use facts::{Facts, bases_of, kind_of};
+pub use laws::{facts_are_unique, facts_end_at_rings};
 pub use outcome::{Outcome, kinds_of};
 pub use rings::first_cyclic;
