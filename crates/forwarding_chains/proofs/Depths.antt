@@ -14,7 +14,7 @@ use Rattle.sil_ast.specs.declared.place.ValueId.{ValueId}
 use Rattle.forwarding_chains.specs.Chains.{operands_at, IsInRange}
 use Rattle.forwarding_chains.specs.Facts.{origin_at, facts_with, forwarded, bases_together, by_kind, by_operands, told_by, is_known, known_or, told_from, told_in, told_at, Has, is_owned, is_guaranteed, has, handed_on}
 use Rattle.forwarding_chains.specs.Outcome.{IsExact}
-use Rattle.forwarding_chains.specs.Settling.{IsBelow, IsSound, IsStuck, AreStuck, IsListed, AreListed}
+use Rattle.forwarding_chains.specs.Settling.{IsBelow, IsSound, AreStuck, IsListed, AreListed}
 use Rattle.forwarding_chains.proofs.Listed.{listed_same, listed_listed, alone_listed, none_listed}
 
 -- two tellings agree on the operands

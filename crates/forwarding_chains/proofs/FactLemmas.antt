@@ -1,5 +1,5 @@
 -- A value has one kind and one list of bases, and none where a chain from it leads into a ring.
-use Rattle.std.proofs.Common.{◌≡◌, ℕ, zero, suc, ◌+◌, ◌≤◌, List, refl, sym, ap, ◌∙◌, subst, arith, true, false, Option, Some, None}
+use Rattle.std.proofs.Common.{◌≡◌, ℕ, zero, suc, ◌≤◌, List, refl, ap, arith, true, false, Option, Some, None}
 use Rattle.std.specs.Prelude.{Contains, is_some}
 use Rattle.std.specs.List.{list_all}
 use Rattle.std.proofs.lemmas.Option.{none-some}
@@ -9,7 +9,7 @@ use Rattle.sil_ast.specs.declared.place.ValueId.{ValueId}
 use Rattle.forwarding_chains.specs.declared.definition.Definition.{Definition}
 use Rattle.forwarding_chains.specs.declared.facts.Facts.{Facts}
 use Rattle.forwarding_chains.specs.Chains.{operands_at, Chain, one, more, IsCyclic}
-use Rattle.forwarding_chains.specs.Facts.{is_known, told_in, Has}
+use Rattle.forwarding_chains.specs.Facts.{is_known, told_in}
 use Rattle.forwarding_chains.specs.Laws.{AreUnique, EndAtRings}
 use Rattle.forwarding_chains.proofs.Depths.{determined, from_all}
 

@@ -1,18 +1,17 @@
 -- Values with facts are on no ring; where each of some values has an operand among them, one is on a ring.
-use Rattle.std.proofs.Common.{◌≡◌, ℕ, zero, suc, ◌+◌, ◌<◌, ◌≤◌, List, [], ◌∷◌, length, get_or, set, replicate, refl, sym, ap, ◌∙◌, subst, arith, Bool, true, false, not, ◌⊎◌, inl, inr, Option, Some, None}
-use Rattle.std.specs.Prelude.{All, Contains, count_by, map, slice_get, unwrap_or, ◌&&◌, is_some, IsSomeAnd, IfNone}
+use Rattle.std.proofs.Common.{◌≡◌, ℕ, zero, suc, ◌<◌, ◌≤◌, List, [], ◌∷◌, length, get_or, set, replicate, refl, sym, ap, ◌∙◌, subst, arith, Bool, true, false, not, ◌⊎◌, inl, inr, Option, Some, None}
+use Rattle.std.specs.Prelude.{Contains, count_by, map, slice_get, unwrap_or, ◌&&◌, is_some, IsSomeAnd, IfNone}
 use Rattle.std.specs.List.{list_all}
 use Rattle.std.proofs.lemmas.Bool.{cases_lt}
 use Rattle.std.proofs.lemmas.Option.{none-some}
 use Rattle.std.proofs.lemmas.List.{length-set, length-replicate, get_or-replicate}
-use Rattle.std.proofs.lemmas.List.Sums.{AllPass-from_list_all}
 use Rattle.std.proofs.lemmas.List.Elements.{All-contains, Contains-append_right}
 use Rattle.sil_ast.specs.declared.place.ValueId.{ValueId}
 use Rattle.forwarding_chains.specs.declared.definition.Definition.{Definition}
 use Rattle.forwarding_chains.specs.declared.facts.Facts.{Facts}
 use Rattle.forwarding_chains.specs.Chains.{operands_at, Chain, one, more, IsCyclic, IsInRange, HasNoRing, LeadsIntoRing}
 use Rattle.forwarding_chains.specs.Facts.{is_known, told_in, told_at}
-use Rattle.forwarding_chains.specs.Outcome.{IsExact, AreAll, HasUnknown}
+use Rattle.forwarding_chains.specs.Outcome.{IsExact, AreAll, KnowsAllButRings}
 use Rattle.forwarding_chains.specs.Ranks.{rank, NeverFall, Rises}
 use Rattle.forwarding_chains.specs.Search.{IsMarked}
 use Rattle.forwarding_chains.specs.Settling.{AreStuck}
@@ -121,7 +120,7 @@ all_known defs table range exact stuck none v lt = at (told_at table v) refl
     at None e = let r = unknown_leads defs table range stuck v lt e in absurd (none r.0 r.2)
     at (Some f) e = subst (λ o. IsSomeAnd o (λ f. (n : ℕ) × (told_in defs n v ≡ Some f))) (sym e) ((exact v f lt).0 e)
 
-pub just_unknown : (defs : List Definition) (table : List (Option Facts)) → IsInRange defs → IsExact defs (told_at table) → AreStuck defs (told_at table) (length defs) → HasUnknown defs table
+pub just_unknown : (defs : List Definition) (table : List (Option Facts)) → IsInRange defs → IsExact defs (told_at table) → AreStuck defs (told_at table) (length defs) → KnowsAllButRings defs table
 just_unknown defs table range exact stuck v lt = (unknown_leads defs table range stuck v lt, λ h. at h (told_at table v) refl)
   where
     at : LeadsIntoRing defs v → (o : Option Facts) → told_at table v ≡ o → told_at table v ≡ None

@@ -10,7 +10,7 @@ use Rattle.sil_ast.specs.declared.place.ValueId.{ValueId}
 use Rattle.forwarding_chains.specs.declared.definition.Definition.{Definition}
 use Rattle.forwarding_chains.specs.declared.facts.Facts.{Facts}
 use Rattle.forwarding_chains.specs.Facts.{told_from, told_in, told_at, value_of}
-use Rattle.forwarding_chains.specs.Settling.{IsSound, IsStuck, AreStuck, Settles, Sweeps, unknown}
+use Rattle.forwarding_chains.specs.Settling.{IsSound, IsStuck, Settles, Sweeps, unknown}
 use Rattle.forwarding_chains.proofs.Depths.{from_more, deeper}
 
 abbrev entry : List (Option Facts) → ℕ → Option Facts

@@ -1,5 +1,5 @@
 -- Chains of operands, and rings of them.
-use Rattle.std.specs.Prelude.{◌≡◌, ℕ, ◌<◌, ◌≤◌, ◌^◌, List, [], map, length, slice_get, unwrap_or, All, Contains}
+use Rattle.std.specs.Prelude.{◌<◌, ◌≤◌, ◌^◌, List, [], map, length, slice_get, unwrap_or, All, Contains}
 use Rattle.sil_ast.specs.declared.place.ValueId.{ValueId}
 use Rattle.forwarding_chains.specs.declared.definition.Definition.{Definition}
 

@@ -1,5 +1,5 @@
 -- What is known of the values of a function.
-use Rattle.std.specs.Prelude.{◌≡◌, ◌↔◌, ℕ, ◌<◌, List, length, Option, Some, None, IsSomeAnd}
+use Rattle.std.specs.Prelude.{◌≡◌, ◌↔◌, ◌<◌, List, length, Option, Some, None, IsSomeAnd}
 use Rattle.sil_ast.specs.declared.place.ValueId.{ValueId}
 use Rattle.forwarding_chains.specs.declared.definition.Definition.{Definition}
 use Rattle.forwarding_chains.specs.declared.facts.Facts.{Facts}
@@ -10,9 +10,9 @@ use Rattle.forwarding_chains.specs.Facts.{Has, told_at}
 abbrev pub IsExact : List Definition → (ValueId → Option Facts) → Type 0
 IsExact defs known = (v : ValueId) (f : Facts) → v.0 < length defs → (known v ≡ Some f) ↔ Has defs v f
 
--- just the values from which a chain leads into a ring are unknown
-abbrev pub HasUnknown : List Definition → List (Option Facts) → Type 0
-HasUnknown defs table = (v : ValueId) → v.0 < length defs → (told_at table v ≡ None) ↔ LeadsIntoRing defs v
+-- nothing is known of a value exactly where a chain from it leads into a ring
+abbrev pub KnowsAllButRings : List Definition → List (Option Facts) → Type 0
+KnowsAllButRings defs table = (v : ValueId) → v.0 < length defs → (told_at table v ≡ None) ↔ LeadsIntoRing defs v
 
 -- each value is known, with its kind and bases
 abbrev pub AreAll : List Definition → List (Option Facts) → Type 0

@@ -1,5 +1,5 @@
 -- Ranks of values, by which many can be seen to be on no ring.
-use Rattle.std.specs.Prelude.{◌≡◌, ℕ, ◌<◌, ◌≤◌, List, length, slice_index, All}
+use Rattle.std.specs.Prelude.{ℕ, ◌<◌, ◌≤◌, List, length, slice_index, All}
 use Rattle.sil_ast.specs.declared.place.ValueId.{ValueId}
 use Rattle.forwarding_chains.specs.declared.definition.Definition.{Definition}
 use Rattle.forwarding_chains.specs.Chains.{operands_at}

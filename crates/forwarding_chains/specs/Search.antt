@@ -1,5 +1,5 @@
 -- A search along chains, with marks for the values that it has met.
-use Rattle.std.specs.Prelude.{◌≡◌, ◌⊎◌, ◌↔◌, ℕ, ◌+◌, ◌<◌, List, ◌++◌, length, get_or, All, Contains, Bool, true, false, not, count_by}
+use Rattle.std.specs.Prelude.{◌≡◌, ◌⊎◌, ◌↔◌, ◌+◌, ◌<◌, List, ◌++◌, length, get_or, All, Contains, Bool, true, false, not, count_by}
 use Rattle.sil_ast.specs.declared.place.ValueId.{ValueId}
 use Rattle.forwarding_chains.specs.declared.definition.Definition.{Definition}
 use Rattle.forwarding_chains.specs.Chains.{operands_at, Chain}

@@ -1,5 +1,5 @@
 -- What a table of facts has, and how it grows.
-use Rattle.std.specs.Prelude.{◌≡◌, ℕ, ◌<◌, List, length, Bool, true, false, Option, Some, None, is_none, count_by}
+use Rattle.std.specs.Prelude.{◌≡◌, ℕ, ◌<◌, List, Bool, true, false, Option, Some, None, is_none, count_by}
 use Rattle.sil_ast.specs.declared.place.ValueId.{ValueId}
 use Rattle.forwarding_chains.specs.declared.definition.Definition.{Definition}
 use Rattle.forwarding_chains.specs.declared.facts.Facts.{Facts}

@@ -61,7 +61,11 @@ fn alone(alloc: Global, value: ValueId) -> Result<List<ValueId>, Exhausted>
 fn first_alone(values: &[ValueId]) -> &[ValueId]
     ensures { result.now ≡ take 1 values.now }
 {
-    if values.len() > 1 { &values[..1] } else { values }
+    if values.len() > 1 {
+        &values[..1]
+    } else {
+        values
+    }
 }
 
 /// The facts of a value that has this kind from its operands.

@@ -54,6 +54,20 @@ fn first_by_ranks(
     Ok(None)
 }
 
+/// The first value on a ring, by ranks along this order of the values.
+pub(crate) fn first_along(
+    alloc: Global,
+    defs: &[Definition],
+    order: &[usize],
+) -> Result<Option<ValueId>, Exhausted>
+    requires { IsInRange defs.now }
+    ensures some { IfOk result (λ o. IfSome o (IsFirstCyclic defs.now)) }
+    ensures none { IfOk result (λ o. IfNone o (HasNoRing defs.now)) }
+{
+    let ranks = ranks_along(alloc, defs, order)?;
+    first_by_ranks(alloc, defs, ranks.as_slice())
+}
+
 /// The first value from which a chain returns to itself, if there is one.
 /// The time goes with the number of operands.
 pub fn first_cyclic(alloc: Global, defs: &[Definition]) -> Result<Option<ValueId>, Exhausted>
@@ -62,6 +76,5 @@ pub fn first_cyclic(alloc: Global, defs: &[Definition]) -> Result<Option<ValueId
     ensures none { IfOk result (λ o. IfNone o (HasNoRing defs.now)) }
 {
     let order = operands_first(alloc, defs)?;
-    let ranks = ranks_along(alloc, defs, order.as_slice())?;
-    first_by_ranks(alloc, defs, ranks.as_slice())
+    first_along(alloc, defs, order.as_slice())
 }

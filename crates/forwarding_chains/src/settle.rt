@@ -7,7 +7,6 @@ ghost use Rattle.forwarding_chains.specs.Facts.{told_at};
 ghost use Rattle.forwarding_chains.specs.Outcome.{IsExact};
 ghost use Rattle.forwarding_chains.specs.Settling.{AreStuck, IsSound, Settles, Sweeps};
 
-use crate::advice::operands_first;
 use crate::definition::Definition;
 use crate::derive::facts_of;
 use crate::facts::{Facts, is_known};
@@ -40,11 +39,7 @@ fn settle_one(
 }
 
 /// Goes over all values once, and tells whether something new was found.
-fn sweep(
-    alloc: Global,
-    defs: &[Definition],
-    table: &mut [Option<Facts>],
-) -> Result<bool, Exhausted>
+fn sweep(alloc: Global, defs: &[Definition], table: &mut [Option<Facts>]) -> Result<bool, Exhausted>
     requires range { IsInRange defs.now }
     requires size { length table.old ≡ length defs.now }
     requires sound { IsSound defs.now (told_at table.old) }
@@ -105,6 +100,7 @@ fn settle(
 pub(crate) fn all_facts(
     alloc: Global,
     defs: &[Definition],
+    advice: &[usize],
 ) -> Result<Vec<Option<Facts>>, Exhausted>
     requires { IsInRange defs.now }
     ensures size { IfOk result (λ table. length table.items ≡ length defs.now) }
@@ -115,7 +111,6 @@ pub(crate) fn all_facts(
     for _ in 0..defs.len() {
         table.push(None)?;
     }
-    let advice = operands_first(alloc, defs)?;
-    settle(alloc, defs, table.as_mut_slice(), advice.as_slice())?;
+    settle(alloc, defs, table.as_mut_slice(), advice)?;
     Ok(table)
 }

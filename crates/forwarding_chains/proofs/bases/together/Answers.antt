@@ -1,5 +1,4 @@
 use Rattle.std.proofs.Common.{◌∙◌}
-use Rattle.sil_ast.specs.declared.place.ValueId.{ValueId}
 use Rattle.forwarding_chains.specs.Facts.{told_at, value_of}
 use Rattle.forwarding_chains.proofs.Together.{together_none, together_more, together_all}
 use Rattle.forwarding_chains.proofs.bases.together.Goals as goal

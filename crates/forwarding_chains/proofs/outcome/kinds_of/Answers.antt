@@ -1,6 +1,6 @@
 use Rattle.std.proofs.Common.{subst, sym}
 use Rattle.std.specs.Prelude.{IfNone}
-use Rattle.forwarding_chains.specs.Outcome.{AreAll, HasUnknown}
+use Rattle.forwarding_chains.specs.Outcome.{AreAll, KnowsAllButRings}
 use Rattle.forwarding_chains.proofs.RingLemmas.{all_unless, just_unknown}
 use Rattle.forwarding_chains.proofs.outcome.kinds_of.Goals as goal
 
@@ -11,4 +11,4 @@ returns-clause-all c =
 
 pub returns-clause-unknown : goal.returns-clause-unknown
 returns-clause-unknown c =
-    subst (HasUnknown c.args.defs.now) (sym c.from_vec.ensures) (just_unknown c.args.defs.now c.in_ok-table.table.items c.requires c.in_ok-table.ensures.exact c.in_ok-table.ensures.stuck)
+    subst (KnowsAllButRings c.args.defs.now) (sym c.from_vec.ensures) (just_unknown c.args.defs.now c.in_ok-table.table.items c.requires c.in_ok-table.ensures.exact c.in_ok-table.ensures.stuck)

@@ -1,4 +1,4 @@
-use Rattle.std.proofs.Common.{◌<◌, take, get_or}
+use Rattle.std.proofs.Common.{◌<◌, take}
 use Rattle.std.specs.Prelude.{All}
 use Rattle.forwarding_chains.specs.Ranks.{rank}
 use Rattle.forwarding_chains.proofs.ranks.are_above.Given as goal

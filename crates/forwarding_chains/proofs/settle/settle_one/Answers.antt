@@ -1,5 +1,4 @@
-use Rattle.std.proofs.Common.{sym, ap, ◌∙◌, arith}
-use Rattle.std.specs.Prelude.{None, ◌≡◌}
+use Rattle.std.proofs.Common.{sym, ◌∙◌, arith}
 use Rattle.forwarding_chains.specs.Facts.{told_at}
 use Rattle.forwarding_chains.proofs.Depths.{sound_listed}
 use Rattle.forwarding_chains.proofs.Settled.{fewer, stays_sound, unknown_none}
