@@ -128,10 +128,10 @@ module _ (m : Module) where
     first_at_inst block index i = first_at_site (at_point n block index) (judged_point m f block index i) (BreaksAtPoint m f block index i) 4
         (point_in_order block index i) (refl, (refl, (refl, (refl, (refl, (refl, (refl, (refl, (refl, tt))))))))) (point_to block index i) (point_back block index i)
 
-    stage_at_point : (block index : ℕ) (i : Inst) (r : Rule) → BreaksAtPoint m f block index i r → stage_of (group_of r) ≡ 4
+    pub stage_at_point : (block index : ℕ) (i : Inst) (r : Rule) → BreaksAtPoint m f block index i r → stage_of (group_of r) ≡ 4
     stage_at_point block index i r h = stage_in 4 (judged_point m f block index i) (refl, (refl, (refl, (refl, (refl, (refl, (refl, (refl, (refl, tt))))))))) r (point_back block index i r h)
 
-    stage_at_function : (r : Rule) → BreaksAtFunction m f r → stage_of (group_of r) ≡ 4
+    pub stage_at_function : (r : Rule) → BreaksAtFunction m f r → stage_of (group_of r) ≡ 4
     stage_at_function r h = stage_in 4 (judged_function m f) (refl, (refl, (refl, (refl, tt)))) r (function_back r h)
 
     insts_in_order : (block k l : ℕ) (i j : Inst) (a b : TypingFault) → k < l → AtInst block k i a → AtInst block l j b → NotAfter (fault_key a) (fault_key b)
