@@ -1,0 +1,17 @@
+//! Whether functions, calls, edges and vtables keep to signatures: the deciding functions of the rules on edges' arguments,
+//! callees, external functions, signatures, deinitialisers, addresses that escape, and edges to the entry.
+//! It knows of no order of rules, and no call takes memory but the one that makes the table of functions.
+#![tactic(auto)]
+
+mod addresses;
+mod callees;
+mod conventions;
+mod edges;
+mod external;
+mod functions;
+
+pub use addresses::lets_address_escape;
+pub use callees::calls_no_function;
+pub use edges::goes_to_entry;
+pub use external::is_no_output_call;
+pub use functions::value_functions;
