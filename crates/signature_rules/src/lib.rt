@@ -4,14 +4,20 @@
 #![tactic(auto)]
 
 mod addresses;
+mod blocks;
 mod callees;
 mod conventions;
+mod deinitialisers;
 mod edges;
+mod entry_arguments;
 mod external;
 mod functions;
+mod signatures;
 
 pub use addresses::lets_address_escape;
 pub use callees::calls_no_function;
-pub use edges::goes_to_entry;
+pub use deinitialisers::has_wrong_deinitialiser;
+pub use edges::{goes_to_entry, has_wrong_edge_arguments};
 pub use external::is_no_output_call;
 pub use functions::value_functions;
+pub use signatures::{differs_from_signature, has_wrong_signature};
