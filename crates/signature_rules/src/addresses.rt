@@ -1,11 +1,11 @@
 //! Addresses that escape into blocks.
 
-ghost use Rattle.std.specs.Prelude.{◌≡◌, drop};
+ghost use Rattle.std.specs.Prelude.{◌≡◌};
 ghost use Rattle.std.specs.List.{list_any};
 ghost use Rattle.sil_types.specs.Typing.EdgeRules as rules;
-ghost use Rattle.sil_types.specs.Typing.Shapes as shapes;
 
-use sil_ast::{Block, BlockArg, Function, TypeName};
+use crate::shapes::is_address;
+use sil_ast::{Block, BlockArg, Function};
 
 /// Whether an argument of a block other than the entry has an address type.
 pub fn lets_address_escape(f: &Function) -> bool
@@ -37,13 +37,4 @@ fn takes_address(args: &[BlockArg]) -> bool
         }
     }
     false
-}
-
-fn is_address(ty: &TypeName) -> bool
-    ensures { result ≡ shapes.is_address ty.now }
-{
-    match ty {
-        TypeName::Address(_) => true,
-        _ => false,
-    }
 }

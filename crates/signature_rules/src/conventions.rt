@@ -3,10 +3,10 @@
 ghost use Rattle.std.specs.Prelude.{◌≡◌};
 ghost use Rattle.std.specs.List.{list_all};
 ghost use Rattle.sil_types.specs.Typing.Same as same;
-ghost use Rattle.sil_types.specs.Typing.Shapes as shapes;
 ghost use Rattle.sil_types.specs.Typing.SignatureRules as rules;
 
-use sil_ast::{Given, Param, Passing, Signature, TypeName};
+use crate::shapes::{is_nontrivial, is_object, is_trivial_object};
+use sil_ast::{Given, Param, Passing, Signature};
 use sil_types::TypeTable;
 
 /// Whether each parameter's word fits its type, and each result has `@owned` exactly where its type isn't trivial.
@@ -60,29 +60,4 @@ fn is_same_flag(a: bool, b: bool) -> bool
     ensures { result ≡ same.is_same_flag a b }
 {
     a == b
-}
-
-fn is_trivial_object(table: &TypeTable, ty: &TypeName) -> bool
-    ensures { result ≡ shapes.is_trivial_object table.now ty.now }
-{
-    is_object(ty) && table.is_trivial(ty)
-}
-
-/// Whether the type is an object's and holds a reference.
-fn is_nontrivial(table: &TypeTable, ty: &TypeName) -> bool
-    ensures { result ≡ shapes.is_nontrivial table.now ty.now }
-{
-    is_object(ty) && !table.is_trivial(ty)
-}
-
-/// Whether the type is neither an address nor weak or unowned storage.
-fn is_object(ty: &TypeName) -> bool
-    ensures { result ≡ shapes.is_object ty.now }
-{
-    match ty {
-        TypeName::Weak(_) => false,
-        TypeName::Unowned(_) => false,
-        TypeName::Address(_) => false,
-        _ => true,
-    }
 }

@@ -2,10 +2,10 @@
 
 ghost use Rattle.std.specs.Prelude.{◌≡◌};
 ghost use Rattle.std.specs.List.{list_all};
-ghost use Rattle.sil_types.specs.Typing.Shapes as shapes;
 ghost use Rattle.sil_types.specs.Typing.SignatureRules as rules;
 
-use sil_ast::{Form, Function, Param, Passing, TypeName};
+use crate::shapes::is_integer;
+use sil_ast::{Form, Function, Param, Passing};
 
 /// Whether the function has no body, and has a parameter that isn't a plain builtin integer, or a result.
 pub fn is_no_output_call(f: &Function) -> bool
@@ -49,14 +49,5 @@ fn is_plain_integer(param: &Param) -> bool
         Passing::Owned => false,
         Passing::Guaranteed => false,
         Passing::Inout => false,
-    }
-}
-
-fn is_integer(ty: &TypeName) -> bool
-    ensures { result ≡ shapes.is_integer ty.now }
-{
-    match ty {
-        TypeName::Int(_) => true,
-        _ => false,
     }
 }

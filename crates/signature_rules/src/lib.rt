@@ -12,6 +12,7 @@ mod edges;
 mod entry_arguments;
 mod external;
 mod functions;
+mod shapes;
 mod signatures;
 
 pub use addresses::lets_address_escape;

@@ -1,6 +1,6 @@
 //! What functions take and give: at themselves, where they are named and called, and where they return.
 
-ghost use Rattle.std.specs.Prelude.{◌≡◌, map};
+ghost use Rattle.std.specs.Prelude.{◌≡◌, map, option_and_then};
 ghost use Rattle.std.specs.Option.{option_copied};
 ghost use Rattle.type_definitions.specs.Mentions.{result_type, together};
 ghost use Rattle.sil_types.specs.Typing.RowTypes.{written};
@@ -10,7 +10,7 @@ ghost use Rattle.sil_types.specs.Typing.SignatureRules as rules;
 use crate::callees::named_function;
 use crate::conventions::has_fitting_conventions;
 use crate::entry_arguments::has_entry_arguments;
-use sil_ast::{Ending, FuncId, Function, Given, Inst, Module, TypeName, ending_of};
+use sil_ast::{Ending, FuncId, Function, Given, Inst, Module, Signature, TypeName, ending_of};
 use sil_types::{TypeTable, same_signature, same_type};
 
 /// Whether a convention doesn't fit its type, or the entry's arguments don't fit the parameters.
@@ -38,12 +38,26 @@ fn has_named_signature(m: &Module, functions: &[Option<FuncId>], inst: &Inst) ->
 {
     match &inst.signature {
         None => true,
-        Some(signature) => match named_function(functions, inst) {
+        Some(written) => match named_signature(m, functions, inst) {
             None => true,
-            Some(function) => match m.functions.get(function.0 as usize) {
-                None => true,
-                Some(named) => same_signature(signature, &named.signature),
-            },
+            Some(named) => same_signature(written, named),
+        },
+    }
+}
+
+/// The signature of the function that the instruction names, or calls.
+fn named_signature<'m>(
+    m: &'m Module,
+    functions: &[Option<FuncId>],
+    inst: &Inst,
+) -> Option<&'m Signature>
+    ensures { option_copied result ≡ option_and_then (rules.signature_of m.now) (rules.named_function functions.now inst.now) }
+{
+    match named_function(functions, inst) {
+        None => None,
+        Some(function) => match m.functions.get(function.0 as usize) {
+            None => None,
+            Some(named) => Some(&named.signature),
         },
     }
 }
