@@ -8,6 +8,7 @@ use crate::shapes::is_address;
 use sil_ast::{Block, BlockArg, Function};
 
 /// Whether an argument of a block other than the entry has an address type.
+#[tactic(auto, unfolding(sil_types::specs::Typing::EdgeRules::lets_address_escape))]
 pub fn lets_address_escape(f: &Function) -> bool
     ensures { result ≡ rules.lets_address_escape f.now }
 {

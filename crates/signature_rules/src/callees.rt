@@ -8,6 +8,7 @@ use sil_ast::{BareOperands, FuncId, Inst, ValueId, bare_operands_of};
 
 /// Whether the instruction calls what isn't the result of a `function_ref`. `functions` has the functions that the values of
 /// the instruction's function stand for.
+#[tactic(auto, unfolding(sil_types::specs::Typing::SignatureRules::calls_no_function))]
 pub fn calls_no_function(functions: &[Option<FuncId>], inst: &Inst) -> bool
     ensures { result ≡ rules.calls_no_function functions.now inst.now }
 {

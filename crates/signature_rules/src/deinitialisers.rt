@@ -11,6 +11,7 @@ use sil_ast::{
 };
 
 /// Whether the vtable names a deinitialiser that has no body, or another signature than one has.
+#[tactic(auto, unfolding(sil_types::specs::Typing::SignatureRules::has_wrong_deinitialiser))]
 pub fn has_wrong_deinitialiser(m: &Module, vtable: &Vtable) -> bool
     ensures { result ≡ rules.has_wrong_deinitialiser m.now vtable.now }
 {

@@ -12,6 +12,7 @@ use sil_ast::{BlockArg, Edge, Ending, Function, Inst, Operand, ending_of};
 use sil_types::same_type;
 
 /// Whether an edge of `br` or `cond_br` has other arguments than its block, in number or type.
+#[tactic(auto, unfolding(sil_types::specs::Typing::EdgeRules::has_wrong_edge_arguments))]
 pub fn has_wrong_edge_arguments(f: &Function, inst: &Inst) -> bool
     ensures { result ≡ rules.has_wrong_edge_arguments f.now inst.now }
 {
@@ -64,6 +65,7 @@ fn have_types_of(operands: &[Operand], args: &[BlockArg]) -> bool
 }
 
 /// Whether an edge goes to the entry.
+#[tactic(auto, unfolding(sil_types::specs::Typing::EdgeRules::goes_to_entry))]
 pub fn goes_to_entry(inst: &Inst) -> bool
     ensures { result ≡ rules.goes_to_entry inst.now }
 {

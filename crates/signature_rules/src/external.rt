@@ -8,6 +8,7 @@ use crate::shapes::is_integer;
 use sil_ast::{Form, Function, Param, Passing};
 
 /// Whether the function has no body, and has a parameter that isn't a plain builtin integer, or a result.
+#[tactic(auto, unfolding(sil_types::specs::Typing::SignatureRules::is_no_output_call))]
 pub fn is_no_output_call(f: &Function) -> bool
     ensures { result ≡ rules.is_no_output_call f.now }
 {

@@ -14,6 +14,7 @@ use sil_ast::{Ending, FuncId, Function, Given, Inst, Module, Signature, TypeName
 use sil_types::{TypeTable, same_signature, same_type};
 
 /// Whether a convention doesn't fit its type, or the entry's arguments don't fit the parameters.
+#[tactic(auto, unfolding(sil_types::specs::Typing::SignatureRules::has_wrong_signature))]
 pub fn has_wrong_signature(table: &TypeTable, f: &Function) -> bool
     ensures { result ≡ rules.has_wrong_signature table.now f.now }
 {
@@ -22,6 +23,7 @@ pub fn has_wrong_signature(table: &TypeTable, f: &Function) -> bool
 
 /// Whether the signature of a `function_ref` or an `apply` isn't that of the function that it names or calls, or a `return` gives
 /// another type than the signature of `f`. `functions` has the functions that the values of `f` stand for.
+#[tactic(auto, unfolding(sil_types::specs::Typing::SignatureRules::differs_from_signature))]
 pub fn differs_from_signature(
     m: &Module,
     f: &Function,
