@@ -35,7 +35,7 @@ have_block_types_by ending.Return f es = true
 have_block_types_by ending.Unreachable f es = true
 
 -- 203: an edge of `br` or `cond_br` has other arguments than its block, in number or type
-abbrev pub has_wrong_edge_arguments : Function → Inst → Bool
+unfoldable pub has_wrong_edge_arguments : Function → Inst → Bool
 has_wrong_edge_arguments f i = not (have_block_types_by (ending_of i.op) f i.edges)
 
 abbrev pub has_address_type : BlockArg → Bool
@@ -45,12 +45,12 @@ abbrev pub takes_address : Block → Bool
 takes_address b = list_any has_address_type b.args
 
 -- 210: an argument of a block other than the entry has an address type
-abbrev pub lets_address_escape : Function → Bool
+unfoldable pub lets_address_escape : Function → Bool
 lets_address_escape f = list_any takes_address (drop 1 f.blocks)
 
 abbrev pub is_to_entry : Edge → Bool
 is_to_entry e = e.block.0 == 0
 
 -- 211: an edge goes to the entry
-abbrev pub goes_to_entry : Inst → Bool
+unfoldable pub goes_to_entry : Inst → Bool
 goes_to_entry i = list_any is_to_entry i.edges

@@ -60,7 +60,7 @@ abbrev pub calls : Inst → Bool
 calls i = calls_by (bare_operands_of i.op)
 
 -- 204: what is called isn't the result of a `function_ref`
-abbrev pub calls_no_function : List (Option FuncId) → Inst → Bool
+unfoldable pub calls_no_function : List (Option FuncId) → Inst → Bool
 calls_no_function functions i = calls i && is_none (callee functions i)
 
 -- 205
@@ -84,7 +84,7 @@ gives_nothing [] = true
 gives_nothing (r ∷ rs) = false
 
 -- 205: a function without a body has a parameter that isn't a plain builtin integer, or a result
-abbrev pub is_no_output_call : Function → Bool
+unfoldable pub is_no_output_call : Function → Bool
 is_no_output_call f = is_external f.form && not (list_all is_plain_integer f.signature.params && gives_nothing f.signature.results)
 
 -- 206 at a function
@@ -131,7 +131,7 @@ abbrev pub has_entry_arguments : Function → Bool
 has_entry_arguments f = is_external f.form || all_pairs (is_argument_for f.form) f.signature.params (args_of f 0)
 
 -- 206: a convention doesn't fit its type, or the entry's arguments don't fit the parameters
-abbrev pub has_wrong_signature : Declarations → Function → Bool
+unfoldable pub has_wrong_signature : Declarations → Function → Bool
 has_wrong_signature d f = not (has_fitting_conventions d f.signature && has_entry_arguments f)
 
 -- 206 at a point
@@ -168,7 +168,7 @@ abbrev pub returns_what_is_given : Function → Inst → Bool
 returns_what_is_given f i = returns_by (ending_of i.op) f i
 
 -- 206: `function_ref`, `apply` or `return` differs from the signature
-abbrev pub differs_from_signature : Module → Function → List (Option FuncId) → Inst → Bool
+unfoldable pub differs_from_signature : Module → Function → List (Option FuncId) → Inst → Bool
 differs_from_signature m f functions i = not (has_named_signature m functions i && returns_what_is_given f i)
 
 -- 208
@@ -187,5 +187,5 @@ abbrev pub names_deinitialiser : Module → Name → DeinitEntry → Bool
 names_deinitialiser m class e = passes (is_deinitialiser class) (slice_get m.functions e.function.0)
 
 -- 208: a deinitialiser has no body, or isn't `@convention(method) (@guaranteed C) -> ()`
-abbrev pub has_wrong_deinitialiser : Module → Vtable → Bool
+unfoldable pub has_wrong_deinitialiser : Module → Vtable → Bool
 has_wrong_deinitialiser m v = not (list_all (names_deinitialiser m v.class_name) (option_to_list v.entry))

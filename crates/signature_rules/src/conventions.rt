@@ -1,0 +1,63 @@
+//! Whether conventions fit their types.
+
+ghost use Rattle.std.specs.Prelude.{◌≡◌};
+ghost use Rattle.std.specs.List.{list_all};
+ghost use Rattle.sil_types.specs.Typing.Same as same;
+ghost use Rattle.sil_types.specs.Typing.SignatureRules as rules;
+
+use crate::shapes::{is_nontrivial, is_object, is_trivial_object};
+use sil_ast::{Given, Param, Passing, Signature};
+use sil_types::TypeTable;
+
+/// Whether each parameter's word fits its type, and each result has `@owned` exactly where its type isn't trivial.
+pub(crate) fn has_fitting_conventions(table: &TypeTable, signature: &Signature) -> bool
+    ensures { result ≡ rules.has_fitting_conventions table.now signature.now }
+{
+    do_params_fit(table, signature.params.as_slice())
+        && do_results_fit(table, signature.results.as_slice())
+}
+
+fn do_params_fit(table: &TypeTable, params: &[Param]) -> bool
+    ensures { result ≡ list_all (rules.fits_param table.now) params.now }
+{
+    for param in params {
+        if !fits_param(table, param) {
+            return false;
+        }
+    }
+    true
+}
+
+fn do_results_fit(table: &TypeTable, results: &[Given]) -> bool
+    ensures { result ≡ list_all (rules.fits_result table.now) results.now }
+{
+    for given in results {
+        if !fits_result(table, given) {
+            return false;
+        }
+    }
+    true
+}
+
+fn fits_param(table: &TypeTable, param: &Param) -> bool
+    ensures { result ≡ rules.fits_param table.now param.now }
+{
+    match param.passing {
+        Passing::Plain => is_trivial_object(table, &param.ty),
+        Passing::Owned => is_nontrivial(table, &param.ty),
+        Passing::Guaranteed => is_nontrivial(table, &param.ty),
+        Passing::Inout => is_object(&param.ty),
+    }
+}
+
+fn fits_result(table: &TypeTable, given: &Given) -> bool
+    ensures { result ≡ rules.fits_result table.now given.now }
+{
+    is_object(&given.ty) && is_same_flag(given.owned, !table.is_trivial(&given.ty))
+}
+
+fn is_same_flag(a: bool, b: bool) -> bool
+    ensures { result ≡ same.is_same_flag a b }
+{
+    a == b
+}

@@ -1,0 +1,54 @@
+//! Functions without a body.
+
+ghost use Rattle.std.specs.Prelude.{◌≡◌};
+ghost use Rattle.std.specs.List.{list_all};
+ghost use Rattle.sil_types.specs.Typing.SignatureRules as rules;
+
+use crate::shapes::is_integer;
+use sil_ast::{Form, Function, Param, Passing};
+
+/// Whether the function has no body, and has a parameter that isn't a plain builtin integer, or a result.
+#[tactic(auto, unfolding(sil_types::specs::Typing::SignatureRules::is_no_output_call))]
+pub fn is_no_output_call(f: &Function) -> bool
+    ensures { result ≡ rules.is_no_output_call f.now }
+{
+    if !is_external(f.form) {
+        return false;
+    }
+    if !are_plain_integers(f.signature.params.as_slice()) {
+        return true;
+    }
+    !f.signature.results.as_slice().is_empty()
+}
+
+pub(crate) fn is_external(form: Form) -> bool
+    ensures { result ≡ rules.is_external form }
+{
+    match form {
+        Form::Ossa => false,
+        Form::Lowered => false,
+        Form::External => true,
+    }
+}
+
+fn are_plain_integers(params: &[Param]) -> bool
+    ensures { result ≡ list_all rules.is_plain_integer params.now }
+{
+    for param in params {
+        if !is_plain_integer(param) {
+            return false;
+        }
+    }
+    true
+}
+
+fn is_plain_integer(param: &Param) -> bool
+    ensures { result ≡ rules.is_plain_integer param.now }
+{
+    match param.passing {
+        Passing::Plain => is_integer(&param.ty),
+        Passing::Owned => false,
+        Passing::Guaranteed => false,
+        Passing::Inout => false,
+    }
+}

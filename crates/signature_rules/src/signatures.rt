@@ -1,0 +1,122 @@
+//! What functions take and give: at themselves, where they are named and called, and where they return.
+
+ghost use Rattle.std.specs.Prelude.{◌≡◌, map, option_and_then};
+ghost use Rattle.std.specs.Option.{option_copied};
+ghost use Rattle.type_definitions.specs.Mentions.{result_type, together};
+ghost use Rattle.sil_types.specs.Typing.RowTypes.{written};
+ghost use Rattle.sil_types.specs.Typing.Same.{all_pairs, applied, is_same_type};
+ghost use Rattle.sil_types.specs.Typing.SignatureRules as rules;
+
+use crate::callees::named_function;
+use crate::conventions::has_fitting_conventions;
+use crate::entry_arguments::has_entry_arguments;
+use sil_ast::{Ending, FuncId, Function, Given, Inst, Module, Signature, TypeName, ending_of};
+use sil_types::{TypeTable, same_signature, same_type};
+
+/// Whether a convention doesn't fit its type, or the entry's arguments don't fit the parameters.
+#[tactic(auto, unfolding(sil_types::specs::Typing::SignatureRules::has_wrong_signature))]
+pub fn has_wrong_signature(table: &TypeTable, f: &Function) -> bool
+    ensures { result ≡ rules.has_wrong_signature table.now f.now }
+{
+    !(has_fitting_conventions(table, &f.signature) && has_entry_arguments(f))
+}
+
+/// Whether the signature of a `function_ref` or an `apply` isn't that of the function that it names or calls, or a `return` gives
+/// another type than the signature of `f`. `functions` has the functions that the values of `f` stand for.
+#[tactic(auto, unfolding(sil_types::specs::Typing::SignatureRules::differs_from_signature))]
+pub fn differs_from_signature(
+    m: &Module,
+    f: &Function,
+    functions: &[Option<FuncId>],
+    inst: &Inst,
+) -> bool
+    ensures { result ≡ rules.differs_from_signature m.now f.now functions.now inst.now }
+{
+    !(has_named_signature(m, functions, inst) && returns_what_is_given(f, inst))
+}
+
+fn has_named_signature(m: &Module, functions: &[Option<FuncId>], inst: &Inst) -> bool
+    ensures { result ≡ rules.has_named_signature m.now functions.now inst.now }
+{
+    match &inst.signature {
+        None => true,
+        Some(written) => match named_signature(m, functions, inst) {
+            None => true,
+            Some(named) => same_signature(written, named),
+        },
+    }
+}
+
+/// The signature of the function that the instruction names, or calls.
+fn named_signature<'m>(
+    m: &'m Module,
+    functions: &[Option<FuncId>],
+    inst: &Inst,
+) -> Option<&'m Signature>
+    ensures { option_copied result ≡ option_and_then (rules.signature_of m.now) (rules.named_function functions.now inst.now) }
+{
+    match named_function(functions, inst) {
+        None => None,
+        Some(function) => match m.functions.get(function.0 as usize) {
+            None => None,
+            Some(named) => Some(&named.signature),
+        },
+    }
+}
+
+fn returns_what_is_given(f: &Function, inst: &Inst) -> bool
+    ensures { result ≡ rules.returns_what_is_given f.now inst.now }
+{
+    match ending_of(inst.op) {
+        Ending::Inside => true,
+        Ending::OneBranch => true,
+        Ending::TwoBranches => true,
+        Ending::Cases => true,
+        Ending::Return => match written_first(inst) {
+            None => false,
+            Some(ty) => is_given_type(f.signature.results.as_slice(), ty),
+        },
+        Ending::Unreachable => true,
+    }
+}
+
+/// The type written at the first operand.
+fn written_first(inst: &Inst) -> Option<&TypeName>
+    ensures { option_copied result ≡ written 0 inst.now }
+{
+    match inst.operands.get(0) {
+        None => None,
+        Some(operand) => operand.ty.as_ref(),
+    }
+}
+
+/// Whether the results together have the type: one is its type, and other numbers of results are a tuple.
+fn is_given_type(results: &[Given], ty: &TypeName) -> bool
+    ensures { result ≡ is_same_type (together (map result_type results.now)) ty.now }
+{
+    match results {
+        [only] => same_type(&only.ty, ty),
+        _ => match ty {
+            TypeName::Tuple(elements) => are_given_types(results, elements.as_slice()),
+            _ => false,
+        },
+    }
+}
+
+fn are_given_types(results: &[Given], types: &[TypeName]) -> bool
+    ensures { result ≡ all_pairs applied (map is_same_type (map result_type results.now)) types.now }
+{
+    let mut rest = types;
+    for given in results {
+        match rest {
+            [] => return false,
+            [ty, others @ ..] => {
+                if !same_type(&given.ty, ty) {
+                    return false;
+                }
+                rest = others;
+            }
+        }
+    }
+    rest.is_empty()
+}
