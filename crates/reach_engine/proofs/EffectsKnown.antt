@@ -1,6 +1,5 @@
 -- Effects are found from bundles of all subjects in one state, and say what each bundle becomes.
-use Rattle.std.proofs.Common.{◌≡◌, ◌≢◌, ℕ, zero, suc, ◌+◌, ◌-◌, ◌*◌, ◌/◌, ◌%◌, ◌<◌, ◌≤◌, List, [], ◌∷◌, ◌++◌, length, get_or, append_assoc, refl, sym, ap, ap₂, ◌∙◌, subst, arith, ◌⊎◌, inl, inr}
-use Rattle.std.specs.Prelude.{◌↔◌}
+use Rattle.std.proofs.Common.{◌≡◌, ◌≢◌, ℕ, zero, suc, ◌+◌, ◌*◌, ◌/◌, ◌%◌, ◌<◌, ◌≤◌, List, ◌++◌, length, get_or, append_assoc, refl, sym, ap, ap₂, ◌∙◌, subst, arith, ◌⊎◌, inl, inr}
 use Rattle.std.specs.Int.{bit_at}
 use Rattle.std.proofs.lemmas.Bool.{cases_eq, cases_lt}
 use Rattle.std.proofs.lemmas.List.{get_or_append_left, get_or-append-add, length-append}
@@ -11,7 +10,7 @@ use Rattle.reach_engine.specs.declared.scan.Step.{Step}
 use Rattle.reach_engine.specs.declared.scan.Step.TheVariants.{Go, Bad}
 use Rattle.reach_engine.specs.Run.{run}
 use Rattle.reach_engine.specs.Bits.{bit_in}
-use Rattle.reach_engine.specs.Columns.{cell, Has, Moved, Blamed, AllMoved}
+use Rattle.reach_engine.specs.Columns.{cell, Has, AllMoved}
 use Rattle.reach_engine.specs.Effects.{effect_rows, IsEffect, AreEffects, AreKnown, EffectAdded, Applied}
 use Rattle.reach_engine.proofs.SubjectsMoved.{has_below}
 
@@ -78,7 +77,7 @@ zero_one h = omega arith
 
 same_bit : (x y : ℕ) → x < 2 → y < 2 → (x ≡ 1 → y ≡ 1) → (y ≡ 1 → x ≡ 1) → x ≡ y
 same_bit zero zero lx ly a b = refl
-same_bit zero (suc y) lx ly a b = b (omega arith)  ∙ omega arith
+same_bit zero (suc y) lx ly a b = b (omega arith) ∙ omega arith
 same_bit (suc x) y lx ly a b = let e : y ≡ 1 = a (omega arith) in omega arith
 
 bit_below : (words : List ℕ) (k : ℕ) → bit_in words k < 2

@@ -19,14 +19,7 @@ use std::alloc::Global;
 const MOST_STATES: usize = 8;
 
 /// Adds the row's subjects to the rows that the effect takes them to.
-fn add_row(
-    effects: &[u64],
-    from: usize,
-    states: usize,
-    width: usize,
-    row: &[u64],
-    rows: &mut [u64],
-)
+fn add_row(effects: &[u64], from: usize, states: usize, width: usize, row: &[u64], rows: &mut [u64])
     requires width { width ≤ 16 }
     requires states { states < 256 }
     requires within { from + effect_rows states * width ≤ length effects.now }
@@ -41,14 +34,7 @@ fn add_row(
 }
 
 /// Adds the row's subjects that the effect breaks.
-fn add_bad(
-    effects: &[u64],
-    from: usize,
-    states: usize,
-    width: usize,
-    row: &[u64],
-    bad: &mut [u64],
-)
+fn add_bad(effects: &[u64], from: usize, states: usize, width: usize, row: &[u64], bad: &mut [u64])
     requires width { width ≤ 16 }
     requires states { states < 256 }
     requires within { from + effect_rows states * width ≤ length effects.now }
@@ -131,7 +117,14 @@ fn add_effect<F: Family>(
     let row = family.states() as usize * width;
     let mut bundle = vec![in alloc; 0u64; row]?;
     let mut bad = vec![in alloc; 0u64; width]?;
-    pass_basis(family, width, items, state, bundle.as_mut_slice(), bad.as_mut_slice());
+    pass_basis(
+        family,
+        width,
+        items,
+        state,
+        bundle.as_mut_slice(),
+        bad.as_mut_slice(),
+    );
     effects.extend_from_slice(bundle.as_slice())?;
     effects.extend_from_slice(bad.as_slice())?;
     Ok(())
@@ -207,7 +200,15 @@ fn applied_rows<F: Family>(
     let states = family.states() as usize;
     let mut rows = vec![in alloc; 0u64; states * width]?;
     let from = block.0 as usize * (states * ((states + 1) * width));
-    apply(effects, from, states, width, bundle, rows.as_mut_slice(), bad);
+    apply(
+        effects,
+        from,
+        states,
+        width,
+        bundle,
+        rows.as_mut_slice(),
+        bad,
+    );
     Ok(rows)
 }
 

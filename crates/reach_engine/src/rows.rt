@@ -78,7 +78,17 @@ fn take_block<F: Family>(
     let first = block.0 as usize * row;
     let old = &rows[first..first + row];
     let bundle = moved_rows(alloc, family, g, width, block, effects, old, bad)?;
-    let is_new = take_edges(alloc, family, g, width, block, bundle.as_slice(), rows, bad, dirty)?;
+    let is_new = take_edges(
+        alloc,
+        family,
+        g,
+        width,
+        block,
+        bundle.as_slice(),
+        rows,
+        bad,
+        dirty,
+    )?;
     Ok(is_new)
 }
 
@@ -168,7 +178,17 @@ fn sweep<F: Family>(
 {
     let mut changed = false;
     for block in 0..g.blocks() {
-        if take_dirty(alloc, family, g, width, BlockId(block), effects, rows, bad, dirty)? {
+        if take_dirty(
+            alloc,
+            family,
+            g,
+            width,
+            BlockId(block),
+            effects,
+            rows,
+            bad,
+            dirty,
+        )? {
             changed = true;
             *visits = visits.saturating_add(1);
         }
@@ -197,7 +217,17 @@ fn settle_by<F: Family>(
     let mut visits = 0;
     let mut changed = true;
     while changed {
-        changed = sweep(alloc, family, g, width, effects, rows, bad, dirty, &mut visits)?;
+        changed = sweep(
+            alloc,
+            family,
+            g,
+            width,
+            effects,
+            rows,
+            bad,
+            dirty,
+            &mut visits,
+        )?;
     }
     Ok(())
 }
@@ -228,7 +258,16 @@ fn settle<F: Family>(
         return Ok(());
     }
     let effects = known_effects(alloc, family, g, width)?;
-    settle_by(alloc, family, g, width, effects.as_slice(), rows, bad, dirty)
+    settle_by(
+        alloc,
+        family,
+        g,
+        width,
+        effects.as_slice(),
+        rows,
+        bad,
+        dirty,
+    )
 }
 
 /// Puts each subject into the first row.

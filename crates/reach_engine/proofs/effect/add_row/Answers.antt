@@ -1,4 +1,4 @@
-use Rattle.std.proofs.Common.{◌≡◌, ◌+◌, ◌-◌, ◌*◌, ℕ, refl, arith}
+use Rattle.std.proofs.Common.{◌+◌, ◌-◌, ◌*◌, ℕ, refl, arith}
 use Rattle.reach_engine.proofs.EffectsApplied.{add_none, add_more}
 use Rattle.reach_engine.proofs.effect.add_row.Goals as goal
 

@@ -12,7 +12,7 @@ apply-requires-clause-within g c =
     let most : c.args.block.0 * n + n ≤ block_count (numbered c.args.g.now) * n = effects_within c.args.block.0 (block_count (numbered c.args.g.now)) n c.requires.block in
     let same : c.states-states.result ≡ g.F.Family.state_count c.args.family.now = c.states-states.ensures in
     let size : length c.args.effects.now ≡ block_count (numbered c.args.g.now) * c.states-states.result * (effect_rows c.states-states.result * c.args.width) =
-        c.requires.effects.size c.requires.some ∙ ap (λ k. block_count (numbered c.args.g.now) * k * (effect_rows k * c.args.width)) (sym same) in
+    c.requires.effects.size c.requires.some ∙ ap (λ k. block_count (numbered c.args.g.now) * k * (effect_rows k * c.args.width)) (sym same) in
     omega arith
 
 pub returns-clause-moved : goal.returns-clause-moved

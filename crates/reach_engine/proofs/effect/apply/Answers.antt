@@ -1,4 +1,4 @@
-use Rattle.std.proofs.Common.{◌≡◌, ◌+◌, ◌-◌, ◌*◌, ℕ, refl, arith, ◌∙◌}
+use Rattle.std.proofs.Common.{◌+◌, ◌-◌, ◌*◌, ℕ, refl, arith, ◌∙◌}
 use Rattle.reach_engine.proofs.EffectsApplied.{apply_none, apply_more}
 use Rattle.reach_engine.proofs.effect.apply.Goals as goal
 

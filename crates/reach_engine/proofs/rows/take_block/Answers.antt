@@ -1,4 +1,4 @@
-use Rattle.std.proofs.Common.{◌≡◌, ◌+◌, ◌-◌, ◌*◌, ℕ, List, take, drop, refl, ap, ap₂, subst, ◌∙◌, arith}
+use Rattle.std.proofs.Common.{◌≡◌, ◌+◌, ◌-◌, ◌*◌, ℕ, List, take, drop, refl, ap, subst, ◌∙◌, arith}
 use Rattle.sil_cfg.specs.Flow.{numbered, items_at, edge_count}
 use Rattle.reach_engine.specs.Reached.{EdgesTaken}
 use Rattle.reach_engine.proofs.RowsMoved.{block_taken}
