@@ -28,17 +28,17 @@ no_marks h = at h.before h.parts
     at [] e = cc
     at (x ∷ before) e = cc
 
-push_on : (marks : List Mark) (mark : Mark) → mark.turns ≡ Some true → IsOn (marks ++ mark ∷ [])
+pub push_on : (marks : List Mark) (mark : Mark) → mark.turns ≡ Some true → IsOn (marks ++ mark ∷ [])
 push_on marks mark e = record { before = marks; mark = mark; since = []; parts = refl; turned_on = e; unturned = All-nil Unturned }
 
-push_off : (marks : List Mark) (mark : Mark) → mark.turns ≡ Some false → IsOn (marks ++ mark ∷ []) → ⊥
+pub push_off : (marks : List Mark) (mark : Mark) → mark.turns ≡ Some false → IsOn (marks ++ mark ∷ []) → ⊥
 push_off marks mark e h = at (pushed_at marks mark h.before h.mark h.since h.parts)
   where
     at : PushedAt marks mark h.before h.mark h.since → ⊥
     at (there s m p) = let t : Some false ≡ Some true = sym e ∙ ap (λ (x : Mark). x.turns) m ∙ h.turned_on in cc
     at (behind more s p) = absurd (let t : Some false ≡ None = sym e ∙ (All-pop Unturned h.since more (Some mark) s h.unturned).1 in cc)
 
-push_none : (marks : List Mark) (mark : Mark) → mark.turns ≡ None → IsOn marks → IsOn (marks ++ mark ∷ [])
+pub push_none : (marks : List Mark) (mark : Mark) → mark.turns ≡ None → IsOn marks → IsOn (marks ++ mark ∷ [])
 push_none marks mark e h = record {
   before = h.before;
   mark = h.mark;
@@ -48,7 +48,7 @@ push_none marks mark e h = record {
   unturned = All-push Unturned h.since mark h.unturned e;
 }
 
-pop_none : (marks : List Mark) (mark : Mark) → mark.turns ≡ None → IsOn (marks ++ mark ∷ []) → IsOn marks
+pub pop_none : (marks : List Mark) (mark : Mark) → mark.turns ≡ None → IsOn (marks ++ mark ∷ []) → IsOn marks
 pop_none marks mark e h = at (pushed_at marks mark h.before h.mark h.since h.parts)
   where
     at : PushedAt marks mark h.before h.mark h.since → IsOn marks
@@ -63,7 +63,7 @@ push_at marks mark _ (on h) None e = on (push_none marks mark e h)
 push_at marks mark _ (off h) None e = off (λ p. h (pop_none marks mark e p))
 
 -- a mark that is read turns the switch
-step_goes : (s : ℕ) (mark : Mark) (t : ℕ) → mark_step s mark ≡ Go t → t ≡ turned s mark.turns
+pub step_goes : (s : ℕ) (mark : Mark) (t : ℕ) → mark_step s mark ≡ Go t → t ≡ turned s mark.turns
 step_goes s mark t e = at (fits s mark.needs) refl
   where
     at : (b : Bool) → fits s mark.needs ≡ b → t ≡ turned s mark.turns

@@ -1,11 +1,20 @@
 //! The laws of patterns that a contract can state, each on a call that does nothing. The general ones, over any pattern, are lemmas in `proofs/`.
 
 ghost use Rattle.path_patterns.specs.Laws.{IsSwitchDecided, BreaksWithSwitch, BreaksOnFunction, KeepsWithoutBreak};
+ghost use Rattle.path_patterns.specs.Turns.{LeavesAsTurned, EndsAsTurned, TurnsByBits};
 ghost use Rattle.path_patterns.specs.Runs.{ReadsRuns, ReadsEndedRuns};
 
 /// The automaton of two states decides the switch: it goes on at just the marks that are in place.
 pub fn switch_is_decided()
     ensures { IsSwitchDecided }
+{}
+
+/// A list of marks leaves the switch where the last mark that turns it does, and the automaton ends in that state from either one.
+/// So, where no mark breaks it, a block is a set bit and a clear bit for each subject: words, for all subjects at once.
+pub fn marks_leave_the_last_turn()
+    ensures leaves { LeavesAsTurned }
+    ensures ends { EndsAsTurned }
+    ensures bits { TurnsByBits }
 {}
 
 /// Along every walk of a graph the automaton reaches its first break exactly where the switch's pattern breaks, with the same code.

@@ -7,6 +7,7 @@ mod mark;
 
 pub use laws::{
     automaton_breaks_where_the_switch_does, graph_shows_what_its_function_does,
-    kept_where_nothing_is_shown, lawful_marks_are_runs, switch_is_decided,
+    kept_where_nothing_is_shown, lawful_marks_are_runs, marks_leave_the_last_turn,
+    switch_is_decided,
 };
 pub use mark::{Mark, turn};

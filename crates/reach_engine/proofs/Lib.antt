@@ -6,10 +6,13 @@ pub mod EveryWalk
 pub mod EdgesFollowed
 pub mod AnswerIsExact
 pub mod BitLists
+pub mod MaskedWords
 pub mod ColumnTaken
 pub mod SubjectTurned
 pub mod SubjectsMoved
 pub mod RowsMoved
+pub mod EffectsApplied
+pub mod EffectsKnown
 pub mod RowsAreSound
 pub mod RowsAreExact
 pub mod DirtyBlocks

@@ -1,6 +1,6 @@
 //! Bits in words of 64.
 
-ghost use Rattle.std.specs.Prelude.{◌≡◌, ◌≢◌, ℕ, ◌+◌, ◌*◌, ◌<◌, ◌≤◌, ◌↔◌, IsTrue, IsFalse, max, sum, length};
+ghost use Rattle.std.specs.Prelude.{◌≡◌, ◌≢◌, ℕ, ◌+◌, ◌*◌, ◌<◌, ◌≤◌, ◌↔◌, IsTrue, IsFalse, min, max, sum, length};
 ghost use Rattle.reach_engine.specs.Bits.{bit_in};
 
 /// Whether bit k is set.
@@ -48,4 +48,29 @@ pub fn merge(rows: &mut [u64], offset: usize, bundle: &[u64]) -> bool
         rows[offset + i] = word;
     }
     is_new
+}
+
+/// Sets in the words, from a word on, each bit that the source and the mask have.
+pub fn merge_masked(words: &mut [u64], offset: usize, source: &[u64], mask: &[u64])
+    requires fits { offset + length source.now ≤ length words.old }
+    requires size { length mask.now ≡ length source.now }
+    ensures inside { (k : ℕ) → k < 64 * length source.now → bit_in words.new (64 * offset + k) ≡ max (bit_in words.old (64 * offset + k)) (min (bit_in source.now k) (bit_in mask.now k)) }
+    ensures below { (k : ℕ) → k < 64 * offset → bit_in words.new k ≡ bit_in words.old k }
+    ensures above { (k : ℕ) → 64 * (offset + length source.now) ≤ k → bit_in words.new k ≡ bit_in words.old k }
+{
+    for i in 0..source.len() {
+        words[offset + i] |= source[i] & mask[i];
+    }
+}
+
+/// Sets each bit of some words.
+pub fn set_words(words: &mut [u64], offset: usize, count: usize)
+    requires { offset + count ≤ length words.old }
+    ensures inside { (k : ℕ) → k < 64 * count → bit_in words.new (64 * offset + k) ≡ 1 }
+    ensures below { (k : ℕ) → k < 64 * offset → bit_in words.new k ≡ bit_in words.old k }
+    ensures above { (k : ℕ) → 64 * (offset + count) ≤ k → bit_in words.new k ≡ bit_in words.old k }
+{
+    for i in 0..count {
+        words[offset + i] = u64::MAX;
+    }
 }

@@ -4,6 +4,7 @@
 
 mod bits;
 mod bundle;
+mod effect;
 mod family;
 mod found;
 mod frontier;

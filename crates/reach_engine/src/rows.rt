@@ -1,18 +1,23 @@
 //! Rows of bits for each block and state: whole rows are moved along edges until no block is dirty.
 //! A block is dirty where one of its rows has gained a subject since the block was last taken.
 
-ghost use Rattle.std.specs.Prelude.{◌≡◌, ℕ, ◌+◌, ◌*◌, ◌<◌, ◌≤◌, IfOk, OnOk, length, take, drop, slice_index_or, true, false};
+ghost use Rattle.std.specs.Prelude.{◌≡◌, ℕ, ◌+◌, ◌*◌, ◌<◌, ◌≤◌, IfOk, OnOk, length, slice_index_or, true, false};
 ghost use Rattle.sil_cfg.specs.Layout.{item_count};
 ghost use Rattle.sil_cfg.specs.Flow.{block_count, edge_count, IsEdge, numbered};
 ghost use Rattle.reach_engine.specs.Bits.{bit_in};
+ghost use Rattle.reach_engine.specs.Effects.{AreKnown};
 ghost use Rattle.reach_engine.specs.Reached.{AreExact, AreBad, EdgeTaken, EdgesTaken, BlockTaken, MarksGains, IsSettled, DirtyTaken, Swept, IsClosed};
 
 use crate::bits::{merge, set_bit};
-use crate::bundle::{pass_all, turn_all};
+use crate::bundle::turn_all;
+use crate::effect::{known_effects, moved_rows};
 use crate::family::Family;
 use sil_ast::{BlockId, EdgeId, Exhausted};
 use sil_cfg::Graph;
 use std::alloc::Global;
+
+/// As often as this each block is visited, on the whole, before the effects of the blocks are found.
+const PLAIN_VISITS: usize = 4;
 
 /// The rows that walks reach, and the subjects that some walk brings to a bad item.
 #[derive(Drop)]
@@ -46,13 +51,14 @@ fn take_edge<F: Family>(
     merge(rows, offset, bundle)
 }
 
-/// Moves the rows of one block along its edges, marks the blocks that gain a subject, and tells whether there are any.
+/// Moves the rows of one block over its items and along its edges, marks the blocks that gain a subject, and tells whether there are any.
 fn take_block<F: Family>(
     alloc: Global,
     family: &F,
     g: &Graph,
     width: usize,
     block: BlockId,
+    effects: &[u64],
     rows: &mut [u64],
     bad: &mut [u64],
     dirty: &mut [bool],
@@ -61,6 +67,7 @@ fn take_block<F: Family>(
     requires fits { F.subject_count family.now ≤ 64 * width }
     requires width { width ≤ 16 }
     requires block { block.0 < block_count (numbered g.now) }
+    requires effects { AreKnown (numbered g.now) (F.step_of family.now) (F.state_count family.now) (F.subject_count family.now) width effects.now }
     requires rows { length rows.old ≡ block_count (numbered g.now) * (F.state_count family.now * width) }
     requires bad { length bad.old ≡ width }
     requires dirty { length dirty.old ≡ block_count (numbered g.now) }
@@ -69,46 +76,19 @@ fn take_block<F: Family>(
 {
     let row = family.states() as usize * width;
     let first = block.0 as usize * row;
-    let mut bundle = rows[first..first + row].to_vec(alloc)?;
-    take_bundle(
+    let old = &rows[first..first + row];
+    let bundle = moved_rows(alloc, family, g, width, block, effects, old, bad)?;
+    let is_new = take_edges(
         alloc,
         family,
         g,
         width,
         block,
-        bundle.as_mut_slice(),
+        bundle.as_slice(),
         rows,
         bad,
         dirty,
-    )
-}
-
-/// Moves a copy of the block's rows over its items, and then along its edges.
-fn take_bundle<F: Family>(
-    alloc: Global,
-    family: &F,
-    g: &Graph,
-    width: usize,
-    block: BlockId,
-    bundle: &mut [u64],
-    rows: &mut [u64],
-    bad: &mut [u64],
-    dirty: &mut [bool],
-) -> Result<bool, Exhausted>
-    requires items { F.item_count family.now ≡ item_count g.now }
-    requires fits { F.subject_count family.now ≤ 64 * width }
-    requires width { width ≤ 16 }
-    requires block { block.0 < block_count (numbered g.now) }
-    requires size { length bundle.old ≡ F.state_count family.now * width }
-    requires bundle { bundle.old ≡ take (F.state_count family.now * width) (drop (block.0 * (F.state_count family.now * width)) rows.old) }
-    requires rows { length rows.old ≡ block_count (numbered g.now) * (F.state_count family.now * width) }
-    requires bad { length bad.old ≡ width }
-    requires dirty { length dirty.old ≡ block_count (numbered g.now) }
-    ensures taken { IfOk result (BlockTaken (numbered g.now) (F.step_of family.now) (F.state_count family.now) (F.subject_count family.now) width block.0 rows.old rows.new bad.old bad.new) }
-    ensures marks { IfOk result (MarksGains (F.state_count family.now) (F.subject_count family.now) width rows.old rows.new dirty.old dirty.new) }
-{
-    pass_all(family, width, g.items_of(block), bundle, bad);
-    let is_new = take_edges(alloc, family, g, width, block, bundle, rows, bad, dirty)?;
+    )?;
     Ok(is_new)
 }
 
@@ -155,6 +135,7 @@ fn take_dirty<F: Family>(
     g: &Graph,
     width: usize,
     block: BlockId,
+    effects: &[u64],
     rows: &mut [u64],
     bad: &mut [u64],
     dirty: &mut [bool],
@@ -163,6 +144,7 @@ fn take_dirty<F: Family>(
     requires fits { F.subject_count family.now ≤ 64 * width }
     requires width { width ≤ 16 }
     requires block { block.0 < block_count (numbered g.now) }
+    requires effects { AreKnown (numbered g.now) (F.step_of family.now) (F.state_count family.now) (F.subject_count family.now) width effects.now }
     requires settled { IsSettled (numbered g.now) (F.step_of family.now) (F.state_count family.now) (F.subject_count family.now) width rows.old bad.old dirty.old }
     ensures { IfOk result (DirtyTaken (numbered g.now) (F.step_of family.now) (F.state_count family.now) (F.subject_count family.now) width block.0 rows.old rows.new bad.new dirty.old dirty.new) }
 {
@@ -171,36 +153,86 @@ fn take_dirty<F: Family>(
         return Ok(false);
     }
     dirty[at] = false;
-    take_block(alloc, family, g, width, block, rows, bad, dirty)?;
+    take_block(alloc, family, g, width, block, effects, rows, bad, dirty)?;
     Ok(true)
 }
 
-/// Takes each dirty block once, and tells whether there was one.
+/// Takes each dirty block once, counts these visits, and tells whether there was one.
 fn sweep<F: Family>(
     alloc: Global,
     family: &F,
     g: &Graph,
     width: usize,
+    effects: &[u64],
     rows: &mut [u64],
     bad: &mut [u64],
     dirty: &mut [bool],
+    visits: &mut usize,
 ) -> Result<bool, Exhausted>
     requires items { F.item_count family.now ≡ item_count g.now }
     requires fits { F.subject_count family.now ≤ 64 * width }
     requires width { width ≤ 16 }
+    requires effects { AreKnown (numbered g.now) (F.step_of family.now) (F.state_count family.now) (F.subject_count family.now) width effects.now }
     requires settled { IsSettled (numbered g.now) (F.step_of family.now) (F.state_count family.now) (F.subject_count family.now) width rows.old bad.old dirty.old }
     ensures { IfOk result (Swept (numbered g.now) (F.step_of family.now) (F.state_count family.now) (F.subject_count family.now) width rows.old rows.new bad.new dirty.old dirty.new (block_count (numbered g.now))) }
 {
     let mut changed = false;
     for block in 0..g.blocks() {
-        if take_dirty(alloc, family, g, width, BlockId(block), rows, bad, dirty)? {
+        if take_dirty(
+            alloc,
+            family,
+            g,
+            width,
+            BlockId(block),
+            effects,
+            rows,
+            bad,
+            dirty,
+        )? {
             changed = true;
+            *visits = visits.saturating_add(1);
         }
     }
     Ok(changed)
 }
 
-/// Goes on until no block is dirty.
+/// Goes on until no block is dirty, with the effects of the blocks.
+fn settle_by<F: Family>(
+    alloc: Global,
+    family: &F,
+    g: &Graph,
+    width: usize,
+    effects: &[u64],
+    rows: &mut [u64],
+    bad: &mut [u64],
+    dirty: &mut [bool],
+) -> Result<(), Exhausted>
+    requires items { F.item_count family.now ≡ item_count g.now }
+    requires fits { F.subject_count family.now ≤ 64 * width }
+    requires width { width ≤ 16 }
+    requires effects { AreKnown (numbered g.now) (F.step_of family.now) (F.state_count family.now) (F.subject_count family.now) width effects.now }
+    requires settled { IsSettled (numbered g.now) (F.step_of family.now) (F.state_count family.now) (F.subject_count family.now) width rows.old bad.old dirty.old }
+    ensures { OnOk result (IsClosed (numbered g.now) (F.step_of family.now) (F.state_count family.now) (F.subject_count family.now) width rows.new bad.new) }
+{
+    let mut visits = 0;
+    let mut changed = true;
+    while changed {
+        changed = sweep(
+            alloc,
+            family,
+            g,
+            width,
+            effects,
+            rows,
+            bad,
+            dirty,
+            &mut visits,
+        )?;
+    }
+    Ok(())
+}
+
+/// Goes on until no block is dirty. Where blocks are visited often, their effects are found, and used from then on.
 fn settle<F: Family>(
     alloc: Global,
     family: &F,
@@ -216,11 +248,26 @@ fn settle<F: Family>(
     requires settled { IsSettled (numbered g.now) (F.step_of family.now) (F.state_count family.now) (F.subject_count family.now) width rows.old bad.old dirty.old }
     ensures { OnOk result (IsClosed (numbered g.now) (F.step_of family.now) (F.state_count family.now) (F.subject_count family.now) width rows.new bad.new) }
 {
+    let few = g.blocks() as usize * PLAIN_VISITS;
+    let mut visits = 0;
     let mut changed = true;
-    while changed {
-        changed = sweep(alloc, family, g, width, rows, bad, dirty)?;
+    while changed && visits < few {
+        changed = sweep(alloc, family, g, width, &[], rows, bad, dirty, &mut visits)?;
     }
-    Ok(())
+    if !changed {
+        return Ok(());
+    }
+    let effects = known_effects(alloc, family, g, width)?;
+    settle_by(
+        alloc,
+        family,
+        g,
+        width,
+        effects.as_slice(),
+        rows,
+        bad,
+        dirty,
+    )
 }
 
 /// Puts each subject into the first row.

@@ -4,4 +4,8 @@
 #[cfg(test)]
 mod availability;
 #[cfg(test)]
+mod marked;
+#[cfg(test)]
 mod outcome;
+#[cfg(test)]
+mod searches;
