@@ -1,6 +1,6 @@
 -- The first fault of typing, with those of functions without `[ossa]`.
 use Rattle.std.proofs.Common.{◌≡◌, ℕ, zero, suc, ◌+◌, ◌<◌, ◌≤◌, List, [], ◌∷◌, refl, sym, ap, ◌∙◌, subst, arith, ◌⊎◌, inl, inr, Bool, true, false, Option, Some, None}
-use Rattle.std.specs.Prelude.{slice_get, IfSome, if◌then◌else◌, unwrap_or}
+use Rattle.std.specs.Prelude.{slice_get, if◌then◌else◌, is_none, nat_lt, nat_le, ◌==◌, ◌&&◌, ◌||◌}
 use Rattle.std.specs.Option.{option_or}
 use Rattle.std.proofs.lemmas.Bool.{cases_lt}
 use Rattle.sil_ast.specs.declared.function.Form.{Form}
@@ -72,3 +72,63 @@ module _ (m : Module) where
   first_function = subst (IsFirst fault_key (IsLowered m)) (same_search 0 m.functions)
       (first_same fault_key InFunctions (IsLowered m) is_lowered_in is_found (first_from (λ k f. fault_if k f.form) 0 m.functions)
       (first_of_places fault_key IsLoweredAt (λ k f. fault_if k f.form) first_at in_order 0 m.functions))
+
+-- at a function itself, by the function and then by the rule
+at_true : (k n r s : ℕ) (own : Bool) → own ≡ true → (nat_lt k n || (k == n && own && nat_le r s)) ≡ true → (k < n) ⊎ ((k ≡ n) × (r ≤ s))
+at_true k n r s true own e = grind arith
+at_true k n r s false own e = cc own
+
+at_false : (k n r s : ℕ) (own : Bool) → own ≡ true → (nat_lt k n || (k == n && own && nat_le r s)) ≡ false → (n < k) ⊎ ((k ≡ n) × (s ≤ r))
+at_false k n r s true own e = grind arith
+at_false k n r s false own e = cc own
+
+-- at a point, by the function alone
+behind_true : (k n r s : ℕ) (own : Bool) → own ≡ false → (nat_lt k n || (k == n && own && nat_le r s)) ≡ true → k < n
+behind_true k n r s true own e = cc own
+behind_true k n r s false own e = grind arith
+
+behind_false : (k n r s : ℕ) (own : Bool) → own ≡ false → (nat_lt k n || (k == n && own && nat_le r s)) ≡ false → (n < k) ⊎ (k ≡ n)
+behind_false k n r s true own e = cc own
+behind_false k n r s false own e = grind arith
+
+last_number : (n m : ℕ) → n ≤ m → NotAfter (n ∷ []) (m ∷ [])
+last_number n m le = at (cases_lt n m)
+  where
+    at : (n < m) ⊎ (m ≤ n) → NotAfter (n ∷ []) (m ∷ [])
+    at (inl lt) = inl lt
+    at (inr ge) = inr (omega (arith, le, ge), tt)
+
+abbrev lowered_key : ℕ → List ℕ
+lowered_key n = fault_key (fault_at (at_function n) rule.MixedForms)
+
+module _ (m : Module) (n : ℕ) where
+  -- where the test says so, the broken rule comes first
+  comes_first : (s : Site) (r : Rule) → BreaksAt m s r → is_before (fault_at s r) (fault_at (at_function n) rule.MixedForms) ≡ true → NotAfter (fault_key (fault_at s r)) (lowered_key n)
+  comes_first _ _ (function k f r there b) e = by (at_true k n (number_of r) (number_of rule.MixedForms) (is_none (fault_at (at_function k) r).point) refl e)
+    where
+      by : (k < n) ⊎ ((k ≡ n) × (number_of r ≤ number_of rule.MixedForms)) → NotAfter (fault_key (fault_at (at_function k) r)) (lowered_key n)
+      by (inl lt) = inr (stage_at_function m k f r b, inl lt)
+      by (inr h) = inr (stage_at_function m k f r b, inr (h.0, inr (refl, inr (refl, inr (refl, last_number (number_of r) (number_of rule.MixedForms) h.1)))))
+  comes_first _ _ (point k f block index i r there at b) e = inr (stage_at_point m k f block index i r b, inl (behind_true k n (number_of r) (number_of rule.MixedForms) (is_none (fault_at (at_point k block index) r).point) refl e))
+  comes_first _ _ (vtable v w r there b) e = cc e
+
+  -- and where it doesn't, the function without `[ossa]` does
+  comes_behind : (s : Site) (r : Rule) → BreaksAt m s r → is_before (fault_at s r) (fault_at (at_function n) rule.MixedForms) ≡ false → NotAfter (lowered_key n) (fault_key (fault_at s r))
+  comes_behind _ _ (function k f r there b) e = by (at_false k n (number_of r) (number_of rule.MixedForms) (is_none (fault_at (at_function k) r).point) refl e)
+    where
+      by : (n < k) ⊎ ((k ≡ n) × (number_of rule.MixedForms ≤ number_of r)) → NotAfter (lowered_key n) (fault_key (fault_at (at_function k) r))
+      by (inl lt) = inr (sym (stage_at_function m k f r b), inl lt)
+      by (inr h) = inr (sym (stage_at_function m k f r b), inr (sym h.0, inr (refl, inr (refl, inr (refl, last_number (number_of rule.MixedForms) (number_of r) h.1)))))
+  comes_behind _ _ (point k f block index i r there at b) e = by (behind_false k n (number_of r) (number_of rule.MixedForms) (is_none (fault_at (at_point k block index) r).point) refl e)
+    where
+      by : (n < k) ⊎ (k ≡ n) → NotAfter (lowered_key n) (fault_key (fault_at (at_point k block index) r))
+      by (inl lt) = inr (sym (stage_at_point m k f block index i r b), inl lt)
+      by (inr same) = inr (sym (stage_at_point m k f block index i r b), inr (sym same, inl (omega arith)))
+  comes_behind _ _ (vtable v w r there b) e = inl (omega arith)
+
+-- the test tells which of the two comes first
+pub first_where_before : (m : Module) (a b : TypingFault) → IsBroken m a → IsLowered m b → is_before a b ≡ true → NotAfter (fault_key a) (fault_key b)
+first_where_before m _ _ (broken s r h) (lowered n f there e) test = comes_first m n s r h test
+
+pub behind_where_not : (m : Module) (a b : TypingFault) → IsBroken m a → IsLowered m b → is_before a b ≡ false → NotAfter (fault_key b) (fault_key a)
+behind_where_not m _ _ (broken s r h) (lowered n f there e) test = comes_behind m n s r h test

@@ -3,13 +3,13 @@
 #![tactic(auto)]
 
 mod body;
-mod check;
 mod fault;
 mod function_facts;
 mod points;
 mod refusal;
 mod rules;
+mod typing;
 
-pub use check::check;
 pub use fault::TypingFault;
 pub use refusal::CheckRefusal;
+pub use typing::check;
