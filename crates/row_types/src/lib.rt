@@ -1,0 +1,7 @@
+//! What the row of an instruction gives, by the types that are written in it: views of types that a module or its table holds.
+//! It copies no type and takes no memory for one.
+#![tactic(auto)]
+
+mod view;
+
+pub use view::{Made, TypeView};
