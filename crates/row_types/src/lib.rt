@@ -2,6 +2,7 @@
 //! It copies no type and takes no memory for one.
 #![tactic(auto)]
 
+mod shapes;
 mod view;
 
 pub use view::{Made, TypeView};
