@@ -1,5 +1,5 @@
 -- What views tell: the types that they are put together to, and the types that a row gives.
-use Rattle.std.specs.Prelude.{List, [], ◌∷◌, map}
+use Rattle.std.specs.Prelude.{List, [], ◌∷◌, Option, Some, None, map}
 use Rattle.sil_ast.specs.declared.decl.Field.{Field}
 use Rattle.sil_ast.specs.declared.type_name.TypeName.{TypeName}
 use Rattle.sil_ast.specs.declared.type_name.TypeName.TheVariants as type
@@ -10,6 +10,7 @@ use Rattle.row_types.specs.declared.view.Made.{Made}
 use Rattle.row_types.specs.declared.view.Made.TheVariants.{Nothing, One, Fields, Elements}
 use Rattle.row_types.specs.declared.view.TypeView.{TypeView}
 use Rattle.row_types.specs.declared.view.TypeView.TheVariants.{Written, AddressOf, WeakAddress, UnownedAddress, TupleOf, GivenBy}
+use Rattle.row_types.specs.declared.written.NextWritten.{NextWritten}
 
 -- the type that a view is put together to
 abbrev pub view_told : TypeView → TypeName
@@ -26,3 +27,8 @@ made_told Nothing = []
 made_told (One view) = view_told view ∷ []
 made_told (Fields fields) = map field_type fields.now
 made_told (Elements types) = types.now
+
+-- the first of the written types, and those behind it
+abbrev pub next_told : Option NextWritten → List TypeName
+next_told None = []
+next_told (Some next) = next.ty.now ∷ all_written next.rest.now

@@ -4,5 +4,6 @@
 
 mod shapes;
 mod view;
+mod written;
 
 pub use view::{Made, TypeView};
