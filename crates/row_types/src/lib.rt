@@ -2,6 +2,8 @@
 //! It copies no type and takes no memory for one.
 #![tactic(auto)]
 
+mod builtins;
+mod members;
 mod shapes;
 mod view;
 mod written;
