@@ -4,6 +4,7 @@
 
 mod builtins;
 mod members;
+mod same_view;
 mod shapes;
 mod view;
 mod written;
