@@ -2,7 +2,10 @@
 //! It copies no type and takes no memory for one.
 #![tactic(auto)]
 
+mod aggregates;
 mod builtins;
+mod kept;
+mod made;
 mod members;
 mod same_view;
 mod shapes;
