@@ -3,6 +3,7 @@
 #![tactic(auto)]
 
 mod aggregates;
+mod builtin_rows;
 mod builtins;
 mod kept;
 mod made;
