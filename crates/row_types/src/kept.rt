@@ -18,13 +18,7 @@ pub(crate) fn where_integer(ty: Option<&TypeName>) -> Option<&TypeName>
     ensures { option_copied result ≡ where_it shapes.is_integer (option_copied ty.entry) }
 {
     match ty {
-        Some(ty) => {
-            if is_integer(ty) {
-                Some(ty)
-            } else {
-                None
-            }
-        }
+        Some(ty) => { if is_integer(ty) { Some(ty) } else { None } }
         None => None,
     }
 }
@@ -33,13 +27,7 @@ pub(crate) fn where_bit(ty: Option<&TypeName>) -> Option<&TypeName>
     ensures { option_copied result ≡ where_it shapes.is_bit (option_copied ty.entry) }
 {
     match ty {
-        Some(ty) => {
-            if is_bit(ty) {
-                Some(ty)
-            } else {
-                None
-            }
-        }
+        Some(ty) => { if is_bit(ty) { Some(ty) } else { None } }
         None => None,
     }
 }
@@ -48,13 +36,7 @@ pub(crate) fn where_object(ty: Option<&TypeName>) -> Option<&TypeName>
     ensures { option_copied result ≡ where_it shapes.is_object (option_copied ty.entry) }
 {
     match ty {
-        Some(ty) => {
-            if is_object(ty) {
-                Some(ty)
-            } else {
-                None
-            }
-        }
+        Some(ty) => { if is_object(ty) { Some(ty) } else { None } }
         None => None,
     }
 }
@@ -78,13 +60,7 @@ pub(crate) fn where_enum<'a>(table: &TypeTable, ty: Option<&'a TypeName>) -> Opt
     ensures { option_copied result ≡ where_it (shapes.is_enum table.now) (option_copied ty.entry) }
 {
     match ty {
-        Some(ty) => {
-            if is_enum(table, ty) {
-                Some(ty)
-            } else {
-                None
-            }
-        }
+        Some(ty) => { if is_enum(table, ty) { Some(ty) } else { None } }
         None => None,
     }
 }
@@ -108,10 +84,7 @@ pub(crate) fn where_nontrivial<'a>(
 }
 
 /// An object's type that holds a reference and isn't a class.
-pub(crate) fn where_counted<'a>(
-    table: &TypeTable,
-    ty: Option<&'a TypeName>,
-) -> Option<&'a TypeName>
+pub(crate) fn where_counted<'a>(table: &TypeTable, ty: Option<&'a TypeName>) -> Option<&'a TypeName>
     ensures { option_copied result ≡ where_it (rows.is_counted_value table.now) (option_copied ty.entry) }
 {
     match ty {

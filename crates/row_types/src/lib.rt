@@ -8,9 +8,11 @@ mod builtins;
 mod kept;
 mod made;
 mod members;
+mod rows;
 mod same_view;
 mod shapes;
 mod view;
 mod written;
 
+pub use rows::row_types;
 pub use view::{Made, TypeView};
