@@ -7,12 +7,13 @@ mod builtin_rows;
 mod builtins;
 mod kept;
 mod made;
-mod members;
+pub mod members;
 mod rows;
 mod same_view;
-mod shapes;
+pub mod shapes;
 mod view;
 mod written;
 
 pub use rows::row_types;
 pub use view::{Made, TypeView};
+pub use written::written;
