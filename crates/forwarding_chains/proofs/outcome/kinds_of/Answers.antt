@@ -1,0 +1,14 @@
+use Rattle.std.proofs.Common.{subst, sym}
+use Rattle.std.specs.Prelude.{IfNone}
+use Rattle.forwarding_chains.specs.Outcome.{AreAll, KnowsAllButRings}
+use Rattle.forwarding_chains.proofs.RingLemmas.{all_unless, just_unknown}
+use Rattle.forwarding_chains.proofs.outcome.kinds_of.Goals as goal
+
+pub returns-clause-all : goal.returns-clause-all
+returns-clause-all c =
+    subst (λ t. IfNone c.in_ok-cyclic.cyclic (AreAll c.args.defs.now t)) (sym c.from_vec.ensures)
+    (all_unless c.args.defs.now c.in_ok-table.table.items c.in_ok-cyclic.cyclic c.requires c.in_ok-table.ensures.exact c.in_ok-table.ensures.stuck c.in_ok-cyclic.ensures.none)
+
+pub returns-clause-unknown : goal.returns-clause-unknown
+returns-clause-unknown c =
+    subst (KnowsAllButRings c.args.defs.now) (sym c.from_vec.ensures) (just_unknown c.args.defs.now c.in_ok-table.table.items c.requires c.in_ok-table.ensures.exact c.in_ok-table.ensures.stuck)

@@ -1,0 +1,15 @@
+-- Laws of kinds and bases.
+use Rattle.std.specs.Prelude.{◌≡◌, List}
+use Rattle.sil_ast.specs.declared.place.ValueId.{ValueId}
+use Rattle.forwarding_chains.specs.declared.definition.Definition.{Definition}
+use Rattle.forwarding_chains.specs.declared.facts.Facts.{Facts}
+use Rattle.forwarding_chains.specs.Chains.{LeadsIntoRing}
+use Rattle.forwarding_chains.specs.Facts.{Has}
+
+-- a value has one kind and one list of bases
+abbrev pub AreUnique : Type 0
+AreUnique = (defs : List Definition) (v : ValueId) (f g : Facts) → Has defs v f → Has defs v g → f ≡ g
+
+-- a value from which a chain leads into a ring has neither
+abbrev pub EndAtRings : Type 0
+EndAtRings = (defs : List Definition) (v : ValueId) (f : Facts) → Has defs v f → LeadsIntoRing defs v → ⊥

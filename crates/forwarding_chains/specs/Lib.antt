@@ -1,0 +1,8 @@
+pub mod Chains
+pub mod Facts
+pub mod Outcome
+pub mod Settling
+pub mod Union
+pub mod Search
+pub mod Ranks
+pub mod Laws

@@ -1,0 +1,19 @@
+-- What is known of the values of a function.
+use Rattle.std.specs.Prelude.{◌≡◌, ◌↔◌, ◌<◌, List, length, Option, Some, None, IsSomeAnd}
+use Rattle.sil_ast.specs.declared.place.ValueId.{ValueId}
+use Rattle.forwarding_chains.specs.declared.definition.Definition.{Definition}
+use Rattle.forwarding_chains.specs.declared.facts.Facts.{Facts}
+use Rattle.forwarding_chains.specs.Chains.{LeadsIntoRing}
+use Rattle.forwarding_chains.specs.Facts.{Has, told_at}
+
+-- exactly the values whose chains end are known, with their kind and bases
+abbrev pub IsExact : List Definition → (ValueId → Option Facts) → Type 0
+IsExact defs known = (v : ValueId) (f : Facts) → v.0 < length defs → (known v ≡ Some f) ↔ Has defs v f
+
+-- nothing is known of a value exactly where a chain from it leads into a ring
+abbrev pub KnowsAllButRings : List Definition → List (Option Facts) → Type 0
+KnowsAllButRings defs table = (v : ValueId) → v.0 < length defs → (told_at table v ≡ None) ↔ LeadsIntoRing defs v
+
+-- each value is known, with its kind and bases
+abbrev pub AreAll : List Definition → List (Option Facts) → Type 0
+AreAll defs table = (v : ValueId) → v.0 < length defs → IsSomeAnd (told_at table v) (Has defs v)

@@ -1,0 +1,13 @@
+//! The laws of kinds and bases, each on a call that does nothing. The lemmas behind them are in `proofs/`, for the checks above.
+
+ghost use Rattle.forwarding_chains.specs.Laws.{AreUnique, EndAtRings};
+
+/// A value has one kind and one list of bases.
+pub fn facts_are_unique()
+    ensures { AreUnique }
+{}
+
+/// A value from which a chain leads into a ring has no kind and no bases.
+pub fn facts_end_at_rings()
+    ensures { EndAtRings }
+{}

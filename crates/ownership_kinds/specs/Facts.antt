@@ -1,0 +1,24 @@
+-- The kinds and bases of a function's values.
+use Rattle.std.specs.Prelude.{ℕ, List, Option, length, option_map}
+use Rattle.sil_ast.specs.declared.function.Function.{Function}
+use Rattle.sil_ast.specs.declared.place.ValueId.{ValueId}
+use Rattle.forwarding_chains.specs.Facts.{told_in}
+use Rattle.forwarding_chains.specs.declared.definition.Definition.{Definition}
+use Rattle.forwarding_chains.specs.declared.facts.Facts.{Facts}
+use Rattle.type_definitions.specs.Declarations.{Declarations}
+use Rattle.type_definitions.specs.declared.kind.Kind.{Kind}
+use Rattle.value_origins.specs.Origins.{definitions_of}
+
+-- what chains of no more steps than there are values tell
+abbrev pub facts_by : List Definition → ValueId → Option Facts
+facts_by defs v = told_in defs (length defs) v
+
+-- a value's kind and bases, where every chain from it ends
+abbrev pub facts_in : Declarations → Function → ValueId → Option Facts
+facts_in d f v = facts_by (definitions_of d f) v
+
+abbrev pub kind_of_facts : Facts → Kind
+kind_of_facts f = f.kind
+
+abbrev pub kind_in : Declarations → Function → ValueId → Option Kind
+kind_in d f v = option_map kind_of_facts (facts_in d f v)

@@ -1,0 +1,4 @@
+pub mod Facts
+pub mod Roles
+pub mod Marks
+pub mod Statics

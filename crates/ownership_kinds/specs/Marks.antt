@@ -1,0 +1,155 @@
+-- What an item does to the values that begin and end: ends in operand order, then uses, then begins.
+use Rattle.std.specs.Prelude.{ℕ, List, [], ◌∷◌, ◌++◌, Bool, true, false, ◌==◌, Option, Some, None, map, slice_get, cond}
+use Rattle.std.specs.List.{flat_map, list_any}
+use Rattle.sil_ast.specs.declared.entries.Role.{Role}
+use Rattle.sil_ast.specs.declared.entries.Role.TheVariants as role
+use Rattle.sil_ast.specs.declared.function.Block.{Block}
+use Rattle.sil_ast.specs.declared.function.BlockArg.{BlockArg}
+use Rattle.sil_ast.specs.declared.function.Function.{Function}
+use Rattle.sil_ast.specs.declared.inst.Edge as edge
+use Rattle.sil_ast.specs.declared.inst.Inst as inst
+use Rattle.sil_ast.specs.declared.place.ValueId.{ValueId}
+use Rattle.sil_cfg.specs.declared.item.Item.{Item}
+use Rattle.sil_cfg.specs.declared.item.Item.TheVariants.{Entry, Inst, Edge, Exit}
+use Rattle.forwarding_chains.specs.declared.facts.Facts.{Facts}
+use Rattle.type_definitions.specs.declared.kind.Kind.{Kind}
+use Rattle.type_definitions.specs.declared.kind.Kind.TheVariants as kind
+use Rattle.ownership_kinds.specs.Roles.{Taken, taken_along, taken_by}
+use Rattle.ownership_kinds.specs.declared.mark.Mark.{Mark}
+use Rattle.ownership_kinds.specs.declared.mark.MarkSort.TheVariants.{End, Use, Begin}
+
+abbrev pub end_of : ValueId → Mark
+end_of v = record { subject = v; sort = End }
+
+abbrev pub use_of : ValueId → Mark
+use_of v = record { subject = v; sort = Use }
+
+abbrev pub begin_of : ValueId → Mark
+begin_of v = record { subject = v; sort = Begin }
+
+-- the role ends an Owned value
+abbrev pub ends_owned : Role → Bool
+ends_owned role.Consumed = true
+ends_owned role.Forwarded = true
+ends_owned role.Used = false
+ends_owned role.Lent = false
+ends_owned role.AddressRole = false
+ends_owned role.AnyRole = false
+ends_owned role.ScopeRole = false
+ends_owned role.ByParameter = false
+ends_owned role.Counted = false
+
+-- the role ends a scope
+abbrev pub ends_scope : Role → Bool
+ends_scope role.Consumed = false
+ends_scope role.Forwarded = false
+ends_scope role.Used = false
+ends_scope role.Lent = false
+ends_scope role.AddressRole = false
+ends_scope role.AnyRole = false
+ends_scope role.ScopeRole = true
+ends_scope role.ByParameter = false
+ends_scope role.Counted = false
+
+abbrev pub ended_by : Kind → Role → ValueId → List Mark
+ended_by kind.Owned r v = cond (ends_owned r) (end_of v ∷ []) []
+ended_by kind.Guaranteed r v = cond (ends_scope r) (end_of v ∷ []) []
+ended_by kind.Plain r v = []
+
+-- an Owned value is used by each operand that doesn't end it, and a value's bases by each that doesn't end the scope
+abbrev pub used_by : Kind → Role → ValueId → List ValueId → List Mark
+used_by kind.Owned r v bases = cond (ends_owned r) [] (use_of v ∷ [])
+used_by kind.Guaranteed r v bases = cond (ends_scope r) [] (map use_of bases)
+used_by kind.Plain r v bases = []
+
+abbrev pub ended_with : Option Facts → Taken → List Mark
+ended_with None t = []
+ended_with (Some f) t = ended_by f.kind t.role t.value
+
+abbrev pub used_with : Option Facts → Taken → List Mark
+used_with None t = []
+used_with (Some f) t = used_by f.kind t.role t.value f.bases
+
+abbrev pub is_in : ValueId → List ValueId → Bool
+is_in v vs = list_any (λ w. w.0 == v.0) vs
+
+abbrev pub is_own_base : Kind → ValueId → List ValueId → Bool
+is_own_base kind.Owned v bases = true
+is_own_base kind.Guaranteed v bases = is_in v bases
+is_own_base kind.Plain v bases = false
+
+-- an Owned value, a borrow and a `@guaranteed` argument of the entry begin where they are defined
+abbrev pub begun_with : Option Facts → ValueId → List Mark
+begun_with None v = []
+begun_with (Some f) v = cond (is_own_base f.kind v f.bases) (begin_of v ∷ []) []
+
+module _ (facts : ValueId → Option Facts) where
+  abbrev pub ended : Taken → List Mark
+  ended t = ended_with (facts t.value) t
+
+  abbrev pub used : Taken → List Mark
+  used t = used_with (facts t.value) t
+
+  abbrev pub begun : ValueId → List Mark
+  begun v = begun_with (facts v) v
+
+  -- the marks of some operands and of the values that are defined behind them
+  abbrev pub marks_with : List Taken → List ValueId → List Mark
+  marks_with taken defined = flat_map ended taken ++ flat_map used taken ++ flat_map begun defined
+
+abbrev pub arg_value : BlockArg → ValueId
+arg_value a = a.value
+
+abbrev pub args_in : Option Block → List ValueId
+args_in None = []
+args_in (Some b) = map arg_value b.args
+
+abbrev pub args_of : Function → ℕ → List ValueId
+args_of f n = args_in (slice_get f.blocks n)
+
+abbrev pub inst_in : Option Block → ℕ → Option inst.Inst
+inst_in None k = None
+inst_in (Some b) k = slice_get b.insts k
+
+abbrev pub terminator_in : Option Block → Option inst.Inst
+terminator_in None = None
+terminator_in (Some b) = Some b.terminator
+
+abbrev pub taken_at : Option inst.Inst → List Taken
+taken_at None = []
+taken_at (Some i) = taken_by i
+
+abbrev pub results_at : Option inst.Inst → List ValueId
+results_at None = []
+results_at (Some i) = i.results
+
+abbrev pub edge_in : Option inst.Inst → ℕ → Option edge.Edge
+edge_in None k = None
+edge_in (Some i) k = slice_get i.edges k
+
+abbrev pub taken_along_at : Option edge.Edge → List Taken
+taken_along_at None = []
+taken_along_at (Some e) = taken_along e
+
+abbrev pub defined_along : Function → Option edge.Edge → List ValueId
+defined_along f None = []
+defined_along f (Some e) = args_of f e.block.0
+
+-- the operands of an item
+abbrev pub item_taken : Function → Item → List Taken
+item_taken f Entry = []
+item_taken f (Inst p) = taken_at (inst_in (slice_get f.blocks p.block.0) p.index)
+item_taken f (Edge e) =
+    taken_at (terminator_in (slice_get f.blocks e.block.0)) ++ taken_along_at (edge_in (terminator_in (slice_get f.blocks e.block.0)) e.index)
+item_taken f (Exit p) = taken_at (terminator_in (slice_get f.blocks p.block.0))
+
+-- the values that an item defines
+abbrev pub item_defined : Function → Item → List ValueId
+item_defined f Entry = args_of f 0
+item_defined f (Inst p) = results_at (inst_in (slice_get f.blocks p.block.0) p.index)
+item_defined f (Edge e) = defined_along f (edge_in (terminator_in (slice_get f.blocks e.block.0)) e.index)
+item_defined f (Exit p) = []
+
+-- the marks of an item
+abbrev pub marks_of : (ValueId → Option Facts) → Function → Item → List Mark
+marks_of facts f item = marks_with facts (item_taken f item) (item_defined f item)

@@ -1,0 +1,226 @@
+-- 302 to 305: what holds of kinds, whether a walk goes there or not.
+use Rattle.std.specs.Prelude.{◌≡◌, ◌⊎◌, ℕ, ◌<◌, List, [], ◌∷◌, ◌++◌, Bool, true, false, not, ◌&&◌, ◌||◌, ◌==◌, Option, Some, None, is_none, Contains, find, map, slice_get, length, replicate, unwrap_or}
+use Rattle.std.specs.List.{flat_map, list_any}
+use Rattle.sil_ast.specs.Forms.{ending_of, result_kind_of}
+use Rattle.sil_ast.specs.declared.entries.Ending.{Ending}
+use Rattle.sil_ast.specs.declared.entries.Ending.TheVariants as ending
+use Rattle.sil_ast.specs.declared.entries.ResultKind.{ResultKind}
+use Rattle.sil_ast.specs.declared.entries.ResultKind.TheVariants.{NoneResult, OwnedResult, ScopeResult, AddressResult, ForwardedResult, OperandResult}
+use Rattle.sil_ast.specs.declared.entries.Role.{Role}
+use Rattle.sil_ast.specs.declared.entries.Role.TheVariants as role
+use Rattle.sil_ast.specs.declared.function.ArgKind.{ArgKind}
+use Rattle.sil_ast.specs.declared.function.ArgKind.TheVariants as annotation
+use Rattle.sil_ast.specs.declared.function.Block.{Block}
+use Rattle.sil_ast.specs.declared.function.BlockArg.{BlockArg}
+use Rattle.sil_ast.specs.declared.function.Function.{Function}
+use Rattle.sil_ast.specs.declared.inst.Edge.{Edge}
+use Rattle.sil_ast.specs.declared.inst.Inst.{Inst}
+use Rattle.sil_ast.specs.declared.place.PointId.{PointId}
+use Rattle.sil_ast.specs.declared.place.ValueId.{ValueId}
+use Rattle.numbered_form.specs.Insts.{insts_of}
+use Rattle.forwarding_chains.specs.Chains.{IsCyclic}
+use Rattle.sil_rules.specs.Order.{NotAfter}
+use Rattle.sil_rules.specs.Rules.{number_of}
+use Rattle.sil_rules.specs.declared.rule.Rule.{Rule}
+use Rattle.sil_rules.specs.declared.rule.Rule.TheVariants as rule
+use Rattle.type_definitions.specs.Declarations.{Declarations}
+use Rattle.type_definitions.specs.Measures.{is_trivial}
+use Rattle.type_definitions.specs.declared.kind.Kind.{Kind}
+use Rattle.type_definitions.specs.declared.kind.Kind.TheVariants as kind
+use Rattle.value_origins.specs.Origins.{definitions_of}
+use Rattle.value_origins.specs.Renamings.{renamings_of}
+use Rattle.value_origins.specs.Switched.{first_value, switch_to, value_of}
+use Rattle.value_origins.specs.declared.switched.Switched.{Switched}
+use Rattle.ownership_kinds.specs.Facts.{kind_in}
+use Rattle.ownership_kinds.specs.Roles.{Taken, taken_along, taken_by}
+
+abbrev pub is_owned : Option Kind → Bool
+is_owned (Some kind.Owned) = true
+is_owned _ = false
+
+abbrev pub is_guaranteed : Option Kind → Bool
+is_guaranteed (Some kind.Guaranteed) = true
+is_guaranteed _ = false
+
+abbrev pub is_none_kind : Option Kind → Bool
+is_none_kind (Some kind.Plain) = true
+is_none_kind _ = false
+
+-- where a value is defined: a result at its instruction, an argument at the first point of its block
+pub data IsDefinedAt (f : Function) (v : ValueId) : ℕ → ℕ → Type 0 where
+  result : (n k : ℕ) (b : Block) (i : Inst) → slice_get f.blocks n ≡ Some b → slice_get (insts_of b) k ≡ Some i → Contains i.results v → IsDefinedAt f v n k
+  argument : (n : ℕ) (b : Block) (a : BlockArg) → slice_get f.blocks n ≡ Some b → Contains b.args a → a.value ≡ v → IsDefinedAt f v n 0
+
+-- 302: a chain of one of the two kinds returns to the value at which it began
+abbrev pub IsOnRing : Declarations → Function → ValueId → Type 0
+IsOnRing d f v = IsCyclic (definitions_of d f) v ⊎ IsCyclic (renamings_of f) v
+
+-- 303
+
+abbrev pub forwards_by : ResultKind → Bool
+forwards_by NoneResult = false
+forwards_by OwnedResult = false
+forwards_by ScopeResult = false
+forwards_by AddressResult = false
+forwards_by ForwardedResult = true
+forwards_by OperandResult = false
+
+abbrev pub forwards : Inst → Bool
+forwards i = forwards_by (result_kind_of i.op)
+
+module _ (kinds : ValueId → Option Kind) where
+  abbrev pub owned_value : ValueId → Bool
+  owned_value v = is_owned (kinds v)
+
+  abbrev pub guaranteed_value : ValueId → Bool
+  guaranteed_value v = is_guaranteed (kinds v)
+
+  abbrev pub mixed_among : Bool → List ValueId → Option ValueId
+  mixed_among true vs = find guaranteed_value vs
+  mixed_among false vs = None
+
+  -- 303: one forwarding instruction has Owned and Guaranteed operands; the first Guaranteed one is the subject
+  abbrev pub mixed_operand : Inst → Option ValueId
+  mixed_operand i = mixed_among (forwards i && list_any owned_value (map value_of i.operands)) (map value_of i.operands)
+
+  -- 304
+
+  -- the operand is of a kind that the role doesn't take; `is_borrow` tells whether it is the result of a borrow itself
+  abbrev pub is_mismatch : Bool → Role → ValueId → Bool
+  is_mismatch is_borrow role.Consumed v = guaranteed_value v
+  is_mismatch is_borrow role.Used v = false
+  is_mismatch is_borrow role.Lent v = owned_value v
+  is_mismatch is_borrow role.Forwarded v = false
+  is_mismatch is_borrow role.AddressRole v = false
+  is_mismatch is_borrow role.AnyRole v = false
+  is_mismatch is_borrow role.ScopeRole v = not is_borrow
+  is_mismatch is_borrow role.ByParameter v = false
+  is_mismatch is_borrow role.Counted v = false
+
+  -- 305 at an argument
+
+  abbrev pub is_plain_annotation : ArgKind → Bool
+  is_plain_annotation annotation.Plain = true
+  is_plain_annotation annotation.Owned = false
+  is_plain_annotation annotation.Guaranteed = false
+
+  abbrev pub is_owned_annotation : ArgKind → Bool
+  is_owned_annotation annotation.Plain = false
+  is_owned_annotation annotation.Owned = true
+  is_owned_annotation annotation.Guaranteed = false
+
+  abbrev pub is_guaranteed_annotation : ArgKind → Bool
+  is_guaranteed_annotation annotation.Plain = false
+  is_guaranteed_annotation annotation.Owned = false
+  is_guaranteed_annotation annotation.Guaranteed = true
+
+  -- a payload carries `@owned` from an Owned or None operand, and `@guaranteed` from a Guaranteed one
+  abbrev pub fits_case : Option Kind → ArgKind → Bool
+  fits_case None a = true
+  fits_case (Some kind.Owned) a = is_owned_annotation a
+  fits_case (Some kind.Guaranteed) a = is_guaranteed_annotation a
+  fits_case (Some kind.Plain) a = is_owned_annotation a
+
+  -- a default takes the whole enum from an Owned or Guaranteed operand, with the same annotation, and nothing from a None one
+  abbrev pub fits_default : Option Kind → ArgKind → Bool
+  fits_default None a = true
+  fits_default (Some kind.Owned) a = is_owned_annotation a
+  fits_default (Some kind.Guaranteed) a = is_guaranteed_annotation a
+  fits_default (Some kind.Plain) a = false
+
+  abbrev pub fits_switch : Bool → Bool → Option Kind → ArgKind → Bool
+  fits_switch true trivial k a = fits_default k a
+  fits_switch false true k a = is_plain_annotation a
+  fits_switch false false k a = fits_case k a
+
+  abbrev pub fits_block : Bool → ArgKind → Bool
+  fits_block true a = is_plain_annotation a
+  fits_block false a = is_owned_annotation a
+
+  -- the annotation of an argument of a block other than the entry is the one that is due
+  abbrev pub is_annotated_well : Option Switched → Bool → ArgKind → Bool
+  is_annotated_well None trivial a = fits_block trivial a
+  is_annotated_well (Some s) trivial a = fits_switch s.is_default trivial (kinds s.operand) a
+
+  -- 305 at a default without an argument: its operand is Owned or Guaranteed
+  abbrev pub needs_argument : ValueId → Bool
+  needs_argument v = owned_value v || guaranteed_value v
+
+-- whether a value is the result of a borrow itself
+
+abbrev pub borrows_by : ResultKind → Bool
+borrows_by NoneResult = false
+borrows_by OwnedResult = false
+borrows_by ScopeResult = true
+borrows_by AddressResult = false
+borrows_by ForwardedResult = false
+borrows_by OperandResult = false
+
+abbrev pub no_borrow : BlockArg → Bool
+no_borrow a = false
+
+abbrev pub result_borrows : Inst → List Bool
+result_borrows i = replicate (length i.results) (borrows_by (result_kind_of i.op))
+
+abbrev pub block_borrows : Block → List Bool
+block_borrows b = map no_borrow b.args ++ flat_map result_borrows (insts_of b)
+
+-- which values are results of borrows, by their numbers
+abbrev pub borrows_of : Function → List Bool
+borrows_of f = flat_map block_borrows f.blocks
+
+abbrev pub is_borrow : Function → ValueId → Bool
+is_borrow f v = unwrap_or (slice_get (borrows_of f) v.0) false
+
+-- what an instruction takes: its operands, and what its edges hand over
+abbrev pub all_taken : Inst → List Taken
+all_taken i = taken_by i ++ flat_map taken_along i.edges
+
+abbrev pub no_arguments : Option Block → Bool
+no_arguments None = true
+no_arguments (Some b) = length b.args == 0
+
+abbrev pub is_lacking_default : Function → Edge → Bool
+is_lacking_default f e = is_none e.case_of && no_arguments (slice_get f.blocks e.block.0)
+
+abbrev pub lacks_by : Ending → Function → Inst → Bool
+lacks_by ending.Inside f i = false
+lacks_by ending.OneBranch f i = false
+lacks_by ending.TwoBranches f i = false
+lacks_by ending.Cases f i = list_any (is_lacking_default f) i.edges
+lacks_by ending.Return f i = false
+lacks_by ending.Unreachable f i = false
+
+-- the instruction is a switch whose default's block has no argument
+abbrev pub lacks_argument : Function → Inst → Bool
+lacks_argument f i = lacks_by (ending_of i.op) f i
+
+-- the instruction at a point, its terminator last
+pub record IsAt (f : Function) (block index : ℕ) (i : Inst) : Type 0 where
+  pub within : Block
+  pub is_block : slice_get f.blocks block ≡ Some within
+  pub is_inst : slice_get (insts_of within) index ≡ Some i
+
+-- a rule on kinds that is broken, at which value and where
+pub data IsBroken (d : Declarations) (f : Function) : Rule → ValueId → ℕ → ℕ → Type 0 where
+  on_ring : (v : ValueId) (n k : ℕ) → IsOnRing d f v → IsDefinedAt f v n k → IsBroken d f rule.CyclicForwarding v n k
+  mixed : (v : ValueId) (n k : ℕ) (i : Inst) → IsAt f n k i → mixed_operand (kind_in d f) i ≡ Some v → IsBroken d f rule.MixedForwarding v n k
+  mismatch : (n k : ℕ) (i : Inst) (t : Taken) → IsAt f n k i → Contains (all_taken i) t → is_mismatch (kind_in d f) (is_borrow f t.value) t.role t.value ≡ true →
+      IsBroken d f rule.KindMismatch t.value n k
+  annotated : (n : ℕ) (b : Block) (a : BlockArg) → 0 < n → slice_get f.blocks n ≡ Some b → Contains b.args a →
+      is_annotated_well (kind_in d f) (switch_to f n) (is_trivial d a.ty) a.kind ≡ false → IsBroken d f rule.ArgumentKind a.value n 0
+  lacking : (n k : ℕ) (i : Inst) (v : ValueId) → IsAt f n k i → lacks_argument f i ≡ true → first_value i ≡ Some v → needs_argument (kind_in d f) v ≡ true →
+      IsBroken d f rule.ArgumentKind v n k
+
+-- no rule on kinds is broken
+abbrev pub HasKinds : Declarations → Function → Type 0
+HasKinds d f = (r : Rule) (v : ValueId) (n k : ℕ) → IsBroken d f r v n k → ⊥
+
+-- by value, then by rule, then by point
+abbrev pub static_key : Rule → ValueId → ℕ → ℕ → List ℕ
+static_key r v n k = v.0 ∷ number_of r ∷ n ∷ k ∷ []
+
+-- the rule is the first that is broken on kinds: by value, then by rule; the point is the first at which it is
+pub record IsFirstBroken (d : Declarations) (f : Function) (r : Rule) (v : ValueId) (n k : ℕ) : Type 0 where
+  pub broken : IsBroken d f r v n k
+  pub first : (s : Rule) (w : ValueId) (m l : ℕ) → IsBroken d f s w m l → NotAfter (static_key r v n k) (static_key s w m l)

@@ -1,0 +1,5 @@
+pub mod Refusals
+pub mod Firsts
+pub mod FirstFault
+pub mod Facts
+pub mod Body

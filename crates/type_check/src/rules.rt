@@ -1,0 +1,102 @@
+//! The first rule that is broken at a place: a function, an instruction or a vtable. How a rule is decided is not said here.
+
+ghost use Rattle.std.specs.Prelude.{◌≡◌};
+ghost use Rattle.sil_types.specs.Typing.FormRules as forms;
+ghost use Rattle.type_check.specs.Body.{AreEdgesInRange, IsBody};
+ghost use Rattle.type_check.specs.FirstFault.{judged_function, judged_point, judged_use, judged_vtable};
+ghost use Rattle.type_check.specs.Firsts.{first_broken};
+ghost use Rattle.type_definitions.specs.Declarations.{declarations_of};
+
+use crate::body::Body;
+use form_rules::{has_wrong_cases, has_wrong_qualifier, is_of_other_form, mixes_forms};
+use row_types::{has_wrong_operand_type, has_wrong_result_count};
+use signature_rules::{
+    calls_no_function, differs_from_signature, goes_to_entry, has_wrong_deinitialiser,
+    has_wrong_edge_arguments, has_wrong_signature, is_no_output_call, lets_address_escape,
+};
+use sil_ast::{Form, Function, Inst, Module, Vtable};
+use sil_rules::Rule;
+use sil_types::TypeTable;
+
+/// The first rule that the function itself breaks. `first` is the form of the module's first function with a body.
+pub(crate) fn rule_at_function(
+    table: &TypeTable,
+    m: &Module,
+    first: Option<Form>,
+    f: &Function,
+) -> Option<Rule>
+    requires table { table.now ≡ declarations_of m.now }
+    requires first { first ≡ forms.first_form m.now }
+    ensures { result ≡ first_broken (judged_function m.now f.now) }
+{
+    if is_no_output_call(f) {
+        return Some(Rule::External);
+    }
+    if has_wrong_signature(table, f) {
+        return Some(Rule::Signature);
+    }
+    if mixes_forms(first, f) {
+        return Some(Rule::MixedForms);
+    }
+    if lets_address_escape(f) {
+        return Some(Rule::AddressEscapes);
+    }
+    None
+}
+
+/// The first rule that an instruction of the body breaks, at a point.
+pub(crate) fn rule_at_point(body: &Body<'_>, block: u32, index: u32, inst: &Inst) -> Option<Rule>
+    requires body { IsBody body.now }
+    requires edges { AreEdgesInRange body.now.function.now inst.now }
+    ensures { result ≡ first_broken (judged_point body.now.module.now body.now.function.now block index inst.now) }
+{
+    if has_wrong_operand_type(body.table, body.facts.types.as_slice(), inst) {
+        return Some(Rule::OperandType);
+    }
+    if has_wrong_result_count(body.table, inst) {
+        return Some(Rule::ResultCount);
+    }
+    if has_wrong_edge_arguments(body.function, inst) {
+        return Some(Rule::EdgeArguments);
+    }
+    rule_of_use(body, block, index, inst)
+}
+
+/// The first rule that the instruction breaks by what it calls, where it stands and where it goes.
+fn rule_of_use(body: &Body<'_>, block: u32, index: u32, inst: &Inst) -> Option<Rule>
+    requires body { IsBody body.now }
+    requires edges { AreEdgesInRange body.now.function.now inst.now }
+    ensures { result ≡ first_broken (judged_use body.now.module.now body.now.function.now block index inst.now) }
+{
+    let f = body.function;
+    let functions = body.facts.functions.as_slice();
+    if calls_no_function(functions, inst) {
+        return Some(Rule::Callee);
+    }
+    if differs_from_signature(body.module, f, functions, inst) {
+        return Some(Rule::Signature);
+    }
+    if is_of_other_form(f, block as usize, index as usize, inst) {
+        return Some(Rule::MixedForms);
+    }
+    if has_wrong_cases(body.table, f, body.facts.incoming.as_slice(), inst) {
+        return Some(Rule::SwitchCases);
+    }
+    if goes_to_entry(inst) {
+        return Some(Rule::EntryHasPredecessor);
+    }
+    if has_wrong_qualifier(body.table, f, inst) {
+        return Some(Rule::Qualifier);
+    }
+    None
+}
+
+/// The first rule that the vtable breaks.
+pub(crate) fn rule_at_vtable(m: &Module, vtable: &Vtable) -> Option<Rule>
+    ensures { result ≡ first_broken (judged_vtable m.now vtable.now) }
+{
+    if has_wrong_deinitialiser(m, vtable) {
+        return Some(Rule::DeinitSignature);
+    }
+    None
+}

@@ -1,0 +1,3 @@
+pub mod Switched
+pub mod Origins
+pub mod Renamings
