@@ -10,7 +10,7 @@ use Rattle.row_types.specs.declared.view.Made.{Made}
 use Rattle.row_types.specs.declared.view.Made.TheVariants.{Nothing, One, Fields, Elements}
 use Rattle.row_types.specs.declared.view.TypeView.{TypeView}
 use Rattle.row_types.specs.declared.view.TypeView.TheVariants.{Written, AddressOf, WeakAddress, UnownedAddress, TupleOf, GivenBy}
-use Rattle.row_types.specs.declared.written.NextWritten.{NextWritten}
+use Rattle.row_types.specs.declared.written_types.NextWritten.{NextWritten}
 
 -- the type that a view is put together to
 abbrev pub view_told : TypeView → TypeName

@@ -10,7 +10,7 @@ ghost use Rattle.row_types.specs.Views.{made_told};
 use crate::members::{case_in, fields_of_struct};
 use crate::shapes::is_enum;
 use crate::view::{Made, TypeView};
-use crate::written::{are_elements, next_written, none_written};
+use crate::written_types::{are_elements, next_written, none_written};
 use sil_ast::{Field, Inst, Operand, TypeName};
 use sil_types::{TypeTable, same_type};
 

@@ -14,7 +14,7 @@ ghost use Rattle.row_types.specs.Views.{made_told};
 
 use crate::builtins::{BuiltinAt, Sort, bits, builtin_named, sort_of};
 use crate::view::{Made, TypeView};
-use crate::written::{next_written, none_written};
+use crate::written_types::{next_written, none_written};
 use sil_ast::{Inst, Operand, TypeName};
 
 /// Whether it is the builtin integer of this width.

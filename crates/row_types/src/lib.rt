@@ -12,8 +12,8 @@ mod rows;
 mod same_view;
 pub mod shapes;
 mod view;
-mod written;
+mod written_types;
 
 pub use rows::row_types;
 pub use view::{Made, TypeView};
-pub use written::written;
+pub use written_types::written;

@@ -19,7 +19,7 @@ use crate::made::{
 };
 use crate::members::{class_field, struct_field};
 use crate::view::Made;
-use crate::written::written;
+use crate::written_types::written;
 use sil_ast::{Field, Inst, Op, TypeName};
 use sil_types::TypeTable;
 

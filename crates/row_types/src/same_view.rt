@@ -8,7 +8,7 @@ ghost use Rattle.sil_types.specs.Typing.Same.{are_same_types, is_same_type};
 ghost use Rattle.row_types.specs.Views.{view_told};
 
 use crate::view::TypeView;
-use crate::written::{next_written, none_written};
+use crate::written_types::{next_written, none_written};
 use sil_ast::{Given, Operand, TypeName};
 use sil_types::same_type;
 
