@@ -1,6 +1,6 @@
 -- A builtin is found by its name among the operations, from an index on.
-use Rattle.std.proofs.Common.{◌≡◌, ℕ, suc, ◌+◌, ◌<◌, List, ◌∷◌, length, drop, get_or, sym, ap, ◌∙◌, Bool, add-one}
-use Rattle.std.specs.Prelude.{find, Option, Some, None}
+use Rattle.std.proofs.Common.{◌≡◌, ℕ, suc, ◌+◌, ◌<◌, List, length, drop, get_or, sym, ap, ◌∙◌, Bool, add-one}
+use Rattle.std.specs.Prelude.{find, Some, None}
 use Rattle.std.specs.List.{flat_map}
 use Rattle.std.specs.Option.{option_or}
 use Rattle.std.proofs.Math.Seq.{drop-cons}

@@ -1,7 +1,7 @@
 -- Types are the same part by part.
-use Rattle.std.proofs.Common.{◌≡◌, ℕ, List, [], ◌∷◌, map, refl, sym, ap, ◌∙◌, Bool, length}
+use Rattle.std.proofs.Common.{◌≡◌, List, [], ◌∷◌, map, refl, sym, ap, ◌∙◌, Bool, length}
 use Rattle.std.specs.Prelude.{◌&&◌}
-use Rattle.sil_ast.specs.declared.type_name.TypeName.{TypeName, TypeName-F, fold-roll-TypeName, map-TypeName, out-roll-TypeName, out-TypeName}
+use Rattle.sil_ast.specs.declared.type_name.TypeName.{TypeName, TypeName-F, fold-roll-TypeName, out-roll-TypeName, out-TypeName}
 use Rattle.sil_ast.specs.declared.type_name.TypeName.TheVariants as type
 use Rattle.sil_ast.specs.declared.type_name.TypeName.TheVariants.{rolls-Tuple}
 use Rattle.sil_types.specs.Typing.Same.{all_pairs, applied, are_same_types, is_same_layer, is_same_type}

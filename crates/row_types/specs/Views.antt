@@ -1,6 +1,5 @@
 -- What views tell: the types that they are put together to, and the types that a row gives.
 use Rattle.std.specs.Prelude.{List, [], ◌∷◌, Option, Some, None, map}
-use Rattle.sil_ast.specs.declared.decl.Field.{Field}
 use Rattle.sil_ast.specs.declared.type_name.TypeName.{TypeName}
 use Rattle.sil_ast.specs.declared.type_name.TypeName.TheVariants as type
 use Rattle.type_definitions.specs.Mentions.{result_type, together}
