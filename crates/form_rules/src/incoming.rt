@@ -1,6 +1,6 @@
 //! How many edges of a function go to each of its blocks.
 
-ghost use Rattle.std.specs.Prelude.{◌≡◌, ℕ, ◌+◌, ◌<◌, ◌≤◌, min, length, slice_index, IfOk};
+ghost use Rattle.std.specs.Prelude.{◌≡◌, ℕ, ◌+◌, ◌<◌, ◌≤◌, ◌==◌, cond, min, length, slice_index, IfOk};
 ghost use Rattle.std.specs.List.{count_by, flat_map};
 ghost use Rattle.sil_types.specs.Typing.SwitchRules.{edges_of_block, is_to};
 ghost use Rattle.form_rules.specs.Incoming.{AreIncoming};
@@ -35,9 +35,16 @@ fn count_edges(counts: &mut [u8], edges: &[Edge])
     ensures { (k : ℕ) → k < length counts.new → slice_index counts.new k ≡ min 2 (slice_index counts.old k + count_by (is_to k) edges.now) }
 {
     for edge in edges {
-        let block = edge.block.0 as usize;
-        if block < counts.len() && counts[block] < 2 {
-            counts[block] += 1;
-        }
+        count_to(counts, edge.block.0 as usize);
+    }
+}
+
+/// Counts one more edge to this block, up to 2.
+fn count_to(counts: &mut [u8], block: usize)
+    requires { (k : ℕ) → k < length counts.old → slice_index counts.old k ≤ 2 }
+    ensures { (k : ℕ) → k < length counts.new → slice_index counts.new k ≡ min 2 (slice_index counts.old k + cond (block == k) 1 0) }
+{
+    if block < counts.len() && counts[block] < 2 {
+        counts[block] += 1;
     }
 }
