@@ -1,6 +1,6 @@
 -- What each check finds is the first of all that is wrong, where the checks before it found nothing.
-use Rattle.std.proofs.Common.{◌≡◌, ℕ, zero, suc, ◌+◌, ◌-◌, ◌<◌, ◌≤◌, List, [], ◌∷◌, ◌++◌, length, get_or, map, refl, sym, ap, ◌∙◌, subst, arith, Bool, true, false, inl, inr}
-use Rattle.std.specs.Prelude.{◌⊎◌, All, Option, Some, None, IsSomeAnd, slice_get}
+use Rattle.std.proofs.Common.{◌≡◌, ℕ, zero, suc, ◌+◌, ◌-◌, ◌<◌, ◌≤◌, List, [], ◌∷◌, ◌++◌, length, get_or, map, refl, sym, ap, subst, arith, Bool, true, false, inl, inr}
+use Rattle.std.specs.Prelude.{◌⊎◌, All, IsSomeAnd, slice_get}
 use Rattle.std.specs.List.{flat_map}
 use Rattle.std.proofs.lemmas.Bool.{cases_lt}
 use Rattle.std.proofs.lemmas.Option.{slice_get-get_or}
@@ -14,10 +14,10 @@ use Rattle.sil_rules.specs.declared.rule.Rule.{Rule}
 use Rattle.sil_rules.specs.declared.rule.Rule.TheVariants as rule
 use Rattle.std.specs.Prelude.{Contains}
 use Rattle.numbered_form.specs.Names.{Name}
-use Rattle.type_definitions.specs.Contained.{containment, held_places, place_list, names_in}
-use Rattle.type_definitions.specs.Declarations.{Declarations, declarations_of, swift_structs, all_decls, all_names}
-use Rattle.type_definitions.specs.Mentions.{Item, items_of}
-use Rattle.type_definitions.specs.Rules.{HoldsItself, IsWellNamed, Declared, InLimits, exceeds_depth, exceeds_leaves, has_unknown_type, has_bad_member, has_misplaced_storage}
+use Rattle.type_definitions.specs.Contained.{containment, held_places, place_list}
+use Rattle.type_definitions.specs.Declarations.{Declarations, declarations_of, swift_structs, all_names}
+use Rattle.type_definitions.specs.Mentions.{items_of}
+use Rattle.type_definitions.specs.Rules.{HoldsItself, IsWellNamed, Declared, exceeds_depth, exceeds_leaves}
 use Rattle.type_measures.proofs.Agreement.{names-Int}
 use Rattle.type_rules.specs.declared.by_item.ItemFault.{ItemFault}
 use Rattle.type_rules.specs.Faults.{Breaks, BreaksIn, fault_key}

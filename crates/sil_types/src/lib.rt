@@ -8,8 +8,10 @@ mod limits;
 mod lookups;
 mod refusal;
 mod ring;
+mod same;
 mod table;
 
 pub use declaration_table::{FieldRef, PayloadRef};
 pub use refusal::TypeRefusal;
+pub use same::{same_signature, same_type, same_types};
 pub use table::TypeTable;

@@ -1,5 +1,5 @@
 -- 203, 210 and 211: what edges bring to blocks.
-use Rattle.std.specs.Prelude.{ℕ, List, [], Bool, true, false, not, ◌==◌, Option, Some, None, drop, map, slice_get}
+use Rattle.std.specs.Prelude.{ℕ, List, [], Bool, true, not, ◌==◌, Option, Some, None, drop, map, slice_get}
 use Rattle.std.specs.List.{list_all, list_any}
 use Rattle.sil_ast.specs.Forms.{ending_of}
 use Rattle.sil_ast.specs.declared.entries.Ending.{Ending}
@@ -9,7 +9,6 @@ use Rattle.sil_ast.specs.declared.function.BlockArg.{BlockArg}
 use Rattle.sil_ast.specs.declared.function.Function.{Function}
 use Rattle.sil_ast.specs.declared.inst.Edge.{Edge}
 use Rattle.sil_ast.specs.declared.inst.Inst.{Inst}
-use Rattle.sil_ast.specs.declared.type_name.TypeName.{TypeName}
 use Rattle.sil_types.specs.Typing.RowTypes.{all_written}
 use Rattle.sil_types.specs.Typing.Same.{are_same_types}
 use Rattle.sil_types.specs.Typing.Shapes.{is_address}

@@ -1,5 +1,5 @@
 -- 207 and 212: what stands in functions of which form, and which words in brackets.
-use Rattle.std.specs.Prelude.{ℕ, List, Bool, true, false, not, ◌&&◌, ◌||◌, ◌==◌, Option, Some, None, option_and_then, option_map, find}
+use Rattle.std.specs.Prelude.{ℕ, Bool, true, false, not, ◌&&◌, ◌||◌, ◌==◌, Option, option_and_then, option_map, find}
 use Rattle.std.specs.List.{list_all, list_any}
 use Rattle.std.specs.Option.{option_to_list}
 use Rattle.sil_ast.specs.Forms.{forms_of, type_words_of}

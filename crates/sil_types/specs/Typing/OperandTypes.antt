@@ -1,5 +1,5 @@
 -- 201: what is asked of operands.
-use Rattle.std.specs.Prelude.{◌≡◌, ℕ, List, [], ◌∷◌, Bool, true, false, not, ◌&&◌, Option, Some, None, map, take, drop, option_and_then}
+use Rattle.std.specs.Prelude.{List, [], ◌∷◌, Bool, true, not, ◌&&◌, Option, Some, None, map, take, drop, option_and_then}
 use Rattle.std.specs.List.{flat_map, list_all}
 use Rattle.std.specs.Option.{option_to_list}
 use Rattle.sil_ast.specs.Forms.{bare_operands_of}

@@ -1,5 +1,5 @@
 -- 202: how many results an instruction names.
-use Rattle.std.specs.Prelude.{ℕ, List, Bool, true, not, ◌==◌, Option, Some, None, length}
+use Rattle.std.specs.Prelude.{ℕ, Bool, true, not, ◌==◌, Some, None, length}
 use Rattle.sil_ast.specs.Forms.{results_of}
 use Rattle.sil_ast.specs.declared.entries.Results.{Results}
 use Rattle.sil_ast.specs.declared.entries.Results.TheVariants.{NoResult, OneResult, ResultList}

@@ -1,8 +1,7 @@
 -- 204 to 206 and 208: what functions take and give, at themselves, at calls and at returns.
-use Rattle.std.specs.Prelude.{ℕ, List, [], ◌∷◌, Bool, true, false, not, ◌&&◌, ◌||◌, Option, Some, None, is_none, is_some, option_and_then, option_map, slice_get, map}
-use Rattle.std.specs.List.{list_all, list_any}
+use Rattle.std.specs.Prelude.{List, [], ◌∷◌, Bool, true, false, not, ◌&&◌, ◌||◌, Option, Some, None, is_none, option_and_then, option_map, slice_get}
+use Rattle.std.specs.List.{list_all}
 use Rattle.std.specs.Option.{option_to_list}
-use Rattle.std.specs.Str.{bytes_eq}
 use Rattle.sil_ast.specs.Forms.{bare_operands_of, ending_of}
 use Rattle.sil_ast.specs.declared.entries.BareOperands.{BareOperands}
 use Rattle.sil_ast.specs.declared.entries.BareOperands.TheVariants.{NoBare, StoredValue, WeakValue, UnownedValue, Condition, Arguments}

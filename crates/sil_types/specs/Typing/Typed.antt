@@ -1,5 +1,5 @@
 -- Where each of 201 to 212 is broken, and the modules that break none.
-use Rattle.std.specs.Prelude.{◌≡◌, ℕ, List, Bool, true, Some, slice_get}
+use Rattle.std.specs.Prelude.{◌≡◌, ℕ, true, Some, slice_get}
 use Rattle.sil_ast.specs.declared.function.Block.{Block}
 use Rattle.sil_ast.specs.declared.function.Function.{Function}
 use Rattle.sil_ast.specs.declared.inst.Inst.{Inst}
@@ -8,7 +8,7 @@ use Rattle.sil_ast.specs.declared.vtable.Vtable.{Vtable}
 use Rattle.numbered_form.specs.Insts.{insts_of}
 use Rattle.sil_rules.specs.declared.rule.Rule.{Rule}
 use Rattle.sil_rules.specs.declared.rule.Rule.TheVariants as rule
-use Rattle.type_definitions.specs.Declarations.{Declarations, declarations_of}
+use Rattle.type_definitions.specs.Declarations.{declarations_of}
 use Rattle.sil_types.specs.Typing.EdgeRules.{goes_to_entry, has_wrong_edge_arguments, lets_address_escape}
 use Rattle.sil_types.specs.Typing.FormRules.{has_wrong_qualifier, is_of_other_form, mixes_forms}
 use Rattle.sil_types.specs.Typing.OperandTypes.{has_wrong_operand_type}
@@ -56,7 +56,7 @@ pub record IsAt (f : Function) (block index : ℕ) (i : Inst) : Type 0 where
 pub data BreaksAt (m : Module) : Site → Rule → Type 0 where
   function : (n : ℕ) (f : Function) (r : Rule) → slice_get m.functions n ≡ Some f → BreaksAtFunction m f r → BreaksAt m (at_function n) r
   point : (n : ℕ) (f : Function) (block index : ℕ) (i : Inst) (r : Rule) → slice_get m.functions n ≡ Some f → IsAt f block index i →
-    BreaksAtPoint m f block index i r → BreaksAt m (at_point n block index) r
+      BreaksAtPoint m f block index i r → BreaksAt m (at_point n block index) r
   vtable : (n : ℕ) (v : Vtable) (r : Rule) → slice_get m.vtables n ≡ Some v → BreaksAtVtable m v r → BreaksAt m (at_vtable n) r
 
 -- none of 201 to 212 is broken anywhere

@@ -1,5 +1,5 @@
 -- The types of a function's values, and the functions that they stand for.
-use Rattle.std.specs.Prelude.{ℕ, List, ◌++◌, Bool, Option, Some, None, map, length, slice_get, replicate, unwrap_or}
+use Rattle.std.specs.Prelude.{ℕ, List, ◌++◌, Option, Some, None, map, length, slice_get, replicate, unwrap_or}
 use Rattle.std.specs.List.{flat_map, range_with_len}
 use Rattle.sil_ast.specs.declared.function.Block.{Block}
 use Rattle.sil_ast.specs.declared.function.BlockArg.{BlockArg}

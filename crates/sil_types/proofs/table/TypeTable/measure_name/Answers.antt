@@ -1,5 +1,4 @@
-use Rattle.std.proofs.Common.{ap, sym, ◌∙◌, map}
-use Rattle.std.specs.List.{flat_map}
+use Rattle.std.proofs.Common.{ap, sym, ◌∙◌}
 use Rattle.type_definitions.specs.Declarations.{all_names}
 use Rattle.type_definitions.specs.Measures.{measure_at, measure_of}
 use Rattle.sil_ast.specs.declared.type_name.TypeName.TheVariants.{Named}

@@ -1,7 +1,5 @@
-use Rattle.std.proofs.Common.{ap, sym, ◌∙◌, map}
-use Rattle.std.specs.List.{flat_map}
-use Rattle.type_definitions.specs.Declarations.{all_names}
-use Rattle.type_definitions.specs.Measures.{measure_at, measure_of}
+use Rattle.std.proofs.Common.{ap, ◌∙◌, map}
+use Rattle.type_definitions.specs.Measures.{measure_of}
 use Rattle.type_definitions.specs.Mentions.{together, result_type}
 use Rattle.type_measures.specs.Gathered.{capped}
 use Rattle.type_measures.proofs.Ordered.{kept_serves}
