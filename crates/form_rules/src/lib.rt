@@ -2,9 +2,11 @@
 //! there. It knows of no order of rules, no value and no walk.
 #![tactic(auto)]
 
+mod enum_cases;
 mod forms;
 mod incoming;
 mod parts;
+mod payloads;
 mod qualifiers;
 
 pub use forms::{first_form, is_of_other_form, mixes_forms};
