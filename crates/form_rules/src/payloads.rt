@@ -35,7 +35,7 @@ fn fits_edge(table: &TypeTable, f: &Function, ty: &TypeName, edge: &Edge) -> boo
 
 /// Whether the arguments are the payload of a case, or none where it has none.
 fn are_payload(args: &[BlockArg], payload: Option<&TypeName>) -> bool
-    ensures { result ≡ are_same_types (map arg_type args.now) (option_to_list (option_copied payload)) }
+    ensures { result ≡ are_same_types (map arg_type args.now) (option_to_list (option_copied payload.entry)) }
 {
     match (payload, args) {
         (Some(ty), [arg]) => same_type(&arg.ty, ty),
