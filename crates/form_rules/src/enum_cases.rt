@@ -1,17 +1,22 @@
 //! The cases of an enum: how many there are, and which of them an edge is for.
 
-ghost use Rattle.std.specs.Prelude.{◌≡◌, option_map, unwrap_or};
+ghost use Rattle.std.specs.Prelude.{◌≡◌, ◌<◌, ◌≤◌, option_map, unwrap_or, IfSome};
+ghost use Rattle.numbered_form.specs.Limits.{IsDeclInLimits};
+ghost use Rattle.numbered_form.specs.Lists.{Each};
 ghost use Rattle.sil_ast.specs.declared.type_name.TypeName.{out-TypeName};
 ghost use Rattle.declaration_table.specs.Found.{payload_told};
 ghost use Rattle.sil_types.specs.Typing.Shapes as shape;
 ghost use Rattle.sil_types.specs.Typing.SwitchRules as rules;
 
 use sil_ast::{Decl, Edge, Member, Text, TypeName};
+use sil_rules::limits::MEMBERS;
 use sil_types::{PayloadRef, TypeTable};
 
 /// How many cases a type has: none where it isn't an enum.
 pub(crate) fn case_count(table: &TypeTable, ty: &TypeName) -> usize
-    ensures { result ≡ unwrap_or (shape.case_count table.now ty.now) 0 }
+    requires { Each IsDeclInLimits table.now.decls }
+    ensures exact { result ≡ unwrap_or (shape.case_count table.now ty.now) 0 }
+    ensures few { result ≤ MEMBERS }
 {
     match ty {
         TypeName::Named(name) => match table.decl(name) {
@@ -72,7 +77,9 @@ pub(crate) fn case_of_edge<'t>(
 
 /// The place of an edge's case in the enum.
 pub(crate) fn place_in_enum(table: &TypeTable, ty: &TypeName, edge: &Edge) -> Option<usize>
-    ensures { result ≡ rules.place_in_enum table.now ty.now edge.now }
+    requires { Each IsDeclInLimits table.now.decls }
+    ensures exact { result ≡ rules.place_in_enum table.now ty.now edge.now }
+    ensures few { IfSome result (λ place. place < MEMBERS) }
 {
     match case_of_edge(table, ty, edge) {
         Some(payload) => Some(payload.index as usize),

@@ -8,6 +8,7 @@ mod incoming;
 mod parts;
 mod payloads;
 mod qualifiers;
+mod switch_cases;
 
 pub use forms::{first_form, is_of_other_form, mixes_forms};
 pub use incoming::incoming_counts;
