@@ -3,7 +3,7 @@ use Rattle.std.specs.Prelude.{◌&&◌, ◌||◌, slice_index_or}
 use Rattle.std.specs.List.{list_all}
 use Rattle.sil_rules.specs.declared.limits.TheConstants.{MEMBERS}
 use Rattle.sil_types.specs.Typing.SwitchRules.{are_once, has_number, places_of}
-use Rattle.form_rules.proofs.Met.{is_free}
+use Rattle.form_rules.proofs.MetCases.{is_free}
 use Rattle.form_rules.proofs.switch_cases.cases_met.Given as goal
 
 abbrev pub invariant-loop-edge : goal.invariant-loop-edge
