@@ -74,18 +74,6 @@ once_more met p here ns e lt free =
     ∙ moved (not (has_number ns p)) (are_once ns) (list_all (is_free met) ns)
     ∙ ap (λ b. are_once ns && b) (sym (free-set met p ns lt))
 
-never : (a : Bool) → (a && false) ≡ false
-never true = refl
-never false = refl
-
--- a case that was met is met again
-pub once_less : (met : List Bool) (p : ℕ) (here ns : List ℕ) → here ≡ p ∷ ns → slice_index_or met p false ≡ true →
-    (are_once here && list_all (is_free met) here) ≡ false
-once_less met p here ns e taken =
-    ap (λ here. are_once here && list_all (is_free met) here) e
-    ∙ ap (λ b. are_once (p ∷ ns) && (not b && list_all (is_free met) ns)) taken
-    ∙ never (are_once (p ∷ ns))
-
 either : (a b : Bool) → (a || (true || b)) ≡ true
 either true b = refl
 either false b = refl

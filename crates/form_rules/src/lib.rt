@@ -9,7 +9,9 @@ mod parts;
 mod payloads;
 mod qualifiers;
 mod switch_cases;
+mod switches;
 
 pub use forms::{first_form, is_of_other_form, mixes_forms};
 pub use incoming::incoming_counts;
 pub use qualifiers::has_wrong_qualifier;
+pub use switches::has_wrong_cases;

@@ -1,4 +1,4 @@
-use Rattle.std.proofs.Common.{◌≡◌, ℕ, ◌+◌, ◌<◌, List, ◌∷◌, length, drop, sym, ap, ◌∙◌, arith, false}
+use Rattle.std.proofs.Common.{◌≡◌, ℕ, ◌+◌, ◌<◌, List, ◌∷◌, length, drop, set, refl, sym, ap, ◌∙◌, arith, true, false, length-set}
 use Rattle.std.specs.Prelude.{◌&&◌, ◌||◌, slice_index_or}
 use Rattle.std.specs.List.{list_all, cons_option}
 use Rattle.sil_types.specs.Typing.SwitchRules.{are_once, has_number, places_of}
@@ -7,7 +7,9 @@ use Rattle.form_rules.proofs.switch_cases.cases_met.Goals as goal
 use Rattle.form_rules.proofs.switch_cases.cases_met.Goals.{in-Some+else-met-place, in_default}
 
 pub loop-edge-init : goal.loop-edge-init
-loop-edge-init c = record { once = once_at_first 64 _; met = λ k lt. met_at_first 64 k _ }
+loop-edge-init c =
+    let ns = places_of c.args.table.now c.args.ty.now c.args.edges.now in
+    record { size = refl; once = once_at_first 64 ns; met = λ k lt. met_at_first 64 k ns }
 
 pub loop-edge-preserved : goal.loop-edge-preserved
 loop-edge-preserved c =
@@ -23,14 +25,16 @@ loop-edge-preserved c =
       in-Some+else-met-place w ↦
         let p = w.in-Some.place in
         let e : here ≡ p ∷ ns = from ∙ ap (λ o. cons_option o ns) (sym c.place_in_enum.ensures.exact ∙ w.in-Some.is) in
-        let lt : p < length met = ? in
+        let lt : p < length met = omega (arith, w.in-Some.ensures.few, c.loop-edge.invariant.size) in
         record {
+          size = ap length w.met-is ∙ length-set met p true ∙ c.loop-edge.invariant.size;
           once = c.loop-edge.invariant.once ∙ once_more met p here ns e lt w.if-met-place.false ∙ ap (λ m. are_once ns && list_all (is_free m) ns) (sym w.met-is);
           met = λ k k-lt. c.loop-edge.invariant.met k k-lt ∙ met_more met p k here ns e lt ∙ ap (λ m. slice_index_or m k false || has_number ns k) (sym w.met-is);
         }
     | in_default w ↦
         let e : here ≡ ns = from ∙ ap (λ o. cons_option o ns) (sym c.place_in_enum.ensures.exact ∙ w.in_default.is) in
         record {
+          size = ap length w.met-is ∙ c.loop-edge.invariant.size;
           once = c.loop-edge.invariant.once ∙ ap (λ xs. are_once xs && list_all (is_free met) xs) e ∙ ap (λ m. are_once ns && list_all (is_free m) ns) (sym w.met-is);
           met = λ k k-lt. c.loop-edge.invariant.met k k-lt ∙ ap (λ xs. slice_index_or met k false || has_number xs k) e ∙ ap (λ m. slice_index_or m k false || has_number ns k) (sym w.met-is);
         }

@@ -8,6 +8,7 @@ use Rattle.form_rules.proofs.switch_cases.cases_met.Given as goal
 
 abbrev pub invariant-loop-edge : goal.invariant-loop-edge
 invariant-loop-edge l = record {
+  size : length l.met ≡ MEMBERS;
   once : are_once (places_of l.table l.ty l.edges) ≡ (are_once (places_of l.table l.ty (drop l.edge-index l.edges)) && list_all (is_free l.met) (places_of l.table l.ty (drop l.edge-index l.edges)));
   met : (k : ℕ) → k < MEMBERS → has_number (places_of l.table l.ty l.edges) k ≡ (slice_index_or l.met k false || has_number (places_of l.table l.ty (drop l.edge-index l.edges)) k);
 }
