@@ -1,6 +1,6 @@
 //! Whether a `switch_enum` names the cases of its enum, and goes to blocks of their own that take the payloads.
 
-ghost use Rattle.std.specs.Prelude.{◌≡◌, ◌<◌, ℕ, All, length};
+ghost use Rattle.std.specs.Prelude.{◌≡◌, ◌<◌, length};
 ghost use Rattle.std.specs.List.{list_all};
 ghost use Rattle.numbered_form.specs.Limits.{IsDeclInLimits};
 ghost use Rattle.numbered_form.specs.Lists.{Each};
@@ -60,9 +60,17 @@ fn are_alone(f: &Function, counts: &[u8], edges: &[Edge]) -> bool
     ensures { result ≡ list_all (rules.is_alone f.now) edges.now }
 {
     for edge in edges {
-        if counts[edge.block.0 as usize] != 1 {
+        if !is_alone(f, counts, edge) {
             return false;
         }
     }
     true
+}
+
+fn is_alone(f: &Function, counts: &[u8], edge: &Edge) -> bool
+    requires counted { AreIncoming f.now counts.now }
+    requires edge { edge.now.block.0 < length f.now.blocks }
+    ensures { result ≡ rules.is_alone f.now edge.now }
+{
+    counts[edge.block.0 as usize] == 1
 }
