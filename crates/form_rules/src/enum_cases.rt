@@ -47,11 +47,7 @@ fn is_case_owner(owner: &Text, ty: &TypeName) -> bool
     }
 }
 
-fn case_in<'t>(
-    table: &'t TypeTable,
-    member: &Member,
-    ty: &'t TypeName,
-) -> Option<PayloadRef<'t>>
+fn case_in<'t>(table: &'t TypeTable, member: &Member, ty: &'t TypeName) -> Option<PayloadRef<'t>>
     ensures { option_map payload_told result ≡ shape.case_in table.now member.now ty.now }
 {
     if is_case_owner(&member.owner, ty) {

@@ -7,7 +7,9 @@ ghost use Rattle.sil_types.specs.Typing.Shapes as shape;
 ghost use Rattle.sil_types.specs.Typing.SignatureRules as signature;
 
 use crate::parts::{args_of, is_lowered, written_target};
-use sil_ast::{ArgKind, BlockArg, Form, Function, InForms, Inst, Module, Qualifier, TypeName, forms_of};
+use sil_ast::{
+    ArgKind, BlockArg, Form, Function, InForms, Inst, Module, Qualifier, TypeName, forms_of,
+};
 
 /// The form of the first function that has a body.
 pub fn first_form(m: &Module) -> Option<Form>
@@ -33,12 +35,7 @@ fn is_external(form: Form) -> bool
 fn is_same_form(a: Form, b: Form) -> bool
     ensures { result ≡ rules.is_same_form a b }
 {
-    match (a, b) {
-        (Form::Ossa, Form::Ossa) => true,
-        (Form::Lowered, Form::Lowered) => true,
-        (Form::External, Form::External) => true,
-        _ => false,
-    }
+    a == b
 }
 
 /// Whether a function with a body has another form than the module's first one with a body. That form is `first`.

@@ -8,7 +8,8 @@ ghost use Rattle.form_rules.specs.Incoming.{AreIncoming};
 use sil_ast::{Block, Edge, Exhausted, Function};
 use std::alloc::Global;
 
-/// For each block how many edges of the function go to it: none, one, or 2 for more than one.
+/// For each block how many edges of the function go to it: none, one, or 2 for more than one. Its one error is that memory runs
+/// out.
 pub fn incoming_counts(alloc: Global, f: &Function) -> Result<Vec<u8>, Exhausted>
     ensures { IfOk result (λ counts. AreIncoming f.now counts.items) }
 {

@@ -15,9 +15,7 @@ use sil_types::TypeTable;
 pub(crate) fn are_of_enum(table: &TypeTable, ty: &TypeName, edges: &[Edge]) -> bool
     ensures { result ≡ list_all (rules.is_of_enum table.now ty.now) edges.now }
 {
-    edges
-        .iter()
-        .all(|edge| edge.case_of.is_none() || case_of_edge(table, ty, edge).is_some())
+    edges.iter().all(|edge| edge.case_of.is_none() || case_of_edge(table, ty, edge).is_some())
 }
 
 /// Whether no case of the enum has two edges, and each has one where there is no default.

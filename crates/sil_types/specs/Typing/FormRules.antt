@@ -97,7 +97,7 @@ form_of f = f.form
 abbrev pub first_form : Module → Option Form
 first_form m = option_map form_of (find has_body m.functions)
 
--- the function has a body and another form than the first that has one, of which this is the form
+-- the function has a body and another form than this one, that of the first function with a body
 abbrev pub has_other_form : Option Form → Function → Bool
 has_other_form first f = has_body f && not (list_all (is_same_form f.form) (option_to_list first))
 

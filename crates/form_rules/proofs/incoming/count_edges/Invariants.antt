@@ -7,5 +7,5 @@ abbrev pub invariant-loop-edge : goal.invariant-loop-edge
 invariant-loop-edge l = record {
   small : (k : ℕ) → k < length l.counts → slice_index l.counts k ≤ 2;
   counted : (k : ℕ) → k < length l.counts →
-    min 2 (slice_index l.counts k + count_by (is_to k) (drop l.edge-index l.edges)) ≡ min 2 (slice_index l.initial.counts k + count_by (is_to k) l.edges);
+      min 2 (slice_index l.counts k + count_by (is_to k) (drop l.edge-index l.edges)) ≡ min 2 (slice_index l.initial.counts k + count_by (is_to k) l.edges);
 }
