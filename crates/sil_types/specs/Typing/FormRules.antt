@@ -97,9 +97,13 @@ form_of f = f.form
 abbrev pub first_form : Module → Option Form
 first_form m = option_map form_of (find has_body m.functions)
 
+-- the function has a body and another form than this one, that of the first function with a body
+abbrev pub has_other_form : Option Form → Function → Bool
+has_other_form first f = has_body f && not (list_all (is_same_form f.form) (option_to_list first))
+
 -- 207: a function with a body has another form than the first one
 abbrev pub mixes_forms : Module → Function → Bool
-mixes_forms m f = has_body f && not (list_all (is_same_form f.form) (option_to_list (first_form m)))
+mixes_forms m f = has_other_form (first_form m) f
 
 -- 212
 

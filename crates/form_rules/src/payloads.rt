@@ -1,0 +1,56 @@
+//! Whether the arguments of the blocks that a `switch_enum` goes to are what its cases carry.
+
+ghost use Rattle.std.specs.Prelude.{◌≡◌, map};
+ghost use Rattle.std.specs.List.{list_all};
+ghost use Rattle.std.specs.Option.{option_copied, option_to_list};
+ghost use Rattle.sil_types.specs.Typing.Same.{are_same_types};
+ghost use Rattle.sil_types.specs.Typing.SwitchRules as rules;
+ghost use Rattle.sil_types.specs.Typing.Values.{arg_type};
+
+use crate::enum_cases::case_of_edge;
+use crate::parts::{args_of, is_lowered};
+use sil_ast::{BlockArg, Edge, Form, Function, TypeName};
+use sil_types::{TypeTable, same_type};
+
+/// Whether each edge goes to a block with the payload of its case as its argument, or for the default with the enum or none.
+pub(crate) fn fit_edges(table: &TypeTable, f: &Function, ty: &TypeName, edges: &[Edge]) -> bool
+    ensures { result ≡ list_all (rules.fits_edge table.now f.now ty.now) edges.now }
+{
+    edges.iter().all(|edge| fits_edge(table, f, ty, edge))
+}
+
+/// A case that the enum doesn't have fits.
+fn fits_edge(table: &TypeTable, f: &Function, ty: &TypeName, edge: &Edge) -> bool
+    ensures { result ≡ rules.fits_edge table.now f.now ty.now edge.now }
+{
+    let args = args_of(f, edge.block.0 as usize);
+    if edge.case_of.is_none() {
+        return is_default_argument(f.form, ty, args);
+    }
+    match case_of_edge(table, ty, edge) {
+        Some(payload) => are_payload(args, payload.ty),
+        None => true,
+    }
+}
+
+/// Whether the arguments are the payload of a case, or none where it has none.
+fn are_payload(args: &[BlockArg], payload: Option<&TypeName>) -> bool
+    ensures { result ≡ are_same_types (map arg_type args.now) (option_to_list (option_copied payload.entry)) }
+{
+    match (payload, args) {
+        (Some(ty), [arg]) => same_type(&arg.ty, ty),
+        (None, []) => true,
+        _ => false,
+    }
+}
+
+/// Whether the arguments are the enum itself, which a lowered function doesn't hand on, or none.
+fn is_default_argument(form: Form, ty: &TypeName, args: &[BlockArg]) -> bool
+    ensures { result ≡ rules.is_default_argument form ty.now args.now }
+{
+    match args {
+        [] => true,
+        [arg] => !is_lowered(form) && same_type(&arg.ty, ty),
+        _ => false,
+    }
+}
