@@ -1,5 +1,5 @@
 -- What is found rule by rule and place by place is the first.
-use Rattle.std.proofs.Common.{◌≡◌, ℕ, zero, suc, ◌+◌, ◌<◌, ◌≤◌, List, [], ◌∷◌, refl, sym, ap, ◌∙◌, subst, arith, ◌⊎◌, inl, inr, Bool, true, false, Option, Some, None}
+use Rattle.std.proofs.Common.{◌≡◌, ℕ, zero, suc, ◌+◌, ◌<◌, ◌≤◌, List, [], ◌∷◌, ◌++◌, length, refl, sym, ap, ◌∙◌, subst, arith, ◌⊎◌, inl, inr, Bool, true, false, Option, Some, None}
 use Rattle.std.specs.Prelude.{slice_get, ⊤, if◌then◌else◌, unwrap_or}
 use Rattle.std.specs.Option.{option_or}
 use Rattle.sil_rules.specs.Order.{NotAfter, IsFirst, IsLeast}
@@ -114,3 +114,17 @@ at_zero Is k x a h = subst (λ n. Is n x a) (omega arith) h
 
 pub of_zero : {X A : Type 0} (Is : ℕ → X → A → Type 0) (k : ℕ) (x : X) (a : A) → Is (0 + k) x a → Is k x a
 of_zero Is k x a h = subst (λ n. Is n x a) (omega arith) h
+
+-- behind some places comes one more
+pub first_behind_all : {X A : Type 0} (find : ℕ → X → Option A) (n : ℕ) (xs : List X) (y : X) → first_from find n (xs ++ y ∷ []) ≡ option_or (first_from find n xs) (find (n + length xs) y)
+first_behind_all {X} {A} find n [] y = last (find n y) ∙ ap (λ k. find k y) (omega arith)
+  where
+    last : (o : Option A) → option_or o None ≡ o
+    last None = refl
+    last (Some a) = refl
+first_behind_all {X} {A} find n (x ∷ xs) y = by (find n x) (first_behind_all find (n + 1) xs y)
+  where
+    by : (o : Option A) → first_from find (n + 1) (xs ++ y ∷ []) ≡ option_or (first_from find (n + 1) xs) (find (n + 1 + length xs) y)
+        → option_or o (first_from find (n + 1) (xs ++ y ∷ [])) ≡ option_or (option_or o (first_from find (n + 1) xs)) (find (n + length (x ∷ xs)) y)
+    by None e = e ∙ ap (λ k. option_or (first_from find (n + 1) xs) (find k y)) (omega arith)
+    by (Some a) e = refl

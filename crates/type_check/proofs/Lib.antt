@@ -1,2 +1,3 @@
 pub mod Firsts
 pub mod FirstFaults
+pub mod Ranges

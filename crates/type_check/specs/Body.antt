@@ -2,25 +2,24 @@
 use Rattle.std.specs.Prelude.{◌≡◌, ◌<◌, ◌^◌, List, length}
 use Rattle.sil_ast.specs.declared.function.Block.{Block}
 use Rattle.sil_ast.specs.declared.function.Function.{Function}
-use Rattle.sil_ast.specs.declared.inst.Edge.{Edge}
 use Rattle.sil_ast.specs.declared.inst.Inst.{Inst}
 use Rattle.numbered_form.specs.Insts.{EachInBlock}
+use Rattle.numbered_form.specs.Limits.{IsDeclInLimits}
 use Rattle.numbered_form.specs.Lists.{Each}
+use Rattle.numbered_form.specs.Numbering.{IsEdgeInRange, values_of}
 use Rattle.type_definitions.specs.Declarations.{declarations_of}
 use Rattle.type_check.specs.Facts.{AreFactsOf}
 use Rattle.type_check.specs.declared.body.Body.{Body}
 
--- the table is the module's, and the facts are the function's
+-- the table is the module's and within the limits, and the facts are the function's
 pub record IsBody (b : Body) : Type 0 where
   pub table : b.table.now ≡ declarations_of b.module.now
+  pub members : Each IsDeclInLimits b.table.now.decls
   pub facts : AreFactsOf b.table.now b.function.now b.facts.now
 
-abbrev pub IsEdgeWithin : Function → Edge → Type 0
-IsEdgeWithin f e = e.block.0 < length f.blocks
-
--- the edges of the instruction go to blocks of the function
+-- the edges of the instruction go to blocks of the function, with its values
 abbrev pub AreEdgesInRange : Function → Inst → Type 0
-AreEdgesInRange f i = Each (IsEdgeWithin f) i.edges
+AreEdgesInRange f i = Each (IsEdgeInRange (length (values_of f.blocks)) (length f.blocks)) i.edges
 
 -- so do those of a block, whose instructions can be counted
 pub record IsBlockInRange (f : Function) (b : Block) : Type 0 where

@@ -6,10 +6,10 @@ use sil_types::TypeTable;
 
 /// A function of a module, with its number and what is known of its values and blocks.
 #[derive(Drop)]
-pub(crate) struct Body<'a> {
+pub(crate) struct Body<'b, 'a> {
     pub table: &'a TypeTable,
     pub module: &'a Module,
     pub function: &'a Function,
     pub number: u32,
-    pub facts: &'a FunctionFacts<'a>,
+    pub facts: &'b FunctionFacts<'a>,
 }

@@ -4,11 +4,12 @@ ghost use Rattle.std.specs.Prelude.{IfOk};
 ghost use Rattle.type_check.specs.Facts.{AreFactsOf};
 
 use form_rules::incoming_counts;
-use row_types::{TypeView, value_types};
+use row_types::TypeView;
 use signature_rules::value_functions;
 use sil_ast::{Exhausted, FuncId, Function};
 use sil_types::TypeTable;
 use std::alloc::Global;
+use value_types::value_types;
 
 /// By value the type that it has and the function that it stands for; by block how many edges go to it, 2 for more than one.
 #[derive(Drop)]

@@ -13,7 +13,7 @@ use crate::rules::rule_at_point;
 use sil_ast::{Block, BlockId, FuncId, Inst, PointId};
 
 /// The fault of the instruction at a point.
-fn fault_at(body: &Body<'_>, block: u32, index: u32, inst: &Inst) -> Option<TypingFault>
+fn fault_at(body: &Body<'_, '_>, block: u32, index: u32, inst: &Inst) -> Option<TypingFault>
     requires body { IsBody body.now }
     requires edges { AreEdgesInRange body.now.function.now inst.now }
     ensures { result ≡ fault_of_inst body.now.module.now body.now.number body.now.function.now block index inst.now }
@@ -32,7 +32,7 @@ fn fault_at(body: &Body<'_>, block: u32, index: u32, inst: &Inst) -> Option<Typi
     }
 }
 
-fn first_in_insts(body: &Body<'_>, block: u32, insts: &[Inst]) -> Option<TypingFault>
+fn first_in_insts(body: &Body<'_, '_>, block: u32, insts: &[Inst]) -> Option<TypingFault>
     requires body { IsBody body.now }
     requires edges { Each (AreEdgesInRange body.now.function.now) insts.now }
     requires size { length insts.now < 2 ^ 32 }
@@ -48,7 +48,7 @@ fn first_in_insts(body: &Body<'_>, block: u32, insts: &[Inst]) -> Option<TypingF
     None
 }
 
-fn first_in_block(body: &Body<'_>, number: u32, block: &Block) -> Option<TypingFault>
+fn first_in_block(body: &Body<'_, '_>, number: u32, block: &Block) -> Option<TypingFault>
     requires body { IsBody body.now }
     requires edges { EachInBlock (AreEdgesInRange body.now.function.now) block.now }
     requires size { length block.now.insts < 2 ^ 32 }
@@ -61,7 +61,7 @@ fn first_in_block(body: &Body<'_>, number: u32, block: &Block) -> Option<TypingF
 }
 
 /// The first fault at the points of the body.
-pub(crate) fn first_in_body(body: &Body<'_>, blocks: &[Block]) -> Option<TypingFault>
+pub(crate) fn first_in_body(body: &Body<'_, '_>, blocks: &[Block]) -> Option<TypingFault>
     requires body { IsBody body.now }
     requires blocks { AreBlocksInRange body.now.function.now blocks.now }
     requires size { length blocks.now < 2 ^ 32 }

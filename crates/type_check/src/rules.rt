@@ -2,6 +2,9 @@
 
 ghost use Rattle.std.specs.Prelude.{◌≡◌};
 ghost use Rattle.sil_types.specs.Typing.FormRules as forms;
+ghost use Rattle.sil_types.specs.Typing.OperandTypes as operands;
+ghost use Rattle.sil_types.specs.Typing.ResultCounts as results;
+ghost use Rattle.sil_types.specs.Typing.Values.{value_types};
 ghost use Rattle.type_check.specs.Body.{AreEdgesInRange, IsBody};
 ghost use Rattle.type_check.specs.FirstFault.{judged_function, judged_point, judged_use, judged_vtable};
 ghost use Rattle.type_check.specs.Firsts.{first_broken};
@@ -9,7 +12,6 @@ ghost use Rattle.type_definitions.specs.Declarations.{declarations_of};
 
 use crate::body::Body;
 use form_rules::{has_wrong_cases, has_wrong_qualifier, is_of_other_form, mixes_forms};
-use row_types::{has_wrong_operand_type, has_wrong_result_count};
 use signature_rules::{
     calls_no_function, differs_from_signature, goes_to_entry, has_wrong_deinitialiser,
     has_wrong_edge_arguments, has_wrong_signature, is_no_output_call, lets_address_escape,
@@ -17,6 +19,7 @@ use signature_rules::{
 use sil_ast::{Form, Function, Inst, Module, Vtable};
 use sil_rules::Rule;
 use sil_types::TypeTable;
+use value_types::{has_wrong_operand_type, has_wrong_result_count};
 
 /// The first rule that the function itself breaks. `first` is the form of the module's first function with a body.
 pub(crate) fn rule_at_function(
@@ -44,16 +47,30 @@ pub(crate) fn rule_at_function(
     None
 }
 
+fn is_wrong_operand_type(body: &Body<'_, '_>, inst: &Inst) -> bool
+    requires { IsBody body.now }
+    ensures { result ≡ operands.has_wrong_operand_type (declarations_of body.now.module.now) (value_types (declarations_of body.now.module.now) body.now.function.now) inst.now }
+{
+    has_wrong_operand_type(body.table, body.facts.types.as_slice(), inst)
+}
+
+fn is_wrong_result_count(body: &Body<'_, '_>, inst: &Inst) -> bool
+    requires { IsBody body.now }
+    ensures { result ≡ results.has_wrong_result_count (declarations_of body.now.module.now) inst.now }
+{
+    has_wrong_result_count(body.table, inst)
+}
+
 /// The first rule that an instruction of the body breaks, at a point.
-pub(crate) fn rule_at_point(body: &Body<'_>, block: u32, index: u32, inst: &Inst) -> Option<Rule>
+pub(crate) fn rule_at_point(body: &Body<'_, '_>, block: u32, index: u32, inst: &Inst) -> Option<Rule>
     requires body { IsBody body.now }
     requires edges { AreEdgesInRange body.now.function.now inst.now }
     ensures { result ≡ first_broken (judged_point body.now.module.now body.now.function.now block index inst.now) }
 {
-    if has_wrong_operand_type(body.table, body.facts.types.as_slice(), inst) {
+    if is_wrong_operand_type(body, inst) {
         return Some(Rule::OperandType);
     }
-    if has_wrong_result_count(body.table, inst) {
+    if is_wrong_result_count(body, inst) {
         return Some(Rule::ResultCount);
     }
     if has_wrong_edge_arguments(body.function, inst) {
@@ -63,7 +80,7 @@ pub(crate) fn rule_at_point(body: &Body<'_>, block: u32, index: u32, inst: &Inst
 }
 
 /// The first rule that the instruction breaks by what it calls, where it stands and where it goes.
-fn rule_of_use(body: &Body<'_>, block: u32, index: u32, inst: &Inst) -> Option<Rule>
+fn rule_of_use(body: &Body<'_, '_>, block: u32, index: u32, inst: &Inst) -> Option<Rule>
     requires body { IsBody body.now }
     requires edges { AreEdgesInRange body.now.function.now inst.now }
     ensures { result ≡ first_broken (judged_use body.now.module.now body.now.function.now block index inst.now) }

@@ -1,6 +1,7 @@
 //! Decides whether a module is typed.
 
 ghost use Rattle.std.specs.Prelude.{◌≡◌, ◌+◌, ◌<◌, ◌^◌, length, IfOk, IfErr, OnOk};
+ghost use Rattle.numbered_form.specs.Limits.{IsDeclInLimits};
 ghost use Rattle.numbered_form.specs.Lists.{Each};
 ghost use Rattle.numbered_form.specs.NumberedForm.{IsNumbered};
 ghost use Rattle.sil_types.specs.Typing.FormRules as forms;
@@ -63,6 +64,7 @@ fn first_in_functions(
     table: &TypeTable,
 ) -> Result<Option<TypingFault>, Exhausted>
     requires numbered { IsNumbered m.now }
+    requires bodies { Each HasBodyInRange m.now.functions }
     requires table { table.now ≡ declarations_of m.now }
     ensures { IfOk result (λ fault. fault ≡ first_from (fault_of_function m.now) 0 m.now.functions) }
 {
@@ -77,17 +79,18 @@ fn first_in_functions(
     Ok(None)
 }
 
-fn first_in_function(
+fn first_in_function<'a>(
     alloc: Global,
-    m: &Module,
-    table: &TypeTable,
+    m: &'a Module,
+    table: &'a TypeTable,
     first: Option<Form>,
     number: u32,
-    function: &Function,
+    function: &'a Function,
 ) -> Result<Option<TypingFault>, Exhausted>
     requires table { table.now ≡ declarations_of m.now }
     requires first { first ≡ forms.first_form m.now }
     requires body { HasBodyInRange function.now }
+    requires members { Each IsDeclInLimits table.now.decls }
     ensures { IfOk result (λ fault. fault ≡ fault_of_function m.now number function.now) }
 {
     if let Some(rule) = rule_at_function(table, m, first, function) {
