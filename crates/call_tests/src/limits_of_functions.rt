@@ -8,13 +8,13 @@ use std::test::Fail;
 const BLOCKS_LIMITS: [Limited; 2] = [
     // of a function
     (
-        "sil @f : $@convention(thin) () -> () {\n`b~: unreachable\n`}\n",
+        "sil [ossa] @f : $@convention(thin) () -> () {\n`b~: unreachable\n`}\n",
         512,
         "514:1",
     ),
     // with arguments
     (
-        "sil @f : $@convention(thin) () -> () {\n`b~(%a~ : $A):\nbr b0(%a0 : $A)\n`}\nclass A {}\n",
+        "sil [ossa] @f : $@convention(thin) (@owned A) -> () {\n`b~(%a~ : @owned $A):\nbr b1(%a0 : $A)\n`}\nclass A {}\n",
         512,
         "1026:1",
     ),
@@ -23,7 +23,7 @@ const BLOCKS_LIMITS: [Limited; 2] = [
 const BLOCKS_COUNTED: [Counted; 1] = [
     // are counted for each function
     (
-        "`sil @f~ : $@convention(thin) () -> () { a: unreachable b: unreachable }\n`",
+        "`sil [ossa] @f~ : $@convention(thin) () -> () { a: unreachable b: unreachable }\n`",
         300,
         "not built",
     ),
@@ -32,13 +32,13 @@ const BLOCKS_COUNTED: [Counted; 1] = [
 const INSTRUCTIONS_LIMITS: [Limited; 2] = [
     // of all blocks together
     (
-        "sil @f : $@convention(thin) () -> () {\n`b~(%~ : $A):\ndebug_value %0 : $A\ndebug_value %0 : $A\ndebug_value %0 : $A\ndebug_value %0 : $A\ndebug_value %0 : $A\ndebug_value %0 : $A\ndebug_value %0 : $A\ndebug_value %0 : $A\ndebug_value %0 : $A\ndebug_value %0 : $A\ndebug_value %0 : $A\ndebug_value %0 : $A\ndebug_value %0 : $A\ndebug_value %0 : $A\ndebug_value %0 : $A\nunreachable\n`}\nclass A {}\n",
+        "sil [ossa] @f : $@convention(thin) (@owned A) -> () {\n`b~(%~ : @owned $A):\ndebug_value %0 : $A\ndebug_value %0 : $A\ndebug_value %0 : $A\ndebug_value %0 : $A\ndebug_value %0 : $A\ndebug_value %0 : $A\ndebug_value %0 : $A\ndebug_value %0 : $A\ndebug_value %0 : $A\ndebug_value %0 : $A\ndebug_value %0 : $A\ndebug_value %0 : $A\ndebug_value %0 : $A\ndebug_value %0 : $A\ndebug_value %0 : $A\nunreachable\n`}\nclass A {}\n",
         256,
         "4355:1",
     ),
     // the terminator is one too many
     (
-        "sil [ossa] @f : $@convention(thin) () -> () {\nb(%0 : $A):\n`debug_value %0 : $A\n`unreachable\n}\nclass A {}\n",
+        "sil [ossa] @f : $@convention(thin) (@guaranteed A) -> () {\nb(%0 : @guaranteed $A):\n`debug_value %0 : $A\n`unreachable\n}\nclass A {}\n",
         4095,
         "4099:1",
     ),
@@ -113,55 +113,43 @@ const VALUES_LIMITS_WITHOUT_VALUE: [Limited; 4] = [
     ),
 ];
 
-const VALUES_LIMITS: [Limited; 6] = [
+const VALUES_LIMITS: [Limited; 4] = [
     // arguments of blocks
     (
-        "sil @f : $@convention(thin) () -> () {\n`b~(%a~ : $A, %b~ : $A, %c~ : $A, %d~ : $A):\nunreachable\n`}\nclass A {}\n",
+        "sil [ossa] @f : $@convention(thin) (@owned A, @owned A, @owned A, @owned A) -> () {\n`b~(%a~ : @owned $A, %b~ : @owned $A, %c~ : @owned $A, %d~ : @owned $A):\nunreachable\n`}\nclass A {}\n",
         256,
         "514:6",
     ),
     // destroy_addr
     (
-        "sil [ossa] @f : $@convention(thin) () -> () {\nb(%0 : $*A):\n`destroy_addr %0 : $*A\n`unreachable\n}\nclass A {}\n",
+        "sil [ossa] @f : $@convention(thin) (@inout A) -> () {\nb(%0 : $*A):\n`destroy_addr %0 : $*A\n`unreachable\n}\nclass A {}\n",
         1023,
         "1026:1",
     ),
-    // destroy_addr with a name, at its mnemonic
-    (
-        "sil [ossa] @f : $@convention(thin) () -> () {\nb(%0 : $*A):\n`%a~ = destroy_addr %0 : $*A\n`unreachable\n}\nclass A {}\n",
-        511,
-        "514:9",
-    ),
-    // destroy_addr with a name, at its name
-    (
-        "sil [ossa] @f : $@convention(thin) () -> () {\nb(%0 : $*A, %1 : $*A):\n`%a~ = destroy_addr %0 : $*A\n`unreachable\n}\nclass A {}\n",
-        511,
-        "514:1",
-    ),
     // store [assign]
     (
-        "sil [ossa] @f : $@convention(thin) () -> () {\nb(%0 : $*A):\n`store %0 to [assign] %0 : $*A\n`unreachable\n}\nclass A {}\n",
-        1023,
-        "1026:14",
+        "sil [ossa] @f : $@convention(thin) (@inout A, @owned A) -> () {\nb(%0 : $*A, %1 : @owned $A):\n`store %1 to [assign] %0 : $*A\n`unreachable\n}\nclass A {}\n",
+        1022,
+        "1025:14",
     ),
     // two names
     (
-        "sil [ossa] @f : $@convention(thin) () -> () {\nb(%0 : $A):\n`(%a~, %b~) = destructure_tuple %0 : $(A, A)\n`unreachable\n}\nclass A {}\n",
+        "sil [ossa] @f : $@convention(thin) (@owned (A, A)) -> () {\nb(%0 : @owned $(A, A)):\n`(%a~, %b~) = destructure_tuple %0 : $(A, A)\n`unreachable\n}\nclass A {}\n",
         511,
         "514:9",
     ),
 ];
 
-const VALUES_COUNTED: [Counted; 5] = [
+const VALUES_COUNTED: [Counted; 9] = [
     // other stores are none
     (
-        "sil [ossa] @f : $@convention(thin) () -> () {\nb(%0 : $*A):\n`store %0 to [init] %0 : $*A\nstore %0 to [trivial] %0 : $*A\n`unreachable\n}\nclass A {}\n",
+        "sil [ossa] @f : $@convention(thin) (@inout A, @owned A, @inout Builtin.Int8, Builtin.Int8) -> () {\nb(%0 : $*A, %1 : @owned $A, %2 : $*Builtin.Int8, %3 : $Builtin.Int8):\n`store %1 to [init] %0 : $*A\nstore %3 to [trivial] %2 : $*Builtin.Int8\n`unreachable\n}\nclass A {}\n",
         1100,
         "not built",
     ),
     // are counted for each function
     (
-        "`sil @f~ : $@convention(thin) () -> () { b(%0 : $A, %1 : $A, %2 : $A, %3 : $A): unreachable }\n`class A {}\n",
+        "`sil [ossa] @f~ : $@convention(thin) (@owned A, @owned A, @owned A, @owned A) -> () { b(%0 : @owned $A, %1 : @owned $A, %2 : @owned $A, %3 : @owned $A): unreachable }\n`class A {}\n",
         300,
         "not built",
     ),
@@ -177,11 +165,35 @@ const VALUES_COUNTED: [Counted; 5] = [
         1025,
         "limit values at 1028:1",
     ),
-    // rows with no result or several are none without names
+    // rows with a list of results have none without names
     (
-        "sil [ossa] @f : $@convention(thin) () -> () {\nb(%0 : $A):\n`destructure_struct %0 : $A\n() = destructure_tuple %0 : $(A, A)\n`unreachable\n}\nclass A {}\n",
+        "sil [ossa] @f : $@convention(thin) (A, ()) -> () {\nb(%0 : $A, %1 : $()):\n`destructure_struct %0 : $A\n() = destructure_tuple %1 : $()\n`unreachable\n}\nstruct A {}\n",
         1100,
         "not built",
+    ),
+    // destroy_addr with a name too many, at its mnemonic: at the limit
+    (
+        "sil [ossa] @f : $@convention(thin) (@inout A) -> () {\nb(%0 : $*A):\n`%a~ = destroy_addr %0 : $*A\n`unreachable\n}\nclass A {}\n",
+        511,
+        "refused 202 ResultCount @f bb0:0",
+    ),
+    // destroy_addr with a name too many, at its mnemonic: past it
+    (
+        "sil [ossa] @f : $@convention(thin) (@inout A) -> () {\nb(%0 : $*A):\n`%a~ = destroy_addr %0 : $*A\n`unreachable\n}\nclass A {}\n",
+        512,
+        "limit values at 514:9",
+    ),
+    // destroy_addr with a name too many, at its name: at the limit
+    (
+        "sil [ossa] @f : $@convention(thin) (@inout A, @inout A) -> () {\nb(%0 : $*A, %1 : $*A):\n`%a~ = destroy_addr %0 : $*A\n`unreachable\n}\nclass A {}\n",
+        511,
+        "refused 202 ResultCount @f bb0:0",
+    ),
+    // destroy_addr with a name too many, at its name: past it
+    (
+        "sil [ossa] @f : $@convention(thin) (@inout A, @inout A) -> () {\nb(%0 : $*A, %1 : $*A):\n`%a~ = destroy_addr %0 : $*A\n`unreachable\n}\nclass A {}\n",
+        512,
+        "limit values at 514:1",
     ),
 ];
 

@@ -10,7 +10,8 @@ use std::test::Fail;
 pub const NO_VALUE: &str = "sil [ossa] @f : $@convention(thin) () -> () {\nb:\n";
 
 /// The same with the argument `%0`.
-pub const ONE_VALUE: &str = "sil [ossa] @f : $@convention(thin) () -> () {\nb(%0 : $A):\n";
+pub const ONE_VALUE: &str =
+    "sil [ossa] @f : $@convention(thin) (@guaranteed A) -> () {\nb(%0 : @guaranteed $A):\n";
 
 /// Nothing stands before the texts of a table.
 pub const NO_HEAD: &str = "";
