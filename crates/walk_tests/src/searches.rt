@@ -170,6 +170,16 @@ fn told_together(alloc: Global, f: &Function, g: &Graph) -> Result<String, Exhau
     }
 }
 
+fn answer(rt: &impl Abort, alloc: Global, f: &Function, together: bool) -> Result<String, Fail> {
+    assert!(rt; has_graph(f));
+    let g = Graph::build(alloc, f)?;
+    if together {
+        Ok(told_together(alloc, f, &g)?)
+    } else {
+        Ok(told_one(alloc, f, &g)?)
+    }
+}
+
 /// The answer to a function of these blocks.
 fn outcome(rt: &impl Abort, alloc: Global, blocks: &str, together: bool) -> Result<String, Fail> {
     let text = format!(in alloc;
@@ -181,15 +191,7 @@ fn outcome(rt: &impl Abort, alloc: Global, blocks: &str, together: bool) -> Resu
         Err(_refusal) => Ok(String::from_str(alloc, "not a module")?),
         Ok(module) => match module.functions.get(0) {
             None => Ok(String::from_str(alloc, "no function")?),
-            Some(f) => {
-                assert!(rt; has_graph(f));
-                let g = Graph::build(alloc, f)?;
-                if together {
-                    Ok(told_together(alloc, f, &g)?)
-                } else {
-                    Ok(told_one(alloc, f, &g)?)
-                }
-            }
+            Some(f) => answer(rt, alloc, f, together),
         },
     }
 }
