@@ -1,6 +1,6 @@
 //! Switches over functions of which some values are marks: the item that names `%on0` turns subject 0 on.
 
-ghost use Rattle.std.specs.Prelude.{◌≡◌, ℕ, ◌==◌, length, slice_get, cond, IfOk};
+ghost use Rattle.std.specs.Prelude.{◌≡◌, ℕ, ◌<◌, ◌==◌, length, slice_get, cond, IfOk};
 ghost use Rattle.std.specs.Prelude.{[], ◌∷◌};
 ghost use Rattle.sil_cfg.specs.Layout.{item_count};
 ghost use Rattle.path_patterns.specs.Switch.{mark_step};
@@ -13,7 +13,8 @@ use sil_cfg::{Graph, Item};
 use std::alloc::Global;
 
 /// The values that are marks stand first in the entry block: behind `%c` four for each of three subjects.
-pub const MARKS: &str = "bb0: %c = integer_literal $Builtin.Int1, 0 %on0 = integer_literal $Builtin.Int1, 0 %off0 = integer_literal $Builtin.Int1, 0 %need0 = integer_literal $Builtin.Int1, 0 %free0 = integer_literal $Builtin.Int1, 0 %on1 = integer_literal $Builtin.Int1, 0 %off1 = integer_literal $Builtin.Int1, 0 %need1 = integer_literal $Builtin.Int1, 0 %free1 = integer_literal $Builtin.Int1, 0 %on2 = integer_literal $Builtin.Int1, 0 %off2 = integer_literal $Builtin.Int1, 0 %need2 = integer_literal $Builtin.Int1, 0 %free2 = integer_literal $Builtin.Int1, 0 ";
+pub const MARKS: &str =
+    "bb0: %c = integer_literal $Builtin.Int1, 0 %on0 = integer_literal $Builtin.Int1, 0 %off0 = integer_literal $Builtin.Int1, 0 %need0 = integer_literal $Builtin.Int1, 0 %free0 = integer_literal $Builtin.Int1, 0 %on1 = integer_literal $Builtin.Int1, 0 %off1 = integer_literal $Builtin.Int1, 0 %need1 = integer_literal $Builtin.Int1, 0 %free1 = integer_literal $Builtin.Int1, 0 %on2 = integer_literal $Builtin.Int1, 0 %off2 = integer_literal $Builtin.Int1, 0 %need2 = integer_literal $Builtin.Int1, 0 %free2 = integer_literal $Builtin.Int1, 0 ";
 
 const NO_MARK: Mark = Mark {
     needs: None,
@@ -50,11 +51,20 @@ fn value_at(f: &Function, item: Item) -> Option<ValueId> {
     match item {
         Item::Entry | Item::Exit(_) => None,
         Item::Inst(p) => {
-            let inst = f.blocks.get(p.block.0 as usize)?.insts.get(p.index as usize)?;
+            let inst = f
+                .blocks
+                .get(p.block.0 as usize)?
+                .insts
+                .get(p.index as usize)?;
             Some(inst.operands.as_slice().get(0)?.value)
         }
         Item::Edge(e) => {
-            let edge = f.blocks.get(e.block.0 as usize)?.terminator.edges.get(e.index as usize)?;
+            let edge = f
+                .blocks
+                .get(e.block.0 as usize)?
+                .terminator
+                .edges
+                .get(e.index as usize)?;
             Some(edge.args.get(0)?.value)
         }
     }
@@ -68,12 +78,7 @@ pub struct Switch {
 
 impl Switch {
     /// The switch of a subject, from the values that the items name.
-    pub fn of(
-        alloc: Global,
-        f: &Function,
-        g: &Graph,
-        subject: u32,
-    ) -> Result<Switch, Exhausted>
+    pub fn of(alloc: Global, f: &Function, g: &Graph, subject: u32) -> Result<Switch, Exhausted>
         requires { subject < 3 }
         ensures { IfOk result (λ s. length s.marks.items ≡ item_count g.now) }
     {

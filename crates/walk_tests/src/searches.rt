@@ -12,28 +12,100 @@ use std::test::Fail;
 // a name, the blocks behind the marks, and the answer. `clean` has the states in which a walk may enter each block; a fault
 // has its code, its point, and each edge of the walk
 const ONE: [(&str, &str, &str); 12] = [
-    ("no mark is bad on any walk", "debug_value %on0 : $Builtin.Int1 br bb1 bb1: debug_value %need0 : $Builtin.Int1 unreachable", "clean 0:0 1:1"),
-    ("a block that no walk enters holds nothing", "br bb2 bb1: debug_value %need0 : $Builtin.Int1 br bb2 bb2: unreachable", "clean 0:0 1: 2:0"),
-    ("both states at a merge", "cond_br %c, bb1, bb2 bb1: debug_value %on0 : $Builtin.Int1 br bb3 bb2: br bb3 bb3: debug_value %off0 : $Builtin.Int1 br bb4 bb4: debug_value %free0 : $Builtin.Int1 unreachable", "clean 0:0 1:0 2:0 3:01 4:0"),
-    ("a loop without an end", "br bb1 bb1: debug_value %on0 : $Builtin.Int1 br bb2 bb2: debug_value %off0 : $Builtin.Int1 br bb1", "clean 0:0 1:0 2:1"),
-    ("a state that is lost and found again round a loop", "debug_value %on0 : $Builtin.Int1 br bb1 bb1: debug_value %need0 : $Builtin.Int1 cond_br %c, bb2, bb3 bb2: debug_value %off0 : $Builtin.Int1 debug_value %on0 : $Builtin.Int1 br bb1 bb3: debug_value %need0 : $Builtin.Int1 unreachable", "clean 0:0 1:1 2:1 3:1"),
-    ("a state that is lost round a loop", "debug_value %on0 : $Builtin.Int1 br bb1 bb1: debug_value %need0 : $Builtin.Int1 cond_br %c, bb2, bb3 bb2: debug_value %off0 : $Builtin.Int1 br bb1 bb3: unreachable", "2 bb1:0 0.0 1.0 2.0"),
-    ("a shortest walk that is not the first found", "cond_br %c, bb1, bb4 bb1: br bb2 bb2: br bb3 bb3: br bb5 bb4: br bb5 bb5: debug_value %need0 : $Builtin.Int1 unreachable", "2 bb5:0 0.1 4.0"),
-    ("a least code on a longer walk", "cond_br %c, bb1, bb2 bb1: debug_value %need0 : $Builtin.Int1 unreachable bb2: debug_value %on0 : $Builtin.Int1 br bb3 bb3: debug_value %free0 : $Builtin.Int1 unreachable", "1 bb3:0 0.1 2.0"),
-    ("a code that only a broken walk would reach", "debug_value %need0 : $Builtin.Int1 debug_value %on0 : $Builtin.Int1 br bb1 bb1: debug_value %free0 : $Builtin.Int1 unreachable", "2 bb0:13"),
-    ("an edge that breaks", "cond_br %c, bb1, bb2 bb1: br bb3(%free0 : $Builtin.Int1) bb2: debug_value %on0 : $Builtin.Int1 br bb3(%free0 : $Builtin.Int1) bb3(%a : $Builtin.Int1): unreachable", "1 bb2:1 0.1 2.0"),
-    ("an edge that turns", "cond_br %c, bb1, bb2 bb1: br bb3(%on0 : $Builtin.Int1) bb2: br bb3(%off0 : $Builtin.Int1) bb3(%a : $Builtin.Int1): unreachable", "clean 0:0 1:0 2:0 3:01"),
-    ("two edges to one block", "cond_br %c, bb1(%on0 : $Builtin.Int1), bb1(%off0 : $Builtin.Int1) bb1(%a : $Builtin.Int1): debug_value %need0 : $Builtin.Int1 unreachable", "2 bb1:0 0.1"),
+    (
+        "no mark is bad on any walk",
+        "debug_value %on0 : $Builtin.Int1 br bb1 bb1: debug_value %need0 : $Builtin.Int1 unreachable",
+        "clean 0:0 1:1",
+    ),
+    (
+        "a block that no walk enters holds nothing",
+        "br bb2 bb1: debug_value %need0 : $Builtin.Int1 br bb2 bb2: unreachable",
+        "clean 0:0 1: 2:0",
+    ),
+    (
+        "both states at a merge",
+        "cond_br %c, bb1, bb2 bb1: debug_value %on0 : $Builtin.Int1 br bb3 bb2: br bb3 bb3: debug_value %off0 : $Builtin.Int1 br bb4 bb4: debug_value %free0 : $Builtin.Int1 unreachable",
+        "clean 0:0 1:0 2:0 3:01 4:0",
+    ),
+    (
+        "a loop without an end",
+        "br bb1 bb1: debug_value %on0 : $Builtin.Int1 br bb2 bb2: debug_value %off0 : $Builtin.Int1 br bb1",
+        "clean 0:0 1:0 2:1",
+    ),
+    (
+        "a state that is lost and found again round a loop",
+        "debug_value %on0 : $Builtin.Int1 br bb1 bb1: debug_value %need0 : $Builtin.Int1 cond_br %c, bb2, bb3 bb2: debug_value %off0 : $Builtin.Int1 debug_value %on0 : $Builtin.Int1 br bb1 bb3: debug_value %need0 : $Builtin.Int1 unreachable",
+        "clean 0:0 1:1 2:1 3:1",
+    ),
+    (
+        "a state that is lost round a loop",
+        "debug_value %on0 : $Builtin.Int1 br bb1 bb1: debug_value %need0 : $Builtin.Int1 cond_br %c, bb2, bb3 bb2: debug_value %off0 : $Builtin.Int1 br bb1 bb3: unreachable",
+        "2 bb1:0 0.0 1.0 2.0",
+    ),
+    (
+        "a shortest walk that is not the first found",
+        "cond_br %c, bb1, bb4 bb1: br bb2 bb2: br bb3 bb3: br bb5 bb4: br bb5 bb5: debug_value %need0 : $Builtin.Int1 unreachable",
+        "2 bb5:0 0.1 4.0",
+    ),
+    (
+        "a least code on a longer walk",
+        "cond_br %c, bb1, bb2 bb1: debug_value %need0 : $Builtin.Int1 unreachable bb2: debug_value %on0 : $Builtin.Int1 br bb3 bb3: debug_value %free0 : $Builtin.Int1 unreachable",
+        "1 bb3:0 0.1 2.0",
+    ),
+    (
+        "a code that only a broken walk would reach",
+        "debug_value %need0 : $Builtin.Int1 debug_value %on0 : $Builtin.Int1 br bb1 bb1: debug_value %free0 : $Builtin.Int1 unreachable",
+        "2 bb0:13",
+    ),
+    (
+        "an edge that breaks",
+        "cond_br %c, bb1, bb2 bb1: br bb3(%free0 : $Builtin.Int1) bb2: debug_value %on0 : $Builtin.Int1 br bb3(%free0 : $Builtin.Int1) bb3(%a : $Builtin.Int1): unreachable",
+        "1 bb2:1 0.1 2.0",
+    ),
+    (
+        "an edge that turns",
+        "cond_br %c, bb1, bb2 bb1: br bb3(%on0 : $Builtin.Int1) bb2: br bb3(%off0 : $Builtin.Int1) bb3(%a : $Builtin.Int1): unreachable",
+        "clean 0:0 1:0 2:0 3:01",
+    ),
+    (
+        "two edges to one block",
+        "cond_br %c, bb1(%on0 : $Builtin.Int1), bb1(%off0 : $Builtin.Int1) bb1(%a : $Builtin.Int1): debug_value %need0 : $Builtin.Int1 unreachable",
+        "2 bb1:0 0.1",
+    ),
 ];
 
 // the same for three subjects: `clean` has the row of each state of each block, and a fault begins with its subject
 const TOGETHER: [(&str, &str, &str); 6] = [
-    ("each in its own state", "debug_value %on1 : $Builtin.Int1 br bb1 bb1: debug_value %on2 : $Builtin.Int1 debug_value %need1 : $Builtin.Int1 br bb2 bb2: unreachable", "clean 0:7/0 1:5/2 2:1/6"),
-    ("the lesser of two subjects with faults, whose walk is longer", "cond_br %c, bb1, bb2 bb1: debug_value %need2 : $Builtin.Int1 unreachable bb2: br bb3 bb3: debug_value %need1 : $Builtin.Int1 unreachable", "1 2 bb3:0 0.1 2.0"),
-    ("the least subject has the greater code", "debug_value %on1 : $Builtin.Int1 debug_value %free1 : $Builtin.Int1 debug_value %need0 : $Builtin.Int1 unreachable", "0 2 bb0:15"),
-    ("states lost and found again round a loop", "debug_value %on0 : $Builtin.Int1 br bb1 bb1: cond_br %c, bb2, bb3 bb2: debug_value %off0 : $Builtin.Int1 debug_value %on0 : $Builtin.Int1 debug_value %on2 : $Builtin.Int1 br bb1 bb3: debug_value %need0 : $Builtin.Int1 unreachable", "clean 0:7/0 1:6/5 2:6/5 3:6/5"),
-    ("rows of a block that no walk enters are clear", "br bb2 bb1: debug_value %need0 : $Builtin.Int1 br bb2 bb2: unreachable", "clean 0:7/0 1:0/0 2:7/0"),
-    ("a subject that only a merge of walks brings on", "cond_br %c, bb1, bb2 bb1: debug_value %on1 : $Builtin.Int1 br bb3 bb2: debug_value %on2 : $Builtin.Int1 br bb3 bb3: debug_value %free2 : $Builtin.Int1 unreachable", "2 1 bb3:0 0.1 2.0"),
+    (
+        "each in its own state",
+        "debug_value %on1 : $Builtin.Int1 br bb1 bb1: debug_value %on2 : $Builtin.Int1 debug_value %need1 : $Builtin.Int1 br bb2 bb2: unreachable",
+        "clean 0:7/0 1:5/2 2:1/6",
+    ),
+    (
+        "the lesser of two subjects with faults, whose walk is longer",
+        "cond_br %c, bb1, bb2 bb1: debug_value %need2 : $Builtin.Int1 unreachable bb2: br bb3 bb3: debug_value %need1 : $Builtin.Int1 unreachable",
+        "1 2 bb3:0 0.1 2.0",
+    ),
+    (
+        "the least subject has the greater code",
+        "debug_value %on1 : $Builtin.Int1 debug_value %free1 : $Builtin.Int1 debug_value %need0 : $Builtin.Int1 unreachable",
+        "0 2 bb0:15",
+    ),
+    (
+        "states lost and found again round a loop",
+        "debug_value %on0 : $Builtin.Int1 br bb1 bb1: cond_br %c, bb2, bb3 bb2: debug_value %off0 : $Builtin.Int1 debug_value %on0 : $Builtin.Int1 debug_value %on2 : $Builtin.Int1 br bb1 bb3: debug_value %need0 : $Builtin.Int1 unreachable",
+        "clean 0:7/0 1:6/5 2:6/5 3:6/5",
+    ),
+    (
+        "rows of a block that no walk enters are clear",
+        "br bb2 bb1: debug_value %need0 : $Builtin.Int1 br bb2 bb2: unreachable",
+        "clean 0:7/0 1:0/0 2:7/0",
+    ),
+    (
+        "a subject that only a merge of walks brings on",
+        "cond_br %c, bb1, bb2 bb1: debug_value %on1 : $Builtin.Int1 br bb3 bb2: debug_value %on2 : $Builtin.Int1 br bb3 bb3: debug_value %free2 : $Builtin.Int1 unreachable",
+        "2 1 bb3:0 0.1 2.0",
+    ),
 ];
 
 fn edges(alloc: Global, text: &mut String, walk: &[EdgeId]) -> Result<(), Exhausted> {
@@ -88,20 +160,28 @@ fn told_together(alloc: Global, f: &Function, g: &Graph) -> Result<String, Exhau
             point,
             code,
         } => {
-            let mut text = format!(in alloc; "{subject} {code} bb{}:{}", point.block.0, point.index)?;
+            let mut text = format!(in alloc;
+                "{subject} {code} bb{}:{}",
+                point.block.0, point.index
+            )?;
             edges(alloc, &mut text, walk.as_slice())?;
             Ok(text)
         }
     }
 }
 
+fn answer(rt: &impl Abort, alloc: Global, f: &Function, together: bool) -> Result<String, Fail> {
+    assert!(rt; has_graph(f));
+    let g = Graph::build(alloc, f)?;
+    if together {
+        Ok(told_together(alloc, f, &g)?)
+    } else {
+        Ok(told_one(alloc, f, &g)?)
+    }
+}
+
 /// The answer to a function of these blocks.
-fn outcome(
-    rt: &impl Abort,
-    alloc: Global,
-    blocks: &str,
-    together: bool,
-) -> Result<String, Fail> {
+fn outcome(rt: &impl Abort, alloc: Global, blocks: &str, together: bool) -> Result<String, Fail> {
     let text = format!(in alloc;
         "class C {{ }} sil [ossa] @main : $@convention(thin) () -> () {{ {MARKS}{blocks} }}"
     )?;
@@ -111,15 +191,7 @@ fn outcome(
         Err(_refusal) => Ok(String::from_str(alloc, "not a module")?),
         Ok(module) => match module.functions.get(0) {
             None => Ok(String::from_str(alloc, "no function")?),
-            Some(f) => {
-                assert!(rt; has_graph(f));
-                let g = Graph::build(alloc, f)?;
-                if together {
-                    Ok(told_together(alloc, f, &g)?)
-                } else {
-                    Ok(told_one(alloc, f, &g)?)
-                }
-            }
+            Some(f) => answer(rt, alloc, f, together),
         },
     }
 }
