@@ -21,7 +21,7 @@ use Rattle.sil_command.specs.Violations.{IsRefusal}
 use Rattle.sil_command.specs.Texts.{limit_text, usage_text, refusal_text}
 use Rattle.sil_command.specs.declared.words.Mode.{Mode}
 use Rattle.sil_command.specs.Words.{AsksFor, IsCommandLine}
-use Rattle.sil_command.specs.Answers.{AnswersCheck, AnswersModule, AnswersText, HasDeclaredTypes, usage, in_mode, too_long, unread, spelled, refused}
+use Rattle.sil_command.specs.Answers.{AnswersCheck, AnswersModule, AnswersText, HasTypes, usage, in_mode, too_long, unread, spelled, refused}
 use Rattle.sil_command.specs.Reading.{AnswersRefusal}
 use Rattle.sil_command.specs.Ends.{IsAnswer, MayHave, TakesText}
 
@@ -91,7 +91,7 @@ unread_answer (Ok a) text_of status_of mode {reason = reason} within refusal ans
 unread_answer (Err e) text_of status_of mode within refusal answer = tt
 
 -- the module's first refusal, by the function that has it
-pub refusal_answer : (m : Module) (r : Refusal) (f : Function) (text : List ℕ) → HasDeclaredTypes m → IsSimple m → IsRefusal m r → f ≡ get_or m.functions r.function.0 f
+pub refusal_answer : (m : Module) (r : Refusal) (f : Function) (text : List ℕ) → HasTypes m → IsSimple m → IsRefusal m r → f ≡ get_or m.functions r.function.0 f
     → text ≡ refusal_text f.name r.violation → AnswersCheck m text (code_of Refused)
 refusal_answer m r f text types simple refusal is e =
     let at : get_or m.functions r.function.0 f ≡ refusal.function =

@@ -1,4 +1,4 @@
--- A module with declared types has no refusal of an item or a type.
+-- A typed module has no refusal of an item, a type or its typing.
 use Rattle.std.proofs.Common.{◌≡◌, ◌⊎◌, inl, inr, ℕ, ◌<◌, ◌≤◌, List, length, get_or, subst, sym, ◌∙◌, All, Some, None, IsSomeAnd, slice_get}
 use Rattle.std.proofs.lemmas.Bool.{false≢true}
 use Rattle.std.proofs.lemmas.List.Elements.{All-get_or}
@@ -13,7 +13,9 @@ use Rattle.type_definitions.specs.Mentions.{Item, items_of}
 use Rattle.type_definitions.specs.Rules.{IsWellNamed}
 use Rattle.type_rules.specs.Faults.{Breaks}
 use Rattle.type_rules.specs.Faults.Breaks.{unknown_type, bad_member, misplaced_storage}
-use Rattle.sil_command.specs.Answers.{HasDeclaredTypes}
+use Rattle.type_check.specs.Refusals.IsBroken.{broken}
+use Rattle.type_check.specs.declared.fault.TypingFault.{TypingFault}
+use Rattle.sil_verifier.specs.Refusals.{HasDeclaredTypes, HasTypes, IsWrong}
 
 well_named_keeps : (d : Declarations) (i : Item) (r : Rule) → IsWellNamed d i → Breaks d i r → ⊥
 well_named_keeps d i _ well (unknown_type e) = false≢true (sym well.known ∙ e)
@@ -34,3 +36,7 @@ declared_not_refused m _ types (item r n breaks) =
 declared_not_refused m _ types (infinite n holds) = types.0.finite n holds
 declared_not_refused m _ types (too_deep e) = false≢true (sym types.1.depth ∙ e)
 declared_not_refused m _ types (too_wide e) = false≢true (sym types.1.leaves ∙ e)
+
+pub typed_not_wrong : (m : Module) (fault : TypingFault) → HasTypes m → IsWrong m fault → ⊥
+typed_not_wrong m _ types (inl (broken s r h)) = types.typed s r h
+typed_not_wrong m fault types (inr h) = types.owned fault h

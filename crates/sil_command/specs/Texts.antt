@@ -1,10 +1,15 @@
 -- What the command writes, line by line.
-use Rattle.std.specs.Prelude.{ℕ, List, [], ◌∷◌, ◌++◌, codes, decimal}
+use Rattle.std.specs.Prelude.{ℕ, ◌+◌, List, [], ◌∷◌, ◌++◌, Option, Some, None, length, slice_get, unwrap_or, codes, decimal}
+use Rattle.sil_ast.specs.declared.function.Function.{Function}
+use Rattle.sil_ast.specs.declared.module.Module.{Module}
+use Rattle.sil_ast.specs.declared.place.FuncId.{FuncId}
 use Rattle.sil_ast.specs.declared.place.Place.{Place}
+use Rattle.sil_ast.specs.declared.place.PointId.{PointId}
 use Rattle.sil_rules.specs.declared.limit_word.LimitWord.{LimitWord}
 use Rattle.sil_rules.specs.declared.rule.Rule.{Rule}
 use Rattle.sil_rules.specs.LimitWords.{word_of}
 use Rattle.sil_rules.specs.Rules.{number_of, name_of}
+use Rattle.type_check.specs.declared.fault.TypingFault.{TypingFault}
 use Rattle.sil_command.specs.declared.violation.Violation.{Violation}
 
 -- the bytes, and a line feed
@@ -54,6 +59,31 @@ refusal_text function v =
 -- the rule, and the item by its number, from 0 over declarations, functions and vtables, in that order
 abbrev pub refused_item_text : Rule → ℕ → List ℕ
 refused_item_text r item = line (rule_words r ++ codes " item " ++ decimal item)
+
+-- a point: its block, and the index in it
+abbrev pub typed_point_words : Option PointId → List ℕ
+typed_point_words None = []
+typed_point_words (Some p) = codes " bb" ++ decimal p.block.0 ++ codes ":" ++ decimal p.index
+
+abbrev pub name_found : Option Function → List ℕ
+name_found None = []
+name_found (Some f) = f.name
+
+-- the name of the function with this number
+abbrev pub name_at : Module → ℕ → List ℕ
+name_at m n = name_found (slice_get m.functions n)
+
+-- the number of a vtable among declarations, functions and vtables
+abbrev pub vtable_item : Module → Option ℕ → ℕ
+vtable_item m v = length m.decls + (length m.functions + unwrap_or v 0)
+
+abbrev pub site_words : Module → Option FuncId → TypingFault → List ℕ
+site_words m None f = codes " item " ++ decimal (vtable_item m f.vtable)
+site_words m (Some n) f = codes " @" ++ name_at m n.0 ++ typed_point_words f.point
+
+-- the rule, and the function, with the point where there is one; or the vtable as an item
+abbrev pub typing_text : Module → TypingFault → List ℕ
+typing_text m f = line (rule_words f.rule ++ site_words m f.function f)
 
 -- the limit that a type is past, which has no place
 abbrev pub type_limit_text : LimitWord → List ℕ

@@ -5,18 +5,19 @@ ghost use Rattle.sil_rules.specs.declared.limits.TheConstants.{TEXT_BYTES};
 ghost use Rattle.sil_rules.specs.Statuses.{code_of};
 ghost use Rattle.numbered_form.specs.NumberedForm.{IsNumbered};
 ghost use Rattle.simple_modules.specs.Simple.{IsSimple};
-ghost use Rattle.sil_command.specs.Answers.{AnswersCheck, AnswersModule, AnswersPrint, AnswersText, HasDeclaredTypes};
+ghost use Rattle.sil_command.specs.Answers.{AnswersCheck, AnswersModule, AnswersPrint, AnswersText};
+ghost use Rattle.sil_verifier.specs.Refusals.{HasTypes};
 
 use crate::one_block::first_refusal;
 use crate::reading::answer_refusal;
 use crate::texts;
-use crate::types::answer_type_refusal;
+use crate::types::answer_static_refusal;
 use crate::words::Mode;
 use sil_ast::{Exhausted, Module};
 use sil_grammar::read;
 use sil_printer::print;
 use sil_rules::Status;
-use sil_types::TypeTable;
+use sil_verifier::check_types;
 use simple_modules::is_simple;
 use std::alloc::Global;
 use std::mem::forget;
@@ -54,20 +55,20 @@ fn answer_module(alloc: Global, mode: Mode, module: &Module) -> Result<Answer, E
     }
 }
 
-/// Checks the types of a module, and then the module.
+/// Checks the items, the types and the typing of a module, and then the module.
 fn check_module(alloc: Global, module: &Module) -> Result<Answer, Exhausted>
     requires { IsNumbered «module».now }
     ensures { IfOk result (λ a. AnswersCheck «module».now a.text.items (code_of a.status)) }
 {
-    match TypeTable::build(alloc, module) {
-        Ok(_table) => check_declared(alloc, module),
-        Err(reason) => answer_type_refusal(alloc, reason),
+    match check_types(alloc, module) {
+        Ok(_table) => check_typed(alloc, module),
+        Err(reason) => answer_static_refusal(alloc, module, reason),
     }
 }
 
-/// Checks a module with declared types, where it is one that the further checks know.
-fn check_declared(alloc: Global, module: &Module) -> Result<Answer, Exhausted>
-    requires { HasDeclaredTypes «module».now }
+/// Checks a typed module, where it is one that the further checks know.
+fn check_typed(alloc: Global, module: &Module) -> Result<Answer, Exhausted>
+    requires { HasTypes «module».now }
     ensures { IfOk result (λ a. AnswersCheck «module».now a.text.items (code_of a.status)) }
 {
     if is_simple(alloc, module)? {
@@ -80,7 +81,7 @@ fn check_declared(alloc: Global, module: &Module) -> Result<Answer, Exhausted>
 }
 
 fn check_simple(alloc: Global, module: &Module) -> Result<Answer, Exhausted>
-    requires types { HasDeclaredTypes «module».now }
+    requires types { HasTypes «module».now }
     requires simple { IsSimple «module».now }
     ensures { IfOk result (λ a. AnswersCheck «module».now a.text.items (code_of a.status)) }
 {

@@ -12,6 +12,7 @@ mod reading;
 mod texts;
 mod top_call;
 mod types;
+mod typing_lines;
 mod violation;
 mod words;
 

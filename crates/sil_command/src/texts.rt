@@ -43,7 +43,7 @@ pub fn not_built() -> &'static [u8]
     b"not built\n"
 }
 
-fn push_number(out: &mut Vec<u8>, number: u32) -> Result<(), Exhausted>
+pub(crate) fn push_number(out: &mut Vec<u8>, number: u32) -> Result<(), Exhausted>
     ensures { OnOk result (out.new.items ≡ out.old.items ++ decimal number) }
 {
     let digits = number.to_string(*out.allocator())?;
@@ -83,7 +83,7 @@ pub fn passed_limit(alloc: Global, what: LimitWord, place: Place) -> Result<Vec<
     Ok(out)
 }
 
-fn push_rule(out: &mut Vec<u8>, rule: Rule) -> Result<(), Exhausted>
+pub(crate) fn push_rule(out: &mut Vec<u8>, rule: Rule) -> Result<(), Exhausted>
     ensures { OnOk result (out.new.items ≡ out.old.items ++ rule_words rule) }
 {
     out.extend_from_slice(b"refused ")?;

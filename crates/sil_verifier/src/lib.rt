@@ -4,8 +4,8 @@
 
 mod lowered;
 mod refusal;
-mod typing;
 mod types;
+mod typing;
 
 pub use refusal::StaticRefusal;
 pub use types::check_types;

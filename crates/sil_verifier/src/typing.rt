@@ -27,12 +27,14 @@ fn first_broken(
 {
     match check(alloc, m, table) {
         Ok(()) => Ok(None),
-        Err(CheckRefusal::Rule {
-            rule,
-            function,
-            point,
-            vtable,
-        }) => Ok(Some(TypingFault {
+        Err(
+            CheckRefusal::Rule {
+                rule,
+                function,
+                point,
+                vtable,
+            },
+        ) => Ok(Some(TypingFault {
             rule,
             function,
             point,

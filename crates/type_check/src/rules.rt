@@ -62,7 +62,12 @@ fn is_wrong_result_count(body: &Body<'_, '_>, inst: &Inst) -> bool
 }
 
 /// The first rule that an instruction of the body breaks, at a point.
-pub(crate) fn rule_at_point(body: &Body<'_, '_>, block: u32, index: u32, inst: &Inst) -> Option<Rule>
+pub(crate) fn rule_at_point(
+    body: &Body<'_, '_>,
+    block: u32,
+    index: u32,
+    inst: &Inst,
+) -> Option<Rule>
     requires body { IsBody body.now }
     requires edges { AreEdgesInRange body.now.function.now inst.now }
     ensures { result ≡ first_broken (judged_point body.now.module.now body.now.function.now block index inst.now) }

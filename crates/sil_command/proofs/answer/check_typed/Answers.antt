@@ -1,10 +1,10 @@
--- The answer of `check` to a module with declared types, by whether it is simple.
+-- The answer of `check` to a typed module, by whether it is simple.
 use Rattle.std.proofs.Common.{sym, subst, ◌∙◌}
 use Rattle.std.proofs.lemmas.Bool.{false≢true}
 use Rattle.sil_rules.specs.declared.status.Status.TheVariants.{NotBuilt}
 use Rattle.sil_rules.specs.Statuses.{code_of}
 use Rattle.sil_command.specs.Answers.{AnswersCheck, not_built}
-use Rattle.sil_command.proofs.answer.check_declared.Goals as goal
+use Rattle.sil_command.proofs.answer.check_typed.Goals as goal
 
 pub returns : goal.returns
 returns c =
