@@ -1,3 +1,6 @@
 pub mod Switched
 pub mod Origins
 pub mod Renamings
+pub mod Tables
+pub mod Results
+pub mod Laws

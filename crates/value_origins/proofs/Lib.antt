@@ -1,0 +1,6 @@
+mod Noting
+mod ResultByResult
+mod BlockByBlock
+mod TrivialTuples
+pub mod Counts
+pub mod Ranges
