@@ -25,7 +25,7 @@ pub marks_last : (all : List (Vec Mark Global)) (x : Vec Mark Global) → marks_
 marks_last [] x = refl
 marks_last (y ∷ all) x = marks_last all x
 
-flat_map_same : {X A : Type 0} (p q : X → List A) → ((x : X) → p x ≡ q x) → (xs : List X) → flat_map p xs ≡ flat_map q xs
+pub flat_map_same : {X A : Type 0} (p q : X → List A) → ((x : X) → p x ≡ q x) → (xs : List X) → flat_map p xs ≡ flat_map q xs
 flat_map_same p q same [] = refl
 flat_map_same p q same (x ∷ xs) = ap₂ (λ a b. a ++ b) (same x) (flat_map_same p q same xs)
 
@@ -58,5 +58,5 @@ module _ (a b : ValueId → Option Facts) (same : (v : ValueId) → known_or a v
       (flat_map_same (begun a) (begun b) same_begun (item_defined f item))
 
   -- kinds by facts are those by any facts that tell the same
-  pub same_kinds : (f : Function) (g : Layout) (k : Known) → AreKindsBy a f g k → AreKindsBy b f g k
-  same_kinds f g k by = record { facts_are = λ v. by.facts_are v ∙ same v; marks_are = λ i item e. by.marks_are i item e ∙ same_marks f item }
+  pub same_kinds : (count : ℕ) (f : Function) (g : Layout) (k : Known) → AreKindsBy count a f g k → AreKindsBy count b f g k
+  same_kinds count f g k by = record { size = by.size; facts_are = λ v. by.facts_are v ∙ same v; marks_are = λ i item e. by.marks_are i item e ∙ same_marks f item }

@@ -1,5 +1,5 @@
 -- What contracts see of kinds: the facts of each value and the marks of each item, by their numbers.
-use Rattle.std.specs.Prelude.{◌≡◌, ℕ, List, [], map, slice_get, Option, Some, unwrap_or}
+use Rattle.std.specs.Prelude.{◌≡◌, ℕ, List, [], map, slice_get, length, Option, Some, unwrap_or}
 use Rattle.std.specs.declared.alloc.Global.{Global}
 use Rattle.std.specs.declared.vec.Vec.{Vec}
 use Rattle.sil_ast.specs.declared.function.Function.{Function}
@@ -36,7 +36,8 @@ known_by table marks = record { table = table; marks = lists_of marks }
 abbrev pub AreMarksOf : (ValueId → Option Facts) → Function → Layout → (ℕ → List Mark) → Type 0
 AreMarksOf facts f g marks = (i : ℕ) (item : Item) → item_at g i ≡ Some item → marks i ≡ marks_of facts f item
 
--- what is known is what the facts tell: each value's kind and bases, and each item's marks
-pub record AreKindsBy (facts : ValueId → Option Facts) (f : Function) (g : Layout) (k : Known) : Type 0 where
+-- what is known is what the facts tell of so many values: each value's kind and bases, and each item's marks
+pub record AreKindsBy (count : ℕ) (facts : ValueId → Option Facts) (f : Function) (g : Layout) (k : Known) : Type 0 where
+  pub size : length k.table ≡ count
   pub facts_are : (v : ValueId) → facts_of k v ≡ known_or facts v
   pub marks_are : AreMarksOf facts f g (marks_at k)

@@ -1,6 +1,6 @@
 //! What a check on paths asks of kinds.
 
-ghost use Rattle.std.specs.Prelude.{◌≡◌, IfOk};
+ghost use Rattle.std.specs.Prelude.{◌≡◌, ◌≤◌, ◌^◌, length, IfOk};
 ghost use Rattle.forwarding_chains.specs.Facts.{told_at};
 ghost use Rattle.ownership_marks.specs.Known.{AreKindsBy, facts_of, marks_at};
 
@@ -21,25 +21,38 @@ pub struct Kinds {
 }
 
 impl Model for Kinds {
+    ghost use Rattle.std.specs.Prelude.{◌≤◌, ◌^◌, length};
     ghost use Rattle.ownership_marks.specs.Known.{Known, known_by};
 
     ghost Value = { Known };
 
     ghost view = { λ k. known_by k.table k.marks.items };
+
+    ghost invariant = { λ k. length k.table ≤ 2 ^ 32 };
 }
 
 impl Kinds {
     /// The kinds of the values of `f`, of which `table` has what is known, and the marks of the items of `g`.
+    /// There are no more values than have numbers.
     pub fn with(
         alloc: Global,
         table: List<Option<Facts>>,
         f: &Function,
         g: &Graph,
     ) -> Result<Kinds, Exhausted>
-        ensures { IfOk result (AreKindsBy (told_at table) f.now g.now) }
+        requires { length table ≤ 2 ^ 32 }
+        ensures { IfOk result (AreKindsBy (length table) (told_at table) f.now g.now) }
     {
         let marks = all_marks(alloc, table.as_slice(), f, g)?;
         Ok(Kinds { table, marks })
+    }
+
+    /// How many values there are.
+    pub fn values(&self) -> usize
+        ensures count { result ≡ length self.now.table }
+        ensures few { result ≤ 2 ^ 32 }
+    {
+        self.table.len()
     }
 
     /// The kind of a value. An address is Plain, and so is a number that is no value's.
