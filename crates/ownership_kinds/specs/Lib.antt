@@ -1,4 +1,3 @@
 pub mod Facts
-pub mod Roles
-pub mod Marks
 pub mod Statics
+pub mod Kinds

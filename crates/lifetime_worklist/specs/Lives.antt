@@ -1,0 +1,67 @@
+-- What an item does to the Owned values: they end, are used and begin, and at a `return` none is left. A value's switch is on while it lives.
+use Rattle.std.specs.Prelude.{ℕ, List, [], ◌∷◌, ◌++◌, Bool, true, false, cond, slice_get, Option, Some, None}
+use Rattle.std.specs.List.{flat_map, range_with_len}
+use Rattle.sil_ast.specs.Forms.{ending_of}
+use Rattle.sil_ast.specs.declared.entries.Ending.{Ending}
+use Rattle.sil_ast.specs.declared.entries.Ending.TheVariants as ending
+use Rattle.sil_ast.specs.declared.function.Block.{Block}
+use Rattle.sil_ast.specs.declared.function.Function.{Function}
+use Rattle.sil_ast.specs.declared.place.ValueId.{ValueId}
+use Rattle.sil_cfg.specs.declared.item.Item.{Item}
+use Rattle.sil_cfg.specs.declared.item.Item.TheVariants.{Entry, Inst, Edge, Exit}
+use Rattle.path_checks.specs.declared.entry.Entry as entry
+use Rattle.path_patterns.specs.declared.mark.Mark as pattern
+use Rattle.forwarding_chains.specs.Facts.{is_owned, known_or, value_of}
+use Rattle.forwarding_chains.specs.declared.facts.Facts.{Facts}
+use Rattle.ownership_marks.specs.Marks.{marks_of}
+use Rattle.ownership_marks.specs.declared.mark.Mark as mark
+use Rattle.ownership_marks.specs.declared.mark.MarkSort.{MarkSort}
+use Rattle.ownership_marks.specs.declared.mark.MarkSort.TheVariants.{End, Use, Begin}
+
+-- a use needs the value alive: 401. An end does too, and ends it: 402. At a `return` it is not alive: 403. A begin needs it not alive, and begins it: 404
+abbrev pub turned_by : MarkSort → pattern.Mark
+turned_by Use = record { needs = Some true; turns = None; code = 1 }
+turned_by End = record { needs = Some true; turns = Some false; code = 2 }
+turned_by Begin = record { needs = Some false; turns = Some true; code = 4 }
+
+abbrev pub entry_of : mark.Mark → entry.Entry
+entry_of m = record { subject = m.subject.0; mark = turned_by m.sort }
+
+abbrev pub left_at_return : ℕ → entry.Entry
+left_at_return n = record { subject = n; mark = record { needs = Some false; turns = None; code = 3 } }
+
+module _ (facts : ValueId → Facts) where
+  -- a mark of an Owned value
+  abbrev pub lives_by : mark.Mark → List entry.Entry
+  lives_by m = cond (is_owned (facts m.subject).kind) (entry_of m ∷ []) []
+
+  -- an Owned value is not left at a `return`
+  abbrev pub leaves : ℕ → List entry.Entry
+  leaves n = cond (is_owned (facts (value_of n)).kind) (left_at_return n ∷ []) []
+
+  abbrev pub returned : ℕ → Bool → List entry.Entry
+  returned count true = flat_map leaves (range_with_len 0 count)
+  returned count false = []
+
+abbrev pub returns_by : Ending → Bool
+returns_by ending.Inside = false
+returns_by ending.OneBranch = false
+returns_by ending.TwoBranches = false
+returns_by ending.Cases = false
+returns_by ending.Return = true
+returns_by ending.Unreachable = false
+
+abbrev pub returns_in : Option Block → Bool
+returns_in None = false
+returns_in (Some b) = returns_by (ending_of b.terminator.op)
+
+-- the item is a `return`
+abbrev pub is_return : Function → Item → Bool
+is_return f Entry = false
+is_return f (Inst p) = false
+is_return f (Edge e) = false
+is_return f (Exit p) = returns_in (slice_get f.blocks p.block.0)
+
+-- what the item does to the Owned values, of so many values with these facts
+abbrev pub lives_of : ℕ → (ValueId → Option Facts) → Function → Item → List entry.Entry
+lives_of count facts f item = flat_map (lives_by (known_or facts)) (marks_of facts f item) ++ returned (known_or facts) count (is_return f item)

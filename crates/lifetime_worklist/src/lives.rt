@@ -1,0 +1,164 @@
+//! The table of rules 401 to 404: what each item does to which Owned value.
+
+ghost use Rattle.std.specs.Prelude.{◌≡◌, ◌++◌, ℕ, length, slice_get, Option, IfOk, OnOk};
+ghost use Rattle.std.specs.List.{flat_map, range_with_len};
+ghost use Rattle.sil_ast.specs.declared.place.ValueId as value;
+ghost use Rattle.sil_cfg.specs.Layout.{item_count};
+ghost use Rattle.path_patterns.specs.Reads.{accesses_at, AgreesWith};
+ghost use Rattle.forwarding_chains.specs.Facts as facts;
+ghost use Rattle.forwarding_chains.specs.declared.facts.Facts as fact;
+ghost use Rattle.ownership_marks.specs.Known.{AreKindsBy, facts_of, marks_at};
+ghost use Rattle.lifetime_worklist.specs.Lives as lives;
+ghost use Rattle.lifetime_worklist.specs.Lives.{leaves, lives_by, lives_of, returned, returns_by, returns_in};
+
+use ownership_marks::{Kinds, Mark, MarkSort};
+use path_checks::Entry;
+use sil_ast::{BlockId, Ending, Exhausted, Function, ValueId, ending_of};
+use sil_cfg::{Graph, Item};
+use std::alloc::Global;
+use type_definitions::Kind;
+
+fn is_owned(kind: Kind) -> bool
+    ensures { result ≡ facts.is_owned kind }
+{
+    matches!(kind, Kind::Owned)
+}
+
+/// A use and an end need the value alive, and a begin needs it not alive.
+fn turned_by(sort: MarkSort) -> path_patterns::Mark
+    ensures { result ≡ lives.turned_by sort }
+{
+    match sort {
+        MarkSort::Use => path_patterns::Mark {
+            needs: Some(true),
+            turns: None,
+            code: 1,
+        },
+        MarkSort::End => path_patterns::Mark {
+            needs: Some(true),
+            turns: Some(false),
+            code: 2,
+        },
+        MarkSort::Begin => path_patterns::Mark {
+            needs: Some(false),
+            turns: Some(true),
+            code: 4,
+        },
+    }
+}
+
+/// The marks of Owned values.
+fn add_marks(entries: &mut Vec<Entry>, k: &Kinds, marks: &[Mark]) -> Result<(), Exhausted>
+    ensures { OnOk result (entries.new.items ≡ entries.old.items ++ flat_map (lives_by (facts_of k.now)) marks.now) }
+{
+    for mark in marks {
+        if is_owned(k.kind(mark.subject)) {
+            entries.push(Entry {
+                subject: mark.subject.0,
+                mark: turned_by(mark.sort),
+            })?;
+        }
+    }
+    Ok(())
+}
+
+/// At a `return` the value is not alive, if it is Owned.
+fn add_leave(entries: &mut Vec<Entry>, k: &Kinds, value: ValueId) -> Result<(), Exhausted>
+    ensures { OnOk result (entries.new.items ≡ entries.old.items ++ leaves (facts_of k.now) value.0) }
+{
+    if is_owned(k.kind(value)) {
+        entries.push(Entry {
+            subject: value.0,
+            mark: path_patterns::Mark {
+                needs: Some(false),
+                turns: None,
+                code: 3,
+            },
+        })?;
+    }
+    Ok(())
+}
+
+fn add_leaves(entries: &mut Vec<Entry>, k: &Kinds) -> Result<(), Exhausted>
+    ensures { OnOk result (entries.new.items ≡ entries.old.items ++ flat_map (leaves (facts_of k.now)) (range_with_len 0 (length k.now.table))) }
+{
+    for n in 0..k.values() {
+        add_leave(entries, k, ValueId(n as u32))?;
+    }
+    Ok(())
+}
+
+fn returns_by(ending: Ending) -> bool
+    ensures { result ≡ lives.returns_by ending }
+{
+    match ending {
+        Ending::Return => true,
+        Ending::Inside
+        | Ending::OneBranch
+        | Ending::TwoBranches
+        | Ending::Cases
+        | Ending::Unreachable => false,
+    }
+}
+
+/// Whether the block ends with a `return`.
+fn returns_in(f: &Function, b: BlockId) -> bool
+    ensures { result ≡ lives.returns_in (slice_get f.now.blocks b.0) }
+{
+    match f.blocks.get(b.0 as usize) {
+        None => false,
+        Some(block) => returns_by(ending_of(block.terminator.op)),
+    }
+}
+
+/// Whether the item is a `return`.
+fn is_return(f: &Function, item: Item) -> bool
+    ensures { result ≡ lives.is_return f.now item }
+{
+    match item {
+        Item::Entry | Item::Inst(_) | Item::Edge(_) => false,
+        Item::Exit(p) => returns_in(f, p.block),
+    }
+}
+
+fn add_returned(entries: &mut Vec<Entry>, k: &Kinds, returns: bool) -> Result<(), Exhausted>
+    ensures { OnOk result (entries.new.items ≡ entries.old.items ++ returned (facts_of k.now) (length k.now.table) returns) }
+{
+    if returns {
+        add_leaves(entries, k)?;
+    }
+    Ok(())
+}
+
+/// The entries of the item with this number.
+fn entries_of(
+    alloc: Global,
+    f: &Function,
+    k: &Kinds,
+    number: usize,
+    item: Item,
+) -> Result<Vec<Entry>, Exhausted>
+    ensures { IfOk result (λ v. v.items ≡ flat_map (lives_by (facts_of k.now)) (marks_at k.now number) ++ returned (facts_of k.now) (length k.now.table) (lives.is_return f.now item)) }
+{
+    let mut entries = Vec::new(alloc);
+    add_marks(&mut entries, k, k.marks(number))?;
+    add_returned(&mut entries, k, is_return(f, item))?;
+    Ok(entries)
+}
+
+/// The entries of every item of the function's graph, by the item's number.
+pub(crate) fn entries_by_item(
+    alloc: Global,
+    f: &Function,
+    g: &Graph,
+    k: &Kinds,
+) -> Result<Vec<Vec<Entry>>, Exhausted>
+    ensures size { IfOk result (λ v. length v.items ≡ item_count g.now) }
+    ensures entries { IfOk result (λ v. (count : ℕ) (facts : value.ValueId → Option fact.Facts) → AreKindsBy count facts f.now g.now k.now → AgreesWith g.now (accesses_at v.items) (lives_of count facts f.now)) }
+{
+    let mut all = Vec::new(alloc);
+    for i in 0..g.items() {
+        all.push(entries_of(alloc, f, k, i, g.item(i))?)?;
+    }
+    Ok(all)
+}
