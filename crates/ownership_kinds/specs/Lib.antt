@@ -1,4 +1,2 @@
 pub mod Facts
-pub mod Roles
-pub mod Marks
 pub mod Statics

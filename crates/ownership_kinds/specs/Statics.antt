@@ -32,7 +32,8 @@ use Rattle.value_origins.specs.Renamings.{renamings_of}
 use Rattle.value_origins.specs.Switched.{first_value, switch_to, value_of}
 use Rattle.value_origins.specs.declared.switched.Switched.{Switched}
 use Rattle.ownership_kinds.specs.Facts.{kind_in}
-use Rattle.ownership_kinds.specs.Roles.{Taken, taken_along, taken_by}
+use Rattle.ownership_marks.specs.Roles.{taken_along, taken_by}
+use Rattle.ownership_marks.specs.declared.taken.Taken.{Taken}
 
 abbrev pub is_owned : Option Kind → Bool
 is_owned None = false

@@ -1,7 +1,3 @@
-//! The kinds and bases of a function's values, the rules on kinds, and the marks of each item.
+//! The kinds and bases of a function's values, and the rules on kinds.
 //! It knows of no walk.
 #![tactic(auto)]
-
-mod mark;
-
-pub use mark::{Mark, MarkSort};

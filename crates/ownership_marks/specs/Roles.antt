@@ -1,25 +1,17 @@
 -- What an item does to the values that are its operands.
-use Rattle.std.specs.Prelude.{ℕ, zero, suc, List, [], ◌∷◌, ◌++◌, Option, Some, None, map, length, replicate, zip, slice_get}
+use Rattle.std.specs.Prelude.{ℕ, zero, suc, List, [], ◌∷◌, map, length, replicate}
 use Rattle.std.specs.List.{flat_map}
 use Rattle.std.specs.Option.{option_to_list}
 use Rattle.sil_ast.specs.Forms.{roles_of}
 use Rattle.sil_ast.specs.declared.entries.Role.{Role}
 use Rattle.sil_ast.specs.declared.entries.Role.TheVariants as role
-use Rattle.sil_ast.specs.declared.function.Block.{Block}
-use Rattle.sil_ast.specs.declared.function.Function.{Function}
 use Rattle.sil_ast.specs.declared.inst.Edge as edge
 use Rattle.sil_ast.specs.declared.inst.Inst as inst
 use Rattle.sil_ast.specs.declared.operands.Operand.{Operand}
-use Rattle.sil_ast.specs.declared.place.ValueId.{ValueId}
 use Rattle.sil_ast.specs.declared.signature.Param.{Param}
 use Rattle.sil_ast.specs.declared.signature.Passing.{Passing}
 use Rattle.sil_ast.specs.declared.signature.Passing.TheVariants as passing
-use Rattle.sil_ast.specs.declared.signature.Signature.{Signature}
-
--- a value that is an operand, and what is done to it
-pub record Taken : Type 0 where
-  pub value : ValueId
-  pub role : Role
+use Rattle.ownership_marks.specs.declared.taken.Taken.{Taken}
 
 abbrev pub role_passed : Passing → Role
 role_passed passing.Plain = role.Used

@@ -14,9 +14,10 @@ use Rattle.sil_cfg.specs.declared.item.Item.TheVariants.{Entry, Inst, Edge, Exit
 use Rattle.forwarding_chains.specs.declared.facts.Facts.{Facts}
 use Rattle.type_definitions.specs.declared.kind.Kind.{Kind}
 use Rattle.type_definitions.specs.declared.kind.Kind.TheVariants as kind
-use Rattle.ownership_kinds.specs.Roles.{Taken, taken_along, taken_by}
-use Rattle.ownership_kinds.specs.declared.mark.Mark.{Mark}
-use Rattle.ownership_kinds.specs.declared.mark.MarkSort.TheVariants.{End, Use, Begin}
+use Rattle.ownership_marks.specs.Roles.{taken_along, taken_by}
+use Rattle.ownership_marks.specs.declared.mark.Mark.{Mark}
+use Rattle.ownership_marks.specs.declared.mark.MarkSort.TheVariants.{End, Use, Begin}
+use Rattle.ownership_marks.specs.declared.taken.Taken.{Taken}
 
 abbrev pub end_of : ValueId → Mark
 end_of v = record { subject = v; sort = End }

@@ -1,0 +1,9 @@
+//! What each item of a function does to the values that begin and end.
+//! It knows of no rule and no walk: the kinds and bases of values are given to it.
+#![tactic(auto)]
+
+mod mark;
+mod taken;
+
+pub use mark::{Mark, MarkSort};
+pub use taken::Taken;
