@@ -1,2 +1,4 @@
 pub mod Facts
+pub mod Known
 pub mod Statics
+pub mod Faults

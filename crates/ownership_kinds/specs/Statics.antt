@@ -15,7 +15,6 @@ use Rattle.sil_ast.specs.declared.function.BlockArg.{BlockArg}
 use Rattle.sil_ast.specs.declared.function.Function.{Function}
 use Rattle.sil_ast.specs.declared.inst.Edge.{Edge}
 use Rattle.sil_ast.specs.declared.inst.Inst.{Inst}
-use Rattle.sil_ast.specs.declared.place.PointId.{PointId}
 use Rattle.sil_ast.specs.declared.place.ValueId.{ValueId}
 use Rattle.numbered_form.specs.Insts.{insts_of}
 use Rattle.forwarding_chains.specs.Chains.{IsCyclic}
@@ -158,21 +157,21 @@ borrows_by AddressResult = false
 borrows_by ForwardedResult = false
 borrows_by OperandResult = false
 
-abbrev pub no_borrow : BlockArg → Bool
-no_borrow a = false
-
 abbrev pub result_borrows : Inst → List Bool
 result_borrows i = replicate (length i.results) (borrows_by (result_kind_of i.op))
 
 abbrev pub block_borrows : Block → List Bool
-block_borrows b = map no_borrow b.args ++ flat_map result_borrows (insts_of b)
+block_borrows b = replicate (length b.args) false ++ flat_map result_borrows (insts_of b)
 
 -- which values are results of borrows, by their numbers
 abbrev pub borrows_of : Function → List Bool
 borrows_of f = flat_map block_borrows f.blocks
 
+abbrev pub is_borrow_in : List Bool → ValueId → Bool
+is_borrow_in borrows v = unwrap_or (slice_get borrows v.0) false
+
 abbrev pub is_borrow : Function → ValueId → Bool
-is_borrow f v = unwrap_or (slice_get (borrows_of f) v.0) false
+is_borrow f v = is_borrow_in (borrows_of f) v
 
 -- what an instruction takes: its operands, and what its edges hand over
 abbrev pub all_taken : Inst → List Taken

@@ -1,3 +1,15 @@
 //! The kinds and bases of a function's values, and the rules on kinds.
 //! It knows of no walk.
 #![tactic(auto)]
+
+mod annotations;
+mod borrows;
+mod defaults;
+mod fault;
+mod kinds;
+mod mismatch;
+mod mixed;
+mod rings;
+mod statics;
+
+pub use fault::StaticFault;
