@@ -6,4 +6,4 @@ mod mark;
 mod taken;
 
 pub use mark::{Mark, MarkSort};
-pub use taken::Taken;
+pub use taken::{Taken, add_taken_along, add_taken_by};

@@ -1,10 +1,120 @@
 //! What an instruction does to its operands.
 
-use sil_ast::{Role, ValueId};
+ghost use Rattle.std.specs.Prelude.{◌≡◌, ◌++◌, ◌<◌, ℕ, length, map, slice_get, OnOk};
+ghost use Rattle.ownership_marks.specs.Roles as roles;
+ghost use Rattle.ownership_marks.specs.Roles.{last_roles, params_in, roles_for, taken_along, taken_by, taken_each};
+
+use sil_ast::{Edge, Exhausted, Inst, Operand, Param, Passing, Role, ValueId, roles_of};
 
 /// A value that is an operand, and what is done to it.
 #[derive(Clone, Copy, PartialEq, Eq)]
 pub struct Taken {
     pub value: ValueId,
     pub role: Role,
+}
+
+fn role_passed(passing: Passing) -> Role
+    ensures { result ≡ roles.role_passed passing }
+{
+    match passing {
+        Passing::Plain | Passing::Guaranteed => Role::Used,
+        Passing::Owned => Role::Consumed,
+        Passing::Inout => Role::AddressRole,
+    }
+}
+
+/// The role of the parameter with this number, if there is one.
+fn parameter_role(params: &[Param], k: usize) -> Option<Role>
+    ensures { result ≡ slice_get (map roles.param_role params.now) k }
+{
+    match params.get(k) {
+        None => None,
+        Some(param) => Some(role_passed(param.passing)),
+    }
+}
+
+/// The role of the operand with this number among those that the last role of a row is for.
+fn last_role(role: Role, params: &[Param], k: usize) -> Option<Role>
+    ensures { (n : ℕ) → k < n → result ≡ slice_get (last_roles role params.now n) k }
+{
+    match role {
+        Role::ByParameter => parameter_role(params, k),
+        Role::Consumed
+        | Role::Used
+        | Role::Lent
+        | Role::Forwarded
+        | Role::AddressRole
+        | Role::AnyRole
+        | Role::ScopeRole
+        | Role::Counted => Some(role),
+    }
+}
+
+/// The role of the operand with this number, if it has one.
+fn role_at(row: &[Role], params: &[Param], i: usize) -> Option<Role>
+    ensures { (n : ℕ) → i < n → result ≡ slice_get (roles_for row.now params.now n) i }
+{
+    if row.is_empty() {
+        return None;
+    }
+    let last = row.len() - 1;
+    if i < last {
+        Some(row[i])
+    } else {
+        last_role(row[last], params, i - last)
+    }
+}
+
+fn params_of(inst: &Inst) -> &[Param]
+    ensures { result.now ≡ params_in inst.now }
+{
+    match &inst.signature {
+        None => &[],
+        Some(signature) => signature.params.as_slice(),
+    }
+}
+
+fn add_operands(
+    taken: &mut Vec<Taken>,
+    operands: &[Operand],
+    row: &[Role],
+    params: &[Param],
+) -> Result<(), Exhausted>
+    ensures { OnOk result (taken.new.items ≡ taken.old.items ++ taken_each operands.now (roles_for row.now params.now (length operands.now))) }
+{
+    for (i, operand) in operands.iter().enumerate() {
+        if let Some(role) = role_at(row, params, i) {
+            taken.push(Taken {
+                value: operand.value,
+                role,
+            })?;
+        }
+    }
+    Ok(())
+}
+
+/// Adds the operands of an instruction, each with what is done to it, in order.
+/// Those that it hands over along its edges are not among them.
+pub fn add_taken_by(taken: &mut Vec<Taken>, inst: &Inst) -> Result<(), Exhausted>
+    ensures { OnOk result (taken.new.items ≡ taken.old.items ++ taken_by inst.now) }
+{
+    add_operands(
+        taken,
+        inst.operands.as_slice(),
+        roles_of(inst.op),
+        params_of(inst),
+    )
+}
+
+/// Adds what an edge hands over, which it consumes.
+pub fn add_taken_along(taken: &mut Vec<Taken>, edge: &Edge) -> Result<(), Exhausted>
+    ensures { OnOk result (taken.new.items ≡ taken.old.items ++ taken_along edge.now) }
+{
+    for operand in edge.args.as_slice() {
+        taken.push(Taken {
+            value: operand.value,
+            role: Role::Consumed,
+        })?;
+    }
+    Ok(())
 }
