@@ -1,1 +1,5 @@
 pub mod Least
+pub mod Among
+pub mod Order
+pub mod Broken
+pub mod First

@@ -40,6 +40,11 @@ abbrev pub least : Option StaticFault → List StaticFault → Option StaticFaul
 least found [] = found
 least found (x ∷ xs) = least (Some (lesser found x)) xs
 
+-- the faults of some things that are numbered, from n
+abbrev pub numbered : {A : Type 0} → (ℕ → A → List StaticFault) → ℕ → List A → List StaticFault
+numbered faults n [] = []
+numbered faults n (x ∷ xs) = faults n x ++ numbered faults (n + 1) xs
+
 abbrev pub fault_where : Bool → StaticFault → List StaticFault
 fault_where b x = if b then x ∷ [] else []
 
@@ -72,8 +77,7 @@ module _ (kinds : ValueId → Option Kind) where
     inst_faults f n k i = flat_map (ring_faults ring n k) i.results ++ (mixed_faults n k i ++ (flat_map (taken_faults borrows n k) (all_taken i) ++ lacking_faults f n k i))
 
     abbrev pub insts_faults : Function → ℕ → ℕ → List Inst → List StaticFault
-    insts_faults f n k [] = []
-    insts_faults f n k (i ∷ is) = inst_faults f n k i ++ insts_faults f n (k + 1) is
+    insts_faults f n k is = numbered (inst_faults f n) k is
 
     abbrev pub arg_faults : Declarations → Option Switched → ℕ → BlockArg → List StaticFault
     arg_faults d s n a = ring_faults ring n 0 a.value ++ annotation_faults d s n a
@@ -82,8 +86,7 @@ module _ (kinds : ValueId → Option Kind) where
     block_faults d f n b = flat_map (arg_faults d (switch_to f n) n) b.args ++ insts_faults f n 0 (insts_of b)
 
     abbrev pub blocks_faults : Declarations → Function → ℕ → List Block → List StaticFault
-    blocks_faults d f n [] = []
-    blocks_faults d f n (b ∷ bs) = block_faults d f n b ++ blocks_faults d f (n + 1) bs
+    blocks_faults d f n bs = numbered (block_faults d f) n bs
 
     -- all faults of a function, of the values on rings the one that is given alone
     abbrev pub faults_of : Declarations → Function → List StaticFault

@@ -1,13 +1,12 @@
 //! The first broken rule on kinds, by one pass over the function.
 
-ghost use Rattle.std.specs.Prelude.{◌≡◌, ◌+◌, ◌<◌, ◌^◌, All, IfOk, None, length};
+ghost use Rattle.std.specs.Prelude.{◌≡◌, ◌<◌, ◌^◌, All, IfNone, IfOk, IfSome, length};
 ghost use Rattle.std.specs.List.{flat_map};
-ghost use Rattle.numbered_form.specs.Insts.{insts_of};
-ghost use Rattle.value_origins.specs.Switched.{switch_to};
-ghost use Rattle.ownership_kinds.specs.Faults.{arg_faults, block_faults, blocks_faults, faults_of, inst_faults, insts_faults, least};
+ghost use Rattle.numbered_form.specs.Numbering.{AreCountedFrom, values_of};
+ghost use Rattle.ownership_kinds.specs.Faults.{arg_faults, block_faults, faults_of, inst_faults, insts_faults, least};
 ghost use Rattle.ownership_kinds.specs.Known as known;
-ghost use Rattle.ownership_kinds.specs.Known.{AreSwitchesOf, kind_told};
-ghost use Rattle.ownership_kinds.specs.Faults as faults;
+ghost use Rattle.ownership_kinds.specs.Known.{AreSwitchesOf, IsKnown, kind_told};
+ghost use Rattle.ownership_kinds.specs.Statics.{HasKinds, IsFirstBroken};
 
 use crate::annotations::add_annotation;
 use crate::defaults::add_lacking;
@@ -124,8 +123,8 @@ fn add_block(
     add_inst(alloc, known, f, point, &block.terminator, found)
 }
 
-/// The first fault of the function, by value, then by rule, then by point.
-pub(crate) fn first_fault(
+/// The least of all faults of the function.
+fn least_fault(
     alloc: Global,
     known: &Known<'_>,
     types: &TypeTable,
@@ -141,4 +140,21 @@ pub(crate) fn first_fault(
         found = add_block(alloc, known, types, f, BlockId(number as u32), block, found)?;
     }
     Ok(found)
+}
+
+/// The first broken rule on kinds, by value, then by rule, then by point; `None` where the function breaks none.
+pub(crate) fn first_broken(
+    alloc: Global,
+    known: &Known<'_>,
+    types: &TypeTable,
+    f: &Function,
+) -> Result<Option<StaticFault>, Exhausted>
+    requires counted { AreCountedFrom 0 (values_of f.now.blocks) }
+    requires blocks { length f.now.blocks < 2 ^ 32 }
+    requires short { All (λ b. length b.insts < 2 ^ 32) f.now.blocks }
+    requires known { IsKnown types.now f.now known.now }
+    ensures some { IfOk result (λ r. IfSome r (λ x. IsFirstBroken types.now f.now x.rule x.subject x.point.block.0 x.point.index)) }
+    ensures none { IfOk result (λ r. IfNone r (HasKinds types.now f.now)) }
+{
+    least_fault(alloc, known, types, f)
 }
