@@ -35,14 +35,14 @@ among_flat g y x (z ∷ xs) (inr h) a = among_right y (g z) (flat_map g xs) (amo
 
 pub flat_among : {A B : Type 0} (g : A → List B) (y : B) (xs : List A) → Among y (flat_map g xs) → (x : A) × Among x xs × Among y (g x)
 flat_among g y [] h = absurd h
-flat_among {A} g y (z ∷ xs) h = split (among_either y (g z) (flat_map g xs) h)
+flat_among {A} g y (z ∷ xs) h = split (λ b. flat_among g y xs b) (among_either y (g z) (flat_map g xs) h)
   where
     further : (x : A) × Among x xs × Among y (g x) → (x : A) × Among x (z ∷ xs) × Among y (g x)
     further r = (r.0, inr r.1, r.2)
 
-    split : Among y (g z) ⊎ Among y (flat_map g xs) → (x : A) × Among x (z ∷ xs) × Among y (g x)
-    split (inl a) = (z, inl refl, a)
-    split (inr b) = further (flat_among g y xs b)
+    split : (Among y (flat_map g xs) → (x : A) × Among x xs × Among y (g x)) → Among y (g z) ⊎ Among y (flat_map g xs) → (x : A) × Among x (z ∷ xs) × Among y (g x)
+    split rest (inl a) = (z, inl refl, a)
+    split rest (inr b) = further (rest b)
 
 pub among_map : {A B : Type 0} (g : A → B) (x : A) (xs : List A) → Among x xs → Among (g x) (map g xs)
 among_map g x [] h = absurd h
@@ -74,11 +74,11 @@ among_contained x xs c = at xs c.0 c.1 c.2
 
 pub contained_among : {A : Type 0} (x : A) (xs : List A) → Among x xs → Contains xs x
 contained_among x [] h = absurd h
-contained_among x (z ∷ xs) (inl e) = (0, (omega arith, sym e))
+contained_among x (z ∷ xs) (inl e) = (0, omega arith, sym e)
 contained_among x (z ∷ xs) (inr h) = further (contained_among x xs h)
   where
     further : Contains xs x → Contains (z ∷ xs) x
-    further c = (suc c.0, (let lt : c.0 < length xs = c.1 in omega arith, c.2))
+    further c = (suc c.0, let lt : c.0 < length xs = c.1 in omega arith, c.2)
 
 -- of what is numbered
 
@@ -101,7 +101,7 @@ pub record IsNumberedAt {A : Type 0} (g : ℕ → A → List StaticFault) (y : S
 
 pub numbered_among : {A : Type 0} (g : ℕ → A → List StaticFault) (y : StaticFault) (xs : List A) (n : ℕ) → Among y (numbered g n xs) → IsNumberedAt g y xs n
 numbered_among g y [] n h = absurd h
-numbered_among {A} g y (z ∷ xs) n h = split (among_either y (g n z) (numbered g (n + 1) xs) h)
+numbered_among {A} g y (z ∷ xs) n h = split (λ b. numbered_among g y xs (n + 1) b) (among_either y (g n z) (numbered g (n + 1) xs) h)
   where
     further : IsNumberedAt g y xs (n + 1) → IsNumberedAt g y (z ∷ xs) n
     further r = record {
@@ -113,9 +113,9 @@ numbered_among {A} g y (z ∷ xs) n h = split (among_either y (g n z) (numbered 
       among = r.among;
     }
 
-    split : Among y (g n z) ⊎ Among y (numbered g (n + 1) xs) → IsNumberedAt g y (z ∷ xs) n
-    split (inl a) = record { place = 0; number = n; element = z; at = refl; counts = omega arith; among = a }
-    split (inr b) = further (numbered_among g y xs (n + 1) b)
+    split : (Among y (numbered g (n + 1) xs) → IsNumberedAt g y xs (n + 1)) → Among y (g n z) ⊎ Among y (numbered g (n + 1) xs) → IsNumberedAt g y (z ∷ xs) n
+    split rest (inl a) = record { place = 0; number = n; element = z; at = refl; counts = omega arith; among = a }
+    split rest (inr b) = further (rest b)
 
 -- of one fault or none
 

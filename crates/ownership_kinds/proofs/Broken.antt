@@ -211,11 +211,11 @@ module _ (d : Declarations) (f : Function) (ring : Option ValueId) where
 
   counted_at : (vs : List ValueId) (n : ℕ) (v : ValueId) → AreCountedFrom n vs → n ≤ v.0 → v.0 < n + length vs → Among v vs
   counted_at [] n v c le lt = absurd (omega arith)
-  counted_at (w ∷ vs) n v c le lt = at (cases_eq v.0 n)
+  counted_at (w ∷ vs) n v c le lt = at (λ m. counted_at vs (n + 1) v c.1 (omega arith) (omega arith)) (cases_eq v.0 n)
     where
-      at : (v.0 ≡ n) ⊎ (v.0 ≢ n) → (v ≡ w) ⊎ Among v vs
-      at (inl e) = inl (let same : v.0 ≡ w.0 = e ∙ sym c.0 in ap (λ k. let x : ValueId = record { 0 = k } in x) same)
-      at (inr m) = inr (counted_at vs (n + 1) v c.1 (omega arith) (omega arith))
+      at : (v.0 ≢ n → Among v vs) → (v.0 ≡ n) ⊎ (v.0 ≢ n) → (v ≡ w) ⊎ Among v vs
+      at rest (inl e) = inl (let same : v.0 ≡ w.0 = e ∙ sym c.0 in ap (λ k. let x : ValueId = record { 0 = k } in x) same)
+      at rest (inr m) = inr (rest m)
 
   abbrev Defined : ValueId → Type 0
   Defined v = (n : ℕ) × (k : ℕ) × IsDefinedAt f v n k
