@@ -1,1 +1,2 @@
+pub mod MarkTables
 pub mod Roling

@@ -2,8 +2,12 @@
 //! It knows of no rule and no walk: the kinds and bases of values are given to it.
 #![tactic(auto)]
 
+mod kinds;
 mod mark;
+mod marks;
+mod passed;
 mod taken;
 
+pub use kinds::Kinds;
 pub use mark::{Mark, MarkSort};
 pub use taken::{Taken, add_taken_along, add_taken_by};

@@ -1,0 +1,43 @@
+-- What contracts see of kinds: the facts of each value and the marks of each item, by their numbers.
+use Rattle.std.specs.Prelude.{◌≡◌, ℕ, List, [], map, slice_get, length, Option, Some, unwrap_or}
+use Rattle.std.specs.declared.alloc.Global.{Global}
+use Rattle.std.specs.declared.vec.Vec.{Vec}
+use Rattle.sil_ast.specs.declared.function.Function.{Function}
+use Rattle.sil_ast.specs.declared.place.ValueId.{ValueId}
+use Rattle.sil_cfg.specs.Layout.{Layout, item_at}
+use Rattle.sil_cfg.specs.declared.item.Item.{Item}
+use Rattle.forwarding_chains.specs.Facts.{known_or, told_at}
+use Rattle.forwarding_chains.specs.declared.facts.Facts.{Facts}
+use Rattle.ownership_marks.specs.Marks.{marks_of}
+use Rattle.ownership_marks.specs.declared.mark.Mark.{Mark}
+
+pub record Known : Type 0 where
+  pub table : List (Option Facts)
+  pub marks : List (List Mark)
+
+-- a value's kind and bases; a number that is no value's is Plain and has no bases
+abbrev pub facts_of : Known → ValueId → Facts
+facts_of k v = known_or (told_at k.table) v
+
+abbrev pub marks_in : List (List Mark) → ℕ → List Mark
+marks_in lists i = unwrap_or (slice_get lists i) []
+
+-- an item's marks, in order; a number that is no item's has none
+abbrev pub marks_at : Known → ℕ → List Mark
+marks_at k i = marks_in k.marks i
+
+abbrev pub lists_of : List (Vec Mark Global) → List (List Mark)
+lists_of marks = map (λ v. v.items) marks
+
+abbrev pub known_by : List (Option Facts) → List (Vec Mark Global) → Known
+known_by table marks = record { table = table; marks = lists_of marks }
+
+-- an item's number has the item's marks
+abbrev pub AreMarksOf : (ValueId → Option Facts) → Function → Layout → (ℕ → List Mark) → Type 0
+AreMarksOf facts f g marks = (i : ℕ) (item : Item) → item_at g i ≡ Some item → marks i ≡ marks_of facts f item
+
+-- what is known is what the facts tell of so many values: each value's kind and bases, and each item's marks
+pub record AreKindsBy (count : ℕ) (facts : ValueId → Option Facts) (f : Function) (g : Layout) (k : Known) : Type 0 where
+  pub size : length k.table ≡ count
+  pub facts_are : (v : ValueId) → facts_of k v ≡ known_or facts v
+  pub marks_are : AreMarksOf facts f g (marks_at k)

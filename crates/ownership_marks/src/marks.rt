@@ -1,0 +1,272 @@
+//! The marks of each item: operands that end, operands that are used, and values that begin.
+
+ghost use Rattle.std.specs.Prelude.{◌≡◌, ◌++◌, [], ◌∷◌, cond, length, map, IfOk, OnOk};
+ghost use Rattle.std.specs.List.{flat_map};
+ghost use Rattle.std.specs.Option.{option_copied};
+ghost use Rattle.sil_ast.specs.declared.place.ValueId.{ValueId};
+ghost use Rattle.sil_cfg.specs.Layout.{item_count};
+ghost use Rattle.forwarding_chains.specs.Facts.{told_at};
+ghost use Rattle.ownership_marks.specs.Known.{AreMarksOf, lists_of, marks_in};
+ghost use Rattle.ownership_marks.specs.Marks as marks;
+ghost use Rattle.ownership_marks.specs.Marks.{arg_value, begun, end_of, ended, ended_by, item_defined, marks_of, use_of, used};
+
+use crate::mark::{Mark, MarkSort};
+use crate::passed::{add_item_taken, args_of, edge_at, results_of};
+use crate::taken::Taken;
+use forwarding_chains::Facts;
+use sil_ast::{BlockArg, BlockId, Exhausted, Function, Role, ValueId};
+use sil_cfg::{Graph, Item};
+use std::alloc::Global;
+use type_definitions::Kind;
+
+/// What a table tells of a value.
+pub(crate) fn facts_at(table: &[Option<Facts>], value: ValueId) -> Option<&Facts>
+    ensures { option_copied result ≡ told_at table.now value }
+{
+    match table.get(value.0 as usize) {
+        Some(Some(facts)) => Some(facts),
+        _ => None,
+    }
+}
+
+/// Whether the role ends an Owned value.
+fn ends_owned(role: Role) -> bool
+    ensures { result ≡ marks.ends_owned role }
+{
+    match role {
+        Role::Consumed | Role::Forwarded => true,
+        Role::Used
+        | Role::Lent
+        | Role::AddressRole
+        | Role::AnyRole
+        | Role::ScopeRole
+        | Role::ByParameter
+        | Role::Counted => false,
+    }
+}
+
+/// Whether the role ends a scope.
+fn ends_scope(role: Role) -> bool
+    ensures { result ≡ marks.ends_scope role }
+{
+    match role {
+        Role::ScopeRole => true,
+        Role::Consumed
+        | Role::Forwarded
+        | Role::Used
+        | Role::Lent
+        | Role::AddressRole
+        | Role::AnyRole
+        | Role::ByParameter
+        | Role::Counted => false,
+    }
+}
+
+/// Whether the role ends a value of this kind.
+fn ends(kind: Kind, role: Role) -> bool
+    ensures { (v : ValueId) → ended_by kind role v ≡ cond result (end_of v ∷ []) [] }
+{
+    match kind {
+        Kind::Owned => ends_owned(role),
+        Kind::Guaranteed => ends_scope(role),
+        Kind::Plain => false,
+    }
+}
+
+fn add_end(marks: &mut Vec<Mark>, table: &[Option<Facts>], taken: Taken) -> Result<(), Exhausted>
+    ensures { OnOk result (marks.new.items ≡ marks.old.items ++ ended (told_at table.now) taken) }
+{
+    if let Some(facts) = facts_at(table, taken.value) {
+        if ends(facts.kind, taken.role) {
+            marks.push(Mark {
+                subject: taken.value,
+                sort: MarkSort::End,
+            })?;
+        }
+    }
+    Ok(())
+}
+
+fn add_ends(
+    marks: &mut Vec<Mark>,
+    table: &[Option<Facts>],
+    taken: &[Taken],
+) -> Result<(), Exhausted>
+    ensures { OnOk result (marks.new.items ≡ marks.old.items ++ flat_map (ended (told_at table.now)) taken.now) }
+{
+    for one in taken {
+        add_end(marks, table, *one)?;
+    }
+    Ok(())
+}
+
+fn add_uses_of(marks: &mut Vec<Mark>, values: &[ValueId]) -> Result<(), Exhausted>
+    ensures { OnOk result (marks.new.items ≡ marks.old.items ++ map use_of values.now) }
+{
+    for value in values {
+        marks.push(Mark {
+            subject: *value,
+            sort: MarkSort::Use,
+        })?;
+    }
+    Ok(())
+}
+
+/// The uses that an operand makes: of an Owned value, or of the bases of a Guaranteed one.
+fn add_use(marks: &mut Vec<Mark>, table: &[Option<Facts>], taken: Taken) -> Result<(), Exhausted>
+    ensures { OnOk result (marks.new.items ≡ marks.old.items ++ used (told_at table.now) taken) }
+{
+    let Some(facts) = facts_at(table, taken.value) else {
+        return Ok(());
+    };
+    match facts.kind {
+        Kind::Owned => {
+            if ends_owned(taken.role) {
+                Ok(())
+            } else {
+                add_uses_of(marks, &[taken.value])
+            }
+        }
+        Kind::Guaranteed => {
+            if ends_scope(taken.role) {
+                Ok(())
+            } else {
+                add_uses_of(marks, facts.bases.as_slice())
+            }
+        }
+        Kind::Plain => Ok(()),
+    }
+}
+
+fn add_uses(
+    marks: &mut Vec<Mark>,
+    table: &[Option<Facts>],
+    taken: &[Taken],
+) -> Result<(), Exhausted>
+    ensures { OnOk result (marks.new.items ≡ marks.old.items ++ flat_map (used (told_at table.now)) taken.now) }
+{
+    for one in taken {
+        add_use(marks, table, *one)?;
+    }
+    Ok(())
+}
+
+/// Whether the value is one of these.
+fn is_in(value: ValueId, values: &[ValueId]) -> bool
+    ensures { result ≡ marks.is_in value values.now }
+{
+    values.iter().any(|other| other.0 == value.0)
+}
+
+/// Whether the value has a beginning of its own: an Owned one, a borrow, or a `@guaranteed` argument of the entry.
+fn is_own_base(facts: &Facts, value: ValueId) -> bool
+    ensures { result ≡ marks.is_own_base facts.now.kind value facts.now.bases }
+{
+    match facts.kind {
+        Kind::Owned => true,
+        Kind::Guaranteed => is_in(value, facts.bases.as_slice()),
+        Kind::Plain => false,
+    }
+}
+
+fn add_begin(
+    marks: &mut Vec<Mark>,
+    table: &[Option<Facts>],
+    value: ValueId,
+) -> Result<(), Exhausted>
+    ensures { OnOk result (marks.new.items ≡ marks.old.items ++ begun (told_at table.now) value) }
+{
+    if let Some(facts) = facts_at(table, value) {
+        if is_own_base(facts, value) {
+            marks.push(Mark {
+                subject: value,
+                sort: MarkSort::Begin,
+            })?;
+        }
+    }
+    Ok(())
+}
+
+fn add_result_begins(
+    marks: &mut Vec<Mark>,
+    table: &[Option<Facts>],
+    results: &[ValueId],
+) -> Result<(), Exhausted>
+    ensures { OnOk result (marks.new.items ≡ marks.old.items ++ flat_map (begun (told_at table.now)) results.now) }
+{
+    for value in results {
+        add_begin(marks, table, *value)?;
+    }
+    Ok(())
+}
+
+fn add_arg_begins(
+    marks: &mut Vec<Mark>,
+    table: &[Option<Facts>],
+    args: &[BlockArg],
+) -> Result<(), Exhausted>
+    ensures { OnOk result (marks.new.items ≡ marks.old.items ++ flat_map (begun (told_at table.now)) (map arg_value args.now)) }
+{
+    for arg in args {
+        add_begin(marks, table, arg.value)?;
+    }
+    Ok(())
+}
+
+/// The beginnings of the values that an item defines.
+fn add_item_begins(
+    marks: &mut Vec<Mark>,
+    table: &[Option<Facts>],
+    f: &Function,
+    item: Item,
+) -> Result<(), Exhausted>
+    ensures { OnOk result (marks.new.items ≡ marks.old.items ++ flat_map (begun (told_at table.now)) (item_defined f.now item)) }
+{
+    match item {
+        Item::Entry => add_arg_begins(marks, table, args_of(f, BlockId(0))),
+        Item::Inst(p) => add_result_begins(marks, table, results_of(f, p)),
+        Item::Edge(e) => match edge_at(f, e) {
+            None => Ok(()),
+            Some(edge) => add_arg_begins(marks, table, args_of(f, edge.block)),
+        },
+        Item::Exit(_) => Ok(()),
+    }
+}
+
+/// The marks of an item: ends in the order of its operands, then uses, then beginnings. What `taken` holds doesn't matter: it is memory for the operands.
+fn marks_of_item(
+    alloc: Global,
+    table: &[Option<Facts>],
+    f: &Function,
+    item: Item,
+    taken: &mut Vec<Taken>,
+) -> Result<Vec<Mark>, Exhausted>
+    ensures { IfOk result (λ v. v.items ≡ marks_of (told_at table.now) f.now item) }
+{
+    taken.clear();
+    add_item_taken(taken, f, item)?;
+    let mut marks = Vec::new(alloc);
+    add_ends(&mut marks, table, taken.as_slice())?;
+    add_uses(&mut marks, table, taken.as_slice())?;
+    add_item_begins(&mut marks, table, f, item)?;
+    Ok(marks)
+}
+
+/// The marks of every item of the function's graph, by the item's number. `table` has what is known of the values.
+/// The time goes with the number of operands and the lengths of their lists of bases.
+pub(crate) fn all_marks(
+    alloc: Global,
+    table: &[Option<Facts>],
+    f: &Function,
+    g: &Graph,
+) -> Result<Vec<Vec<Mark>>, Exhausted>
+    ensures size { IfOk result (λ v. length v.items ≡ item_count g.now) }
+    ensures marks { IfOk result (λ v. AreMarksOf (told_at table.now) f.now g.now (marks_in (lists_of v.items))) }
+{
+    let mut taken = Vec::new(alloc);
+    let mut all = Vec::new(alloc);
+    for i in 0..g.items() {
+        all.push(marks_of_item(alloc, table, f, g.item(i), &mut taken)?)?;
+    }
+    Ok(all)
+}
