@@ -100,7 +100,7 @@ pub deeper : (defs : List Definition) (n : ℕ) → IsBelow (told_in defs n) (to
 deeper defs zero v f h = absurd (none-some f h)
 deeper defs (suc n) v f h = from_more defs (told_in defs n) (told_in defs (suc n)) (deeper defs n) v f h
 
-deeper_by : (defs : List Definition) (n k : ℕ) → IsBelow (told_in defs n) (told_in defs (n + k))
+pub deeper_by : (defs : List Definition) (n k : ℕ) → IsBelow (told_in defs n) (told_in defs (n + k))
 deeper_by defs n zero v f h = let e : n ≡ n + 0 = omega arith in subst (λ m. told_in defs m v ≡ Some f) e h
 deeper_by defs n (suc k) v f h =
     let e : suc (n + k) ≡ n + suc k = omega arith in

@@ -5,3 +5,4 @@ mod Settled
 mod Chaining
 pub mod FactLemmas
 mod RingLemmas
+mod Enough

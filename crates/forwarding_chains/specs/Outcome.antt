@@ -4,11 +4,15 @@ use Rattle.sil_ast.specs.declared.place.ValueId.{ValueId}
 use Rattle.forwarding_chains.specs.declared.definition.Definition.{Definition}
 use Rattle.forwarding_chains.specs.declared.facts.Facts.{Facts}
 use Rattle.forwarding_chains.specs.Chains.{LeadsIntoRing}
-use Rattle.forwarding_chains.specs.Facts.{Has, told_at}
+use Rattle.forwarding_chains.specs.Facts.{Has, told_at, told_in}
 
 -- exactly the values whose chains end are known, with their kind and bases
 abbrev pub IsExact : List Definition → (ValueId → Option Facts) → Type 0
 IsExact defs known = (v : ValueId) (f : Facts) → v.0 < length defs → (known v ≡ Some f) ↔ Has defs v f
+
+-- of each value just that is known which as many steps as there are values tell
+abbrev pub IsTold : List Definition → (ValueId → Option Facts) → Type 0
+IsTold defs known = (v : ValueId) → v.0 < length defs → known v ≡ told_in defs (length defs) v
 
 -- nothing is known of a value exactly where a chain from it leads into a ring
 abbrev pub KnowsAllButRings : List Definition → List (Option Facts) → Type 0

@@ -3,7 +3,7 @@
 ghost use Rattle.std.specs.Prelude.{◌≡◌, IfOk, IfSome, IfNone, length};
 ghost use Rattle.forwarding_chains.specs.Chains.{HasNoRing, IsFirstCyclic, IsInRange};
 ghost use Rattle.forwarding_chains.specs.Facts.{told_at};
-ghost use Rattle.forwarding_chains.specs.Outcome.{AreAll, KnowsAllButRings, IsExact};
+ghost use Rattle.forwarding_chains.specs.Outcome.{AreAll, KnowsAllButRings, IsExact, IsTold};
 
 use crate::advice::operands_first;
 use crate::definition::Definition;
@@ -28,6 +28,7 @@ pub fn kinds_of(alloc: Global, defs: &[Definition]) -> Result<Outcome, Exhausted
     requires { IsInRange defs.now }
     ensures size { IfOk result (λ o. length o.table ≡ length defs.now) }
     ensures exact { IfOk result (λ o. IsExact defs.now (told_at o.table)) }
+    ensures told { IfOk result (λ o. IsTold defs.now (told_at o.table)) }
     ensures unknown { IfOk result (λ o. KnowsAllButRings defs.now o.table) }
     ensures cyclic { IfOk result (λ o. IfSome o.cyclic (IsFirstCyclic defs.now)) }
     ensures acyclic { IfOk result (λ o. IfNone o.cyclic (HasNoRing defs.now)) }

@@ -1,3 +1,4 @@
 pub mod Switched
 pub mod Origins
 pub mod Renamings
+pub mod Tables

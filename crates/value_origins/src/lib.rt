@@ -4,5 +4,7 @@
 
 mod renaming;
 mod switched;
+mod switching;
 
 pub use switched::Switched;
+pub use switching::{switch_of, switches};

@@ -1,6 +1,8 @@
 use Rattle.std.proofs.Common.{subst, sym}
 use Rattle.std.specs.Prelude.{IfNone}
-use Rattle.forwarding_chains.specs.Outcome.{AreAll, KnowsAllButRings}
+use Rattle.forwarding_chains.specs.Facts.{told_at}
+use Rattle.forwarding_chains.specs.Outcome.{AreAll, KnowsAllButRings, IsTold}
+use Rattle.forwarding_chains.proofs.Enough.{exact_told}
 use Rattle.forwarding_chains.proofs.RingLemmas.{all_unless, just_unknown}
 use Rattle.forwarding_chains.proofs.outcome.kinds_of.Goals as goal
 
@@ -12,3 +14,7 @@ returns-clause-all c =
 pub returns-clause-unknown : goal.returns-clause-unknown
 returns-clause-unknown c =
     subst (KnowsAllButRings c.args.defs.now) (sym c.from_vec.ensures) (just_unknown c.args.defs.now c.in_ok-table.table.items c.requires c.in_ok-table.ensures.exact c.in_ok-table.ensures.stuck)
+
+pub returns-clause-told : goal.returns-clause-told
+returns-clause-told c =
+    subst (λ t. IsTold c.args.defs.now (told_at t)) (sym c.from_vec.ensures) (exact_told c.args.defs.now (told_at c.in_ok-table.table.items) c.requires c.in_ok-table.ensures.exact)

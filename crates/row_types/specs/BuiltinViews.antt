@@ -1,0 +1,24 @@
+-- What the code's operations at widths are in the definitions of builtins.
+use Rattle.std.specs.Prelude.{List, Bool, false, Option, Some, None}
+use Rattle.sil_ast.specs.declared.operands.Operand.{Operand}
+use Rattle.sil_ast.specs.declared.type_name.TypeName.{TypeName}
+use Rattle.sil_types.specs.Typing.Builtins as builtins
+use Rattle.sil_types.specs.Typing.Builtins.{Builtin, at_width}
+use Rattle.sil_types.specs.Typing.RowTypes.{all_written}
+use Rattle.sil_types.specs.Typing.Same.{are_same_types}
+use Rattle.row_types.specs.declared.builtins.BuiltinAt.{BuiltinAt}
+use Rattle.row_types.specs.declared.builtins.Sort.{Sort}
+use Rattle.row_types.specs.declared.builtins.Sort.TheVariants.{Overflowing, Comparing, Combining}
+
+abbrev pub builtin_told : BuiltinAt → Builtin
+builtin_told b = at_width b.operation b.width
+
+abbrev pub sort_told : Sort → builtins.Sort
+sort_told Overflowing = builtins.overflowing
+sort_told Comparing = builtins.comparing
+sort_told Combining = builtins.combining
+
+-- these types are written at the operands that are left, where there are such
+abbrev pub are_behind : List TypeName → Option (List Operand) → Bool
+are_behind types None = false
+are_behind types (Some operands) = are_same_types (all_written operands) types
