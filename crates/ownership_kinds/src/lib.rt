@@ -4,6 +4,7 @@
 
 mod annotations;
 mod borrows;
+mod decide;
 mod defaults;
 mod fault;
 mod kinds;

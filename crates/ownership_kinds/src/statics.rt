@@ -3,9 +3,9 @@
 ghost use Rattle.std.specs.Prelude.{◌≡◌, ◌<◌, ◌^◌, All, IfNone, IfOk, IfSome, length};
 ghost use Rattle.std.specs.List.{flat_map};
 ghost use Rattle.numbered_form.specs.Numbering.{AreCountedFrom, values_of};
+ghost use Rattle.value_origins.specs.Tables.{AreSwitches};
 ghost use Rattle.ownership_kinds.specs.Faults.{arg_faults, block_faults, faults_of, inst_faults, insts_faults, least};
-ghost use Rattle.ownership_kinds.specs.Known as known;
-ghost use Rattle.ownership_kinds.specs.Known.{AreSwitchesOf, IsKnown, kind_told};
+ghost use Rattle.ownership_kinds.specs.Known.{IsKnown, kind_told};
 ghost use Rattle.ownership_kinds.specs.Statics.{HasKinds, IsFirstBroken};
 
 use crate::annotations::add_annotation;
@@ -18,7 +18,7 @@ use forwarding_chains::Facts;
 use sil_ast::{Block, BlockArg, BlockId, Exhausted, Function, Inst, PointId, ValueId};
 use sil_types::TypeTable;
 use std::alloc::Global;
-use value_origins::Switched;
+use value_origins::{Switched, switch_of};
 
 /// What the rules on kinds are decided by.
 pub(crate) struct Known<'a> {
@@ -88,16 +88,6 @@ fn add_args(
     found
 }
 
-/// The switch that goes to a block, where a table tells it.
-fn switch_at(switches: &[Option<Switched>], block: BlockId) -> Option<Switched>
-    ensures { result ≡ known.switch_at switches.now block.0 }
-{
-    match switches.get(block.0 as usize) {
-        Some(Some(switched)) => Some(*switched),
-        _ => None,
-    }
-}
-
 /// The first of what was found and of the faults of a block.
 fn add_block(
     alloc: Global,
@@ -110,10 +100,10 @@ fn add_block(
 ) -> Result<Option<StaticFault>, Exhausted>
     requires inside { number.0 < length f.now.blocks }
     requires short { length block.now.insts < 2 ^ 32 }
-    requires switches { AreSwitchesOf f.now known.now.switches.now }
+    requires switches { AreSwitches f.now known.now.switches.now }
     ensures { IfOk result (λ r. r ≡ least found (block_faults (kind_told known.now.facts.now) known.now.borrows.now known.now.ring types.now f.now number.0 block.now)) }
 {
-    let switched = switch_at(known.switches, number);
+    let switched = switch_of(known.switches, number.0 as usize);
     let found = add_args(known, types, switched, number, block.args.as_slice(), found);
     let found = add_insts(alloc, known, f, number, block.insts.as_slice(), found)?;
     let point = PointId {
@@ -132,7 +122,7 @@ fn least_fault(
 ) -> Result<Option<StaticFault>, Exhausted>
     requires blocks { length f.now.blocks < 2 ^ 32 }
     requires short { All (λ b. length b.insts < 2 ^ 32) f.now.blocks }
-    requires switches { AreSwitchesOf f.now known.now.switches.now }
+    requires switches { AreSwitches f.now known.now.switches.now }
     ensures { IfOk result (λ r. r ≡ least None (faults_of (kind_told known.now.facts.now) known.now.borrows.now known.now.ring types.now f.now)) }
 {
     let mut found = None;
