@@ -7,10 +7,12 @@ mod borrows;
 mod decide;
 mod defaults;
 mod fault;
+mod find;
 mod kinds;
 mod mismatch;
 mod mixed;
 mod rings;
 mod statics;
 
-pub use fault::StaticFault;
+pub use find::kinds_in;
+pub use ownership_marks::Kinds;

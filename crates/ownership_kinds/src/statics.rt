@@ -21,6 +21,7 @@ use std::alloc::Global;
 use value_origins::{Switched, switch_of};
 
 /// What the rules on kinds are decided by.
+#[derive(Drop)]
 pub(crate) struct Known<'a> {
     /// By value its kind and bases, where they are known.
     pub facts: &'a [Option<Facts>],

@@ -1,1 +1,6 @@
-pub mod Noting
+mod Noting
+mod ResultByResult
+mod BlockByBlock
+mod TrivialTuples
+pub mod Counts
+pub mod Ranges

@@ -2,3 +2,5 @@ pub mod Switched
 pub mod Origins
 pub mod Renamings
 pub mod Tables
+pub mod Results
+pub mod Laws

@@ -1,5 +1,5 @@
 -- Values that lowering makes another name of an operand: copies, moves, borrows, and the arguments of defaults.
-use Rattle.std.specs.Prelude.{ℕ, ◌+◌, List, [], ◌∷◌, ◌++◌, Bool, true, false, Option, Some, None, map, length, replicate, slice_index_or, cond}
+use Rattle.std.specs.Prelude.{ℕ, ◌+◌, List, [], ◌∷◌, ◌++◌, Bool, false, Option, Some, None, map, length, replicate, slice_index_or, cond}
 use Rattle.std.specs.List.{flat_map}
 use Rattle.sil_ast.specs.Forms.{number_of}
 use Rattle.sil_ast.specs.declared.function.Block.{Block}

@@ -1,5 +1,5 @@
 -- The switch that goes to a block.
-use Rattle.std.specs.Prelude.{ℕ, List, [], ◌∷◌, Bool, ◌==◌, Option, Some, None, is_none, option_map, slice_get, if◌then◌else◌}
+use Rattle.std.specs.Prelude.{ℕ, List, [], ◌==◌, Option, None, is_none, option_map, slice_get, if◌then◌else◌}
 use Rattle.std.specs.List.{filter_map, flat_map}
 use Rattle.sil_ast.specs.Forms.{ending_of}
 use Rattle.sil_ast.specs.declared.entries.Ending.{Ending}

@@ -2,9 +2,19 @@
 //! It decides nothing, and knows of no rule.
 #![tactic(auto)]
 
+mod args;
+mod defining;
+mod laws;
+mod operands;
+mod renamed;
 mod renaming;
+mod results;
 mod switched;
 mod switching;
+mod trivial;
 
+pub use defining::definitions;
+pub use laws::{definitions_are_in_range, definitions_are_of_values};
+pub use renamed::renamings;
 pub use switched::Switched;
 pub use switching::{switch_of, switches};

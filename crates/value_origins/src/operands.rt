@@ -1,0 +1,33 @@
+//! The values of an instruction's operands.
+
+ghost use Rattle.std.specs.Prelude.{◌≡◌, IfOk, map};
+ghost use Rattle.std.specs.Option.{option_to_list};
+ghost use Rattle.value_origins.specs.Switched.{value_of};
+
+use sil_ast::{Exhausted, List, Operand, ValueId};
+use std::alloc::Global;
+
+/// The values of some operands, in order.
+pub(crate) fn operand_values(
+    alloc: Global,
+    operands: &[Operand],
+) -> Result<List<ValueId>, Exhausted>
+    ensures { IfOk result (λ values. values ≡ map value_of operands.now) }
+{
+    let mut values = List::with_capacity(alloc, operands.len())?;
+    for operand in operands {
+        values.push(operand.value)?;
+    }
+    Ok(values)
+}
+
+/// One value, or none.
+pub(crate) fn one_or_none(alloc: Global, value: Option<ValueId>) -> Result<List<ValueId>, Exhausted>
+    ensures { IfOk result (λ values. values ≡ option_to_list value) }
+{
+    let mut values = List::new(alloc);
+    if let Some(value) = value {
+        values.push(value)?;
+    }
+    Ok(values)
+}
