@@ -3,4 +3,4 @@ pub mod Among
 pub mod Order
 pub mod Broken
 pub mod First
-pub mod Rings
+pub mod FirstRing
