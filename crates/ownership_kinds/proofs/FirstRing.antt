@@ -78,3 +78,10 @@ module _ (d : Declarations) (f : Function) (defined_each : length (definitions_o
       by : (t : Bool) → nat_lt w.0 v.0 ≡ t → IsRingOf d f (if nat_lt w.0 v.0 then Some w else Some v)
       by true e = subst (λ t. IsRingOf d f (if t then Some w else Some v)) (sym e) (earlier (let lt : w.0 < v.0 = grind (arith, nat_tests) in lt))
       by false e = subst (λ t. IsRingOf d f (if t then Some w else Some v)) (sym e) (later (let le : v.0 ≤ w.0 = grind (arith, nat_tests) in le))
+
+-- what is known by a table of what is told is known by the function
+pub kinds_told : (d : Declarations) (f : Function) (g : Layout) (k : marks.Known) (defs : List Definition) (table : List (Option Facts)) → defs ≡ definitions_of d f → length defs ≡ length (values_of f.blocks) →
+    length table ≡ length defs → IsTold defs (told_at table) → AreKindsBy (length table) (told_at table) f g k → AreKindsBy (length (values_of f.blocks)) (facts_in d f) f g k
+kinds_told d f g k defs table is each size told known =
+    subst (λ n. AreKindsBy n (facts_in d f) f g k) (size ∙ each)
+    (kinds_by (length table) (told_at table) (facts_in d f) f g k (λ v. told_everywhere defs table size told v ∙ ap (λ ds. facts_by ds v) is) known)
