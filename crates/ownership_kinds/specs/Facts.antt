@@ -1,5 +1,5 @@
 -- The kinds and bases of a function's values.
-use Rattle.std.specs.Prelude.{ℕ, List, Option, length, option_map}
+use Rattle.std.specs.Prelude.{ℕ, List, Option, None, length, option_map, nat_lt, if◌then◌else◌}
 use Rattle.sil_ast.specs.declared.function.Function.{Function}
 use Rattle.sil_ast.specs.declared.place.ValueId.{ValueId}
 use Rattle.forwarding_chains.specs.Facts.{told_in}
@@ -9,9 +9,9 @@ use Rattle.type_definitions.specs.Declarations.{Declarations}
 use Rattle.type_definitions.specs.declared.kind.Kind.{Kind}
 use Rattle.value_origins.specs.Origins.{definitions_of}
 
--- what chains of no more steps than there are values tell
+-- what chains of no more steps than there are values tell; a number beyond them tells nothing
 abbrev pub facts_by : List Definition → ValueId → Option Facts
-facts_by defs v = told_in defs (length defs) v
+facts_by defs v = if nat_lt v.0 (length defs) then told_in defs (length defs) v else None
 
 -- a value's kind and bases, where every chain from it ends
 abbrev pub facts_in : Declarations → Function → ValueId → Option Facts

@@ -1,3 +1,5 @@
 pub mod Facts
+pub mod Known
 pub mod Statics
-pub mod Kinds
+pub mod Faults
+pub mod Ends

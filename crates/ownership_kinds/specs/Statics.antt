@@ -15,7 +15,6 @@ use Rattle.sil_ast.specs.declared.function.BlockArg.{BlockArg}
 use Rattle.sil_ast.specs.declared.function.Function.{Function}
 use Rattle.sil_ast.specs.declared.inst.Edge.{Edge}
 use Rattle.sil_ast.specs.declared.inst.Inst.{Inst}
-use Rattle.sil_ast.specs.declared.place.PointId.{PointId}
 use Rattle.sil_ast.specs.declared.place.ValueId.{ValueId}
 use Rattle.numbered_form.specs.Insts.{insts_of}
 use Rattle.forwarding_chains.specs.Chains.{IsCyclic}
@@ -36,16 +35,16 @@ use Rattle.ownership_marks.specs.Roles.{taken_along, taken_by}
 use Rattle.ownership_marks.specs.declared.taken.Taken.{Taken}
 
 abbrev pub is_owned : Option Kind → Bool
+is_owned None = false
 is_owned (Some kind.Owned) = true
-is_owned _ = false
+is_owned (Some kind.Guaranteed) = false
+is_owned (Some kind.Plain) = false
 
 abbrev pub is_guaranteed : Option Kind → Bool
+is_guaranteed None = false
+is_guaranteed (Some kind.Owned) = false
 is_guaranteed (Some kind.Guaranteed) = true
-is_guaranteed _ = false
-
-abbrev pub is_none_kind : Option Kind → Bool
-is_none_kind (Some kind.Plain) = true
-is_none_kind _ = false
+is_guaranteed (Some kind.Plain) = false
 
 -- where a value is defined: a result at its instruction, an argument at the first point of its block
 pub data IsDefinedAt (f : Function) (v : ValueId) : ℕ → ℕ → Type 0 where
@@ -69,83 +68,84 @@ forwards_by OperandResult = false
 abbrev pub forwards : Inst → Bool
 forwards i = forwards_by (result_kind_of i.op)
 
-module _ (kinds : ValueId → Option Kind) where
-  abbrev pub owned_value : ValueId → Bool
-  owned_value v = is_owned (kinds v)
+abbrev pub mixed_among : (ValueId → Option Kind) → Bool → List ValueId → Option ValueId
+mixed_among kinds true vs = find (λ v. is_guaranteed (kinds v)) vs
+mixed_among kinds false vs = None
 
-  abbrev pub guaranteed_value : ValueId → Bool
-  guaranteed_value v = is_guaranteed (kinds v)
+-- 303: one forwarding instruction has Owned and Guaranteed operands; the first Guaranteed one is the subject
+abbrev pub mixed_operand : (ValueId → Option Kind) → Inst → Option ValueId
+mixed_operand kinds i = mixed_among kinds (forwards i && list_any (λ o. is_owned (kinds o.value)) i.operands) (map value_of i.operands)
 
-  abbrev pub mixed_among : Bool → List ValueId → Option ValueId
-  mixed_among true vs = find guaranteed_value vs
-  mixed_among false vs = None
+-- 304
 
-  -- 303: one forwarding instruction has Owned and Guaranteed operands; the first Guaranteed one is the subject
-  abbrev pub mixed_operand : Inst → Option ValueId
-  mixed_operand i = mixed_among (forwards i && list_any owned_value (map value_of i.operands)) (map value_of i.operands)
+-- the operand is of a kind that the role doesn't take; `borrow` tells whether it is the result of a borrow itself
+abbrev pub is_mismatch : Bool → Role → Option Kind → Bool
+is_mismatch borrow role.Consumed k = is_guaranteed k
+is_mismatch borrow role.Used k = false
+is_mismatch borrow role.Lent k = is_owned k
+is_mismatch borrow role.Forwarded k = false
+is_mismatch borrow role.AddressRole k = false
+is_mismatch borrow role.AnyRole k = false
+is_mismatch borrow role.ScopeRole k = not borrow
+is_mismatch borrow role.ByParameter k = false
+is_mismatch borrow role.Counted k = false
 
-  -- 304
+-- 305 at an argument
 
-  -- the operand is of a kind that the role doesn't take; `is_borrow` tells whether it is the result of a borrow itself
-  abbrev pub is_mismatch : Bool → Role → ValueId → Bool
-  is_mismatch is_borrow role.Consumed v = guaranteed_value v
-  is_mismatch is_borrow role.Used v = false
-  is_mismatch is_borrow role.Lent v = owned_value v
-  is_mismatch is_borrow role.Forwarded v = false
-  is_mismatch is_borrow role.AddressRole v = false
-  is_mismatch is_borrow role.AnyRole v = false
-  is_mismatch is_borrow role.ScopeRole v = not is_borrow
-  is_mismatch is_borrow role.ByParameter v = false
-  is_mismatch is_borrow role.Counted v = false
+abbrev pub is_plain_annotation : ArgKind → Bool
+is_plain_annotation annotation.Plain = true
+is_plain_annotation annotation.Owned = false
+is_plain_annotation annotation.Guaranteed = false
 
-  -- 305 at an argument
+abbrev pub is_owned_annotation : ArgKind → Bool
+is_owned_annotation annotation.Plain = false
+is_owned_annotation annotation.Owned = true
+is_owned_annotation annotation.Guaranteed = false
 
-  abbrev pub is_plain_annotation : ArgKind → Bool
-  is_plain_annotation annotation.Plain = true
-  is_plain_annotation annotation.Owned = false
-  is_plain_annotation annotation.Guaranteed = false
+abbrev pub is_guaranteed_annotation : ArgKind → Bool
+is_guaranteed_annotation annotation.Plain = false
+is_guaranteed_annotation annotation.Owned = false
+is_guaranteed_annotation annotation.Guaranteed = true
 
-  abbrev pub is_owned_annotation : ArgKind → Bool
-  is_owned_annotation annotation.Plain = false
-  is_owned_annotation annotation.Owned = true
-  is_owned_annotation annotation.Guaranteed = false
+-- a payload carries `@owned` from an Owned or None operand, and `@guaranteed` from a Guaranteed one
+abbrev pub fits_case : Option Kind → ArgKind → Bool
+fits_case None a = true
+fits_case (Some kind.Owned) a = is_owned_annotation a
+fits_case (Some kind.Guaranteed) a = is_guaranteed_annotation a
+fits_case (Some kind.Plain) a = is_owned_annotation a
 
-  abbrev pub is_guaranteed_annotation : ArgKind → Bool
-  is_guaranteed_annotation annotation.Plain = false
-  is_guaranteed_annotation annotation.Owned = false
-  is_guaranteed_annotation annotation.Guaranteed = true
+-- a default takes the whole enum from an Owned or Guaranteed operand, with the same annotation, and nothing from a None one
+abbrev pub fits_default : Option Kind → ArgKind → Bool
+fits_default None a = true
+fits_default (Some kind.Owned) a = is_owned_annotation a
+fits_default (Some kind.Guaranteed) a = is_guaranteed_annotation a
+fits_default (Some kind.Plain) a = false
 
-  -- a payload carries `@owned` from an Owned or None operand, and `@guaranteed` from a Guaranteed one
-  abbrev pub fits_case : Option Kind → ArgKind → Bool
-  fits_case None a = true
-  fits_case (Some kind.Owned) a = is_owned_annotation a
-  fits_case (Some kind.Guaranteed) a = is_guaranteed_annotation a
-  fits_case (Some kind.Plain) a = is_owned_annotation a
+abbrev pub is_none_kind : Option Kind → Bool
+is_none_kind None = false
+is_none_kind (Some kind.Owned) = false
+is_none_kind (Some kind.Guaranteed) = false
+is_none_kind (Some kind.Plain) = true
 
-  -- a default takes the whole enum from an Owned or Guaranteed operand, with the same annotation, and nothing from a None one
-  abbrev pub fits_default : Option Kind → ArgKind → Bool
-  fits_default None a = true
-  fits_default (Some kind.Owned) a = is_owned_annotation a
-  fits_default (Some kind.Guaranteed) a = is_guaranteed_annotation a
-  fits_default (Some kind.Plain) a = false
+-- an argument of a trivial type carries nothing, and a default has none from a None operand
+abbrev pub fits_switch : Bool → Bool → Option Kind → ArgKind → Bool
+fits_switch true true k a = not (is_none_kind k) && is_plain_annotation a
+fits_switch true false k a = fits_default k a
+fits_switch false true k a = is_plain_annotation a
+fits_switch false false k a = fits_case k a
 
-  abbrev pub fits_switch : Bool → Bool → Option Kind → ArgKind → Bool
-  fits_switch true trivial k a = fits_default k a
-  fits_switch false true k a = is_plain_annotation a
-  fits_switch false false k a = fits_case k a
+abbrev pub fits_block : Bool → ArgKind → Bool
+fits_block true a = is_plain_annotation a
+fits_block false a = is_owned_annotation a
 
-  abbrev pub fits_block : Bool → ArgKind → Bool
-  fits_block true a = is_plain_annotation a
-  fits_block false a = is_owned_annotation a
+-- the annotation of an argument of a block other than the entry is the one that is due
+abbrev pub is_annotated_well : (ValueId → Option Kind) → Option Switched → Bool → ArgKind → Bool
+is_annotated_well kinds None trivial a = fits_block trivial a
+is_annotated_well kinds (Some s) trivial a = fits_switch s.is_default trivial (kinds s.operand) a
 
-  -- the annotation of an argument of a block other than the entry is the one that is due
-  abbrev pub is_annotated_well : Option Switched → Bool → ArgKind → Bool
-  is_annotated_well None trivial a = fits_block trivial a
-  is_annotated_well (Some s) trivial a = fits_switch s.is_default trivial (kinds s.operand) a
-
-  -- 305 at a default without an argument: its operand is Owned or Guaranteed
-  abbrev pub needs_argument : ValueId → Bool
-  needs_argument v = owned_value v || guaranteed_value v
+-- 305 at a default without an argument: its operand is Owned or Guaranteed
+abbrev pub needs_argument : Option Kind → Bool
+needs_argument k = is_owned k || is_guaranteed k
 
 -- whether a value is the result of a borrow itself
 
@@ -157,21 +157,21 @@ borrows_by AddressResult = false
 borrows_by ForwardedResult = false
 borrows_by OperandResult = false
 
-abbrev pub no_borrow : BlockArg → Bool
-no_borrow a = false
-
 abbrev pub result_borrows : Inst → List Bool
 result_borrows i = replicate (length i.results) (borrows_by (result_kind_of i.op))
 
 abbrev pub block_borrows : Block → List Bool
-block_borrows b = map no_borrow b.args ++ flat_map result_borrows (insts_of b)
+block_borrows b = replicate (length b.args) false ++ flat_map result_borrows (insts_of b)
 
 -- which values are results of borrows, by their numbers
 abbrev pub borrows_of : Function → List Bool
 borrows_of f = flat_map block_borrows f.blocks
 
+abbrev pub is_borrow_in : List Bool → ValueId → Bool
+is_borrow_in borrows v = unwrap_or (slice_get borrows v.0) false
+
 abbrev pub is_borrow : Function → ValueId → Bool
-is_borrow f v = unwrap_or (slice_get (borrows_of f) v.0) false
+is_borrow f v = is_borrow_in (borrows_of f) v
 
 -- what an instruction takes: its operands, and what its edges hand over
 abbrev pub all_taken : Inst → List Taken
@@ -206,11 +206,11 @@ pub record IsAt (f : Function) (block index : ℕ) (i : Inst) : Type 0 where
 pub data IsBroken (d : Declarations) (f : Function) : Rule → ValueId → ℕ → ℕ → Type 0 where
   on_ring : (v : ValueId) (n k : ℕ) → IsOnRing d f v → IsDefinedAt f v n k → IsBroken d f rule.CyclicForwarding v n k
   mixed : (v : ValueId) (n k : ℕ) (i : Inst) → IsAt f n k i → mixed_operand (kind_in d f) i ≡ Some v → IsBroken d f rule.MixedForwarding v n k
-  mismatch : (n k : ℕ) (i : Inst) (t : Taken) → IsAt f n k i → Contains (all_taken i) t → is_mismatch (kind_in d f) (is_borrow f t.value) t.role t.value ≡ true →
+  mismatch : (n k : ℕ) (i : Inst) (t : Taken) → IsAt f n k i → Contains (all_taken i) t → is_mismatch (is_borrow f t.value) t.role (kind_in d f t.value) ≡ true →
       IsBroken d f rule.KindMismatch t.value n k
   annotated : (n : ℕ) (b : Block) (a : BlockArg) → 0 < n → slice_get f.blocks n ≡ Some b → Contains b.args a →
       is_annotated_well (kind_in d f) (switch_to f n) (is_trivial d a.ty) a.kind ≡ false → IsBroken d f rule.ArgumentKind a.value n 0
-  lacking : (n k : ℕ) (i : Inst) (v : ValueId) → IsAt f n k i → lacks_argument f i ≡ true → first_value i ≡ Some v → needs_argument (kind_in d f) v ≡ true →
+  lacking : (n k : ℕ) (i : Inst) (v : ValueId) → IsAt f n k i → lacks_argument f i ≡ true → first_value i ≡ Some v → needs_argument (kind_in d f v) ≡ true →
       IsBroken d f rule.ArgumentKind v n k
 
 -- no rule on kinds is broken

@@ -1,0 +1,10 @@
+use Rattle.std.proofs.Common.{◌≡◌, drop}
+use Rattle.std.specs.List.{flat_map}
+use Rattle.ownership_kinds.specs.Faults.{arg_faults, least}
+use Rattle.ownership_kinds.specs.Known.{kind_told}
+use Rattle.ownership_kinds.proofs.statics.add_args.Given as goal
+
+abbrev pub invariant-loop-arg : goal.invariant-loop-arg
+invariant-loop-arg l =
+    least l.found (flat_map (arg_faults (kind_told l.known.facts.now) l.known.borrows.now l.known.ring l.types l.switched l.block.0) (drop l.arg-index l.args)) ≡
+    least l.initial.found (flat_map (arg_faults (kind_told l.known.facts.now) l.known.borrows.now l.known.ring l.types l.switched l.block.0) l.args)

@@ -1,0 +1,24 @@
+use Rattle.std.proofs.Common.{◌≡◌, IfNone, IfSome, None, ap, ◌∙◌}
+use Rattle.ownership_kinds.specs.Faults.{faults_of, least}
+use Rattle.ownership_kinds.specs.Known.{kind_told}
+use Rattle.ownership_kinds.specs.Statics.{HasKinds, IsFirstBroken}
+use Rattle.ownership_kinds.proofs.First.{first_none, first_some, known_faults}
+use Rattle.ownership_kinds.proofs.Least.{ok_along}
+use Rattle.ownership_kinds.proofs.statics.first_broken.Goals as goal
+
+pub returns-clause-some : goal.returns-clause-some
+returns-clause-some c =
+    let k = c.args.known.now in
+    let d = c.args.types.now in
+    let f = c.args.f.now in
+    ok_along c.least_fault.result (λ r. r ≡ least None (faults_of (kind_told k.facts.now) k.borrows.now k.ring d f))
+    (λ r. IfSome r (λ x. IsFirstBroken d f x.rule x.subject x.point.block.0 x.point.index))
+    (λ r e. first_some d f k.ring c.requires.counted c.requires.known.ring r (e ∙ ap (least None) (known_faults d f k c.requires.known))) c.least_fault.ensures
+
+pub returns-clause-none : goal.returns-clause-none
+returns-clause-none c =
+    let k = c.args.known.now in
+    let d = c.args.types.now in
+    let f = c.args.f.now in
+    ok_along c.least_fault.result (λ r. r ≡ least None (faults_of (kind_told k.facts.now) k.borrows.now k.ring d f)) (λ r. IfNone r (HasKinds d f))
+    (λ r e. first_none d f k.ring c.requires.counted c.requires.known.ring r (e ∙ ap (least None) (known_faults d f k c.requires.known))) c.least_fault.ensures

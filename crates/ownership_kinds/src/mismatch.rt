@@ -1,0 +1,101 @@
+//! 304: an operand has a kind that the instruction doesn't take.
+
+ghost use Rattle.std.specs.Prelude.{◌≡◌, ◌++◌, IfOk, OnOk};
+ghost use Rattle.std.specs.List.{flat_map};
+ghost use Rattle.ownership_marks.specs.Roles.{taken_along};
+ghost use Rattle.ownership_kinds.specs.Faults.{least, taken_faults};
+ghost use Rattle.ownership_kinds.specs.Known.{kind_told};
+ghost use Rattle.ownership_kinds.specs.Statics as statics;
+
+use crate::fault::{StaticFault, lesser};
+use crate::kinds::{is_guaranteed, is_owned};
+use forwarding_chains::{Facts, kind_of};
+use ownership_marks::{Taken, add_taken_along, add_taken_by};
+use sil_ast::{Edge, Exhausted, Inst, PointId, Role, ValueId};
+use sil_rules::Rule;
+use std::alloc::Global;
+use type_definitions::Kind;
+
+fn add_all_along(taken: &mut Vec<Taken>, edges: &[Edge]) -> Result<(), Exhausted>
+    ensures { OnOk result (taken.new.items ≡ taken.old.items ++ flat_map taken_along edges.now) }
+{
+    for edge in edges {
+        add_taken_along(taken, edge)?;
+    }
+    Ok(())
+}
+
+/// What an instruction takes: its operands, and what its edges hand over.
+pub(crate) fn all_taken(alloc: Global, inst: &Inst) -> Result<Vec<Taken>, Exhausted>
+    ensures { IfOk result (λ taken. taken.items ≡ statics.all_taken inst.now) }
+{
+    let mut taken = Vec::new(alloc);
+    add_taken_by(&mut taken, inst)?;
+    add_all_along(&mut taken, inst.edges.as_slice())?;
+    Ok(taken)
+}
+
+/// Whether the role doesn't take the kind. The end of a scope takes the result of a borrow itself alone.
+fn is_mismatch(is_borrow: bool, role: Role, kind: Option<Kind>) -> bool
+    ensures { result ≡ statics.is_mismatch is_borrow role kind }
+{
+    match role {
+        Role::Consumed => is_guaranteed(kind),
+        Role::Lent => is_owned(kind),
+        Role::ScopeRole => !is_borrow,
+        Role::Used
+        | Role::Forwarded
+        | Role::AddressRole
+        | Role::AnyRole
+        | Role::ByParameter
+        | Role::Counted => false,
+    }
+}
+
+fn is_borrow(borrows: &[bool], value: ValueId) -> bool
+    ensures { result ≡ statics.is_borrow_in borrows.now value }
+{
+    match borrows.get(value.0 as usize) {
+        None => false,
+        Some(is_borrow) => *is_borrow,
+    }
+}
+
+fn add_mismatch(
+    facts: &[Option<Facts>],
+    borrows: &[bool],
+    point: PointId,
+    taken: Taken,
+    found: Option<StaticFault>,
+) -> Option<StaticFault>
+    ensures { result ≡ least found (taken_faults (kind_told facts.now) borrows.now point.block.0 point.index taken) }
+{
+    let kind = kind_of(facts, taken.value);
+    if is_mismatch(is_borrow(borrows, taken.value), taken.role, kind) {
+        return lesser(
+            found,
+            StaticFault {
+                rule: Rule::KindMismatch,
+                subject: taken.value,
+                point,
+            },
+        );
+    }
+    found
+}
+
+/// The first of what was found and of these faults of what the instruction at the point takes.
+pub(crate) fn add_mismatches(
+    facts: &[Option<Facts>],
+    borrows: &[bool],
+    point: PointId,
+    taken: &[Taken],
+    mut found: Option<StaticFault>,
+) -> Option<StaticFault>
+    ensures { result ≡ least found (flat_map (taken_faults (kind_told facts.now) borrows.now point.block.0 point.index) taken.now) }
+{
+    for one in taken {
+        found = add_mismatch(facts, borrows, point, *one, found);
+    }
+    found
+}
