@@ -1,6 +1,6 @@
 -- What a list has, part by part: for the faults of a function.
-use Rattle.std.proofs.Common.{◌≡◌, ℕ, zero, suc, ◌+◌, ◌<◌, List, [], ◌∷◌, ◌++◌, length, refl, sym, ap, ◌∙◌, subst, arith, ◌⊎◌, inl, inr, Bool, true, false, Option, Some, None}
-use Rattle.std.specs.Prelude.{Contains, slice_get, slice_index_or, map, if◌then◌else◌}
+use Rattle.std.proofs.Common.{◌≡◌, ℕ, zero, suc, ◌+◌, ◌<◌, List, [], ◌∷◌, ◌++◌, length, refl, sym, ap, subst, arith, ◌⊎◌, inl, inr, Bool, true, false, Option, Some, None}
+use Rattle.std.specs.Prelude.{Contains, slice_get, slice_index_or, map}
 use Rattle.std.specs.List.{flat_map}
 use Rattle.std.specs.Option.{option_to_list}
 use Rattle.ownership_kinds.specs.Faults.{fault_where, numbered}

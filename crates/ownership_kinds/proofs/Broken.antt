@@ -1,6 +1,6 @@
 -- The faults of a function are those that are broken, of the values on rings the first alone.
-use Rattle.std.proofs.Common.{◌≡◌, ◌≢◌, ℕ, zero, suc, ◌+◌, ◌<◌, ◌≤◌, List, [], ◌∷◌, ◌++◌, length, refl, sym, ap, ◌∙◌, subst, arith, ◌⊎◌, inl, inr, Bool, true, false, not, ◌&&◌, Option, Some, None}
-use Rattle.std.specs.Prelude.{Contains, slice_get, map, nat_lt, ◌==◌}
+use Rattle.std.proofs.Common.{◌≡◌, ◌≢◌, ℕ, ◌+◌, ◌<◌, ◌≤◌, List, [], ◌∷◌, ◌++◌, length, refl, sym, ap, ◌∙◌, subst, arith, ◌⊎◌, inl, inr, Bool, true, false, not, ◌&&◌, Option, Some, None}
+use Rattle.std.specs.Prelude.{Contains, slice_get, map, nat_lt}
 use Rattle.std.specs.List.{flat_map}
 use Rattle.std.specs.Option.{option_to_list}
 use Rattle.std.proofs.lemmas.Bool.{cases_eq}
@@ -22,13 +22,13 @@ use Rattle.type_definitions.specs.Measures.{is_trivial}
 use Rattle.value_origins.specs.Switched.{first_value, switch_to}
 use Rattle.ownership_marks.specs.declared.taken.Taken.{Taken}
 use Rattle.ownership_kinds.specs.Facts.{kind_in}
-use Rattle.ownership_kinds.specs.Faults.{annotation_faults, arg_faults, block_faults, fault_at, fault_key, fault_where, faults_of, inst_faults, insts_faults, is_one, lacking_faults, mixed_faults, needy_faults, numbered, ring_faults, taken_faults}
+use Rattle.ownership_kinds.specs.Faults.{annotation_faults, arg_faults, block_faults, fault_at, fault_key, faults_of, inst_faults, is_one, lacking_faults, mixed_faults, needy_faults, numbered, ring_faults, taken_faults}
 use Rattle.ownership_kinds.specs.Known.{IsFirstOnRing, IsRingOf}
 use Rattle.ownership_kinds.specs.Statics.{IsAt, IsBroken, IsDefinedAt, IsOnRing, all_taken, borrows_of, is_annotated_well, is_borrow, is_mismatch, lacks_argument, mixed_operand, needs_argument, static_key}
 use Rattle.ownership_kinds.specs.Statics.IsBroken.{on_ring, mixed, mismatch, annotated, lacking}
 use Rattle.ownership_kinds.specs.Statics.IsDefinedAt.{result, argument}
 use Rattle.ownership_kinds.specs.declared.fault.StaticFault.{StaticFault}
-use Rattle.ownership_kinds.proofs.Among.{Among, IsNumberedAt, among_at, among_contained, among_either, among_flat, among_left, among_map, among_numbered, among_option, among_right, among_where, contained_among, flat_among, numbered_among, option_among, place_among, where_among}
+use Rattle.ownership_kinds.proofs.Among.{Among, IsNumberedAt, among_contained, among_either, among_flat, among_left, among_map, among_numbered, among_option, among_right, among_where, contained_among, flat_among, numbered_among, option_among, place_among, where_among}
 
 both_true : (a b : Bool) → (a && b) ≡ true → (a ≡ true) × (b ≡ true)
 both_true true b h = (refl, h)
@@ -89,15 +89,15 @@ module _ (d : Declarations) (f : Function) (ring : Option ValueId) where
   taken_breaks n k i y at h =
       let r : (t : Taken) × Among t (all_taken i) × Among y (taken_faults (kind_in d f) (borrows_of f) n k t) = flat_among (taken_faults (kind_in d f) (borrows_of f) n k) y (all_taken i) h in
       let w : (is_mismatch (is_borrow f r.0.value) r.0.role (kind_in d f r.0.value) ≡ true) × (y ≡ fault_at n k rule.KindMismatch r.0.value) =
-          where_among (is_mismatch (is_borrow f r.0.value) r.0.role (kind_in d f r.0.value)) (fault_at n k rule.KindMismatch r.0.value) y r.2 in
+      where_among (is_mismatch (is_borrow f r.0.value) r.0.role (kind_in d f r.0.value)) (fault_at n k rule.KindMismatch r.0.value) y r.2 in
       subst Breaks (sym w.1) (mismatch n k i r.0 at (contained_among r.0 (all_taken i) r.1) w.0)
 
   lacking_breaks : (n k : ℕ) (i : Inst) (y : StaticFault) → IsAt f n k i → Among y (lacking_faults (kind_in d f) f n k i) → Breaks y
   lacking_breaks n k i y at h =
       let r : (v : ValueId) × Among v (option_to_list (first_value i)) × Among y (needy_faults (kind_in d f) (lacks_argument f i) n k v) =
-          flat_among (needy_faults (kind_in d f) (lacks_argument f i) n k) y (option_to_list (first_value i)) h in
+      flat_among (needy_faults (kind_in d f) (lacks_argument f i) n k) y (option_to_list (first_value i)) h in
       let w : ((lacks_argument f i && needs_argument (kind_in d f r.0)) ≡ true) × (y ≡ fault_at n k rule.ArgumentKind r.0) =
-          where_among (lacks_argument f i && needs_argument (kind_in d f r.0)) (fault_at n k rule.ArgumentKind r.0) y r.2 in
+      where_among (lacks_argument f i && needs_argument (kind_in d f r.0)) (fault_at n k rule.ArgumentKind r.0) y r.2 in
       let both : (lacks_argument f i ≡ true) × (needs_argument (kind_in d f r.0) ≡ true) = both_true (lacks_argument f i) (needs_argument (kind_in d f r.0)) w.0 in
       subst Breaks (sym w.1) (lacking n k i r.0 at both.0 (option_among (first_value i) r.0 r.1) both.1)
 
@@ -150,9 +150,9 @@ module _ (d : Declarations) (f : Function) (ring : Option ValueId) where
   annotation_breaks n b a y at in_block h =
       let well : Bool = is_annotated_well (kind_in d f) (switch_to f n) (is_trivial d a.ty) a.kind in
       let w : ((nat_lt 0 n && not (is_annotated_well (kind_in d f) (switch_to f n) (is_trivial d a.ty) a.kind)) ≡ true) × (y ≡ fault_at n 0 rule.ArgumentKind a.value) =
-          where_among (nat_lt 0 n && not (is_annotated_well (kind_in d f) (switch_to f n) (is_trivial d a.ty) a.kind)) (fault_at n 0 rule.ArgumentKind a.value) y h in
+      where_among (nat_lt 0 n && not (is_annotated_well (kind_in d f) (switch_to f n) (is_trivial d a.ty) a.kind)) (fault_at n 0 rule.ArgumentKind a.value) y h in
       let both : (nat_lt 0 n ≡ true) × (not (is_annotated_well (kind_in d f) (switch_to f n) (is_trivial d a.ty) a.kind) ≡ true) =
-          both_true (nat_lt 0 n) (not (is_annotated_well (kind_in d f) (switch_to f n) (is_trivial d a.ty) a.kind)) w.0 in
+      both_true (nat_lt 0 n) (not (is_annotated_well (kind_in d f) (switch_to f n) (is_trivial d a.ty) a.kind)) w.0 in
       subst Breaks (sym w.1)
       (annotated n b a (above_zero n both.0) at (contained_among a b.args in_block) (not_true (is_annotated_well (kind_in d f) (switch_to f n) (is_trivial d a.ty) a.kind) both.1))
 

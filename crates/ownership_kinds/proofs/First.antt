@@ -1,10 +1,9 @@
 -- The least fault of a function is its first broken rule, and without one nothing is broken.
-use Rattle.std.proofs.Common.{◌≡◌, ℕ, List, refl, sym, ap, ◌∙◌, subst, Bool, Option, Some, None}
-use Rattle.std.specs.Prelude.{IfSome, IfNone, option_map, length}
+use Rattle.std.proofs.Common.{◌≡◌, ℕ, sym, ap, ◌∙◌, Option, Some, None}
+use Rattle.std.specs.Prelude.{IfSome, IfNone, option_map}
 use Rattle.sil_ast.specs.declared.function.Function.{Function}
 use Rattle.sil_ast.specs.declared.place.ValueId.{ValueId}
 use Rattle.numbered_form.specs.Numbering.{AreCountedFrom, values_of}
-use Rattle.forwarding_chains.specs.Facts.{told_at}
 use Rattle.sil_rules.specs.Order.{NotAfter}
 use Rattle.sil_rules.specs.declared.rule.Rule.{Rule}
 use Rattle.sil_rules.proofs.Keys.{not_after_trans}
@@ -13,7 +12,7 @@ use Rattle.type_definitions.specs.declared.kind.Kind.{Kind}
 use Rattle.ownership_kinds.specs.Facts.{kind_in, kind_of_facts}
 use Rattle.ownership_kinds.specs.Faults.{fault_key, faults_of, least}
 use Rattle.ownership_kinds.specs.Known.{IsKnown, IsRingOf, kind_told}
-use Rattle.ownership_kinds.specs.Statics.{HasKinds, IsBroken, IsFirstBroken, borrows_of, static_key}
+use Rattle.ownership_kinds.specs.Statics.{HasKinds, IsFirstBroken, borrows_of, static_key}
 use Rattle.ownership_kinds.specs.declared.fault.StaticFault.{StaticFault}
 use Rattle.ownership_kinds.specs.declared.statics.Known.{Known}
 use Rattle.ownership_kinds.proofs.Among.{Among}

@@ -1,5 +1,5 @@
 -- The kinds and bases of a function's values.
-use Rattle.std.specs.Prelude.{ℕ, List, Option, None, length, option_map, nat_lt, if◌then◌else◌}
+use Rattle.std.specs.Prelude.{List, Option, None, length, option_map, nat_lt, if◌then◌else◌}
 use Rattle.sil_ast.specs.declared.function.Function.{Function}
 use Rattle.sil_ast.specs.declared.place.ValueId.{ValueId}
 use Rattle.forwarding_chains.specs.Facts.{told_in}

@@ -61,12 +61,7 @@ fn is_none_kind(kind: Option<Kind>) -> bool
 }
 
 /// Behind a switch an argument of a trivial type carries nothing, and a default has none from a None operand.
-fn fits_switch(
-    is_default: bool,
-    trivial: bool,
-    kind: Option<Kind>,
-    annotation: ArgKind,
-) -> bool
+fn fits_switch(is_default: bool, trivial: bool, kind: Option<Kind>, annotation: ArgKind) -> bool
     ensures { result ≡ statics.fits_switch is_default trivial kind annotation }
 {
     match (is_default, trivial) {
@@ -98,7 +93,12 @@ fn is_annotated_well(
 {
     match switched {
         None => fits_block(trivial, annotation),
-        Some(by) => fits_switch(by.is_default, trivial, kind_of(facts, by.operand), annotation),
+        Some(by) => fits_switch(
+            by.is_default,
+            trivial,
+            kind_of(facts, by.operand),
+            annotation,
+        ),
     }
 }
 

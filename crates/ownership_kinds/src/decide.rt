@@ -30,13 +30,7 @@ fn first_of(one: Option<ValueId>, other: Option<ValueId>) -> Option<ValueId>
     match (one, other) {
         (None, _) => other,
         (Some(_), None) => one,
-        (Some(a), Some(b)) => {
-            if b.0 < a.0 {
-                other
-            } else {
-                one
-            }
-        }
+        (Some(a), Some(b)) => { if b.0 < a.0 { other } else { one } }
     }
 }
 

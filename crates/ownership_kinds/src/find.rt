@@ -57,12 +57,7 @@ fn rule_fault(alloc: Global, fault: StaticFault) -> RuleFault
 
 /// The kinds and bases of a function's values and the marks of its items, where the function keeps the rules on kinds, 302 to 305.
 /// Else the fault is the first that is broken, by value, then by rule, then by point. It has no walk and no other value.
-pub fn kinds_in(
-    alloc: Global,
-    f: &Function,
-    g: &Graph,
-    types: &TypeTable,
-) -> Result<Kinds, RuleEnd>
+pub fn kinds_in(alloc: Global, f: &Function, g: &Graph, types: &TypeTable) -> Result<Kinds, RuleEnd>
     requires of_module { IsOfNumberedModule f.now }
     requires graph { HasGraph f.now }
     ensures kinds { IfOk result (AreKindsBy (length (values_of f.now.blocks)) (facts_in types.now f.now) f.now g.now) }

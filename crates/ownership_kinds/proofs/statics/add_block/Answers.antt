@@ -16,12 +16,12 @@ returns c =
     ok_along c.add_inst.result (λ r. r ≡ least c.in_ok-found.found (inst_faults (kind_told k.facts.now) k.borrows.now k.ring f n c.len.result b.terminator))
     (λ r. r ≡ least c.args.found (block_faults (kind_told k.facts.now) k.borrows.now k.ring c.args.types.now f n b))
     (λ r e.
-        least_two c.args.found c.add_args-found.result r (flat_map (arg_faults (kind_told k.facts.now) k.borrows.now k.ring c.args.types.now (switch_to f n) n) b.args)
-        (numbered (inst_faults (kind_told k.facts.now) k.borrows.now k.ring f n) 0 (insts_of b))
-        (c.add_args-found.ensures ∙
-        ap (λ s. least c.args.found (flat_map (arg_faults (kind_told k.facts.now) k.borrows.now k.ring c.args.types.now s n) c.as_slice.result.now))
-        (c.switch_of-switched.ensures ∙ c.requires.switches.each n c.requires.inside) ∙
-        ap (λ as'. least c.args.found (flat_map (arg_faults (kind_told k.facts.now) k.borrows.now k.ring c.args.types.now (switch_to f n) n) as')) c.as_slice.ensures)
-        (numbered_last (inst_faults (kind_told k.facts.now) k.borrows.now k.ring f n) b.insts b.terminator c.len.result c.add_args-found.result c.in_ok-found.found r c.len.ensures
-        (c.in_ok-found.ensures ∙ ap (λ is. least c.add_args-found.result (numbered (inst_faults (kind_told k.facts.now) k.borrows.now k.ring f n) 0 is)) c.as_slice-2.ensures) e))
+    least_two c.args.found c.add_args-found.result r (flat_map (arg_faults (kind_told k.facts.now) k.borrows.now k.ring c.args.types.now (switch_to f n) n) b.args)
+    (numbered (inst_faults (kind_told k.facts.now) k.borrows.now k.ring f n) 0 (insts_of b))
+    (c.add_args-found.ensures ∙
+    ap (λ s. least c.args.found (flat_map (arg_faults (kind_told k.facts.now) k.borrows.now k.ring c.args.types.now s n) c.as_slice.result.now))
+    (c.switch_of-switched.ensures ∙ c.requires.switches.each n c.requires.inside) ∙
+    ap (λ as'. least c.args.found (flat_map (arg_faults (kind_told k.facts.now) k.borrows.now k.ring c.args.types.now (switch_to f n) n) as')) c.as_slice.ensures)
+    (numbered_last (inst_faults (kind_told k.facts.now) k.borrows.now k.ring f n) b.insts b.terminator c.len.result c.add_args-found.result c.in_ok-found.found r c.len.ensures
+    (c.in_ok-found.ensures ∙ ap (λ is. least c.add_args-found.result (numbered (inst_faults (kind_told k.facts.now) k.borrows.now k.ring f n) 0 is)) c.as_slice-2.ensures) e))
     c.add_inst.ensures

@@ -6,8 +6,9 @@ use Rattle.ownership_kinds.proofs.statics.add_insts.Goals as goal
 
 pub loop-inst-preserved : goal.loop-inst-preserved
 loop-inst-preserved c =
-    let k = c.args.known.now in
-    (omega arith,
-        numbered_item (inst_faults (kind_told k.facts.now) k.borrows.now k.ring c.args.f.now c.args.block.0) c.args.insts.now c.loop-inst.inst-index c.loop-inst.index c.inst-item.result
-        c.loop-inst.found c.in_ok-found.found (least c.args.found (insts_faults (kind_told k.facts.now) k.borrows.now k.ring c.args.f.now c.args.block.0 0 c.args.insts.now)) c.loop-inst-test.true
-        c.inst-item.is c.loop-inst.invariant.1 c.in_ok-found.ensures)
+    let k = c.args.known.now in (
+      omega arith,
+      numbered_item (inst_faults (kind_told k.facts.now) k.borrows.now k.ring c.args.f.now c.args.block.0) c.args.insts.now c.loop-inst.inst-index c.loop-inst.index c.inst-item.result
+          c.loop-inst.found c.in_ok-found.found (least c.args.found (insts_faults (kind_told k.facts.now) k.borrows.now k.ring c.args.f.now c.args.block.0 0 c.args.insts.now)) c.loop-inst-test.true
+          c.inst-item.is c.loop-inst.invariant.1 c.in_ok-found.ensures,
+    )
