@@ -1,6 +1,6 @@
 -- The place of a case in its enum is below the limit on members, and different places below a limit are no more than it.
 use Rattle.std.proofs.Common.{◌≡◌, ℕ, zero, suc, ◌+◌, ◌<◌, ◌≤◌, List, [], ◌∷◌, ◌++◌, length, refl, sym, ap, subst, arith, Bool, true, false, not, inl, inr, Option, Some, None, eqb, get_or}
-use Rattle.std.specs.Prelude.{◌&&◌, ◌||◌, ◌==◌, ◌⊎◌, map, slice_get, option_map, option_and_then, IfSome}
+use Rattle.std.specs.Prelude.{◌&&◌, ◌||◌, ◌==◌, ◌⊎◌, map, slice_get, option_map, option_and_then, IfSome, if◌then◌else◌}
 use Rattle.std.specs.List.{list_any, AllByRecursion, IsDistinct, position}
 use Rattle.std.proofs.lemmas.Bool.Decides.{eqb_tells}
 use Rattle.std.proofs.lemmas.List.{length-map}
@@ -48,11 +48,11 @@ IsBelow limit n = n < limit
 
 found_below : (limit : ℕ) (ns : List ℕ) → Each (IsBelow limit) ns → (q : ℕ) → list_any (eqb q) ns ≡ true → q < limit
 found_below limit [] h q e = cc
-found_below limit (n ∷ ns) h q e = at (eqb_tells q n)
+found_below limit (n ∷ ns) h q e = at (eqb_tells q n) (found_below limit ns h.1 q)
   where
-    at : ((eqb q n ≡ true) × (q ≡ n)) ⊎ ((eqb q n ≡ false) × (q ≡ n → ⊥)) → q < limit
-    at (inl (test, same)) = subst (IsBelow limit) (sym same) h.0
-    at (inr (test, ne)) = found_below limit ns h.1 q (or_second (eqb q n) (list_any (eqb q) ns) test e)
+    at : ((eqb q n ≡ true) × (q ≡ n)) ⊎ ((eqb q n ≡ false) × (q ≡ n → ⊥)) → (list_any (eqb q) ns ≡ true → q < limit) → q < limit
+    at (inl (test, same)) behind = subst (IsBelow limit) (sym same) h.0
+    at (inr (test, ne)) behind = behind (or_second (eqb q n) (list_any (eqb q) ns) test e)
 
 pub few_different : (limit : ℕ) (ns : List ℕ) → are_once ns ≡ true → Each (IsBelow limit) ns → length ns ≤ limit
 few_different limit ns once below = length-le_from_distinct_below ns limit (distinct ns once) (found_below limit ns below)

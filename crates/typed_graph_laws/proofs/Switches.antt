@@ -29,7 +29,7 @@ one_more : (o : Option ℕ) (ns : List ℕ) (n : ℕ) → is_some o ≡ true →
 one_more None ns n e le = cc
 one_more (Some x) ns n e le = omega arith
 
-none_left : {A : Type 0} (xs : List A) → is_empty xs ≡ true → length xs ≡ 0
+pub none_left : {A : Type 0} (xs : List A) → is_empty xs ≡ true → length xs ≡ 0
 none_left [] e = refl
 none_left (x ∷ xs) e = cc
 
@@ -42,13 +42,12 @@ module _ (d : Declarations) (t : TypeName) where
   -- each edge but a last default has a place
   edges_and_places : (es : List Edge) → are_cases es ≡ true → list_all (is_of_enum d t) es ≡ true → length es ≤ suc (length (places_of d t es))
   edges_and_places [] cases of_enum = omega arith
-  edges_and_places (e ∷ es) cases of_enum = at (is_case e) refl cases
+  edges_and_places (e ∷ es) cases of_enum = at (is_case e) refl cases (λ more. edges_and_places es more (and_second (is_of_enum d t e) (list_all (is_of_enum d t) es) of_enum))
     where
-      at : (b : Bool) → is_case e ≡ b → (if b then are_cases es else (is_default_edge e && is_empty es)) ≡ true → length (e ∷ es) ≤ suc (length (places_of d t (e ∷ es)))
-      at true case more = one_more (place_in_enum d t e) (places_of d t es) (length es)
-          (has_place e case (and_first (is_of_enum d t e) (list_all (is_of_enum d t) es) of_enum))
-          (edges_and_places es more (and_second (is_of_enum d t e) (list_all (is_of_enum d t) es) of_enum))
-      at false case more = let none : length es ≡ 0 = none_left es (and_second (is_default_edge e) (is_empty es) more) in omega arith
+      at : (b : Bool) → is_case e ≡ b → (if b then are_cases es else (is_default_edge e && is_empty es)) ≡ true → (are_cases es ≡ true → length es ≤ suc (length (places_of d t es))) →
+          length (e ∷ es) ≤ suc (length (places_of d t (e ∷ es)))
+      at true case more behind = one_more (place_in_enum d t e) (places_of d t es) (length es) (has_place e case (and_first (is_of_enum d t e) (list_all (is_of_enum d t) es) of_enum)) (behind more)
+      at false case more behind = let none : length es ≡ 0 = none_left es (and_second (is_default_edge e) (is_empty es) more) in omega arith
 
   low_behind : (o : Option ℕ) (ns : List ℕ) → IfSome o (IsBelow MEMBERS) → Each (IsBelow MEMBERS) ns → Each (IsBelow MEMBERS) (cons_option o ns)
   low_behind None ns h rest = rest
