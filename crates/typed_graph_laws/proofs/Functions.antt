@@ -1,28 +1,24 @@
 -- The law: a typed module's functions are ready for their graphs.
-use Rattle.std.proofs.Common.{◌≡◌, ◌≢◌, ℕ, zero, suc, ◌+◌, ◌<◌, ◌≤◌, ◌^◌, List, [], ◌∷◌, ◌++◌, length, length-append, refl, sym, subst, arith, true, Some}
-use Rattle.std.specs.Prelude.{All, slice_get}
+use Rattle.std.proofs.Common.{◌≡◌, ℕ, zero, suc, ◌<◌, ◌≤◌, List, [], ◌∷◌, length, length-append, refl, subst, arith, true, Some}
+use Rattle.std.specs.Prelude.{slice_get}
 use Rattle.sil_ast.specs.declared.function.Block.{Block}
-use Rattle.sil_ast.specs.declared.function.Form.TheVariants.{External}
 use Rattle.sil_ast.specs.declared.function.Function.{Function}
-use Rattle.sil_ast.specs.declared.inst.Edge.{Edge}
 use Rattle.sil_ast.specs.declared.inst.Inst.{Inst}
 use Rattle.sil_ast.specs.declared.module.Module.{Module}
-use Rattle.sil_cfg.specs.Build.{HasGraph, IsBlockLinked}
-use Rattle.sil_rules.specs.declared.limits.TheConstants.{BLOCKS, INSTRUCTIONS}
+use Rattle.sil_cfg.specs.Build.{IsBlockLinked}
 use Rattle.sil_rules.specs.declared.rule.Rule.TheVariants as rule
 use Rattle.numbered_form.specs.Functions.{IsFormed}
 use Rattle.numbered_form.specs.Insts.{EachInBlock, insts_in, insts_of}
 use Rattle.numbered_form.specs.Limits.{IsFunctionInLimits}
-use Rattle.numbered_form.specs.Lists.{Each}
 use Rattle.numbered_form.specs.NumberedForm.{IsNumbered}
 use Rattle.numbered_form.specs.Numbering.{IsEdgeInRange, IsFunctionNumbered, IsInstInRange, values_of}
 use Rattle.numbered_form.specs.Parts.{BlockHasParts, FunctionHasParts, are_edges_by}
 use Rattle.sil_ast.specs.Forms.{ending_of}
 use Rattle.type_definitions.specs.Declarations.{declarations_of}
 use Rattle.sil_types.specs.Typing.Typed.{IsAt, Typed, at_point, edge_arguments, entry_has_predecessor, point, switch_cases}
-use Rattle.typed_graph_laws.specs.Laws.{HasBlocks, HasOtherForm, HaveGraphsWhere}
-use Rattle.typed_graph_laws.specs.Ready.{EndsWell, IsReadyForGraph}
-use Rattle.typed_graph_laws.proofs.Edges.{few_edges_at, good_edges}
+use Rattle.typed_graph_laws.specs.Laws.{HasBlocks, IsNotExternal, HaveGraphsWhere}
+use Rattle.typed_graph_laws.specs.Ready.{HasFittingEdges, IsReadyForGraph}
+use Rattle.typed_graph_laws.proofs.Edges.{few_edges_at, fitting_edges}
 use Rattle.typed_graph_laws.proofs.Facts.{all_at, all_of_each, at_end, each_at, each_of}
 
 -- a block has no more instructions than all blocks together
@@ -39,9 +35,6 @@ within_all (x ∷ xs) (suc i) b e =
     omega (arith, behind, all)
 
 module _ (m : Module) (n : ℕ) (f : Function) (numbered : IsNumbered m) (typed : Typed m) (is_there : slice_get m.functions n ≡ Some f) where
-  functions : ℕ
-  functions = length m.functions
-
   in_limits : IsFunctionInLimits f
   in_limits = each_at IsFunctionInLimits m.functions n f numbered.limits.each is_there
 
@@ -55,8 +48,8 @@ module _ (m : Module) (n : ℕ) (f : Function) (numbered : IsNumbered m) (typed 
     edges_of_row : are_edges_by (ending_of b.terminator.op) b.terminator.edges ≡ true
     edges_of_row = (each_at BlockHasParts f.blocks index b (each_at FunctionHasParts m.functions n f numbered.parts is_there) is_block).terminator.parts.edges
 
-    ends_well : EndsWell f b
-    ends_well = good_edges f b.terminator edges_of_row
+    edges_fit : HasFittingEdges f b
+    edges_fit = fitting_edges f b edges_of_row
         (λ e. typed (at_point n index (length b.insts)) rule.EdgeArguments (point n f index (length b.insts) b.terminator rule.EdgeArguments is_there is_last (edge_arguments e)))
         (λ e. typed (at_point n index (length b.insts)) rule.EntryHasPredecessor (point n f index (length b.insts) b.terminator rule.EntryHasPredecessor is_there is_last (entry_has_predecessor e)))
 
@@ -80,10 +73,10 @@ module _ (m : Module) (n : ℕ) (f : Function) (numbered : IsNumbered m) (typed 
       blocks = all_at (IsBlockLinked f) f.blocks is_linked;
     };
     numbered = is_numbered;
-    edges = all_at (EndsWell f) f.blocks ends_well;
+    edges = all_at (HasFittingEdges f) f.blocks edges_fit;
   }
 
-  has_blocks : HasOtherForm f → HasBlocks f
+  has_blocks : IsNotExternal f → HasBlocks f
   has_blocks other = at f.blocks refl
     where
       at : (blocks : List Block) → f.blocks ≡ blocks → 0 < length blocks
@@ -93,5 +86,5 @@ module _ (m : Module) (n : ℕ) (f : Function) (numbered : IsNumbered m) (typed 
 pub graphs_by_blocks : HaveGraphsWhere HasBlocks
 graphs_by_blocks m n f numbered typed is_there body = is_ready m n f numbered typed is_there body
 
-pub graphs_by_form : HaveGraphsWhere HasOtherForm
+pub graphs_by_form : HaveGraphsWhere IsNotExternal
 graphs_by_form m n f numbered typed is_there other = is_ready m n f numbered typed is_there (has_blocks m n f numbered typed is_there other)

@@ -1,7 +1,7 @@
 -- The place of a case in its enum is below the limit on members, and different places below a limit are no more than it.
-use Rattle.std.proofs.Common.{◌≡◌, ℕ, zero, suc, ◌+◌, ◌<◌, ◌≤◌, List, [], ◌∷◌, ◌++◌, length, refl, sym, ap, subst, arith, Bool, true, false, not, inl, inr, Option, Some, None, eqb, get_or}
-use Rattle.std.specs.Prelude.{◌&&◌, ◌||◌, ◌==◌, ◌⊎◌, map, slice_get, option_map, option_and_then, IfSome, if◌then◌else◌}
-use Rattle.std.specs.List.{list_any, AllByRecursion, IsDistinct, position}
+use Rattle.std.proofs.Common.{◌≡◌, ℕ, ◌<◌, ◌≤◌, List, [], ◌∷◌, ◌++◌, length, refl, sym, subst, arith, Bool, true, false, not, inl, inr, Option, Some, None, eqb}
+use Rattle.std.specs.Prelude.{◌==◌, ◌⊎◌, map, slice_get, option_map, option_and_then, IfSome, if◌then◌else◌}
+use Rattle.std.specs.List.{list_any, AllByRecursion, IsDistinct}
 use Rattle.std.proofs.lemmas.Bool.Decides.{eqb_tells}
 use Rattle.std.proofs.lemmas.List.{length-map}
 use Rattle.std.proofs.lemmas.List.Quantifiers.{position-Some}
@@ -19,7 +19,7 @@ use Rattle.sil_rules.specs.declared.limits.TheConstants.{MEMBERS}
 use Rattle.numbered_form.specs.Limits.{IsDeclInLimits}
 use Rattle.numbered_form.specs.Lists.{Each}
 use Rattle.numbered_form.specs.Names.{Name, case_name}
-use Rattle.type_definitions.specs.Declarations.{Declarations, all_decls, at_place, decl_of, optional_cases, place_of, swift_structs}
+use Rattle.type_definitions.specs.Declarations.{Declarations, all_decls, at_place, optional_cases, place_of, swift_structs}
 use Rattle.type_definitions.specs.Lookups.{Payload, case_payload, cases_of, decl_cases, optional_payload, payload_at, payload_in}
 use Rattle.sil_types.specs.Typing.Shapes.{case_in, is_case_owner_layer}
 use Rattle.sil_types.specs.Typing.SwitchRules.{are_once, has_number, place_in_enum}

@@ -1,17 +1,14 @@
 -- A `switch_enum` has at most one edge for each case of its enum, and one more.
-use Rattle.std.proofs.Common.{◌≡◌, ℕ, zero, suc, ◌+◌, ◌<◌, ◌≤◌, List, [], ◌∷◌, length, refl, sym, ap, subst, arith, Bool, true, false, Option, Some, None}
-use Rattle.std.specs.Prelude.{◌&&◌, ◌||◌, is_some, is_none, option_map, option_and_then, IfSome, if◌then◌else◌}
+use Rattle.std.proofs.Common.{◌≡◌, ℕ, suc, ◌≤◌, List, [], ◌∷◌, length, refl, arith, Bool, true, false, Option, Some, None}
+use Rattle.std.specs.Prelude.{◌&&◌, is_some, is_none, option_map, IfSome, if◌then◌else◌}
 use Rattle.std.specs.List.{list_all, cons_option}
 use Rattle.sil_ast.specs.declared.inst.Edge.{Edge}
-use Rattle.sil_ast.specs.declared.inst.Inst.{Inst}
-use Rattle.sil_ast.specs.declared.member.Member.{Member}
 use Rattle.sil_ast.specs.declared.type_name.TypeName.{TypeName}
 use Rattle.sil_rules.specs.declared.limits.TheConstants.{MEMBERS}
 use Rattle.numbered_form.specs.Limits.{IsDeclInLimits}
 use Rattle.numbered_form.specs.Lists.{Each, is_empty}
 use Rattle.numbered_form.specs.Parts.{are_cases, is_case, is_default as is_default_edge}
 use Rattle.type_definitions.specs.Declarations.{Declarations}
-use Rattle.type_definitions.specs.Lookups.{Payload}
 use Rattle.sil_types.specs.Typing.SwitchRules.{are_once, case_of_edge, is_default, is_of_enum, place_in_enum, places_of}
 use Rattle.typed_graph_laws.proofs.Facts.{and_first, and_second, or_second}
 use Rattle.typed_graph_laws.proofs.Places.{IsBelow, few_different, low_place}

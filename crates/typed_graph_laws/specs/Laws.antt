@@ -10,8 +10,8 @@ use Rattle.typed_graph_laws.specs.Ready.{IsReadyForGraph}
 abbrev pub HasBlocks : Function → Type 0
 HasBlocks f = 0 < length f.blocks
 
-abbrev pub HasOtherForm : Function → Type 0
-HasOtherForm f = f.form ≢ External
+abbrev pub IsNotExternal : Function → Type 0
+IsNotExternal f = f.form ≢ External
 
 -- in a typed module in numbered form, each function with a body, told so, is ready for its graph
 abbrev pub HaveGraphsWhere : (Function → Type 0) → Type 0
