@@ -62,7 +62,7 @@ module _ (m : Module) (n : ℕ) (f : Function) (numbered : IsNumbered m) (typed 
           let InRange : Inst → Type 0 = IsInstInRange (length (values_of f.blocks)) (length f.blocks) (length m.functions) in
           let edges = (each_at (EachInBlock InRange) f.blocks index b is_numbered.used is_block).1.edges in
           all_of_each (λ e. e.block.0 < length f.blocks) b.terminator.edges
-              (each_of (IsEdgeInRange (length (values_of f.blocks)) (length f.blocks)) (λ e. e.block.0 < length f.blocks) (λ e h. h.block) b.terminator.edges edges);
+          (each_of (IsEdgeInRange (length (values_of f.blocks)) (length f.blocks)) (λ e. e.block.0 < length f.blocks) (λ e h. h.block) b.terminator.edges edges);
     }
 
   is_ready : HasBlocks f → IsReadyForGraph (length m.functions) f
