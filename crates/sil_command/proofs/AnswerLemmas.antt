@@ -21,7 +21,8 @@ use Rattle.sil_command.specs.Violations.{IsRefusal}
 use Rattle.sil_command.specs.Texts.{limit_text, usage_text, refusal_text}
 use Rattle.sil_command.specs.declared.words.Mode.{Mode}
 use Rattle.sil_command.specs.Words.{AsksFor, IsCommandLine}
-use Rattle.sil_command.specs.Answers.{AnswersCheck, AnswersModule, AnswersText, HasTypes, usage, in_mode, too_long, unread, spelled, refused}
+use Rattle.sil_verifier.specs.Refusals.{HasTypes}
+use Rattle.sil_command.specs.Answers.{AnswersCheck, AnswersModule, AnswersText, usage, in_mode, too_long, unread, spelled, refused}
 use Rattle.sil_command.specs.Reading.{AnswersRefusal}
 use Rattle.sil_command.specs.Ends.{IsAnswer, MayHave, TakesText}
 
