@@ -1,4 +1,5 @@
 pub mod Accesses
 pub mod OtherSubjects
+pub mod SharedMarks
 pub mod FirstShown
 pub mod Touching

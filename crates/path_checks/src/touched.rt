@@ -1,6 +1,7 @@
 //! Which subjects an item has entries of.
 
 ghost use Rattle.std.specs.Prelude.{◌≡◌, ℕ, ◌+◌, ◌<◌, ◌≤◌, ◌^◌, IfOk, OnOk, length, All};
+ghost use Rattle.std.specs.List.{range_with_len};
 ghost use Rattle.path_patterns.specs.Reads.{accesses_at};
 ghost use Rattle.path_checks.specs.Chunks.{IsRising, HasTouched, PutIn};
 
@@ -68,12 +69,26 @@ pub fn touched_subjects(
     Ok(touched)
 }
 
-/// A number above every subject.
-pub fn subject_bound(entries: &[Vec<Entry>]) -> usize
+/// All of the `count` subjects.
+pub fn all_subjects(alloc: Global, count: usize) -> Result<Vec<u32>, Exhausted>
+    requires { count ≤ 1024 }
+    ensures { IfOk result (λ v. v.items ≡ range_with_len 0 count) }
+{
+    let mut subjects = Vec::with_capacity(alloc, count)?;
+    for subject in 0..count {
+        subjects.push(subject as u32)?;
+    }
+    Ok(subjects)
+}
+
+/// A number above every subject, and not below `least`.
+pub fn subject_bound(entries: &[Vec<Entry>], least: usize) -> usize
+    requires { least ≤ 2 ^ 32 }
     ensures above { (i : ℕ) → All (λ e. e.subject < result) (accesses_at entries.now i) }
+    ensures least { least ≤ result }
     ensures fits { result ≤ 2 ^ 32 }
 {
-    let mut bound = 0;
+    let mut bound = least;
     for item in entries {
         bound = bound_over(item.as_slice(), bound);
     }
