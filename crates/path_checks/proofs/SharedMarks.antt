@@ -1,6 +1,6 @@
 -- To a subject the shared entries are its own mark, if it has one.
 use Rattle.std.proofs.Common.{◌≡◌, ℕ, zero, suc, ◌+◌, ◌<◌, ◌≤◌, List, [], ◌∷◌, ◌++◌, length, refl, sym, ap, ◌∙◌, subst, Bool, true, false, Option, Some, None, All, arith, append-nil, eq-eqb}
-use Rattle.std.specs.Prelude.{◌==◌, cond, slice_get, unwrap_or}
+use Rattle.std.specs.Prelude.{cond, slice_get, unwrap_or}
 use Rattle.std.specs.declared.alloc.Global.{Global}
 use Rattle.std.specs.declared.vec.Vec.{Vec}
 use Rattle.std.proofs.lemmas.List.Elements.{All-nil, All-cons, All-append}
@@ -12,6 +12,7 @@ use Rattle.path_patterns.specs.Reads.{accesses_at, read_step, step_in}
 use Rattle.path_patterns.specs.Switch.{mark_step}
 use Rattle.path_patterns.specs.declared.mark.Mark.{Mark}
 use Rattle.path_checks.specs.declared.entry.Entry.{Entry}
+use Rattle.path_checks.specs.Chunks.{HasTouched, HasMarked, HasSharing}
 use Rattle.path_checks.specs.Entries.{means}
 use Rattle.path_checks.specs.Shared.{entries_with, is_sharing, shared_from, shared_if}
 use Rattle.path_checks.proofs.OtherSubjects.{no_mark, quiet_run}
@@ -58,3 +59,25 @@ all_below bound own marks sharing i le below = All-append (λ (e : Entry). e.sub
     at : (b : Bool) → All (λ (e : Entry). e.subject < bound) (shared_if marks b)
     at true = shared_below bound 0 marks (omega arith)
     at false = All-nil (λ (e : Entry). e.subject < bound)
+
+-- a subject without a shared mark has no shared entry
+unmarked : (marks : List (Option Mark)) (subject n d : ℕ) → subject ≡ n + d → unwrap_or (slice_get marks d) None ≡ None → All (λ (e : Entry). e.subject ≡ subject → ⊥) (shared_from n marks)
+unmarked [] subject n d e none = All-nil (λ (e : Entry). e.subject ≡ subject → ⊥)
+unmarked (None ∷ marks) subject n zero e none = others_from subject (n + 1) marks (omega arith)
+unmarked (None ∷ marks) subject n (suc d) e none = unmarked marks subject (n + 1) d (omega arith) none
+unmarked (Some m ∷ marks) subject n zero e none = absurd (some_not_none m none)
+  where
+    some_not_none : (m : Mark) → Some m ≡ None → ⊥
+    some_not_none m h = cc
+unmarked (Some m ∷ marks) subject n (suc d) e none =
+    All-cons (λ (e : Entry). e.subject ≡ subject → ⊥) (record { subject = n; mark = m }) (shared_from (n + 1) marks) (λ same. omega arith) (unmarked marks subject (n + 1) d (omega arith) none)
+
+-- what has the subjects of the items that share, and those with a mark, has all that these items touch
+pub sharing_touched : (first count : ℕ) (entries : List (Vec Entry Global)) (marks : List (Option Mark)) (sharing : List Bool) (own : List (Vec ℕ Global)) (together : List ℕ) →
+    ((i : ℕ) → HasTouched first count (accesses_at entries i) (accesses_at own i)) → HasMarked first count marks together → HasSharing (accesses_at own) sharing together →
+    (i : ℕ) → is_sharing sharing i ≡ true → HasTouched first count (entries_with entries marks sharing i) together
+sharing_touched first count entries marks sharing own together all marked has i shares u lu none =
+    let P : Entry → Type 0 = λ e. e.subject ≡ first + u → ⊥ in
+    let shared : All P (shared_from 0 marks) = unmarked marks (first + u) 0 (first + u) (omega arith) (marked u lu none) in
+    let Q : Bool → Type 0 = λ b. All P (shared_if marks b) in
+    All-append P (accesses_at entries i) (shared_if marks (is_sharing sharing i)) (all i u lu (λ c. none (has i u shares c))) (subst Q {x = true} {y = is_sharing sharing i} (sym shares) shared)

@@ -1,11 +1,10 @@
 -- The subjects that entries name.
-use Rattle.std.proofs.Common.{◌≡◌, ℕ, zero, suc, add-one, ◌+◌, ◌-◌, ◌<◌, ◌≤◌, List, [], ◌∷◌, ◌++◌, length, get_or, take, refl, sym, ap, ◌∙◌, subst, All, inl, inr, arith}
+use Rattle.std.proofs.Common.{◌≡◌, ℕ, ◌+◌, ◌-◌, ◌<◌, ◌≤◌, List, [], ◌∷◌, ◌++◌, length, get_or, take, refl, sym, subst, All, inl, inr, arith}
 use Rattle.std.specs.Prelude.{Contains, eqb}
-use Rattle.std.specs.List.{dedup, range_with_len}
+use Rattle.std.specs.List.{dedup}
 use Rattle.std.specs.List.Sorted.{IsPermutation, IsSorted, IsStrictlyIncreasing}
 use Rattle.std.specs.Ordering.{nat_cmp}
-use Rattle.std.proofs.lemmas.List.Elements.{All-nil, All-from_get_or, All-more, All-push, All-same, Contains-append_left, Contains-push}
-use Rattle.std.proofs.lemmas.List.FromFn.{length-range_with_len, get_or-range_with_len}
+use Rattle.std.proofs.lemmas.List.Elements.{All-nil, All-more, All-push, All-same, Contains-append_left, Contains-push}
 use Rattle.std.proofs.lemmas.List.Filters.{All-dedup}
 use Rattle.std.proofs.lemmas.List.Kept.{Contains-dedup_nat}
 use Rattle.std.proofs.lemmas.List.Sorted.{Contains-permutation, All-permutation}
@@ -43,31 +42,9 @@ rising_sorted count touched sorted out below moved order is = record {
   below = All-same (λ u. u < count) out (dedup eqb sorted) is (All-dedup eqb (λ u. u < count) sorted (All-permutation (λ u. u < count) touched sorted moved below));
 }
 
+pub contains_sorted : (touched sorted out : List ℕ) → IsPermutation touched sorted → out ≡ dedup eqb sorted → (u : ℕ) → Contains touched u → Contains out u
+contains_sorted touched sorted out moved is u c = subst (λ v. Contains v u) (sym is) (Contains-dedup_nat sorted u (Contains-permutation touched sorted u moved c))
+
 pub touched_sorted : (first count : ℕ) (entries : List Entry) (touched sorted out : List ℕ) → HasTouched first count entries touched → IsPermutation touched sorted → out ≡ dedup eqb sorted → HasTouched first count entries out
 touched_sorted first count entries touched sorted out h moved is u lu none =
-    h u lu (λ c. none (subst (λ v. Contains v u) (sym is) (Contains-dedup_nat sorted u (Contains-permutation touched sorted u moved c))))
-
--- the numbers below the count
-pub counting_more : (a n : ℕ) → range_with_len a (n + 1) ≡ range_with_len a n ++ (a + n) ∷ []
-counting_more a zero = let same : a ≡ a + 0 = omega arith in ap (λ v. v ∷ []) same
-counting_more a (suc n) =
-    let same : a + 1 + n ≡ a + suc n = omega arith in
-    ap (range_with_len a) (add-one (suc n)) ∙ ap (λ v. a ∷ v) (ap (range_with_len (a + 1)) (sym (add-one n)) ∙ counting_more (a + 1) n ∙ ap (λ v. range_with_len (a + 1) n ++ v ∷ []) same)
-
-counting_at : (count : ℕ) (all : List ℕ) → all ≡ range_with_len 0 count → (k d : ℕ) → k < count → get_or all k d ≡ k
-counting_at count all is k d lt = ap (λ v. get_or v k d) is ∙ get_or-range_with_len 0 count k d lt ∙ (let e : 0 + k ≡ k = omega arith in e)
-
-counting_long : (count : ℕ) (all : List ℕ) → all ≡ range_with_len 0 count → length all ≡ count
-counting_long count all is = ap length is ∙ length-range_with_len 0 count
-
-pub counting_rising : (count : ℕ) (all : List ℕ) → all ≡ range_with_len 0 count → IsRising count all
-counting_rising count all is =
-    let long : length all ≡ count = counting_long count all is in
-    let at : (k : ℕ) → k < count → get_or all k 0 ≡ k = λ k lt. counting_at count all is k 0 lt in
-    record {
-      ascending = λ k lt. omega (arith, at k (omega arith), at (k + 1) (omega arith));
-      below = All-from_get_or (λ u. u < count) all 0 (λ k lt. omega (arith, at k (omega arith)));
-    }
-
-pub counting_there : (count : ℕ) (all : List ℕ) → all ≡ range_with_len 0 count → (u : ℕ) → u < count → Contains all u
-counting_there count all is u lt = (u, (let long : length all ≡ count = counting_long count all is in omega arith), counting_at count all is u u lt)
+    h u lu (λ c. none (contains_sorted touched sorted out moved is u c))

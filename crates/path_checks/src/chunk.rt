@@ -1,7 +1,6 @@
 //! Some of the subjects, as one family of automata: those from a first one on.
 
-ghost use Rattle.std.specs.Prelude.{◌≡◌, ℕ, ◌+◌, ◌<◌, ◌≤◌, ◌^◌, ◌++◌, None, cond, length, slice_get, unwrap_or, IfOk};
-ghost use Rattle.std.specs.List.{range_with_len};
+ghost use Rattle.std.specs.Prelude.{◌≡◌, ℕ, ◌+◌, ◌<◌, ◌≤◌, ◌^◌, ◌++◌, cond, length, true, IfOk};
 ghost use Rattle.reach_engine.specs.Run.{run, StaysBelow};
 ghost use Rattle.reach_engine.specs.declared.scan.Step.TheVariants.{Go};
 ghost use Rattle.path_patterns.specs.Reads.{accesses_at, read_step};
@@ -12,10 +11,11 @@ ghost use Rattle.path_checks.specs.Shared.{entries_with, shared_if};
 ghost use Rattle.path_checks.specs.Chunks.{IsRising, HasTouched};
 
 use crate::entry::Entry;
+use crate::sharing::{is_sharing, mark_of};
 use path_patterns::{Mark, turn};
 use reach_engine::{Family, Step};
 
-/// The subjects from `first` on, with what each item does, and the subjects that it touches: those of its own entries, or all if it shares.
+/// The subjects from `first` on, with what each item does, and the subjects that it touches: `touched` for one that doesn't share, and `together` for all that share.
 #[derive(Drop)]
 pub struct Chunk<'a> {
     pub entries: &'a [Vec<Entry>],
@@ -24,13 +24,14 @@ pub struct Chunk<'a> {
     pub first: usize,
     pub count: usize,
     pub touched: Vec<Vec<u32>>,
-    pub everyone: Vec<u32>,
+    pub together: Vec<u32>,
     ghost few: { count ≤ 1024 },
     ghost fits: { first + count ≤ 2 ^ 32 },
     ghost size: { length touched.items ≡ length entries.now },
     ghost rising: { (i : ℕ) → IsRising count (accesses_at touched.items i) },
     ghost all: { (i : ℕ) → HasTouched first count (accesses_at entries.now i) (accesses_at touched.items i) },
-    ghost everyone_is: { everyone.items ≡ range_with_len 0 count },
+    ghost together_rising: { IsRising count together.items },
+    ghost together_all: { (i : ℕ) → shared.is_sharing sharing.now i ≡ true → HasTouched first count (entries_with entries.now marks.now sharing.now i) together.items },
 }
 
 /// One entry, as it is to one subject.
@@ -60,16 +61,6 @@ fn step_all(subject: usize, entries: &[Entry], state: u8) -> Step
         }
     }
     Step::Go(current)
-}
-
-/// The subject's shared mark, if it has one.
-fn mark_of(marks: &[Option<Mark>], subject: usize) -> Option<Mark>
-    ensures { result ≡ unwrap_or (slice_get marks.now subject) None }
-{
-    match marks.get(subject) {
-        None => None,
-        Some(mark) => *mark,
-    }
 }
 
 /// The shared entries, if the item shares: the subject's own mark is the only one that moves it.
@@ -106,20 +97,10 @@ fn step_item(
     }
 }
 
-/// Whether the item shares.
-fn is_sharing(sharing: &[bool], item: usize) -> bool
-    ensures { result ≡ shared.is_sharing sharing.now item }
-{
-    match sharing.get(item) {
-        None => false,
-        Some(shares) => *shares,
-    }
-}
-
 impl Family for Chunk<'_> {
     ghost step_of = { λ c u. subject_step (entries_with c.entries.now c.marks.now c.sharing.now) (c.first + u) };
 
-    ghost touched_of = { λ c i. cond (shared.is_sharing c.sharing.now i) c.everyone.items (accesses_at c.touched.items i) };
+    ghost touched_of = { λ c i. cond (shared.is_sharing c.sharing.now i) c.together.items (accesses_at c.touched.items i) };
 
     ghost subject_count = { λ c. c.count };
 
@@ -141,12 +122,18 @@ impl Family for Chunk<'_> {
 
     fn step(&self, subject: usize, state: u8, item: usize) -> Step {
         let shares = is_sharing(self.sharing, item);
-        step_item(self.first + subject, self.entries[item].as_slice(), self.marks, shares, state)
+        step_item(
+            self.first + subject,
+            self.entries[item].as_slice(),
+            self.marks,
+            shares,
+            state,
+        )
     }
 
     fn touched(&self, item: usize) -> &[u32] {
         if is_sharing(self.sharing, item) {
-            self.everyone.as_slice()
+            self.together.as_slice()
         } else {
             self.touched[item].as_slice()
         }

@@ -12,7 +12,8 @@ ghost use Rattle.path_checks.specs.First.{IsFirst};
 
 use crate::chunk::Chunk;
 use crate::entry::{Entry, PathFault};
-use crate::touched::{all_subjects, subject_bound, touched_subjects};
+use crate::sharing::touched_by_sharing;
+use crate::touched::{subject_bound, touched_subjects};
 use path_patterns::Mark;
 use reach_engine::{FoundAll, search_all};
 use sil_ast::{Exhausted, Function};
@@ -38,7 +39,7 @@ fn first_of_chunk(
     ensures { IfOk result (IsFirstOfChunk g.now (entries_with entries.now marks.now sharing.now) first count) }
 {
     let touched = touched_subjects(alloc, entries, first, count)?;
-    let everyone = all_subjects(alloc, count)?;
+    let together = touched_by_sharing(alloc, &touched, marks, sharing, first, count)?;
     let chunk = Chunk {
         entries,
         marks,
@@ -46,7 +47,7 @@ fn first_of_chunk(
         first,
         count,
         touched,
-        everyone,
+        together,
     };
     match search_all(alloc, g, &chunk)? {
         FoundAll::Clean(_) => Ok(None),

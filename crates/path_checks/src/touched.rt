@@ -1,7 +1,6 @@
 //! Which subjects an item has entries of.
 
 ghost use Rattle.std.specs.Prelude.{◌≡◌, ℕ, ◌+◌, ◌<◌, ◌≤◌, ◌^◌, IfOk, OnOk, length, All};
-ghost use Rattle.std.specs.List.{range_with_len};
 ghost use Rattle.path_patterns.specs.Reads.{accesses_at};
 ghost use Rattle.path_checks.specs.Chunks.{IsRising, HasTouched, PutIn};
 
@@ -67,18 +66,6 @@ pub fn touched_subjects(
         touched.push(touched_by(alloc, item.as_slice(), first, count)?)?;
     }
     Ok(touched)
-}
-
-/// All of the `count` subjects.
-pub fn all_subjects(alloc: Global, count: usize) -> Result<Vec<u32>, Exhausted>
-    requires { count ≤ 1024 }
-    ensures { IfOk result (λ v. v.items ≡ range_with_len 0 count) }
-{
-    let mut subjects = Vec::with_capacity(alloc, count)?;
-    for subject in 0..count {
-        subjects.push(subject as u32)?;
-    }
-    Ok(subjects)
 }
 
 /// A number above every subject, and not below `least`.
