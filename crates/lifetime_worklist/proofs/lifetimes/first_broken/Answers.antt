@@ -1,4 +1,4 @@
-use Rattle.std.proofs.Common.{ap, ◌∙◌, List, Option}
+use Rattle.std.proofs.Common.{ap, ◌∙◌, List}
 use Rattle.std.specs.declared.alloc.Global.{Global}
 use Rattle.std.specs.declared.vec.Vec.{Vec}
 use Rattle.std.specs.Prelude.{Bool}
@@ -8,7 +8,6 @@ use Rattle.path_patterns.specs.Reads.{accesses_at, AgreesWith}
 use Rattle.path_checks.specs.First.{IsFirst}
 use Rattle.path_checks.specs.Shared.{entries_with, is_sharing}
 use Rattle.path_checks.specs.declared.entry.Entry.{Entry}
-use Rattle.path_checks.specs.declared.entry.PathFault.{PathFault}
 use Rattle.lifetime_worklist.specs.Lifetimes.{IsFirstLife}
 use Rattle.lifetime_worklist.specs.Lives.{lives_of}
 use Rattle.lifetime_worklist.proofs.Tables.{lives_agree}
