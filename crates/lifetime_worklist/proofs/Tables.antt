@@ -1,24 +1,23 @@
--- Entries by facts that are the same, and of one number more.
-use Rattle.std.proofs.Common.{◌≡◌, ℕ, zero, suc, ◌+◌, List, [], ◌∷◌, ◌++◌, refl, ap, ◌∙◌, arith, add-one, append-nil, Bool, true, false, cond}
+-- Entries by facts that are the same, and the lives from an item's own marks and the shared ones of a `return`.
+use Rattle.std.proofs.Common.{◌≡◌, ℕ, zero, suc, ◌+◌, ◌<◌, List, [], ◌∷◌, ◌++◌, length, map, refl, ap, ap₂, ◌∙◌, Bool, true, false, cond, Option, Some, None}
 use Rattle.std.specs.List.{flat_map, range_with_len}
-use Rattle.std.proofs.lemmas.Grind.{flat_map-append}
+use Rattle.std.specs.declared.alloc.Global.{Global}
+use Rattle.std.specs.declared.vec.Vec.{Vec}
+use Rattle.std.proofs.lemmas.Option.{slice_get_within}
 use Rattle.path_checks.specs.declared.entry.Entry.{Entry}
+use Rattle.path_checks.specs.Shared.{entries_with, entry_if, is_sharing, shared_from, shared_if}
+use Rattle.path_patterns.specs.Reads.{accesses_at, AgreesWith}
+use Rattle.path_patterns.specs.declared.mark.Mark as pattern
+use Rattle.sil_ast.specs.declared.function.Function.{Function}
 use Rattle.sil_ast.specs.declared.place.ValueId.{ValueId}
-use Rattle.forwarding_chains.specs.Facts.{is_owned, value_of}
+use Rattle.sil_cfg.specs.Layout.{Layout, item_at, item_count}
+use Rattle.sil_cfg.specs.declared.item.Item.{Item}
+use Rattle.forwarding_chains.specs.Facts.{is_owned, known_or, value_of}
 use Rattle.forwarding_chains.specs.declared.facts.Facts.{Facts}
 use Rattle.ownership_marks.proofs.MarkTables.{flat_map_same}
+use Rattle.ownership_marks.specs.Known.{AreKindsBy, Known, facts_of, marks_at}
 use Rattle.ownership_marks.specs.declared.mark.Mark.{Mark}
-use Rattle.lifetime_worklist.specs.Lives.{entry_of, leaves, left_at_return, lives_by, returned}
-
-range_more : (a n : ℕ) → range_with_len a (suc n) ≡ range_with_len a n ++ (a + n) ∷ []
-range_more a zero = let same : a ≡ a + 0 = omega arith in ap (λ v. v ∷ []) same
-range_more a (suc n) = let same : a + 1 + n ≡ a + suc n = omega arith in ap (λ v. a ∷ v) (range_more (a + 1) n ∙ ap (λ v. range_with_len (a + 1) n ++ v ∷ []) same)
-
-pub leaves_more : (p : ℕ → List Entry) (n : ℕ) → flat_map p (range_with_len 0 (n + 1)) ≡ flat_map p (range_with_len 0 n) ++ p n
-leaves_more p n =
-    let here : 0 + n ≡ n = omega arith in
-    ap (λ m. flat_map p (range_with_len 0 m)) (add-one n) ∙ ap (flat_map p) (range_more 0 n ∙ ap (λ v. range_with_len 0 n ++ v ∷ []) here) ∙
-    flat_map-append p (range_with_len 0 n) (n ∷ []) ∙ ap (λ v. flat_map p (range_with_len 0 n) ++ v) (append-nil (p n))
+use Rattle.lifetime_worklist.specs.Lives.{entry_of, is_return, leaves, left_at_return, left_mark, lives_by, lives_of, returned}
 
 module _ (a b : ValueId → Facts) (same : (v : ValueId) → a v ≡ b v) where
   same_life : (m : Mark) → lives_by a m ≡ lives_by b m
@@ -33,3 +32,30 @@ module _ (a b : ValueId → Facts) (same : (v : ValueId) → a v ≡ b v) where
   pub same_returned : (n : ℕ) (returns : Bool) → returned a n returns ≡ returned b n returns
   same_returned n true = flat_map_same (leaves a) (leaves b) same_leave (range_with_len 0 n)
   same_returned n false = refl
+
+module _ (facts : ValueId → Facts) where
+  left_if : (n : ℕ) (b : Bool) → entry_if n (cond b (Some (left_at_return n).mark) None) ≡ cond b (left_at_return n ∷ []) []
+  left_if n true = refl
+  left_if n false = refl
+
+  -- the shared entries are those that a `return` has
+  shared_left : (n count : ℕ) → shared_from n (map (left_mark facts) (range_with_len n count)) ≡ flat_map (leaves facts) (range_with_len n count)
+  shared_left n zero = refl
+  shared_left n (suc count) = ap₂ (λ x y. x ++ y) (left_if n (is_owned (facts (value_of n)).kind)) (shared_left (n + 1) count)
+
+  pub shared_returned : (count : ℕ) (returns : Bool) → shared_if (map (left_mark facts) (range_with_len 0 count)) returns ≡ returned facts count returns
+  shared_returned count true = shared_left 0 count
+  shared_returned count false = refl
+
+-- what items do by their own marks and at a `return` are their lives
+pub lives_agree : (f : Function) (g : Layout) (k : Known) (own : List (Vec Entry Global)) (marks : List (Option pattern.Mark)) (sharing : List Bool) →
+    ((n : ℕ) → n < item_count g → accesses_at own n ≡ flat_map (lives_by (facts_of k)) (marks_at k n)) →
+    marks ≡ map (left_mark (facts_of k)) (range_with_len 0 (length k.table)) →
+    ((n : ℕ) (item : Item) → item_at g n ≡ Some item → is_sharing sharing n ≡ is_return f item) →
+    (count : ℕ) (facts : ValueId → Option Facts) → AreKindsBy count facts f g k → AgreesWith g (entries_with own marks sharing) (lives_of count facts f)
+lives_agree f g k own marks sharing own_are marks_are sharing_are count facts by n item e =
+    ap₂ (λ x y. x ++ y)
+    (own_are n (slice_get_within g.kinds n item e) ∙ same_lives (facts_of k) (known_or facts) by.facts_are (marks_at k n) ∙ ap (flat_map (lives_by (known_or facts))) (by.marks_are n item e))
+    (ap₂ (λ m b. shared_if m b) marks_are (sharing_are n item e) ∙ shared_returned (facts_of k) (length k.table) (is_return f item)
+    ∙ same_returned (facts_of k) (known_or facts) by.facts_are (length k.table) (is_return f item)
+    ∙ ap (λ size. returned (known_or facts) size (is_return f item)) by.size)

@@ -39,6 +39,10 @@ module _ (facts : ValueId → Facts) where
   abbrev pub leaves : ℕ → List entry.Entry
   leaves n = cond (is_owned (facts (value_of n)).kind) (left_at_return n ∷ []) []
 
+  -- the mark that every `return` has for the value, none where it isn't Owned
+  abbrev pub left_mark : ℕ → Option pattern.Mark
+  left_mark n = cond (is_owned (facts (value_of n)).kind) (Some (left_at_return n).mark) None
+
   abbrev pub returned : ℕ → Bool → List entry.Entry
   returned count true = flat_map leaves (range_with_len 0 count)
   returned count false = []

@@ -4,7 +4,7 @@ ghost use Rattle.std.specs.Prelude.{IfErr, IfOk, OnOk};
 ghost use Rattle.sil_cfg.specs.Build.{IsGraphOf};
 ghost use Rattle.lifetime_worklist.specs.Lifetimes.{AreLivesKept, IsFirstLife, IsLifeBroken};
 
-use crate::lives::entries_by_item;
+use crate::lives::{entries_by_item, marks_at_returns, returns_by_item};
 use ownership_marks::Kinds;
 use path_checks::{PathFault, first_fault};
 use sil_ast::{Exhausted, Function, ValueId};
@@ -24,8 +24,10 @@ fn first_broken(
     requires { IsGraphOf g.now f.now }
     ensures { IfOk result (IsFirstLife f.now g.now k.now) }
 {
-    let entries = entries_by_item(alloc, f, g, k)?;
-    first_fault(alloc, f, g, &entries)
+    let entries = entries_by_item(alloc, g, k)?;
+    let marks = marks_at_returns(alloc, k)?;
+    let returns = returns_by_item(alloc, f, g)?;
+    first_fault(alloc, f, g, &entries, &marks, &returns)
 }
 
 /// Checks rules 401 to 404: on every walk each Owned value is used (401) and ended (402) only while it lives, is not alive at a `return` (403), and begins only while it is not alive (404).

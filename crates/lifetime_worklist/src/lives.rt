@@ -1,15 +1,15 @@
 //! The table of rules 401 to 404: what each item does to which Owned value.
 
-ghost use Rattle.std.specs.Prelude.{◌≡◌, ◌++◌, ℕ, length, slice_get, Option, IfOk, OnOk};
+ghost use Rattle.std.specs.Prelude.{◌≡◌, ◌++◌, ◌<◌, ◌≤◌, ◌^◌, ℕ, Some, length, map, slice_get, IfOk, OnOk};
 ghost use Rattle.std.specs.List.{flat_map, range_with_len};
-ghost use Rattle.sil_ast.specs.declared.place.ValueId as value;
-ghost use Rattle.sil_cfg.specs.Layout.{item_count};
-ghost use Rattle.path_patterns.specs.Reads.{accesses_at, AgreesWith};
+ghost use Rattle.sil_cfg.specs.Layout.{item_at, item_count};
+ghost use Rattle.sil_cfg.specs.declared.item.Item as item;
+ghost use Rattle.path_patterns.specs.Reads.{accesses_at};
+ghost use Rattle.path_checks.specs.Shared.{is_sharing};
 ghost use Rattle.forwarding_chains.specs.Facts as facts;
-ghost use Rattle.forwarding_chains.specs.declared.facts.Facts as fact;
-ghost use Rattle.ownership_marks.specs.Known.{AreKindsBy, facts_of, marks_at};
+ghost use Rattle.ownership_marks.specs.Known.{facts_of, marks_at};
 ghost use Rattle.lifetime_worklist.specs.Lives as lives;
-ghost use Rattle.lifetime_worklist.specs.Lives.{leaves, lives_by, lives_of, returned, returns_by, returns_in};
+ghost use Rattle.lifetime_worklist.specs.Lives.{lives_by};
 
 use ownership_marks::{Kinds, Mark, MarkSort};
 use path_checks::Entry;
@@ -63,29 +63,33 @@ fn add_marks(entries: &mut Vec<Entry>, k: &Kinds, marks: &[Mark]) -> Result<(), 
 }
 
 /// At a `return` the value is not alive, if it is Owned.
-fn add_leave(entries: &mut Vec<Entry>, k: &Kinds, value: ValueId) -> Result<(), Exhausted>
-    ensures { OnOk result (entries.new.items ≡ entries.old.items ++ leaves (facts_of k.now) value.0) }
+fn left_mark(k: &Kinds, value: ValueId) -> Option<path_patterns::Mark>
+    ensures { result ≡ lives.left_mark (facts_of k.now) value.0 }
 {
     if is_owned(k.kind(value)) {
-        entries.push(Entry {
-            subject: value.0,
-            mark: path_patterns::Mark {
-                needs: Some(false),
-                turns: None,
-                code: 3,
-            },
-        })?;
+        Some(path_patterns::Mark {
+            needs: Some(false),
+            turns: None,
+            code: 3,
+        })
+    } else {
+        None
     }
-    Ok(())
 }
 
-fn add_leaves(entries: &mut Vec<Entry>, k: &Kinds) -> Result<(), Exhausted>
-    ensures { OnOk result (entries.new.items ≡ entries.old.items ++ flat_map (leaves (facts_of k.now)) (range_with_len 0 (length k.now.table))) }
+/// The mark that every `return` has for each value, by the value's number.
+pub(crate) fn marks_at_returns(
+    alloc: Global,
+    k: &Kinds,
+) -> Result<Vec<Option<path_patterns::Mark>>, Exhausted>
+    ensures marks { IfOk result (λ v. v.items ≡ map (lives.left_mark (facts_of k.now)) (range_with_len 0 (length k.now.table))) }
+    ensures few { IfOk result (λ v. length v.items ≤ 2 ^ 32) }
 {
+    let mut marks = Vec::with_capacity(alloc, k.values())?;
     for n in 0..k.values() {
-        add_leave(entries, k, ValueId(n as u32))?;
+        marks.push(left_mark(k, ValueId(n as u32)))?;
     }
-    Ok(())
+    Ok(marks)
 }
 
 fn returns_by(ending: Ending) -> bool
@@ -121,44 +125,42 @@ fn is_return(f: &Function, item: Item) -> bool
     }
 }
 
-fn add_returned(entries: &mut Vec<Entry>, k: &Kinds, returns: bool) -> Result<(), Exhausted>
-    ensures { OnOk result (entries.new.items ≡ entries.old.items ++ returned (facts_of k.now) (length k.now.table) returns) }
-{
-    if returns {
-        add_leaves(entries, k)?;
-    }
-    Ok(())
-}
-
-/// The entries of the item with this number.
-fn entries_of(
+/// Which items are a `return`, by their numbers.
+pub(crate) fn returns_by_item(
     alloc: Global,
     f: &Function,
-    k: &Kinds,
-    number: usize,
-    item: Item,
-) -> Result<Vec<Entry>, Exhausted>
-    ensures { IfOk result (λ v. v.items ≡ flat_map (lives_by (facts_of k.now)) (marks_at k.now number) ++ returned (facts_of k.now) (length k.now.table) (lives.is_return f.now item)) }
+    g: &Graph,
+) -> Result<Vec<bool>, Exhausted>
+    ensures { IfOk result (λ v. (i : ℕ) (item : item.Item) → item_at g.now i ≡ Some item → is_sharing v.items i ≡ lives.is_return f.now item) }
+{
+    let mut returns = Vec::with_capacity(alloc, g.items())?;
+    for i in 0..g.items() {
+        returns.push(is_return(f, g.item(i)))?;
+    }
+    Ok(returns)
+}
+
+/// The entries of the marks of one item.
+fn entries_of(alloc: Global, k: &Kinds, number: usize) -> Result<Vec<Entry>, Exhausted>
+    ensures { IfOk result (λ v. v.items ≡ flat_map (lives_by (facts_of k.now)) (marks_at k.now number)) }
 {
     let mut entries = Vec::new(alloc);
     add_marks(&mut entries, k, k.marks(number))?;
-    add_returned(&mut entries, k, is_return(f, item))?;
     Ok(entries)
 }
 
-/// The entries of every item of the function's graph, by the item's number.
+/// The entries of the marks of every item of the function's graph, by the item's number.
 pub(crate) fn entries_by_item(
     alloc: Global,
-    f: &Function,
     g: &Graph,
     k: &Kinds,
 ) -> Result<Vec<Vec<Entry>>, Exhausted>
     ensures size { IfOk result (λ v. length v.items ≡ item_count g.now) }
-    ensures entries { IfOk result (λ v. (count : ℕ) (facts : value.ValueId → Option fact.Facts) → AreKindsBy count facts f.now g.now k.now → AgreesWith g.now (accesses_at v.items) (lives_of count facts f.now)) }
+    ensures entries { IfOk result (λ v. (n : ℕ) → n < item_count g.now → accesses_at v.items n ≡ flat_map (lives_by (facts_of k.now)) (marks_at k.now n)) }
 {
     let mut all = Vec::new(alloc);
     for i in 0..g.items() {
-        all.push(entries_of(alloc, f, k, i, g.item(i))?)?;
+        all.push(entries_of(alloc, k, i)?)?;
     }
     Ok(all)
 }

@@ -1,4 +1,6 @@
 pub mod Accesses
 pub mod OtherSubjects
+pub mod SharedMarks
+pub mod Together
 pub mod FirstShown
 pub mod Touching

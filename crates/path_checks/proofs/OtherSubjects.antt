@@ -10,7 +10,7 @@ use Rattle.path_patterns.specs.Switch.{mark_step}
 use Rattle.path_checks.specs.declared.entry.Entry.{Entry}
 use Rattle.path_checks.specs.Entries.{means}
 
-no_mark : (subject : ℕ) (e : Entry) → (e.subject ≡ subject → ⊥) → means subject e ≡ None
+pub no_mark : (subject : ℕ) (e : Entry) → (e.subject ≡ subject → ⊥) → means subject e ≡ None
 no_mark subject e other = at (e.subject == subject) refl
   where
     at : (b : Bool) → (e.subject == subject) ≡ b → means subject e ≡ None

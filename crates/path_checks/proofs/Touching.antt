@@ -42,6 +42,9 @@ rising_sorted count touched sorted out below moved order is = record {
   below = All-same (λ u. u < count) out (dedup eqb sorted) is (All-dedup eqb (λ u. u < count) sorted (All-permutation (λ u. u < count) touched sorted moved below));
 }
 
+pub contains_sorted : (touched sorted out : List ℕ) → IsPermutation touched sorted → out ≡ dedup eqb sorted → (u : ℕ) → Contains touched u → Contains out u
+contains_sorted touched sorted out moved is u c = subst (λ v. Contains v u) (sym is) (Contains-dedup_nat sorted u (Contains-permutation touched sorted u moved c))
+
 pub touched_sorted : (first count : ℕ) (entries : List Entry) (touched sorted out : List ℕ) → HasTouched first count entries touched → IsPermutation touched sorted → out ≡ dedup eqb sorted → HasTouched first count entries out
 touched_sorted first count entries touched sorted out h moved is u lu none =
-    h u lu (λ c. none (subst (λ v. Contains v u) (sym is) (Contains-dedup_nat sorted u (Contains-permutation touched sorted u moved c))))
+    h u lu (λ c. none (contains_sorted touched sorted out moved is u c))

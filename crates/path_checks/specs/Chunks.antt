@@ -1,5 +1,5 @@
 -- Some of the subjects, searched together.
-use Rattle.std.specs.Prelude.{◌≡◌, ◌⊎◌, ℕ, ◌+◌, ◌-◌, ◌<◌, ◌≤◌, List, [], ◌∷◌, ◌++◌, All, Contains, Option, Some, None}
+use Rattle.std.specs.Prelude.{◌≡◌, ◌⊎◌, ℕ, ◌+◌, ◌-◌, ◌<◌, ◌≤◌, List, [], ◌∷◌, ◌++◌, All, Contains, Bool, true, slice_get, unwrap_or, Option, Some, None}
 use Rattle.std.specs.List.Sorted.{IsStrictlyIncreasing}
 use Rattle.sil_cfg.specs.Layout.{Layout}
 use Rattle.sil_cfg.specs.Flow.{numbered}
@@ -7,7 +7,9 @@ use Rattle.reach_engine.specs.Reach.{ReachesPoint}
 use Rattle.reach_engine.specs.Search.{IsClean, IsLeastCode, IsShortest}
 use Rattle.path_checks.specs.declared.entry.Entry.{Entry}
 use Rattle.path_checks.specs.declared.entry.PathFault.{PathFault}
+use Rattle.path_patterns.specs.declared.mark.Mark.{Mark}
 use Rattle.path_checks.specs.Entries.{subject_step}
+use Rattle.path_checks.specs.Shared.{is_sharing}
 
 -- numbers below the count, each below the next
 pub record IsRising (count : ℕ) (touched : List ℕ) : Type 0 where
@@ -22,6 +24,14 @@ HasTouched first count entries touched = (u : ℕ) → u < count → (Contains t
 abbrev pub PutIn : ℕ → ℕ → ℕ → List ℕ → List ℕ → Type 0
 PutIn first count subject old new =
     ((first ≤ subject) × (subject - first < count) × (new ≡ old ++ (subject - first) ∷ [])) ⊎ ((first ≤ subject → subject - first < count → ⊥) × (new ≡ old))
+
+-- each subject of the chunk that has a shared mark is one of these
+abbrev pub HasMarked : ℕ → ℕ → List (Option Mark) → List ℕ → Type 0
+HasMarked first count marks touched = (u : ℕ) → u < count → (Contains touched u → ⊥) → unwrap_or (slice_get marks (first + u)) None ≡ None
+
+-- so is each that an item which shares touches by its own entries
+abbrev pub HasSharing : (ℕ → List ℕ) → List Bool → List ℕ → Type 0
+HasSharing own sharing touched = (i u : ℕ) → is_sharing sharing i ≡ true → Contains (own i) u → Contains touched u
 
 -- the fault is that of the first subject of the chunk that some walk breaks
 pub record IsChunkFault (g : Layout) (entries : ℕ → List Entry) (first count : ℕ) (fault : PathFault) : Type 0 where

@@ -1,3 +1,4 @@
 pub mod Entries
+pub mod Shared
 pub mod Chunks
 pub mod First

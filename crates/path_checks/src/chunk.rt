@@ -1,29 +1,37 @@
 //! Some of the subjects, as one family of automata: those from a first one on.
 
-ghost use Rattle.std.specs.Prelude.{◌≡◌, ℕ, ◌+◌, ◌<◌, ◌≤◌, ◌^◌, length, IfOk};
+ghost use Rattle.std.specs.Prelude.{◌≡◌, ℕ, ◌+◌, ◌<◌, ◌≤◌, ◌^◌, ◌++◌, cond, length, true, IfOk};
 ghost use Rattle.reach_engine.specs.Run.{run, StaysBelow};
 ghost use Rattle.reach_engine.specs.declared.scan.Step.TheVariants.{Go};
 ghost use Rattle.path_patterns.specs.Reads.{accesses_at, read_step};
 ghost use Rattle.path_patterns.specs.Switch.{mark_step};
 ghost use Rattle.path_checks.specs.Entries.{means, subject_step};
+ghost use Rattle.path_checks.specs.Shared as shared;
+ghost use Rattle.path_checks.specs.Shared.{entries_with, shared_if};
 ghost use Rattle.path_checks.specs.Chunks.{IsRising, HasTouched};
 
 use crate::entry::Entry;
-use path_patterns::turn;
+use crate::sharing::{is_sharing, mark_of};
+use path_patterns::{Mark, turn};
 use reach_engine::{Family, Step};
 
-/// The subjects from `first` on, with the entries of each item and the subjects that it touches.
+/// The subjects from `first` on, with what each item does, and the subjects that it touches: `touched` for one that doesn't share, and `together` for all that share.
 #[derive(Drop)]
 pub struct Chunk<'a> {
     pub entries: &'a [Vec<Entry>],
+    pub marks: &'a [Option<Mark>],
+    pub sharing: &'a [bool],
     pub first: usize,
     pub count: usize,
     pub touched: Vec<Vec<u32>>,
+    pub together: Vec<u32>,
     ghost few: { count ≤ 1024 },
     ghost fits: { first + count ≤ 2 ^ 32 },
     ghost size: { length touched.items ≡ length entries.now },
     ghost rising: { (i : ℕ) → IsRising count (accesses_at touched.items i) },
     ghost all: { (i : ℕ) → HasTouched first count (accesses_at entries.now i) (accesses_at touched.items i) },
+    ghost together_rising: { IsRising count together.items },
+    ghost together_all: { (i : ℕ) → shared.is_sharing sharing.now i ≡ true → HasTouched first count (entries_with entries.now marks.now sharing.now i) together.items },
 }
 
 /// One entry, as it is to one subject.
@@ -39,7 +47,7 @@ fn step_one(subject: usize, entry: &Entry, state: u8) -> Step
     }
 }
 
-/// The entries of one item, one after another.
+/// The own entries of one item, one after another.
 fn step_all(subject: usize, entries: &[Entry], state: u8) -> Step
     requires { state < 2 }
     ensures step { result ≡ run (read_step mark_step (means subject)) (Go state) entries.now }
@@ -55,10 +63,44 @@ fn step_all(subject: usize, entries: &[Entry], state: u8) -> Step
     Step::Go(current)
 }
 
-impl Family for Chunk<'_> {
-    ghost step_of = { λ c u. subject_step (accesses_at c.entries.now) (c.first + u) };
+/// The shared entries, if the item shares: the subject's own mark is the only one that moves it.
+fn step_shared(subject: usize, marks: &[Option<Mark>], shares: bool, state: u8) -> Step
+    requires { state < 2 }
+    ensures step { result ≡ run (read_step mark_step (means subject)) (Go state) (shared_if marks.now shares) }
+    ensures stays { StaysBelow 2 result }
+{
+    if shares {
+        match mark_of(marks, subject) {
+            None => Step::Go(state),
+            Some(mark) => turn(state, mark),
+        }
+    } else {
+        Step::Go(state)
+    }
+}
 
-    ghost touched_of = { λ c. accesses_at c.touched.items };
+/// The own entries of one item, and then the shared ones.
+fn step_item(
+    subject: usize,
+    entries: &[Entry],
+    marks: &[Option<Mark>],
+    shares: bool,
+    state: u8,
+) -> Step
+    requires { state < 2 }
+    ensures step { result ≡ run (read_step mark_step (means subject)) (Go state) (entries.now ++ shared_if marks.now shares) }
+    ensures stays { StaysBelow 2 result }
+{
+    match step_all(subject, entries, state) {
+        Step::Go(next) => step_shared(subject, marks, shares, next),
+        Step::Bad(code) => Step::Bad(code),
+    }
+}
+
+impl Family for Chunk<'_> {
+    ghost step_of = { λ c u. subject_step (entries_with c.entries.now c.marks.now c.sharing.now) (c.first + u) };
+
+    ghost touched_of = { λ c i. cond (shared.is_sharing c.sharing.now i) c.together.items (accesses_at c.touched.items i) };
 
     ghost subject_count = { λ c. c.count };
 
@@ -79,10 +121,21 @@ impl Family for Chunk<'_> {
     }
 
     fn step(&self, subject: usize, state: u8, item: usize) -> Step {
-        step_all(self.first + subject, self.entries[item].as_slice(), state)
+        let shares = is_sharing(self.sharing, item);
+        step_item(
+            self.first + subject,
+            self.entries[item].as_slice(),
+            self.marks,
+            shares,
+            state,
+        )
     }
 
     fn touched(&self, item: usize) -> &[u32] {
-        self.touched[item].as_slice()
+        if is_sharing(self.sharing, item) {
+            self.together.as_slice()
+        } else {
+            self.touched[item].as_slice()
+        }
     }
 }

@@ -4,14 +4,17 @@ ghost use Rattle.std.specs.Prelude.{◌≡◌, ℕ, ◌+◌, ◌<◌, ◌≤◌,
 ghost use Rattle.sil_cfg.specs.declared.item.Item.{Item};
 ghost use Rattle.sil_cfg.specs.Layout.{item_count};
 ghost use Rattle.sil_cfg.specs.Build.{IsGraphOf};
-ghost use Rattle.path_patterns.specs.Reads.{accesses_at, AgreesWith};
+ghost use Rattle.path_patterns.specs.Reads.{AgreesWith};
 ghost use Rattle.path_checks.specs.declared.entry.Entry as entry;
 ghost use Rattle.path_checks.specs.Chunks.{IsFirstOfChunk};
+ghost use Rattle.path_checks.specs.Shared.{entries_with};
 ghost use Rattle.path_checks.specs.First.{IsFirst};
 
 use crate::chunk::Chunk;
 use crate::entry::{Entry, PathFault};
+use crate::sharing::touched_by_sharing;
 use crate::touched::{subject_bound, touched_subjects};
+use path_patterns::Mark;
 use reach_engine::{FoundAll, search_all};
 use sil_ast::{Exhausted, Function};
 use sil_cfg::Graph;
@@ -25,20 +28,26 @@ fn first_of_chunk(
     alloc: Global,
     g: &Graph,
     entries: &[Vec<Entry>],
+    marks: &[Option<Mark>],
+    sharing: &[bool],
     first: usize,
     count: usize,
 ) -> Result<Option<PathFault>, Exhausted>
     requires items { length entries.now ≡ item_count g.now }
     requires few { count ≤ 1024 }
     requires fits { first + count ≤ 2 ^ 32 }
-    ensures { IfOk result (IsFirstOfChunk g.now (accesses_at entries.now) first count) }
+    ensures { IfOk result (IsFirstOfChunk g.now (entries_with entries.now marks.now sharing.now) first count) }
 {
     let touched = touched_subjects(alloc, entries, first, count)?;
+    let together = touched_by_sharing(alloc, &touched, marks, sharing, first, count)?;
     let chunk = Chunk {
         entries,
+        marks,
+        sharing,
         first,
         count,
         touched,
+        together,
     };
     match search_all(alloc, g, &chunk)? {
         FoundAll::Clean(_) => Ok(None),
@@ -57,22 +66,26 @@ fn first_of_chunk(
 }
 
 /// The first fault that some walk of the function shows: by subject, then by code, then with fewest edges; none where nothing is shown.
-/// `entries` has what each item of the function's graph does, by the item's number.
+/// `entries` has what each item of the function's graph does, by the item's number. `marks` has the entries that items share: for each subject, by its number, a mark or none.
+/// The items that have true in `sharing`, by their numbers, have these entries too, behind their own. All that has no place in `marks` or `sharing` has none of it.
 pub fn first_fault(
     alloc: Global,
     f: &Function,
     g: &Graph,
     entries: &[Vec<Entry>],
+    marks: &[Option<Mark>],
+    sharing: &[bool],
 ) -> Result<Option<PathFault>, Exhausted>
     requires graph { IsGraphOf g.now f.now }
     requires items { length entries.now ≡ item_count g.now }
-    ensures { IfOk result (λ r. (table : Item → List entry.Entry) → AgreesWith g.now (accesses_at entries.now) table → IsFirst f.now table r) }
+    requires marks { length marks.now ≤ 2 ^ 32 }
+    ensures { IfOk result (λ r. (table : Item → List entry.Entry) → AgreesWith g.now (entries_with entries.now marks.now sharing.now) table → IsFirst f.now table r) }
 {
-    let subjects = subject_bound(entries);
+    let subjects = subject_bound(entries, marks.len());
     let mut first = 0;
     while first < subjects {
         let count = CHUNK.min(subjects - first);
-        if let Some(fault) = first_of_chunk(alloc, g, entries, first, count)? {
+        if let Some(fault) = first_of_chunk(alloc, g, entries, marks, sharing, first, count)? {
             return Ok(Some(fault));
         }
         first += count;

@@ -5,6 +5,7 @@
 mod chunk;
 mod entry;
 mod first;
+mod sharing;
 mod touched;
 
 pub use entry::{Entry, PathFault};

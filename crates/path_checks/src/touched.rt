@@ -68,12 +68,14 @@ pub fn touched_subjects(
     Ok(touched)
 }
 
-/// A number above every subject.
-pub fn subject_bound(entries: &[Vec<Entry>]) -> usize
+/// A number above every subject, and not below `least`.
+pub fn subject_bound(entries: &[Vec<Entry>], least: usize) -> usize
+    requires { least ≤ 2 ^ 32 }
     ensures above { (i : ℕ) → All (λ e. e.subject < result) (accesses_at entries.now i) }
+    ensures least { least ≤ result }
     ensures fits { result ≤ 2 ^ 32 }
 {
-    let mut bound = 0;
+    let mut bound = least;
     for item in entries {
         bound = bound_over(item.as_slice(), bound);
     }

@@ -20,7 +20,7 @@ fn first_undefined(alloc: Global, f: &Function, g: &Graph) -> Result<Option<Path
     ensures { IfOk result (IsFirst f.now (accesses_of f.now)) }
 {
     let entries = entries_by_item(alloc, f, g)?;
-    first_fault(alloc, f, g, &entries)
+    first_fault(alloc, f, g, &entries, &[], &[])
 }
 
 /// Checks rule 301: on every walk each value is an operand only after its definition. `g` is the graph of `f`.

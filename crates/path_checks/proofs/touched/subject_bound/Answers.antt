@@ -10,7 +10,7 @@ higher : (a b : ℕ) (entries : List Entry) → a ≤ b → All (λ (e : Entry).
 higher a b entries le h = All-weaker (λ (e : Entry). e.subject < a) (λ (e : Entry). e.subject < b) (λ e lt. omega arith) entries h
 
 pub loop-item-preserved : goal.loop-item-preserved
-loop-item-preserved c = record { fits = c.bound_over-bound.ensures.fits; above = λ i lt. at i lt (cases_eq i c.loop-item.item-index) }
+loop-item-preserved c = record { least = omega arith; fits = c.bound_over-bound.ensures.fits; above = λ i lt. at i lt (cases_eq i c.loop-item.item-index) }
   where
     here : accesses_at c.args.entries.now c.loop-item.item-index ≡ c.as_slice.result.now
     here = accesses_there c.args.entries.now c.loop-item.item-index c.item-item.result (omega arith) c.item-item.is ∙ sym c.as_slice.ensures.value

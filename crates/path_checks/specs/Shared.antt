@@ -1,0 +1,29 @@
+-- Entries that items share: one for each subject at most, given by the subjects' marks.
+use Rattle.std.specs.Prelude.{ℕ, ◌+◌, List, [], ◌∷◌, ◌++◌, Bool, true, false, slice_index_or, Option, Some, None}
+use Rattle.std.specs.declared.alloc.Global.{Global}
+use Rattle.std.specs.declared.vec.Vec.{Vec}
+use Rattle.path_patterns.specs.Reads.{accesses_at}
+use Rattle.path_patterns.specs.declared.mark.Mark.{Mark}
+use Rattle.path_checks.specs.declared.entry.Entry.{Entry}
+
+abbrev pub entry_if : ℕ → Option Mark → List Entry
+entry_if subject None = []
+entry_if subject (Some mark) = record { subject = subject; mark = mark } ∷ []
+
+-- the entries of the subjects from n on that have a mark
+abbrev pub shared_from : ℕ → List (Option Mark) → List Entry
+shared_from n [] = []
+shared_from n (mark ∷ marks) = entry_if n mark ++ shared_from (n + 1) marks
+
+-- all of them, if the item shares
+abbrev pub shared_if : List (Option Mark) → Bool → List Entry
+shared_if marks true = shared_from 0 marks
+shared_if marks false = []
+
+-- the item's number is marked as one that shares
+abbrev pub is_sharing : List Bool → ℕ → Bool
+is_sharing sharing i = slice_index_or sharing i false
+
+-- the item's own entries, and behind them the shared ones if it shares
+abbrev pub entries_with : List (Vec Entry Global) → List (Option Mark) → List Bool → ℕ → List Entry
+entries_with own marks sharing i = accesses_at own i ++ shared_if marks (is_sharing sharing i)
