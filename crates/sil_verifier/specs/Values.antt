@@ -26,23 +26,23 @@ abbrev pub HaveGraphs : Module → Type 0
 HaveGraphs m = (n : ℕ) (f : Function) → IsBody m n f → HasGraph f
 
 -- a broken rule, and in which function
-pub record Place : Type 0 where
+pub record ModuleShowing : Type 0 where
   pub function : ℕ
   pub showing : Showing
 
 -- the rule is broken in a function of the module
-pub record IsShown (m : Module) (p : Place) : Type 0 where
+pub record IsShown (m : Module) (p : ModuleShowing) : Type 0 where
   pub within : Function
   pub is_body : IsBody m p.function within
   pub shown : IsShownIn (declarations_of m) within p.showing
 
 -- function by function, by group, by value, by rule, and of one of these by the point or by the number of edges
-abbrev pub place_key : Place → List ℕ
-place_key p = subject_key p.function p.showing.subject.0 p.showing.rule ++ last_key (group_of p.showing.rule) p.showing
+abbrev pub showing_key : ModuleShowing → List ℕ
+showing_key p = subject_key p.function p.showing.subject.0 p.showing.rule ++ last_key (group_of p.showing.rule) p.showing
 
 -- no rule on values is broken in any function
 abbrev pub AcceptedValues : Module → Type 0
-AcceptedValues m = (p : Place) → IsShown m p → ⊥
+AcceptedValues m = (p : ModuleShowing) → IsShown m p → ⊥
 
 -- what is shown is reported so; another value that takes part is none of these rules'
 pub record IsReportOf (s : Showing) (x : RuleFault) : Type 0 where
@@ -67,13 +67,13 @@ IsEndIn d f end.Memory = ⊤
 
 -- what is shown first in the function with this number, unless memory ran out
 abbrev pub IsRefusalIn : Declarations → ℕ → Function → ValueRefusal → Type 0
-IsRefusalIn d n f (refusal.Rule function fault) = (function.0 ≡ n) × IsFirstIn d f fault
+IsRefusalIn d n f (refusal.Rule function fault) = (function.0 ≡ n) × HasBlocks f × IsFirstIn d f fault
 IsRefusalIn d n f refusal.Memory = ⊤
 
 -- the fault reports what is shown first in the module
 pub record IsFirstOf (m : Module) (n : ℕ) (x : RuleFault) : Type 0 where
   pub showing : Showing
-  pub least : IsLeast place_key (IsShown m) (record { function = n; showing = showing })
+  pub least : IsLeast showing_key (IsShown m) (record { function = n; showing = showing })
   pub reported : IsReportOf showing x
 
 -- the first of what is shown, unless memory ran out
