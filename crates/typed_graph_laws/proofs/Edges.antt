@@ -1,0 +1,105 @@
+-- What holds of a terminator's edges where it breaks no rule of typing.
+use Rattle.std.proofs.Common.{◌≡◌, ℕ, suc, ◌<◌, ◌^◌, List, [], ◌∷◌, ◌++◌, length, refl, sym, ap, ◌∙◌, subst, arith, Bool, true, false, not, Option, Some, None}
+use Rattle.std.specs.Prelude.{◌&&◌, ◌==◌, ⊤, All, is_some, is_none, map}
+use Rattle.std.specs.List.{list_all}
+use Rattle.std.specs.Option.{option_to_list}
+use Rattle.std.proofs.lemmas.Bool.{eqb-true}
+use Rattle.std.proofs.lemmas.List.{length-map}
+use Rattle.sil_ast.specs.Forms.{ending_of}
+use Rattle.sil_ast.specs.declared.entries.Ending.{Ending}
+use Rattle.sil_ast.specs.declared.entries.Ending.TheVariants as ending
+use Rattle.sil_ast.specs.declared.function.Block.{Block}
+use Rattle.sil_ast.specs.declared.function.Function.{Function}
+use Rattle.sil_ast.specs.declared.inst.Edge.{Edge}
+use Rattle.sil_ast.specs.declared.inst.Inst.{Inst}
+use Rattle.sil_ast.specs.declared.operands.Operand.{Operand}
+use Rattle.sil_ast.specs.declared.type_name.TypeName.{TypeName}
+use Rattle.numbered_form.specs.Limits.{IsDeclInLimits}
+use Rattle.numbered_form.specs.Lists.{Each, is_empty}
+use Rattle.numbered_form.specs.Parts.{are_cases, are_edges_by, is_branch, is_typed}
+use Rattle.type_definitions.specs.Declarations.{Declarations}
+use Rattle.sil_types.specs.Typing.EdgeRules.{args_of, goes_to_entry, has_block_types, has_wrong_edge_arguments, have_block_types_by, is_to_entry}
+use Rattle.sil_types.specs.Typing.RowTypes.{all_written, passes, written}
+use Rattle.sil_types.specs.Typing.Same.{all_pairs, is_same_type}
+use Rattle.sil_types.specs.Typing.SwitchRules.{are_all_there, are_once, fits_edge, has_switch_cases_by, has_wrong_cases, is_alone, is_of_enum, places_of, switches_well}
+use Rattle.sil_types.specs.Typing.Values.{arg_type}
+use Rattle.typed_graph_laws.specs.Ready.{AvoidsEntry, FitsBlock, FitsBlockBy, HasFittingEdges}
+use Rattle.typed_graph_laws.proofs.Facts.{all_at, and_first, and_second, fails_at, never_fails, never_passes, passes_at}
+use Rattle.typed_graph_laws.proofs.Switches.{few_edges, none_left}
+
+-- ---- arguments
+
+pairs-length : {A B : Type 0} (test : A → B → Bool) (xs : List A) (ys : List B) → all_pairs test xs ys ≡ true → length xs ≡ length ys
+pairs-length test [] [] e = refl
+pairs-length test [] (y ∷ ys) e = cc
+pairs-length test (x ∷ xs) [] e = cc
+pairs-length test (x ∷ xs) (y ∷ ys) e = ap suc (pairs-length test xs ys (and_second (test x y) (all_pairs test xs ys) e))
+
+one_more : {A : Type 0} (o : Option A) (xs : List A) (n : ℕ) → is_some o ≡ true → length xs ≡ n → length (option_to_list o ++ xs) ≡ suc n
+one_more None xs n e same = cc
+one_more (Some x) xs n e same = ap suc same
+
+-- where each operand has its type written, as many types are written as operands
+written-length : (os : List Operand) → list_all is_typed os ≡ true → length (all_written os) ≡ length os
+written-length [] e = refl
+written-length (o ∷ os) e = one_more o.ty (all_written os) (length os) (and_first (is_typed o) (list_all is_typed os) e) (written-length os (and_second (is_typed o) (list_all is_typed os) e))
+
+fits : (f : Function) (e : Edge) → is_branch e ≡ true → has_block_types f e ≡ true → FitsBlock f e
+fits f e branch same =
+    sym (written-length e.args (and_second (is_none e.case_of) (list_all is_typed e.args) branch))
+    ∙ pairs-length is_same_type (all_written e.args) (map arg_type (args_of f e.block.0)) same
+    ∙ length-map (args_of f e.block.0) arg_type
+
+all_fit : (f : Function) (es : List Edge) → list_all is_branch es ≡ true → list_all (has_block_types f) es ≡ true → All (FitsBlock f) es
+all_fit f es branches same = all_at (FitsBlock f) es (λ i e at. fits f e (passes_at is_branch es i e branches at) (passes_at (has_block_types f) es i e same at))
+
+nothing_asked : (es : List Edge) → All (λ e. ⊤) es
+nothing_asked es k d lt = tt
+
+fit_by : (ends : Ending) (f : Function) (es : List Edge) → are_edges_by ends es ≡ true → have_block_types_by ends f es ≡ true → All (FitsBlockBy ends f) es
+fit_by ending.Inside f es edges same = nothing_asked es
+fit_by ending.OneBranch f es edges same = all_fit f es (and_second (length es == 1) (list_all is_branch es) edges) same
+fit_by ending.TwoBranches f es edges same = all_fit f es (and_second (length es == 2) (list_all is_branch es) edges) same
+fit_by ending.Cases f es edges same = nothing_asked es
+fit_by ending.Return f es edges same = nothing_asked es
+fit_by ending.Unreachable f es edges same = nothing_asked es
+
+-- ---- the entry
+
+avoids : (e : Edge) → is_to_entry e ≡ false → AvoidsEntry e
+avoids e test same = let hit : is_to_entry e ≡ true = subst (λ n. (n == 0) ≡ true) (sym same) refl in cc
+
+-- ---- both: the edges fit
+
+pub fitting_edges : (f : Function) (b : Block) → are_edges_by (ending_of b.terminator.op) b.terminator.edges ≡ true → (has_wrong_edge_arguments f b.terminator ≡ true → ⊥) → (goes_to_entry b.terminator ≡ true → ⊥) → HasFittingEdges f b
+unfolding has_wrong_edge_arguments goes_to_entry
+fitting_edges f b edges same entry =
+    let i = b.terminator in
+    record {
+      entry = let misses = never_passes (goes_to_entry i) entry in all_at AvoidsEntry i.edges (λ k e at. avoids e (fails_at is_to_entry i.edges k e misses at));
+      arguments = fit_by (ending_of i.op) f i.edges edges (never_fails (have_block_types_by (ending_of i.op) f i.edges) same);
+    }
+
+-- ---- how many
+
+few_in_switch : (d : Declarations) (f : Function) → Each IsDeclInLimits d.decls → (es : List Edge) → are_cases es ≡ true → (o : Option TypeName) → passes (switches_well d f es) o ≡ true → length es < 2 ^ 32
+few_in_switch d f members es cases None e = cc
+few_in_switch d f members es cases (Some t) e =
+    let of_enum = list_all (is_of_enum d t) es in
+    let once = are_once (places_of d t es) in
+    let all = are_all_there d t es in
+    let alone = list_all (is_alone f) es in
+    let both = and_first (of_enum && once) all (and_first (of_enum && once && all) alone (and_first (of_enum && once && all && alone) (list_all (fits_edge d f t) es) e)) in
+    let few = few_edges d t members es cases (and_first of_enum once both) (and_second of_enum once both) in
+    omega (arith, few)
+
+few_by : (ends : Ending) (d : Declarations) (f : Function) (i : Inst) → Each IsDeclInLimits d.decls → are_edges_by ends i.edges ≡ true → has_switch_cases_by ends d f i ≡ true → length i.edges < 2 ^ 32
+few_by ending.Inside d f i members edges cases = let none = none_left i.edges edges in omega arith
+few_by ending.OneBranch d f i members edges cases = let one = eqb-true (length i.edges) 1 (and_first (length i.edges == 1) (list_all is_branch i.edges) edges) in omega arith
+few_by ending.TwoBranches d f i members edges cases = let two = eqb-true (length i.edges) 2 (and_first (length i.edges == 2) (list_all is_branch i.edges) edges) in omega arith
+few_by ending.Cases d f i members edges cases = few_in_switch d f members i.edges (and_second (not (is_empty i.edges)) (are_cases i.edges) edges) (written 0 i) cases
+few_by ending.Return d f i members edges cases = let none = none_left i.edges edges in omega arith
+few_by ending.Unreachable d f i members edges cases = let none = none_left i.edges edges in omega arith
+
+pub few_edges_at : (d : Declarations) (f : Function) (i : Inst) → Each IsDeclInLimits d.decls → are_edges_by (ending_of i.op) i.edges ≡ true → (has_wrong_cases d f i ≡ true → ⊥) → length i.edges < 2 ^ 32
+few_edges_at d f i members edges wrong = few_by (ending_of i.op) d f i members edges (never_fails (has_switch_cases_by (ending_of i.op) d f i) wrong)

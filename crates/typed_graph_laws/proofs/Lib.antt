@@ -1,0 +1,5 @@
+mod Facts
+mod Places
+mod Switches
+mod Edges
+pub mod Functions
