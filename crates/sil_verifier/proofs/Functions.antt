@@ -10,9 +10,10 @@ use Rattle.sil_rules.specs.Order.{IsLeast, NotAfter, stage_of}
 use Rattle.sil_rules.specs.Rules.{group_of}
 use Rattle.sil_rules.proofs.Keys.{compared}
 use Rattle.type_definitions.specs.Declarations.{declarations_of}
+use Rattle.typed_graph_laws.specs.Laws.{HasBlocks}
 use Rattle.sil_verifier.proofs.FirstShown.{stage_told}
 use Rattle.sil_verifier.specs.Shown.{IsShownIn, Showing, inner_key}
-use Rattle.sil_verifier.specs.Values.{HasBlocks, IsBody, IsCleanIn, IsFirstIn, IsFirstOf, IsRefusalIn, IsShown, IsValueRefusal, ModuleShowing, showing_key}
+use Rattle.sil_verifier.specs.Values.{IsBody, IsCleanIn, IsFirstIn, IsFirstOf, IsRefusalIn, IsShown, IsValueRefusal, ModuleShowing, showing_key}
 use Rattle.sil_verifier.specs.declared.values.ValueRefusal.{ValueRefusal}
 use Rattle.sil_verifier.specs.declared.values.ValueRefusal.TheVariants as refusal
 

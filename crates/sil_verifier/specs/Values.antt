@@ -2,28 +2,21 @@
 use Rattle.std.specs.Prelude.{◌≡◌, ℕ, ◌<◌, List, ◌++◌, None, Some, length, slice_get, ⊤}
 use Rattle.sil_ast.specs.declared.function.Function.{Function}
 use Rattle.sil_ast.specs.declared.module.Module.{Module}
-use Rattle.sil_cfg.specs.Build.{HasGraph}
 use Rattle.sil_cfg.specs.declared.fault.RuleEnd.{RuleEnd}
 use Rattle.sil_cfg.specs.declared.fault.RuleEnd.TheVariants as end
 use Rattle.sil_cfg.specs.declared.fault.RuleFault.{RuleFault}
 use Rattle.sil_rules.specs.Order.{IsLeast, subject_key}
 use Rattle.sil_rules.specs.Rules.{group_of, number_of}
 use Rattle.type_definitions.specs.Declarations.{Declarations, declarations_of}
+use Rattle.typed_graph_laws.specs.Laws.{HasBlocks}
 use Rattle.sil_verifier.specs.Shown.{IsShownIn, Showing, inner_key, last_key}
 use Rattle.sil_verifier.specs.declared.values.ValueRefusal.{ValueRefusal}
 use Rattle.sil_verifier.specs.declared.values.ValueRefusal.TheVariants as refusal
-
-abbrev pub HasBlocks : Function → Type 0
-HasBlocks f = 0 < length f.blocks
 
 -- the function with this number, which has a body
 pub record IsBody (m : Module) (n : ℕ) (f : Function) : Type 0 where
   pub there : slice_get m.functions n ≡ Some f
   pub body : HasBlocks f
-
--- each function with a body has a graph
-abbrev pub HaveGraphs : Module → Type 0
-HaveGraphs m = (n : ℕ) (f : Function) → IsBody m n f → HasGraph f
 
 -- a broken rule, and in which function
 pub record ModuleShowing : Type 0 where

@@ -5,8 +5,9 @@ ghost use Rattle.numbered_form.specs.NumberedForm.{IsNumbered};
 ghost use Rattle.type_definitions.specs.Rules.{AreDeclarationsOf};
 ghost use Rattle.sil_cfg.specs.Build.{HasGraph};
 ghost use Rattle.ownership_kinds.specs.Ends.{IsOfNumberedModule};
+ghost use Rattle.typed_graph_laws.specs.Laws.{HasBlocks};
 ghost use Rattle.sil_verifier.specs.Refusals.{HasTypes};
-ghost use Rattle.sil_verifier.specs.Values.{AcceptedValues, HasBlocks, HaveGraphs, IsCleanIn, IsEndIn, IsRefusalIn, IsValueRefusal};
+ghost use Rattle.sil_verifier.specs.Values.{AcceptedValues, IsCleanIn, IsEndIn, IsRefusalIn, IsValueRefusal};
 
 use ownership_kinds::kinds_in;
 use sil_ast::{FuncId, Function, Module};
@@ -71,7 +72,6 @@ pub fn check_values(alloc: Global, m: &Module, table: &TypeTable) -> Result<(), 
     requires numbered { IsNumbered m.now }
     requires table { AreDeclarationsOf table.now m.now }
     requires types { HasTypes m.now }
-    requires graphs { HaveGraphs m.now }
     ensures ok { OnOk result (AcceptedValues m.now) }
     ensures err { IfErr result (IsValueRefusal m.now) }
 {

@@ -3,9 +3,17 @@ use Rattle.std.specs.Prelude.{slice_get}
 use Rattle.sil_ast.specs.declared.place.FuncId.{FuncId}
 use Rattle.sil_cfg.specs.declared.fault.RuleFault.{RuleFault}
 use Rattle.type_definitions.specs.Declarations.{Declarations, declarations_of}
-use Rattle.sil_verifier.specs.Values.{HasBlocks, IsCleanIn, IsRefusalIn, IsValueRefusal}
+use Rattle.typed_graph_laws.proofs.Functions.{graphs_by_blocks}
+use Rattle.typed_graph_laws.specs.Laws.{HasBlocks}
+use Rattle.sil_verifier.specs.Values.{IsCleanIn, IsRefusalIn, IsValueRefusal}
 use Rattle.sil_verifier.proofs.Functions.{all_clean, clean_more, first_refusal, is_there}
 use Rattle.sil_verifier.proofs.values.check_values.Goals as goal
+
+pub check_numbered-requires-clause-graph : goal.check_numbered-requires-clause-graph
+check_numbered-requires-clause-graph c = λ body. (graphs_by_blocks c.args.m.now c.loop-function.number c.function-item.result c.requires.numbered c.requires.types.typed there body).graph
+  where
+    there : slice_get c.args.m.now.functions c.loop-function.number ≡ Some c.function-item.result
+    there = is_there c.args.m.now.functions c.as_slice-function-items.result.now c.loop-function.function-index c.loop-function.number c.function-item.result c.as_slice-function-items.ensures c.loop-function.invariant.0 c.loop-function-test.true c.function-item.is
 
 pub returns-in_err-check_numbered-clause-err : goal.returns-in_err-check_numbered-clause-err
 returns-in_err-check_numbered-clause-err c =
