@@ -1,6 +1,6 @@
 -- Which codes a walk may show: of 301 the code 1, and of lives the four codes of 401 to 404.
 use Rattle.std.proofs.Common.{◌≡◌, ℕ, List, [], ◌∷◌, ◌++◌, refl, sym, ◌∙◌, subst, Bool, true, false, Option, Some, None}
-use Rattle.std.specs.Prelude.{cond, map, slice_get, ◌==◌, length}
+use Rattle.std.specs.Prelude.{cond, map, slice_get, ◌==◌}
 use Rattle.std.specs.List.{AllByRecursion, flat_map, range_with_len}
 use Rattle.sil_ast.specs.declared.function.Block.{Block}
 use Rattle.sil_ast.specs.declared.function.Function.{Function}
@@ -26,9 +26,8 @@ use Rattle.ownership_marks.specs.declared.mark.MarkSort.TheVariants.{End, Use, B
 use Rattle.lifetime_worklist.specs.Lives.{entry_of, is_return, leaves, left_at_return, lives_by, lives_of, returned, turned_by}
 use Rattle.sil_rules.specs.declared.rule.Rule.{Rule}
 use Rattle.sil_rules.specs.declared.rule.Rule.TheVariants as rule
-use Rattle.type_definitions.specs.Declarations.{Declarations}
 use Rattle.value_availability.specs.Accesses.{accesses_of, begun, defined, of_args, of_edge, of_edge_at, of_exit, of_inst, of_inst_at, used}
-use Rattle.sil_verifier.specs.Shown.{IsLifeRule, lives_in}
+use Rattle.sil_verifier.specs.Shown.{IsLifeRule}
 use Rattle.sil_verifier.specs.Shown.IsLifeRule.{used as life_used, ended as life_ended, left as life_left, begun as life_begun}
 
 module _ (P : entry.Entry → Type 0) where

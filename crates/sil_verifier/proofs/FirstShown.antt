@@ -1,5 +1,5 @@
 -- What each group finds first in a function is the first of all that is shown there, where the groups before it find nothing.
-use Rattle.std.proofs.Common.{◌≡◌, ℕ, ◌+◌, ◌<◌, List, [], ◌∷◌, ◌++◌, length, refl, sym, ap, ◌∙◌, subst, arith, ◌⊎◌, inl, inr, Some, None}
+use Rattle.std.proofs.Common.{◌≡◌, ℕ, ◌+◌, List, [], ◌∷◌, ◌++◌, length, refl, sym, ap, ◌∙◌, subst, arith, inl, inr, Some}
 use Rattle.sil_ast.specs.declared.function.Function.{Function}
 use Rattle.sil_ast.specs.declared.place.ValueId.{ValueId}
 use Rattle.sil_cfg.specs.Layout.{Layout}
@@ -7,7 +7,7 @@ use Rattle.sil_cfg.specs.declared.fault.RuleEnd.{RuleEnd}
 use Rattle.sil_cfg.specs.declared.fault.RuleEnd.TheVariants as end
 use Rattle.sil_cfg.specs.declared.fault.RuleFault.{RuleFault}
 use Rattle.numbered_form.specs.Numbering.{values_of}
-use Rattle.sil_rules.specs.Order.{IsLeast, NotAfter, key_in_function, stage_of}
+use Rattle.sil_rules.specs.Order.{NotAfter, key_in_function, stage_of}
 use Rattle.sil_rules.specs.Rules.{group_of, number_of}
 use Rattle.sil_rules.specs.declared.rule.Rule.{Rule}
 use Rattle.sil_rules.specs.declared.rule.Rule.TheVariants as rule
@@ -67,10 +67,10 @@ module _ (d : Declarations) (f : Function) where
 
   first_undefined : (x : RuleFault) → IsFirstUndefined f x → IsFirstIn d f x
   first_undefined x h = record {
-        showing = s;
-        least = record { shown = undefined refl found; first = behind };
-        reported = record { rule = h.rule; subject = refl; other = h.other; point = refl; walk = refl };
-      }
+    showing = s;
+    least = record { shown = undefined refl found; first = behind };
+    reported = record { rule = h.rule; subject = refl; other = h.other; point = refl; walk = refl };
+  }
     where
       s : Showing
       s = record { rule = rule.Undefined; subject = x.subject; walk = x.walk; point = x.point }
@@ -98,10 +98,10 @@ module _ (d : Declarations) (f : Function) where
 
     first_kind : (x : RuleFault) → IsFaultOn d f x → IsFirstIn d f x
     first_kind x h = record {
-          showing = s;
-          least = record { shown = kind refl h.1.broken; first = behind };
-          reported = record { rule = h.2.rule; subject = h.2.subject; other = h.2.other; point = h.2.point; walk = h.2.walk };
-        }
+      showing = s;
+      least = record { shown = kind refl h.1.broken; first = behind };
+      reported = record { rule = h.2.rule; subject = h.2.subject; other = h.2.other; point = h.2.point; walk = h.2.walk };
+    }
       where
         s : Showing
         s = record { rule = h.0.rule; subject = h.0.subject; walk = []; point = h.0.point }
@@ -134,10 +134,10 @@ module _ (d : Declarations) (f : Function) where
 
       first_life : (x : RuleFault) → IsFirstBrokenLife f g k x → IsFirstIn d f x
       first_life x h = record {
-            showing = s;
-            least = record { shown = life h.code (has.1) first.0; first = behind };
-            reported = record { rule = h.rule ∙ sym (number_told has.0 h.code has.1); subject = refl; other = h.other; point = refl; walk = refl };
-          }
+        showing = s;
+        least = record { shown = life h.code (has.1) first.0; first = behind };
+        reported = record { rule = h.rule ∙ sym (number_told has.0 h.code has.1); subject = refl; other = h.other; point = refl; walk = refl };
+      }
         where
           first : paths.IsFirst f (lives_in d f) (Some (record { subject = x.subject.0; code = h.code; walk = x.walk; point = x.point }))
           first = h.first (length (values_of f.blocks)) (facts_in d f) are

@@ -1,19 +1,18 @@
 -- What is shown first in a function, where nothing is shown in any before it, is the first of the module.
-use Rattle.std.proofs.Common.{◌≡◌, ◌≢◌, ℕ, ◌+◌, ◌<◌, List, [], ◌∷◌, ◌++◌, length, get_or, refl, sym, ap, ◌∙◌, subst, arith, ◌⊎◌, inl, inr, Option, Some, None}
+use Rattle.std.proofs.Common.{◌≡◌, ◌≢◌, ℕ, ◌+◌, ◌<◌, List, ◌∷◌, length, get_or, refl, sym, ◌∙◌, subst, arith, ◌⊎◌, inl, inr, Option, Some}
 use Rattle.std.specs.Prelude.{slice_get}
 use Rattle.std.proofs.lemmas.Bool.{cases_eq}
 use Rattle.std.proofs.lemmas.Option.{slice_get_read, slice_get_within}
 use Rattle.sil_ast.specs.declared.function.Function.{Function}
 use Rattle.sil_ast.specs.declared.module.Module.{Module}
 use Rattle.sil_cfg.specs.declared.fault.RuleFault.{RuleFault}
-use Rattle.sil_rules.specs.Order.{IsLeast, NotAfter, stage_of}
-use Rattle.sil_rules.specs.Rules.{group_of}
+use Rattle.sil_rules.specs.Order.{NotAfter}
 use Rattle.sil_rules.proofs.Keys.{compared}
 use Rattle.type_definitions.specs.Declarations.{declarations_of}
 use Rattle.typed_graph_laws.specs.Laws.{HasBlocks}
 use Rattle.sil_verifier.proofs.FirstShown.{stage_told}
-use Rattle.sil_verifier.specs.Shown.{IsShownIn, Showing, inner_key}
-use Rattle.sil_verifier.specs.Values.{IsBody, IsCleanIn, IsFirstIn, IsFirstOf, IsRefusalIn, IsShown, IsValueRefusal, ModuleShowing, showing_key}
+use Rattle.sil_verifier.specs.Shown.{IsShownIn, inner_key}
+use Rattle.sil_verifier.specs.Values.{IsCleanIn, IsFirstIn, IsFirstOf, IsRefusalIn, IsShown, IsValueRefusal, ModuleShowing, showing_key}
 use Rattle.sil_verifier.specs.declared.values.ValueRefusal.{ValueRefusal}
 use Rattle.sil_verifier.specs.declared.values.ValueRefusal.TheVariants as refusal
 

@@ -1,8 +1,6 @@
-use Rattle.std.proofs.Common.{rules, ◌≡◌, ◌+◌, length, refl, sym, ap, ◌∙◌, subst, arith, Some}
+use Rattle.std.proofs.Common.{rules, ◌≡◌, ◌+◌, length, refl, ap, subst, Some}
 use Rattle.std.specs.Prelude.{slice_get}
-use Rattle.sil_ast.specs.declared.place.FuncId.{FuncId}
-use Rattle.sil_cfg.specs.declared.fault.RuleFault.{RuleFault}
-use Rattle.type_definitions.specs.Declarations.{Declarations, declarations_of}
+use Rattle.type_definitions.specs.Declarations.{declarations_of}
 use Rattle.typed_graph_laws.proofs.Functions.{graphs_by_blocks}
 use Rattle.typed_graph_laws.specs.Laws.{HasBlocks}
 use Rattle.sil_verifier.specs.Values.{IsCleanIn, IsRefusalIn, IsValueRefusal}
@@ -18,21 +16,22 @@ check_numbered-requires-clause-graph c = λ body. (graphs_by_blocks c.args.m.now
 pub returns-in_err-check_numbered-clause-err : goal.returns-in_err-check_numbered-clause-err
 returns-in_err-check_numbered-clause-err c =
     let there : slice_get c.args.m.now.functions c.loop-function.number ≡ Some c.function-item.result =
-        is_there c.args.m.now.functions c.as_slice-function-items.result.now c.loop-function.function-index c.loop-function.number c.function-item.result c.as_slice-function-items.ensures c.loop-function.invariant.0 c.loop-function-test.true c.function-item.is in
+    is_there c.args.m.now.functions c.as_slice-function-items.result.now c.loop-function.function-index c.loop-function.number c.function-item.result c.as_slice-function-items.ensures c.loop-function.invariant.0 c.loop-function-test.true c.function-item.is in
     let own : IsRefusalIn (declarations_of c.args.m.now) c.loop-function.number c.function-item.result c.in_err-check_numbered.field-0.0 =
-        subst (λ d. IsRefusalIn d c.loop-function.number c.function-item.result c.in_err-check_numbered.field-0.0) c.requires.table.copied c.in_err-check_numbered.ensures.err in
+    subst (λ d. IsRefusalIn d c.loop-function.number c.function-item.result c.in_err-check_numbered.field-0.0) c.requires.table.copied c.in_err-check_numbered.ensures.err in
     let told : IsValueRefusal c.args.m.now c.in_err-check_numbered.field-0.0 =
-        first_refusal c.args.m.now c.loop-function.number c.function-item.result there c.in_err-check_numbered.field-0.0 c.loop-function.invariant.1 own in
+    first_refusal c.args.m.now c.loop-function.number c.function-item.result there c.in_err-check_numbered.field-0.0 c.loop-function.invariant.1 own in
     search rules
 
 pub loop-function-preserved : goal.loop-function-preserved
 loop-function-preserved c =
     let there : slice_get c.args.m.now.functions c.loop-function.number ≡ Some c.function-item.result =
-        is_there c.args.m.now.functions c.as_slice-function-items.result.now c.loop-function.function-index c.loop-function.number c.function-item.result c.as_slice-function-items.ensures c.loop-function.invariant.0 c.loop-function-test.true c.function-item.is in
+    is_there c.args.m.now.functions c.as_slice-function-items.result.now c.loop-function.function-index c.loop-function.number c.function-item.result c.as_slice-function-items.ensures c.loop-function.invariant.0 c.loop-function-test.true c.function-item.is in
     let clean : HasBlocks c.function-item.result → IsCleanIn (declarations_of c.args.m.now) c.function-item.result =
-        subst (λ d. HasBlocks c.function-item.result → IsCleanIn d c.function-item.result) c.requires.table.copied c.in_ok-check_numbered.ensures.ok in
-    (ap (λ k. k + 1) c.loop-function.invariant.0,
-    clean_more c.args.m.now c.loop-function.number c.function-item.result there (c.loop-function.number + 1) refl c.loop-function.invariant.1 clean)
+    subst (λ d. HasBlocks c.function-item.result → IsCleanIn d c.function-item.result) c.requires.table.copied c.in_ok-check_numbered.ensures.ok in (
+      ap (λ k. k + 1) c.loop-function.invariant.0,
+      clean_more c.args.m.now c.loop-function.number c.function-item.result there (c.loop-function.number + 1) refl c.loop-function.invariant.1 clean,
+    )
 
 pub returns-clause-ok : goal.returns-clause-ok
 returns-clause-ok c =
