@@ -1,6 +1,6 @@
 -- The first fault of typing, with those of functions without `[ossa]`.
-use Rattle.std.proofs.Common.{◌≡◌, ℕ, zero, suc, ◌+◌, ◌<◌, ◌≤◌, List, [], ◌∷◌, refl, sym, ap, ◌∙◌, subst, arith, ◌⊎◌, inl, inr, Bool, true, false, Option, Some, None}
-use Rattle.std.specs.Prelude.{slice_get, if◌then◌else◌, is_none, nat_lt, nat_le, ◌==◌, ◌&&◌, ◌||◌}
+use Rattle.std.proofs.Common.{◌≡◌, ℕ, ◌+◌, ◌<◌, ◌≤◌, List, [], ◌∷◌, refl, sym, subst, arith, ◌⊎◌, inl, inr, Bool, true, false, Option, Some, None}
+use Rattle.std.specs.Prelude.{if◌then◌else◌, is_none, nat_lt, nat_le, ◌==◌, ◌&&◌, ◌||◌}
 use Rattle.std.specs.Option.{option_or}
 use Rattle.std.proofs.lemmas.Bool.{cases_lt}
 use Rattle.sil_ast.specs.declared.function.Form.{Form}
@@ -8,12 +8,12 @@ use Rattle.sil_ast.specs.declared.function.Form.TheVariants.{Ossa, Lowered, Exte
 use Rattle.sil_ast.specs.declared.function.Function.{Function}
 use Rattle.sil_ast.specs.declared.module.Module.{Module}
 use Rattle.sil_rules.proofs.Keys.{not_after_refl}
-use Rattle.sil_rules.specs.Order.{NotAfter, IsFirst, IsLeast, stage_of}
-use Rattle.sil_rules.specs.Rules.{number_of, group_of}
+use Rattle.sil_rules.specs.Order.{NotAfter, IsFirst}
+use Rattle.sil_rules.specs.Rules.{number_of}
 use Rattle.sil_rules.specs.declared.rule.Rule.{Rule}
 use Rattle.sil_rules.specs.declared.rule.Rule.TheVariants as rule
 use Rattle.sil_types.specs.Typing.FormRules.{is_lowered}
-use Rattle.sil_types.specs.Typing.Typed.{BreaksAt, Site, at_function, at_point, at_vtable}
+use Rattle.sil_types.specs.Typing.Typed.{BreaksAt, Site, at_function, at_point}
 use Rattle.sil_types.specs.Typing.Typed.BreaksAt.{function, point, vtable}
 use Rattle.type_check.proofs.FirstFaults.{stage_at_function, stage_at_point}
 use Rattle.type_check.proofs.Firsts.{first_of_places, first_same, at_zero, of_zero}

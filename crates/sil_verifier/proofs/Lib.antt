@@ -1,1 +1,4 @@
 pub mod FirstFaults
+mod Codes
+mod FirstShown
+mod Functions

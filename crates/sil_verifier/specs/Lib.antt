@@ -1,2 +1,4 @@
 pub mod Refusals
 pub mod Lowered
+pub mod Shown
+pub mod Values

@@ -6,6 +6,8 @@ mod lowered;
 mod refusal;
 mod types;
 mod typing;
+mod values;
 
 pub use refusal::StaticRefusal;
 pub use types::check_types;
+pub use values::{ValueRefusal, check_values};

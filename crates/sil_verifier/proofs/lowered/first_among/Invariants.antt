@@ -1,5 +1,5 @@
 -- None of the functions so far is lowered.
-use Rattle.std.proofs.Common.{◌≡◌, ◌+◌, ◌<◌, ◌^◌, length, drop}
+use Rattle.std.proofs.Common.{◌≡◌, drop}
 use Rattle.sil_verifier.specs.Lowered.{first_lowered}
 use Rattle.sil_verifier.proofs.lowered.first_among.Given as goal
 

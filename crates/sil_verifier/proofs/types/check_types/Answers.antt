@@ -1,11 +1,9 @@
-use Rattle.std.proofs.Common.{◌≡◌, inl, inr, subst, Option, None}
+use Rattle.std.proofs.Common.{inl, inr, subst, None}
 use Rattle.sil_rules.specs.Order.{IsFirst}
-use Rattle.sil_types.specs.Typing.Typed.{BreaksAt, Site, Typed}
-use Rattle.sil_rules.specs.declared.rule.Rule.{Rule}
+use Rattle.sil_types.specs.Typing.Typed.{Typed}
 use Rattle.type_check.specs.Refusals.{fault_at, fault_key}
 use Rattle.type_check.specs.Refusals.IsBroken.{broken}
-use Rattle.type_check.specs.declared.fault.TypingFault.{TypingFault}
-use Rattle.sil_verifier.specs.Refusals.{HasTypes, IsLowered, IsWrong}
+use Rattle.sil_verifier.specs.Refusals.{IsWrong}
 use Rattle.sil_verifier.proofs.types.check_types.Goals as goal
 
 -- src/types.rt:16:1

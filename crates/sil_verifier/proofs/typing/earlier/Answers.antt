@@ -1,4 +1,4 @@
-use Rattle.std.proofs.Common.{◌≡◌, refl, sym, ◌∙◌, subst, inl, inr, Some}
+use Rattle.std.proofs.Common.{refl, sym, ◌∙◌, subst, inl, inr, Some}
 use Rattle.std.specs.Prelude.{IfSome}
 use Rattle.sil_rules.specs.Order.{IsEarlier}
 use Rattle.type_check.specs.Refusals.{IsBroken, fault_key}

@@ -1,6 +1,5 @@
 use Rattle.std.proofs.Common.{Option, Some, None}
 use Rattle.std.specs.Prelude.{IfSome}
-use Rattle.sil_ast.specs.declared.module.Module.{Module}
 use Rattle.sil_rules.specs.Order.{IsFirst}
 use Rattle.sil_rules.proofs.Firsts.{first_earlier}
 use Rattle.type_check.specs.Refusals.{IsBroken, fault_key}

@@ -1,0 +1,61 @@
+-- What is shown of a function's values: one case for each group of rules.
+use Rattle.std.specs.Prelude.{◌≡◌, ℕ, List, [], ◌∷◌, ◌++◌, length}
+use Rattle.sil_ast.specs.declared.function.Function.{Function}
+use Rattle.sil_ast.specs.declared.place.EdgeId.{EdgeId}
+use Rattle.sil_ast.specs.declared.place.PointId.{PointId}
+use Rattle.sil_ast.specs.declared.place.ValueId.{ValueId}
+use Rattle.sil_cfg.specs.declared.item.Item.{Item}
+use Rattle.numbered_form.specs.Numbering.{values_of}
+use Rattle.sil_rules.specs.Order.{key_in_function}
+use Rattle.sil_rules.specs.Rules.{group_of}
+use Rattle.sil_rules.specs.declared.group.Group.{Group}
+use Rattle.sil_rules.specs.declared.group.Group.TheVariants as group
+use Rattle.sil_rules.specs.declared.rule.Rule.{Rule}
+use Rattle.sil_rules.specs.declared.rule.Rule.TheVariants as rule
+use Rattle.type_definitions.specs.Declarations.{Declarations}
+use Rattle.path_checks.specs.First as paths
+use Rattle.path_checks.specs.declared.entry.Entry.{Entry}
+use Rattle.value_availability.specs.Accesses.{accesses_of}
+use Rattle.ownership_kinds.specs.Facts.{facts_in}
+use Rattle.ownership_kinds.specs.Statics as kinds
+use Rattle.lifetime_worklist.specs.Lives.{lives_of}
+
+-- a broken rule: of which value, at which point, and the walk that shows it
+pub record Showing : Type 0 where
+  pub rule : Rule
+  pub subject : ValueId
+  pub walk : List EdgeId
+  pub point : PointId
+
+-- what an item does to the Owned values, by the facts of the function itself
+abbrev pub lives_in : Declarations → Function → Item → List Entry
+lives_in d f = lives_of (length (values_of f.blocks)) (facts_in d f) f
+
+-- the rule that the code of a life stands for
+pub data IsLifeRule : Rule → ℕ → Type 0 where
+  used : IsLifeRule rule.UseAfterConsume 1
+  ended : IsLifeRule rule.DoubleConsume 2
+  left : IsLifeRule rule.Leak 3
+  begun : IsLifeRule rule.Overwritten 4
+
+-- in the function a rule on its values is broken: 301 on a walk; 302 to 305 at a point, with no walk; 401 to 404 on a walk
+pub data IsShownIn (d : Declarations) (f : Function) (s : Showing) : Type 0 where
+  undefined : s.rule ≡ rule.Undefined → paths.IsShown f (accesses_of f) s.subject.0 1 s.walk s.point → IsShownIn d f s
+  kind : s.walk ≡ [] → kinds.IsBroken d f s.rule s.subject s.point.block.0 s.point.index → IsShownIn d f s
+  life : (code : ℕ) → IsLifeRule s.rule code → paths.IsShown f (lives_in d f) s.subject.0 code s.walk s.point → IsShownIn d f s
+
+-- of one value and rule: a rule on kinds by its point, one on walks by the number of edges
+abbrev pub last_key : Group → Showing → List ℕ
+last_key group.Declarations s = []
+last_key group.Finiteness s = []
+last_key group.Typing s = []
+last_key group.Deinitialisers s = []
+last_key group.Definitions s = length s.walk ∷ []
+last_key group.Kinds s = s.point.block.0 ∷ s.point.index ∷ []
+last_key group.Lifetimes s = length s.walk ∷ []
+last_key group.Scopes s = length s.walk ∷ []
+last_key group.Memory s = length s.walk ∷ []
+
+-- within a function by group, by value, by rule, and then so
+abbrev pub inner_key : Showing → List ℕ
+inner_key s = key_in_function s.subject.0 s.rule ++ last_key (group_of s.rule) s

@@ -1,0 +1,84 @@
+//! The checks of values, function by function: definitions, kinds and lifetimes, in this order.
+
+ghost use Rattle.std.specs.Prelude.{IfErr, OnOk};
+ghost use Rattle.numbered_form.specs.NumberedForm.{IsNumbered};
+ghost use Rattle.type_definitions.specs.Rules.{AreDeclarationsOf};
+ghost use Rattle.sil_cfg.specs.Build.{HasGraph};
+ghost use Rattle.ownership_kinds.specs.Ends.{IsOfNumberedModule};
+ghost use Rattle.typed_graph_laws.specs.Laws.{HasBlocks};
+ghost use Rattle.sil_verifier.specs.Refusals.{HasTypes};
+ghost use Rattle.sil_verifier.specs.Values.{AcceptedValues, IsCleanIn, IsEndIn, IsRefusalIn, IsValueRefusal};
+
+use ownership_kinds::kinds_in;
+use sil_ast::{FuncId, Function, Module};
+use sil_cfg::{Graph, RuleEnd, RuleFault};
+use sil_types::TypeTable;
+use std::alloc::Global;
+
+/// Why a module is refused whose items, types and typing are right.
+#[derive(Drop)]
+pub enum ValueRefusal {
+    /// One of 301 to 305 and 401 to 404 is broken in the function.
+    Rule { function: FuncId, fault: RuleFault },
+    /// There is no memory left.
+    Memory,
+}
+
+/// The checks of one function, in order.
+fn check_function(alloc: Global, f: &Function, table: &TypeTable) -> Result<(), RuleEnd>
+    requires of_module { IsOfNumberedModule f.now }
+    requires graph { HasGraph f.now }
+    ensures ok { OnOk result (IsCleanIn table.now f.now) }
+    ensures end { IfErr result (IsEndIn table.now f.now) }
+{
+    let graph = match Graph::build(alloc, f) {
+        Ok(graph) => graph,
+        Err(_) => return Err(RuleEnd::Memory),
+    };
+    value_availability::check(alloc, f, &graph)?;
+    let kinds = kinds_in(alloc, f, &graph, table)?;
+    lifetime_worklist::check(alloc, f, &graph, &kinds)
+}
+
+/// The checks of the function with this number, where it has a body.
+fn check_numbered(
+    alloc: Global,
+    table: &TypeTable,
+    number: u32,
+    f: &Function,
+) -> Result<(), ValueRefusal>
+    requires of_module { IsOfNumberedModule f.now }
+    requires graph { HasBlocks f.now → HasGraph f.now }
+    ensures ok { OnOk result (HasBlocks f.now → IsCleanIn table.now f.now) }
+    ensures err { IfErr result (IsRefusalIn table.now number f.now) }
+{
+    if f.blocks.is_empty() {
+        return Ok(());
+    }
+    match check_function(alloc, f, table) {
+        Ok(()) => Ok(()),
+        Err(RuleEnd::Memory) => Err(ValueRefusal::Memory),
+        Err(RuleEnd::Fault(fault)) => Err(ValueRefusal::Rule {
+            function: FuncId(number),
+            fault,
+        }),
+    }
+}
+
+/// Checks of all functions with a body that each value is defined before it is used (301), that its kind is one that is taken
+/// (302 to 305), and that it is used and ended only while it lives (401 to 404).
+/// The refusal is the first by function, by these groups, by value and then by rule; of one on walks the walk has the fewest edges.
+pub fn check_values(alloc: Global, m: &Module, table: &TypeTable) -> Result<(), ValueRefusal>
+    requires numbered { IsNumbered m.now }
+    requires table { AreDeclarationsOf table.now m.now }
+    requires types { HasTypes m.now }
+    ensures ok { OnOk result (AcceptedValues m.now) }
+    ensures err { IfErr result (IsValueRefusal m.now) }
+{
+    let mut number = 0;
+    for function in m.functions.as_slice() {
+        check_numbered(alloc, table, number, function)?;
+        number += 1;
+    }
+    Ok(())
+}
