@@ -19,7 +19,6 @@ mod long_faults;
 #[cfg(test)]
 mod long_texts;
 #[cfg(test)]
-mod mark_runs;
 #[cfg(test)]
 mod patterns;
 #[cfg(test)]

@@ -90,11 +90,3 @@ pub unread_answer : {A E : Type 0} (r : Result A E) (text_of : A → List ℕ) (
     → IsRefusalOf text reason → IfOk r (λ a. AnswersRefusal reason (text_of a) (status_of a)) → IfOk r (λ a. AnswersText mode text (text_of a) (status_of a))
 unread_answer (Ok a) text_of status_of mode {reason = reason} within refusal answer = unread reason _ _ within refusal answer
 unread_answer (Err e) text_of status_of mode within refusal answer = tt
-
--- the module's first refusal, by the function that has it
-pub refusal_answer : (m : Module) (r : Refusal) (f : Function) (text : List ℕ) → HasTypes m → IsSimple m → IsRefusal m r → f ≡ get_or m.functions r.function.0 f
-    → text ≡ refusal_text f.name r.violation → AnswersCheck m text (code_of Refused)
-refusal_answer m r f text types simple refusal is e =
-    let at : get_or m.functions r.function.0 f ≡ refusal.function =
-    ap (λ fs. get_or fs r.function.0 f) refusal.parts ∙ ap (λ k. get_or (refusal.before ++ refusal.function ∷ refusal.after) k f) refusal.place ∙ get_or-append_seam refusal.before refusal.function refusal.after f in
-    subst (λ t. AnswersCheck m t (code_of Refused)) (ap (λ g. refusal_text g.name r.violation) (sym (is ∙ at)) ∙ sym e) (refused r refusal types simple)

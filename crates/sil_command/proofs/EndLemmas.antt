@@ -35,9 +35,9 @@ check_status : (m : Module) (answer : List ℕ) (status : ℕ) → AnswersCheck 
 check_status m _ _ (item_refused r item refusal) = one_is
 check_status m _ _ (limit_passed what refusal) = eight_is
 check_status m _ _ (typing_refused fault refusal) = one_is
-check_status m _ _ (not_built types not_simple) = eleven_is
-check_status m _ _ (refused r refusal types simple) = one_is
-check_status m _ _ (accepted types simple kept) = zero_is
+check_status m _ _ (not_built types other) = eleven_is
+check_status m _ _ (refused function fault first types built) = one_is
+check_status m _ _ (accepted types built kept) = zero_is
 
 print_status : (m : Module) (answer : List ℕ) (status : ℕ) → AnswersPrint m answer status → IsAnswerStatus status
 print_status m _ _ printed = zero_is

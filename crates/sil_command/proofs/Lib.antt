@@ -1,13 +1,6 @@
 pub mod AnswerLemmas
 pub mod DeclaredTypes
 pub mod EndLemmas
-pub mod Functions
-pub mod LeastBroken
-pub mod Marking
-pub mod OneValue
-pub mod PlainBlocks
 pub mod ReadBackLemmas
 pub mod StatusLemmas
 pub mod Unread
-pub mod Verdicts
-pub mod WholeBlock

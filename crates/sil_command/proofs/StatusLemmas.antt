@@ -1,31 +1,25 @@
 -- For the laws on statuses: which texts a mode answers with a status.
 use Rattle.std.proofs.Common.{◌≡◌, ◌↔◌, ◌⊎◌, inl, inr, ℕ, ◌≤◌, List, [], ◌∷◌, ◌++◌, length, get_or, refl, sym, ap, subst, ◌∙◌, arith}
 use Rattle.std.specs.Prelude.{⊤}
-use Rattle.sil_ast.specs.declared.function.Function.{Function}
 use Rattle.sil_ast.specs.declared.module.Module.{Module}
 use Rattle.sil_grammar.specs.Spells.{AreSpelledOnce, Spells}
-use Rattle.simple_modules.specs.Simple.{IsSimple}
+use Rattle.built_form.specs.Built.{IsBuilt}
 use Rattle.sil_rules.specs.declared.limits.TheConstants.{TEXT_BYTES}
 use Rattle.sil_rules.specs.declared.status.Status.TheVariants.{Done, NotAModule, Limit, NotBuilt}
 use Rattle.sil_rules.specs.Statuses.{code_of}
-use Rattle.sil_command.specs.declared.violation.Refusal.{Refusal}
 use Rattle.sil_command.specs.declared.words.Mode.{Mode}
 use Rattle.sil_command.specs.declared.words.Mode.TheVariants.{Check, Print}
-use Rattle.sil_command.specs.Violations.{KeepsRules, AllKeepRules, Accepted, IsRefusal}
 use Rattle.sil_command.specs.Words.{AsksFor, word_of}
 use Rattle.sil_command.specs.Answers.{Answers, usage, in_mode, AnswersExactly, AnswersText, too_long, unread, spelled, AnswersModule, AnswersCheck, item_refused, limit_passed, typing_refused, not_built, refused, accepted, AnswersPrint, printed, AreAcceptedExactly, AreNotBuiltExactly, ArePrintedExactly}
+use Rattle.sil_cfg.specs.declared.fault.RuleFault.{RuleFault}
 use Rattle.sil_verifier.specs.Refusals.{HasTypes}
+use Rattle.sil_verifier.specs.Values.{AcceptedValues, IsFirstOf}
 use Rattle.sil_command.proofs.DeclaredTypes.{declared_not_refused, typed_not_wrong}
 use Rattle.sil_command.proofs.Unread.{unread_none, unread_status}
 
-keeps_inside : (before : List Function) (f : Function) (after : List Function) → AllKeepRules (before ++ f ∷ after) → KeepsRules f
-keeps_inside [] f after kept = kept.0
-keeps_inside (g ∷ before) f after kept = keeps_inside before f after kept.1
-
--- a module that keeps the rules has no refusal
-kept_not_refused : (m : Module) (r : Refusal) → Accepted m → IsRefusal m r → ⊥
-kept_not_refused m r kept refusal =
-    keeps_inside refusal.before refusal.function refusal.after (subst AllKeepRules refusal.parts kept) refusal.block refusal.one_block r.violation refusal.violation.shown
+-- a module whose values keep the rules has no first that is broken
+kept_not_refused : (m : Module) (n : ℕ) (fault : RuleFault) → AcceptedValues m → IsFirstOf m n fault → ⊥
+kept_not_refused m n fault kept first = kept (record { function = n; showing = first.showing }) first.least.shown
 
 different_words : word_of Check ∷ [] ≡ word_of Print ∷ [] → ⊥
 different_words e =
@@ -70,30 +64,30 @@ module _ (once : AreSpelledOnce) (mode : Mode) (wanted : ℕ) (IsSuch : Module �
       let of_mode : AnswersText mode text answer status = mode_answers words mode text answer status asks answers in
       (spelled_wanted text answer status within of_mode, wanted_spelled text answer status of_mode)
 
-accepted_done : (m : Module) (answer : List ℕ) (status : ℕ) → AnswersCheck m answer status → (HasTypes m × IsSimple m × Accepted m) ↔ (status ≡ code_of Done)
+accepted_done : (m : Module) (answer : List ℕ) (status : ℕ) → AnswersCheck m answer status → (HasTypes m × IsBuilt m × AcceptedValues m) ↔ (status ≡ code_of Done)
 accepted_done m _ _ (item_refused r item refusal) = (λ known. absurd (declared_not_refused m _ known.0.declared refusal.shown), λ zero. absurd (omega arith))
 accepted_done m _ _ (limit_passed what refusal) = (λ known. absurd (declared_not_refused m _ known.0.declared refusal.shown), λ zero. absurd (omega arith))
 accepted_done m _ _ (typing_refused fault refusal) = (λ known. absurd (typed_not_wrong m fault known.0 refusal.1.shown), λ zero. absurd (omega arith))
-accepted_done m _ _ (not_built types not_simple) = (λ known. absurd (not_simple known.1), λ zero. absurd (omega arith))
-accepted_done m _ _ (refused r refusal types simple) = (λ known. absurd (kept_not_refused m r known.2 refusal), λ zero. absurd (omega arith))
-accepted_done m _ _ (accepted types simple kept) = (λ known. refl, λ zero. (types, simple, kept))
+accepted_done m _ _ (not_built types other) = (λ known. absurd (other known.1), λ zero. absurd (omega arith))
+accepted_done m _ _ (refused function fault first types built) = (λ known. absurd (kept_not_refused m function.0 fault known.2 first), λ zero. absurd (omega arith))
+accepted_done m _ _ (accepted types built kept) = (λ known. refl, λ zero. (types, built, kept))
 
-not_built_else : (m : Module) (answer : List ℕ) (status : ℕ) → AnswersCheck m answer status → (HasTypes m × (IsSimple m → ⊥)) ↔ (status ≡ code_of NotBuilt)
+not_built_else : (m : Module) (answer : List ℕ) (status : ℕ) → AnswersCheck m answer status → (HasTypes m × (IsBuilt m → ⊥)) ↔ (status ≡ code_of NotBuilt)
 not_built_else m _ _ (item_refused r item refusal) = (λ known. absurd (declared_not_refused m _ known.0.declared refusal.shown), λ eleven. absurd (omega arith))
 not_built_else m _ _ (limit_passed what refusal) = (λ known. absurd (declared_not_refused m _ known.0.declared refusal.shown), λ eleven. absurd (omega arith))
 not_built_else m _ _ (typing_refused fault refusal) = (λ known. absurd (typed_not_wrong m fault known.0 refusal.1.shown), λ eleven. absurd (omega arith))
-not_built_else m _ _ (not_built types not_simple) = (λ known. refl, λ eleven. (types, not_simple))
-not_built_else m _ _ (refused r refusal types simple) = (λ known. absurd (known.1 simple), λ eleven. absurd (omega arith))
-not_built_else m _ _ (accepted types simple kept) = (λ known. absurd (known.1 simple), λ eleven. absurd (omega arith))
+not_built_else m _ _ (not_built types other) = (λ known. refl, λ eleven. (types, other))
+not_built_else m _ _ (refused function fault first types built) = (λ known. absurd (known.1 built), λ eleven. absurd (omega arith))
+not_built_else m _ _ (accepted types built kept) = (λ known. absurd (known.1 built), λ eleven. absurd (omega arith))
 
 printed_done : (m : Module) (answer : List ℕ) (status : ℕ) → AnswersPrint m answer status → ⊤ ↔ (status ≡ code_of Done)
 printed_done m _ _ printed = (λ known. refl, λ zero. tt)
 
 pub accepted_exactly : AreSpelledOnce → AreAcceptedExactly
-accepted_exactly once = answers_exactly once Check (code_of Done) (λ m. HasTypes m × IsSimple m × Accepted m) accepted_done (λ e. omega arith, λ e. omega arith)
+accepted_exactly once = answers_exactly once Check (code_of Done) (λ m. HasTypes m × IsBuilt m × AcceptedValues m) accepted_done (λ e. omega arith, λ e. omega arith)
 
 pub not_built_exactly : AreSpelledOnce → AreNotBuiltExactly
-not_built_exactly once = answers_exactly once Check (code_of NotBuilt) (λ m. HasTypes m × (IsSimple m → ⊥)) not_built_else (λ e. omega arith, λ e. omega arith)
+not_built_exactly once = answers_exactly once Check (code_of NotBuilt) (λ m. HasTypes m × (IsBuilt m → ⊥)) not_built_else (λ e. omega arith, λ e. omega arith)
 
 pub printed_exactly : AreSpelledOnce → ArePrintedExactly
 printed_exactly once = answers_exactly once Print (code_of Done) (λ m. ⊤) printed_done (λ e. omega arith, λ e. omega arith)

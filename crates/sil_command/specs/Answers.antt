@@ -1,6 +1,8 @@
 -- The answer to a command line and a text: the bytes that are written, and the status.
 use Rattle.std.specs.Prelude.{◌≡◌, ◌↔◌, ℕ, ◌<◌, ◌≤◌, List, length, ⊤}
 use Rattle.sil_ast.specs.declared.module.Module.{Module}
+use Rattle.sil_ast.specs.declared.place.FuncId.{FuncId}
+use Rattle.sil_cfg.specs.declared.fault.RuleFault.{RuleFault}
 use Rattle.sil_grammar.specs.declared.refusal.ReadRefusal.{ReadRefusal}
 use Rattle.sil_grammar.specs.Refusals.{IsRefusalOf}
 use Rattle.sil_grammar.specs.Spells.{Spells}
@@ -10,29 +12,29 @@ use Rattle.sil_rules.specs.declared.limits.TheConstants.{TEXT_BYTES}
 use Rattle.sil_rules.specs.declared.rule.Rule.{Rule}
 use Rattle.sil_rules.specs.declared.status.Status.TheVariants.{Done, Refused, Usage, Limit, NotBuilt}
 use Rattle.sil_rules.specs.Statuses.{code_of}
-use Rattle.simple_modules.specs.Simple.{IsSimple}
+use Rattle.built_form.specs.Built.{IsBuilt}
 use Rattle.sil_verifier.specs.Refusals as types
 use Rattle.sil_verifier.specs.Refusals.{HasTypes}
+use Rattle.sil_verifier.specs.Values.{AcceptedValues, IsFirstOf}
 use Rattle.sil_verifier.specs.declared.refusal.StaticRefusal.TheVariants as static
 use Rattle.type_check.specs.declared.fault.TypingFault.{TypingFault}
-use Rattle.sil_command.specs.declared.violation.Refusal.{Refusal}
 use Rattle.sil_command.specs.declared.words.Mode.{Mode}
 use Rattle.sil_command.specs.declared.words.Mode.TheVariants.{Check, Print}
 use Rattle.sil_command.specs.Words.{AsksFor, IsCommandLine}
-use Rattle.sil_command.specs.Violations.{Accepted, IsRefusal}
 use Rattle.sil_command.specs.Reading.{AnswersRefusal}
-use Rattle.sil_command.specs.Texts.{usage_text, limit_text, refused_item_text, typing_text, type_limit_text, not_built_text, refusal_text, accepted_text}
+use Rattle.sil_command.specs.Texts.{usage_text, limit_text, refused_item_text, typing_text, type_limit_text, not_built_text, accepted_text}
+use Rattle.sil_command.specs.ValueTexts.{value_text}
 
--- what `check` answers to a module: the first that is wrong with its items, its types or its typing; or else that it isn't one which
--- the further checks know; or else its first refusal, or that it is accepted
+-- what `check` answers to a module: the first that is wrong with its items, its types or its typing; or else that it isn't of the form
+-- which the checks of values know; or else the first broken rule on its values, or that it is accepted
 pub data AnswersCheck (m : Module) : List ℕ → ℕ → Type 0 where
   item_refused : (r : Rule) (item : ℕ) → types.IsRefusal m (static.Item r item) → AnswersCheck m (refused_item_text r item) (code_of Refused)
   limit_passed : (what : LimitWord) → types.IsRefusal m (static.Limit what) → AnswersCheck m (type_limit_text what) (code_of Limit)
   typing_refused : (fault : TypingFault) → types.IsRefusal m (static.Typing fault) → AnswersCheck m (typing_text m fault) (code_of Refused)
-  not_built : HasTypes m → (IsSimple m → ⊥) → AnswersCheck m not_built_text (code_of NotBuilt)
-  refused : (r : Refusal) (refusal : IsRefusal m r) → HasTypes m → IsSimple m
-      → AnswersCheck m (refusal_text refusal.function.name r.violation) (code_of Refused)
-  accepted : HasTypes m → IsSimple m → Accepted m → AnswersCheck m accepted_text (code_of Done)
+  not_built : HasTypes m → (IsBuilt m → ⊥) → AnswersCheck m not_built_text (code_of NotBuilt)
+  refused : (function : FuncId) (fault : RuleFault) → IsFirstOf m function.0 fault → HasTypes m → IsBuilt m
+      → AnswersCheck m (value_text m function.0 fault) (code_of Refused)
+  accepted : HasTypes m → IsBuilt m → AcceptedValues m → AnswersCheck m accepted_text (code_of Done)
 
 -- what `print` answers to a module: its canonical text, whatever rules it breaks
 pub data AnswersPrint (m : Module) : List ℕ → ℕ → Type 0 where
@@ -62,13 +64,13 @@ AnswersExactly mode wanted IsSuch =
     (words : List (List ℕ)) (text answer : List ℕ) (status : ℕ) → AsksFor words mode → length text ≤ TEXT_BYTES → Answers words text answer status
     → ((m : Module) × Spells m text × IsSuch m) ↔ (status ≡ wanted)
 
--- `check` answers Done just for the texts that spell an accepted simple module that is typed
+-- `check` answers Done just for the texts that spell a typed module of the built form whose values keep the rules
 abbrev pub AreAcceptedExactly : Type 0
-AreAcceptedExactly = AnswersExactly Check (code_of Done) (λ m. HasTypes m × IsSimple m × Accepted m)
+AreAcceptedExactly = AnswersExactly Check (code_of Done) (λ m. HasTypes m × IsBuilt m × AcceptedValues m)
 
--- and NotBuilt just for those that spell a module that is typed and isn't simple
+-- and NotBuilt just for those that spell a typed module that isn't of the built form
 abbrev pub AreNotBuiltExactly : Type 0
-AreNotBuiltExactly = AnswersExactly Check (code_of NotBuilt) (λ m. HasTypes m × (IsSimple m → ⊥))
+AreNotBuiltExactly = AnswersExactly Check (code_of NotBuilt) (λ m. HasTypes m × (IsBuilt m → ⊥))
 
 -- `print` answers Done just for the texts that spell a module
 abbrev pub ArePrintedExactly : Type 0

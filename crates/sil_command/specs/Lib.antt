@@ -1,9 +1,6 @@
-pub mod Breaks
-pub mod Marks
-pub mod Violations
-pub mod Lives
 pub mod Words
 pub mod Texts
 pub mod Reading
 pub mod Answers
 pub mod Ends
+pub mod ValueTexts

@@ -10,7 +10,6 @@ use Rattle.sil_rules.specs.declared.rule.Rule.{Rule}
 use Rattle.sil_rules.specs.LimitWords.{word_of}
 use Rattle.sil_rules.specs.Rules.{number_of, name_of}
 use Rattle.type_check.specs.declared.fault.TypingFault.{TypingFault}
-use Rattle.sil_command.specs.declared.violation.Violation.{Violation}
 
 -- the bytes, and a line feed
 abbrev pub line : List ℕ → List ℕ
@@ -46,15 +45,6 @@ passed_limit_text what place = line (codes "limit " ++ word_of what ++ place_wor
 -- the first words of a refusal by a rule
 abbrev pub rule_words : Rule → List ℕ
 rule_words r = codes "refused " ++ decimal (number_of r) ++ codes " " ++ name_of r
-
--- the function and the point of its one block
-abbrev pub point_words : List ℕ → ℕ → List ℕ
-point_words function k = codes " @" ++ function ++ codes " bb0:" ++ decimal k
-
--- the rule and the point, then the value, then the walk, which visits the one block
-abbrev pub refusal_text : List ℕ → Violation → List ℕ
-refusal_text function v =
-    line (rule_words v.rule ++ point_words function v.point) ++ line (codes "subject %" ++ decimal v.subject.0) ++ line (codes "walk bb0")
 
 -- the rule, and the item by its number, from 0 over declarations, functions and vtables, in that order
 abbrev pub refused_item_text : Rule → ℕ → List ℕ

@@ -3,22 +3,27 @@
 ghost use Rattle.std.specs.Prelude.{◌≤◌, IfOk, length};
 ghost use Rattle.sil_rules.specs.declared.limits.TheConstants.{TEXT_BYTES};
 ghost use Rattle.sil_rules.specs.Statuses.{code_of};
+ghost use Rattle.sil_rules.specs.declared.status.Status.TheVariants.{Refused};
+ghost use Rattle.type_definitions.specs.Rules.{AreDeclarationsOf};
+ghost use Rattle.sil_command.specs.ValueTexts.{value_text};
 ghost use Rattle.numbered_form.specs.NumberedForm.{IsNumbered};
-ghost use Rattle.simple_modules.specs.Simple.{IsSimple};
+ghost use Rattle.built_form.specs.Built.{IsBuilt};
 ghost use Rattle.sil_command.specs.Answers.{AnswersCheck, AnswersModule, AnswersPrint, AnswersText};
 ghost use Rattle.sil_verifier.specs.Refusals.{HasTypes};
 
-use crate::one_block::first_refusal;
 use crate::reading::answer_refusal;
 use crate::texts;
 use crate::types::answer_static_refusal;
+use crate::value_lines;
 use crate::words::Mode;
-use sil_ast::{Exhausted, Module};
+use built_form::is_built;
+use sil_ast::{Exhausted, FuncId, Module};
+use sil_cfg::RuleFault;
 use sil_grammar::read;
 use sil_printer::print;
 use sil_rules::Status;
-use sil_verifier::check_types;
-use simple_modules::is_simple;
+use sil_types::TypeTable;
+use sil_verifier::{ValueRefusal, check_types, check_values};
 use std::alloc::Global;
 use std::mem::forget;
 
@@ -55,24 +60,26 @@ fn answer_module(alloc: Global, mode: Mode, module: &Module) -> Result<Answer, E
     }
 }
 
-/// Checks the items, the types and the typing of a module, and then the module.
+/// Checks the items, the types and the typing of a module, and then its values.
 fn check_module(alloc: Global, module: &Module) -> Result<Answer, Exhausted>
     requires { IsNumbered «module».now }
     ensures { IfOk result (λ a. AnswersCheck «module».now a.text.items (code_of a.status)) }
 {
     match check_types(alloc, module) {
-        Ok(_table) => check_typed(alloc, module),
+        Ok(table) => check_typed(alloc, module, &table),
         Err(reason) => answer_static_refusal(alloc, module, reason),
     }
 }
 
-/// Checks a typed module, where it is one that the further checks know.
-fn check_typed(alloc: Global, module: &Module) -> Result<Answer, Exhausted>
-    requires { HasTypes «module».now }
+/// Checks the values of a typed module, where it is of the form that the checks know.
+fn check_typed(alloc: Global, module: &Module, table: &TypeTable) -> Result<Answer, Exhausted>
+    requires numbered { IsNumbered «module».now }
+    requires table { AreDeclarationsOf table.now «module».now }
+    requires types { HasTypes «module».now }
     ensures { IfOk result (λ a. AnswersCheck «module».now a.text.items (code_of a.status)) }
 {
-    if is_simple(alloc, module)? {
-        return check_simple(alloc, module);
+    if is_built(table, module) {
+        return check_built(alloc, module, table);
     }
     Ok(Answer {
         text: Vec::from_slice(alloc, texts::not_built())?,
@@ -80,20 +87,36 @@ fn check_typed(alloc: Global, module: &Module) -> Result<Answer, Exhausted>
     })
 }
 
-fn check_simple(alloc: Global, module: &Module) -> Result<Answer, Exhausted>
+fn check_built(alloc: Global, module: &Module, table: &TypeTable) -> Result<Answer, Exhausted>
+    requires numbered { IsNumbered «module».now }
+    requires table { AreDeclarationsOf table.now «module».now }
     requires types { HasTypes «module».now }
-    requires simple { IsSimple «module».now }
+    requires built { IsBuilt «module».now }
     ensures { IfOk result (λ a. AnswersCheck «module».now a.text.items (code_of a.status)) }
 {
-    let Some(refusal) = first_refusal(alloc, module)? else {
-        return Ok(Answer {
+    match check_values(alloc, module, table) {
+        Ok(()) => Ok(Answer {
             text: Vec::from_slice(alloc, texts::accepted())?,
             status: Status::Done,
-        });
-    };
-    let function = &module.functions.as_slice()[refusal.function.0 as usize];
+        }),
+        Err(ValueRefusal::Rule { function, fault }) => {
+            refused_value(alloc, module, function, &fault)
+        }
+        Err(ValueRefusal::Memory) => Err(Exhausted),
+    }
+}
+
+fn refused_value(
+    alloc: Global,
+    module: &Module,
+    function: FuncId,
+    fault: &RuleFault,
+) -> Result<Answer, Exhausted>
+    ensures text { IfOk result (λ a. a.text.items ≡ value_text «module».now function.0 fault.now) }
+    ensures status { IfOk result (λ a. a.status ≡ Refused) }
+{
     Ok(Answer {
-        text: texts::refusal(alloc, function.name.as_slice(), refusal.violation)?,
+        text: value_lines::value(alloc, module, function, fault)?,
         status: Status::Refused,
     })
 }

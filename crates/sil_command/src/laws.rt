@@ -5,16 +5,16 @@ ghost use Rattle.sil_command.specs.Answers.{AreAcceptedExactly, AreNotBuiltExact
 use printed_reading_laws::printed_modules_are_spelled;
 use sil_grammar::{spelled_modules_are_numbered, spelled_once};
 
-/// `check` answers a text that spells an accepted simple module that is typed with status 0, and one that is answered so spells
-/// such a module.
+/// `check` answers a text that spells a typed module of the built form whose values keep the rules with status 0, and one that is
+/// answered so spells such a module.
 pub fn accepted_exactly()
     ensures { AreAcceptedExactly }
 {
     spelled_once();
 }
 
-/// `check` answers a text that spells a module that is typed and isn't simple with status 11, and one that is answered so spells
-/// such a module.
+/// `check` answers a text that spells a typed module that isn't of the built form with status 11, and one that is answered so
+/// spells such a module.
 pub fn not_built_exactly()
     ensures { AreNotBuiltExactly }
 {

@@ -3,17 +3,13 @@
 #![tactic(auto)]
 
 mod answer;
-mod breaks;
 mod laws;
-mod life;
-mod lives;
-mod one_block;
 mod reading;
 mod texts;
 mod top_call;
 mod types;
 mod typing_lines;
-mod violation;
+mod value_lines;
 mod words;
 
 pub use laws::{accepted_exactly, not_built_exactly, printed_exactly, printed_texts_read_back};

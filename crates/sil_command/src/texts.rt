@@ -1,9 +1,8 @@
 //! The lines of answers, made from typed values. Nothing is decided here.
 
 ghost use Rattle.std.specs.Prelude.{◌≡◌, ◌∷◌, [], ◌++◌, IfOk, OnOk, decimal};
-ghost use Rattle.sil_command.specs.Texts.{usage_text, limit_text, read_fault_text, accepted_text, not_built_text, place_words, not_a_module_text, passed_limit_text, rule_words, point_words, refusal_text, refused_item_text, type_limit_text};
+ghost use Rattle.sil_command.specs.Texts.{usage_text, limit_text, read_fault_text, accepted_text, not_built_text, place_words, not_a_module_text, passed_limit_text, rule_words, refused_item_text, type_limit_text};
 
-use crate::violation::Violation;
 use sil_ast::{Exhausted, Place};
 use sil_rules::{LimitWord, Rule};
 use std::alloc::Global;
@@ -91,29 +90,6 @@ pub(crate) fn push_rule(out: &mut Vec<u8>, rule: Rule) -> Result<(), Exhausted>
     out.push(b' ')?;
     out.extend_from_slice(rule.name())?;
     Ok(())
-}
-
-fn push_point(out: &mut Vec<u8>, function: &[u8], point: u32) -> Result<(), Exhausted>
-    ensures { OnOk result (out.new.items ≡ out.old.items ++ point_words function.now point) }
-{
-    out.extend_from_slice(b" @")?;
-    out.extend_from_slice(function)?;
-    out.extend_from_slice(b" bb0:")?;
-    push_number(out, point)?;
-    Ok(())
-}
-
-/// The lines of a refusal: the rule and the point, the value, and the walk, which visits the one block.
-pub fn refusal(alloc: Global, function: &[u8], violation: Violation) -> Result<Vec<u8>, Exhausted>
-    ensures { IfOk result (λ text. text.items ≡ refusal_text function.now violation) }
-{
-    let mut out = Vec::new(alloc);
-    push_rule(&mut out, violation.rule)?;
-    push_point(&mut out, function, violation.point)?;
-    out.extend_from_slice(b"\nsubject %")?;
-    push_number(&mut out, violation.subject.0)?;
-    out.extend_from_slice(b"\nwalk bb0\n")?;
-    Ok(out)
 }
 
 /// The line of a refused item: the rule, and the item's number.

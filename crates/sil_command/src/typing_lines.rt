@@ -8,7 +8,7 @@ use sil_ast::{Exhausted, Module, PointId};
 use std::alloc::Global;
 use type_check::TypingFault;
 
-fn push_point(out: &mut Vec<u8>, point: Option<PointId>) -> Result<(), Exhausted>
+pub(crate) fn push_point(out: &mut Vec<u8>, point: Option<PointId>) -> Result<(), Exhausted>
     ensures { OnOk result (out.new.items ≡ out.old.items ++ typed_point_words point) }
 {
     if let Some(point) = point {
@@ -20,7 +20,7 @@ fn push_point(out: &mut Vec<u8>, point: Option<PointId>) -> Result<(), Exhausted
     Ok(())
 }
 
-fn name_of(m: &Module, number: u32) -> &[u8]
+pub(crate) fn name_of(m: &Module, number: u32) -> &[u8]
     ensures { result.now ≡ name_at m.now number }
 {
     match m.functions.get(number as usize) {

@@ -1,6 +1,0 @@
-pub mod Runs
-pub mod HeldMarks
-pub mod Reading
-pub mod Breaks
-pub mod Trails
-pub mod Incremental
