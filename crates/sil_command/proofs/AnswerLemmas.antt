@@ -1,28 +1,22 @@
 -- How an answer follows from what was read.
-use Rattle.std.proofs.Math.Seq.{get_or-append_seam}
 use Rattle.std.proofs.Common.{◌≡◌, inl, inr, ℕ, ◌+◌, ◌≤◌, List, [], ◌∷◌, ◌++◌, length, refl, sym, ap, subst, ◌∙◌, arith, length-append, get_or, Result, Ok, Err}
 use Rattle.std.specs.Prelude.{Option, Some, None, IfSome, IfOk}
 use Rattle.std.specs.Io.KnownBytes.{Consumes}
 use Rattle.std.proofs.KnownBytes.{Consumes-nil, Consumes-trans}
 use Rattle.std.proofs.lemmas.List.{append-nil}
 use Rattle.sil_io.specs.Reading.{Gives, nothing, piece, GivesToEnd}
-use Rattle.sil_ast.specs.declared.function.Function.{Function}
 use Rattle.sil_ast.specs.declared.module.Module.{Module}
 use Rattle.sil_grammar.specs.declared.refusal.ReadRefusal.{ReadRefusal}
 use Rattle.sil_grammar.specs.Refusals.{IsRefusalOf}
 use Rattle.sil_grammar.specs.Spells.{Spells}
-use Rattle.simple_modules.specs.Simple.{IsSimple}
 use Rattle.sil_rules.specs.declared.limits.TheConstants.{TEXT_BYTES}
 use Rattle.sil_rules.specs.declared.status.Status.{Status}
-use Rattle.sil_rules.specs.declared.status.Status.TheVariants.{Refused, Usage, Limit}
+use Rattle.sil_rules.specs.declared.status.Status.TheVariants.{Usage, Limit}
 use Rattle.sil_rules.specs.Statuses.{code_of}
-use Rattle.sil_command.specs.declared.violation.Refusal.{Refusal}
-use Rattle.sil_command.specs.Violations.{IsRefusal}
-use Rattle.sil_command.specs.Texts.{limit_text, usage_text, refusal_text}
+use Rattle.sil_command.specs.Texts.{limit_text, usage_text}
 use Rattle.sil_command.specs.declared.words.Mode.{Mode}
 use Rattle.sil_command.specs.Words.{AsksFor, IsCommandLine}
-use Rattle.sil_verifier.specs.Refusals.{HasTypes}
-use Rattle.sil_command.specs.Answers.{AnswersCheck, AnswersModule, AnswersText, usage, in_mode, too_long, unread, spelled, refused}
+use Rattle.sil_command.specs.Answers.{AnswersCheck, AnswersModule, AnswersText, usage, in_mode, too_long, unread, spelled}
 use Rattle.sil_command.specs.Reading.{AnswersRefusal}
 use Rattle.sil_command.specs.Ends.{IsAnswer, MayHave, TakesText}
 

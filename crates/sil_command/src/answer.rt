@@ -1,6 +1,6 @@
 //! The answer to a text: what is written, and the status. No byte is read or written here.
 
-ghost use Rattle.std.specs.Prelude.{◌≤◌, IfOk, length};
+ghost use Rattle.std.specs.Prelude.{◌≡◌, ◌≤◌, IfOk, length};
 ghost use Rattle.sil_rules.specs.declared.limits.TheConstants.{TEXT_BYTES};
 ghost use Rattle.sil_rules.specs.Statuses.{code_of};
 ghost use Rattle.sil_rules.specs.declared.status.Status.TheVariants.{Refused};
@@ -12,10 +12,9 @@ ghost use Rattle.sil_command.specs.Answers.{AnswersCheck, AnswersModule, Answers
 ghost use Rattle.sil_verifier.specs.Refusals.{HasTypes};
 
 use crate::reading::answer_refusal;
-use crate::texts;
 use crate::types::answer_static_refusal;
-use crate::value_lines;
 use crate::words::Mode;
+use crate::{texts, value_lines};
 use built_form::is_built;
 use sil_ast::{Exhausted, FuncId, Module};
 use sil_cfg::RuleFault;
