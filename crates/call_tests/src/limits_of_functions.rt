@@ -10,12 +10,14 @@ const BLOCKS_LIMITS: [Limited; 2] = [
     (
         "sil [ossa] @f : $@convention(thin) () -> () {\n`b~: unreachable\n`}\n",
         512,
+        "accepted",
         "514:1",
     ),
     // with arguments
     (
         "sil [ossa] @f : $@convention(thin) (@owned A) -> () {\n`b~(%a~ : @owned $A):\nbr b1(%a0 : $A)\n`}\nclass A {}\n",
         512,
+        "refused 402 DoubleConsume @f bb1:0\nsubject %0\nwalk bb0 bb1 bb1",
         "1026:1",
     ),
 ];
@@ -25,7 +27,7 @@ const BLOCKS_COUNTED: [Counted; 1] = [
     (
         "`sil [ossa] @f~ : $@convention(thin) () -> () { a: unreachable b: unreachable }\n`",
         300,
-        "not built",
+        "accepted",
     ),
 ];
 
@@ -34,12 +36,14 @@ const INSTRUCTIONS_LIMITS: [Limited; 2] = [
     (
         "sil [ossa] @f : $@convention(thin) (@owned A) -> () {\n`b~(%~ : @owned $A):\ndebug_value %0 : $A\ndebug_value %0 : $A\ndebug_value %0 : $A\ndebug_value %0 : $A\ndebug_value %0 : $A\ndebug_value %0 : $A\ndebug_value %0 : $A\ndebug_value %0 : $A\ndebug_value %0 : $A\ndebug_value %0 : $A\ndebug_value %0 : $A\ndebug_value %0 : $A\ndebug_value %0 : $A\ndebug_value %0 : $A\ndebug_value %0 : $A\nunreachable\n`}\nclass A {}\n",
         256,
+        "accepted",
         "4355:1",
     ),
     // the terminator is one too many
     (
         "sil [ossa] @f : $@convention(thin) (@guaranteed A) -> () {\nb(%0 : @guaranteed $A):\n`debug_value %0 : $A\n`unreachable\n}\nclass A {}\n",
         4095,
+        "accepted",
         "4099:1",
     ),
 ];
@@ -49,7 +53,7 @@ const INSTRUCTIONS_COUNTED_WITH_VALUE: [Counted; 4] = [
     (
         "`debug_value %0 : $A\n`unreachable\n}\nclass A {}\n",
         4095,
-        "not built",
+        "accepted",
     ),
     // an instruction is one too many: past it
     (
@@ -72,13 +76,13 @@ const INSTRUCTIONS_COUNTED_WITH_VALUE: [Counted; 4] = [
 ];
 
 const INSTRUCTIONS_COUNTED: [Counted; 2] = [
-    // as many as there may be, of a simple function
+    // as many as there may be, with a fault among them
     (
         "class C {}\nsil [ossa] @f : $@convention(thin) () -> () {\nb:\n%0 = alloc_ref $C\n`destroy_value %0 : $C\n`%t = tuple ()\nreturn %t : $()\n}\n",
         4093,
         "refused 402 DoubleConsume @f bb0:2\nsubject %0\nwalk bb0",
     ),
-    // one more, of a simple function
+    // one more, with a fault among them
     (
         "class C {}\nsil [ossa] @f : $@convention(thin) () -> () {\nb:\n%0 = alloc_ref $C\n`destroy_value %0 : $C\n`%t = tuple ()\nreturn %t : $()\n}\n",
         4094,
@@ -91,24 +95,28 @@ const VALUES_LIMITS_WITHOUT_VALUE: [Limited; 4] = [
     (
         "`%~ = alloc_ref $A\n`unreachable\n}\nclass A {}\n",
         1024,
+        "accepted",
         "1027:1",
     ),
     // unnamed
     (
         "`alloc_ref $A\n`unreachable\n}\nclass A {}\n",
         1024,
+        "accepted",
         "1027:1",
     ),
     // unnamed behind empty parentheses
     (
         "`() = alloc_ref $A\n`unreachable\n}\nclass A {}\n",
         1024,
+        "accepted",
         "1027:6",
     ),
     // in parentheses
     (
         "`(%~) = alloc_ref $A\n`unreachable\n}\nclass A {}\n",
         1024,
+        "accepted",
         "1027:2",
     ),
 ];
@@ -118,24 +126,28 @@ const VALUES_LIMITS: [Limited; 4] = [
     (
         "sil [ossa] @f : $@convention(thin) (@owned A, @owned A, @owned A, @owned A) -> () {\n`b~(%a~ : @owned $A, %b~ : @owned $A, %c~ : @owned $A, %d~ : @owned $A):\nunreachable\n`}\nclass A {}\n",
         256,
+        "accepted",
         "514:6",
     ),
     // destroy_addr
     (
         "sil [ossa] @f : $@convention(thin) (@inout A) -> () {\nb(%0 : $*A):\n`destroy_addr %0 : $*A\n`unreachable\n}\nclass A {}\n",
         1023,
+        "not built",
         "1026:1",
     ),
     // store [assign]
     (
         "sil [ossa] @f : $@convention(thin) (@inout A, @owned A) -> () {\nb(%0 : $*A, %1 : @owned $A):\n`store %1 to [assign] %0 : $*A\n`unreachable\n}\nclass A {}\n",
         1022,
+        "not built",
         "1025:14",
     ),
     // two names
     (
         "sil [ossa] @f : $@convention(thin) (@owned (A, A)) -> () {\nb(%0 : @owned $(A, A)):\n`(%a~, %b~) = destructure_tuple %0 : $(A, A)\n`unreachable\n}\nclass A {}\n",
         511,
+        "refused 402 DoubleConsume @f bb0:1\nsubject %0\nwalk bb0",
         "514:9",
     ),
 ];
@@ -151,15 +163,15 @@ const VALUES_COUNTED: [Counted; 9] = [
     (
         "`sil [ossa] @f~ : $@convention(thin) (@owned A, @owned A, @owned A, @owned A) -> () { b(%0 : @owned $A, %1 : @owned $A, %2 : @owned $A, %3 : @owned $A): unreachable }\n`class A {}\n",
         300,
-        "not built",
+        "accepted",
     ),
-    // as many as there may be, of a simple function
+    // as many as there may be, without references
     (
         "class C {}\nsil [ossa] @f : $@convention(thin) () -> () {\nb:\n`%~ = tuple ()\n`return %0 : $()\n}\n",
         1024,
         "accepted",
     ),
-    // one more, of a simple function
+    // one more, without references
     (
         "class C {}\nsil [ossa] @f : $@convention(thin) () -> () {\nb:\n`%~ = tuple ()\n`return %0 : $()\n}\n",
         1025,
@@ -169,7 +181,7 @@ const VALUES_COUNTED: [Counted; 9] = [
     (
         "sil [ossa] @f : $@convention(thin) (A, ()) -> () {\nb(%0 : $A, %1 : $()):\n`destructure_struct %0 : $A\n() = destructure_tuple %1 : $()\n`unreachable\n}\nstruct A {}\n",
         1100,
-        "not built",
+        "accepted",
     ),
     // destroy_addr with a name too many, at its mnemonic: at the limit
     (

@@ -8,6 +8,7 @@ const DECLARATIONS_LIMITS: [Limited; 1] = [
     (
         "class C { }\n`struct S~ { }\nenum E~ { }\nfinal class C~ { }\n`",
         341,
+        "accepted",
         "1025:8",
     ),
 ];
@@ -51,7 +52,12 @@ const DECLARATIONS_COUNTED: [Counted; 7] = [
 
 const FUNCTIONS_LIMITS: [Limited; 1] = [
     // without bodies
-    ("`sil @f~ : $@convention(thin) () -> ()\n`", 1024, "1025:5"),
+    (
+        "`sil @f~ : $@convention(thin) () -> ()\n`",
+        1024,
+        "accepted",
+        "1025:5",
+    ),
 ];
 
 const FUNCTIONS_COUNTED: [Counted; 2] = [

@@ -19,9 +19,9 @@ pub const NO_HEAD: &str = "";
 /// The pattern of what stands behind the head, how often its repeated parts stand, and the answer.
 pub type Counted = (&'static str, u32, &'static str);
 
-/// The pattern of what stands behind the head, how often its repeated parts may stand, and where a text with one more
-/// passes the limit.
-pub type Limited = (&'static str, u16, &'static str);
+/// The pattern of what stands behind the head, how often its repeated parts may stand, the answer to that text, and where
+/// a text with one more passes the limit.
+pub type Limited = (&'static str, u16, &'static str, &'static str);
 
 /// The texts of the rows have these answers.
 pub fn assert_counted(
@@ -37,7 +37,7 @@ pub fn assert_counted(
     Ok(())
 }
 
-/// The texts of the rows are read, as modules that aren't simple, and with one copy more they pass the limit.
+/// The texts of the rows are read and have their answers, and with one copy more they pass the limit.
 pub fn assert_limits(
     rt: &impl Abort,
     alloc: Global,
@@ -45,13 +45,13 @@ pub fn assert_limits(
     limit: &str,
     rows: &[Limited],
 ) -> Result<(), Fail> {
-    for (pattern, most, place) in rows {
+    for (pattern, most, answer, place) in rows {
         let most = u32::from(*most);
         let text = text_of(alloc, head, pattern, most)?;
-        assert_answer(rt, alloc, text.as_slice(), pattern, "not built")?;
+        assert_answer(rt, alloc, text.as_slice(), pattern, answer)?;
         let text = text_of(alloc, head, pattern, most + 1)?;
-        let answer = format!(in alloc; "limit {limit} at {place}")?;
-        assert_answer(rt, alloc, text.as_slice(), pattern, answer.as_str())?;
+        let past = format!(in alloc; "limit {limit} at {place}")?;
+        assert_answer(rt, alloc, text.as_slice(), pattern, past.as_str())?;
     }
     Ok(())
 }
