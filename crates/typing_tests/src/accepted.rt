@@ -1,4 +1,4 @@
-//! Lowered functions with right types. Together they have each row that may stand in lowered form, and each of its forms.
+//! Lowered functions with right types. Together they have each instruction that may stand in lowered form.
 
 use crate::outcome::outcome;
 use std::test::Fail;
