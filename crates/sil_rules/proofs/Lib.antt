@@ -1,3 +1,4 @@
 pub mod Firsts
 pub mod Keys
+pub mod Numbers
 mod Rising

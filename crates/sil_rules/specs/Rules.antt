@@ -1,10 +1,10 @@
 -- The rules, with their numbers, names and groups, and the groups in order.
-use Rattle.std.specs.Prelude.{ℕ, List, [], slice_index_or}
+use Rattle.std.specs.Prelude.{◌≡◌, ◌==◌, ℕ, List, [], Option, Some, find, slice_index_or}
 use Rattle.sil_rules.specs.declared.group.Group.{Group}
 use Rattle.sil_rules.specs.declared.group.Group.TheVariants as group
 use Rattle.sil_rules.specs.declared.rule.Rule.{Rule}
 use Rattle.sil_rules.specs.declared.rule.Rule.TheVariants as rule
-use Rattle.sil_rules.specs.declared.rule.TheConstants.{NUMBERS, NAMES, GROUPS}
+use Rattle.sil_rules.specs.declared.rule.TheConstants.{RULES, NUMBERS, NAMES, GROUPS}
 
 -- the place of a rule in the order, from 0
 abbrev pub index_of : Rule → ℕ
@@ -53,6 +53,14 @@ index_of rule.PartialAccess = 40
 -- the number that a refusal prints
 abbrev pub number_of : Rule → ℕ
 number_of r = slice_index_or NUMBERS (index_of r) 0
+
+-- the rule with this number, if there is one
+abbrev pub rule_numbered : ℕ → Option Rule
+rule_numbered n = find (λ r. number_of r == n) RULES
+
+-- a rule is the one with its number
+abbrev pub AreFoundByNumber : Type 0
+AreFoundByNumber = (r : Rule) → rule_numbered (number_of r) ≡ Some r
 
 -- the name that a refusal prints
 abbrev pub name_of : Rule → List ℕ

@@ -2,6 +2,7 @@
 //! The lemmas for the checks above are in `proofs/`.
 
 ghost use Rattle.sil_rules.specs.Laws.{AreOrdered};
+ghost use Rattle.sil_rules.specs.Rules.{AreFoundByNumber};
 ghost use Rattle.sil_rules.specs.declared.rule.TheConstants.{NUMBERS};
 ghost use Rattle.std.specs.List.Sorted.{IsStrictlyIncreasing};
 
@@ -13,4 +14,9 @@ pub fn keys_are_ordered()
 /// Rules stand in the order of their numbers.
 pub fn numbers_go_up()
     ensures { IsStrictlyIncreasing NUMBERS }
+{}
+
+/// Each rule is the one with its number.
+pub fn rules_are_found_by_number()
+    ensures { AreFoundByNumber }
 {}

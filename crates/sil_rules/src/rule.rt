@@ -1,7 +1,7 @@
 //! The rules that a module may break, in their order, with the numbers and names that a refusal prints.
 
-ghost use Rattle.std.specs.Prelude.{◌≡◌};
-ghost use Rattle.sil_rules.specs.Rules.{group_of, name_of, number_of};
+ghost use Rattle.std.specs.Prelude.{◌≡◌, ◌==◌, find};
+ghost use Rattle.sil_rules.specs.Rules.{group_of, name_of, number_of, rule_numbered};
 
 use crate::group::Group;
 
@@ -189,7 +189,59 @@ const GROUPS: [Group; 41] = [
     Group::Memory,
 ];
 
+/// All rules, in the order of their numbers.
+pub static RULES: [Rule; 41] = [
+    Rule::UnknownType,
+    Rule::InfiniteType,
+    Rule::BadMember,
+    Rule::WeakOrUnownedOutsideStorage,
+    Rule::OperandType,
+    Rule::ResultCount,
+    Rule::EdgeArguments,
+    Rule::Callee,
+    Rule::External,
+    Rule::Signature,
+    Rule::MixedForms,
+    Rule::DeinitSignature,
+    Rule::SwitchCases,
+    Rule::AddressEscapes,
+    Rule::EntryHasPredecessor,
+    Rule::Qualifier,
+    Rule::Undefined,
+    Rule::CyclicForwarding,
+    Rule::MixedForwarding,
+    Rule::KindMismatch,
+    Rule::ArgumentKind,
+    Rule::UseAfterConsume,
+    Rule::DoubleConsume,
+    Rule::Leak,
+    Rule::Overwritten,
+    Rule::UseOutsideScope,
+    Rule::EndTwice,
+    Rule::ScopeLeft,
+    Rule::ConsumedWhileBorrowed,
+    Rule::ScopeOverwritten,
+    Rule::LoadUninitialised,
+    Rule::InitTwice,
+    Rule::LeftInitialised,
+    Rule::StackOrder,
+    Rule::StackLeft,
+    Rule::WriteWhileBorrowed,
+    Rule::FieldNotBuilt,
+    Rule::InoutOverlap,
+    Rule::InoutLeftUninitialised,
+    Rule::AddressOutsideScope,
+    Rule::PartialAccess,
+];
+
 impl Rule {
+    /// The rule with this number, if there is one.
+    pub fn of_number(number: u16) -> Option<Rule>
+        ensures { result ≡ rule_numbered number }
+    {
+        first_numbered(&RULES, number)
+    }
+
     /// The number that a refusal prints, from 101 to 611.
     pub fn number(self) -> u16
         ensures { result ≡ number_of self }
@@ -210,4 +262,16 @@ impl Rule {
     {
         GROUPS[self as usize]
     }
+}
+
+/// The first of these rules that has the number.
+fn first_numbered(rules: &[Rule], number: u16) -> Option<Rule>
+    ensures { result ≡ find (λ r. number_of r == number) rules.now }
+{
+    for rule in rules {
+        if rule.number() == number {
+            return Some(*rule);
+        }
+    }
+    None
 }
