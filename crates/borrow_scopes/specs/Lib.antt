@@ -1,0 +1,4 @@
+pub mod Lending
+pub mod Scopes
+pub mod Others
+pub mod Tables
