@@ -1,8 +1,11 @@
 -- The index from bases to scopes: a row has each scope once, as the last of those that are in it.
-use Rattle.std.proofs.Common.{◌≡◌, ℕ, zero, suc, ◌+◌, ◌-◌, ◌<◌, ◌≤◌, List, [], ◌∷◌, ◌++◌, length, refl, sym, ap, ◌∙◌, ◌⊎◌, inl, inr, arith, Bool, true, false, cond, All, eq-eqb, add-one, Some, None}
+use Rattle.std.proofs.Common.{◌≡◌, ℕ, zero, suc, ◌+◌, ◌-◌, ◌<◌, ◌≤◌, ◌≢◌, get_or, List, [], ◌∷◌, ◌++◌, length, refl, sym, ap, ◌∙◌, ◌⊎◌, inl, inr, arith, Bool, true, false, cond, All, eq-eqb, add-one, Some, None}
 use Rattle.std.specs.Prelude.{◌||◌, ◌==◌, filter, slice_get}
 use Rattle.std.specs.List.{range_with_len}
-use Rattle.std.proofs.lemmas.Bool.{ne_eqb}
+use Rattle.std.specs.declared.alloc.Global.{Global}
+use Rattle.std.specs.declared.vec.Vec.{Vec}
+use Rattle.std.proofs.Math.ListN.{set}
+use Rattle.std.proofs.lemmas.Bool.{cases_eq, cases_lt, ne_eqb}
 use Rattle.std.proofs.lemmas.List.{append-nil}
 use Rattle.std.proofs.lemmas.List.Elements.{All-cons, All-filter, All-nil, filter-append}
 use Rattle.std.proofs.lemmas.List.Folds.{list_any-append}
@@ -10,8 +13,9 @@ use Rattle.std.proofs.lemmas.Option.{slice_get_cases}
 use Rattle.sil_cfg.proofs.Blocks.{all_get}
 use Rattle.sil_cfg.proofs.Gets.{last_get, length_push}
 use Rattle.sil_ast.specs.declared.place.ValueId.{ValueId}
+use Rattle.path_checks.proofs.Accesses.{accesses_kept, accesses_last, accesses_past, accesses_there}
 use Rattle.forwarding_chains.specs.Facts.{has}
-use Rattle.borrow_scopes.specs.Tables.{ends_with, is_one, with_last, with_last_if}
+use Rattle.borrow_scopes.specs.Tables.{borrowers_at, ends_with, is_one, with_last, with_last_if}
 
 ends_pushed : (scopes : List ℕ) (n : ℕ) → ends_with (scopes ++ n ∷ []) n ≡ true
 ends_pushed scopes n =
@@ -75,3 +79,37 @@ more_values p n = put (p n) ∙ sym parts
     parts =
         let e : 0 + n ≡ n = omega arith in
         ap (λ k. filter p (range_with_len 0 k)) (add-one n) ∙ ap (filter p) (range_more 0 n ∙ ap (λ k. range_with_len 0 n ++ k ∷ []) e) ∙ filter-append p (range_with_len 0 n) (n ∷ [])
+
+-- a row with no scope in it adds nothing
+pub row_added : (rows : List (Vec ℕ Global)) (x : Vec ℕ Global) → x.items ≡ [] → (b : ℕ) → borrowers_at (rows ++ x ∷ []) b ≡ borrowers_at rows b
+row_added rows x empty b = at (cases_lt b (length rows))
+  where
+    past : (b ≡ length rows) ⊎ (b ≢ length rows) → length rows ≤ b → borrowers_at (rows ++ x ∷ []) b ≡ borrowers_at rows b
+    past (inl e) le = accesses_last rows x b e ∙ empty ∙ sym (accesses_past rows b le)
+    past (inr ne) le = let more : length (rows ++ x ∷ []) ≡ length rows + 1 = length_push rows x in accesses_past (rows ++ x ∷ []) b (omega arith) ∙ sym (accesses_past rows b le)
+    at : (b < length rows) ⊎ (length rows ≤ b) → borrowers_at (rows ++ x ∷ []) b ≡ borrowers_at rows b
+    at (inl lt) = accesses_kept rows x b lt
+    at (inr le) = past (cases_eq b (length rows)) le
+
+set_same : (rows : List (Vec ℕ Global)) (base : ℕ) (y : Vec ℕ Global) → base < length rows → borrowers_at (set rows base y) base ≡ y.items
+set_same [] base y lt = absurd (omega arith)
+set_same (r ∷ rows) zero y lt = refl
+set_same (r ∷ rows) (suc base) y lt = set_same rows base y (omega arith)
+
+set_other : (rows : List (Vec ℕ Global)) (base b : ℕ) (y : Vec ℕ Global) → (base ≡ b → ⊥) → borrowers_at (set rows base y) b ≡ borrowers_at rows b
+set_other [] base b y ne = refl
+set_other (r ∷ rows) zero zero y ne = absurd (ne refl)
+set_other (r ∷ rows) zero (suc b) y ne = refl
+set_other (r ∷ rows) (suc base) zero y ne = refl
+set_other (r ∷ rows) (suc base) (suc b) y ne = set_other rows base b y (λ e. ne (ap suc e))
+
+-- the scope goes into the row of the base, and into no other
+pub row_set : (rows : List (Vec ℕ Global)) (base : ℕ) (x y : Vec ℕ Global) (n : ℕ) → base < length rows → x ≡ get_or rows base x → y.items ≡ with_last x.items n →
+    (b : ℕ) → borrowers_at (set rows base y) b ≡ with_last_if (base == b) (borrowers_at rows b) n
+row_set rows base x y n lt is new b = at (cases_eq base b)
+  where
+    at : (base ≡ b) ⊎ (base ≢ b) → borrowers_at (set rows base y) b ≡ with_last_if (base == b) (borrowers_at rows b) n
+    at (inl e) =
+        ap (borrowers_at (set rows base y)) (sym e) ∙ set_same rows base y lt ∙ new ∙ ap (λ v. with_last v n) (sym (accesses_there rows base x lt is))
+        ∙ ap (λ i. with_last (borrowers_at rows i) n) e ∙ ap (λ q. with_last_if q (borrowers_at rows b) n) (sym (eq-eqb base b e))
+    at (inr ne) = set_other rows base b y ne ∙ ap (λ q. with_last_if q (borrowers_at rows b) n) (sym (ne_eqb base b ne))
