@@ -10,7 +10,7 @@ use sil_ast::Op;
 pub enum Built {
     /// They know it.
     Known,
-    /// They don't: it lends a value, or makes, reads or writes a location.
+    /// They don't: it names, makes, reads or writes a location.
     NotKnown,
     /// They know it where the class that it makes has no fields: `alloc_ref`.
     WhereFieldless,
@@ -28,8 +28,8 @@ pub static BUILT: [Built; 41] = [
     Built::Known, // copy_value
     Built::Known, // destroy_value
     Built::Known, // move_value
-    Built::NotKnown, // begin_borrow
-    Built::NotKnown, // end_borrow
+    Built::Known, // begin_borrow
+    Built::Known, // end_borrow
     Built::NotKnown, // load
     Built::NotKnown, // store
     Built::NotKnown, // load_borrow

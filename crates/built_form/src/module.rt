@@ -9,8 +9,8 @@ use crate::signatures::any_inout;
 use sil_ast::{Block, Function, Module};
 use sil_types::TypeTable;
 
-/// Whether the checks of values know the module: nothing in it lends a value or is about a location, and no object that it
-/// makes has fields. `table` is the module's own. It takes no memory.
+/// Whether the checks of values know the module: nothing in it is about a location, and no object that it makes has fields.
+/// `table` is the module's own. It takes no memory.
 #[tactic(auto, unfolding(crate::specs::Built::is_built))]
 pub fn is_built(table: &TypeTable, m: &Module) -> bool
     ensures { result ≡ told.is_built table.now m.now }
