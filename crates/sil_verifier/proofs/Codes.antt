@@ -9,6 +9,7 @@ use Rattle.sil_ast.specs.declared.inst.Inst as inst
 use Rattle.sil_ast.specs.declared.place.EdgeId.{EdgeId}
 use Rattle.sil_ast.specs.declared.place.PointId.{PointId}
 use Rattle.sil_ast.specs.declared.place.ValueId.{ValueId}
+use Rattle.sil_cfg.specs.Returns.{is_return}
 use Rattle.sil_cfg.specs.declared.item.Item.{Item}
 use Rattle.sil_cfg.specs.declared.item.Item.TheVariants.{Entry, Inst, Edge, Exit}
 use Rattle.path_checks.specs.Entries.{means}
@@ -23,7 +24,7 @@ use Rattle.ownership_marks.specs.Marks.{marks_of}
 use Rattle.ownership_marks.specs.declared.mark.Mark as mark
 use Rattle.ownership_marks.specs.declared.mark.MarkSort.{MarkSort}
 use Rattle.ownership_marks.specs.declared.mark.MarkSort.TheVariants.{End, Use, Begin}
-use Rattle.lifetime_worklist.specs.Lives.{entry_of, is_return, leaves, left_at_return, lives_by, lives_of, returned, turned_by}
+use Rattle.lifetime_worklist.specs.Lives.{entry_of, leaves, left_at_return, lives_by, lives_of, returned, turned_by}
 use Rattle.sil_rules.specs.declared.rule.Rule.{Rule}
 use Rattle.sil_rules.specs.declared.rule.Rule.TheVariants as rule
 use Rattle.value_availability.specs.Accesses.{accesses_of, begun, defined, of_args, of_edge, of_edge_at, of_exit, of_inst, of_inst_at, used}
@@ -31,7 +32,7 @@ use Rattle.sil_verifier.specs.Shown.{IsLifeRule}
 use Rattle.sil_verifier.specs.Shown.IsLifeRule.{used as life_used, ended as life_ended, left as life_left, begun as life_begun}
 
 module _ (P : entry.Entry → Type 0) where
-  each_append : (xs ys : List entry.Entry) → AllByRecursion P xs → AllByRecursion P ys → AllByRecursion P (xs ++ ys)
+  pub each_append : (xs ys : List entry.Entry) → AllByRecursion P xs → AllByRecursion P ys → AllByRecursion P (xs ++ ys)
   each_append [] ys a b = b
   each_append (x ∷ xs) ys a b = (a.0, each_append xs ys a.1 b)
 
@@ -39,11 +40,11 @@ module _ (P : entry.Entry → Type 0) where
   each_map g [] h = tt
   each_map g (x ∷ xs) h = (h x, each_map g xs h)
 
-  each_flat : {A : Type 0} (g : A → List entry.Entry) (xs : List A) → ((x : A) → AllByRecursion P (g x)) → AllByRecursion P (flat_map g xs)
+  pub each_flat : {A : Type 0} (g : A → List entry.Entry) (xs : List A) → ((x : A) → AllByRecursion P (g x)) → AllByRecursion P (flat_map g xs)
   each_flat g [] h = tt
   each_flat g (x ∷ xs) h = each_append (g x) (flat_map g xs) (h x) (each_flat g xs h)
 
-  each_if : (b : Bool) (e : entry.Entry) → P e → AllByRecursion P (cond b (e ∷ []) [])
+  pub each_if : (b : Bool) (e : entry.Entry) → P e → AllByRecursion P (cond b (e ∷ []) [])
   each_if true e h = (h, tt)
   each_if false e h = tt
 

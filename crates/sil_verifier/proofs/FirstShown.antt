@@ -1,5 +1,5 @@
 -- What each group finds first in a function is the first of all that is shown there, where the groups before it find nothing.
-use Rattle.std.proofs.Common.{◌≡◌, ℕ, ◌+◌, List, [], ◌∷◌, ◌++◌, length, refl, sym, ap, ◌∙◌, subst, arith, inl, inr, Some}
+use Rattle.std.proofs.Common.{◌≡◌, ℕ, ◌+◌, List, [], ◌∷◌, ◌++◌, length, refl, sym, ap, ◌∙◌, subst, arith, inl, inr, None, Some}
 use Rattle.sil_ast.specs.declared.function.Function.{Function}
 use Rattle.sil_ast.specs.declared.place.ValueId.{ValueId}
 use Rattle.sil_cfg.specs.Layout.{Layout}
@@ -21,10 +21,14 @@ use Rattle.ownership_kinds.specs.Statics.{HasKinds, IsBroken, static_key}
 use Rattle.ownership_kinds.specs.Statics.IsBroken.{on_ring, mixed, mismatch, annotated, lacking}
 use Rattle.ownership_marks.specs.Known.{AreKindsBy, Known}
 use Rattle.lifetime_worklist.specs.Lifetimes.{AreLivesKept, IsFirstBrokenLife, IsLifeBroken}
+use Rattle.borrow_scopes.specs.Others.{other_of}
+use Rattle.borrow_scopes.specs.Borrows.{AreScopesKept, IsFirstBrokenScope, IsScopeBroken}
 use Rattle.sil_verifier.proofs.Codes.{HasRule, life_code, undefined_code}
-use Rattle.sil_verifier.specs.Shown.{IsLifeRule, IsShownIn, Showing, inner_key, last_key, lives_in}
+use Rattle.sil_verifier.proofs.ScopeCodes.{HasScopeRule, scope_code}
+use Rattle.sil_verifier.specs.Shown.{IsLifeRule, IsScopeRule, IsShownIn, Showing, inner_key, last_key, lives_in, scopes_in}
 use Rattle.sil_verifier.specs.Shown.IsLifeRule.{used as life_used, ended as life_ended, left as life_left, begun as life_begun}
-use Rattle.sil_verifier.specs.Shown.IsShownIn.{undefined, kind, life}
+use Rattle.sil_verifier.specs.Shown.IsScopeRule as is_scope
+use Rattle.sil_verifier.specs.Shown.IsShownIn.{undefined, kind, life, scope}
 use Rattle.sil_verifier.specs.Values.{IsCleanIn, IsEndIn, IsFirstIn}
 
 abbrev walk_key : ℕ → ℕ → ℕ → ℕ → List ℕ
@@ -43,6 +47,16 @@ rule_key s _ _ life_begun = refl
 
 pub life_key : (s : Showing) (code : ℕ) → IsLifeRule s.rule code → inner_key s ≡ walk_key 6 s.subject.0 (400 + code) (length s.walk)
 life_key s code h = rule_key s s.rule code h
+
+scope_rule_key : (s : Showing) (r : Rule) (code : ℕ) → IsScopeRule r code → (key_in_function s.subject.0 r ++ last_key (group_of r) s) ≡ walk_key 7 s.subject.0 (500 + code) (length s.walk)
+scope_rule_key s _ _ is_scope.used = refl
+scope_rule_key s _ _ is_scope.ended = refl
+scope_rule_key s _ _ is_scope.left = refl
+scope_rule_key s _ _ is_scope.lost = refl
+scope_rule_key s _ _ is_scope.begun = refl
+
+pub scope_key : (s : Showing) (code : ℕ) → IsScopeRule s.rule code → inner_key s ≡ walk_key 7 s.subject.0 (500 + code) (length s.walk)
+scope_key s code h = scope_rule_key s s.rule code h
 
 module _ (d : Declarations) (f : Function) where
   static_told : (s : Showing) (r : Rule) (v : ValueId) (n k : ℕ) → IsBroken d f r v n k → (key_in_function s.subject.0 r ++ last_key (group_of r) s) ≡ 5 ∷ static_key r s.subject s.point.block.0 s.point.index
@@ -68,12 +82,12 @@ module _ (d : Declarations) (f : Function) where
   first_undefined : (x : RuleFault) → IsFirstUndefined f x → IsFirstIn d f x
   first_undefined x h = record {
     showing = s;
-    least = record { shown = undefined refl found; first = behind };
+    least = record { shown = undefined refl refl found; first = behind };
     reported = record { rule = h.rule; subject = refl; other = h.other; point = refl; walk = refl };
   }
     where
       s : Showing
-      s = record { rule = rule.Undefined; subject = x.subject; walk = x.walk; point = x.point }
+      s = record { rule = rule.Undefined; subject = x.subject; other = None; walk = x.walk; point = x.point }
 
       at_point : paths.IsShown f (accesses_of f) x.subject.0 h.code x.walk x.point
       at_point = record { item = h.item; at = h.first.0 }
@@ -85,12 +99,13 @@ module _ (d : Declarations) (f : Function) where
       found = subst (λ c. paths.IsShown f (accesses_of f) x.subject.0 c x.walk x.point) one at_point
 
       behind : (t : Showing) → IsShownIn d f t → NotAfter (inner_key s) (inner_key t)
-      behind t (undefined e there) =
+      behind t (undefined o e there) =
           subst (NotAfter (inner_key s)) (sym (undefined_key t e))
           (moved 4 300 x.subject.0 t.subject.0 1 1 (length x.walk) (length t.walk)
           (subst (λ c. paths.NotAfter (paths.key x.subject.0 c x.walk) (paths.key t.subject.0 1 t.walk)) one (h.first.1 t.subject.0 1 t.walk t.point there)))
-      behind t (kind e b) = subst (NotAfter (inner_key s)) (sym (kind_key d f t b)) (inl (omega arith))
-      behind t (life code r there) = subst (NotAfter (inner_key s)) (sym (life_key t code r)) (inl (omega arith))
+      behind t (kind o e b) = subst (NotAfter (inner_key s)) (sym (kind_key d f t b)) (inl (omega arith))
+      behind t (life o code r there) = subst (NotAfter (inner_key s)) (sym (life_key t code r)) (inl (omega arith))
+      behind t (scope code item o r there) = subst (NotAfter (inner_key s)) (sym (scope_key t code r)) (inl (omega arith))
 
   pub end_undefined : (e : RuleEnd) → IsUndefined f e → IsEndIn d f e
   end_undefined (end.Fault x) h = first_undefined x h
@@ -102,22 +117,23 @@ module _ (d : Declarations) (f : Function) where
     first_kind : (x : RuleFault) → IsFaultOn d f x → IsFirstIn d f x
     first_kind x h = record {
       showing = s;
-      least = record { shown = kind refl h.1.broken; first = behind };
+      least = record { shown = kind refl refl h.1.broken; first = behind };
       reported = record { rule = h.2.rule; subject = h.2.subject; other = h.2.other; point = h.2.point; walk = h.2.walk };
     }
       where
         s : Showing
-        s = record { rule = h.0.rule; subject = h.0.subject; walk = []; point = h.0.point }
+        s = record { rule = h.0.rule; subject = h.0.subject; other = None; walk = []; point = h.0.point }
 
         own : inner_key s ≡ 5 ∷ static_key h.0.rule h.0.subject h.0.point.block.0 h.0.point.index
         own = kind_key d f s h.1.broken
 
         after : (t : Showing) → IsShownIn d f t → NotAfter (5 ∷ static_key h.0.rule h.0.subject h.0.point.block.0 h.0.point.index) (inner_key t)
-        after t (undefined e there) = absurd (available t.subject.0 1 t.walk t.point there)
-        after t (kind e b) =
+        after t (undefined o e there) = absurd (available t.subject.0 1 t.walk t.point there)
+        after t (kind o e b) =
             subst (NotAfter (5 ∷ static_key h.0.rule h.0.subject h.0.point.block.0 h.0.point.index)) (sym (kind_key d f t b))
             (inr (refl, h.1.first t.rule t.subject t.point.block.0 t.point.index b))
-        after t (life code r there) = subst (NotAfter (5 ∷ static_key h.0.rule h.0.subject h.0.point.block.0 h.0.point.index)) (sym (life_key t code r)) (inl (omega arith))
+        after t (life o code r there) = subst (NotAfter (5 ∷ static_key h.0.rule h.0.subject h.0.point.block.0 h.0.point.index)) (sym (life_key t code r)) (inl (omega arith))
+        after t (scope code item o r there) = subst (NotAfter (5 ∷ static_key h.0.rule h.0.subject h.0.point.block.0 h.0.point.index)) (sym (scope_key t code r)) (inl (omega arith))
 
         behind : (t : Showing) → IsShownIn d f t → NotAfter (inner_key s) (inner_key t)
         behind t b = subst (λ k. NotAfter k (inner_key t)) (sym own) (after t b)
@@ -138,7 +154,7 @@ module _ (d : Declarations) (f : Function) where
       first_life : (x : RuleFault) → IsFirstBrokenLife f g k x → IsFirstIn d f x
       first_life x h = record {
         showing = s;
-        least = record { shown = life h.code (has.1) at_point; first = behind };
+        least = record { shown = life refl h.code (has.1) at_point; first = behind };
         reported = record { rule = h.rule ∙ sym (number_told has.0 h.code has.1); subject = refl; other = h.other; point = refl; walk = refl };
       }
         where
@@ -152,14 +168,15 @@ module _ (d : Declarations) (f : Function) where
           has = life_code (length (values_of f.blocks)) (facts_in d f) f x.subject.0 h.code x.walk x.point at_point
 
           s : Showing
-          s = record { rule = has.0; subject = x.subject; walk = x.walk; point = x.point }
+          s = record { rule = has.0; subject = x.subject; other = None; walk = x.walk; point = x.point }
 
           after : (t : Showing) → IsShownIn d f t → NotAfter (walk_key 6 x.subject.0 (400 + h.code) (length x.walk)) (inner_key t)
-          after t (undefined e there) = absurd (available t.subject.0 1 t.walk t.point there)
-          after t (kind e b) = absurd (kept t.rule t.subject t.point.block.0 t.point.index b)
-          after t (life code r there) =
+          after t (undefined o e there) = absurd (available t.subject.0 1 t.walk t.point there)
+          after t (kind o e b) = absurd (kept t.rule t.subject t.point.block.0 t.point.index b)
+          after t (life o code r there) =
               subst (NotAfter (walk_key 6 x.subject.0 (400 + h.code) (length x.walk))) (sym (life_key t code r))
               (moved 6 400 x.subject.0 t.subject.0 h.code code (length x.walk) (length t.walk) (first.1 t.subject.0 code t.walk t.point there))
+          after t (scope code item o r there) = subst (NotAfter (walk_key 6 x.subject.0 (400 + h.code) (length x.walk))) (sym (scope_key t code r)) (inl (omega arith))
 
           behind : (t : Showing) → IsShownIn d f t → NotAfter (inner_key s) (inner_key t)
           behind t b = subst (λ k. NotAfter k (inner_key t)) (sym (life_key s h.code has.1)) (after t b)
@@ -168,16 +185,64 @@ module _ (d : Declarations) (f : Function) where
       end_life (end.Fault x) h = first_life x h
       end_life end.Memory h = tt
 
-      -- where no group finds anything nothing is shown
-      pub clean_in : AreLivesKept f g k → IsCleanIn d f
-      clean_in lives t (undefined e there) = available t.subject.0 1 t.walk t.point there
-      clean_in lives t (kind e b) = kept t.rule t.subject t.point.block.0 t.point.index b
-      clean_in lives t (life code r there) = lives (length (values_of f.blocks)) (facts_in d f) are t.subject.0 code t.walk t.point there
+      module _ (lives : AreLivesKept f g k) where
+        -- 501 to 505
+
+        scope_number : (r : Rule) (code : ℕ) → IsScopeRule r code → number_of r ≡ 500 + code
+        scope_number _ _ is_scope.used = refl
+        scope_number _ _ is_scope.ended = refl
+        scope_number _ _ is_scope.left = refl
+        scope_number _ _ is_scope.lost = refl
+        scope_number _ _ is_scope.begun = refl
+
+        no_life : (t : Showing) (code : ℕ) → paths.IsShown f (lives_in d f) t.subject.0 code t.walk t.point → ⊥
+        no_life t code there = lives (length (values_of f.blocks)) (facts_in d f) are t.subject.0 code t.walk t.point there
+
+        first_scope : (x : RuleFault) → IsFirstBrokenScope f g k x → IsFirstIn d f x
+        first_scope x h = record {
+          showing = s;
+          least = record { shown = scope h.code h.item other (has.1) first.0; first = behind };
+          reported = record { rule = h.rule ∙ sym (scope_number has.0 h.code has.1); subject = refl; other = refl; point = refl; walk = refl };
+        }
+          where
+            first : paths.IsFirst f (scopes_in d f) (Some (record { subject = x.subject.0; code = h.code; walk = x.walk; point = x.point; item = h.item }))
+            first = h.first (length (values_of f.blocks)) (facts_in d f) are
+
+            other : x.other ≡ other_of h.code (facts_in d f) f x.subject h.item
+            other = h.other (length (values_of f.blocks)) (facts_in d f) are
+
+            has : HasScopeRule h.code
+            has = scope_code (length (values_of f.blocks)) (facts_in d f) f x.subject.0 h.code x.walk x.point (record { item = h.item; at = first.0 })
+
+            s : Showing
+            s = record { rule = has.0; subject = x.subject; other = x.other; walk = x.walk; point = x.point }
+
+            after : (t : Showing) → IsShownIn d f t → NotAfter (walk_key 7 x.subject.0 (500 + h.code) (length x.walk)) (inner_key t)
+            after t (undefined o e there) = absurd (available t.subject.0 1 t.walk t.point there)
+            after t (kind o e b) = absurd (kept t.rule t.subject t.point.block.0 t.point.index b)
+            after t (life o code r there) = absurd (no_life t code there)
+            after t (scope code item o r there) =
+                subst (NotAfter (walk_key 7 x.subject.0 (500 + h.code) (length x.walk))) (sym (scope_key t code r))
+                (moved 7 500 x.subject.0 t.subject.0 h.code code (length x.walk) (length t.walk) (first.1 t.subject.0 code t.walk t.point (record { item = item; at = there })))
+
+            behind : (t : Showing) → IsShownIn d f t → NotAfter (inner_key s) (inner_key t)
+            behind t b = subst (λ k. NotAfter k (inner_key t)) (sym (scope_key s h.code has.1)) (after t b)
+
+        pub end_scope : (e : RuleEnd) → IsScopeBroken f g k e → IsEndIn d f e
+        end_scope (end.Fault x) h = first_scope x h
+        end_scope end.Memory h = tt
+
+        -- where no group finds anything nothing is shown
+        pub clean_in : AreScopesKept f g k → IsCleanIn d f
+        clean_in scopes t (undefined o e there) = available t.subject.0 1 t.walk t.point there
+        clean_in scopes t (kind o e b) = kept t.rule t.subject t.point.block.0 t.point.index b
+        clean_in scopes t (life o code r there) = no_life t code there
+        clean_in scopes t (scope code item o r there) = scopes (length (values_of f.blocks)) (facts_in d f) are t.subject.0 code t.walk t.point (record { item = item; at = there })
 
 -- a shown rule is one that is looked for function by function
 pub stage_told : (d : Declarations) (f : Function) (s : Showing) → IsShownIn d f s → stage_of (group_of s.rule) ≡ 6
-stage_told d f s (undefined e there) = ap (λ r. stage_of (group_of r)) e
-stage_told d f s (kind e b) = at s.rule s.subject s.point.block.0 s.point.index b
+stage_told d f s (undefined o e there) = ap (λ r. stage_of (group_of r)) e
+stage_told d f s (kind o e b) = at s.rule s.subject s.point.block.0 s.point.index b
   where
     at : (r : Rule) (v : ValueId) (n k : ℕ) → IsBroken d f r v n k → stage_of (group_of r) ≡ 6
     at _ _ _ _ (on_ring v n k a b) = refl
@@ -185,10 +250,18 @@ stage_told d f s (kind e b) = at s.rule s.subject s.point.block.0 s.point.index 
     at _ _ _ _ (mismatch n k i t a b e) = refl
     at _ _ _ _ (annotated n b a lt there h e) = refl
     at _ _ _ _ (lacking n k i v a b e h) = refl
-stage_told d f s (life code r there) = at s.rule code r
+stage_told d f s (life o code r there) = at s.rule code r
   where
     at : (r : Rule) (code : ℕ) → IsLifeRule r code → stage_of (group_of r) ≡ 6
     at _ _ life_used = refl
     at _ _ life_ended = refl
     at _ _ life_left = refl
     at _ _ life_begun = refl
+stage_told d f s (scope code item o r there) = at s.rule code r
+  where
+    at : (r : Rule) (code : ℕ) → IsScopeRule r code → stage_of (group_of r) ≡ 6
+    at _ _ is_scope.used = refl
+    at _ _ is_scope.ended = refl
+    at _ _ is_scope.left = refl
+    at _ _ is_scope.lost = refl
+    at _ _ is_scope.begun = refl

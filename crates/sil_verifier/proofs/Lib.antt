@@ -1,4 +1,5 @@
 pub mod FirstFaults
 mod Codes
+mod ScopeCodes
 mod FirstShown
 mod Functions

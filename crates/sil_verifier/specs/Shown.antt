@@ -1,5 +1,5 @@
 -- What is shown of a function's values: one case for each group of rules.
-use Rattle.std.specs.Prelude.{◌≡◌, ℕ, List, [], ◌∷◌, ◌++◌, length}
+use Rattle.std.specs.Prelude.{◌≡◌, ℕ, List, [], ◌∷◌, ◌++◌, length, Option, None}
 use Rattle.sil_ast.specs.declared.function.Function.{Function}
 use Rattle.sil_ast.specs.declared.place.EdgeId.{EdgeId}
 use Rattle.sil_ast.specs.declared.place.PointId.{PointId}
@@ -19,17 +19,24 @@ use Rattle.value_availability.specs.Accesses.{accesses_of}
 use Rattle.ownership_kinds.specs.Facts.{facts_in}
 use Rattle.ownership_kinds.specs.Statics as kinds
 use Rattle.lifetime_worklist.specs.Lives.{lives_of}
+use Rattle.borrow_scopes.specs.Others.{other_of}
+use Rattle.borrow_scopes.specs.Scopes.{scopes_of}
 
--- a broken rule: of which value, at which point, and the walk that shows it
+-- a broken rule: of which value, with which other value that takes part, at which point, and the walk that shows it
 pub record Showing : Type 0 where
   pub rule : Rule
   pub subject : ValueId
+  pub other : Option ValueId
   pub walk : List EdgeId
   pub point : PointId
 
 -- what an item does to the Owned values, by the facts of the function itself
 abbrev pub lives_in : Declarations → Function → Item → List Entry
 lives_in d f = lives_of (length (values_of f.blocks)) (facts_in d f) f
+
+-- what an item does to the scopes
+abbrev pub scopes_in : Declarations → Function → Item → List Entry
+scopes_in d f = scopes_of (length (values_of f.blocks)) (facts_in d f) f
 
 -- the rule that the code of a life stands for
 pub data IsLifeRule : Rule → ℕ → Type 0 where
@@ -38,11 +45,22 @@ pub data IsLifeRule : Rule → ℕ → Type 0 where
   left : IsLifeRule rule.Leak 3
   begun : IsLifeRule rule.Overwritten 4
 
--- in the function a rule on its values is broken: 301 on a walk; 302 to 305 at a point, with no walk; 401 to 404 on a walk
+-- and the one that the code of a scope stands for
+pub data IsScopeRule : Rule → ℕ → Type 0 where
+  used : IsScopeRule rule.UseOutsideScope 1
+  ended : IsScopeRule rule.EndTwice 2
+  left : IsScopeRule rule.ScopeLeft 3
+  lost : IsScopeRule rule.ConsumedWhileBorrowed 4
+  begun : IsScopeRule rule.ScopeOverwritten 5
+
+-- in the function a rule on its values is broken: 301 on a walk; 302 to 305 at a point, with no walk; 401 to 404 on a walk; and 501 to 505
+-- on a walk, with the other value that takes part at the item that breaks it
 pub data IsShownIn (d : Declarations) (f : Function) (s : Showing) : Type 0 where
-  undefined : s.rule ≡ rule.Undefined → paths.IsShown f (accesses_of f) s.subject.0 1 s.walk s.point → IsShownIn d f s
-  kind : s.walk ≡ [] → kinds.IsBroken d f s.rule s.subject s.point.block.0 s.point.index → IsShownIn d f s
-  life : (code : ℕ) → IsLifeRule s.rule code → paths.IsShown f (lives_in d f) s.subject.0 code s.walk s.point → IsShownIn d f s
+  undefined : s.other ≡ None → s.rule ≡ rule.Undefined → paths.IsShown f (accesses_of f) s.subject.0 1 s.walk s.point → IsShownIn d f s
+  kind : s.other ≡ None → s.walk ≡ [] → kinds.IsBroken d f s.rule s.subject s.point.block.0 s.point.index → IsShownIn d f s
+  life : s.other ≡ None → (code : ℕ) → IsLifeRule s.rule code → paths.IsShown f (lives_in d f) s.subject.0 code s.walk s.point → IsShownIn d f s
+  scope : (code : ℕ) (item : Item) → s.other ≡ other_of code (facts_in d f) f s.subject item → IsScopeRule s.rule code
+      → paths.IsShownAt f (scopes_in d f) s.subject.0 code s.walk s.point item → IsShownIn d f s
 
 -- of one value and rule: a rule on kinds by its point, one on walks by the number of edges
 abbrev pub last_key : Group → Showing → List ℕ

@@ -37,7 +37,8 @@ fn check_function(alloc: Global, f: &Function, table: &TypeTable) -> Result<(), 
     };
     value_availability::check(alloc, f, &graph)?;
     let kinds = kinds_in(alloc, f, &graph, table)?;
-    lifetime_worklist::check(alloc, f, &graph, &kinds)
+    lifetime_worklist::check(alloc, f, &graph, &kinds)?;
+    borrow_scopes::check(alloc, f, &graph, &kinds)
 }
 
 /// The checks of the function with this number, where it has a body.
