@@ -1,5 +1,5 @@
 -- A subject meets its own entries alone, and where entries stand in order they stand together.
-use Rattle.std.proofs.Common.{◌≡◌, ℕ, ◌+◌, ◌<◌, ◌≤◌, List, [], ◌∷◌, ◌++◌, length, get_or, take, drop, refl, sym, ap, ap₂, ◌∙◌, subst, ◌⊎◌, inl, inr, Bool, true, false, ltb, leb, Some, None, All, arith}
+use Rattle.std.proofs.Common.{◌≡◌, ℕ, ◌+◌, ◌<◌, ◌≤◌, List, [], ◌∷◌, ◌++◌, length, get_or, take, drop, refl, sym, ap, ap₂, ◌∙◌, subst, Bool, true, false, ltb, leb, Some, None, All, arith}
 use Rattle.std.specs.Prelude.{◌==◌, cond, filter, not, ◌&&◌}
 use Rattle.std.specs.List.{AllWithin}
 use Rattle.std.specs.List.Sorted.{IsStableByKey, ties}
