@@ -6,6 +6,7 @@ mod group;
 mod laws;
 mod limit_word;
 pub mod limits;
+mod numbered;
 mod rule;
 mod status;
 
