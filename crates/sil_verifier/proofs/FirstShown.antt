@@ -1,5 +1,5 @@
 -- What each group finds first in a function is the first of all that is shown there, where the groups before it find nothing.
-use Rattle.std.proofs.Common.{◌≡◌, ℕ, ◌+◌, List, [], ◌∷◌, ◌++◌, length, refl, sym, ap, ◌∙◌, subst, arith, inl, inr, Some}
+use Rattle.std.proofs.Common.{◌≡◌, ℕ, ◌+◌, List, [], ◌∷◌, ◌++◌, length, refl, sym, ap, ◌∙◌, subst, arith, inl, inr, None, Some}
 use Rattle.sil_ast.specs.declared.function.Function.{Function}
 use Rattle.sil_ast.specs.declared.place.ValueId.{ValueId}
 use Rattle.sil_cfg.specs.Layout.{Layout}
@@ -68,12 +68,12 @@ module _ (d : Declarations) (f : Function) where
   first_undefined : (x : RuleFault) → IsFirstUndefined f x → IsFirstIn d f x
   first_undefined x h = record {
     showing = s;
-    least = record { shown = undefined refl found; first = behind };
+    least = record { shown = undefined refl refl found; first = behind };
     reported = record { rule = h.rule; subject = refl; other = h.other; point = refl; walk = refl };
   }
     where
       s : Showing
-      s = record { rule = rule.Undefined; subject = x.subject; walk = x.walk; point = x.point }
+      s = record { rule = rule.Undefined; subject = x.subject; other = None; walk = x.walk; point = x.point }
 
       one : h.code ≡ 1
       one = undefined_code f x.subject.0 h.code x.walk x.point h.first.0
@@ -82,12 +82,12 @@ module _ (d : Declarations) (f : Function) where
       found = subst (λ c. paths.IsShown f (accesses_of f) x.subject.0 c x.walk x.point) one h.first.0
 
       behind : (t : Showing) → IsShownIn d f t → NotAfter (inner_key s) (inner_key t)
-      behind t (undefined e there) =
+      behind t (undefined o e there) =
           subst (NotAfter (inner_key s)) (sym (undefined_key t e))
           (moved 4 300 x.subject.0 t.subject.0 1 1 (length x.walk) (length t.walk)
           (subst (λ c. paths.NotAfter (paths.key x.subject.0 c x.walk) (paths.key t.subject.0 1 t.walk)) one (h.first.1 t.subject.0 1 t.walk t.point there)))
-      behind t (kind e b) = subst (NotAfter (inner_key s)) (sym (kind_key d f t b)) (inl (omega arith))
-      behind t (life code r there) = subst (NotAfter (inner_key s)) (sym (life_key t code r)) (inl (omega arith))
+      behind t (kind o e b) = subst (NotAfter (inner_key s)) (sym (kind_key d f t b)) (inl (omega arith))
+      behind t (life o code r there) = subst (NotAfter (inner_key s)) (sym (life_key t code r)) (inl (omega arith))
 
   pub end_undefined : (e : RuleEnd) → IsUndefined f e → IsEndIn d f e
   end_undefined (end.Fault x) h = first_undefined x h
@@ -99,22 +99,22 @@ module _ (d : Declarations) (f : Function) where
     first_kind : (x : RuleFault) → IsFaultOn d f x → IsFirstIn d f x
     first_kind x h = record {
       showing = s;
-      least = record { shown = kind refl h.1.broken; first = behind };
+      least = record { shown = kind refl refl h.1.broken; first = behind };
       reported = record { rule = h.2.rule; subject = h.2.subject; other = h.2.other; point = h.2.point; walk = h.2.walk };
     }
       where
         s : Showing
-        s = record { rule = h.0.rule; subject = h.0.subject; walk = []; point = h.0.point }
+        s = record { rule = h.0.rule; subject = h.0.subject; other = None; walk = []; point = h.0.point }
 
         own : inner_key s ≡ 5 ∷ static_key h.0.rule h.0.subject h.0.point.block.0 h.0.point.index
         own = kind_key d f s h.1.broken
 
         after : (t : Showing) → IsShownIn d f t → NotAfter (5 ∷ static_key h.0.rule h.0.subject h.0.point.block.0 h.0.point.index) (inner_key t)
-        after t (undefined e there) = absurd (available t.subject.0 1 t.walk t.point there)
-        after t (kind e b) =
+        after t (undefined o e there) = absurd (available t.subject.0 1 t.walk t.point there)
+        after t (kind o e b) =
             subst (NotAfter (5 ∷ static_key h.0.rule h.0.subject h.0.point.block.0 h.0.point.index)) (sym (kind_key d f t b))
             (inr (refl, h.1.first t.rule t.subject t.point.block.0 t.point.index b))
-        after t (life code r there) = subst (NotAfter (5 ∷ static_key h.0.rule h.0.subject h.0.point.block.0 h.0.point.index)) (sym (life_key t code r)) (inl (omega arith))
+        after t (life o code r there) = subst (NotAfter (5 ∷ static_key h.0.rule h.0.subject h.0.point.block.0 h.0.point.index)) (sym (life_key t code r)) (inl (omega arith))
 
         behind : (t : Showing) → IsShownIn d f t → NotAfter (inner_key s) (inner_key t)
         behind t b = subst (λ k. NotAfter k (inner_key t)) (sym own) (after t b)
@@ -135,7 +135,7 @@ module _ (d : Declarations) (f : Function) where
       first_life : (x : RuleFault) → IsFirstBrokenLife f g k x → IsFirstIn d f x
       first_life x h = record {
         showing = s;
-        least = record { shown = life h.code (has.1) first.0; first = behind };
+        least = record { shown = life refl h.code (has.1) first.0; first = behind };
         reported = record { rule = h.rule ∙ sym (number_told has.0 h.code has.1); subject = refl; other = h.other; point = refl; walk = refl };
       }
         where
@@ -146,12 +146,12 @@ module _ (d : Declarations) (f : Function) where
           has = life_code (length (values_of f.blocks)) (facts_in d f) f x.subject.0 h.code x.walk x.point first.0
 
           s : Showing
-          s = record { rule = has.0; subject = x.subject; walk = x.walk; point = x.point }
+          s = record { rule = has.0; subject = x.subject; other = None; walk = x.walk; point = x.point }
 
           after : (t : Showing) → IsShownIn d f t → NotAfter (walk_key 6 x.subject.0 (400 + h.code) (length x.walk)) (inner_key t)
-          after t (undefined e there) = absurd (available t.subject.0 1 t.walk t.point there)
-          after t (kind e b) = absurd (kept t.rule t.subject t.point.block.0 t.point.index b)
-          after t (life code r there) =
+          after t (undefined o e there) = absurd (available t.subject.0 1 t.walk t.point there)
+          after t (kind o e b) = absurd (kept t.rule t.subject t.point.block.0 t.point.index b)
+          after t (life o code r there) =
               subst (NotAfter (walk_key 6 x.subject.0 (400 + h.code) (length x.walk))) (sym (life_key t code r))
               (moved 6 400 x.subject.0 t.subject.0 h.code code (length x.walk) (length t.walk) (first.1 t.subject.0 code t.walk t.point there))
 
@@ -164,14 +164,14 @@ module _ (d : Declarations) (f : Function) where
 
       -- where no group finds anything nothing is shown
       pub clean_in : AreLivesKept f g k → IsCleanIn d f
-      clean_in lives t (undefined e there) = available t.subject.0 1 t.walk t.point there
-      clean_in lives t (kind e b) = kept t.rule t.subject t.point.block.0 t.point.index b
-      clean_in lives t (life code r there) = lives (length (values_of f.blocks)) (facts_in d f) are t.subject.0 code t.walk t.point there
+      clean_in lives t (undefined o e there) = available t.subject.0 1 t.walk t.point there
+      clean_in lives t (kind o e b) = kept t.rule t.subject t.point.block.0 t.point.index b
+      clean_in lives t (life o code r there) = lives (length (values_of f.blocks)) (facts_in d f) are t.subject.0 code t.walk t.point there
 
 -- a shown rule is one that is looked for function by function
 pub stage_told : (d : Declarations) (f : Function) (s : Showing) → IsShownIn d f s → stage_of (group_of s.rule) ≡ 6
-stage_told d f s (undefined e there) = ap (λ r. stage_of (group_of r)) e
-stage_told d f s (kind e b) = at s.rule s.subject s.point.block.0 s.point.index b
+stage_told d f s (undefined o e there) = ap (λ r. stage_of (group_of r)) e
+stage_told d f s (kind o e b) = at s.rule s.subject s.point.block.0 s.point.index b
   where
     at : (r : Rule) (v : ValueId) (n k : ℕ) → IsBroken d f r v n k → stage_of (group_of r) ≡ 6
     at _ _ _ _ (on_ring v n k a b) = refl
@@ -179,7 +179,7 @@ stage_told d f s (kind e b) = at s.rule s.subject s.point.block.0 s.point.index 
     at _ _ _ _ (mismatch n k i t a b e) = refl
     at _ _ _ _ (annotated n b a lt there h e) = refl
     at _ _ _ _ (lacking n k i v a b e h) = refl
-stage_told d f s (life code r there) = at s.rule code r
+stage_told d f s (life o code r there) = at s.rule code r
   where
     at : (r : Rule) (code : ℕ) → IsLifeRule r code → stage_of (group_of r) ≡ 6
     at _ _ life_used = refl

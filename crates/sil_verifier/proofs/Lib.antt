@@ -1,4 +1,7 @@
 pub mod FirstFaults
+pub mod DeclaredTypes
 mod Codes
 mod FirstShown
 mod Functions
+mod Stages
+mod NothingFound

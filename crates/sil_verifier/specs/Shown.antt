@@ -1,5 +1,5 @@
 -- What is shown of a function's values: one case for each group of rules.
-use Rattle.std.specs.Prelude.{◌≡◌, ℕ, List, [], ◌∷◌, ◌++◌, length}
+use Rattle.std.specs.Prelude.{◌≡◌, ℕ, List, [], ◌∷◌, ◌++◌, length, Option, None}
 use Rattle.sil_ast.specs.declared.function.Function.{Function}
 use Rattle.sil_ast.specs.declared.place.EdgeId.{EdgeId}
 use Rattle.sil_ast.specs.declared.place.PointId.{PointId}
@@ -20,10 +20,11 @@ use Rattle.ownership_kinds.specs.Facts.{facts_in}
 use Rattle.ownership_kinds.specs.Statics as kinds
 use Rattle.lifetime_worklist.specs.Lives.{lives_of}
 
--- a broken rule: of which value, at which point, and the walk that shows it
+-- a broken rule: of which value, with which other value that takes part, at which point, and the walk that shows it
 pub record Showing : Type 0 where
   pub rule : Rule
   pub subject : ValueId
+  pub other : Option ValueId
   pub walk : List EdgeId
   pub point : PointId
 
@@ -38,11 +39,12 @@ pub data IsLifeRule : Rule → ℕ → Type 0 where
   left : IsLifeRule rule.Leak 3
   begun : IsLifeRule rule.Overwritten 4
 
--- in the function a rule on its values is broken: 301 on a walk; 302 to 305 at a point, with no walk; 401 to 404 on a walk
+-- in the function a rule on its values is broken: 301 on a walk; 302 to 305 at a point, with no walk; 401 to 404 on a walk.
+-- No other value takes part in these
 pub data IsShownIn (d : Declarations) (f : Function) (s : Showing) : Type 0 where
-  undefined : s.rule ≡ rule.Undefined → paths.IsShown f (accesses_of f) s.subject.0 1 s.walk s.point → IsShownIn d f s
-  kind : s.walk ≡ [] → kinds.IsBroken d f s.rule s.subject s.point.block.0 s.point.index → IsShownIn d f s
-  life : (code : ℕ) → IsLifeRule s.rule code → paths.IsShown f (lives_in d f) s.subject.0 code s.walk s.point → IsShownIn d f s
+  undefined : s.other ≡ None → s.rule ≡ rule.Undefined → paths.IsShown f (accesses_of f) s.subject.0 1 s.walk s.point → IsShownIn d f s
+  kind : s.other ≡ None → s.walk ≡ [] → kinds.IsBroken d f s.rule s.subject s.point.block.0 s.point.index → IsShownIn d f s
+  life : s.other ≡ None → (code : ℕ) → IsLifeRule s.rule code → paths.IsShown f (lives_in d f) s.subject.0 code s.walk s.point → IsShownIn d f s
 
 -- of one value and rule: a rule on kinds by its point, one on walks by the number of edges
 abbrev pub last_key : Group → Showing → List ℕ
