@@ -4,3 +4,4 @@ pub mod SharedMarks
 pub mod Together
 pub mod FirstShown
 pub mod Touching
+pub mod OwnEntries

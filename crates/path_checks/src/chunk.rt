@@ -8,9 +8,11 @@ ghost use Rattle.path_patterns.specs.Switch.{mark_step};
 ghost use Rattle.path_checks.specs.Entries.{means, subject_step};
 ghost use Rattle.path_checks.specs.Shared as shared;
 ghost use Rattle.path_checks.specs.Shared.{entries_with, shared_if};
+ghost use Rattle.path_checks.specs.Order.{IsOrderOf};
 ghost use Rattle.path_checks.specs.Chunks.{IsRising, HasTouched};
 
 use crate::entry::Entry;
+use crate::order::entries_of;
 use crate::sharing::{is_sharing, mark_of};
 use path_patterns::{Mark, turn};
 use reach_engine::{Family, Step};
@@ -19,6 +21,7 @@ use reach_engine::{Family, Step};
 #[derive(Drop)]
 pub struct Chunk<'a> {
     pub entries: &'a [Vec<Entry>],
+    pub ordered: &'a [Vec<Entry>],
     pub marks: &'a [Option<Mark>],
     pub sharing: &'a [bool],
     pub first: usize,
@@ -28,6 +31,8 @@ pub struct Chunk<'a> {
     ghost few: { count ≤ 1024 },
     ghost fits: { first + count ≤ 2 ^ 32 },
     ghost size: { length touched.items ≡ length entries.now },
+    ghost ordered_size: { length ordered.now ≡ length entries.now },
+    ghost order: { (i : ℕ) → IsOrderOf (accesses_at entries.now i) (accesses_at ordered.now i) },
     ghost rising: { (i : ℕ) → IsRising count (accesses_at touched.items i) },
     ghost all: { (i : ℕ) → HasTouched first count (accesses_at entries.now i) (accesses_at touched.items i) },
     ghost together_rising: { IsRising count together.items },
@@ -79,19 +84,35 @@ fn step_shared(subject: usize, marks: &[Option<Mark>], shares: bool, state: u8) 
     }
 }
 
+/// The own entries of one item: those of the subject alone, if they stand in order.
+fn step_own(subject: usize, entries: &[Entry], ordered: &[Entry], state: u8) -> Step
+    requires order { IsOrderOf entries.now ordered.now }
+    requires state { state < 2 }
+    ensures step { result ≡ run (read_step mark_step (means subject)) (Go state) entries.now }
+    ensures stays { StaysBelow 2 result }
+{
+    if ordered.is_empty() {
+        step_all(subject, entries, state)
+    } else {
+        step_all(subject, entries_of(ordered, subject), state)
+    }
+}
+
 /// The own entries of one item, and then the shared ones.
 fn step_item(
     subject: usize,
     entries: &[Entry],
+    ordered: &[Entry],
     marks: &[Option<Mark>],
     shares: bool,
     state: u8,
 ) -> Step
-    requires { state < 2 }
+    requires order { IsOrderOf entries.now ordered.now }
+    requires state { state < 2 }
     ensures step { result ≡ run (read_step mark_step (means subject)) (Go state) (entries.now ++ shared_if marks.now shares) }
     ensures stays { StaysBelow 2 result }
 {
-    match step_all(subject, entries, state) {
+    match step_own(subject, entries, ordered, state) {
         Step::Go(next) => step_shared(subject, marks, shares, next),
         Step::Bad(code) => Step::Bad(code),
     }
@@ -125,6 +146,7 @@ impl Family for Chunk<'_> {
         step_item(
             self.first + subject,
             self.entries[item].as_slice(),
+            self.ordered[item].as_slice(),
             self.marks,
             shares,
             state,

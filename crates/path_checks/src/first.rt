@@ -4,18 +4,20 @@ ghost use Rattle.std.specs.Prelude.{◌≡◌, ℕ, ◌+◌, ◌<◌, ◌≤◌,
 ghost use Rattle.sil_cfg.specs.declared.item.Item.{Item};
 ghost use Rattle.sil_cfg.specs.Layout.{item_count};
 ghost use Rattle.sil_cfg.specs.Build.{IsGraphOf};
-ghost use Rattle.path_patterns.specs.Reads.{AgreesWith};
+ghost use Rattle.path_patterns.specs.Reads.{AgreesWith, accesses_at};
 ghost use Rattle.path_checks.specs.declared.entry.Entry as entry;
 ghost use Rattle.path_checks.specs.Chunks.{IsFirstOfChunk};
 ghost use Rattle.path_checks.specs.Shared.{entries_with};
+ghost use Rattle.path_checks.specs.Order.{IsOrderOf};
 ghost use Rattle.path_checks.specs.First.{IsFirst};
 
 use crate::chunk::Chunk;
 use crate::entry::{Entry, PathFault};
+use crate::order::ordered_entries;
 use crate::sharing::touched_by_sharing;
 use crate::touched::{subject_bound, touched_subjects};
 use path_patterns::Mark;
-use reach_engine::{FoundAll, search_all};
+use reach_engine::first_broken;
 use sil_ast::{Exhausted, Function};
 use sil_cfg::Graph;
 use std::alloc::Global;
@@ -28,12 +30,15 @@ fn first_of_chunk(
     alloc: Global,
     g: &Graph,
     entries: &[Vec<Entry>],
+    ordered: &[Vec<Entry>],
     marks: &[Option<Mark>],
     sharing: &[bool],
     first: usize,
     count: usize,
 ) -> Result<Option<PathFault>, Exhausted>
     requires items { length entries.now ≡ item_count g.now }
+    requires ordered_size { length ordered.now ≡ length entries.now }
+    requires order { (i : ℕ) → IsOrderOf (accesses_at entries.now i) (accesses_at ordered.now i) }
     requires few { count ≤ 1024 }
     requires fits { first + count ≤ 2 ^ 32 }
     ensures { IfOk result (IsFirstOfChunk g.now (entries_with entries.now marks.now sharing.now) first count) }
@@ -42,6 +47,7 @@ fn first_of_chunk(
     let together = touched_by_sharing(alloc, &touched, marks, sharing, first, count)?;
     let chunk = Chunk {
         entries,
+        ordered,
         marks,
         sharing,
         first,
@@ -49,18 +55,14 @@ fn first_of_chunk(
         touched,
         together,
     };
-    match search_all(alloc, g, &chunk)? {
-        FoundAll::Clean(_) => Ok(None),
-        FoundAll::Fault {
-            subject,
-            walk,
-            point,
-            code,
-        } => Ok(Some(PathFault {
-            subject: (first + subject) as u32,
-            code,
-            walk,
-            point,
+    match first_broken(alloc, g, &chunk)? {
+        None => Ok(None),
+        Some(broken) => Ok(Some(PathFault {
+            subject: (first + broken.subject) as u32,
+            code: broken.code,
+            walk: broken.walk,
+            point: g.point(broken.item),
+            item: g.item(broken.item),
         })),
     }
 }
@@ -81,11 +83,14 @@ pub fn first_fault(
     requires marks { length marks.now ≤ 2 ^ 32 }
     ensures { IfOk result (λ r. (table : Item → List entry.Entry) → AgreesWith g.now (entries_with entries.now marks.now sharing.now) table → IsFirst f.now table r) }
 {
+    let ordered = ordered_entries(alloc, entries)?;
     let subjects = subject_bound(entries, marks.len());
     let mut first = 0;
     while first < subjects {
         let count = CHUNK.min(subjects - first);
-        if let Some(fault) = first_of_chunk(alloc, g, entries, marks, sharing, first, count)? {
+        if let Some(fault) = first_of_chunk(
+            alloc, g, entries, &ordered, marks, sharing, first, count,
+        )? {
             return Ok(Some(fault));
         }
         first += count;

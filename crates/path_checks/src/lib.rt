@@ -5,6 +5,7 @@
 mod chunk;
 mod entry;
 mod first;
+mod order;
 mod sharing;
 mod touched;
 

@@ -6,7 +6,7 @@ use Rattle.sil_cfg.proofs.Gets.{length_push}
 use Rattle.path_patterns.specs.Reads.{accesses_at}
 use Rattle.path_checks.specs.declared.entry.Entry.{Entry}
 use Rattle.path_checks.specs.Chunks.{IsRising, HasTouched}
-use Rattle.path_checks.proofs.Accesses.{accesses_there, accesses_past, accesses_kept, accesses_last}
+use Rattle.path_checks.proofs.Accesses.{accesses_there, accesses_past, accesses_kept, accesses_last, accesses_more, accesses_each}
 use Rattle.path_checks.proofs.Touching.{rising_none, touched_none}
 use Rattle.path_checks.proofs.touched.touched_subjects.Goals as goal
 
@@ -19,14 +19,6 @@ rising_push count touched x h is i = at (cases_lt i (length touched)) (cases_eq 
     at (inr le) (inr n) = let past : length (touched ++ x ∷ []) ≤ i = (let l : length (touched ++ x ∷ []) ≡ length touched + 1 = length_push touched x in omega arith) in
         subst (IsRising count) (sym (accesses_past (touched ++ x ∷ []) i past)) (rising_none count)
 
-touched_more : (first count : ℕ) (entries : List (Vec Entry Global)) (touched : List (Vec ℕ Global)) (e : Vec Entry Global) (x : Vec ℕ Global) (n : ℕ) → n < length entries → length touched ≡ n → accesses_at entries n ≡ e.items →
-    ((i : ℕ) → i < n → HasTouched first count (accesses_at entries i) (accesses_at touched i)) → HasTouched first count e.items x.items → (i : ℕ) → i < n + 1 → HasTouched first count (accesses_at entries i) (accesses_at (touched ++ x ∷ []) i)
-touched_more first count entries touched e x n within size here h is i lt = at (cases_eq i n)
-  where
-    at : (i ≡ n) ⊎ (i ≢ n) → HasTouched first count (accesses_at entries i) (accesses_at (touched ++ x ∷ []) i)
-    at (inl same) = subst (HasTouched first count (accesses_at entries i)) (sym (accesses_last touched x i (same ∙ sym size))) (subst (λ (v : List Entry). HasTouched first count v x.items) (sym (ap (accesses_at entries) same ∙ here)) is)
-    at (inr ne) = subst (HasTouched first count (accesses_at entries i)) (sym (accesses_kept touched x i (omega arith))) (h i (omega arith))
-
 pub loop-item-preserved : goal.loop-item-preserved
 loop-item-preserved c =
     let here : accesses_at c.args.entries.now c.loop-item.item-index ≡ c.as_slice.result.now = accesses_there c.args.entries.now c.loop-item.item-index c.item-item.result (omega arith) c.item-item.is ∙ sym c.as_slice.ensures.value in
@@ -37,13 +29,9 @@ loop-item-preserved c =
     record {
       size = ap length new ∙ length_push c.loop-item.touched.items c.in_ok-touched_by.field-0 ∙ ap (λ n. n + 1) c.loop-item.invariant.size;
       rising = subst P (sym new) (rising_push c.args.count c.loop-item.touched.items c.in_ok-touched_by.field-0 c.loop-item.invariant.rising c.in_ok-touched_by.ensures.rising);
-      all = subst Q (sym new) (touched_more c.args.first c.args.count c.args.entries.now c.loop-item.touched.items c.item-item.result c.in_ok-touched_by.field-0 c.loop-item.item-index c.loop-item-test.true c.loop-item.invariant.size (here ∙ c.as_slice.ensures.value)
+      all = subst Q (sym new) (accesses_more (HasTouched c.args.first c.args.count) c.args.entries.now c.loop-item.touched.items c.item-item.result c.in_ok-touched_by.field-0 c.loop-item.item-index c.loop-item.invariant.size (here ∙ c.as_slice.ensures.value)
           c.loop-item.invariant.all (subst R c.as_slice.ensures.value c.in_ok-touched_by.ensures.all));
     }
 
 pub returns-clause-all : goal.returns-clause-all
-returns-clause-all c = λ i. at i (cases_lt i (length c.args.entries.now))
-  where
-    at : (i : ℕ) → (i < length c.args.entries.now) ⊎ (length c.args.entries.now ≤ i) → HasTouched c.args.first c.args.count (accesses_at c.args.entries.now i) (accesses_at c.loop-item.touched.items i)
-    at i (inl lt) = c.loop-item.invariant.all i (omega arith)
-    at i (inr le) = subst (λ (v : List Entry). HasTouched c.args.first c.args.count v (accesses_at c.loop-item.touched.items i)) (sym (accesses_past c.args.entries.now i le)) (touched_none c.args.first c.args.count (accesses_at c.loop-item.touched.items i))
+returns-clause-all c = accesses_each (HasTouched c.args.first c.args.count) c.args.entries.now c.loop-item.touched.items (c.loop-item.invariant.size ∙ omega arith) (λ i lt. c.loop-item.invariant.all i (omega arith)) (touched_none c.args.first c.args.count [])
