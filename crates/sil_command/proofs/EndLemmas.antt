@@ -7,7 +7,7 @@ use Rattle.sil_rules.specs.Statuses.{code_of}
 use Rattle.sil_command.specs.Texts.{read_fault_text}
 use Rattle.sil_command.specs.declared.words.Mode.{Mode}
 use Rattle.sil_command.specs.declared.words.Mode.TheVariants.{Check, Print}
-use Rattle.sil_command.specs.Answers.{Answers, usage, in_mode, AnswersText, too_long, unread, spelled, AnswersModule, AnswersCheck, item_refused, limit_passed, typing_refused, not_built, refused, accepted, AnswersPrint, printed}
+use Rattle.sil_command.specs.Answers.{Answers, usage, in_mode, AnswersText, too_long, unread, spelled, AnswersModule, AnswersCheck, limit_passed, not_built, refused, accepted, AnswersPrint, printed}
 use Rattle.sil_command.specs.Ends.{Call, Ends, answered, read_failed, exhausted, whole, front, WritesAnswer, Exhausts, WritesWhole, WritesFrontOfAnswer, IsStatus}
 use Rattle.sil_command.proofs.Unread.{unread_status}
 
@@ -32,12 +32,10 @@ eleven_is : IsAnswerStatus (code_of NotBuilt)
 eleven_is = inr (inr (inr (inr (inr refl))))
 
 check_status : (m : Module) (answer : List ℕ) (status : ℕ) → AnswersCheck m answer status → IsAnswerStatus status
-check_status m _ _ (item_refused r item refusal) = one_is
-check_status m _ _ (limit_passed what refusal) = eight_is
-check_status m _ _ (typing_refused fault refusal) = one_is
+check_status m _ _ (refused x first rule built) = one_is
+check_status m _ _ (limit_passed what first) = eight_is
 check_status m _ _ (not_built types other) = eleven_is
-check_status m _ _ (refused function fault first types built) = one_is
-check_status m _ _ (accepted types built kept) = zero_is
+check_status m _ _ (accepted all built) = zero_is
 
 print_status : (m : Module) (answer : List ℕ) (status : ℕ) → AnswersPrint m answer status → IsAnswerStatus status
 print_status m _ _ printed = zero_is

@@ -1,6 +1,6 @@
 pub mod AnswerLemmas
-pub mod DeclaredTypes
 pub mod EndLemmas
 pub mod ReadBackLemmas
+pub mod RefusalLemmas
 pub mod StatusLemmas
 pub mod Unread

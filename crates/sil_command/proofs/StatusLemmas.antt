@@ -10,16 +10,11 @@ use Rattle.sil_rules.specs.Statuses.{code_of}
 use Rattle.sil_command.specs.declared.words.Mode.{Mode}
 use Rattle.sil_command.specs.declared.words.Mode.TheVariants.{Check, Print}
 use Rattle.sil_command.specs.Words.{AsksFor, word_of}
-use Rattle.sil_command.specs.Answers.{Answers, usage, in_mode, AnswersExactly, AnswersText, too_long, unread, spelled, AnswersModule, AnswersCheck, item_refused, limit_passed, typing_refused, not_built, refused, accepted, AnswersPrint, printed, AreAcceptedExactly, AreNotBuiltExactly, ArePrintedExactly}
-use Rattle.sil_cfg.specs.declared.fault.RuleFault.{RuleFault}
+use Rattle.sil_command.specs.Answers.{Answers, usage, in_mode, AnswersExactly, AnswersText, too_long, unread, spelled, AnswersModule, AnswersCheck, limit_passed, not_built, refused, accepted, AnswersPrint, printed, AreAcceptedExactly, AreNotBuiltExactly, ArePrintedExactly}
+use Rattle.sil_verifier.specs.Findings.{Accepted, limit as found_limit}
+use Rattle.sil_verifier.specs.Laws.{AreAcceptedWhereNothingIsFound, AreTypedWhereOnlyValuesAreFound}
 use Rattle.sil_verifier.specs.Refusals.{HasTypes}
-use Rattle.sil_verifier.specs.Values.{AcceptedValues, IsFirstOf}
-use Rattle.sil_command.proofs.DeclaredTypes.{declared_not_refused, typed_not_wrong}
 use Rattle.sil_command.proofs.Unread.{unread_none, unread_status}
-
--- a module whose values keep the rules has no first that is broken
-kept_not_refused : (m : Module) (n : ℕ) (fault : RuleFault) → AcceptedValues m → IsFirstOf m n fault → ⊥
-kept_not_refused m n fault kept first = kept (record { function = n; showing = first.showing }) first.least.shown
 
 different_words : word_of Check ∷ [] ≡ word_of Print ∷ [] → ⊥
 different_words e =
@@ -64,30 +59,26 @@ module _ (once : AreSpelledOnce) (mode : Mode) (wanted : ℕ) (IsSuch : Module �
       let of_mode : AnswersText mode text answer status = mode_answers words mode text answer status asks answers in
       (spelled_wanted text answer status within of_mode, wanted_spelled text answer status of_mode)
 
-accepted_done : (m : Module) (answer : List ℕ) (status : ℕ) → AnswersCheck m answer status → (HasTypes m × IsBuilt m × AcceptedValues m) ↔ (status ≡ code_of Done)
-accepted_done m _ _ (item_refused r item refusal) = (λ known. absurd (declared_not_refused m _ known.0.declared refusal.shown), λ zero. absurd (omega arith))
-accepted_done m _ _ (limit_passed what refusal) = (λ known. absurd (declared_not_refused m _ known.0.declared refusal.shown), λ zero. absurd (omega arith))
-accepted_done m _ _ (typing_refused fault refusal) = (λ known. absurd (typed_not_wrong m fault known.0 refusal.1.shown), λ zero. absurd (omega arith))
-accepted_done m _ _ (not_built types other) = (λ known. absurd (other known.1), λ zero. absurd (omega arith))
-accepted_done m _ _ (refused function fault first types built) = (λ known. absurd (kept_not_refused m function.0 fault known.2 first), λ zero. absurd (omega arith))
-accepted_done m _ _ (accepted types built kept) = (λ known. refl, λ zero. (types, built, kept))
+accepted_done : AreAcceptedWhereNothingIsFound → (m : Module) (answer : List ℕ) (status : ℕ) → AnswersCheck m answer status → (Accepted m × IsBuilt m) ↔ (status ≡ code_of Done)
+accepted_done law m _ _ (refused x first rule built) = (λ known. absurd ((law m).0 known.0 x first.shown), λ zero. absurd (omega arith))
+accepted_done law m _ _ (limit_passed what first) = (λ known. absurd ((law m).0 known.0 (found_limit what) first.shown), λ zero. absurd (omega arith))
+accepted_done law m _ _ (not_built types other) = (λ known. absurd (other known.1), λ zero. absurd (omega arith))
+accepted_done law m _ _ (accepted all built) = (λ known. refl, λ zero. (all, built))
 
-not_built_else : (m : Module) (answer : List ℕ) (status : ℕ) → AnswersCheck m answer status → (HasTypes m × (IsBuilt m → ⊥)) ↔ (status ≡ code_of NotBuilt)
-not_built_else m _ _ (item_refused r item refusal) = (λ known. absurd (declared_not_refused m _ known.0.declared refusal.shown), λ eleven. absurd (omega arith))
-not_built_else m _ _ (limit_passed what refusal) = (λ known. absurd (declared_not_refused m _ known.0.declared refusal.shown), λ eleven. absurd (omega arith))
-not_built_else m _ _ (typing_refused fault refusal) = (λ known. absurd (typed_not_wrong m fault known.0 refusal.1.shown), λ eleven. absurd (omega arith))
-not_built_else m _ _ (not_built types other) = (λ known. refl, λ eleven. (types, other))
-not_built_else m _ _ (refused function fault first types built) = (λ known. absurd (known.1 built), λ eleven. absurd (omega arith))
-not_built_else m _ _ (accepted types built kept) = (λ known. absurd (known.1 built), λ eleven. absurd (omega arith))
+not_built_else : AreTypedWhereOnlyValuesAreFound → (m : Module) (answer : List ℕ) (status : ℕ) → AnswersCheck m answer status → (HasTypes m × (IsBuilt m → ⊥)) ↔ (status ≡ code_of NotBuilt)
+not_built_else law m _ _ (refused x first rule built) = (λ known. absurd ((law m).0 known.0 x (λ of. known.1 (built of)) first.shown), λ eleven. absurd (omega arith))
+not_built_else law m _ _ (limit_passed what first) = (λ known. absurd ((law m).0 known.0 (found_limit what) (λ of. of) first.shown), λ eleven. absurd (omega arith))
+not_built_else law m _ _ (not_built types other) = (λ known. refl, λ eleven. (types, other))
+not_built_else law m _ _ (accepted all built) = (λ known. absurd (known.1 built), λ eleven. absurd (omega arith))
 
 printed_done : (m : Module) (answer : List ℕ) (status : ℕ) → AnswersPrint m answer status → ⊤ ↔ (status ≡ code_of Done)
 printed_done m _ _ printed = (λ known. refl, λ zero. tt)
 
-pub accepted_exactly : AreSpelledOnce → AreAcceptedExactly
-accepted_exactly once = answers_exactly once Check (code_of Done) (λ m. HasTypes m × IsBuilt m × AcceptedValues m) accepted_done (λ e. omega arith, λ e. omega arith)
+pub accepted_exactly : AreSpelledOnce → AreAcceptedWhereNothingIsFound → AreAcceptedExactly
+accepted_exactly once law = answers_exactly once Check (code_of Done) (λ m. Accepted m × IsBuilt m) (accepted_done law) (λ e. omega arith, λ e. omega arith)
 
-pub not_built_exactly : AreSpelledOnce → AreNotBuiltExactly
-not_built_exactly once = answers_exactly once Check (code_of NotBuilt) (λ m. HasTypes m × (IsBuilt m → ⊥)) not_built_else (λ e. omega arith, λ e. omega arith)
+pub not_built_exactly : AreSpelledOnce → AreTypedWhereOnlyValuesAreFound → AreNotBuiltExactly
+not_built_exactly once law = answers_exactly once Check (code_of NotBuilt) (λ m. HasTypes m × (IsBuilt m → ⊥)) (not_built_else law) (λ e. omega arith, λ e. omega arith)
 
 pub printed_exactly : AreSpelledOnce → ArePrintedExactly
 printed_exactly once = answers_exactly once Print (code_of Done) (λ m. ⊤) printed_done (λ e. omega arith, λ e. omega arith)

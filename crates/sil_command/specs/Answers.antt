@@ -1,40 +1,31 @@
 -- The answer to a command line and a text: the bytes that are written, and the status.
 use Rattle.std.specs.Prelude.{◌≡◌, ◌↔◌, ℕ, ◌<◌, ◌≤◌, List, length, ⊤}
 use Rattle.sil_ast.specs.declared.module.Module.{Module}
-use Rattle.sil_ast.specs.declared.place.FuncId.{FuncId}
-use Rattle.sil_cfg.specs.declared.fault.RuleFault.{RuleFault}
 use Rattle.sil_grammar.specs.declared.refusal.ReadRefusal.{ReadRefusal}
 use Rattle.sil_grammar.specs.Refusals.{IsRefusalOf}
 use Rattle.sil_grammar.specs.Spells.{Spells}
 use Rattle.sil_printer.specs.CanonicalModules.{canonical_text}
 use Rattle.sil_rules.specs.declared.limit_word.LimitWord.{LimitWord}
 use Rattle.sil_rules.specs.declared.limits.TheConstants.{TEXT_BYTES}
-use Rattle.sil_rules.specs.declared.rule.Rule.{Rule}
 use Rattle.sil_rules.specs.declared.status.Status.TheVariants.{Done, Refused, Usage, Limit, NotBuilt}
 use Rattle.sil_rules.specs.Statuses.{code_of}
 use Rattle.built_form.specs.Built.{IsBuilt}
-use Rattle.sil_verifier.specs.Refusals as types
+use Rattle.sil_verifier.specs.Findings.{Accepted, Finding, IsLimit, IsOfValues, Refusal, limit}
 use Rattle.sil_verifier.specs.Refusals.{HasTypes}
-use Rattle.sil_verifier.specs.Values.{AcceptedValues, IsFirstOf}
-use Rattle.sil_verifier.specs.declared.refusal.StaticRefusal.TheVariants as static
-use Rattle.type_check.specs.declared.fault.TypingFault.{TypingFault}
 use Rattle.sil_command.specs.declared.words.Mode.{Mode}
 use Rattle.sil_command.specs.declared.words.Mode.TheVariants.{Check, Print}
 use Rattle.sil_command.specs.Words.{AsksFor, IsCommandLine}
 use Rattle.sil_command.specs.Reading.{AnswersRefusal}
-use Rattle.sil_command.specs.Texts.{usage_text, limit_text, refused_item_text, typing_text, type_limit_text, not_built_text, accepted_text}
-use Rattle.sil_command.specs.ValueTexts.{value_text}
+use Rattle.sil_command.specs.Texts.{usage_text, limit_text, type_limit_text, not_built_text, accepted_text}
+use Rattle.sil_command.specs.RefusalTexts.{refusal_text}
 
--- what `check` answers to a module: the first that is wrong with its items, its types or its typing; or else that it isn't of the form
--- which the checks of values know; or else the first broken rule on its values, or that it is accepted
+-- what `check` answers to a module: the first that is wrong with it; but before a broken rule on values that it isn't of the form which
+-- the checks of values know; or else that it is accepted
 pub data AnswersCheck (m : Module) : List ℕ → ℕ → Type 0 where
-  item_refused : (r : Rule) (item : ℕ) → types.IsRefusal m (static.Item r item) → AnswersCheck m (refused_item_text r item) (code_of Refused)
-  limit_passed : (what : LimitWord) → types.IsRefusal m (static.Limit what) → AnswersCheck m (type_limit_text what) (code_of Limit)
-  typing_refused : (fault : TypingFault) → types.IsRefusal m (static.Typing fault) → AnswersCheck m (typing_text m fault) (code_of Refused)
+  refused : (x : Finding) → Refusal m x → (IsLimit x → ⊥) → (IsOfValues x → IsBuilt m) → AnswersCheck m (refusal_text m x) (code_of Refused)
+  limit_passed : (what : LimitWord) → Refusal m (limit what) → AnswersCheck m (type_limit_text what) (code_of Limit)
   not_built : HasTypes m → (IsBuilt m → ⊥) → AnswersCheck m not_built_text (code_of NotBuilt)
-  refused : (function : FuncId) (fault : RuleFault) → IsFirstOf m function.0 fault → HasTypes m → IsBuilt m
-      → AnswersCheck m (value_text m function.0 fault) (code_of Refused)
-  accepted : HasTypes m → IsBuilt m → AcceptedValues m → AnswersCheck m accepted_text (code_of Done)
+  accepted : Accepted m → IsBuilt m → AnswersCheck m accepted_text (code_of Done)
 
 -- what `print` answers to a module: its canonical text, whatever rules it breaks
 pub data AnswersPrint (m : Module) : List ℕ → ℕ → Type 0 where
@@ -64,9 +55,9 @@ AnswersExactly mode wanted IsSuch =
     (words : List (List ℕ)) (text answer : List ℕ) (status : ℕ) → AsksFor words mode → length text ≤ TEXT_BYTES → Answers words text answer status
     → ((m : Module) × Spells m text × IsSuch m) ↔ (status ≡ wanted)
 
--- `check` answers Done just for the texts that spell a typed module of the built form whose values keep the rules
+-- `check` answers Done just for the texts that spell an accepted module of the built form
 abbrev pub AreAcceptedExactly : Type 0
-AreAcceptedExactly = AnswersExactly Check (code_of Done) (λ m. HasTypes m × IsBuilt m × AcceptedValues m)
+AreAcceptedExactly = AnswersExactly Check (code_of Done) (λ m. Accepted m × IsBuilt m)
 
 -- and NotBuilt just for those that spell a typed module that isn't of the built form
 abbrev pub AreNotBuiltExactly : Type 0

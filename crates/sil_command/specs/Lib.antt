@@ -4,3 +4,4 @@ pub mod Reading
 pub mod Answers
 pub mod Ends
 pub mod ValueTexts
+pub mod RefusalTexts

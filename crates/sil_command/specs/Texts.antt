@@ -1,5 +1,6 @@
 -- What the command writes, line by line.
-use Rattle.std.specs.Prelude.{ℕ, ◌+◌, List, [], ◌∷◌, ◌++◌, Option, Some, None, length, slice_get, unwrap_or, codes, decimal}
+use Rattle.std.specs.Prelude.{ℕ, List, [], ◌∷◌, ◌++◌, Option, Some, None, slice_get, codes, decimal}
+use Rattle.std.specs.Option.{option_map}
 use Rattle.sil_ast.specs.declared.function.Function.{Function}
 use Rattle.sil_ast.specs.declared.module.Module.{Module}
 use Rattle.sil_ast.specs.declared.place.FuncId.{FuncId}
@@ -10,6 +11,7 @@ use Rattle.sil_rules.specs.declared.rule.Rule.{Rule}
 use Rattle.sil_rules.specs.LimitWords.{word_of}
 use Rattle.sil_rules.specs.Rules.{number_of, name_of}
 use Rattle.type_check.specs.declared.fault.TypingFault.{TypingFault}
+use Rattle.sil_verifier.specs.Reports.{vtable_item}
 
 -- the bytes, and a line feed
 abbrev pub line : List ℕ → List ℕ
@@ -46,10 +48,6 @@ passed_limit_text what place = line (codes "limit " ++ word_of what ++ place_wor
 abbrev pub rule_words : Rule → List ℕ
 rule_words r = codes "refused " ++ decimal (number_of r) ++ codes " " ++ name_of r
 
--- the rule, and the item by its number, from 0 over declarations, functions and vtables, in that order
-abbrev pub refused_item_text : Rule → ℕ → List ℕ
-refused_item_text r item = line (rule_words r ++ codes " item " ++ decimal item)
-
 -- a point: its block, and the index in it
 abbrev pub typed_point_words : Option PointId → List ℕ
 typed_point_words None = []
@@ -63,17 +61,22 @@ name_found (Some f) = f.name
 abbrev pub name_at : Module → ℕ → List ℕ
 name_at m n = name_found (slice_get m.functions n)
 
--- the number of a vtable among declarations, functions and vtables
-abbrev pub vtable_item : Module → Option ℕ → ℕ
-vtable_item m v = length m.decls + (length m.functions + unwrap_or v 0)
+-- an item by its number, from 0 over declarations, functions and vtables, in that order
+abbrev pub item_words : Option ℕ → List ℕ
+item_words None = []
+item_words (Some n) = codes " item " ++ decimal n
 
-abbrev pub site_words : Module → Option FuncId → TypingFault → List ℕ
-site_words m None f = codes " item " ++ decimal (vtable_item m f.vtable)
-site_words m (Some n) f = codes " @" ++ name_at m n.0 ++ typed_point_words f.point
+abbrev pub site_words : Module → Option FuncId → Option ℕ → Option PointId → List ℕ
+site_words m None item point = item_words item
+site_words m (Some n) item point = codes " @" ++ name_at m n.0 ++ typed_point_words point
+
+-- the rule, and the item
+abbrev pub refused_item_text : Rule → ℕ → List ℕ
+refused_item_text r item = line (rule_words r ++ item_words (Some item))
 
 -- the rule, and the function, with the point where there is one; or the vtable as an item
 abbrev pub typing_text : Module → TypingFault → List ℕ
-typing_text m f = line (rule_words f.rule ++ site_words m f.function f)
+typing_text m f = line (rule_words f.rule ++ site_words m f.function (option_map (vtable_item m) f.vtable) f.point)
 
 -- the limit that a type is past, which has no place
 abbrev pub type_limit_text : LimitWord → List ℕ

@@ -1,35 +1,21 @@
 -- The lines of a broken rule on values.
-use Rattle.std.specs.Prelude.{ℕ, List, [], ◌∷◌, ◌++◌, Option, Some, None, ◌==◌, slice_get, codes, decimal, if◌then◌else◌}
+use Rattle.std.specs.Prelude.{ℕ, List, [], ◌∷◌, ◌++◌, Option, Some, None, slice_get, codes, decimal}
 use Rattle.sil_ast.specs.declared.function.Function.{Function}
 use Rattle.sil_ast.specs.declared.module.Module.{Module}
 use Rattle.sil_ast.specs.declared.place.EdgeId.{EdgeId}
 use Rattle.sil_ast.specs.declared.place.ValueId.{ValueId}
 use Rattle.sil_cfg.specs.Flow.{edge_to}
 use Rattle.sil_cfg.specs.Items.{flow_of}
-use Rattle.sil_cfg.specs.declared.fault.RuleFault.{RuleFault}
 use Rattle.sil_rules.specs.Rules.{group_of}
 use Rattle.sil_rules.specs.declared.group.Group.{Group}
 use Rattle.sil_rules.specs.declared.group.Group.TheVariants as group
 use Rattle.sil_rules.specs.declared.rule.Rule.{Rule}
-use Rattle.sil_rules.specs.declared.rule.Rule.TheVariants as rule
+use Rattle.sil_verifier.specs.Shown.{Showing}
 use Rattle.sil_command.specs.Texts.{line, name_at, rule_words, typed_point_words}
 
--- the rule on values with this number
-abbrev pub rule_numbered : ℕ → Rule
-rule_numbered n =
-    if n == 301 then rule.Undefined
-    else if n == 302 then rule.CyclicForwarding
-    else if n == 303 then rule.MixedForwarding
-    else if n == 304 then rule.KindMismatch
-    else if n == 305 then rule.ArgumentKind
-    else if n == 401 then rule.UseAfterConsume
-    else if n == 402 then rule.DoubleConsume
-    else if n == 403 then rule.Leak
-    else rule.Overwritten
-
 -- the rule, the function and the point
-abbrev pub first_line : Module → ℕ → RuleFault → List ℕ
-first_line m n x = line (rule_words (rule_numbered x.rule) ++ codes " @" ++ name_at m n ++ typed_point_words (Some x.point))
+abbrev pub first_line : Module → ℕ → Showing → List ℕ
+first_line m n s = line (rule_words s.rule ++ codes " @" ++ name_at m n ++ typed_point_words (Some s.point))
 
 abbrev pub subject_line : ValueId → List ℕ
 subject_line v = line (codes "subject %" ++ decimal v.0)
@@ -63,7 +49,10 @@ walk_lines group.Lifetimes f es = walk_line f es
 walk_lines group.Scopes f es = walk_line f es
 walk_lines group.Memory f es = walk_line f es
 
--- the rule and the point, then the value, then another value that takes part, then the walk
-abbrev pub value_text : Module → ℕ → RuleFault → List ℕ
-value_text m n x =
-    first_line m n x ++ (subject_line x.subject ++ (other_lines x.other ++ walk_lines (group_of (rule_numbered x.rule)) (slice_get m.functions n) x.walk))
+-- the value, then another one that takes part, then the walk
+abbrev pub shown_lines : ValueId → Option ValueId → Rule → Option Function → List EdgeId → List ℕ
+shown_lines v other r f es = subject_line v ++ (other_lines other ++ walk_lines (group_of r) f es)
+
+-- the rule and the point, and behind it what is shown
+abbrev pub value_text : Module → ℕ → Showing → List ℕ
+value_text m n s = first_line m n s ++ shown_lines s.subject s.other s.rule (slice_get m.functions n) s.walk

@@ -4,13 +4,15 @@ ghost use Rattle.sil_command.specs.Answers.{AreAcceptedExactly, AreNotBuiltExact
 
 use printed_reading_laws::printed_modules_are_spelled;
 use sil_grammar::{spelled_modules_are_numbered, spelled_once};
+use sil_verifier::accepted_where_nothing_is_found;
 
-/// `check` answers a text that spells a typed module of the built form whose values keep the rules with status 0, and one that is
-/// answered so spells such a module.
+/// `check` answers a text that spells an accepted module of the built form with status 0, and one that is answered so spells such a
+/// module.
 pub fn accepted_exactly()
     ensures { AreAcceptedExactly }
 {
     spelled_once();
+    accepted_where_nothing_is_found();
 }
 
 /// `check` answers a text that spells a typed module that isn't of the built form with status 11, and one that is answered so
@@ -19,6 +21,7 @@ pub fn not_built_exactly()
     ensures { AreNotBuiltExactly }
 {
     spelled_once();
+    accepted_where_nothing_is_found();
 }
 
 /// `print` answers a text that spells a module with status 0, and one that is answered so spells a module.

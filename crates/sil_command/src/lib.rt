@@ -5,11 +5,11 @@
 mod answer;
 mod laws;
 mod reading;
+mod refusal_lines;
 mod texts;
 mod top_call;
-mod types;
-mod typing_lines;
 mod value_lines;
+mod verified;
 mod words;
 
 pub use laws::{accepted_exactly, not_built_exactly, printed_exactly, printed_texts_read_back};

@@ -1,7 +1,7 @@
 //! The lines of answers, made from typed values. Nothing is decided here.
 
 ghost use Rattle.std.specs.Prelude.{◌≡◌, ◌∷◌, [], ◌++◌, IfOk, OnOk, decimal};
-ghost use Rattle.sil_command.specs.Texts.{usage_text, limit_text, read_fault_text, accepted_text, not_built_text, place_words, not_a_module_text, passed_limit_text, rule_words, refused_item_text, type_limit_text};
+ghost use Rattle.sil_command.specs.Texts.{usage_text, limit_text, read_fault_text, accepted_text, not_built_text, place_words, not_a_module_text, passed_limit_text, rule_words, type_limit_text};
 
 use sil_ast::{Exhausted, Place};
 use sil_rules::{LimitWord, Rule};
@@ -90,18 +90,6 @@ pub(crate) fn push_rule(out: &mut Vec<u8>, rule: Rule) -> Result<(), Exhausted>
     out.push(b' ')?;
     out.extend_from_slice(rule.name())?;
     Ok(())
-}
-
-/// The line of a refused item: the rule, and the item's number.
-pub fn refused_item(alloc: Global, rule: Rule, item: u32) -> Result<Vec<u8>, Exhausted>
-    ensures { IfOk result (λ text. text.items ≡ refused_item_text rule item) }
-{
-    let mut out = Vec::new(alloc);
-    push_rule(&mut out, rule)?;
-    out.extend_from_slice(b" item ")?;
-    push_number(&mut out, item)?;
-    out.push(b'\n')?;
-    Ok(out)
 }
 
 /// The line for a module with a type past a limit, which has no place.

@@ -1,34 +1,15 @@
-//! The lines of a broken rule on values: the rule and the point, the value, and the walk that shows it.
+//! The lines on a value that stand behind a refusal: the value, another one that takes part, and the walk that shows it.
 
-ghost use Rattle.std.specs.Prelude.{◌≡◌, ◌++◌, slice_get, IfOk, OnOk};
+ghost use Rattle.std.specs.Prelude.{◌≡◌, ◌++◌, OnOk};
+ghost use Rattle.std.specs.Option.{option_copied};
 ghost use Rattle.sil_cfg.specs.Flow.{edge_to};
 ghost use Rattle.sil_cfg.specs.Items.{flow_of};
 ghost use Rattle.sil_rules.specs.Rules.{group_of};
-ghost use Rattle.sil_command.specs.ValueTexts.{first_line, other_lines, rule_numbered, subject_line, value_text, walk_line, walk_lines, walk_words};
+ghost use Rattle.sil_command.specs.ValueTexts.{other_lines, shown_lines, subject_line, walk_line, walk_lines, walk_words};
 
-use crate::texts::{push_number, push_rule};
-use crate::typing_lines::{name_of, push_point};
-use sil_ast::{EdgeId, Exhausted, FuncId, Function, Module, ValueId};
-use sil_cfg::RuleFault;
+use crate::texts::push_number;
+use sil_ast::{EdgeId, Exhausted, Function, ValueId};
 use sil_rules::{Group, Rule};
-use std::alloc::Global;
-
-/// The rule on values with this number.
-pub(crate) fn rule_of(number: u16) -> Rule
-    ensures { result ≡ rule_numbered number }
-{
-    match number {
-        301 => Rule::Undefined,
-        302 => Rule::CyclicForwarding,
-        303 => Rule::MixedForwarding,
-        304 => Rule::KindMismatch,
-        305 => Rule::ArgumentKind,
-        401 => Rule::UseAfterConsume,
-        402 => Rule::DoubleConsume,
-        403 => Rule::Leak,
-        _ => Rule::Overwritten,
-    }
-}
 
 /// The number of the block that an edge goes to.
 fn target_of(f: &Function, edge: EdgeId) -> u32
@@ -54,16 +35,11 @@ fn push_blocks(out: &mut Vec<u8>, f: &Function, walk: &[EdgeId]) -> Result<(), E
 }
 
 /// The line of the walk, which visits the entry first.
-fn push_walk(
-    out: &mut Vec<u8>,
-    m: &Module,
-    function: FuncId,
-    walk: &[EdgeId],
-) -> Result<(), Exhausted>
-    ensures { OnOk result (out.new.items ≡ out.old.items ++ walk_line (slice_get m.now.functions function.0) walk.now) }
+fn push_walk(out: &mut Vec<u8>, f: Option<&Function>, walk: &[EdgeId]) -> Result<(), Exhausted>
+    ensures { OnOk result (out.new.items ≡ out.old.items ++ walk_line (option_copied f) walk.now) }
 {
     out.extend_from_slice(b"walk bb0")?;
-    if let Some(f) = m.functions.get(function.0 as usize) {
+    if let Some(f) = f {
         push_blocks(out, f, walk)?;
     }
     out.push(b'\n')?;
@@ -74,15 +50,14 @@ fn push_walk(
 fn push_walk_of(
     out: &mut Vec<u8>,
     rule: Rule,
-    m: &Module,
-    function: FuncId,
+    f: Option<&Function>,
     walk: &[EdgeId],
 ) -> Result<(), Exhausted>
-    ensures { OnOk result (out.new.items ≡ out.old.items ++ walk_lines (group_of rule) (slice_get m.now.functions function.0) walk.now) }
+    ensures { OnOk result (out.new.items ≡ out.old.items ++ walk_lines (group_of rule) (option_copied f) walk.now) }
 {
     match rule.group() {
         Group::Kinds => Ok(()),
-        _ => push_walk(out, m, function, walk),
+        _ => push_walk(out, f, walk),
     }
 }
 
@@ -106,41 +81,18 @@ fn push_other(out: &mut Vec<u8>, other: Option<ValueId>) -> Result<(), Exhausted
     Ok(())
 }
 
-fn push_first(
+/// The lines on a value of which the rule is broken in the function.
+pub(crate) fn push_shown(
     out: &mut Vec<u8>,
-    m: &Module,
-    function: FuncId,
-    fault: &RuleFault,
+    subject: ValueId,
+    other: Option<ValueId>,
+    rule: Rule,
+    f: Option<&Function>,
+    walk: &[EdgeId],
 ) -> Result<(), Exhausted>
-    ensures { OnOk result (out.new.items ≡ out.old.items ++ first_line m.now function.0 fault.now) }
+    ensures { OnOk result (out.new.items ≡ out.old.items ++ shown_lines subject other rule (option_copied f) walk.now) }
 {
-    push_rule(out, rule_of(fault.rule))?;
-    out.extend_from_slice(b" @")?;
-    out.extend_from_slice(name_of(m, function.0))?;
-    push_point(out, Some(fault.point))?;
-    out.push(b'\n')?;
-    Ok(())
-}
-
-/// The lines of a broken rule on values.
-pub(crate) fn value(
-    alloc: Global,
-    m: &Module,
-    function: FuncId,
-    fault: &RuleFault,
-) -> Result<Vec<u8>, Exhausted>
-    ensures { IfOk result (λ text. text.items ≡ value_text m.now function.0 fault.now) }
-{
-    let mut out = Vec::new(alloc);
-    push_first(&mut out, m, function, fault)?;
-    push_subject(&mut out, fault.subject)?;
-    push_other(&mut out, fault.other)?;
-    push_walk_of(
-        &mut out,
-        rule_of(fault.rule),
-        m,
-        function,
-        fault.walk.as_slice(),
-    )?;
-    Ok(out)
+    push_subject(out, subject)?;
+    push_other(out, other)?;
+    push_walk_of(out, rule, f, walk)
 }

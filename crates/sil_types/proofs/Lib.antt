@@ -1,1 +1,1 @@
-mod FirstRefusals
+pub mod FirstRefusals

@@ -1,5 +1,5 @@
 -- Modules of which no rule on values is broken, and why another is refused.
-use Rattle.std.specs.Prelude.{◌≡◌, ℕ, List, ◌++◌, None, Some, slice_get, ⊤}
+use Rattle.std.specs.Prelude.{◌≡◌, ℕ, List, ◌++◌, Some, slice_get, ⊤}
 use Rattle.sil_ast.specs.declared.function.Function.{Function}
 use Rattle.sil_ast.specs.declared.module.Module.{Module}
 use Rattle.sil_cfg.specs.declared.fault.RuleEnd.{RuleEnd}
@@ -37,11 +37,11 @@ showing_key p = subject_key p.function p.showing.subject.0 p.showing.rule ++ las
 abbrev pub AcceptedValues : Module → Type 0
 AcceptedValues m = (p : ModuleShowing) → IsShown m p → ⊥
 
--- what is shown is reported so; another value that takes part is none of these rules'
+-- what is shown is reported so
 pub record IsReportOf (s : Showing) (x : RuleFault) : Type 0 where
   pub rule : x.rule ≡ number_of s.rule
   pub subject : x.subject ≡ s.subject
-  pub other : x.other ≡ None
+  pub other : x.other ≡ s.other
   pub point : x.point ≡ s.point
   pub walk : x.walk ≡ s.walk
 

@@ -2,12 +2,17 @@
 //! How a rule is decided, and how a refusal is written, isn't said here.
 #![tactic(auto)]
 
+mod checked;
+mod laws;
 mod lowered;
 mod refusal;
+mod reports;
 mod types;
 mod typing;
 mod values;
+mod verifier;
 
-pub use refusal::StaticRefusal;
-pub use types::check_types;
-pub use values::{ValueRefusal, check_values};
+pub use checked::Checked;
+pub use laws::accepted_where_nothing_is_found;
+pub use refusal::Refusal;
+pub use verifier::{VerifyEnd, verify};

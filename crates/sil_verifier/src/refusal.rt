@@ -1,29 +1,22 @@
-//! Why a module is refused before any value is looked at.
+//! Why a module is refused by a rule.
 
-ghost use Rattle.std.specs.Prelude.{◌≡◌};
-ghost use Rattle.sil_verifier.specs.declared.refusal.StaticRefusal.TheVariants.{Memory};
+use sil_ast::{EdgeId, FuncId, List, PointId, ValueId};
+use sil_rules::Rule;
 
-use sil_ast::Exhausted;
-use sil_rules::{LimitWord, Rule};
-use type_check::TypingFault;
-
-/// Why a module is refused before any value is looked at.
-#[derive(Clone, Copy, Debug, PartialEq, Eq)]
-pub enum StaticRefusal {
-    /// An item breaks one of 101 to 104. Items are numbered from 0 over declarations, functions and vtables, in that order.
-    Item { rule: Rule, item: u32 },
-    /// A type exceeds the limit on depth or on leaves.
-    Limit { what: LimitWord },
-    /// One of 201 to 212 is broken.
-    Typing { fault: TypingFault },
-    /// There is no memory left.
-    Memory,
-}
-
-impl From<Exhausted> for StaticRefusal {
-    ghost from_gives = { λ _ e. e ≡ Memory };
-
-    fn from(_exhausted: Exhausted) -> StaticRefusal {
-        StaticRefusal::Memory
-    }
+/// The first rule that a module breaks, and where.
+#[derive(Drop)]
+pub struct Refusal {
+    pub rule: Rule,
+    /// Of 101 to 104 and 208 the item. Items are numbered from 0 over declarations, functions and vtables, in that order.
+    pub item: Option<u32>,
+    /// Of all others the function.
+    pub function: Option<FuncId>,
+    /// The point in it, unless the rule is about the function itself.
+    pub point: Option<PointId>,
+    /// Of 301 to 611 the value of which the rule is broken.
+    pub subject: Option<ValueId>,
+    /// The other value that takes part, for those rules that have one.
+    pub other: Option<ValueId>,
+    /// The edges from the entry to the point; empty for a rule that speaks of no walk.
+    pub walk: List<EdgeId>,
 }

@@ -17,7 +17,7 @@ use std::alloc::Global;
 
 /// Why a module is refused whose items, types and typing are right.
 #[derive(Drop)]
-pub enum ValueRefusal {
+pub(crate) enum ValueRefusal {
     /// One of 301 to 305 and 401 to 404 is broken in the function.
     Rule { function: FuncId, fault: RuleFault },
     /// There is no memory left.
@@ -69,7 +69,11 @@ fn check_numbered(
 /// Checks of all functions with a body that each value is defined before it is used (301), that its kind is one that is taken
 /// (302 to 305), and that it is used and ended only while it lives (401 to 404).
 /// The refusal is the first by function, by these groups, by value and then by rule; of one on walks the walk has the fewest edges.
-pub fn check_values(alloc: Global, m: &Module, table: &TypeTable) -> Result<(), ValueRefusal>
+pub(crate) fn check_values(
+    alloc: Global,
+    m: &Module,
+    table: &TypeTable,
+) -> Result<(), ValueRefusal>
     requires numbered { IsNumbered m.now }
     requires table { AreDeclarationsOf table.now m.now }
     requires types { HasTypes m.now }

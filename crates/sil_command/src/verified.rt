@@ -1,0 +1,74 @@
+//! The answer to a module that isn't accepted: a text and a status for each end of the verifier. It decides nothing.
+
+ghost use Rattle.std.specs.Prelude.{◌≡◌, IfOk};
+ghost use Rattle.sil_ast.specs.declared.module.Module as any;
+ghost use Rattle.sil_rules.specs.declared.status.Status.TheVariants as status;
+ghost use Rattle.sil_rules.specs.Statuses.{code_of};
+ghost use Rattle.sil_verifier.specs.Ends.{IsVerifyEnd};
+ghost use Rattle.sil_command.specs.Answers.{AnswersCheck};
+ghost use Rattle.sil_command.specs.RefusalTexts.{report_text};
+ghost use Rattle.sil_command.specs.Texts.{not_built_text, type_limit_text};
+
+use crate::answer::Answer;
+use crate::{refusal_lines, texts};
+use sil_ast::{Exhausted, Module};
+use sil_rules::{LimitWord, Status};
+use sil_verifier::{Refusal, VerifyEnd};
+use std::alloc::Global;
+use std::mem::forget;
+
+/// The answer of `check` to a module with which the verifier ends so. Want of memory has none.
+/// The module's memory is left to the system.
+pub(crate) fn answer_end(alloc: Global, end: VerifyEnd) -> Result<Answer, Exhausted>
+    ensures { (m : any.Module) → IsVerifyEnd m end → IfOk result (λ a. AnswersCheck m a.text.items (code_of a.status)) }
+{
+    match end {
+        VerifyEnd::Refused { module, refusal } => {
+            let answer = refused(alloc, &module, &refusal);
+            forget(module);
+            answer
+        }
+        VerifyEnd::Limit { module, what } => {
+            forget(module);
+            limit_passed(alloc, what)
+        }
+        VerifyEnd::NotBuilt { module } => {
+            forget(module);
+            not_built(alloc)
+        }
+        VerifyEnd::Memory { module } => {
+            forget(module);
+            Err(Exhausted)
+        }
+    }
+}
+
+fn refused(alloc: Global, m: &Module, refusal: &Refusal) -> Result<Answer, Exhausted>
+    ensures text { IfOk result (λ a. a.text.items ≡ report_text m.now refusal.now) }
+    ensures status { IfOk result (λ a. a.status ≡ status.Refused) }
+{
+    Ok(Answer {
+        text: refusal_lines::refusal(alloc, m, refusal)?,
+        status: Status::Refused,
+    })
+}
+
+fn limit_passed(alloc: Global, what: LimitWord) -> Result<Answer, Exhausted>
+    ensures text { IfOk result (λ a. a.text.items ≡ type_limit_text what) }
+    ensures status { IfOk result (λ a. a.status ≡ status.Limit) }
+{
+    Ok(Answer {
+        text: texts::type_limit(alloc, what)?,
+        status: Status::Limit,
+    })
+}
+
+fn not_built(alloc: Global) -> Result<Answer, Exhausted>
+    ensures text { IfOk result (λ a. a.text.items ≡ not_built_text) }
+    ensures status { IfOk result (λ a. a.status ≡ status.NotBuilt) }
+{
+    Ok(Answer {
+        text: Vec::from_slice(alloc, texts::not_built())?,
+        status: Status::NotBuilt,
+    })
+}

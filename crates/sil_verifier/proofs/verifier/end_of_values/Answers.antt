@@ -1,0 +1,19 @@
+-- The first broken rule on values is the first of all that is wrong.
+use Rattle.std.proofs.Common.{refl, subst}
+use Rattle.sil_verifier.specs.Findings.{value}
+use Rattle.sil_verifier.specs.Values.{IsValueRefusal}
+use Rattle.sil_verifier.proofs.Stages.{first_value}
+use Rattle.sil_verifier.proofs.verifier.end_of_values.Goals as goal
+
+pub returns-in-Rule : goal.returns-in-Rule
+returns-in-Rule c =
+    let m = c.args.m in
+    let told = subst (IsValueRefusal m) c.in-Rule.is c.requires.refusal in (
+      refl,
+      record {
+        found = value c.in-Rule.function.0 told.showing;
+        first = first_value m c.in-Rule.function.0 told.showing c.requires.types told.least;
+        reported = c.value_refusal.ensures m told.showing told.reported;
+        built = λ values. c.requires.built;
+      },
+    )

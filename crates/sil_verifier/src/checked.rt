@@ -1,0 +1,77 @@
+//! An accepted module with its type table.
+
+ghost use Rattle.std.specs.Prelude.{◌≡◌, IfOk};
+ghost use Rattle.numbered_form.specs.NumberedForm.{IsNumbered};
+ghost use Rattle.type_definitions.specs.Rules.{AreDeclarationsOf};
+ghost use Rattle.sil_verifier.specs.Checked.{IsVerified, IsVerifiedWith};
+
+use sil_ast::{Exhausted, Module};
+use sil_types::TypeTable;
+use std::alloc::Global;
+use std::marker::Model;
+
+/// An accepted module with its type table. To a contract it is the module.
+#[derive(Drop)]
+pub struct Checked {
+    inner: Module,
+    table: TypeTable,
+}
+
+impl Model for Checked {
+    ghost use Rattle.std.specs.Coded.{codes};
+    ghost use Rattle.sil_ast.specs.contracts.type_name.TypeName as type_name;
+    ghost use Rattle.sil_ast.specs.declared.module.Module.{Module};
+    ghost use Rattle.sil_verifier.specs.Checked.{IsVerifiedWith};
+
+    ghost Value = { Module };
+
+    ghost coded = { Prim.hlevel (codes, type_name.the_row.coded) };
+
+    ghost view = { λ c. c.inner };
+
+    ghost invariant = { λ c. IsVerifiedWith c.inner c.table };
+}
+
+impl Checked {
+    pub(crate) fn with(m: Module, table: TypeTable) -> Checked
+        requires { IsVerifiedWith m table }
+        ensures { result ≡ m }
+    {
+        Checked { inner: m, table }
+    }
+
+    /// The module.
+    pub fn module(&self) -> &Module
+        ensures value { result.now ≡ self.now }
+        ensures verified { IsVerified self.now }
+    {
+        &self.inner
+    }
+
+    /// What the module declares.
+    pub fn table(&self) -> &TypeTable
+        ensures { AreDeclarationsOf result.now self.now }
+    {
+        &self.table
+    }
+
+    /// A copy in memory of its own. The table is built again.
+    pub fn try_clone(&self, alloc: Global) -> Result<Checked, Exhausted>
+        ensures { IfOk result (λ copy. copy ≡ self.now) }
+    {
+        let inner = self.inner.try_clone(alloc)?;
+        let table = table_of(alloc, &inner)?;
+        Ok(Checked { inner, table })
+    }
+}
+
+/// The type table of a module that has one, so that only memory can be lacking.
+fn table_of(alloc: Global, m: &Module) -> Result<TypeTable, Exhausted>
+    requires { IsNumbered m.now }
+    ensures { IfOk result (λ table. AreDeclarationsOf table m.now) }
+{
+    match TypeTable::build(alloc, m) {
+        Ok(table) => Ok(table),
+        Err(_) => Err(Exhausted),
+    }
+}

@@ -1,0 +1,102 @@
+//! The one call: a module in, an accepted module with its table out, or why it isn't accepted.
+
+ghost use Rattle.std.specs.Prelude.{◌≡◌, IfErr, IfOk, OnOk};
+ghost use Rattle.built_form.specs.Built.{IsBuilt};
+ghost use Rattle.numbered_form.specs.NumberedForm.{IsNumbered};
+ghost use Rattle.sil_verifier.specs.Ends.{IsVerifyEnd};
+ghost use Rattle.sil_verifier.specs.Findings.{Accepted};
+ghost use Rattle.sil_verifier.specs.Refusals as types;
+ghost use Rattle.sil_verifier.specs.Refusals.{HasTypes};
+ghost use Rattle.sil_verifier.specs.Values.{IsValueRefusal};
+ghost use Rattle.sil_verifier.specs.declared.types.StaticRefusal.TheVariants as static;
+
+use crate::checked::Checked;
+use crate::refusal::Refusal;
+use crate::reports::{item_refusal, typing_refusal, value_refusal};
+use crate::types::{StaticRefusal, check_types};
+use crate::values::{ValueRefusal, check_values};
+use built_form::is_built;
+use sil_ast::Module;
+use sil_rules::LimitWord;
+use std::alloc::Global;
+use type_check::TypingFault;
+
+/// Why a module isn't accepted. Each has the module that was handed in.
+#[derive(Drop)]
+pub enum VerifyEnd {
+    /// It breaks a rule.
+    Refused { module: Module, refusal: Refusal },
+    /// A type exceeds the limit on depth or on leaves.
+    Limit { module: Module, what: LimitWord },
+    /// It keeps the rules on types, and the checks of values don't know it yet.
+    NotBuilt { module: Module },
+    /// There is no memory left.
+    Memory { module: Module },
+}
+
+/// Checks all rules of a module, in their order: those on items, the limits on types, those on typing, and those on values.
+/// The refusal is the first of all that is wrong: by item, by limit, by function and point, by vtable, and then function by
+/// function, by group, by value and by rule; of a rule on walks the walk has the fewest edges.
+pub fn verify(alloc: Global, m: Module) -> Result<Checked, VerifyEnd>
+    requires { IsNumbered m }
+    ensures ok { IfOk result (λ checked. checked ≡ m) }
+    ensures accepted { OnOk result (Accepted m) }
+    ensures built { OnOk result (IsBuilt m) }
+    ensures err { IfErr result (IsVerifyEnd m) }
+{
+    let table = match check_types(alloc, &m) {
+        Ok(table) => table,
+        Err(reason) => return Err(end_of_types(alloc, m, reason)),
+    };
+    if !is_built(&table, &m) {
+        return Err(VerifyEnd::NotBuilt { module: m });
+    }
+    match check_values(alloc, &m, &table) {
+        Ok(()) => Ok(Checked::with(m, table)),
+        Err(reason) => Err(end_of_values(m, reason)),
+    }
+}
+
+/// The end with a module of which an item, a type or its typing is wrong.
+fn end_of_types(alloc: Global, m: Module, reason: StaticRefusal) -> VerifyEnd
+    requires numbered { IsNumbered m }
+    requires refusal { types.IsRefusal m reason }
+    ensures { IsVerifyEnd m result }
+{
+    match reason {
+        StaticRefusal::Item { rule, item } => VerifyEnd::Refused {
+            module: m,
+            refusal: item_refusal(alloc, rule, item),
+        },
+        StaticRefusal::Limit { what } => VerifyEnd::Limit { module: m, what },
+        StaticRefusal::Typing { fault } => end_of_typing(alloc, m, fault),
+        StaticRefusal::Memory => VerifyEnd::Memory { module: m },
+    }
+}
+
+fn end_of_typing(alloc: Global, m: Module, fault: TypingFault) -> VerifyEnd
+    requires numbered { IsNumbered m }
+    requires refusal { types.IsRefusal m (static.Typing fault) }
+    ensures { IsVerifyEnd m result }
+{
+    match typing_refusal(alloc, &m, fault) {
+        Some(refusal) => VerifyEnd::Refused { module: m, refusal },
+        None => VerifyEnd::Memory { module: m },
+    }
+}
+
+/// The end with a typed module of which a value is wrong.
+fn end_of_values(m: Module, reason: ValueRefusal) -> VerifyEnd
+    requires types { HasTypes m }
+    requires built { IsBuilt m }
+    requires refusal { IsValueRefusal m reason }
+    ensures { IsVerifyEnd m result }
+{
+    match reason {
+        ValueRefusal::Rule { function, fault } => VerifyEnd::Refused {
+            module: m,
+            refusal: value_refusal(function, fault),
+        },
+        ValueRefusal::Memory => VerifyEnd::Memory { module: m },
+    }
+}
