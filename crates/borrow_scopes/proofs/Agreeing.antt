@@ -62,13 +62,13 @@ module _ (f : Function) (facts : ValueId → Facts) where
   shared_returned count true = shared_picked (λ n. is_scope f facts (value_of n)) (left_at_return 0).mark 0 count
   shared_returned count false = refl
 
+lost_either : (n : ℕ) (found : List ℕ) (rest : List Entry) (b : Bool) → map lost_at_end found ≡ rest → map lost_at_end (cond b (n ∷ found) found) ≡ cond b (lost_at_end n ∷ []) [] ++ rest
+lost_either n found rest true e = ap (λ v. lost_at_end n ∷ v) e
+lost_either n found rest false e = e
+
 lost_picked : (p : ℕ → Bool) (ns : List ℕ) → map lost_at_end (filter p ns) ≡ flat_map (λ n. cond (p n) (lost_at_end n ∷ []) []) ns
 lost_picked p [] = refl
-lost_picked p (n ∷ ns) = at (p n)
-  where
-    at : (b : Bool) → map lost_at_end (cond b (n ∷ filter p ns) (filter p ns)) ≡ cond b (lost_at_end n ∷ []) [] ++ flat_map (λ n. cond (p n) (lost_at_end n ∷ []) []) ns
-    at true = ap (λ v. lost_at_end n ∷ v) (lost_picked p ns)
-    at false = lost_picked p ns
+lost_picked p (n ∷ ns) = lost_either n (filter p ns) (flat_map (λ n. cond (p n) (lost_at_end n ∷ []) []) ns) (p n) (lost_picked p ns)
 
 module _ (f : Function) (facts : ValueId → Facts) (count : ℕ) (rows : List (Vec ℕ Global)) (all : (base : ℕ) → borrowers_at rows base ≡ borrowers_of facts (loans_of f) count base) where
   lost_of_rows : (v : ValueId) (sort : MarkSort) → lost_at (borrowers_at rows v.0) sort ≡ lost_with f facts count v sort

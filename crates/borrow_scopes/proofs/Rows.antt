@@ -52,7 +52,7 @@ more_bases bases x b scopes n =
 none_is : (scopes : List ℕ) (n k : ℕ) → All (λ x. x < n) scopes → is_one (slice_get scopes k) n ≡ false
 none_is scopes n k below = at (slice_get_cases scopes k).1
   where
-    at : ((x : ℕ) × (k < length scopes) × (slice_get scopes k ≡ Some x) × _) ⊎ ((length scopes ≤ k) × (slice_get scopes k ≡ None)) → is_one (slice_get scopes k) n ≡ false
+    at : ((x : ℕ) × (k < length scopes) × (slice_get scopes k ≡ Some x) × (get_or scopes k x ≡ x)) ⊎ ((length scopes ≤ k) × (slice_get scopes k ≡ None)) → is_one (slice_get scopes k) n ≡ false
     at (inl h) = let lt : h.0 < n = all_get (λ x. x < n) scopes k h.0 below h.2 in ap (λ o. is_one o n) h.2 ∙ ne_eqb h.0 n (λ e. omega arith)
     at (inr h) = ap (λ o. is_one o n) h.1
 

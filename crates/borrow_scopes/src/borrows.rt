@@ -1,6 +1,6 @@
 //! The check of rules 501 to 505.
 
-ghost use Rattle.std.specs.Prelude.{◌≡◌, IfErr, IfOk, MatchOption, OnOk, length};
+ghost use Rattle.std.specs.Prelude.{◌≡◌, ◌<◌, ℕ, IfErr, IfOk, MatchOption, OnOk, length};
 ghost use Rattle.std.specs.List.{flat_map};
 ghost use Rattle.path_patterns.specs.Reads.{accesses_at};
 ghost use Rattle.sil_cfg.specs.Build.{IsGraphOf};
