@@ -82,11 +82,7 @@ fn push_behind(out: &mut Vec<u8>, m: &Module, refusal: &Refusal) -> Result<(), E
 }
 
 /// The lines of a refusal.
-pub(crate) fn refusal(
-    alloc: Global,
-    m: &Module,
-    refusal: &Refusal,
-) -> Result<Vec<u8>, Exhausted>
+pub(crate) fn refusal(alloc: Global, m: &Module, refusal: &Refusal) -> Result<Vec<u8>, Exhausted>
     ensures { IfOk result (λ text. text.items ≡ report_text m.now refusal.now) }
 {
     let mut out = Vec::new(alloc);

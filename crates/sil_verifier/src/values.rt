@@ -69,11 +69,7 @@ fn check_numbered(
 /// Checks of all functions with a body that each value is defined before it is used (301), that its kind is one that is taken
 /// (302 to 305), and that it is used and ended only while it lives (401 to 404).
 /// The refusal is the first by function, by these groups, by value and then by rule; of one on walks the walk has the fewest edges.
-pub(crate) fn check_values(
-    alloc: Global,
-    m: &Module,
-    table: &TypeTable,
-) -> Result<(), ValueRefusal>
+pub(crate) fn check_values(alloc: Global, m: &Module, table: &TypeTable) -> Result<(), ValueRefusal>
     requires numbered { IsNumbered m.now }
     requires table { AreDeclarationsOf table.now m.now }
     requires types { HasTypes m.now }
