@@ -10,12 +10,13 @@ use Rattle.sil_rules.specs.Rules.{group_of}
 use Rattle.sil_rules.specs.declared.group.Group.{Group}
 use Rattle.sil_rules.specs.declared.group.Group.TheVariants as group
 use Rattle.sil_rules.specs.declared.rule.Rule.{Rule}
+use Rattle.type_check.specs.Refusals.{function_id}
 use Rattle.sil_verifier.specs.Shown.{Showing}
-use Rattle.sil_command.specs.Texts.{line, name_at, rule_words, typed_point_words}
+use Rattle.sil_command.specs.Texts.{line, rule_words, site_words}
 
 -- the rule, the function and the point
 abbrev pub first_line : Module → ℕ → Showing → List ℕ
-first_line m n s = line (rule_words s.rule ++ codes " @" ++ name_at m n ++ typed_point_words (Some s.point))
+first_line m n s = line (rule_words s.rule ++ site_words m (Some (function_id n)) None (Some s.point))
 
 abbrev pub subject_line : ValueId → List ℕ
 subject_line v = line (codes "subject %" ++ decimal v.0)

@@ -36,7 +36,7 @@ fn push_blocks(out: &mut Vec<u8>, f: &Function, walk: &[EdgeId]) -> Result<(), E
 
 /// The line of the walk, which visits the entry first.
 fn push_walk(out: &mut Vec<u8>, f: Option<&Function>, walk: &[EdgeId]) -> Result<(), Exhausted>
-    ensures { OnOk result (out.new.items ≡ out.old.items ++ walk_line (option_copied f) walk.now) }
+    ensures { OnOk result (out.new.items ≡ out.old.items ++ walk_line (option_copied f.entry) walk.now) }
 {
     out.extend_from_slice(b"walk bb0")?;
     if let Some(f) = f {
@@ -53,7 +53,7 @@ fn push_walk_of(
     f: Option<&Function>,
     walk: &[EdgeId],
 ) -> Result<(), Exhausted>
-    ensures { OnOk result (out.new.items ≡ out.old.items ++ walk_lines (group_of rule) (option_copied f) walk.now) }
+    ensures { OnOk result (out.new.items ≡ out.old.items ++ walk_lines (group_of rule) (option_copied f.entry) walk.now) }
 {
     match rule.group() {
         Group::Kinds => Ok(()),
@@ -90,7 +90,7 @@ pub(crate) fn push_shown(
     f: Option<&Function>,
     walk: &[EdgeId],
 ) -> Result<(), Exhausted>
-    ensures { OnOk result (out.new.items ≡ out.old.items ++ shown_lines subject other rule (option_copied f) walk.now) }
+    ensures { OnOk result (out.new.items ≡ out.old.items ++ shown_lines subject other rule (option_copied f.entry) walk.now) }
 {
     push_subject(out, subject)?;
     push_other(out, other)?;

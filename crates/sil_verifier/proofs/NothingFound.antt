@@ -1,5 +1,6 @@
 -- A module is accepted just where nothing is wrong with it.
-use Rattle.std.proofs.Common.{◌≡◌, inl, inr, refl, Bool, true, false}
+use Rattle.std.proofs.Common.{inl, inr}
+use Rattle.std.proofs.lemmas.Bool.{false_from_ne_true}
 use Rattle.sil_ast.specs.declared.module.Module.{Module}
 use Rattle.sil_rules.specs.declared.limit_word.LimitWord.TheVariants as word
 use Rattle.sil_rules.specs.declared.rule.Rule.TheVariants as rule
@@ -13,10 +14,6 @@ use Rattle.sil_verifier.proofs.DeclaredTypes.{declared_not_refused, typed_not_wr
 use Rattle.sil_verifier.specs.Findings.{Accepted, Finding, item, limit, typing, value, IsFound, IsOfValues}
 use Rattle.sil_verifier.specs.Laws.{AreAcceptedWhereNothingIsFound, AreTypedWhereOnlyValuesAreFound}
 use Rattle.sil_verifier.specs.Refusals.{HasTypes}
-
-not_true : (b : Bool) → (b ≡ true → ⊥) → b ≡ false
-not_true true h = absurd (h refl)
-not_true false h = refl
 
 module _ (m : Module) where
   types_not_found : HasTypes m → (x : Finding) → (IsOfValues x → ⊥) → IsFound m x → ⊥
@@ -36,8 +33,8 @@ module _ (m : Module) where
     declared = (
       all_declared m (λ f b. none (item f.rule f.item) (λ h. h) (shown_item f.rule f.item b)) (λ n h. none (item rule.InfiniteType n) (λ h. h) (infinite n h)),
       record {
-        depth = not_true (exceeds_depth m) (λ h. none (limit word.Depth) (λ h. h) (too_deep h));
-        leaves = not_true (exceeds_leaves m) (λ h. none (limit word.Leaves) (λ h. h) (too_wide h));
+        depth = false_from_ne_true (exceeds_depth m) (λ h. none (limit word.Depth) (λ h. h) (too_deep h));
+        leaves = false_from_ne_true (exceeds_leaves m) (λ h. none (limit word.Leaves) (λ h. h) (too_wide h));
       },
     );
     typed = λ s r h. none (typing (fault_at s r)) (λ h. h) (inl (broken s r h));

@@ -5,4 +5,4 @@ pub returns-in-Check : goal.returns-in-Check
 returns-in-Check c = rw c.in-Check.is c.check_module.ensures
 
 pub returns-in-Print : goal.returns-in-Print
-returns-in-Print c = rw c.in-Print.is c.print_module.ensures
+returns-in-Print c = rw c.in-Print.is c.print_module-answer.ensures
