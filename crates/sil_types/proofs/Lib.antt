@@ -1,1 +1,2 @@
 mod FirstRefusals
+mod PastLimits
