@@ -181,8 +181,7 @@ fn has_operand_types(kept: bool, types: &[Option<TypeView<'_>>], inst: &Inst) ->
         && list_all (spec.edge_is_as_written (types_told types.now)) inst.now.edges
         && spec.are_as_asked (types_told types.now) inst.now) }
 {
-    kept
-        && are_as_written(types, inst.operands.as_slice())
+    kept && are_as_written(types, inst.operands.as_slice())
         && edges_are_as_written(types, inst.edges.as_slice())
         && are_as_asked(types, inst)
 }

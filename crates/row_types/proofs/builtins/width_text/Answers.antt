@@ -1,4 +1,4 @@
-use Rattle.std.proofs.Common.{◌≡◌, ◌∙◌, ◌++◌, refl}
+use Rattle.std.proofs.Common.{◌∙◌, ◌++◌, refl}
 use Rattle.std.specs.Prelude.{codes}
 use Rattle.sil_shape.specs.BuiltinNames.{width_spelling}
 use Rattle.sil_shape.proofs.NameLemmas.{no_front, with_front}

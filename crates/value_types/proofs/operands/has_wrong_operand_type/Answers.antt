@@ -15,6 +15,6 @@ returns c = λ d here.
     let inst = c.args.inst.now in
     let types = types_told c.args.types.now in
     ap not (
-        c.has_operand_types.ensures
-        ∙ ap (λ kept. kept && are_as_written types inst.operands && list_all (edge_is_as_written types) inst.edges && are_as_asked types inst)
-          (c.is_kept.ensures ∙ ap is_some here ∙ counted length (row_types d inst)))
+    c.has_operand_types.ensures
+    ∙ ap (λ kept. kept && are_as_written types inst.operands && list_all (edge_is_as_written types) inst.edges && are_as_asked types inst)
+    (c.is_kept.ensures ∙ ap is_some here ∙ counted length (row_types d inst)))
