@@ -2,13 +2,15 @@
 
 ghost use Rattle.std.specs.Prelude.{◌≡◌, [], ◌∷◌, bytes_eq, find, map, option_map};
 ghost use Rattle.std.specs.List.{flat_map};
+ghost use Rattle.std.specs.Option.{option_copied};
 ghost use Rattle.sil_ast.specs.declared.type_name.TypeName.TheVariants as type;
 ghost use Rattle.sil_shape.specs.BuiltinNames as names;
 ghost use Rattle.sil_types.specs.Typing.Builtins as builtins;
 ghost use Rattle.sil_types.specs.Typing.Builtins.{at_width, at_widths};
 ghost use Rattle.sil_types.specs.Typing.Same.{are_same_types, is_same_type};
 ghost use Rattle.sil_types.specs.Typing.RowTypes.{all_written};
-ghost use Rattle.row_types.specs.BuiltinViews.{builtin_told, sort_told};
+ghost use Rattle.sil_shape.specs.declared.builtin_names.Width.{Width};
+ghost use Rattle.row_types.specs.BuiltinViews.{builtin_told, is_spelled_by, is_width_text, sort_told};
 
 use sil_ast::TypeName;
 use sil_shape::builtin_names::{Operation, Width};
@@ -93,24 +95,31 @@ fn width_spelling(width: Width) -> &'static [u8]
     }
 }
 
-fn is_named(name: &[u8], operation: Operation, width: Width) -> bool
-    ensures { result ≡ bytes_eq name.now (names.builtin_name operation width) }
+/// The text behind the operation and `_Int`, where the name begins with these.
+fn width_text(name: &[u8], operation: Operation) -> Option<&[u8]>
+    ensures { (width : Width) → is_width_text (option_copied result) width ≡ bytes_eq name.now (names.builtin_name operation width) }
 {
     let Some(rest) = name.strip_prefix(operation_spelling(operation)) else {
-        return false;
+        return None;
     };
-    let Some(digits) = rest.strip_prefix(b"_Int") else {
-        return false;
+    let Some(text) = rest.strip_prefix(b"_Int") else {
+        return None;
     };
-    digits == width_spelling(width)
+    Some(text)
 }
 
-/// The first of the widths at which the name is the operation's.
-fn named_at(name: &[u8], operation: Operation, widths: &[Width]) -> Option<BuiltinAt>
-    ensures { option_map builtin_told result ≡ find (builtins.is_named name.now) (map (at_width operation) widths.now) }
+fn spells(text: &[u8], width: Width) -> bool
+    ensures { result ≡ bytes_eq text.now (names.width_spelling width) }
+{
+    text == width_spelling(width)
+}
+
+/// The operation at the first of the widths that the text spells.
+fn spelled_at(text: &[u8], operation: Operation, widths: &[Width]) -> Option<BuiltinAt>
+    ensures { option_map builtin_told result ≡ find (is_spelled_by text.now) (map (at_width operation) widths.now) }
 {
     for width in widths {
-        if is_named(name, operation, *width) {
+        if spells(text, *width) {
             return Some(BuiltinAt {
                 operation,
                 width: *width,
@@ -120,11 +129,15 @@ fn named_at(name: &[u8], operation: Operation, widths: &[Width]) -> Option<Built
     None
 }
 
+/// The first of the widths at which the name is the operation's.
 fn named_at_width(name: &[u8], operation: Operation) -> Option<BuiltinAt>
     ensures { option_map builtin_told result ≡ find (builtins.is_named name.now) (at_widths operation) }
 {
-    named_at(
-        name,
+    let Some(text) = width_text(name, operation) else {
+        return None;
+    };
+    spelled_at(
+        text,
         operation,
         &[
             Width::Int1,

@@ -1,15 +1,15 @@
 //! Makes a module's type table, or says why it has none.
 
-ghost use Rattle.std.specs.Prelude.{◌≡◌, ℕ, OnOk, IfOk, IfErr};
+ghost use Rattle.std.specs.Prelude.{◌≡◌, ◌||◌, ℕ, OnOk, IfOk, IfErr, true};
 ghost use Rattle.numbered_form.specs.NumberedForm.{IsNumbered};
 ghost use Rattle.type_definitions.specs.Declarations.{declarations_of};
-ghost use Rattle.type_definitions.specs.Rules.{AreDeclarationsOf, HoldsItself, InLimits};
+ghost use Rattle.type_definitions.specs.Rules.{AreDeclarationsOf, HoldsItself, InLimits, exceeds_depth, exceeds_leaves};
 ghost use Rattle.type_rules.specs.Faults.{BreaksIn};
 ghost use Rattle.type_rules.specs.declared.by_item.ItemFault.{ItemFault};
 ghost use Rattle.sil_types.specs.Refusals.{IsRefusal};
 
 use crate::items::check_items;
-use crate::limits::any_past;
+use crate::limits::{Limit, any_past};
 use crate::refusal::TypeRefusal;
 use crate::ring::order_of;
 use crate::table::TypeTable;
@@ -48,15 +48,26 @@ fn check_limits(table: &TypeTable, m: &Module) -> Result<(), TypeRefusal>
     ensures ok { OnOk result (InLimits m.now) }
     ensures err { IfErr result (IsRefusal m.now) }
 {
-    if any_past(LimitWord::Depth, table, m) {
-        return Err(TypeRefusal::Limit {
-            what: LimitWord::Depth,
-        });
-    }
-    if any_past(LimitWord::Leaves, table, m) {
-        return Err(TypeRefusal::Limit {
-            what: LimitWord::Leaves,
-        });
+    if any_past(Limit::Either, table, m) {
+        return Err(refused_limit(table, m));
     }
     Ok(())
+}
+
+/// The refusal of a module that mentions a type past a limit: which of the two that is, is asked only here.
+fn refused_limit(table: &TypeTable, m: &Module) -> TypeRefusal
+    requires table { table.now ≡ declarations_of m.now }
+    requires items { (f : ItemFault) → BreaksIn (declarations_of m.now) m.now f → ⊥ }
+    requires finite { (n : ℕ) → HoldsItself (declarations_of m.now) n → ⊥ }
+    requires past { (exceeds_depth m.now || exceeds_leaves m.now) ≡ true }
+    ensures { IsRefusal m.now result }
+{
+    if any_past(Limit::Depth, table, m) {
+        return TypeRefusal::Limit {
+            what: LimitWord::Depth,
+        };
+    }
+    TypeRefusal::Limit {
+        what: LimitWord::Leaves,
+    }
 }

@@ -1,7 +1,10 @@
 //! Whether a type that a module mentions exceeds the limit on depth, or on leaves.
 
-ghost use Rattle.std.specs.Prelude.{◌≡◌};
+ghost use Rattle.std.specs.Prelude.{◌≡◌, false, map};
 ghost use Rattle.std.specs.List.{list_any};
+ghost use Rattle.numbered_form.specs.Names.{Name};
+ghost use Rattle.sil_ast.specs.declared.type_name.TypeName.TheVariants as type_of;
+ghost use Rattle.type_definitions.specs.Measures.{measure_of};
 ghost use Rattle.type_definitions.specs.Mentions.{mentions_of};
 ghost use Rattle.type_definitions.specs.declared.measure.Measure.{Measure};
 ghost use Rattle.type_measures.specs.Gathered.{capped};
@@ -10,38 +13,78 @@ ghost use Rattle.sil_types.specs.Limits.{exceeds};
 
 use crate::table::TypeTable;
 use sil_ast::{Given, Module, Operand, Text, TypeName};
-use sil_rules::LimitWord;
 use sil_rules::limits::{DEPTH, LEAVES};
 use type_definitions::{Measure, Standing};
 use type_mentions::{MentionTest, any_in_module};
 
-/// Whether a measure that is counted just past the limits is past this one.
-fn is_past(what: LimitWord, measure: Measure) -> bool
-    ensures { (m : Measure) → measure ≡ capped m → result ≡ limits.is_past what m }
+/// Which of the two limits is asked.
+#[derive(Clone, Copy)]
+pub(crate) enum Limit {
+    Depth,
+    Leaves,
+    Either,
+}
+
+/// Whether a measure is past this limit. One that is counted just past the limits is past the same.
+fn is_past(what: Limit, measure: Measure) -> bool
+    ensures itself { result ≡ limits.is_past what measure }
+    ensures counted { (m : Measure) → measure ≡ capped m → result ≡ limits.is_past what m }
 {
     match what {
-        LimitWord::Depth => measure.depth > DEPTH,
-        LimitWord::Leaves => measure.leaves > LEAVES,
-        _ => false,
+        Limit::Depth => measure.depth > DEPTH,
+        Limit::Leaves => measure.leaves > LEAVES,
+        Limit::Either => measure.depth > DEPTH || measure.leaves > LEAVES,
     }
+}
+
+fn any_measure_past(what: Limit, measures: &[Measure]) -> bool
+    ensures { result ≡ list_any (limits.is_past what) measures.now }
+{
+    for measure in measures {
+        if is_past(what, *measure) {
+            return true;
+        }
+    }
+    false
+}
+
+/// Whether a declared type exceeds the limit.
+fn any_declared_past(what: Limit, table: &TypeTable) -> bool
+    ensures { result ≡ false → (name : Name) → limits.is_past what (measure_of table.now (type_of.Named name)) ≡ false }
+{
+    any_measure_past(what, table.declared_measures())
 }
 
 /// Finds types that exceed a limit.
 #[derive(Drop)]
 struct PastLimit<'a> {
     table: &'a TypeTable,
-    what: LimitWord,
+    what: Limit,
+    /// Whether a declared type does. Where none does, no name by itself is looked up.
+    declared: bool,
+    ghost names: { declared ≡ false → (name : Name) → limits.is_past what (measure_of table.now (type_of.Named name)) ≡ false },
+}
+
+impl PastLimit<'_> {
+    fn is_name_past(&self, name: &Text) -> bool
+        ensures { result ≡ limits.is_past self.now.what (measure_of self.now.table.now (type_of.Named name.now)) }
+    {
+        self.declared && is_past(self.what, self.table.measure_name(name))
+    }
 }
 
 impl MentionTest for PastLimit<'_> {
     ghost holds = { λ test. exceeds test.what test.table.now };
 
     fn of_written(&self, _: Standing, ty: &TypeName) -> bool {
-        is_past(self.what, self.table.measure(ty))
+        match ty {
+            TypeName::Named(name) => self.is_name_past(name),
+            _ => is_past(self.what, self.table.measure(ty)),
+        }
     }
 
     fn of_declared(&self, name: &Text) -> bool {
-        is_past(self.what, self.table.measure_name(name))
+        self.is_name_past(name)
     }
 
     fn of_results(&self, results: &[Given]) -> bool {
@@ -54,8 +97,13 @@ impl MentionTest for PastLimit<'_> {
 }
 
 /// Whether a type that the module mentions exceeds the limit.
-pub(crate) fn any_past(what: LimitWord, table: &TypeTable, m: &Module) -> bool
+pub(crate) fn any_past(what: Limit, table: &TypeTable, m: &Module) -> bool
     ensures { result ≡ list_any (exceeds what table.now) (mentions_of m.now) }
 {
-    any_in_module(&PastLimit { table, what }, m)
+    let test = PastLimit {
+        table,
+        what,
+        declared: any_declared_past(what, table),
+    };
+    any_in_module(&test, m)
 }

@@ -3,7 +3,7 @@
 ghost use Rattle.std.specs.Prelude.{◌≡◌, map};
 ghost use Rattle.std.specs.List.{flat_map};
 ghost use Rattle.sil_ast.specs.declared.type_name.TypeName.TheVariants as type_of;
-ghost use Rattle.type_definitions.specs.Measures.{measure_of};
+ghost use Rattle.type_definitions.specs.Measures.{measure_of, measures_of};
 ghost use Rattle.type_definitions.specs.Mentions.{operand_types, result_type, together};
 ghost use Rattle.type_measures.specs.Gathered.{capped};
 
@@ -39,6 +39,13 @@ impl Model for TypeTable {
 }
 
 impl TypeTable {
+    /// Of each declaration, in order. Leaves and depth are counted just past their limits.
+    pub(crate) fn declared_measures(&self) -> &[Measure]
+        ensures { result.now ≡ map capped (measures_of self.now) }
+    {
+        self.measures.as_slice()
+    }
+
     pub(crate) fn measure(&self, ty: &TypeName) -> Measure
         ensures { result ≡ capped (measure_of self.now ty.now) }
     {

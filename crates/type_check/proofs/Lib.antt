@@ -1,3 +1,4 @@
 pub mod Firsts
 pub mod FirstFaults
 pub mod Ranges
+mod Counts

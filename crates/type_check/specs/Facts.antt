@@ -1,14 +1,17 @@
 -- What the facts of a function are.
-use Rattle.std.specs.Prelude.{◌≡◌, map, option_map}
+use Rattle.std.specs.Prelude.{◌≡◌, map}
 use Rattle.sil_ast.specs.declared.function.Function.{Function}
 use Rattle.form_rules.specs.Incoming.{AreIncoming}
-use Rattle.row_types.specs.Views.{view_told}
+use Rattle.numbered_form.specs.Insts.{insts_in}
 use Rattle.type_definitions.specs.Declarations.{Declarations}
 use Rattle.sil_types.specs.Typing.Values.{value_functions, value_types}
+use Rattle.value_types.specs.Given.{given_count}
+use Rattle.value_types.specs.Told.{types_told}
 use Rattle.type_check.specs.declared.function_facts.FunctionFacts.{FunctionFacts}
 
--- the types and functions are those of the function's values, and the counts those of its blocks
+-- the types and functions are those of the function's values, and the counts those of its instructions' rows and of its blocks
 pub record AreFactsOf (d : Declarations) (f : Function) (facts : FunctionFacts) : Type 0 where
-  pub types : map (option_map view_told) facts.types.items ≡ value_types d f
+  pub types : types_told facts.given.types.items ≡ value_types d f
+  pub counts : facts.given.counts.items ≡ map (given_count d) (insts_in f.blocks)
   pub functions : facts.functions.items ≡ value_functions f
   pub incoming : AreIncoming f facts.incoming.items

@@ -4,17 +4,17 @@ ghost use Rattle.std.specs.Prelude.{IfOk};
 ghost use Rattle.type_check.specs.Facts.{AreFactsOf};
 
 use form_rules::incoming_counts;
-use row_types::TypeView;
 use signature_rules::value_functions;
 use sil_ast::{Exhausted, FuncId, Function};
 use sil_types::TypeTable;
 use std::alloc::Global;
-use value_types::value_types;
+use value_types::{GivenTypes, value_types};
 
-/// By value the type that it has and the function that it stands for; by block how many edges go to it, 2 for more than one.
+/// What the rows give: by value its type, by instruction how many results. By value the function that it stands for, and by block
+/// how many edges go to it, 2 for more than one.
 #[derive(Drop)]
 pub(crate) struct FunctionFacts<'a> {
-    pub types: Vec<Option<TypeView<'a>>>,
+    pub given: GivenTypes<'a>,
     pub functions: Vec<Option<FuncId>>,
     pub incoming: Vec<u8>,
 }
@@ -27,11 +27,11 @@ pub(crate) fn facts_of<'a>(
 ) -> Result<FunctionFacts<'a>, Exhausted>
     ensures { IfOk result (AreFactsOf table.now f.now) }
 {
-    let types = value_types(alloc, table, f)?;
+    let given = value_types(alloc, table, f)?;
     let functions = value_functions(alloc, f)?;
     let incoming = incoming_counts(alloc, f)?;
     Ok(FunctionFacts {
-        types,
+        given,
         functions,
         incoming,
     })

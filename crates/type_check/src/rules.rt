@@ -9,6 +9,7 @@ ghost use Rattle.type_check.specs.Body.{AreEdgesInRange, IsBody};
 ghost use Rattle.type_check.specs.FirstFault.{judged_function, judged_point, judged_use, judged_vtable};
 ghost use Rattle.type_check.specs.Firsts.{first_broken};
 ghost use Rattle.type_definitions.specs.Declarations.{declarations_of};
+ghost use Rattle.value_types.specs.Given.{given_count};
 
 use crate::body::Body;
 use form_rules::{has_wrong_cases, has_wrong_qualifier, is_of_other_form, mixes_forms};
@@ -47,35 +48,39 @@ pub(crate) fn rule_at_function(
     None
 }
 
-fn is_wrong_operand_type(body: &Body<'_, '_>, inst: &Inst) -> bool
-    requires { IsBody body.now }
+fn is_wrong_operand_type(body: &Body<'_, '_>, given: Option<usize>, inst: &Inst) -> bool
+    requires body { IsBody body.now }
+    requires given { given ≡ given_count body.now.table.now inst.now }
     ensures { result ≡ operands.has_wrong_operand_type (declarations_of body.now.module.now) (value_types (declarations_of body.now.module.now) body.now.function.now) inst.now }
 {
-    has_wrong_operand_type(body.table, body.facts.types.as_slice(), inst)
+    has_wrong_operand_type(given, body.facts.given.types.as_slice(), inst)
 }
 
-fn is_wrong_result_count(body: &Body<'_, '_>, inst: &Inst) -> bool
-    requires { IsBody body.now }
+fn is_wrong_result_count(body: &Body<'_, '_>, given: Option<usize>, inst: &Inst) -> bool
+    requires body { IsBody body.now }
+    requires given { given ≡ given_count body.now.table.now inst.now }
     ensures { result ≡ results.has_wrong_result_count (declarations_of body.now.module.now) inst.now }
 {
-    has_wrong_result_count(body.table, inst)
+    has_wrong_result_count(given, inst)
 }
 
-/// The first rule that an instruction of the body breaks, at a point.
+/// The first rule that an instruction of the body breaks, at a point. `given` is how many results its row gives.
 pub(crate) fn rule_at_point(
     body: &Body<'_, '_>,
     block: u32,
     index: u32,
+    given: Option<usize>,
     inst: &Inst,
 ) -> Option<Rule>
     requires body { IsBody body.now }
+    requires given { given ≡ given_count body.now.table.now inst.now }
     requires edges { AreEdgesInRange body.now.function.now inst.now }
     ensures { result ≡ first_broken (judged_point body.now.module.now body.now.function.now block index inst.now) }
 {
-    if is_wrong_operand_type(body, inst) {
+    if is_wrong_operand_type(body, given, inst) {
         return Some(Rule::OperandType);
     }
-    if is_wrong_result_count(body, inst) {
+    if is_wrong_result_count(body, given, inst) {
         return Some(Rule::ResultCount);
     }
     if has_wrong_edge_arguments(body.function, inst) {

@@ -109,7 +109,7 @@ fn first_in_function<'a>(
         number,
         facts: &facts,
     };
-    Ok(first_in_body(&body, function.blocks.as_slice()))
+    Ok(first_in_body(&body))
 }
 
 /// The number of vtables is counted as a `u32`; where there are more, memory counts as exhausted.

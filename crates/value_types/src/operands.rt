@@ -1,6 +1,6 @@
 //! Whether the values of operands have the types that are written at them, or that the row asks for.
 
-ghost use Rattle.std.specs.Prelude.{◌≡◌, [], ◌∷◌, drop, map, option_map, take};
+ghost use Rattle.std.specs.Prelude.{◌≡◌, ◌&&◌, [], ◌∷◌, drop, is_some, map, option_map, take};
 ghost use Rattle.std.specs.List.{flat_map, list_all};
 ghost use Rattle.std.specs.Option.{option_copied, option_to_list};
 ghost use Rattle.row_types.specs.Views.{view_told};
@@ -10,13 +10,14 @@ ghost use Rattle.sil_types.specs.Typing.OperandTypes as spec;
 ghost use Rattle.sil_types.specs.Typing.OperandTypes.{param_type, param_types};
 ghost use Rattle.sil_types.specs.Typing.Same.{all_pairs};
 ghost use Rattle.sil_types.specs.Typing.Values as values;
+ghost use Rattle.type_definitions.specs.Declarations.{Declarations};
+ghost use Rattle.value_types.specs.Given.{given_count};
 ghost use Rattle.value_types.specs.Told.{types_told};
 
 use crate::views::{is_address_view, is_bit_view};
 use row_types::shapes::{object_at, unowned_at, weak_at};
-use row_types::{TypeView, row_types, written};
+use row_types::{TypeView, written};
 use sil_ast::{BareOperands, Edge, Inst, Operand, Param, Passing, TypeName, bare_operands_of};
-use sil_types::TypeTable;
 
 /// The type of an operand's value.
 fn type_of_value<'a>(types: &[Option<TypeView<'a>>], operand: &Operand) -> Option<TypeView<'a>>
@@ -173,17 +174,32 @@ fn are_as_asked(types: &[Option<TypeView<'_>>], inst: &Inst) -> bool
     }
 }
 
+/// Whether the row is kept, and each operand's value has the type that is written or asked.
+fn has_operand_types(kept: bool, types: &[Option<TypeView<'_>>], inst: &Inst) -> bool
+    ensures { result ≡ (kept
+        && spec.are_as_written (types_told types.now) inst.now.operands
+        && list_all (spec.edge_is_as_written (types_told types.now)) inst.now.edges
+        && spec.are_as_asked (types_told types.now) inst.now) }
+{
+    kept && are_as_written(types, inst.operands.as_slice())
+        && edges_are_as_written(types, inst.edges.as_slice())
+        && are_as_asked(types, inst)
+}
+
+fn is_kept(given: Option<usize>) -> bool
+    ensures { result ≡ is_some given }
+{
+    given.is_some()
+}
+
 /// Whether the instruction breaks 201: an operand's written type differs from its value's, or what the row asks of types isn't
-/// kept. `types` are those of the function's values.
+/// kept. `given` is how many results its row gives, and `types` are those of the function's values.
 pub fn has_wrong_operand_type(
-    table: &TypeTable,
+    given: Option<usize>,
     types: &[Option<TypeView<'_>>],
     inst: &Inst,
 ) -> bool
-    ensures { result ≡ spec.has_wrong_operand_type table.now (types_told types.now) inst.now }
+    ensures { (d : Declarations) → given ≡ given_count d inst.now → result ≡ spec.has_wrong_operand_type d (types_told types.now) inst.now }
 {
-    !(row_types(table, inst).is_some()
-        && are_as_written(types, inst.operands.as_slice())
-        && edges_are_as_written(types, inst.edges.as_slice())
-        && are_as_asked(types, inst))
+    !has_operand_types(is_kept(given), types, inst)
 }

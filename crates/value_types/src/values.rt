@@ -1,16 +1,27 @@
-//! The types of a function's values, by their numbers.
+//! The types of a function's values, by their numbers, and how many results the row of each instruction gives.
 
-ghost use Rattle.std.specs.Prelude.{◌≡◌, ◌++◌, IfOk, OnOk, [], map, option_map, slice_get, unwrap_or};
+ghost use Rattle.std.specs.Prelude.{◌≡◌, ◌++◌, IfOk, OnOk, [], ◌∷◌, length, map, option_map, slice_get, unwrap_or};
+ghost use Rattle.std.specs.List.{flat_map, range_with_len};
+ghost use Rattle.numbered_form.specs.Insts.{insts_in, insts_of};
 ghost use Rattle.row_types.specs.Views.{made_told, view_told};
 ghost use Rattle.sil_types.specs.Typing.Values as values;
 ghost use Rattle.sil_types.specs.Typing.Values.{arg_has, block_types, result_types};
-ghost use Rattle.std.specs.List.{flat_map};
+ghost use Rattle.value_types.specs.Given.{given_count};
 ghost use Rattle.value_types.specs.Told.{types_told};
 
 use row_types::{Made, TypeView, row_types};
 use sil_ast::{Block, BlockArg, Exhausted, Function, Inst};
 use sil_types::TypeTable;
 use std::alloc::Global;
+
+/// What the rows of a function's instructions give.
+#[derive(Drop)]
+pub struct GivenTypes<'a> {
+    /// By value its type. A result that its row doesn't give has none.
+    pub types: Vec<Option<TypeView<'a>>>,
+    /// By instruction, in the order of the text, how many results its row gives, or none where what it asks of types isn't kept.
+    pub counts: Vec<Option<usize>>,
+}
 
 /// The type of the `k`-th result, where the row gives one.
 fn result_type<'a>(made: &Option<Made<'a>>, k: usize) -> Option<TypeView<'a>>
@@ -22,19 +33,42 @@ fn result_type<'a>(made: &Option<Made<'a>>, k: usize) -> Option<TypeView<'a>>
     }
 }
 
-/// Adds the types of an instruction's results.
-fn add_results<'a>(
+/// How many results the row gives.
+fn count_of(made: &Option<Made<'_>>) -> Option<usize>
+    ensures { result ≡ option_map length (option_map made_told made.now) }
+{
+    match made {
+        Some(made) => Some(made.len()),
+        None => None,
+    }
+}
+
+/// Adds the types of some results of what a row gives.
+fn add_made<'a>(
     types: &mut Vec<Option<TypeView<'a>>>,
+    made: &Option<Made<'a>>,
+    count: usize,
+) -> Result<(), Exhausted>
+    ensures { OnOk result (types_told types.new.items ≡ types_told types.old.items ++ map (slice_get (unwrap_or (option_map made_told made.now) [])) (range_with_len 0 count)) }
+{
+    for k in 0..count {
+        types.push(result_type(made, k))?;
+    }
+    Ok(())
+}
+
+/// Adds what an instruction's row gives.
+fn add_results<'a>(
+    given: &mut GivenTypes<'a>,
     table: &'a TypeTable,
     inst: &'a Inst,
 ) -> Result<(), Exhausted>
-    ensures { OnOk result (types_told types.new.items ≡ types_told types.old.items ++ result_types table.now inst.now) }
+    ensures types { OnOk result (types_told given.new.types.items ≡ types_told given.old.types.items ++ result_types table.now inst.now) }
+    ensures counts { OnOk result (given.new.counts.items ≡ given.old.counts.items ++ given_count table.now inst.now ∷ []) }
 {
     let made = row_types(table, inst);
-    for k in 0..inst.results.len() {
-        types.push(result_type(&made, k))?;
-    }
-    Ok(())
+    given.counts.push(count_of(&made))?;
+    add_made(&mut given.types, &made, inst.results.len())
 }
 
 /// Adds the types of a block's arguments.
@@ -51,41 +85,47 @@ fn add_args<'a>(
 }
 
 fn add_insts<'a>(
-    types: &mut Vec<Option<TypeView<'a>>>,
+    given: &mut GivenTypes<'a>,
     table: &'a TypeTable,
     insts: &'a [Inst],
 ) -> Result<(), Exhausted>
-    ensures { OnOk result (types_told types.new.items ≡ types_told types.old.items ++ flat_map (result_types table.now) insts.now) }
+    ensures types { OnOk result (types_told given.new.types.items ≡ types_told given.old.types.items ++ flat_map (result_types table.now) insts.now) }
+    ensures counts { OnOk result (given.new.counts.items ≡ given.old.counts.items ++ map (given_count table.now) insts.now) }
 {
     for inst in insts {
-        add_results(types, table, inst)?;
+        add_results(given, table, inst)?;
     }
     Ok(())
 }
 
 fn add_block<'a>(
-    types: &mut Vec<Option<TypeView<'a>>>,
+    given: &mut GivenTypes<'a>,
     table: &'a TypeTable,
     block: &'a Block,
 ) -> Result<(), Exhausted>
-    ensures { OnOk result (types_told types.new.items ≡ types_told types.old.items ++ block_types table.now block.now) }
+    ensures types { OnOk result (types_told given.new.types.items ≡ types_told given.old.types.items ++ block_types table.now block.now) }
+    ensures counts { OnOk result (given.new.counts.items ≡ given.old.counts.items ++ map (given_count table.now) (insts_of block.now)) }
 {
-    add_args(types, block.args.as_slice())?;
-    add_insts(types, table, block.insts.as_slice())?;
-    add_results(types, table, &block.terminator)
+    add_args(&mut given.types, block.args.as_slice())?;
+    add_insts(given, table, block.insts.as_slice())?;
+    add_results(given, table, &block.terminator)
 }
 
-/// The types of a function's values, by their numbers. A result that its row doesn't give has none.
+/// The types of a function's values, by their numbers, and how many results each instruction's row gives: each row is asked once.
 pub fn value_types<'a>(
     alloc: Global,
     table: &'a TypeTable,
     f: &'a Function,
-) -> Result<Vec<Option<TypeView<'a>>>, Exhausted>
-    ensures { IfOk result (λ types. map (option_map view_told) types.items ≡ values.value_types table.now f.now) }
+) -> Result<GivenTypes<'a>, Exhausted>
+    ensures types { IfOk result (λ given. types_told given.types.items ≡ values.value_types table.now f.now) }
+    ensures counts { IfOk result (λ given. given.counts.items ≡ map (given_count table.now) (insts_in f.now.blocks)) }
 {
-    let mut types = Vec::new(alloc);
+    let mut given = GivenTypes {
+        types: Vec::new(alloc),
+        counts: Vec::new(alloc),
+    };
     for block in f.blocks.as_slice() {
-        add_block(&mut types, table, block)?;
+        add_block(&mut given, table, block)?;
     }
-    Ok(types)
+    Ok(given)
 }
