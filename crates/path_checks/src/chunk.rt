@@ -18,6 +18,7 @@ use path_patterns::{Mark, turn};
 use reach_engine::{Family, Step};
 
 /// The subjects from `first` on, with what each item does, and the subjects that it touches: `touched` for one that doesn't share, and `together` for all that share.
+/// `ordered` has the entries of the items that have many, in the order of their subjects.
 #[derive(Drop)]
 pub struct Chunk<'a> {
     pub entries: &'a [Vec<Entry>],
@@ -84,7 +85,7 @@ fn step_shared(subject: usize, marks: &[Option<Mark>], shares: bool, state: u8) 
     }
 }
 
-/// The own entries of one item: those of the subject alone, if they stand in order.
+/// The own entries of one item; where they stand in order too, the subject's alone.
 fn step_own(subject: usize, entries: &[Entry], ordered: &[Entry], state: u8) -> Step
     requires order { IsOrderOf entries.now ordered.now }
     requires state { state < 2 }

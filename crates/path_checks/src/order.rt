@@ -9,10 +9,10 @@ use crate::entry::Entry;
 use sil_ast::Exhausted;
 use std::alloc::Global;
 
-/// So few entries of an item are passed sooner than those of one subject are found.
+/// An item with at most this many entries is passed whole for each subject: to look for those of one subject would take as long.
 const FEW: usize = 16;
 
-/// The entries of one item in the order of their subjects; none where they are few.
+/// The entries of one item in the order of their subjects; none where there are few.
 fn ordered_item(alloc: Global, entries: &[Entry]) -> Result<Vec<Entry>, Exhausted>
     ensures { IfOk result (λ v. IsOrderOf entries.now v.items) }
 {
@@ -24,7 +24,7 @@ fn ordered_item(alloc: Global, entries: &[Entry]) -> Result<Vec<Entry>, Exhauste
     Ok(ordered)
 }
 
-/// The entries of each item that has more than a few, in the order of their subjects: those of one subject stand together, in the order given.
+/// The entries of each item that has many, in the order of their subjects: those of one subject stand together, in the order given.
 pub fn ordered_entries(alloc: Global, entries: &[Vec<Entry>]) -> Result<Vec<Vec<Entry>>, Exhausted>
     ensures size { IfOk result (λ v. length v.items ≡ length entries.now) }
     ensures order { IfOk result (λ v. (i : ℕ) → IsOrderOf (accesses_at entries.now i) (accesses_at v.items i)) }
@@ -36,7 +36,7 @@ pub fn ordered_entries(alloc: Global, entries: &[Vec<Entry>]) -> Result<Vec<Vec<
     Ok(ordered)
 }
 
-/// The subject's entries, of those that stand in the order of their subjects.
+/// The subject's entries, where they stand in the order of their subjects.
 pub fn entries_of(ordered: &[Entry], subject: usize) -> &[Entry]
     requires { IsNonDecreasingBy (λ e. e.subject) ordered.now }
     ensures { result.now ≡ own_of subject ordered.now }
