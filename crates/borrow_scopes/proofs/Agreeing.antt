@@ -1,5 +1,5 @@
 -- The entries by tables are those of the scopes.
-use Rattle.std.proofs.Common.{◌≡◌, ℕ, ◌<◌, List, [], ◌∷◌, ◌++◌, length, map, refl, sym, ap, ap₂, ◌∙◌, Bool, true, false, cond, Option, Some, None}
+use Rattle.std.proofs.Common.{◌≡◌, ℕ, ◌<◌, List, [], ◌∷◌, ◌++◌, length, map, refl, ap, ap₂, ◌∙◌, Bool, true, false, cond, Option, Some, None}
 use Rattle.std.specs.Prelude.{◌&&◌, filter}
 use Rattle.std.specs.List.{flat_map, range_with_len}
 use Rattle.std.specs.declared.alloc.Global.{Global}
@@ -24,8 +24,8 @@ use Rattle.ownership_marks.specs.declared.mark.Mark.{Mark}
 use Rattle.ownership_marks.specs.declared.mark.MarkSort.{MarkSort}
 use Rattle.ownership_marks.specs.declared.mark.MarkSort.TheVariants.{End, Use, Begin}
 use Rattle.borrow_scopes.specs.Lending.{lent_by, loans_of}
-use Rattle.borrow_scopes.specs.Scopes.{bases_in, entry_of, is_scope, leaves, left_at_return, lent_bases, lost_at_end, lost_entries, lost_from, lost_with, mark_entries, returned, scope_entries, scopes_of}
-use Rattle.borrow_scopes.specs.Tables.{borrowers_at, borrowers_of, left_mark, lost_at, mark_entries_in, scope_entries_in}
+use Rattle.borrow_scopes.specs.Scopes.{bases_in, entry_of, is_scope, leaves, left_at_return, lent_bases, lost_at_end, lost_from, lost_with, mark_entries, returned, scope_entries, scopes_of}
+use Rattle.borrow_scopes.specs.Tables.{borrowers_at, borrowers_of, left_mark, lost_at, mark_entries_in}
 
 pub same_bases : (a b : ValueId → Facts) → ((v : ValueId) → a v ≡ b v) → (o : Option ValueId) → bases_in a o ≡ bases_in b o
 same_bases a b same None = refl

@@ -70,11 +70,14 @@ more_values p n = put (p n) ∙ sym parts
   where
     old : List ℕ
     old = filter p (range_with_len 0 n)
+
     fresh : ends_with old n ≡ false
     fresh = none_is old n (length old - 1) (All-filter p (λ x. x < n) (range_with_len 0 n) (below_end 0 n n (omega arith)))
+
     put : (b : Bool) → with_last_if b (filter p (range_with_len 0 n)) n ≡ filter p (range_with_len 0 n) ++ cond b (n ∷ []) []
     put true = ap (λ b. cond b (filter p (range_with_len 0 n)) (filter p (range_with_len 0 n) ++ n ∷ [])) fresh
     put false = sym (append-nil (filter p (range_with_len 0 n)))
+
     parts : filter p (range_with_len 0 (n + 1)) ≡ filter p (range_with_len 0 n) ++ cond (p n) (n ∷ []) []
     parts =
         let e : 0 + n ≡ n = omega arith in
@@ -87,6 +90,7 @@ row_added rows x empty b = at (cases_lt b (length rows))
     past : (b ≡ length rows) ⊎ (b ≢ length rows) → length rows ≤ b → borrowers_at (rows ++ x ∷ []) b ≡ borrowers_at rows b
     past (inl e) le = accesses_last rows x b e ∙ empty ∙ sym (accesses_past rows b le)
     past (inr ne) le = let more : length (rows ++ x ∷ []) ≡ length rows + 1 = length_push rows x in accesses_past (rows ++ x ∷ []) b (omega arith) ∙ sym (accesses_past rows b le)
+
     at : (b < length rows) ⊎ (length rows ≤ b) → borrowers_at (rows ++ x ∷ []) b ≡ borrowers_at rows b
     at (inl lt) = accesses_kept rows x b lt
     at (inr le) = past (cases_eq b (length rows)) le

@@ -1,16 +1,15 @@
 -- The other value of a fault by facts that say the same.
-use Rattle.std.proofs.Common.{◌≡◌, ℕ, List, [], ◌∷◌, refl, ap, ap₂, ◌∙◌, Bool, cond, find, Option, Some, None}
-use Rattle.std.specs.Prelude.{◌&&◌, ◌==◌, option_map}
+use Rattle.std.proofs.Common.{◌≡◌, ℕ, List, [], ◌∷◌, refl, ap, ap₂, Bool, cond, find, Option, Some, None}
+use Rattle.std.specs.Prelude.{◌==◌, option_map}
 use Rattle.sil_ast.specs.declared.function.Function.{Function}
 use Rattle.sil_ast.specs.declared.place.ValueId.{ValueId}
 use Rattle.sil_cfg.specs.declared.item.Item.{Item}
-use Rattle.forwarding_chains.specs.Facts.{has, known_or}
+use Rattle.forwarding_chains.specs.Facts.{known_or}
 use Rattle.forwarding_chains.specs.declared.facts.Facts.{Facts}
 use Rattle.ownership_marks.proofs.MarkTables.{same_marks}
-use Rattle.ownership_marks.specs.Marks.{item_taken, marks_of}
+use Rattle.ownership_marks.specs.Marks.{item_taken}
 use Rattle.borrow_scopes.specs.Lending.{lent_by}
 use Rattle.borrow_scopes.specs.Others.{ended_base, ends_one, lies_in, marked_value, other_of, taken_value, used_operand}
-use Rattle.borrow_scopes.specs.Scopes.{lent_bases}
 use Rattle.borrow_scopes.proofs.Agreeing.{same_bases}
 
 find_same : {X : Type 0} (p q : X → Bool) → ((x : X) → p x ≡ q x) → (xs : List X) → find p xs ≡ find q xs

@@ -87,12 +87,7 @@ fn fault_of(
 }
 
 /// The first broken rule, if one is broken.
-fn find(
-    alloc: Global,
-    f: &Function,
-    g: &Graph,
-    k: &Kinds,
-) -> Result<Option<RuleFault>, Exhausted>
+fn find(alloc: Global, f: &Function, g: &Graph, k: &Kinds) -> Result<Option<RuleFault>, Exhausted>
     requires { IsGraphOf g.now f.now }
     ensures { IfOk result (λ o. MatchOption o (AreScopesKept f.now g.now k.now) (IsFirstBrokenScope f.now g.now k.now)) }
 {

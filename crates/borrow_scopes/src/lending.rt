@@ -72,10 +72,7 @@ fn add_block(loans: &mut Vec<Option<ValueId>>, block: &Block) -> Result<(), Exha
 }
 
 /// For each value, by its number, the one that it lends, if it is the result of a `begin_borrow`.
-pub(crate) fn loans_of(
-    alloc: Global,
-    f: &Function,
-) -> Result<Vec<Option<ValueId>>, Exhausted>
+pub(crate) fn loans_of(alloc: Global, f: &Function) -> Result<Vec<Option<ValueId>>, Exhausted>
     ensures { IfOk result (λ loans. loans.items ≡ lending.loans_of f.now) }
 {
     let mut loans = Vec::new(alloc);

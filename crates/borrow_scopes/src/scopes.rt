@@ -101,11 +101,7 @@ fn borrowers(rows: &[Vec<u32>], base: ValueId) -> &[u32]
 }
 
 /// Where the mark ends a base, no scope that borrows from it is open.
-fn add_lost_at(
-    entries: &mut Vec<Entry>,
-    rows: &[Vec<u32>],
-    mark: Mark,
-) -> Result<(), Exhausted>
+fn add_lost_at(entries: &mut Vec<Entry>, rows: &[Vec<u32>], mark: Mark) -> Result<(), Exhausted>
     ensures { OnOk result (entries.new.items ≡ entries.old.items ++ lost_at (borrowers_at rows.now mark.subject.0) mark.sort) }
 {
     match mark.sort {

@@ -44,11 +44,7 @@ fn is_return(f: &Function, item: Item) -> bool
 }
 
 /// Which items are a `return`, by their numbers.
-pub fn returns_by_item(
-    alloc: Global,
-    f: &Function,
-    g: &Graph,
-) -> Result<Vec<bool>, Exhausted>
+pub fn returns_by_item(alloc: Global, f: &Function, g: &Graph) -> Result<Vec<bool>, Exhausted>
     ensures { IfOk result (λ v. (i : ℕ) (item : item.Item) → item_at g.now i ≡ Some item → slice_index_or v.items i false ≡ returns.is_return f.now item) }
 {
     let mut returns = Vec::with_capacity(alloc, g.items())?;

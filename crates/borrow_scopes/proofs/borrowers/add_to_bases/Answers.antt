@@ -12,6 +12,6 @@ loop-base-preserved c =
     let i = c.loop-base.base-index in
     let base = get_or c.args.bases.now c.loop-base.base-index (value_of 0) in
     λ b. c.in_ok-add_borrower.ensures b
-        ∙ ap (λ row. with_last_if (base.0 == b) row c.args.scope) (c.loop-base.invariant b)
-        ∙ more_bases (take i bases) base b (borrowers_at c.args.rows.now.items b) c.args.scope
-        ∙ ap (λ before. with_last_if (has before b) (borrowers_at c.args.rows.now.items b) c.args.scope) (sym (take_more bases i (value_of 0) c.loop-base-test.true))
+    ∙ ap (λ row. with_last_if (base.0 == b) row c.args.scope) (c.loop-base.invariant b)
+    ∙ more_bases (take i bases) base b (borrowers_at c.args.rows.now.items b) c.args.scope
+    ∙ ap (λ before. with_last_if (has before b) (borrowers_at c.args.rows.now.items b) c.args.scope) (sym (take_more bases i (value_of 0) c.loop-base-test.true))
