@@ -1,4 +1,4 @@
-//! The checks of values, function by function: definitions, kinds and lifetimes, in this order.
+//! The checks of values, function by function: definitions, kinds, lifetimes and scopes, in this order.
 
 ghost use Rattle.std.specs.Prelude.{IfErr, OnOk};
 ghost use Rattle.numbered_form.specs.NumberedForm.{IsNumbered};
@@ -18,7 +18,7 @@ use std::alloc::Global;
 /// Why a module is refused whose items, types and typing are right.
 #[derive(Drop)]
 pub(crate) enum ValueRefusal {
-    /// One of 301 to 305 and 401 to 404 is broken in the function.
+    /// One of 301 to 305, 401 to 404 and 501 to 505 is broken in the function.
     Rule { function: FuncId, fault: RuleFault },
     /// There is no memory left.
     Memory,
@@ -67,7 +67,8 @@ fn check_numbered(
 }
 
 /// Checks of all functions with a body that each value is defined before it is used (301), that its kind is one that is taken
-/// (302 to 305), and that it is used and ended only while it lives (401 to 404).
+/// (302 to 305), that it is used and ended only while it lives (401 to 404), and that a borrow is while it is open and what it
+/// borrows from stays (501 to 505).
 /// The refusal is the first by function, by these groups, by value and then by rule; of one on walks the walk has the fewest edges.
 pub(crate) fn check_values(alloc: Global, m: &Module, table: &TypeTable) -> Result<(), ValueRefusal>
     requires numbered { IsNumbered m.now }
