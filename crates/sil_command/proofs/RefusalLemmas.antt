@@ -1,14 +1,12 @@
 -- What is written of a report is written of what it reports.
-use Rattle.std.proofs.Common.{◌≡◌, refl, sym, ap, subst, ◌∙◌, List, [], ◌++◌, ℕ, Option, Some, None}
+use Rattle.std.proofs.Common.{◌≡◌, refl, ap, subst, Some}
 use Rattle.std.specs.Prelude.{unwrap_or}
-use Rattle.std.specs.Option.{option_map}
 use Rattle.std.proofs.lemmas.List.{append-nil}
 use Rattle.sil_ast.specs.declared.module.Module.{Module}
 use Rattle.sil_verifier.specs.Findings.{Finding, item, limit, typing, value, IsLimit}
-use Rattle.sil_verifier.specs.Reports.{Reported, report_of, vtable_item}
+use Rattle.sil_verifier.specs.Reports.{Reported}
 use Rattle.sil_verifier.specs.declared.refusal.Refusal.{Refusal}
 use Rattle.sil_command.specs.RefusalTexts.{refusal_text, report_text}
-use Rattle.sil_command.specs.Texts.{line, rule_words, site_words}
 
 same_some : {A : Type 0} (a b : A) → Some a ≡ Some b → a ≡ b
 same_some a b e = ap (λ o. unwrap_or o a) e

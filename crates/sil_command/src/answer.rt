@@ -1,6 +1,6 @@
 //! The answer to a text: what is written, and the status. No byte is read or written here.
 
-ghost use Rattle.std.specs.Prelude.{◌≡◌, ◌≤◌, IfOk, length};
+ghost use Rattle.std.specs.Prelude.{◌≤◌, IfOk, length};
 ghost use Rattle.sil_rules.specs.declared.limits.TheConstants.{TEXT_BYTES};
 ghost use Rattle.sil_rules.specs.Statuses.{code_of};
 ghost use Rattle.numbered_form.specs.NumberedForm.{IsNumbered};

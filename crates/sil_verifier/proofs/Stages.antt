@@ -1,6 +1,6 @@
 -- The stages of the checks come one behind the other, as the first number of a key tells: so what is first in a stage is the first of all
 -- that is wrong, where the stages before it find nothing.
-use Rattle.std.proofs.Common.{◌≡◌, ℕ, ◌+◌, ◌≤◌, List, [], ◌∷◌, sym, subst, arith, inl, inr}
+use Rattle.std.proofs.Common.{ℕ, ◌+◌, ◌≤◌, List, [], ◌∷◌, arith, inl, inr}
 use Rattle.sil_ast.specs.declared.module.Module.{Module}
 use Rattle.sil_rules.specs.Order.{IsLeast, NotAfter}
 use Rattle.sil_rules.specs.declared.limit_word.LimitWord.{LimitWord}
