@@ -27,7 +27,7 @@ use Rattle.sil_verifier.proofs.Codes.{HasRule, life_code, undefined_code}
 use Rattle.sil_verifier.proofs.ScopeCodes.{HasScopeRule, scope_code}
 use Rattle.sil_verifier.specs.Shown.{IsLifeRule, IsScopeRule, IsShownIn, Showing, inner_key, last_key, lives_in, scopes_in}
 use Rattle.sil_verifier.specs.Shown.IsLifeRule.{used as life_used, ended as life_ended, left as life_left, begun as life_begun}
-use Rattle.sil_verifier.specs.Shown.IsScopeRule as is_scope
+use Rattle.sil_verifier.specs.Shown.IsScopeRule.{used as scope_used, ended as scope_ended, left as scope_left, lost as scope_lost, begun as scope_begun}
 use Rattle.sil_verifier.specs.Shown.IsShownIn.{undefined, kind, life, scope}
 use Rattle.sil_verifier.specs.Values.{IsCleanIn, IsEndIn, IsFirstIn}
 
@@ -49,11 +49,11 @@ pub life_key : (s : Showing) (code : ℕ) → IsLifeRule s.rule code → inner_k
 life_key s code h = rule_key s s.rule code h
 
 scope_rule_key : (s : Showing) (r : Rule) (code : ℕ) → IsScopeRule r code → (key_in_function s.subject.0 r ++ last_key (group_of r) s) ≡ walk_key 7 s.subject.0 (500 + code) (length s.walk)
-scope_rule_key s _ _ is_scope.used = refl
-scope_rule_key s _ _ is_scope.ended = refl
-scope_rule_key s _ _ is_scope.left = refl
-scope_rule_key s _ _ is_scope.lost = refl
-scope_rule_key s _ _ is_scope.begun = refl
+scope_rule_key s _ _ scope_used = refl
+scope_rule_key s _ _ scope_ended = refl
+scope_rule_key s _ _ scope_left = refl
+scope_rule_key s _ _ scope_lost = refl
+scope_rule_key s _ _ scope_begun = refl
 
 pub scope_key : (s : Showing) (code : ℕ) → IsScopeRule s.rule code → inner_key s ≡ walk_key 7 s.subject.0 (500 + code) (length s.walk)
 scope_key s code h = scope_rule_key s s.rule code h
@@ -189,11 +189,11 @@ module _ (d : Declarations) (f : Function) where
         -- 501 to 505
 
         scope_number : (r : Rule) (code : ℕ) → IsScopeRule r code → number_of r ≡ 500 + code
-        scope_number _ _ is_scope.used = refl
-        scope_number _ _ is_scope.ended = refl
-        scope_number _ _ is_scope.left = refl
-        scope_number _ _ is_scope.lost = refl
-        scope_number _ _ is_scope.begun = refl
+        scope_number _ _ scope_used = refl
+        scope_number _ _ scope_ended = refl
+        scope_number _ _ scope_left = refl
+        scope_number _ _ scope_lost = refl
+        scope_number _ _ scope_begun = refl
 
         no_life : (t : Showing) (code : ℕ) → paths.IsShown f (lives_in d f) t.subject.0 code t.walk t.point → ⊥
         no_life t code there = lives (length (values_of f.blocks)) (facts_in d f) are t.subject.0 code t.walk t.point there
@@ -260,8 +260,8 @@ stage_told d f s (life o code r there) = at s.rule code r
 stage_told d f s (scope code item o r there) = at s.rule code r
   where
     at : (r : Rule) (code : ℕ) → IsScopeRule r code → stage_of (group_of r) ≡ 6
-    at _ _ is_scope.used = refl
-    at _ _ is_scope.ended = refl
-    at _ _ is_scope.left = refl
-    at _ _ is_scope.lost = refl
-    at _ _ is_scope.begun = refl
+    at _ _ scope_used = refl
+    at _ _ scope_ended = refl
+    at _ _ scope_left = refl
+    at _ _ scope_lost = refl
+    at _ _ scope_begun = refl

@@ -20,7 +20,7 @@ use Rattle.sil_rules.specs.declared.rule.Rule.{Rule}
 use Rattle.sil_rules.specs.declared.rule.Rule.TheVariants as rule
 use Rattle.sil_verifier.proofs.Codes.{each_append, each_flat, each_if, shown_code}
 use Rattle.sil_verifier.specs.Shown.{IsScopeRule}
-use Rattle.sil_verifier.specs.Shown.IsScopeRule as is
+use Rattle.sil_verifier.specs.Shown.IsScopeRule.{used, ended, left, lost, begun}
 
 abbrev pub HasScopeRule : ℕ → Type 0
 HasScopeRule code = (r : Rule) × IsScopeRule r code
@@ -29,16 +29,16 @@ abbrev IsTold : entry.Entry → Type 0
 IsTold e = HasScopeRule e.mark.code
 
 turned_rule : (sort : MarkSort) → HasScopeRule (turned_by sort).code
-turned_rule Use = (rule.UseOutsideScope, is.used)
-turned_rule End = (rule.EndTwice, is.ended)
-turned_rule Begin = (rule.ScopeOverwritten, is.begun)
+turned_rule Use = (rule.UseOutsideScope, used)
+turned_rule End = (rule.EndTwice, ended)
+turned_rule Begin = (rule.ScopeOverwritten, begun)
 
 module _ (f : Function) (facts : ValueId → Facts) where
   own_told : (m : mark.Mark) → AllByRecursion IsTold (scope_entries f facts m)
   own_told m = each_if IsTold (is_scope f facts m.subject) (entry_of m) (turned_rule m.sort)
 
   from_told : (b : ValueId) (n : ℕ) → AllByRecursion IsTold (lost_from f facts b n)
-  from_told b n = each_if IsTold (has (lent_bases f facts n) b.0) (lost_at_end n) (rule.ConsumedWhileBorrowed, is.lost)
+  from_told b n = each_if IsTold (has (lent_bases f facts n) b.0) (lost_at_end n) (rule.ConsumedWhileBorrowed, lost)
 
   with_told : (count : ℕ) (v : ValueId) (sort : MarkSort) → AllByRecursion IsTold (lost_with f facts count v sort)
   with_told count v End = each_flat IsTold (lost_from f facts v) (range_with_len 0 count) (from_told v)
@@ -49,7 +49,7 @@ module _ (f : Function) (facts : ValueId → Facts) where
   mark_told count m = each_append IsTold (scope_entries f facts m) (lost_entries f facts count m) (own_told m) (with_told count m.subject m.sort)
 
   leaves_told : (n : ℕ) → AllByRecursion IsTold (leaves f facts n)
-  leaves_told n = each_if IsTold (is_scope f facts (value_of n)) (left_at_return n) (rule.ScopeLeft, is.left)
+  leaves_told n = each_if IsTold (is_scope f facts (value_of n)) (left_at_return n) (rule.ScopeLeft, left)
 
   returned_told : (count : ℕ) (b : Bool) → AllByRecursion IsTold (returned f facts count b)
   returned_told count true = each_flat IsTold (leaves f facts) (range_with_len 0 count) leaves_told
