@@ -26,7 +26,7 @@ returns-in_err-kinds-clause-end c =
 pub returns-in_err-check-2-clause-end : goal.returns-in_err-check-2-clause-end
 returns-in_err-check-2-clause-end c =
     let told : IsEndIn c.args.table.now c.args.f.now c.in_err-check-2.field-0.0 =
-        end_life c.args.table.now c.args.f.now c.in_ok-check.ensures.ok c.in_ok-kinds.ensures.keeps _ _ c.in_ok-kinds.ensures.kinds c.in_err-check-2.field-0.0 c.in_err-check-2.ensures.fault in
+    end_life c.args.table.now c.args.f.now c.in_ok-check.ensures.ok c.in_ok-kinds.ensures.keeps _ _ c.in_ok-kinds.ensures.kinds c.in_err-check-2.field-0.0 c.in_err-check-2.ensures.fault in
     search rules
 
 pub returns-clause-ok : goal.returns-clause-ok
