@@ -6,6 +6,7 @@ use Rattle.sil_cfg.specs.Layout.{Layout}
 use Rattle.sil_cfg.specs.declared.fault.RuleEnd.{RuleEnd}
 use Rattle.sil_cfg.specs.declared.fault.RuleEnd.TheVariants.{Fault, Memory}
 use Rattle.sil_cfg.specs.declared.fault.RuleFault.{RuleFault}
+use Rattle.sil_cfg.specs.declared.item.Item.{Item}
 use Rattle.path_checks.specs.First.{IsFirst}
 use Rattle.path_checks.specs.declared.entry.PathFault.{PathFault}
 use Rattle.forwarding_chains.specs.declared.facts.Facts.{Facts}
@@ -23,9 +24,10 @@ AreLivesKept f g k = IsFirstLife f g k None
 -- the walk breaks one at the point, and nothing that is shown comes before it: by value, then by rule, and then with fewer edges
 pub record IsFirstBrokenLife (f : Function) (g : Layout) (k : Known) (fault : RuleFault) : Type 0 where
   pub code : ℕ
+  pub item : Item
   pub rule : fault.rule ≡ 400 + code
   pub other : fault.other ≡ None
-  pub first : IsFirstLife f g k (Some (record { subject = fault.subject.0; code = code; walk = fault.walk; point = fault.point }))
+  pub first : IsFirstLife f g k (Some (record { subject = fault.subject.0; code = code; walk = fault.walk; point = fault.point; item = item }))
 
 abbrev pub IsLifeBroken : Function → Layout → Known → RuleEnd → Type 0
 IsLifeBroken f g k (Fault fault) = IsFirstBrokenLife f g k fault

@@ -47,6 +47,7 @@ pub fn check(alloc: Global, f: &Function, g: &Graph, k: &Kinds) -> Result<(), Ru
                 code,
                 walk,
                 point,
+                item: _,
             } = fault;
             Err(RuleEnd::Fault(RuleFault {
                 rule: BEFORE_FIRST + code as u16,

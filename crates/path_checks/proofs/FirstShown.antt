@@ -6,11 +6,11 @@ use Rattle.sil_ast.specs.declared.place.PointId.{PointId}
 use Rattle.sil_ast.specs.declared.function.Function.{Function}
 use Rattle.sil_cfg.specs.declared.item.Item.{Item}
 use Rattle.sil_cfg.specs.declared.item.Item.TheVariants.{Entry, Inst, Edge, Exit}
-use Rattle.sil_cfg.specs.Layout.{Layout}
+use Rattle.sil_cfg.specs.Layout.{Layout, item_at}
 use Rattle.sil_cfg.specs.Flow.{numbered, point_of}
 use Rattle.sil_cfg.specs.Items.{flow_of}
 use Rattle.sil_cfg.specs.Build.{IsGraphOf}
-use Rattle.reach_engine.specs.Reach.{ReachesFirst, ReachesPoint}
+use Rattle.reach_engine.specs.Reach.{ReachesFirst}
 use Rattle.reach_engine.specs.Search.{IsClean}
 use Rattle.reach_engine.proofs.Runs.{go-bad}
 use Rattle.path_patterns.specs.Reads.{AgreesWith, FitsRead, read_code, read_step}
@@ -22,7 +22,7 @@ use Rattle.path_checks.specs.declared.entry.Entry as entry
 use Rattle.path_checks.specs.declared.entry.PathFault.{PathFault}
 use Rattle.path_checks.specs.Entries.{means, subject_step}
 use Rattle.path_checks.specs.Chunks.{IsChunkFault}
-use Rattle.path_checks.specs.First.{IsShown, NotAfter, IsFirst}
+use Rattle.path_checks.specs.First.{IsShownAt, IsShown, NotAfter, IsFirst}
 use Rattle.path_checks.proofs.OtherSubjects.{quiet_run}
 
 point_same : (g : Layout) (f : Function) → IsGraphOf g f → (item : Item) → point_of (numbered g) item ≡ point_of (flow_of f) item
@@ -46,17 +46,17 @@ module _ (g : Layout) (f : Function) (is : IsGraphOf g f) (entries : ℕ → Lis
   -- what is shown is reached
   pub shown_is_reached : (subject code : ℕ) (walk : List EdgeId) (point : PointId) → IsShown f table subject code walk point → (i : ℕ) × ReachesFirst (numbered g) (subject_step entries subject) walk code i
   shown_is_reached subject code walk point h =
-      let r = shown_back g f is entries table agrees (FitsRead IsInPlace (means subject)) (read_code code_of (means subject)) walk code h.item h.shows in
+      let r = shown_back g f is entries table agrees (FitsRead IsInPlace (means subject)) (read_code code_of (means subject)) walk code h.item h.at.shows in
       (r.0, shown_reached (read_step mark_step (means subject)) (FitsRead IsInPlace (means subject)) (read_code code_of (means subject)) (reading_decides (means subject)) entries (numbered g) walk code r.0 r.2)
 
   -- and what is reached is shown
-  pub reached_is_shown : (subject code : ℕ) (walk : List EdgeId) (point : PointId) → ReachesPoint g (subject_step entries subject) walk code point → IsShown f table subject code walk point
-  reached_is_shown subject code walk point h =
-      let shows = reached_shown (read_step mark_step (means subject)) (FitsRead IsInPlace (means subject)) (read_code code_of (means subject)) (reading_decides (means subject)) entries (numbered g) walk code h.item h.reaches in
+  pub reached_is_shown : (subject code : ℕ) (walk : List EdgeId) (point : PointId) (i : ℕ) (item : Item) → ReachesFirst (numbered g) (subject_step entries subject) walk code i → item_at g i ≡ Some item →
+      point ≡ point_of (numbered g) item → IsShownAt f table subject code walk point item
+  reached_is_shown subject code walk point i item h there point_is =
+      let shows = reached_shown (read_step mark_step (means subject)) (FitsRead IsInPlace (means subject)) (read_code code_of (means subject)) (reading_decides (means subject)) entries (numbered g) walk code i h in
       record {
-        item = h.point_is.kind;
-        point_is = h.point_is.point_is ∙ point_same g f is h.point_is.kind;
-        shows = shown_there g f is entries table agrees (FitsRead IsInPlace (means subject)) (read_code code_of (means subject)) walk code h.item h.point_is.kind h.point_is.there shows;
+        point_is = point_is ∙ point_same g f is item;
+        shows = shown_there g f is entries table agrees (FitsRead IsInPlace (means subject)) (read_code code_of (means subject)) walk code i item there shows;
       }
 
   -- a subject without entries is clean
@@ -73,7 +73,7 @@ module _ (g : Layout) (f : Function) (is : IsGraphOf g f) (entries : ℕ → Lis
   -- where those before are clean, the chunk's fault is the first
   pub chunk_fault_first : (first count : ℕ) (fault : PathFault) → ((v : ℕ) → v < first → IsClean (numbered g) (subject_step entries v)) → IsChunkFault g entries first count fault → IsFirst f table (Some fault)
   chunk_fault_first first count fault before h = (
-    reached_is_shown fault.subject fault.code fault.walk fault.point h.reaches,
+    reached_is_shown fault.subject fault.code fault.walk fault.point h.item fault.item h.reaches h.there h.point,
     λ subject code walk point s.
         first_then fault.subject subject (fault.code ∷ (length fault.walk ∷ [])) (code ∷ (length walk ∷ [])) (at_most fault.subject subject (λ lt. clean_unshown subject (earlier subject lt) code walk point s))
         (λ same.

@@ -1,9 +1,9 @@
 -- Some of the subjects, searched together.
 use Rattle.std.specs.Prelude.{◌≡◌, ◌⊎◌, ℕ, ◌+◌, ◌-◌, ◌<◌, ◌≤◌, List, [], ◌∷◌, ◌++◌, All, Contains, Bool, true, slice_get, unwrap_or, Option, Some, None}
 use Rattle.std.specs.List.Sorted.{IsStrictlyIncreasing}
-use Rattle.sil_cfg.specs.Layout.{Layout}
-use Rattle.sil_cfg.specs.Flow.{numbered}
-use Rattle.reach_engine.specs.Reach.{ReachesPoint}
+use Rattle.sil_cfg.specs.Layout.{Layout, item_at}
+use Rattle.sil_cfg.specs.Flow.{numbered, point_of}
+use Rattle.reach_engine.specs.Reach.{ReachesFirst}
 use Rattle.reach_engine.specs.Search.{IsClean, IsLeastCode, IsShortest}
 use Rattle.path_checks.specs.declared.entry.Entry.{Entry}
 use Rattle.path_checks.specs.declared.entry.PathFault.{PathFault}
@@ -39,7 +39,10 @@ pub record IsChunkFault (g : Layout) (entries : ℕ → List Entry) (first count
   pub subject : fault.subject ≡ first + offset
   pub within : offset < count
   pub clean : (u : ℕ) → u < offset → IsClean (numbered g) (subject_step entries (first + u))
-  pub reaches : ReachesPoint g (subject_step entries fault.subject) fault.walk fault.code fault.point
+  pub item : ℕ
+  pub there : item_at g item ≡ Some fault.item
+  pub point : fault.point ≡ point_of (numbered g) fault.item
+  pub reaches : ReachesFirst (numbered g) (subject_step entries fault.subject) fault.walk fault.code item
   pub least : IsLeastCode (numbered g) (subject_step entries fault.subject) fault.code
   pub shortest : IsShortest (numbered g) (subject_step entries fault.subject) fault.code fault.walk
 

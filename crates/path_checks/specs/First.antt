@@ -13,11 +13,15 @@ use Rattle.path_checks.specs.declared.entry.Entry.{Entry}
 use Rattle.path_checks.specs.declared.entry.PathFault.{PathFault}
 use Rattle.path_checks.specs.Entries.{means}
 
--- the walk shows at an item of this point that the subject's pattern breaks, first with this code
-pub record IsShown (f : Function) (table : Item → List Entry) (subject code : ℕ) (walk : List EdgeId) (point : PointId) : Type 0 where
-  pub item : Item
+-- the walk shows at the item, which has this point, that the subject's pattern breaks, first with this code
+pub record IsShownAt (f : Function) (table : Item → List Entry) (subject code : ℕ) (walk : List EdgeId) (point : PointId) (item : Item) : Type 0 where
   pub point_is : point ≡ point_of (flow_of f) item
   pub shows : Shows (flow_of f) table (FitsRead IsInPlace (means subject)) (read_code code_of (means subject)) walk code item
+
+-- the walk shows it at some item of this point
+pub record IsShown (f : Function) (table : Item → List Entry) (subject code : ℕ) (walk : List EdgeId) (point : PointId) : Type 0 where
+  pub item : Item
+  pub at : IsShownAt f table subject code walk point item
 
 -- the first list of numbers comes before the second one, or is it
 abbrev pub NotAfter : List ℕ → List ℕ → Type 0
@@ -29,9 +33,9 @@ NotAfter (x ∷ xs) (y ∷ ys) = (x < y) ⊎ ((x ≡ y) × NotAfter xs ys)
 abbrev pub key : ℕ → ℕ → List EdgeId → List ℕ
 key subject code walk = subject ∷ (code ∷ (length walk ∷ []))
 
--- nothing is shown; or the fault is, and nothing that is shown comes before it
+-- nothing is shown; or the fault is, at its item, and nothing that is shown comes before it
 abbrev pub IsFirst : Function → (Item → List Entry) → Option PathFault → Type 0
 IsFirst f table None = (subject code : ℕ) (walk : List EdgeId) (point : PointId) → IsShown f table subject code walk point → ⊥
 IsFirst f table (Some fault) =
-    IsShown f table fault.subject fault.code fault.walk fault.point
+    IsShownAt f table fault.subject fault.code fault.walk fault.point fault.item
     × ((subject code : ℕ) (walk : List EdgeId) (point : PointId) → IsShown f table subject code walk point → NotAfter (key fault.subject fault.code fault.walk) (key subject code walk))

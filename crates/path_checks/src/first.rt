@@ -15,7 +15,7 @@ use crate::entry::{Entry, PathFault};
 use crate::sharing::touched_by_sharing;
 use crate::touched::{subject_bound, touched_subjects};
 use path_patterns::Mark;
-use reach_engine::{FoundAll, search_all};
+use reach_engine::first_broken;
 use sil_ast::{Exhausted, Function};
 use sil_cfg::Graph;
 use std::alloc::Global;
@@ -49,18 +49,14 @@ fn first_of_chunk(
         touched,
         together,
     };
-    match search_all(alloc, g, &chunk)? {
-        FoundAll::Clean(_) => Ok(None),
-        FoundAll::Fault {
-            subject,
-            walk,
-            point,
-            code,
-        } => Ok(Some(PathFault {
-            subject: (first + subject) as u32,
-            code,
-            walk,
-            point,
+    match first_broken(alloc, g, &chunk)? {
+        None => Ok(None),
+        Some(broken) => Ok(Some(PathFault {
+            subject: (first + broken.subject) as u32,
+            code: broken.code,
+            walk: broken.walk,
+            point: g.point(broken.item),
+            item: g.item(broken.item),
         })),
     }
 }

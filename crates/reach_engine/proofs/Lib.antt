@@ -1,4 +1,5 @@
 pub mod ItemsInRange
+pub mod PointsReached
 pub mod Runs
 pub mod FrontierKept
 pub mod AlongWalks

@@ -61,3 +61,16 @@ pub enum Found {
         code: u8,
     },
 }
+
+/// What a search of all walks found, by the number of the item that breaks the automaton.
+#[derive(Drop)]
+pub enum Searched {
+    /// No walk breaks the automaton.
+    Clean(StateMap),
+    /// The walk's last item breaks it.
+    Breaks {
+        walk: List<EdgeId>,
+        item: usize,
+        code: u8,
+    },
+}

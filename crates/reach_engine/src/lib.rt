@@ -17,5 +17,5 @@ mod worklist;
 pub use family::Family;
 pub use found::{Found, StateMap};
 pub use scan::{Scan, Step};
-pub use together::{FamilyMap, FoundAll, search_all};
+pub use together::{Broken, FamilyMap, FoundAll, first_broken, search_all};
 pub use worklist::search;

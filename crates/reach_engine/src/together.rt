@@ -1,21 +1,22 @@
 //! All subjects searched together: rows decide who has a fault, and the search by pairs shows the first.
 
-ghost use Rattle.std.specs.Prelude.{◌≡◌, ℕ, ◌+◌, ◌*◌, ◌<◌, ◌≤◌, ◌^◌, IfOk, length};
-ghost use Rattle.sil_cfg.specs.Layout.{item_count};
+ghost use Rattle.std.specs.Prelude.{◌≡◌, ℕ, ◌+◌, ◌*◌, ◌<◌, ◌≤◌, ◌^◌, IfOk, IfNone, IfSome, IsSome, length};
+ghost use Rattle.sil_cfg.specs.Layout.{item_at, item_count};
 ghost use Rattle.sil_cfg.specs.Flow.{block_count, numbered};
-ghost use Rattle.reach_engine.specs.Reach.{ReachesPoint};
+ghost use Rattle.reach_engine.specs.Reach.{ReachesFirst, ReachesPoint};
 ghost use Rattle.reach_engine.specs.Search.{IsClean, IsLeastCode, IsShortest};
 ghost use Rattle.reach_engine.specs.Reached.{AreExact};
 ghost use Rattle.reach_engine.specs.Bits.{bit_in};
 ghost use Rattle.reach_engine.specs.Columns.{cell};
 ghost use Rattle.reach_engine.specs.Together.{IfClean, IfFault};
+ghost use Rattle.reach_engine.specs.Searched.{IfAllClean, IfSomeBreaks};
 
 use crate::bits::has_bit;
 use crate::family::Family;
-use crate::found::Found;
+use crate::found::Searched;
 use crate::member::Member;
 use crate::rows::reach_rows;
-use crate::worklist::search;
+use crate::worklist::search_walks;
 use sil_ast::{BlockId, EdgeId, Exhausted, List, PointId};
 use sil_cfg::Graph;
 use std::alloc::Global;
@@ -85,6 +86,22 @@ pub enum FoundAll {
     },
 }
 
+/// A subject that some walk breaks: the walk's last item, by its number, breaks the subject's automaton with the code.
+#[derive(Drop)]
+pub struct Broken {
+    pub subject: usize,
+    pub walk: List<EdgeId>,
+    pub item: usize,
+    pub code: u8,
+}
+
+/// The same as `FoundAll`, by the number of the item that breaks the automaton.
+#[derive(Drop)]
+enum SearchedAll {
+    Clean(FamilyMap),
+    Breaks(Broken),
+}
+
 /// Searches all walks for all subjects: `Clean` where none breaks an automaton. Else the least subject that some walk breaks,
 /// then the least code that some walk reaches first for it, and a walk of fewest edges among those that reach it first.
 pub fn search_all<F: Family>(alloc: Global, g: &Graph, family: &F) -> Result<FoundAll, Exhausted>
@@ -100,22 +117,84 @@ pub fn search_all<F: Family>(alloc: Global, g: &Graph, family: &F) -> Result<Fou
     ensures least { IfOk result (λ r. IfFault r (λ subject walk point code. IsLeastCode (numbered g.now) (F.step_of family.now subject) code)) }
     ensures shortest { IfOk result (λ r. IfFault r (λ subject walk point code. IsShortest (numbered g.now) (F.step_of family.now subject) code walk)) }
 {
+    match search_subjects(alloc, g, family)? {
+        SearchedAll::Clean(map) => Ok(FoundAll::Clean(map)),
+        SearchedAll::Breaks(broken) => {
+            let Broken {
+                subject,
+                walk,
+                item,
+                code,
+            } = broken;
+            Ok(FoundAll::Fault {
+                subject,
+                walk,
+                point: g.point(item),
+                code,
+            })
+        }
+    }
+}
+
+/// The least subject that some walk breaks, the least code that some walk reaches first for it, a walk of fewest edges among those that reach it first,
+/// and the walk's last item; none where no walk breaks an automaton.
+pub fn first_broken<F: Family>(
+    alloc: Global,
+    g: &Graph,
+    family: &F,
+) -> Result<Option<Broken>, Exhausted>
+    requires items { F.item_count family.now ≡ item_count g.now }
+    requires states { 0 < F.state_count family.now }
+    requires subjects { F.subject_count family.now ≤ 1024 }
+    ensures none { IfOk result (λ r. IfNone r ((u : ℕ) → u < F.subject_count family.now → IsClean (numbered g.now) (F.step_of family.now u))) }
+    ensures within { IfOk result (λ r. IfSome r (λ b. b.subject < F.subject_count family.now)) }
+    ensures first { IfOk result (λ r. IfSome r (λ b. (u : ℕ) → u < b.subject → IsClean (numbered g.now) (F.step_of family.now u))) }
+    ensures breaks { IfOk result (λ r. IfSome r (λ b. ReachesFirst (numbered g.now) (F.step_of family.now b.subject) b.walk b.code b.item)) }
+    ensures item { IfOk result (λ r. IfSome r (λ b. IsSome (item_at g.now b.item))) }
+    ensures least { IfOk result (λ r. IfSome r (λ b. IsLeastCode (numbered g.now) (F.step_of family.now b.subject) b.code)) }
+    ensures shortest { IfOk result (λ r. IfSome r (λ b. IsShortest (numbered g.now) (F.step_of family.now b.subject) b.code b.walk)) }
+{
+    match search_subjects(alloc, g, family)? {
+        SearchedAll::Clean(_) => Ok(None),
+        SearchedAll::Breaks(broken) => Ok(Some(broken)),
+    }
+}
+
+/// The same search as `search_all`, which names the item that breaks in place of its point.
+fn search_subjects<F: Family>(
+    alloc: Global,
+    g: &Graph,
+    family: &F,
+) -> Result<SearchedAll, Exhausted>
+    requires items { F.item_count family.now ≡ item_count g.now }
+    requires states { 0 < F.state_count family.now }
+    requires subjects { F.subject_count family.now ≤ 1024 }
+    ensures clean { IfOk result (λ r. IfAllClean r (λ _. (u : ℕ) → u < F.subject_count family.now → IsClean (numbered g.now) (F.step_of family.now u))) }
+    ensures map { IfOk result (λ r. IfAllClean r (λ m. AreExact (numbered g.now) (F.step_of family.now) (F.state_count family.now) (F.subject_count family.now) m.width m.words)) }
+    ensures shape { IfOk result (λ r. IfAllClean r (λ m. (m.blocks ≡ block_count (numbered g.now)) × (m.states ≡ F.state_count family.now) × (F.subject_count family.now ≤ 64 * m.width))) }
+    ensures within { IfOk result (λ r. IfSomeBreaks r (λ b. b.subject < F.subject_count family.now)) }
+    ensures first { IfOk result (λ r. IfSomeBreaks r (λ b. (u : ℕ) → u < b.subject → IsClean (numbered g.now) (F.step_of family.now u))) }
+    ensures breaks { IfOk result (λ r. IfSomeBreaks r (λ b. ReachesFirst (numbered g.now) (F.step_of family.now b.subject) b.walk b.code b.item)) }
+    ensures item { IfOk result (λ r. IfSomeBreaks r (λ b. b.item < item_count g.now)) }
+    ensures least { IfOk result (λ r. IfSomeBreaks r (λ b. IsLeastCode (numbered g.now) (F.step_of family.now b.subject) b.code)) }
+    ensures shortest { IfOk result (λ r. IfSomeBreaks r (λ b. IsShortest (numbered g.now) (F.step_of family.now b.subject) b.code b.walk)) }
+{
     let subjects = family.subjects();
     let width = subjects.div_ceil(64);
     let reached = reach_rows(alloc, family, g, width)?;
     for subject in 0..subjects {
         if has_bit(&reached.bad, subject) {
-            return match search(alloc, g, &Member { family, subject })? {
-                Found::Clean(_) => unreachable!(),
-                Found::Fault { walk, point, code } => Ok(FoundAll::Fault {
+            return match search_walks(alloc, g, &Member { family, subject })? {
+                Searched::Clean(_) => unreachable!(),
+                Searched::Breaks { walk, item, code } => Ok(SearchedAll::Breaks(Broken {
                     subject,
                     walk,
-                    point,
+                    item,
                     code,
-                }),
+                })),
             };
         }
     }
     let states = family.states() as usize;
-    Ok(FoundAll::Clean(FamilyMap::from_words(g.blocks() as usize, states, width, reached.rows)))
+    Ok(SearchedAll::Clean(FamilyMap::from_words(g.blocks() as usize, states, width, reached.rows)))
 }

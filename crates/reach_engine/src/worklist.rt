@@ -3,10 +3,11 @@
 ghost use Rattle.std.specs.Prelude.{◌≡◌, ℕ, ◌<◌, IfOk};
 ghost use Rattle.sil_cfg.specs.Layout.{item_count};
 ghost use Rattle.sil_cfg.specs.Flow.{numbered};
-ghost use Rattle.reach_engine.specs.Reach.{ReachesPoint};
+ghost use Rattle.reach_engine.specs.Reach.{ReachesFirst, ReachesPoint};
 ghost use Rattle.reach_engine.specs.Search.{IfClean, IfFault, IsClean, IsExact, IsLeastCode, IsShortest};
+ghost use Rattle.reach_engine.specs.Searched as searched;
 
-use crate::found::{Found, StateMap};
+use crate::found::{Found, Searched, StateMap};
 use crate::frontier::{explore, start, walk_of};
 use crate::scan::Scan;
 use sil_ast::{Exhausted, List};
@@ -24,6 +25,27 @@ pub fn search<S: Scan>(alloc: Global, g: &Graph, scan: &S) -> Result<Found, Exha
     ensures least { IfOk result (λ found. IfFault found (λ walk point code. IsLeastCode (numbered g.now) (S.step_of scan.now) code)) }
     ensures shortest { IfOk result (λ found. IfFault found (λ walk point code. IsShortest (numbered g.now) (S.step_of scan.now) code walk)) }
 {
+    match search_walks(alloc, g, scan)? {
+        Searched::Clean(map) => Ok(Found::Clean(map)),
+        Searched::Breaks { walk, item, code } => Ok(Found::Fault {
+            walk,
+            point: g.point(item),
+            code,
+        }),
+    }
+}
+
+/// The same search as `search`, which names the item that breaks in place of its point.
+pub fn search_walks<S: Scan>(alloc: Global, g: &Graph, scan: &S) -> Result<Searched, Exhausted>
+    requires items { S.item_count scan.now ≡ item_count g.now }
+    requires states { 0 < S.state_count scan.now }
+    ensures clean { IfOk result (λ r. searched.IfClean r (λ _. IsClean (numbered g.now) (S.step_of scan.now))) }
+    ensures map { IfOk result (λ r. searched.IfClean r (IsExact (numbered g.now) (S.step_of scan.now) (S.state_count scan.now))) }
+    ensures breaks { IfOk result (λ r. searched.IfBreaks r (λ walk item code. ReachesFirst (numbered g.now) (S.step_of scan.now) walk code item)) }
+    ensures within { IfOk result (λ r. searched.IfBreaks r (λ walk item code. item < item_count g.now)) }
+    ensures least { IfOk result (λ r. searched.IfBreaks r (λ walk item code. IsLeastCode (numbered g.now) (S.step_of scan.now) code)) }
+    ensures shortest { IfOk result (λ r. searched.IfBreaks r (λ walk item code. IsShortest (numbered g.now) (S.step_of scan.now) code walk)) }
+{
     let blocks = g.blocks() as usize;
     let states = scan.states() as usize;
     let mut front = start(alloc, g, states)?;
@@ -33,12 +55,12 @@ pub fn search<S: Scan>(alloc: Global, g: &Graph, scan: &S) -> Result<Found, Exha
         at += 1;
     }
     match front.best {
-        None => Ok(Found::Clean(StateMap::from_marks(blocks, states, front.seen))),
+        None => Ok(Searched::Clean(StateMap::from_marks(blocks, states, front.seen))),
         Some(fault) => {
             let walk = walk_of(alloc, &front.queue, fault)?;
-            Ok(Found::Fault {
+            Ok(Searched::Breaks {
                 walk: List::from_vec(walk),
-                point: g.point(fault.item),
+                item: fault.item,
                 code: fault.code,
             })
         }

@@ -60,9 +60,9 @@ code_told InPlace before m false h = absurd (h tt)
 pub shown_code : (Q : ℕ → Type 0) (f : Function) (table : Item → List entry.Entry) → ((item : Item) → AllByRecursion (λ e. Q e.mark.code) (table item)) →
     (subject code : ℕ) (walk : List EdgeId) (point : PointId) → IsShown f table subject code walk point → Q code
 shown_code Q f table each subject code walk point h =
-    let b = h.shows.breaks in
+    let b = h.at.shows.breaks in
     let here : Q b.mark.mark.code = each_in (λ e. Q e.mark.code) b.front b.rest b.mark (subst (AllByRecursion (λ e. Q e.mark.code)) b.parts (each h.item)) in
-    let same : code ≡ b.mark.mark.code = b.code_is ∙ code_told IsInPlace (marks_in (means subject) (flat_map table h.shows.before ++ b.front)) b.mark.mark (b.mark.subject == subject) b.out_of_place in
+    let same : code ≡ b.mark.mark.code = b.code_is ∙ code_told IsInPlace (marks_in (means subject) (flat_map table h.at.shows.before ++ b.front)) b.mark.mark (b.mark.subject == subject) b.out_of_place in
     subst Q (sym same) here
 
 abbrev IsOne : entry.Entry → Type 0

@@ -75,11 +75,14 @@ module _ (d : Declarations) (f : Function) where
       s : Showing
       s = record { rule = rule.Undefined; subject = x.subject; walk = x.walk; point = x.point }
 
+      at_point : paths.IsShown f (accesses_of f) x.subject.0 h.code x.walk x.point
+      at_point = record { item = h.item; at = h.first.0 }
+
       one : h.code ≡ 1
-      one = undefined_code f x.subject.0 h.code x.walk x.point h.first.0
+      one = undefined_code f x.subject.0 h.code x.walk x.point at_point
 
       found : paths.IsShown f (accesses_of f) x.subject.0 1 x.walk x.point
-      found = subst (λ c. paths.IsShown f (accesses_of f) x.subject.0 c x.walk x.point) one h.first.0
+      found = subst (λ c. paths.IsShown f (accesses_of f) x.subject.0 c x.walk x.point) one at_point
 
       behind : (t : Showing) → IsShownIn d f t → NotAfter (inner_key s) (inner_key t)
       behind t (undefined e there) =
@@ -135,15 +138,18 @@ module _ (d : Declarations) (f : Function) where
       first_life : (x : RuleFault) → IsFirstBrokenLife f g k x → IsFirstIn d f x
       first_life x h = record {
         showing = s;
-        least = record { shown = life h.code (has.1) first.0; first = behind };
+        least = record { shown = life h.code (has.1) at_point; first = behind };
         reported = record { rule = h.rule ∙ sym (number_told has.0 h.code has.1); subject = refl; other = h.other; point = refl; walk = refl };
       }
         where
-          first : paths.IsFirst f (lives_in d f) (Some (record { subject = x.subject.0; code = h.code; walk = x.walk; point = x.point }))
+          first : paths.IsFirst f (lives_in d f) (Some (record { subject = x.subject.0; code = h.code; walk = x.walk; point = x.point; item = h.item }))
           first = h.first (length (values_of f.blocks)) (facts_in d f) are
 
+          at_point : paths.IsShown f (lives_in d f) x.subject.0 h.code x.walk x.point
+          at_point = record { item = h.item; at = first.0 }
+
           has : HasRule h.code
-          has = life_code (length (values_of f.blocks)) (facts_in d f) f x.subject.0 h.code x.walk x.point first.0
+          has = life_code (length (values_of f.blocks)) (facts_in d f) f x.subject.0 h.code x.walk x.point at_point
 
           s : Showing
           s = record { rule = has.0; subject = x.subject; walk = x.walk; point = x.point }

@@ -2,6 +2,7 @@
 use Rattle.std.specs.Prelude.{◌≡◌, ℕ, Some, None}
 use Rattle.sil_ast.specs.declared.function.Function.{Function}
 use Rattle.sil_cfg.specs.declared.fault.RuleFault.{RuleFault}
+use Rattle.sil_cfg.specs.declared.item.Item.{Item}
 use Rattle.sil_cfg.specs.declared.fault.RuleEnd.{RuleEnd}
 use Rattle.sil_cfg.specs.declared.fault.RuleEnd.TheVariants.{Fault, Memory}
 use Rattle.path_checks.specs.First.{IsFirst}
@@ -16,7 +17,8 @@ pub record IsFirstUndefined (f : Function) (fault : RuleFault) : Type 0 where
   pub rule : fault.rule ≡ 301
   pub other : fault.other ≡ None
   pub code : ℕ
-  pub first : IsFirst f (accesses_of f) (Some (record { subject = fault.subject.0; code = code; walk = fault.walk; point = fault.point }))
+  pub item : Item
+  pub first : IsFirst f (accesses_of f) (Some (record { subject = fault.subject.0; code = code; walk = fault.walk; point = fault.point; item = item }))
 
 abbrev pub IsUndefined : Function → RuleEnd → Type 0
 IsUndefined f (Fault fault) = IsFirstUndefined f fault

@@ -39,6 +39,7 @@ pub fn check(alloc: Global, f: &Function, g: &Graph) -> Result<(), RuleEnd>
                 code: _,
                 walk,
                 point,
+                item: _,
             } = fault;
             Err(RuleEnd::Fault(RuleFault {
                 rule: UNDEFINED,

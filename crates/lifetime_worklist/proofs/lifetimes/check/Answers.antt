@@ -13,4 +13,4 @@ pub returns-in-Ok-Some-clause-fault : goal.returns-in-Ok-Some-clause-fault
 returns-in-Ok-Some-clause-fault c =
     let P : Option PathFault → Type 0 = λ o. IsFirstLife c.args.f.now c.args.g.now c.args.k.now o in
     let first : IsFirstLife c.args.f.now c.args.g.now c.args.k.now (Some c.in-Ok-Some.fault) = subst P c.in-Ok-Some.field-0-is c.in-Ok-Some.ensures in
-    record { code = c.in-Ok-Some.fault.code; rule = refl; other = refl; first = first }
+    record { code = c.in-Ok-Some.fault.code; item = c.in-Ok-Some.fault.item; rule = refl; other = refl; first = first }

@@ -1,25 +1,15 @@
-use Rattle.std.proofs.Common.{◌≡◌, ◌≢◌, ◌+◌, ◌<◌, List, ℕ, sym, subst, ◌∙◌, arith, ◌⊎◌, inl, inr, true, false}
-use Rattle.std.proofs.lemmas.Bool.{cases_eq}
+use Rattle.std.proofs.Common.{◌<◌, subst}
+use Rattle.sil_cfg.specs.Layout.{item_count}
 use Rattle.sil_cfg.specs.Flow.{numbered}
-use Rattle.reach_engine.specs.Search.{IsClean}
-use Rattle.reach_engine.specs.Bits.{bit_in}
+use Rattle.reach_engine.specs.Reach.{ReachesFirst}
+use Rattle.reach_engine.specs.Searched.{IfSomeBreaks}
+use Rattle.reach_engine.specs.declared.together.SearchedAll.{SearchedAll}
+use Rattle.reach_engine.proofs.PointsReached.{point_reached}
 use Rattle.reach_engine.proofs.together.search_all.Goals as goal
 
-pub loop-subject-preserved : goal.loop-subject-preserved
-loop-subject-preserved g c = λ u lt. at u lt (cases_eq u c.loop-subject.subject)
-  where
-    clear : bit_in c.in_ok-reached.reached.bad.items c.loop-subject.subject ≡ 1 → ⊥
-    clear h =
-        let P : List ℕ → Type 0 = λ ws. bit_in ws c.loop-subject.subject ≡ 1 in
-        let e : false ≡ true = sym c.if-has_bit.false ∙ c.has_bit.ensures.1 (subst P (sym c.deref.ensures.value) h) in
-        cc
-
-    here : IsClean (numbered c.args.g.now) (g.F.Family.step_of c.args.family.now c.loop-subject.subject)
-    here = c.in_ok-reached.ensures.bad.clean c.loop-subject.subject (omega arith) clear
-
-    at : (u : ℕ) → u < c.loop-subject.subject + 1 → (u ≡ c.loop-subject.subject) ⊎ (u ≢ c.loop-subject.subject) → IsClean (numbered c.args.g.now) (g.F.Family.step_of c.args.family.now u)
-    at u lt (inl e) = subst (λ k. IsClean (numbered c.args.g.now) (g.F.Family.step_of c.args.family.now k)) (sym e) here
-    at u lt (inr n) = c.loop-subject.invariant u (omega arith)
-
-pub returns-clause-clean : goal.returns-clause-clean
-returns-clause-clean g c = λ u lt. c.loop-subject.invariant u (omega arith)
+pub returns-in-Breaks-clause-fault : goal.returns-in-Breaks-clause-fault
+returns-in-Breaks-clause-fault g c =
+    let P : SearchedAll → Type 0 = λ r. IfSomeBreaks r (λ b. ReachesFirst (numbered c.args.g.now) (g.F.Family.step_of c.args.family.now b.subject) b.walk b.code b.item) in
+    let Q : SearchedAll → Type 0 = λ r. IfSomeBreaks r (λ b. b.item < item_count c.args.g.now) in
+    point_reached c.args.g.now (g.F.Family.step_of c.args.family.now c.in-Breaks.broken.subject) c.in-Breaks.broken.walk c.in-Breaks.broken.code c.in-Breaks.broken.item c.point.result (subst P c.in-Breaks.is c.in_ok-map.ensures.breaks) c.point.ensures
+    (subst Q c.in-Breaks.is c.in_ok-map.ensures.item)

@@ -8,4 +8,4 @@ pub returns-in-Ok-Some-clause-fault : goal.returns-in-Ok-Some-clause-fault
 returns-in-Ok-Some-clause-fault c =
     let P : Option PathFault → Type 0 = λ o. IsFirst c.args.f.now (accesses_of c.args.f.now) o in
     let first : IsFirst c.args.f.now (accesses_of c.args.f.now) (Some c.in-Ok-Some.fault) = subst P c.in-Ok-Some.field-0-is c.in-Ok-Some.ensures in
-    record { rule = refl; other = refl; code = c.in-Ok-Some.fault.code; first = first }
+    record { rule = refl; other = refl; code = c.in-Ok-Some.fault.code; item = c.in-Ok-Some.fault.item; first = first }
