@@ -1,23 +1,25 @@
 -- Entries by facts that are the same, and the lives from an item's own marks and the shared ones of a `return`.
-use Rattle.std.proofs.Common.{◌≡◌, ℕ, zero, suc, ◌+◌, ◌<◌, List, [], ◌∷◌, ◌++◌, length, map, refl, ap, ap₂, ◌∙◌, Bool, true, false, cond, Option, Some, None}
+use Rattle.std.proofs.Common.{◌≡◌, ℕ, ◌<◌, List, [], ◌∷◌, ◌++◌, length, map, refl, ap, ap₂, ◌∙◌, Bool, true, false, cond, Option, Some, None}
 use Rattle.std.specs.List.{flat_map, range_with_len}
 use Rattle.std.specs.declared.alloc.Global.{Global}
 use Rattle.std.specs.declared.vec.Vec.{Vec}
 use Rattle.std.proofs.lemmas.Option.{slice_get_within}
+use Rattle.path_checks.proofs.PickedMarks.{shared_picked}
 use Rattle.path_checks.specs.declared.entry.Entry.{Entry}
-use Rattle.path_checks.specs.Shared.{entries_with, entry_if, is_sharing, shared_from, shared_if}
+use Rattle.path_checks.specs.Shared.{entries_with, is_sharing, shared_if}
 use Rattle.path_patterns.specs.Reads.{accesses_at, AgreesWith}
 use Rattle.path_patterns.specs.declared.mark.Mark as pattern
 use Rattle.sil_ast.specs.declared.function.Function.{Function}
 use Rattle.sil_ast.specs.declared.place.ValueId.{ValueId}
 use Rattle.sil_cfg.specs.Layout.{Layout, item_at, item_count}
+use Rattle.sil_cfg.specs.Returns.{is_return}
 use Rattle.sil_cfg.specs.declared.item.Item.{Item}
 use Rattle.forwarding_chains.specs.Facts.{is_owned, known_or, value_of}
 use Rattle.forwarding_chains.specs.declared.facts.Facts.{Facts}
 use Rattle.ownership_marks.proofs.MarkTables.{flat_map_same}
 use Rattle.ownership_marks.specs.Known.{AreKindsBy, Known, facts_of, marks_at}
 use Rattle.ownership_marks.specs.declared.mark.Mark.{Mark}
-use Rattle.lifetime_worklist.specs.Lives.{entry_of, is_return, leaves, left_at_return, left_mark, lives_by, lives_of, returned}
+use Rattle.lifetime_worklist.specs.Lives.{entry_of, leaves, left_at_return, left_mark, lives_by, lives_of, returned}
 
 module _ (a b : ValueId → Facts) (same : (v : ValueId) → a v ≡ b v) where
   same_life : (m : Mark) → lives_by a m ≡ lives_by b m
@@ -34,17 +36,9 @@ module _ (a b : ValueId → Facts) (same : (v : ValueId) → a v ≡ b v) where
   same_returned n false = refl
 
 module _ (facts : ValueId → Facts) where
-  left_if : (n : ℕ) (b : Bool) → entry_if n (cond b (Some (left_at_return n).mark) None) ≡ cond b (left_at_return n ∷ []) []
-  left_if n true = refl
-  left_if n false = refl
-
   -- the shared entries are those that a `return` has
-  shared_left : (n count : ℕ) → shared_from n (map (left_mark facts) (range_with_len n count)) ≡ flat_map (leaves facts) (range_with_len n count)
-  shared_left n zero = refl
-  shared_left n (suc count) = ap₂ (λ x y. x ++ y) (left_if n (is_owned (facts (value_of n)).kind)) (shared_left (n + 1) count)
-
   pub shared_returned : (count : ℕ) (returns : Bool) → shared_if (map (left_mark facts) (range_with_len 0 count)) returns ≡ returned facts count returns
-  shared_returned count true = shared_left 0 count
+  shared_returned count true = shared_picked (λ n. is_owned (facts (value_of n)).kind) (left_at_return 0).mark 0 count
   shared_returned count false = refl
 
 -- what items do by their own marks and at a `return` are their lives

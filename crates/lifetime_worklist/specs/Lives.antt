@@ -1,14 +1,10 @@
 -- What an item does to the Owned values: they end, are used and begin, and at a `return` none is left. A value's switch is on while it lives.
-use Rattle.std.specs.Prelude.{ℕ, List, [], ◌∷◌, ◌++◌, Bool, true, false, cond, slice_get, Option, Some, None}
+use Rattle.std.specs.Prelude.{ℕ, List, [], ◌∷◌, ◌++◌, Bool, true, false, cond, Option, Some, None}
 use Rattle.std.specs.List.{flat_map, range_with_len}
-use Rattle.sil_ast.specs.Forms.{ending_of}
-use Rattle.sil_ast.specs.declared.entries.Ending.{Ending}
-use Rattle.sil_ast.specs.declared.entries.Ending.TheVariants as ending
-use Rattle.sil_ast.specs.declared.function.Block.{Block}
 use Rattle.sil_ast.specs.declared.function.Function.{Function}
 use Rattle.sil_ast.specs.declared.place.ValueId.{ValueId}
 use Rattle.sil_cfg.specs.declared.item.Item.{Item}
-use Rattle.sil_cfg.specs.declared.item.Item.TheVariants.{Entry, Inst, Edge, Exit}
+use Rattle.sil_cfg.specs.Returns.{is_return}
 use Rattle.path_checks.specs.declared.entry.Entry as entry
 use Rattle.path_patterns.specs.declared.mark.Mark as pattern
 use Rattle.forwarding_chains.specs.Facts.{is_owned, known_or, value_of}
@@ -46,25 +42,6 @@ module _ (facts : ValueId → Facts) where
   abbrev pub returned : ℕ → Bool → List entry.Entry
   returned count true = flat_map leaves (range_with_len 0 count)
   returned count false = []
-
-abbrev pub returns_by : Ending → Bool
-returns_by ending.Inside = false
-returns_by ending.OneBranch = false
-returns_by ending.TwoBranches = false
-returns_by ending.Cases = false
-returns_by ending.Return = true
-returns_by ending.Unreachable = false
-
-abbrev pub returns_in : Option Block → Bool
-returns_in None = false
-returns_in (Some b) = returns_by (ending_of b.terminator.op)
-
--- the item is a `return`
-abbrev pub is_return : Function → Item → Bool
-is_return f Entry = false
-is_return f (Inst p) = false
-is_return f (Edge e) = false
-is_return f (Exit p) = returns_in (slice_get f.blocks p.block.0)
 
 -- what the item does to the Owned values, of so many values with these facts
 abbrev pub lives_of : ℕ → (ValueId → Option Facts) → Function → Item → List entry.Entry

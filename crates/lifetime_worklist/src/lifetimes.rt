@@ -4,11 +4,11 @@ ghost use Rattle.std.specs.Prelude.{IfErr, IfOk, OnOk};
 ghost use Rattle.sil_cfg.specs.Build.{IsGraphOf};
 ghost use Rattle.lifetime_worklist.specs.Lifetimes.{AreLivesKept, IsFirstLife, IsLifeBroken};
 
-use crate::lives::{entries_by_item, marks_at_returns, returns_by_item};
+use crate::lives::{entries_by_item, marks_at_returns};
 use ownership_marks::Kinds;
 use path_checks::{PathFault, first_fault};
 use sil_ast::{Exhausted, Function, ValueId};
-use sil_cfg::{Graph, RuleEnd, RuleFault};
+use sil_cfg::{Graph, RuleEnd, RuleFault, returns_by_item};
 use std::alloc::Global;
 
 /// The rule of code 1 is the one behind this.

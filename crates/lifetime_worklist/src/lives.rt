@@ -1,11 +1,9 @@
 //! The table of rules 401 to 404: what each item does to which Owned value.
 
-ghost use Rattle.std.specs.Prelude.{◌≡◌, ◌++◌, ◌<◌, ◌≤◌, ◌^◌, ℕ, Some, length, map, slice_get, IfOk, OnOk};
+ghost use Rattle.std.specs.Prelude.{◌≡◌, ◌++◌, ◌<◌, ◌≤◌, ◌^◌, ℕ, length, map, IfOk, OnOk};
 ghost use Rattle.std.specs.List.{flat_map, range_with_len};
-ghost use Rattle.sil_cfg.specs.Layout.{item_at, item_count};
-ghost use Rattle.sil_cfg.specs.declared.item.Item as item;
+ghost use Rattle.sil_cfg.specs.Layout.{item_count};
 ghost use Rattle.path_patterns.specs.Reads.{accesses_at};
-ghost use Rattle.path_checks.specs.Shared.{is_sharing};
 ghost use Rattle.forwarding_chains.specs.Facts as facts;
 ghost use Rattle.ownership_marks.specs.Known.{facts_of, marks_at};
 ghost use Rattle.lifetime_worklist.specs.Lives as lives;
@@ -13,8 +11,8 @@ ghost use Rattle.lifetime_worklist.specs.Lives.{lives_by};
 
 use ownership_marks::{Kinds, Mark, MarkSort};
 use path_checks::Entry;
-use sil_ast::{BlockId, Ending, Exhausted, Function, ValueId, ending_of};
-use sil_cfg::{Graph, Item};
+use sil_ast::{Exhausted, ValueId};
+use sil_cfg::Graph;
 use std::alloc::Global;
 use type_definitions::Kind;
 
@@ -90,54 +88,6 @@ pub(crate) fn marks_at_returns(
         marks.push(left_mark(k, ValueId(n as u32)))?;
     }
     Ok(marks)
-}
-
-fn returns_by(ending: Ending) -> bool
-    ensures { result ≡ lives.returns_by ending }
-{
-    match ending {
-        Ending::Return => true,
-        Ending::Inside
-        | Ending::OneBranch
-        | Ending::TwoBranches
-        | Ending::Cases
-        | Ending::Unreachable => false,
-    }
-}
-
-/// Whether the block ends with a `return`.
-fn returns_in(f: &Function, b: BlockId) -> bool
-    ensures { result ≡ lives.returns_in (slice_get f.now.blocks b.0) }
-{
-    match f.blocks.get(b.0 as usize) {
-        None => false,
-        Some(block) => returns_by(ending_of(block.terminator.op)),
-    }
-}
-
-/// Whether the item is a `return`.
-fn is_return(f: &Function, item: Item) -> bool
-    ensures { result ≡ lives.is_return f.now item }
-{
-    match item {
-        Item::Entry | Item::Inst(_) | Item::Edge(_) => false,
-        Item::Exit(p) => returns_in(f, p.block),
-    }
-}
-
-/// Which items are a `return`, by their numbers.
-pub(crate) fn returns_by_item(
-    alloc: Global,
-    f: &Function,
-    g: &Graph,
-) -> Result<Vec<bool>, Exhausted>
-    ensures { IfOk result (λ v. (i : ℕ) (item : item.Item) → item_at g.now i ≡ Some item → is_sharing v.items i ≡ lives.is_return f.now item) }
-{
-    let mut returns = Vec::with_capacity(alloc, g.items())?;
-    for i in 0..g.items() {
-        returns.push(is_return(f, g.item(i)))?;
-    }
-    Ok(returns)
 }
 
 /// The entries of the marks of one item.

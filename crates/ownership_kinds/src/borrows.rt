@@ -6,7 +6,7 @@ ghost use Rattle.sil_ast.specs.Forms as form;
 ghost use Rattle.ownership_kinds.specs.Statics as statics;
 ghost use Rattle.ownership_kinds.specs.Statics.{block_borrows, borrows_by, result_borrows};
 
-use sil_ast::{Block, Exhausted, Function, Inst, Op, ResultKind, result_kind_of};
+use sil_ast::{Block, Exhausted, Function, Inst, Op, ResultKind, ValueId, result_kind_of};
 use std::alloc::Global;
 
 /// Whether an instruction's result is a borrow.
@@ -57,7 +57,7 @@ fn add_block(answers: &mut Vec<bool>, block: &Block) -> Result<(), Exhausted>
 }
 
 /// For each value, by its number, whether it is the result of a borrow.
-pub(crate) fn borrows_of(alloc: Global, f: &Function) -> Result<Vec<bool>, Exhausted>
+pub fn borrows_of(alloc: Global, f: &Function) -> Result<Vec<bool>, Exhausted>
     ensures { IfOk result (λ answers. answers.items ≡ statics.borrows_of f.now) }
 {
     let mut answers = Vec::new(alloc);
@@ -65,4 +65,14 @@ pub(crate) fn borrows_of(alloc: Global, f: &Function) -> Result<Vec<bool>, Exhau
         add_block(&mut answers, block)?;
     }
     Ok(answers)
+}
+
+/// Whether the value is the result of a borrow, by a table that tells it of each.
+pub fn is_borrow(borrows: &[bool], value: ValueId) -> bool
+    ensures { result ≡ statics.is_borrow_in borrows.now value }
+{
+    match borrows.get(value.0 as usize) {
+        None => false,
+        Some(is_borrow) => *is_borrow,
+    }
 }

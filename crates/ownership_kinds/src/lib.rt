@@ -14,5 +14,6 @@ mod mixed;
 mod rings;
 mod statics;
 
+pub use borrows::{borrows_of, is_borrow};
 pub use find::kinds_in;
 pub use ownership_marks::Kinds;

@@ -7,11 +7,12 @@ ghost use Rattle.ownership_kinds.specs.Faults.{least, taken_faults};
 ghost use Rattle.ownership_kinds.specs.Known.{kind_told};
 ghost use Rattle.ownership_kinds.specs.Statics as statics;
 
+use crate::borrows::is_borrow;
 use crate::fault::{StaticFault, lesser};
 use crate::kinds::{is_guaranteed, is_owned};
 use forwarding_chains::{Facts, kind_of};
 use ownership_marks::{Taken, add_taken_along, add_taken_by};
-use sil_ast::{Edge, Exhausted, Inst, PointId, Role, ValueId};
+use sil_ast::{Edge, Exhausted, Inst, PointId, Role};
 use sil_rules::Rule;
 use std::alloc::Global;
 use type_definitions::Kind;
@@ -49,15 +50,6 @@ fn is_mismatch(is_borrow: bool, role: Role, kind: Option<Kind>) -> bool
         | Role::AnyRole
         | Role::ByParameter
         | Role::Counted => false,
-    }
-}
-
-fn is_borrow(borrows: &[bool], value: ValueId) -> bool
-    ensures { result ≡ statics.is_borrow_in borrows.now value }
-{
-    match borrows.get(value.0 as usize) {
-        None => false,
-        Some(is_borrow) => *is_borrow,
     }
 }
 

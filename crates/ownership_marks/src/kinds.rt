@@ -3,12 +3,13 @@
 ghost use Rattle.std.specs.Prelude.{◌≡◌, ◌≤◌, ◌^◌, length, IfOk};
 ghost use Rattle.forwarding_chains.specs.Facts.{told_at};
 ghost use Rattle.ownership_marks.specs.Known.{AreKindsBy, facts_of, marks_at};
+ghost use Rattle.ownership_marks.specs.Marks as marks;
 
 use crate::mark::Mark;
-use crate::marks::{all_marks, facts_at};
+use crate::marks::{all_marks, facts_at, marks_of_item};
 use forwarding_chains::{Facts, bases_of};
 use sil_ast::{Exhausted, Function, List, ValueId};
-use sil_cfg::Graph;
+use sil_cfg::{Graph, Item};
 use std::alloc::Global;
 use std::marker::Model;
 use type_definitions::Kind;
@@ -80,5 +81,12 @@ impl Kinds {
             None => &[],
             Some(marks) => marks.as_slice(),
         }
+    }
+    /// The marks of an item of `f`, made anew: for a caller that knows no number of it.
+    pub fn marks_of(&self, alloc: Global, f: &Function, item: Item) -> Result<Vec<Mark>, Exhausted>
+        ensures { IfOk result (λ v. v.items ≡ marks.marks_of (told_at self.now.table) f.now item) }
+    {
+        let mut taken = Vec::new(alloc);
+        marks_of_item(alloc, self.table.as_slice(), f, item, &mut taken)
     }
 }

@@ -234,7 +234,7 @@ fn add_item_begins(
 }
 
 /// The marks of an item: ends in the order of its operands, then uses, then beginnings. What `taken` holds doesn't matter: it is memory for the operands.
-fn marks_of_item(
+pub(crate) fn marks_of_item(
     alloc: Global,
     table: &[Option<Facts>],
     f: &Function,

@@ -76,7 +76,7 @@ fn add_taken_along_at(taken: &mut Vec<Taken>, edge: Option<&Edge>) -> Result<(),
 }
 
 /// Adds the operands of an item: a terminator's, and behind them what its edge hands over.
-pub(crate) fn add_item_taken(
+pub fn add_item_taken(
     taken: &mut Vec<Taken>,
     f: &Function,
     item: Item,

@@ -1,9 +1,10 @@
 -- The accesses of an item that was read from its vector.
-use Rattle.std.proofs.Common.{◌≡◌, ℕ, ◌<◌, ◌≤◌, List, [], ◌∷◌, ◌++◌, length, get_or, sym, ap, ◌∙◌, Some}
+use Rattle.std.proofs.Common.{◌≡◌, ◌≢◌, ℕ, ◌+◌, ◌<◌, ◌≤◌, List, [], ◌∷◌, ◌++◌, length, get_or, sym, ap, ◌∙◌, ◌⊎◌, inl, inr, Some, arith}
 use Rattle.std.specs.Prelude.{unwrap_or, option_map}
 use Rattle.std.specs.List.{slice_get}
 use Rattle.std.specs.declared.vec.Vec.{Vec}
 use Rattle.std.specs.declared.alloc.Global.{Global}
+use Rattle.std.proofs.lemmas.Bool.{cases_eq}
 use Rattle.std.proofs.lemmas.Option.{slice_get-get_or, slice_get-map, slice_get_past}
 use Rattle.sil_cfg.proofs.Gets.{kept_get, last_get}
 use Rattle.path_patterns.specs.Reads.{accesses_at}
@@ -22,3 +23,11 @@ accesses_kept xs x i lt =
 
 pub accesses_last : {A : Type 0} (xs : List (Vec A Global)) (x : Vec A Global) (i : ℕ) → i ≡ length xs → accesses_at (xs ++ x ∷ []) i ≡ x.items
 accesses_last xs x i e = ap (λ o. unwrap_or o []) (slice_get-map (λ v. v.items) (xs ++ x ∷ []) i ∙ ap (option_map (λ v. v.items)) (ap (slice_get (xs ++ x ∷ [])) e ∙ last_get xs x))
+
+-- one item more has its accesses
+pub accesses_one_more : {A : Type 0} (at : ℕ → List A) (all : List (Vec A Global)) (x : Vec A Global) (n : ℕ) → length all ≡ n → x.items ≡ at n → ((k : ℕ) → k < n → accesses_at all k ≡ at k) → (k : ℕ) → k < n + 1 → accesses_at (all ++ x ∷ []) k ≡ at k
+accesses_one_more {A} at all x n size these h k lt = by_case (cases_eq k n)
+  where
+    by_case : (k ≡ n) ⊎ (k ≢ n) → accesses_at (all ++ x ∷ []) k ≡ at k
+    by_case (inl same) = accesses_last all x k (same ∙ sym size) ∙ these ∙ ap at (sym same)
+    by_case (inr ne) = accesses_kept all x k (omega arith) ∙ h k (omega arith)

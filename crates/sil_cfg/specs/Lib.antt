@@ -3,6 +3,7 @@ pub mod Flow
 pub mod Walk
 pub mod Items
 pub mod Build
+pub mod Returns
 pub mod Splice
 pub mod Laying
 pub mod Laws

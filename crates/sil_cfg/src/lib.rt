@@ -10,6 +10,7 @@ mod item;
 mod laws;
 mod layout;
 mod linked;
+mod returns;
 
 pub use exits::is_exit;
 pub use fault::{RuleEnd, RuleFault};
@@ -17,3 +18,4 @@ pub use graph::Graph;
 pub use item::Item;
 pub use laws::{graph_has_the_trails_of_its_function, splicing};
 pub use linked::has_graph;
+pub use returns::returns_by_item;

@@ -1,0 +1,4 @@
+pub mod Rows
+pub mod Agreeing
+pub mod SameOthers
+pub mod Reported

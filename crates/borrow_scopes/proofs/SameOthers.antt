@@ -1,0 +1,29 @@
+-- The other value of a fault by facts that say the same.
+use Rattle.std.proofs.Common.{◌≡◌, ℕ, List, [], ◌∷◌, refl, ap, ap₂, ◌∙◌, Bool, cond, find, Option, Some, None}
+use Rattle.std.specs.Prelude.{◌&&◌, ◌==◌, option_map}
+use Rattle.sil_ast.specs.declared.function.Function.{Function}
+use Rattle.sil_ast.specs.declared.place.ValueId.{ValueId}
+use Rattle.sil_cfg.specs.declared.item.Item.{Item}
+use Rattle.forwarding_chains.specs.Facts.{has, known_or}
+use Rattle.forwarding_chains.specs.declared.facts.Facts.{Facts}
+use Rattle.ownership_marks.proofs.MarkTables.{same_marks}
+use Rattle.ownership_marks.specs.Marks.{item_taken, marks_of}
+use Rattle.borrow_scopes.specs.Lending.{lent_by}
+use Rattle.borrow_scopes.specs.Others.{ended_base, ends_one, lies_in, marked_value, other_of, taken_value, used_operand}
+use Rattle.borrow_scopes.specs.Scopes.{lent_bases}
+use Rattle.borrow_scopes.proofs.Agreeing.{same_bases}
+
+find_same : {X : Type 0} (p q : X → Bool) → ((x : X) → p x ≡ q x) → (xs : List X) → find p xs ≡ find q xs
+find_same p q same [] = refl
+find_same p q same (x ∷ xs) = ap₂ (λ b rest. cond b (Some x) rest) (same x) (find_same p q same xs)
+
+module _ (a b : ValueId → Option Facts) (same : (v : ValueId) → known_or a v ≡ known_or b v) (f : Function) where
+  same_used : (s : ValueId) (item : Item) → used_operand a f s item ≡ used_operand b f s item
+  same_used s item =
+      ap (option_map taken_value) (find_same (λ t. lies_in (known_or a t.value) s) (λ t. lies_in (known_or b t.value) s) (λ t. ap (λ x. lies_in x s) (same t.value)) (item_taken f item))
+
+  same_ended : (s : ValueId) (item : Item) → ended_base a f s item ≡ ended_base b f s item
+  same_ended s item = ap₂ (λ bases marks. option_map marked_value (find (ends_one bases) marks)) (same_bases (known_or a) (known_or b) same (lent_by f s.0)) (same_marks a b same f item)
+
+  pub same_other : (code : ℕ) (s : ValueId) (item : Item) → other_of code a f s item ≡ other_of code b f s item
+  same_other code s item = ap₂ (λ used ended. cond (code == 1) used (cond (code == 4) ended None)) (same_used s item) (same_ended s item)

@@ -1,0 +1,13 @@
+use Rattle.std.proofs.Common.{ap, ◌∙◌}
+use Rattle.forwarding_chains.specs.Facts.{has}
+use Rattle.ownership_marks.specs.Known.{facts_of}
+use Rattle.borrow_scopes.specs.Tables.{borrowers_of, lent_bases_in, with_last_if}
+use Rattle.borrow_scopes.proofs.Rows.{more_values}
+use Rattle.borrow_scopes.proofs.borrowers.borrowers_of.Goals as goal
+
+pub loop-n-preserved : goal.loop-n-preserved
+loop-n-preserved c = λ base.
+    c.in_ok-add_to_bases.ensures base
+    ∙ ap (λ row. with_last_if (has c.lent_bases-bases.result.now base) row c.loop-n.n) (c.loop-n.invariant base)
+    ∙ ap (λ bases. with_last_if (has bases base) (borrowers_of (facts_of c.args.k.now) c.args.loans.now c.loop-n.n base) c.loop-n.n) c.lent_bases-bases.ensures
+    ∙ more_values (λ n. has (lent_bases_in (facts_of c.args.k.now) c.args.loans.now n) base) c.loop-n.n

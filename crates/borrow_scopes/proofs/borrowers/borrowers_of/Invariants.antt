@@ -1,0 +1,7 @@
+use Rattle.std.proofs.Common.{◌≡◌, ℕ}
+use Rattle.ownership_marks.specs.Known.{facts_of}
+use Rattle.borrow_scopes.specs.Tables.{borrowers_at, borrowers_of}
+use Rattle.borrow_scopes.proofs.borrowers.borrowers_of.Given as goal
+
+abbrev pub invariant-loop-n : goal.invariant-loop-n
+invariant-loop-n l = (base : ℕ) → borrowers_at l.rows.items base ≡ borrowers_of (facts_of l.k) l.loans l.n base

@@ -1,0 +1,8 @@
+use Rattle.std.proofs.Common.{ap, ◌∙◌}
+use Rattle.borrow_scopes.specs.Tables.{borrowers_at}
+use Rattle.borrow_scopes.proofs.Rows.{row_added}
+use Rattle.borrow_scopes.proofs.borrowers.grow.Goals as goal
+
+pub loop-rows-preserved : goal.loop-rows-preserved
+loop-rows-preserved c = λ b.
+    ap (λ rows. borrowers_at rows b) c.in_ok-push.ensures.items ∙ row_added c.loop-rows.rows.items c.new.result c.new.ensures.items b ∙ c.loop-rows.invariant b

@@ -1,0 +1,5 @@
+pub mod Lending
+pub mod Scopes
+pub mod Others
+pub mod Borrows
+pub mod Tables

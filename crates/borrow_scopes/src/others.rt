@@ -1,0 +1,115 @@
+//! The other value of a fault: of 501 the operand that uses the scope, and of 504 the base that ends.
+
+ghost use Rattle.std.specs.Prelude.{◌≡◌, find, option_map, IfOk};
+ghost use Rattle.forwarding_chains.specs.Facts.{has, told_at};
+ghost use Rattle.ownership_marks.specs.Known.{facts_of};
+ghost use Rattle.borrow_scopes.specs.Others as others;
+ghost use Rattle.borrow_scopes.specs.Others.{ends_one, marked_value, taken_value};
+
+use crate::borrowers::lent_bases;
+use crate::lending::loans_of;
+use crate::scopes::is_guaranteed;
+use ownership_marks::{Kinds, Mark, MarkSort, Taken, add_item_taken};
+use sil_ast::{Exhausted, Function, ValueId};
+use sil_cfg::Item;
+use std::alloc::Global;
+
+/// Whether the value is one of these.
+fn is_among(value: ValueId, values: &[ValueId]) -> bool
+    ensures { result ≡ has values.now value.0 }
+{
+    values.iter().any(|other| other.0 == value.0)
+}
+
+/// Whether the value is Guaranteed and has the scope among its bases.
+fn lies_in(k: &Kinds, value: ValueId, scope: ValueId) -> bool
+    ensures { result ≡ others.lies_in (facts_of k.now value) scope }
+{
+    is_guaranteed(k.kind(value)) && is_among(scope, k.bases(value))
+}
+
+/// The first of these operands that lies in the scope.
+fn first_using(k: &Kinds, scope: ValueId, taken: &[Taken]) -> Option<ValueId>
+    ensures { result ≡ option_map taken_value (find (λ t. others.lies_in (facts_of k.now t.value) scope) taken.now) }
+{
+    for one in taken {
+        if lies_in(k, one.value, scope) {
+            return Some(one.value);
+        }
+    }
+    None
+}
+
+/// The first operand of the item that lies in the scope.
+fn used_operand(
+    alloc: Global,
+    f: &Function,
+    k: &Kinds,
+    scope: ValueId,
+    item: Item,
+) -> Result<Option<ValueId>, Exhausted>
+    ensures { IfOk result (λ o. o ≡ others.used_operand (told_at k.now.table) f.now scope item) }
+{
+    let mut taken = Vec::new(alloc);
+    add_item_taken(&mut taken, f, item)?;
+    Ok(first_using(k, scope, taken.as_slice()))
+}
+
+fn is_end(sort: MarkSort) -> bool
+    ensures { result ≡ others.is_end sort }
+{
+    matches!(sort, MarkSort::End)
+}
+
+/// Whether the mark ends one of these values.
+fn ends_one(values: &[ValueId], mark: Mark) -> bool
+    ensures { result ≡ others.ends_one values.now mark }
+{
+    is_end(mark.sort) && is_among(mark.subject, values)
+}
+
+/// The first of these values that the marks end.
+fn first_ended(values: &[ValueId], marks: &[Mark]) -> Option<ValueId>
+    ensures { result ≡ option_map marked_value (find (ends_one values.now) marks.now) }
+{
+    for mark in marks {
+        if ends_one(values, *mark) {
+            return Some(mark.subject);
+        }
+    }
+    None
+}
+
+/// The first value that the item ends of those from which the scope borrows.
+fn ended_base(
+    alloc: Global,
+    f: &Function,
+    k: &Kinds,
+    scope: ValueId,
+    item: Item,
+) -> Result<Option<ValueId>, Exhausted>
+    ensures { IfOk result (λ o. o ≡ others.ended_base (told_at k.now.table) f.now scope item) }
+{
+    let loans = loans_of(alloc, f)?;
+    let marks = k.marks_of(alloc, f, item)?;
+    let bases = lent_bases(k, loans.as_slice(), scope);
+    Ok(first_ended(bases, marks.as_slice()))
+}
+
+/// The other value of a fault of the scope with this code, at this item.
+pub(crate) fn other_of(
+    alloc: Global,
+    f: &Function,
+    k: &Kinds,
+    code: u8,
+    scope: ValueId,
+    item: Item,
+) -> Result<Option<ValueId>, Exhausted>
+    ensures { IfOk result (λ o. o ≡ others.other_of code (told_at k.now.table) f.now scope item) }
+{
+    match code {
+        1 => used_operand(alloc, f, k, scope, item),
+        4 => ended_base(alloc, f, k, scope, item),
+        _ => Ok(None),
+    }
+}
