@@ -1,2 +1,5 @@
 pub mod Order
+pub mod Laws
+pub mod Marks
 pub mod Pairs
+pub mod Searches

@@ -15,14 +15,13 @@ use Rattle.ownership_marks.specs.Known.{AreKindsBy, Known}
 use Rattle.path_patterns.specs.Along.{Shows}
 use Rattle.path_patterns.specs.Reads.{FitsRead, marks_in, read_code}
 use Rattle.memory_accesses.specs.declared.access.Access.{Access}
-use Rattle.memory_accesses.specs.declared.access.Access.TheVariants.{Ends, Begins, Allocates, Deallocates, Given, Does, Mentions}
 use Rattle.memory_accesses.specs.declared.source.Source.{Source}
 use Rattle.memory_accesses.specs.declared.source.Source.TheVariants as source
 use Rattle.memory_accesses.specs.Accesses.{accesses_of}
 use Rattle.memory_accesses.specs.Sources.{source_at}
+use Rattle.slot_order.specs.Marks.{pair_mark}
 use Rattle.slot_order.specs.Order.{IsAfter, IsOrdered, code_of}
-use Rattle.slot_order.specs.declared.mark.SlotMark.{SlotMark}
-use Rattle.slot_order.specs.declared.mark.SlotMark.TheVariants.{FirstIn, FirstOut, SecondIn, SecondOut}
+use Rattle.slot_order.specs.declared.crossing.Crossing.{Crossing}
 
 abbrev pub is_slot_source : Source → Bool
 is_slot_source (source.Slot emptied) = true
@@ -37,26 +36,6 @@ is_slot_source source.Other = false
 -- the value is a slot
 abbrev pub IsSlot : List Source → ValueId → Type 0
 IsSlot sources v = is_slot_source (source_at sources v) ≡ true
-
-abbrev pub one_of : ValueId → ValueId → ValueId → SlotMark → SlotMark → Option SlotMark
-one_of first second v one other = cond (v.0 == first.0) (Some one) (cond (v.0 == second.0) (Some other) None)
-
--- what an access means to two slots
-abbrev pub pair_mark : ValueId → ValueId → Access → Option SlotMark
-pair_mark first second (Ends v) = None
-pair_mark first second (Begins v) = None
-pair_mark first second (Allocates v) = one_of first second v FirstIn SecondIn
-pair_mark first second (Deallocates v) = one_of first second v FirstOut SecondOut
-pair_mark first second (Given v) = None
-pair_mark first second (Does x) = None
-pair_mark first second (Mentions v a) = None
-
--- a slot that is deallocated before a later one, on which walk and at which point, and the later one
-pub record Crossing : Type 0 where
-  pub first : ValueId
-  pub walk : List EdgeId
-  pub point : PointId
-  pub other : ValueId
 
 module _ (sources : List Source) (facts : ValueId → Option Facts) (f : Function) where
   -- some trail along the walk keeps the order of the two up to the item, and breaks it there

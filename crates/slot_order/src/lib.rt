@@ -2,6 +2,15 @@
 //! It knows what an item does to memory, and of no instruction.
 #![tactic(auto)]
 
+mod crossing;
+mod first;
+mod laws;
 mod mark;
+mod nearest;
+mod pair;
+mod slots;
 
+pub use crossing::Crossing;
+pub use first::first_crossing;
+pub use laws::order_is_decided;
 pub use mark::SlotMark;
