@@ -1,1 +1,5 @@
 pub mod OrderDecided
+pub mod PairsSearched
+pub mod SlotsListed
+pub mod EarlierShown
+pub mod FirstCrossing
