@@ -1,5 +1,5 @@
 -- What an item does to memory and to the values that are lent, step by step.
-use Rattle.std.specs.Prelude.{ℕ, List, [], ◌∷◌, ◌++◌, Bool, true, false, cond, map, slice_get, slice_index_or, Option, Some, None}
+use Rattle.std.specs.Prelude.{List, [], ◌∷◌, ◌++◌, cond, map, slice_get, slice_index_or, Option, Some, None}
 use Rattle.std.specs.List.{flat_map}
 use Rattle.sil_ast.specs.Forms.{number_of}
 use Rattle.sil_ast.specs.declared.function.Function.{Function}

@@ -1,5 +1,5 @@
 -- The locations that addresses name, and the contents that are followed.
-use Rattle.std.specs.Prelude.{ℕ, zero, suc, List, [], ◌∷◌, ◌++◌, Bool, true, false, ◌&&◌, ◌||◌, ◌==◌, option_map, length, Option, Some, None}
+use Rattle.std.specs.Prelude.{ℕ, zero, suc, List, [], ◌∷◌, ◌++◌, Bool, true, false, ◌&&◌, ◌||◌, ◌==◌, cond, option_map, length, Option, Some, None}
 use Rattle.std.specs.List.{starts_with}
 use Rattle.sil_ast.specs.declared.place.ValueId.{ValueId}
 use Rattle.memory_accesses.specs.declared.location.Cell.{Cell}
@@ -15,19 +15,21 @@ whole v = record { root = v; path = [] }
 abbrev pub extended : ℕ → Location → Location
 extended k l = record { root = l.root; path = l.path ++ k ∷ [] }
 
+-- the location that an address names by what it is, where others name these
+abbrev pub located_by : (ValueId → Option Location) → ValueId → Source → Option Location
+located_by others v (Slot emptied) = Some (whole v)
+located_by others v Inout = Some (whole v)
+located_by others v (Object fields) = None
+located_by others v (Borrow of) = None
+located_by others v (Loan of) = None
+located_by others v (Field of k) = Some (whole v)
+located_by others v (Part of k) = option_map (extended k) (others of)
+located_by others v Other = None
+
 -- the location that an address names, where fewer than n steps lead to its root
 abbrev pub locate : List Source → ℕ → ValueId → Option Location
-abbrev pub locate_by : List Source → ℕ → ValueId → Source → Option Location
 locate sources zero v = None
-locate sources (suc n) v = locate_by sources n v (source_at sources v)
-locate_by sources n v (Slot emptied) = Some (whole v)
-locate_by sources n v Inout = Some (whole v)
-locate_by sources n v (Object fields) = None
-locate_by sources n v (Borrow of) = None
-locate_by sources n v (Loan of) = None
-locate_by sources n v (Field of k) = Some (whole v)
-locate_by sources n v (Part of k) = option_map (extended k) (locate sources n of)
-locate_by sources n v Other = None
+locate sources (suc n) v = located_by (locate sources n) v (source_at sources v)
 
 -- the location that an address names; as many steps as there are values lead to every root
 abbrev pub location_of : List Source → ValueId → Option Location
@@ -55,11 +57,7 @@ abbrev pub object_lent : List Source → Source → Option ValueId
 object_lent sources (Slot emptied) = None
 object_lent sources Inout = None
 object_lent sources (Object fields) = None
-object_lent sources (Borrow of) = if_object (is_object (source_at sources of)) of
-  where
-    abbrev if_object : Bool → ValueId → Option ValueId
-    if_object true v = Some v
-    if_object false v = None
+object_lent sources (Borrow of) = cond (is_object (source_at sources of)) (Some of) None
 object_lent sources (Loan of) = None
 object_lent sources (Field of k) = None
 object_lent sources (Part of k) = None

@@ -1,7 +1,6 @@
 -- What an instruction does to the locations at its addresses.
-use Rattle.std.specs.Prelude.{ℕ, List, [], ◌∷◌, Bool, true, false, cond, slice_index_or, option_map, Option, Some, None}
+use Rattle.std.specs.Prelude.{List, [], ◌∷◌, Bool, true, false, cond, slice_index_or, Option, Some, None}
 use Rattle.std.specs.List.{flat_map}
-use Rattle.std.specs.Option.{option_to_list}
 use Rattle.sil_ast.specs.Forms.{number_of}
 use Rattle.sil_ast.specs.declared.entries.Role.{Role}
 use Rattle.sil_ast.specs.declared.entries.Role.TheVariants as role

@@ -1,6 +1,5 @@
 -- Which operations a location has: one row for each sort of location.
-use Rattle.std.specs.Prelude.{ℕ, List, [], ◌∷◌, Bool, true, false, cond, is_some, not, Option, Some, None}
-use Rattle.sil_ast.specs.declared.place.ValueId.{ValueId}
+use Rattle.std.specs.Prelude.{ℕ, List, [], ◌∷◌, Bool, true, false, cond, is_some, not}
 use Rattle.memory_accesses.specs.declared.access.Operation.{Operation}
 use Rattle.memory_accesses.specs.declared.access.Operation.TheVariants.{FirstWrite, Read, Lend, Write, TrivialStore, InoutOperand, Take}
 use Rattle.memory_accesses.specs.declared.location.Location.{Location}
@@ -9,12 +8,13 @@ use Rattle.memory_accesses.specs.declared.source.Source.TheVariants.{Slot, Inout
 use Rattle.memory_accesses.specs.Locations.{object_built, whole}
 use Rattle.memory_accesses.specs.Sources.{source_at}
 
+abbrev pub has_steps : List ℕ → Bool
+has_steps [] = false
+has_steps (k ∷ path) = true
+
+-- steps lead from the root to the location
 abbrev pub is_part : Location → Bool
-is_part l = not (is_whole l.path)
-  where
-    abbrev is_whole : List ℕ → Bool
-    is_whole [] = true
-    is_whole (k ∷ path) = false
+is_part l = has_steps l.path
 
 -- a slot or an inout: all that its type allows, and of a part neither a first write nor a take
 abbrev pub slot_has : Bool → Operation → Bool

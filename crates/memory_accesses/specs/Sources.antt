@@ -1,5 +1,5 @@
 -- What each value of a function is to memory.
-use Rattle.std.specs.Prelude.{ℕ, ◌+◌, ℤ, pos, negsuc, List, [], ◌∷◌, ◌++◌, Bool, true, false, not, cond, map, replicate, length, slice_get, unwrap_or, option_map, option_and_then, Option, Some, None}
+use Rattle.std.specs.Prelude.{ℕ, ◌+◌, ℤ, pos, negsuc, List, [], ◌∷◌, ◌++◌, Bool, true, false, not, cond, map, replicate, length, slice_get, unwrap_or, option_map, Option, Some, None}
 use Rattle.std.specs.List.{flat_map}
 use Rattle.sil_ast.specs.declared.function.Block.{Block}
 use Rattle.sil_ast.specs.declared.function.BlockArg.{BlockArg}
@@ -11,7 +11,7 @@ use Rattle.sil_ast.specs.declared.type_name.TypeName.{TypeName, out-TypeName}
 use Rattle.sil_ast.specs.declared.type_name.TypeName.TheOpen.{TypeName-F, Int, Named, Optional, Tuple, Weak, Unowned, Address}
 use Rattle.numbered_form.specs.Insts.{insts_of}
 use Rattle.type_definitions.specs.Declarations.{Declarations}
-use Rattle.type_definitions.specs.Lookups.{FoundField, field_of, fields_of}
+use Rattle.type_definitions.specs.Lookups.{field_of, fields_of}
 use Rattle.sil_types.specs.Typing.Shapes.{is_address, is_trivial_object}
 use Rattle.value_origins.specs.Origins.{is_zero}
 use Rattle.value_origins.specs.Switched.{first_value}

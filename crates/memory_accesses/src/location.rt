@@ -7,12 +7,12 @@ use sil_ast::{List, ValueId};
 #[derive(Drop)]
 pub struct Location {
     pub root: ValueId,
-    pub path: List<u32>,
+    pub path: List<usize>,
 }
 
 /// Something whose contents are followed: what is at a root, or the field with a number of a new object.
 #[derive(Clone, Copy, Debug, PartialEq, Eq)]
 pub struct Cell {
     pub subject: ValueId,
-    pub field: Option<u32>,
+    pub field: Option<usize>,
 }

@@ -10,15 +10,15 @@ pub enum Source {
     /// The address that is passed for an `@inout` parameter.
     Inout,
     /// A new object with so many fields.
-    Object { fields: u32 },
+    Object { fields: usize },
     /// A borrow of a value.
     Borrow { of: ValueId },
     /// A borrow of what is at an address.
     Loan { of: ValueId },
     /// The address of the field with this number, from 0, of an object.
-    Field { of: ValueId, index: u32 },
+    Field { of: ValueId, index: usize },
     /// The address of the member or element with this number, from 0, of what is at an address.
-    Part { of: ValueId, index: u32 },
+    Part { of: ValueId, index: usize },
     /// Nothing.
     Other,
 }
