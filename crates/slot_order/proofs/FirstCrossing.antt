@@ -4,7 +4,7 @@ use Rattle.std.specs.Prelude.{◌==◌, cond, Contains, flat_map}
 use Rattle.std.proofs.lemmas.Bool.{cases_eq, cases_lt}
 use Rattle.std.proofs.lemmas.Grind.{flat_map-append}
 use Rattle.std.proofs.lemmas.List.{append-nil}
-use Rattle.std.proofs.lemmas.List.Elements.{All-nil, All-cons, All-append, All-contains, All-more, Contains-append_right, Contains-get_or}
+use Rattle.std.proofs.lemmas.List.Elements.{All-nil, All-cons, All-append, All-contains, All-more, All-weaker, Contains-append_right, Contains-get_or}
 use Rattle.sil_ast.specs.declared.place.EdgeId.{EdgeId}
 use Rattle.sil_ast.specs.declared.place.ValueId.{ValueId}
 use Rattle.sil_ast.specs.declared.function.Function.{Function}
@@ -205,6 +205,9 @@ module _ (g : Layout) (f : Function) (is : IsGraphOf g f) (accesses : ℕ → Li
       none_first clean count facts by c s =
           let r = crossing_reached facts (agree count facts by) c s in
           All-contains (IsUncrossed g accesses c.first) slots s.second (All-contains (λ a. All (IsUncrossed g accesses a) slots) slots c.first clean (is_listed c.first s.is_first)) (is_listed s.second s.is_second) c.walk 4 r.0 r.1
+
+      pub nested_first : ((a b : ValueId) → IsSlot sources a → IsSlot sources b → IsUncrossed g accesses a b) → IsFirstCrossing sources f g k None
+      nested_first h = none_first (All-weaker (IsSlot sources) (λ a. All (IsUncrossed g accesses a) slots) (λ a sa. All-weaker (IsSlot sources) (IsUncrossed g accesses a) (λ b sb. h a b sa sb) slots are.each) slots are.each)
 
       pub nearest_first : (first : ValueId) (c : Crossing) → Contains slots first → IsNearestCrossing g accesses first slots c → ((a : ValueId) → Contains slots a → a.0 < first.0 → All (IsUncrossed g accesses a) slots) →
           IsFirstCrossing sources f g k (Some c)

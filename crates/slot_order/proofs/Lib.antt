@@ -3,3 +3,5 @@ pub mod PairsSearched
 pub mod SlotsListed
 pub mod EarlierShown
 pub mod FirstCrossing
+pub mod StacksFollowed
+pub mod NestedSlots

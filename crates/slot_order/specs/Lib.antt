@@ -3,3 +3,4 @@ pub mod Laws
 pub mod Marks
 pub mod Pairs
 pub mod Searches
+pub mod Nesting

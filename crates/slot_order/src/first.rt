@@ -12,6 +12,7 @@ ghost use Rattle.slot_order.specs.Pairs.{IsFirstCrossing};
 
 use crate::crossing::Crossing;
 use crate::nearest::nearest_crossing;
+use crate::nested::are_nested;
 use crate::slots::slots_of;
 use memory_accesses::{Access, Source};
 use ownership_marks::Kinds;
@@ -35,6 +36,10 @@ pub fn first_crossing(
     ensures { IfOk result (IsFirstCrossing sources.now f.now g.now k.now) }
 {
     let slots = slots_of(alloc, sources)?;
+    let nested = are_nested(alloc, g, sources, accesses)?;
+    if nested {
+        return Ok(None);
+    }
     for first in slots.as_slice() {
         if let Some(crossing) = nearest_crossing(alloc, g, accesses, slots.as_slice(), *first)? {
             return Ok(Some(crossing));

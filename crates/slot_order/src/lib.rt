@@ -4,11 +4,14 @@
 
 mod crossing;
 mod first;
+mod guess;
 mod laws;
 mod mark;
 mod nearest;
+mod nested;
 mod pair;
 mod slots;
+mod stack;
 
 pub use crossing::Crossing;
 pub use first::first_crossing;

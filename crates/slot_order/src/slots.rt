@@ -8,7 +8,7 @@ use memory_accesses::Source;
 use sil_ast::{Exhausted, ValueId};
 use std::alloc::Global;
 
-fn is_slot_source(source: Source) -> bool
+pub fn is_slot_source(source: Source) -> bool
     ensures { result ≡ pairs.is_slot_source source }
 {
     matches!(source, Source::Slot { .. })
