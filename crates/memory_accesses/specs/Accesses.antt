@@ -1,0 +1,102 @@
+-- What an item does to memory and to the values that are lent, step by step.
+use Rattle.std.specs.Prelude.{List, [], ◌∷◌, ◌++◌, cond, map, slice_get, slice_index_or, Option, Some, None}
+use Rattle.std.specs.List.{flat_map}
+use Rattle.sil_ast.specs.Forms.{number_of}
+use Rattle.sil_ast.specs.declared.function.Function.{Function}
+use Rattle.sil_ast.specs.declared.inst.Inst as inst
+use Rattle.sil_ast.specs.declared.op.Op.{Op}
+use Rattle.sil_ast.specs.declared.place.ValueId.{ValueId}
+use Rattle.sil_cfg.specs.declared.item.Item.{Item}
+use Rattle.sil_cfg.specs.declared.item.Item.TheVariants.{Entry, Inst, Edge, Exit}
+use Rattle.forwarding_chains.specs.declared.facts.Facts.{Facts}
+use Rattle.ownership_marks.specs.Marks.{inst_in, item_defined, item_taken, marks_of, terminator_in}
+use Rattle.ownership_marks.specs.declared.mark.Mark.{Mark}
+use Rattle.ownership_marks.specs.declared.mark.MarkSort.{MarkSort}
+use Rattle.ownership_marks.specs.declared.mark.MarkSort.TheVariants as sort
+use Rattle.ownership_marks.specs.declared.taken.Taken.{Taken}
+use Rattle.memory_accesses.specs.declared.access.Access.{Access}
+use Rattle.memory_accesses.specs.declared.access.Access.TheVariants.{Ends, Begins, Allocates, Deallocates, Given, Does, Mentions}
+use Rattle.memory_accesses.specs.declared.columns.Allowance.{Allowance}
+use Rattle.memory_accesses.specs.declared.columns.Allowance.TheVariants.{NeitherOfThem}
+use Rattle.memory_accesses.specs.declared.columns.TheConstants.{ALLOWANCES}
+use Rattle.memory_accesses.specs.declared.source.Source.{Source}
+use Rattle.memory_accesses.specs.declared.source.Source.TheVariants as source
+use Rattle.memory_accesses.specs.Operations.{addresses_of, deallocates, operations_of}
+use Rattle.memory_accesses.specs.Sources.{source_at}
+
+-- which unfinished objects an instruction takes, by its row
+abbrev pub allowance_of : Op → Allowance
+allowance_of o = slice_index_or ALLOWANCES (number_of o) NeitherOfThem
+
+-- the instruction of an item: a terminator for its edges and its exit
+abbrev pub item_inst : Function → Item → Option inst.Inst
+item_inst f Entry = None
+item_inst f (Inst p) = inst_in (slice_get f.blocks p.block.0) p.index
+item_inst f (Edge e) = terminator_in (slice_get f.blocks e.block.0)
+item_inst f (Exit p) = terminator_in (slice_get f.blocks p.block.0)
+
+abbrev pub ends_by : ValueId → MarkSort → List Access
+ends_by v sort.End = Ends v ∷ []
+ends_by v sort.Use = []
+ends_by v sort.Begin = []
+
+abbrev pub begins_by : ValueId → MarkSort → List Access
+begins_by v sort.End = []
+begins_by v sort.Use = []
+begins_by v sort.Begin = Begins v ∷ []
+
+abbrev pub ended : Mark → List Access
+ended m = ends_by m.subject m.sort
+
+abbrev pub begun : Mark → List Access
+begun m = begins_by m.subject m.sort
+
+abbrev pub mentioned : Allowance → Taken → Access
+mentioned a t = Mentions t.value a
+
+-- the operand of a `dealloc_stack` isn't mentioned
+abbrev pub mentions_of : Option inst.Inst → List Taken → List Access
+mentions_of None taken = []
+mentions_of (Some i) taken = cond (deallocates i) [] (map (mentioned (allowance_of i.op)) taken)
+
+abbrev pub does_of : Option inst.Inst → List Access
+does_of None = []
+does_of (Some i) = map Does (operations_of i)
+
+abbrev pub deallocated_by : ValueId → Source → List Access
+deallocated_by v (source.Slot emptied) = Deallocates v ∷ []
+deallocated_by v source.Inout = []
+deallocated_by v (source.Object fields) = []
+deallocated_by v (source.Borrow of) = []
+deallocated_by v (source.Loan of) = []
+deallocated_by v (source.Field of k) = []
+deallocated_by v (source.Part of k) = []
+deallocated_by v source.Other = []
+
+-- one of another operand than a slot deallocates no slot
+abbrev pub deallocated : List Source → ValueId → List Access
+deallocated sources v = deallocated_by v (source_at sources v)
+
+abbrev pub deallocations_of : List Source → Option inst.Inst → List Access
+deallocations_of sources None = []
+deallocations_of sources (Some i) = cond (deallocates i) (flat_map (deallocated sources) (addresses_of i)) []
+
+abbrev pub made_by : ValueId → Source → List Access
+made_by v (source.Slot emptied) = Allocates v ∷ []
+made_by v source.Inout = Given v ∷ []
+made_by v (source.Object fields) = Allocates v ∷ []
+made_by v (source.Borrow of) = []
+made_by v (source.Loan of) = []
+made_by v (source.Field of k) = []
+made_by v (source.Part of k) = []
+made_by v source.Other = []
+
+-- a slot and an object are allocated where they are defined, and an inout is given
+abbrev pub made : List Source → ValueId → List Access
+made sources v = made_by v (source_at sources v)
+
+-- what the item does: values that end, operands, what is done to locations, a slot that is deallocated, what is allocated, values that begin
+abbrev pub accesses_of : List Source → (ValueId → Option Facts) → Function → Item → List Access
+accesses_of sources facts f item =
+    flat_map ended (marks_of facts f item) ++ (mentions_of (item_inst f item) (item_taken f item) ++ (does_of (item_inst f item) ++ (deallocations_of sources (item_inst f item)
+    ++ (flat_map (made sources) (item_defined f item) ++ flat_map begun (marks_of facts f item)))))

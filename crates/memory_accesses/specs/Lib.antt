@@ -1,0 +1,5 @@
+pub mod Sources
+pub mod Locations
+pub mod Operations
+pub mod Rows
+pub mod Accesses

@@ -1,0 +1,100 @@
+-- What an instruction does to the locations at its addresses.
+use Rattle.std.specs.Prelude.{List, [], ◌∷◌, Bool, true, false, cond, slice_index_or, Option, Some, None}
+use Rattle.std.specs.List.{flat_map}
+use Rattle.sil_ast.specs.Forms.{number_of}
+use Rattle.sil_ast.specs.declared.entries.Role.{Role}
+use Rattle.sil_ast.specs.declared.entries.Role.TheVariants as role
+use Rattle.sil_ast.specs.declared.inst.Inst.{Inst}
+use Rattle.sil_ast.specs.declared.inst.Qualifier.{Qualifier}
+use Rattle.sil_ast.specs.declared.inst.Qualifier.TheVariants as word
+use Rattle.sil_ast.specs.declared.op.Op.{Op}
+use Rattle.sil_ast.specs.declared.place.ValueId.{ValueId}
+use Rattle.ownership_marks.specs.Roles.{taken_by}
+use Rattle.ownership_marks.specs.declared.taken.Taken.{Taken}
+use Rattle.memory_accesses.specs.declared.access.Operated.{Operated}
+use Rattle.memory_accesses.specs.declared.access.Operation.{Operation}
+use Rattle.memory_accesses.specs.declared.access.Operation.TheVariants.{FirstWrite, Read, Lend, Write, TrivialStore, InoutOperand, Take}
+use Rattle.memory_accesses.specs.declared.columns.AccessKind.{AccessKind}
+use Rattle.memory_accesses.specs.declared.columns.AccessKind.TheVariants.{NoAccess, AllocatesSlot, AllocatesObject, DeallocatesSlot, LendsValue, LendsLocation, NamesField, NamesMember, NamesElement, Loads, Stores, Destroys, Passes}
+use Rattle.memory_accesses.specs.declared.columns.TheConstants.{ACCESSES}
+
+-- what an instruction does to memory, by its row
+abbrev pub access_kind_of : Op → AccessKind
+access_kind_of o = slice_index_or ACCESSES (number_of o) NoAccess
+
+abbrev pub load_operation : Qualifier → Operation
+load_operation word.Plain = Read
+load_operation word.Copy = Read
+load_operation word.Take = Take
+load_operation word.Trivial = Read
+load_operation word.Init = Read
+load_operation word.Assign = Read
+
+abbrev pub store_operation : Qualifier → Operation
+store_operation word.Plain = Write
+store_operation word.Copy = Write
+store_operation word.Take = Write
+store_operation word.Trivial = TrivialStore
+store_operation word.Init = FirstWrite
+store_operation word.Assign = Write
+
+-- what is done to a location, by the row and the word in brackets
+abbrev pub operation_by : AccessKind → Qualifier → Option Operation
+operation_by NoAccess q = None
+operation_by AllocatesSlot q = None
+operation_by AllocatesObject q = None
+operation_by DeallocatesSlot q = None
+operation_by LendsValue q = None
+operation_by LendsLocation q = Some Lend
+operation_by NamesField q = None
+operation_by NamesMember q = None
+operation_by NamesElement q = None
+operation_by Loads q = Some (load_operation q)
+operation_by Stores q = Some (store_operation q)
+operation_by Destroys q = Some Take
+operation_by Passes q = Some InoutOperand
+
+abbrev pub is_address_role : Role → Bool
+is_address_role role.Consumed = false
+is_address_role role.Used = false
+is_address_role role.Lent = false
+is_address_role role.Forwarded = false
+is_address_role role.AddressRole = true
+is_address_role role.AnyRole = false
+is_address_role role.ScopeRole = false
+is_address_role role.ByParameter = false
+is_address_role role.Counted = false
+
+-- the addresses among an instruction's operands, in order
+abbrev pub address_of : Taken → List ValueId
+address_of t = cond (is_address_role t.role) (t.value ∷ []) []
+
+abbrev pub addresses_of : Inst → List ValueId
+addresses_of i = flat_map address_of (taken_by i)
+
+abbrev pub operated_at : Option Operation → ValueId → List Operated
+operated_at None v = []
+operated_at (Some o) v = record { address = v; operation = o } ∷ []
+
+-- what an instruction does to locations, in the order of its operands
+abbrev pub operations_of : Inst → List Operated
+operations_of i = flat_map (operated_at (operation_by (access_kind_of i.op) i.qualifier)) (addresses_of i)
+
+abbrev pub deallocates_by : AccessKind → Bool
+deallocates_by NoAccess = false
+deallocates_by AllocatesSlot = false
+deallocates_by AllocatesObject = false
+deallocates_by DeallocatesSlot = true
+deallocates_by LendsValue = false
+deallocates_by LendsLocation = false
+deallocates_by NamesField = false
+deallocates_by NamesMember = false
+deallocates_by NamesElement = false
+deallocates_by Loads = false
+deallocates_by Stores = false
+deallocates_by Destroys = false
+deallocates_by Passes = false
+
+-- the instruction deallocates a slot
+abbrev pub deallocates : Inst → Bool
+deallocates i = deallocates_by (access_kind_of i.op)

@@ -1,0 +1,51 @@
+//! What an item does, step by step, to memory and to the values that it lends.
+
+use crate::columns::Allowance;
+use sil_ast::ValueId;
+
+/// What is done to a location.
+#[derive(Clone, Copy, Debug, PartialEq, Eq)]
+pub enum Operation {
+    /// It is written for the first time, with `[init]`.
+    FirstWrite,
+    Read,
+    /// It is read, and lent.
+    Lend,
+    /// What it holds is replaced.
+    Write,
+    /// A trivial value is stored, whether it held one or not.
+    TrivialStore,
+    /// It is passed to a function, which reads and writes it.
+    InoutOperand,
+    /// What it holds is taken away.
+    Take,
+}
+
+/// An operation, and the address at which it is done.
+#[derive(Clone, Copy, Debug, PartialEq, Eq)]
+pub struct Operated {
+    pub address: ValueId,
+    pub operation: Operation,
+}
+
+/// One step of what an item does.
+#[derive(Clone, Copy, Debug, PartialEq, Eq)]
+pub enum Access {
+    /// An Owned value or a scope ends.
+    Ends(ValueId),
+    /// An Owned value, a scope or a `@guaranteed` argument of the entry begins.
+    Begins(ValueId),
+    /// A slot or an object is allocated.
+    Allocates(ValueId),
+    /// A slot is deallocated.
+    Deallocates(ValueId),
+    /// The entry is given a location for an `@inout` parameter.
+    Given(ValueId),
+    /// A location is operated on.
+    Does(Operated),
+    /// A value is an operand, of an instruction that takes these of unfinished objects.
+    Mentions {
+        value: ValueId,
+        allowance: Allowance,
+    },
+}

@@ -1,0 +1,28 @@
+-- An address, and one of the scopes that it lies in, or its slot: on while that is open, or allocated. 610.
+use Rattle.std.specs.Prelude.{Bool, true, false, Option, Some, None}
+use Rattle.sil_ast.specs.declared.place.ValueId.{ValueId}
+use Rattle.memory_accesses.specs.declared.access.Access.{Access}
+use Rattle.memory_accesses.specs.declared.access.Access.TheVariants.{Ends, Begins, Allocates, Deallocates, Given, Does, Mentions}
+use Rattle.path_patterns.specs.declared.mark.Mark.{Mark}
+use Rattle.memory_parts.specs.Switches.{is_same, mark, turn_off, turn_on, when}
+
+abbrev pub address_mark : ValueId → ValueId → Option Mark
+address_mark address v = when (is_same v address) (mark (Some true) None 10)
+
+abbrev pub in_scope_mark : ValueId → ValueId → Access → Option Mark
+in_scope_mark address scope (Ends v) = when (is_same v scope) turn_off
+in_scope_mark address scope (Begins v) = when (is_same v scope) turn_on
+in_scope_mark address scope (Allocates v) = None
+in_scope_mark address scope (Deallocates v) = None
+in_scope_mark address scope (Given v) = None
+in_scope_mark address scope (Does x) = None
+in_scope_mark address scope (Mentions v a) = address_mark address v
+
+abbrev pub in_slot_mark : ValueId → ValueId → Access → Option Mark
+in_slot_mark address slot (Ends v) = None
+in_slot_mark address slot (Begins v) = None
+in_slot_mark address slot (Allocates v) = when (is_same v slot) turn_on
+in_slot_mark address slot (Deallocates v) = when (is_same v slot) turn_off
+in_slot_mark address slot (Given v) = None
+in_slot_mark address slot (Does x) = None
+in_slot_mark address slot (Mentions v a) = address_mark address v

@@ -1,0 +1,73 @@
+-- A field of a new object: on from its allocation until it is first written. 607.
+use Rattle.std.specs.Prelude.{ℕ, List, Bool, true, false, not, ◌&&◌, ◌||◌, ◌==◌, cond, Option, Some, None}
+use Rattle.std.specs.List.{list_any}
+use Rattle.sil_ast.specs.declared.place.ValueId.{ValueId}
+use Rattle.memory_accesses.specs.declared.access.Access.{Access}
+use Rattle.memory_accesses.specs.declared.access.Access.TheVariants.{Ends, Begins, Allocates, Deallocates, Given, Does, Mentions}
+use Rattle.type_definitions.specs.declared.kind.Kind.{Kind}
+use Rattle.forwarding_chains.specs.Facts.{is_guaranteed}
+use Rattle.forwarding_chains.specs.declared.facts.Facts.{Facts}
+use Rattle.memory_accesses.specs.declared.access.Operated.{Operated}
+use Rattle.memory_accesses.specs.declared.access.Operation.{Operation}
+use Rattle.memory_accesses.specs.declared.access.Operation.TheVariants.{FirstWrite, Read, Lend, Write, TrivialStore, InoutOperand, Take}
+use Rattle.memory_accesses.specs.declared.columns.Allowance.{Allowance}
+use Rattle.memory_accesses.specs.declared.columns.Allowance.TheVariants.{NeitherOfThem, FreshObject, BuildingBorrow, BothOfThem}
+use Rattle.memory_accesses.specs.declared.location.Cell.{Cell}
+use Rattle.memory_accesses.specs.declared.location.Location.{Location}
+use Rattle.memory_accesses.specs.declared.source.Source.{Source}
+use Rattle.memory_accesses.specs.Locations.{cell_of, location_of, object_built}
+use Rattle.memory_accesses.specs.Rows.{is_part}
+use Rattle.path_patterns.specs.declared.mark.Mark.{Mark}
+use Rattle.memory_parts.specs.Contents.{same_cell}
+use Rattle.memory_parts.specs.Switches.{is_same, mark, turn_off, turn_on, when}
+
+abbrev pub is_first_write : Operation → Bool
+is_first_write FirstWrite = true
+is_first_write Read = false
+is_first_write Lend = false
+is_first_write Write = false
+is_first_write TrivialStore = true
+is_first_write InoutOperand = false
+is_first_write Take = false
+
+abbrev pub fills : List Source → Cell → Operation → Option Location → Bool
+fills sources cell o None = false
+fills sources cell o (Some l) = is_first_write o && not (is_part l) && same_cell (cell_of sources l.root) cell
+
+abbrev pub takes_object : Allowance → Bool
+takes_object NeitherOfThem = false
+takes_object FreshObject = true
+takes_object BuildingBorrow = false
+takes_object BothOfThem = true
+
+abbrev pub takes_borrow : Allowance → Bool
+takes_borrow NeitherOfThem = false
+takes_borrow FreshObject = false
+takes_borrow BuildingBorrow = true
+takes_borrow BothOfThem = true
+
+abbrev pub is_object_of : ValueId → Option ValueId → Bool
+is_object_of object None = false
+is_object_of object (Some o) = is_same o object
+
+-- the value is a building borrow of the object
+abbrev pub builds : List Source → ValueId → ValueId → Bool
+builds sources object v = is_object_of object (object_built sources v)
+
+-- a Guaranteed value that goes by a building borrow of the object, as the borrow itself does
+abbrev pub goes_by_borrow : List Source → Facts → ValueId → Bool
+goes_by_borrow sources f object = is_guaranteed f.kind && list_any (builds sources object) f.bases
+
+-- the operand isn't one that an unfinished object may be: the object, a building borrow, or a value that goes by one
+abbrev pub is_forbidden : List Source → (ValueId → Facts) → ValueId → ValueId → Allowance → Bool
+is_forbidden sources facts object v a =
+    (is_same v object && not (takes_object a)) || (goes_by_borrow sources (facts v) object && not (builds sources object v && takes_borrow a))
+
+abbrev pub building_mark : List Source → (ValueId → Facts) → ValueId → ℕ → Access → Option Mark
+building_mark sources facts object field (Ends v) = None
+building_mark sources facts object field (Begins v) = None
+building_mark sources facts object field (Allocates v) = when (is_same v object) turn_on
+building_mark sources facts object field (Deallocates v) = None
+building_mark sources facts object field (Given v) = None
+building_mark sources facts object field (Does x) = when (fills sources (record { subject = object; field = Some field }) x.operation (location_of sources x.address)) turn_off
+building_mark sources facts object field (Mentions v a) = when (is_forbidden sources facts object v a) (mark (Some false) None 7)

@@ -1,0 +1,54 @@
+-- Contents: on while the cell is full. 601, 602, 603 and 609.
+use Rattle.std.specs.Prelude.{ℕ, Bool, true, false, ◌&&◌, ◌==◌, cond, Option, Some, None}
+use Rattle.sil_ast.specs.declared.place.ValueId.{ValueId}
+use Rattle.memory_accesses.specs.declared.access.Access.{Access}
+use Rattle.memory_accesses.specs.declared.access.Access.TheVariants.{Ends, Begins, Allocates, Deallocates, Given, Does, Mentions}
+use Rattle.memory_accesses.specs.declared.access.Operated.{Operated}
+use Rattle.memory_accesses.specs.declared.access.Operation.{Operation}
+use Rattle.memory_accesses.specs.declared.access.Operation.TheVariants.{FirstWrite, Read, Lend, Write, TrivialStore, InoutOperand, Take}
+use Rattle.memory_accesses.specs.declared.location.Cell.{Cell}
+use Rattle.memory_accesses.specs.declared.location.Location.{Location}
+use Rattle.memory_accesses.specs.declared.source.Source.{Source}
+use Rattle.memory_accesses.specs.Locations.{cell_of, location_of}
+use Rattle.memory_accesses.specs.Rows.{counted, is_part}
+use Rattle.path_patterns.specs.declared.mark.Mark.{Mark}
+use Rattle.memory_parts.specs.Switches.{is_same, mark, turn_off, turn_on, when}
+
+-- a first write needs the cell empty and fills it; a take needs it full and empties it; all else needs it full. A trivial store to
+-- the whole fills it, whatever it was
+abbrev pub operation_mark : Bool → Operation → Mark
+operation_mark part FirstWrite = mark (Some false) (Some true) 2
+operation_mark part Read = mark (Some true) None 1
+operation_mark part Lend = mark (Some true) None 1
+operation_mark part Write = mark (Some true) None 1
+operation_mark true TrivialStore = mark (Some true) None 1
+operation_mark false TrivialStore = turn_on
+operation_mark part InoutOperand = mark (Some true) None 1
+operation_mark part Take = mark (Some true) (Some false) 1
+
+abbrev pub same_field : Option ℕ → Option ℕ → Bool
+same_field None None = true
+same_field None (Some k) = false
+same_field (Some k) None = false
+same_field (Some k) (Some n) = k == n
+
+abbrev pub same_cell : Cell → Cell → Bool
+same_cell a b = is_same a.subject b.subject && same_field a.field b.field
+
+abbrev pub at_location : List Source → Cell → Operation → Option Location → Option Mark
+at_location sources cell o None = None
+at_location sources cell o (Some l) = when (same_cell (cell_of sources l.root) cell) (operation_mark (is_part (counted sources l o)) o)
+
+-- it is empty behind its allocation, and where it is deallocated; an inout is full when it is given
+abbrev pub contents_mark : List Source → Cell → Bool → Access → Option Mark
+contents_mark sources cell emptied (Ends v) = None
+contents_mark sources cell emptied (Begins v) = None
+contents_mark sources cell emptied (Allocates v) = when (is_same v cell.subject) turn_off
+contents_mark sources cell emptied (Deallocates v) = when (is_same v cell.subject) (mark (cond emptied (Some false) None) (Some false) 3)
+contents_mark sources cell emptied (Given v) = when (is_same v cell.subject) turn_on
+contents_mark sources cell emptied (Does x) = at_location sources cell x.operation (location_of sources x.address)
+contents_mark sources cell emptied (Mentions v a) = None
+
+-- at a `return` an inout is full
+abbrev pub left_full_mark : Bool → Option Mark
+left_full_mark left_full = when left_full (mark (Some true) None 9)

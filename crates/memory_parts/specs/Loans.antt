@@ -1,0 +1,77 @@
+-- A loan: on while the scope is open that borrows what a location holds. 606.
+use Rattle.std.specs.Prelude.{ℕ, List, Bool, true, false, ◌&&◌, Option, Some, None}
+use Rattle.sil_ast.specs.declared.place.ValueId.{ValueId}
+use Rattle.memory_accesses.specs.declared.access.Access.{Access}
+use Rattle.memory_accesses.specs.declared.access.Access.TheVariants.{Ends, Begins, Allocates, Deallocates, Given, Does, Mentions}
+use Rattle.memory_accesses.specs.declared.access.Operated.{Operated}
+use Rattle.memory_accesses.specs.declared.access.Operation.{Operation}
+use Rattle.memory_accesses.specs.declared.access.Operation.TheVariants.{FirstWrite, Read, Lend, Write, TrivialStore, InoutOperand, Take}
+use Rattle.memory_accesses.specs.declared.location.Location.{Location}
+use Rattle.memory_accesses.specs.declared.source.Source.{Source}
+use Rattle.memory_accesses.specs.Locations.{cell_of, location_of, overlap}
+use Rattle.memory_accesses.specs.Rows.{counted, is_part}
+use Rattle.path_patterns.specs.declared.mark.Mark.{Mark}
+use Rattle.memory_parts.specs.Switches.{is_same, mark, turn_off, turn_on, when}
+
+-- a first write isn't a write here, nor is a trivial store to the whole, in which nothing can be lent
+abbrev pub writes : Bool → Operation → Bool
+writes part FirstWrite = false
+writes part Read = false
+writes part Lend = false
+writes part Write = true
+writes part TrivialStore = part
+writes part InoutOperand = true
+writes part Take = true
+
+abbrev pub writes_into : List Source → Option Location → Operation → Option Location → Bool
+writes_into sources None o l = false
+writes_into sources (Some lent) o None = false
+writes_into sources (Some lent) o (Some l) = writes (is_part (counted sources l o)) o && overlap (counted sources l o) lent
+
+abbrev pub counted_loan : List Source → Option Location → Option Location
+counted_loan sources None = None
+counted_loan sources (Some l) = Some (counted sources l Lend)
+
+-- what is lent at an address
+abbrev pub lent_at : List Source → ValueId → Option Location
+lent_at sources address = counted_loan sources (location_of sources address)
+
+abbrev pub is_at_root : Option Location → ValueId → Bool
+is_at_root None v = false
+is_at_root (Some l) v = is_same l.root v
+
+-- the access would write into what is lent, or deallocate it
+abbrev pub disturbs : List Source → Option Location → Access → Bool
+disturbs sources lent (Ends v) = false
+disturbs sources lent (Begins v) = false
+disturbs sources lent (Allocates v) = false
+disturbs sources lent (Deallocates v) = is_at_root lent v
+disturbs sources lent (Given v) = false
+disturbs sources lent (Does x) = writes_into sources lent x.operation (location_of sources x.address)
+disturbs sources lent (Mentions v a) = false
+
+abbrev pub disturbed_mark : Bool → Option Mark
+disturbed_mark test = when test (mark (Some false) None 6)
+
+abbrev pub loan_mark : List Source → ValueId → ValueId → Access → Option Mark
+loan_mark sources scope address (Ends v) = when (is_same v scope) turn_off
+loan_mark sources scope address (Begins v) = when (is_same v scope) turn_on
+loan_mark sources scope address (Allocates v) = None
+loan_mark sources scope address (Deallocates v) = disturbed_mark (disturbs sources (lent_at sources address) (Deallocates v))
+loan_mark sources scope address (Given v) = None
+loan_mark sources scope address (Does x) = disturbed_mark (disturbs sources (lent_at sources address) (Does x))
+loan_mark sources scope address (Mentions v a) = None
+
+abbrev pub shown_root : List Source → Option Location → Option ValueId
+shown_root sources None = None
+shown_root sources (Some l) = Some (cell_of sources l.root).subject
+
+-- the root at which an access is
+abbrev pub root_of : List Source → Access → Option ValueId
+root_of sources (Ends v) = None
+root_of sources (Begins v) = None
+root_of sources (Allocates v) = None
+root_of sources (Deallocates v) = Some v
+root_of sources (Given v) = None
+root_of sources (Does x) = shown_root sources (location_of sources x.address)
+root_of sources (Mentions v a) = None

@@ -1,0 +1,108 @@
+-- The parts of all patterns of memory, and what an access means to each.
+use Rattle.std.specs.Prelude.{ℕ, List, [], ◌∷◌, ◌++◌, Bool, true, false, map, filter, length, Option, Some, None}
+use Rattle.std.specs.List.{flat_map, range_with_len}
+use Rattle.sil_ast.specs.declared.place.ValueId.{ValueId}
+use Rattle.forwarding_chains.specs.Facts.{value_of}
+use Rattle.forwarding_chains.specs.declared.facts.Facts.{Facts}
+use Rattle.memory_accesses.specs.declared.access.Access.{Access}
+use Rattle.memory_accesses.specs.declared.location.Cell.{Cell}
+use Rattle.memory_accesses.specs.declared.location.Location.{Location}
+use Rattle.memory_accesses.specs.declared.source.Source.{Source}
+use Rattle.memory_accesses.specs.declared.source.Source.TheVariants as source
+use Rattle.memory_accesses.specs.Locations.{location_of}
+use Rattle.memory_accesses.specs.Sources.{source_at}
+use Rattle.path_patterns.specs.declared.mark.Mark.{Mark}
+use Rattle.memory_parts.specs.Addresses.{in_scope_mark, in_slot_mark}
+use Rattle.memory_parts.specs.Allocations.{allocation_mark, left_allocated_mark}
+use Rattle.memory_parts.specs.Building.{building_mark}
+use Rattle.memory_parts.specs.Contents.{contents_mark, left_full_mark}
+use Rattle.memory_parts.specs.Loans.{loan_mark}
+use Rattle.memory_parts.specs.declared.part.Part.{Part}
+use Rattle.memory_parts.specs.declared.part.Part.TheVariants.{Contents, Allocation, Lent, Building, InScope, InSlot}
+
+abbrev pub whole_cell : ValueId → Cell
+whole_cell v = record { subject = v; field = None }
+
+abbrev pub is_scope_source : Source → Bool
+is_scope_source (source.Slot emptied) = false
+is_scope_source source.Inout = false
+is_scope_source (source.Object fields) = false
+is_scope_source (source.Borrow of) = true
+is_scope_source (source.Loan of) = true
+is_scope_source (source.Field of k) = false
+is_scope_source (source.Part of k) = false
+is_scope_source source.Other = false
+
+abbrev pub is_scope : List Source → ValueId → Bool
+is_scope sources v = is_scope_source (source_at sources v)
+
+-- one part for each field: what it holds, and whether it is still to be written
+abbrev pub field_parts : ValueId → ℕ → List Part
+field_parts object k = Contents (record { subject = object; field = Some k }) false false ∷ Building object k ∷ []
+
+-- one part for each scope among an address's bases
+abbrev pub scope_parts : List Source → ValueId → List ValueId → List Part
+scope_parts sources address bases = map (InScope address) (filter (is_scope sources) bases)
+
+abbrev pub slot_part : ValueId → ValueId → Source → List Part
+slot_part address root (source.Slot emptied) = InSlot address root ∷ []
+slot_part address root source.Inout = []
+slot_part address root (source.Object fields) = []
+slot_part address root (source.Borrow of) = []
+slot_part address root (source.Loan of) = []
+slot_part address root (source.Field of k) = []
+slot_part address root (source.Part of k) = []
+slot_part address root source.Other = []
+
+abbrev pub slot_part_at : List Source → ValueId → Option Location → List Part
+slot_part_at sources address None = []
+slot_part_at sources address (Some l) = slot_part address l.root (source_at sources l.root)
+
+-- and one for its slot
+abbrev pub address_parts : List Source → Facts → ValueId → List Part
+address_parts sources f address = scope_parts sources address f.bases ++ slot_part_at sources address (location_of sources address)
+
+abbrev pub parts_by : List Source → Facts → ValueId → Source → List Part
+parts_by sources f v (source.Slot emptied) = Contents (whole_cell v) emptied false ∷ Allocation v ∷ address_parts sources f v
+parts_by sources f v source.Inout = Contents (whole_cell v) false true ∷ []
+parts_by sources f v (source.Object fields) = flat_map (field_parts v) (range_with_len 0 fields)
+parts_by sources f v (source.Borrow of) = []
+parts_by sources f v (source.Loan of) = Lent v of ∷ []
+parts_by sources f v (source.Field of k) = address_parts sources f v
+parts_by sources f v (source.Part of k) = address_parts sources f v
+parts_by sources f v source.Other = []
+
+module _ (sources : List Source) (facts : ValueId → Facts) where
+  -- the parts whose subject has this number
+  abbrev pub parts_at : ℕ → List Part
+  parts_at n = parts_by sources (facts (value_of n)) (value_of n) (source_at sources (value_of n))
+
+  -- all parts, by their subjects
+  abbrev pub parts_of : List Part
+  parts_of = flat_map parts_at (range_with_len 0 (length sources))
+
+  -- what an access means to a part
+  abbrev pub means : Part → Access → Option Mark
+  means (Contents cell emptied left_full) a = contents_mark sources cell emptied a
+  means (Allocation slot) a = allocation_mark slot a
+  means (Lent scope address) a = loan_mark sources scope address a
+  means (Building object field) a = building_mark sources facts object field a
+  means (InScope address scope) a = in_scope_mark address scope a
+  means (InSlot address slot) a = in_slot_mark address slot a
+
+-- what a `return` means to it
+abbrev pub at_return : Part → Option Mark
+at_return (Contents cell emptied left_full) = left_full_mark left_full
+at_return (Allocation slot) = left_allocated_mark
+at_return (Lent scope address) = None
+at_return (Building object field) = None
+at_return (InScope address scope) = None
+at_return (InSlot address slot) = None
+
+abbrev pub subject_of : Part → ValueId
+subject_of (Contents cell emptied left_full) = cell.subject
+subject_of (Allocation slot) = slot
+subject_of (Lent scope address) = scope
+subject_of (Building object field) = object
+subject_of (InScope address scope) = address
+subject_of (InSlot address slot) = address

@@ -1,0 +1,77 @@
+-- What is shown at a part by itself, and the first of all parts.
+use Rattle.std.specs.Prelude.{◌≡◌, ◌==◌, ℕ, List, [], ◌∷◌, ◌++◌, Bool, true, false, Contains, cond, find, length, map, option_and_then, Option, Some, None}
+use Rattle.std.specs.List.{flat_map}
+use Rattle.std.specs.Option.{option_to_list}
+use Rattle.sil_ast.specs.declared.function.Function.{Function}
+use Rattle.sil_ast.specs.declared.place.EdgeId.{EdgeId}
+use Rattle.sil_ast.specs.declared.place.PointId.{PointId}
+use Rattle.sil_ast.specs.declared.place.ValueId.{ValueId}
+use Rattle.sil_cfg.specs.Returns.{is_return}
+use Rattle.sil_cfg.specs.Layout.{Layout}
+use Rattle.sil_cfg.specs.declared.item.Item.{Item}
+use Rattle.sil_rules.specs.Order.{IsFirst}
+use Rattle.forwarding_chains.specs.Facts.{known_or}
+use Rattle.forwarding_chains.specs.declared.facts.Facts.{Facts}
+use Rattle.ownership_marks.specs.Known.{AreKindsBy, Known}
+use Rattle.path_checks.specs.First as paths
+use Rattle.path_checks.specs.declared.entry.Entry.{Entry}
+use Rattle.path_patterns.specs.declared.mark.Mark.{Mark}
+use Rattle.memory_accesses.specs.declared.access.Access.{Access}
+use Rattle.memory_accesses.specs.declared.source.Source.{Source}
+use Rattle.memory_accesses.specs.Accesses.{accesses_of}
+use Rattle.memory_parts.specs.Loans.{disturbs, lent_at, root_of}
+use Rattle.memory_parts.specs.Parts.{at_return, means, parts_of, subject_of}
+use Rattle.memory_parts.specs.declared.part.Part.{Part}
+use Rattle.memory_parts.specs.declared.part.Part.TheVariants.{Contents, Allocation, Lent, Building, InScope, InSlot}
+
+abbrev pub entry_of : Mark → Entry
+entry_of m = record { subject = 0; mark = m }
+
+module _ (sources : List Source) (facts : ValueId → Option Facts) (f : Function) where
+  abbrev pub marks_of_access : Part → Access → List Mark
+  marks_of_access p a = option_to_list (means sources (known_or facts) p a)
+
+  -- the marks that an item has for one part: those of its accesses, and of a `return`
+  abbrev pub part_marks : Part → Item → List Mark
+  part_marks p item = flat_map (marks_of_access p) (accesses_of sources facts f item) ++ cond (is_return f item) (option_to_list (at_return p)) []
+
+  -- the table of the part alone
+  abbrev pub part_table : Part → Item → List Entry
+  part_table p item = map entry_of (part_marks p item)
+
+  abbrev pub first_root : Part → List Access → Option ValueId
+  first_root (Contents cell emptied left_full) accesses = None
+  first_root (Allocation slot) accesses = None
+  first_root (Lent scope address) accesses = option_and_then (root_of sources) (find (disturbs sources (lent_at sources address)) accesses)
+  first_root (Building object field) accesses = None
+  first_root (InScope address scope) accesses = None
+  first_root (InSlot address slot) accesses = None
+
+  -- the other value that takes part: the root of the first access that disturbs a loan
+  abbrev pub other_of : Part → Item → Option ValueId
+  other_of p item = first_root p (accesses_of sources facts f item)
+
+-- what is shown of memory: of which subject, with which code, and the other value
+pub record Finding : Type 0 where
+  pub subject : ValueId
+  pub code : ℕ
+  pub walk : List EdgeId
+  pub point : PointId
+  pub other : Option ValueId
+
+-- the walk shows it at one part by itself
+pub record IsShown (sources : List Source) (facts : ValueId → Option Facts) (f : Function) (s : Finding) : Type 0 where
+  pub part : Part
+  pub there : Contains (parts_of sources (known_or facts)) part
+  pub subject : subject_of part ≡ s.subject
+  pub item : Item
+  pub shown : paths.IsShownAt f (part_table sources facts f part) 0 s.code s.walk s.point item
+  pub other : s.other ≡ other_of sources facts f part item
+
+-- by subject, then by code, then by the number of edges
+abbrev pub finding_key : Finding → List ℕ
+finding_key s = s.subject.0 ∷ s.code ∷ length s.walk ∷ []
+
+-- this comes first of what is shown at any part, whichever facts the kinds are by
+abbrev pub IsFirstFinding : List Source → Function → Layout → Known → Option Finding → Type 0
+IsFirstFinding sources f g k found = (count : ℕ) (facts : ValueId → Option Facts) → AreKindsBy count facts f g k → IsFirst finding_key (IsShown sources facts f) found

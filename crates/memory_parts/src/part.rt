@@ -1,0 +1,25 @@
+//! The parts of the patterns of memory: each is a switch by itself.
+
+use memory_accesses::Cell;
+use sil_ast::ValueId;
+
+/// A pattern of memory at one subject, or the part of it that is followed by itself.
+#[derive(Clone, Copy, Debug, PartialEq, Eq)]
+pub enum Part {
+    /// Whether a cell is full. Where it is `emptied` it may not be when it is deallocated, and where it is `left_full` it must be at a `return`.
+    Contents {
+        cell: Cell,
+        emptied: bool,
+        left_full: bool,
+    },
+    /// Whether a slot is allocated.
+    Allocation { slot: ValueId },
+    /// Whether a location is lent to a scope, by the address at which it is.
+    Lent { scope: ValueId, address: ValueId },
+    /// Whether a field of a new object is still to be written.
+    Building { object: ValueId, field: u32 },
+    /// Whether a scope is open that an address lies in.
+    InScope { address: ValueId, scope: ValueId },
+    /// Whether the slot is allocated that an address lies in.
+    InSlot { address: ValueId, slot: ValueId },
+}

@@ -1,0 +1,7 @@
+pub mod OrderDecided
+pub mod PairsSearched
+pub mod SlotsListed
+pub mod EarlierShown
+pub mod FirstCrossing
+pub mod StacksFollowed
+pub mod NestedSlots
