@@ -5,3 +5,4 @@ pub mod PickedMarks
 pub mod Together
 pub mod FirstShown
 pub mod Touching
+pub mod OneSubject
