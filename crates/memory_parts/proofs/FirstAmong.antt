@@ -1,17 +1,20 @@
 -- What is shown first at some parts and at further ones, together.
-use Rattle.std.proofs.Common.{◌≡◌, ℕ, ◌<◌, List, [], ◌∷◌, ◌++◌, refl, ap, subst, ◌⊎◌, inl, inr, Option, Some, None, All}
+use Rattle.std.proofs.Common.{◌≡◌, ℕ, ◌<◌, ◌≤◌, List, [], ◌∷◌, ◌++◌, length, get_or, take, drop, sym, ap, subst, ◌⊎◌, inl, inr, Bool, true, Option, Some, None, All, arith, true≢false, ltb-true}
 use Rattle.std.specs.Prelude.{Contains}
-use Rattle.std.proofs.lemmas.List.Elements.{All-contains, Contains-append_cases, Contains-append_left, Contains-append_right}
+use Rattle.std.proofs.lemmas.List.Elements.{All-contains, All-weaker, Contains-append_cases, Contains-append_left, Contains-append_right}
+use Rattle.std.proofs.lemmas.List.{take-append-drop}
 use Rattle.sil_ast.specs.declared.function.Function.{Function}
 use Rattle.sil_ast.specs.declared.place.ValueId.{ValueId}
 use Rattle.sil_rules.proofs.Firsts.{first_earlier, first_some}
 use Rattle.sil_rules.specs.Order.{Either, IsEarlier, IsFirst, NotAfter}
 use Rattle.forwarding_chains.specs.declared.facts.Facts.{Facts}
 use Rattle.memory_accesses.specs.declared.source.Source.{Source}
+use Rattle.memory_parts.specs.Batches.{AreRising, is_behind}
 use Rattle.memory_parts.specs.Parts.{subject_of}
 use Rattle.memory_parts.specs.Shown.{fault_key, IsShown}
 use Rattle.memory_parts.specs.declared.fault.PartFault.{PartFault}
 use Rattle.memory_parts.specs.declared.part.Part.{Part}
+use Rattle.memory_parts.proofs.Ordered.{rising_behind}
 
 -- what shows the same has the same first
 first_same : {A : Type 0} (key : A → List ℕ) (One Other : A → Type 0) (r : Option A) → ((a : A) → One a → Other a) → ((a : A) → Other a → One a) → IsFirst key One r → IsFirst key Other r
@@ -46,3 +49,15 @@ module _ (sources : List Source) (facts : ValueId → Option Facts) (f : Functio
       first_same fault_key (Either (Shown parts) (Shown more)) (Shown (parts ++ more)) (Some s) together apart
       (first_some fault_key (Shown parts) (Shown more) s first
       (λ t h. inl (subst (λ v. s.subject.0 < v.0) h.subject (All-contains (λ q. s.subject.0 < (subject_of q).0) more h.part behind h.there))))
+
+-- a fault comes first of all, where all further parts have greater subjects
+pub behind_all : (sources : List Source) (facts : ValueId → Option Facts) (f : Function) (parts : List Part) (n : ℕ) (d : Part) (best : Option PartFault) (v : ValueId) → n < length parts → AreRising parts → v ≡ subject_of (get_or parts n d) →
+    is_behind best v ≡ true → IsFirst fault_key (IsShown sources facts f (take n parts)) best → IsFirst fault_key (IsShown sources facts f parts) best
+behind_all sources facts f parts n d None v lt rising is e first = absurd (true≢false (sym e))
+behind_all sources facts f parts n d (Some s) v lt rising is e first =
+    let less : s.subject.0 < v.0 = ltb-true s.subject.0 v.0 e in
+    let same : v.0 ≡ (subject_of (get_or parts n d)).0 = ap (λ x. x.0) is in
+    let P : List Part → Type 0 = λ v. IsFirst fault_key (IsShown sources facts f v) (Some s) in
+    subst P (take-append-drop n parts)
+    (among_behind sources facts f (take n parts) (drop n parts) s first
+    (All-weaker (λ q. (subject_of (get_or parts n d)).0 ≤ (subject_of q).0) (λ q. s.subject.0 < (subject_of q).0) (λ q h. omega arith) (drop n parts) (rising_behind parts n d lt rising)))
