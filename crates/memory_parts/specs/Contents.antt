@@ -1,5 +1,5 @@
 -- Contents: on while the cell is full. 601, 602, 603 and 609.
-use Rattle.std.specs.Prelude.{ℕ, Bool, true, false, ◌&&◌, ◌==◌, cond, Option, Some, None}
+use Rattle.std.specs.Prelude.{ℕ, List, Bool, true, false, ◌&&◌, ◌==◌, cond, Option, Some, None}
 use Rattle.sil_ast.specs.declared.place.ValueId.{ValueId}
 use Rattle.memory_accesses.specs.declared.access.Access.{Access}
 use Rattle.memory_accesses.specs.declared.access.Access.TheVariants.{Ends, Begins, Allocates, Deallocates, Given, Does, Mentions}
@@ -39,12 +39,15 @@ abbrev pub at_location : List Source → Cell → Operation → Option Location 
 at_location sources cell o None = None
 at_location sources cell o (Some l) = when (same_cell (cell_of sources l.root) cell) (operation_mark (is_part (counted sources l o)) o)
 
+abbrev pub deallocation_mark : Bool → Mark
+deallocation_mark emptied = mark (cond emptied (Some false) None) (Some false) 3
+
 -- it is empty behind its allocation, and where it is deallocated; an inout is full when it is given
 abbrev pub contents_mark : List Source → Cell → Bool → Access → Option Mark
 contents_mark sources cell emptied (Ends v) = None
 contents_mark sources cell emptied (Begins v) = None
 contents_mark sources cell emptied (Allocates v) = when (is_same v cell.subject) turn_off
-contents_mark sources cell emptied (Deallocates v) = when (is_same v cell.subject) (mark (cond emptied (Some false) None) (Some false) 3)
+contents_mark sources cell emptied (Deallocates v) = when (is_same v cell.subject) (deallocation_mark emptied)
 contents_mark sources cell emptied (Given v) = when (is_same v cell.subject) turn_on
 contents_mark sources cell emptied (Does x) = at_location sources cell x.operation (location_of sources x.address)
 contents_mark sources cell emptied (Mentions v a) = None

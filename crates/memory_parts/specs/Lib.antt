@@ -6,3 +6,4 @@ pub mod Building
 pub mod Addresses
 pub mod Parts
 pub mod Shown
+pub mod Batches

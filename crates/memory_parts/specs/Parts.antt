@@ -1,5 +1,5 @@
 -- The parts of all patterns of memory, and what an access means to each.
-use Rattle.std.specs.Prelude.{ℕ, List, [], ◌∷◌, ◌++◌, Bool, true, false, map, filter, length, Option, Some, None}
+use Rattle.std.specs.Prelude.{ℕ, List, [], ◌∷◌, ◌++◌, Bool, true, false, cond, length, Option, Some, None}
 use Rattle.std.specs.List.{flat_map, range_with_len}
 use Rattle.sil_ast.specs.declared.place.ValueId.{ValueId}
 use Rattle.forwarding_chains.specs.Facts.{value_of}
@@ -40,9 +40,12 @@ is_scope sources v = is_scope_source (source_at sources v)
 abbrev pub field_parts : ValueId → ℕ → List Part
 field_parts object k = Contents (record { subject = object; field = Some k }) false false ∷ Building object k ∷ []
 
+abbrev pub scope_part : List Source → ValueId → ValueId → List Part
+scope_part sources address base = cond (is_scope sources base) (InScope address base ∷ []) []
+
 -- one part for each scope among an address's bases
 abbrev pub scope_parts : List Source → ValueId → List ValueId → List Part
-scope_parts sources address bases = map (InScope address) (filter (is_scope sources) bases)
+scope_parts sources address bases = flat_map (scope_part sources address) bases
 
 abbrev pub slot_part : ValueId → ValueId → Source → List Part
 slot_part address root (source.Slot emptied) = InSlot address root ∷ []
@@ -62,8 +65,11 @@ slot_part_at sources address (Some l) = slot_part address l.root (source_at sour
 abbrev pub address_parts : List Source → Facts → ValueId → List Part
 address_parts sources f address = scope_parts sources address f.bases ++ slot_part_at sources address (location_of sources address)
 
+abbrev pub slot_parts : List Source → Facts → ValueId → Bool → List Part
+slot_parts sources f slot emptied = Contents (whole_cell slot) emptied false ∷ Allocation slot ∷ address_parts sources f slot
+
 abbrev pub parts_by : List Source → Facts → ValueId → Source → List Part
-parts_by sources f v (source.Slot emptied) = Contents (whole_cell v) emptied false ∷ Allocation v ∷ address_parts sources f v
+parts_by sources f v (source.Slot emptied) = slot_parts sources f v emptied
 parts_by sources f v source.Inout = Contents (whole_cell v) false true ∷ []
 parts_by sources f v (source.Object fields) = flat_map (field_parts v) (range_with_len 0 fields)
 parts_by sources f v (source.Borrow of) = []

@@ -19,6 +19,7 @@ use Rattle.path_patterns.specs.declared.mark.Mark.{Mark}
 use Rattle.memory_accesses.specs.declared.access.Access.{Access}
 use Rattle.memory_accesses.specs.declared.source.Source.{Source}
 use Rattle.memory_accesses.specs.Accesses.{accesses_of}
+use Rattle.memory_parts.specs.declared.fault.PartFault.{PartFault}
 use Rattle.memory_parts.specs.Loans.{disturbs, lent_at, root_of}
 use Rattle.memory_parts.specs.Parts.{at_return, means, parts_of, subject_of}
 use Rattle.memory_parts.specs.declared.part.Part.{Part}
@@ -26,6 +27,14 @@ use Rattle.memory_parts.specs.declared.part.Part.TheVariants.{Contents, Allocati
 
 abbrev pub entry_of : Mark → Entry
 entry_of m = record { subject = 0; mark = m }
+
+abbrev pub first_root : List Source → Part → List Access → Option ValueId
+first_root sources (Contents cell emptied left_full) accesses = None
+first_root sources (Allocation slot) accesses = None
+first_root sources (Lent scope address) accesses = option_and_then (root_of sources) (find (disturbs sources (lent_at sources address)) accesses)
+first_root sources (Building object field) accesses = None
+first_root sources (InScope address scope) accesses = None
+first_root sources (InSlot address slot) accesses = None
 
 module _ (sources : List Source) (facts : ValueId → Option Facts) (f : Function) where
   abbrev pub marks_of_access : Part → Access → List Mark
@@ -39,39 +48,24 @@ module _ (sources : List Source) (facts : ValueId → Option Facts) (f : Functio
   abbrev pub part_table : Part → Item → List Entry
   part_table p item = map entry_of (part_marks p item)
 
-  abbrev pub first_root : Part → List Access → Option ValueId
-  first_root (Contents cell emptied left_full) accesses = None
-  first_root (Allocation slot) accesses = None
-  first_root (Lent scope address) accesses = option_and_then (root_of sources) (find (disturbs sources (lent_at sources address)) accesses)
-  first_root (Building object field) accesses = None
-  first_root (InScope address scope) accesses = None
-  first_root (InSlot address slot) accesses = None
-
   -- the other value that takes part: the root of the first access that disturbs a loan
   abbrev pub other_of : Part → Item → Option ValueId
-  other_of p item = first_root p (accesses_of sources facts f item)
+  other_of p item = first_root sources p (accesses_of sources facts f item)
 
--- what is shown of memory: of which subject, with which code, and the other value
-pub record Finding : Type 0 where
-  pub subject : ValueId
-  pub code : ℕ
-  pub walk : List EdgeId
-  pub point : PointId
-  pub other : Option ValueId
-
--- the walk shows it at one part by itself
-pub record IsShown (sources : List Source) (facts : ValueId → Option Facts) (f : Function) (s : Finding) : Type 0 where
+-- a walk shows it at one of the parts, by itself
+pub record IsShown (sources : List Source) (facts : ValueId → Option Facts) (f : Function) (parts : List Part) (s : PartFault) : Type 0 where
   pub part : Part
-  pub there : Contains (parts_of sources (known_or facts)) part
+  pub there : Contains parts part
   pub subject : subject_of part ≡ s.subject
   pub item : Item
   pub shown : paths.IsShownAt f (part_table sources facts f part) 0 s.code s.walk s.point item
   pub other : s.other ≡ other_of sources facts f part item
 
 -- by subject, then by code, then by the number of edges
-abbrev pub finding_key : Finding → List ℕ
-finding_key s = s.subject.0 ∷ s.code ∷ length s.walk ∷ []
+abbrev pub fault_key : PartFault → List ℕ
+fault_key s = s.subject.0 ∷ s.code ∷ length s.walk ∷ []
 
 -- this comes first of what is shown at any part, whichever facts the kinds are by
-abbrev pub IsFirstFinding : List Source → Function → Layout → Known → Option Finding → Type 0
-IsFirstFinding sources f g k found = (count : ℕ) (facts : ValueId → Option Facts) → AreKindsBy count facts f g k → IsFirst finding_key (IsShown sources facts f) found
+abbrev pub IsFirstFinding : List Source → Function → Layout → Known → Option PartFault → Type 0
+IsFirstFinding sources f g k found =
+    (count : ℕ) (facts : ValueId → Option Facts) → AreKindsBy count facts f g k → IsFirst fault_key (IsShown sources facts f (parts_of sources (known_or facts))) found

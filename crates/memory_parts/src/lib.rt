@@ -2,6 +2,23 @@
 //! It knows what an item does to memory, and of no instruction.
 #![tactic(auto)]
 
+mod addresses;
+mod allocations;
+mod batch;
+mod building;
+mod contents;
+mod earlier;
+mod entries;
+mod fault;
+mod first;
+mod loans;
+mod meaning;
+mod others;
 mod part;
+mod parts;
+mod single;
+mod switch;
 
+pub use fault::PartFault;
+pub use first::first_fault;
 pub use part::Part;

@@ -17,7 +17,7 @@ pub enum Part {
     /// Whether a location is lent to a scope, by the address at which it is.
     Lent { scope: ValueId, address: ValueId },
     /// Whether a field of a new object is still to be written.
-    Building { object: ValueId, field: u32 },
+    Building { object: ValueId, field: usize },
     /// Whether a scope is open that an address lies in.
     InScope { address: ValueId, scope: ValueId },
     /// Whether the slot is allocated that an address lies in.

@@ -6,3 +6,4 @@ pub mod Together
 pub mod FirstShown
 pub mod Touching
 pub mod OwnEntries
+pub mod OneSubject

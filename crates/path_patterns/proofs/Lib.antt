@@ -5,3 +5,4 @@ pub mod SwitchDecided
 pub mod SwitchTurned
 pub mod GraphPatterns
 pub mod RunsAreLawful
+pub mod SameMarks

@@ -1,0 +1,12 @@
+use Rattle.std.proofs.Common.{◌≡◌, ℕ, ◌<◌, length}
+use Rattle.std.specs.List.{flat_map}
+use Rattle.path_patterns.specs.Reads.{accesses_at}
+use Rattle.ownership_marks.specs.Known.{facts_of}
+use Rattle.memory_parts.specs.Batches.{joint}
+use Rattle.memory_parts.proofs.entries.entries_by_item.Given as goal
+
+abbrev pub invariant-loop-item : goal.invariant-loop-item
+invariant-loop-item l = record {
+  size : length l.all.items ≡ l.item-index;
+  entries : (n : ℕ) → n < l.item-index → accesses_at l.all.items n ≡ flat_map (joint l.m (facts_of l.k) l.batch) (accesses_at l.accesses n);
+}

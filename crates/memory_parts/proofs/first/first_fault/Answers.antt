@@ -1,0 +1,21 @@
+use Rattle.std.proofs.Common.{List, sym, ◌∙◌, subst}
+use Rattle.std.proofs.lemmas.Result.{IfOk-weaker}
+use Rattle.forwarding_chains.specs.Facts.{known_or}
+use Rattle.ownership_marks.specs.Known.{facts_of}
+use Rattle.sil_rules.specs.Order.{IsFirst}
+use Rattle.memory_parts.specs.Batches.{AreRising, IsFirstAmong}
+use Rattle.memory_parts.specs.Shown.{fault_key, IsFirstFinding, IsShown}
+use Rattle.memory_parts.specs.declared.part.Part.{Part}
+use Rattle.memory_parts.proofs.Joint.{parts_same}
+use Rattle.memory_parts.proofs.Ordered.{parts_rising}
+use Rattle.memory_parts.proofs.first.first_fault.Goals as goal
+
+pub returns : goal.returns
+returns c =
+    IfOk-weaker c.first_from.result
+    (IsFirstAmong c.args.m.now c.args.f.now c.args.g.now c.args.k.now c.deref-3.result.now)
+    (IsFirstFinding c.args.m.now c.args.f.now c.args.g.now c.args.k.now)
+    (λ r h count facts by.
+    let P : List Part → Type 0 = λ ps. IsFirst fault_key (IsShown c.args.m.now facts c.args.f.now ps) r in
+    subst P (c.deref-3.ensures.value ∙ c.in_ok-parts.ensures ∙ parts_same c.args.m.now (facts_of c.args.k.now) (known_or facts) by.facts_are) (h count facts by))
+    c.first_from.ensures

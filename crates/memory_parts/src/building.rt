@@ -1,0 +1,135 @@
+//! Fields of new objects that are still to be written: rule 607.
+
+ghost use Rattle.std.specs.Prelude.{◌≡◌};
+ghost use Rattle.std.specs.List.{list_any};
+ghost use Rattle.std.specs.Option.{option_copied};
+ghost use Rattle.ownership_marks.specs.Known.{facts_of};
+ghost use Rattle.memory_parts.specs.Building as building;
+
+use crate::contents::same_cell;
+use crate::switch::{is_same, need, turn_off, turn_on, when};
+use memory_accesses::{Access, Allowance, Cell, Location, Memory, Operation};
+use ownership_marks::Kinds;
+use path_patterns::Mark;
+use sil_ast::ValueId;
+use type_definitions::Kind;
+
+fn is_first_write(operation: Operation) -> bool
+    ensures { result ≡ building.is_first_write operation }
+{
+    match operation {
+        Operation::FirstWrite | Operation::TrivialStore => true,
+        Operation::Read
+        | Operation::Lend
+        | Operation::Write
+        | Operation::InoutOperand
+        | Operation::Take => false,
+    }
+}
+
+/// Whether the operation at the location is a first write of the whole cell.
+fn fills(m: &Memory, cell: Cell, operation: Operation, location: Option<&Location>) -> bool
+    ensures { result ≡ building.fills m.now cell operation (option_copied location.entry) }
+{
+    match location {
+        None => false,
+        Some(l) => {
+            is_first_write(operation) && !l.is_part() && same_cell(m.cell(l.root), cell)
+        }
+    }
+}
+
+fn takes_object(allowance: Allowance) -> bool
+    ensures { result ≡ building.takes_object allowance }
+{
+    match allowance {
+        Allowance::FreshObject | Allowance::BothOfThem => true,
+        Allowance::NeitherOfThem | Allowance::BuildingBorrow => false,
+    }
+}
+
+fn takes_borrow(allowance: Allowance) -> bool
+    ensures { result ≡ building.takes_borrow allowance }
+{
+    match allowance {
+        Allowance::BuildingBorrow | Allowance::BothOfThem => true,
+        Allowance::NeitherOfThem | Allowance::FreshObject => false,
+    }
+}
+
+/// Whether the value is a building borrow of the object.
+fn builds(m: &Memory, object: ValueId, value: ValueId) -> bool
+    ensures { result ≡ building.builds m.now object value }
+{
+    match m.object_built(value) {
+        None => false,
+        Some(built) => is_same(built, object),
+    }
+}
+
+fn any_builds(m: &Memory, object: ValueId, bases: &[ValueId]) -> bool
+    ensures { result ≡ list_any (building.builds m.now object) bases.now }
+{
+    for base in bases {
+        if builds(m, object, *base) {
+            return true;
+        }
+    }
+    false
+}
+
+/// Whether the value is Guaranteed and goes by a building borrow of the object, as the borrow itself does.
+fn goes_by_borrow(m: &Memory, k: &Kinds, object: ValueId, value: ValueId) -> bool
+    ensures { result ≡ building.goes_by_borrow m.now (facts_of k.now value) object }
+{
+    match k.kind(value) {
+        Kind::Guaranteed => any_builds(m, object, k.bases(value)),
+        Kind::Owned | Kind::Plain => false,
+    }
+}
+
+/// Whether the operand is one that no unfinished object may be: the object, a building borrow of it, or a value that goes by one.
+fn is_forbidden(
+    m: &Memory,
+    k: &Kinds,
+    object: ValueId,
+    value: ValueId,
+    allowance: Allowance,
+) -> bool
+    ensures { result ≡ building.is_forbidden m.now (facts_of k.now) object value allowance }
+{
+    let of_object = is_same(value, object) && !takes_object(allowance);
+    let of_borrow = goes_by_borrow(m, k, object, value)
+        && !(builds(m, object, value) && takes_borrow(allowance));
+    of_object || of_borrow
+}
+
+/// What an access means to a field of a new object.
+pub(crate) fn building_mark(
+    m: &Memory,
+    k: &Kinds,
+    object: ValueId,
+    field: usize,
+    access: Access,
+) -> Option<Mark>
+    ensures { result ≡ building.building_mark m.now (facts_of k.now) object field access }
+{
+    match access {
+        Access::Ends(_) | Access::Begins(_) | Access::Deallocates(_) | Access::Given(_) => None,
+        Access::Allocates(v) => when(is_same(v, object), turn_on()),
+        Access::Does(x) => {
+            let cell = Cell {
+                subject: object,
+                field: Some(field),
+            };
+            when(
+                fills(m, cell, x.operation, m.location(x.address)),
+                turn_off(),
+            )
+        }
+        Access::Mentions { value, allowance } => when(
+            is_forbidden(m, k, object, value, allowance),
+            need(false, 7),
+        ),
+    }
+}

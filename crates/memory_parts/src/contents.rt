@@ -1,0 +1,108 @@
+//! What a cell holds: rules 601, 602, 603 and 609.
+
+ghost use Rattle.std.specs.Prelude.{◌≡◌, Some};
+ghost use Rattle.std.specs.Option.{option_copied};
+ghost use Rattle.memory_accesses.specs.Rows.{counted, is_part};
+ghost use Rattle.memory_parts.specs.Contents as contents;
+
+use crate::switch::{is_same, need, need_and_turn, turn_off, turn_on, when};
+use memory_accesses::{Access, Cell, Location, Memory, Operation};
+use path_patterns::Mark;
+
+/// Whether the operation is counted at a part of its root.
+pub(crate) fn is_counted_part(m: &Memory, location: &Location, operation: Operation) -> bool
+    ensures { result ≡ is_part (counted m.now location.now operation) }
+{
+    m.has_operation(location, operation) && location.is_part()
+}
+
+fn same_field(a: Option<usize>, b: Option<usize>) -> bool
+    ensures { result ≡ contents.same_field a b }
+{
+    match (a, b) {
+        (None, None) => true,
+        (Some(k), Some(n)) => k == n,
+        _ => false,
+    }
+}
+
+/// Whether it is one cell.
+pub(crate) fn same_cell(a: Cell, b: Cell) -> bool
+    ensures { result ≡ contents.same_cell a b }
+{
+    is_same(a.subject, b.subject) && same_field(a.field, b.field)
+}
+
+/// A first write fills the empty cell, and a take empties the full one. A trivial store to the whole fills it, whatever it was; all else needs it full.
+fn operation_mark(part: bool, operation: Operation) -> Mark
+    ensures { result ≡ contents.operation_mark part operation }
+{
+    match operation {
+        Operation::FirstWrite => need_and_turn(false, true, 2),
+        Operation::Take => need_and_turn(true, false, 1),
+        Operation::TrivialStore => {
+            if part {
+                need(true, 1)
+            } else {
+                turn_on()
+            }
+        }
+        Operation::Read | Operation::Lend => need(true, 1),
+        Operation::Write | Operation::InoutOperand => need(true, 1),
+    }
+}
+
+/// An operation means something to the cell that is at the root of its location.
+fn at_location(
+    m: &Memory,
+    cell: Cell,
+    operation: Operation,
+    location: Option<&Location>,
+) -> Option<Mark>
+    ensures { result ≡ contents.at_location m.now cell operation (option_copied location.entry) }
+{
+    match location {
+        None => None,
+        Some(l) => when(
+            same_cell(m.cell(l.root), cell),
+            operation_mark(is_counted_part(m, l, operation), operation),
+        ),
+    }
+}
+
+/// Where the cell is `emptied` it may not be full when it is deallocated, and it never is behind that.
+fn deallocation_mark(emptied: bool) -> Mark
+    ensures { result ≡ contents.deallocation_mark emptied }
+{
+    Mark {
+        needs: if emptied { Some(false) } else { None },
+        turns: Some(false),
+        code: 3,
+    }
+}
+
+/// What an access means to the contents of a cell.
+pub(crate) fn contents_mark(
+    m: &Memory,
+    cell: Cell,
+    emptied: bool,
+    access: Access,
+) -> Option<Mark>
+    ensures { result ≡ contents.contents_mark m.now cell emptied access }
+{
+    match access {
+        Access::Ends(_) | Access::Begins(_) => None,
+        Access::Mentions { .. } => None,
+        Access::Allocates(v) => when(is_same(v, cell.subject), turn_off()),
+        Access::Deallocates(v) => when(is_same(v, cell.subject), deallocation_mark(emptied)),
+        Access::Given(v) => when(is_same(v, cell.subject), turn_on()),
+        Access::Does(x) => at_location(m, cell, x.operation, m.location(x.address)),
+    }
+}
+
+/// Where the cell is `left_full` it is full at a `return`.
+pub(crate) fn left_full_mark(left_full: bool) -> Option<Mark>
+    ensures { result ≡ contents.left_full_mark left_full }
+{
+    when(left_full, need(true, 9))
+}

@@ -1,0 +1,38 @@
+//! Which of two faults comes first.
+
+ghost use Rattle.std.specs.Prelude.{◌≡◌, true, false};
+ghost use Rattle.sil_rules.specs.Order.{IsEarlier, NotAfter};
+ghost use Rattle.memory_parts.specs.Shown.{fault_key};
+
+use crate::fault::PartFault;
+
+/// Whether the first doesn't come after the second: by subject, then by code, then by the number of edges.
+fn is_not_after(a: &PartFault, b: &PartFault) -> bool
+    ensures yes { result ≡ true → NotAfter (fault_key a.now) (fault_key b.now) }
+    ensures no { result ≡ false → NotAfter (fault_key b.now) (fault_key a.now) }
+{
+    if a.subject.0 != b.subject.0 {
+        return a.subject.0 < b.subject.0;
+    }
+    if a.code != b.code {
+        return a.code < b.code;
+    }
+    a.walk.len() <= b.walk.len()
+}
+
+/// The one that comes first, if there is one.
+pub(crate) fn earlier(a: Option<PartFault>, b: Option<PartFault>) -> Option<PartFault>
+    ensures { IsEarlier fault_key a b result }
+{
+    match (a, b) {
+        (None, b) => b,
+        (a, None) => a,
+        (Some(a), Some(b)) => {
+            if is_not_after(&a, &b) {
+                Some(a)
+            } else {
+                Some(b)
+            }
+        }
+    }
+}

@@ -1,0 +1,119 @@
+//! The first fault of all parts.
+
+ghost use Rattle.std.specs.Prelude.{◌≡◌, ◌≤◌, IfOk, None, length, take};
+ghost use Rattle.sil_cfg.specs.Build.{IsGraphOf};
+ghost use Rattle.sil_cfg.specs.Layout.{item_count};
+ghost use Rattle.memory_parts.specs.Batches as batches;
+ghost use Rattle.memory_parts.specs.Batches.{AreAccesses, AreReturns, AreRising, IsFirstAmong};
+ghost use Rattle.memory_parts.specs.Shown.{IsFirstFinding};
+
+use crate::batch::first_number;
+use crate::earlier::earlier;
+use crate::fault::PartFault;
+use crate::meaning::subject_of;
+use crate::part::Part;
+use crate::parts::parts_of;
+use crate::single::first_of_part;
+use memory_accesses::{Access, Memory};
+use ownership_marks::Kinds;
+use sil_ast::{Exhausted, Function, ValueId};
+use sil_cfg::{Graph, returns_by_item};
+use std::alloc::Global;
+
+/// The most parts that are searched together.
+const BATCH: usize = 1024;
+
+/// How many parts stand before the first at which a walk shows a fault.
+fn count_clean(
+    alloc: Global,
+    f: &Function,
+    g: &Graph,
+    k: &Kinds,
+    m: &Memory,
+    accesses: &[Vec<Access>],
+    returns: &[bool],
+    parts: &[Part],
+) -> Result<usize, Exhausted>
+    requires graph { IsGraphOf g.now f.now }
+    requires items { length accesses.now ≡ item_count g.now }
+    requires accesses { AreAccesses m.now f.now g.now k.now accesses.now }
+    requires returns { AreReturns f.now g.now returns.now }
+    ensures within { IfOk result (λ n. n ≤ length parts.now) }
+    ensures clean { IfOk result (λ n. IsFirstAmong m.now f.now g.now k.now (take n parts.now) None) }
+{
+    let mut first = 0;
+    while first < parts.len() {
+        let count = BATCH.min(parts.len() - first);
+        let batch = &parts[first..first + count];
+        if let Some(fault) = first_number(alloc, f, g, k, m, accesses, returns, batch)? {
+            return Ok(first + count.min(fault.subject as usize));
+        }
+        first += count;
+    }
+    Ok(first)
+}
+
+/// Whether there is a fault, and of a lesser subject.
+fn is_behind(best: &Option<PartFault>, subject: ValueId) -> bool
+    ensures { result ≡ batches.is_behind best.now subject }
+{
+    match best {
+        None => false,
+        Some(fault) => fault.subject.0 < subject.0,
+    }
+}
+
+/// The first fault that some walk shows at the parts, if none is shown at those before the number `start`.
+fn first_from(
+    alloc: Global,
+    f: &Function,
+    g: &Graph,
+    k: &Kinds,
+    m: &Memory,
+    accesses: &[Vec<Access>],
+    returns: &[bool],
+    parts: &[Part],
+    start: usize,
+) -> Result<Option<PartFault>, Exhausted>
+    requires graph { IsGraphOf g.now f.now }
+    requires items { length accesses.now ≡ item_count g.now }
+    requires accesses { AreAccesses m.now f.now g.now k.now accesses.now }
+    requires returns { AreReturns f.now g.now returns.now }
+    requires rising { AreRising parts.now }
+    requires within { start ≤ length parts.now }
+    requires clean { IsFirstAmong m.now f.now g.now k.now (take start parts.now) None }
+    ensures { IfOk result (IsFirstAmong m.now f.now g.now k.now parts.now) }
+{
+    let mut best = None;
+    for number in start..parts.len() {
+        let part = parts[number];
+        if is_behind(&best, subject_of(part)) {
+            return Ok(best);
+        }
+        let next = first_of_part(alloc, f, g, k, m, accesses, returns, part)?;
+        best = earlier(best, next);
+    }
+    Ok(best)
+}
+
+/// The first fault that some walk of the function shows of memory, by rules 601 to 610 without the order of two slots:
+/// that of the least value, with its first rule and a walk of fewest edges; none where nothing is shown.
+/// `g` is the graph of `f`, `k` has its kinds, `m` what its values are to memory, and `accesses` what each of the graph's items does, by their numbers.
+pub fn first_fault(
+    alloc: Global,
+    f: &Function,
+    g: &Graph,
+    k: &Kinds,
+    m: &Memory,
+    accesses: &[Vec<Access>],
+) -> Result<Option<PartFault>, Exhausted>
+    requires graph { IsGraphOf g.now f.now }
+    requires items { length accesses.now ≡ item_count g.now }
+    requires accesses { AreAccesses m.now f.now g.now k.now accesses.now }
+    ensures { IfOk result (IsFirstFinding m.now f.now g.now k.now) }
+{
+    let parts = parts_of(alloc, m, k)?;
+    let returns = returns_by_item(alloc, f, g)?;
+    let start = count_clean(alloc, f, g, k, m, accesses, &returns, &parts)?;
+    first_from(alloc, f, g, k, m, accesses, &returns, &parts, start)
+}
