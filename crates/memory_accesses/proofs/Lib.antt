@@ -1,0 +1,3 @@
+pub mod ByItem
+pub mod Following
+pub mod Gathered

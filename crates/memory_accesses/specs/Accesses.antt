@@ -95,8 +95,12 @@ made_by v source.Other = []
 abbrev pub made : List Source → ValueId → List Access
 made sources v = made_by v (source_at sources v)
 
--- what the item does: values that end, operands, what is done to locations, a slot that is deallocated, what is allocated, values that begin
+-- what an item with these marks does: values that end, operands, what is done to locations, a slot that is deallocated, what is allocated, values that begin
+abbrev pub accesses_with : List Source → List Mark → Function → Item → List Access
+accesses_with sources marks f item =
+    flat_map ended marks ++ (mentions_of (item_inst f item) (item_taken f item) ++ (does_of (item_inst f item) ++ (deallocations_of sources (item_inst f item)
+    ++ (flat_map (made sources) (item_defined f item) ++ flat_map begun marks))))
+
+-- what the item does, by the marks that it has where the values have these facts
 abbrev pub accesses_of : List Source → (ValueId → Option Facts) → Function → Item → List Access
-accesses_of sources facts f item =
-    flat_map ended (marks_of facts f item) ++ (mentions_of (item_inst f item) (item_taken f item) ++ (does_of (item_inst f item) ++ (deallocations_of sources (item_inst f item)
-    ++ (flat_map (made sources) (item_defined f item) ++ flat_map begun (marks_of facts f item)))))
+accesses_of sources facts f item = accesses_with sources (marks_of facts f item) f item

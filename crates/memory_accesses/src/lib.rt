@@ -3,11 +3,21 @@
 #![tactic(auto)]
 
 mod access;
+mod accesses;
 mod columns;
+mod item_accesses;
+mod locating;
 mod location;
+mod memory;
+mod operations;
+mod rows;
 mod source;
+mod sources;
 
 pub use access::{Access, Operated, Operation};
+pub use accesses::accesses_by_item;
 pub use columns::{AccessKind, Allowance, access_kind_of, allowance_of};
-pub use location::{Cell, Location};
+pub use location::{Cell, Location, overlap};
+pub use memory::Memory;
+pub use operations::{add_addresses, add_operations, deallocates};
 pub use source::Source;

@@ -1,5 +1,9 @@
 //! Locations: roots, and the steps from a root to a part.
 
+ghost use Rattle.std.specs.Prelude.{◌≡◌};
+ghost use Rattle.memory_accesses.specs.Locations as locations;
+ghost use Rattle.memory_accesses.specs.Rows as rows;
+
 use sil_ast::{List, ValueId};
 
 /// A location: a slot, what is passed for an `@inout` parameter, or the field of an object, each by the value that is its address; and the
@@ -15,4 +19,22 @@ pub struct Location {
 pub struct Cell {
     pub subject: ValueId,
     pub field: Option<usize>,
+}
+
+impl Location {
+    /// Whether it is a part: steps lead from the root to it.
+    pub fn is_part(&self) -> bool
+        ensures { result ≡ rows.is_part self.now }
+    {
+        !self.path.is_empty()
+    }
+}
+
+/// Whether two locations overlap: one is the other or a part of it.
+pub fn overlap(a: &Location, b: &Location) -> bool
+    ensures { result ≡ locations.overlap a.now b.now }
+{
+    let x = a.path.as_slice();
+    let y = b.path.as_slice();
+    a.root.0 == b.root.0 && (x.starts_with(y) || y.starts_with(x))
 }

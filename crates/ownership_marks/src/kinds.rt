@@ -87,6 +87,14 @@ impl Kinds {
         ensures { IfOk result (λ v. v.items ≡ marks.marks_of (told_at self.now.table) f.now item) }
     {
         let mut taken = Vec::new(alloc);
-        marks_of_item(alloc, self.table.as_slice(), f, item, &mut taken)
+        let mut defined = Vec::new(alloc);
+        marks_of_item(
+            alloc,
+            self.table.as_slice(),
+            f,
+            item,
+            &mut taken,
+            &mut defined,
+        )
     }
 }

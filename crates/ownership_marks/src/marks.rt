@@ -8,13 +8,13 @@ ghost use Rattle.sil_cfg.specs.Layout.{item_count};
 ghost use Rattle.forwarding_chains.specs.Facts.{told_at};
 ghost use Rattle.ownership_marks.specs.Known.{AreMarksOf, lists_of, marks_in};
 ghost use Rattle.ownership_marks.specs.Marks as marks;
-ghost use Rattle.ownership_marks.specs.Marks.{arg_value, begun, end_of, ended, ended_by, item_defined, marks_of, use_of, used};
+ghost use Rattle.ownership_marks.specs.Marks.{begun, end_of, ended, ended_by, marks_of, use_of, used};
 
 use crate::mark::{Mark, MarkSort};
-use crate::passed::{add_item_taken, args_of, edge_at, results_of};
+use crate::passed::{add_item_defined, add_item_taken};
 use crate::taken::Taken;
 use forwarding_chains::Facts;
-use sil_ast::{BlockArg, BlockId, Exhausted, Function, Role, ValueId};
+use sil_ast::{Exhausted, Function, Role, ValueId};
 use sil_cfg::{Graph, Item};
 use std::alloc::Global;
 use type_definitions::Kind;
@@ -187,68 +187,38 @@ fn add_begin(
     Ok(())
 }
 
-fn add_result_begins(
+fn add_begins(
     marks: &mut Vec<Mark>,
     table: &[Option<Facts>],
-    results: &[ValueId],
+    defined: &[ValueId],
 ) -> Result<(), Exhausted>
-    ensures { OnOk result (marks.new.items ≡ marks.old.items ++ flat_map (begun (told_at table.now)) results.now) }
+    ensures { OnOk result (marks.new.items ≡ marks.old.items ++ flat_map (begun (told_at table.now)) defined.now) }
 {
-    for value in results {
+    for value in defined {
         add_begin(marks, table, *value)?;
     }
     Ok(())
 }
 
-fn add_arg_begins(
-    marks: &mut Vec<Mark>,
-    table: &[Option<Facts>],
-    args: &[BlockArg],
-) -> Result<(), Exhausted>
-    ensures { OnOk result (marks.new.items ≡ marks.old.items ++ flat_map (begun (told_at table.now)) (map arg_value args.now)) }
-{
-    for arg in args {
-        add_begin(marks, table, arg.value)?;
-    }
-    Ok(())
-}
-
-/// The beginnings of the values that an item defines.
-fn add_item_begins(
-    marks: &mut Vec<Mark>,
-    table: &[Option<Facts>],
-    f: &Function,
-    item: Item,
-) -> Result<(), Exhausted>
-    ensures { OnOk result (marks.new.items ≡ marks.old.items ++ flat_map (begun (told_at table.now)) (item_defined f.now item)) }
-{
-    match item {
-        Item::Entry => add_arg_begins(marks, table, args_of(f, BlockId(0))),
-        Item::Inst(p) => add_result_begins(marks, table, results_of(f, p)),
-        Item::Edge(e) => match edge_at(f, e) {
-            None => Ok(()),
-            Some(edge) => add_arg_begins(marks, table, args_of(f, edge.block)),
-        },
-        Item::Exit(_) => Ok(()),
-    }
-}
-
-/// The marks of an item: ends in the order of its operands, then uses, then beginnings. What `taken` holds doesn't matter: it is memory for the operands.
+/// The marks of an item: ends in the order of its operands, then uses, then beginnings. What `taken` and `defined` hold doesn't matter: they are memory for the operands and the values that it defines.
 pub(crate) fn marks_of_item(
     alloc: Global,
     table: &[Option<Facts>],
     f: &Function,
     item: Item,
     taken: &mut Vec<Taken>,
+    defined: &mut Vec<ValueId>,
 ) -> Result<Vec<Mark>, Exhausted>
     ensures { IfOk result (λ v. v.items ≡ marks_of (told_at table.now) f.now item) }
 {
     taken.clear();
     add_item_taken(taken, f, item)?;
+    defined.clear();
+    add_item_defined(defined, f, item)?;
     let mut marks = Vec::new(alloc);
     add_ends(&mut marks, table, taken.as_slice())?;
     add_uses(&mut marks, table, taken.as_slice())?;
-    add_item_begins(&mut marks, table, f, item)?;
+    add_begins(&mut marks, table, defined.as_slice())?;
     Ok(marks)
 }
 
@@ -264,9 +234,11 @@ pub(crate) fn all_marks(
     ensures marks { IfOk result (λ v. AreMarksOf (told_at table.now) f.now g.now (marks_in (lists_of v.items))) }
 {
     let mut taken = Vec::new(alloc);
+    let mut defined = Vec::new(alloc);
     let mut all = Vec::new(alloc);
     for i in 0..g.items() {
-        all.push(marks_of_item(alloc, table, f, g.item(i), &mut taken)?)?;
+        let marks = marks_of_item(alloc, table, f, g.item(i), &mut taken, &mut defined)?;
+        all.push(marks)?;
     }
     Ok(all)
 }

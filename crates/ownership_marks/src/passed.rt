@@ -3,14 +3,14 @@
 ghost use Rattle.std.specs.Prelude.{◌≡◌, ◌++◌, map, slice_get, OnOk};
 ghost use Rattle.std.specs.Option.{option_copied};
 ghost use Rattle.ownership_marks.specs.Marks as marks;
-ghost use Rattle.ownership_marks.specs.Marks.{arg_value, edge_in, inst_in, item_taken, results_at, taken_along_at, taken_at, terminator_in};
+ghost use Rattle.ownership_marks.specs.Marks.{arg_value, edge_in, inst_in, item_defined, item_taken, results_at, taken_along_at, taken_at, terminator_in};
 
 use crate::taken::{Taken, add_taken_along, add_taken_by};
 use sil_ast::{BlockArg, BlockId, Edge, EdgeId, Exhausted, Function, Inst, PointId, ValueId};
 use sil_cfg::Item;
 
 /// The instruction at a point, if it is one and no terminator.
-fn inst_at(f: &Function, p: PointId) -> Option<&Inst>
+pub fn inst_at(f: &Function, p: PointId) -> Option<&Inst>
     ensures { option_copied result ≡ inst_in (slice_get f.now.blocks p.block.0) p.index }
 {
     match f.blocks.get(p.block.0 as usize) {
@@ -19,7 +19,8 @@ fn inst_at(f: &Function, p: PointId) -> Option<&Inst>
     }
 }
 
-fn terminator_of(f: &Function, b: BlockId) -> Option<&Inst>
+/// The terminator of a block, if there is such a block.
+pub fn terminator_of(f: &Function, b: BlockId) -> Option<&Inst>
     ensures { option_copied result ≡ terminator_in (slice_get f.now.blocks b.0) }
 {
     match f.blocks.get(b.0 as usize) {
@@ -28,7 +29,7 @@ fn terminator_of(f: &Function, b: BlockId) -> Option<&Inst>
     }
 }
 
-pub(crate) fn edge_at(f: &Function, e: EdgeId) -> Option<&Edge>
+fn edge_at(f: &Function, e: EdgeId) -> Option<&Edge>
     ensures { option_copied result ≡ edge_in (terminator_in (slice_get f.now.blocks e.block.0)) e.index }
 {
     match f.blocks.get(e.block.0 as usize) {
@@ -38,7 +39,7 @@ pub(crate) fn edge_at(f: &Function, e: EdgeId) -> Option<&Edge>
 }
 
 /// The arguments of a block, and none where there is no such block.
-pub(crate) fn args_of(f: &Function, b: BlockId) -> &[BlockArg]
+fn args_of(f: &Function, b: BlockId) -> &[BlockArg]
     ensures { map arg_value result.now ≡ marks.args_of f.now b.0 }
 {
     match f.blocks.get(b.0 as usize) {
@@ -48,7 +49,7 @@ pub(crate) fn args_of(f: &Function, b: BlockId) -> &[BlockArg]
 }
 
 /// The results of the instruction at a point, and none at a terminator.
-pub(crate) fn results_of(f: &Function, p: PointId) -> &[ValueId]
+fn results_of(f: &Function, p: PointId) -> &[ValueId]
     ensures { result.now ≡ results_at (inst_in (slice_get f.now.blocks p.block.0) p.index) }
 {
     match inst_at(f, p) {
@@ -87,5 +88,42 @@ pub fn add_item_taken(taken: &mut Vec<Taken>, f: &Function, item: Item) -> Resul
             add_taken_along_at(taken, edge_at(f, e))
         }
         Item::Exit(p) => add_taken_at(taken, terminator_of(f, p.block)),
+    }
+}
+
+fn add_args(defined: &mut Vec<ValueId>, args: &[BlockArg]) -> Result<(), Exhausted>
+    ensures { OnOk result (defined.new.items ≡ defined.old.items ++ map arg_value args.now) }
+{
+    for arg in args {
+        defined.push(arg.value)?;
+    }
+    Ok(())
+}
+
+fn add_results(defined: &mut Vec<ValueId>, results: &[ValueId]) -> Result<(), Exhausted>
+    ensures { OnOk result (defined.new.items ≡ defined.old.items ++ results.now) }
+{
+    for value in results {
+        defined.push(*value)?;
+    }
+    Ok(())
+}
+
+/// Adds the values that an item defines: the arguments of the entry, or of the block to which an edge goes, or an instruction's results.
+pub fn add_item_defined(
+    defined: &mut Vec<ValueId>,
+    f: &Function,
+    item: Item,
+) -> Result<(), Exhausted>
+    ensures { OnOk result (defined.new.items ≡ defined.old.items ++ item_defined f.now item) }
+{
+    match item {
+        Item::Entry => add_args(defined, args_of(f, BlockId(0))),
+        Item::Inst(p) => add_results(defined, results_of(f, p)),
+        Item::Edge(e) => match edge_at(f, e) {
+            None => Ok(()),
+            Some(edge) => add_args(defined, args_of(f, edge.block)),
+        },
+        Item::Exit(_) => Ok(()),
     }
 }

@@ -23,12 +23,12 @@ one_more g marks all x n here size is these h k item lt e = at (cases_eq k n)
 
 pub loop-i-preserved : goal.loop-i-preserved
 loop-i-preserved c =
-    let new : c.push.new.self.items ≡ c.loop-i.all.items ++ c.in_ok-marks_of_item.field-0 ∷ [] = c.in_ok-push.ensures.items in
+    let new : c.push.new.self.items ≡ c.loop-i.all.items ++ c.in_ok-marks.marks ∷ [] = c.in_ok-push.ensures.items in
     record {
-      size = ap length new ∙ length_push c.loop-i.all.items c.in_ok-marks_of_item.field-0 ∙ ap (λ n. n + 1) c.loop-i.invariant.size;
+      size = ap length new ∙ length_push c.loop-i.all.items c.in_ok-marks.marks ∙ ap (λ n. n + 1) c.loop-i.invariant.size;
       marks = λ k item lt e. ap (λ (v : List (Vec Mark Global)). marks_in (lists_of v) k) new ∙
-          one_more c.args.g.now (marks_of (told_at c.args.table.now) c.args.f.now) c.loop-i.all.items c.in_ok-marks_of_item.field-0 c.loop-i.i c.item.result c.loop-i.invariant.size c.item.ensures
-          c.in_ok-marks_of_item.ensures c.loop-i.invariant.marks k item lt e;
+          one_more c.args.g.now (marks_of (told_at c.args.table.now) c.args.f.now) c.loop-i.all.items c.in_ok-marks.marks c.loop-i.i c.item.result c.loop-i.invariant.size c.item.ensures
+          c.in_ok-marks.ensures c.loop-i.invariant.marks k item lt e;
     }
 
 pub returns-clause-marks : goal.returns-clause-marks

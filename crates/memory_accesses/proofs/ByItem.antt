@@ -1,0 +1,36 @@
+-- What the item with a number does, by the marks that are kept for it.
+use Rattle.std.proofs.Common.{◌≡◌, ℕ, ◌<◌, List, [], ap, sym, ◌∙◌, Option, Some, None}
+use Rattle.std.specs.declared.alloc.Global.{Global}
+use Rattle.std.specs.declared.vec.Vec.{Vec}
+use Rattle.std.proofs.lemmas.Option.{slice_get_within}
+use Rattle.sil_ast.specs.declared.function.Function.{Function}
+use Rattle.sil_ast.specs.declared.place.ValueId.{ValueId}
+use Rattle.sil_cfg.specs.Layout.{Layout, item_at, item_count}
+use Rattle.sil_cfg.specs.declared.item.Item.{Item}
+use Rattle.path_patterns.specs.Reads.{accesses_at, AgreesWith}
+use Rattle.forwarding_chains.specs.declared.facts.Facts.{Facts}
+use Rattle.ownership_marks.specs.Known.{AreKindsBy, Known, marks_at}
+use Rattle.ownership_marks.specs.declared.mark.Mark.{Mark}
+use Rattle.memory_accesses.specs.declared.access.Access.{Access}
+use Rattle.memory_accesses.specs.declared.source.Source.{Source}
+use Rattle.memory_accesses.specs.Accesses.{accesses_of, accesses_with}
+
+abbrev pub done_by : List Source → Function → List Mark → Option Item → List Access
+done_by sources f marks None = []
+done_by sources f marks (Some item) = accesses_with sources marks f item
+
+abbrev pub told_at_item : List Source → Function → Layout → Known → ℕ → List Access
+told_at_item sources f g k n = done_by sources f (marks_at k n) (item_at g n)
+
+-- what was made of an item with its number's marks
+pub told_of_item : (sources : List Source) (f : Function) (g : Layout) (k : Known) (n : ℕ) (item : Item) (marks : List Mark) (made : List Access) →
+    made ≡ accesses_with sources marks f item → marks ≡ marks_at k n → item_at g n ≡ Some item → made ≡ told_at_item sources f g k n
+told_of_item sources f g k n item marks made is kept e =
+    is ∙ ap (λ these. accesses_with sources these f item) kept ∙ sym (ap (done_by sources f (marks_at k n)) e)
+
+-- what is told of every number agrees with what the items do
+pub all_agree : (sources : List Source) (f : Function) (g : Layout) (k : Known) (all : List (Vec Access Global)) →
+    ((n : ℕ) → n < item_count g → accesses_at all n ≡ told_at_item sources f g k n) →
+    (count : ℕ) (facts : ValueId → Option Facts) → AreKindsBy count facts f g k → AgreesWith g (accesses_at all) (accesses_of sources facts f)
+all_agree sources f g k all told count facts by n item e =
+    told n (slice_get_within g.kinds n item e) ∙ ap (done_by sources f (marks_at k n)) e ∙ ap (λ marks. accesses_with sources marks f item) (by.marks_are n item e)

@@ -1,0 +1,203 @@
+//! What one item does, step by step.
+
+ghost use Rattle.std.specs.Prelude.{◌≡◌, ◌++◌, OnOk, map};
+ghost use Rattle.std.specs.List.{flat_map};
+ghost use Rattle.std.specs.Option.{option_copied, option_to_list};
+ghost use Rattle.ownership_marks.specs.Marks.{item_defined, item_taken};
+ghost use Rattle.memory_accesses.specs.Accesses as spec;
+ghost use Rattle.memory_accesses.specs.declared.access.Access.TheVariants.{Does};
+
+use crate::access::{Access, Operated};
+use crate::columns::{Allowance, allowance_of};
+use crate::memory::Memory;
+use crate::operations::{add_addresses, add_operations, deallocates};
+use crate::source::Source;
+use ownership_marks::{
+    Mark, MarkSort, Taken, add_item_defined, add_item_taken, inst_at, terminator_of,
+};
+use sil_ast::{Exhausted, Function, Inst, ValueId};
+use sil_cfg::Item;
+
+/// The instruction of an item: a terminator for its edges and its exit.
+pub(crate) fn inst_of(f: &Function, item: Item) -> Option<&Inst>
+    ensures { option_copied result ≡ spec.item_inst f.now item }
+{
+    match item {
+        Item::Entry => None,
+        Item::Inst(p) => inst_at(f, p),
+        Item::Edge(e) => terminator_of(f, e.block),
+        Item::Exit(p) => terminator_of(f, p.block),
+    }
+}
+
+pub(crate) fn add_ends(accesses: &mut Vec<Access>, marks: &[Mark]) -> Result<(), Exhausted>
+    ensures { OnOk result (accesses.new.items ≡ accesses.old.items ++ flat_map spec.ended marks.now) }
+{
+    for mark in marks {
+        if matches!(mark.sort, MarkSort::End) {
+            accesses.push(Access::Ends(mark.subject))?;
+        }
+    }
+    Ok(())
+}
+
+pub(crate) fn add_begins(accesses: &mut Vec<Access>, marks: &[Mark]) -> Result<(), Exhausted>
+    ensures { OnOk result (accesses.new.items ≡ accesses.old.items ++ flat_map spec.begun marks.now) }
+{
+    for mark in marks {
+        if matches!(mark.sort, MarkSort::Begin) {
+            accesses.push(Access::Begins(mark.subject))?;
+        }
+    }
+    Ok(())
+}
+
+fn add_mentioned(
+    accesses: &mut Vec<Access>,
+    allowance: Allowance,
+    taken: &[Taken],
+) -> Result<(), Exhausted>
+    ensures { OnOk result (accesses.new.items ≡ accesses.old.items ++ map (spec.mentioned allowance) taken.now) }
+{
+    for one in taken {
+        accesses.push(Access::Mentions {
+            value: one.value,
+            allowance,
+        })?;
+    }
+    Ok(())
+}
+
+fn add_mentions(
+    accesses: &mut Vec<Access>,
+    inst: Option<&Inst>,
+    taken: &[Taken],
+) -> Result<(), Exhausted>
+    ensures { OnOk result (accesses.new.items ≡ accesses.old.items ++ spec.mentions_of (option_copied inst.entry) taken.now) }
+{
+    let Some(inst) = inst else {
+        return Ok(());
+    };
+    if deallocates(inst) {
+        return Ok(());
+    }
+    add_mentioned(accesses, allowance_of(inst.op), taken)
+}
+
+/// Adds the operands of an item, with the unfinished objects that its instruction takes.
+pub(crate) fn add_item_mentions(
+    accesses: &mut Vec<Access>,
+    f: &Function,
+    item: Item,
+) -> Result<(), Exhausted>
+    ensures { OnOk result (accesses.new.items ≡ accesses.old.items ++ spec.mentions_of (spec.item_inst f.now item) (item_taken f.now item)) }
+{
+    let mut taken = Vec::new(*accesses.allocator());
+    add_item_taken(&mut taken, f, item)?;
+    add_mentions(accesses, inst_of(f, item), taken.as_slice())?;
+    Ok(())
+}
+
+fn add_each_operated(
+    accesses: &mut Vec<Access>,
+    operations: &[Operated],
+) -> Result<(), Exhausted>
+    ensures { OnOk result (accesses.new.items ≡ accesses.old.items ++ map Does operations.now) }
+{
+    for operated in operations {
+        accesses.push(Access::Does(*operated))?;
+    }
+    Ok(())
+}
+
+pub(crate) fn add_does(accesses: &mut Vec<Access>, inst: Option<&Inst>) -> Result<(), Exhausted>
+    ensures { OnOk result (accesses.new.items ≡ accesses.old.items ++ spec.does_of (option_copied inst.entry)) }
+{
+    let Some(inst) = inst else {
+        return Ok(());
+    };
+    let mut operations = Vec::new(*accesses.allocator());
+    add_operations(&mut operations, inst)?;
+    add_each_operated(accesses, operations.as_slice())?;
+    Ok(())
+}
+
+/// Adds the deallocations of those addresses that are slots.
+fn add_deallocated(
+    accesses: &mut Vec<Access>,
+    m: &Memory,
+    addresses: &[ValueId],
+) -> Result<(), Exhausted>
+    ensures { OnOk result (accesses.new.items ≡ accesses.old.items ++ flat_map (spec.deallocated m.now) addresses.now) }
+{
+    for address in addresses {
+        if matches!(m.source(*address), Source::Slot { .. }) {
+            accesses.push(Access::Deallocates(*address))?;
+        }
+    }
+    Ok(())
+}
+
+pub(crate) fn add_deallocations(
+    accesses: &mut Vec<Access>,
+    m: &Memory,
+    inst: Option<&Inst>,
+) -> Result<(), Exhausted>
+    ensures { OnOk result (accesses.new.items ≡ accesses.old.items ++ spec.deallocations_of m.now (option_copied inst.entry)) }
+{
+    let Some(inst) = inst else {
+        return Ok(());
+    };
+    if !deallocates(inst) {
+        return Ok(());
+    }
+    let mut addresses = Vec::new(*accesses.allocator());
+    add_addresses(&mut addresses, inst)?;
+    add_deallocated(accesses, m, addresses.as_slice())?;
+    Ok(())
+}
+
+/// What the item does to memory that defines the value.
+fn made_by(m: &Memory, value: ValueId) -> Option<Access>
+    ensures { spec.made m.now value ≡ option_to_list result }
+{
+    match m.source(value) {
+        Source::Slot { .. } | Source::Object { .. } => Some(Access::Allocates(value)),
+        Source::Inout => Some(Access::Given(value)),
+        Source::Borrow { .. }
+        | Source::Loan { .. }
+        | Source::Field { .. }
+        | Source::Part { .. }
+        | Source::Other => None,
+    }
+}
+
+fn add_made(
+    accesses: &mut Vec<Access>,
+    m: &Memory,
+    defined: &[ValueId],
+) -> Result<(), Exhausted>
+    ensures { OnOk result (accesses.new.items ≡ accesses.old.items ++ flat_map (spec.made m.now) defined.now) }
+{
+    for value in defined {
+        if let Some(access) = made_by(m, *value) {
+            accesses.push(access)?;
+        }
+    }
+    Ok(())
+}
+
+/// Adds what is allocated and given by the item: those of the values that it defines.
+pub(crate) fn add_item_made(
+    accesses: &mut Vec<Access>,
+    m: &Memory,
+    f: &Function,
+    item: Item,
+) -> Result<(), Exhausted>
+    ensures { OnOk result (accesses.new.items ≡ accesses.old.items ++ flat_map (spec.made m.now) (item_defined f.now item)) }
+{
+    let mut defined = Vec::new(*accesses.allocator());
+    add_item_defined(&mut defined, f, item)?;
+    add_made(accesses, m, defined.as_slice())?;
+    Ok(())
+}
