@@ -71,10 +71,7 @@ fn is_address_role(role: Role) -> bool
     }
 }
 
-fn add_addresses_among(
-    addresses: &mut Vec<ValueId>,
-    taken: &[Taken],
-) -> Result<(), Exhausted>
+fn add_addresses_among(addresses: &mut Vec<ValueId>, taken: &[Taken]) -> Result<(), Exhausted>
     ensures { OnOk result (addresses.new.items ≡ addresses.old.items ++ flat_map spec.address_of taken.now) }
 {
     for one in taken {

@@ -75,7 +75,7 @@ rising_join v (x ∷ xs) ys same behind rest =
     let here : number x ≡ v.0 = All-head (IsOf v) x xs same in
     let more = All-tail (IsOf v) x xs same in (
       All-append (λ q. number x ≤ number q) xs ys (All-weaker (IsOf v) (λ q. number x ≤ number q) (λ q e. let there : number q ≡ v.0 = e in omega arith) xs more)
-      (All-weaker (λ q. v.0 ≤ number q) (λ q. number x ≤ number q) (λ q e. omega arith) ys behind),
+          (All-weaker (λ q. v.0 ≤ number q) (λ q. number x ≤ number q) (λ q e. omega arith) ys behind),
       rising_join v xs ys more behind rest,
     )
 

@@ -33,9 +33,7 @@ fn fills(m: &Memory, cell: Cell, operation: Operation, location: Option<&Locatio
 {
     match location {
         None => false,
-        Some(l) => {
-            is_first_write(operation) && !l.is_part() && same_cell(m.cell(l.root), cell)
-        }
+        Some(l) => { is_first_write(operation) && !l.is_part() && same_cell(m.cell(l.root), cell) }
     }
 }
 

@@ -40,13 +40,7 @@ fn operation_mark(part: bool, operation: Operation) -> Mark
     match operation {
         Operation::FirstWrite => need_and_turn(false, true, 2),
         Operation::Take => need_and_turn(true, false, 1),
-        Operation::TrivialStore => {
-            if part {
-                need(true, 1)
-            } else {
-                turn_on()
-            }
-        }
+        Operation::TrivialStore => { if part { need(true, 1) } else { turn_on() } }
         Operation::Read | Operation::Lend => need(true, 1),
         Operation::Write | Operation::InoutOperand => need(true, 1),
     }
@@ -82,12 +76,7 @@ fn deallocation_mark(emptied: bool) -> Mark
 }
 
 /// What an access means to the contents of a cell.
-pub(crate) fn contents_mark(
-    m: &Memory,
-    cell: Cell,
-    emptied: bool,
-    access: Access,
-) -> Option<Mark>
+pub(crate) fn contents_mark(m: &Memory, cell: Cell, emptied: bool, access: Access) -> Option<Mark>
     ensures { result ≡ contents.contents_mark m.now cell emptied access }
 {
     match access {

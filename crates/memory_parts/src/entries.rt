@@ -33,11 +33,7 @@ pub(crate) fn marks_at_returns(
 }
 
 /// The entry of a number, if it has a mark.
-fn add_entry(
-    entries: &mut Vec<Entry>,
-    number: u32,
-    mark: Option<Mark>,
-) -> Result<(), Exhausted>
+fn add_entry(entries: &mut Vec<Entry>, number: u32, mark: Option<Mark>) -> Result<(), Exhausted>
     ensures { OnOk result (entries.new.items ≡ entries.old.items ++ entry_if number mark) }
 {
     if let Some(mark) = mark {

@@ -51,11 +51,7 @@ fn is_item(a: Item, b: Item) -> bool
 }
 
 /// What an item of the graph does, if `accesses` has it by the items' numbers.
-pub(crate) fn accesses_of<'a>(
-    g: &Graph,
-    accesses: &'a [Vec<Access>],
-    item: Item,
-) -> &'a [Access]
+pub(crate) fn accesses_of<'a>(g: &Graph, accesses: &'a [Vec<Access>], item: Item) -> &'a [Access]
     requires { length accesses.now ≡ item_count g.now }
     ensures { HasAccesses g.now accesses.now item result.now }
 {

@@ -13,13 +13,27 @@ pub enum Part {
         left_full: bool,
     },
     /// Whether a slot is allocated.
-    Allocation { slot: ValueId },
+    Allocation {
+        slot: ValueId,
+    },
     /// Whether a location is lent to a scope, by the address at which it is.
-    Lent { scope: ValueId, address: ValueId },
+    Lent {
+        scope: ValueId,
+        address: ValueId,
+    },
     /// Whether a field of a new object is still to be written.
-    Building { object: ValueId, field: usize },
+    Building {
+        object: ValueId,
+        field: usize,
+    },
     /// Whether a scope is open that an address lies in.
-    InScope { address: ValueId, scope: ValueId },
+    InScope {
+        address: ValueId,
+        scope: ValueId,
+    },
     /// Whether the slot is allocated that an address lies in.
-    InSlot { address: ValueId, slot: ValueId },
+    InSlot {
+        address: ValueId,
+        slot: ValueId,
+    },
 }

@@ -136,12 +136,7 @@ fn add_slot_parts(
 }
 
 /// The parts whose subject is the value.
-fn add_parts(
-    found: &mut Vec<Part>,
-    m: &Memory,
-    k: &Kinds,
-    value: ValueId,
-) -> Result<(), Exhausted>
+fn add_parts(found: &mut Vec<Part>, m: &Memory, k: &Kinds, value: ValueId) -> Result<(), Exhausted>
     ensures { OnOk result (found.new.items ≡ found.old.items ++ parts.parts_by m.now (facts_of k.now value) value (source_at m.now value)) }
 {
     match m.source(value) {
@@ -163,19 +158,13 @@ fn add_parts(
             })?;
             Ok(())
         }
-        Source::Field { .. } | Source::Part { .. } => {
-            add_address(found, m, k, value)
-        }
+        Source::Field { .. } | Source::Part { .. } => { add_address(found, m, k, value) }
     }
 }
 
 /// All parts of the function whose memory it is, by their subjects.
 #[tactic(auto, using(crate::proofs::Ranges::flat_map_one_more))]
-pub(crate) fn parts_of(
-    alloc: Global,
-    m: &Memory,
-    k: &Kinds,
-) -> Result<Vec<Part>, Exhausted>
+pub(crate) fn parts_of(alloc: Global, m: &Memory, k: &Kinds) -> Result<Vec<Part>, Exhausted>
     ensures { IfOk result (λ v. v.items ≡ parts.parts_of m.now (facts_of k.now)) }
 {
     let mut found = Vec::new(alloc);
