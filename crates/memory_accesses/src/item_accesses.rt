@@ -98,10 +98,7 @@ pub(crate) fn add_item_mentions(
     Ok(())
 }
 
-fn add_each_operated(
-    accesses: &mut Vec<Access>,
-    operations: &[Operated],
-) -> Result<(), Exhausted>
+fn add_each_operated(accesses: &mut Vec<Access>, operations: &[Operated]) -> Result<(), Exhausted>
     ensures { OnOk result (accesses.new.items ≡ accesses.old.items ++ map Does operations.now) }
 {
     for operated in operations {
@@ -172,11 +169,7 @@ fn made_by(m: &Memory, value: ValueId) -> Option<Access>
     }
 }
 
-fn add_made(
-    accesses: &mut Vec<Access>,
-    m: &Memory,
-    defined: &[ValueId],
-) -> Result<(), Exhausted>
+fn add_made(accesses: &mut Vec<Access>, m: &Memory, defined: &[ValueId]) -> Result<(), Exhausted>
     ensures { OnOk result (accesses.new.items ≡ accesses.old.items ++ flat_map (spec.made m.now) defined.now) }
 {
     for value in defined {

@@ -12,7 +12,9 @@ ghost use Rattle.memory_accesses.specs.Sources.{block_sources, result_sources};
 use crate::columns::{AccessKind, access_kind_of};
 use crate::source::Source;
 use row_types::shapes::{is_trivial_object, target};
-use sil_ast::{Block, BlockArg, Decl, Exhausted, Field, Function, Inst, List, Text, TypeName, ValueId};
+use sil_ast::{
+    Block, BlockArg, Decl, Exhausted, Field, Function, Inst, List, Text, TypeName, ValueId,
+};
 use sil_types::TypeTable;
 use std::alloc::Global;
 
@@ -156,11 +158,7 @@ fn source_by(table: &TypeTable, kind: AccessKind, inst: &Inst) -> Source
 }
 
 /// Adds what the results of an instruction are.
-fn add_results(
-    sources: &mut List<Source>,
-    table: &TypeTable,
-    inst: &Inst,
-) -> Result<(), Exhausted>
+fn add_results(sources: &mut List<Source>, table: &TypeTable, inst: &Inst) -> Result<(), Exhausted>
     ensures { OnOk result (sources.new ≡ sources.old ++ result_sources table.now inst.now) }
 {
     let source = source_by(table, access_kind_of(inst.op), inst);
@@ -170,11 +168,7 @@ fn add_results(
     Ok(())
 }
 
-fn add_insts(
-    sources: &mut List<Source>,
-    table: &TypeTable,
-    insts: &[Inst],
-) -> Result<(), Exhausted>
+fn add_insts(sources: &mut List<Source>, table: &TypeTable, insts: &[Inst]) -> Result<(), Exhausted>
     ensures { OnOk result (sources.new ≡ sources.old ++ flat_map (result_sources table.now) insts.now) }
 {
     for inst in insts {

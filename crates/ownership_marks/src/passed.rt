@@ -77,11 +77,7 @@ fn add_taken_along_at(taken: &mut Vec<Taken>, edge: Option<&Edge>) -> Result<(),
 }
 
 /// Adds the operands of an item: a terminator's, and behind them what its edge hands over.
-pub fn add_item_taken(
-    taken: &mut Vec<Taken>,
-    f: &Function,
-    item: Item,
-) -> Result<(), Exhausted>
+pub fn add_item_taken(taken: &mut Vec<Taken>, f: &Function, item: Item) -> Result<(), Exhausted>
     ensures { OnOk result (taken.new.items ≡ taken.old.items ++ item_taken f.now item) }
 {
     match item {
