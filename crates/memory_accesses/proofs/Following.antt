@@ -61,7 +61,7 @@ module _ (sources : List Source) (address at : ValueId) (i : ℕ) (steps : List 
       (found : Location) → found ≡ behind steps (whole at) → Some found ≡ location_of sources address
   at_root source e (inl w) found is = ap (λ l. Some l) is ∙ sym (at_source (Slot w.0) (sym w.1 ∙ e))
   at_root source e (inr (inl same)) found is = ap (λ l. Some l) is ∙ sym (at_source Inout (sym same ∙ e))
-  at_root source e (inr (inr w)) found is = ap (λ l. Some l) is ∙ sym (at_source (Field w.0 w.1.0) (sym w.1.1 ∙ e))
+  at_root source e (inr (inr w)) found is = ap (λ l. Some l) is ∙ sym (at_source (Field w.0 w.1) (sym w.2 ∙ e))
 
   -- what is reached is no root, and no step leads on
   pub at_no_root : (source : Source) → source ≡ source_at sources at →

@@ -2,6 +2,7 @@
 
 ghost use Rattle.std.specs.Prelude.{◌≡◌, ◌++◌, OnOk};
 ghost use Rattle.std.specs.List.{flat_map};
+ghost use Rattle.std.specs.Option.{option_to_list};
 ghost use Rattle.memory_accesses.specs.Operations as spec;
 
 use crate::access::{Operated, Operation};
@@ -92,6 +93,15 @@ pub fn add_addresses(addresses: &mut Vec<ValueId>, inst: &Inst) -> Result<(), Ex
     Ok(())
 }
 
+fn operated_at(operation: Option<Operation>, address: ValueId) -> Option<Operated>
+    ensures { spec.operated_at operation address ≡ option_to_list result }
+{
+    match operation {
+        None => None,
+        Some(operation) => Some(Operated { address, operation }),
+    }
+}
+
 fn add_operated(
     operations: &mut Vec<Operated>,
     operation: Option<Operation>,
@@ -100,11 +110,8 @@ fn add_operated(
     ensures { OnOk result (operations.new.items ≡ operations.old.items ++ flat_map (spec.operated_at operation) addresses.now) }
 {
     for address in addresses {
-        if let Some(done) = operation {
-            operations.push(Operated {
-                address: *address,
-                operation: done,
-            })?;
+        if let Some(operated) = operated_at(operation, *address) {
+            operations.push(operated)?;
         }
     }
     Ok(())
