@@ -29,9 +29,12 @@ module _ (sources : List Source) (accesses : ℕ → List Access) (g : Flow ℕ)
   walk_passed b (e ∷ w) stack known h =
       let s = nested e.block.0 stack (ap stacks h.0 ∙ known) in
       let t = s.edges e.index h.1 in
-      let r = walk_passed (edge_to g e) w t.target t.known h.2 in
-      (r.0, r.1, more_passed sources accesses stack s.last r.0 (items_at g e.block.0) (edge_item g e ∷ passed g w) s.passes
-          (more_passed sources accesses s.last t.target r.0 (edge_item g e ∷ []) (passed g w) t.passes r.2))
+      let r = walk_passed (edge_to g e) w t.target t.known h.2 in (
+        r.0,
+        r.1,
+        more_passed sources accesses stack s.last r.0 (items_at g e.block.0) (edge_item g e ∷ passed g w) s.passes
+            (more_passed sources accesses s.last t.target r.0 (edge_item g e ∷ []) (passed g w) t.passes r.2),
+      )
 
   pub nested_clean : stacks 0 ≡ Some [] → (a b : ValueId) → IsSlot sources a → IsSlot sources b → (w : List EdgeId) (before : List ℕ) (item code k s : ℕ) → IsWalkFrom g 0 w →
       before ++ item ∷ [] ≡ passed g w ++ take k (items_at g (end_from g 0 w)) → run (pair_step accesses a b) (Go 0) before ≡ Go s → pair_step accesses a b s item ≡ Bad code → ⊥

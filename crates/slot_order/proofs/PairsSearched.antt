@@ -95,7 +95,7 @@ module _ (g : Layout) (accesses : ℕ → List Access) (first : ValueId) where
         (All-weaker (IsFar g accesses first (length best.walk)) (IsFar g accesses first (length c.walk)) (λ b u w code item r. let le : length best.walk ≤ length w = u w code item r in let lt : length c.walk < length best.walk = p.0 in omega arith) seen h.far) n.far;
     farther = All-push (λ b. b.0 < c.other.0 → IsFar g accesses first (length c.walk + 1) b) seen s
         (All-weaker (IsFar g accesses first (length best.walk)) (λ b. b.0 < c.other.0 → IsFar g accesses first (length c.walk + 1) b)
-            (λ b u less w code item r. let le : length best.walk ≤ length w = u w code item r in let lt : length c.walk < length best.walk = p.0 in omega arith) seen h.far)
+        (λ b u less w code item r. let le : length best.walk ≤ length w = u w code item r in let lt : length c.walk < length best.walk = p.0 in omega arith) seen h.far)
         (λ lt. let same : c.other.0 ≡ s.0 = ap (λ v. v.0) n.other_is in absurd (omega arith));
   })
   nearest_push seen s below (Some best) (Some c) result h n (inr p) = subst (IsNearest g accesses first (seen ++ s ∷ [])) (sym p.1) (record {

@@ -170,8 +170,8 @@ module _ (sources : List Source) where
       ∙ ap (λ r. run (Both a b) r (Deallocates v ∷ [])) (stacked_more a b v new)
       ∙ sym (run-append (Both a b) (stacked a b new) (Allocates v ∷ []) (Deallocates v ∷ []))
       ∙ in_and_out a b v (stacked a b new) (stacked_goes a b new)
-        (λ e. first_out a b new (subst (λ (n : ℕ). All (λ (u : ValueId). u.0 ≢ n) new) e lacks) (Go 0) (inl refl))
-        (λ e. second_out a b new (subst (λ (n : ℕ). All (λ (u : ValueId). u.0 ≢ n) new) e lacks) (Go 0) (inl refl))
+      (λ e. first_out a b new (subst (λ (n : ℕ). All (λ (u : ValueId). u.0 ≢ n) new) e lacks) (Go 0) (inl refl))
+      (λ e. second_out a b new (subst (λ (n : ℕ). All (λ (u : ValueId). u.0 ≢ n) new) e lacks) (Go 0) (inl refl))
 
   pub none_followed : (stack : List ValueId) → Follows sources stack [] stack
   none_followed stack a b sa sb = refl

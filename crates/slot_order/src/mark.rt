@@ -46,7 +46,13 @@ pub fn mark_of(first: ValueId, second: ValueId, access: &Access) -> Option<SlotM
             one_of(first, second, value, SlotMark::FirstIn, SlotMark::SecondIn)
         }
         Access::Deallocates(value) => {
-            one_of(first, second, value, SlotMark::FirstOut, SlotMark::SecondOut)
+            one_of(
+                first,
+                second,
+                value,
+                SlotMark::FirstOut,
+                SlotMark::SecondOut,
+            )
         }
         _ => None,
     }

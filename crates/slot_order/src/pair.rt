@@ -64,6 +64,11 @@ impl Scan for Pair<'_> {
     }
 
     fn step(&self, state: u8, item: usize) -> Step {
-        step_all(self.first, self.second, self.accesses[item].as_slice(), state)
+        step_all(
+            self.first,
+            self.second,
+            self.accesses[item].as_slice(),
+            state,
+        )
     }
 }

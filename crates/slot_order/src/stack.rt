@@ -55,11 +55,7 @@ fn leave(value: ValueId, stack: &mut Vec<ValueId>) -> bool
 }
 
 /// One access. Tells whether it keeps to the order.
-fn follow(
-    sources: &[Source],
-    access: &Access,
-    stack: &mut Vec<ValueId>,
-) -> Result<bool, Exhausted>
+fn follow(sources: &[Source], access: &Access, stack: &mut Vec<ValueId>) -> Result<bool, Exhausted>
     ensures { IfOk result (λ kept. IsTrue kept → Follows sources.now stack.old.items (access.now ∷ []) stack.new.items) }
 {
     match *access {
