@@ -84,4 +84,4 @@ pub joint_more : (sources : List Source) (facts : ValueId → Facts) (parts : Li
 joint_more sources facts parts a n d lt =
     let h : Part → Option Mark = λ p. means sources facts p a in
     ap (λ v. shared_from 0 (map h v)) (take_more parts n d lt) ∙ ap (shared_from 0) (map-append h (take n parts) (get_or parts n d ∷ []))
-    ∙ shared_more 0 (map h (take n parts)) (h (get_or parts n d)) n (length-map (take n parts) h ∙ length-take-le n parts (omega arith))
+    ∙ shared_more 0 (map h (take n parts)) (h (get_or parts n d)) n (let size : length (map h (take n parts)) ≡ n = length-map (take n parts) h ∙ length-take-le n parts (omega arith) in omega arith)
