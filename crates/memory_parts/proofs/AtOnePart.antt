@@ -124,8 +124,8 @@ module _ (sources : List Source) (facts : ValueId → Option Facts) (f : Functio
       shown = record { item = h.item; at = part_batch h.there.0 h.part there s.code s.walk s.point h.item h.shown }
 
       at : paths.NotAfter (paths.key fault.subject fault.code fault.walk) (paths.key h.there.0 s.code s.walk) → ⊥
-      at (inl less) = omega arith
-      at (inr same) = let e : fault.subject ≡ h.there.0 = same.0 in omega arith
+      at (inl less) = let before : h.there.0 < fault.subject = lt in omega arith
+      at (inr same) = let before : h.there.0 < fault.subject = lt in let e : fault.subject ≡ h.there.0 = same.0 in omega arith
 
 same_order : (xs ys : List ℕ) → paths.NotAfter xs ys → rules.NotAfter xs ys
 same_order [] ys h = tt

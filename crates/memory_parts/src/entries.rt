@@ -50,7 +50,6 @@ fn add_entry(
 }
 
 /// What an access means to the parts, each by its number.
-#[tactic(auto, using(crate::proofs::Joint::joint_more))]
 fn add_entries(
     entries: &mut Vec<Entry>,
     m: &Memory,
