@@ -10,6 +10,9 @@ use Rattle.sil_ast.specs.declared.function.Function.{Function}
 use Rattle.sil_ast.specs.declared.place.EdgeId.{EdgeId}
 use Rattle.sil_ast.specs.declared.place.PointId.{PointId}
 use Rattle.sil_ast.specs.declared.place.ValueId.{ValueId}
+use Rattle.sil_cfg.proofs.GraphTrails.{trail_back}
+use Rattle.sil_cfg.specs.Build.{AreItems, IsGraphOf}
+use Rattle.sil_cfg.specs.Layout.{Layout, item_at}
 use Rattle.sil_cfg.specs.Returns.{is_return}
 use Rattle.sil_cfg.specs.declared.item.Item.{Item}
 use Rattle.sil_rules.specs.Order as rules
@@ -19,6 +22,7 @@ use Rattle.path_checks.proofs.OneSubject.{marks_shared, same_shown_at}
 use Rattle.path_checks.specs.Entries as entries
 use Rattle.path_checks.specs.First as paths
 use Rattle.path_checks.specs.Shared.{shared_if}
+use Rattle.path_checks.specs.declared.entry.Entry.{Entry}
 use Rattle.path_checks.specs.declared.entry.PathFault.{PathFault}
 use Rattle.path_patterns.specs.Reads.{marks_in, one_or_none}
 use Rattle.path_patterns.specs.declared.mark.Mark.{Mark}
@@ -114,14 +118,14 @@ module _ (sources : List Source) (facts : ValueId → Option Facts) (f : Functio
       lt = let size : length (take fault.subject parts) ≡ fault.subject = length-take-le fault.subject parts within in let k = h.there.1 in omega arith
 
       there : slice_get parts h.there.0 ≡ Some h.part
-      there = slice_get_read parts (length parts) h.there.0 h.part refl (let less = lt in omega arith) (sym h.there.2 ∙ get_or-take fault.subject parts h.there.0 h.part lt)
+      there = slice_get_read parts (length parts) h.there.0 h.part refl (let less : h.there.0 < fault.subject = lt in omega arith) (sym h.there.2 ∙ get_or-take fault.subject parts h.there.0 h.part lt)
 
       shown : paths.IsShown f (batch_table sources facts f parts) h.there.0 s.code s.walk s.point
       shown = record { item = h.item; at = part_batch h.there.0 h.part there s.code s.walk s.point h.item h.shown }
 
       at : paths.NotAfter (paths.key fault.subject fault.code fault.walk) (paths.key h.there.0 s.code s.walk) → ⊥
-      at (inl less) = omega arith
-      at (inr same) = let e : fault.subject ≡ h.there.0 = same.0 in omega arith
+      at (inl less) = let before : h.there.0 < fault.subject = lt in omega arith
+      at (inr same) = let before : h.there.0 < fault.subject = lt in let e : fault.subject ≡ h.there.0 = same.0 in omega arith
 
 same_order : (xs ys : List ℕ) → paths.NotAfter xs ys → rules.NotAfter xs ys
 same_order [] ys h = tt
@@ -165,3 +169,14 @@ first_alone sources facts f p fault v o first subject_is other_is = at fault.sub
       first = behind e;
     }
     at (suc n) e = absurd (past_unshown sources facts f (p ∷ []) (suc n) refl fault.code fault.walk fault.point fault.item (subst Here e first.0))
+
+last_item : (kinds : List Item) (numbers : List ℕ) (before : List Item) (item : Item) → AreItems kinds numbers (before ++ item ∷ []) → (i : ℕ) × (slice_get kinds i ≡ Some item)
+last_item kinds [] [] item h = absurd h
+last_item kinds [] (x ∷ before) item h = absurd h
+last_item kinds (i ∷ numbers) [] item h = (i, h.0)
+last_item kinds (i ∷ numbers) (x ∷ before) item h = last_item kinds numbers before item h.1
+
+-- an item at which something is shown is one of the graph's
+pub item_there : (g : Layout) (f : Function) → IsGraphOf g f → (table : Item → List Entry) (n code : ℕ) (walk : List EdgeId) (point : PointId) (item : Item) → paths.IsShownAt f table n code walk point item → (i : ℕ) × (item_at g i ≡ Some item)
+item_there g f is table n code walk point item h =
+    let r = trail_back g f is walk (h.shows.before ++ item ∷ []) h.shows.trail in last_item g.kinds r.0 h.shows.before item r.1

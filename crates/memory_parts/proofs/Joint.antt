@@ -84,4 +84,10 @@ pub joint_more : (sources : List Source) (facts : ValueId → Facts) (parts : Li
 joint_more sources facts parts a n d lt =
     let h : Part → Option Mark = λ p. means sources facts p a in
     ap (λ v. shared_from 0 (map h v)) (take_more parts n d lt) ∙ ap (shared_from 0) (map-append h (take n parts) (get_or parts n d ∷ []))
-    ∙ shared_more 0 (map h (take n parts)) (h (get_or parts n d)) n (length-map (take n parts) h ∙ length-take-le n parts (omega arith))
+    ∙ shared_more 0 (map h (take n parts)) (h (get_or parts n d)) n (let size : length (map h (take n parts)) ≡ n = length-map (take n parts) h ∙ length-take-le n parts (omega arith) in omega arith)
+
+pub joint_grown : (sources : List Source) (facts : ValueId → Facts) (parts : List Part) (a : Access) (n : ℕ) (d : Part) (mark : Option Mark) (initial old new : List Entry) → n < length parts → old ≡ initial ++ joint sources facts (take n parts) a →
+    mark ≡ means sources facts (get_or parts n d) a → new ≡ old ++ entry_if n mark → new ≡ initial ++ joint sources facts (take (n + 1) parts) a
+joint_grown sources facts parts a n d mark initial old new lt before is more =
+    more ∙ ap₂ (λ v m. v ++ entry_if n m) before is ∙ append_assoc initial (joint sources facts (take n parts) a) (entry_if n (means sources facts (get_or parts n d) a))
+    ∙ ap (λ v. initial ++ v) (sym (joint_more sources facts parts a n d lt))

@@ -46,7 +46,6 @@ fn add_entry(entries: &mut Vec<Entry>, number: u32, mark: Option<Mark>) -> Resul
 }
 
 /// What an access means to the parts, each by its number.
-#[tactic(auto, using(crate::proofs::Joint::joint_more))]
 fn add_entries(
     entries: &mut Vec<Entry>,
     m: &Memory,

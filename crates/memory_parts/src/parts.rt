@@ -50,7 +50,6 @@ fn add_field(found: &mut Vec<Part>, object: ValueId, field: usize) -> Result<(),
 }
 
 /// The parts of each field of an object.
-#[tactic(auto, using(crate::proofs::Ranges::flat_map_one_more))]
 fn add_fields(found: &mut Vec<Part>, object: ValueId, fields: usize) -> Result<(), Exhausted>
     ensures { OnOk result (found.new.items ≡ found.old.items ++ flat_map (parts.field_parts object) (range_with_len 0 fields)) }
 {
