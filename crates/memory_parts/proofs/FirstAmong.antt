@@ -1,8 +1,8 @@
 -- What is shown first at some parts and at further ones, together.
-use Rattle.std.proofs.Common.{◌≡◌, ℕ, ◌<◌, ◌≤◌, List, [], ◌∷◌, ◌++◌, length, get_or, take, drop, sym, ap, subst, ◌⊎◌, inl, inr, Bool, true, Option, Some, None, All, arith, true≢false, ltb-true}
+use Rattle.std.proofs.Common.{◌≡◌, ℕ, ◌+◌, ◌<◌, ◌≤◌, List, [], ◌∷◌, ◌++◌, length, get_or, take, drop, sym, ap, subst, ◌⊎◌, inl, inr, Bool, true, Option, Some, None, All, arith, true≢false, ltb-true}
 use Rattle.std.specs.Prelude.{Contains}
 use Rattle.std.proofs.lemmas.List.Elements.{All-contains, All-weaker, Contains-append_cases, Contains-append_left, Contains-append_right}
-use Rattle.std.proofs.lemmas.List.{take-append-drop}
+use Rattle.std.proofs.lemmas.List.{take-append-drop, take_more}
 use Rattle.sil_ast.specs.declared.function.Function.{Function}
 use Rattle.sil_ast.specs.declared.place.ValueId.{ValueId}
 use Rattle.sil_rules.proofs.Firsts.{first_earlier, first_some}
@@ -49,6 +49,13 @@ module _ (sources : List Source) (facts : ValueId → Option Facts) (f : Functio
       first_same fault_key (Either (Shown parts) (Shown more)) (Shown (parts ++ more)) (Some s) together apart
       (first_some fault_key (Shown parts) (Shown more) s first
       (λ t h. inl (subst (λ v. s.subject.0 < v.0) h.subject (All-contains (λ q. s.subject.0 < (subject_of q).0) more h.part behind h.there))))
+
+-- one part more
+pub among_one_more : (sources : List Source) (facts : ValueId → Option Facts) (f : Function) (parts : List Part) (n : ℕ) (d : Part) (best next r : Option PartFault) → n < length parts →
+    IsFirst fault_key (IsShown sources facts f (take n parts)) best → IsFirst fault_key (IsShown sources facts f (get_or parts n d ∷ [])) next → IsEarlier fault_key best next r → IsFirst fault_key (IsShown sources facts f (take (n + 1) parts)) r
+among_one_more sources facts f parts n d best next r lt before here e =
+    let P : List Part → Type 0 = λ v. IsFirst fault_key (IsShown sources facts f v) r in
+    subst P (sym (take_more parts n d lt)) (among_more sources facts f (take n parts) (get_or parts n d ∷ []) best next r before here e)
 
 -- a fault comes first of all, where all further parts have greater subjects
 pub behind_all : (sources : List Source) (facts : ValueId → Option Facts) (f : Function) (parts : List Part) (n : ℕ) (d : Part) (best : Option PartFault) (v : ValueId) → n < length parts → AreRising parts → v ≡ subject_of (get_or parts n d) →
