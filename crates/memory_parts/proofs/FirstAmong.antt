@@ -1,12 +1,12 @@
 -- What is shown first at some parts and at further ones, together.
-use Rattle.std.proofs.Common.{◌≡◌, ℕ, ◌+◌, ◌<◌, ◌≤◌, List, [], ◌∷◌, ◌++◌, length, get_or, take, drop, sym, ap, subst, ◌⊎◌, inl, inr, Bool, true, Option, Some, None, All, arith, true≢false, ltb-true}
+use Rattle.std.proofs.Common.{◌≡◌, ℕ, ◌+◌, ◌<◌, ◌≤◌, List, [], ◌∷◌, ◌++◌, length, get_or, take, drop, sym, ap, subst, ◌⊎◌, inl, inr, true, Option, Some, None, All, arith, true≢false, ltb-true}
 use Rattle.std.specs.Prelude.{Contains}
 use Rattle.std.proofs.lemmas.List.Elements.{All-contains, All-weaker, Contains-append_cases, Contains-append_left, Contains-append_right}
 use Rattle.std.proofs.lemmas.List.{take-append-drop, take_more}
 use Rattle.sil_ast.specs.declared.function.Function.{Function}
 use Rattle.sil_ast.specs.declared.place.ValueId.{ValueId}
 use Rattle.sil_rules.proofs.Firsts.{first_earlier, first_some}
-use Rattle.sil_rules.specs.Order.{Either, IsEarlier, IsFirst, NotAfter}
+use Rattle.sil_rules.specs.Order.{Either, IsEarlier, IsFirst}
 use Rattle.forwarding_chains.specs.declared.facts.Facts.{Facts}
 use Rattle.memory_accesses.specs.declared.source.Source.{Source}
 use Rattle.memory_parts.specs.Batches.{AreRising, is_behind}

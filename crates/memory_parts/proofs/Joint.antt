@@ -1,21 +1,19 @@
 -- The table of several parts, by facts that are the same, and by an item's own entries and the shared ones of a `return`.
-use Rattle.std.proofs.Common.{◌≡◌, ℕ, ◌+◌, ◌<◌, List, [], ◌∷◌, ◌++◌, length, map, refl, sym, ap, ap₂, ◌∙◌, Bool, true, false, Option, Some, None, append-nil, append_assoc, arith, get_or, take}
+use Rattle.std.proofs.Common.{◌≡◌, ℕ, ◌+◌, ◌<◌, List, [], ◌∷◌, ◌++◌, length, map, refl, sym, ap, ap₂, ◌∙◌, Bool, false, Option, Some, None, append-nil, append_assoc, arith, get_or, take}
 use Rattle.std.proofs.lemmas.List.{length-map, length-take-le, map-append, take_more}
-use Rattle.std.specs.Prelude.{not, ◌&&◌, ◌||◌, slice_index_or}
+use Rattle.std.specs.Prelude.{not, ◌&&◌, ◌||◌}
 use Rattle.std.specs.List.{flat_map, range_with_len}
 use Rattle.std.specs.declared.alloc.Global.{Global}
 use Rattle.std.specs.declared.vec.Vec.{Vec}
 use Rattle.std.proofs.lemmas.Option.{slice_get_within}
 use Rattle.sil_ast.specs.declared.function.Function.{Function}
 use Rattle.sil_ast.specs.declared.place.ValueId.{ValueId}
-use Rattle.sil_cfg.specs.Layout.{Layout, item_at, item_count}
-use Rattle.sil_cfg.specs.Returns.{is_return}
-use Rattle.sil_cfg.specs.declared.item.Item.{Item}
+use Rattle.sil_cfg.specs.Layout.{Layout, item_count}
 use Rattle.forwarding_chains.specs.Facts.{known_or, value_of}
 use Rattle.forwarding_chains.specs.declared.facts.Facts.{Facts}
 use Rattle.ownership_marks.proofs.MarkTables.{flat_map_same}
 use Rattle.ownership_marks.specs.Known.{AreKindsBy, Known, facts_of}
-use Rattle.path_checks.specs.Shared.{entries_with, entry_if, is_sharing, shared_from, shared_if}
+use Rattle.path_checks.specs.Shared.{entries_with, entry_if, shared_from, shared_if}
 use Rattle.path_checks.specs.declared.entry.Entry.{Entry}
 use Rattle.path_patterns.specs.Reads.{accesses_at, AgreesWith}
 use Rattle.path_patterns.specs.declared.mark.Mark.{Mark}

@@ -1,5 +1,5 @@
 -- A slot by itself: on while it is allocated. 604 and 605.
-use Rattle.std.specs.Prelude.{Bool, true, false, Option, Some, None}
+use Rattle.std.specs.Prelude.{true, false, Option, Some, None}
 use Rattle.sil_ast.specs.declared.place.ValueId.{ValueId}
 use Rattle.memory_accesses.specs.declared.access.Access.{Access}
 use Rattle.memory_accesses.specs.declared.access.Access.TheVariants.{Ends, Begins, Allocates, Deallocates, Given, Does, Mentions}

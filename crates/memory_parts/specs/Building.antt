@@ -1,13 +1,11 @@
 -- A field of a new object: on from its allocation until it is first written. 607.
-use Rattle.std.specs.Prelude.{ℕ, List, Bool, true, false, not, ◌&&◌, ◌||◌, ◌==◌, cond, Option, Some, None}
+use Rattle.std.specs.Prelude.{ℕ, List, Bool, true, false, not, ◌&&◌, ◌||◌, Option, Some, None}
 use Rattle.std.specs.List.{list_any}
 use Rattle.sil_ast.specs.declared.place.ValueId.{ValueId}
 use Rattle.memory_accesses.specs.declared.access.Access.{Access}
 use Rattle.memory_accesses.specs.declared.access.Access.TheVariants.{Ends, Begins, Allocates, Deallocates, Given, Does, Mentions}
-use Rattle.type_definitions.specs.declared.kind.Kind.{Kind}
 use Rattle.forwarding_chains.specs.Facts.{is_guaranteed}
 use Rattle.forwarding_chains.specs.declared.facts.Facts.{Facts}
-use Rattle.memory_accesses.specs.declared.access.Operated.{Operated}
 use Rattle.memory_accesses.specs.declared.access.Operation.{Operation}
 use Rattle.memory_accesses.specs.declared.access.Operation.TheVariants.{FirstWrite, Read, Lend, Write, TrivialStore, InoutOperand, Take}
 use Rattle.memory_accesses.specs.declared.columns.Allowance.{Allowance}

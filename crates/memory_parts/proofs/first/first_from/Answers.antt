@@ -1,4 +1,4 @@
-use Rattle.std.proofs.Common.{take, List, sym, ◌∙◌, subst}
+use Rattle.std.proofs.Common.{List, sym, ◌∙◌, subst}
 use Rattle.std.proofs.lemmas.List.{take_all}
 use Rattle.sil_rules.specs.Order.{IsFirst}
 use Rattle.memory_parts.specs.Shown.{fault_key, IsShown}

@@ -1,4 +1,4 @@
-use Rattle.std.proofs.Common.{[], ◌∷◌, subst, ap, ◌∙◌, Option, Some, None}
+use Rattle.std.proofs.Common.{[], ◌∷◌, subst, ap, ◌∙◌, Option, Some}
 use Rattle.path_checks.specs.First.{IsFirst}
 use Rattle.path_checks.specs.declared.entry.PathFault.{PathFault}
 use Rattle.memory_parts.specs.Batches.{batch_table}
