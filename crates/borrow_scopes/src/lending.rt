@@ -2,26 +2,17 @@
 
 ghost use Rattle.std.specs.Prelude.{◌≡◌, ◌++◌, IfOk, OnOk, length, replicate};
 ghost use Rattle.std.specs.List.{flat_map};
-ghost use Rattle.value_origins.specs.Switched as switched;
 ghost use Rattle.borrow_scopes.specs.Lending as lending;
 ghost use Rattle.borrow_scopes.specs.Lending.{block_loans, inst_loans};
 
 use sil_ast::{Block, Exhausted, Function, Inst, Op, ValueId};
 use std::alloc::Global;
+use value_origins::first_value;
 
 fn lends(op: Op) -> bool
     ensures { result ≡ lending.lends op }
 {
     matches!(op, Op::BeginBorrow)
-}
-
-fn first_value(inst: &Inst) -> Option<ValueId>
-    ensures { result ≡ switched.first_value inst.now }
-{
-    match inst.operands.get(0) {
-        None => None,
-        Some(operand) => Some(operand.value),
-    }
 }
 
 fn lent_value(inst: &Inst) -> Option<ValueId>

@@ -1,8 +1,8 @@
 //! Fields, payloads, deinitialisers and classes, each found by its name or its place.
 
-ghost use Rattle.std.specs.Prelude.{◌≡◌, length, option_map};
+ghost use Rattle.std.specs.Prelude.{◌≡◌, length, option_map, slice_get};
 ghost use Rattle.std.specs.Option.{option_copied};
-ghost use Rattle.type_definitions.specs.Declarations.{decl_of, optional_cases, place_of, swift_structs};
+ghost use Rattle.type_definitions.specs.Declarations.{all_decls, optional_cases, place_of, swift_structs};
 ghost use Rattle.type_definitions.specs.Lookups as lookups;
 ghost use Rattle.type_definitions.specs.Lookups.{class_place, field_at_place, field_of, payload_at, payload_of};
 ghost use Rattle.declaration_table.specs.Found as found;
@@ -68,15 +68,12 @@ fn optional_payload<'t>(target: &'t TypeName, case_name: &Text) -> Option<Payloa
 }
 
 impl DeclarationTable {
-    /// The place of a name among the fields or cases of what the owner's name finds.
-    fn member_place(&self, owner: &Text, name: &Text) -> Option<u32>
-        ensures { result ≡ found.member_place (decl_of self.now owner.now) name.now }
+    /// The place of a name among the fields or cases of the declaration at a place.
+    fn member_at(&self, place: usize, name: &Text) -> Option<u32>
+        ensures { result ≡ found.member_place (slice_get (all_decls self.now) place) name.now }
     {
-        match self.names.place(owner) {
-            Some(place) => match self.members.get(place) {
-                Some(members) => members.number(name),
-                None => None,
-            },
+        match self.members.get(place) {
+            Some(members) => members.number(name),
             None => None,
         }
     }
@@ -85,12 +82,13 @@ impl DeclarationTable {
     pub fn field(&self, owner: &Text, name: &Text) -> Option<FieldRef<'_>>
         ensures { option_map field_told result ≡ field_of self.now owner.now name.now }
     {
-        match self.decl_of(owner) {
+        let place = self.names.place(owner)?;
+        match self.all.get(place) {
             Some(Decl::Struct { fields, .. }) => {
-                field_ref(fields.as_slice(), self.member_place(owner, name))
+                field_ref(fields.as_slice(), self.member_at(place, name))
             }
             Some(Decl::Class { fields, .. }) => {
-                field_ref(fields.as_slice(), self.member_place(owner, name))
+                field_ref(fields.as_slice(), self.member_at(place, name))
             }
             Some(Decl::Enum { .. }) => None,
             None => None,
@@ -123,9 +121,10 @@ impl DeclarationTable {
     fn declared_payload(&self, owner: &Text, case_name: &Text) -> Option<PayloadRef<'_>>
         ensures { option_map payload_told result ≡ lookups.declared_payload self.now owner.now case_name.now }
     {
-        match self.decl_of(owner) {
+        let place = self.names.place(owner)?;
+        match self.all.get(place) {
             Some(Decl::Enum { cases, .. }) => {
-                payload_ref(cases.as_slice(), self.member_place(owner, case_name))
+                payload_ref(cases.as_slice(), self.member_at(place, case_name))
             }
             Some(Decl::Struct { .. }) => None,
             Some(Decl::Class { .. }) => None,

@@ -57,6 +57,13 @@ impl Memory {
         self.sources.len()
     }
 
+    /// What the values are to memory, by their numbers.
+    pub fn sources(&self) -> &[Source]
+        ensures { result.now ≡ self.now }
+    {
+        self.sources.as_slice()
+    }
+
     /// What a value is to memory. A number that is no value's is nothing to it.
     pub fn source(&self, value: ValueId) -> Source
         ensures { result ≡ sources.source_at self.now value }

@@ -5,7 +5,6 @@ ghost use Rattle.std.specs.List.{flat_map};
 ghost use Rattle.sil_ast.specs.declared.type_name.TypeName.{out-TypeName};
 ghost use Rattle.type_definitions.specs.Lookups as lookups;
 ghost use Rattle.value_origins.specs.Origins.{is_zero};
-ghost use Rattle.value_origins.specs.Switched as switched;
 ghost use Rattle.memory_accesses.specs.Sources as spec;
 ghost use Rattle.memory_accesses.specs.Sources.{block_sources, result_sources};
 
@@ -17,6 +16,7 @@ use sil_ast::{
 };
 use sil_types::TypeTable;
 use std::alloc::Global;
+use value_origins::first_value;
 
 fn slot_source(table: &TypeTable, inst: &Inst) -> Source
     ensures { result ≡ spec.slot_source table.now inst.now.ty }
@@ -63,16 +63,6 @@ fn object_source(table: &TypeTable, inst: &Inst) -> Source
         Some(ty) => Source::Object {
             fields: field_count(table, ty),
         },
-    }
-}
-
-/// The value of an instruction's first operand.
-fn first_value(inst: &Inst) -> Option<ValueId>
-    ensures { result ≡ switched.first_value inst.now }
-{
-    match inst.operands.get(0) {
-        None => None,
-        Some(operand) => Some(operand.value),
     }
 }
 

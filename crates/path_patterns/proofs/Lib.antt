@@ -6,3 +6,4 @@ pub mod SwitchTurned
 pub mod GraphPatterns
 pub mod RunsAreLawful
 pub mod SameMarks
+pub mod EarlierShown

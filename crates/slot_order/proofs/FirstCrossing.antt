@@ -40,7 +40,7 @@ use Rattle.slot_order.specs.Searches.{AreSlots, IsUncrossed, IsFar, IsNearestCro
 use Rattle.slot_order.specs.declared.crossing.Crossing.{Crossing}
 use Rattle.slot_order.specs.declared.mark.SlotMark.{SlotMark}
 use Rattle.slot_order.specs.declared.mark.SlotMark.TheVariants.{FirstIn, FirstOut, SecondIn, SecondOut}
-use Rattle.slot_order.proofs.EarlierShown.{IsShownBy, earlier_shown}
+use Rattle.path_patterns.proofs.EarlierShown.{IsShownBy, earlier_shown}
 use Rattle.slot_order.proofs.OrderDecided.{order_decides, bad_after}
 use Rattle.slot_order.proofs.SlotsListed.{same_value, slot_within, slot_before}
 

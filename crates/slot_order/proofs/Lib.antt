@@ -1,7 +1,6 @@
 pub mod OrderDecided
 pub mod PairsSearched
 pub mod SlotsListed
-pub mod EarlierShown
 pub mod FirstCrossing
 pub mod StacksFollowed
 pub mod NestedSlots

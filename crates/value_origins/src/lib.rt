@@ -4,6 +4,7 @@
 
 mod args;
 mod defining;
+mod first_operand;
 mod laws;
 mod operands;
 mod renamed;
@@ -14,6 +15,7 @@ mod switching;
 mod trivial;
 
 pub use defining::definitions;
+pub use first_operand::first_value;
 pub use laws::{definitions_are_in_range, definitions_are_of_values};
 pub use renamed::renamings;
 pub use switched::Switched;
