@@ -1,4 +1,4 @@
-//! A broken rule on kinds, and which of two comes first.
+//! A broken rule that no walk is needed to show, and which of two comes first.
 
 ghost use Rattle.std.specs.Prelude.{◌≡◌, Some};
 ghost use Rattle.ownership_kinds.specs.Faults as faults;
@@ -7,7 +7,7 @@ ghost use Rattle.ownership_kinds.specs.Faults.{comes_before, fault_key};
 use sil_ast::{PointId, ValueId};
 use sil_rules::Rule;
 
-/// A rule on kinds that is broken: 302 to 305. No walk is needed to show it.
+/// A rule that is broken and that no walk is needed to show: of 302 to 305, or a static rule on memory (608 and 611).
 #[derive(Clone, Copy, Debug, PartialEq, Eq)]
 pub struct StaticFault {
     pub rule: Rule,
@@ -34,8 +34,8 @@ fn is_before(one: &StaticFault, other: &StaticFault) -> bool
     one.point.index < other.point.index
 }
 
-/// The first of what was found and of one more fault.
-pub(crate) fn lesser(found: Option<StaticFault>, fault: StaticFault) -> Option<StaticFault>
+/// The first of what was found and of one more fault: by value, then by rule, then by point.
+pub fn lesser(found: Option<StaticFault>, fault: StaticFault) -> Option<StaticFault>
     ensures { result ≡ Some (faults.lesser found fault) }
 {
     match found {

@@ -15,5 +15,6 @@ mod rings;
 mod statics;
 
 pub use borrows::{borrows_of, is_borrow};
+pub use fault::{StaticFault, lesser};
 pub use find::kinds_in;
 pub use ownership_marks::Kinds;
