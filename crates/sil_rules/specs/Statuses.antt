@@ -1,7 +1,7 @@
 -- The numbers with which the process ends.
 use Rattle.std.specs.Prelude.{ℕ}
 use Rattle.sil_rules.specs.declared.status.Status.{Status}
-use Rattle.sil_rules.specs.declared.status.Status.TheVariants.{Done, Refused, Usage, NotAModule, ReadFault, WriteFault, Limit, OutOfMemory, NotBuilt}
+use Rattle.sil_rules.specs.declared.status.Status.TheVariants.{Done, Refused, Usage, NotAModule, ReadFault, WriteFault, Limit, OutOfMemory}
 
 abbrev pub code_of : Status → ℕ
 code_of Done = 0
@@ -12,4 +12,3 @@ code_of ReadFault = 4
 code_of WriteFault = 5
 code_of Limit = 8
 code_of OutOfMemory = 9
-code_of NotBuilt = 11

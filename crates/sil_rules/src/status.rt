@@ -22,8 +22,6 @@ pub enum Status {
     Limit,
     /// Memory ran out.
     OutOfMemory,
-    /// The checks don't know such a module yet.
-    NotBuilt,
 }
 
 impl Status {
@@ -40,7 +38,6 @@ impl Status {
             Status::WriteFault => 5,
             Status::Limit => 8,
             Status::OutOfMemory => 9,
-            Status::NotBuilt => 11,
         }
     }
 }

@@ -1,0 +1,3 @@
+pub mod Statics
+pub mod Broken
+pub mod Ends

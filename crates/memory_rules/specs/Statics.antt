@@ -1,0 +1,96 @@
+-- Rules 608 and 611: where an instruction breaks them, whether a walk reaches it or not.
+use Rattle.std.specs.Prelude.{◌≡◌, ℕ, List, [], ◌∷◌, ◌++◌, Contains, Bool, false, ◌&&◌, ◌||◌, ◌==◌, cond, filter, find, map, not, option_map, Option, Some, None}
+use Rattle.std.specs.List.{flat_map}
+use Rattle.sil_ast.specs.declared.function.Function.{Function}
+use Rattle.sil_ast.specs.declared.inst.Inst.{Inst}
+use Rattle.sil_ast.specs.declared.place.ValueId.{ValueId}
+use Rattle.sil_rules.specs.Rules.{number_of}
+use Rattle.sil_rules.specs.declared.rule.Rule.{Rule}
+use Rattle.sil_rules.specs.declared.rule.Rule.TheVariants as rule
+use Rattle.ownership_kinds.specs.Statics.{IsAt}
+use Rattle.memory_accesses.specs.declared.access.Operated.{Operated}
+use Rattle.memory_accesses.specs.declared.access.Operation.{Operation}
+use Rattle.memory_accesses.specs.declared.access.Operation.TheVariants.{FirstWrite, Read, Lend, Write, TrivialStore, InoutOperand, Take}
+use Rattle.memory_accesses.specs.declared.location.Location.{Location}
+use Rattle.memory_accesses.specs.declared.source.Source.{Source}
+use Rattle.memory_accesses.specs.Locations.{location_of, overlap}
+use Rattle.memory_accesses.specs.Operations.{addresses_of, deallocates, operations_of}
+use Rattle.memory_accesses.specs.Rows.{has_operation}
+use Rattle.memory_accesses.specs.Sources.{source_at}
+use Rattle.slot_order.specs.Pairs.{is_slot_source}
+
+abbrev pub lacks_by : List Source → Option Location → Operation → Bool
+lacks_by sources None o = false
+lacks_by sources (Some l) o = not (has_operation sources l o)
+
+-- the row of the location that the address names lacks the operation
+abbrev pub lacks : List Source → Operated → Bool
+lacks sources x = lacks_by sources (location_of sources x.address) x.operation
+
+abbrev pub is_no_slot : List Source → ValueId → Bool
+is_no_slot sources v = not (is_slot_source (source_at sources v))
+
+abbrev pub address_in : Operated → ValueId
+address_in x = x.address
+
+-- the addresses at which an instruction does what their location lacks, or which it deallocates and which aren't slots
+abbrev pub lacking_at : List Source → Inst → List ValueId
+lacking_at sources i = map address_in (filter (lacks sources) (operations_of i)) ++ cond (deallocates i) (filter (is_no_slot sources) (addresses_of i)) []
+
+abbrev pub passed_by : Operation → ValueId → List ValueId
+passed_by FirstWrite v = []
+passed_by Read v = []
+passed_by Lend v = []
+passed_by Write v = []
+passed_by TrivialStore v = []
+passed_by InoutOperand v = v ∷ []
+passed_by Take v = []
+
+abbrev pub passed : Operated → List ValueId
+passed x = passed_by x.operation x.address
+
+-- the inout operands of a call, in order
+abbrev pub passed_of : Inst → List ValueId
+passed_of i = flat_map passed (operations_of i)
+
+abbrev pub meet : Option Location → Option Location → Bool
+meet None b = false
+meet (Some a) None = false
+meet (Some a) (Some b) = overlap a b
+
+-- the locations that the two addresses name overlap
+abbrev pub do_overlap : List Source → ValueId → ValueId → Bool
+do_overlap sources a b = meet (location_of sources a) (location_of sources b)
+
+-- two operands of one call
+pub record OperandPair : Type 0 where
+  pub first : ValueId
+  pub second : ValueId
+
+abbrev pub pair : ValueId → ValueId → OperandPair
+pair a b = record { first = a; second = b }
+
+abbrev pub second_of : OperandPair → ValueId
+second_of p = p.second
+
+-- all pairs of operands, in order
+abbrev pub pairs_of : List ValueId → List OperandPair
+pairs_of [] = []
+pairs_of (a ∷ operands) = map (pair a) operands ++ pairs_of operands
+
+-- the two overlap, and the subject is the first of them
+abbrev pub crosses : List Source → ValueId → OperandPair → Bool
+crosses sources subject p = p.first.0 == subject.0 && do_overlap sources p.first p.second
+
+-- the second operand of the first pair that overlaps and has the subject as its first operand
+abbrev pub crossed_with : List Source → Inst → ValueId → Option ValueId
+crossed_with sources i subject = option_map second_of (find (crosses sources subject) (pairs_of (passed_of i)))
+
+-- at this value, with this other one that takes part, and at the point with this block and index
+pub data IsBrokenAt (sources : List Source) (f : Function) : Rule → ValueId → Option ValueId → ℕ → ℕ → Type 0 where
+  overlapping : (n k : ℕ) (i : Inst) (a b : ValueId) → IsAt f n k i → crossed_with sources i a ≡ Some b → IsBrokenAt sources f rule.InoutOverlap a (Some b) n k
+  lacking : (n k : ℕ) (i : Inst) (a : ValueId) → IsAt f n k i → Contains (lacking_at sources i) a → IsBrokenAt sources f rule.PartialAccess a None n k
+
+-- the rule is one of the two
+abbrev pub is_static : Rule → Bool
+is_static r = number_of r == number_of rule.InoutOverlap || number_of r == number_of rule.PartialAccess
