@@ -1,0 +1,4 @@
+mod PartCodes
+mod BreakKeys
+mod FirstShown
+mod FirstOfAll

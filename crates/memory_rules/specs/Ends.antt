@@ -1,5 +1,5 @@
 -- How the checks of memory end.
-use Rattle.std.specs.Prelude.{◌≡◌, ⊤, Some, None}
+use Rattle.std.specs.Prelude.{◌≡◌, List, ⊤, Option, Some, None}
 use Rattle.sil_ast.specs.declared.function.Function.{Function}
 use Rattle.sil_cfg.specs.Layout.{Layout}
 use Rattle.sil_cfg.specs.declared.fault.RuleEnd.{RuleEnd}
@@ -8,6 +8,7 @@ use Rattle.sil_cfg.specs.declared.fault.RuleFault.{RuleFault}
 use Rattle.sil_rules.specs.Rules.{number_of}
 use Rattle.type_definitions.specs.Declarations.{Declarations}
 use Rattle.ownership_marks.specs.Known.{Known}
+use Rattle.memory_accesses.specs.declared.source.Source.{Source}
 use Rattle.memory_accesses.specs.Sources.{sources_of}
 use Rattle.memory_rules.specs.Broken.{IsFirstBreak, IsFirstStatic, MemoryBreak}
 
@@ -42,6 +43,11 @@ pub record IsFirstStaticFault (d : Declarations) (f : Function) (y : RuleFault) 
   pub broken : MemoryBreak
   pub first : IsFirstStatic (sources_of d f) f (Some broken)
   pub reported : IsReportOf broken y
+
+-- what is found of 608 and 611 alone: the fault reports which of them is broken first
+abbrev pub IsStaticFound : List Source → Function → Option RuleFault → Type 0
+IsStaticFound sources f None = IsFirstStatic sources f None
+IsStaticFound sources f (Some y) = (x : MemoryBreak) × IsFirstStatic sources f (Some x) × IsReportOf x y
 
 abbrev pub IsStaticEnd : Declarations → Function → RuleEnd → Type 0
 IsStaticEnd d f (Fault y) = IsFirstStaticFault d f y

@@ -1,3 +1,4 @@
 pub mod Statics
 pub mod Broken
 pub mod Ends
+pub mod Reports

@@ -2,6 +2,10 @@
 //! It puts together the parts of memory, the order of slots, and the two rules that no walk is needed for.
 #![tactic(auto)]
 
-mod check;
+mod earlier;
+mod reports;
+mod rules;
+mod statics;
+mod walks;
 
-pub use check::{check, check_static};
+pub use rules::{check, check_static};

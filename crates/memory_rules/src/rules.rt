@@ -1,15 +1,39 @@
 //! The checks of rules 601 to 611.
 
-ghost use Rattle.std.specs.Prelude.{IfErr, OnOk};
+ghost use Rattle.std.specs.Prelude.{IfErr, IfOk, OnOk};
 ghost use Rattle.sil_cfg.specs.Build.{IsGraphOf};
 ghost use Rattle.ownership_kinds.specs.Ends.{IsOfNumberedModule};
 ghost use Rattle.memory_rules.specs.Ends.{AreStaticsKept, IsMemoryEnd, IsMemoryKept, IsStaticEnd};
+ghost use Rattle.memory_rules.specs.Reports.{IsMemoryFound};
 
+use crate::earlier::earlier;
+use crate::statics::first_static;
+use crate::walks::first_on_walks;
+use memory_accesses::{Memory, accesses_by_item};
 use ownership_marks::Kinds;
-use sil_ast::Function;
-use sil_cfg::{Graph, RuleEnd};
+use sil_ast::{Exhausted, Function};
+use sil_cfg::{Graph, RuleEnd, RuleFault};
 use sil_types::TypeTable;
 use std::alloc::Global;
+
+/// The first fault of rules 601 to 611, if there is one.
+fn first_broken(
+    alloc: Global,
+    f: &Function,
+    g: &Graph,
+    k: &Kinds,
+    table: &TypeTable,
+) -> Result<Option<RuleFault>, Exhausted>
+    requires of_module { IsOfNumberedModule f.now }
+    requires graph { IsGraphOf g.now f.now }
+    ensures { IfOk result (IsMemoryFound table.now f.now g.now k.now) }
+{
+    let memory = Memory::of(alloc, table, f)?;
+    let accesses = accesses_by_item(alloc, f, g, k, &memory)?;
+    let walk_fault = first_on_walks(alloc, f, g, k, &memory, &accesses)?;
+    let static_fault = first_static(alloc, &memory, f)?;
+    Ok(earlier(walk_fault, static_fault))
+}
 
 /// Checks rules 601 to 611: on every walk each location is read, written and taken only while it holds a value (601), written first only while it holds none (602), empty where its slot is deallocated (603), and full where an inout is given back (609);
 /// slots are allocated and deallocated one within another (604, 605); no location is written while it is lent (606); a new object is used only as its fields allow (607); and an address only while its scopes are open and its slot is allocated (610).
@@ -28,7 +52,11 @@ pub fn check(
     ensures ok { OnOk result (IsMemoryKept table.now f.now g.now k.now) }
     ensures end { IfErr result (IsMemoryEnd table.now f.now g.now k.now) }
 {
-    Err(RuleEnd::Memory)
+    match first_broken(alloc, f, g, k, table) {
+        Ok(None) => Ok(()),
+        Ok(Some(fault)) => Err(RuleEnd::Fault(fault)),
+        Err(_) => Err(RuleEnd::Memory),
+    }
 }
 
 /// Checks rules 608 and 611 alone. The fault is the first that is broken, by value, then by rule, then by point; it has no walk.

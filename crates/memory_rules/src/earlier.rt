@@ -1,0 +1,38 @@
+//! Which of two faults comes first.
+
+ghost use Rattle.std.specs.Prelude.{◌≡◌, true, false};
+ghost use Rattle.sil_rules.specs.Order.{IsEarlier, NotAfter};
+ghost use Rattle.memory_rules.specs.Reports.{report_key};
+
+use sil_cfg::RuleFault;
+
+/// Whether the first doesn't come after the second: by subject, then by rule, then by the number of edges.
+fn is_not_after(a: &RuleFault, b: &RuleFault) -> bool
+    ensures yes { result ≡ true → NotAfter (report_key a.now) (report_key b.now) }
+    ensures no { result ≡ false → NotAfter (report_key b.now) (report_key a.now) }
+{
+    if a.subject.0 != b.subject.0 {
+        return a.subject.0 < b.subject.0;
+    }
+    if a.rule != b.rule {
+        return a.rule < b.rule;
+    }
+    a.walk.len() <= b.walk.len()
+}
+
+/// The one that comes first, if there is one.
+pub(crate) fn earlier(a: Option<RuleFault>, b: Option<RuleFault>) -> Option<RuleFault>
+    ensures { IsEarlier report_key a b result }
+{
+    match (a, b) {
+        (None, b) => b,
+        (a, None) => a,
+        (Some(a), Some(b)) => {
+            if is_not_after(&a, &b) {
+                Some(a)
+            } else {
+                Some(b)
+            }
+        }
+    }
+}
