@@ -2,3 +2,9 @@ mod PartCodes
 mod BreakKeys
 mod FirstShown
 mod FirstOfAll
+mod Crossed
+mod AmongStatics
+mod FirstStatic
+mod OtherValue
+mod Idle
+mod Short

@@ -1,4 +1,5 @@
 pub mod Statics
 pub mod Broken
+pub mod StaticFaults
 pub mod Ends
 pub mod Reports

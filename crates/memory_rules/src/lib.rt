@@ -3,6 +3,9 @@
 #![tactic(auto)]
 
 mod earlier;
+mod lacking;
+mod operations;
+mod overlaps;
 mod reports;
 mod rules;
 mod statics;

@@ -70,5 +70,12 @@ pub fn check_static(
     ensures ok { OnOk result (AreStaticsKept table.now f.now) }
     ensures end { IfErr result (IsStaticEnd table.now f.now) }
 {
-    Err(RuleEnd::Memory)
+    let Ok(m) = Memory::of(alloc, table, f) else {
+        return Err(RuleEnd::Memory);
+    };
+    match first_static(alloc, &m, f) {
+        Err(_) => Err(RuleEnd::Memory),
+        Ok(None) => Ok(()),
+        Ok(Some(fault)) => Err(RuleEnd::Fault(fault)),
+    }
 }

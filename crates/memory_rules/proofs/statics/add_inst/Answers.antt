@@ -1,0 +1,35 @@
+use Rattle.std.proofs.Common.{◌≡◌, [], ◌++◌, ap, false, sym, ◌∙◌}
+use Rattle.std.specs.Prelude.{cond}
+use Rattle.std.specs.List.{flat_map}
+use Rattle.ownership_kinds.specs.Faults.{least}
+use Rattle.ownership_kinds.proofs.Least.{least_two, ok_along}
+use Rattle.memory_accesses.specs.Operations.{addresses_of, deallocates, operations_of}
+use Rattle.memory_rules.specs.StaticFaults.{deallocation_faults, no_slot_faults, operated_faults, pair_faults, statics_at}
+use Rattle.memory_rules.specs.Statics.{pairs_of, passed, passed_of}
+use Rattle.memory_rules.proofs.Idle.{idle}
+use Rattle.memory_rules.proofs.statics.add_inst.Goals as goal
+
+pub returns-then-is_idle : goal.returns-then-is_idle
+returns-then-is_idle c =
+    let m = c.args.m.now in
+    let n = c.args.point.block.0 in
+    let k = c.args.point.index in
+    let i = c.args.inst.now in
+    let still : (operations_of i ≡ []) × (deallocates i ≡ false) = idle i (sym c.is_idle.ensures ∙ c.if-is_idle.true) in
+    ap (λ d. least c.args.found (cond d (flat_map (no_slot_faults m n k) (addresses_of i)) [])) (sym still.1)
+    ∙ ap (λ os. least c.args.found (flat_map (pair_faults m n k) (pairs_of (flat_map passed os)) ++ (flat_map (operated_faults m n k) os ++ deallocation_faults m n k i))) (sym still.0)
+
+pub returns : goal.returns
+returns c =
+    let m = c.args.m.now in
+    let n = c.args.point.block.0 in
+    let k = c.args.point.index in
+    let i = c.args.inst.now in
+    ok_along c.add_deallocated.result (λ r. r ≡ least c.add_lacking-lacking.result (deallocation_faults m n k i)) (λ r. r ≡ least c.args.found (statics_at m n k i))
+    (λ r e.
+    least_two c.args.found c.add_overlaps-crossed.result r (flat_map (pair_faults m n k) (pairs_of (passed_of i))) (flat_map (operated_faults m n k) (operations_of i) ++ deallocation_faults m n k i)
+    (c.add_overlaps-crossed.ensures
+    ∙ ap (λ vs. least c.args.found (flat_map (pair_faults m n k) (pairs_of vs))) (c.as_slice-2.ensures.value ∙ c.in_ok-operands.ensures ∙ ap (flat_map passed) (c.as_slice.ensures.value ∙ c.in_ok-operations.ensures)))
+    (least_two c.add_overlaps-crossed.result c.add_lacking-lacking.result r (flat_map (operated_faults m n k) (operations_of i)) (deallocation_faults m n k i)
+    (c.add_lacking-lacking.ensures ∙ ap (λ os. least c.add_overlaps-crossed.result (flat_map (operated_faults m n k) os)) (c.as_slice-3.ensures.value ∙ c.in_ok-operations.ensures)) e))
+    c.add_deallocated.ensures
