@@ -133,14 +133,14 @@ const VALUES_LIMITS: [Limited; 4] = [
     (
         "sil [ossa] @f : $@convention(thin) (@inout A) -> () {\nb(%0 : $*A):\n`destroy_addr %0 : $*A\n`unreachable\n}\nclass A {}\n",
         1023,
-        "not built",
+        "refused 601 LoadUninitialised @f bb0:1\nsubject %0\nwalk bb0",
         "1026:1",
     ),
     // store [assign]
     (
         "sil [ossa] @f : $@convention(thin) (@inout A, @owned A) -> () {\nb(%0 : $*A, %1 : @owned $A):\n`store %1 to [assign] %0 : $*A\n`unreachable\n}\nclass A {}\n",
         1022,
-        "not built",
+        "refused 402 DoubleConsume @f bb0:1\nsubject %1\nwalk bb0",
         "1025:14",
     ),
     // two names
@@ -157,7 +157,7 @@ const VALUES_COUNTED: [Counted; 9] = [
     (
         "sil [ossa] @f : $@convention(thin) (@inout A, @owned A, @inout Builtin.Int8, Builtin.Int8) -> () {\nb(%0 : $*A, %1 : @owned $A, %2 : $*Builtin.Int8, %3 : $Builtin.Int8):\n`store %1 to [init] %0 : $*A\nstore %3 to [trivial] %2 : $*Builtin.Int8\n`unreachable\n}\nclass A {}\n",
         1100,
-        "not built",
+        "refused 402 DoubleConsume @f bb0:2\nsubject %1\nwalk bb0",
     ),
     // are counted for each function
     (

@@ -82,10 +82,8 @@ fn status_of(answer: &str) -> u8 {
         1
     } else if answer.starts_with("not a module") {
         3
-    } else if answer.starts_with("limit") {
-        8
     } else {
-        11
+        8
     }
 }
 
