@@ -1,5 +1,9 @@
+pub mod CompletionLemmas
+pub mod CutLemmas
+pub mod FewestTokens
 pub mod FirstBadLemmas
 pub mod LexemeLemmas
 pub mod ReadLemmas
+pub mod RefusedOnce
 pub mod ShapeLemmas
 pub mod NumberedLemmas

@@ -12,7 +12,6 @@ use Rattle.sil_shape.specs.Derivation.{Derives, start}
 use Rattle.sil_shape.specs.Begun.{LeadsTo}
 use Rattle.sil_shape.specs.Shortest.{Shortens}
 use Rattle.sil_shape.proofs.DerivedOnce.{steps_once}
-use Rattle.sil_shape.proofs.Shortened.{Shortens-derives}
 use Rattle.written_tree.specs.declared.fault.Fault.{Fault}
 use Rattle.written_tree.specs.declared.written_module.WrittenModule.{WrittenModule}
 use Rattle.written_modules.specs.Replay.{first_fault, Writes}
@@ -27,6 +26,8 @@ use Rattle.sil_grammar.specs.Front.{IsFrontFault}
 use Rattle.sil_grammar.specs.Refusals.{IsFaulty, IsFront, IsRefusalOf, IsShapeless, SpellsNone, exhausted, in_front, in_whole}
 use Rattle.sil_grammar.specs.Shape.{IsBroken, IsWhole}
 use Rattle.sil_grammar.specs.Spells.{AreSpelledOnce, SpellsWritten}
+use Rattle.sil_grammar.specs.Left.{IsCut}
+use Rattle.sil_grammar.proofs.CutLemmas.{cut_completes}
 use Rattle.sil_grammar.proofs.FirstBadLemmas.{no_bad_place}
 
 never : {A : Type 0} {a : A} {o : Option A} → o ≡ Some a → o ≡ None → ⊥
@@ -58,7 +59,7 @@ by_these text lexemes steps w lexed derived s =
     }
 
 -- a text writes one module at most
-written_once : (text : List ℕ) (w other : WrittenModule) → SpellsWritten w text → SpellsWritten other text → other ≡ w
+pub written_once : (text : List ℕ) (w other : WrittenModule) → SpellsWritten w text → SpellsWritten other text → other ≡ w
 written_once text w other s o =
     let by = by_these text s.lexemes s.steps other s.lexed s.derived o in
     one_module s.steps s.lexemes w other s.writes by.writes
@@ -79,14 +80,16 @@ pub misnamed_spells_none : (text : List ℕ) (w : WrittenModule) (fault : Fault)
 misnamed_spells_none text w fault spells wrong m s =
     never (ap name_fault (written_once text w s.written spells s.spells) ∙ wrong) s.names
 
--- the first fault of a front that is completed in the shortest way
-pub front_found : (text : List ℕ) (lexing : Lexing) (count : ℕ) (front : Front) (fault : Option Fault)
-    → LeadsTo (map token_class (take count (lexemes_of text lexing))) front.steps.items (reverse front.left.items)
-    → (rest : List Step) × Shortens (reverse front.left.items) rest × (fault ≡ first_fault (front.steps.items ++ rest) (take count (lexemes_of text lexing)))
+-- the first fault of a front that is cut behind its last token, and completed in the shortest way
+pub front_found : (text : List ℕ) (lexing : Lexing) (count : ℕ) (front cut : Front) (fault : Option Fault)
+    → LeadsTo (map token_class (take count (lexemes_of text lexing))) front.steps.items (reverse front.left.items) → IsCut front cut
+    → (rest : List Step) × Shortens (reverse cut.left.items) rest × (fault ≡ first_fault (cut.steps.items ++ rest) (take count (lexemes_of text lexing)))
     → IsFrontFault text lexing count fault
-front_found text lexing count front fault leads found =
-    let behind = Shortens-derives found.1 in
-    record { steps = front.steps.items ++ found.0; begun = (behind.0, leads behind.0 found.0 behind.1); first = found.2 }
+front_found text lexing count front cut fault leads is found = record {
+  steps = cut.steps.items ++ found.0;
+  begun = cut_completes (map token_class (take count (lexemes_of text lexing))) front cut leads is found.0 found.1;
+  first = found.2;
+}
 
 module _ (text : List ℕ) (lexing : Lexing) (is : IsLexingOf text lexing) where
   module _ (steps : List Step) (whole : IsWhole text lexing steps) where
@@ -103,23 +106,22 @@ module _ (text : List ℕ) (lexing : Lexing) (is : IsLexingOf text lexing) where
     faulty_whole fault first = in_whole (lexemes_of text lexing) steps lexed whole.derived.derives first
 
   module _ (bad : BadPlace) (count : ℕ) (fault : Option Fault) (left : Front) (broken : IsBroken text lexing bad count left) (found : IsFrontFault text lexing count fault) where
-    front : IsFront text bad
+    front : IsFront text
     front = record {
-      first_bad = broken.first;
       lexemes = lexemes_of text lexing;
       lexed_to = lexing.stop;
       lexed = is.lexed;
       count = count;
       inside = subst (λ n. count ≤ n) (sym (length-map lexing.tokens (lexeme_of text))) broken.inside;
-      next = λ below. broken.next (subst (λ n. count < n) (length-map lexing.tokens (lexeme_of text)) below);
+      most = λ below. broken.most (subst (λ n. count < n) (length-map lexing.tokens (lexeme_of text)) below);
       steps = found.steps;
-      begun = found.begun;
+      shortest = found.begun;
     }
 
     pub faulty_front : (f : Fault) → fault ≡ Some f → f.place.offset < bad.place.offset → IsFaulty text f
     unfolding front
-    faulty_front f some before = in_front bad front (sym found.first ∙ some) before
+    faulty_front f some before = in_front bad front broken.first (sym found.first ∙ some) before
 
     pub clear_front : ((f : Fault) → fault ≡ Some f → bad.place.offset ≤ f.place.offset) → IsShapeless text bad
     unfolding front
-    clear_front behind = record { front = front; no_fault = λ f is. behind f (found.first ∙ is) }
+    clear_front behind = record { first_bad = broken.first; front = front; no_fault = λ f is. behind f (found.first ∙ is) }

@@ -1,5 +1,5 @@
 -- Tokens have shape up to the end of their text, or the text has a first bad place: for `shape_of`.
-use Rattle.std.proofs.Common.{◌≡◌, ℕ, ◌<◌, ◌≤◌, List, [], ◌++◌, length, map, reverse, take, Option, Some, None, Vec, Global, arith, ap, refl, sym, subst, ◌∙◌}
+use Rattle.std.proofs.Common.{◌≡◌, ℕ, ◌+◌, ◌<◌, ◌≤◌, List, [], ◌++◌, length, map, reverse, take, Option, Some, None, Vec, Global, arith, ap, refl, sym, subst, ◌∙◌}
 use Rattle.std.specs.Prelude.{MatchOption}
 use Rattle.std.proofs.lemmas.List.{append-nil, length-map, length-take-le, take_all, take-map}
 use Rattle.sil_lexer.specs.declared.token.LexRefusal.{LexRefusal}
@@ -10,7 +10,7 @@ use Rattle.sil_shape.specs.declared.steps.Step.{Step}
 use Rattle.sil_shape.specs.declared.steps.Front.{Front}
 use Rattle.sil_shape.specs.declared.grammar.Symbol.{Symbol}
 use Rattle.sil_shape.specs.Begun.{LeadsTo}
-use Rattle.sil_shape.specs.Derivation.{Derives, nothing, start, IsDerivation, HasShape, IsFirstBad}
+use Rattle.sil_shape.specs.Derivation.{BeginsShape, Derives, nothing, start, IsDerivation, HasShape, IsFirstBad}
 use Rattle.sil_shape.specs.Values.{takes_of}
 use Rattle.sil_shape.proofs.DerivedOnce.{no_first_bad}
 use Rattle.sil_grammar.specs.declared.first_bad.BadPlace.{BadPlace}
@@ -18,7 +18,7 @@ use Rattle.sil_grammar.specs.declared.first_bad.Shape.{Shape}
 use Rattle.sil_grammar.specs.declared.first_bad.Shape.TheVariants.{Whole, Broken}
 use Rattle.sil_grammar.specs.Classes.{token_class}
 use Rattle.sil_grammar.specs.FirstBad as text_shape
-use Rattle.sil_grammar.specs.FirstBad.{bad_stop, token_place, IsFirstBadPlace}
+use Rattle.sil_grammar.specs.FirstBad.{bad_stop, IsFirstBadPlace}
 use Rattle.sil_grammar.specs.Shape.{IsBroken, IsShapeOf, IsWhole}
 use Rattle.sil_grammar.proofs.FirstBadLemmas.{stop_first}
 
@@ -38,15 +38,14 @@ take-classes text lexing count = take-map token_class count (lexemes_of text lex
 -- a class with which no list that has shape goes on
 pub broken_at : (text : List ℕ) (lexing : Lexing) (classes : List Class) (bad : BadPlace) (count : ℕ) (front : Front)
     → classes ≡ map token_class (lexemes_of text lexing) → IsFirstBad classes count × LeadsTo (take count classes) front.steps.items (reverse front.left.items)
-    → IsFirstBadPlace text bad → (count < length lexing.tokens → bad.place ≡ token_place text (lexemes_of text lexing) count)
-    → IsBroken text lexing bad count front
-broken_at text lexing classes bad count front same refused first next =
+    → IsFirstBadPlace text bad → IsBroken text lexing bad count front
+broken_at text lexing classes bad count front same refused first =
     let here = subst (λ ks. IsFirstBad ks count) same refused.0 in
     let leads = subst (λ ks. LeadsTo (take count ks) front.steps.items (reverse front.left.items)) same refused.1 in
     record {
       first = first;
       inside = subst (λ n. count ≤ n) (length-classes text lexing) here.inside;
-      next = next;
+      most = λ below. subst (λ ks. BeginsShape ks → ⊥) (take-classes text lexing (count + 1)) (here.bad (subst (λ n. count < n) (sym (length-classes text lexing)) below));
       leads = subst (λ ks. LeadsTo ks front.steps.items (reverse front.left.items)) (take-classes text lexing count) leads;
     }
 
@@ -90,7 +89,7 @@ shaped text lexing classes steps shape is same derived taken told = by lexing.st
     by (Some stop) stops told = subst (IsShapeOf text lexing) (sym told.1) (record {
       first = stop_first text lexing is stop stops (λ i bad. absurd (no_first_bad (map token_class (lexemes_of text lexing)) i good bad));
       inside = omega arith;
-      next = λ below. absurd (omega (arith, below));
+      most = λ below. absurd (omega (arith, below));
       leads = none_left (map token_class (take (length lexing.tokens) (lexemes_of text lexing))) told.0.steps.items (reverse told.0.left.items) (ap reverse told.3)
           (subst (λ ks. Derives start ks told.0.steps.items) every (subst (λ s. Derives start (map token_class (lexemes_of text lexing)) s.items) (sym told.2) here.derives));
     })

@@ -1,13 +1,12 @@
 -- What a refusal of `read` says.
-use Rattle.std.specs.Prelude.{◌≡◌, ℕ, ◌<◌, ◌≤◌, List, length, map, take, Option, Some, None}
+use Rattle.std.specs.Prelude.{◌≡◌, ℕ, ◌+◌, ◌<◌, ◌≤◌, List, length, map, take, Option, Some, None}
 use Rattle.sil_ast.specs.declared.module.Module.{Module}
 use Rattle.sil_ast.specs.declared.place.Place.{Place}
 use Rattle.sil_lexer.specs.declared.token.LexRefusal.{LexRefusal}
 use Rattle.sil_lexer.specs.declared.token.LexRefusal.TheVariants as stop
 use Rattle.sil_lexer.specs.Lexes.{Lexeme, Lexes}
 use Rattle.sil_shape.specs.declared.steps.Step.{Step}
-use Rattle.sil_shape.specs.Begun.{IsBegun}
-use Rattle.sil_shape.specs.Derivation.{Derives, start}
+use Rattle.sil_shape.specs.Derivation.{BeginsShape, Derives, start}
 use Rattle.written_tree.specs.declared.fault.Fault.{Fault}
 use Rattle.written_tree.specs.declared.fault.FaultKind.{FaultKind}
 use Rattle.written_tree.specs.declared.fault.FaultKind.TheVariants as kind
@@ -20,33 +19,35 @@ use Rattle.sil_grammar.specs.declared.first_bad.BadPlace.{BadPlace}
 use Rattle.sil_grammar.specs.declared.refusal.ReadRefusal.{ReadRefusal}
 use Rattle.sil_grammar.specs.declared.refusal.ReadRefusal.TheVariants as refusal
 use Rattle.sil_grammar.specs.Classes.{token_class}
-use Rattle.sil_grammar.specs.FirstBad.{token_place, IsFirstBadPlace}
+use Rattle.sil_grammar.specs.Completion.{IsShortestFrom}
+use Rattle.sil_grammar.specs.FirstBad.{IsFirstBadPlace}
 use Rattle.sil_grammar.specs.Spells.{Spells, SpellsWritten}
 
 abbrev pub SpellsNone : List ℕ → Type 0
 SpellsNone text = (m : Module) → Spells m text → ⊥
 
--- all tokens before the first bad place of the text, which begin a list that has the shape of a module
-pub record IsFront (text : List ℕ) (place : BadPlace) : Type 0 where
-  pub first_bad : IsFirstBadPlace text place
+-- the first tokens of the text, as many as a module can begin with, which are those before its first bad place; and the
+-- shortest module that begins with them
+pub record IsFront (text : List ℕ) : Type 0 where
   pub lexemes : List Lexeme
   pub lexed_to : Option LexRefusal
   pub lexed : Lexes text text lexemes lexed_to
-  -- so many of the tokens; the next one, if there is one, stands at the place
+  -- so many of the tokens, and no module begins with one more
   pub count : ℕ
   pub inside : count ≤ length lexemes
-  pub next : count < length lexemes → place.place ≡ token_place text lexemes count
-  -- they begin a list that these steps derive
+  pub most : count < length lexemes → BeginsShape (map token_class (take (count + 1) lexemes)) → ⊥
+  -- these steps derive the module
   pub steps : List Step
-  pub begun : IsBegun (map token_class (take count lexemes)) steps
+  pub shortest : IsShortestFrom (map token_class (take count lexemes)) steps
 
--- the first fault in what a list stands for that begins with these tokens
-abbrev pub fault_of : {text : List ℕ} {place : BadPlace} → IsFront text place → Option Fault
+-- the first fault in what this module stands for. The tokens that the text lacks stand for nothing
+abbrev pub fault_of : {text : List ℕ} → IsFront text → Option Fault
 fault_of front = first_fault front.steps (take front.count front.lexemes)
 
 -- the first bad place of the text, with no fault before it
 pub record IsShapeless (text : List ℕ) (place : BadPlace) : Type 0 where
-  pub front : IsFront text place
+  pub first_bad : IsFirstBadPlace text place
+  pub front : IsFront text
   pub no_fault : (fault : Fault) → fault_of front ≡ Some fault → place.place.offset ≤ fault.place.offset
 
 -- the first fault of the text, a number out of range or a token that passes a limit
@@ -55,7 +56,7 @@ pub data IsFaulty (text : List ℕ) (fault : Fault) : Type 0 where
   in_whole : (lexemes : List Lexeme) (steps : List Step) → Lexes text text lexemes None → Derives start (map token_class lexemes) steps
       → first_fault steps lexemes ≡ Some fault → IsFaulty text fault
   -- it has none, and the fault comes before the first place where it goes wrong
-  in_front : (place : BadPlace) (front : IsFront text place) → fault_of front ≡ Some fault
+  in_front : (place : BadPlace) (front : IsFront text) → IsFirstBadPlace text place → fault_of front ≡ Some fault
       → fault.place.offset < place.place.offset → IsFaulty text fault
 
 -- the text writes a module, and this name is the first that is defined twice, or used and not defined
@@ -83,3 +84,8 @@ pub data IsRefusalOf (text : List ℕ) : ReadRefusal → Type 0 where
   faulty : (fault : Fault) → SpellsNone text → IsFaulty text fault → IsRefusalOf text (refusal_of_fault fault.kind fault.place)
   misnamed : (fault : Fault) → SpellsNone text → IsMisnamed text fault → IsRefusalOf text (refusal_of_fault fault.kind fault.place)
   exhausted : IsRefusalOf text refusal.Memory
+
+-- two refusals of one text, other than for want of memory, are equal
+abbrev pub AreRefusedOnce : Type 0
+AreRefusedOnce =
+    (text : List ℕ) (a b : ReadRefusal) → IsRefusalOf text a → IsRefusalOf text b → (a ≡ refusal.Memory → ⊥) → (b ≡ refusal.Memory → ⊥) → b ≡ a

@@ -1,7 +1,7 @@
 //! Finds where a text first goes wrong as a list of tokens, and how.
 //! It asks for the shape of a module alone: names may be unknown, numbers and types of any size.
 
-ghost use Rattle.std.specs.Prelude.{◌≡◌, [], ◌↔◌, ◌<◌, length, map, IfOk, IsNone, MatchOption, None, Some};
+ghost use Rattle.std.specs.Prelude.{◌≡◌, [], ◌↔◌, length, map, IfOk, IsNone, MatchOption, None, Some};
 ghost use Rattle.sil_lexer.specs.Lexing.{IsLexingOf, lexemes_of};
 ghost use Rattle.sil_lexer.specs.Places.{IsInLimit};
 ghost use Rattle.sil_shape.specs.declared.steps.Front.{Front};
@@ -119,8 +119,7 @@ fn bad_token(
     requires classes { classes.now ≡ map token_class (lexemes_of text.now tokens.now) }
     requires first { IsFirstBad classes.now i }
     requires reached { i ≡ length tokens.now.tokens → tokens.now.stop ≡ None }
-    ensures first { IfOk result (IsFirstBadPlace text.now) }
-    ensures place { IfOk result (λ bad. bad.place ≡ token_place text.now (lexemes_of text.now tokens.now) i) }
+    ensures { IfOk result (IsFirstBadPlace text.now) }
 {
     let place = token_place(text, tokens, i);
     if is_unsupported(alloc, classes, i)? {
@@ -147,8 +146,7 @@ fn bad_token_or_stop(
     requires lexed { IsLexingOf text.now tokens.now }
     requires classes { classes.now ≡ map token_class (lexemes_of text.now tokens.now) }
     requires first { IsFirstBad classes.now i }
-    ensures first { IfOk result (IsFirstBadPlace text.now) }
-    ensures place { IfOk result (λ bad. i < length tokens.now.tokens → bad.place ≡ token_place text.now (lexemes_of text.now tokens.now) i) }
+    ensures { IfOk result (IsFirstBadPlace text.now) }
 {
     if i == tokens.len() {
         if let Some(stop) = tokens.stop() {

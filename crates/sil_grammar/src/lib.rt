@@ -3,11 +3,16 @@
 #![tactic(auto)]
 
 mod classes;
+mod cutting;
 mod first_bad;
+mod laws;
 mod reader;
 mod refusal;
 
 pub use first_bad::{BadKind, BadPlace, first_bad_place};
-pub use reader::{read, spelled_modules_are_numbered, spelled_once};
+pub use laws::{
+    refused_once, shortest_has_fewest_tokens, spelled_modules_are_numbered, spelled_once,
+};
+pub use reader::read;
 pub use refusal::ReadRefusal;
 pub use sil_rules::LimitWord;

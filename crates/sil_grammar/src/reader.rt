@@ -11,9 +11,10 @@ ghost use Rattle.sil_grammar.specs.Classes.{token_class};
 ghost use Rattle.sil_grammar.specs.Front.{IsFrontFault};
 ghost use Rattle.sil_grammar.specs.Refusals.{IsRefusalOf};
 ghost use Rattle.sil_grammar.specs.Shape.{IsBroken, IsWhole};
-ghost use Rattle.sil_grammar.specs.Spells.{AreSpelledNumbered, AreSpelledOnce, Spells, SpellsWritten};
+ghost use Rattle.sil_grammar.specs.Spells.{Spells, SpellsWritten};
 
 use crate::classes::classes_of;
+use crate::cutting::cut_at_last_token;
 use crate::first_bad::{BadPlace, Shape, shape_of};
 use crate::refusal::{ReadRefusal, refusal_of_bad, refusal_of_fault};
 use name_resolution::{NameRefusal, resolve};
@@ -55,7 +56,8 @@ fn read_whole(
     }
 }
 
-/// The first fault in the first `count` tokens of a text, which this front of a derivation takes.
+/// The first fault in the shortest module that begins with the first `count` tokens of a text. This front of a
+/// derivation takes them.
 fn fault_before(
     alloc: Global,
     text: &[u8],
@@ -68,6 +70,7 @@ fn fault_before(
     requires leads { LeadsTo (map token_class (take count (lexemes_of text.now tokens.now))) front.steps.items (reverse front.left.items) }
     ensures { IfOk result (IsFrontFault text.now tokens.now count) }
 {
+    let front = cut_at_last_token(alloc, front)?;
     let fault = front_fault(alloc, text, tokens, count, front)?;
     Ok(fault)
 }
@@ -104,13 +107,3 @@ pub fn read(alloc: Global, text: &[u8]) -> Result<Module, ReadRefusal>
         }
     }
 }
-
-/// A text spells at most one module.
-pub fn spelled_once()
-    ensures { AreSpelledOnce }
-{}
-
-/// A module that a text spells is in numbered form.
-pub fn spelled_modules_are_numbered()
-    ensures { AreSpelledNumbered }
-{}

@@ -5,15 +5,15 @@ use Rattle.sil_shape.specs.Unsupported.{IsUnsupported}
 use Rattle.sil_grammar.proofs.FirstBadLemmas.{unsupported_first, unexpected_first}
 use Rattle.sil_grammar.proofs.first_bad.bad_token.Goals as goal
 
-pub returns-then-branch-clause-first : goal.returns-then-branch-clause-first
-returns-then-branch-clause-first c =
+pub returns-then-branch : goal.returns-then-branch
+returns-then-branch c =
     let first = subst (λ ks. IsFirstBad ks c.args.i) c.requires.classes c.requires.first in
     let unsupported = subst (λ ks. IsUnsupported ks c.args.i) c.requires.classes (c.in_ok-is_unsupported.ensures.0 c.if-branch.true) in
     rw c.token_place-place.ensures
     (unsupported_first c.args.text.now c.args.tokens.now c.requires.lexed c.args.i first c.requires.reached unsupported)
 
-pub returns-clause-first : goal.returns-clause-first
-returns-clause-first c =
+pub returns : goal.returns
+returns c =
     let first = subst (λ ks. IsFirstBad ks c.args.i) c.requires.classes c.requires.first in
     rw c.token_place-place.ensures
     (unexpected_first c.args.text.now c.args.tokens.now c.requires.lexed c.args.i first c.requires.reached (λ u.

@@ -7,8 +7,8 @@ use Rattle.sil_shape.proofs.DerivedOnce.{first_bad_once}
 use Rattle.sil_grammar.proofs.FirstBadLemmas.{stop_first}
 use Rattle.sil_grammar.proofs.first_bad.bad_token_or_stop.Goals as goal
 
-pub returns-in-Some-clause-first : goal.returns-in-Some-clause-first
-returns-in-Some-clause-first c =
+pub returns-in-Some : goal.returns-in-Some
+returns-in-Some c =
     let text = c.args.text.now in
     let stops : c.args.tokens.now.stop ≡ Some c.in-Some.stop = cc c.in-Some.ensures in
     let first = subst (λ ks. IsFirstBad ks c.args.i) c.requires.classes c.requires.first in

@@ -11,4 +11,4 @@ pub returns-in_ok-bad-in-Err-FirstBad : goal.returns-in_ok-bad-in-Err-FirstBad
 returns-in_ok-bad-in-Err-FirstBad c =
     let refused = rw c.in-Err-FirstBad.field-0-is at c.in-Err-FirstBad.ensures.refused in
     broken_at c.args.text.now c.args.tokens.now c.args.classes.now c.in_ok-bad-in-Err-FirstBad.bad c.in-Err-FirstBad.count c.in-Err-FirstBad.front
-    c.requires.classes refused c.in_ok-bad-in-Err-FirstBad.ensures.first c.in_ok-bad-in-Err-FirstBad.ensures.place
+    c.requires.classes refused c.in_ok-bad-in-Err-FirstBad.ensures
