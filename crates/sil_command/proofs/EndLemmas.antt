@@ -2,19 +2,19 @@
 use Rattle.std.proofs.Common.{◌≡◌, ◌⊎◌, inl, inr, ℕ, ◌<◌, List, refl, arith}
 use Rattle.sil_ast.specs.declared.module.Module.{Module}
 use Rattle.sil_io.specs.Count.{MayFail}
-use Rattle.sil_rules.specs.declared.status.Status.TheVariants.{Done, Refused, Usage, NotAModule, ReadFault, WriteFault, Limit, OutOfMemory, NotBuilt}
+use Rattle.sil_rules.specs.declared.status.Status.TheVariants.{Done, Refused, Usage, NotAModule, ReadFault, WriteFault, Limit, OutOfMemory}
 use Rattle.sil_rules.specs.Statuses.{code_of}
 use Rattle.sil_command.specs.Texts.{read_fault_text}
 use Rattle.sil_command.specs.declared.words.Mode.{Mode}
 use Rattle.sil_command.specs.declared.words.Mode.TheVariants.{Check, Print}
-use Rattle.sil_command.specs.Answers.{Answers, usage, in_mode, AnswersText, too_long, unread, spelled, AnswersModule, AnswersCheck, limit_passed, not_built, refused, accepted, AnswersPrint, printed}
+use Rattle.sil_command.specs.Answers.{Answers, usage, in_mode, AnswersText, too_long, unread, spelled, AnswersModule, AnswersCheck, limit_passed, refused, accepted, AnswersPrint, printed}
 use Rattle.sil_command.specs.Ends.{Call, Ends, answered, read_failed, exhausted, whole, front, WritesAnswer, Exhausts, WritesWhole, WritesFrontOfAnswer, IsStatus}
 use Rattle.sil_command.proofs.Unread.{unread_status}
 
 -- the statuses of answers: neither a fault nor want of memory
 abbrev IsAnswerStatus : ℕ → Type 0
 IsAnswerStatus status =
-    (status ≡ code_of Done) ⊎ (status ≡ code_of Refused) ⊎ (status ≡ code_of Usage) ⊎ (status ≡ code_of NotAModule) ⊎ (status ≡ code_of Limit) ⊎ (status ≡ code_of NotBuilt)
+    (status ≡ code_of Done) ⊎ (status ≡ code_of Refused) ⊎ (status ≡ code_of Usage) ⊎ (status ≡ code_of NotAModule) ⊎ (status ≡ code_of Limit)
 
 zero_is : IsAnswerStatus (code_of Done)
 zero_is = inl refl
@@ -26,16 +26,12 @@ two_is : IsAnswerStatus (code_of Usage)
 two_is = inr (inr (inl refl))
 
 eight_is : IsAnswerStatus (code_of Limit)
-eight_is = inr (inr (inr (inr (inl refl))))
-
-eleven_is : IsAnswerStatus (code_of NotBuilt)
-eleven_is = inr (inr (inr (inr (inr refl))))
+eight_is = inr (inr (inr (inr refl)))
 
 check_status : (m : Module) (answer : List ℕ) (status : ℕ) → AnswersCheck m answer status → IsAnswerStatus status
-check_status m _ _ (refused x first rule built) = one_is
+check_status m _ _ (refused x first rule) = one_is
 check_status m _ _ (limit_passed what first) = eight_is
-check_status m _ _ (not_built types other) = eleven_is
-check_status m _ _ (accepted all built) = zero_is
+check_status m _ _ (accepted all) = zero_is
 
 print_status : (m : Module) (answer : List ℕ) (status : ℕ) → AnswersPrint m answer status → IsAnswerStatus status
 print_status m _ _ printed = zero_is
@@ -46,7 +42,7 @@ module_status Print m answer status answers = print_status m answer status answe
 
 unread_is : (status : ℕ) → (status ≡ code_of NotAModule) ⊎ (status ≡ code_of Limit) → IsAnswerStatus status
 unread_is status (inl three) = inr (inr (inr (inl three)))
-unread_is status (inr eight) = inr (inr (inr (inr (inl eight))))
+unread_is status (inr eight) = inr (inr (inr (inr eight)))
 
 text_status : (mode : Mode) (text answer : List ℕ) (status : ℕ) → AnswersText mode text answer status → IsAnswerStatus status
 text_status mode text _ _ (too_long long) = eight_is
@@ -63,8 +59,7 @@ all_statuses status (inl zero) = (Done, zero)
 all_statuses status (inr (inl one)) = (Refused, one)
 all_statuses status (inr (inr (inl two))) = (Usage, two)
 all_statuses status (inr (inr (inr (inl three)))) = (NotAModule, three)
-all_statuses status (inr (inr (inr (inr (inl eight))))) = (Limit, eight)
-all_statuses status (inr (inr (inr (inr (inr eleven))))) = (NotBuilt, eleven)
+all_statuses status (inr (inr (inr (inr eight)))) = (Limit, eight)
 
 four_is : IsStatus (code_of ReadFault)
 four_is = (ReadFault, refl)

@@ -3,17 +3,15 @@ use Rattle.std.proofs.Common.{◌≡◌, ◌↔◌, ◌⊎◌, inl, inr, ℕ, �
 use Rattle.std.specs.Prelude.{⊤}
 use Rattle.sil_ast.specs.declared.module.Module.{Module}
 use Rattle.sil_grammar.specs.Spells.{AreSpelledOnce, Spells}
-use Rattle.built_form.specs.Built.{IsBuilt}
 use Rattle.sil_rules.specs.declared.limits.TheConstants.{TEXT_BYTES}
-use Rattle.sil_rules.specs.declared.status.Status.TheVariants.{Done, NotAModule, Limit, NotBuilt}
+use Rattle.sil_rules.specs.declared.status.Status.TheVariants.{Done, NotAModule, Limit}
 use Rattle.sil_rules.specs.Statuses.{code_of}
 use Rattle.sil_command.specs.declared.words.Mode.{Mode}
 use Rattle.sil_command.specs.declared.words.Mode.TheVariants.{Check, Print}
 use Rattle.sil_command.specs.Words.{AsksFor, word_of}
-use Rattle.sil_command.specs.Answers.{Answers, usage, in_mode, AnswersExactly, AnswersText, too_long, unread, spelled, AnswersModule, AnswersCheck, limit_passed, not_built, refused, accepted, AnswersPrint, printed, AreAcceptedExactly, AreNotBuiltExactly, ArePrintedExactly}
+use Rattle.sil_command.specs.Answers.{Answers, usage, in_mode, AnswersExactly, AnswersText, too_long, unread, spelled, AnswersModule, AnswersCheck, limit_passed, refused, accepted, AnswersPrint, printed, AreAcceptedExactly, ArePrintedExactly}
 use Rattle.sil_verifier.specs.Findings.{Accepted, limit as found_limit}
-use Rattle.sil_verifier.specs.Laws.{AreAcceptedWhereNothingIsFound, AreTypedWhereOnlyValuesAreFound}
-use Rattle.sil_verifier.specs.Refusals.{HasTypes}
+use Rattle.sil_verifier.specs.Laws.{AreAcceptedWhereNothingIsFound}
 use Rattle.sil_command.proofs.Unread.{unread_none, unread_status}
 
 different_words : word_of Check ∷ [] ≡ word_of Print ∷ [] → ⊥
@@ -59,26 +57,16 @@ module _ (once : AreSpelledOnce) (mode : Mode) (wanted : ℕ) (IsSuch : Module �
       let of_mode : AnswersText mode text answer status = mode_answers words mode text answer status asks answers in
       (spelled_wanted text answer status within of_mode, wanted_spelled text answer status of_mode)
 
-accepted_done : AreAcceptedWhereNothingIsFound → (m : Module) (answer : List ℕ) (status : ℕ) → AnswersCheck m answer status → (Accepted m × IsBuilt m) ↔ (status ≡ code_of Done)
-accepted_done law m _ _ (refused x first rule built) = (λ known. absurd ((law m).0 known.0 x first.shown), λ zero. absurd (omega arith))
-accepted_done law m _ _ (limit_passed what first) = (λ known. absurd ((law m).0 known.0 (found_limit what) first.shown), λ zero. absurd (omega arith))
-accepted_done law m _ _ (not_built types other) = (λ known. absurd (other known.1), λ zero. absurd (omega arith))
-accepted_done law m _ _ (accepted all built) = (λ known. refl, λ zero. (all, built))
-
-not_built_else : AreTypedWhereOnlyValuesAreFound → (m : Module) (answer : List ℕ) (status : ℕ) → AnswersCheck m answer status → (HasTypes m × (IsBuilt m → ⊥)) ↔ (status ≡ code_of NotBuilt)
-not_built_else law m _ _ (refused x first rule built) = (λ known. absurd ((law m).0 known.0 x (λ of. known.1 (built of)) first.shown), λ eleven. absurd (omega arith))
-not_built_else law m _ _ (limit_passed what first) = (λ known. absurd ((law m).0 known.0 (found_limit what) (λ of. of) first.shown), λ eleven. absurd (omega arith))
-not_built_else law m _ _ (not_built types other) = (λ known. refl, λ eleven. (types, other))
-not_built_else law m _ _ (accepted all built) = (λ known. absurd (known.1 built), λ eleven. absurd (omega arith))
+accepted_done : AreAcceptedWhereNothingIsFound → (m : Module) (answer : List ℕ) (status : ℕ) → AnswersCheck m answer status → Accepted m ↔ (status ≡ code_of Done)
+accepted_done law m _ _ (refused x first rule) = (λ known. absurd ((law m).0 known x first.shown), λ zero. absurd (omega arith))
+accepted_done law m _ _ (limit_passed what first) = (λ known. absurd ((law m).0 known (found_limit what) first.shown), λ zero. absurd (omega arith))
+accepted_done law m _ _ (accepted all) = (λ known. refl, λ zero. all)
 
 printed_done : (m : Module) (answer : List ℕ) (status : ℕ) → AnswersPrint m answer status → ⊤ ↔ (status ≡ code_of Done)
 printed_done m _ _ printed = (λ known. refl, λ zero. tt)
 
 pub accepted_exactly : AreSpelledOnce → AreAcceptedWhereNothingIsFound → AreAcceptedExactly
-accepted_exactly once law = answers_exactly once Check (code_of Done) (λ m. Accepted m × IsBuilt m) (accepted_done law) (λ e. omega arith, λ e. omega arith)
-
-pub not_built_exactly : AreSpelledOnce → AreTypedWhereOnlyValuesAreFound → AreNotBuiltExactly
-not_built_exactly once law = answers_exactly once Check (code_of NotBuilt) (λ m. HasTypes m × (IsBuilt m → ⊥)) (not_built_else law) (λ e. omega arith, λ e. omega arith)
+accepted_exactly once law = answers_exactly once Check (code_of Done) Accepted (accepted_done law) (λ e. omega arith, λ e. omega arith)
 
 pub printed_exactly : AreSpelledOnce → ArePrintedExactly
 printed_exactly once = answers_exactly once Print (code_of Done) (λ m. ⊤) printed_done (λ e. omega arith, λ e. omega arith)

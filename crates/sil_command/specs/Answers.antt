@@ -7,25 +7,21 @@ use Rattle.sil_grammar.specs.Spells.{Spells}
 use Rattle.sil_printer.specs.CanonicalModules.{canonical_text}
 use Rattle.sil_rules.specs.declared.limit_word.LimitWord.{LimitWord}
 use Rattle.sil_rules.specs.declared.limits.TheConstants.{TEXT_BYTES}
-use Rattle.sil_rules.specs.declared.status.Status.TheVariants.{Done, Refused, Usage, Limit, NotBuilt}
+use Rattle.sil_rules.specs.declared.status.Status.TheVariants.{Done, Refused, Usage, Limit}
 use Rattle.sil_rules.specs.Statuses.{code_of}
-use Rattle.built_form.specs.Built.{IsBuilt}
-use Rattle.sil_verifier.specs.Findings.{Accepted, Finding, IsLimit, IsOfValues, Refusal, limit}
-use Rattle.sil_verifier.specs.Refusals.{HasTypes}
+use Rattle.sil_verifier.specs.Findings.{Accepted, Finding, IsLimit, Refusal, limit}
 use Rattle.sil_command.specs.declared.words.Mode.{Mode}
 use Rattle.sil_command.specs.declared.words.Mode.TheVariants.{Check, Print}
 use Rattle.sil_command.specs.Words.{AsksFor, IsCommandLine}
 use Rattle.sil_command.specs.Reading.{AnswersRefusal}
-use Rattle.sil_command.specs.Texts.{usage_text, limit_text, type_limit_text, not_built_text, accepted_text}
+use Rattle.sil_command.specs.Texts.{usage_text, limit_text, type_limit_text, accepted_text}
 use Rattle.sil_command.specs.RefusalTexts.{refusal_text}
 
--- what `check` answers to a module: the first that is wrong with it; but before a broken rule on values that it isn't of the form which
--- the checks of values know; or else that it is accepted
+-- what `check` answers to a module: the first that is wrong with it, with a walk that shows it for a rule on walks; or else that it is accepted
 pub data AnswersCheck (m : Module) : List ℕ → ℕ → Type 0 where
-  refused : (x : Finding) → Refusal m x → (IsLimit x → ⊥) → (IsOfValues x → IsBuilt m) → AnswersCheck m (refusal_text m x) (code_of Refused)
+  refused : (x : Finding) → Refusal m x → (IsLimit x → ⊥) → AnswersCheck m (refusal_text m x) (code_of Refused)
   limit_passed : (what : LimitWord) → Refusal m (limit what) → AnswersCheck m (type_limit_text what) (code_of Limit)
-  not_built : HasTypes m → (IsBuilt m → ⊥) → AnswersCheck m not_built_text (code_of NotBuilt)
-  accepted : Accepted m → IsBuilt m → AnswersCheck m accepted_text (code_of Done)
+  accepted : Accepted m → AnswersCheck m accepted_text (code_of Done)
 
 -- what `print` answers to a module: its canonical text, whatever rules it breaks
 pub data AnswersPrint (m : Module) : List ℕ → ℕ → Type 0 where
@@ -55,13 +51,9 @@ AnswersExactly mode wanted IsSuch =
     (words : List (List ℕ)) (text answer : List ℕ) (status : ℕ) → AsksFor words mode → length text ≤ TEXT_BYTES → Answers words text answer status
     → ((m : Module) × Spells m text × IsSuch m) ↔ (status ≡ wanted)
 
--- `check` answers Done just for the texts that spell an accepted module of the built form
+-- `check` answers Done just for the texts that spell an accepted module
 abbrev pub AreAcceptedExactly : Type 0
-AreAcceptedExactly = AnswersExactly Check (code_of Done) (λ m. Accepted m × IsBuilt m)
-
--- and NotBuilt just for those that spell a typed module that isn't of the built form
-abbrev pub AreNotBuiltExactly : Type 0
-AreNotBuiltExactly = AnswersExactly Check (code_of NotBuilt) (λ m. HasTypes m × (IsBuilt m → ⊥))
+AreAcceptedExactly = AnswersExactly Check (code_of Done) Accepted
 
 -- `print` answers Done just for the texts that spell a module
 abbrev pub ArePrintedExactly : Type 0

@@ -29,9 +29,6 @@ read_fault_text = line (codes "read fault")
 abbrev pub accepted_text : List ℕ
 accepted_text = line (codes "accepted")
 
-abbrev pub not_built_text : List ℕ
-not_built_text = line (codes "not built")
-
 -- a place is written as its line and its column, both from 1
 abbrev pub place_words : Place → List ℕ
 place_words place = codes " at " ++ decimal place.line ++ codes ":" ++ decimal place.column

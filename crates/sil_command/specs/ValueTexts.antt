@@ -1,5 +1,5 @@
 -- The lines of a broken rule on values.
-use Rattle.std.specs.Prelude.{ℕ, List, [], ◌∷◌, ◌++◌, Option, Some, None, slice_get, codes, decimal}
+use Rattle.std.specs.Prelude.{ℕ, List, [], ◌∷◌, ◌++◌, Bool, true, false, not, ◌||◌, cond, Option, Some, None, slice_get, codes, decimal}
 use Rattle.sil_ast.specs.declared.function.Function.{Function}
 use Rattle.sil_ast.specs.declared.module.Module.{Module}
 use Rattle.sil_ast.specs.declared.place.EdgeId.{EdgeId}
@@ -11,6 +11,7 @@ use Rattle.sil_rules.specs.declared.group.Group.{Group}
 use Rattle.sil_rules.specs.declared.group.Group.TheVariants as group
 use Rattle.sil_rules.specs.declared.rule.Rule.{Rule}
 use Rattle.type_check.specs.Refusals.{function_id}
+use Rattle.memory_rules.specs.Statics.{is_static}
 use Rattle.sil_verifier.specs.Shown.{Showing}
 use Rattle.sil_command.specs.Texts.{line, rule_words, site_words}
 
@@ -38,21 +39,27 @@ walk_in (Some f) es = walk_words f es
 abbrev pub walk_line : Option Function → List EdgeId → List ℕ
 walk_line f es = line (codes "walk bb0" ++ walk_in f es)
 
--- rules on kinds hold whether a walk goes there or not, and have none
-abbrev pub walk_lines : Group → Option Function → List EdgeId → List ℕ
-walk_lines group.Declarations f es = walk_line f es
-walk_lines group.Finiteness f es = walk_line f es
-walk_lines group.Typing f es = walk_line f es
-walk_lines group.Deinitialisers f es = walk_line f es
-walk_lines group.Definitions f es = walk_line f es
-walk_lines group.Kinds f es = []
-walk_lines group.Lifetimes f es = walk_line f es
-walk_lines group.Scopes f es = walk_line f es
-walk_lines group.Memory f es = walk_line f es
+abbrev pub is_of_kinds : Group → Bool
+is_of_kinds group.Declarations = false
+is_of_kinds group.Finiteness = false
+is_of_kinds group.Typing = false
+is_of_kinds group.Deinitialisers = false
+is_of_kinds group.Definitions = false
+is_of_kinds group.Kinds = true
+is_of_kinds group.Lifetimes = false
+is_of_kinds group.Scopes = false
+is_of_kinds group.Memory = false
+
+-- rules on kinds, and 608 and 611, hold whether a walk goes there or not, and have none
+abbrev pub has_walk : Rule → Bool
+has_walk r = not (is_of_kinds (group_of r) || is_static r)
+
+abbrev pub walk_lines : Rule → Option Function → List EdgeId → List ℕ
+walk_lines r f es = cond (has_walk r) (walk_line f es) []
 
 -- the value, then another one that takes part, then the walk
 abbrev pub shown_lines : ValueId → Option ValueId → Rule → Option Function → List EdgeId → List ℕ
-shown_lines v other r f es = subject_line v ++ (other_lines other ++ walk_lines (group_of r) f es)
+shown_lines v other r f es = subject_line v ++ (other_lines other ++ walk_lines r f es)
 
 -- the rule and the point, and behind it what is shown
 abbrev pub value_text : Module → ℕ → Showing → List ℕ

@@ -1,24 +1,14 @@
 //! What follows from the definition of answers, on calls that do nothing.
 
-ghost use Rattle.sil_command.specs.Answers.{AreAcceptedExactly, AreNotBuiltExactly, ArePrintedExactly, ArePrintedReadBack};
+ghost use Rattle.sil_command.specs.Answers.{AreAcceptedExactly, ArePrintedExactly, ArePrintedReadBack};
 
 use printed_reading_laws::printed_modules_are_spelled;
 use sil_grammar::{spelled_modules_are_numbered, spelled_once};
 use sil_verifier::accepted_where_nothing_is_found;
 
-/// `check` answers a text that spells an accepted module of the built form with status 0, and one that is answered so spells such a
-/// module.
+/// `check` answers a text that spells an accepted module with status 0, and one that is answered so spells such a module.
 pub fn accepted_exactly()
     ensures { AreAcceptedExactly }
-{
-    spelled_once();
-    accepted_where_nothing_is_found();
-}
-
-/// `check` answers a text that spells a typed module that isn't of the built form with status 11, and one that is answered so
-/// spells such a module.
-pub fn not_built_exactly()
-    ensures { AreNotBuiltExactly }
 {
     spelled_once();
     accepted_where_nothing_is_found();

@@ -12,5 +12,5 @@ mod value_lines;
 mod verified;
 mod words;
 
-pub use laws::{accepted_exactly, not_built_exactly, printed_exactly, printed_texts_read_back};
+pub use laws::{accepted_exactly, printed_exactly, printed_texts_read_back};
 pub use top_call::command;

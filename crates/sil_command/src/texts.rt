@@ -1,7 +1,7 @@
 //! The lines of answers, made from typed values. Nothing is decided here.
 
 ghost use Rattle.std.specs.Prelude.{◌≡◌, ◌++◌, IfOk, OnOk, decimal};
-ghost use Rattle.sil_command.specs.Texts.{usage_text, limit_text, read_fault_text, accepted_text, not_built_text, place_words, not_a_module_text, passed_limit_text, rule_words, type_limit_text};
+ghost use Rattle.sil_command.specs.Texts.{usage_text, limit_text, read_fault_text, accepted_text, place_words, not_a_module_text, passed_limit_text, rule_words, type_limit_text};
 
 use sil_ast::{Exhausted, Place};
 use sil_rules::{LimitWord, Rule};
@@ -33,13 +33,6 @@ pub fn accepted() -> &'static [u8]
     ensures { result.now ≡ accepted_text }
 {
     b"accepted\n"
-}
-
-/// The line for a module that the checks don't know yet.
-pub fn not_built() -> &'static [u8]
-    ensures { result.now ≡ not_built_text }
-{
-    b"not built\n"
 }
 
 pub(crate) fn push_number(out: &mut Vec<u8>, number: u32) -> Result<(), Exhausted>

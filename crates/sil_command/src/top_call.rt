@@ -21,8 +21,10 @@ use std::alloc::Global;
 /// Does what the words ask for: reads a text from the source, writes one answer to the sink, and answers the status.
 ///
 /// The words are those after the program's name: `check` or `print`. The statuses are 0 (accepted, or printed), 1 (refused
-/// by a rule), 2 (not a command line), 3 (not a module), 4 (a read failed), 5 (a write failed), 8 (past a limit), 9 (no
-/// memory left; nothing was written) and 11 (a module that the checks don't know yet).
+/// by a rule), 2 (not a command line), 3 (not a module), 4 (a read failed), 5 (a write failed), 8 (past a limit) and 9 (no
+/// memory left; nothing was written).
+/// Of a text that spells a module `check` answers that it is accepted exactly where the module is within the limits and keeps all
+/// rules, and else the first that is wrong with it, with a walk that shows it for a rule on walks.
 /// The answer is built whole before the first byte of it is written, and after that no memory is taken.
 pub fn command<'a, S: Source, K: Sink>(
     alloc: Global,

@@ -4,7 +4,8 @@ ghost use Rattle.std.specs.Prelude.{◌≡◌, ◌++◌, OnOk};
 ghost use Rattle.std.specs.Option.{option_copied};
 ghost use Rattle.sil_cfg.specs.Flow.{edge_to};
 ghost use Rattle.sil_cfg.specs.Items.{flow_of};
-ghost use Rattle.sil_rules.specs.Rules.{group_of};
+ghost use Rattle.memory_rules.specs.Statics as statics;
+ghost use Rattle.sil_command.specs.ValueTexts as told;
 ghost use Rattle.sil_command.specs.ValueTexts.{other_lines, shown_lines, subject_line, walk_line, walk_lines, walk_words};
 
 use crate::texts::push_number;
@@ -46,19 +47,35 @@ fn push_walk(out: &mut Vec<u8>, f: Option<&Function>, walk: &[EdgeId]) -> Result
     Ok(())
 }
 
-/// Rules on kinds hold whether a walk goes there or not, and have none.
+/// Whether the rule is 608 or 611.
+fn is_static(rule: Rule) -> bool
+    ensures { result ≡ statics.is_static rule }
+{
+    matches!(rule, Rule::InoutOverlap | Rule::PartialAccess)
+}
+
+/// Whether a walk shows the rule: rules on kinds, and 608 and 611, hold whether a walk goes there or not.
+fn has_walk(rule: Rule) -> bool
+    ensures { result ≡ told.has_walk rule }
+{
+    match rule.group() {
+        Group::Kinds => false,
+        _ => !is_static(rule),
+    }
+}
+
 fn push_walk_of(
     out: &mut Vec<u8>,
     rule: Rule,
     f: Option<&Function>,
     walk: &[EdgeId],
 ) -> Result<(), Exhausted>
-    ensures { OnOk result (out.new.items ≡ out.old.items ++ walk_lines (group_of rule) (option_copied f.entry) walk.now) }
+    ensures { OnOk result (out.new.items ≡ out.old.items ++ walk_lines rule (option_copied f.entry) walk.now) }
 {
-    match rule.group() {
-        Group::Kinds => Ok(()),
-        _ => push_walk(out, f, walk),
+    if has_walk(rule) {
+        push_walk(out, f, walk)?;
     }
+    Ok(())
 }
 
 fn push_subject(out: &mut Vec<u8>, subject: ValueId) -> Result<(), Exhausted>

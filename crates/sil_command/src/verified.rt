@@ -7,7 +7,7 @@ ghost use Rattle.sil_rules.specs.Statuses.{code_of};
 ghost use Rattle.sil_verifier.specs.Ends.{IsVerifyEnd};
 ghost use Rattle.sil_command.specs.Answers.{AnswersCheck};
 ghost use Rattle.sil_command.specs.RefusalTexts.{report_text};
-ghost use Rattle.sil_command.specs.Texts.{not_built_text, type_limit_text};
+ghost use Rattle.sil_command.specs.Texts.{type_limit_text};
 
 use crate::answer::Answer;
 use crate::{refusal_lines, texts};
@@ -31,10 +31,6 @@ pub(crate) fn answer_end(alloc: Global, end: VerifyEnd) -> Result<Answer, Exhaus
         VerifyEnd::Limit { module, what } => {
             forget(module);
             limit_passed(alloc, what)
-        }
-        VerifyEnd::NotBuilt { module } => {
-            forget(module);
-            not_built(alloc)
         }
         VerifyEnd::Memory { module } => {
             forget(module);
@@ -60,15 +56,5 @@ fn limit_passed(alloc: Global, what: LimitWord) -> Result<Answer, Exhausted>
     Ok(Answer {
         text: texts::type_limit(alloc, what)?,
         status: Status::Limit,
-    })
-}
-
-fn not_built(alloc: Global) -> Result<Answer, Exhausted>
-    ensures text { IfOk result (λ a. a.text.items ≡ not_built_text) }
-    ensures status { IfOk result (λ a. a.status ≡ status.NotBuilt) }
-{
-    Ok(Answer {
-        text: Vec::from_slice(alloc, texts::not_built())?,
-        status: Status::NotBuilt,
     })
 }

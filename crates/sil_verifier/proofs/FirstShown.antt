@@ -7,8 +7,8 @@ use Rattle.sil_cfg.specs.declared.fault.RuleEnd.{RuleEnd}
 use Rattle.sil_cfg.specs.declared.fault.RuleEnd.TheVariants as end
 use Rattle.sil_cfg.specs.declared.fault.RuleFault.{RuleFault}
 use Rattle.numbered_form.specs.Numbering.{values_of}
-use Rattle.sil_rules.specs.Order.{NotAfter, key_in_function, stage_of}
-use Rattle.sil_rules.specs.Rules.{group_of, number_of}
+use Rattle.sil_rules.specs.Order.{IsLeast, NotAfter, key_in_function, stage_of}
+use Rattle.sil_rules.specs.Rules.{group_number, group_of, number_of}
 use Rattle.sil_rules.specs.declared.rule.Rule.{Rule}
 use Rattle.sil_rules.specs.declared.rule.Rule.TheVariants as rule
 use Rattle.type_definitions.specs.Declarations.{Declarations}
@@ -23,12 +23,16 @@ use Rattle.ownership_marks.specs.Known.{AreKindsBy, Known}
 use Rattle.lifetime_worklist.specs.Lifetimes.{AreLivesKept, IsFirstBrokenLife, IsLifeBroken}
 use Rattle.borrow_scopes.specs.Others.{other_of}
 use Rattle.borrow_scopes.specs.Borrows.{AreScopesKept, IsFirstBrokenScope, IsScopeBroken}
+use Rattle.memory_accesses.specs.Sources.{sources_of}
+use Rattle.memory_rules.specs.Broken as breaks
+use Rattle.memory_rules.specs.Ends.{IsFirstFault, IsMemoryEnd, IsMemoryKept}
+use Rattle.sil_verifier.proofs.MemoryGroup.{memory_group}
 use Rattle.sil_verifier.proofs.Codes.{HasRule, life_code, undefined_code}
 use Rattle.sil_verifier.proofs.ScopeCodes.{HasScopeRule, scope_code}
-use Rattle.sil_verifier.specs.Shown.{IsLifeRule, IsScopeRule, IsShownIn, Showing, inner_key, last_key, lives_in, scopes_in}
+use Rattle.sil_verifier.specs.Shown.{IsLifeRule, IsScopeRule, IsShownIn, Showing, break_of, inner_key, last_key, lives_in, scopes_in}
 use Rattle.sil_verifier.specs.Shown.IsLifeRule.{used as life_used, ended as life_ended, left as life_left, begun as life_begun}
 use Rattle.sil_verifier.specs.Shown.IsScopeRule.{used as scope_used, ended as scope_ended, left as scope_left, lost as scope_lost, begun as scope_begun}
-use Rattle.sil_verifier.specs.Shown.IsShownIn.{undefined, kind, life, scope}
+use Rattle.sil_verifier.specs.Shown.IsShownIn.{undefined, kind, life, scope, memory}
 use Rattle.sil_verifier.specs.Values.{IsCleanIn, IsEndIn, IsFirstIn}
 
 abbrev walk_key : ℕ → ℕ → ℕ → ℕ → List ℕ
@@ -69,6 +73,13 @@ module _ (d : Declarations) (f : Function) where
   kind_key : (s : Showing) → IsBroken d f s.rule s.subject s.point.block.0 s.point.index → inner_key s ≡ 5 ∷ static_key s.rule s.subject s.point.block.0 s.point.index
   kind_key s b = static_told s s.rule s.subject s.point.block.0 s.point.index b
 
+  abbrev IsBrokenIn : Showing → Type 0
+  IsBrokenIn s = breaks.IsBroken (sources_of d f) (facts_in d f) f (break_of s)
+
+  memory_key : (s : Showing) → IsBrokenIn s → inner_key s ≡ 8 ∷ breaks.break_key (break_of s)
+  memory_key s b =
+      ap (λ g. (group_number g ∷ s.subject.0 ∷ number_of s.rule ∷ []) ++ last_key g s) (memory_group (sources_of d f) (facts_in d f) f (break_of s) b)
+
 -- the order of faults on walks is that of these keys
 moved : (g base : ℕ) (v w c d l k : ℕ) → paths.NotAfter (v ∷ (c ∷ (l ∷ []))) (w ∷ (d ∷ (k ∷ []))) → NotAfter (walk_key g v (base + c) l) (walk_key g w (base + d) k)
 moved g base v w c d l k (inl lt) = inr (refl, inl lt)
@@ -106,6 +117,7 @@ module _ (d : Declarations) (f : Function) where
       behind t (kind o e b) = subst (NotAfter (inner_key s)) (sym (kind_key d f t b)) (inl (omega arith))
       behind t (life o code r there) = subst (NotAfter (inner_key s)) (sym (life_key t code r)) (inl (omega arith))
       behind t (scope code item o r there) = subst (NotAfter (inner_key s)) (sym (scope_key t code r)) (inl (omega arith))
+      behind t (memory b) = subst (NotAfter (inner_key s)) (sym (memory_key d f t b)) (inl (omega arith))
 
   pub end_undefined : (e : RuleEnd) → IsUndefined f e → IsEndIn d f e
   end_undefined (end.Fault x) h = first_undefined x h
@@ -134,6 +146,7 @@ module _ (d : Declarations) (f : Function) where
             (inr (refl, h.1.first t.rule t.subject t.point.block.0 t.point.index b))
         after t (life o code r there) = subst (NotAfter (5 ∷ static_key h.0.rule h.0.subject h.0.point.block.0 h.0.point.index)) (sym (life_key t code r)) (inl (omega arith))
         after t (scope code item o r there) = subst (NotAfter (5 ∷ static_key h.0.rule h.0.subject h.0.point.block.0 h.0.point.index)) (sym (scope_key t code r)) (inl (omega arith))
+        after t (memory b) = subst (NotAfter (5 ∷ static_key h.0.rule h.0.subject h.0.point.block.0 h.0.point.index)) (sym (memory_key d f t b)) (inl (omega arith))
 
         behind : (t : Showing) → IsShownIn d f t → NotAfter (inner_key s) (inner_key t)
         behind t b = subst (λ k. NotAfter k (inner_key t)) (sym own) (after t b)
@@ -177,6 +190,7 @@ module _ (d : Declarations) (f : Function) where
               subst (NotAfter (walk_key 6 x.subject.0 (400 + h.code) (length x.walk))) (sym (life_key t code r))
               (moved 6 400 x.subject.0 t.subject.0 h.code code (length x.walk) (length t.walk) (first.1 t.subject.0 code t.walk t.point there))
           after t (scope code item o r there) = subst (NotAfter (walk_key 6 x.subject.0 (400 + h.code) (length x.walk))) (sym (scope_key t code r)) (inl (omega arith))
+          after t (memory b) = subst (NotAfter (walk_key 6 x.subject.0 (400 + h.code) (length x.walk))) (sym (memory_key d f t b)) (inl (omega arith))
 
           behind : (t : Showing) → IsShownIn d f t → NotAfter (inner_key s) (inner_key t)
           behind t b = subst (λ k. NotAfter k (inner_key t)) (sym (life_key s h.code has.1)) (after t b)
@@ -224,6 +238,7 @@ module _ (d : Declarations) (f : Function) where
             after t (scope code item o r there) =
                 subst (NotAfter (walk_key 7 x.subject.0 (500 + h.code) (length x.walk))) (sym (scope_key t code r))
                 (moved 7 500 x.subject.0 t.subject.0 h.code code (length x.walk) (length t.walk) (first.1 t.subject.0 code t.walk t.point (record { item = item; at = there })))
+            after t (memory b) = subst (NotAfter (walk_key 7 x.subject.0 (500 + h.code) (length x.walk))) (sym (memory_key d f t b)) (inl (omega arith))
 
             behind : (t : Showing) → IsShownIn d f t → NotAfter (inner_key s) (inner_key t)
             behind t b = subst (λ k. NotAfter k (inner_key t)) (sym (scope_key s h.code has.1)) (after t b)
@@ -232,12 +247,46 @@ module _ (d : Declarations) (f : Function) where
         end_scope (end.Fault x) h = first_scope x h
         end_scope end.Memory h = tt
 
-        -- where no group finds anything nothing is shown
-        pub clean_in : AreScopesKept f g k → IsCleanIn d f
-        clean_in scopes t (undefined o e there) = available t.subject.0 1 t.walk t.point there
-        clean_in scopes t (kind o e b) = kept t.rule t.subject t.point.block.0 t.point.index b
-        clean_in scopes t (life o code r there) = no_life t code there
-        clean_in scopes t (scope code item o r there) = scopes (length (values_of f.blocks)) (facts_in d f) are t.subject.0 code t.walk t.point (record { item = item; at = there })
+        module _ (scopes : AreScopesKept f g k) where
+          -- 601 to 611
+
+          no_scope : (t : Showing) (code : ℕ) → paths.IsShown f (scopes_in d f) t.subject.0 code t.walk t.point → ⊥
+          no_scope t code there = scopes (length (values_of f.blocks)) (facts_in d f) are t.subject.0 code t.walk t.point there
+
+          first_memory : (x : RuleFault) → IsFirstFault d f g k x → IsFirstIn d f x
+          first_memory x h = record {
+            showing = s;
+            least = record { shown = memory least.shown; first = behind };
+            reported = record { rule = h.reported.rule; subject = h.reported.subject; other = h.reported.other; point = h.reported.point; walk = h.reported.walk };
+          }
+            where
+              least : IsLeast breaks.break_key (breaks.IsBroken (sources_of d f) (facts_in d f) f) h.broken
+              least = h.first (length (values_of f.blocks)) (facts_in d f) are
+
+              s : Showing
+              s = record { rule = h.broken.rule; subject = h.broken.subject; other = h.broken.other; walk = h.broken.walk; point = h.broken.point }
+
+              after : (t : Showing) → IsShownIn d f t → NotAfter (8 ∷ breaks.break_key h.broken) (inner_key t)
+              after t (undefined o e there) = absurd (available t.subject.0 1 t.walk t.point there)
+              after t (kind o e b) = absurd (kept t.rule t.subject t.point.block.0 t.point.index b)
+              after t (life o code r there) = absurd (no_life t code there)
+              after t (scope code item o r there) = absurd (no_scope t code (record { item = item; at = there }))
+              after t (memory b) = subst (NotAfter (8 ∷ breaks.break_key h.broken)) (sym (memory_key d f t b)) (inr (refl, least.first (break_of t) b))
+
+              behind : (t : Showing) → IsShownIn d f t → NotAfter (inner_key s) (inner_key t)
+              behind t b = subst (λ k. NotAfter k (inner_key t)) (sym (memory_key d f s least.shown)) (after t b)
+
+          pub end_memory : (e : RuleEnd) → IsMemoryEnd d f g k e → IsEndIn d f e
+          end_memory (end.Fault x) h = first_memory x h
+          end_memory end.Memory h = tt
+
+          -- where no group finds anything nothing is shown
+          pub clean_in : IsMemoryKept d f g k → IsCleanIn d f
+          clean_in memories t (undefined o e there) = available t.subject.0 1 t.walk t.point there
+          clean_in memories t (kind o e b) = kept t.rule t.subject t.point.block.0 t.point.index b
+          clean_in memories t (life o code r there) = no_life t code there
+          clean_in memories t (scope code item o r there) = no_scope t code (record { item = item; at = there })
+          clean_in memories t (memory b) = memories (length (values_of f.blocks)) (facts_in d f) are (break_of t) b
 
 -- a shown rule is one that is looked for function by function
 pub stage_told : (d : Declarations) (f : Function) (s : Showing) → IsShownIn d f s → stage_of (group_of s.rule) ≡ 6
@@ -265,3 +314,4 @@ stage_told d f s (scope code item o r there) = at s.rule code r
     at _ _ scope_left = refl
     at _ _ scope_lost = refl
     at _ _ scope_begun = refl
+stage_told d f s (memory b) = ap stage_of (memory_group (sources_of d f) (facts_in d f) f (break_of s) b)

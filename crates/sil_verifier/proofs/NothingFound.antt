@@ -11,41 +11,32 @@ use Rattle.type_check.specs.Refusals.{fault_at}
 use Rattle.type_check.specs.Refusals.IsBroken.{broken}
 use Rattle.type_definitions.specs.Rules.{exceeds_depth, exceeds_leaves}
 use Rattle.sil_verifier.proofs.DeclaredTypes.{declared_not_refused, typed_not_wrong}
-use Rattle.sil_verifier.specs.Findings.{Accepted, Finding, item, limit, typing, value, IsFound, IsOfValues}
-use Rattle.sil_verifier.specs.Laws.{AreAcceptedWhereNothingIsFound, AreTypedWhereOnlyValuesAreFound}
+use Rattle.sil_verifier.specs.Findings.{Accepted, Finding, item, limit, typing, value, IsFound}
+use Rattle.sil_verifier.specs.Laws.{AreAcceptedWhereNothingIsFound}
 use Rattle.sil_verifier.specs.Refusals.{HasTypes}
 
 module _ (m : Module) where
-  types_not_found : HasTypes m → (x : Finding) → (IsOfValues x → ⊥) → IsFound m x → ⊥
-  types_not_found types (item r n) other found = declared_not_refused m (refusal.Rule r n) types.declared found
-  types_not_found types (limit what) other found = declared_not_refused m (refusal.Limit what) types.declared found
-  types_not_found types (typing fault) other found = typed_not_wrong m fault types found
-  types_not_found types (value n s) other found = other tt
-
   accepted_not_found : Accepted m → (x : Finding) → IsFound m x → ⊥
-  accepted_not_found accepted (item r n) found = types_not_found accepted.types (item r n) (λ h. h) found
-  accepted_not_found accepted (limit what) found = types_not_found accepted.types (limit what) (λ h. h) found
-  accepted_not_found accepted (typing fault) found = types_not_found accepted.types (typing fault) (λ h. h) found
+  accepted_not_found accepted (item r n) found = declared_not_refused m (refusal.Rule r n) accepted.types.declared found
+  accepted_not_found accepted (limit what) found = declared_not_refused m (refusal.Limit what) accepted.types.declared found
+  accepted_not_found accepted (typing fault) found = typed_not_wrong m fault accepted.types found
   accepted_not_found accepted (value n s) found = accepted.values (record { function = n; showing = s }) found
 
-  types_where_none : ((x : Finding) → (IsOfValues x → ⊥) → IsFound m x → ⊥) → HasTypes m
+  types_where_none : ((x : Finding) → IsFound m x → ⊥) → HasTypes m
   types_where_none none = record {
     declared = (
-      all_declared m (λ f b. none (item f.rule f.item) (λ h. h) (shown_item f.rule f.item b)) (λ n h. none (item rule.InfiniteType n) (λ h. h) (infinite n h)),
+      all_declared m (λ f b. none (item f.rule f.item) (shown_item f.rule f.item b)) (λ n h. none (item rule.InfiniteType n) (infinite n h)),
       record {
-        depth = false_from_ne_true (exceeds_depth m) (λ h. none (limit word.Depth) (λ h. h) (too_deep h));
-        leaves = false_from_ne_true (exceeds_leaves m) (λ h. none (limit word.Leaves) (λ h. h) (too_wide h));
+        depth = false_from_ne_true (exceeds_depth m) (λ h. none (limit word.Depth) (too_deep h));
+        leaves = false_from_ne_true (exceeds_leaves m) (λ h. none (limit word.Leaves) (too_wide h));
       },
     );
-    typed = λ s r h. none (typing (fault_at s r)) (λ h. h) (inl (broken s r h));
-    owned = λ f h. none (typing f) (λ h. h) (inr h);
+    typed = λ s r h. none (typing (fault_at s r)) (inl (broken s r h));
+    owned = λ f h. none (typing f) (inr h);
   }
 
   accepted_where_none : ((x : Finding) → IsFound m x → ⊥) → Accepted m
-  accepted_where_none none = record { types = types_where_none (λ x other found. none x found); values = λ p h. none (value p.function p.showing) h }
+  accepted_where_none none = record { types = types_where_none none; values = λ p h. none (value p.function p.showing) h }
 
 pub are_accepted : AreAcceptedWhereNothingIsFound
 are_accepted m = (accepted_not_found m, accepted_where_none m)
-
-pub are_typed : AreTypedWhereOnlyValuesAreFound
-are_typed m = (types_not_found m, types_where_none m)

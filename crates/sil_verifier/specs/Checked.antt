@@ -1,16 +1,14 @@
 -- What is known of an accepted module that was checked.
 use Rattle.sil_ast.specs.declared.module.Module.{Module}
-use Rattle.built_form.specs.Built.{IsBuilt}
 use Rattle.numbered_form.specs.NumberedForm.{IsNumbered}
 use Rattle.type_definitions.specs.Declarations.{Declarations}
 use Rattle.type_definitions.specs.Rules.{AreDeclarationsOf}
 use Rattle.sil_verifier.specs.Findings.{Accepted}
 
--- it is in numbered form and accepted, and the checks of values know it
+-- it is in numbered form and accepted
 pub record IsVerified (m : Module) : Type 0 where
   pub numbered : IsNumbered m
   pub accepted : Accepted m
-  pub built : IsBuilt m
 
 -- and the table is its own
 pub record IsVerifiedWith (m : Module) (table : Declarations) : Type 0 where

@@ -1,24 +1,20 @@
 -- How the verifier ends with a module that it doesn't accept.
 use Rattle.std.specs.Prelude.{◌≡◌}
 use Rattle.sil_ast.specs.declared.module.Module.{Module}
-use Rattle.built_form.specs.Built.{IsBuilt}
-use Rattle.sil_verifier.specs.Findings.{Finding, IsOfValues, Refusal, limit}
-use Rattle.sil_verifier.specs.Refusals.{HasTypes}
+use Rattle.sil_verifier.specs.Findings.{Finding, Refusal, limit}
 use Rattle.sil_verifier.specs.Reports.{Reported}
 use Rattle.sil_verifier.specs.declared.refusal.Refusal as declared
 use Rattle.sil_verifier.specs.declared.verifier.VerifyEnd.{VerifyEnd}
 use Rattle.sil_verifier.specs.declared.verifier.VerifyEnd.TheVariants as end
 
--- the refusal reports the first that is wrong, which is one of a rule on values only where the checks of values know the module
+-- the refusal reports the first that is wrong
 pub record IsReported (m : Module) (r : declared.Refusal) : Type 0 where
   pub found : Finding
   pub first : Refusal m found
   pub reported : Reported m found r
-  pub built : IsOfValues found → IsBuilt m
 
--- the module that was handed in, and the first that is wrong with it; or that the checks of values don't know it; or memory ran out
+-- the module that was handed in, and the first that is wrong with it; or memory ran out
 abbrev pub IsVerifyEnd : Module → VerifyEnd → Type 0
 IsVerifyEnd m (end.Refused n r) = (n ≡ m) × IsReported m r
 IsVerifyEnd m (end.Limit n what) = (n ≡ m) × Refusal m (limit what)
-IsVerifyEnd m (end.NotBuilt n) = (n ≡ m) × HasTypes m × (IsBuilt m → ⊥)
 IsVerifyEnd m (end.Memory n) = n ≡ m

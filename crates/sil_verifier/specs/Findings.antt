@@ -43,13 +43,6 @@ IsLimit (limit what) = ⊤
 IsLimit (typing fault) = ⊥
 IsLimit (value n s) = ⊥
 
--- a rule on values is broken
-abbrev pub IsOfValues : Finding → Type 0
-IsOfValues (item r n) = ⊥
-IsOfValues (limit what) = ⊥
-IsOfValues (typing fault) = ⊥
-IsOfValues (value n s) = ⊤
-
 -- the module keeps every rule and the limits on types
 pub record Accepted (m : Module) : Type 0 where
   pub types : HasTypes m

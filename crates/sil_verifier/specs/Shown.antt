@@ -21,6 +21,8 @@ use Rattle.ownership_kinds.specs.Statics as kinds
 use Rattle.lifetime_worklist.specs.Lives.{lives_of}
 use Rattle.borrow_scopes.specs.Others.{other_of}
 use Rattle.borrow_scopes.specs.Scopes.{scopes_of}
+use Rattle.memory_accesses.specs.Sources.{sources_of}
+use Rattle.memory_rules.specs.Broken as breaks
 
 -- a broken rule: of which value, with which other value that takes part, at which point, and the walk that shows it
 pub record Showing : Type 0 where
@@ -38,6 +40,10 @@ lives_in d f = lives_of (length (values_of f.blocks)) (facts_in d f) f
 abbrev pub scopes_in : Declarations → Function → Item → List Entry
 scopes_in d f = scopes_of (length (values_of f.blocks)) (facts_in d f) f
 
+-- the same as what breaks a rule on memory
+abbrev pub break_of : Showing → breaks.MemoryBreak
+break_of s = record { rule = s.rule; subject = s.subject; other = s.other; walk = s.walk; point = s.point }
+
 -- the rule that the code of a life stands for
 pub data IsLifeRule : Rule → ℕ → Type 0 where
   used : IsLifeRule rule.UseAfterConsume 1
@@ -53,16 +59,17 @@ pub data IsScopeRule : Rule → ℕ → Type 0 where
   lost : IsScopeRule rule.ConsumedWhileBorrowed 4
   begun : IsScopeRule rule.ScopeOverwritten 5
 
--- in the function a rule on its values is broken: 301 on a walk; 302 to 305 at a point, with no walk; 401 to 404 on a walk; and 501 to 505
--- on a walk, with the other value that takes part at the item that breaks it
+-- in the function a rule on its values is broken: 301 on a walk; 302 to 305 at a point, with no walk; 401 to 404 on a walk; 501 to 505 on a
+-- walk, with the other value that takes part at the item that breaks it; and 601 to 611, of which 608 and 611 are at a point, with no walk
 pub data IsShownIn (d : Declarations) (f : Function) (s : Showing) : Type 0 where
   undefined : s.other ≡ None → s.rule ≡ rule.Undefined → paths.IsShown f (accesses_of f) s.subject.0 1 s.walk s.point → IsShownIn d f s
   kind : s.other ≡ None → s.walk ≡ [] → kinds.IsBroken d f s.rule s.subject s.point.block.0 s.point.index → IsShownIn d f s
   life : s.other ≡ None → (code : ℕ) → IsLifeRule s.rule code → paths.IsShown f (lives_in d f) s.subject.0 code s.walk s.point → IsShownIn d f s
   scope : (code : ℕ) (item : Item) → s.other ≡ other_of code (facts_in d f) f s.subject item → IsScopeRule s.rule code
       → paths.IsShownAt f (scopes_in d f) s.subject.0 code s.walk s.point item → IsShownIn d f s
+  memory : breaks.IsBroken (sources_of d f) (facts_in d f) f (break_of s) → IsShownIn d f s
 
--- of one value and rule: a rule on kinds by its point, one on walks by the number of edges
+-- of one value and rule: one on kinds by its point, as are 608 and 611, and one on walks by the number of edges
 abbrev pub last_key : Group → Showing → List ℕ
 last_key group.Declarations s = []
 last_key group.Finiteness s = []
@@ -72,7 +79,7 @@ last_key group.Definitions s = length s.walk ∷ []
 last_key group.Kinds s = s.point.block.0 ∷ s.point.index ∷ []
 last_key group.Lifetimes s = length s.walk ∷ []
 last_key group.Scopes s = length s.walk ∷ []
-last_key group.Memory s = length s.walk ∷ []
+last_key group.Memory s = breaks.last_key s.rule s.walk s.point
 
 -- within a function by group, by value, by rule, and then so
 abbrev pub inner_key : Showing → List ℕ

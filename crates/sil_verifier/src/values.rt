@@ -1,4 +1,4 @@
-//! The checks of values, function by function: definitions, kinds, lifetimes and scopes, in this order.
+//! The checks of values, function by function: definitions, kinds, lifetimes, scopes and memory, in this order.
 
 ghost use Rattle.std.specs.Prelude.{IfErr, OnOk};
 ghost use Rattle.numbered_form.specs.NumberedForm.{IsNumbered};
@@ -18,7 +18,7 @@ use std::alloc::Global;
 /// Why a module is refused whose items, types and typing are right.
 #[derive(Drop)]
 pub(crate) enum ValueRefusal {
-    /// One of 301 to 305, 401 to 404 and 501 to 505 is broken in the function.
+    /// One of 301 to 305, 401 to 404, 501 to 505 and 601 to 611 is broken in the function.
     Rule { function: FuncId, fault: RuleFault },
     /// There is no memory left.
     Memory,
@@ -38,7 +38,8 @@ fn check_function(alloc: Global, f: &Function, table: &TypeTable) -> Result<(), 
     value_availability::check(alloc, f, &graph)?;
     let kinds = kinds_in(alloc, f, &graph, table)?;
     lifetime_worklist::check(alloc, f, &graph, &kinds)?;
-    borrow_scopes::check(alloc, f, &graph, &kinds)
+    borrow_scopes::check(alloc, f, &graph, &kinds)?;
+    memory_rules::check(alloc, f, &graph, &kinds, table)
 }
 
 /// The checks of the function with this number, where it has a body.
@@ -67,8 +68,8 @@ fn check_numbered(
 }
 
 /// Checks of all functions with a body that each value is defined before it is used (301), that its kind is one that is taken
-/// (302 to 305), that it is used and ended only while it lives (401 to 404), and that a borrow is while it is open and what it
-/// borrows from stays (501 to 505).
+/// (302 to 305), that it is used and ended only while it lives (401 to 404), that a borrow is while it is open and what it
+/// borrows from stays (501 to 505), and that memory is read, written, lent and given back only as its locations allow (601 to 611).
 /// The refusal is the first by function, by these groups, by value and then by rule; of one on walks the walk has the fewest edges.
 pub(crate) fn check_values(alloc: Global, m: &Module, table: &TypeTable) -> Result<(), ValueRefusal>
     requires numbered { IsNumbered m.now }

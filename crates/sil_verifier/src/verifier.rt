@@ -1,7 +1,6 @@
 //! The one call: a module in, an accepted module with its table out, or why it isn't accepted.
 
 ghost use Rattle.std.specs.Prelude.{◌≡◌, IfErr, IfOk, OnOk};
-ghost use Rattle.built_form.specs.Built.{IsBuilt};
 ghost use Rattle.numbered_form.specs.NumberedForm.{IsNumbered};
 ghost use Rattle.sil_verifier.specs.Ends.{IsVerifyEnd};
 ghost use Rattle.sil_verifier.specs.Findings.{Accepted};
@@ -15,7 +14,6 @@ use crate::refusal::Refusal;
 use crate::reports::{item_refusal, typing_refusal, value_refusal};
 use crate::types::{StaticRefusal, check_types};
 use crate::values::{ValueRefusal, check_values};
-use built_form::is_built;
 use sil_ast::Module;
 use sil_rules::LimitWord;
 use std::alloc::Global;
@@ -28,29 +26,24 @@ pub enum VerifyEnd {
     Refused { module: Module, refusal: Refusal },
     /// A type exceeds the limit on depth or on leaves.
     Limit { module: Module, what: LimitWord },
-    /// It keeps the rules on types, and the checks of values don't know it yet.
-    NotBuilt { module: Module },
     /// There is no memory left.
     Memory { module: Module },
 }
 
-/// Checks all rules of a module, in their order: those on items, the limits on types, those on typing, and those on values.
+/// Checks all rules of a module, in their order: those on items (101 to 104), the limits on types, those on typing (201 to 212),
+/// and those on values (301 to 305, 401 to 404, 501 to 505 and 601 to 611).
 /// The refusal is the first of all that is wrong: by item, by limit, by function and point, by vtable, and then function by
 /// function, by group, by value and by rule; of a rule on walks the walk has the fewest edges.
 pub fn verify(alloc: Global, m: Module) -> Result<Checked, VerifyEnd>
     requires { IsNumbered m }
     ensures ok { IfOk result (λ checked. checked ≡ m) }
     ensures accepted { OnOk result (Accepted m) }
-    ensures built { OnOk result (IsBuilt m) }
     ensures err { IfErr result (IsVerifyEnd m) }
 {
     let table = match check_types(alloc, &m) {
         Ok(table) => table,
         Err(reason) => return Err(end_of_types(alloc, m, reason)),
     };
-    if !is_built(&table, &m) {
-        return Err(VerifyEnd::NotBuilt { module: m });
-    }
     match check_values(alloc, &m, &table) {
         Ok(()) => Ok(Checked::with(m, table)),
         Err(reason) => Err(end_of_values(m, reason)),
@@ -88,7 +81,6 @@ fn end_of_typing(alloc: Global, m: Module, fault: TypingFault) -> VerifyEnd
 /// The end with a typed module of which a value is wrong.
 fn end_of_values(m: Module, reason: ValueRefusal) -> VerifyEnd
     requires types { HasTypes m }
-    requires built { IsBuilt m }
     requires refusal { IsValueRefusal m reason }
     ensures { IsVerifyEnd m result }
 {

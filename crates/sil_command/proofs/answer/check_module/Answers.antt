@@ -8,4 +8,4 @@ use Rattle.sil_command.proofs.answer.check_module.Goals as goal
 pub returns-in_ok-from_slice-in-Ok : goal.returns-in_ok-from_slice-in-Ok
 returns-in_ok-from_slice-in-Ok c =
     subst (λ t. AnswersCheck c.args.«module» t (code_of Done)) (sym (c.in_ok-from_slice-in-Ok.ensures.items ∙ c.accepted.ensures))
-    (accepted c.in-Ok.ensures.accepted c.in-Ok.ensures.built)
+    (accepted c.in-Ok.ensures.accepted)

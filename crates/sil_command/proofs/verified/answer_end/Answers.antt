@@ -1,9 +1,9 @@
 -- The text and the status for each end of the verifier but want of memory.
 use Rattle.std.proofs.Common.{sym, ap, subst, ◌∙◌}
-use Rattle.sil_rules.specs.declared.status.Status.TheVariants.{Refused, Limit, NotBuilt}
+use Rattle.sil_rules.specs.declared.status.Status.TheVariants.{Refused, Limit}
 use Rattle.sil_rules.specs.Statuses.{code_of}
 use Rattle.sil_verifier.specs.Ends.{IsVerifyEnd}
-use Rattle.sil_command.specs.Answers.{AnswersCheck, refused, limit_passed, not_built}
+use Rattle.sil_command.specs.Answers.{AnswersCheck, refused, limit_passed}
 use Rattle.sil_command.specs.RefusalTexts.{report_text}
 use Rattle.sil_command.proofs.AnswerLemmas.{told_line}
 use Rattle.sil_command.proofs.RefusalLemmas.{reported_not_limit, reported_text}
@@ -15,7 +15,7 @@ returns-in-Refused c m h =
     let report = c.in-Refused.refusal in
     let found = ended.1.found in
     let told = ap (λ n. report_text n report) ended.0 ∙ reported_text m found report ended.1.reported in
-    let answered = refused found ended.1.first (reported_not_limit m found report ended.1.reported) ended.1.built in
+    let answered = refused found ended.1.first (reported_not_limit m found report ended.1.reported) in
     told_line (AnswersCheck m) c.refused-answer.result (λ a. a.text.items) (λ a. a.status) Refused
     (subst (λ t. AnswersCheck m t (code_of Refused)) (sym told) answered) c.refused-answer.ensures.text c.refused-answer.ensures.status
 
@@ -24,9 +24,3 @@ returns-in-Limit c m h =
     let ended = subst (IsVerifyEnd m) c.in-Limit.is h in
     told_line (AnswersCheck m) c.limit_passed.result (λ a. a.text.items) (λ a. a.status) Limit
     (limit_passed c.in-Limit.what ended.1) c.limit_passed.ensures.text c.limit_passed.ensures.status
-
-pub returns-in-NotBuilt : goal.returns-in-NotBuilt
-returns-in-NotBuilt c m h =
-    let ended = subst (IsVerifyEnd m) c.in-NotBuilt.is h in
-    told_line (AnswersCheck m) c.not_built.result (λ a. a.text.items) (λ a. a.status) NotBuilt
-    (not_built ended.1 ended.2) c.not_built.ensures.text c.not_built.ensures.status

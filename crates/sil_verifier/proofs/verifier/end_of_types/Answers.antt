@@ -14,7 +14,6 @@ returns-in-Item c =
         found = item c.in-Item.rule c.in-Item.item;
         first = first_item m c.in-Item.rule c.in-Item.item least;
         reported = c.item_refusal.ensures m;
-        built = λ values. absurd values;
       },
     )
 

@@ -11,6 +11,5 @@ returns-in-Some c = (
     found = typing c.args.fault;
     first = first_typing c.args.m c.args.fault c.requires.refusal.0 c.requires.refusal.1;
     reported = c.in-Some.ensures;
-    built = λ values. absurd values;
   },
 )

@@ -14,6 +14,5 @@ returns-in-Rule c =
         found = value c.in-Rule.function.0 told.showing;
         first = first_value m c.in-Rule.function.0 told.showing c.requires.types told.least;
         reported = c.value_refusal.ensures m told.showing told.reported;
-        built = λ values. c.requires.built;
       },
     )
