@@ -1,18 +1,14 @@
 -- The lines of a broken rule on values.
-use Rattle.std.specs.Prelude.{ℕ, List, [], ◌∷◌, ◌++◌, Bool, true, false, not, ◌||◌, cond, Option, Some, None, slice_get, codes, decimal}
+use Rattle.std.specs.Prelude.{ℕ, List, [], ◌∷◌, ◌++◌, cond, Option, Some, None, slice_get, codes, decimal}
 use Rattle.sil_ast.specs.declared.function.Function.{Function}
 use Rattle.sil_ast.specs.declared.module.Module.{Module}
 use Rattle.sil_ast.specs.declared.place.EdgeId.{EdgeId}
 use Rattle.sil_ast.specs.declared.place.ValueId.{ValueId}
 use Rattle.sil_cfg.specs.Flow.{edge_to}
 use Rattle.sil_cfg.specs.Items.{flow_of}
-use Rattle.sil_rules.specs.Rules.{group_of}
-use Rattle.sil_rules.specs.declared.group.Group.{Group}
-use Rattle.sil_rules.specs.declared.group.Group.TheVariants as group
 use Rattle.sil_rules.specs.declared.rule.Rule.{Rule}
 use Rattle.type_check.specs.Refusals.{function_id}
-use Rattle.memory_rules.specs.Statics.{is_static}
-use Rattle.sil_verifier.specs.Shown.{Showing}
+use Rattle.sil_verifier.specs.Shown.{Showing, has_walk}
 use Rattle.sil_command.specs.Texts.{line, rule_words, site_words}
 
 -- the rule, the function and the point
@@ -38,21 +34,6 @@ walk_in (Some f) es = walk_words f es
 -- the blocks that a walk visits, the entry first
 abbrev pub walk_line : Option Function → List EdgeId → List ℕ
 walk_line f es = line (codes "walk bb0" ++ walk_in f es)
-
-abbrev pub is_of_kinds : Group → Bool
-is_of_kinds group.Declarations = false
-is_of_kinds group.Finiteness = false
-is_of_kinds group.Typing = false
-is_of_kinds group.Deinitialisers = false
-is_of_kinds group.Definitions = false
-is_of_kinds group.Kinds = true
-is_of_kinds group.Lifetimes = false
-is_of_kinds group.Scopes = false
-is_of_kinds group.Memory = false
-
--- rules on kinds, and 608 and 611, hold whether a walk goes there or not, and have none
-abbrev pub has_walk : Rule → Bool
-has_walk r = not (is_of_kinds (group_of r) || is_static r)
 
 abbrev pub walk_lines : Rule → Option Function → List EdgeId → List ℕ
 walk_lines r f es = cond (has_walk r) (walk_line f es) []

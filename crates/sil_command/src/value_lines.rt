@@ -5,7 +5,7 @@ ghost use Rattle.std.specs.Option.{option_copied};
 ghost use Rattle.sil_cfg.specs.Flow.{edge_to};
 ghost use Rattle.sil_cfg.specs.Items.{flow_of};
 ghost use Rattle.memory_rules.specs.Statics as statics;
-ghost use Rattle.sil_command.specs.ValueTexts as told;
+ghost use Rattle.sil_verifier.specs.Shown as shown;
 ghost use Rattle.sil_command.specs.ValueTexts.{other_lines, shown_lines, subject_line, walk_line, walk_lines, walk_words};
 
 use crate::texts::push_number;
@@ -56,7 +56,7 @@ fn is_static(rule: Rule) -> bool
 
 /// Whether a walk shows the rule: rules on kinds, and 608 and 611, hold whether a walk goes there or not.
 fn has_walk(rule: Rule) -> bool
-    ensures { result ≡ told.has_walk rule }
+    ensures { result ≡ shown.has_walk rule }
 {
     match rule.group() {
         Group::Kinds => false,

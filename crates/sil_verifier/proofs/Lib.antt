@@ -7,3 +7,4 @@ mod FirstShown
 mod Functions
 mod Stages
 mod NothingFound
+mod ShortestWalks

@@ -1,8 +1,15 @@
 -- What the definitions keep.
-use Rattle.std.specs.Prelude.{◌↔◌}
+use Rattle.std.specs.Prelude.{◌≡◌, ◌↔◌, ◌≤◌, ℕ, length, true}
 use Rattle.sil_ast.specs.declared.module.Module.{Module}
-use Rattle.sil_verifier.specs.Findings.{Accepted, Finding, IsFound}
+use Rattle.sil_verifier.specs.Findings.{Accepted, Finding, IsFound, Refusal, value}
+use Rattle.sil_verifier.specs.Shown.{Showing, has_walk}
+use Rattle.sil_verifier.specs.Values.{IsShown}
 
 -- a module is accepted just where nothing is wrong with it
 abbrev pub AreAcceptedWhereNothingIsFound : Type 0
 AreAcceptedWhereNothingIsFound = (m : Module) → Accepted m ↔ ((x : Finding) → IsFound m x → ⊥)
+
+-- the walk that a refusal shows has the fewest edges of all that show its rule of its value
+abbrev pub AreWalksShortest : Type 0
+AreWalksShortest = (m : Module) (n : ℕ) (s other : Showing) → Refusal m (value n s) → has_walk s.rule ≡ true
+    → IsShown m (record { function = n; showing = other }) → other.rule ≡ s.rule → other.subject ≡ s.subject → length s.walk ≤ length other.walk

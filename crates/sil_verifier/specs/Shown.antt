@@ -1,5 +1,5 @@
 -- What is shown of a function's values: one case for each group of rules.
-use Rattle.std.specs.Prelude.{◌≡◌, ℕ, List, [], ◌∷◌, ◌++◌, length, Option, None}
+use Rattle.std.specs.Prelude.{◌≡◌, ℕ, List, [], ◌∷◌, ◌++◌, Bool, true, false, not, ◌||◌, length, Option, None}
 use Rattle.sil_ast.specs.declared.function.Function.{Function}
 use Rattle.sil_ast.specs.declared.place.EdgeId.{EdgeId}
 use Rattle.sil_ast.specs.declared.place.PointId.{PointId}
@@ -23,6 +23,7 @@ use Rattle.borrow_scopes.specs.Others.{other_of}
 use Rattle.borrow_scopes.specs.Scopes.{scopes_of}
 use Rattle.memory_accesses.specs.Sources.{sources_of}
 use Rattle.memory_rules.specs.Broken as breaks
+use Rattle.memory_rules.specs.Statics.{is_static}
 
 -- a broken rule: of which value, with which other value that takes part, at which point, and the walk that shows it
 pub record Showing : Type 0 where
@@ -43,6 +44,21 @@ scopes_in d f = scopes_of (length (values_of f.blocks)) (facts_in d f) f
 -- the same as what breaks a rule on memory
 abbrev pub break_of : Showing → breaks.MemoryBreak
 break_of s = record { rule = s.rule; subject = s.subject; other = s.other; walk = s.walk; point = s.point }
+
+abbrev pub is_of_kinds : Group → Bool
+is_of_kinds group.Declarations = false
+is_of_kinds group.Finiteness = false
+is_of_kinds group.Typing = false
+is_of_kinds group.Deinitialisers = false
+is_of_kinds group.Definitions = false
+is_of_kinds group.Kinds = true
+is_of_kinds group.Lifetimes = false
+is_of_kinds group.Scopes = false
+is_of_kinds group.Memory = false
+
+-- rules on kinds, and 608 and 611, hold whether a walk goes there or not, and have none
+abbrev pub has_walk : Rule → Bool
+has_walk r = not (is_of_kinds (group_of r) || is_static r)
 
 -- the rule that the code of a life stands for
 pub data IsLifeRule : Rule → ℕ → Type 0 where

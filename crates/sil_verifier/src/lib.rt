@@ -13,6 +13,6 @@ mod values;
 mod verifier;
 
 pub use checked::Checked;
-pub use laws::accepted_where_nothing_is_found;
+pub use laws::{accepted_where_nothing_is_found, walks_are_shortest};
 pub use refusal::Refusal;
 pub use verifier::{VerifyEnd, verify};
