@@ -1,24 +1,32 @@
 -- An index of parts: in which rows the number of a part is found.
-use Rattle.std.specs.Prelude.{◌≡◌, ℕ, ◌%◌, List, All, Contains, slice_get, Option, Some, None}
+use Rattle.std.specs.Prelude.{◌≡◌, ℕ, ◌+◌, ◌%◌, List, All, Contains, slice_get, Option, Some, None}
 use Rattle.std.specs.declared.alloc.Global.{Global}
 use Rattle.std.specs.declared.vec.Vec.{Vec}
+use Rattle.sil_ast.specs.declared.place.ValueId.{ValueId}
 use Rattle.path_patterns.specs.Reads.{accesses_at}
+use Rattle.memory_accesses.specs.declared.location.Cell.{Cell}
 use Rattle.memory_accesses.specs.declared.source.Source.{Source}
 use Rattle.memory_parts.specs.Keys.{keys_of_part}
 use Rattle.memory_parts.specs.declared.key.Key.{Key}
 use Rattle.memory_parts.specs.declared.key.Key.TheVariants.{Turned, Named, Operated, Written}
 use Rattle.memory_parts.specs.declared.part.Part.{Part}
 
+abbrev pub value_row : ValueId → ℕ
+value_row v = v.0 % 1024
+
 abbrev pub field_row : ℕ → Option ℕ → ℕ
-field_row subject None = subject % 1024
-field_row subject (Some field) = field % 1024
+field_row row None = row
+field_row row (Some field) = (row + field % 1024) % 1024
+
+abbrev pub cell_row : Cell → ℕ
+cell_row cell = field_row (value_row cell.subject) cell.field
 
 -- the row of a key
 abbrev pub row_of : Key → ℕ
-row_of (Turned v) = v.0 % 1024
-row_of (Named v) = v.0 % 1024
-row_of (Operated cell) = field_row cell.subject.0 cell.field
-row_of (Written v) = v.0 % 1024
+row_of (Turned v) = value_row v
+row_of (Named v) = 1024 + value_row v
+row_of (Operated cell) = 2048 + cell_row cell
+row_of (Written v) = 3072 + value_row v
 
 abbrev pub row_at : List (Vec ℕ Global) → Key → List ℕ
 row_at rows key = accesses_at rows (row_of key)

@@ -1,8 +1,6 @@
 //! An index of parts: the numbers of those that have a key, found without going through all.
 
-ghost use Rattle.std.specs.Prelude.{◌≡◌, ◌++◌, ◌==◌, ◌<◌, ◌≤◌, ◌^◌, ℕ, All, Some, IfOk, OnOk, cond, length, slice_get};
-ghost use Rattle.std.specs.Prelude.{[], ◌∷◌};
-ghost use Rattle.std.specs.List.{flat_map};
+ghost use Rattle.std.specs.Prelude.{◌≡◌, [], ◌∷◌, ◌++◌, ◌==◌, ◌<◌, ◌≤◌, ℕ, IfOk, OnOk, cond, length};
 ghost use Rattle.std.specs.List.Sorted.{IsStrictlyIncreasing};
 ghost use Rattle.path_patterns.specs.Reads.{accesses_at};
 ghost use Rattle.memory_parts.specs.Index as index;
@@ -10,23 +8,37 @@ ghost use Rattle.memory_parts.specs.Index.{HasRows, IsIndexOf};
 
 use crate::key::{Key, add_keys_of_part};
 use crate::part::Part;
-use memory_accesses::Memory;
-use sil_ast::Exhausted;
+use memory_accesses::{Cell, Memory};
+use sil_ast::{Exhausted, ValueId};
 use std::alloc::Global;
 
-/// How many rows an index has at most.
-const ROWS: u32 = 1024;
+/// How many rows there are at most for each kind of key.
+const ROWS: usize = 1024;
 
-/// The row of a key. Some keys share one, so that what is in it may have another key.
+fn value_row(value: ValueId) -> usize
+    ensures { result ≡ index.value_row value }
+{
+    value.0 as usize % ROWS
+}
+
+fn cell_row(cell: Cell) -> usize
+    ensures { result ≡ index.cell_row cell }
+{
+    match cell.field {
+        None => value_row(cell.subject),
+        Some(field) => (value_row(cell.subject) + field % ROWS) % ROWS,
+    }
+}
+
+/// The row of a key. Some keys of one kind share a row, so that what is in it may have another key.
 fn row_of(key: Key) -> usize
     ensures { result ≡ index.row_of key }
 {
     match key {
-        Key::Turned(v) | Key::Named(v) | Key::Written(v) => (v.0 % ROWS) as usize,
-        Key::Operated(cell) => match cell.field {
-            None => (cell.subject.0 % ROWS) as usize,
-            Some(field) => field % ROWS as usize,
-        },
+        Key::Turned(v) => value_row(v),
+        Key::Named(v) => ROWS + value_row(v),
+        Key::Operated(cell) => 2 * ROWS + cell_row(cell),
+        Key::Written(v) => 3 * ROWS + value_row(v),
     }
 }
 
