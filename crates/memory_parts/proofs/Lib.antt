@@ -4,3 +4,6 @@ pub mod AtOnePart
 pub mod Ordered
 pub mod FirstAmong
 pub mod CleanFront
+pub mod Reached
+pub mod Listed
+pub mod Rows

@@ -1,5 +1,5 @@
 -- Parts that are searched together: each by its number among them.
-use Rattle.std.specs.Prelude.{◌≡◌, ◌≤◌, ℕ, List, [], ◌∷◌, ◌++◌, All, Bool, false, map, nat_lt, slice_index_or, Option, Some, None}
+use Rattle.std.specs.Prelude.{◌≡◌, ◌≤◌, ℕ, List, [], ◌∷◌, ◌++◌, All, Bool, false, map, nat_lt, slice_get, slice_index_or, Option, Some, None}
 use Rattle.std.specs.List.{flat_map}
 use Rattle.std.specs.declared.alloc.Global.{Global}
 use Rattle.std.specs.declared.vec.Vec.{Vec}
@@ -13,10 +13,11 @@ use Rattle.forwarding_chains.specs.Facts.{known_or}
 use Rattle.forwarding_chains.specs.declared.facts.Facts.{Facts}
 use Rattle.ownership_marks.specs.Known.{AreKindsBy, Known}
 use Rattle.path_checks.specs.First as paths
-use Rattle.path_checks.specs.Shared.{shared_from, shared_if}
+use Rattle.path_checks.specs.Shared.{entry_if, shared_from, shared_if}
 use Rattle.path_checks.specs.declared.entry.Entry.{Entry}
 use Rattle.path_checks.specs.declared.entry.PathFault.{PathFault}
 use Rattle.path_patterns.specs.Reads.{accesses_at, AgreesWith}
+use Rattle.path_patterns.specs.declared.mark.Mark.{Mark}
 use Rattle.memory_accesses.specs.Accesses.{accesses_of}
 use Rattle.memory_accesses.specs.declared.access.Access.{Access}
 use Rattle.memory_accesses.specs.declared.source.Source.{Source}
@@ -28,6 +29,14 @@ use Rattle.memory_parts.specs.declared.part.Part.{Part}
 -- what an access means to each of the parts
 abbrev pub joint : List Source → (ValueId → Facts) → List Part → Access → List Entry
 joint sources facts parts a = shared_from 0 (map (λ p. means sources facts p a) parts)
+
+abbrev pub means_at : List Source → (ValueId → Facts) → Access → Option Part → Option Mark
+means_at sources facts a None = None
+means_at sources facts a (Some p) = means sources facts p a
+
+-- what it means to the part with a number
+abbrev pub entry_at : List Source → (ValueId → Facts) → List Part → Access → ℕ → List Entry
+entry_at sources facts parts a n = entry_if n (means_at sources facts a (slice_get parts n))
 
 -- the table of all of them
 abbrev pub batch_table : List Source → (ValueId → Option Facts) → Function → List Part → Item → List Entry

@@ -5,5 +5,7 @@ pub mod Loans
 pub mod Building
 pub mod Addresses
 pub mod Parts
+pub mod Keys
+pub mod Index
 pub mod Shown
 pub mod Batches

@@ -1,13 +1,17 @@
 //! The table of some parts: what each item does to which of them, by their numbers.
 
-ghost use Rattle.std.specs.Prelude.{◌≡◌, ◌++◌, ◌<◌, ◌≤◌, ℕ, length, map, IfOk, OnOk};
+ghost use Rattle.std.specs.Prelude.{◌≡◌, ◌++◌, ◌<◌, ◌≤◌, ℕ, length, map, slice_get, IfOk, OnOk};
 ghost use Rattle.std.specs.List.{flat_map};
 ghost use Rattle.path_checks.specs.Shared.{entry_if};
 ghost use Rattle.path_patterns.specs.Reads.{accesses_at};
 ghost use Rattle.ownership_marks.specs.Known.{facts_of};
-ghost use Rattle.memory_parts.specs.Batches.{joint};
+ghost use Rattle.memory_parts.specs.Batches as batches;
+ghost use Rattle.memory_parts.specs.Batches.{entry_at, joint};
+ghost use Rattle.memory_parts.specs.Index.{IsIndexOf};
 ghost use Rattle.memory_parts.specs.Parts as parts;
 
+use crate::index::{index_of, numbers_at};
+use crate::key::add_keys_of_access;
 use crate::meaning::{at_return, means};
 use crate::part::Part;
 use memory_accesses::{Access, Memory};
@@ -16,6 +20,9 @@ use path_checks::Entry;
 use path_patterns::Mark;
 use sil_ast::Exhausted;
 use std::alloc::Global;
+
+/// Of at most this many parts each is asked for every access: to find some of them would take as long.
+const FEW: usize = 16;
 
 /// The mark that every `return` has for each part.
 pub(crate) fn marks_at_returns(
@@ -45,8 +52,8 @@ fn add_entry(entries: &mut Vec<Entry>, number: u32, mark: Option<Mark>) -> Resul
     Ok(())
 }
 
-/// What an access means to the parts, each by its number.
-fn add_entries(
+/// What an access means to the parts, each by its number: all are asked.
+fn add_of_all(
     entries: &mut Vec<Entry>,
     m: &Memory,
     k: &Kinds,
@@ -62,20 +69,88 @@ fn add_entries(
     Ok(())
 }
 
+/// What an access means to the part with a number.
+fn means_at(m: &Memory, k: &Kinds, batch: &[Part], number: u32, access: Access) -> Option<Mark>
+    ensures { result ≡ batches.means_at m.now (facts_of k.now) access (slice_get batch.now number) }
+{
+    match batch.get(number as usize) {
+        None => None,
+        Some(part) => means(m, k, *part, access),
+    }
+}
+
+/// What an access means to those parts that have these numbers.
+fn add_of_each(
+    entries: &mut Vec<Entry>,
+    m: &Memory,
+    k: &Kinds,
+    batch: &[Part],
+    numbers: &[u32],
+    access: Access,
+) -> Result<(), Exhausted>
+    ensures { OnOk result (entries.new.items ≡ entries.old.items ++ flat_map (entry_at m.now (facts_of k.now) batch.now access) numbers.now) }
+{
+    for number in numbers {
+        add_entry(entries, *number, means_at(m, k, batch, *number, access))?;
+    }
+    Ok(())
+}
+
+/// The same as of all, where `rows` is an index of the parts: those are asked that have a key of the access.
+fn add_by_index(
+    entries: &mut Vec<Entry>,
+    m: &Memory,
+    k: &Kinds,
+    batch: &[Part],
+    rows: &[Vec<u32>],
+    access: Access,
+) -> Result<(), Exhausted>
+    requires { IsIndexOf m.now batch.now rows.now }
+    ensures { OnOk result (entries.new.items ≡ entries.old.items ++ joint m.now (facts_of k.now) batch.now access) }
+{
+    let alloc = *entries.allocator();
+    let mut keys = Vec::new(alloc);
+    add_keys_of_access(&mut keys, m, k, access)?;
+    let numbers = numbers_at(alloc, rows, keys.as_slice())?;
+    add_of_each(entries, m, k, batch, numbers.as_slice(), access)
+}
+
+/// What an access means to the parts, each by its number.
+fn add_entries(
+    entries: &mut Vec<Entry>,
+    m: &Memory,
+    k: &Kinds,
+    batch: &[Part],
+    rows: &[Vec<u32>],
+    access: Access,
+) -> Result<(), Exhausted>
+    requires few { length batch.now ≤ 1024 }
+    requires index { IsIndexOf m.now batch.now rows.now }
+    ensures { OnOk result (entries.new.items ≡ entries.old.items ++ joint m.now (facts_of k.now) batch.now access) }
+{
+    if batch.len() <= FEW {
+        add_of_all(entries, m, k, batch, access)
+    } else {
+        add_by_index(entries, m, k, batch, rows, access)
+    }
+}
+
 /// What the accesses of an item mean to them.
 fn entries_of(
     alloc: Global,
     m: &Memory,
     k: &Kinds,
     batch: &[Part],
+    rows: &[Vec<u32>],
     accesses: &[Access],
 ) -> Result<Vec<Entry>, Exhausted>
-    requires { length batch.now ≤ 1024 }
+    requires few { length batch.now ≤ 1024 }
+    requires index { IsIndexOf m.now batch.now rows.now }
     ensures { IfOk result (λ v. v.items ≡ flat_map (joint m.now (facts_of k.now) batch.now) accesses.now) }
 {
     let mut entries = Vec::new(alloc);
     for access in accesses {
-        add_entries(&mut entries, m, k, batch, *access)?;
+        add_entries(&mut entries, m, k, batch, rows, *access)?;
     }
     Ok(entries)
 }
@@ -92,9 +167,10 @@ pub(crate) fn entries_by_item(
     ensures size { IfOk result (λ v. length v.items ≡ length accesses.now) }
     ensures entries { IfOk result (λ v. (n : ℕ) → n < length accesses.now → accesses_at v.items n ≡ flat_map (joint m.now (facts_of k.now) batch.now) (accesses_at accesses.now n)) }
 {
+    let rows = index_of(alloc, m, batch)?;
     let mut all = Vec::new(alloc);
     for item in accesses {
-        all.push(entries_of(alloc, m, k, batch, item.as_slice())?)?;
+        all.push(entries_of(alloc, m, k, batch, rows.as_slice(), item.as_slice())?)?;
     }
     Ok(all)
 }

@@ -11,6 +11,8 @@ mod earlier;
 mod entries;
 mod fault;
 mod first;
+mod index;
+mod key;
 mod loans;
 mod meaning;
 mod others;

@@ -15,7 +15,7 @@ use sil_ast::ValueId;
 
 /// Whether the operation, at a part of a root or at the whole, writes what may be lent.
 /// A first write doesn't, nor does a trivial store to the whole.
-fn writes(part: bool, operation: Operation) -> bool
+pub(crate) fn writes(part: bool, operation: Operation) -> bool
     ensures { result ≡ loans.writes part operation }
 {
     match operation {

@@ -1,6 +1,6 @@
 use Rattle.ownership_marks.specs.Known.{facts_of}
 use Rattle.memory_parts.proofs.Joint.{joint_grown}
-use Rattle.memory_parts.proofs.entries.add_entries.Goals as goal
+use Rattle.memory_parts.proofs.entries.add_of_all.Goals as goal
 
 pub loop-number-preserved : goal.loop-number-preserved
 loop-number-preserved c =

@@ -1,0 +1,8 @@
+use Rattle.std.proofs.Common.{◌≡◌, ◌++◌, take}
+use Rattle.std.specs.List.{flat_map}
+use Rattle.ownership_marks.specs.Known.{facts_of}
+use Rattle.memory_parts.specs.Batches.{entry_at}
+use Rattle.memory_parts.proofs.entries.add_of_each.Given as goal
+
+abbrev pub invariant-loop-number : goal.invariant-loop-number
+invariant-loop-number l = l.entries.items ≡ l.initial.entries.items ++ flat_map (entry_at l.m (facts_of l.k) l.batch l.access) (take l.number-index l.numbers)
