@@ -6,3 +6,4 @@ pub mod StacksFollowed
 pub mod StackTops
 pub mod NestedSlots
 pub mod SlotsTouched
+pub mod NeverOut

@@ -1,14 +1,13 @@
 -- Which of two slots' automata an item moves.
-use Rattle.std.proofs.Common.{◌≡◌, ◌≢◌, ℕ, ◌+◌, ◌<◌, ◌≤◌, List, [], ◌∷◌, ◌++◌, length, get_or, take, refl, sym, ap, ◌∙◌, subst, ◌⊎◌, inl, inr, All, Bool, true, false, Option, Some, None, arith}
+use Rattle.std.proofs.Common.{◌≡◌, ◌≢◌, ℕ, ◌+◌, ◌<◌, ◌≤◌, List, [], ◌∷◌, ◌++◌, length, get_or, take, refl, sym, ap, ◌∙◌, subst, ◌⊎◌, inl, inr, All, Bool, true, false, Some, None, arith}
 use Rattle.std.specs.Prelude.{◌==◌, cond, Contains, AllPairs, eqb, unwrap_or}
-use Rattle.std.specs.List.{dedup, list_any}
+use Rattle.std.specs.List.{dedup}
 use Rattle.std.specs.List.Sorted.{IsPermutation, IsNonDecreasingBy}
 use Rattle.std.proofs.lemmas.Bool.{cases_eq, cases_lt, eqb-true, eq-eqb}
 use Rattle.std.proofs.lemmas.List.Elements.{All-head, All-tail, All-more, All-push, Contains-append_left, Contains-push}
 use Rattle.std.proofs.lemmas.List.Folds.{list_any_at}
 use Rattle.std.proofs.lemmas.Option.{slice_get-get_or}
 use Rattle.sil_ast.specs.declared.place.ValueId.{ValueId}
-use Rattle.reach_engine.specs.declared.scan.Step.{Step}
 use Rattle.reach_engine.specs.declared.scan.Step.TheVariants.{Go}
 use Rattle.reach_engine.specs.Run.{run}
 use Rattle.path_patterns.specs.Reads.{read_step, step_in}
@@ -18,7 +17,6 @@ use Rattle.memory_accesses.specs.declared.access.Access.TheVariants.{Ends, Begin
 use Rattle.slot_order.specs.Order.{order_step}
 use Rattle.slot_order.specs.Marks.{pair_mark}
 use Rattle.slot_order.specs.Touched.{slot_in, is_in, has_slot, IsPut, HasTouched}
-use Rattle.slot_order.specs.declared.mark.SlotMark.{SlotMark}
 use Rattle.slot_order.specs.declared.mark.SlotMark.TheVariants.{FirstIn, FirstOut, SecondIn, SecondOut}
 
 unmarked : (a b : ValueId) (x : Access) → slot_in x ≢ Some a.0 → slot_in x ≢ Some b.0 → pair_mark a b x ≡ None

@@ -1,6 +1,6 @@
 -- A stack that is followed along accesses goes on to cover each slot that isn't in doubt.
-use Rattle.std.proofs.Common.{◌≡◌, ◌≢◌, ℕ, zero, suc, ◌+◌, ◌<◌, List, [], ◌∷◌, ◌++◌, length, get_or, length-append, refl, sym, ap, ◌∙◌, subst, ◌⊎◌, inl, inr, All, Bool, true, false, Option, Some, None, arith}
-use Rattle.std.specs.Prelude.{◌==◌, cond, Contains, AllPairs}
+use Rattle.std.proofs.Common.{◌≡◌, ◌≢◌, ℕ, zero, suc, ◌+◌, ◌<◌, List, [], ◌∷◌, ◌++◌, length, get_or, length-append, refl, sym, ap, ◌∙◌, subst, ◌⊎◌, inl, inr, All, Bool, true, false, Some, None, arith}
+use Rattle.std.specs.Prelude.{◌==◌, cond, Contains}
 use Rattle.std.proofs.lemmas.Bool.{eqb-true}
 use Rattle.std.proofs.lemmas.List.Elements.{All-contains, Contains-push_cases}
 use Rattle.std.proofs.Math.ListN.{get_or-append}
@@ -18,7 +18,6 @@ use Rattle.slot_order.specs.Order.{order_step}
 use Rattle.slot_order.specs.Marks.{pair_mark, pair_step}
 use Rattle.slot_order.specs.Pairs.{IsSlot}
 use Rattle.slot_order.specs.Nesting.{rank_at, AreRising, Covers, GoesTo, Follows, Passes}
-use Rattle.slot_order.specs.declared.mark.SlotMark.{SlotMark}
 use Rattle.slot_order.specs.declared.mark.SlotMark.TheVariants.{FirstIn, FirstOut, SecondIn, SecondOut}
 use Rattle.slot_order.proofs.SlotsListed.{same_value}
 

@@ -15,6 +15,7 @@ ghost use Rattle.slot_order.specs.Chunks.{IsChunkOf, slots_in};
 
 use crate::chunk::{Chunk, chunks_of};
 use crate::crossing::Crossing;
+use crate::deallocated::deallocated_slots;
 use crate::doubts::Doubts;
 use crate::nested::doubted_slots;
 use crate::search::crossing_of_first;
@@ -25,7 +26,7 @@ use sil_ast::{Exhausted, Function, ValueId};
 use sil_cfg::Graph;
 use std::alloc::Global;
 
-/// The nearest crossing of the slot, which is searched only where it is in doubt.
+/// The nearest crossing of the slot, which is searched only where it is in doubt and deallocated at all.
 fn crossing_in_doubt(
     alloc: Global,
     g: &Graph,
@@ -33,16 +34,18 @@ fn crossing_in_doubt(
     slots: &[ValueId],
     chunks: &[Chunk],
     doubts: &Doubts,
+    deallocated: &Doubts,
     first: ValueId,
 ) -> Result<Option<Crossing>, Exhausted>
     requires items { length accesses.now ≡ item_count g.now }
     requires ascending { AllPairs (λ a b. a.0 < b.0) slots.now }
     requires chunks { All (IsChunkOf accesses.now) chunks.now }
     requires slots { slots_in chunks.now ≡ slots.now }
+    requires never { IsTrusted deallocated.now first → All (IsUncrossed g.now (accesses_at accesses.now) first) slots.now }
     requires trusted { IsTrusted doubts.now first → All (IsUncrossed g.now (accesses_at accesses.now) first) slots.now }
     ensures { IfOk result (IsNearest g.now (accesses_at accesses.now) first slots.now) }
 {
-    if doubts.has(first) {
+    if doubts.has(first) && deallocated.has(first) {
         crossing_of_first(alloc, g, accesses, slots, chunks, first)
     } else {
         Ok(None)
@@ -67,11 +70,19 @@ pub fn first_crossing(
     let listed = slots_of(alloc, sources)?;
     let slots = listed.as_slice();
     let doubts = doubted_slots(alloc, g, sources, accesses)?;
+    let deallocated = deallocated_slots(alloc, sources.len(), accesses)?;
     let parts = chunks_of(alloc, slots, accesses)?;
     let chunks = parts.as_slice();
     for first in slots {
         if let Some(crossing) = crossing_in_doubt(
-            alloc, g, accesses, slots, chunks, &doubts, *first,
+            alloc,
+            g,
+            accesses,
+            slots,
+            chunks,
+            &doubts,
+            &deallocated,
+            *first,
         )? {
             return Ok(Some(crossing));
         }

@@ -4,6 +4,7 @@
 
 mod chunk;
 mod crossing;
+mod deallocated;
 mod doubts;
 mod first;
 mod guess;

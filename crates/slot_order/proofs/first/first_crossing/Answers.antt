@@ -1,12 +1,13 @@
-use Rattle.std.proofs.Common.{◌≡◌, ◌<◌, ℕ, List, get_or, sym, ◌∙◌, subst, take, arith}
+use Rattle.std.proofs.Common.{◌<◌, List, get_or, sym, subst, arith}
 use Rattle.std.specs.Prelude.{All, AllPairs, length}
 use Rattle.std.proofs.lemmas.List.{take_all}
-use Rattle.std.proofs.lemmas.List.Elements.{All-get_or, All-weaker}
+use Rattle.std.proofs.lemmas.List.Elements.{All-from_get_or, All-get_or, All-weaker}
 use Rattle.sil_ast.specs.declared.place.ValueId.{ValueId}
 use Rattle.path_patterns.specs.Reads.{accesses_at}
 use Rattle.slot_order.specs.Pairs.{IsSlot}
 use Rattle.slot_order.specs.Searches.{AreSlots, IsUncrossed}
 use Rattle.slot_order.proofs.FirstCrossing.{found_first, clean_more, none_first}
+use Rattle.slot_order.proofs.NeverOut.{never_out}
 use Rattle.slot_order.proofs.first.first_crossing.Goals as goal
 
 pub loop-first-preserved : goal.loop-first-preserved
@@ -39,3 +40,9 @@ crossing_in_doubt-requires-clause-trusted c = λ trusted.
 
 pub crossing_in_doubt-requires-clause-ascending : goal.crossing_in_doubt-requires-clause-ascending
 crossing_in_doubt-requires-clause-ascending c = subst (λ (l : List ValueId). AllPairs (λ a b. a.0 < b.0) l) (sym c.as_slice-slots.ensures.value) c.in_ok-listed.ensures.ascending
+
+pub crossing_in_doubt-requires-clause-never : goal.crossing_in_doubt-requires-clause-never
+crossing_in_doubt-requires-clause-never c = λ trusted.
+    let slots = c.as_slice-slots.result.now in
+    let first : ValueId = get_or slots c.loop-first.first-index _ in
+    All-from_get_or (IsUncrossed c.args.g.now (accesses_at c.args.accesses.now) first) slots first (λ i lt. never_out c.args.g.now (accesses_at c.args.accesses.now) first (get_or slots i first) (c.in_ok-deallocated.ensures first trusted))

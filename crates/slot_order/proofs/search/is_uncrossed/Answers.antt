@@ -1,4 +1,4 @@
-use Rattle.std.proofs.Common.{ℕ, ◌<◌, List, length, get_or, All, sym, subst}
+use Rattle.std.proofs.Common.{ℕ, ◌<◌, length, get_or, All, sym, subst}
 use Rattle.std.specs.Prelude.{IfOk, IfNone, IsTrue}
 use Rattle.std.proofs.lemmas.List.Elements.{All-from_get_or}
 use Rattle.path_patterns.specs.Reads.{accesses_at}

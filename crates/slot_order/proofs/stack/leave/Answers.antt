@@ -1,4 +1,4 @@
-use Rattle.std.proofs.Common.{◌≡◌, ◌-◌, ℕ, List, length, take, sym, ap, ◌∙◌, subst}
+use Rattle.std.proofs.Common.{◌-◌, List, length, take, sym, ap, ◌∙◌, subst}
 use Rattle.sil_ast.specs.declared.place.ValueId.{ValueId}
 use Rattle.slot_order.specs.Followed.{IsTop, StandsAt}
 use Rattle.slot_order.proofs.StackTops.{top_left, removed_left}

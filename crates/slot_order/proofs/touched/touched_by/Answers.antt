@@ -5,7 +5,7 @@ use Rattle.std.proofs.lemmas.List.Filters.{dedup_is}
 use Rattle.path_checks.proofs.Touching.{rising_sorted}
 use Rattle.memory_accesses.specs.declared.access.Access.{Access}
 use Rattle.slot_order.specs.Touched.{HasTouched}
-use Rattle.slot_order.proofs.SlotsTouched.{touched_none, touched_put, below_put, touched_sorted}
+use Rattle.slot_order.proofs.SlotsTouched.{touched_put, below_put, touched_sorted}
 use Rattle.slot_order.proofs.touched.touched_by.Goals as goal
 
 pub loop-access-preserved : goal.loop-access-preserved

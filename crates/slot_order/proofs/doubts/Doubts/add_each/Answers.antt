@@ -1,6 +1,5 @@
-use Rattle.std.proofs.Common.{take, All}
+use Rattle.std.proofs.Common.{take}
 use Rattle.std.proofs.lemmas.List.Elements.{All-more, All-weaker}
-use Rattle.sil_ast.specs.declared.place.ValueId.{ValueId}
 use Rattle.slot_order.specs.Trust.{IsTrusted}
 use Rattle.slot_order.proofs.doubts.Doubts.add_each.Goals as goal
 
