@@ -1,10 +1,10 @@
 -- The nearest crossing of the first slot that has one is the first of what walks show.
-use Rattle.std.proofs.Common.{◌≡◌, ◌≢◌, ℕ, zero, suc, ◌+◌, ◌<◌, ◌≤◌, List, [], ◌∷◌, ◌++◌, length, take, get_or, refl, sym, ap, ◌∙◌, subst, ◌⊎◌, inl, inr, All, Option, Some, None, Bool, true, false, append_assoc, arith}
+use Rattle.std.proofs.Common.{◌≡◌, ◌≢◌, ℕ, ◌+◌, ◌<◌, ◌≤◌, List, [], ◌∷◌, ◌++◌, length, take, get_or, refl, sym, ap, ◌∙◌, subst, ◌⊎◌, inl, inr, All, Option, Some, None, Bool, true, false, append_assoc, arith}
 use Rattle.std.specs.Prelude.{◌==◌, cond, Contains, flat_map}
 use Rattle.std.proofs.lemmas.Bool.{cases_eq, cases_lt}
 use Rattle.std.proofs.lemmas.Grind.{flat_map-append}
 use Rattle.std.proofs.lemmas.List.{append-nil}
-use Rattle.std.proofs.lemmas.List.Elements.{All-nil, All-cons, All-append, All-contains, All-more, All-weaker, Contains-append_right, Contains-get_or}
+use Rattle.std.proofs.lemmas.List.Elements.{All-nil, All-cons, All-append, All-contains, All-more, Contains-append_right, Contains-get_or}
 use Rattle.sil_ast.specs.declared.place.EdgeId.{EdgeId}
 use Rattle.sil_ast.specs.declared.place.ValueId.{ValueId}
 use Rattle.sil_ast.specs.declared.function.Function.{Function}
@@ -14,7 +14,7 @@ use Rattle.sil_cfg.specs.Layout.{Layout, item_at}
 use Rattle.sil_cfg.specs.Flow.{numbered, point_of}
 use Rattle.sil_cfg.specs.Items.{flow_of}
 use Rattle.sil_cfg.specs.Build.{IsGraphOf}
-use Rattle.sil_rules.specs.Order.{IsFirst, NotAfter}
+use Rattle.sil_rules.specs.Order.{NotAfter}
 use Rattle.reach_engine.specs.declared.scan.Step.{Step}
 use Rattle.reach_engine.specs.declared.scan.Step.TheVariants.{Go, Bad}
 use Rattle.reach_engine.specs.Run.{run}
@@ -206,9 +206,6 @@ module _ (g : Layout) (f : Function) (is : IsGraphOf g f) (accesses : ℕ → Li
           let r = crossing_reached facts (agree count facts by) c s in
           All-contains (IsUncrossed g accesses c.first) slots s.second (All-contains (λ a. All (IsUncrossed g accesses a) slots) slots c.first clean (is_listed c.first s.is_first)) (is_listed s.second s.is_second) c.walk 4 r.0 r.1
 
-      pub nested_first : ((a b : ValueId) → IsSlot sources a → IsSlot sources b → IsUncrossed g accesses a b) → IsFirstCrossing sources f g k None
-      nested_first h = none_first (All-weaker (IsSlot sources) (λ a. All (IsUncrossed g accesses a) slots) (λ a sa. All-weaker (IsSlot sources) (IsUncrossed g accesses a) (λ b sb. h a b sa sb) slots are.each) slots are.each)
-
       pub nearest_first : (first : ValueId) (c : Crossing) → Contains slots first → IsNearestCrossing g accesses first slots c → ((a : ValueId) → Contains slots a → a.0 < first.0 → All (IsUncrossed g accesses a) slots) →
           IsFirstCrossing sources f g k (Some c)
       nearest_first first c there h clean count facts by = record {
@@ -233,13 +230,12 @@ module _ (g : Layout) (f : Function) (is : IsGraphOf g f) (accesses : ℕ → Li
               at (inr le) = let same : c.first.0 ≡ first.0 = ap (λ v. v.0) h.first_is in omega arith
 
       -- behind slots that nothing crosses, one slot more
-      pub found_first : (i : ℕ) (d : ValueId) (seen : List ValueId) (o : Option Crossing) (c : Crossing) → i < length slots → seen ≡ slots → All (λ a. All (IsUncrossed g accesses a) slots) (take i slots) →
-          IsNearest g accesses (get_or slots i d) seen o → o ≡ Some c → IsFirstCrossing sources f g k (Some c)
-      found_first i d seen o c lt same clean h e =
-          nearest_first (get_or slots i d) c (Contains-get_or slots i d lt) (subst (λ v. IsNearest g accesses (get_or slots i d) v (Some c)) same (subst (IsNearest g accesses (get_or slots i d) seen) e h))
+      pub found_first : (i : ℕ) (d : ValueId) (o : Option Crossing) (c : Crossing) → i < length slots → All (λ a. All (IsUncrossed g accesses a) slots) (take i slots) → IsNearest g accesses (get_or slots i d) slots o → o ≡ Some c →
+          IsFirstCrossing sources f g k (Some c)
+      found_first i d o c lt clean h e =
+          nearest_first (get_or slots i d) c (Contains-get_or slots i d lt) (subst (IsNearest g accesses (get_or slots i d) slots) e h)
           (λ a there less. All-contains (λ a. All (IsUncrossed g accesses a) slots) (take i slots) a clean (slot_before slots i d a lt are.ascending there less))
 
-      pub clean_more : (i : ℕ) (d : ValueId) (seen : List ValueId) (o : Option Crossing) → i < length slots → seen ≡ slots → All (λ a. All (IsUncrossed g accesses a) slots) (take i slots) →
-          IsNearest g accesses (get_or slots i d) seen o → o ≡ None → All (λ a. All (IsUncrossed g accesses a) slots) (take (i + 1) slots)
-      clean_more i d seen o lt same clean h e =
-          All-more (λ a. All (IsUncrossed g accesses a) slots) slots i d lt clean (subst (λ v. IsNearest g accesses (get_or slots i d) v None) same (subst (IsNearest g accesses (get_or slots i d) seen) e h))
+      pub clean_more : (i : ℕ) (d : ValueId) (o : Option Crossing) → i < length slots → All (λ a. All (IsUncrossed g accesses a) slots) (take i slots) → IsNearest g accesses (get_or slots i d) slots o → o ≡ None →
+          All (λ a. All (IsUncrossed g accesses a) slots) (take (i + 1) slots)
+      clean_more i d o lt clean h e = All-more (λ a. All (IsUncrossed g accesses a) slots) slots i d lt clean (subst (IsNearest g accesses (get_or slots i d) slots) e h)

@@ -3,4 +3,7 @@ pub mod PairsSearched
 pub mod SlotsListed
 pub mod FirstCrossing
 pub mod StacksFollowed
+pub mod StackTops
 pub mod NestedSlots
+pub mod SlotsTouched
+pub mod NeverOut

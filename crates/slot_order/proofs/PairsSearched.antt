@@ -1,16 +1,15 @@
 -- What a search of a pair of slots finds, and the nearest of several.
-use Rattle.std.proofs.Common.{◌≡◌, ◌≢◌, ℕ, zero, suc, ◌+◌, ◌<◌, ◌≤◌, List, [], ◌∷◌, ◌++◌, length, take, get_or, refl, sym, ap, ◌∙◌, subst, ◌⊎◌, inl, inr, All, Option, Some, None, arith}
+use Rattle.std.proofs.Common.{◌≡◌, ℕ, zero, suc, ◌+◌, ◌<◌, ◌≤◌, List, [], ◌∷◌, ◌++◌, length, take, get_or, refl, sym, ap, ◌∙◌, subst, inl, inr, All, Option, Some, None, arith}
 use Rattle.std.specs.Prelude.{Contains, AllPairs}
-use Rattle.std.proofs.lemmas.Bool.{cases_lt}
 use Rattle.std.proofs.lemmas.List.{get_or-take, length-take-le}
-use Rattle.std.proofs.lemmas.List.Elements.{All-push, All-weaker, All-contains, All-from_get_or, Contains-push, Contains-append_left, Contains-get_or}
+use Rattle.std.proofs.lemmas.List.Elements.{All-push, All-weaker, All-contains, All-from_get_or, Contains-push, Contains-append_left}
 use Rattle.std.proofs.lemmas.Grind.{take_at_read}
 use Rattle.sil_ast.specs.declared.place.EdgeId.{EdgeId}
 use Rattle.sil_ast.specs.declared.place.PointId.{PointId}
 use Rattle.sil_ast.specs.declared.place.ValueId.{ValueId}
 use Rattle.sil_cfg.specs.Layout.{Layout}
 use Rattle.sil_cfg.specs.Flow.{numbered}
-use Rattle.reach_engine.specs.declared.scan.Step.TheVariants.{Go, Bad}
+use Rattle.reach_engine.specs.declared.scan.Step.TheVariants.{Bad}
 use Rattle.reach_engine.specs.Reach.{ReachesFirst, ReachesPoint}
 use Rattle.reach_engine.specs.Search.{IsShortest}
 use Rattle.reach_engine.proofs.Runs.{bad_at, go-bad, same_Bad}
@@ -18,7 +17,7 @@ use Rattle.path_patterns.specs.Reads.{read_step, step_in}
 use Rattle.memory_accesses.specs.declared.access.Access.{Access}
 use Rattle.slot_order.specs.Order.{order_step}
 use Rattle.slot_order.specs.Marks.{pair_mark, pair_step}
-use Rattle.slot_order.specs.Searches.{IsUncrossed, IsFar, IsPairCrossing, IsPairSearched, IsNearestCrossing, IsNearest, IsNearer}
+use Rattle.slot_order.specs.Searches.{IsUncrossed, IsFar, IsPairCrossing, IsPairSearched, IsNearest, IsNearer}
 use Rattle.slot_order.specs.declared.crossing.Crossing.{Crossing}
 use Rattle.slot_order.specs.declared.mark.SlotMark.{SlotMark}
 use Rattle.slot_order.specs.declared.mark.SlotMark.TheVariants.{FirstIn, FirstOut, SecondIn, SecondOut}

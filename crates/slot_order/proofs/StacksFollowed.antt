@@ -1,9 +1,10 @@
--- Where slots are deallocated in the reverse order of their allocation, the state of any two of them is told by the stack.
-use Rattle.std.proofs.Common.{◌≡◌, ◌≢◌, ℕ, zero, suc, List, [], ◌∷◌, ◌++◌, map, refl, sym, ap, ◌∙◌, subst, ◌⊎◌, inl, inr, All, Bool, true, false, Option, Some, None}
-use Rattle.std.specs.Prelude.{◌==◌, cond}
+-- A stack that is followed along accesses goes on to cover each slot that isn't in doubt.
+use Rattle.std.proofs.Common.{◌≡◌, ◌≢◌, ℕ, zero, suc, ◌+◌, ◌<◌, List, [], ◌∷◌, ◌++◌, length, get_or, length-append, refl, sym, ap, ◌∙◌, subst, ◌⊎◌, inl, inr, All, Bool, true, false, Some, None, arith}
+use Rattle.std.specs.Prelude.{◌==◌, cond, Contains}
 use Rattle.std.proofs.lemmas.Bool.{eqb-true}
-use Rattle.std.proofs.lemmas.List.{map-append}
-use Rattle.std.proofs.lemmas.List.Elements.{All-head, All-tail}
+use Rattle.std.proofs.lemmas.List.Elements.{All-contains, Contains-push_cases}
+use Rattle.std.proofs.Math.ListN.{get_or-append}
+use Rattle.std.proofs.Math.Seq.{get_or-append_seam}
 use Rattle.sil_ast.specs.declared.place.ValueId.{ValueId}
 use Rattle.reach_engine.specs.declared.scan.Step.{Step}
 use Rattle.reach_engine.specs.declared.scan.Step.TheVariants.{Go, Bad}
@@ -14,179 +15,150 @@ use Rattle.memory_accesses.specs.declared.access.Access.{Access}
 use Rattle.memory_accesses.specs.declared.access.Access.TheVariants.{Allocates, Deallocates}
 use Rattle.memory_accesses.specs.declared.source.Source.{Source}
 use Rattle.slot_order.specs.Order.{order_step}
-use Rattle.slot_order.specs.Marks.{one_of, pair_mark, pair_step}
-use Rattle.slot_order.specs.Nesting.{stacked, Follows, Passes}
+use Rattle.slot_order.specs.Marks.{pair_mark, pair_step}
 use Rattle.slot_order.specs.Pairs.{IsSlot}
-use Rattle.slot_order.specs.declared.mark.SlotMark.{SlotMark}
+use Rattle.slot_order.specs.Nesting.{rank_at, AreRising, Covers, GoesTo, Follows, Passes}
 use Rattle.slot_order.specs.declared.mark.SlotMark.TheVariants.{FirstIn, FirstOut, SecondIn, SecondOut}
 use Rattle.slot_order.proofs.SlotsListed.{same_value}
 
 abbrev Both : ValueId → ValueId → ℕ → Access → Step
 Both a b = read_step order_step (pair_mark a b)
 
-pub stacked_more : (a b v : ValueId) (stack : List ValueId) → stacked a b (stack ++ v ∷ []) ≡ run (Both a b) (stacked a b stack) (Allocates v ∷ [])
-stacked_more a b v stack = ap (run (Both a b) (Go 0)) (map-append Allocates stack (v ∷ [])) ∙ run-append (Both a b) (Go 0) (map Allocates stack) (Allocates v ∷ [])
+-- what goes on to one state after another
+pub goes_on : {A : Type 0} (f : ℕ → A → Step) (P Q : ℕ → Type 0) (r : Step) (xs : List A) → GoesTo P r → ((s : ℕ) → P s → GoesTo Q (run f (Go s) xs)) → GoesTo Q (run f r xs)
+goes_on f P Q (Go s) xs h next = next s h
+goes_on f P Q (Bad c) xs h next = absurd h
 
--- the states that have the slot out
-abbrev FirstOutAt : Step → Type 0
-FirstOutAt r = (r ≡ Go 0) ⊎ (r ≡ Go 2)
+pub goes_through : {A : Type 0} (f : ℕ → A → Step) (P Q : ℕ → Type 0) (s : ℕ) (xs ys : List A) → GoesTo P (run f (Go s) xs) → ((t : ℕ) → P t → GoesTo Q (run f (Go t) ys)) → GoesTo Q (run f (Go s) (xs ++ ys))
+goes_through f P Q s xs ys h next = subst (GoesTo Q) (sym (run-append f (Go s) xs ys)) (goes_on f P Q (run f (Go s) xs) ys h next)
 
-abbrev SecondOutAt : Step → Type 0
-SecondOutAt r = (r ≡ Go 0) ⊎ (r ≡ Go 1)
+module _ (ranks : List ℕ) where
+  -- a stack that has no less
+  pub covers_more : (old new : List ValueId) (a b : ValueId) → (Contains old a → Contains new a) → (Contains old a → Contains old b → Contains new b) → (s : ℕ) → Covers ranks old a b s → Covers ranks new a b s
+  covers_more old new a b fst snd zero h = tt
+  covers_more old new a b fst snd (suc zero) h = fst h
+  covers_more old new a b fst snd (suc (suc zero)) h = tt
+  covers_more old new a b fst snd (suc (suc (suc zero))) h = (fst h.0, snd h.0 h.1, h.2)
+  covers_more old new a b fst snd (suc (suc (suc (suc s)))) h = fst h
 
-Goes : Step → Type 0
-Goes r = (s : ℕ) × (r ≡ Go s)
+  module _ (sources : List Source) where
+    pub quiet : (x : Access) (stack : List ValueId) (a : ValueId) → (IsSlot sources a → (b : ValueId) → IsSlot sources b → pair_mark a b x ≡ None) → Follows sources ranks stack (x ∷ []) stack a
+    quiet x stack a none sa b sb s h = subst (λ o. GoesTo (Covers ranks stack a b) (step_in order_step s o)) (sym (none sa b sb)) h
 
-no_first : (a b v : ValueId) → v.0 ≢ a.0 → (other : SlotMark) (one : SlotMark) → (one_of a b v one other ≡ None) ⊎ (one_of a b v one other ≡ Some other)
-no_first a b v differs other one = at (v.0 == a.0) (v.0 == b.0) refl
-  where
-    at : (t u : Bool) → (v.0 == a.0) ≡ t → (cond t (Some one) (cond u (Some other) None) ≡ None) ⊎ (cond t (Some one) (cond u (Some other) None) ≡ Some other)
-    at true u e = absurd (differs (eqb-true v.0 a.0 e))
-    at false true e = inr refl
-    at false false e = inl refl
+    pub not_entered : (v : ValueId) (stack : List ValueId) (a : ValueId) → (IsSlot sources v → ⊥) → Follows sources ranks stack (Allocates v ∷ []) stack a
+    not_entered v stack a outside = quiet (Allocates v) stack a (λ sa b sb. at sa b sb (v.0 == a.0) (v.0 == b.0) refl refl)
+      where
+        at : IsSlot sources a → (b : ValueId) → IsSlot sources b → (t u : Bool) → (v.0 == a.0) ≡ t → (v.0 == b.0) ≡ u → cond t (Some FirstIn) (cond u (Some SecondIn) None) ≡ None
+        at sa b sb true u ea eb = absurd (outside (subst (IsSlot sources) (sym (same_value v a (eqb-true v.0 a.0 ea))) sa))
+        at sa b sb false true ea eb = absurd (outside (subst (IsSlot sources) (sym (same_value v b (eqb-true v.0 b.0 eb))) sb))
+        at sa b sb false false ea eb = refl
 
-no_other : (a b v : ValueId) → v.0 ≢ b.0 → (other : SlotMark) (one : SlotMark) → (one_of a b v one other ≡ None) ⊎ (one_of a b v one other ≡ Some one)
-no_other a b v differs other one = at (v.0 == a.0) (v.0 == b.0) refl
-  where
-    at : (t u : Bool) → (v.0 == b.0) ≡ u → (cond t (Some one) (cond u (Some other) None) ≡ None) ⊎ (cond t (Some one) (cond u (Some other) None) ≡ Some one)
-    at true u e = inr refl
-    at false true e = absurd (differs (eqb-true v.0 b.0 e))
-    at false false e = inl refl
+    -- a slot goes in, above the first one
+    pub entered : (v : ValueId) (old new : List ValueId) (a : ValueId) → Contains new v → (Contains old a → (u : ValueId) → Contains old u → Contains new u) → (Contains old a → a.0 ≢ v.0 → rank_at ranks a < rank_at ranks v) →
+        Follows sources ranks old (Allocates v ∷ []) new a
+    entered v old new a there stays above sa b sb s h = at (v.0 == a.0) (v.0 == b.0) refl refl s h
+      where
+        more : (s : ℕ) → Covers ranks old a b s → Covers ranks new a b s
+        more s h = covers_more old new a b (λ c. stays c a c) (λ c d. stays c b d) s h
 
--- a slot that isn't on the stack isn't in
-first_out : (a b : ValueId) (stack : List ValueId) → All (λ u. u.0 ≢ a.0) stack → (r : Step) → FirstOutAt r → FirstOutAt (run (Both a b) r (map Allocates stack))
-first_out a b [] h r e = e
-first_out a b (v ∷ stack) h r e = first_out a b stack (All-tail (λ (u : ValueId). u.0 ≢ a.0) v stack h) (run (Both a b) r (Allocates v ∷ [])) (at r e (no_first a b v (All-head (λ (u : ValueId). u.0 ≢ a.0) v stack h) SecondIn FirstIn))
-  where
-    at : (r : Step) → FirstOutAt r → (pair_mark a b (Allocates v) ≡ None) ⊎ (pair_mark a b (Allocates v) ≡ Some SecondIn) → FirstOutAt (run (Both a b) r (Allocates v ∷ []))
-    at r (inl e) (inl m) = inl (ap (λ x. run (Both a b) x (Allocates v ∷ [])) e ∙ ap (step_in order_step 0) m)
-    at r (inl e) (inr m) = inr (ap (λ x. run (Both a b) x (Allocates v ∷ [])) e ∙ ap (step_in order_step 0) m)
-    at r (inr e) (inl m) = inr (ap (λ x. run (Both a b) x (Allocates v ∷ [])) e ∙ ap (step_in order_step 2) m)
-    at r (inr e) (inr m) = inr (ap (λ x. run (Both a b) x (Allocates v ∷ [])) e ∙ ap (step_in order_step 2) m)
+        first : v.0 ≡ a.0 → Contains new a
+        first e = subst (Contains new) (same_value v a e) there
 
-second_out : (a b : ValueId) (stack : List ValueId) → All (λ u. u.0 ≢ b.0) stack → (r : Step) → SecondOutAt r → SecondOutAt (run (Both a b) r (map Allocates stack))
-second_out a b [] h r e = e
-second_out a b (v ∷ stack) h r e = second_out a b stack (All-tail (λ (u : ValueId). u.0 ≢ b.0) v stack h) (run (Both a b) r (Allocates v ∷ [])) (at r e (no_other a b v (All-head (λ (u : ValueId). u.0 ≢ b.0) v stack h) SecondIn FirstIn))
-  where
-    at : (r : Step) → SecondOutAt r → (pair_mark a b (Allocates v) ≡ None) ⊎ (pair_mark a b (Allocates v) ≡ Some FirstIn) → SecondOutAt (run (Both a b) r (Allocates v ∷ []))
-    at r (inl e) (inl m) = inl (ap (λ x. run (Both a b) x (Allocates v ∷ [])) e ∙ ap (step_in order_step 0) m)
-    at r (inl e) (inr m) = inr (ap (λ x. run (Both a b) x (Allocates v ∷ [])) e ∙ ap (step_in order_step 0) m)
-    at r (inr e) (inl m) = inr (ap (λ x. run (Both a b) x (Allocates v ∷ [])) e ∙ ap (step_in order_step 1) m)
-    at r (inr e) (inr m) = inr (ap (λ x. run (Both a b) x (Allocates v ∷ [])) e ∙ ap (step_in order_step 1) m)
+        second : v.0 ≡ b.0 → Contains new b
+        second e = subst (Contains new) (same_value v b e) there
 
--- slots that go in break nothing
-goes_in : (a b v : ValueId) (s : ℕ) → Goes (run (Both a b) (Go s) (Allocates v ∷ []))
-unfolding Goes
-goes_in a b v s = at (v.0 == a.0) (v.0 == b.0) s
-  where
-    at : (t u : Bool) (s : ℕ) → (n : ℕ) × (step_in order_step s (cond t (Some FirstIn) (cond u (Some SecondIn) None)) ≡ Go n)
-    at true u zero = (1, refl)
-    at true u (suc zero) = (1, refl)
-    at true u (suc (suc zero)) = (4, refl)
-    at true u (suc (suc (suc zero))) = (3, refl)
-    at true u (suc (suc (suc (suc s)))) = (4, refl)
-    at false true zero = (2, refl)
-    at false true (suc zero) = (3, refl)
-    at false true (suc (suc zero)) = (2, refl)
-    at false true (suc (suc (suc zero))) = (3, refl)
-    at false true (suc (suc (suc (suc s)))) = (4, refl)
-    at false false s = (s, refl)
+        higher : v.0 ≡ b.0 → (v.0 == a.0) ≡ false → Contains old a → rank_at ranks a < rank_at ranks b
+        higher e n c = subst (λ w. rank_at ranks a < rank_at ranks w) (same_value v b e) (above c (λ same. differs n (sym same)))
+          where
+            differs : (v.0 == a.0) ≡ false → v.0 ≡ a.0 → ⊥
+            differs n same = no (sym n ∙ ap (λ k. k == a.0) same ∙ itself a.0)
+              where
+                no : false ≡ true → ⊥
+                no e = cc
 
-all_go_in : (a b : ValueId) (stack : List ValueId) (s : ℕ) → Goes (run (Both a b) (Go s) (map Allocates stack))
-unfolding Goes
-all_go_in a b [] s = (s, refl)
-all_go_in a b (v ∷ stack) s =
-    let one = goes_in a b v s in
-    let r = all_go_in a b stack one.0 in
-    (r.0, ap (λ x. run (Both a b) x (map Allocates stack)) one.1 ∙ r.1)
+                itself : (n : ℕ) → (n == n) ≡ true
+                itself n = search arith
 
-pub stacked_goes : (a b : ValueId) (stack : List ValueId) → (s : ℕ) × (stacked a b stack ≡ Go s)
-unfolding Goes
-stacked_goes a b stack = all_go_in a b stack 0
+        at : (t u : Bool) → (v.0 == a.0) ≡ t → (v.0 == b.0) ≡ u → (s : ℕ) → Covers ranks old a b s → GoesTo (Covers ranks new a b) (step_in order_step s (cond t (Some FirstIn) (cond u (Some SecondIn) None)))
+        at true u ea eb zero h = first (eqb-true v.0 a.0 ea)
+        at true u ea eb (suc zero) h = more 1 h
+        at true u ea eb (suc (suc zero)) h = first (eqb-true v.0 a.0 ea)
+        at true u ea eb (suc (suc (suc zero))) h = more 3 h
+        at true u ea eb (suc (suc (suc (suc s)))) h = more 4 h
+        at false true ea eb zero h = tt
+        at false true ea eb (suc zero) h = (stays h a h, second (eqb-true v.0 b.0 eb), higher (eqb-true v.0 b.0 eb) ea h)
+        at false true ea eb (suc (suc zero)) h = tt
+        at false true ea eb (suc (suc (suc zero))) h = more 3 h
+        at false true ea eb (suc (suc (suc (suc s)))) h = more 4 h
+        at false false ea eb s h = more s h
 
--- an access that means nothing
-pub quiet : (a b : ValueId) (x : Access) (stack : List ValueId) → pair_mark a b x ≡ None → run (Both a b) (stacked a b stack) (x ∷ []) ≡ stacked a b stack
-quiet a b x stack e =
-    let s = stacked_goes a b stack in
-    ap (λ r. run (Both a b) r (x ∷ [])) s.1 ∙ ap (step_in order_step s.0) e ∙ sym s.1
+    -- a slot goes out; if it is the first one, none stands above it
+    pub left : (v : ValueId) (old new : List ValueId) (a : ValueId) → ((u : ValueId) → u.0 ≢ v.0 → Contains old u → Contains new u) → (v.0 ≡ a.0 → (b : ValueId) → Contains old b → rank_at ranks a < rank_at ranks b → ⊥) →
+        Follows sources ranks old (Deallocates v ∷ []) new a
+    left v old new a stays highest sa b sb s h = at (v.0 == a.0) (v.0 == b.0) refl refl s h
+      where
+        differs : (w : ValueId) → (v.0 == w.0) ≡ false → w.0 ≢ v.0
+        differs w n same = no (sym n ∙ ap (λ k. v.0 == k) same ∙ itself v.0)
+          where
+            no : false ≡ true → ⊥
+            no e = cc
 
--- by the marks
-by_marks : (a b v : ValueId) (s : ℕ) → run (Both a b) (Go s) (Allocates v ∷ Deallocates v ∷ []) ≡ run (λ s o. step_in order_step s o) (Go s) (pair_mark a b (Allocates v) ∷ pair_mark a b (Deallocates v) ∷ [])
-by_marks a b v s = next (step_in order_step s (pair_mark a b (Allocates v)))
-  where
-    next : (q : Step) → run (Both a b) q (Deallocates v ∷ []) ≡ run (λ s o. step_in order_step s o) q (pair_mark a b (Deallocates v) ∷ [])
-    next (Go n) = refl
-    next (Bad n) = refl
+            itself : (n : ℕ) → (n == n) ≡ true
+            itself n = search arith
 
-abbrev InAndOut : Step → Bool → Bool → Type 0
-InAndOut r t u = run (λ s o. step_in order_step s o) r (cond t (Some FirstIn) (cond u (Some SecondIn) None) ∷ cond t (Some FirstOut) (cond u (Some SecondOut) None) ∷ []) ≡ r
+        at : (t u : Bool) → (v.0 == a.0) ≡ t → (v.0 == b.0) ≡ u → (s : ℕ) → Covers ranks old a b s → GoesTo (Covers ranks new a b) (step_in order_step s (cond t (Some FirstOut) (cond u (Some SecondOut) None)))
+        at true u ea eb zero h = tt
+        at true u ea eb (suc zero) h = tt
+        at true u ea eb (suc (suc zero)) h = tt
+        at true u ea eb (suc (suc (suc zero))) h = highest (eqb-true v.0 a.0 ea) b h.1 h.2
+        at true u ea eb (suc (suc (suc (suc s)))) h = tt
+        at false true ea eb zero h = tt
+        at false true ea eb (suc zero) h = stays a (differs a ea) h
+        at false true ea eb (suc (suc zero)) h = tt
+        at false true ea eb (suc (suc (suc zero))) h = stays a (differs a ea) h.0
+        at false true ea eb (suc (suc (suc (suc s)))) h = stays a (differs a ea) h
+        at false false ea eb s h = covers_more old new a b (stays a (differs a ea)) (λ c. stays b (differs b eb)) s h
 
--- a slot that goes in and out again
-in_and_out : (a b v : ValueId) (r : Step) → Goes r → (v.0 ≡ a.0 → FirstOutAt r) → (v.0 ≡ b.0 → SecondOutAt r) → run (Both a b) r (Allocates v ∷ Deallocates v ∷ []) ≡ r
-unfolding Goes
-in_and_out a b v r goes first second = at (v.0 == a.0) (v.0 == b.0) refl refl
-  where
-    by_first : FirstOutAt r → (u : Bool) → InAndOut r true u
-    by_first (inl e) u = ap (λ x. run (λ s o. step_in order_step s o) x (Some FirstIn ∷ Some FirstOut ∷ [])) e ∙ sym e
-    by_first (inr e) u = ap (λ x. run (λ s o. step_in order_step s o) x (Some FirstIn ∷ Some FirstOut ∷ [])) e ∙ sym e
+    pub none_followed : (stack : List ValueId) (a : ValueId) → Follows sources ranks stack [] stack a
+    none_followed stack a sa b sb s h = h
 
-    by_second : SecondOutAt r → InAndOut r false true
-    by_second (inl e) = ap (λ x. run (λ s o. step_in order_step s o) x (Some SecondIn ∷ Some SecondOut ∷ [])) e ∙ sym e
-    by_second (inr e) = ap (λ x. run (λ s o. step_in order_step s o) x (Some SecondIn ∷ Some SecondOut ∷ [])) e ∙ sym e
+    pub more_followed : (old mid new : List ValueId) (xs ys : List Access) (a : ValueId) → Follows sources ranks old xs mid a → Follows sources ranks mid ys new a → Follows sources ranks old (xs ++ ys) new a
+    more_followed old mid new xs ys a h k sa b sb s covered = goes_through (Both a b) (Covers ranks mid a b) (Covers ranks new a b) s xs ys (h sa b sb s covered) (λ t on. k sa b sb t on)
 
-    into : (x y : Option SlotMark) → pair_mark a b (Allocates v) ≡ x → pair_mark a b (Deallocates v) ≡ y → run (λ s o. step_in order_step s o) r (x ∷ y ∷ []) ≡ r → run (Both a b) r (Allocates v ∷ Deallocates v ∷ []) ≡ r
-    into x y ex ey h =
-        ap (λ q. run (Both a b) q (Allocates v ∷ Deallocates v ∷ [])) goes.1
-        ∙ by_marks a b v goes.0
-        ∙ ap (λ q. run (λ s o. step_in order_step s o) q (pair_mark a b (Allocates v) ∷ pair_mark a b (Deallocates v) ∷ [])) (sym goes.1)
-        ∙ ap (λ o. run (λ s o. step_in order_step s o) r (o ∷ pair_mark a b (Deallocates v) ∷ [])) ex
-        ∙ ap (λ o. run (λ s o. step_in order_step s o) r (x ∷ o ∷ [])) ey
-        ∙ h
+    module _ (accesses : ℕ → List Access) where
+      pub none_passed : (stack : List ValueId) (a : ValueId) → Passes sources ranks accesses stack [] stack a
+      none_passed stack a sa b sb s h = h
 
-    at : (t u : Bool) → (v.0 == a.0) ≡ t → (v.0 == b.0) ≡ u → run (Both a b) r (Allocates v ∷ Deallocates v ∷ []) ≡ r
-    at true u ea eb = into (Some FirstIn) (Some FirstOut) (ap (λ t. cond t (Some FirstIn) (cond (v.0 == b.0) (Some SecondIn) None)) ea) (ap (λ t. cond t (Some FirstOut) (cond (v.0 == b.0) (Some SecondOut) None)) ea) (by_first (first (eqb-true v.0 a.0 ea)) u)
-    at false true ea eb = into (Some SecondIn) (Some SecondOut) (ap (λ t. cond t (Some FirstIn) (cond (v.0 == b.0) (Some SecondIn) None)) ea ∙ ap (λ u. cond u (Some SecondIn) None) eb)
-        (ap (λ t. cond t (Some FirstOut) (cond (v.0 == b.0) (Some SecondOut) None)) ea ∙ ap (λ u. cond u (Some SecondOut) None) eb) (by_second (second (eqb-true v.0 b.0 eb)))
-    at false false ea eb = into None None (ap (λ t. cond t (Some FirstIn) (cond (v.0 == b.0) (Some SecondIn) None)) ea ∙ ap (λ u. cond u (Some SecondIn) None) eb)
-        (ap (λ t. cond t (Some FirstOut) (cond (v.0 == b.0) (Some SecondOut) None)) ea ∙ ap (λ u. cond u (Some SecondOut) None) eb)
-        (ap (λ x. run (λ s o. step_in order_step s o) x (None ∷ None ∷ [])) goes.1 ∙ sym goes.1)
+      pub more_passed : (old mid new : List ValueId) (xs ys : List ℕ) (a : ValueId) → Passes sources ranks accesses old xs mid a → Passes sources ranks accesses mid ys new a → Passes sources ranks accesses old (xs ++ ys) new a
+      more_passed old mid new xs ys a h k sa b sb s covered = goes_through (pair_step accesses a b) (Covers ranks mid a b) (Covers ranks new a b) s xs ys (h sa b sb s covered) (λ t on. k sa b sb t on)
 
-module _ (sources : List Source) where
-  pub entered : (v : ValueId) (stack : List ValueId) → Follows sources stack (Allocates v ∷ []) (stack ++ v ∷ [])
-  entered v stack a b sa sb = sym (stacked_more a b v stack)
+      pub item_passed : (old new : List ValueId) (i : ℕ) (a : ValueId) → Follows sources ranks old (accesses i) new a → Passes sources ranks accesses old (i ∷ []) new a
+      item_passed old new i a h sa b sb s covered = h sa b sb s covered
 
-  pub not_entered : (v : ValueId) (stack : List ValueId) → (IsSlot sources v → ⊥) → Follows sources stack (Allocates v ∷ []) stack
-  not_entered v stack outside a b sa sb = quiet a b (Allocates v) stack (at (v.0 == a.0) (v.0 == b.0) refl refl)
+      -- a stack that has all of the last one, if it has the slot
+      pub passed_within : (old mid new : List ValueId) (items : List ℕ) (a : ValueId) → (Contains mid a → All (Contains new) mid) → Passes sources ranks accesses old items mid a → Passes sources ranks accesses old items new a
+      passed_within old mid new items a within h sa b sb s covered =
+          on (run (pair_step accesses a b) (Go s) items) (h sa b sb s covered)
+        where
+          on : (r : Step) → GoesTo (Covers ranks mid a b) r → GoesTo (Covers ranks new a b) r
+          on (Go t) c = covers_more mid new a b (λ there. All-contains (Contains new) mid a (within there) there) (λ there other. All-contains (Contains new) mid b (within there) other) t c
+          on (Bad code) c = c
+
+  -- on a stack whose ranks rise each is below the top, and none above it
+  pub below_top : (new : List ValueId) (v : ValueId) → AreRising ranks (new ++ v ∷ []) → (b : ValueId) → Contains new b → rank_at ranks b < rank_at ranks v
+  below_top new v rising b there =
+      let size : length (new ++ v ∷ []) ≡ length new + 1 = length-append new (v ∷ []) in
+      let R : ValueId → ValueId → Type 0 = λ x y. rank_at ranks x < rank_at ranks y in
+      let here : get_or (new ++ v ∷ []) there.0 b ≡ b = get_or-append new (v ∷ []) b there.0 there.1 ∙ there.2 in
+      let top : get_or (new ++ v ∷ []) (length new) b ≡ v = get_or-append_seam new v [] b in
+      subst (λ x. R x v) here (subst (R (get_or (new ++ v ∷ []) there.0 b)) top (rising there.0 (length new) b there.1 (omega arith)))
+
+  pub top_highest : (old new : List ValueId) (v : ValueId) → old ≡ new ++ v ∷ [] → AreRising ranks old → (b : ValueId) → Contains old b → rank_at ranks v < rank_at ranks b → ⊥
+  top_highest old new v parts rising b there less = at (Contains-push_cases new v b (subst (λ l. Contains l b) parts there))
     where
-      at : (t u : Bool) → (v.0 == a.0) ≡ t → (v.0 == b.0) ≡ u → cond t (Some FirstIn) (cond u (Some SecondIn) None) ≡ None
-      at true u ea eb = absurd (outside (subst (IsSlot sources) (sym (same_value v a (eqb-true v.0 a.0 ea))) sa))
-      at false true ea eb = absurd (outside (subst (IsSlot sources) (sym (same_value v b (eqb-true v.0 b.0 eb))) sb))
-      at false false ea eb = refl
+      rising_new : AreRising ranks (new ++ v ∷ [])
+      rising_new = subst (AreRising ranks) parts rising
 
-  pub left : (v : ValueId) (old new : List ValueId) → old ≡ new ++ v ∷ [] → All (λ u. u.0 ≢ v.0) new → Follows sources old (Deallocates v ∷ []) new
-  unfolding Goes
-  left v old new parts lacks a b sa sb =
-      ap (λ l. run (Both a b) (stacked a b l) (Deallocates v ∷ [])) parts
-      ∙ ap (λ r. run (Both a b) r (Deallocates v ∷ [])) (stacked_more a b v new)
-      ∙ sym (run-append (Both a b) (stacked a b new) (Allocates v ∷ []) (Deallocates v ∷ []))
-      ∙ in_and_out a b v (stacked a b new) (stacked_goes a b new)
-      (λ e. first_out a b new (subst (λ (n : ℕ). All (λ (u : ValueId). u.0 ≢ n) new) e lacks) (Go 0) (inl refl))
-      (λ e. second_out a b new (subst (λ (n : ℕ). All (λ (u : ValueId). u.0 ≢ n) new) e lacks) (Go 0) (inl refl))
-
-  pub none_followed : (stack : List ValueId) → Follows sources stack [] stack
-  none_followed stack a b sa sb = refl
-
-  pub more_followed : (old mid new : List ValueId) (xs ys : List Access) → Follows sources old xs mid → Follows sources mid ys new → Follows sources old (xs ++ ys) new
-  more_followed old mid new xs ys h k a b sa sb = run-append (Both a b) (stacked a b old) xs ys ∙ ap (λ r. run (Both a b) r ys) (h a b sa sb) ∙ k a b sa sb
-
-  module _ (accesses : ℕ → List Access) where
-    pub none_passed : (stack : List ValueId) → Passes sources accesses stack [] stack
-    none_passed stack a b sa sb = refl
-
-    pub more_passed : (old mid new : List ValueId) (xs ys : List ℕ) → Passes sources accesses old xs mid → Passes sources accesses mid ys new → Passes sources accesses old (xs ++ ys) new
-    more_passed old mid new xs ys h k a b sa sb = run-append (pair_step accesses a b) (stacked a b old) xs ys ∙ ap (λ r. run (pair_step accesses a b) r ys) (h a b sa sb) ∙ k a b sa sb
-
-    pub item_passed : (old new : List ValueId) (i : ℕ) → Follows sources old (accesses i) new → Passes sources accesses old (i ∷ []) new
-    item_passed old new i h a b sa sb =
-        let s = stacked_goes a b old in
-        ap (λ r. run (pair_step accesses a b) r (i ∷ [])) s.1 ∙ ap (λ r. run (Both a b) r (accesses i)) (sym s.1) ∙ h a b sa sb
+      at : Contains new b ⊎ (v ≡ b) → ⊥
+      at (inl c) = let lt = below_top new v rising_new b c in omega arith
+      at (inr e) = let same : rank_at ranks v ≡ rank_at ranks b = ap (rank_at ranks) e in omega arith

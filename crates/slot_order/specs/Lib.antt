@@ -3,4 +3,8 @@ pub mod Laws
 pub mod Marks
 pub mod Pairs
 pub mod Searches
+pub mod Trust
 pub mod Nesting
+pub mod Followed
+pub mod Touched
+pub mod Chunks

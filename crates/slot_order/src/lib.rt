@@ -2,7 +2,10 @@
 //! It knows what an item does to memory, and of no instruction.
 #![tactic(auto)]
 
+mod chunk;
 mod crossing;
+mod deallocated;
+mod doubts;
 mod first;
 mod guess;
 mod laws;
@@ -10,8 +13,12 @@ mod mark;
 mod nearest;
 mod nested;
 mod pair;
+mod rivals;
+mod search;
 mod slots;
 mod stack;
+mod touched;
+mod walk_order;
 
 pub use crossing::Crossing;
 pub use first::first_crossing;

@@ -5,4 +5,4 @@ use Rattle.slot_order.specs.Searches.{IsUncrossed}
 use Rattle.slot_order.proofs.first.first_crossing.Given as goal
 
 abbrev pub invariant-loop-first : goal.invariant-loop-first
-invariant-loop-first l = All (λ a. All (IsUncrossed l.g (accesses_at l.accesses) a) l.first-items) (take l.first-index l.first-items)
+invariant-loop-first l = All (λ a. All (IsUncrossed l.g (accesses_at l.accesses) a) l.slots) (take l.first-index l.slots)

@@ -1,4 +1,4 @@
-use Rattle.std.proofs.Common.{ℕ, List, subst}
+use Rattle.std.proofs.Common.{subst}
 use Rattle.sil_cfg.specs.Flow.{numbered}
 use Rattle.reach_engine.specs.Reach.{ReachesPoint}
 use Rattle.reach_engine.specs.Search.{IfFault, IsShortest}

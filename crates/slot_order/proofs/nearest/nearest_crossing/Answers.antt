@@ -1,4 +1,4 @@
-use Rattle.std.proofs.Common.{subst, take, arith}
+use Rattle.std.proofs.Common.{subst, arith}
 use Rattle.std.proofs.lemmas.List.{take_all}
 use Rattle.path_patterns.specs.Reads.{accesses_at}
 use Rattle.slot_order.specs.Searches.{IsNearest}
