@@ -1,4 +1,4 @@
--- What following stacks along accesses gives: slots that aren't in doubt then are covered on.
+-- What following a stack along accesses gives.
 use Rattle.std.specs.Prelude.{◌≡◌, ℕ, ◌-◌, ◌<◌, List, ◌∷◌, [], ◌++◌, length, get_or, take}
 use Rattle.sil_ast.specs.declared.place.ValueId.{ValueId}
 use Rattle.memory_accesses.specs.declared.access.Access.{Access}
@@ -7,11 +7,13 @@ use Rattle.slot_order.specs.declared.doubts.Doubts.{Doubts}
 use Rattle.slot_order.specs.Nesting.{AreRising, Follows, Passes}
 use Rattle.slot_order.specs.Trust.{IsTrusted, Keeps}
 
+-- doubts are kept, ranks go on to rise, and the new stack covers each slot that isn't in doubt wherever the old one does
 pub record AreFollowed (sources : List Source) (ranks : List ℕ) (old : List ValueId) (accesses : List Access) (new : List ValueId) (was is : Doubts) : Type 0 where
   pub keeps : Keeps was is
   pub rising : AreRising ranks old → AreRising ranks new
   pub follows : AreRising ranks old → (a : ValueId) → IsTrusted is a → Follows sources ranks old accesses new a
 
+-- the same along items
 pub record ArePassed (sources : List Source) (ranks : List ℕ) (accesses : ℕ → List Access) (old : List ValueId) (items : List ℕ) (new : List ValueId) (was is : Doubts) : Type 0 where
   pub keeps : Keeps was is
   pub rising : AreRising ranks old → AreRising ranks new

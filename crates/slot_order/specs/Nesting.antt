@@ -1,4 +1,4 @@
--- What shows that a slot is never deallocated before a later one: for each block the slots that may be allocated at its entry, and a rank for each slot.
+-- What shows that a slot is never deallocated before a later one: a rank for each slot, and for each block a stack of those that may be allocated at its entry.
 use Rattle.std.specs.Prelude.{◌≡◌, ℕ, zero, suc, ◌<◌, List, [], ◌∷◌, All, Contains, AllPairs, slice_get, unwrap_or, Option, Some, None}
 use Rattle.std.specs.declared.alloc.Global.{Global}
 use Rattle.std.specs.declared.vec.Vec.{Vec}
