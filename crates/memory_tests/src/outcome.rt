@@ -1,0 +1,82 @@
+//! What the checks of memory answer, as a text.
+
+ghost use Rattle.ownership_kinds.specs.Ends.{IsOfNumberedModule};
+
+use memory_rules::{check, check_static};
+use ownership_kinds::kinds_in;
+use sil_ast::{Function, Module};
+use sil_cfg::{Graph, RuleEnd, RuleFault, has_graph};
+use sil_grammar::{ReadRefusal, read};
+use sil_types::{TypeRefusal, TypeTable};
+use std::alloc::{AllocError, Global};
+use std::process::Abort;
+use std::test::Fail;
+
+/// The declarations before the functions of each text.
+const DECLARATIONS: &str =
+    "import Builtin import Swift class C { } class F { var x: Builtin.Int64 } struct P { var a: Builtin.Int64 var b: Builtin.Int64 }";
+
+/// The answers to the first of these functions: of all rules on memory, and of 608 and 611 alone.
+pub fn outcome(rt: &impl Abort, alloc: Global, functions: &str) -> Result<String, Fail> {
+    let text = format!(in alloc; "{DECLARATIONS} {functions}")?;
+    assert!(rt; text.len() <= 1_048_576);
+    let module = match read(alloc, text.as_bytes()) {
+        Err(ReadRefusal::Memory) => return Err(Fail::from(AllocError)),
+        Err(_refusal) => return Ok(String::from_str(alloc, "not a module")?),
+        Ok(module) => module,
+    };
+    let table = match TypeTable::build(alloc, &module) {
+        Err(TypeRefusal::Memory) => return Err(Fail::from(AllocError)),
+        Err(_refusal) => return Ok(String::from_str(alloc, "no type table")?),
+        Ok(table) => table,
+    };
+    match module.functions.get(0) {
+        None => Ok(String::from_str(alloc, "no function")?),
+        Some(f) => answers(rt, alloc, &table, f),
+    }
+}
+
+fn answers(
+    rt: &impl Abort,
+    alloc: Global,
+    table: &TypeTable,
+    f: &Function,
+) -> Result<String, Fail>
+    requires { IsOfNumberedModule f.now }
+{
+    assert!(rt; has_graph(f));
+    let g = Graph::build(alloc, f)?;
+    match kinds_in(alloc, f, &g, table) {
+        Err(end) => told(alloc, Err(end)),
+        Ok(kinds) => {
+            let all = told(alloc, check(alloc, f, &g, &kinds, table))?;
+            let statics = told(alloc, check_static(alloc, f, &kinds, table))?;
+            Ok(format!(in alloc; "{all}; {statics}")?)
+        }
+    }
+}
+
+/// `kept`, or what is broken.
+fn told(alloc: Global, end: Result<(), RuleEnd>) -> Result<String, Fail> {
+    match end {
+        Ok(()) => Ok(String::from_str(alloc, "kept")?),
+        Err(RuleEnd::Memory) => Err(Fail::from(AllocError)),
+        Err(RuleEnd::Fault(fault)) => told_fault(alloc, &fault),
+    }
+}
+
+/// The rule, the value, the other one that takes part, the point, and each edge of the walk.
+fn told_fault(alloc: Global, fault: &RuleFault) -> Result<String, Fail> {
+    let mut text = format!(in alloc; "{} %{}", fault.rule, fault.subject.0)?;
+    if let Some(other) = fault.other {
+        let part = format!(in alloc; " %{}", other.0)?;
+        text.push_str(&part)?;
+    }
+    let place = format!(in alloc; " bb{}:{}", fault.point.block.0, fault.point.index)?;
+    text.push_str(&place)?;
+    for edge in fault.walk.as_slice() {
+        let step = format!(in alloc; " {}.{}", edge.block.0, edge.index)?;
+        text.push_str(&step)?;
+    }
+    Ok(text)
+}
