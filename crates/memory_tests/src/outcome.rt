@@ -36,12 +36,7 @@ pub fn outcome(rt: &impl Abort, alloc: Global, functions: &str) -> Result<String
     }
 }
 
-fn answers(
-    rt: &impl Abort,
-    alloc: Global,
-    table: &TypeTable,
-    f: &Function,
-) -> Result<String, Fail>
+fn answers(rt: &impl Abort, alloc: Global, table: &TypeTable, f: &Function) -> Result<String, Fail>
     requires { IsOfNumberedModule f.now }
 {
     assert!(rt; has_graph(f));
