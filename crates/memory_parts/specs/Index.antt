@@ -1,5 +1,5 @@
 -- An index of parts: in which rows the number of a part is found.
-use Rattle.std.specs.Prelude.{◌≡◌, ℕ, ◌+◌, ◌%◌, List, All, Contains, slice_get, Option, Some, None}
+use Rattle.std.specs.Prelude.{◌≡◌, ℕ, ◌+◌, ◌*◌, ◌%◌, List, All, Contains, slice_get, Option, Some, None}
 use Rattle.std.specs.declared.alloc.Global.{Global}
 use Rattle.std.specs.declared.vec.Vec.{Vec}
 use Rattle.sil_ast.specs.declared.place.ValueId.{ValueId}
@@ -23,10 +23,10 @@ cell_row cell = field_row (value_row cell.subject) cell.field
 
 -- the row of a key
 abbrev pub row_of : Key → ℕ
-row_of (Turned v) = value_row v
-row_of (Named v) = 1024 + value_row v
-row_of (Operated cell) = 2048 + cell_row cell
-row_of (Written v) = 3072 + value_row v
+row_of (Turned v) = 4 * value_row v
+row_of (Named v) = 4 * value_row v + 1
+row_of (Operated cell) = 4 * cell_row cell + 2
+row_of (Written v) = 4 * value_row v + 3
 
 abbrev pub row_at : List (Vec ℕ Global) → Key → List ℕ
 row_at rows key = accesses_at rows (row_of key)

@@ -15,6 +15,9 @@ use std::alloc::Global;
 /// How many rows there are at most for each kind of key.
 const ROWS: usize = 1024;
 
+/// How many kinds of keys there are. The rows of one value stand beside each other, so that there are no more than values need.
+const KINDS: usize = 4;
+
 fn value_row(value: ValueId) -> usize
     ensures { result ≡ index.value_row value }
 {
@@ -35,10 +38,10 @@ fn row_of(key: Key) -> usize
     ensures { result ≡ index.row_of key }
 {
     match key {
-        Key::Turned(v) => value_row(v),
-        Key::Named(v) => ROWS + value_row(v),
-        Key::Operated(cell) => 2 * ROWS + cell_row(cell),
-        Key::Written(v) => 3 * ROWS + value_row(v),
+        Key::Turned(v) => KINDS * value_row(v),
+        Key::Named(v) => KINDS * value_row(v) + 1,
+        Key::Operated(cell) => KINDS * cell_row(cell) + 2,
+        Key::Written(v) => KINDS * value_row(v) + 3,
     }
 }
 
