@@ -1,5 +1,6 @@
 //! What the checks of memory answer, as a text.
 
+ghost use Rattle.numbered_form.specs.NumberedForm.{IsNumbered};
 ghost use Rattle.ownership_kinds.specs.Ends.{IsOfNumberedModule};
 
 use memory_rules::{check, check_static};
@@ -20,19 +21,23 @@ const DECLARATIONS: &str =
 pub fn outcome(rt: &impl Abort, alloc: Global, functions: &str) -> Result<String, Fail> {
     let text = format!(in alloc; "{DECLARATIONS} {functions}")?;
     assert!(rt; text.len() <= 1_048_576);
-    let module = match read(alloc, text.as_bytes()) {
-        Err(ReadRefusal::Memory) => return Err(Fail::from(AllocError)),
-        Err(_refusal) => return Ok(String::from_str(alloc, "not a module")?),
-        Ok(module) => module,
-    };
-    let table = match TypeTable::build(alloc, &module) {
-        Err(TypeRefusal::Memory) => return Err(Fail::from(AllocError)),
-        Err(_refusal) => return Ok(String::from_str(alloc, "no type table")?),
-        Ok(table) => table,
-    };
-    match module.functions.get(0) {
-        None => Ok(String::from_str(alloc, "no function")?),
-        Some(f) => answers(rt, alloc, &table, f),
+    match read(alloc, text.as_bytes()) {
+        Err(ReadRefusal::Memory) => Err(Fail::from(AllocError)),
+        Err(_refusal) => Ok(String::from_str(alloc, "not a module")?),
+        Ok(module) => module_outcome(rt, alloc, &module),
+    }
+}
+
+fn module_outcome(rt: &impl Abort, alloc: Global, module: &Module) -> Result<String, Fail>
+    requires { IsNumbered module.now }
+{
+    match TypeTable::build(alloc, module) {
+        Err(TypeRefusal::Memory) => Err(Fail::from(AllocError)),
+        Err(_refusal) => Ok(String::from_str(alloc, "no type table")?),
+        Ok(table) => match module.functions.get(0) {
+            None => Ok(String::from_str(alloc, "no function")?),
+            Some(f) => answers(rt, alloc, &table, f),
+        },
     }
 }
 
@@ -44,11 +49,23 @@ fn answers(rt: &impl Abort, alloc: Global, table: &TypeTable, f: &Function) -> R
     match kinds_in(alloc, f, &g, table) {
         Err(end) => told(alloc, Err(end)),
         Ok(kinds) => {
-            let all = told(alloc, check(alloc, f, &g, &kinds, table))?;
-            let statics = told(alloc, check_static(alloc, f, &kinds, table))?;
-            Ok(format!(in alloc; "{all}; {statics}")?)
+            let all = check(alloc, f, &g, &kinds, table);
+            let statics = check_static(alloc, f, &kinds, table);
+            told_both(alloc, all, statics)
         }
     }
+}
+
+fn told_both(
+    alloc: Global,
+    all: Result<(), RuleEnd>,
+    statics: Result<(), RuleEnd>,
+) -> Result<String, Fail> {
+    let mut text = told(alloc, all)?;
+    text.push_str("; ")?;
+    let more = told(alloc, statics)?;
+    text.push_str(&more)?;
+    Ok(text)
 }
 
 /// `kept`, or what is broken.
