@@ -1,0 +1,2 @@
+mod ClassNumbers
+mod WordSpellings
