@@ -6,7 +6,6 @@ use Rattle.sil_shape.specs.declared.classes.AtWord.TheVariants as a
 use Rattle.sil_shape.specs.declared.classes.Punctuation.TheVariants as m
 use Rattle.sil_shape.specs.declared.classes.Class.{Class}
 use Rattle.sil_shape.specs.declared.classes.Class.TheVariants as c
-use Rattle.sil_shape.specs.declared.grammar.Terminal.TheVariants as t
 use Rattle.sil_shape.specs.Accepts.{accepts, keyword_number, at_number, punctuation_number, class_number}
 use Rattle.sil_shape.proofs.Numbered.{all_looks}
 use Rattle.token_class_laws.specs.Laws.{HaveOwnNumbers, StandsForItself}
