@@ -1,12 +1,12 @@
 -- Which value each borrow lends.
 use Rattle.std.specs.Prelude.{ℕ, List, ◌++◌, ◌==◌, Bool, Option, None, cond, length, replicate, slice_get, unwrap_or}
 use Rattle.std.specs.List.{flat_map}
-use Rattle.sil_ast.specs.Forms.{number_of}
+use Rattle.instruction_table.specs.Forms.{number_of}
 use Rattle.sil_ast.specs.declared.function.Block.{Block}
 use Rattle.sil_ast.specs.declared.function.Function.{Function}
 use Rattle.sil_ast.specs.declared.inst.Inst.{Inst}
-use Rattle.sil_ast.specs.declared.op.Op.{Op}
-use Rattle.sil_ast.specs.declared.op.Op.TheVariants as op
+use Rattle.instruction_table.specs.declared.op.Op.{Op}
+use Rattle.instruction_table.specs.declared.op.Op.TheVariants as op
 use Rattle.sil_ast.specs.declared.place.ValueId.{ValueId}
 use Rattle.numbered_form.specs.Insts.{insts_of}
 use Rattle.value_origins.specs.Switched.{first_value}

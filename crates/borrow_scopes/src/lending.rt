@@ -5,7 +5,8 @@ ghost use Rattle.std.specs.List.{flat_map};
 ghost use Rattle.borrow_scopes.specs.Lending as lending;
 ghost use Rattle.borrow_scopes.specs.Lending.{block_loans, inst_loans};
 
-use sil_ast::{Block, Exhausted, Function, Inst, Op, ValueId};
+use instruction_table::Op;
+use sil_ast::{Block, Exhausted, Function, Inst, ValueId};
 use std::alloc::Global;
 use value_origins::first_value;
 

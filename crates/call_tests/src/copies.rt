@@ -1,6 +1,7 @@
 //! How lists and texts grow, how deep a type is, and one row of the table of instructions.
 
-use sil_ast::{Boxed, Exhausted, List, Module, Op, Part, Text, TypeName, ValueId, row_of};
+use instruction_table::{Op, Part, row_of};
+use sil_ast::{Boxed, Exhausted, List, Module, Text, TypeName, ValueId};
 use sil_grammar::{ReadRefusal, read};
 use std::alloc::{AllocError, Global};
 use std::process::Abort;

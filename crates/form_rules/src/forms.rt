@@ -7,9 +7,8 @@ ghost use Rattle.sil_types.specs.Typing.Shapes as shape;
 ghost use Rattle.sil_types.specs.Typing.SignatureRules as signature;
 
 use crate::parts::{args_of, is_lowered, written_target};
-use sil_ast::{
-    ArgKind, BlockArg, Form, Function, InForms, Inst, Module, Qualifier, TypeName, forms_of,
-};
+use instruction_table::{InForms, forms_of};
+use sil_ast::{ArgKind, BlockArg, Form, Function, Inst, Module, Qualifier, TypeName};
 
 /// The form of the first function that has a body.
 pub fn first_form(m: &Module) -> Option<Form>

@@ -5,7 +5,8 @@ ghost use Rattle.sil_types.specs.Typing.FormRules as rules;
 ghost use Rattle.sil_types.specs.Typing.Shapes as shape;
 
 use crate::parts::written_target;
-use sil_ast::{Form, Function, Inst, Qualifier, TypeName, TypeWords, type_words_of};
+use instruction_table::{TypeWords, type_words_of};
+use sil_ast::{Form, Function, Inst, Qualifier, TypeName};
 use sil_types::TypeTable;
 
 /// Whether, in ownership form, the word in brackets isn't one for the type at the instruction's address, or there is none where

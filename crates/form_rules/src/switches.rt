@@ -11,7 +11,8 @@ ghost use Rattle.form_rules.specs.Incoming.{AreIncoming};
 use crate::parts::written;
 use crate::payloads::fit_edges;
 use crate::switch_cases::{are_of_enum, has_each_case_once};
-use sil_ast::{Edge, Ending, Function, Inst, TypeName, ending_of};
+use instruction_table::{Ending, ending_of};
+use sil_ast::{Edge, Function, Inst, TypeName};
 use sil_types::TypeTable;
 
 /// Whether a `switch_enum` repeats a case, names one of another enum, or leaves one out without a default; or a block that it

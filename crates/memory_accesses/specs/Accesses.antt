@@ -1,10 +1,10 @@
 -- What an item does to memory and to the values that are lent, step by step.
 use Rattle.std.specs.Prelude.{List, [], ◌∷◌, ◌++◌, cond, map, slice_get, slice_index_or, Option, Some, None}
 use Rattle.std.specs.List.{flat_map}
-use Rattle.sil_ast.specs.Forms.{number_of}
+use Rattle.instruction_table.specs.Forms.{number_of}
 use Rattle.sil_ast.specs.declared.function.Function.{Function}
 use Rattle.sil_ast.specs.declared.inst.Inst as inst
-use Rattle.sil_ast.specs.declared.op.Op.{Op}
+use Rattle.instruction_table.specs.declared.op.Op.{Op}
 use Rattle.sil_ast.specs.declared.place.ValueId.{ValueId}
 use Rattle.sil_cfg.specs.declared.item.Item.{Item}
 use Rattle.sil_cfg.specs.declared.item.Item.TheVariants.{Entry, Inst, Edge, Exit}

@@ -1,13 +1,13 @@
 -- What an instruction does to the locations at its addresses.
 use Rattle.std.specs.Prelude.{List, [], ◌∷◌, Bool, true, false, cond, slice_index_or, Option, Some, None}
 use Rattle.std.specs.List.{flat_map}
-use Rattle.sil_ast.specs.Forms.{number_of}
-use Rattle.sil_ast.specs.declared.entries.Role.{Role}
-use Rattle.sil_ast.specs.declared.entries.Role.TheVariants as role
+use Rattle.instruction_table.specs.Forms.{number_of}
+use Rattle.instruction_table.specs.declared.entries.Role.{Role}
+use Rattle.instruction_table.specs.declared.entries.Role.TheVariants as role
 use Rattle.sil_ast.specs.declared.inst.Inst.{Inst}
 use Rattle.sil_ast.specs.declared.inst.Qualifier.{Qualifier}
 use Rattle.sil_ast.specs.declared.inst.Qualifier.TheVariants as word
-use Rattle.sil_ast.specs.declared.op.Op.{Op}
+use Rattle.instruction_table.specs.declared.op.Op.{Op}
 use Rattle.sil_ast.specs.declared.place.ValueId.{ValueId}
 use Rattle.ownership_marks.specs.Roles.{taken_by}
 use Rattle.ownership_marks.specs.declared.taken.Taken.{Taken}

@@ -9,7 +9,7 @@ use crate::columns::AccessKind::{
     NamesElement, NamesField, NamesMember, NoAccess, Passes, Stores,
 };
 use crate::columns::Allowance::{BothOfThem, BuildingBorrow, FreshObject, NeitherOfThem};
-use sil_ast::Op;
+use instruction_table::Op;
 
 /// What an instruction does to memory.
 #[derive(Clone, Copy, PartialEq, Eq)]

@@ -28,13 +28,13 @@ pub fn outcome(rt: &impl Abort, alloc: Global, functions: &str) -> Result<String
     }
 }
 
-fn module_outcome(rt: &impl Abort, alloc: Global, module: &Module) -> Result<String, Fail>
-    requires { IsNumbered module.now }
+fn module_outcome(rt: &impl Abort, alloc: Global, m: &Module) -> Result<String, Fail>
+    requires { IsNumbered m.now }
 {
-    match TypeTable::build(alloc, module) {
+    match TypeTable::build(alloc, m) {
         Err(TypeRefusal::Memory) => Err(Fail::from(AllocError)),
         Err(_refusal) => Ok(String::from_str(alloc, "no type table")?),
-        Ok(table) => match module.functions.get(0) {
+        Ok(table) => match m.functions.get(0) {
             None => Ok(String::from_str(alloc, "no function")?),
             Some(f) => answers(rt, alloc, &table, f),
         },

@@ -7,7 +7,8 @@ ghost use Rattle.name_resolution.specs.Numbered.{named, nothing_numbered, with_v
 ghost use Rattle.name_resolution.specs.Resolved.{defined_by, defined_by_arg, defined_by_inst, defined_in};
 
 use crate::numbering::Numbering;
-use sil_ast::{Exhausted, has_one_result};
+use instruction_table::has_one_result;
+use sil_ast::Exhausted;
 use std::alloc::Global;
 use written_tree::{WrittenArg, WrittenBlock, WrittenInst, WrittenItem, WrittenToken};
 

@@ -2,8 +2,8 @@
 use Rattle.std.proofs.Common.{◌≡◌, ℕ, ◌+◌, suc, List, [], ◌∷◌, length, true, false, ap, sym, refl, true≢false}
 use Rattle.sil_ast.specs.declared.function.Block.{Block}
 use Rattle.sil_ast.specs.declared.inst.Inst.{Inst}
-use Rattle.sil_ast.specs.declared.op.Op.{Op}
-use Rattle.sil_ast.specs.declared.op.Op.TheVariants as op
+use Rattle.instruction_table.specs.declared.op.Op.{Op}
+use Rattle.instruction_table.specs.declared.op.Op.TheVariants as op
 use Rattle.written_tree.specs.declared.written_declarations.WrittenToken.{WrittenToken}
 use Rattle.written_tree.specs.declared.written_functions.WrittenArg.{WrittenArg}
 use Rattle.written_tree.specs.declared.written_functions.WrittenBlock.{WrittenBlock}
@@ -12,7 +12,7 @@ use Rattle.name_resolution.specs.Resolved.{Scope, counted, defined_by, defined_b
 use Rattle.numbered_form.specs.Lists.{Each}
 use Rattle.numbered_form.specs.Insts.{EachInBlock}
 use Rattle.numbered_form.specs.Limits.{IsBlockInLimits, IsInstInLimits}
-use Rattle.sil_ast.specs.Forms.{has_one_result, is_terminator}
+use Rattle.instruction_table.specs.Forms.{has_one_result, is_terminator}
 use Rattle.numbered_form.specs.Parts.{BlockHasParts, IsInside}
 use Rattle.numbered_form.specs.Types.{HasArgType, HasBlockTypes, HasInstTypes}
 use Rattle.numbered_reading_laws.proofs.FaultlessParts.{IsGoodArg, IsGoodBlock, IsGoodEnd, IsGoodInside, IsGoodInst}

@@ -42,10 +42,10 @@ use Rattle.numbered_form.specs.Fields.{HasStrongFields}
 use Rattle.numbered_form.specs.Limits.{IsDeclInLimits, IsEdgeInLimits, IsInstInLimits, IsSignatureInLimits}
 use Rattle.numbered_form.specs.Literals.{HasLiterals}
 use Rattle.numbered_form.specs.Names.{IsDeclSpelled, IsEdgeSpelled, IsInstSpelled, IsMemberSpelled, IsWord, is_at_name, is_quotable}
-use Rattle.sil_ast.specs.Forms.{is_terminator}
+use Rattle.instruction_table.specs.Forms.{is_terminator}
 use Rattle.numbered_form.specs.Parts.{HasItsParts, are_cases, has_operands, is_branch, is_plain_or_init, is_plain_or_take, is_typed}
 use Rattle.numbered_form.specs.Types.{HasDeclTypes, HasEdgeTypes, HasGivenType, HasInstTypes, HasOperandType, HasParamType, HasSignatureTypes, IsPlacedType, IsPlainType, is_plain_type, same}
-use Rattle.sil_ast.specs.declared.op.Op.TheVariants as op
+use Rattle.instruction_table.specs.declared.op.Op.TheVariants as op
 use Rattle.numbered_reading_laws.specs.Leaves.{IsTextOf}
 
 -- types

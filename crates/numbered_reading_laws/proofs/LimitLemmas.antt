@@ -6,8 +6,8 @@ use Rattle.sil_ast.specs.declared.function.Block.{Block}
 use Rattle.sil_ast.specs.declared.inst.Inst.{Inst}
 use Rattle.sil_ast.specs.declared.inst.Qualifier.{Qualifier}
 use Rattle.sil_ast.specs.declared.inst.Qualifier.TheVariants as qualifier
-use Rattle.sil_ast.specs.declared.op.Op.{Op}
-use Rattle.sil_ast.specs.declared.op.Op.TheVariants as op
+use Rattle.instruction_table.specs.declared.op.Op.{Op}
+use Rattle.instruction_table.specs.declared.op.Op.TheVariants as op
 use Rattle.sil_ast.specs.declared.place.Place.{Place}
 use Rattle.written_tree.specs.declared.written_declarations.WrittenToken.{WrittenToken}
 use Rattle.written_tree.specs.declared.written_functions.WrittenBlock.{WrittenBlock}
@@ -24,7 +24,7 @@ use Rattle.numbered_form.specs.Insts.{insts_in, insts_of}
 use Rattle.numbered_form.specs.Limits.{AreLimitsKept, IsBlockInLimits, IsDeclInLimits, IsFunctionInLimits, inst_takes_value, takes_value, value_count}
 use Rattle.numbered_form.specs.Numbering.{results_of, value_of, values_of}
 use Rattle.numbered_form.specs.Numbering as numbering
-use Rattle.sil_ast.specs.Forms.{has_one_result, is_terminator}
+use Rattle.instruction_table.specs.Forms.{has_one_result, is_terminator}
 use Rattle.numbered_reading_laws.proofs.BlockLemmas.{Each-blocks, block_limits, end_defines_none, length-args, length-blocks}
 use Rattle.numbered_reading_laws.proofs.FieldLemmas.{in_decls, in_functions}
 use Rattle.numbered_reading_laws.proofs.FaultlessParts.{IsGoodBlock, IsGoodEnd, IsGoodFunction, IsGoodModule}

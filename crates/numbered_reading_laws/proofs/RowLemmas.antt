@@ -3,10 +3,10 @@ use Rattle.std.proofs.Common.{◌≡◌, ℕ, suc, ◌≤◌, ◌+◌, List, [],
 use Rattle.std.specs.List.{list_any}
 use Rattle.std.specs.Option.{option_map}
 use Rattle.std.proofs.lemmas.List.{length-map}
-use Rattle.sil_ast.specs.Forms.{has_one_result, parts_of}
-use Rattle.sil_ast.specs.declared.forms.Part.{Part}
-use Rattle.sil_ast.specs.declared.op.Op.{Op}
-use Rattle.sil_ast.specs.declared.op.Op.TheVariants as op
+use Rattle.instruction_table.specs.Forms.{has_one_result, parts_of}
+use Rattle.instruction_table.specs.declared.forms.Part.{Part}
+use Rattle.instruction_table.specs.declared.op.Op.{Op}
+use Rattle.instruction_table.specs.declared.op.Op.TheVariants as op
 use Rattle.sil_ast.specs.declared.signature.Signature.{Signature}
 use Rattle.written_tree.specs.declared.written_declarations.WrittenToken.{WrittenToken}
 use Rattle.written_tree.specs.declared.written_instructions.WrittenInst.{WrittenInst}

@@ -1,13 +1,13 @@
 -- 302 to 305: what holds of kinds, whether a walk goes there or not.
 use Rattle.std.specs.Prelude.{◌≡◌, ◌⊎◌, ℕ, ◌<◌, List, [], ◌∷◌, ◌++◌, Bool, true, false, not, ◌&&◌, ◌||◌, ◌==◌, Option, Some, None, is_none, Contains, find, map, slice_get, length, replicate, unwrap_or}
 use Rattle.std.specs.List.{flat_map, list_any}
-use Rattle.sil_ast.specs.Forms.{ending_of, result_kind_of}
-use Rattle.sil_ast.specs.declared.entries.Ending.{Ending}
-use Rattle.sil_ast.specs.declared.entries.Ending.TheVariants as ending
-use Rattle.sil_ast.specs.declared.entries.ResultKind.{ResultKind}
-use Rattle.sil_ast.specs.declared.entries.ResultKind.TheVariants.{NoneResult, OwnedResult, ScopeResult, AddressResult, ForwardedResult, OperandResult}
-use Rattle.sil_ast.specs.declared.entries.Role.{Role}
-use Rattle.sil_ast.specs.declared.entries.Role.TheVariants as role
+use Rattle.instruction_table.specs.Forms.{ending_of, result_kind_of}
+use Rattle.instruction_table.specs.declared.entries.Ending.{Ending}
+use Rattle.instruction_table.specs.declared.entries.Ending.TheVariants as ending
+use Rattle.instruction_table.specs.declared.entries.ResultKind.{ResultKind}
+use Rattle.instruction_table.specs.declared.entries.ResultKind.TheVariants.{NoneResult, OwnedResult, ScopeResult, AddressResult, ForwardedResult, OperandResult}
+use Rattle.instruction_table.specs.declared.entries.Role.{Role}
+use Rattle.instruction_table.specs.declared.entries.Role.TheVariants as role
 use Rattle.sil_ast.specs.declared.function.ArgKind.{ArgKind}
 use Rattle.sil_ast.specs.declared.function.ArgKind.TheVariants as annotation
 use Rattle.sil_ast.specs.declared.function.Block.{Block}

@@ -2,11 +2,12 @@
 
 ghost use Rattle.std.specs.Prelude.{◌≡◌, ◌++◌, IfOk, OnOk, length, replicate};
 ghost use Rattle.std.specs.List.{flat_map};
-ghost use Rattle.sil_ast.specs.Forms as form;
+ghost use Rattle.instruction_table.specs.Forms as form;
 ghost use Rattle.ownership_kinds.specs.Statics as statics;
 ghost use Rattle.ownership_kinds.specs.Statics.{block_borrows, borrows_by, result_borrows};
 
-use sil_ast::{Block, Exhausted, Function, Inst, Op, ResultKind, ValueId, result_kind_of};
+use instruction_table::{Op, ResultKind, result_kind_of};
+use sil_ast::{Block, Exhausted, Function, Inst, ValueId};
 use std::alloc::Global;
 
 /// Whether an instruction's result is a borrow.

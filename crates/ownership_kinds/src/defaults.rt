@@ -9,7 +9,8 @@ ghost use Rattle.ownership_kinds.specs.Statics as statics;
 use crate::fault::{StaticFault, lesser};
 use crate::kinds::{is_guaranteed, is_owned};
 use forwarding_chains::{Facts, kind_of};
-use sil_ast::{Edge, Ending, Function, Inst, PointId, ending_of};
+use instruction_table::{Ending, ending_of};
+use sil_ast::{Edge, Function, Inst, PointId};
 use sil_rules::Rule;
 use type_definitions::Kind;
 

@@ -2,7 +2,7 @@
 use Rattle.std.proofs.Common.{◌≡◌, ℕ, zero, suc, ◌+◌, ◌<◌, List, [], ◌∷◌, ◌++◌, length, get_or, take, refl, sym, ap, ap₂, ◌∙◌, arith, add-one, Some, map}
 use Rattle.std.specs.List.{slice_get}
 use Rattle.std.specs.Option.{option_to_list}
-use Rattle.sil_ast.specs.declared.entries.Role.{Role}
+use Rattle.instruction_table.specs.declared.entries.Role.{Role}
 use Rattle.sil_ast.specs.declared.operands.Operand.{Operand}
 use Rattle.sil_ast.specs.declared.signature.Param.{Param}
 use Rattle.ownership_marks.specs.Roles.{last_roles, roles_for, taken_as, taken_each}

@@ -1,8 +1,8 @@
 -- What an item does to the values that begin and end: ends in operand order, then uses, then begins.
 use Rattle.std.specs.Prelude.{ℕ, List, [], ◌∷◌, ◌++◌, Bool, true, false, ◌==◌, Option, Some, None, map, slice_get, cond}
 use Rattle.std.specs.List.{flat_map, list_any}
-use Rattle.sil_ast.specs.declared.entries.Role.{Role}
-use Rattle.sil_ast.specs.declared.entries.Role.TheVariants as role
+use Rattle.instruction_table.specs.declared.entries.Role.{Role}
+use Rattle.instruction_table.specs.declared.entries.Role.TheVariants as role
 use Rattle.sil_ast.specs.declared.function.Block.{Block}
 use Rattle.sil_ast.specs.declared.function.BlockArg.{BlockArg}
 use Rattle.sil_ast.specs.declared.function.Function.{Function}

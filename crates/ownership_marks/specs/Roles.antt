@@ -2,9 +2,9 @@
 use Rattle.std.specs.Prelude.{ℕ, zero, suc, List, [], ◌∷◌, map, length, replicate}
 use Rattle.std.specs.List.{flat_map}
 use Rattle.std.specs.Option.{option_to_list}
-use Rattle.sil_ast.specs.Forms.{roles_of}
-use Rattle.sil_ast.specs.declared.entries.Role.{Role}
-use Rattle.sil_ast.specs.declared.entries.Role.TheVariants as role
+use Rattle.instruction_table.specs.Forms.{roles_of}
+use Rattle.instruction_table.specs.declared.entries.Role.{Role}
+use Rattle.instruction_table.specs.declared.entries.Role.TheVariants as role
 use Rattle.sil_ast.specs.declared.inst.Edge as edge
 use Rattle.sil_ast.specs.declared.inst.Inst as inst
 use Rattle.sil_ast.specs.declared.operands.Operand.{Operand}

@@ -4,7 +4,8 @@ ghost use Rattle.std.specs.Prelude.{◌≡◌, ◌++◌, ◌<◌, ℕ, length, m
 ghost use Rattle.ownership_marks.specs.Roles as roles;
 ghost use Rattle.ownership_marks.specs.Roles.{last_roles, params_in, roles_for, taken_along, taken_by, taken_each};
 
-use sil_ast::{Edge, Exhausted, Inst, Operand, Param, Passing, Role, ValueId, roles_of};
+use instruction_table::{Role, roles_of};
+use sil_ast::{Edge, Exhausted, Inst, Operand, Param, Passing, ValueId};
 
 /// A value that is an operand, and what is done to it.
 #[derive(Clone, Copy, PartialEq, Eq)]

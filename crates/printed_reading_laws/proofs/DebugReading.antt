@@ -7,7 +7,7 @@ use Rattle.sil_ast.specs.declared.debug.Debug.{Debug}
 use Rattle.sil_printer.specs.CanonicalInsts.{binding_text, debug_text, quoted}
 use Rattle.sil_printer.specs.Words.{if_set, if_there}
 use Rattle.sil_shape.specs.Accepts.{accepts, class_number, keyword_number, punctuation_number}
-use Rattle.sil_shape.specs.BuiltinNames.{is_builtin_name}
+use Rattle.builtin_names.specs.BuiltinNames.{is_builtin_name}
 use Rattle.sil_shape.specs.Derivation.{Accepts}
 use Rattle.sil_shape.specs.Grammar.{body, written}
 use Rattle.sil_shape.specs.Spelling.{keyword_of, keywords_of_length, known_keyword, punctuation_of, punctuation_spelling, signs, spelling}

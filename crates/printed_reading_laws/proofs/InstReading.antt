@@ -5,7 +5,7 @@ use Rattle.sil_ast.specs.declared.inst.Inst.{Inst}
 use Rattle.sil_printer.specs.CanonicalInsts.{inst_text}
 use Rattle.sil_shape.specs.declared.grammar.Nonterminal.TheVariants as n
 use Rattle.written_modules.specs.Values.{inst_of}
-use Rattle.sil_ast.specs.Forms.{is_terminator}
+use Rattle.instruction_table.specs.Forms.{is_terminator}
 use Rattle.printed_reading_laws.proofs.Pieces.{Ends, Stands}
 use Rattle.printed_reading_laws.proofs.Printable.{IsInstPrintable}
 use Rattle.printed_reading_laws.proofs.ResultReading.{inst_unnamed, inst_with_results}

@@ -1,8 +1,8 @@
 -- The results of a printed instruction have their names, and a terminator has none.
 use Rattle.std.proofs.Common.{◌≡◌, List, [], ◌∷◌, Option, Some, None, Bool, true, false, not, ◌&&◌, if◌then◌else◌, ap, sym, refl, subst, decimal, true≢false}
 use Rattle.std.specs.List.{AllZip}
-use Rattle.sil_ast.specs.Forms.{has_one_result}
-use Rattle.sil_ast.specs.declared.op.Op.{Op}
+use Rattle.instruction_table.specs.Forms.{has_one_result}
+use Rattle.instruction_table.specs.declared.op.Op.{Op}
 use Rattle.sil_ast.specs.declared.place.ValueId.{ValueId}
 use Rattle.written_tree.specs.declared.written_declarations.WrittenToken.{WrittenToken}
 use Rattle.name_resolution.specs.Names.{Name, name_of}

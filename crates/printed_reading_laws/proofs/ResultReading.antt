@@ -1,7 +1,7 @@
 -- The printed results of an instruction, in front of its row.
 use Rattle.std.proofs.Common.{◌≡◌, ℕ, ◌≤◌, List, [], ◌∷◌, ◌++◌, length, Bool, true, false, None, refl, codes, decimal, if◌then◌else◌, arith, sym, subst}
 use Rattle.std.proofs.lemmas.List.{append_assoc}
-use Rattle.sil_ast.specs.Forms.{has_result_list, mnemonic_of, parts_of}
+use Rattle.instruction_table.specs.Forms.{has_result_list, mnemonic_of, parts_of}
 use Rattle.sil_ast.specs.declared.function.Function.{Function}
 use Rattle.sil_ast.specs.declared.inst.Inst.{Inst}
 use Rattle.sil_ast.specs.declared.place.ValueId.{ValueId}

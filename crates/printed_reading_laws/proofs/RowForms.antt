@@ -1,10 +1,10 @@
 -- A row of the table of instructions: its text, the values that it reads as, and the parts that it has.
 use Rattle.std.proofs.Common.{◌≡◌, ℕ, List, [], ◌++◌, Option, None, false}
-use Rattle.sil_ast.specs.Forms.{mnemonic_of, parts_of}
+use Rattle.instruction_table.specs.Forms.{mnemonic_of, parts_of}
 use Rattle.sil_ast.specs.declared.function.Function.{Function}
 use Rattle.sil_ast.specs.declared.inst.Inst.{Inst}
 use Rattle.sil_ast.specs.declared.inst.Qualifier.TheVariants as qualifier
-use Rattle.sil_ast.specs.declared.op.Op.{Op}
+use Rattle.instruction_table.specs.declared.op.Op.{Op}
 use Rattle.sil_printer.specs.CanonicalInsts.{parts_text}
 use Rattle.sil_shape.specs.Grammar.{body, written}
 use Rattle.sil_shape.specs.declared.grammar.Nonterminal.{Nonterminal}

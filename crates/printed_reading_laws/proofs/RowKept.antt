@@ -2,17 +2,17 @@
 use Rattle.std.proofs.Common.{◌≡◌, ℕ, List, [], ◌∷◌, Option, Some, None, Bool, true, false, IsTrue, refl, if◌then◌else◌, is_some, ◌||◌, ◌&&◌, true≢false}
 use Rattle.std.specs.Prelude.{not}
 use Rattle.std.specs.List.{list_any}
-use Rattle.sil_ast.specs.Forms.{parts_of}
+use Rattle.instruction_table.specs.Forms.{parts_of}
 use Rattle.sil_ast.specs.declared.debug.Binding.{Binding}
 use Rattle.sil_ast.specs.declared.debug.Debug.{Debug}
-use Rattle.sil_ast.specs.declared.forms.Part.{Part}
-use Rattle.sil_ast.specs.declared.forms.Part.TheVariants as part
+use Rattle.instruction_table.specs.declared.forms.Part.{Part}
+use Rattle.instruction_table.specs.declared.forms.Part.TheVariants as part
 use Rattle.sil_ast.specs.declared.inst.Edge.{Edge}
 use Rattle.sil_ast.specs.declared.inst.Inst.{Inst}
 use Rattle.sil_ast.specs.declared.inst.Qualifier.{Qualifier}
 use Rattle.sil_ast.specs.declared.inst.Qualifier.TheVariants as qualifier
-use Rattle.sil_ast.specs.declared.op.Op.{Op}
-use Rattle.sil_ast.specs.declared.op.Op.TheVariants as op
+use Rattle.instruction_table.specs.declared.op.Op.{Op}
+use Rattle.instruction_table.specs.declared.op.Op.TheVariants as op
 use Rattle.sil_ast.specs.declared.operands.Operand.{Operand}
 use Rattle.written_modules.specs.Values.{no_debug}
 use Rattle.numbered_form.specs.Lists.{is_empty}

@@ -1,10 +1,10 @@
 -- Each row of the table of instructions reads as itself.
 use Rattle.std.proofs.Common.{◌≡◌, ℕ, List, IsTrue, IsFalse, refl, sym, subst, true≢false}
-use Rattle.sil_ast.specs.Forms.{is_terminator, parts_of}
+use Rattle.instruction_table.specs.Forms.{is_terminator, parts_of}
 use Rattle.sil_ast.specs.declared.function.Function.{Function}
 use Rattle.sil_ast.specs.declared.inst.Inst.{Inst}
-use Rattle.sil_ast.specs.declared.op.Op.{Op}
-use Rattle.sil_ast.specs.declared.op.Op.TheVariants as op
+use Rattle.instruction_table.specs.declared.op.Op.{Op}
+use Rattle.instruction_table.specs.declared.op.Op.TheVariants as op
 use Rattle.sil_shape.specs.Accepts.{accepts, class_number, keyword_number}
 use Rattle.sil_shape.specs.Grammar.{body, written}
 use Rattle.sil_shape.specs.Spelling.{keyword_of, keywords_of_length, known_keyword, spelling}

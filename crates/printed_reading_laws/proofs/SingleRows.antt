@@ -4,7 +4,7 @@ use Rattle.std.specs.Fmt.{signed_decimal}
 use Rattle.std.proofs.lemmas.List.{append_assoc, append-nil}
 use Rattle.sil_ast.specs.declared.debug.Debug.{Debug}
 use Rattle.sil_ast.specs.declared.function.Function.{Function}
-use Rattle.sil_ast.specs.declared.op.Op.TheVariants as op
+use Rattle.instruction_table.specs.declared.op.Op.TheVariants as op
 use Rattle.sil_ast.specs.declared.operands.Operand.{Operand}
 use Rattle.sil_ast.specs.declared.place.FuncId.{FuncId}
 use Rattle.sil_ast.specs.declared.place.ValueId.{ValueId}
@@ -15,7 +15,7 @@ use Rattle.sil_printer.specs.CanonicalSignatures.{signature_text}
 use Rattle.sil_printer.specs.CanonicalTypes.{type_text}
 use Rattle.sil_printer.specs.Words.{listed}
 use Rattle.sil_shape.specs.Accepts.{accepts, class_number, keyword_number, punctuation_number}
-use Rattle.sil_shape.specs.BuiltinNames.{is_builtin_name}
+use Rattle.builtin_names.specs.BuiltinNames.{is_builtin_name}
 use Rattle.sil_shape.specs.Derivation.{Accepts}
 use Rattle.sil_shape.specs.Grammar.{body, written}
 use Rattle.sil_shape.specs.Spelling.{keyword_of, keywords_of_length, known_keyword, punctuation_of, punctuation_spelling, signs, spelling}

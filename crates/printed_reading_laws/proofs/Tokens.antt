@@ -20,7 +20,7 @@ use Rattle.sil_shape.specs.declared.grammar.Symbol.{Symbol}
 use Rattle.sil_shape.specs.declared.grammar.Symbol.TheVariants.{Read}
 use Rattle.sil_shape.specs.declared.grammar.Terminal.TheVariants as t
 use Rattle.sil_shape.specs.Accepts.{accepts, class_number}
-use Rattle.sil_shape.specs.BuiltinNames.{is_builtin_name}
+use Rattle.builtin_names.specs.BuiltinNames.{is_builtin_name}
 use Rattle.sil_shape.specs.Derivation.{Accepts}
 use Rattle.sil_shape.specs.Spelling.{at_word_of, keyword_of, punctuation_of}
 use Rattle.written_modules.specs.Meaning.{leaf_of}

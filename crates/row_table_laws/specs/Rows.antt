@@ -1,16 +1,16 @@
 -- The rows of the grammar as the table of instructions gives them: which production an instruction has, and what it writes there.
 use Rattle.std.specs.Prelude.{List, [], ◌∷◌, ◌++◌, Bool, false, if◌then◌else◌, ◌&&◌, not}
-use Rattle.sil_ast.specs.declared.entries.Detail.{Detail}
-use Rattle.sil_ast.specs.declared.entries.Detail.TheVariants as detail
-use Rattle.sil_ast.specs.declared.entries.Ending.{Ending}
-use Rattle.sil_ast.specs.declared.entries.Ending.TheVariants as ending
-use Rattle.sil_ast.specs.declared.entries.Words.{Words}
-use Rattle.sil_ast.specs.declared.entries.Words.TheVariants as words
-use Rattle.sil_ast.specs.declared.forms.Part.{Part}
-use Rattle.sil_ast.specs.declared.forms.Part.TheVariants as part
-use Rattle.sil_ast.specs.declared.op.Op.{Op}
-use Rattle.sil_ast.specs.declared.op.Op.TheVariants as op
-use Rattle.sil_ast.specs.Forms.{detail_of, ending_of, is_item, may_lack_operand, mnemonic_of, parts_of, words_of}
+use Rattle.instruction_table.specs.declared.entries.Detail.{Detail}
+use Rattle.instruction_table.specs.declared.entries.Detail.TheVariants as detail
+use Rattle.instruction_table.specs.declared.entries.Ending.{Ending}
+use Rattle.instruction_table.specs.declared.entries.Ending.TheVariants as ending
+use Rattle.instruction_table.specs.declared.entries.Words.{Words}
+use Rattle.instruction_table.specs.declared.entries.Words.TheVariants as words
+use Rattle.instruction_table.specs.declared.forms.Part.{Part}
+use Rattle.instruction_table.specs.declared.forms.Part.TheVariants as part
+use Rattle.instruction_table.specs.declared.op.Op.{Op}
+use Rattle.instruction_table.specs.declared.op.Op.TheVariants as op
+use Rattle.instruction_table.specs.Forms.{detail_of, ending_of, is_item, may_lack_operand, mnemonic_of, parts_of, words_of}
 use Rattle.sil_shape.specs.declared.classes.Class.TheVariants as c
 use Rattle.sil_shape.specs.declared.classes.Keyword.TheVariants as k
 use Rattle.sil_shape.specs.declared.classes.Punctuation.TheVariants as m

@@ -2,8 +2,8 @@
 use Rattle.std.specs.Prelude.{ℕ, List, Bool, false, Option, Some, None, bytes_eq}
 use Rattle.sil_ast.specs.declared.operands.Operand.{Operand}
 use Rattle.sil_ast.specs.declared.type_name.TypeName.{TypeName}
-use Rattle.sil_shape.specs.BuiltinNames.{width_spelling}
-use Rattle.sil_shape.specs.declared.builtin_names.Width.{Width}
+use Rattle.builtin_names.specs.BuiltinNames.{width_spelling}
+use Rattle.builtin_names.specs.declared.names.Width.{Width}
 use Rattle.sil_types.specs.Typing.Builtins as builtins
 use Rattle.sil_types.specs.Typing.Builtins.{Builtin, at_width}
 use Rattle.sil_types.specs.Typing.RowTypes.{all_written}

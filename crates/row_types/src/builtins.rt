@@ -4,16 +4,16 @@ ghost use Rattle.std.specs.Prelude.{◌≡◌, [], ◌∷◌, bytes_eq, find, ma
 ghost use Rattle.std.specs.List.{flat_map};
 ghost use Rattle.std.specs.Option.{option_copied};
 ghost use Rattle.sil_ast.specs.declared.type_name.TypeName.TheVariants as type;
-ghost use Rattle.sil_shape.specs.BuiltinNames as names;
+ghost use Rattle.builtin_names.specs.BuiltinNames as names;
 ghost use Rattle.sil_types.specs.Typing.Builtins as builtins;
 ghost use Rattle.sil_types.specs.Typing.Builtins.{at_width, at_widths};
 ghost use Rattle.sil_types.specs.Typing.Same.{are_same_types, is_same_type};
 ghost use Rattle.sil_types.specs.Typing.RowTypes.{all_written};
-ghost use Rattle.sil_shape.specs.declared.builtin_names.Width.{Width};
+ghost use Rattle.builtin_names.specs.declared.names.Width.{Width};
 ghost use Rattle.row_types.specs.BuiltinViews.{builtin_told, is_spelled_by, is_width_text, sort_told};
 
+use builtin_names::{Operation, Width};
 use sil_ast::TypeName;
-use sil_shape::builtin_names::{Operation, Width};
 
 /// An operation at a width.
 #[derive(Clone, Copy)]
@@ -62,7 +62,7 @@ pub(crate) fn sort_of(operation: Operation) -> Sort
     }
 }
 
-#[tactic(auto, unfolding(sil_shape::specs::BuiltinNames::operation_spelling))]
+#[tactic(auto, unfolding(builtin_names::specs::BuiltinNames::operation_spelling))]
 fn operation_spelling(operation: Operation) -> &'static [u8]
     ensures { result.now ≡ names.operation_spelling operation }
 {
@@ -82,7 +82,7 @@ fn operation_spelling(operation: Operation) -> &'static [u8]
     }
 }
 
-#[tactic(auto, unfolding(sil_shape::specs::BuiltinNames::width_spelling))]
+#[tactic(auto, unfolding(builtin_names::specs::BuiltinNames::width_spelling))]
 fn width_spelling(width: Width) -> &'static [u8]
     ensures { result.now ≡ names.width_spelling width }
 {

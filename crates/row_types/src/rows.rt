@@ -20,7 +20,8 @@ use crate::made::{
 use crate::members::{class_field, struct_field};
 use crate::view::Made;
 use crate::written_types::written;
-use sil_ast::{Field, Inst, Op, TypeName};
+use instruction_table::Op;
+use sil_ast::{Field, Inst, TypeName};
 use sil_types::TypeTable;
 
 /// The instruction's field of a type that is a struct.

@@ -4,7 +4,8 @@ ghost use Rattle.std.specs.Prelude.{◌≡◌};
 ghost use Rattle.sil_types.specs.Typing.SignatureRules as rules;
 ghost use Rattle.sil_types.specs.Typing.Values as values;
 
-use sil_ast::{BareOperands, FuncId, Inst, ValueId, bare_operands_of};
+use instruction_table::{BareOperands, bare_operands_of};
+use sil_ast::{FuncId, Inst, ValueId};
 
 /// Whether the instruction calls what isn't the result of a `function_ref`. `functions` has the functions that the values of
 /// the instruction's function stand for.

@@ -8,7 +8,8 @@ ghost use Rattle.sil_types.specs.Typing.Same.{are_same_types};
 ghost use Rattle.sil_types.specs.Typing.Values.{arg_type};
 
 use crate::blocks::args_of;
-use sil_ast::{BlockArg, Edge, Ending, Function, Inst, Operand, ending_of};
+use instruction_table::{Ending, ending_of};
+use sil_ast::{BlockArg, Edge, Function, Inst, Operand};
 use sil_types::same_type;
 
 /// Whether an edge of `br` or `cond_br` has other arguments than its block, in number or type.

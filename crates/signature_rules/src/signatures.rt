@@ -10,7 +10,8 @@ ghost use Rattle.sil_types.specs.Typing.SignatureRules as rules;
 use crate::callees::named_function;
 use crate::conventions::has_fitting_conventions;
 use crate::entry_arguments::has_entry_arguments;
-use sil_ast::{Ending, FuncId, Function, Given, Inst, Module, Signature, TypeName, ending_of};
+use instruction_table::{Ending, ending_of};
+use sil_ast::{FuncId, Function, Given, Inst, Module, Signature, TypeName};
 use sil_types::{TypeTable, same_signature, same_type};
 
 /// Whether a convention doesn't fit its type, or the entry's arguments don't fit the parameters.

@@ -4,13 +4,13 @@ use crate::debug::Debug;
 use crate::exhausted::Exhausted;
 use crate::list::List;
 use crate::member::Member;
-use crate::op::Op;
 use crate::operands::{Operand, Operands};
 use crate::place::{BlockId, FuncId, ValueId};
 use crate::signature::Signature;
 use crate::text::Text;
 use crate::try_clone::{TryClone, copy_four};
 use crate::type_name::TypeName;
+use instruction_table::Op;
 use std::alloc::Global;
 
 /// An instruction or a terminator: `%2 = load [copy] %1 : $*Node`.

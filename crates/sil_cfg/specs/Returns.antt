@@ -1,8 +1,8 @@
 -- Which items are a `return`.
 use Rattle.std.specs.Prelude.{Bool, true, false, slice_get, Option, Some, None}
-use Rattle.sil_ast.specs.Forms.{ending_of}
-use Rattle.sil_ast.specs.declared.entries.Ending.{Ending}
-use Rattle.sil_ast.specs.declared.entries.Ending.TheVariants as ending
+use Rattle.instruction_table.specs.Forms.{ending_of}
+use Rattle.instruction_table.specs.declared.entries.Ending.{Ending}
+use Rattle.instruction_table.specs.declared.entries.Ending.TheVariants as ending
 use Rattle.sil_ast.specs.declared.function.Block.{Block}
 use Rattle.sil_ast.specs.declared.function.Function.{Function}
 use Rattle.sil_cfg.specs.declared.item.Item.{Item}

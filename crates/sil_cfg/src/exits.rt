@@ -3,7 +3,7 @@
 ghost use Rattle.std.specs.Prelude.{◌≡◌};
 ghost use Rattle.sil_cfg.specs.Items.{ends_function};
 
-use sil_ast::{Ending, Op, ending_of};
+use instruction_table::{Ending, Op, ending_of};
 
 /// Whether the instruction ends the function: `return` and `unreachable`.
 pub fn is_exit(op: Op) -> bool

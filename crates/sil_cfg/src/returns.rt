@@ -7,7 +7,8 @@ ghost use Rattle.sil_cfg.specs.declared.item.Item as item;
 
 use crate::graph::Graph;
 use crate::item::Item;
-use sil_ast::{BlockId, Ending, Exhausted, Function, ending_of};
+use instruction_table::{Ending, ending_of};
+use sil_ast::{BlockId, Exhausted, Function};
 use std::alloc::Global;
 
 fn returns_by(ending: Ending) -> bool

@@ -9,7 +9,7 @@ use Rattle.sil_lexer.specs.Spelling.{without_quotes, without_sigil}
 use Rattle.sil_shape.specs.declared.classes.Class.{Class}
 use Rattle.sil_shape.specs.declared.classes.Class.TheVariants.{Word, At, Percent, Number, BuiltinText, OtherText, Punctuation}
 use Rattle.sil_shape.specs.declared.classes.Punctuation as punctuation
-use Rattle.sil_shape.specs.BuiltinNames.{is_builtin_name}
+use Rattle.builtin_names.specs.BuiltinNames.{is_builtin_name}
 use Rattle.sil_shape.specs.Spelling.{keyword_of, at_word_of, punctuation_of}
 
 abbrev pub text_class : Bool → Class

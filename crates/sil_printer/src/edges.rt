@@ -1,13 +1,14 @@
 //! The texts of what a terminator goes to.
 
 ghost use Rattle.std.specs.Prelude.{◌≡◌, ◌++◌, OnOk};
-ghost use Rattle.sil_ast.specs.Forms.{ending_of};
+ghost use Rattle.instruction_table.specs.Forms.{ending_of};
 ghost use Rattle.sil_printer.specs.Words.{listed};
 ghost use Rattle.sil_printer.specs.CanonicalInsts.{block_name, default_word, edge_word, edge_text};
 
 use crate::operands::push_case_name;
 use crate::pieces::{push_bytes, push_decimal, push_parens_if_any, push_separator};
-use sil_ast::{Edge, Ending, Exhausted, Member, Op, ending_of};
+use instruction_table::{Ending, Op, ending_of};
+use sil_ast::{Edge, Exhausted, Member};
 
 /// Puts the edges of an instruction behind `lead`.
 pub(crate) fn push_edges(

@@ -9,9 +9,8 @@ use crate::operands::{
     push_quoted, push_signature_word, push_type_word, push_typed_args,
 };
 use crate::pieces::{Canonical, push_bytes, push_if_set, push_in_parens};
-use sil_ast::{
-    Exhausted, Function, Inst, Op, Operand, Part, Qualifier, ValueId, has_result_list, row_of,
-};
+use instruction_table::{Op, Part, has_result_list, row_of};
+use sil_ast::{Exhausted, Function, Inst, Operand, Qualifier, ValueId};
 
 /// Puts an instruction; `functions` are those of its module.
 pub(crate) fn push_inst(

@@ -9,10 +9,8 @@ use crate::pieces::{
     Canonical, push_bytes, push_decimal, push_in_parens, push_separator, push_signed,
 };
 use crate::types::push_type;
-use sil_ast::{
-    Detail, Exhausted, FuncId, Function, Member, Op, Operand, Signature, Text, TypeName, ValueId,
-    detail_of,
-};
+use instruction_table::{Detail, Op, detail_of};
+use sil_ast::{Exhausted, FuncId, Function, Member, Operand, Signature, Text, TypeName, ValueId};
 
 impl Canonical for ValueId {
     ghost text = { value_text };

@@ -8,6 +8,5 @@ pub mod NextClasses
 pub mod TurnLemmas
 pub mod Reached
 pub mod DerivedOnce
-pub mod NameLemmas
 pub mod SpellingLemmas
 pub mod GoesOnLemmas

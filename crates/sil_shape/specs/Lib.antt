@@ -8,5 +8,4 @@ pub mod Choice
 pub mod Turns
 pub mod Shortest
 pub mod Spelling
-pub mod BuiltinNames
 pub mod Unsupported

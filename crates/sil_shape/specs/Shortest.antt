@@ -1,4 +1,4 @@
--- The shortest way to write what is on a stack. No definition of the language rests on it.
+-- The shortest way to write what is on a stack. What a module is doesn't rest on it, but why a text is refused does.
 use Rattle.std.specs.Prelude.{List, [], ◌∷◌, ◌++◌}
 use Rattle.sil_shape.specs.declared.grammar.Nonterminal.{Nonterminal}
 use Rattle.sil_shape.specs.declared.grammar.Nonterminal.TheVariants as n

@@ -4,7 +4,6 @@
 
 pub mod alternatives;
 pub mod bodies;
-pub mod builtin_names;
 mod choice;
 pub mod classes;
 pub mod grammar;

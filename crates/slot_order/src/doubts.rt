@@ -1,6 +1,6 @@
 //! Slots that may be deallocated before a later one, for all that is shown so far.
 
-ghost use Rattle.std.specs.Prelude.{◌≡◌, false, All};
+ghost use Rattle.std.specs.Prelude.{◌≡◌, ◌↔◌, false, All};
 ghost use Rattle.sil_ast.specs.declared.place.ValueId as value;
 ghost use Rattle.slot_order.specs.Trust.{IsTrusted, Keeps};
 
@@ -51,7 +51,7 @@ impl Doubts {
 
     /// Whether the slot is in doubt.
     pub fn has(&self, slot: ValueId) -> bool
-        ensures { result ≡ false → IsTrusted self.now slot }
+        ensures { (result ≡ false) ↔ IsTrusted self.now slot }
     {
         if self.all {
             return true;

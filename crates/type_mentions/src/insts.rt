@@ -8,7 +8,8 @@ ghost use Rattle.type_definitions.specs.Mentions.{in_edge, in_inst, in_operand, 
 
 use crate::decls::{any_if_there, any_in_signature};
 use crate::tests::MentionTest;
-use sil_ast::{Edge, Inst, Op, Operand, Signature, makes_tuple, may_have_storage};
+use instruction_table::{Op, makes_tuple, may_have_storage};
+use sil_ast::{Edge, Inst, Operand, Signature};
 use type_definitions::Standing;
 
 pub(crate) fn any_in_inst<T: MentionTest>(test: &T, inst: &Inst) -> bool

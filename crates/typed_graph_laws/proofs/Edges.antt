@@ -5,9 +5,9 @@ use Rattle.std.specs.List.{list_all}
 use Rattle.std.specs.Option.{option_to_list}
 use Rattle.std.proofs.lemmas.Bool.{eqb-true}
 use Rattle.std.proofs.lemmas.List.{length-map}
-use Rattle.sil_ast.specs.Forms.{ending_of}
-use Rattle.sil_ast.specs.declared.entries.Ending.{Ending}
-use Rattle.sil_ast.specs.declared.entries.Ending.TheVariants as ending
+use Rattle.instruction_table.specs.Forms.{ending_of}
+use Rattle.instruction_table.specs.declared.entries.Ending.{Ending}
+use Rattle.instruction_table.specs.declared.entries.Ending.TheVariants as ending
 use Rattle.sil_ast.specs.declared.function.Block.{Block}
 use Rattle.sil_ast.specs.declared.function.Function.{Function}
 use Rattle.sil_ast.specs.declared.inst.Edge.{Edge}

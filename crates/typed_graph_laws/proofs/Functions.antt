@@ -13,7 +13,7 @@ use Rattle.numbered_form.specs.Limits.{IsFunctionInLimits}
 use Rattle.numbered_form.specs.NumberedForm.{IsNumbered}
 use Rattle.numbered_form.specs.Numbering.{IsEdgeInRange, IsFunctionNumbered, IsInstInRange, values_of}
 use Rattle.numbered_form.specs.Parts.{BlockHasParts, FunctionHasParts, are_edges_by}
-use Rattle.sil_ast.specs.Forms.{ending_of}
+use Rattle.instruction_table.specs.Forms.{ending_of}
 use Rattle.type_definitions.specs.Declarations.{declarations_of}
 use Rattle.sil_types.specs.Typing.Typed.{IsAt, Typed, at_point, edge_arguments, entry_has_predecessor, point, switch_cases}
 use Rattle.typed_graph_laws.specs.Laws.{HasBlocks, IsNotExternal, HaveGraphsWhere}

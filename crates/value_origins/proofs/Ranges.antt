@@ -4,11 +4,11 @@ use Rattle.std.specs.Prelude.{All, Contains, slice_get, unwrap_or, option_map, â
 use Rattle.std.specs.List.{flat_map, filter_map, cons_option, range_with_len}
 use Rattle.std.specs.Option.{option_to_list}
 use Rattle.std.proofs.lemmas.List.Elements.{All-nil, All-cons, All-contains}
-use Rattle.sil_ast.specs.Forms.{ending_of, result_kind_of}
-use Rattle.sil_ast.specs.declared.entries.Ending.{Ending}
-use Rattle.sil_ast.specs.declared.entries.Ending.TheVariants as ending
-use Rattle.sil_ast.specs.declared.entries.ResultKind.{ResultKind}
-use Rattle.sil_ast.specs.declared.entries.ResultKind.TheVariants.{NoneResult, OwnedResult, ScopeResult, AddressResult, ForwardedResult, OperandResult}
+use Rattle.instruction_table.specs.Forms.{ending_of, result_kind_of}
+use Rattle.instruction_table.specs.declared.entries.Ending.{Ending}
+use Rattle.instruction_table.specs.declared.entries.Ending.TheVariants as ending
+use Rattle.instruction_table.specs.declared.entries.ResultKind.{ResultKind}
+use Rattle.instruction_table.specs.declared.entries.ResultKind.TheVariants.{NoneResult, OwnedResult, ScopeResult, AddressResult, ForwardedResult, OperandResult}
 use Rattle.sil_ast.specs.declared.function.ArgKind.{ArgKind}
 use Rattle.sil_ast.specs.declared.function.ArgKind.TheVariants as annotation
 use Rattle.sil_ast.specs.declared.function.Block.{Block}

@@ -2,9 +2,9 @@
 use Rattle.std.specs.Prelude.{ℕ, zero, suc, ◌+◌, List, [], ◌∷◌, ◌++◌, Bool, true, false, Option, Some, None, map, slice_get, length, cond}
 use Rattle.std.specs.List.{flat_map, range_with_len}
 use Rattle.std.specs.Option.{option_to_list}
-use Rattle.sil_ast.specs.Forms.{result_kind_of}
-use Rattle.sil_ast.specs.declared.entries.ResultKind.{ResultKind}
-use Rattle.sil_ast.specs.declared.entries.ResultKind.TheVariants.{NoneResult, OwnedResult, ScopeResult, AddressResult, ForwardedResult, OperandResult}
+use Rattle.instruction_table.specs.Forms.{result_kind_of}
+use Rattle.instruction_table.specs.declared.entries.ResultKind.{ResultKind}
+use Rattle.instruction_table.specs.declared.entries.ResultKind.TheVariants.{NoneResult, OwnedResult, ScopeResult, AddressResult, ForwardedResult, OperandResult}
 use Rattle.sil_ast.specs.declared.function.ArgKind.{ArgKind}
 use Rattle.sil_ast.specs.declared.function.ArgKind.TheVariants as annotation
 use Rattle.sil_ast.specs.declared.function.Block.{Block}

@@ -1,12 +1,12 @@
 -- Values that lowering makes another name of an operand: copies, moves, borrows, and the arguments of defaults.
 use Rattle.std.specs.Prelude.{ℕ, ◌+◌, List, [], ◌∷◌, ◌++◌, Bool, false, Option, Some, None, map, length, replicate, slice_index_or, cond}
 use Rattle.std.specs.List.{flat_map}
-use Rattle.sil_ast.specs.Forms.{number_of}
+use Rattle.instruction_table.specs.Forms.{number_of}
 use Rattle.sil_ast.specs.declared.function.Block.{Block}
 use Rattle.sil_ast.specs.declared.function.BlockArg.{BlockArg}
 use Rattle.sil_ast.specs.declared.function.Function.{Function}
 use Rattle.sil_ast.specs.declared.inst.Inst.{Inst}
-use Rattle.sil_ast.specs.declared.op.Op.{Op}
+use Rattle.instruction_table.specs.declared.op.Op.{Op}
 use Rattle.sil_ast.specs.declared.place.ValueId.{ValueId}
 use Rattle.numbered_form.specs.Insts.{insts_of}
 use Rattle.forwarding_chains.specs.declared.definition.Definition.{Definition}

@@ -1,8 +1,8 @@
 -- When the definition of a result goes by its type.
 use Rattle.std.specs.Prelude.{ℕ, List, Bool, true, false, slice_get}
-use Rattle.sil_ast.specs.Forms.{result_kind_of}
-use Rattle.sil_ast.specs.declared.entries.ResultKind.{ResultKind}
-use Rattle.sil_ast.specs.declared.entries.ResultKind.TheVariants.{NoneResult, OwnedResult, ScopeResult, AddressResult, ForwardedResult, OperandResult}
+use Rattle.instruction_table.specs.Forms.{result_kind_of}
+use Rattle.instruction_table.specs.declared.entries.ResultKind.{ResultKind}
+use Rattle.instruction_table.specs.declared.entries.ResultKind.TheVariants.{NoneResult, OwnedResult, ScopeResult, AddressResult, ForwardedResult, OperandResult}
 use Rattle.sil_ast.specs.declared.inst.Inst.{Inst}
 use Rattle.sil_ast.specs.declared.type_name.TypeName.{TypeName}
 use Rattle.forwarding_chains.specs.declared.definition.Definition.{Definition}

@@ -1,9 +1,9 @@
 -- The switch that goes to a block.
 use Rattle.std.specs.Prelude.{ℕ, List, [], ◌==◌, Option, None, is_none, option_map, slice_get, if◌then◌else◌}
 use Rattle.std.specs.List.{filter_map, flat_map}
-use Rattle.sil_ast.specs.Forms.{ending_of}
-use Rattle.sil_ast.specs.declared.entries.Ending.{Ending}
-use Rattle.sil_ast.specs.declared.entries.Ending.TheVariants as ending
+use Rattle.instruction_table.specs.Forms.{ending_of}
+use Rattle.instruction_table.specs.declared.entries.Ending.{Ending}
+use Rattle.instruction_table.specs.declared.entries.Ending.TheVariants as ending
 use Rattle.sil_ast.specs.declared.function.Block.{Block}
 use Rattle.sil_ast.specs.declared.function.Function.{Function}
 use Rattle.sil_ast.specs.declared.inst.Edge.{Edge}

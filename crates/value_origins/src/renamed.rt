@@ -14,7 +14,8 @@ use crate::renaming::RENAMINGS;
 use crate::switched::Switched;
 use crate::switching::{switch_of, switches};
 use forwarding_chains::{Definition, Origin};
-use sil_ast::{Block, BlockArg, Exhausted, Function, Inst, List, Op, ValueId};
+use instruction_table::Op;
+use sil_ast::{Block, BlockArg, Exhausted, Function, Inst, List, ValueId};
 use std::alloc::Global;
 
 /// Whether the result is lowered to another name for the operand.

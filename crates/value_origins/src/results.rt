@@ -12,8 +12,9 @@ ghost use Rattle.value_origins.specs.Results.{asks_type, definition_by_types};
 use crate::operands::operand_values;
 use crate::trivial::is_trivial_result;
 use forwarding_chains::{Definition, Origin};
+use instruction_table::{ResultKind, result_kind_of};
 use row_types::{Made, row_types};
-use sil_ast::{Exhausted, Inst, List, Operand, ResultKind, ValueId, result_kind_of};
+use sil_ast::{Exhausted, Inst, List, Operand, ValueId};
 use sil_types::TypeTable;
 use std::alloc::Global;
 

@@ -7,7 +7,8 @@ ghost use Rattle.value_origins.specs.Switched.{edge_to, switch_to, switches_from
 ghost use Rattle.value_origins.specs.Tables.{Adds, AreSwitches, switch_at};
 
 use crate::switched::Switched;
-use sil_ast::{Block, Edge, Ending, Exhausted, Function, Inst, ending_of};
+use instruction_table::{Ending, ending_of};
+use sil_ast::{Block, Edge, Exhausted, Function, Inst};
 use std::alloc::Global;
 
 /// Notes the switch at the block that its edge goes to, where it is the first that is met.

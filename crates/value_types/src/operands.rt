@@ -15,9 +15,10 @@ ghost use Rattle.value_types.specs.Given.{given_count};
 ghost use Rattle.value_types.specs.Told.{types_told};
 
 use crate::views::{is_address_view, is_bit_view};
+use instruction_table::{BareOperands, bare_operands_of};
 use row_types::shapes::{object_at, unowned_at, weak_at};
 use row_types::{TypeView, written};
-use sil_ast::{BareOperands, Edge, Inst, Operand, Param, Passing, TypeName, bare_operands_of};
+use sil_ast::{Edge, Inst, Operand, Param, Passing, TypeName};
 
 /// The type of an operand's value.
 fn type_of_value<'a>(types: &[Option<TypeView<'a>>], operand: &Operand) -> Option<TypeView<'a>>

@@ -6,7 +6,8 @@ ghost use Rattle.sil_types.specs.Typing.RowTypes.{MadeTypes};
 ghost use Rattle.type_definitions.specs.Declarations.{Declarations};
 ghost use Rattle.value_types.specs.Given.{given_count};
 
-use sil_ast::{Inst, Results, results_of};
+use instruction_table::{Results, results_of};
+use sil_ast::Inst;
 
 /// As many as the row gives; where what it asks of types isn't kept, there is no number to compare with.
 fn is_count_of(given: Option<usize>, count: usize) -> bool

@@ -11,8 +11,8 @@ use Rattle.sil_ast.specs.declared.inst.Qualifier.{Qualifier}
 use Rattle.sil_ast.specs.declared.inst.Qualifier.TheVariants as qualifier
 use Rattle.sil_ast.specs.declared.module.Imports.{Imports}
 use Rattle.sil_ast.specs.declared.module.Stage.TheVariants as stage
-use Rattle.sil_ast.specs.declared.op.Op.{Op}
-use Rattle.sil_ast.specs.declared.op.Op.TheVariants as op
+use Rattle.instruction_table.specs.declared.op.Op.{Op}
+use Rattle.instruction_table.specs.declared.op.Op.TheVariants as op
 use Rattle.sil_ast.specs.declared.place.Place.{Place}
 use Rattle.sil_ast.specs.declared.signature.Convention.TheVariants as convention
 use Rattle.sil_ast.specs.declared.signature.Passing.TheVariants as passing

@@ -11,8 +11,8 @@ use Rattle.sil_ast.specs.declared.member.Member.{Member}
 use Rattle.sil_ast.specs.declared.module.Imports.{Imports}
 use Rattle.sil_ast.specs.declared.module.Stage.{Stage}
 use Rattle.sil_ast.specs.declared.module.Stage.TheVariants as stage
-use Rattle.sil_ast.specs.declared.op.Op.{Op}
-use Rattle.sil_ast.specs.declared.op.Op.TheVariants as op
+use Rattle.instruction_table.specs.declared.op.Op.{Op}
+use Rattle.instruction_table.specs.declared.op.Op.TheVariants as op
 use Rattle.sil_ast.specs.declared.place.Place.{Place}
 use Rattle.sil_ast.specs.declared.signature.Convention.{Convention}
 use Rattle.sil_ast.specs.declared.signature.Convention.TheVariants as convention

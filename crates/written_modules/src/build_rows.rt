@@ -7,7 +7,8 @@ ghost use Rattle.written_modules.specs.Meaning.{bare_operand, element_of, flagge
 use crate::nothing::{bare_inst, skip};
 use crate::prepended::Prepended;
 use crate::value::Value;
-use sil_ast::{Boxed, Exhausted, List, Op};
+use instruction_table::Op;
+use sil_ast::{Boxed, Exhausted, List};
 use sil_rules::limits;
 use std::alloc::Global;
 use written_numbers::small_number;

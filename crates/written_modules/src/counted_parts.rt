@@ -6,7 +6,8 @@ ghost use Rattle.written_modules.specs.Found.{Finds, decl_places, function_place
 ghost use Rattle.written_tree.specs.Places as placed;
 
 use crate::found::{Found, Holds, find_listed, find_one};
-use sil_ast::{ExtraValue, Qualifier, extra_value_of, has_one_result};
+use instruction_table::{ExtraValue, extra_value_of, has_one_result};
+use sil_ast::Qualifier;
 use written_tree::{WrittenBlock, WrittenInst, WrittenItem, WrittenToken};
 
 /// Declarations, at their names.

@@ -7,7 +7,8 @@ ghost use Rattle.written_modules.specs.Values as none;
 use crate::prepended::Prepended;
 use crate::value::Value;
 use crate::written_types::{GivenList, ParamList, TypeList, WrittenType};
-use sil_ast::{Debug, List, Op, Place, Qualifier, Text, TypeName};
+use instruction_table::Op;
+use sil_ast::{Debug, List, Place, Qualifier, Text, TypeName};
 use std::alloc::Global;
 use written_tree::{WrittenInst, WrittenQualifier, WrittenToken};
 

@@ -9,7 +9,8 @@ ghost use Rattle.written_modules.specs.Sections.{section};
 use crate::prepended::Prepended;
 use crate::value::Value;
 use crate::{build_instructions, build_rows};
-use sil_ast::{Exhausted, Op};
+use instruction_table::Op;
+use sil_ast::Exhausted;
 use sil_shape::grammar::Production;
 use std::alloc::Global;
 

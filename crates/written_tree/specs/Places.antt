@@ -2,12 +2,12 @@
 use Rattle.std.specs.Prelude.{List, [], ◌∷◌, ◌++◌, Bool, if◌then◌else◌, not, map, filter, codes}
 use Rattle.std.specs.List.{flat_map}
 use Rattle.std.specs.Str.{bytes_eq}
-use Rattle.sil_ast.specs.Forms.{extra_value_of, has_one_result}
-use Rattle.sil_ast.specs.declared.entries.ExtraValue.{ExtraValue}
-use Rattle.sil_ast.specs.declared.entries.ExtraValue.TheVariants as extra
+use Rattle.instruction_table.specs.Forms.{extra_value_of, has_one_result}
+use Rattle.instruction_table.specs.declared.entries.ExtraValue.{ExtraValue}
+use Rattle.instruction_table.specs.declared.entries.ExtraValue.TheVariants as extra
 use Rattle.sil_ast.specs.declared.inst.Qualifier.{Qualifier}
 use Rattle.sil_ast.specs.declared.inst.Qualifier.TheVariants as qualifier
-use Rattle.sil_ast.specs.declared.op.Op.{Op}
+use Rattle.instruction_table.specs.declared.op.Op.{Op}
 use Rattle.sil_ast.specs.declared.place.Place.{Place}
 use Rattle.written_tree.specs.declared.written_declarations.WrittenCase.{WrittenCase}
 use Rattle.written_tree.specs.declared.written_declarations.WrittenDecl.{WrittenDecl}

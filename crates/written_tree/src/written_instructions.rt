@@ -1,7 +1,8 @@
 //! Instructions as a text writes them.
 
 use crate::written_declarations::WrittenToken;
-use sil_ast::{Debug, List, Member, Op, Place, Qualifier, Signature, Text, TypeName};
+use instruction_table::Op;
+use sil_ast::{Debug, List, Member, Place, Qualifier, Signature, Text, TypeName};
 
 /// `%2 = load [copy] %1 : $*T`: the parts of an instruction of a module, with names where that has numbers.
 #[derive(Drop)]

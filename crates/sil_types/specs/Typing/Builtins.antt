@@ -4,11 +4,11 @@ use Rattle.std.specs.List.{flat_map}
 use Rattle.std.specs.Str.{bytes_eq}
 use Rattle.sil_ast.specs.declared.type_name.TypeName.{TypeName}
 use Rattle.sil_ast.specs.declared.type_name.TypeName.TheVariants as type
-use Rattle.sil_shape.specs.BuiltinNames.{builtin_name, operations, widths}
-use Rattle.sil_shape.specs.declared.builtin_names.Operation.{Operation}
-use Rattle.sil_shape.specs.declared.builtin_names.Operation.TheVariants as o
-use Rattle.sil_shape.specs.declared.builtin_names.Width.{Width}
-use Rattle.sil_shape.specs.declared.builtin_names.Width.TheVariants as w
+use Rattle.builtin_names.specs.BuiltinNames.{builtin_name, operations, widths}
+use Rattle.builtin_names.specs.declared.names.Operation.{Operation}
+use Rattle.builtin_names.specs.declared.names.Operation.TheVariants as o
+use Rattle.builtin_names.specs.declared.names.Width.{Width}
+use Rattle.builtin_names.specs.declared.names.Width.TheVariants as w
 
 abbrev pub bits : Width → ℕ
 bits w.Int1 = 1

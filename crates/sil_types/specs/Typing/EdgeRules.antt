@@ -1,9 +1,9 @@
 -- 203, 210 and 211: what edges bring to blocks.
 use Rattle.std.specs.Prelude.{ℕ, List, [], Bool, true, not, ◌==◌, Option, Some, None, drop, map, slice_get}
 use Rattle.std.specs.List.{list_all, list_any}
-use Rattle.sil_ast.specs.Forms.{ending_of}
-use Rattle.sil_ast.specs.declared.entries.Ending.{Ending}
-use Rattle.sil_ast.specs.declared.entries.Ending.TheVariants as ending
+use Rattle.instruction_table.specs.Forms.{ending_of}
+use Rattle.instruction_table.specs.declared.entries.Ending.{Ending}
+use Rattle.instruction_table.specs.declared.entries.Ending.TheVariants as ending
 use Rattle.sil_ast.specs.declared.function.Block.{Block}
 use Rattle.sil_ast.specs.declared.function.BlockArg.{BlockArg}
 use Rattle.sil_ast.specs.declared.function.Function.{Function}

@@ -2,11 +2,11 @@
 use Rattle.std.specs.Prelude.{List, [], ◌∷◌, Bool, true, false, not, ◌&&◌, ◌||◌, Option, Some, None, is_none, option_and_then, option_map, slice_get}
 use Rattle.std.specs.List.{list_all}
 use Rattle.std.specs.Option.{option_to_list}
-use Rattle.sil_ast.specs.Forms.{bare_operands_of, ending_of}
-use Rattle.sil_ast.specs.declared.entries.BareOperands.{BareOperands}
-use Rattle.sil_ast.specs.declared.entries.BareOperands.TheVariants.{NoBare, StoredValue, WeakValue, UnownedValue, Condition, Arguments}
-use Rattle.sil_ast.specs.declared.entries.Ending.{Ending}
-use Rattle.sil_ast.specs.declared.entries.Ending.TheVariants as ending
+use Rattle.instruction_table.specs.Forms.{bare_operands_of, ending_of}
+use Rattle.instruction_table.specs.declared.entries.BareOperands.{BareOperands}
+use Rattle.instruction_table.specs.declared.entries.BareOperands.TheVariants.{NoBare, StoredValue, WeakValue, UnownedValue, Condition, Arguments}
+use Rattle.instruction_table.specs.declared.entries.Ending.{Ending}
+use Rattle.instruction_table.specs.declared.entries.Ending.TheVariants as ending
 use Rattle.sil_ast.specs.declared.function.ArgKind.{ArgKind}
 use Rattle.sil_ast.specs.declared.function.ArgKind.TheVariants as kind
 use Rattle.sil_ast.specs.declared.function.BlockArg.{BlockArg}

@@ -1,7 +1,7 @@
 use Rattle.std.proofs.Common.{◌≡◌, ◌++◌, ◌+◌, ◌<◌, get_or, ℕ, List, length, take, map, ap, sym, ◌∙◌, append_assoc, append-nil, Option}
 use Rattle.std.specs.List.{slice_get}
 use Rattle.std.specs.Option.{option_to_list}
-use Rattle.sil_ast.specs.declared.entries.Role.{Role}
+use Rattle.instruction_table.specs.declared.entries.Role.{Role}
 use Rattle.sil_ast.specs.declared.operands.Operand.{Operand}
 use Rattle.ownership_marks.specs.declared.taken.Taken.{Taken}
 use Rattle.ownership_marks.specs.Roles.{roles_for, taken_as, taken_each}

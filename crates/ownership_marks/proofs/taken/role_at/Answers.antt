@@ -1,6 +1,6 @@
 use Rattle.std.proofs.Common.{◌-◌, ◌<◌, ℕ, length, sym, ◌∙◌, arith}
 use Rattle.std.proofs.lemmas.Bool.Decides.{nat_tests}
-use Rattle.sil_ast.specs.declared.entries.Role.TheVariants.{Consumed}
+use Rattle.instruction_table.specs.declared.entries.Role.TheVariants.{Consumed}
 use Rattle.ownership_marks.proofs.Roling.{lead_role, later_role}
 use Rattle.ownership_marks.proofs.taken.role_at.Goals as goal
 

@@ -1,5 +1,5 @@
 use Rattle.std.proofs.Common.{sym, ◌∙◌}
-use Rattle.sil_shape.specs.declared.builtin_names.Operation.TheVariants.{AddWithOverflow}
+use Rattle.builtin_names.specs.declared.names.Operation.TheVariants.{AddWithOverflow}
 use Rattle.sil_types.specs.Typing.Builtins.{at_widths, is_named}
 use Rattle.row_types.specs.BuiltinViews.{builtin_told}
 use Rattle.row_types.proofs.Finding.{found_here, not_found_here}

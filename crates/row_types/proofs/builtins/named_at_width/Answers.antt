@@ -1,5 +1,5 @@
 use Rattle.std.proofs.Common.{◌∙◌}
-use Rattle.sil_shape.specs.BuiltinNames.{widths}
+use Rattle.builtin_names.specs.BuiltinNames.{widths}
 use Rattle.sil_types.specs.Typing.Builtins.{at_width, is_named}
 use Rattle.row_types.specs.BuiltinViews.{is_spelled_by}
 use Rattle.row_types.proofs.Finding.{find_alike, find_none}

@@ -1,7 +1,7 @@
 use Rattle.std.proofs.Common.{◌∙◌, ◌++◌, refl}
 use Rattle.std.specs.Prelude.{codes}
-use Rattle.sil_shape.specs.BuiltinNames.{width_spelling}
-use Rattle.sil_shape.proofs.NameLemmas.{no_front, with_front}
+use Rattle.builtin_names.specs.BuiltinNames.{width_spelling}
+use Rattle.builtin_names.proofs.NameLemmas.{no_front, with_front}
 use Rattle.row_types.proofs.builtins.width_text.Goals as goal
 
 pub returns-in_default : goal.returns-in_default

@@ -1,6 +1,6 @@
 use Rattle.std.proofs.Common.{◌≡◌, ◌++◌, subst, List, OnOk, true}
 use Rattle.std.specs.Prelude.{option_map}
-use Rattle.sil_ast.specs.declared.entries.ResultKind.{ResultKind}
+use Rattle.instruction_table.specs.declared.entries.ResultKind.{ResultKind}
 use Rattle.sil_types.specs.Typing.RowTypes.{row_types}
 use Rattle.row_types.specs.Views.{made_told}
 use Rattle.forwarding_chains.specs.declared.definition.Definition.{Definition}

@@ -1,7 +1,7 @@
 //! The table of instructions, asked by row. Each call takes no memory.
 
 ghost use Rattle.std.specs.Prelude.{◌≡◌};
-ghost use Rattle.sil_ast.specs.Forms as form;
+ghost use Rattle.instruction_table.specs.Forms as form;
 
 use crate::columns::{
     DETAILS, ENDINGS, EXTRA_VALUES, MNEMONICS, OPTIONAL_OPERANDS, PARTS, RESULTS, WORDS,

@@ -1,31 +1,31 @@
 -- The table of instructions: what each of its columns says of an instruction.
 use Rattle.std.specs.Prelude.{ℕ, List, [], Bool, true, false, map, slice_index_or}
-use Rattle.sil_ast.specs.declared.columns.TheConstants.{MNEMONICS, PARTS, RESULTS, ENDINGS, WORDS, OPTIONAL_OPERANDS, DETAILS, EXTRA_VALUES}
-use Rattle.sil_ast.specs.declared.entries.BareOperands.{BareOperands}
-use Rattle.sil_ast.specs.declared.entries.BareOperands.TheVariants.{NoBare}
-use Rattle.sil_ast.specs.declared.entries.Detail.{Detail}
-use Rattle.sil_ast.specs.declared.entries.Detail.TheVariants.{NoDetail}
-use Rattle.sil_ast.specs.declared.entries.Ending.{Ending}
-use Rattle.sil_ast.specs.declared.entries.Ending.TheVariants as ending
-use Rattle.sil_ast.specs.declared.entries.ExtraValue.{ExtraValue}
-use Rattle.sil_ast.specs.declared.entries.ExtraValue.TheVariants.{Never}
-use Rattle.sil_ast.specs.declared.entries.InForms.{InForms}
-use Rattle.sil_ast.specs.declared.entries.InForms.TheVariants.{BothForms}
-use Rattle.sil_ast.specs.declared.entries.ResultKind.{ResultKind}
-use Rattle.sil_ast.specs.declared.entries.ResultKind.TheVariants.{NoneResult}
-use Rattle.sil_ast.specs.declared.entries.Results.{Results}
-use Rattle.sil_ast.specs.declared.entries.Results.TheVariants.{NoResult, OneResult, ResultList}
-use Rattle.sil_ast.specs.declared.entries.Role.{Role}
-use Rattle.sil_ast.specs.declared.entries.TypeWords.{TypeWords}
-use Rattle.sil_ast.specs.declared.entries.TypeWords.TheVariants.{AnyType}
-use Rattle.sil_ast.specs.declared.entries.Words.{Words}
-use Rattle.sil_ast.specs.declared.entries.Words.TheVariants.{NoWord}
-use Rattle.sil_ast.specs.declared.forms.Part.{Part}
-use Rattle.sil_ast.specs.declared.forms.Part.TheVariants as part
-use Rattle.sil_ast.specs.declared.op.Op.{Op}
-use Rattle.sil_ast.specs.declared.op.Op.TheVariants as op
-use Rattle.sil_ast.specs.declared.ownership_columns.TheConstants.{ROLES, RESULT_KINDS}
-use Rattle.sil_ast.specs.declared.typing_columns.TheConstants.{STORAGE_TYPES, OPERAND_TUPLES, FORMS, TYPE_WORDS, BARE_OPERANDS}
+use Rattle.instruction_table.specs.declared.columns.TheConstants.{MNEMONICS, PARTS, RESULTS, ENDINGS, WORDS, OPTIONAL_OPERANDS, DETAILS, EXTRA_VALUES}
+use Rattle.instruction_table.specs.declared.entries.BareOperands.{BareOperands}
+use Rattle.instruction_table.specs.declared.entries.BareOperands.TheVariants.{NoBare}
+use Rattle.instruction_table.specs.declared.entries.Detail.{Detail}
+use Rattle.instruction_table.specs.declared.entries.Detail.TheVariants.{NoDetail}
+use Rattle.instruction_table.specs.declared.entries.Ending.{Ending}
+use Rattle.instruction_table.specs.declared.entries.Ending.TheVariants as ending
+use Rattle.instruction_table.specs.declared.entries.ExtraValue.{ExtraValue}
+use Rattle.instruction_table.specs.declared.entries.ExtraValue.TheVariants.{Never}
+use Rattle.instruction_table.specs.declared.entries.InForms.{InForms}
+use Rattle.instruction_table.specs.declared.entries.InForms.TheVariants.{BothForms}
+use Rattle.instruction_table.specs.declared.entries.ResultKind.{ResultKind}
+use Rattle.instruction_table.specs.declared.entries.ResultKind.TheVariants.{NoneResult}
+use Rattle.instruction_table.specs.declared.entries.Results.{Results}
+use Rattle.instruction_table.specs.declared.entries.Results.TheVariants.{NoResult, OneResult, ResultList}
+use Rattle.instruction_table.specs.declared.entries.Role.{Role}
+use Rattle.instruction_table.specs.declared.entries.TypeWords.{TypeWords}
+use Rattle.instruction_table.specs.declared.entries.TypeWords.TheVariants.{AnyType}
+use Rattle.instruction_table.specs.declared.entries.Words.{Words}
+use Rattle.instruction_table.specs.declared.entries.Words.TheVariants.{NoWord}
+use Rattle.instruction_table.specs.declared.forms.Part.{Part}
+use Rattle.instruction_table.specs.declared.forms.Part.TheVariants as part
+use Rattle.instruction_table.specs.declared.op.Op.{Op}
+use Rattle.instruction_table.specs.declared.op.Op.TheVariants as op
+use Rattle.instruction_table.specs.declared.ownership_columns.TheConstants.{ROLES, RESULT_KINDS}
+use Rattle.instruction_table.specs.declared.typing_columns.TheConstants.{STORAGE_TYPES, OPERAND_TUPLES, FORMS, TYPE_WORDS, BARE_OPERANDS}
 
 -- the number of an instruction, which is its place in each column
 abbrev pub number_of : Op → ℕ

@@ -2,7 +2,7 @@
 
 ghost use Rattle.std.specs.Prelude.{◌≡◌, bytes_eq};
 ghost use Rattle.std.specs.List.{list_any};
-ghost use Rattle.sil_shape.specs.BuiltinNames.{operation_spelling, width_spelling, widths, builtin_name, names_operation, is_builtin_name};
+ghost use Rattle.builtin_names.specs.BuiltinNames.{operation_spelling, width_spelling, widths, builtin_name, names_operation, is_builtin_name};
 
 /// An operation on integers of one width.
 #[derive(Clone, Copy)]

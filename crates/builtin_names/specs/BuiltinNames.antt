@@ -1,10 +1,10 @@
 -- The names of builtin operations: an operation, then `_Int`, then a width.
 use Rattle.std.specs.Prelude.{ℕ, Bool, List, [], ◌∷◌, ◌++◌, codes, bytes_eq}
 use Rattle.std.specs.List.{list_any}
-use Rattle.sil_shape.specs.declared.builtin_names.Operation.{Operation}
-use Rattle.sil_shape.specs.declared.builtin_names.Operation.TheVariants as o
-use Rattle.sil_shape.specs.declared.builtin_names.Width.{Width}
-use Rattle.sil_shape.specs.declared.builtin_names.Width.TheVariants as w
+use Rattle.builtin_names.specs.declared.names.Operation.{Operation}
+use Rattle.builtin_names.specs.declared.names.Operation.TheVariants as o
+use Rattle.builtin_names.specs.declared.names.Width.{Width}
+use Rattle.builtin_names.specs.declared.names.Width.TheVariants as w
 
 unfoldable pub operation_spelling : Operation → List ℕ
 operation_spelling o.AddWithOverflow = codes "sadd_with_overflow"

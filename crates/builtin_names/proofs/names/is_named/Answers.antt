@@ -1,8 +1,8 @@
 use Rattle.std.proofs.Common.{◌≡◌, ◌∙◌, ◌++◌, refl, bytes_eq}
 use Rattle.std.specs.Prelude.{codes}
-use Rattle.sil_shape.specs.BuiltinNames.{width_spelling}
-use Rattle.sil_shape.proofs.NameLemmas.{no_front, with_front}
-use Rattle.sil_shape.proofs.builtin_names.is_named.Goals as goal
+use Rattle.builtin_names.specs.BuiltinNames.{width_spelling}
+use Rattle.builtin_names.proofs.NameLemmas.{no_front, with_front}
+use Rattle.builtin_names.proofs.names.is_named.Goals as goal
 
 pub returns-in_default : goal.returns-in_default
 returns-in_default c =

@@ -1,7 +1,7 @@
 //! The form of an instruction: its mnemonic, and the parts that stand behind it.
 
 ghost use Rattle.std.specs.Prelude.{◌≡◌};
-ghost use Rattle.sil_ast.specs.Forms as form;
+ghost use Rattle.instruction_table.specs.Forms as form;
 
 /// The form of an instruction: its mnemonic, and its parts from left to right. Results stand before it and aren't among them.
 #[derive(Clone, Copy)]
