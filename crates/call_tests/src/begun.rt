@@ -1,10 +1,10 @@
 //! Lists of classes, written as words with blanks between, and the shortest modules that begin with them.
 
-use sil_shape::classes::Class;
+use token_classes::Class;
 use sil_shape::grammar::Symbol;
 use sil_shape::machine::{ShapeRefusal, steps_of};
 use sil_shape::shortest_steps::shortest_steps;
-use sil_shape::spelling::{at_word, keyword, punctuation};
+use token_classes::{at_word, keyword, punctuation};
 use sil_shape::steps::{Front, Step};
 use std::alloc::{AllocError, Global};
 use std::test::Fail;

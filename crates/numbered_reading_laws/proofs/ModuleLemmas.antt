@@ -1,7 +1,7 @@
 -- A module that is written without a fault is good, with each of its items.
 use Rattle.std.proofs.Common.{List, [], ◌∷◌, subst, refl, flat_map}
 use Rattle.sil_lexer.specs.Lexes.{Lexeme}
-use Rattle.sil_shape.specs.declared.classes.Class.{Class}
+use Rattle.token_classes.specs.declared.classes.Class.{Class}
 use Rattle.sil_shape.specs.declared.steps.Step.{Step}
 use Rattle.sil_shape.specs.Derivation.{start}
 use Rattle.written_tree.specs.declared.written_declarations.WrittenDecl.{WrittenDecl}

@@ -3,11 +3,11 @@ use Rattle.std.proofs.Common.{◌≡◌, ℕ, ◌+◌, List, [], ◌∷◌, ◌+
 use Rattle.std.specs.Prelude.{⊤, ◌==◌}
 use Rattle.std.proofs.lemmas.Bool.{eqb-true}
 use Rattle.sil_lexer.specs.Lexes.{Lexeme}
-use Rattle.sil_shape.specs.declared.classes.Class.{Class}
-use Rattle.sil_shape.specs.declared.classes.Class.TheVariants as c
-use Rattle.sil_shape.specs.declared.classes.AtWord.TheVariants as a
-use Rattle.sil_shape.specs.declared.classes.Keyword.TheVariants as k
-use Rattle.sil_shape.specs.declared.classes.Punctuation.TheVariants as m
+use Rattle.token_classes.specs.declared.classes.Class.{Class}
+use Rattle.token_classes.specs.declared.classes.Class.TheVariants as c
+use Rattle.token_classes.specs.declared.classes.AtWord.TheVariants as a
+use Rattle.token_classes.specs.declared.classes.Keyword.TheVariants as k
+use Rattle.token_classes.specs.declared.classes.Punctuation.TheVariants as m
 use Rattle.sil_shape.specs.declared.grammar.Symbol.{Symbol}
 use Rattle.sil_shape.specs.declared.grammar.Symbol.TheVariants.{Read, Part}
 use Rattle.sil_shape.specs.declared.grammar.Terminal.{Terminal}

@@ -1,7 +1,7 @@
 -- What is read is in numbered form.
 use Rattle.std.specs.Prelude.{◌≡◌, List, None}
 use Rattle.sil_lexer.specs.Lexes.{Lexeme}
-use Rattle.sil_shape.specs.declared.classes.Class.{Class}
+use Rattle.token_classes.specs.declared.classes.Class.{Class}
 use Rattle.sil_shape.specs.declared.steps.Step.{Step}
 use Rattle.sil_shape.specs.Derivation.{Derives, start}
 use Rattle.written_tree.specs.declared.written_module.WrittenModule.{WrittenModule}

@@ -2,8 +2,8 @@
 use Rattle.std.specs.Prelude.{ℕ, List, ⊤, IsTrue}
 use Rattle.std.specs.List.{AllZip}
 use Rattle.sil_lexer.specs.Lexes.{Lexeme}
-use Rattle.sil_shape.specs.declared.classes.Class.{Class}
-use Rattle.sil_shape.specs.declared.classes.Class.TheVariants as c
+use Rattle.token_classes.specs.declared.classes.Class.{Class}
+use Rattle.token_classes.specs.declared.classes.Class.TheVariants as c
 use Rattle.builtin_names.specs.BuiltinNames.{is_builtin_name}
 use Rattle.written_modules.specs.Meaning.{kept_of}
 use Rattle.numbered_form.specs.Names.{IsWord, is_at_name, is_quotable}

@@ -16,7 +16,7 @@ use Rattle.sil_printer.specs.Words.{if_there, listed}
 use Rattle.sil_lexer.specs.declared.token.TokenKind.TheVariants as kind
 use Rattle.sil_shape.specs.Accepts.{accepts, class_number, keyword_number, punctuation_number}
 use Rattle.sil_shape.specs.Grammar.{body, written}
-use Rattle.sil_shape.specs.Spelling.{keyword_of, keywords_of_length, known_keyword, punctuation_of, punctuation_spelling, signs, spelling}
+use Rattle.token_classes.specs.Spelling.{keyword_of, keywords_of_length, known_keyword, punctuation_of, punctuation_spelling, signs, spelling}
 use Rattle.sil_shape.specs.declared.grammar.Nonterminal.TheVariants as n
 use Rattle.sil_shape.specs.declared.grammar.Production.TheVariants as p
 use Rattle.written_modules.specs.Meaning.{kept_of, leaf_of, meaning}

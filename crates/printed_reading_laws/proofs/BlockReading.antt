@@ -13,13 +13,13 @@ use Rattle.sil_printer.specs.CanonicalFunctions.{arg_text, block_text, kind_text
 use Rattle.sil_printer.specs.CanonicalInsts.{block_name, inst_text}
 use Rattle.sil_printer.specs.CanonicalTypes.{type_text}
 use Rattle.sil_printer.specs.Words.{indented, line_feed, listed, parens_if_any}
-use Rattle.sil_shape.specs.declared.classes.AtWord.TheVariants as a
-use Rattle.sil_shape.specs.declared.classes.Punctuation.TheVariants as m
+use Rattle.token_classes.specs.declared.classes.AtWord.TheVariants as a
+use Rattle.token_classes.specs.declared.classes.Punctuation.TheVariants as m
 use Rattle.sil_shape.specs.declared.grammar.Nonterminal.TheVariants as n
 use Rattle.sil_shape.specs.declared.grammar.Production.TheVariants as p
 use Rattle.sil_shape.specs.declared.grammar.Symbol.TheVariants.{Part}
 use Rattle.sil_shape.specs.Grammar.{body, written}
-use Rattle.sil_shape.specs.Spelling.{at_spelling, punctuation_spelling}
+use Rattle.token_classes.specs.Spelling.{at_spelling, punctuation_spelling}
 use Rattle.sil_rules.specs.declared.limit_word.LimitWord.TheVariants as limit
 use Rattle.written_tree.specs.Faults.{passed}
 use Rattle.written_modules.specs.Meaning.{kept_of, meaning}

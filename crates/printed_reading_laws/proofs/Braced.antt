@@ -2,13 +2,13 @@
 use Rattle.std.proofs.Common.{◌≡◌, ℕ, List, [], ◌∷◌, ◌++◌, codes, refl}
 use Rattle.std.proofs.lemmas.List.{append_assoc}
 use Rattle.sil_printer.specs.Words.{line, opening}
-use Rattle.sil_shape.specs.declared.classes.Keyword.{Keyword}
-use Rattle.sil_shape.specs.declared.classes.Punctuation.TheVariants as m
+use Rattle.token_classes.specs.declared.classes.Keyword.{Keyword}
+use Rattle.token_classes.specs.declared.classes.Punctuation.TheVariants as m
 use Rattle.sil_shape.specs.declared.grammar.Nonterminal.{Nonterminal}
 use Rattle.sil_shape.specs.declared.grammar.Symbol.TheVariants.{Part, Read}
 use Rattle.sil_shape.specs.declared.grammar.Terminal.TheVariants as t
 use Rattle.sil_shape.specs.Grammar.{punctuation, word}
-use Rattle.sil_shape.specs.Spelling.{punctuation_spelling, spelling}
+use Rattle.token_classes.specs.Spelling.{punctuation_spelling, spelling}
 use Rattle.written_modules.specs.Meaning.{kept_of}
 use Rattle.written_modules.specs.Opened.{PartValue}
 use Rattle.written_modules.specs.Values.{token_of}

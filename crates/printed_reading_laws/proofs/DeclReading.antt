@@ -11,12 +11,12 @@ use Rattle.sil_ast.specs.declared.type_name.TypeName.{TypeName, TypeName-F, fold
 use Rattle.sil_printer.specs.CanonicalDecls.{case_text, decl_text, field_text, payload_text}
 use Rattle.sil_printer.specs.CanonicalTypes.{is_several, several_over, type_over, type_text}
 use Rattle.sil_printer.specs.Words.{if_there, indented}
-use Rattle.sil_shape.specs.declared.classes.Keyword.TheVariants as k
-use Rattle.sil_shape.specs.declared.classes.Punctuation.TheVariants as m
+use Rattle.token_classes.specs.declared.classes.Keyword.TheVariants as k
+use Rattle.token_classes.specs.declared.classes.Punctuation.TheVariants as m
 use Rattle.sil_shape.specs.declared.grammar.Nonterminal.TheVariants as n
 use Rattle.sil_shape.specs.declared.grammar.Production.TheVariants as p
 use Rattle.sil_shape.specs.Grammar.{body, written}
-use Rattle.sil_shape.specs.Spelling.{punctuation_spelling, spelling}
+use Rattle.token_classes.specs.Spelling.{punctuation_spelling, spelling}
 use Rattle.written_tree.specs.declared.written_declarations.WrittenField.{WrittenField}
 use Rattle.written_tree.specs.declared.written_module.WrittenItem.TheVariants as item
 use Rattle.sil_rules.specs.declared.limit_word.LimitWord.TheVariants as limit

@@ -2,18 +2,18 @@
 use Rattle.std.proofs.Common.{◌≡◌, ℕ, List, [], ◌∷◌, ◌++◌, IsTrue, true, refl, ap, sym, ◌∙◌}
 use Rattle.sil_lexer.specs.declared.token.TokenKind.TheVariants as kind
 use Rattle.sil_lexer.specs.Bytes.{is_punctuation}
-use Rattle.sil_shape.specs.declared.classes.AtWord.{AtWord}
-use Rattle.sil_shape.specs.declared.classes.Class.TheVariants as c
-use Rattle.sil_shape.specs.declared.classes.Keyword.{Keyword}
-use Rattle.sil_shape.specs.declared.classes.Punctuation.{Punctuation}
-use Rattle.sil_shape.specs.declared.classes.Punctuation.TheVariants as m
+use Rattle.token_classes.specs.declared.classes.AtWord.{AtWord}
+use Rattle.token_classes.specs.declared.classes.Class.TheVariants as c
+use Rattle.token_classes.specs.declared.classes.Keyword.{Keyword}
+use Rattle.token_classes.specs.declared.classes.Punctuation.{Punctuation}
+use Rattle.token_classes.specs.declared.classes.Punctuation.TheVariants as m
 use Rattle.sil_shape.specs.declared.grammar.Symbol.{Symbol}
 use Rattle.sil_shape.specs.declared.grammar.Symbol.TheVariants.{Read}
 use Rattle.sil_shape.specs.declared.grammar.Terminal.TheVariants as t
 use Rattle.sil_shape.specs.Accepts.{accepts, class_number, punctuation_number}
 use Rattle.sil_shape.specs.Grammar.{at, punctuation, word}
-use Rattle.sil_shape.specs.Spelling.{at_spelling, punctuation_of, punctuation_spelling, spelling}
-use Rattle.sil_shape.proofs.SpellingLemmas.{at_word_of-at_spelling, keyword_of-spelling, punctuation_of-punctuation_spelling}
+use Rattle.token_classes.specs.Spelling.{at_spelling, punctuation_of, punctuation_spelling, spelling}
+use Rattle.token_classes.proofs.SpellingLemmas.{at_word_of-at_spelling, keyword_of-spelling, punctuation_of-punctuation_spelling}
 use Rattle.sil_grammar.specs.Classes.{punctuation_class}
 use Rattle.written_modules.specs.Meaning.{leaf_of}
 use Rattle.written_modules.specs.Opened.{PartValue}

@@ -12,12 +12,12 @@ use Rattle.sil_ast.specs.declared.function.Linkage.TheVariants as linkage
 use Rattle.sil_printer.specs.CanonicalFunctions.{attribute_text, block_text, body_text, form_text, function_text, linkage_text, words_text}
 use Rattle.sil_printer.specs.CanonicalSignatures.{signature_text}
 use Rattle.sil_printer.specs.Words.{each_behind, line}
-use Rattle.sil_shape.specs.declared.classes.Keyword.TheVariants as k
-use Rattle.sil_shape.specs.declared.classes.Punctuation.TheVariants as m
+use Rattle.token_classes.specs.declared.classes.Keyword.TheVariants as k
+use Rattle.token_classes.specs.declared.classes.Punctuation.TheVariants as m
 use Rattle.sil_shape.specs.declared.grammar.Nonterminal.TheVariants as n
 use Rattle.sil_shape.specs.declared.grammar.Production.TheVariants as p
 use Rattle.sil_shape.specs.Grammar.{body, written}
-use Rattle.sil_shape.specs.Spelling.{punctuation_spelling, spelling}
+use Rattle.token_classes.specs.Spelling.{punctuation_spelling, spelling}
 use Rattle.sil_rules.specs.declared.limit_word.LimitWord.TheVariants as limit
 use Rattle.written_tree.specs.declared.written_declarations.WrittenToken.{WrittenToken}
 use Rattle.written_tree.specs.declared.written_functions.WrittenBlock.{WrittenBlock}

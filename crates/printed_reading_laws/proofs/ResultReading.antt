@@ -9,7 +9,7 @@ use Rattle.sil_printer.specs.CanonicalInsts.{inst_text, parts_text, results_text
 use Rattle.sil_printer.specs.Words.{in_parens, listed}
 use Rattle.sil_shape.specs.Accepts.{accepts, class_number, punctuation_number}
 use Rattle.sil_shape.specs.Grammar.{body, written}
-use Rattle.sil_shape.specs.Spelling.{punctuation_of, punctuation_spelling, signs}
+use Rattle.token_classes.specs.Spelling.{punctuation_of, punctuation_spelling, signs}
 use Rattle.sil_shape.specs.declared.grammar.Nonterminal.TheVariants as n
 use Rattle.sil_shape.specs.declared.grammar.Production.TheVariants as p
 use Rattle.written_modules.specs.Meaning.{kept_of, meaning}

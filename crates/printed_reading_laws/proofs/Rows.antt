@@ -7,8 +7,8 @@ use Rattle.instruction_table.specs.declared.op.Op.{Op}
 use Rattle.instruction_table.specs.declared.op.Op.TheVariants as op
 use Rattle.sil_shape.specs.Accepts.{accepts, class_number, keyword_number}
 use Rattle.sil_shape.specs.Grammar.{body, written}
-use Rattle.sil_shape.specs.Spelling.{keyword_of, keywords_of_length, known_keyword, spelling}
-use Rattle.sil_shape.specs.declared.classes.Keyword.TheVariants as k
+use Rattle.token_classes.specs.Spelling.{keyword_of, keywords_of_length, known_keyword, spelling}
+use Rattle.token_classes.specs.declared.classes.Keyword.TheVariants as k
 use Rattle.sil_shape.specs.declared.grammar.Nonterminal.TheVariants as n
 use Rattle.sil_shape.specs.declared.grammar.Production.TheVariants as p
 use Rattle.written_modules.specs.Meaning.{meaning}

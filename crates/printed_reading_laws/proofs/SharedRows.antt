@@ -14,11 +14,11 @@ use Rattle.sil_printer.specs.CanonicalInsts.{field_name, member_text, parts_text
 use Rattle.sil_shape.specs.Accepts.{accepts, class_number, keyword_number, punctuation_number}
 use Rattle.sil_shape.specs.Derivation.{Accepts}
 use Rattle.sil_shape.specs.Grammar.{punctuation, word}
-use Rattle.sil_shape.specs.Spelling.{keyword_of, keywords_of_length, known_keyword, punctuation_of, punctuation_spelling, signs, spelling}
-use Rattle.sil_shape.specs.declared.classes.Class.TheVariants as c
-use Rattle.sil_shape.specs.declared.classes.Keyword.{Keyword}
-use Rattle.sil_shape.specs.declared.classes.Keyword.TheVariants as keyword
-use Rattle.sil_shape.specs.declared.classes.Punctuation.TheVariants as m
+use Rattle.token_classes.specs.Spelling.{keyword_of, keywords_of_length, known_keyword, punctuation_of, punctuation_spelling, signs, spelling}
+use Rattle.token_classes.specs.declared.classes.Class.TheVariants as c
+use Rattle.token_classes.specs.declared.classes.Keyword.{Keyword}
+use Rattle.token_classes.specs.declared.classes.Keyword.TheVariants as keyword
+use Rattle.token_classes.specs.declared.classes.Punctuation.TheVariants as m
 use Rattle.sil_shape.specs.declared.grammar.Nonterminal.{Nonterminal}
 use Rattle.sil_shape.specs.declared.grammar.Nonterminal.TheVariants as n
 use Rattle.sil_shape.specs.declared.grammar.Symbol.TheVariants.{Read, Part}

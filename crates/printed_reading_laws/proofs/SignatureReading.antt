@@ -12,13 +12,13 @@ use Rattle.sil_ast.specs.declared.type_name.TypeName.{TypeName}
 use Rattle.sil_printer.specs.CanonicalSignatures.{convention_text, given_text, param_text, passing_text, results_text, signature_text}
 use Rattle.sil_printer.specs.CanonicalTypes.{opens_parens, type_text}
 use Rattle.sil_printer.specs.Words.{in_parens, listed}
-use Rattle.sil_shape.specs.declared.classes.AtWord.TheVariants as a
+use Rattle.token_classes.specs.declared.classes.AtWord.TheVariants as a
 use Rattle.sil_shape.specs.declared.grammar.Nonterminal.TheVariants as n
 use Rattle.sil_shape.specs.declared.grammar.Production.TheVariants as p
 use Rattle.sil_shape.specs.declared.grammar.Symbol.TheVariants.{Part}
 use Rattle.sil_shape.specs.Accepts.{accepts, at_number, class_number, keyword_number, punctuation_number}
 use Rattle.sil_shape.specs.Grammar.{body, written}
-use Rattle.sil_shape.specs.Spelling.{at_spelling, at_word_of, at_words, keyword_of, keywords_of_length, known_at_word, known_keyword, punctuation_of, punctuation_spelling, signs, spelling}
+use Rattle.token_classes.specs.Spelling.{at_spelling, at_word_of, at_words, keyword_of, keywords_of_length, known_at_word, known_keyword, punctuation_of, punctuation_spelling, signs, spelling}
 use Rattle.sil_rules.specs.declared.limit_word.LimitWord.TheVariants as limit
 use Rattle.written_modules.specs.Meaning.{meaning}
 use Rattle.written_modules.specs.Opened.{PartGivens, PartParams, PartValue}

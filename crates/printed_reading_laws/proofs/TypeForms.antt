@@ -6,9 +6,9 @@ use Rattle.std.proofs.lemmas.Bool.Decides.{nat_tests}
 use Rattle.sil_ast.specs.declared.place.Place.{Place}
 use Rattle.sil_ast.specs.declared.type_name.TypeName.{TypeName}
 use Rattle.sil_ast.specs.declared.type_name.TypeName.TheVariants as ty
-use Rattle.sil_shape.specs.declared.classes.Keyword.{Keyword}
-use Rattle.sil_shape.specs.declared.classes.Keyword.TheVariants as k
-use Rattle.sil_shape.specs.declared.classes.AtWord.TheVariants as a
+use Rattle.token_classes.specs.declared.classes.Keyword.{Keyword}
+use Rattle.token_classes.specs.declared.classes.Keyword.TheVariants as k
+use Rattle.token_classes.specs.declared.classes.AtWord.TheVariants as a
 use Rattle.sil_shape.specs.declared.grammar.Nonterminal.TheVariants as n
 use Rattle.sil_shape.specs.declared.grammar.Production.{Production}
 use Rattle.sil_shape.specs.declared.grammar.Production.TheVariants as p
@@ -16,7 +16,7 @@ use Rattle.sil_shape.specs.declared.grammar.Symbol.TheVariants.{Read, Part}
 use Rattle.sil_shape.specs.Accepts.{accepts, class_number, is_type_word, keyword_number, punctuation_number}
 use Rattle.sil_shape.specs.Grammar as grammar
 use Rattle.sil_shape.specs.Grammar.{body, word, written}
-use Rattle.sil_shape.specs.Spelling.{at_spelling, at_word_of, at_words, keyword_of, keywords_of_length, known_at_word, known_keyword, punctuation_of, punctuation_spelling, signs, spelling}
+use Rattle.token_classes.specs.Spelling.{at_spelling, at_word_of, at_words, keyword_of, keywords_of_length, known_at_word, known_keyword, punctuation_of, punctuation_spelling, signs, spelling}
 use Rattle.written_tree.specs.declared.written_declarations.WrittenToken.{WrittenToken}
 use Rattle.written_tree.specs.declared.fault.Fault.{Fault}
 use Rattle.written_modules.specs.Meaning.{kept_of, meaning}

@@ -7,12 +7,12 @@ use Rattle.sil_ast.specs.declared.vtable.Vtable.{Vtable}
 use Rattle.sil_printer.specs.CanonicalInsts.{function_name}
 use Rattle.sil_printer.specs.CanonicalModules.{entry_line, vtable_text}
 use Rattle.sil_printer.specs.Words.{line_feed}
-use Rattle.sil_shape.specs.declared.classes.Keyword.TheVariants as k
-use Rattle.sil_shape.specs.declared.classes.Punctuation.TheVariants as m
+use Rattle.token_classes.specs.declared.classes.Keyword.TheVariants as k
+use Rattle.token_classes.specs.declared.classes.Punctuation.TheVariants as m
 use Rattle.sil_shape.specs.declared.grammar.Nonterminal.TheVariants as n
 use Rattle.sil_shape.specs.declared.grammar.Production.TheVariants as p
 use Rattle.sil_shape.specs.Grammar.{body, written}
-use Rattle.sil_shape.specs.Spelling.{punctuation_spelling, spelling}
+use Rattle.token_classes.specs.Spelling.{punctuation_spelling, spelling}
 use Rattle.written_tree.specs.declared.written_module.WrittenItem.TheVariants as item
 use Rattle.written_modules.specs.Meaning.{kept_of, meaning}
 use Rattle.written_modules.specs.Opened.{PartValue}

@@ -5,7 +5,7 @@ use Rattle.std.proofs.lemmas.List.{append_assoc, append-nil, map-append}
 use Rattle.sil_lexer.specs.Bytes.{is_blank}
 use Rattle.sil_lexer.specs.Lexes.{Lexeme, Lexes, Lexes as lexes, Skips as skips}
 use Rattle.sil_lexer.specs.declared.token.LexRefusal.{LexRefusal}
-use Rattle.sil_shape.specs.declared.classes.Class.{Class}
+use Rattle.token_classes.specs.declared.classes.Class.{Class}
 use Rattle.sil_shape.specs.declared.grammar.Production.{Production}
 use Rattle.sil_shape.specs.declared.grammar.Symbol.{Symbol}
 use Rattle.sil_shape.specs.declared.grammar.Symbol.TheVariants.{Part}

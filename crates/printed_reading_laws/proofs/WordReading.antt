@@ -1,16 +1,16 @@
 -- Tokens that spell a word which the grammar knows, and types behind such a word.
 use Rattle.std.proofs.Common.{◌≡◌, ℕ, List, [], ◌∷◌, ◌++◌, None, true, ◌==◌, IsTrue, refl, ap, ◌∙◌, arith}
 use Rattle.std.proofs.lemmas.Bool.Decides.{nat_tests}
-use Rattle.sil_shape.specs.declared.classes.AtWord.{AtWord}
-use Rattle.sil_shape.specs.declared.classes.Class.TheVariants as c
-use Rattle.sil_shape.specs.declared.classes.Keyword.{Keyword}
+use Rattle.token_classes.specs.declared.classes.AtWord.{AtWord}
+use Rattle.token_classes.specs.declared.classes.Class.TheVariants as c
+use Rattle.token_classes.specs.declared.classes.Keyword.{Keyword}
 use Rattle.sil_shape.specs.declared.grammar.Nonterminal.{Nonterminal}
 use Rattle.sil_shape.specs.declared.grammar.Nonterminal.TheVariants as n
 use Rattle.sil_shape.specs.declared.grammar.Production.{Production}
 use Rattle.sil_shape.specs.declared.grammar.Symbol.TheVariants.{Read, Part}
 use Rattle.sil_shape.specs.Accepts.{accepts, class_number}
 use Rattle.sil_shape.specs.Grammar.{at, body, word, written}
-use Rattle.sil_shape.specs.Spelling.{at_spelling, at_word_of, keyword_of}
+use Rattle.token_classes.specs.Spelling.{at_spelling, at_word_of, keyword_of}
 use Rattle.written_modules.specs.Meaning.{meaning}
 use Rattle.written_modules.specs.Opened.{PartValue}
 use Rattle.written_modules.specs.PartFaults.{part_fault}

@@ -8,7 +8,7 @@ use Rattle.sil_shape.specs.declared.grammar.Nonterminal.TheVariants as n
 use Rattle.sil_shape.specs.declared.grammar.Production.{Production}
 use Rattle.sil_shape.specs.declared.grammar.Production.TheVariants as p
 use Rattle.sil_shape.specs.Grammar.{written, body}
-use Rattle.sil_shape.specs.Spelling.{spelling, keywords_of_length, known_keyword, keyword_of}
+use Rattle.token_classes.specs.Spelling.{spelling, keywords_of_length, known_keyword, keyword_of}
 use Rattle.row_table_laws.specs.Rows.{production_of, row_part, operand_of, member_of, qualifier_of, text_of, edges_of, symbols_of, brings_comma, comma_between, parts_row, row_body}
 use Rattle.row_table_laws.specs.Laws.{WritesForms, SpellsMnemonics, TellsTerminators, HasNoOtherRow, HasOneRowEach}
 

@@ -5,7 +5,7 @@ use Rattle.instruction_table.specs.Forms.{mnemonic_of}
 use Rattle.sil_shape.specs.declared.grammar.Nonterminal.TheVariants as n
 use Rattle.sil_shape.specs.declared.grammar.Production.{Production}
 use Rattle.sil_shape.specs.Grammar.{written, body}
-use Rattle.sil_shape.specs.Spelling.{spelling, keyword_of}
+use Rattle.token_classes.specs.Spelling.{spelling, keyword_of}
 use Rattle.row_table_laws.specs.Rows.{production_of, row_part, row_body}
 
 -- the grammar writes each instruction as its form in the table says

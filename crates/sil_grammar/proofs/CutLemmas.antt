@@ -1,6 +1,6 @@
 -- A derivation cut behind the last token goes on in one shortest way: for `fault_before` and for the cut itself.
 use Rattle.std.proofs.Common.{◌≡◌, ℕ, zero, suc, ◌+◌, ◌<◌, List, [], ◌∷◌, ◌++◌, length, drop, take, reverse, slice_index_or, refl, ap, sym, subst, ◌∙◌, append_assoc, length-append, add-one, arith}
-use Rattle.sil_shape.specs.declared.classes.Class.{Class}
+use Rattle.token_classes.specs.declared.classes.Class.{Class}
 use Rattle.sil_shape.specs.declared.grammar.Symbol.{Symbol}
 use Rattle.sil_shape.specs.declared.grammar.Production.{Production}
 use Rattle.sil_shape.specs.declared.steps.Front.{Front}

@@ -2,7 +2,7 @@
 use Rattle.std.proofs.Common.{◌≡◌, ℕ, ◌+◌, ◌≤◌, List, [], ◌∷◌, ◌++◌, length, refl, sym, subst, ◌∙◌, arith, true}
 use Rattle.std.specs.Prelude.{◌==◌, nat_lt}
 use Rattle.std.proofs.lemmas.Bool.{eqb-true, ltb-true}
-use Rattle.sil_shape.specs.declared.classes.Class.{Class}
+use Rattle.token_classes.specs.declared.classes.Class.{Class}
 use Rattle.sil_shape.specs.declared.grammar.Nonterminal.{Nonterminal}
 use Rattle.sil_shape.specs.declared.grammar.Nonterminal.TheVariants as n
 use Rattle.sil_shape.specs.declared.grammar.Symbol.{Symbol}

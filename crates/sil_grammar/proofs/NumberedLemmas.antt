@@ -7,9 +7,9 @@ use Rattle.sil_lexer.specs.declared.token.TokenKind.{TokenKind}
 use Rattle.sil_lexer.specs.Bytes.{is_name_byte, is_word_start}
 use Rattle.sil_lexer.specs.Lexes.{Lexeme, Lexes, end, token, stop}
 use Rattle.sil_lexer.specs.Spelling.{Spells, arrow, at_name, name_length, negative, number, percent, punctuation, quoted, without_quotes, word}
-use Rattle.sil_shape.specs.declared.classes.Punctuation as sign
+use Rattle.token_classes.specs.declared.classes.Punctuation as sign
 use Rattle.builtin_names.specs.BuiltinNames.{is_builtin_name}
-use Rattle.sil_shape.specs.Spelling.{punctuation_of}
+use Rattle.token_classes.specs.Spelling.{punctuation_of}
 use Rattle.written_modules.specs.Meaning.{kept_of}
 use Rattle.numbered_form.specs.Names.{is_quotable, is_short}
 use Rattle.numbered_form.specs.NumberedForm.{IsNumbered}

@@ -5,7 +5,7 @@ use Rattle.std.proofs.lemmas.List.{append-nil, length-map, length-take-le, take_
 use Rattle.sil_lexer.specs.declared.token.LexRefusal.{LexRefusal}
 use Rattle.sil_lexer.specs.Lexes.{Lexes}
 use Rattle.sil_lexer.specs.Lexing.{Lexing, IsLexingOf, lexeme_of, lexemes_of}
-use Rattle.sil_shape.specs.declared.classes.Class.{Class}
+use Rattle.token_classes.specs.declared.classes.Class.{Class}
 use Rattle.sil_shape.specs.declared.steps.Step.{Step}
 use Rattle.sil_shape.specs.declared.steps.Front.{Front}
 use Rattle.sil_shape.specs.declared.grammar.Symbol.{Symbol}

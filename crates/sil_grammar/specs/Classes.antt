@@ -6,11 +6,11 @@ use Rattle.sil_lexer.specs.declared.token.TokenKind.TheVariants as kind
 use Rattle.sil_lexer.specs.Lexes.{Lexeme}
 use Rattle.sil_lexer.specs.Lexing.{Lexing, lexeme_of}
 use Rattle.sil_lexer.specs.Spelling.{without_quotes, without_sigil}
-use Rattle.sil_shape.specs.declared.classes.Class.{Class}
-use Rattle.sil_shape.specs.declared.classes.Class.TheVariants.{Word, At, Percent, Number, BuiltinText, OtherText, Punctuation}
-use Rattle.sil_shape.specs.declared.classes.Punctuation as punctuation
+use Rattle.token_classes.specs.declared.classes.Class.{Class}
+use Rattle.token_classes.specs.declared.classes.Class.TheVariants.{Word, At, Percent, Number, BuiltinText, OtherText, Punctuation}
+use Rattle.token_classes.specs.declared.classes.Punctuation as punctuation
 use Rattle.builtin_names.specs.BuiltinNames.{is_builtin_name}
-use Rattle.sil_shape.specs.Spelling.{keyword_of, at_word_of, punctuation_of}
+use Rattle.token_classes.specs.Spelling.{keyword_of, at_word_of, punctuation_of}
 
 abbrev pub text_class : Bool → Class
 text_class true = BuiltinText

@@ -3,14 +3,14 @@
 ghost use Rattle.std.specs.Prelude.{◌≡◌, ◌<◌, length, map, IfOk};
 ghost use Rattle.sil_lexer.specs.Lexing.{IsLexingOf, lexemes_of};
 ghost use Rattle.builtin_names.specs.BuiltinNames.{is_builtin_name};
-ghost use Rattle.sil_shape.specs.Spelling.{punctuation_of};
+ghost use Rattle.token_classes.specs.Spelling.{punctuation_of};
 ghost use Rattle.sil_grammar.specs.Classes.{class_by, punctuation_class, text_class, token_class, IsClassAt};
 
 use builtin_names::is_builtin_name;
 use sil_ast::Exhausted;
 use sil_lexer::{TokenKind, Tokens, without_quotes, without_sigil};
-use sil_shape::classes::Class;
-use sil_shape::spelling::{at_word, keyword, punctuation};
+use token_classes::Class;
+use token_classes::{at_word, keyword, punctuation};
 use std::alloc::Global;
 
 fn text_class(content: &[u8]) -> Class

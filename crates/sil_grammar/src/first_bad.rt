@@ -15,7 +15,7 @@ ghost use Rattle.sil_grammar.specs.Shape.{IsShapeOf};
 use crate::classes::classes_of;
 use sil_ast::{Exhausted, Place};
 use sil_lexer::{LexRefusal, LexStop, Tokens, end_place, lex};
-use sil_shape::classes::Class;
+use token_classes::Class;
 use sil_shape::machine::{ShapeRefusal, steps_of};
 use sil_shape::steps::{Front, Step};
 use sil_shape::unsupported::is_unsupported;

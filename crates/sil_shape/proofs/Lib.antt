@@ -8,5 +8,4 @@ pub mod NextClasses
 pub mod TurnLemmas
 pub mod Reached
 pub mod DerivedOnce
-pub mod SpellingLemmas
 pub mod GoesOnLemmas

@@ -1,23 +1,24 @@
 -- What a text of each part begins with, and what may come after it.
 use Rattle.std.proofs.Common.{ℕ, List, [], ◌∷◌, Bool, true, false}
-use Rattle.sil_shape.specs.declared.classes.Keyword.TheVariants as k
-use Rattle.sil_shape.specs.declared.classes.AtWord.TheVariants as a
-use Rattle.sil_shape.specs.declared.classes.Punctuation.TheVariants as m
-use Rattle.sil_shape.specs.declared.classes.Class.TheVariants as c
+use Rattle.token_classes.specs.declared.classes.Keyword.TheVariants as k
+use Rattle.token_classes.specs.declared.classes.AtWord.TheVariants as a
+use Rattle.token_classes.specs.declared.classes.Punctuation.TheVariants as m
+use Rattle.token_classes.specs.declared.classes.Class.TheVariants as c
 use Rattle.sil_shape.specs.declared.grammar.Terminal.{Terminal}
 use Rattle.sil_shape.specs.declared.grammar.Terminal.TheVariants as t
 use Rattle.sil_shape.specs.declared.grammar.Nonterminal.{Nonterminal}
 use Rattle.sil_shape.specs.declared.grammar.Nonterminal.TheVariants as n
-use Rattle.sil_shape.specs.Grammar.{word, at, punctuation}
+use Rattle.sil_shape.specs.Terminals.{at, punctuation, word}
+use Rattle.instruction_table.specs.declared.op.Op.TheVariants as op
 
 -- what a text of a part that is not empty begins with
 unfoldable pub first : Nonterminal → List Terminal
-first n.Module = word k.SilStage ∷ word k.Import ∷ word k.Final ∷ word k.Class ∷ word k.Struct ∷ word k.Enum ∷ word k.Sil ∷ word k.SilVtable ∷ []
+first n.Module = word k.SilStage ∷ word k.Import ∷ word k.Final ∷ word k.Class ∷ word (k.Mnemonic op.Struct) ∷ word (k.Mnemonic op.Enum) ∷ word k.Sil ∷ word k.SilVtable ∷ []
 first n.Stage = word k.SilStage ∷ []
 first n.StageWord = word k.Raw ∷ word k.Canonical ∷ []
 first n.Imports = word k.Import ∷ []
-first n.Items = word k.Final ∷ word k.Class ∷ word k.Struct ∷ word k.Enum ∷ word k.Sil ∷ word k.SilVtable ∷ []
-first n.Item = word k.Final ∷ word k.Class ∷ word k.Struct ∷ word k.Enum ∷ word k.Sil ∷ word k.SilVtable ∷ []
+first n.Items = word k.Final ∷ word k.Class ∷ word (k.Mnemonic op.Struct) ∷ word (k.Mnemonic op.Enum) ∷ word k.Sil ∷ word k.SilVtable ∷ []
+first n.Item = word k.Final ∷ word k.Class ∷ word (k.Mnemonic op.Struct) ∷ word (k.Mnemonic op.Enum) ∷ word k.Sil ∷ word k.SilVtable ∷ []
 first n.Members = word k.Final ∷ word k.Deinit ∷ word k.Init ∷ word k.Weak ∷ word k.Unowned ∷ word k.Var ∷ word k.Let ∷ at a.HasStorage ∷ []
 first n.Member = word k.Final ∷ word k.Deinit ∷ word k.Init ∷ word k.Weak ∷ word k.Unowned ∷ word k.Var ∷ word k.Let ∷ at a.HasStorage ∷ []
 first n.Modified = word k.Final ∷ word k.Weak ∷ word k.Unowned ∷ word k.Var ∷ word k.Let ∷ at a.HasStorage ∷ []
@@ -57,12 +58,12 @@ first n.MoreBlockArgs = punctuation m.Comma ∷ []
 first n.BlockArg = t.Just c.Percent ∷ []
 first n.Ownership = at a.Owned ∷ at a.Guaranteed ∷ []
 first n.Star = punctuation m.Star ∷ []
-first n.Code = word k.Struct ∷ word k.Enum ∷ word k.IntegerLiteral ∷ word k.FunctionRef ∷ word k.BuiltinMnemonic ∷ word k.CondFail ∷ word k.AllocRef ∷ word k.AllocStack ∷ word k.DeallocStack ∷ word k.CopyValue ∷ word k.DestroyValue ∷ word k.MoveValue ∷ word k.BeginBorrow ∷ word k.EndBorrow ∷ word k.Load ∷ word k.Store ∷ word k.LoadBorrow ∷ word k.DestroyAddr ∷ word k.LoadWeak ∷ word k.StoreWeak ∷ word k.LoadUnowned ∷ word k.StoreUnowned ∷ word k.Tuple ∷ word k.StructExtract ∷ word k.TupleExtract ∷ word k.DestructureStruct ∷ word k.DestructureTuple ∷ word k.StructElementAddr ∷ word k.TupleElementAddr ∷ word k.RefElementAddr ∷ word k.Apply ∷ word k.DebugValue ∷ word k.StrongRetain ∷ word k.StrongRelease ∷ word k.RetainValue ∷ word k.ReleaseValue ∷ word k.Br ∷ word k.CondBr ∷ word k.SwitchEnum ∷ word k.Return ∷ word k.Unreachable ∷ t.Just c.Percent ∷ punctuation m.LeftParen ∷ []
-first n.Inst = word k.Struct ∷ word k.Enum ∷ word k.IntegerLiteral ∷ word k.FunctionRef ∷ word k.BuiltinMnemonic ∷ word k.CondFail ∷ word k.AllocRef ∷ word k.AllocStack ∷ word k.DeallocStack ∷ word k.CopyValue ∷ word k.DestroyValue ∷ word k.MoveValue ∷ word k.BeginBorrow ∷ word k.EndBorrow ∷ word k.Load ∷ word k.Store ∷ word k.LoadBorrow ∷ word k.DestroyAddr ∷ word k.LoadWeak ∷ word k.StoreWeak ∷ word k.LoadUnowned ∷ word k.StoreUnowned ∷ word k.Tuple ∷ word k.StructExtract ∷ word k.TupleExtract ∷ word k.DestructureStruct ∷ word k.DestructureTuple ∷ word k.StructElementAddr ∷ word k.TupleElementAddr ∷ word k.RefElementAddr ∷ word k.Apply ∷ word k.DebugValue ∷ word k.StrongRetain ∷ word k.StrongRelease ∷ word k.RetainValue ∷ word k.ReleaseValue ∷ t.Just c.Percent ∷ punctuation m.LeftParen ∷ []
+first n.Code = t.RowWord ∷ t.EndWord ∷ t.Just c.Percent ∷ punctuation m.LeftParen ∷ []
+first n.Inst = t.RowWord ∷ t.Just c.Percent ∷ punctuation m.LeftParen ∷ []
 first n.Names = t.Just c.Percent ∷ []
 first n.MoreNames = punctuation m.Comma ∷ []
-first n.Row = word k.Struct ∷ word k.Enum ∷ word k.IntegerLiteral ∷ word k.FunctionRef ∷ word k.BuiltinMnemonic ∷ word k.CondFail ∷ word k.AllocRef ∷ word k.AllocStack ∷ word k.DeallocStack ∷ word k.CopyValue ∷ word k.DestroyValue ∷ word k.MoveValue ∷ word k.BeginBorrow ∷ word k.EndBorrow ∷ word k.Load ∷ word k.Store ∷ word k.LoadBorrow ∷ word k.DestroyAddr ∷ word k.LoadWeak ∷ word k.StoreWeak ∷ word k.LoadUnowned ∷ word k.StoreUnowned ∷ word k.Tuple ∷ word k.StructExtract ∷ word k.TupleExtract ∷ word k.DestructureStruct ∷ word k.DestructureTuple ∷ word k.StructElementAddr ∷ word k.TupleElementAddr ∷ word k.RefElementAddr ∷ word k.Apply ∷ word k.DebugValue ∷ word k.StrongRetain ∷ word k.StrongRelease ∷ word k.RetainValue ∷ word k.ReleaseValue ∷ []
-first n.Terminator = word k.Br ∷ word k.CondBr ∷ word k.SwitchEnum ∷ word k.Return ∷ word k.Unreachable ∷ []
+first n.Row = t.RowWord ∷ []
+first n.Terminator = t.EndWord ∷ []
 first n.Operand = t.Just c.Percent ∷ []
 first n.Operands = t.Just c.Percent ∷ []
 first n.MoreOperands = punctuation m.Comma ∷ []
@@ -97,11 +98,11 @@ first n.VtableEntry = punctuation m.Hash ∷ []
 -- what may come after a text of it
 unfoldable pub follow : Nonterminal → List Terminal
 follow n.Module = []
-follow n.Stage = word k.Import ∷ word k.Final ∷ word k.Class ∷ word k.Struct ∷ word k.Enum ∷ word k.Sil ∷ word k.SilVtable ∷ []
-follow n.StageWord = word k.Import ∷ word k.Final ∷ word k.Class ∷ word k.Struct ∷ word k.Enum ∷ word k.Sil ∷ word k.SilVtable ∷ []
-follow n.Imports = word k.Final ∷ word k.Class ∷ word k.Struct ∷ word k.Enum ∷ word k.Sil ∷ word k.SilVtable ∷ []
+follow n.Stage = word k.Import ∷ word k.Final ∷ word k.Class ∷ word (k.Mnemonic op.Struct) ∷ word (k.Mnemonic op.Enum) ∷ word k.Sil ∷ word k.SilVtable ∷ []
+follow n.StageWord = word k.Import ∷ word k.Final ∷ word k.Class ∷ word (k.Mnemonic op.Struct) ∷ word (k.Mnemonic op.Enum) ∷ word k.Sil ∷ word k.SilVtable ∷ []
+follow n.Imports = word k.Final ∷ word k.Class ∷ word (k.Mnemonic op.Struct) ∷ word (k.Mnemonic op.Enum) ∷ word k.Sil ∷ word k.SilVtable ∷ []
 follow n.Items = []
-follow n.Item = word k.Final ∷ word k.Class ∷ word k.Struct ∷ word k.Enum ∷ word k.Sil ∷ word k.SilVtable ∷ []
+follow n.Item = word k.Final ∷ word k.Class ∷ word (k.Mnemonic op.Struct) ∷ word (k.Mnemonic op.Enum) ∷ word k.Sil ∷ word k.SilVtable ∷ []
 follow n.Members = punctuation m.RightBrace ∷ []
 follow n.Member = word k.Final ∷ word k.Deinit ∷ word k.Init ∷ word k.Weak ∷ word k.Unowned ∷ word k.Var ∷ word k.Let ∷ at a.HasStorage ∷ punctuation m.RightBrace ∷ []
 follow n.Modified = word k.Final ∷ word k.Deinit ∷ word k.Init ∷ word k.Weak ∷ word k.Unowned ∷ word k.Var ∷ word k.Let ∷ at a.HasStorage ∷ punctuation m.RightBrace ∷ []
@@ -124,13 +125,13 @@ follow n.Types = punctuation m.RightParen ∷ []
 follow n.MoreTypes = punctuation m.RightParen ∷ []
 follow n.Linkage = t.AnyAt ∷ punctuation m.LeftBracket ∷ []
 follow n.Attributes = t.AnyAt ∷ []
-follow n.Body = word k.Final ∷ word k.Class ∷ word k.Struct ∷ word k.Enum ∷ word k.Sil ∷ word k.SilVtable ∷ []
-follow n.FunctionType = word k.Final ∷ word k.Class ∷ word k.Struct ∷ word k.Enum ∷ word k.Sil ∷ word k.SilVtable ∷ word k.IntegerLiteral ∷ word k.FunctionRef ∷ word k.BuiltinMnemonic ∷ word k.CondFail ∷ word k.AllocRef ∷ word k.AllocStack ∷ word k.DeallocStack ∷ word k.CopyValue ∷ word k.DestroyValue ∷ word k.MoveValue ∷ word k.BeginBorrow ∷ word k.EndBorrow ∷ word k.Load ∷ word k.Store ∷ word k.LoadBorrow ∷ word k.DestroyAddr ∷ word k.LoadWeak ∷ word k.StoreWeak ∷ word k.LoadUnowned ∷ word k.StoreUnowned ∷ word k.Tuple ∷ word k.StructExtract ∷ word k.TupleExtract ∷ word k.DestructureStruct ∷ word k.DestructureTuple ∷ word k.StructElementAddr ∷ word k.TupleElementAddr ∷ word k.RefElementAddr ∷ word k.Apply ∷ word k.DebugValue ∷ word k.StrongRetain ∷ word k.StrongRelease ∷ word k.RetainValue ∷ word k.ReleaseValue ∷ word k.Br ∷ word k.CondBr ∷ word k.SwitchEnum ∷ word k.Return ∷ word k.Unreachable ∷ t.Just c.Percent ∷ punctuation m.LeftBrace ∷ punctuation m.LeftParen ∷ []
+follow n.Body = word k.Final ∷ word k.Class ∷ word (k.Mnemonic op.Struct) ∷ word (k.Mnemonic op.Enum) ∷ word k.Sil ∷ word k.SilVtable ∷ []
+follow n.FunctionType = word k.Final ∷ word k.Class ∷ t.RowWord ∷ word k.Sil ∷ word k.SilVtable ∷ t.EndWord ∷ t.Just c.Percent ∷ punctuation m.LeftBrace ∷ punctuation m.LeftParen ∷ []
 follow n.Convention = punctuation m.RightParen ∷ []
 follow n.Params = punctuation m.RightParen ∷ []
 follow n.MoreParams = punctuation m.RightParen ∷ []
 follow n.Param = punctuation m.RightParen ∷ punctuation m.Comma ∷ []
-follow n.Results = word k.Final ∷ word k.Class ∷ word k.Struct ∷ word k.Enum ∷ word k.Sil ∷ word k.SilVtable ∷ word k.IntegerLiteral ∷ word k.FunctionRef ∷ word k.BuiltinMnemonic ∷ word k.CondFail ∷ word k.AllocRef ∷ word k.AllocStack ∷ word k.DeallocStack ∷ word k.CopyValue ∷ word k.DestroyValue ∷ word k.MoveValue ∷ word k.BeginBorrow ∷ word k.EndBorrow ∷ word k.Load ∷ word k.Store ∷ word k.LoadBorrow ∷ word k.DestroyAddr ∷ word k.LoadWeak ∷ word k.StoreWeak ∷ word k.LoadUnowned ∷ word k.StoreUnowned ∷ word k.Tuple ∷ word k.StructExtract ∷ word k.TupleExtract ∷ word k.DestructureStruct ∷ word k.DestructureTuple ∷ word k.StructElementAddr ∷ word k.TupleElementAddr ∷ word k.RefElementAddr ∷ word k.Apply ∷ word k.DebugValue ∷ word k.StrongRetain ∷ word k.StrongRelease ∷ word k.RetainValue ∷ word k.ReleaseValue ∷ word k.Br ∷ word k.CondBr ∷ word k.SwitchEnum ∷ word k.Return ∷ word k.Unreachable ∷ t.Just c.Percent ∷ punctuation m.LeftBrace ∷ punctuation m.LeftParen ∷ []
+follow n.Results = word k.Final ∷ word k.Class ∷ t.RowWord ∷ word k.Sil ∷ word k.SilVtable ∷ t.EndWord ∷ t.Just c.Percent ∷ punctuation m.LeftBrace ∷ punctuation m.LeftParen ∷ []
 follow n.ResultsInside = punctuation m.RightParen ∷ []
 follow n.MoreGivens = punctuation m.RightParen ∷ []
 follow n.Given = punctuation m.RightParen ∷ punctuation m.Comma ∷ []
@@ -142,10 +143,10 @@ follow n.BlockArg = punctuation m.RightParen ∷ punctuation m.Comma ∷ []
 follow n.Ownership = punctuation m.Dollar ∷ []
 follow n.Star = t.AnyWord ∷ at a.SilWeak ∷ at a.SilUnowned ∷ punctuation m.LeftParen ∷ []
 follow n.Code = t.AnyWord ∷ punctuation m.RightBrace ∷ []
-follow n.Inst = word k.Struct ∷ word k.Enum ∷ word k.IntegerLiteral ∷ word k.FunctionRef ∷ word k.BuiltinMnemonic ∷ word k.CondFail ∷ word k.AllocRef ∷ word k.AllocStack ∷ word k.DeallocStack ∷ word k.CopyValue ∷ word k.DestroyValue ∷ word k.MoveValue ∷ word k.BeginBorrow ∷ word k.EndBorrow ∷ word k.Load ∷ word k.Store ∷ word k.LoadBorrow ∷ word k.DestroyAddr ∷ word k.LoadWeak ∷ word k.StoreWeak ∷ word k.LoadUnowned ∷ word k.StoreUnowned ∷ word k.Tuple ∷ word k.StructExtract ∷ word k.TupleExtract ∷ word k.DestructureStruct ∷ word k.DestructureTuple ∷ word k.StructElementAddr ∷ word k.TupleElementAddr ∷ word k.RefElementAddr ∷ word k.Apply ∷ word k.DebugValue ∷ word k.StrongRetain ∷ word k.StrongRelease ∷ word k.RetainValue ∷ word k.ReleaseValue ∷ word k.Br ∷ word k.CondBr ∷ word k.SwitchEnum ∷ word k.Return ∷ word k.Unreachable ∷ t.Just c.Percent ∷ punctuation m.LeftParen ∷ []
+follow n.Inst = t.RowWord ∷ t.EndWord ∷ t.Just c.Percent ∷ punctuation m.LeftParen ∷ []
 follow n.Names = punctuation m.RightParen ∷ []
 follow n.MoreNames = punctuation m.RightParen ∷ []
-follow n.Row = word k.Struct ∷ word k.Enum ∷ word k.IntegerLiteral ∷ word k.FunctionRef ∷ word k.BuiltinMnemonic ∷ word k.CondFail ∷ word k.AllocRef ∷ word k.AllocStack ∷ word k.DeallocStack ∷ word k.CopyValue ∷ word k.DestroyValue ∷ word k.MoveValue ∷ word k.BeginBorrow ∷ word k.EndBorrow ∷ word k.Load ∷ word k.Store ∷ word k.LoadBorrow ∷ word k.DestroyAddr ∷ word k.LoadWeak ∷ word k.StoreWeak ∷ word k.LoadUnowned ∷ word k.StoreUnowned ∷ word k.Tuple ∷ word k.StructExtract ∷ word k.TupleExtract ∷ word k.DestructureStruct ∷ word k.DestructureTuple ∷ word k.StructElementAddr ∷ word k.TupleElementAddr ∷ word k.RefElementAddr ∷ word k.Apply ∷ word k.DebugValue ∷ word k.StrongRetain ∷ word k.StrongRelease ∷ word k.RetainValue ∷ word k.ReleaseValue ∷ word k.Br ∷ word k.CondBr ∷ word k.SwitchEnum ∷ word k.Return ∷ word k.Unreachable ∷ t.Just c.Percent ∷ punctuation m.LeftParen ∷ []
+follow n.Row = t.RowWord ∷ t.EndWord ∷ t.Just c.Percent ∷ punctuation m.LeftParen ∷ []
 follow n.Terminator = t.AnyWord ∷ punctuation m.RightBrace ∷ []
 follow n.Operand = t.AnyWord ∷ t.Just c.Percent ∷ punctuation m.RightBrace ∷ punctuation m.LeftParen ∷ punctuation m.RightParen ∷ punctuation m.Comma ∷ []
 follow n.Operands = punctuation m.RightParen ∷ []
@@ -155,10 +156,10 @@ follow n.Edge = t.AnyWord ∷ punctuation m.RightBrace ∷ punctuation m.Comma �
 follow n.EdgeArgs = t.AnyWord ∷ punctuation m.RightBrace ∷ punctuation m.Comma ∷ []
 follow n.SwitchPart = t.AnyWord ∷ punctuation m.RightBrace ∷ []
 follow n.SwitchMore = t.AnyWord ∷ punctuation m.RightBrace ∷ []
-follow n.EnumElement = word k.Struct ∷ word k.Enum ∷ word k.IntegerLiteral ∷ word k.FunctionRef ∷ word k.BuiltinMnemonic ∷ word k.CondFail ∷ word k.AllocRef ∷ word k.AllocStack ∷ word k.DeallocStack ∷ word k.CopyValue ∷ word k.DestroyValue ∷ word k.MoveValue ∷ word k.BeginBorrow ∷ word k.EndBorrow ∷ word k.Load ∷ word k.Store ∷ word k.LoadBorrow ∷ word k.DestroyAddr ∷ word k.LoadWeak ∷ word k.StoreWeak ∷ word k.LoadUnowned ∷ word k.StoreUnowned ∷ word k.Tuple ∷ word k.StructExtract ∷ word k.TupleExtract ∷ word k.DestructureStruct ∷ word k.DestructureTuple ∷ word k.StructElementAddr ∷ word k.TupleElementAddr ∷ word k.RefElementAddr ∷ word k.Apply ∷ word k.DebugValue ∷ word k.StrongRetain ∷ word k.StrongRelease ∷ word k.RetainValue ∷ word k.ReleaseValue ∷ word k.Br ∷ word k.CondBr ∷ word k.SwitchEnum ∷ word k.Return ∷ word k.Unreachable ∷ t.Just c.Percent ∷ punctuation m.LeftParen ∷ punctuation m.Comma ∷ punctuation m.Colon ∷ []
-follow n.ElementSuffix = word k.Struct ∷ word k.Enum ∷ word k.IntegerLiteral ∷ word k.FunctionRef ∷ word k.BuiltinMnemonic ∷ word k.CondFail ∷ word k.AllocRef ∷ word k.AllocStack ∷ word k.DeallocStack ∷ word k.CopyValue ∷ word k.DestroyValue ∷ word k.MoveValue ∷ word k.BeginBorrow ∷ word k.EndBorrow ∷ word k.Load ∷ word k.Store ∷ word k.LoadBorrow ∷ word k.DestroyAddr ∷ word k.LoadWeak ∷ word k.StoreWeak ∷ word k.LoadUnowned ∷ word k.StoreUnowned ∷ word k.Tuple ∷ word k.StructExtract ∷ word k.TupleExtract ∷ word k.DestructureStruct ∷ word k.DestructureTuple ∷ word k.StructElementAddr ∷ word k.TupleElementAddr ∷ word k.RefElementAddr ∷ word k.Apply ∷ word k.DebugValue ∷ word k.StrongRetain ∷ word k.StrongRelease ∷ word k.RetainValue ∷ word k.ReleaseValue ∷ word k.Br ∷ word k.CondBr ∷ word k.SwitchEnum ∷ word k.Return ∷ word k.Unreachable ∷ t.Just c.Percent ∷ punctuation m.LeftParen ∷ punctuation m.Comma ∷ punctuation m.Colon ∷ []
-follow n.EnumOperand = word k.Struct ∷ word k.Enum ∷ word k.IntegerLiteral ∷ word k.FunctionRef ∷ word k.BuiltinMnemonic ∷ word k.CondFail ∷ word k.AllocRef ∷ word k.AllocStack ∷ word k.DeallocStack ∷ word k.CopyValue ∷ word k.DestroyValue ∷ word k.MoveValue ∷ word k.BeginBorrow ∷ word k.EndBorrow ∷ word k.Load ∷ word k.Store ∷ word k.LoadBorrow ∷ word k.DestroyAddr ∷ word k.LoadWeak ∷ word k.StoreWeak ∷ word k.LoadUnowned ∷ word k.StoreUnowned ∷ word k.Tuple ∷ word k.StructExtract ∷ word k.TupleExtract ∷ word k.DestructureStruct ∷ word k.DestructureTuple ∷ word k.StructElementAddr ∷ word k.TupleElementAddr ∷ word k.RefElementAddr ∷ word k.Apply ∷ word k.DebugValue ∷ word k.StrongRetain ∷ word k.StrongRelease ∷ word k.RetainValue ∷ word k.ReleaseValue ∷ word k.Br ∷ word k.CondBr ∷ word k.SwitchEnum ∷ word k.Return ∷ word k.Unreachable ∷ t.Just c.Percent ∷ punctuation m.LeftParen ∷ []
-follow n.MemberName = word k.Struct ∷ word k.Enum ∷ word k.IntegerLiteral ∷ word k.FunctionRef ∷ word k.BuiltinMnemonic ∷ word k.CondFail ∷ word k.AllocRef ∷ word k.AllocStack ∷ word k.DeallocStack ∷ word k.CopyValue ∷ word k.DestroyValue ∷ word k.MoveValue ∷ word k.BeginBorrow ∷ word k.EndBorrow ∷ word k.Load ∷ word k.Store ∷ word k.LoadBorrow ∷ word k.DestroyAddr ∷ word k.LoadWeak ∷ word k.StoreWeak ∷ word k.LoadUnowned ∷ word k.StoreUnowned ∷ word k.Tuple ∷ word k.StructExtract ∷ word k.TupleExtract ∷ word k.DestructureStruct ∷ word k.DestructureTuple ∷ word k.StructElementAddr ∷ word k.TupleElementAddr ∷ word k.RefElementAddr ∷ word k.Apply ∷ word k.DebugValue ∷ word k.StrongRetain ∷ word k.StrongRelease ∷ word k.RetainValue ∷ word k.ReleaseValue ∷ word k.Br ∷ word k.CondBr ∷ word k.SwitchEnum ∷ word k.Return ∷ word k.Unreachable ∷ t.Just c.Percent ∷ punctuation m.LeftParen ∷ []
+follow n.EnumElement = t.RowWord ∷ t.EndWord ∷ t.Just c.Percent ∷ punctuation m.LeftParen ∷ punctuation m.Comma ∷ punctuation m.Colon ∷ []
+follow n.ElementSuffix = t.RowWord ∷ t.EndWord ∷ t.Just c.Percent ∷ punctuation m.LeftParen ∷ punctuation m.Comma ∷ punctuation m.Colon ∷ []
+follow n.EnumOperand = t.RowWord ∷ t.EndWord ∷ t.Just c.Percent ∷ punctuation m.LeftParen ∷ []
+follow n.MemberName = t.RowWord ∷ t.EndWord ∷ t.Just c.Percent ∷ punctuation m.LeftParen ∷ []
 follow n.Flags = t.Just c.Percent ∷ punctuation m.Dollar ∷ []
 follow n.FirstFlag = t.Just c.Percent ∷ punctuation m.Dollar ∷ []
 follow n.VarDeclAfter = t.Just c.Percent ∷ punctuation m.Dollar ∷ []
@@ -168,14 +169,14 @@ follow n.QualifierWord = punctuation m.RightBracket ∷ []
 follow n.TakeFlag = t.Just c.Percent ∷ []
 follow n.InitFlag = t.Just c.Percent ∷ []
 follow n.InitWord = punctuation m.RightBracket ∷ []
-follow n.Debug = word k.Struct ∷ word k.Enum ∷ word k.IntegerLiteral ∷ word k.FunctionRef ∷ word k.BuiltinMnemonic ∷ word k.CondFail ∷ word k.AllocRef ∷ word k.AllocStack ∷ word k.DeallocStack ∷ word k.CopyValue ∷ word k.DestroyValue ∷ word k.MoveValue ∷ word k.BeginBorrow ∷ word k.EndBorrow ∷ word k.Load ∷ word k.Store ∷ word k.LoadBorrow ∷ word k.DestroyAddr ∷ word k.LoadWeak ∷ word k.StoreWeak ∷ word k.LoadUnowned ∷ word k.StoreUnowned ∷ word k.Tuple ∷ word k.StructExtract ∷ word k.TupleExtract ∷ word k.DestructureStruct ∷ word k.DestructureTuple ∷ word k.StructElementAddr ∷ word k.TupleElementAddr ∷ word k.RefElementAddr ∷ word k.Apply ∷ word k.DebugValue ∷ word k.StrongRetain ∷ word k.StrongRelease ∷ word k.RetainValue ∷ word k.ReleaseValue ∷ word k.Br ∷ word k.CondBr ∷ word k.SwitchEnum ∷ word k.Return ∷ word k.Unreachable ∷ t.Just c.Percent ∷ punctuation m.LeftParen ∷ []
-follow n.DebugPart = word k.Struct ∷ word k.Enum ∷ word k.IntegerLiteral ∷ word k.FunctionRef ∷ word k.BuiltinMnemonic ∷ word k.CondFail ∷ word k.AllocRef ∷ word k.AllocStack ∷ word k.DeallocStack ∷ word k.CopyValue ∷ word k.DestroyValue ∷ word k.MoveValue ∷ word k.BeginBorrow ∷ word k.EndBorrow ∷ word k.Load ∷ word k.Store ∷ word k.LoadBorrow ∷ word k.DestroyAddr ∷ word k.LoadWeak ∷ word k.StoreWeak ∷ word k.LoadUnowned ∷ word k.StoreUnowned ∷ word k.Tuple ∷ word k.StructExtract ∷ word k.TupleExtract ∷ word k.DestructureStruct ∷ word k.DestructureTuple ∷ word k.StructElementAddr ∷ word k.TupleElementAddr ∷ word k.RefElementAddr ∷ word k.Apply ∷ word k.DebugValue ∷ word k.StrongRetain ∷ word k.StrongRelease ∷ word k.RetainValue ∷ word k.ReleaseValue ∷ word k.Br ∷ word k.CondBr ∷ word k.SwitchEnum ∷ word k.Return ∷ word k.Unreachable ∷ t.Just c.Percent ∷ punctuation m.LeftParen ∷ []
-follow n.DebugAfterBinding = word k.Struct ∷ word k.Enum ∷ word k.IntegerLiteral ∷ word k.FunctionRef ∷ word k.BuiltinMnemonic ∷ word k.CondFail ∷ word k.AllocRef ∷ word k.AllocStack ∷ word k.DeallocStack ∷ word k.CopyValue ∷ word k.DestroyValue ∷ word k.MoveValue ∷ word k.BeginBorrow ∷ word k.EndBorrow ∷ word k.Load ∷ word k.Store ∷ word k.LoadBorrow ∷ word k.DestroyAddr ∷ word k.LoadWeak ∷ word k.StoreWeak ∷ word k.LoadUnowned ∷ word k.StoreUnowned ∷ word k.Tuple ∷ word k.StructExtract ∷ word k.TupleExtract ∷ word k.DestructureStruct ∷ word k.DestructureTuple ∷ word k.StructElementAddr ∷ word k.TupleElementAddr ∷ word k.RefElementAddr ∷ word k.Apply ∷ word k.DebugValue ∷ word k.StrongRetain ∷ word k.StrongRelease ∷ word k.RetainValue ∷ word k.ReleaseValue ∷ word k.Br ∷ word k.CondBr ∷ word k.SwitchEnum ∷ word k.Return ∷ word k.Unreachable ∷ t.Just c.Percent ∷ punctuation m.LeftParen ∷ []
-follow n.DebugNamePart = word k.Struct ∷ word k.Enum ∷ word k.IntegerLiteral ∷ word k.FunctionRef ∷ word k.BuiltinMnemonic ∷ word k.CondFail ∷ word k.AllocRef ∷ word k.AllocStack ∷ word k.DeallocStack ∷ word k.CopyValue ∷ word k.DestroyValue ∷ word k.MoveValue ∷ word k.BeginBorrow ∷ word k.EndBorrow ∷ word k.Load ∷ word k.Store ∷ word k.LoadBorrow ∷ word k.DestroyAddr ∷ word k.LoadWeak ∷ word k.StoreWeak ∷ word k.LoadUnowned ∷ word k.StoreUnowned ∷ word k.Tuple ∷ word k.StructExtract ∷ word k.TupleExtract ∷ word k.DestructureStruct ∷ word k.DestructureTuple ∷ word k.StructElementAddr ∷ word k.TupleElementAddr ∷ word k.RefElementAddr ∷ word k.Apply ∷ word k.DebugValue ∷ word k.StrongRetain ∷ word k.StrongRelease ∷ word k.RetainValue ∷ word k.ReleaseValue ∷ word k.Br ∷ word k.CondBr ∷ word k.SwitchEnum ∷ word k.Return ∷ word k.Unreachable ∷ t.Just c.Percent ∷ punctuation m.LeftParen ∷ []
-follow n.DebugAfterName = word k.Struct ∷ word k.Enum ∷ word k.IntegerLiteral ∷ word k.FunctionRef ∷ word k.BuiltinMnemonic ∷ word k.CondFail ∷ word k.AllocRef ∷ word k.AllocStack ∷ word k.DeallocStack ∷ word k.CopyValue ∷ word k.DestroyValue ∷ word k.MoveValue ∷ word k.BeginBorrow ∷ word k.EndBorrow ∷ word k.Load ∷ word k.Store ∷ word k.LoadBorrow ∷ word k.DestroyAddr ∷ word k.LoadWeak ∷ word k.StoreWeak ∷ word k.LoadUnowned ∷ word k.StoreUnowned ∷ word k.Tuple ∷ word k.StructExtract ∷ word k.TupleExtract ∷ word k.DestructureStruct ∷ word k.DestructureTuple ∷ word k.StructElementAddr ∷ word k.TupleElementAddr ∷ word k.RefElementAddr ∷ word k.Apply ∷ word k.DebugValue ∷ word k.StrongRetain ∷ word k.StrongRelease ∷ word k.RetainValue ∷ word k.ReleaseValue ∷ word k.Br ∷ word k.CondBr ∷ word k.SwitchEnum ∷ word k.Return ∷ word k.Unreachable ∷ t.Just c.Percent ∷ punctuation m.LeftParen ∷ []
-follow n.DebugNumberPart = word k.Struct ∷ word k.Enum ∷ word k.IntegerLiteral ∷ word k.FunctionRef ∷ word k.BuiltinMnemonic ∷ word k.CondFail ∷ word k.AllocRef ∷ word k.AllocStack ∷ word k.DeallocStack ∷ word k.CopyValue ∷ word k.DestroyValue ∷ word k.MoveValue ∷ word k.BeginBorrow ∷ word k.EndBorrow ∷ word k.Load ∷ word k.Store ∷ word k.LoadBorrow ∷ word k.DestroyAddr ∷ word k.LoadWeak ∷ word k.StoreWeak ∷ word k.LoadUnowned ∷ word k.StoreUnowned ∷ word k.Tuple ∷ word k.StructExtract ∷ word k.TupleExtract ∷ word k.DestructureStruct ∷ word k.DestructureTuple ∷ word k.StructElementAddr ∷ word k.TupleElementAddr ∷ word k.RefElementAddr ∷ word k.Apply ∷ word k.DebugValue ∷ word k.StrongRetain ∷ word k.StrongRelease ∷ word k.RetainValue ∷ word k.ReleaseValue ∷ word k.Br ∷ word k.CondBr ∷ word k.SwitchEnum ∷ word k.Return ∷ word k.Unreachable ∷ t.Just c.Percent ∷ punctuation m.LeftParen ∷ []
-follow n.DebugAfterNumber = word k.Struct ∷ word k.Enum ∷ word k.IntegerLiteral ∷ word k.FunctionRef ∷ word k.BuiltinMnemonic ∷ word k.CondFail ∷ word k.AllocRef ∷ word k.AllocStack ∷ word k.DeallocStack ∷ word k.CopyValue ∷ word k.DestroyValue ∷ word k.MoveValue ∷ word k.BeginBorrow ∷ word k.EndBorrow ∷ word k.Load ∷ word k.Store ∷ word k.LoadBorrow ∷ word k.DestroyAddr ∷ word k.LoadWeak ∷ word k.StoreWeak ∷ word k.LoadUnowned ∷ word k.StoreUnowned ∷ word k.Tuple ∷ word k.StructExtract ∷ word k.TupleExtract ∷ word k.DestructureStruct ∷ word k.DestructureTuple ∷ word k.StructElementAddr ∷ word k.TupleElementAddr ∷ word k.RefElementAddr ∷ word k.Apply ∷ word k.DebugValue ∷ word k.StrongRetain ∷ word k.StrongRelease ∷ word k.RetainValue ∷ word k.ReleaseValue ∷ word k.Br ∷ word k.CondBr ∷ word k.SwitchEnum ∷ word k.Return ∷ word k.Unreachable ∷ t.Just c.Percent ∷ punctuation m.LeftParen ∷ []
-follow n.DebugDerefPart = word k.Struct ∷ word k.Enum ∷ word k.IntegerLiteral ∷ word k.FunctionRef ∷ word k.BuiltinMnemonic ∷ word k.CondFail ∷ word k.AllocRef ∷ word k.AllocStack ∷ word k.DeallocStack ∷ word k.CopyValue ∷ word k.DestroyValue ∷ word k.MoveValue ∷ word k.BeginBorrow ∷ word k.EndBorrow ∷ word k.Load ∷ word k.Store ∷ word k.LoadBorrow ∷ word k.DestroyAddr ∷ word k.LoadWeak ∷ word k.StoreWeak ∷ word k.LoadUnowned ∷ word k.StoreUnowned ∷ word k.Tuple ∷ word k.StructExtract ∷ word k.TupleExtract ∷ word k.DestructureStruct ∷ word k.DestructureTuple ∷ word k.StructElementAddr ∷ word k.TupleElementAddr ∷ word k.RefElementAddr ∷ word k.Apply ∷ word k.DebugValue ∷ word k.StrongRetain ∷ word k.StrongRelease ∷ word k.RetainValue ∷ word k.ReleaseValue ∷ word k.Br ∷ word k.CondBr ∷ word k.SwitchEnum ∷ word k.Return ∷ word k.Unreachable ∷ t.Just c.Percent ∷ punctuation m.LeftParen ∷ []
+follow n.Debug = t.RowWord ∷ t.EndWord ∷ t.Just c.Percent ∷ punctuation m.LeftParen ∷ []
+follow n.DebugPart = t.RowWord ∷ t.EndWord ∷ t.Just c.Percent ∷ punctuation m.LeftParen ∷ []
+follow n.DebugAfterBinding = t.RowWord ∷ t.EndWord ∷ t.Just c.Percent ∷ punctuation m.LeftParen ∷ []
+follow n.DebugNamePart = t.RowWord ∷ t.EndWord ∷ t.Just c.Percent ∷ punctuation m.LeftParen ∷ []
+follow n.DebugAfterName = t.RowWord ∷ t.EndWord ∷ t.Just c.Percent ∷ punctuation m.LeftParen ∷ []
+follow n.DebugNumberPart = t.RowWord ∷ t.EndWord ∷ t.Just c.Percent ∷ punctuation m.LeftParen ∷ []
+follow n.DebugAfterNumber = t.RowWord ∷ t.EndWord ∷ t.Just c.Percent ∷ punctuation m.LeftParen ∷ []
+follow n.DebugDerefPart = t.RowWord ∷ t.EndWord ∷ t.Just c.Percent ∷ punctuation m.LeftParen ∷ []
 follow n.VtableEntry = punctuation m.RightBrace ∷ []
 
 -- whether the list may end after it

@@ -2,7 +2,7 @@
 use Rattle.std.proofs.Common.{◌≡◌, ℕ, zero, suc, ◌+◌, ◌<◌, List, [], ◌∷◌, ◌++◌, refl, sym, subst, append_assoc, arith, true}
 use Rattle.std.proofs.lemmas.Bool.{eq-eqb, eqb-true}
 use Rattle.std.proofs.lemmas.List.{append-nil}
-use Rattle.sil_shape.specs.declared.classes.Class.{Class}
+use Rattle.token_classes.specs.declared.classes.Class.{Class}
 use Rattle.sil_shape.specs.declared.grammar.Terminal.{Terminal}
 use Rattle.sil_shape.specs.declared.grammar.Terminal.TheVariants as t
 use Rattle.sil_shape.specs.declared.grammar.Symbol.{Symbol}

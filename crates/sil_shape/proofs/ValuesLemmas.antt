@@ -2,7 +2,7 @@
 -- A replay that stands before step `i` has replayed `drop i steps`.
 use Rattle.std.proofs.Common.{◌≡◌, ℕ, zero, suc, ◌+◌, List, [], ◌∷◌, ◌++◌, length, take, drop, refl, ap, sym, ◌∙◌, arith, add-one, length-append}
 use Rattle.std.proofs.lemmas.List.{take-append-drop}
-use Rattle.sil_shape.specs.declared.classes.Class.{Class}
+use Rattle.token_classes.specs.declared.classes.Class.{Class}
 use Rattle.sil_shape.specs.declared.grammar.Symbol.{Symbol}
 use Rattle.sil_shape.specs.declared.steps.Step.{Step}
 use Rattle.sil_shape.specs.declared.steps.Step.TheVariants.{Take, Expand}

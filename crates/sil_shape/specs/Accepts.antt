@@ -1,15 +1,17 @@
 -- Which tokens may stand for a terminal.
-use Rattle.std.specs.Prelude.{ℕ, ◌+◌, ◌==◌, Bool, true, false}
-use Rattle.sil_shape.specs.declared.classes.Keyword.{Keyword}
-use Rattle.sil_shape.specs.declared.classes.Keyword.TheVariants as k
-use Rattle.sil_shape.specs.declared.classes.AtWord.{AtWord}
-use Rattle.sil_shape.specs.declared.classes.AtWord.TheVariants as a
-use Rattle.sil_shape.specs.declared.classes.Punctuation.{Punctuation}
-use Rattle.sil_shape.specs.declared.classes.Punctuation.TheVariants as m
-use Rattle.sil_shape.specs.declared.classes.Class.{Class}
-use Rattle.sil_shape.specs.declared.classes.Class.TheVariants as c
+use Rattle.std.specs.Prelude.{ℕ, ◌+◌, ◌==◌, Bool, true, false, not}
+use Rattle.instruction_table.specs.Forms.{number_of}
+use Rattle.token_classes.specs.declared.classes.Keyword.{Keyword}
+use Rattle.token_classes.specs.declared.classes.Keyword.TheVariants as k
+use Rattle.token_classes.specs.declared.classes.AtWord.{AtWord}
+use Rattle.token_classes.specs.declared.classes.AtWord.TheVariants as a
+use Rattle.token_classes.specs.declared.classes.Punctuation.{Punctuation}
+use Rattle.token_classes.specs.declared.classes.Punctuation.TheVariants as m
+use Rattle.token_classes.specs.declared.classes.Class.{Class}
+use Rattle.token_classes.specs.declared.classes.Class.TheVariants as c
 use Rattle.sil_shape.specs.declared.grammar.Terminal.{Terminal}
 use Rattle.sil_shape.specs.declared.grammar.Terminal.TheVariants as t
+use Rattle.sil_shape.specs.Rows.{ends_block}
 
 -- a number of its own for each class
 unfoldable pub keyword_number : Keyword → ℕ
@@ -20,86 +22,46 @@ keyword_number k.Canonical = 3
 keyword_number k.Import = 4
 keyword_number k.Final = 5
 keyword_number k.Class = 6
-keyword_number k.Struct = 7
-keyword_number k.Enum = 8
-keyword_number k.Sil = 9
-keyword_number k.SilVtable = 10
-keyword_number k.Deinit = 11
-keyword_number k.Init = 12
-keyword_number k.Weak = 13
-keyword_number k.Unowned = 14
-keyword_number k.Var = 15
-keyword_number k.Let = 16
-keyword_number k.Get = 17
-keyword_number k.Set = 18
-keyword_number k.Case = 19
-keyword_number k.Builtin = 20
-keyword_number k.Optional = 21
-keyword_number k.Int1 = 22
-keyword_number k.Int8 = 23
-keyword_number k.Int16 = 24
-keyword_number k.Int32 = 25
-keyword_number k.Int64 = 26
-keyword_number k.Hidden = 27
-keyword_number k.Private = 28
-keyword_number k.Shared = 29
-keyword_number k.Public = 30
-keyword_number k.Thin = 31
-keyword_number k.Method = 32
-keyword_number k.IntegerLiteral = 33
-keyword_number k.FunctionRef = 34
-keyword_number k.BuiltinMnemonic = 35
-keyword_number k.CondFail = 36
-keyword_number k.AllocRef = 37
-keyword_number k.AllocStack = 38
-keyword_number k.DeallocStack = 39
-keyword_number k.CopyValue = 40
-keyword_number k.DestroyValue = 41
-keyword_number k.MoveValue = 42
-keyword_number k.BeginBorrow = 43
-keyword_number k.EndBorrow = 44
-keyword_number k.Load = 45
-keyword_number k.Store = 46
-keyword_number k.To = 47
-keyword_number k.LoadBorrow = 48
-keyword_number k.DestroyAddr = 49
-keyword_number k.LoadWeak = 50
-keyword_number k.StoreWeak = 51
-keyword_number k.LoadUnowned = 52
-keyword_number k.StoreUnowned = 53
-keyword_number k.Tuple = 54
-keyword_number k.StructExtract = 55
-keyword_number k.TupleExtract = 56
-keyword_number k.DestructureStruct = 57
-keyword_number k.DestructureTuple = 58
-keyword_number k.StructElementAddr = 59
-keyword_number k.TupleElementAddr = 60
-keyword_number k.RefElementAddr = 61
-keyword_number k.Apply = 62
-keyword_number k.DebugValue = 63
-keyword_number k.StrongRetain = 64
-keyword_number k.StrongRelease = 65
-keyword_number k.RetainValue = 66
-keyword_number k.ReleaseValue = 67
-keyword_number k.Br = 68
-keyword_number k.CondBr = 69
-keyword_number k.SwitchEnum = 70
-keyword_number k.Return = 71
-keyword_number k.Unreachable = 72
-keyword_number k.Default = 73
-keyword_number k.Enumelt = 74
-keyword_number k.Lexical = 75
-keyword_number k.VarDecl = 76
-keyword_number k.Copy = 77
-keyword_number k.Take = 78
-keyword_number k.Trivial = 79
-keyword_number k.Assign = 80
-keyword_number k.Initialization = 81
-keyword_number k.Name = 82
-keyword_number k.Argno = 83
-keyword_number k.Expr = 84
-keyword_number k.OpDeref = 85
-keyword_number k.Destroyer = 86
+keyword_number k.Sil = 7
+keyword_number k.SilVtable = 8
+keyword_number k.Deinit = 9
+keyword_number k.Init = 10
+keyword_number k.Weak = 11
+keyword_number k.Unowned = 12
+keyword_number k.Var = 13
+keyword_number k.Let = 14
+keyword_number k.Get = 15
+keyword_number k.Set = 16
+keyword_number k.Case = 17
+keyword_number k.Builtin = 18
+keyword_number k.Optional = 19
+keyword_number k.Int1 = 20
+keyword_number k.Int8 = 21
+keyword_number k.Int16 = 22
+keyword_number k.Int32 = 23
+keyword_number k.Int64 = 24
+keyword_number k.Hidden = 25
+keyword_number k.Private = 26
+keyword_number k.Shared = 27
+keyword_number k.Public = 28
+keyword_number k.Thin = 29
+keyword_number k.Method = 30
+keyword_number k.To = 31
+keyword_number k.Default = 32
+keyword_number k.Enumelt = 33
+keyword_number k.Lexical = 34
+keyword_number k.VarDecl = 35
+keyword_number k.Copy = 36
+keyword_number k.Take = 37
+keyword_number k.Trivial = 38
+keyword_number k.Assign = 39
+keyword_number k.Initialization = 40
+keyword_number k.Name = 41
+keyword_number k.Argno = 42
+keyword_number k.Expr = 43
+keyword_number k.OpDeref = 44
+keyword_number k.Destroyer = 45
+keyword_number (k.Mnemonic o) = 46 + number_of o
 
 unfoldable pub at_number : AtWord → ℕ
 at_number a.Other = 0
@@ -132,13 +94,13 @@ punctuation_number m.Hash = 16
 punctuation_number m.Arrow = 17
 
 unfoldable pub class_number : Class → ℕ
-class_number (c.Word w) = 1 + keyword_number w
-class_number (c.At w) = 88 + at_number w
-class_number (c.Punctuation x) = 96 + punctuation_number x
-class_number c.Percent = 114
-class_number c.Number = 115
-class_number c.BuiltinText = 116
-class_number c.OtherText = 117
+class_number c.Percent = 1
+class_number c.Number = 2
+class_number c.BuiltinText = 3
+class_number c.OtherText = 4
+class_number (c.At w) = 5 + at_number w
+class_number (c.Punctuation x) = 13 + punctuation_number x
+class_number (c.Word w) = 31 + keyword_number w
 
 -- whether a word alone names a type: these two begin a longer type as well
 unfoldable pub is_type_word : Keyword → Bool
@@ -157,4 +119,8 @@ accepts t.AnyAt _ = false
 accepts t.AnyText c.BuiltinText = true
 accepts t.AnyText c.OtherText = true
 accepts t.AnyText _ = false
-accepts (t.Just wanted) k = class_number wanted == class_number k
+accepts t.RowWord (c.Word (k.Mnemonic o)) = not (ends_block o)
+accepts t.RowWord _ = false
+accepts t.EndWord (c.Word (k.Mnemonic o)) = ends_block o
+accepts t.EndWord _ = false
+accepts (t.Just wanted) class = class_number wanted == class_number class

@@ -1,13 +1,16 @@
 -- The table by which the next token chooses a production. No definition of the language rests on it.
-use Rattle.std.specs.Prelude.{Bool, false, List, [], ◌∷◌, Option, Some, None, find}
+use Rattle.std.specs.Prelude.{Bool, false, List, [], ◌∷◌, Option, Some, None, find, if◌then◌else◌}
 use Rattle.std.specs.List.{list_any}
 use Rattle.sil_shape.specs.Accepts.{accepts}
-use Rattle.sil_shape.specs.Grammar.{word, at, punctuation, alternatives}
-use Rattle.sil_shape.specs.declared.classes.Keyword.TheVariants as k
-use Rattle.sil_shape.specs.declared.classes.AtWord.TheVariants as a
-use Rattle.sil_shape.specs.declared.classes.Punctuation.TheVariants as m
-use Rattle.sil_shape.specs.declared.classes.Class.{Class}
-use Rattle.sil_shape.specs.declared.classes.Class.TheVariants as c
+use Rattle.sil_shape.specs.Grammar.{alternatives}
+use Rattle.sil_shape.specs.Terminals.{at, punctuation, word}
+use Rattle.sil_shape.specs.Rows.{ends_block}
+use Rattle.instruction_table.specs.declared.op.Op.TheVariants as op
+use Rattle.token_classes.specs.declared.classes.Keyword.TheVariants as k
+use Rattle.token_classes.specs.declared.classes.AtWord.TheVariants as a
+use Rattle.token_classes.specs.declared.classes.Punctuation.TheVariants as m
+use Rattle.token_classes.specs.declared.classes.Class.{Class}
+use Rattle.token_classes.specs.declared.classes.Class.TheVariants as c
 use Rattle.sil_shape.specs.declared.grammar.Terminal.{Terminal}
 use Rattle.sil_shape.specs.declared.grammar.Terminal.TheVariants as t
 use Rattle.sil_shape.specs.declared.grammar.Nonterminal.{Nonterminal}
@@ -17,19 +20,19 @@ use Rattle.sil_shape.specs.declared.grammar.Production.TheVariants as p
 
 -- what a text of a production that is not empty begins with
 unfoldable pub starts : Production → List Terminal
-starts p.WholeModule = word k.SilStage ∷ word k.Import ∷ word k.Final ∷ word k.Class ∷ word k.Struct ∷ word k.Enum ∷ word k.Sil ∷ word k.SilVtable ∷ []
+starts p.WholeModule = word k.SilStage ∷ word k.Import ∷ word k.Final ∷ word k.Class ∷ word (k.Mnemonic op.Struct) ∷ word (k.Mnemonic op.Enum) ∷ word k.Sil ∷ word k.SilVtable ∷ []
 starts p.StageSome = word k.SilStage ∷ []
 starts p.StageNone = []
 starts p.Raw = word k.Raw ∷ []
 starts p.Canonical = word k.Canonical ∷ []
 starts p.ImportsMore = word k.Import ∷ []
 starts p.ImportsEnd = []
-starts p.ItemsMore = word k.Final ∷ word k.Class ∷ word k.Struct ∷ word k.Enum ∷ word k.Sil ∷ word k.SilVtable ∷ []
+starts p.ItemsMore = word k.Final ∷ word k.Class ∷ word (k.Mnemonic op.Struct) ∷ word (k.Mnemonic op.Enum) ∷ word k.Sil ∷ word k.SilVtable ∷ []
 starts p.ItemsEnd = []
 starts p.FinalClass = word k.Final ∷ []
 starts p.PlainClass = word k.Class ∷ []
-starts p.StructItem = word k.Struct ∷ []
-starts p.EnumItem = word k.Enum ∷ []
+starts p.StructItem = word (k.Mnemonic op.Struct) ∷ []
+starts p.EnumItem = word (k.Mnemonic op.Enum) ∷ []
 starts p.FunctionItem = word k.Sil ∷ []
 starts p.VtableItem = word k.SilVtable ∷ []
 starts p.MembersMore = word k.Final ∷ word k.Deinit ∷ word k.Init ∷ word k.Weak ∷ word k.Unowned ∷ word k.Var ∷ word k.Let ∷ at a.HasStorage ∷ []
@@ -124,56 +127,17 @@ starts p.OwnershipGuaranteed = at a.Guaranteed ∷ []
 starts p.OwnershipNone = []
 starts p.StarSome = punctuation m.Star ∷ []
 starts p.StarNone = []
-starts p.CodeInst = word k.Struct ∷ word k.Enum ∷ word k.IntegerLiteral ∷ word k.FunctionRef ∷ word k.BuiltinMnemonic ∷ word k.CondFail ∷ word k.AllocRef ∷ word k.AllocStack ∷ word k.DeallocStack ∷ word k.CopyValue ∷ word k.DestroyValue ∷ word k.MoveValue ∷ word k.BeginBorrow ∷ word k.EndBorrow ∷ word k.Load ∷ word k.Store ∷ word k.LoadBorrow ∷ word k.DestroyAddr ∷ word k.LoadWeak ∷ word k.StoreWeak ∷ word k.LoadUnowned ∷ word k.StoreUnowned ∷ word k.Tuple ∷ word k.StructExtract ∷ word k.TupleExtract ∷ word k.DestructureStruct ∷ word k.DestructureTuple ∷ word k.StructElementAddr ∷ word k.TupleElementAddr ∷ word k.RefElementAddr ∷ word k.Apply ∷ word k.DebugValue ∷ word k.StrongRetain ∷ word k.StrongRelease ∷ word k.RetainValue ∷ word k.ReleaseValue ∷ t.Just c.Percent ∷ punctuation m.LeftParen ∷ []
-starts p.CodeEnd = word k.Br ∷ word k.CondBr ∷ word k.SwitchEnum ∷ word k.Return ∷ word k.Unreachable ∷ []
+starts p.CodeInst = t.RowWord ∷ t.Just c.Percent ∷ punctuation m.LeftParen ∷ []
+starts p.CodeEnd = t.EndWord ∷ []
 starts p.InstOneName = t.Just c.Percent ∷ []
 starts p.InstNames = punctuation m.LeftParen ∷ []
-starts p.InstUnnamed = word k.Struct ∷ word k.Enum ∷ word k.IntegerLiteral ∷ word k.FunctionRef ∷ word k.BuiltinMnemonic ∷ word k.CondFail ∷ word k.AllocRef ∷ word k.AllocStack ∷ word k.DeallocStack ∷ word k.CopyValue ∷ word k.DestroyValue ∷ word k.MoveValue ∷ word k.BeginBorrow ∷ word k.EndBorrow ∷ word k.Load ∷ word k.Store ∷ word k.LoadBorrow ∷ word k.DestroyAddr ∷ word k.LoadWeak ∷ word k.StoreWeak ∷ word k.LoadUnowned ∷ word k.StoreUnowned ∷ word k.Tuple ∷ word k.StructExtract ∷ word k.TupleExtract ∷ word k.DestructureStruct ∷ word k.DestructureTuple ∷ word k.StructElementAddr ∷ word k.TupleElementAddr ∷ word k.RefElementAddr ∷ word k.Apply ∷ word k.DebugValue ∷ word k.StrongRetain ∷ word k.StrongRelease ∷ word k.RetainValue ∷ word k.ReleaseValue ∷ []
+starts p.InstUnnamed = t.RowWord ∷ []
 starts p.NamesSome = t.Just c.Percent ∷ []
 starts p.NamesNone = []
 starts p.MoreNamesMore = punctuation m.Comma ∷ []
 starts p.MoreNamesEnd = []
-starts p.RowIntegerLiteral = word k.IntegerLiteral ∷ []
+starts (p.Row o) = word (k.Mnemonic o) ∷ []
 starts p.RowFunctionRef = word k.FunctionRef ∷ []
-starts p.RowBuiltin = word k.BuiltinMnemonic ∷ []
-starts p.RowCondFail = word k.CondFail ∷ []
-starts p.RowAllocRef = word k.AllocRef ∷ []
-starts p.RowAllocStack = word k.AllocStack ∷ []
-starts p.RowDeallocStack = word k.DeallocStack ∷ []
-starts p.RowCopyValue = word k.CopyValue ∷ []
-starts p.RowDestroyValue = word k.DestroyValue ∷ []
-starts p.RowMoveValue = word k.MoveValue ∷ []
-starts p.RowBeginBorrow = word k.BeginBorrow ∷ []
-starts p.RowEndBorrow = word k.EndBorrow ∷ []
-starts p.RowLoad = word k.Load ∷ []
-starts p.RowStore = word k.Store ∷ []
-starts p.RowLoadBorrow = word k.LoadBorrow ∷ []
-starts p.RowDestroyAddr = word k.DestroyAddr ∷ []
-starts p.RowLoadWeak = word k.LoadWeak ∷ []
-starts p.RowStoreWeak = word k.StoreWeak ∷ []
-starts p.RowLoadUnowned = word k.LoadUnowned ∷ []
-starts p.RowStoreUnowned = word k.StoreUnowned ∷ []
-starts p.RowStruct = word k.Struct ∷ []
-starts p.RowTuple = word k.Tuple ∷ []
-starts p.RowEnum = word k.Enum ∷ []
-starts p.RowStructExtract = word k.StructExtract ∷ []
-starts p.RowTupleExtract = word k.TupleExtract ∷ []
-starts p.RowDestructureStruct = word k.DestructureStruct ∷ []
-starts p.RowDestructureTuple = word k.DestructureTuple ∷ []
-starts p.RowStructElementAddr = word k.StructElementAddr ∷ []
-starts p.RowTupleElementAddr = word k.TupleElementAddr ∷ []
-starts p.RowRefElementAddr = word k.RefElementAddr ∷ []
-starts p.RowApply = word k.Apply ∷ []
-starts p.RowDebugValue = word k.DebugValue ∷ []
-starts p.RowStrongRetain = word k.StrongRetain ∷ []
-starts p.RowStrongRelease = word k.StrongRelease ∷ []
-starts p.RowRetainValue = word k.RetainValue ∷ []
-starts p.RowReleaseValue = word k.ReleaseValue ∷ []
-starts p.RowBr = word k.Br ∷ []
-starts p.RowCondBr = word k.CondBr ∷ []
-starts p.RowSwitchEnum = word k.SwitchEnum ∷ []
-starts p.RowReturn = word k.Return ∷ []
-starts p.RowUnreachable = word k.Unreachable ∷ []
 starts p.WholeOperand = t.Just c.Percent ∷ []
 starts p.OperandsSome = t.Just c.Percent ∷ []
 starts p.OperandsNone = []
@@ -326,9 +290,20 @@ unfoldable pub has : List Terminal → Option Class → Bool
 has ts None = false
 has ts (Some k) = has_class ts k
 
+-- the row that begins with a mnemonic, inside a block and at its end
+unfoldable pub row_inside : Option Class → Option Production
+row_inside (Some (c.Word (k.Mnemonic o))) = if ends_block o then None else Some (p.Row o)
+row_inside _ = None
+
+unfoldable pub row_at_end : Option Class → Option Production
+row_at_end (Some (c.Word (k.Mnemonic o))) = if ends_block o then Some (p.Row o) else None
+row_at_end _ = None
+
 -- the production whose text begins with the next token
 unfoldable pub started : Nonterminal → Option Class → Option Production
-started n l = find (λ p. has (starts p) l) (alternatives n)
+started n.Row l = row_inside l
+started n.Terminator l = row_at_end l
+started part l = find (λ p. has (starts p) l) (alternatives part)
 
 unfoldable pub or_empty : Option Production → Nonterminal → Option Production
 or_empty (Some p) n = Some p

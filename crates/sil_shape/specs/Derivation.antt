@@ -1,6 +1,6 @@
 -- What the grammar derives: the lists of classes that have the shape of a module, each by the steps of its leftmost derivation.
 use Rattle.std.specs.Prelude.{ℕ, ◌+◌, ◌<◌, ◌≤◌, length, take, IsTrue, List, [], ◌∷◌, ◌++◌, ◌≡◌}
-use Rattle.sil_shape.specs.declared.classes.Class.{Class}
+use Rattle.token_classes.specs.declared.classes.Class.{Class}
 use Rattle.sil_shape.specs.declared.grammar.Nonterminal.TheVariants.{Module}
 use Rattle.sil_shape.specs.declared.grammar.Symbol.{Symbol}
 use Rattle.sil_shape.specs.declared.grammar.Symbol.TheVariants.{Read, Part}

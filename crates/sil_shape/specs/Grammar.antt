@@ -1,12 +1,12 @@
 -- The grammar: what each production writes, and in which tokens and parts in a row.
 use Rattle.std.specs.Prelude.{List, [], ◌∷◌}
-use Rattle.sil_shape.specs.declared.classes.Keyword.{Keyword}
-use Rattle.sil_shape.specs.declared.classes.Keyword.TheVariants as k
-use Rattle.sil_shape.specs.declared.classes.AtWord.{AtWord}
-use Rattle.sil_shape.specs.declared.classes.AtWord.TheVariants as a
-use Rattle.sil_shape.specs.declared.classes.Punctuation.{Punctuation}
-use Rattle.sil_shape.specs.declared.classes.Punctuation.TheVariants as m
-use Rattle.sil_shape.specs.declared.classes.Class.TheVariants as c
+use Rattle.token_classes.specs.declared.classes.Keyword.{Keyword}
+use Rattle.token_classes.specs.declared.classes.Keyword.TheVariants as k
+use Rattle.token_classes.specs.declared.classes.AtWord.{AtWord}
+use Rattle.token_classes.specs.declared.classes.AtWord.TheVariants as a
+use Rattle.token_classes.specs.declared.classes.Punctuation.{Punctuation}
+use Rattle.token_classes.specs.declared.classes.Punctuation.TheVariants as m
+use Rattle.token_classes.specs.declared.classes.Class.TheVariants as c
 use Rattle.sil_shape.specs.declared.grammar.Terminal.{Terminal}
 use Rattle.sil_shape.specs.declared.grammar.Terminal.TheVariants as t
 use Rattle.sil_shape.specs.declared.grammar.Nonterminal.{Nonterminal}
@@ -15,16 +15,9 @@ use Rattle.sil_shape.specs.declared.grammar.Symbol.{Symbol}
 use Rattle.sil_shape.specs.declared.grammar.Symbol.TheVariants.{Read, Part}
 use Rattle.sil_shape.specs.declared.grammar.Production.{Production}
 use Rattle.sil_shape.specs.declared.grammar.Production.TheVariants as p
-
--- a token that stands for itself
-abbrev pub word : Keyword → Terminal
-word keyword = t.Just (c.Word keyword)
-
-abbrev pub at : AtWord → Terminal
-at name = t.Just (c.At name)
-
-abbrev pub punctuation : Punctuation → Terminal
-punctuation sign = t.Just (c.Punctuation sign)
+use Rattle.sil_shape.specs.Rows.{row_body, row_part}
+use Rattle.sil_shape.specs.Terminals.{at, punctuation, word}
+use Rattle.instruction_table.specs.declared.op.Op.TheVariants as op
 
 -- the part that a production writes
 unfoldable pub written : Production → Nonterminal
@@ -144,47 +137,8 @@ written p.NamesSome = n.Names
 written p.NamesNone = n.Names
 written p.MoreNamesMore = n.MoreNames
 written p.MoreNamesEnd = n.MoreNames
-written p.RowIntegerLiteral = n.Row
+written (p.Row o) = row_part o
 written p.RowFunctionRef = n.Row
-written p.RowBuiltin = n.Row
-written p.RowCondFail = n.Row
-written p.RowAllocRef = n.Row
-written p.RowAllocStack = n.Row
-written p.RowDeallocStack = n.Row
-written p.RowCopyValue = n.Row
-written p.RowDestroyValue = n.Row
-written p.RowMoveValue = n.Row
-written p.RowBeginBorrow = n.Row
-written p.RowEndBorrow = n.Row
-written p.RowLoad = n.Row
-written p.RowStore = n.Row
-written p.RowLoadBorrow = n.Row
-written p.RowDestroyAddr = n.Row
-written p.RowLoadWeak = n.Row
-written p.RowStoreWeak = n.Row
-written p.RowLoadUnowned = n.Row
-written p.RowStoreUnowned = n.Row
-written p.RowStruct = n.Row
-written p.RowTuple = n.Row
-written p.RowEnum = n.Row
-written p.RowStructExtract = n.Row
-written p.RowTupleExtract = n.Row
-written p.RowDestructureStruct = n.Row
-written p.RowDestructureTuple = n.Row
-written p.RowStructElementAddr = n.Row
-written p.RowTupleElementAddr = n.Row
-written p.RowRefElementAddr = n.Row
-written p.RowApply = n.Row
-written p.RowDebugValue = n.Row
-written p.RowStrongRetain = n.Row
-written p.RowStrongRelease = n.Row
-written p.RowRetainValue = n.Row
-written p.RowReleaseValue = n.Row
-written p.RowBr = n.Terminator
-written p.RowCondBr = n.Terminator
-written p.RowSwitchEnum = n.Terminator
-written p.RowReturn = n.Terminator
-written p.RowUnreachable = n.Terminator
 written p.WholeOperand = n.Operand
 written p.OperandsSome = n.Operands
 written p.OperandsNone = n.Operands
@@ -258,8 +212,8 @@ body p.ItemsMore = Part n.Item ∷ Part n.Items ∷ []
 body p.ItemsEnd = []
 body p.FinalClass = Read (word k.Final) ∷ Read (word k.Class) ∷ Read t.AnyWord ∷ Read (punctuation m.LeftBrace) ∷ Part n.Members ∷ Read (punctuation m.RightBrace) ∷ []
 body p.PlainClass = Read (word k.Class) ∷ Read t.AnyWord ∷ Read (punctuation m.LeftBrace) ∷ Part n.Members ∷ Read (punctuation m.RightBrace) ∷ []
-body p.StructItem = Read (word k.Struct) ∷ Read t.AnyWord ∷ Read (punctuation m.LeftBrace) ∷ Part n.Fields ∷ Read (punctuation m.RightBrace) ∷ []
-body p.EnumItem = Read (word k.Enum) ∷ Read t.AnyWord ∷ Read (punctuation m.LeftBrace) ∷ Part n.Cases ∷ Read (punctuation m.RightBrace) ∷ []
+body p.StructItem = Read (word (k.Mnemonic op.Struct)) ∷ Read t.AnyWord ∷ Read (punctuation m.LeftBrace) ∷ Part n.Fields ∷ Read (punctuation m.RightBrace) ∷ []
+body p.EnumItem = Read (word (k.Mnemonic op.Enum)) ∷ Read t.AnyWord ∷ Read (punctuation m.LeftBrace) ∷ Part n.Cases ∷ Read (punctuation m.RightBrace) ∷ []
 body p.FunctionItem = Read (word k.Sil) ∷ Part n.Linkage ∷ Part n.Attributes ∷ Read t.AnyAt ∷ Read (punctuation m.Colon) ∷ Read (punctuation m.Dollar) ∷ Part n.FunctionType ∷ Part n.Body ∷ []
 body p.VtableItem = Read (word k.SilVtable) ∷ Read t.AnyWord ∷ Read (punctuation m.LeftBrace) ∷ Part n.VtableEntry ∷ Read (punctuation m.RightBrace) ∷ []
 body p.MembersMore = Part n.Member ∷ Part n.Members ∷ []
@@ -363,47 +317,8 @@ body p.NamesSome = Read (t.Just c.Percent) ∷ Part n.MoreNames ∷ []
 body p.NamesNone = []
 body p.MoreNamesMore = Read (punctuation m.Comma) ∷ Read (t.Just c.Percent) ∷ Part n.MoreNames ∷ []
 body p.MoreNamesEnd = []
-body p.RowIntegerLiteral = Read (word k.IntegerLiteral) ∷ Read (punctuation m.Dollar) ∷ Part n.Type ∷ Read (punctuation m.Comma) ∷ Read (t.Just c.Number) ∷ []
+body (p.Row o) = row_body o
 body p.RowFunctionRef = Read (word k.FunctionRef) ∷ Read t.AnyAt ∷ Read (punctuation m.Colon) ∷ Read (punctuation m.Dollar) ∷ Part n.FunctionType ∷ []
-body p.RowBuiltin = Read (word k.BuiltinMnemonic) ∷ Read (t.Just c.BuiltinText) ∷ Read (punctuation m.LeftParen) ∷ Part n.Operands ∷ Read (punctuation m.RightParen) ∷ Read (punctuation m.Colon) ∷ Read (punctuation m.Dollar) ∷ Part n.Type ∷ []
-body p.RowCondFail = Read (word k.CondFail) ∷ Part n.Operand ∷ Read (punctuation m.Comma) ∷ Read t.AnyText ∷ []
-body p.RowAllocRef = Read (word k.AllocRef) ∷ Read (punctuation m.Dollar) ∷ Part n.Type ∷ []
-body p.RowAllocStack = Read (word k.AllocStack) ∷ Part n.Flags ∷ Read (punctuation m.Dollar) ∷ Part n.Type ∷ Part n.Debug ∷ []
-body p.RowDeallocStack = Read (word k.DeallocStack) ∷ Part n.Operand ∷ []
-body p.RowCopyValue = Read (word k.CopyValue) ∷ Part n.Operand ∷ []
-body p.RowDestroyValue = Read (word k.DestroyValue) ∷ Part n.Operand ∷ []
-body p.RowMoveValue = Read (word k.MoveValue) ∷ Part n.Flags ∷ Part n.Operand ∷ []
-body p.RowBeginBorrow = Read (word k.BeginBorrow) ∷ Part n.Flags ∷ Part n.Operand ∷ []
-body p.RowEndBorrow = Read (word k.EndBorrow) ∷ Part n.Operand ∷ []
-body p.RowLoad = Read (word k.Load) ∷ Part n.Qualifier ∷ Part n.Operand ∷ []
-body p.RowStore = Read (word k.Store) ∷ Read (t.Just c.Percent) ∷ Read (word k.To) ∷ Part n.Qualifier ∷ Part n.Operand ∷ []
-body p.RowLoadBorrow = Read (word k.LoadBorrow) ∷ Part n.Operand ∷ []
-body p.RowDestroyAddr = Read (word k.DestroyAddr) ∷ Part n.Operand ∷ []
-body p.RowLoadWeak = Read (word k.LoadWeak) ∷ Part n.TakeFlag ∷ Part n.Operand ∷ []
-body p.RowStoreWeak = Read (word k.StoreWeak) ∷ Read (t.Just c.Percent) ∷ Read (word k.To) ∷ Part n.InitFlag ∷ Part n.Operand ∷ []
-body p.RowLoadUnowned = Read (word k.LoadUnowned) ∷ Part n.TakeFlag ∷ Part n.Operand ∷ []
-body p.RowStoreUnowned = Read (word k.StoreUnowned) ∷ Read (t.Just c.Percent) ∷ Read (word k.To) ∷ Part n.InitFlag ∷ Part n.Operand ∷ []
-body p.RowStruct = Read (word k.Struct) ∷ Read (punctuation m.Dollar) ∷ Part n.Type ∷ Read (punctuation m.LeftParen) ∷ Part n.Operands ∷ Read (punctuation m.RightParen) ∷ []
-body p.RowTuple = Read (word k.Tuple) ∷ Read (punctuation m.LeftParen) ∷ Part n.Operands ∷ Read (punctuation m.RightParen) ∷ []
-body p.RowEnum = Read (word k.Enum) ∷ Read (punctuation m.Dollar) ∷ Part n.Type ∷ Read (punctuation m.Comma) ∷ Part n.EnumElement ∷ Part n.EnumOperand ∷ []
-body p.RowStructExtract = Read (word k.StructExtract) ∷ Part n.Operand ∷ Read (punctuation m.Comma) ∷ Part n.MemberName ∷ []
-body p.RowTupleExtract = Read (word k.TupleExtract) ∷ Part n.Operand ∷ Read (punctuation m.Comma) ∷ Read (t.Just c.Number) ∷ []
-body p.RowDestructureStruct = Read (word k.DestructureStruct) ∷ Part n.Operand ∷ []
-body p.RowDestructureTuple = Read (word k.DestructureTuple) ∷ Part n.Operand ∷ []
-body p.RowStructElementAddr = Read (word k.StructElementAddr) ∷ Part n.Operand ∷ Read (punctuation m.Comma) ∷ Part n.MemberName ∷ []
-body p.RowTupleElementAddr = Read (word k.TupleElementAddr) ∷ Part n.Operand ∷ Read (punctuation m.Comma) ∷ Read (t.Just c.Number) ∷ []
-body p.RowRefElementAddr = Read (word k.RefElementAddr) ∷ Part n.Operand ∷ Read (punctuation m.Comma) ∷ Part n.MemberName ∷ []
-body p.RowApply = Read (word k.Apply) ∷ Read (t.Just c.Percent) ∷ Read (punctuation m.LeftParen) ∷ Part n.BareNames ∷ Read (punctuation m.RightParen) ∷ Read (punctuation m.Colon) ∷ Read (punctuation m.Dollar) ∷ Part n.FunctionType ∷ []
-body p.RowDebugValue = Read (word k.DebugValue) ∷ Part n.Operand ∷ Part n.Debug ∷ []
-body p.RowStrongRetain = Read (word k.StrongRetain) ∷ Part n.Operand ∷ []
-body p.RowStrongRelease = Read (word k.StrongRelease) ∷ Part n.Operand ∷ []
-body p.RowRetainValue = Read (word k.RetainValue) ∷ Part n.Operand ∷ []
-body p.RowReleaseValue = Read (word k.ReleaseValue) ∷ Part n.Operand ∷ []
-body p.RowBr = Read (word k.Br) ∷ Part n.Edge ∷ []
-body p.RowCondBr = Read (word k.CondBr) ∷ Read (t.Just c.Percent) ∷ Read (punctuation m.Comma) ∷ Part n.Edge ∷ Read (punctuation m.Comma) ∷ Part n.Edge ∷ []
-body p.RowSwitchEnum = Read (word k.SwitchEnum) ∷ Part n.Operand ∷ Read (punctuation m.Comma) ∷ Part n.SwitchPart ∷ []
-body p.RowReturn = Read (word k.Return) ∷ Part n.Operand ∷ []
-body p.RowUnreachable = Read (word k.Unreachable) ∷ []
 body p.WholeOperand = Read (t.Just c.Percent) ∷ Read (punctuation m.Colon) ∷ Read (punctuation m.Dollar) ∷ Part n.Star ∷ Part n.Type ∷ []
 body p.OperandsSome = Part n.Operand ∷ Part n.MoreOperands ∷ []
 body p.OperandsNone = []
@@ -464,7 +379,7 @@ body p.DebugDeref = Read (word k.Expr) ∷ Read (word k.OpDeref) ∷ []
 body p.EntrySome = Read (punctuation m.Hash) ∷ Read t.AnyWord ∷ Read (punctuation m.Dot) ∷ Read (word k.Deinit) ∷ Read (punctuation m.Bang) ∷ Read (word k.Destroyer) ∷ Read (punctuation m.Colon) ∷ Read t.AnyAt ∷ []
 body p.EntryNone = []
 
--- the productions of a part
+-- the productions of a part; those of rows are told by their mnemonics alone
 unfoldable pub alternatives : Nonterminal → List Production
 alternatives n.Module = p.WholeModule ∷ []
 alternatives n.Stage = p.StageSome ∷ p.StageNone ∷ []
@@ -515,8 +430,8 @@ alternatives n.Code = p.CodeInst ∷ p.CodeEnd ∷ []
 alternatives n.Inst = p.InstOneName ∷ p.InstNames ∷ p.InstUnnamed ∷ []
 alternatives n.Names = p.NamesSome ∷ p.NamesNone ∷ []
 alternatives n.MoreNames = p.MoreNamesMore ∷ p.MoreNamesEnd ∷ []
-alternatives n.Row = p.RowIntegerLiteral ∷ p.RowFunctionRef ∷ p.RowBuiltin ∷ p.RowCondFail ∷ p.RowAllocRef ∷ p.RowAllocStack ∷ p.RowDeallocStack ∷ p.RowCopyValue ∷ p.RowDestroyValue ∷ p.RowMoveValue ∷ p.RowBeginBorrow ∷ p.RowEndBorrow ∷ p.RowLoad ∷ p.RowStore ∷ p.RowLoadBorrow ∷ p.RowDestroyAddr ∷ p.RowLoadWeak ∷ p.RowStoreWeak ∷ p.RowLoadUnowned ∷ p.RowStoreUnowned ∷ p.RowStruct ∷ p.RowTuple ∷ p.RowEnum ∷ p.RowStructExtract ∷ p.RowTupleExtract ∷ p.RowDestructureStruct ∷ p.RowDestructureTuple ∷ p.RowStructElementAddr ∷ p.RowTupleElementAddr ∷ p.RowRefElementAddr ∷ p.RowApply ∷ p.RowDebugValue ∷ p.RowStrongRetain ∷ p.RowStrongRelease ∷ p.RowRetainValue ∷ p.RowReleaseValue ∷ []
-alternatives n.Terminator = p.RowBr ∷ p.RowCondBr ∷ p.RowSwitchEnum ∷ p.RowReturn ∷ p.RowUnreachable ∷ []
+alternatives n.Row = []
+alternatives n.Terminator = []
 alternatives n.Operand = p.WholeOperand ∷ []
 alternatives n.Operands = p.OperandsSome ∷ p.OperandsNone ∷ []
 alternatives n.MoreOperands = p.MoreOperandsMore ∷ p.MoreOperandsEnd ∷ []

@@ -1,3 +1,5 @@
+pub mod Terminals
+pub mod Rows
 pub mod Accepts
 pub mod Grammar
 pub mod Derivation
@@ -7,5 +9,4 @@ pub mod Refusal
 pub mod Choice
 pub mod Turns
 pub mod Shortest
-pub mod Spelling
 pub mod Unsupported

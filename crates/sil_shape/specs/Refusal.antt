@@ -1,6 +1,6 @@
 -- What a refusal says.
 use Rattle.std.specs.Prelude.{List, reverse, take}
-use Rattle.sil_shape.specs.declared.classes.Class.{Class}
+use Rattle.token_classes.specs.declared.classes.Class.{Class}
 use Rattle.sil_shape.specs.declared.machine.ShapeRefusal.{ShapeRefusal}
 use Rattle.sil_shape.specs.declared.machine.ShapeRefusal.TheVariants.{Memory, FirstBad}
 use Rattle.sil_shape.specs.Begun.{LeadsTo}

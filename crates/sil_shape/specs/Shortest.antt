@@ -6,6 +6,7 @@ use Rattle.sil_shape.specs.declared.grammar.Symbol.{Symbol}
 use Rattle.sil_shape.specs.declared.grammar.Symbol.TheVariants.{Read, Part}
 use Rattle.sil_shape.specs.declared.grammar.Production.{Production}
 use Rattle.sil_shape.specs.declared.grammar.Production.TheVariants as p
+use Rattle.instruction_table.specs.declared.op.Op.TheVariants as op
 use Rattle.sil_shape.specs.declared.steps.Step.{Step}
 use Rattle.sil_shape.specs.declared.steps.Step.TheVariants.{Take, Expand}
 use Rattle.sil_shape.specs.Grammar.{body}
@@ -61,8 +62,8 @@ shortest n.Code = p.CodeEnd
 shortest n.Inst = p.InstUnnamed
 shortest n.Names = p.NamesNone
 shortest n.MoreNames = p.MoreNamesEnd
-shortest n.Row = p.RowTuple
-shortest n.Terminator = p.RowUnreachable
+shortest n.Row = p.Row op.Tuple
+shortest n.Terminator = p.Row op.Unreachable
 shortest n.Operand = p.WholeOperand
 shortest n.Operands = p.OperandsNone
 shortest n.MoreOperands = p.MoreOperandsEnd

@@ -6,7 +6,7 @@ ghost use Rattle.sil_shape.specs.Derivation.{Accepts};
 ghost use Rattle.sil_shape.specs.Choice.{has_class, has, started, choose};
 
 use crate::alternatives::alternatives;
-use crate::classes::{AtWord, Class, Keyword, Punctuation};
+use token_classes::{AtWord, Class, Keyword, Punctuation};
 use crate::grammar::{Nonterminal, Production, Symbol, Terminal};
 use crate::starts::{empty_choice, starts};
 

@@ -1,7 +1,8 @@
 //! The names of the grammar: its parts, and each way to write one of them.
 //! What a production has in a row stands in `bodies.rt`.
 
-use crate::classes::Class;
+use instruction_table::Op;
+use token_classes::Class;
 
 /// What one token is asked to be.
 #[derive(Clone, Copy)]
@@ -11,6 +12,10 @@ pub enum Terminal {
     TypeWord,
     AnyAt,
     AnyText,
+    /// the mnemonic of any instruction that ends no block
+    RowWord,
+    /// the mnemonic of any instruction that ends a block
+    EndWord,
     Just(Class),
 }
 
@@ -230,48 +235,8 @@ pub enum Production {
     NamesNone,
     MoreNamesMore,
     MoreNamesEnd,
-    // the rows, by their mnemonics
-    RowIntegerLiteral,
-    RowFunctionRef,
-    RowBuiltin,
-    RowCondFail,
-    RowAllocRef,
-    RowAllocStack,
-    RowDeallocStack,
-    RowCopyValue,
-    RowDestroyValue,
-    RowMoveValue,
-    RowBeginBorrow,
-    RowEndBorrow,
-    RowLoad,
-    RowStore,
-    RowLoadBorrow,
-    RowDestroyAddr,
-    RowLoadWeak,
-    RowStoreWeak,
-    RowLoadUnowned,
-    RowStoreUnowned,
-    RowStruct,
-    RowTuple,
-    RowEnum,
-    RowStructExtract,
-    RowTupleExtract,
-    RowDestructureStruct,
-    RowDestructureTuple,
-    RowStructElementAddr,
-    RowTupleElementAddr,
-    RowRefElementAddr,
-    RowApply,
-    RowDebugValue,
-    RowStrongRetain,
-    RowStrongRelease,
-    RowRetainValue,
-    RowReleaseValue,
-    RowBr,
-    RowCondBr,
-    RowSwitchEnum,
-    RowReturn,
-    RowUnreachable,
+    /// The row of an instruction, by the table of instructions.
+    Row(Op),
     // parts of rows
     WholeOperand,
     OperandsSome,

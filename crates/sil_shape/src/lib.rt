@@ -5,12 +5,10 @@
 pub mod alternatives;
 pub mod bodies;
 mod choice;
-pub mod classes;
 pub mod grammar;
 pub mod machine;
 pub mod shortest;
 pub mod shortest_steps;
-pub mod spelling;
 mod starts;
 pub mod steps;
 pub mod unsupported;

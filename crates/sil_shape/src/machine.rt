@@ -11,7 +11,7 @@ ghost use Rattle.sil_shape.specs.declared.machine.ShapeRefusal.TheVariants.{Firs
 
 use crate::bodies::body;
 use crate::choice::{accepts, choose};
-use crate::classes::Class;
+use token_classes::Class;
 use crate::grammar::{Nonterminal, Production, Symbol};
 use crate::steps::{Front, Step};
 use std::alloc::{AllocError, Global};

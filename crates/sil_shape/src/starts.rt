@@ -3,7 +3,7 @@
 ghost use Rattle.std.specs.Prelude.{◌≡◌};
 ghost use Rattle.sil_shape.specs.Choice.{starts, empty_choice};
 
-use crate::classes::{AtWord, Class, Keyword, Punctuation};
+use token_classes::{AtWord, Class, Keyword, Punctuation};
 use crate::grammar::{Nonterminal, Production, Terminal};
 
 macro_rules! word {

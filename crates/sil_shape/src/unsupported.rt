@@ -3,12 +3,12 @@
 ghost use Rattle.std.specs.Prelude.{◌≡◌, ◌++◌, ◌∷◌, [], ◌↔◌, IfOk, IsTrue};
 ghost use Rattle.sil_shape.specs.Derivation.{BeginsShape, IsFirstBad};
 ghost use Rattle.sil_shape.specs.Unsupported.{begins_by, begins_some, is_mnemonic, GoesOn, IsUnknown, IsUnsupported};
-ghost use Rattle.sil_shape.specs.declared.classes.Class.TheVariants.{Word};
+ghost use Rattle.token_classes.specs.declared.classes.Class.TheVariants.{Word};
 
 use crate::alternatives::alternatives;
 use crate::bodies::body;
 use crate::choice::accepts_terminal;
-use crate::classes::{Class, Keyword};
+use token_classes::{Class, Keyword};
 use crate::grammar::{Nonterminal, Symbol};
 use crate::machine::{ShapeRefusal, steps_of};
 use std::alloc::{AllocError, Global};

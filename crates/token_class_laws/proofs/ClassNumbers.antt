@@ -1,11 +1,11 @@
 -- Each class stands at its number in the list of all, so that no two have one number.
 use Rattle.std.proofs.Common.{◌≡◌, refl, ap, sym, ◌∙◌, eqb-true, eq-eqb, None, Some}
 use Rattle.std.specs.Prelude.{slice_index_or}
-use Rattle.sil_shape.specs.declared.classes.Keyword.TheVariants as k
-use Rattle.sil_shape.specs.declared.classes.AtWord.TheVariants as a
-use Rattle.sil_shape.specs.declared.classes.Punctuation.TheVariants as m
-use Rattle.sil_shape.specs.declared.classes.Class.{Class}
-use Rattle.sil_shape.specs.declared.classes.Class.TheVariants as c
+use Rattle.token_classes.specs.declared.classes.Keyword.TheVariants as k
+use Rattle.token_classes.specs.declared.classes.AtWord.TheVariants as a
+use Rattle.token_classes.specs.declared.classes.Punctuation.TheVariants as m
+use Rattle.token_classes.specs.declared.classes.Class.{Class}
+use Rattle.token_classes.specs.declared.classes.Class.TheVariants as c
 use Rattle.sil_shape.specs.Accepts.{accepts, keyword_number, at_number, punctuation_number, class_number}
 use Rattle.sil_shape.proofs.Numbered.{all_looks}
 use Rattle.token_class_laws.specs.Laws.{HaveOwnNumbers, StandsForItself}

@@ -3,10 +3,10 @@ use Rattle.std.proofs.Common.{rules, ◌≡◌, ℕ, List, [], ◌∷◌, Bool, 
 use Rattle.std.specs.Prelude.{Option, find, is_none}
 use Rattle.std.proofs.lemmas.Slice.Eq.{bytes_eq-Decides}
 use Rattle.std.specs.Str.{bytes_eq}
-use Rattle.sil_shape.specs.declared.classes.AtWord.TheVariants as a
-use Rattle.sil_shape.specs.declared.classes.Keyword.TheVariants as k
-use Rattle.sil_shape.specs.Spelling.{at_spelling, at_word_of, keyword_of, known_at_word, known_keyword, punctuation_of, punctuation_spelling, signs, spelling}
-use Rattle.sil_shape.proofs.SpellingLemmas.{at_word_each, at_word_known, keyword_each, keyword_known, punctuation_of-punctuation_spelling}
+use Rattle.token_classes.specs.declared.classes.AtWord.TheVariants as a
+use Rattle.token_classes.specs.declared.classes.Keyword.TheVariants as k
+use Rattle.token_classes.specs.Spelling.{at_spelling, at_word_of, keyword_of, known_at_word, known_keyword, punctuation_of, punctuation_spelling, signs, spelling}
+use Rattle.token_classes.proofs.SpellingLemmas.{at_word_each, at_word_known, keyword_each, keyword_known, punctuation_of-punctuation_spelling}
 use Rattle.token_class_laws.specs.Laws.{AreAtWordsSpelled, AreKeywordsSpelled, ArePunctuationSpelled}
 
 pub keywords_spelled : AreKeywordsSpelled

@@ -1,13 +1,13 @@
 -- What tells classes of tokens apart.
 use Rattle.std.specs.Prelude.{◌≡◌, ◌↔◌, ℕ, List, Some, true}
 use Rattle.sil_shape.specs.Accepts.{accepts, class_number}
-use Rattle.sil_shape.specs.Spelling.{at_spelling, at_word_of, keyword_of, punctuation_of, punctuation_spelling, spelling}
-use Rattle.sil_shape.specs.declared.classes.AtWord.{AtWord}
-use Rattle.sil_shape.specs.declared.classes.AtWord.TheVariants as at
-use Rattle.sil_shape.specs.declared.classes.Class.{Class}
-use Rattle.sil_shape.specs.declared.classes.Keyword.{Keyword}
-use Rattle.sil_shape.specs.declared.classes.Keyword.TheVariants as keyword
-use Rattle.sil_shape.specs.declared.classes.Punctuation.{Punctuation}
+use Rattle.token_classes.specs.Spelling.{at_spelling, at_word_of, keyword_of, punctuation_of, punctuation_spelling, spelling}
+use Rattle.token_classes.specs.declared.classes.AtWord.{AtWord}
+use Rattle.token_classes.specs.declared.classes.AtWord.TheVariants as at
+use Rattle.token_classes.specs.declared.classes.Class.{Class}
+use Rattle.token_classes.specs.declared.classes.Keyword.{Keyword}
+use Rattle.token_classes.specs.declared.classes.Keyword.TheVariants as keyword
+use Rattle.token_classes.specs.declared.classes.Punctuation.{Punctuation}
 use Rattle.sil_shape.specs.declared.grammar.Terminal.TheVariants as terminal
 
 -- no two classes have one number

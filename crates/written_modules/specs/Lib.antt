@@ -1,3 +1,5 @@
+pub mod Parts
+pub mod RowMeaning
 pub mod Meaning
 pub mod PartFaults
 pub mod Replay

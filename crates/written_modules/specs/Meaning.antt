@@ -33,6 +33,8 @@ use Rattle.written_tree.specs.declared.written_declarations.WrittenToken.{Writte
 use Rattle.written_tree.specs.declared.written_instructions.WrittenInst.{WrittenInst}
 use Rattle.written_tree.specs.declared.written_instructions.WrittenOperand.{WrittenOperand}
 use Rattle.written_tree.specs.declared.written_module.WrittenItem.TheVariants as item
+use Rattle.written_modules.specs.Parts.{part, place_at, text_at}
+use Rattle.written_modules.specs.RowMeaning.{row}
 use Rattle.written_modules.specs.Types.{in_parens, with_questions, named_type, one_deeper, one_token, tailed, type_before, width_of}
 use Rattle.written_modules.specs.Values.{token_of, stage_of, imports_of, items_of, item_of, fields_of, field_of, field_before, cases_of, type_of, payload_of, types_of, questions_of, linkage_of, tokens_of, convention_of, params_of, param_before, givens_of, given_before, signature_of, blocks_of, block_of, args_of, arg_of, ownership_of, starred, insts_of, terminator_of, inst_of, operands_of, operand_of, edges_of, edge_of, member_of, flags_of, qualifier_of, debug_of, entry_of, bare_inst, no_debug, no_givens, no_params, no_qualifier, no_types}
 
@@ -58,61 +60,9 @@ with_import name imports = record {
   swift = is_text name (codes "Swift") || imports.swift;
 }
 
--- what the i-th part of a body stands for
-abbrev pub part : ℕ → List Value → Value
-part i parts = slice_index_or parts i v.Nothing
-
-abbrev pub text_at : ℕ → List Value → List ℕ
-text_at i parts = (token_of (part i parts)).text
-
-abbrev pub place_at : ℕ → List Value → Place
-place_at i parts = (token_of (part i parts)).place
-
 -- `var f: T`
 abbrev pub binding : List Value → Value
 binding parts = v.Field (record { name = token_of (part 1 parts); storage = storage.Strong; ty = (type_of (part 3 parts)).ty })
-
-abbrev pub bare_operand : WrittenToken → WrittenOperand
-bare_operand name = record { name = name; ty = None }
-
--- an instruction with its mnemonic
-abbrev pub row : Op → List Value → WrittenInst
-row o parts = bare_inst o (place_at 0 parts)
-
--- a mnemonic and an operand
-abbrev pub over_one : Op → List Value → Value
-over_one o parts = v.Inst (record (row o parts) { operands = operand_of (part 1 parts) ∷ [] })
-
--- a mnemonic, flags and an operand
-abbrev pub flagged : Op → List Value → Value
-flagged o parts = v.Inst (record (row o parts) {
-  operands = operand_of (part 2 parts) ∷ [];
-  lexical = (flags_of (part 1 parts)).lexical;
-  var_decl = (flags_of (part 1 parts)).var_decl;
-})
-
--- a mnemonic, a qualifier and an operand
-abbrev pub loaded : Op → List Value → Value
-loaded o parts = v.Inst (record (row o parts) { operands = operand_of (part 2 parts) ∷ []; qualifier = qualifier_of (part 1 parts) })
-
--- `store %a to [q] %b : $*T`
-abbrev pub stored : Op → List Value → Value
-stored o parts = v.Inst (record (row o parts) {
-  operands = bare_operand (token_of (part 1 parts)) ∷ operand_of (part 4 parts) ∷ [];
-  qualifier = qualifier_of (part 3 parts);
-})
-
--- a mnemonic, an operand, a comma and a member
-abbrev pub of_member : Op → List Value → Value
-of_member o parts = v.Inst (record (row o parts) { operands = operand_of (part 1 parts) ∷ []; member = Some (member_of (part 3 parts)) })
-
--- an element's number is less than the limit on elements
-abbrev pub element_of : List ℕ → Option ℤ
-element_of spelling = option_map pos (small_of (ARGUMENTS - 1) spelling)
-
--- a mnemonic, an operand, a comma and the number of an element
-abbrev pub of_element : Op → List Value → Value
-of_element o parts = v.Inst (record (row o parts) { operands = operand_of (part 1 parts) ∷ []; number = element_of (text_at 3 parts) })
 
 abbrev pub param : Passing → List Value → Value
 param how parts = v.Param (record { passing = how; ty = (type_of (part 1 parts)).ty }) (place_at 0 parts)
@@ -250,53 +200,8 @@ meaning p.NamesSome parts = v.Tokens (token_of (part 0 parts) ∷ tokens_of (par
 meaning p.NamesNone parts = v.Tokens []
 meaning p.MoreNamesMore parts = v.Tokens (token_of (part 1 parts) ∷ tokens_of (part 2 parts))
 meaning p.MoreNamesEnd parts = v.Tokens []
--- the rows, by their mnemonics
-meaning p.RowIntegerLiteral parts = v.Inst (record (row op.IntegerLiteral parts) { ty = Some (type_of (part 2 parts)).ty; number = literal_of (width_of (type_of (part 2 parts)).ty) (text_at 4 parts) })
-meaning p.RowFunctionRef parts = v.Inst (record (row op.FunctionRef parts) { function = Some (token_of (part 1 parts)); signature = Some (signature_of (part 4 parts)) })
-meaning p.RowBuiltin parts = v.Inst (record (row op.Builtin parts) { text = Some (text_at 1 parts); operands = operands_of (part 3 parts); ty = Some (type_of (part 7 parts)).ty })
-meaning p.RowCondFail parts = v.Inst (record (row op.CondFail parts) { operands = operand_of (part 1 parts) ∷ []; text = Some (text_at 3 parts) })
-meaning p.RowAllocRef parts = v.Inst (record (row op.AllocRef parts) { ty = Some (type_of (part 2 parts)).ty })
-meaning p.RowAllocStack parts = v.Inst (record (row op.AllocStack parts) {
-  lexical = (flags_of (part 1 parts)).lexical;
-  var_decl = (flags_of (part 1 parts)).var_decl;
-  ty = Some (type_of (part 3 parts)).ty;
-  debug = debug_of (part 4 parts);
-})
-meaning p.RowDeallocStack parts = over_one op.DeallocStack parts
-meaning p.RowCopyValue parts = over_one op.CopyValue parts
-meaning p.RowDestroyValue parts = over_one op.DestroyValue parts
-meaning p.RowMoveValue parts = flagged op.MoveValue parts
-meaning p.RowBeginBorrow parts = flagged op.BeginBorrow parts
-meaning p.RowEndBorrow parts = over_one op.EndBorrow parts
-meaning p.RowLoad parts = loaded op.Load parts
-meaning p.RowStore parts = stored op.Store parts
-meaning p.RowLoadBorrow parts = over_one op.LoadBorrow parts
-meaning p.RowDestroyAddr parts = over_one op.DestroyAddr parts
-meaning p.RowLoadWeak parts = loaded op.LoadWeak parts
-meaning p.RowStoreWeak parts = stored op.StoreWeak parts
-meaning p.RowLoadUnowned parts = loaded op.LoadUnowned parts
-meaning p.RowStoreUnowned parts = stored op.StoreUnowned parts
-meaning p.RowStruct parts = v.Inst (record (row op.Struct parts) { ty = Some (type_of (part 2 parts)).ty; operands = operands_of (part 4 parts) })
-meaning p.RowTuple parts = v.Inst (record (row op.Tuple parts) { operands = operands_of (part 2 parts) })
-meaning p.RowEnum parts = v.Inst (record (row op.Enum parts) { ty = Some (type_of (part 2 parts)).ty; member = Some (member_of (part 4 parts)); operands = operands_of (part 5 parts) })
-meaning p.RowStructExtract parts = of_member op.StructExtract parts
-meaning p.RowTupleExtract parts = of_element op.TupleExtract parts
-meaning p.RowDestructureStruct parts = over_one op.DestructureStruct parts
-meaning p.RowDestructureTuple parts = over_one op.DestructureTuple parts
-meaning p.RowStructElementAddr parts = of_member op.StructElementAddr parts
-meaning p.RowTupleElementAddr parts = of_element op.TupleElementAddr parts
-meaning p.RowRefElementAddr parts = of_member op.RefElementAddr parts
-meaning p.RowApply parts = v.Inst (record (row op.Apply parts) { operands = map bare_operand (token_of (part 1 parts) ∷ tokens_of (part 3 parts)); signature = Some (signature_of (part 7 parts)) })
-meaning p.RowDebugValue parts = v.Inst (record (row op.DebugValue parts) { operands = operand_of (part 1 parts) ∷ []; debug = debug_of (part 2 parts) })
-meaning p.RowStrongRetain parts = over_one op.StrongRetain parts
-meaning p.RowStrongRelease parts = over_one op.StrongRelease parts
-meaning p.RowRetainValue parts = over_one op.RetainValue parts
-meaning p.RowReleaseValue parts = over_one op.ReleaseValue parts
-meaning p.RowBr parts = v.Inst (record (row op.Br parts) { edges = edge_of (part 1 parts) ∷ [] })
-meaning p.RowCondBr parts = v.Inst (record (row op.CondBr parts) { operands = bare_operand (token_of (part 1 parts)) ∷ []; edges = edge_of (part 3 parts) ∷ edge_of (part 5 parts) ∷ [] })
-meaning p.RowSwitchEnum parts = v.Inst (record (row op.SwitchEnum parts) { operands = operand_of (part 1 parts) ∷ []; edges = edges_of (part 3 parts) })
-meaning p.RowReturn parts = over_one op.Return parts
-meaning p.RowUnreachable parts = v.Inst (row op.Unreachable parts)
+-- the row of an instruction
+meaning (p.Row o) parts = v.Inst (row o parts)
 -- parts of rows
 meaning p.WholeOperand parts = v.Operand (record { name = token_of (part 0 parts); ty = Some (starred (part 3 parts) (type_of (part 4 parts)).ty) })
 meaning p.OperandsSome parts = v.Operands (operand_of (part 0 parts) ∷ operands_of (part 1 parts))

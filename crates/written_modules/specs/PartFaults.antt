@@ -16,7 +16,13 @@ use Rattle.written_tree.specs.declared.written_functions.WrittenBlock.{WrittenBl
 use Rattle.written_tree.specs.declared.written_module.WrittenItem.{WrittenItem}
 use Rattle.written_modules.specs.declared.written_types.TypeList.{TypeList}
 use Rattle.written_tree.specs.Faults.{earlier, fault, out_of_range, passed}
-use Rattle.written_modules.specs.Meaning.{part, place_at, text_at}
+use Rattle.instruction_table.specs.Forms.{detail_of, parts_of}
+use Rattle.instruction_table.specs.declared.forms.Part.{Part}
+use Rattle.instruction_table.specs.declared.forms.Part.TheVariants as form
+use Rattle.instruction_table.specs.declared.op.Op.{Op}
+use Rattle.written_tree.specs.declared.written_instructions.WrittenInst.{WrittenInst}
+use Rattle.written_modules.specs.Parts.{part, place_at, text_at}
+use Rattle.written_modules.specs.RowMeaning.{begun, behind_part, number_by, with_part}
 use Rattle.written_tree.specs.Places.{arg_place, attribute_places, case_place, decl_names, field_place, function_names, label_place, mnemonics_of, operand_place, token_place, values_of_block}
 use Rattle.written_modules.specs.Types.{in_parens, type_before, width_of}
 use Rattle.written_modules.specs.Values.{args_of, blocks_of, cases_of, fields_of, givens_of, items_of, questions_of, operands_of, params_of, token_of, tokens_of, type_of, types_of}
@@ -52,6 +58,22 @@ body_fault blocks = earlier
 abbrev pub function_fault : List WrittenToken → List WrittenBlock → Option Fault
 function_fault attributes blocks = earlier (passed limit.Arguments ARGUMENTS (attribute_places attributes)) (body_fault blocks)
 
+-- an instruction's operands that become too many, or its number that is out of range
+abbrev pub fault_of_part : Op → Part → ℕ → List Value → WrittenInst → Option Fault
+fault_of_part o form.Number at parts i = out_of_range (number_by (detail_of o) i.ty (text_at at parts)) (place_at at parts)
+fault_of_part o form.BareArgs at parts i = passed limit.Arguments ARGUMENTS (map operand_place (with_part o form.BareArgs at parts i).operands)
+fault_of_part o form.TypedArgs at parts i = passed limit.Arguments ARGUMENTS (map operand_place (with_part o form.TypedArgs at parts i).operands)
+fault_of_part o _ at parts i = None
+
+-- the first fault in these parts, or the one that was found before
+abbrev pub parts_fault : Op → List Part → ℕ → List Value → WrittenInst → Option Fault → Option Fault
+parts_fault o [] at parts i found = found
+parts_fault o (here ∷ others) at parts i found =
+    parts_fault o others (behind_part o here others at) parts (with_part o here at parts i) (earlier found (fault_of_part o here at parts i))
+
+abbrev pub row_fault : Op → List Value → Option Fault
+row_fault o parts = parts_fault o (parts_of o) 1 parts (begun o parts) None
+
 unfoldable pub part_fault : Production → List Value → Option Fault
 part_fault p.WholeModule parts = module_fault (items_of (part 2 parts))
 part_fault p.FinalClass parts = passed limit.Members MEMBERS (map field_place (fields_of (part 4 parts)))
@@ -72,13 +94,8 @@ part_fault p.WholeFunctionType parts = earlier
     (passed limit.Arguments ARGUMENTS (givens_of (part 8 parts)).firsts)
 part_fault p.WholeBlock parts = passed limit.Arguments ARGUMENTS (map arg_place (args_of (part 1 parts)))
 part_fault p.InstNames parts = passed limit.Arguments ARGUMENTS (map token_place (tokens_of (part 1 parts)))
-part_fault p.RowIntegerLiteral parts = out_of_range (literal_of (width_of (type_of (part 2 parts)).ty) (text_at 4 parts)) (place_at 4 parts)
+part_fault (p.Row o) parts = row_fault o parts
 part_fault p.RowBuiltin parts = passed limit.Arguments ARGUMENTS (map operand_place (operands_of (part 3 parts)))
-part_fault p.RowStruct parts = passed limit.Arguments ARGUMENTS (map operand_place (operands_of (part 4 parts)))
-part_fault p.RowTuple parts = passed limit.Arguments ARGUMENTS (map operand_place (operands_of (part 2 parts)))
-part_fault p.RowTupleExtract parts = out_of_range (small_of (ARGUMENTS - 1) (text_at 3 parts)) (place_at 3 parts)
-part_fault p.RowTupleElementAddr parts = out_of_range (small_of (ARGUMENTS - 1) (text_at 3 parts)) (place_at 3 parts)
-part_fault p.RowApply parts = passed limit.Arguments ARGUMENTS (map token_place (token_of (part 1 parts) ∷ tokens_of (part 3 parts)))
 part_fault p.WholeEdge parts = passed limit.Arguments ARGUMENTS (map operand_place (operands_of (part 1 parts)))
 part_fault p.DebugNumber parts = out_of_range (small_of 65535 (text_at 1 parts)) (place_at 1 parts)
 part_fault _ parts = None

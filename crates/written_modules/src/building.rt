@@ -3,7 +3,7 @@
 
 ghost use Rattle.std.specs.Prelude.{◌≡◌, ◌≤◌, ◌++◌, List, length, reverse, take, IfOk};
 ghost use Rattle.sil_lexer.specs.Lexing.{IsLexingOf, lexemes_of};
-ghost use Rattle.sil_shape.specs.declared.classes.Class.{Class};
+ghost use Rattle.token_classes.specs.declared.classes.Class.{Class};
 ghost use Rattle.sil_shape.specs.declared.steps.Step.{Step};
 ghost use Rattle.sil_shape.specs.Begun.{LeadsTo};
 ghost use Rattle.sil_shape.specs.Derivation.{start, Derives};

@@ -1,7 +1,7 @@
 -- For `fault_before`: the front is cut behind its last token, and what is left is written in the shortest way.
 use Rattle.std.proofs.Common.{List, map, take}
 use Rattle.sil_lexer.specs.Lexing.{lexemes_of}
-use Rattle.sil_shape.specs.declared.classes.Class.{Class}
+use Rattle.token_classes.specs.declared.classes.Class.{Class}
 use Rattle.sil_grammar.specs.Classes.{token_class}
 use Rattle.sil_grammar.proofs.CutLemmas.{cut_leads}
 use Rattle.sil_grammar.proofs.ShapeLemmas.{length-front}

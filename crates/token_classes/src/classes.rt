@@ -1,8 +1,10 @@
 //! The classes of tokens that the grammar tells apart.
 //! A class says which words a token may stand for, and not what it spells.
 
+use instruction_table::Op;
+
 /// A word that the grammar gives a meaning, or any other. Each may still be a name.
-/// `Builtin` is the word before `.Int64`, and `BuiltinMnemonic` the mnemonic `builtin`.
+/// `Builtin` is the word before `.Int64`; `builtin` is a mnemonic.
 #[derive(Clone, Copy, Debug, PartialEq, Eq)]
 pub enum Keyword {
     Other,
@@ -12,8 +14,6 @@ pub enum Keyword {
     Import,
     Final,
     Class,
-    Struct,
-    Enum,
     Sil,
     SilVtable,
     Deinit,
@@ -38,46 +38,7 @@ pub enum Keyword {
     Public,
     Thin,
     Method,
-    IntegerLiteral,
-    FunctionRef,
-    BuiltinMnemonic,
-    CondFail,
-    AllocRef,
-    AllocStack,
-    DeallocStack,
-    CopyValue,
-    DestroyValue,
-    MoveValue,
-    BeginBorrow,
-    EndBorrow,
-    Load,
-    Store,
     To,
-    LoadBorrow,
-    DestroyAddr,
-    LoadWeak,
-    StoreWeak,
-    LoadUnowned,
-    StoreUnowned,
-    Tuple,
-    StructExtract,
-    TupleExtract,
-    DestructureStruct,
-    DestructureTuple,
-    StructElementAddr,
-    TupleElementAddr,
-    RefElementAddr,
-    Apply,
-    DebugValue,
-    StrongRetain,
-    StrongRelease,
-    RetainValue,
-    ReleaseValue,
-    Br,
-    CondBr,
-    SwitchEnum,
-    Return,
-    Unreachable,
     Default,
     Enumelt,
     Lexical,
@@ -92,6 +53,8 @@ pub enum Keyword {
     Expr,
     OpDeref,
     Destroyer,
+    /// The mnemonic of an instruction. `struct` and `enum` also begin an item.
+    Mnemonic(Op),
 }
 
 /// A name with `@` that the grammar gives a meaning, or any other. Each may still be the name of a function.

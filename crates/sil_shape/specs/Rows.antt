@@ -1,5 +1,6 @@
--- The rows of the grammar as the table of instructions gives them: which production an instruction has, and what it writes there.
-use Rattle.std.specs.Prelude.{List, [], ◌∷◌, ◌++◌, Bool, false, if◌then◌else◌, ◌&&◌, not}
+-- The rows of the grammar, as the table of instructions gives them: what each part of an instruction's form is in the
+-- grammar, and which part of the grammar the instruction writes.
+use Rattle.std.specs.Prelude.{List, [], ◌∷◌, ◌++◌, Bool, true, false, if◌then◌else◌, ◌&&◌, not}
 use Rattle.instruction_table.specs.declared.entries.Detail.{Detail}
 use Rattle.instruction_table.specs.declared.entries.Detail.TheVariants as detail
 use Rattle.instruction_table.specs.declared.entries.Ending.{Ending}
@@ -9,77 +10,33 @@ use Rattle.instruction_table.specs.declared.entries.Words.TheVariants as words
 use Rattle.instruction_table.specs.declared.forms.Part.{Part}
 use Rattle.instruction_table.specs.declared.forms.Part.TheVariants as part
 use Rattle.instruction_table.specs.declared.op.Op.{Op}
-use Rattle.instruction_table.specs.declared.op.Op.TheVariants as op
-use Rattle.instruction_table.specs.Forms.{detail_of, ending_of, is_item, may_lack_operand, mnemonic_of, parts_of, words_of}
-use Rattle.sil_shape.specs.declared.classes.Class.TheVariants as c
-use Rattle.sil_shape.specs.declared.classes.Keyword.TheVariants as k
-use Rattle.sil_shape.specs.declared.classes.Punctuation.TheVariants as m
+use Rattle.instruction_table.specs.Forms.{detail_of, ending_of, is_item, may_lack_operand, parts_of, words_of}
+use Rattle.token_classes.specs.declared.classes.Class.TheVariants as c
+use Rattle.token_classes.specs.declared.classes.Keyword.TheVariants as k
+use Rattle.token_classes.specs.declared.classes.Punctuation.TheVariants as m
 use Rattle.sil_shape.specs.declared.grammar.Nonterminal.{Nonterminal}
 use Rattle.sil_shape.specs.declared.grammar.Nonterminal.TheVariants as n
-use Rattle.sil_shape.specs.declared.grammar.Production.{Production}
-use Rattle.sil_shape.specs.declared.grammar.Production.TheVariants as p
 use Rattle.sil_shape.specs.declared.grammar.Symbol.{Symbol}
 use Rattle.sil_shape.specs.declared.grammar.Symbol.TheVariants as s
 use Rattle.sil_shape.specs.declared.grammar.Terminal.{Terminal}
 use Rattle.sil_shape.specs.declared.grammar.Terminal.TheVariants as t
-use Rattle.sil_shape.specs.Grammar.{word, punctuation}
-use Rattle.sil_shape.specs.Spelling.{keyword_of}
+use Rattle.sil_shape.specs.Terminals.{word, punctuation}
 
--- the production of an instruction
-unfoldable pub production_of : Op → Production
-production_of op.IntegerLiteral = p.RowIntegerLiteral
-production_of op.FunctionRef = p.RowFunctionRef
-production_of op.Builtin = p.RowBuiltin
-production_of op.CondFail = p.RowCondFail
-production_of op.AllocRef = p.RowAllocRef
-production_of op.AllocStack = p.RowAllocStack
-production_of op.DeallocStack = p.RowDeallocStack
-production_of op.CopyValue = p.RowCopyValue
-production_of op.DestroyValue = p.RowDestroyValue
-production_of op.MoveValue = p.RowMoveValue
-production_of op.BeginBorrow = p.RowBeginBorrow
-production_of op.EndBorrow = p.RowEndBorrow
-production_of op.Load = p.RowLoad
-production_of op.Store = p.RowStore
-production_of op.LoadBorrow = p.RowLoadBorrow
-production_of op.DestroyAddr = p.RowDestroyAddr
-production_of op.LoadWeak = p.RowLoadWeak
-production_of op.StoreWeak = p.RowStoreWeak
-production_of op.LoadUnowned = p.RowLoadUnowned
-production_of op.StoreUnowned = p.RowStoreUnowned
-production_of op.Struct = p.RowStruct
-production_of op.Tuple = p.RowTuple
-production_of op.Enum = p.RowEnum
-production_of op.StructExtract = p.RowStructExtract
-production_of op.TupleExtract = p.RowTupleExtract
-production_of op.DestructureStruct = p.RowDestructureStruct
-production_of op.DestructureTuple = p.RowDestructureTuple
-production_of op.StructElementAddr = p.RowStructElementAddr
-production_of op.TupleElementAddr = p.RowTupleElementAddr
-production_of op.RefElementAddr = p.RowRefElementAddr
-production_of op.Apply = p.RowApply
-production_of op.DebugValue = p.RowDebugValue
-production_of op.StrongRetain = p.RowStrongRetain
-production_of op.StrongRelease = p.RowStrongRelease
-production_of op.RetainValue = p.RowRetainValue
-production_of op.ReleaseValue = p.RowReleaseValue
-production_of op.Br = p.RowBr
-production_of op.CondBr = p.RowCondBr
-production_of op.SwitchEnum = p.RowSwitchEnum
-production_of op.Return = p.RowReturn
-production_of op.Unreachable = p.RowUnreachable
+abbrev pub is_end : Ending → Bool
+is_end ending.Inside = false
+is_end ending.OneBranch = true
+is_end ending.TwoBranches = true
+is_end ending.Cases = true
+is_end ending.Return = true
+is_end ending.Unreachable = true
 
-abbrev pub part_by : Ending → Nonterminal
-part_by ending.Inside = n.Row
-part_by ending.OneBranch = n.Terminator
-part_by ending.TwoBranches = n.Terminator
-part_by ending.Cases = n.Terminator
-part_by ending.Return = n.Terminator
-part_by ending.Unreachable = n.Terminator
+-- the instruction is a terminator
+unfoldable pub ends_block : Op → Bool
+ends_block o = is_end (ending_of o)
 
--- the part of the grammar that its production writes
+-- the part of the grammar that its row writes
 unfoldable pub row_part : Op → Nonterminal
-row_part o = part_by (ending_of o)
+row_part o = if ends_block o then n.Terminator else n.Row
 
 -- an operand with its type: where it may be left out, the comma before it belongs to it
 unfoldable pub operand_of : Op → Nonterminal
@@ -171,12 +128,16 @@ brings_comma o other = false
 unfoldable pub comma_between : Op → Part → Part → List Symbol
 comma_between o before here = if is_item before && is_item here && not (brings_comma o here) then s.Read (punctuation m.Comma) ∷ [] else []
 
+-- the comma behind a part, where others follow
+unfoldable pub comma_behind : Op → Part → List Part → List Symbol
+comma_behind o here [] = []
+comma_behind o here (next ∷ others) = comma_between o here next
+
 -- parts in a row, with their commas
 unfoldable pub parts_row : Op → List Part → List Symbol
 parts_row o [] = []
-parts_row o (last ∷ []) = symbols_of o last
-parts_row o (here ∷ next ∷ others) = symbols_of o here ++ comma_between o here next ++ parts_row o (next ∷ others)
+parts_row o (here ∷ others) = symbols_of o here ++ comma_behind o here others ++ parts_row o others
 
--- an instruction's row: the keyword that its mnemonic spells, and its parts
+-- an instruction's row: its mnemonic, and its parts
 unfoldable pub row_body : Op → List Symbol
-row_body o = s.Read (word (keyword_of (mnemonic_of o))) ∷ parts_row o (parts_of o)
+row_body o = s.Read (word (k.Mnemonic o)) ∷ parts_row o (parts_of o)

@@ -1,10 +1,10 @@
 //! How the words, the names with `@` and the punctuation of the grammar are spelled, and which class a spelling has.
 
 ghost use Rattle.std.specs.Prelude.{◌≡◌, ◌⊎◌, IfSome};
-ghost use Rattle.sil_shape.specs.declared.classes.Keyword.{Keyword};
-ghost use Rattle.sil_shape.specs.declared.classes.AtWord.{AtWord};
-ghost use Rattle.sil_shape.specs.declared.classes.Punctuation.{Punctuation};
-ghost use Rattle.sil_shape.specs.Spelling.{spelling, keywords_of_length, known_keyword, keyword_of, at_spelling, at_words, known_at_word, at_word_of, punctuation_spelling, signs, punctuation_of};
+ghost use Rattle.token_classes.specs.declared.classes.Keyword.{Keyword};
+ghost use Rattle.token_classes.specs.declared.classes.AtWord.{AtWord};
+ghost use Rattle.token_classes.specs.declared.classes.Punctuation.{Punctuation};
+ghost use Rattle.token_classes.specs.Spelling.{spelling, keywords_of_length, known_keyword, keyword_of, at_spelling, at_words, known_at_word, at_word_of, punctuation_spelling, signs, punctuation_of};
 
 use crate::classes::{AtWord, Keyword, Punctuation};
 
