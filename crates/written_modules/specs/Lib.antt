@@ -8,4 +8,5 @@ pub mod Values
 pub mod Found
 pub mod Lacking
 pub mod Opened
+pub mod Variants
 pub mod Sections

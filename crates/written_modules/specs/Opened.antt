@@ -1,4 +1,5 @@
 -- The types of values by names that definitions and proofs of the layers above can use. Their code has no use for them.
+use Rattle.written_modules.specs.declared.value.Flags.{Flags}
 use Rattle.written_modules.specs.declared.value.Value.{Value}
 use Rattle.written_modules.specs.declared.value.Value.TheVariants as v
 use Rattle.written_tree.specs.declared.written_module.WrittenModule.{WrittenModule}
@@ -21,6 +22,9 @@ PartParams = ParamList
 
 abbrev pub PartGivens : Type 0
 PartGivens = GivenList
+
+abbrev pub PartFlags : Type 0
+PartFlags = Flags
 
 -- what a whole module stands for
 abbrev pub module_value : WrittenModule → PartValue
