@@ -1,0 +1,4 @@
+pub mod Limits
+pub mod TypeParts
+pub mod RowParts
+pub mod Means

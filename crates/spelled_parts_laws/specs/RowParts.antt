@@ -1,0 +1,58 @@
+-- The row of an instruction, from the parts of its form.
+use Rattle.std.specs.Prelude.{◌≡◌, List, [], ◌∷◌, ◌++◌, length, drop, map, Some, ℤ}
+use Rattle.instruction_table.specs.Forms.{detail_of, ending_of}
+use Rattle.instruction_table.specs.declared.entries.Ending.{Ending}
+use Rattle.instruction_table.specs.declared.entries.Ending.TheVariants as ending
+use Rattle.instruction_table.specs.declared.forms.Part.{Part}
+use Rattle.instruction_table.specs.declared.forms.Part.TheVariants as form
+use Rattle.instruction_table.specs.declared.op.Op.{Op}
+use Rattle.sil_shape.specs.Rows.{comma_behind}
+use Rattle.sil_rules.specs.declared.limits.TheConstants.{ARGUMENTS}
+use Rattle.written_modules.specs.RowMeaning.{bare_operand}
+use Rattle.written_modules.specs.Opened.{PartValue}
+use Rattle.written_modules.specs.Variants as v
+use Rattle.written_tree.specs.declared.written_instructions.WrittenEdge.{WrittenEdge}
+use Rattle.written_tree.specs.declared.written_instructions.WrittenInst.{WrittenInst}
+use Rattle.written_tree.specs.declared.written_instructions.WrittenOperand.{WrittenOperand}
+use Rattle.spelled_parts_laws.specs.Limits.{AreAtMost, IsNumberOf}
+
+-- the values behind a part and its comma, if it has one
+abbrev pub past_comma : Op → Part → List Part → List PartValue → List PartValue
+past_comma o here others values = drop (length (comma_behind o here others)) values
+
+-- the blocks that a terminator goes to, and the values behind them: one block, two with a comma between, or cases and a default
+unfoldable pub AreEdges : Ending → List PartValue → List WrittenEdge → List PartValue → Type 0
+AreEdges ending.OneBranch (v.Edge e ∷ values) edges rest = (edges ≡ e ∷ []) × (rest ≡ values)
+AreEdges ending.TwoBranches (v.Edge e ∷ _ ∷ v.Edge f ∷ values) edges rest = (edges ≡ e ∷ f ∷ []) × (rest ≡ values)
+AreEdges ending.Cases (v.Edges es ∷ values) edges rest = (edges ≡ es) × (rest ≡ values)
+AreEdges _ _ _ _ = ⊥
+
+-- the instruction that comes of one of which so much is written, by these parts more and what they stand for
+unfoldable pub IsRow : Op → List Part → List PartValue → WrittenInst → WrittenInst → Type 0
+IsRow o [] [] i inst = inst ≡ i
+IsRow o (form.Flags ∷ others) (v.Flags f ∷ values) i inst = IsRow o others values (record i { lexical = f.lexical; var_decl = f.var_decl }) inst
+IsRow o (form.Qualifier ∷ others) (v.Qualifier q ∷ values) i inst = IsRow o others values (record i { qualifier = q }) inst
+IsRow o (form.Typed ∷ others) (v.Operand operand ∷ values) i inst = IsRow o others (past_comma o form.Typed others values) (record i { operands = i.operands ++ operand ∷ [] }) inst
+-- the operand of `enum` may be left out
+IsRow o (form.Typed ∷ others) (v.Operands operands ∷ values) i inst = IsRow o others (past_comma o form.Typed others values) (record i { operands = i.operands ++ operands }) inst
+IsRow o (form.Bare ∷ others) (v.Token name ∷ values) i inst = IsRow o others (past_comma o form.Bare others values) (record i { operands = i.operands ++ bare_operand name ∷ [] }) inst
+IsRow o (form.To ∷ others) (_ ∷ values) i inst = IsRow o others values i inst
+IsRow o (form.TypeWord ∷ others) (_ ∷ v.Type t ∷ values) i inst = IsRow o others (past_comma o form.TypeWord others values) (record i { ty = Some t.ty }) inst
+IsRow o (form.Member ∷ others) (v.Member m ∷ values) i inst = IsRow o others (past_comma o form.Member others values) (record i { member = Some m }) inst
+IsRow o (form.Number ∷ others) (v.Token spelling ∷ values) i inst =
+    (number : ℤ) × IsNumberOf (detail_of o) i.ty spelling.text number × IsRow o others (past_comma o form.Number others values) (record i { number = Some number }) inst
+IsRow o (form.Text ∷ others) (v.Token text ∷ values) i inst = IsRow o others (past_comma o form.Text others values) (record i { text = Some text.text }) inst
+IsRow o (form.Callee ∷ others) (v.Token name ∷ values) i inst = IsRow o others values (record i { function = Some name }) inst
+IsRow o (form.BareArgs ∷ others) (_ ∷ v.Tokens names ∷ _ ∷ values) i inst =
+    let operands : List WrittenOperand = i.operands ++ map bare_operand names in
+    AreAtMost ARGUMENTS operands × IsRow o others values (record i { operands = operands }) inst
+IsRow o (form.TypedArgs ∷ others) (_ ∷ v.Operands more ∷ _ ∷ values) i inst =
+    let operands : List WrittenOperand = i.operands ++ more in
+    AreAtMost ARGUMENTS operands × IsRow o others values (record i { operands = operands }) inst
+IsRow o (form.ResultType ∷ others) (_ ∷ _ ∷ v.Type t ∷ values) i inst = IsRow o others values (record i { ty = Some t.ty }) inst
+IsRow o (form.SignatureWord ∷ others) (_ ∷ _ ∷ v.Signature s ∷ values) i inst = IsRow o others values (record i { signature = Some s }) inst
+IsRow o (form.Debug ∷ others) (v.Debug d ∷ values) i inst = IsRow o others values (record i { debug = d }) inst
+IsRow o (form.Edges ∷ others) values i inst =
+    (edges : List WrittenEdge) × (rest : List PartValue) × AreEdges (ending_of o) values edges rest
+    × IsRow o others (past_comma o form.Edges others rest) (record i { edges = edges }) inst
+IsRow _ _ _ _ _ = ⊥
