@@ -1,0 +1,4 @@
+pub mod ValueKinds
+pub mod Faultless
+pub mod Agreement
+pub mod Derived
