@@ -86,7 +86,7 @@ replays class_of (derived_rule {ss = ss} {steps = steps} q rest) lexemes same e 
     let a = agrees q (parts_of q values) (front_of (body q) ss values g.kinds) in
     record {
       stands = subst (λ ls. Stands class_of (Part (written q) ∷ ss) ls (reduced q values)) parts.all (production q parts.first (a.stands (no_first _ _ e)) parts.second);
-      kinds = (a.kind, back_of (body q) ss values g.kinds);
+      kinds = (a.kind (no_first _ _ e), back_of (body q) ss values g.kinds);
     }
 
 -- what tokens stand for is of the symbols' kinds
@@ -95,7 +95,8 @@ kinds_of nothing = tt
 kinds_of {class_of} (token {s = s} l accepted more) = (leaf_kind s (class_of l) l accepted, kinds_of more)
 kinds_of (production {parts = parts} {value = value} q inside means more) =
     let a = agrees q parts (kinds_of inside) in
-    (subst (IsOf (Part (written q))) (sym (a.back value means).0) a.kind, kinds_of more)
+    let b = a.back value means in
+    (subst (IsOf (Part (written q))) (sym b.0) (a.kind b.1), kinds_of more)
 
 lengths : {class_of : Lexeme → Class} {ss : List Symbol} {lexemes : List Lexeme} {values : List PartValue} → Stands class_of ss lexemes values → length values ≡ length ss
 lengths nothing = refl

@@ -6,7 +6,7 @@ use Rattle.sil_ast.specs.declared.place.Place.{Place}
 use Rattle.sil_rules.specs.declared.limit_word.LimitWord.{LimitWord}
 use Rattle.written_tree.specs.declared.fault.Fault.{Fault}
 use Rattle.written_tree.specs.declared.fault.FaultKind.TheVariants.{Limit}
-use Rattle.written_tree.specs.Faults.{comes_before, earlier, fault, passed}
+use Rattle.written_tree.specs.Faults.{comes_before, earlier, fault, out_of_range, passed}
 
 chosen : (t : Bool) (a b : Fault) → (if t then Some b else Some a) ≡ None → Some a ≡ None
 chosen true a b e = cc
@@ -58,3 +58,8 @@ few_places what most places e = short places most (unmapped (fault (Limit what))
 
 pub no_places_past : (what : LimitWord) (most : ℕ) (places : List Place) → length places ≤ most → passed what most places ≡ None
 no_places_past what most places h = ap (option_map (fault (Limit what))) (past places most h)
+
+-- a number that is in its range
+pub in_range : {A : Type 0} (number : Option A) (place : Place) → out_of_range number place ≡ None → (n : A) × (number ≡ Some n)
+in_range None place e = absurd (cc)
+in_range (Some n) place e = (n, refl)

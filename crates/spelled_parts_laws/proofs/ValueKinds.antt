@@ -1,5 +1,5 @@
 -- Which values stand for each symbol of the grammar.
-use Rattle.std.proofs.Common.{◌≡◌, List, [], ◌∷◌, ◌++◌, length, take, drop, Option, Some, None, Bool, true, false, ap, ap₂, refl}
+use Rattle.std.proofs.Common.{◌≡◌, ◌≤◌, List, [], ◌∷◌, ◌++◌, length, take, drop, Option, Some, None, Bool, true, false, ap, ap₂, refl}
 use Rattle.std.specs.Prelude.{⊤}
 use Rattle.sil_ast.specs.declared.debug.Debug as debug
 use Rattle.sil_ast.specs.declared.function.ArgKind.{ArgKind}
@@ -60,14 +60,18 @@ fields = record { Content = List WrittenField; value = λ x. v.Fields x }
 abbrev pub field : Kind
 field = record { Content = WrittenField; value = λ x. v.Field x }
 
+-- a type that isn't too deep
+abbrev pub LimitedType : Type 0
+LimitedType = (t : PartType) × (t.depth ≤ 32)
+
 abbrev pub type : Kind
-type = record { Content = PartType; value = λ x. v.Type x }
+type = record { Content = LimitedType; value = λ x. v.Type x.0 }
 
 abbrev pub optional_type : Kind
-optional_type = record { Content = Option PartType; value = optional (λ x. v.Type x) }
+optional_type = record { Content = Option LimitedType; value = optional (λ x. v.Type x.0) }
 
 abbrev pub types : Kind
-types = record { Content = PartTypes; value = λ x. v.Types x }
+types = record { Content = (list : PartTypes) × (list.depth ≤ 32); value = λ x. v.Types x.0 }
 
 abbrev pub params : Kind
 params = record { Content = PartParams; value = λ x. v.Params x }
