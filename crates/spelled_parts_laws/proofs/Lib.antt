@@ -1,5 +1,7 @@
 pub mod ValueKinds
 pub mod Faultless
 pub mod TypeAgreement
+pub mod RowPlaces
+pub mod RowAgreement
 pub mod Agreement
 pub mod Derived

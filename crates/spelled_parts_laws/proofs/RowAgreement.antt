@@ -1,0 +1,260 @@
+-- Rows: what their parts stand for is what the replay makes of them, by induction over the parts and not by instruction.
+use Rattle.std.proofs.Common.{◌≡◌, ℕ, suc, ◌+◌, List, [], ◌∷◌, ◌++◌, length, drop, map, Option, Some, None, Bool, true, false, ◌&&◌, IsTrue, if◌then◌else◌, ap, ap₂, sym, refl, subst, ◌∙◌, append_assoc}
+use Rattle.std.specs.Prelude.{⊤, ℤ, pos}
+use Rattle.std.specs.List.{list_all}
+use Rattle.std.specs.Option.{option_map}
+use Rattle.std.proofs.lemmas.List.{length-append}
+use Rattle.std.proofs.Math.Seq.{drop-append_seam}
+use Rattle.instruction_table.specs.Forms.{detail_of, ending_of, is_item, may_lack_operand, parts_of, words_of}
+use Rattle.instruction_table.specs.declared.entries.Detail.{Detail}
+use Rattle.instruction_table.specs.declared.entries.Detail.TheVariants as detail
+use Rattle.instruction_table.specs.declared.entries.Ending.{Ending}
+use Rattle.instruction_table.specs.declared.entries.Ending.TheVariants as ending
+use Rattle.instruction_table.specs.declared.entries.Words.{Words}
+use Rattle.instruction_table.specs.declared.entries.Words.TheVariants as words
+use Rattle.instruction_table.specs.declared.forms.Part.{Part}
+use Rattle.instruction_table.specs.declared.forms.Part.TheVariants as form
+use Rattle.instruction_table.specs.declared.op.Op.{Op}
+use Rattle.instruction_table.specs.declared.op.Op.TheVariants as op
+use Rattle.sil_ast.specs.declared.member.Member.{Member}
+use Rattle.sil_ast.specs.declared.place.Place.{Place}
+use Rattle.sil_ast.specs.declared.type_name.TypeName.{TypeName}
+use Rattle.sil_rules.specs.declared.limit_word.LimitWord.TheVariants as limit
+use Rattle.sil_shape.specs.declared.grammar.Nonterminal.TheVariants as n
+use Rattle.sil_shape.specs.declared.grammar.Symbol.{Symbol}
+use Rattle.sil_shape.specs.Rows.{comma_behind, comma_between, edges_by, edges_of, member_by, member_of as member_part, operand_of as operand_part, parts_row, qualifier_of as qualifier_part, symbols_of, word_by}
+use Rattle.written_numbers.specs.Numbers.{literal_of, small_of}
+use Rattle.written_modules.specs.Opened.{PartValue}
+use Rattle.written_modules.specs.PartFaults.{fault_of_part}
+use Rattle.written_modules.specs.RowMeaning.{edges_at, element_of, number_by, typed_by, with_part}
+use Rattle.written_modules.specs.Types.{width_of}
+use Rattle.written_modules.specs.Values.{debug_of, edge_of, edges_of as stored_edges, flags_of, member_of, operand_of, operands_of, qualifier_of, signature_of, token_of, tokens_of, type_of}
+use Rattle.written_modules.specs.Variants as v
+use Rattle.written_tree.specs.Faults.{out_of_range}
+use Rattle.written_tree.specs.Places.{operand_place}
+use Rattle.written_tree.specs.declared.written_declarations.WrittenToken.{WrittenToken}
+use Rattle.written_tree.specs.declared.written_instructions.WrittenEdge.{WrittenEdge}
+use Rattle.written_tree.specs.declared.written_instructions.WrittenInst.{WrittenInst}
+use Rattle.written_tree.specs.declared.written_instructions.WrittenOperand.{WrittenOperand}
+use Rattle.written_tree.specs.declared.written_instructions.WrittenQualifier.{WrittenQualifier}
+use Rattle.spelled_parts_laws.specs.Limits.{IsNumberOf, IsNumberUpTo}
+use Rattle.spelled_parts_laws.specs.RowParts.{AreEdges, IsRow, past_comma}
+use Rattle.spelled_parts_laws.proofs.Faultless.{few, in_range, none_past}
+use Rattle.spelled_parts_laws.proofs.RowPlaces.{AreFaultless, left_behind, row_from}
+use Rattle.spelled_parts_laws.proofs.ValueKinds.{Contents, kind_of_part, split_contents, values_of}
+
+-- one part at the front of these values, and those behind it and its comma
+record Steps (o : Op) (here : Part) (others : List Part) (values rest : List PartValue) (i : WrittenInst) : Type 0 where
+  stands : (result : WrittenInst) → fault_of_part o here 0 values i ≡ None → IsRow o others rest (with_part o here 0 values i) result → IsRow o (here ∷ others) values i result
+  back : (result : WrittenInst) → IsRow o (here ∷ others) values i result → IsRow o others rest (with_part o here 0 values i) result × (fault_of_part o here 0 values i ≡ None)
+
+-- the same row from equal values and an equal instruction
+moved : (o : Op) (others : List Part) {left rest : List PartValue} {i more : WrittenInst} (result : WrittenInst) → left ≡ rest → i ≡ more → IsRow o others left i result → IsRow o others rest more result
+moved o others {rest = rest} {i = i} result e f m = subst (λ j. IsRow o others rest j result) f (subst (λ values. IsRow o others values i result) e m)
+
+-- a part without a number or a list
+simple : {o : Op} {others : List Part} {left rest : List PartValue} {i : WrittenInst} → (here : Part) (values : List PartValue) (before : WrittenInst)
+    → left ≡ rest → i ≡ with_part o here 0 values before → fault_of_part o here 0 values before ≡ None
+    → ((result : WrittenInst) → IsRow o (here ∷ others) values before result ≡ IsRow o others left i result) → Steps o here others values rest before
+simple {o} {others} here values before e f none same = record {
+  stands = λ result h m. subst (λ T. T) (sym (same result)) (moved o others result (sym e) (sym f) m);
+  back = λ result m. (moved o others result e f (subst (λ T. T) (same result) m), none);
+}
+
+-- what stands for a part of which the grammar depends on the instruction
+
+qualifier_by : (w : Words) (x : (kind_of_part (word_by w)).Content) → (q : WrittenQualifier) × ((kind_of_part (word_by w)).value x ≡ v.Qualifier q)
+unfolding kind_of_part
+qualifier_by words.AnyWord x = (x, refl)
+qualifier_by words.TakeWord x = (x, refl)
+qualifier_by words.InitWord x = (x, refl)
+qualifier_by words.NoWord x = (x, refl)
+
+member_is : (d : Detail) (x : (kind_of_part (member_by d)).Content) → (m : Member) × ((kind_of_part (member_by d)).value x ≡ v.Member m)
+unfolding kind_of_part
+member_is detail.Case x = (x, refl)
+member_is _ x = (x, refl)
+
+typed_steps : (o : Op) (others : List Part) (lacks : Bool) → may_lack_operand o ≡ lacks → (x : (kind_of_part (if lacks then n.EnumOperand else n.Operand)).Content) (left rest : List PartValue) (i : WrittenInst)
+    → past_comma o form.Typed others left ≡ rest → Steps o form.Typed others ((kind_of_part (if lacks then n.EnumOperand else n.Operand)).value x ∷ left) rest i
+unfolding symbols_of IsRow kind_of_part operand_part qualifier_part member_part edges_of flags_of debug_of edge_of member_of operand_of operands_of qualifier_of signature_of stored_edges token_of tokens_of type_of
+typed_steps o others true e x left rest i past =
+    simple form.Typed (v.Operands x ∷ left) i past (ap (λ (lacks : Bool). record i { operands = i.operands ++ typed_by lacks (v.Operands x) }) (sym e)) refl (λ result. refl)
+typed_steps o others false e x left rest i past =
+    simple form.Typed (v.Operand x ∷ left) i past (ap (λ (lacks : Bool). record i { operands = i.operands ++ typed_by lacks (v.Operand x) }) (sym e)) refl (λ result. refl)
+
+-- numbers
+
+mapped : (o : Option ℕ) (number : ℤ) → option_map pos o ≡ Some number → (n : ℕ) × (o ≡ Some n) × (number ≡ pos n)
+mapped None number e = absurd (cc)
+mapped (Some n) number e = (n, refl, cc)
+
+number_is : (d : Detail) (t : Option TypeName) (text : List ℕ) (number : ℤ) → number_by d t text ≡ Some number → IsNumberOf d t text number
+unfolding IsNumberOf
+number_is detail.Literal (Some t) text number e = e
+number_is detail.Element t text number e = mapped (small_of 63 text) number e
+number_is _ _ text number e = absurd (cc)
+
+number_back : (d : Detail) (t : Option TypeName) (text : List ℕ) (number : ℤ) → IsNumberOf d t text number → number_by d t text ≡ Some number
+unfolding IsNumberOf
+number_back detail.Literal (Some t) text number m = m
+number_back detail.Element t text number m = ap (option_map pos) m.1 ∙ ap (λ (x : ℤ). Some x) (sym m.2)
+number_back _ _ text number m = absurd m
+
+number_steps : (o : Op) (others : List Part) (spelling : WrittenToken) (left rest : List PartValue) (i : WrittenInst)
+    → past_comma o form.Number others left ≡ rest → Steps o form.Number others (v.Token spelling ∷ left) rest i
+unfolding symbols_of IsRow kind_of_part operand_part qualifier_part member_part edges_of flags_of debug_of edge_of member_of operand_of operands_of qualifier_of signature_of stored_edges token_of tokens_of type_of
+number_steps o others spelling left rest i past = record {
+  stands = λ result h m.
+    let found = in_range (number_by (detail_of o) i.ty spelling.text) spelling.place h in
+    (found.0, number_is (detail_of o) i.ty spelling.text found.0 found.1, moved o others result (sym past) (ap (λ (x : Option ℤ). record i { number = x }) found.1) m);
+  back = λ result m.
+    let e = number_back (detail_of o) i.ty spelling.text m.0 m.1 in
+    (moved o others result past (ap (λ (x : Option ℤ). record i { number = x }) (sym e)) m.2, ap (λ (x : Option ℤ). out_of_range x spelling.place) e);
+}
+
+-- the blocks that a terminator goes to
+
+goes_on : Ending → Bool
+goes_on ending.OneBranch = true
+goes_on ending.TwoBranches = true
+goes_on ending.Cases = true
+goes_on _ = false
+
+edges_are : (e : Ending) (own : Contents (edges_by e)) (left : List PartValue) → goes_on e ≡ true
+    → AreEdges e (values_of (edges_by e) own ++ left) (edges_at e 0 (values_of (edges_by e) own ++ left)) left
+unfolding AreEdges kind_of_part edge_of stored_edges goes_on
+edges_are ending.OneBranch own left h = (refl, refl)
+edges_are ending.TwoBranches own left h = (refl, refl)
+edges_are ending.Cases own left h = (refl, refl)
+edges_are _ own left h = absurd (cc)
+
+edges_back : (e : Ending) (own : Contents (edges_by e)) (left : List PartValue) (edges : List WrittenEdge) (rest : List PartValue) → AreEdges e (values_of (edges_by e) own ++ left) edges rest
+    → (edges ≡ edges_at e 0 (values_of (edges_by e) own ++ left)) × (rest ≡ left)
+unfolding AreEdges kind_of_part edge_of stored_edges
+edges_back ending.OneBranch own left edges rest m = m
+edges_back ending.TwoBranches own left edges rest m = m
+edges_back ending.Cases own left edges rest m = m
+edges_back _ own left edges rest m = absurd m
+
+edge_steps : (o : Op) (others : List Part) (own : Contents (edges_by (ending_of o))) (left rest : List PartValue) (i : WrittenInst)
+    → past_comma o form.Edges others left ≡ rest → goes_on (ending_of o) ≡ true → Steps o form.Edges others (values_of (edges_by (ending_of o)) own ++ left) rest i
+unfolding IsRow
+edge_steps o others own left rest i past goes =
+    let values : List PartValue = values_of (edges_by (ending_of o)) own ++ left in
+    record {
+      stands = λ result h m. (edges_at (ending_of o) 0 values, left, edges_are (ending_of o) own left goes, moved o others result (sym past) refl m);
+      back = λ result m.
+        let b = edges_back (ending_of o) own left m.0 m.1 m.2 in
+        (moved o others result (ap (past_comma o form.Edges others) b.1 ∙ past) (ap (λ (edges : List WrittenEdge). record i { edges = edges }) b.0) m.3, refl);
+    }
+
+-- only an instruction that goes on to blocks has a part for them
+pub fits_in : Op → Part → Bool
+fits_in o form.Edges = goes_on (ending_of o)
+fits_in o _ = true
+
+pub all_fit : (o : Op) → list_all (fits_in o) (parts_of o) ≡ true
+unfolding fits_in goes_on
+all_fit op.Br = refl
+all_fit _ = refl
+
+-- each part
+
+steps : (o : Op) (here : Part) (others : List Part) (own : Contents (symbols_of o here)) (comma rest : List PartValue) (i : WrittenInst)
+    → (is_item here ≡ false → comma ++ rest ≡ rest) → past_comma o here others (comma ++ rest) ≡ rest → fits_in o here ≡ true
+    → Steps o here others ((values_of (symbols_of o here) own ++ comma) ++ rest) rest i
+unfolding symbols_of IsRow kind_of_part operand_part qualifier_part member_part edges_of flags_of debug_of edge_of member_of operand_of operands_of qualifier_of signature_of stored_edges token_of tokens_of type_of fits_in
+steps o form.Flags others own comma rest i clear past fits = simple form.Flags _ i (clear refl) refl refl (λ result. refl)
+steps o form.Qualifier others own comma rest i clear past fits =
+    let q = qualifier_by (words_of o) own.0 in
+    subst (λ (x : PartValue). Steps o form.Qualifier others (x ∷ (comma ++ rest)) rest i) (sym q.1) (simple form.Qualifier (v.Qualifier q.0 ∷ (comma ++ rest)) i (clear refl) refl refl (λ result. refl))
+steps o form.Typed others own comma rest i clear past fits = typed_steps o others (may_lack_operand o) refl own.0 (comma ++ rest) rest i past
+steps o form.Bare others own comma rest i clear past fits = simple form.Bare _ i past refl refl (λ result. refl)
+steps o form.To others own comma rest i clear past fits = simple form.To _ i (clear refl) refl refl (λ result. refl)
+steps o form.TypeWord others own comma rest i clear past fits = simple form.TypeWord _ i past refl refl (λ result. refl)
+steps o form.Member others own comma rest i clear past fits =
+    let m = member_is (detail_of o) own.0 in
+    subst (λ (x : PartValue). Steps o form.Member others (x ∷ (comma ++ rest)) rest i) (sym m.1) (simple form.Member (v.Member m.0 ∷ (comma ++ rest)) i past refl refl (λ result. refl))
+steps o form.Number others own comma rest i clear past fits = number_steps o others own.0 (comma ++ rest) rest i past
+steps o form.Text others own comma rest i clear past fits = simple form.Text _ i past refl refl (λ result. refl)
+steps o form.Callee others own comma rest i clear past fits = simple form.Callee _ i (clear refl) refl refl (λ result. refl)
+steps o form.BareArgs others own comma rest i clear past fits = record {
+  stands = λ result h m. (few operand_place limit.Arguments 64 _ h, moved o others result (sym (clear refl)) refl m);
+  back = λ result m. (moved o others result (clear refl) refl m.1, none_past operand_place limit.Arguments 64 _ m.0);
+}
+steps o form.TypedArgs others own comma rest i clear past fits = record {
+  stands = λ result h m. (few operand_place limit.Arguments 64 _ h, moved o others result (sym (clear refl)) refl m);
+  back = λ result m. (moved o others result (clear refl) refl m.1, none_past operand_place limit.Arguments 64 _ m.0);
+}
+steps o form.ResultType others own comma rest i clear past fits = simple form.ResultType _ i (clear refl) refl refl (λ result. refl)
+steps o form.SignatureWord others own comma rest i clear past fits = simple form.SignatureWord _ i (clear refl) refl refl (λ result. refl)
+steps o form.Debug others own comma rest i clear past fits = simple form.Debug _ i (clear refl) refl refl (λ result. refl)
+steps o form.Edges others own comma rest i clear past fits =
+    subst (λ (values : List PartValue). Steps o form.Edges others values rest i) (sym (append_assoc (values_of (edges_by (ending_of o)) own) comma rest))
+    (edge_steps o others own (comma ++ rest) rest i past fits)
+
+-- all parts in a row
+
+pub record RowAgrees (o : Op) (ps : List Part) (values : List PartValue) (i : WrittenInst) : Type 0 where
+  pub stands : AreFaultless o ps values i → IsRow o ps values i (row_from o ps values i)
+  pub back : (result : WrittenInst) → IsRow o ps values i result → (result ≡ row_from o ps values i) × AreFaultless o ps values i
+
+values_length : (ss : List Symbol) (xs : Contents ss) → length (values_of ss xs) ≡ length ss
+values_length [] xs = refl
+values_length (s ∷ ss) xs = ap suc (values_length ss xs.1)
+
+drop_front : (n : ℕ) (front rest : List PartValue) → length front ≡ n → drop n (front ++ rest) ≡ rest
+drop_front n front rest e = subst (λ (m : ℕ). drop m (front ++ rest) ≡ rest) e (drop-append_seam front rest)
+
+no_comma : (o : Op) (here : Part) (others : List Part) → is_item here ≡ false → comma_behind o here others ≡ []
+unfolding comma_behind comma_between
+no_comma o here [] e = refl
+no_comma o here (behind ∷ others) e = rw e refl
+
+no_values : (ss : List Symbol) (xs : Contents ss) → ss ≡ [] → values_of ss xs ≡ []
+no_values [] xs e = refl
+no_values (s ∷ ss) xs e = absurd (cc)
+
+first_of_both : (a b : Bool) → (a && b) ≡ true → a ≡ true
+first_of_both true b e = refl
+first_of_both false b e = e
+
+second_of_both : (a b : Bool) → (a && b) ≡ true → b ≡ true
+second_of_both true b e = e
+second_of_both false b e = absurd (cc)
+
+one_more : (o : Op) (here : Part) (others : List Part) (values rest : List PartValue) (i : WrittenInst) → Steps o here others values rest i → left_behind o here others values ≡ rest
+    → RowAgrees o others rest (with_part o here 0 values i) → RowAgrees o (here ∷ others) values i
+unfolding IsRow
+one_more o here others values rest i step left more =
+    let next : WrittenInst = with_part o here 0 values i in
+    record {
+      stands = λ h. step.stands (row_from o others (left_behind o here others values) next) h.0
+        (subst (λ (vs : List PartValue). IsRow o others rest next (row_from o others vs next)) (sym left) (more.stands (subst (λ (vs : List PartValue). AreFaultless o others vs next) left h.1)));
+      back = λ result m.
+        let s = step.back result m in
+        let b = more.back result s.0 in
+        (b.0 ∙ ap (λ (vs : List PartValue). row_from o others vs next) (sym left), (s.1, subst (λ (vs : List PartValue). AreFaultless o others vs next) (sym left) b.1));
+    }
+
+pub rows : (o : Op) (ps : List Part) (xs : Contents (parts_row o ps)) (i : WrittenInst) → list_all (fits_in o) ps ≡ true → RowAgrees o ps (values_of (parts_row o ps) xs) i
+unfolding parts_row IsRow
+rows o [] xs i f = record { stands = λ h. refl; back = λ result m. (m, tt) }
+rows o (here ∷ others) xs i f =
+    let mark : List Symbol = comma_behind o here others in
+    let s = split_contents (symbols_of o here ++ mark) (parts_row o others) xs in
+    let t = split_contents (symbols_of o here) mark s.0 in
+    let own : List PartValue = values_of (symbols_of o here) t.0 in
+    let comma : List PartValue = values_of mark t.1 in
+    let rest : List PartValue = values_of (parts_row o others) s.1 in
+    let values : List PartValue = (own ++ comma) ++ rest in
+    let step = steps o here others t.0 comma rest i
+      (λ e. ap (λ (vs : List PartValue). vs ++ rest) (no_values mark t.1 (no_comma o here others e)))
+      (drop_front (length mark) comma rest (values_length mark t.1))
+      (first_of_both _ _ f) in
+    let left : left_behind o here others values ≡ rest =
+      drop_front (length (symbols_of o here) + length mark) (own ++ comma) rest
+      (length-append own comma ∙ ap₂ (λ (m k : ℕ). m + k) (values_length (symbols_of o here) t.0) (values_length mark t.1)) in
+    subst (λ (vs : List PartValue). RowAgrees o (here ∷ others) vs i) (ap (λ (vs : List PartValue). vs ++ rest) t.2 ∙ s.2)
+    (one_more o here others values rest i step left (rows o others s.1 (with_part o here 0 values i) (second_of_both _ _ f)))
