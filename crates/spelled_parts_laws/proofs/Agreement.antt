@@ -1,29 +1,37 @@
 -- Where the parts of a production are of its symbols' kinds, what it stands for is what the replay makes of them.
-use Rattle.std.proofs.Common.{◌≡◌, ◌≤◌, ℕ, List, [], ◌∷◌, Option, Some, None, Bool, true, false, ap, refl, sym, subst, ◌∙◌, arith}
+use Rattle.std.proofs.Common.{◌≡◌, ◌≤◌, ℕ, List, [], ◌∷◌, Option, Some, None, Bool, true, false, if◌then◌else◌, ap, refl, sym, subst, ◌∙◌, arith}
+use Rattle.instruction_table.specs.Forms.{parts_of}
+use Rattle.instruction_table.specs.declared.op.Op.{Op}
 use Rattle.sil_ast.specs.declared.debug.Debug as debug
 use Rattle.sil_ast.specs.declared.function.ArgKind.{ArgKind}
 use Rattle.sil_ast.specs.declared.place.Place.{Place}
 use Rattle.sil_ast.specs.declared.type_name.TypeName.TheVariants as ty
 use Rattle.sil_rules.specs.declared.limit_word.LimitWord.TheVariants as limit
+use Rattle.sil_shape.specs.declared.grammar.Nonterminal.TheVariants as n
 use Rattle.sil_shape.specs.declared.grammar.Production.{Production}
 use Rattle.sil_shape.specs.declared.grammar.Production.TheVariants as p
 use Rattle.sil_shape.specs.declared.grammar.Symbol.TheVariants.{Part}
 use Rattle.sil_shape.specs.Grammar.{body, written}
+use Rattle.sil_shape.specs.Rows.{ends_block, parts_row, row_body, row_part}
 use Rattle.written_numbers.specs.Numbers.{small_of}
 use Rattle.written_modules.specs.Meaning.{meaning}
 use Rattle.written_modules.specs.Opened.{PartType, PartTypes, PartValue}
 use Rattle.written_modules.specs.PartFaults.{part_fault}
+use Rattle.written_modules.specs.RowMeaning.{row, with_parts}
 use Rattle.written_modules.specs.Types.{in_parens, tailed, type_before}
-use Rattle.written_modules.specs.Values.{token_of, stage_of, imports_of, items_of, item_of, fields_of, field_of, field_before, cases_of, type_of, payload_of, types_of, questions_of, linkage_of, tokens_of, convention_of, params_of, param_before, givens_of, given_before, signature_of, blocks_of, block_of, args_of, arg_of, ownership_of, starred, insts_of, terminator_of, inst_of, operands_of, operand_of, edges_of, edge_of, member_of, flags_of, qualifier_of, debug_of, entry_of}
+use Rattle.written_modules.specs.Values.{bare_inst, token_of, stage_of, imports_of, items_of, item_of, fields_of, field_of, field_before, cases_of, type_of, payload_of, types_of, questions_of, linkage_of, tokens_of, convention_of, params_of, param_before, givens_of, given_before, signature_of, blocks_of, block_of, args_of, arg_of, ownership_of, starred, insts_of, terminator_of, inst_of, operands_of, operand_of, edges_of, edge_of, member_of, flags_of, qualifier_of, debug_of, entry_of}
 use Rattle.written_modules.specs.Variants as v
 use Rattle.written_tree.specs.Places.{arg_place, case_place, field_place, label_place, operand_place, token_place}
 use Rattle.written_tree.specs.declared.written_declarations.WrittenCase.{WrittenCase}
 use Rattle.written_tree.specs.declared.written_declarations.WrittenField.{WrittenField}
 use Rattle.written_tree.specs.declared.written_declarations.WrittenToken.{WrittenToken}
+use Rattle.written_tree.specs.declared.written_instructions.WrittenInst.{WrittenInst}
 use Rattle.written_tree.specs.declared.written_module.WrittenEntry.{WrittenEntry}
 use Rattle.spelled_parts_laws.specs.Means.{Means}
 use Rattle.spelled_parts_laws.specs.TypeParts.{HasQuestions}
 use Rattle.spelled_parts_laws.proofs.Faultless.{few, few_places, in_range, no_fault_of_two, no_first, no_places_past, no_second, none_past}
+use Rattle.spelled_parts_laws.proofs.RowAgreement.{all_fit, rows}
+use Rattle.spelled_parts_laws.proofs.RowPlaces.{faultless, row_from, row_moved}
 use Rattle.spelled_parts_laws.proofs.TypeAgreement.{level_agrees, limit_before, parens_agree, questions_agree}
 use Rattle.spelled_parts_laws.proofs.ValueKinds.{AreOf, Contents, IsOf, LimitedType, contents_of, kind_of_part, optional, star, values_of}
 
@@ -105,6 +113,28 @@ debug_number spelling d word = record {
   back = λ value m. (m.2 ∙ ap (λ (o : Option ℕ). v.Debug (record d { argno = o })) (sym m.1), rw m.1 refl);
 }
 
+-- the row of an instruction
+
+row_kind : (ends : Bool) (inst : WrittenInst) → IsOf (Part (if ends then n.Terminator else n.Row)) (v.Inst inst)
+unfolding kind_of_part
+row_kind true inst = (inst, refl)
+row_kind false inst = (inst, refl)
+
+row_agrees : (o : Op) (xs : Contents (row_body o)) → Agrees (p.Row o) (values_of (row_body o) xs)
+unfolding body written meaning part_fault Means kind_of_part row_body row_part token_of
+row_agrees o xs =
+    let tail : List PartValue = values_of (parts_row o (parts_of o)) xs.1 in
+    let parts : List PartValue = v.Token xs.0 ∷ tail in
+    let begin : WrittenInst = bare_inst o xs.0.place in
+    let r = rows o (parts_of o) xs.1 begin (all_fit o) in
+    let moved : with_parts o (parts_of o) 1 parts begin ≡ row_from o (parts_of o) tail begin = row_moved o (parts_of o) 1 parts begin in
+    let faults = faultless o (parts_of o) 1 parts begin None in
+    record {
+      kind = λ h. row_kind (ends_block o) (row o parts);
+      stands = λ h. (row_from o (parts_of o) tail begin, r.stands (faults.0 h).1, ap (λ (inst : WrittenInst). v.Inst inst) moved);
+      back = λ value m. let b = r.back m.0 m.1 in (m.2 ∙ ap (λ (inst : WrittenInst). v.Inst inst) (b.0 ∙ sym moved), faults.1 (refl, b.1));
+    }
+
 agrees_by : (q : Production) (xs : Contents (body q)) → Agrees q (values_of (body q) xs)
 unfolding body written meaning part_fault tailed Means kind_of_part token_of stage_of imports_of items_of item_of fields_of field_of field_before cases_of type_of payload_of types_of questions_of linkage_of tokens_of convention_of params_of param_before givens_of given_before signature_of blocks_of block_of args_of arg_of ownership_of starred insts_of terminator_of inst_of operands_of operand_of edges_of edge_of member_of flags_of qualifier_of debug_of entry_of
 agrees_by p.WholeModule xs = record { kind = λ h. (_, refl); stands = λ h. (few token_place limit.Declarations 1024 _ (no_first _ _ h), few token_place limit.Functions 1024 _ (no_second _ _ h), refl); back = λ value m. (m.2, no_fault_of_two _ _ (none_past token_place limit.Declarations 1024 _ m.0) (none_past token_place limit.Functions 1024 _ m.1)) }
@@ -124,7 +154,7 @@ agrees_by p.WholeBlock xs = record { kind = λ h. (_, refl); stands = λ h. (few
 agrees_by p.InstNames xs = record { kind = λ h. (_, refl); stands = λ h. (few token_place limit.Arguments 64 _ h, refl); back = λ value m. (m.1, none_past token_place limit.Arguments 64 _ m.0) }
 agrees_by p.WholeEdge xs = record { kind = λ h. (_, refl); stands = λ h. (few operand_place limit.Arguments 64 _ h, refl); back = λ value m. (m.1, none_past operand_place limit.Arguments 64 _ m.0) }
 agrees_by p.DebugNumber xs = debug_number xs.1.0 xs.1.1.0 xs.0
-agrees_by (p.Row o) xs = ?
+agrees_by (p.Row o) xs = row_agrees o xs
 agrees_by p.PayloadSome xs =
     let a = parens_agree xs.0.place (type_before xs.1.0.0 xs.1.1.0.0) xs.1.1.1.0.place (limit_before xs.1.0.0 xs.1.1.0.0 xs.1.0.1 xs.1.1.0.1) in
     record { kind = λ h. (Some (_, a.limit h), refl); stands = λ h. (_, a.stands h, refl); back = λ value m. let b = a.back m.0 m.1 in (m.2 ∙ ap (λ (t : PartType). v.Type t) b.0, b.1) }
