@@ -59,6 +59,13 @@ few_places what most places e = short places most (unmapped (fault (Limit what))
 pub no_places_past : (what : LimitWord) (most : ℕ) (places : List Place) → length places ≤ most → passed what most places ≡ None
 no_places_past what most places h = ap (option_map (fault (Limit what))) (past places most h)
 
+-- of a list with a place for each element
+pub few_counted : {A : Type 0} (what : LimitWord) (most : ℕ) (xs : List A) (places : List Place) → length xs ≡ length places → passed what most places ≡ None → length xs ≤ most
+few_counted what most xs places counted e = omega (arith, counted, few_places what most places e)
+
+pub none_past_counted : {A : Type 0} (what : LimitWord) (most : ℕ) (xs : List A) (places : List Place) → length xs ≡ length places → length xs ≤ most → passed what most places ≡ None
+none_past_counted what most xs places counted h = no_places_past what most places (omega (arith, counted, h))
+
 -- a number that is in its range
 pub in_range : {A : Type 0} (number : Option A) (place : Place) → out_of_range number place ≡ None → (n : A) × (number ≡ Some n)
 in_range None place e = absurd (cc)

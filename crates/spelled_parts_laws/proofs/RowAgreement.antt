@@ -1,5 +1,5 @@
 -- Rows: what their parts stand for is what the replay makes of them, by induction over the parts and not by instruction.
-use Rattle.std.proofs.Common.{◌≡◌, ℕ, suc, ◌+◌, List, [], ◌∷◌, ◌++◌, length, drop, map, Option, Some, None, Bool, true, false, ◌&&◌, IsTrue, if◌then◌else◌, ap, ap₂, sym, refl, subst, ◌∙◌, append_assoc}
+use Rattle.std.proofs.Common.{◌≡◌, ℕ, suc, ◌+◌, List, [], ◌∷◌, ◌++◌, length, drop, map, Option, Some, None, Bool, true, false, ◌&&◌, IfSome, IsTrue, if◌then◌else◌, ap, ap₂, sym, refl, subst, ◌∙◌, append_assoc}
 use Rattle.std.specs.Prelude.{⊤, ℤ, pos}
 use Rattle.std.specs.List.{list_all}
 use Rattle.std.specs.Option.{option_map}
@@ -41,7 +41,7 @@ use Rattle.spelled_parts_laws.specs.Limits.{IsNumberOf, IsNumberUpTo}
 use Rattle.spelled_parts_laws.specs.RowParts.{AreEdges, IsRow, past_comma}
 use Rattle.spelled_parts_laws.proofs.Faultless.{few, in_range, none_past}
 use Rattle.spelled_parts_laws.proofs.RowPlaces.{AreFaultless, left_behind, row_from}
-use Rattle.spelled_parts_laws.proofs.ValueKinds.{Contents, kind_of_part, split_contents, values_of}
+use Rattle.spelled_parts_laws.proofs.ValueKinds.{Contents, HasBits, kind_of_part, split_contents, values_of}
 
 -- one part at the front of these values, and those behind it and its comma
 record Steps (o : Op) (here : Part) (others : List Part) (values rest : List PartValue) (i : WrittenInst) : Type 0 where
@@ -89,27 +89,27 @@ mapped : (o : Option ℕ) (number : ℤ) → option_map pos o ≡ Some number �
 mapped None number e = absurd (cc)
 mapped (Some n) number e = (n, refl, cc)
 
-number_is : (d : Detail) (t : Option TypeName) (text : List ℕ) (number : ℤ) → number_by d t text ≡ Some number → IsNumberOf d t text number
+number_is : (d : Detail) (t : Option TypeName) (text : List ℕ) (number : ℤ) → IfSome t HasBits → number_by d t text ≡ Some number → IsNumberOf d t text number
 unfolding IsNumberOf
-number_is detail.Literal (Some t) text number e = e
-number_is detail.Element t text number e = mapped (small_of 63 text) number e
-number_is _ _ text number e = absurd (cc)
+number_is detail.Literal (Some t) text number bits e = subst (λ (width : ℕ). literal_of width text ≡ Some number) bits e
+number_is detail.Element t text number bits e = mapped (small_of 63 text) number e
+number_is _ _ text number bits e = absurd (cc)
 
-number_back : (d : Detail) (t : Option TypeName) (text : List ℕ) (number : ℤ) → IsNumberOf d t text number → number_by d t text ≡ Some number
+number_back : (d : Detail) (t : Option TypeName) (text : List ℕ) (number : ℤ) → IfSome t HasBits → IsNumberOf d t text number → number_by d t text ≡ Some number
 unfolding IsNumberOf
-number_back detail.Literal (Some t) text number m = m
-number_back detail.Element t text number m = ap (option_map pos) m.1 ∙ ap (λ (x : ℤ). Some x) (sym m.2)
-number_back _ _ text number m = absurd m
+number_back detail.Literal (Some t) text number bits m = subst (λ (width : ℕ). literal_of width text ≡ Some number) (sym bits) m
+number_back detail.Element t text number bits m = ap (option_map pos) m.1 ∙ ap (λ (x : ℤ). Some x) (sym m.2)
+number_back _ _ text number bits m = absurd m
 
 number_steps : (o : Op) (others : List Part) (spelling : WrittenToken) (left rest : List PartValue) (i : WrittenInst)
-    → past_comma o form.Number others left ≡ rest → Steps o form.Number others (v.Token spelling ∷ left) rest i
+    → past_comma o form.Number others left ≡ rest → IfSome i.ty HasBits → Steps o form.Number others (v.Token spelling ∷ left) rest i
 unfolding symbols_of IsRow kind_of_part operand_part qualifier_part member_part edges_of flags_of debug_of edge_of member_of operand_of operands_of qualifier_of signature_of stored_edges token_of tokens_of type_of
-number_steps o others spelling left rest i past = record {
+number_steps o others spelling left rest i past bits = record {
   stands = λ result h m.
     let found = in_range (number_by (detail_of o) i.ty spelling.text) spelling.place h in
-    (found.0, number_is (detail_of o) i.ty spelling.text found.0 found.1, moved o others result (sym past) (ap (λ (x : Option ℤ). record i { number = x }) found.1) m);
+    (found.0, number_is (detail_of o) i.ty spelling.text found.0 bits found.1, moved o others result (sym past) (ap (λ (x : Option ℤ). record i { number = x }) found.1) m);
   back = λ result m.
-    let e = number_back (detail_of o) i.ty spelling.text m.0 m.1 in
+    let e = number_back (detail_of o) i.ty spelling.text m.0 bits m.1 in
     (moved o others result past (ap (λ (x : Option ℤ). record i { number = x }) (sym e)) m.2, ap (λ (x : Option ℤ). out_of_range x spelling.place) e);
 }
 
@@ -162,37 +162,46 @@ all_fit _ = refl
 -- each part
 
 steps : (o : Op) (here : Part) (others : List Part) (own : Contents (symbols_of o here)) (comma rest : List PartValue) (i : WrittenInst)
-    → (is_item here ≡ false → comma ++ rest ≡ rest) → past_comma o here others (comma ++ rest) ≡ rest → fits_in o here ≡ true
+    → (is_item here ≡ false → comma ++ rest ≡ rest) → past_comma o here others (comma ++ rest) ≡ rest → fits_in o here ≡ true → IfSome i.ty HasBits
     → Steps o here others ((values_of (symbols_of o here) own ++ comma) ++ rest) rest i
 unfolding symbols_of IsRow kind_of_part operand_part qualifier_part member_part edges_of flags_of debug_of edge_of member_of operand_of operands_of qualifier_of signature_of stored_edges token_of tokens_of type_of fits_in
-steps o form.Flags others own comma rest i clear past fits = simple form.Flags _ i (clear refl) refl refl (λ result. refl)
-steps o form.Qualifier others own comma rest i clear past fits =
+steps o form.Flags others own comma rest i clear past fits bits = simple form.Flags _ i (clear refl) refl refl (λ result. refl)
+steps o form.Qualifier others own comma rest i clear past fits bits =
     let q = qualifier_by (words_of o) own.0 in
     subst (λ (x : PartValue). Steps o form.Qualifier others (x ∷ (comma ++ rest)) rest i) (sym q.1) (simple form.Qualifier (v.Qualifier q.0 ∷ (comma ++ rest)) i (clear refl) refl refl (λ result. refl))
-steps o form.Typed others own comma rest i clear past fits = typed_steps o others (may_lack_operand o) refl own.0 (comma ++ rest) rest i past
-steps o form.Bare others own comma rest i clear past fits = simple form.Bare _ i past refl refl (λ result. refl)
-steps o form.To others own comma rest i clear past fits = simple form.To _ i (clear refl) refl refl (λ result. refl)
-steps o form.TypeWord others own comma rest i clear past fits = simple form.TypeWord _ i past refl refl (λ result. refl)
-steps o form.Member others own comma rest i clear past fits =
+steps o form.Typed others own comma rest i clear past fits bits = typed_steps o others (may_lack_operand o) refl own.0 (comma ++ rest) rest i past
+steps o form.Bare others own comma rest i clear past fits bits = simple form.Bare _ i past refl refl (λ result. refl)
+steps o form.To others own comma rest i clear past fits bits = simple form.To _ i (clear refl) refl refl (λ result. refl)
+steps o form.TypeWord others own comma rest i clear past fits bits = simple form.TypeWord _ i past refl refl (λ result. refl)
+steps o form.Member others own comma rest i clear past fits bits =
     let m = member_is (detail_of o) own.0 in
     subst (λ (x : PartValue). Steps o form.Member others (x ∷ (comma ++ rest)) rest i) (sym m.1) (simple form.Member (v.Member m.0 ∷ (comma ++ rest)) i past refl refl (λ result. refl))
-steps o form.Number others own comma rest i clear past fits = number_steps o others own.0 (comma ++ rest) rest i past
-steps o form.Text others own comma rest i clear past fits = simple form.Text _ i past refl refl (λ result. refl)
-steps o form.Callee others own comma rest i clear past fits = simple form.Callee _ i (clear refl) refl refl (λ result. refl)
-steps o form.BareArgs others own comma rest i clear past fits = record {
+steps o form.Number others own comma rest i clear past fits bits = number_steps o others own.0 (comma ++ rest) rest i past bits
+steps o form.Text others own comma rest i clear past fits bits = simple form.Text _ i past refl refl (λ result. refl)
+steps o form.Callee others own comma rest i clear past fits bits = simple form.Callee _ i (clear refl) refl refl (λ result. refl)
+steps o form.BareArgs others own comma rest i clear past fits bits = record {
   stands = λ result h m. (few operand_place limit.Arguments 64 _ h, moved o others result (sym (clear refl)) refl m);
   back = λ result m. (moved o others result (clear refl) refl m.1, none_past operand_place limit.Arguments 64 _ m.0);
 }
-steps o form.TypedArgs others own comma rest i clear past fits = record {
+steps o form.TypedArgs others own comma rest i clear past fits bits = record {
   stands = λ result h m. (few operand_place limit.Arguments 64 _ h, moved o others result (sym (clear refl)) refl m);
   back = λ result m. (moved o others result (clear refl) refl m.1, none_past operand_place limit.Arguments 64 _ m.0);
 }
-steps o form.ResultType others own comma rest i clear past fits = simple form.ResultType _ i (clear refl) refl refl (λ result. refl)
-steps o form.SignatureWord others own comma rest i clear past fits = simple form.SignatureWord _ i (clear refl) refl refl (λ result. refl)
-steps o form.Debug others own comma rest i clear past fits = simple form.Debug _ i (clear refl) refl refl (λ result. refl)
-steps o form.Edges others own comma rest i clear past fits =
+steps o form.ResultType others own comma rest i clear past fits bits = simple form.ResultType _ i (clear refl) refl refl (λ result. refl)
+steps o form.SignatureWord others own comma rest i clear past fits bits = simple form.SignatureWord _ i (clear refl) refl refl (λ result. refl)
+steps o form.Debug others own comma rest i clear past fits bits = simple form.Debug _ i (clear refl) refl refl (λ result. refl)
+steps o form.Edges others own comma rest i clear past fits bits =
     subst (λ (values : List PartValue). Steps o form.Edges others values rest i) (sym (append_assoc (values_of (edges_by (ending_of o)) own) comma rest))
     (edge_steps o others own (comma ++ rest) rest i past fits)
+
+-- the type that an instruction has by then, if it has one
+
+bits_after : (o : Op) (here : Part) (own : Contents (symbols_of o here)) (left : List PartValue) (i : WrittenInst) → IfSome i.ty HasBits
+    → IfSome (with_part o here 0 (values_of (symbols_of o here) own ++ left) i).ty HasBits
+unfolding symbols_of kind_of_part type_of
+bits_after o form.TypeWord own left i bits = own.1.0.1.bits
+bits_after o form.ResultType own left i bits = own.1.1.0.1.bits
+bits_after o _ own left i bits = bits
 
 -- all parts in a row
 
@@ -238,10 +247,10 @@ one_more o here others values rest i step left more =
         (b.0 ∙ ap (λ (vs : List PartValue). row_from o others vs next) (sym left), (s.1, subst (λ (vs : List PartValue). AreFaultless o others vs next) (sym left) b.1));
     }
 
-pub rows : (o : Op) (ps : List Part) (xs : Contents (parts_row o ps)) (i : WrittenInst) → list_all (fits_in o) ps ≡ true → RowAgrees o ps (values_of (parts_row o ps) xs) i
+pub rows : (o : Op) (ps : List Part) (xs : Contents (parts_row o ps)) (i : WrittenInst) → list_all (fits_in o) ps ≡ true → IfSome i.ty HasBits → RowAgrees o ps (values_of (parts_row o ps) xs) i
 unfolding parts_row IsRow
-rows o [] xs i f = record { stands = λ h. refl; back = λ result m. (m, tt) }
-rows o (here ∷ others) xs i f =
+rows o [] xs i f bits = record { stands = λ h. refl; back = λ result m. (m, tt) }
+rows o (here ∷ others) xs i f bits =
     let mark : List Symbol = comma_behind o here others in
     let s = split_contents (symbols_of o here ++ mark) (parts_row o others) xs in
     let t = split_contents (symbols_of o here) mark s.0 in
@@ -252,9 +261,10 @@ rows o (here ∷ others) xs i f =
     let step = steps o here others t.0 comma rest i
       (λ e. ap (λ (vs : List PartValue). vs ++ rest) (no_values mark t.1 (no_comma o here others e)))
       (drop_front (length mark) comma rest (values_length mark t.1))
-      (first_of_both _ _ f) in
+      (first_of_both _ _ f) bits in
     let left : left_behind o here others values ≡ rest =
       drop_front (length (symbols_of o here) + length mark) (own ++ comma) rest
       (length-append own comma ∙ ap₂ (λ (m k : ℕ). m + k) (values_length (symbols_of o here) t.0) (values_length mark t.1)) in
+    let bits_then = subst (λ (vs : List PartValue). IfSome (with_part o here 0 vs i).ty HasBits) (sym (append_assoc own comma rest)) (bits_after o here t.0 (comma ++ rest) i bits) in
     subst (λ (vs : List PartValue). RowAgrees o (here ∷ others) vs i) (ap (λ (vs : List PartValue). vs ++ rest) t.2 ∙ s.2)
-    (one_more o here others values rest i step left (rows o others s.1 (with_part o here 0 values i) (second_of_both _ _ f)))
+    (one_more o here others values rest i step left (rows o others s.1 (with_part o here 0 values i) (second_of_both _ _ f) bits_then))

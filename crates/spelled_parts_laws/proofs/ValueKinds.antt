@@ -1,6 +1,7 @@
 -- Which values stand for each symbol of the grammar.
 use Rattle.std.proofs.Common.{◌≡◌, ◌≤◌, List, [], ◌∷◌, ◌++◌, length, take, drop, Option, Some, None, Bool, true, false, ap, ap₂, refl}
 use Rattle.std.specs.Prelude.{⊤}
+use Rattle.std.specs.List.{AllByRecursion}
 use Rattle.sil_ast.specs.declared.debug.Debug as debug
 use Rattle.sil_ast.specs.declared.function.ArgKind.{ArgKind}
 use Rattle.sil_ast.specs.declared.function.Linkage as linkage
@@ -12,11 +13,13 @@ use Rattle.sil_ast.specs.declared.signature.Convention as convention
 use Rattle.sil_ast.specs.declared.signature.Given as given
 use Rattle.sil_ast.specs.declared.signature.Param as param
 use Rattle.sil_ast.specs.declared.signature.Signature as signature
+use Rattle.sil_ast.specs.declared.type_name.TypeName.{TypeName}
 use Rattle.sil_shape.specs.declared.grammar.Nonterminal.{Nonterminal}
 use Rattle.sil_shape.specs.declared.grammar.Nonterminal.TheVariants as n
 use Rattle.sil_shape.specs.declared.grammar.Symbol.{Symbol}
 use Rattle.sil_shape.specs.declared.grammar.Symbol.TheVariants.{Read, Part}
 use Rattle.written_modules.specs.Opened.{PartFlags, PartGivens, PartParams, PartType, PartTypes, PartValue}
+use Rattle.written_modules.specs.Types.{width_of}
 use Rattle.written_modules.specs.Variants as v
 use Rattle.written_tree.specs.declared.written_declarations.WrittenCase.{WrittenCase}
 use Rattle.written_tree.specs.declared.written_declarations.WrittenField.{WrittenField}
@@ -30,6 +33,11 @@ use Rattle.written_tree.specs.declared.written_instructions.WrittenQualifier.{Wr
 use Rattle.written_tree.specs.declared.written_module.WrittenEntry.{WrittenEntry}
 use Rattle.written_tree.specs.declared.written_module.WrittenItem.{WrittenItem}
 use Rattle.written_tree.specs.declared.written_module.WrittenModule.{WrittenModule}
+use Rattle.spelled_parts_laws.specs.Limits.{bits_of}
+
+-- a literal of the type is of the type's own bits
+abbrev pub HasBits : TypeName → Type 0
+HasBits t = width_of t ≡ bits_of t
 
 -- values of one kind, by what stands in them
 pub record Kind : Type 1 where
@@ -60,24 +68,35 @@ fields = record { Content = List WrittenField; value = λ x. v.Fields x }
 abbrev pub field : Kind
 field = record { Content = WrittenField; value = λ x. v.Field x }
 
--- a type that isn't too deep
-abbrev pub LimitedType : Type 0
-LimitedType = (t : PartType) × (t.depth ≤ 32)
+-- a type that isn't too deep, and of which the replay reads literals by its own bits
+pub record IsKept (t : PartType) : Type 0 where
+  pub limit : t.depth ≤ 32
+  pub bits : HasBits t.ty
+
+-- types with a place for each
+pub record AreKept (list : PartTypes) : Type 0 where
+  pub limit : list.depth ≤ 32
+  pub bits : AllByRecursion HasBits list.types
+  pub counted : length list.types ≡ length list.firsts
+
+abbrev pub KeptType : Type 0
+KeptType = (t : PartType) × IsKept t
 
 abbrev pub type : Kind
-type = record { Content = LimitedType; value = λ x. v.Type x.0 }
+type = record { Content = KeptType; value = λ x. v.Type x.0 }
 
 abbrev pub optional_type : Kind
-optional_type = record { Content = Option LimitedType; value = optional (λ x. v.Type x.0) }
+optional_type = record { Content = Option KeptType; value = optional (λ x. v.Type x.0) }
 
 abbrev pub types : Kind
-types = record { Content = (list : PartTypes) × (list.depth ≤ 32); value = λ x. v.Types x.0 }
+types = record { Content = (list : PartTypes) × AreKept list; value = λ x. v.Types x.0 }
 
+-- parameters and results with a place for each
 abbrev pub params : Kind
-params = record { Content = PartParams; value = λ x. v.Params x }
+params = record { Content = (list : PartParams) × (length list.params ≡ length list.firsts); value = λ x. v.Params x.0 }
 
 abbrev pub givens : Kind
-givens = record { Content = PartGivens; value = λ x. v.Givens x }
+givens = record { Content = (list : PartGivens) × (length list.givens ≡ length list.firsts); value = λ x. v.Givens x.0 }
 
 abbrev pub tokens : Kind
 tokens = record { Content = List WrittenToken; value = λ x. v.Tokens x }

@@ -133,8 +133,8 @@ Means p.LinkagePlain [] value = value ≡ v.Linkage linkage.Plain
 Means p.AttributesMore (_ ∷ v.Token word ∷ _ ∷ v.Tokens others ∷ []) value = value ≡ v.Tokens (word ∷ others)
 Means p.AttributesEnd [] value = value ≡ v.Tokens []
 Means p.WholeFunctionType (_ ∷ _ ∷ v.Convention c ∷ _ ∷ _ ∷ v.Params params ∷ _ ∷ _ ∷ v.Givens results ∷ []) value =
-    AreAtMost ARGUMENTS params.firsts
-    × AreAtMost ARGUMENTS results.firsts
+    AreAtMost ARGUMENTS params.params
+    × AreAtMost ARGUMENTS results.givens
     × (value ≡ v.Signature (record { convention = c; params = params.params; results = results.givens }))
 Means p.Thin (_ ∷ []) value = value ≡ v.Convention convention.Thin
 Means p.Method (_ ∷ []) value = value ≡ v.Convention convention.Method

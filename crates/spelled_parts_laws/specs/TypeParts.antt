@@ -23,4 +23,4 @@ IsAmong (t ∷ []) depth first last whole = whole ≡ record { ty = t; depth = d
 IsAmong types depth first last whole = IsDeeper depth (ty.Tuple types) first last whole
 
 abbrev pub IsInParens : Place → PartTypes → Place → PartType → Type 0
-IsInParens first list last whole = AreAtMost ARGUMENTS list.firsts × IsAmong list.types list.depth first last whole
+IsInParens first list last whole = AreAtMost ARGUMENTS list.types × IsAmong list.types list.depth first last whole
