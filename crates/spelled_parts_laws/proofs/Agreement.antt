@@ -1,5 +1,5 @@
 -- Where the parts of a production are of its symbols' kinds, what it stands for is what the replay makes of them.
-use Rattle.std.proofs.Common.{◌≡◌, ◌≤◌, ℕ, suc, List, [], ◌∷◌, Option, Some, None, Bool, true, false, if◌then◌else◌, ap, refl, sym, subst, ◌∙◌, arith}
+use Rattle.std.proofs.Common.{◌≡◌, ℕ, suc, List, [], ◌∷◌, Option, Some, None, Bool, true, false, if◌then◌else◌, ap, refl, sym, subst, ◌∙◌, arith}
 use Rattle.instruction_table.specs.Forms.{parts_of}
 use Rattle.instruction_table.specs.declared.op.Op.{Op}
 use Rattle.sil_ast.specs.declared.debug.Debug as debug
@@ -102,9 +102,9 @@ paren_type left types right questions kept =
       kind = λ h. ((_, (questions_agree inside questions (a.kept (no_first _ _ h))).kept (no_second _ _ h)), refl);
       stands = λ h. (inside, _, a.stands (no_first _ _ h), (questions_agree inside questions (a.kept (no_first _ _ h))).stands (no_second _ _ h), refl);
       back = λ value m.
-        let b = a.back m.0 m.2 in
-        let c = (questions_agree inside questions (a.kept b.1)).back m.1 (subst (λ (t : PartType). HasQuestions t questions m.1) b.0 m.3) in
-        (m.4 ∙ ap (λ (t : PartType). v.Type t) c.0, no_fault_of_two _ _ b.1 c.1);
+          let b = a.back m.0 m.2 in
+          let c = (questions_agree inside questions (a.kept b.1)).back m.1 (subst (λ (t : PartType). HasQuestions t questions m.1) b.0 m.3) in
+          (m.4 ∙ ap (λ (t : PartType). v.Type t) c.0, no_fault_of_two _ _ b.1 c.1);
     }
 
 -- `argno` with its number
@@ -148,9 +148,12 @@ agrees_by p.EnumItem xs = record { kind = λ h. (_, refl); stands = λ h. (few c
 agrees_by p.FunctionItem xs = record {
   kind = λ h. (_, refl);
   stands = λ h. let body = no_second _ _ h in let counts = no_second _ _ body in
-    (few_places limit.Arguments 64 _ (no_first _ _ h), few label_place limit.Blocks 512 _ (no_first _ _ body), few_places limit.Instructions 4096 _ (no_first _ _ counts), few_places limit.Values 1024 _ (no_second _ _ counts), refl);
-  back = λ value m. (m.4, no_fault_of_two _ _ (no_places_past limit.Arguments 64 _ m.0)
-    (no_fault_of_two _ _ (none_past label_place limit.Blocks 512 _ m.1) (no_fault_of_two _ _ (no_places_past limit.Instructions 4096 _ m.2) (no_places_past limit.Values 1024 _ m.3))));
+      (few_places limit.Arguments 64 _ (no_first _ _ h), few label_place limit.Blocks 512 _ (no_first _ _ body), few_places limit.Instructions 4096 _ (no_first _ _ counts), few_places limit.Values 1024 _ (no_second _ _ counts), refl);
+  back = λ value m. (
+    m.4,
+    no_fault_of_two _ _ (no_places_past limit.Arguments 64 _ m.0)
+        (no_fault_of_two _ _ (none_past label_place limit.Blocks 512 _ m.1) (no_fault_of_two _ _ (no_places_past limit.Instructions 4096 _ m.2) (no_places_past limit.Values 1024 _ m.3))),
+  );
 }
 agrees_by p.WholeFunctionType xs = record { kind = λ h. (_, refl); stands = λ h. (few_counted limit.Arguments 64 _ _ xs.1.1.1.1.1.0.1 (no_first _ _ h), few_counted limit.Arguments 64 _ _ xs.1.1.1.1.1.1.1.1.0.1 (no_second _ _ h), refl); back = λ value m. (m.2, no_fault_of_two _ _ (none_past_counted limit.Arguments 64 _ _ xs.1.1.1.1.1.0.1 m.0) (none_past_counted limit.Arguments 64 _ _ xs.1.1.1.1.1.1.1.1.0.1 m.1)) }
 agrees_by p.WholeBlock xs = record { kind = λ h. (_, refl); stands = λ h. (few arg_place limit.Arguments 64 _ h, refl); back = λ value m. (m.1, none_past arg_place limit.Arguments 64 _ m.0) }

@@ -1,6 +1,5 @@
 -- What tokens stand for is what the replay of their derivation comes to, step by step.
-use Rattle.std.proofs.Common.{◌≡◌, ◌↔◌, ℕ, suc, List, [], ◌∷◌, ◌++◌, length, take, drop, map, Option, None, ap, ap₂, sym, refl, subst, ◌∙◌, append_assoc, append-nil}
-use Rattle.std.specs.Prelude.{⊤}
+use Rattle.std.proofs.Common.{◌≡◌, suc, List, [], ◌∷◌, ◌++◌, length, take, drop, map, Option, None, ap, ap₂, sym, refl, subst, ◌∙◌, append_assoc, append-nil}
 use Rattle.std.specs.List.{AllZip}
 use Rattle.std.proofs.Math.Seq.{drop-append_seam, take-append_seam}
 use Rattle.sil_lexer.specs.Lexes.{Lexeme}
@@ -18,12 +17,11 @@ use Rattle.written_modules.specs.Opened.{PartValue}
 use Rattle.written_modules.specs.PartFaults.{part_fault}
 use Rattle.written_modules.specs.Replay.{first_fault, parts_of, reduced, replay}
 use Rattle.written_tree.specs.declared.fault.Fault.{Fault}
-use Rattle.written_tree.specs.Faults.{comes_before, earlier}
+use Rattle.written_tree.specs.Faults.{earlier}
 use Rattle.spelled_parts_laws.specs.Laws.{AreStoodFor, IsReplayed}
-use Rattle.spelled_parts_laws.specs.Means.{Means}
 use Rattle.spelled_parts_laws.specs.Stands.{Stands}
 use Rattle.spelled_parts_laws.specs.Stands.Stands.{nothing, token, production}
-use Rattle.spelled_parts_laws.proofs.Agreement.{Agrees, agrees}
+use Rattle.spelled_parts_laws.proofs.Agreement.{agrees}
 use Rattle.spelled_parts_laws.proofs.Faultless.{no_first, no_second}
 use Rattle.spelled_parts_laws.proofs.ValueKinds.{AreOf, IsOf, back_of, front_of}
 
@@ -147,10 +145,11 @@ nothing_left class_of = record { steps = []; derived = derived_nothing; no_fault
 derived_whole : (class_of : Lexeme → Class) (ss : List Symbol) (lexemes : List Lexeme) (values : List PartValue) → Derived class_of (ss ++ []) (lexemes ++ []) (values ++ []) → IsReplayed class_of ss lexemes values
 derived_whole class_of ss lexemes values d =
     let w : Derived class_of ss lexemes values = subst (λ vs. Derived class_of ss lexemes vs) (append-nil values)
-      (subst (λ ls. Derived class_of ss ls (values ++ [])) (append-nil lexemes) (subst (λ all. Derived class_of all (lexemes ++ []) (values ++ [])) (append-nil ss) d)) in
+    (subst (λ ls. Derived class_of ss ls (values ++ [])) (append-nil lexemes) (subst (λ all. Derived class_of all (lexemes ++ []) (values ++ [])) (append-nil ss) d)) in
     record { steps = w.steps; derived = w.derived; no_fault = w.no_fault; same = w.same }
 
 pub stood_for : AreStoodFor
 stood_for class_of ss lexemes values = (
-    λ st. derived_whole class_of ss lexemes values (derive st [] [] [] (nothing_left class_of)),
-    λ r. subst (Stands class_of ss lexemes) r.same (replays class_of r.derived lexemes (are_classes class_of lexemes) r.no_fault).stands)
+  λ st. derived_whole class_of ss lexemes values (derive st [] [] [] (nothing_left class_of)),
+  λ r. subst (Stands class_of ss lexemes) r.same (replays class_of r.derived lexemes (are_classes class_of lexemes) r.no_fault).stands,
+)

@@ -1,6 +1,6 @@
 -- Rows: what their parts stand for is what the replay makes of them, by induction over the parts and not by instruction.
-use Rattle.std.proofs.Common.{◌≡◌, ℕ, suc, ◌+◌, List, [], ◌∷◌, ◌++◌, length, drop, map, Option, Some, None, Bool, true, false, ◌&&◌, IfSome, IsTrue, if◌then◌else◌, ap, ap₂, sym, refl, subst, ◌∙◌, append_assoc}
-use Rattle.std.specs.Prelude.{⊤, ℤ, pos}
+use Rattle.std.proofs.Common.{◌≡◌, ℕ, suc, ◌+◌, List, [], ◌∷◌, ◌++◌, length, drop, Option, Some, None, Bool, true, false, ◌&&◌, IfSome, if◌then◌else◌, ap, ap₂, sym, refl, subst, ◌∙◌, append_assoc}
+use Rattle.std.specs.Prelude.{ℤ, pos}
 use Rattle.std.specs.List.{list_all}
 use Rattle.std.specs.Option.{option_map}
 use Rattle.std.proofs.lemmas.List.{length-append}
@@ -17,7 +17,6 @@ use Rattle.instruction_table.specs.declared.forms.Part.TheVariants as form
 use Rattle.instruction_table.specs.declared.op.Op.{Op}
 use Rattle.instruction_table.specs.declared.op.Op.TheVariants as op
 use Rattle.sil_ast.specs.declared.member.Member.{Member}
-use Rattle.sil_ast.specs.declared.place.Place.{Place}
 use Rattle.sil_ast.specs.declared.type_name.TypeName.{TypeName}
 use Rattle.sil_rules.specs.declared.limit_word.LimitWord.TheVariants as limit
 use Rattle.sil_shape.specs.declared.grammar.Nonterminal.TheVariants as n
@@ -26,8 +25,7 @@ use Rattle.sil_shape.specs.Rows.{comma_behind, comma_between, edges_by, edges_of
 use Rattle.written_numbers.specs.Numbers.{literal_of, small_of}
 use Rattle.written_modules.specs.Opened.{PartValue}
 use Rattle.written_modules.specs.PartFaults.{fault_of_part}
-use Rattle.written_modules.specs.RowMeaning.{edges_at, element_of, number_by, typed_by, with_part}
-use Rattle.written_modules.specs.Types.{width_of}
+use Rattle.written_modules.specs.RowMeaning.{edges_at, number_by, typed_by, with_part}
 use Rattle.written_modules.specs.Values.{debug_of, edge_of, edges_of as stored_edges, flags_of, member_of, operand_of, operands_of, qualifier_of, signature_of, token_of, tokens_of, type_of}
 use Rattle.written_modules.specs.Variants as v
 use Rattle.written_tree.specs.Faults.{out_of_range}
@@ -35,9 +33,8 @@ use Rattle.written_tree.specs.Places.{operand_place}
 use Rattle.written_tree.specs.declared.written_declarations.WrittenToken.{WrittenToken}
 use Rattle.written_tree.specs.declared.written_instructions.WrittenEdge.{WrittenEdge}
 use Rattle.written_tree.specs.declared.written_instructions.WrittenInst.{WrittenInst}
-use Rattle.written_tree.specs.declared.written_instructions.WrittenOperand.{WrittenOperand}
 use Rattle.written_tree.specs.declared.written_instructions.WrittenQualifier.{WrittenQualifier}
-use Rattle.spelled_parts_laws.specs.Limits.{IsNumberOf, IsNumberUpTo}
+use Rattle.spelled_parts_laws.specs.Limits.{IsNumberOf}
 use Rattle.spelled_parts_laws.specs.RowParts.{AreEdges, IsRow, past_comma}
 use Rattle.spelled_parts_laws.proofs.Faultless.{few, in_range, none_past}
 use Rattle.spelled_parts_laws.proofs.RowPlaces.{AreFaultless, left_behind, row_from}
@@ -106,11 +103,11 @@ number_steps : (o : Op) (others : List Part) (spelling : WrittenToken) (left res
 unfolding symbols_of IsRow kind_of_part operand_part qualifier_part member_part edges_of flags_of debug_of edge_of member_of operand_of operands_of qualifier_of signature_of stored_edges token_of tokens_of type_of
 number_steps o others spelling left rest i past bits = record {
   stands = λ result h m.
-    let found = in_range (number_by (detail_of o) i.ty spelling.text) spelling.place h in
-    (found.0, number_is (detail_of o) i.ty spelling.text found.0 bits found.1, moved o others result (sym past) (ap (λ (x : Option ℤ). record i { number = x }) found.1) m);
+      let found = in_range (number_by (detail_of o) i.ty spelling.text) spelling.place h in
+      (found.0, number_is (detail_of o) i.ty spelling.text found.0 bits found.1, moved o others result (sym past) (ap (λ (x : Option ℤ). record i { number = x }) found.1) m);
   back = λ result m.
-    let e = number_back (detail_of o) i.ty spelling.text m.0 bits m.1 in
-    (moved o others result past (ap (λ (x : Option ℤ). record i { number = x }) (sym e)) m.2, ap (λ (x : Option ℤ). out_of_range x spelling.place) e);
+      let e = number_back (detail_of o) i.ty spelling.text m.0 bits m.1 in
+      (moved o others result past (ap (λ (x : Option ℤ). record i { number = x }) (sym e)) m.2, ap (λ (x : Option ℤ). out_of_range x spelling.place) e);
 }
 
 -- the blocks that a terminator goes to
@@ -145,8 +142,8 @@ edge_steps o others own left rest i past goes =
     record {
       stands = λ result h m. (edges_at (ending_of o) 0 values, left, edges_are (ending_of o) own left goes, moved o others result (sym past) refl m);
       back = λ result m.
-        let b = edges_back (ending_of o) own left m.0 m.1 m.2 in
-        (moved o others result (ap (past_comma o form.Edges others) b.1 ∙ past) (ap (λ (edges : List WrittenEdge). record i { edges = edges }) b.0) m.3, refl);
+          let b = edges_back (ending_of o) own left m.0 m.1 m.2 in
+          (moved o others result (ap (past_comma o form.Edges others) b.1 ∙ past) (ap (λ (edges : List WrittenEdge). record i { edges = edges }) b.0) m.3, refl);
     }
 
 -- only an instruction that goes on to blocks has a part for them
@@ -240,11 +237,11 @@ one_more o here others values rest i step left more =
     let next : WrittenInst = with_part o here 0 values i in
     record {
       stands = λ h. step.stands (row_from o others (left_behind o here others values) next) h.0
-        (subst (λ (vs : List PartValue). IsRow o others rest next (row_from o others vs next)) (sym left) (more.stands (subst (λ (vs : List PartValue). AreFaultless o others vs next) left h.1)));
+          (subst (λ (vs : List PartValue). IsRow o others rest next (row_from o others vs next)) (sym left) (more.stands (subst (λ (vs : List PartValue). AreFaultless o others vs next) left h.1)));
       back = λ result m.
-        let s = step.back result m in
-        let b = more.back result s.0 in
-        (b.0 ∙ ap (λ (vs : List PartValue). row_from o others vs next) (sym left), (s.1, subst (λ (vs : List PartValue). AreFaultless o others vs next) (sym left) b.1));
+          let s = step.back result m in
+          let b = more.back result s.0 in
+          (b.0 ∙ ap (λ (vs : List PartValue). row_from o others vs next) (sym left), (s.1, subst (λ (vs : List PartValue). AreFaultless o others vs next) (sym left) b.1));
     }
 
 pub rows : (o : Op) (ps : List Part) (xs : Contents (parts_row o ps)) (i : WrittenInst) → list_all (fits_in o) ps ≡ true → IfSome i.ty HasBits → RowAgrees o ps (values_of (parts_row o ps) xs) i
@@ -259,12 +256,12 @@ rows o (here ∷ others) xs i f bits =
     let rest : List PartValue = values_of (parts_row o others) s.1 in
     let values : List PartValue = (own ++ comma) ++ rest in
     let step = steps o here others t.0 comma rest i
-      (λ e. ap (λ (vs : List PartValue). vs ++ rest) (no_values mark t.1 (no_comma o here others e)))
-      (drop_front (length mark) comma rest (values_length mark t.1))
-      (first_of_both _ _ f) bits in
+    (λ e. ap (λ (vs : List PartValue). vs ++ rest) (no_values mark t.1 (no_comma o here others e)))
+    (drop_front (length mark) comma rest (values_length mark t.1))
+    (first_of_both _ _ f) bits in
     let left : left_behind o here others values ≡ rest =
-      drop_front (length (symbols_of o here) + length mark) (own ++ comma) rest
-      (length-append own comma ∙ ap₂ (λ (m k : ℕ). m + k) (values_length (symbols_of o here) t.0) (values_length mark t.1)) in
+    drop_front (length (symbols_of o here) + length mark) (own ++ comma) rest
+    (length-append own comma ∙ ap₂ (λ (m k : ℕ). m + k) (values_length (symbols_of o here) t.0) (values_length mark t.1)) in
     let bits_then = subst (λ (vs : List PartValue). IfSome (with_part o here 0 vs i).ty HasBits) (sym (append_assoc own comma rest)) (bits_after o here t.0 (comma ++ rest) i bits) in
     subst (λ (vs : List PartValue). RowAgrees o (here ∷ others) vs i) (ap (λ (vs : List PartValue). vs ++ rest) t.2 ∙ s.2)
     (one_more o here others values rest i step left (rows o others s.1 (with_part o here 0 values i) (second_of_both _ _ f) bits_then))

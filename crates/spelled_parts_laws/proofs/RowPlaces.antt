@@ -1,6 +1,6 @@
 -- The replay of a row counts the places of its parts. Here it takes their values from the front of what is left.
 use Rattle.std.proofs.Common.{◌≡◌, ℕ, zero, suc, ◌+◌, List, [], ◌∷◌, length, drop, Option, Some, None, ap, sym, refl, subst, ◌∙◌}
-use Rattle.std.specs.Prelude.{⊤, ◌↔◌, slice_index_or}
+use Rattle.std.specs.Prelude.{⊤, ◌↔◌}
 use Rattle.std.proofs.lemmas.List.{drop-drop}
 use Rattle.std.proofs.Math.Nat.{suc-add, zero-add}
 use Rattle.instruction_table.specs.Forms.{detail_of, ending_of}
@@ -15,7 +15,6 @@ use Rattle.written_modules.specs.PartFaults.{fault_of_part, parts_fault}
 use Rattle.written_modules.specs.Parts.{part}
 use Rattle.written_modules.specs.RowMeaning.{edges_at, number_by, with_part, with_parts}
 use Rattle.written_modules.specs.Values.{token_of}
-use Rattle.written_modules.specs.Variants as v
 use Rattle.written_tree.specs.declared.fault.Fault.{Fault}
 use Rattle.written_tree.specs.Faults.{earlier, out_of_range}
 use Rattle.written_tree.specs.declared.written_instructions.WrittenEdge.{WrittenEdge}
@@ -87,7 +86,8 @@ faultless o (here ∷ others) at parts i found =
     let n : ℕ = length (symbols_of o here) + length (comma_behind o here others) in
     let rest = faultless o others (at + n) parts (with_part o here at parts i) (earlier found (fault_of_part o here at parts i)) in
     let same : AreFaultless o others (drop (at + n) parts) (with_part o here at parts i) ≡ AreFaultless o others (drop n (drop at parts)) (with_part o here 0 (drop at parts) i) =
-      ap (λ values. AreFaultless o others values (with_part o here at parts i)) (sym (drop-drop n at parts))
-      ∙ ap (AreFaultless o others (drop n (drop at parts))) (part_moved o here at parts i) in
-    (λ e. let m = rest.0 e in (no_first _ _ m.0, (sym (fault_moved o here at parts i) ∙ no_second _ _ m.0, subst (λ T. T) same m.1)),
-     λ m. rest.1 (no_fault_of_two _ _ m.0 (fault_moved o here at parts i ∙ m.1.0), subst (λ T. T) (sym same) m.1.1))
+    ap (λ values. AreFaultless o others values (with_part o here at parts i)) (sym (drop-drop n at parts))
+    ∙ ap (AreFaultless o others (drop n (drop at parts))) (part_moved o here at parts i) in (
+      λ e. let m = rest.0 e in (no_first _ _ m.0, (sym (fault_moved o here at parts i) ∙ no_second _ _ m.0, subst (λ T. T) same m.1)),
+      λ m. rest.1 (no_fault_of_two _ _ m.0 (fault_moved o here at parts i ∙ m.1.0), subst (λ T. T) (sym same) m.1.1),
+    )

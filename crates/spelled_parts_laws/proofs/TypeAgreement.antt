@@ -10,7 +10,7 @@ use Rattle.sil_ast.specs.declared.type_name.TypeName.TheVariants as ty
 use Rattle.sil_rules.specs.declared.limit_word.LimitWord.TheVariants as limit
 use Rattle.written_tree.specs.declared.fault.Fault.{Fault}
 use Rattle.written_tree.specs.declared.fault.FaultKind.TheVariants.{Limit}
-use Rattle.written_tree.specs.Faults.{earlier, fault, passed}
+use Rattle.written_tree.specs.Faults.{fault, passed}
 use Rattle.written_modules.specs.Opened.{PartType, PartTypes}
 use Rattle.written_modules.specs.PartFaults.{too_deep, too_deep_among, too_many_questions, tuple_fault}
 use Rattle.written_modules.specs.Types.{between, deeper, in_parens, kept, one_deeper, type_before, width_in_range, width_over, with_questions}
