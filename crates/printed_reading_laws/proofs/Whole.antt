@@ -23,6 +23,7 @@ use Rattle.written_modules.specs.Replay.{first_fault, parts_of, reduced, replay}
 use Rattle.sil_grammar.specs.Classes.{token_class}
 use Rattle.sil_grammar.specs.Spells.{SpellsWritten}
 use Rattle.printed_reading_laws.proofs.Pieces.{Reads, lexeme_before, Reads as reads}
+use Rattle.sil_grammar.proofs.ReplayedSpelling.{spelled_by}
 
 -- the tokens and the steps of a piece, whatever stands behind it
 record Steps (text : List ℕ) (ss : List Symbol) (left : List ℕ) (values : List PartValue) (after : List ℕ) : Type 0 where
@@ -130,11 +131,8 @@ one_value value w e = ap (λ value. value ∷ []) e
 pub spelled_whole : (text : List ℕ) (value : PartValue) (w : WrittenModule) → Reads text start text (value ∷ []) [] → value ≡ module_value w → SpellsWritten w text
 spelled_whole text value w r e =
     let s = steps_of r in
-    record {
-      lexemes = s.lexemes;
-      lexed = rw (append-nil s.lexemes) at (s.lexed [] None (lexes.end [] (skips.nothing [])));
-      steps = s.steps;
-      derived = rw (append-nil s.steps, append-nil (map token_class s.lexemes)) at (s.derived [] [] [] derives.nothing);
-      no_fault = rw (append-nil s.steps, append-nil s.lexemes) at (s.faultless [] []);
-      writes = (rw (append-nil s.steps, append-nil s.lexemes) at (s.replayed [] [])) ∙ one_value value w e;
-    }
+    spelled_by text w s.lexemes s.steps
+    (rw (append-nil s.lexemes) at (s.lexed [] None (lexes.end [] (skips.nothing []))))
+    (rw (append-nil s.steps, append-nil (map token_class s.lexemes)) at (s.derived [] [] [] derives.nothing))
+    (rw (append-nil s.steps, append-nil s.lexemes) at (s.faultless [] []))
+    ((rw (append-nil s.steps, append-nil s.lexemes) at (s.replayed [] [])) ∙ one_value value w e)

@@ -3,6 +3,7 @@ pub mod CutLemmas
 pub mod FewestTokens
 pub mod FirstBadLemmas
 pub mod LexemeLemmas
+pub mod ReplayedSpelling
 pub mod ReadLemmas
 pub mod RefusedOnce
 pub mod ShapeLemmas

@@ -18,6 +18,7 @@ use Rattle.numbered_reading_laws.proofs.ListsAndFaults.{both}
 use Rattle.numbered_reading_laws.proofs.Numbered.{written_numbered}
 use Rattle.sil_grammar.specs.Classes.{class_by, punctuation_class, text_class, token_class}
 use Rattle.sil_grammar.specs.Spells as text
+use Rattle.sil_grammar.proofs.ReplayedSpelling.{replayed}
 
 inside_is : (inside : List ℕ) → without_quotes (34 ∷ inside ++ 34 ∷ []) ≡ inside
 inside_is inside =
@@ -59,6 +60,7 @@ lexed_classes all left lexemes refusal (stop _ _ _ _ _) = tt
 pub spelled_numbered : text.AreSpelledNumbered
 spelled_numbered m bytes h =
     let s = h.spells in
+    let r = replayed s in
     let leaves : AreOfClasses (map token_class s.lexemes) s.lexemes = lexed_classes bytes bytes s.lexemes None s.lexed in
-    subst IsNumbered (sym h.numbered) (written_numbered (map token_class s.lexemes) s.lexemes s.steps h.written
-    (record { leaves = leaves; derived = s.derived; no_fault = s.no_fault; writes = s.writes; names = h.names }))
+    subst IsNumbered (sym h.numbered) (written_numbered (map token_class s.lexemes) s.lexemes r.steps h.written
+    (record { leaves = leaves; derived = r.derived; no_fault = r.no_fault; writes = r.same; names = h.names }))

@@ -29,6 +29,7 @@ use Rattle.sil_grammar.specs.Spells.{AreSpelledOnce, SpellsWritten}
 use Rattle.sil_grammar.specs.Left.{IsCut}
 use Rattle.sil_grammar.proofs.CutLemmas.{cut_completes}
 use Rattle.sil_grammar.proofs.FirstBadLemmas.{no_bad_place}
+use Rattle.sil_grammar.proofs.ReplayedSpelling.{replayed, spelled_by}
 
 never : {A : Type 0} {a : A} {o : Option A} → o ≡ Some a → o ≡ None → ⊥
 never e f = cc
@@ -51,18 +52,20 @@ by_these : (text : List ℕ) (lexemes : List Lexeme) (steps : List Step) (w : Wr
     → Lexes text text lexemes None → Derives start (map token_class lexemes) steps → SpellsWritten w text → ByThese steps lexemes w
 by_these text lexemes steps w lexed derived s =
     let tokens : s.lexemes ≡ lexemes = (one_way text text s.lexemes lexemes None None s.lexed lexed).0 in
-    let here : Derives start (map token_class lexemes) s.steps = subst (λ (l : List Lexeme). Derives start (map token_class l) s.steps) tokens s.derived in
-    let same : s.steps ≡ steps = steps_once derived here in
+    let r = replayed s in
+    let here : Derives start (map token_class lexemes) r.steps = subst (λ (l : List Lexeme). Derives start (map token_class l) r.steps) tokens r.derived in
+    let same : r.steps ≡ steps = steps_once derived here in
     record {
-      no_fault = ap (λ (l : List Step). first_fault l lexemes) (sym same) ∙ ap (first_fault s.steps) (sym tokens) ∙ s.no_fault;
-      writes = subst (λ (l : List Lexeme). Writes steps l w) tokens (subst (λ (l : List Step). Writes l s.lexemes w) same s.writes);
+      no_fault = ap (λ (l : List Step). first_fault l lexemes) (sym same) ∙ ap (first_fault r.steps) (sym tokens) ∙ r.no_fault;
+      writes = subst (λ (l : List Lexeme). Writes steps l w) tokens (subst (λ (l : List Step). Writes l s.lexemes w) same r.same);
     }
 
 -- a text writes one module at most
 pub written_once : (text : List ℕ) (w other : WrittenModule) → SpellsWritten w text → SpellsWritten other text → other ≡ w
 written_once text w other s o =
-    let by = by_these text s.lexemes s.steps other s.lexed s.derived o in
-    one_module s.steps s.lexemes w other s.writes by.writes
+    let r = replayed s in
+    let by = by_these text s.lexemes r.steps other s.lexed r.derived o in
+    one_module r.steps s.lexemes w other r.same by.writes
 
 pub spelled_once : AreSpelledOnce
 spelled_once text m other s o =
@@ -72,7 +75,8 @@ spelled_once text m other s o =
 -- a text with a bad place spells nothing
 pub bad_spells_none : (text : List ℕ) (bad : BadPlace) → IsFirstBadPlace text bad → SpellsNone text
 bad_spells_none text bad first m s =
-    let shape : HasShape text = record { lexemes = s.spells.lexemes; lexed = s.spells.lexed; shape = (s.spells.steps, s.spells.derived) } in
+    let r = replayed s.spells in
+    let shape : HasShape text = record { lexemes = s.spells.lexemes; lexed = s.spells.lexed; shape = (r.steps, r.derived) } in
     no_bad_place text shape bad first.is_bad
 
 -- nor does one that writes a module with a name that is wrong
@@ -101,6 +105,10 @@ module _ (text : List ℕ) (lexing : Lexing) (is : IsLexingOf text lexing) where
     fault_spells_none fault first m s =
         let by = by_these text (lexemes_of text lexing) steps s.written lexed whole.derived.derives s.spells in
         never first by.no_fault
+
+    -- one whose steps have none spells what their replay comes to
+    pub faultless_whole : (w : WrittenModule) → first_fault steps (lexemes_of text lexing) ≡ None → Writes steps (lexemes_of text lexing) w → SpellsWritten w text
+    faultless_whole w none writes = spelled_by text w (lexemes_of text lexing) steps lexed whole.derived.derives none writes
 
     pub faulty_whole : (fault : Fault) → first_fault steps (lexemes_of text lexing) ≡ Some fault → IsFaulty text fault
     faulty_whole fault first = in_whole (lexemes_of text lexing) steps lexed whole.derived.derives first

@@ -20,6 +20,7 @@ use Rattle.sil_grammar.specs.Spells.{SpellsWritten}
 use Rattle.sil_grammar.proofs.CompletionLemmas.{shortest_begins, shortest_once}
 use Rattle.sil_grammar.proofs.FirstBadLemmas.{no_bad_place, once}
 use Rattle.sil_grammar.proofs.ReadLemmas.{written_once}
+use Rattle.sil_grammar.proofs.ReplayedSpelling.{replayed}
 
 some_same : {A : Type 0} {a b : A} → Some a ≡ Some b → a ≡ b
 some_same h = cc
@@ -83,7 +84,7 @@ shape_of : (text : List ℕ) (lexemes : List Lexeme) (steps : List Step) → Lex
 shape_of text lexemes steps lexed derived = record { lexemes = lexemes; lexed = lexed; shape = (steps, derived) }
 
 spells_shape : (text : List ℕ) (w : WrittenModule) → SpellsWritten w text → HasShape text
-spells_shape text w s = shape_of text s.lexemes s.steps s.lexed s.derived
+spells_shape text w s = let r = replayed s in shape_of text s.lexemes r.steps s.lexed r.derived
 
 -- a shapeless text has no fault before its first bad place
 no_fault_before : (text : List ℕ) (place : BadPlace) (fault : Fault) → IsShapeless text place → IsFaulty text fault → ⊥
@@ -110,7 +111,8 @@ misnamed_shaped text place fault s m = no_bad_place text (spells_shape text m.wr
 
 misnamed_faultless : (text : List ℕ) (a b : Fault) → IsFaulty text a → IsMisnamed text b → ⊥
 misnamed_faultless text a b (in_whole lexemes steps lexed derived first) m =
-    some_or_none first (whole_once text lexemes m.spells.lexemes steps m.spells.steps lexed derived m.spells.lexed m.spells.derived ∙ m.spells.no_fault)
+    let r = replayed m.spells in
+    some_or_none first (whole_once text lexemes m.spells.lexemes steps r.steps lexed derived m.spells.lexed r.derived ∙ r.no_fault)
 misnamed_faultless text a b (in_front place front first_bad first before) m = no_bad_place text (spells_shape text m.written m.spells) place first_bad.is_bad
 
 misnamed_once : (text : List ℕ) (a b : Fault) → IsMisnamed text a → IsMisnamed text b → b ≡ a

@@ -1,11 +1,11 @@
 -- Which modules a text spells.
-use Rattle.std.specs.Prelude.{◌≡◌, ℕ, List, map, None}
+use Rattle.std.specs.Prelude.{◌≡◌, ℕ, List, [], ◌∷◌, None}
 use Rattle.sil_ast.specs.declared.module.Module.{Module}
 use Rattle.sil_lexer.specs.Lexes.{Lexeme, Lexes}
-use Rattle.sil_shape.specs.declared.steps.Step.{Step}
-use Rattle.sil_shape.specs.Derivation.{Derives, start}
+use Rattle.sil_shape.specs.Derivation.{start}
 use Rattle.written_tree.specs.declared.written_module.WrittenModule.{WrittenModule}
-use Rattle.written_modules.specs.Replay.{first_fault, Writes}
+use Rattle.written_modules.specs.Opened.{module_value}
+use Rattle.spelled_parts_laws.specs.Stands.{Stands}
 use Rattle.numbered_form.specs.NumberedForm.{IsNumbered}
 use Rattle.name_resolution.specs.NameFaults.{name_fault}
 use Rattle.name_resolution.specs.Resolved.{resolved}
@@ -16,13 +16,8 @@ pub record SpellsWritten (w : WrittenModule) (text : List ℕ) : Type 0 where
   -- the tokens of the text, up to its end
   pub lexemes : List Lexeme
   pub lexed : Lexes text text lexemes None
-  -- they have the shape of a module
-  pub steps : List Step
-  pub derived : Derives start (map token_class lexemes) steps
-  -- in which nothing is at fault
-  pub no_fault : first_fault steps lexemes ≡ None
-  -- and this is what they stand for
-  pub writes : Writes steps lexemes w
+  -- as a whole module they stand for this one
+  pub stands : Stands token_class start lexemes (module_value w ∷ [])
 
 pub record Spells (m : Module) (text : List ℕ) : Type 0 where
   pub written : WrittenModule
