@@ -1,12 +1,12 @@
 -- What derived steps stand for is good, part by part, where there is no fault.
-use Rattle.std.proofs.Common.{◌≡◌, ℕ, ◌+◌, List, [], ◌∷◌, ◌++◌, length, take, drop, None, true, IsTrue, ap, sym, refl, subst, ◌∙◌, add-one, if◌then◌else◌, nat_lt, true≢false}
+use Rattle.std.proofs.Common.{◌≡◌, ℕ, ◌+◌, List, [], ◌∷◌, ◌++◌, length, take, drop, None, true, false, IsTrue, ap, sym, refl, subst, ◌∙◌, add-one, if◌then◌else◌, nat_lt, true≢false, ◌≤◌, arith}
 use Rattle.std.specs.Prelude.{⊤, ◌==◌}
 use Rattle.std.proofs.lemmas.Bool.{eqb-true}
+use Rattle.std.proofs.lemmas.Bool.Decides.{nat_tests}
 use Rattle.sil_lexer.specs.Lexes.{Lexeme}
 use Rattle.token_classes.specs.declared.classes.Class.{Class}
 use Rattle.token_classes.specs.declared.classes.Class.TheVariants as c
 use Rattle.token_classes.specs.declared.classes.AtWord.TheVariants as a
-use Rattle.token_classes.specs.declared.classes.Keyword.TheVariants as k
 use Rattle.token_classes.specs.declared.classes.Punctuation.TheVariants as m
 use Rattle.sil_shape.specs.declared.grammar.Symbol.{Symbol}
 use Rattle.sil_shape.specs.declared.grammar.Symbol.TheVariants.{Read, Part}
@@ -17,7 +17,8 @@ use Rattle.sil_shape.specs.Accepts.{accepts, at_number, class_number, keyword_nu
 use Rattle.sil_shape.specs.Derivation.{Derives}
 use Rattle.sil_shape.specs.Derivation.Derives.{nothing, token, rule}
 use Rattle.sil_shape.specs.Grammar.{body}
-use Rattle.written_modules.specs.Meaning.{kept_of, leaf_of, part}
+use Rattle.written_modules.specs.Meaning.{kept_of, leaf_of}
+use Rattle.written_modules.specs.Parts.{part}
 use Rattle.written_modules.specs.Opened.{PartValue}
 use Rattle.written_modules.specs.Replay.{first_fault, parts_of, reduced, replay}
 use Rattle.written_modules.specs.Values.{token_of}
@@ -71,12 +72,19 @@ kind_of c.OtherText = Texts
 kind_of _ = Others
 
 kind_at : ℕ → Kind
-kind_at n = if nat_lt n 88 then Names else (if nat_lt n 96 then AtNames else (if n == 116 then BuiltinTexts else (if n == 117 then Texts else Others)))
+kind_at n = if nat_lt n 5 then (if n == 3 then BuiltinTexts else (if n == 4 then Texts else Others)) else (if nat_lt n 13 then AtNames else (if nat_lt n 31 then Others else Names))
+
+-- words have the last numbers
+behind : (n least : ℕ) → least ≤ 31 → nat_lt (31 + n) least ≡ false
+behind n least h = grind (arith, nat_tests)
+
+word_kind : (n : ℕ) → kind_at (31 + n) ≡ Names
+unfolding kind_at
+word_kind n = rw (behind n 5 (omega arith), behind n 13 (omega arith), behind n 31 (omega arith)) refl
 
 kind_at-number : (class : Class) → kind_at (class_number class) ≡ kind_of class
-unfolding kind_at kind_of class_number keyword_number at_number punctuation_number
-kind_at-number (c.Word k.Other) = refl
-kind_at-number (c.Word _) = refl
+unfolding kind_at kind_of class_number at_number punctuation_number
+kind_at-number (c.Word w) = word_kind (keyword_number w)
 kind_at-number (c.At a.Other) = refl
 kind_at-number (c.At _) = refl
 kind_at-number (c.Punctuation m.LeftBrace) = refl
@@ -120,6 +128,8 @@ good_leaf t.TypeWord (c.Word w) l e g = g
 good_leaf t.AnyAt (c.At w) l e g = g
 good_leaf t.AnyText c.BuiltinText l e g = g.quotable
 good_leaf t.AnyText c.OtherText l e g = g
+good_leaf t.RowWord class l e g = tt
+good_leaf t.EndWord class l e g = tt
 good_leaf (t.Just wanted) class l e g = same_texts wanted class (kept_of l.kind l.spelling) e g
 good_leaf _ _ l e g = absurd (true≢false (sym e))
 
