@@ -1,4 +1,5 @@
 pub mod Derived
+pub mod RowLemmas
 pub mod ValuesLemmas
 pub mod Sets
 pub mod Numbered
