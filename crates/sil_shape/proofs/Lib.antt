@@ -3,6 +3,7 @@ pub mod RowLemmas
 pub mod ValuesLemmas
 pub mod Sets
 pub mod Numbered
+pub mod ChoiceLemmas
 pub mod Computed
 pub mod Shortened
 pub mod NextClasses

@@ -53,10 +53,10 @@ unfolding parts_row
 parts_row-end o parts i h = ap (parts_row o) (drop_all i parts h)
 
 -- the mnemonic stands first
-pub pushed_row : (o : Op) {parts : List Part} {stack new first : List Symbol}
+pub pushed_row : (o : Op) (stack first : List Symbol) {parts : List Part} {new : List Symbol}
     → parts ≡ parts_of o → reverse stack ≡ parts_row o parts ++ first → new ≡ stack ++ Read (word (k.Mnemonic o)) ∷ [] → reverse new ≡ row_body o ++ first
 unfolding row_body
-pushed_row o {stack = stack} {first = first} parts_are before new_is =
+pushed_row o stack first parts_are before new_is =
     let mnemonic = Read (word (k.Mnemonic o)) in
     ap reverse new_is ∙ reverse-append stack (mnemonic ∷ []) ∙ ap (λ l. mnemonic ∷ l) (before ∙ ap (λ l. parts_row o l ++ first) parts_are)
 

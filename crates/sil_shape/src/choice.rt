@@ -1,11 +1,13 @@
 //! The choice of a production by the next token.
 
-ghost use Rattle.std.specs.Prelude.{◌≡◌, ◌↔◌, IsTrue};
+ghost use Rattle.std.specs.Prelude.{◌≡◌, ◌↔◌, find, IsTrue};
 ghost use Rattle.sil_shape.specs.Accepts.{is_type_word, accepts};
 ghost use Rattle.sil_shape.specs.Derivation.{Accepts};
-ghost use Rattle.sil_shape.specs.Choice.{choose, has, has_class, row_at_end, row_inside, started};
+ghost use Rattle.sil_shape.specs.Choice.{choose, has, has_class, row_at_end, row_inside, started, starts};
+ghost use Rattle.sil_shape.specs.Grammar.{alternatives};
 
 use crate::alternatives::alternatives;
+use crate::class_numbers::class_number;
 use crate::grammar::{Nonterminal, Production, Symbol, Terminal};
 use crate::rows::ends_block;
 use crate::starts::{empty_choice, starts};
@@ -51,7 +53,7 @@ pub(crate) fn accepts_terminal(terminal: Terminal, class: Class) -> bool
             Class::Word(Keyword::Mnemonic(op)) => ends_block(op),
             _ => false,
         },
-        Terminal::Just(wanted) => wanted == class,
+        Terminal::Just(wanted) => class_number(wanted) == class_number(class),
     }
 }
 
@@ -94,6 +96,17 @@ fn row_at_end(look: Option<Class>) -> Option<Production>
     }
 }
 
+/// The production that begins with the next token, among those that the grammar lists for a part.
+fn listed(part: Nonterminal, look: Option<Class>) -> Option<Production>
+    ensures { result ≡ find (λ p. has (starts p) look) (alternatives part) }
+{
+    alternatives(part)
+        .iter()
+        .copied()
+        .find(|production| has(starts(*production), look))
+}
+
+/// The production of a part whose text begins with the next token.
 #[tactic(auto, unfolding(crate::specs::Choice::started))]
 fn started(part: Nonterminal, look: Option<Class>) -> Option<Production>
     ensures { result ≡ started part look }
@@ -101,10 +114,7 @@ fn started(part: Nonterminal, look: Option<Class>) -> Option<Production>
     match part {
         Nonterminal::Row => row_inside(look),
         Nonterminal::Terminator => row_at_end(look),
-        _ => alternatives(part)
-            .iter()
-            .copied()
-            .find(|production| has(starts(*production), look)),
+        _ => listed(part, look),
     }
 }
 

@@ -5,6 +5,7 @@
 mod alternatives;
 pub mod bodies;
 mod choice;
+mod class_numbers;
 pub mod grammar;
 pub mod machine;
 mod rows;

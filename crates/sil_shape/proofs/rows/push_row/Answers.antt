@@ -18,4 +18,4 @@ loop-i-preserved c =
 pub returns : goal.returns
 returns c =
     let first : c.loop-i.i ≡ 0 = omega arith in
-    pushed_row c.args.op c.row_of.ensures.parts (c.loop-i.invariant ∙ ap (λ i. parts_row c.args.op (drop i c.row_of.result.parts.now) ++ reverse c.args.stack.now.items) first) c.in_ok-push.ensures.items
+    pushed_row c.args.op _ _ c.row_of.ensures.parts (c.loop-i.invariant ∙ ap (λ i. parts_row c.args.op (drop i c.row_of.result.parts.now) ++ reverse c.args.stack.now.items) first) c.in_ok-push.ensures.items
