@@ -1,6 +1,6 @@
 -- The rows of the grammar, as the table of instructions gives them: what each part of an instruction's form is in the
 -- grammar, and which part of the grammar the instruction writes.
-use Rattle.std.specs.Prelude.{List, [], ◌∷◌, ◌++◌, Bool, true, false, if◌then◌else◌, ◌&&◌, not}
+use Rattle.std.specs.Prelude.{List, [], ◌∷◌, ◌++◌, Bool, false, if◌then◌else◌, ◌&&◌, not}
 use Rattle.instruction_table.specs.declared.entries.Detail.{Detail}
 use Rattle.instruction_table.specs.declared.entries.Detail.TheVariants as detail
 use Rattle.instruction_table.specs.declared.entries.Ending.{Ending}

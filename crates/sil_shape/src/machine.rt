@@ -10,10 +10,10 @@ ghost use Rattle.sil_shape.specs.declared.machine.ShapeRefusal.TheVariants.{Firs
 
 use crate::bodies::push_body;
 use crate::choice::{accepts, choose};
-use token_classes::Class;
 use crate::grammar::{Nonterminal, Production, Symbol};
 use crate::steps::{Front, Step};
 use std::alloc::{AllocError, Global};
+use token_classes::Class;
 
 /// Why a list of classes has no derivation.
 #[derive(Drop)]
