@@ -25,7 +25,7 @@ use Rattle.name_resolution.specs.Resolved.{Scope, resolved_operand}
 use Rattle.numbered_form.specs.Lists.{Each, is_empty}
 use Rattle.numbered_form.specs.Parts.{are_of_parts, has_operands, is_bare, is_typed}
 use Rattle.numbered_form.specs.Types.{HasOperandType}
-use Rattle.numbered_reading_laws.proofs.ListsAndFaults.{Each-append, Each-weaker, all_each, both, either_first, not_passed-map}
+use Rattle.numbered_reading_laws.proofs.ListsAndFaults.{Each-append, Each-weaker, all_each, both, either_first, implied, not_passed-map}
 use Rattle.numbered_reading_laws.proofs.FaultlessParts.{AreEnumOperands, AreGoodFrom, IsGoodOperand, IsGoodPart}
 use Rattle.numbered_reading_laws.proofs.RowRules.{may_stand, none_asked, operand_parts}
 
@@ -89,10 +89,6 @@ left_out : (lacks rest empty : Bool) → lacks ≡ true → empty ≡ true → (
 left_out lacks true empty l e = refl
 left_out lacks false empty l e = both lacks empty l e
 
-alone : (lacks last : Bool) → lacks ≡ true → (not lacks || last) ≡ true → last ≡ true
-alone true last l e = e
-alone false last l e = absurd (true≢false (sym l))
-
 rest_follows : (lacks last rest empty : Bool) → (not lacks || last) ≡ true → (last ≡ true → rest ≡ empty) → (rest || (lacks && empty)) ≡ true → rest ≡ true
 rest_follows true true rest empty stands same e = same refl ∙ none_follow true rest empty (same refl) e
 rest_follows true false rest empty stands same e = absurd (true≢false (sym stands))
@@ -128,7 +124,7 @@ left_out_typed false x e = absurd (cc)
 typed_follow : (o : Op) (ps : List Part) (os : List WrittenOperand) → (os ≡ [] → may_lack_operand o ≡ true) → (not (may_lack_operand o) || operand_parts ps == 0) ≡ true → AreEnumOperands os
     → (s : Scope) (more : List Operand) → may_follow o (λ more. are_of_parts ps more) more ≡ true → may_follow o (λ more. are_of_parts (part.Typed ∷ ps) more) (map (resolved_operand s) os ++ more) ≡ true
 typed_follow o ps [] lacks stands g s more e =
-    let last : (operand_parts ps == 0) ≡ true = alone (may_lack_operand o) (operand_parts ps == 0) (lacks refl) stands in
+    let last : (operand_parts ps == 0) ≡ true = implied (may_lack_operand o) (operand_parts ps == 0) (lacks refl) stands in
     left_out (may_lack_operand o) (are_of_parts (part.Typed ∷ ps) more) (is_empty more) (lacks refl)
     (none_follow (may_lack_operand o) (are_of_parts ps more) (is_empty more) (asks_none ps more last) e)
 typed_follow o ps (x ∷ []) lacks stands g s more e =

@@ -3,7 +3,6 @@ use Rattle.std.proofs.Common.{◌≡◌, ℕ, suc, ◌≤◌, ◌+◌, List, [],
 use Rattle.std.proofs.lemmas.List.{length-map}
 use Rattle.instruction_table.specs.Forms.{has_one_result}
 use Rattle.instruction_table.specs.declared.op.Op.{Op}
-use Rattle.instruction_table.specs.declared.op.Op.TheVariants as op
 use Rattle.written_tree.specs.declared.written_declarations.WrittenToken.{WrittenToken}
 use Rattle.written_tree.specs.declared.written_instructions.WrittenInst.{WrittenInst}
 use Rattle.name_resolution.specs.Resolved.{Scope, counted, defined_by, resolved_inst}
@@ -27,17 +26,13 @@ pub length-counted : (first : ℕ) (values : List (Option (List ℕ))) → lengt
 length-counted first [] = refl
 length-counted first (value ∷ values) = ap suc (length-counted (first + 1) values)
 
-unnamed_few : (o : Op) → length (defined_by o []) ≤ 64
-unfolding has_one_result
-unnamed_few op.IntegerLiteral = omega arith
-unnamed_few _ = omega arith
-
-defined_few : (o : Op) (tokens : List WrittenToken) → length tokens ≤ 64 → length (defined_by o tokens) ≤ 64
-defined_few o [] h = unnamed_few o
-defined_few o (token ∷ tokens) h = rw length-map h
+unnamed_few : (one : Bool) (first : ℕ) → length (counted first (if one then None ∷ [] else [])) ≤ 64
+unnamed_few true first = omega arith
+unnamed_few false first = omega arith
 
 pub results_few : (o : Op) (first : ℕ) (tokens : List WrittenToken) → length tokens ≤ 64 → length (counted first (defined_by o tokens)) ≤ 64
-results_few o first tokens h = rw length-counted (defined_few o tokens h)
+results_few o first [] h = unnamed_few (has_one_result o) first
+results_few o first (token ∷ tokens) h = rw (length-counted, length-map) h
 
 -- an instruction with these names for its results
 pub renamed : (s : Scope) (first : ℕ) (w : WrittenInst) (tokens : List WrittenToken) → length tokens ≤ 64

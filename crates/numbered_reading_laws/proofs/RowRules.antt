@@ -1,7 +1,9 @@
 -- What each row of the table of instructions keeps to, by computation: a proof over any row asks no more of it.
 use Rattle.std.proofs.Common.{◌≡◌, ℕ, suc, List, [], ◌∷◌, Bool, true, false, cond, ◌&&◌, ◌||◌, ◌==◌, not, nat_le, refl}
 use Rattle.std.specs.List.{list_any}
-use Rattle.instruction_table.specs.Forms.{may_lack_operand, parts_of, words_of}
+use Rattle.instruction_table.specs.Forms.{extra_value_of, has_one_result, is_terminator, may_lack_operand, parts_of, words_of}
+use Rattle.instruction_table.specs.declared.entries.ExtraValue.{ExtraValue}
+use Rattle.instruction_table.specs.declared.entries.ExtraValue.TheVariants as extra
 use Rattle.instruction_table.specs.declared.entries.Words.{Words}
 use Rattle.instruction_table.specs.declared.entries.Words.TheVariants as words
 use Rattle.instruction_table.specs.declared.forms.Part.{Part}
@@ -11,6 +13,7 @@ use Rattle.instruction_table.specs.declared.op.Op.TheVariants as op
 use Rattle.sil_ast.specs.declared.operands.Operand.{Operand}
 use Rattle.numbered_form.specs.Lists.{is_empty}
 use Rattle.numbered_form.specs.Parts.{are_of_parts, has_edges, is_type, row_has}
+use Rattle.numbered_reading_laws.proofs.ListsAndFaults.{implied}
 
 abbrev pub is_operand : Part → Bool
 is_operand part.Typed = true
@@ -31,6 +34,10 @@ operand_parts (here ∷ others) = cond (is_operand here) (suc (operand_parts oth
 abbrev pub takes_words : Words → Bool
 takes_words words.NoWord = false
 takes_words _ = true
+
+abbrev pub takes_none : ExtraValue → Bool
+takes_none extra.Never = true
+takes_none _ = false
 
 -- the part may stand before these: an operand that may be left out is the only one, a list of arguments is the last
 -- of the operands, and a number stands behind its type
@@ -58,6 +65,15 @@ parts_stand _ = refl
 pub edges_stand : (o : Op) → has_its_edges o ≡ true
 edges_stand op.IntegerLiteral = refl
 edges_stand _ = refl
+
+-- a terminator gives no result and counts for no value more
+stands_alone : (o : Op) → (not (is_terminator o) || (not (has_one_result o) && takes_none (extra_value_of o))) ≡ true
+unfolding has_one_result
+stands_alone op.IntegerLiteral = refl
+stands_alone _ = refl
+
+pub ends_alone : (o : Op) → is_terminator o ≡ true → (not (has_one_result o) && takes_none (extra_value_of o)) ≡ true
+ends_alone o e = implied (is_terminator o) (not (has_one_result o) && takes_none (extra_value_of o)) e (stands_alone o)
 
 pub few_operand_parts : (o : Op) → nat_le (operand_parts (parts_of o)) 64 ≡ true
 few_operand_parts op.IntegerLiteral = refl

@@ -3,16 +3,14 @@ use Rattle.std.proofs.Common.{◌≡◌, ℕ, ◌+◌, ◌≤◌, List, [], ◌�
 use Rattle.std.specs.List.{list_any}
 use Rattle.std.specs.Option.{option_map}
 use Rattle.std.proofs.lemmas.List.{length-map}
-use Rattle.instruction_table.specs.Forms.{detail_of, ending_of, ends, is_terminator, parts_of, words_of}
-use Rattle.instruction_table.specs.declared.entries.Ending.{Ending}
-use Rattle.instruction_table.specs.declared.entries.Ending.TheVariants as ending
+use Rattle.instruction_table.specs.Forms.{detail_of, is_terminator, parts_of, words_of}
 use Rattle.instruction_table.specs.declared.entries.Words.{Words}
 use Rattle.instruction_table.specs.declared.entries.Words.TheVariants as words
 use Rattle.instruction_table.specs.declared.forms.Part.{Part}
 use Rattle.instruction_table.specs.declared.forms.Part.TheVariants as part
 use Rattle.instruction_table.specs.declared.op.Op.{Op}
 use Rattle.sil_ast.specs.declared.inst.Qualifier.TheVariants as qualifier
-use Rattle.sil_shape.specs.Rows.{comma_behind, ends_block, is_end, parts_row, row_body, row_part, symbols_of}
+use Rattle.sil_shape.specs.Rows.{comma_behind, ends_block, parts_row, row_body, row_part, symbols_of}
 use Rattle.sil_shape.specs.declared.grammar.Nonterminal.TheVariants as n
 use Rattle.sil_shape.specs.declared.grammar.Symbol.{Symbol}
 use Rattle.written_tree.specs.Faults.{earlier}
@@ -220,15 +218,10 @@ unfolding IsGoodPart
 by_ending true x e none good = record { ends = e; no_results = none; good = good }
 by_ending false x e none good = record { goes_on = e; no_results = none; good = good }
 
-same_end : (e : Ending) → ends e ≡ is_end e
-same_end ending.Inside = refl
-same_end _ = refl
-
 -- the part of the grammar that stands for a row's instruction is good
 pub good_row : (o : Op) (parts : List PartValue) (x : PartValue) → inst_of x ≡ row o parts → AreGoodFrom 0 (row_body o) parts → row_fault o parts ≡ None → IsGoodPart (row_part o) x
 unfolding row_body row_part ends_block
 good_row o parts x is good h =
     let g : IsGoodSoFar o [] (row o parts) = all_parts o (parts_of o) 1 parts (begun o parts) None (parts_stand o) good.1 h (nothing_written o parts) in
     let k : IsGoodSoFar o [] (inst_of x) = subst (IsGoodSoFar o []) (sym is) g in
-    let ends_so : is_terminator (inst_of x).op ≡ is_end (ending_of o) = ap is_terminator k.op ∙ same_end (ending_of o) in
-    by_ending (is_end (ending_of o)) x ends_so k.no_results (good_inst (inst_of x) (subst (λ (o : Op). IsGoodSoFar o [] (inst_of x)) (sym k.op) k))
+    by_ending (is_terminator o) x (ap is_terminator k.op) k.no_results (good_inst (inst_of x) (subst (λ (o : Op). IsGoodSoFar o [] (inst_of x)) (sym k.op) k))
