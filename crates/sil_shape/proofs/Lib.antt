@@ -1,7 +1,9 @@
 pub mod Derived
+pub mod RowLemmas
 pub mod ValuesLemmas
 pub mod Sets
 pub mod Numbered
+pub mod ChoiceLemmas
 pub mod Computed
 pub mod Shortened
 pub mod NextClasses

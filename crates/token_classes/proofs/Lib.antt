@@ -1,1 +1,3 @@
+mod ByLengthLemmas
+mod LawLemmas
 pub mod SpellingLemmas
