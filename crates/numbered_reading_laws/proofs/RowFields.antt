@@ -54,54 +54,6 @@ put test o coming IsFine x e fine = record { there = sym e; fine = fine }
 third : (kind : Nonterminal) (at : ℕ) (parts : List PartValue) → IsGoodPart kind (part ((at + 1) + 1) parts) → IsGoodPart kind (part (at + 2) parts)
 third kind at parts g = let e : (at + 1) + 1 ≡ at + 2 = omega arith in subst (λ (k : ℕ). IsGoodPart kind (part k parts)) e g
 
--- types, signatures, functions and members
-
-pub type_kept : (o : Op) (here : Part) (others : List Part) (at : ℕ) (parts : List PartValue) (i : WrittenInst) → IsOfRow o here → AreGoodFrom at (symbols_of o here) parts
-    → HasField is_type o (list_any is_type (here ∷ others)) IsPlainType i.ty → HasField is_type o (list_any is_type others) IsPlainType (with_part o here at parts i).ty
-unfolding symbols_of IsGoodPart
-type_kept o part.TypeWord others at parts i own good g = put is_type o (list_any is_type others) IsPlainType (type_of (part (at + 1) parts)).ty (own is_type refl) (plain_type (type_of (part (at + 1) parts)) good.1.0)
-type_kept o part.ResultType others at parts i own good g = put is_type o (list_any is_type others) IsPlainType (type_of (part (at + 2) parts)).ty (own is_type refl) (plain_type (type_of (part (at + 2) parts)) (third n.Type at parts good.1.1.0))
-type_kept o _ others at parts i own good g = g
-
-pub signature_kept : (o : Op) (here : Part) (others : List Part) (at : ℕ) (parts : List PartValue) (i : WrittenInst) → IsOfRow o here → AreGoodFrom at (symbols_of o here) parts
-    → HasField is_signature o (list_any is_signature (here ∷ others)) IsGoodSignature i.signature → HasField is_signature o (list_any is_signature others) IsGoodSignature (with_part o here at parts i).signature
-unfolding symbols_of IsGoodPart
-signature_kept o part.SignatureWord others at parts i own good g = put is_signature o (list_any is_signature others) IsGoodSignature _ (own is_signature refl) (third n.FunctionType at parts good.1.1.0)
-signature_kept o _ others at parts i own good g = g
-
-pub function_kept : (o : Op) (here : Part) (others : List Part) (at : ℕ) (parts : List PartValue) (i : WrittenInst) → IsOfRow o here
-    → (is_some i.function || list_any is_callee (here ∷ others)) ≡ row_has is_callee o → (is_some (with_part o here at parts i).function || list_any is_callee others) ≡ row_has is_callee o
-function_kept o part.Callee others at parts i own g = sym (own is_callee refl)
-function_kept o _ others at parts i own g = g
-
-spelled_member : (d : Detail) (x : PartValue) → IsGoodPart (member_by d) x → IsMemberSpelled (member_of x)
-unfolding IsGoodPart
-spelled_member detail.Case x g = g
-spelled_member _ x g = g
-
-pub member_kept : (o : Op) (here : Part) (others : List Part) (at : ℕ) (parts : List PartValue) (i : WrittenInst) → IsOfRow o here → AreGoodFrom at (symbols_of o here) parts
-    → HasField is_member o (list_any is_member (here ∷ others)) IsMemberSpelled i.member → HasField is_member o (list_any is_member others) IsMemberSpelled (with_part o here at parts i).member
-unfolding symbols_of rows.member_of
-member_kept o part.Member others at parts i own good g = put is_member o (list_any is_member others) IsMemberSpelled (member_of (part at parts)) (own is_member refl) (spelled_member (detail_of o) (part at parts) good.0)
-member_kept o _ others at parts i own good g = g
-
--- texts
-
-pub record IsTextFor (d : Detail) (text : List ℕ) : Type 0 where
-  pub known : IsTrue (is_text_by d text)
-  pub quotable : IsTrue (is_quotable text)
-
-text_for : (d : Detail) (text : List ℕ) → IsGoodToken (text_by d) text → IsTextFor d text
-unfolding IsGoodToken
-text_for detail.Operation text g = record { known = g.known; quotable = g.quotable }
-text_for _ text g = record { known = refl; quotable = g }
-
-pub text_kept : (o : Op) (here : Part) (others : List Part) (at : ℕ) (parts : List PartValue) (i : WrittenInst) → IsOfRow o here → AreGoodFrom at (symbols_of o here) parts
-    → HasField is_text o (list_any is_text (here ∷ others)) (IsTextFor (detail_of o)) i.text → HasField is_text o (list_any is_text others) (IsTextFor (detail_of o)) (with_part o here at parts i).text
-unfolding symbols_of rows.text_of
-text_kept o part.Text others at parts i own good g = put is_text o (list_any is_text others) (IsTextFor (detail_of o)) (text_at at parts) (own is_text refl) (text_for (detail_of o) (text_at at parts) good.0)
-text_kept o _ others at parts i own good g = g
-
 -- numbers: behind one stands no type
 
 pub record IsNumberFor (d : Detail) (t : Option TypeName) (typed : Bool) (number : ℤ) : Type 0 where
@@ -133,17 +85,21 @@ no_number : (d : Detail) (t new : Option TypeName) (typed : Bool) (number : Opti
 no_number d t new typed None g = tt
 no_number d t new typed (Some n) g = absurd (true≢false g.last)
 
-pub number_kept : (o : Op) (here : Part) (others : List Part) (at : ℕ) (parts : List PartValue) (i : WrittenInst) → may_stand o here others ≡ true → IsOfRow o here → IfSome i.ty IsPlainType → fault_of_part o here at parts i ≡ None
-    → HasField is_number o (list_any is_number (here ∷ others)) (IsNumberFor (detail_of o) i.ty (list_any is_type (here ∷ others))) i.number
-    → HasField is_number o (list_any is_number others) (IsNumberFor (detail_of o) (with_part o here at parts i).ty (list_any is_type others)) (with_part o here at parts i).number
-number_kept o part.Number others at parts i stands own plain h g =
-    put_number o (list_any is_number others) (list_any is_type others) i.ty _ (own is_number refl)
-    (read_number (detail_of o) i.ty (list_any is_type others) (text_at at parts) (place_at at parts) (not_true (list_any is_type others) stands) plain h)
-number_kept o part.TypeWord others at parts i stands own plain h g = record { there = g.there; fine = no_number (detail_of o) i.ty _ (list_any is_type others) i.number g.fine }
-number_kept o part.ResultType others at parts i stands own plain h g = record { there = g.there; fine = no_number (detail_of o) i.ty _ (list_any is_type others) i.number g.fine }
-number_kept o _ others at parts i stands own plain h g = g
+-- members, texts and words in brackets, as the columns of the row allow them
 
--- words in brackets, flags, and what is said for a debugger
+spelled_member : (d : Detail) (x : PartValue) → IsGoodPart (member_by d) x → IsMemberSpelled (member_of x)
+unfolding IsGoodPart
+spelled_member detail.Case x g = g
+spelled_member _ x g = g
+
+pub record IsTextFor (d : Detail) (text : List ℕ) : Type 0 where
+  pub known : IsTrue (is_text_by d text)
+  pub quotable : IsTrue (is_quotable text)
+
+text_for : (d : Detail) (text : List ℕ) → IsGoodToken (text_by d) text → IsTextFor d text
+unfolding IsGoodToken
+text_for detail.Operation text g = record { known = g.known; quotable = g.quotable }
+text_for _ text g = record { known = refl; quotable = g }
 
 word_among : (w : Words) (x : PartValue) → takes_words w ≡ true → IsGoodPart (word_by w) x → IsTrue (is_among w (qualifier_of x).word)
 unfolding IsGoodPart
@@ -152,24 +108,7 @@ word_among words.AnyWord x takes g = refl
 word_among words.TakeWord x takes g = g
 word_among words.InitWord x takes g = g
 
-pub qualifier_kept : (o : Op) (here : Part) (others : List Part) (at : ℕ) (parts : List PartValue) (i : WrittenInst) → may_stand o here others ≡ true → AreGoodFrom at (symbols_of o here) parts
-    → IsTrue (may_have o i.qualifier.word) → IsTrue (may_have o (with_part o here at parts i).qualifier.word)
-unfolding symbols_of rows.qualifier_of
-qualifier_kept o part.Qualifier others at parts i stands good g = word_among (words_of o) (part at parts) stands good.0
-qualifier_kept o _ others at parts i stands good g = g
-
-pub flags_kept : (o : Op) (here : Part) (at : ℕ) (parts : List PartValue) (i : WrittenInst) → IsOfRow o here
-    → IsTrue (row_has is_flags o || not (i.lexical || i.var_decl)) → IsTrue (row_has is_flags o || not ((with_part o here at parts i).lexical || (with_part o here at parts i).var_decl))
-flags_kept o part.Flags at parts i own g = either_first _ _ (own is_flags refl)
-flags_kept o _ at parts i own g = g
-
-pub debug_kept : (o : Op) (here : Part) (at : ℕ) (parts : List PartValue) (i : WrittenInst) → IsOfRow o here → AreGoodFrom at (symbols_of o here) parts
-    → IsTrue (row_has is_debug o || is_silent i.debug) × IsGoodDebug i.debug → IsTrue (row_has is_debug o || is_silent (with_part o here at parts i).debug) × IsGoodDebug (with_part o here at parts i).debug
-unfolding symbols_of IsGoodPart
-debug_kept o part.Debug at parts i own good g = (either_first _ _ (own is_debug refl), good.0)
-debug_kept o _ at parts i own good g = g
-
--- edges
+-- edges, as the ending of the row allows them
 
 pub record AreEdgesOf (e : Ending) (es : List WrittenEdge) : Type 0 where
   pub ending : (s : Scope) → are_edges_by e (map (resolved_edge s) es) ≡ true
@@ -189,10 +128,77 @@ pub record HasItsEdges (o : Op) (coming : Bool) (es : List WrittenEdge) : Type 0
   pub there : (s : Scope) → (coming || has_edges o (map (resolved_edge s) es)) ≡ true
   pub good : (s : Scope) → Each IsGoodEdge (map (resolved_edge s) es)
 
-pub edges_kept : (o : Op) (here : Part) (others : List Part) (at : ℕ) (parts : List PartValue) (i : WrittenInst) → AreGoodFrom at (symbols_of o here) parts
-    → HasItsEdges o (list_any is_edges (here ∷ others)) i.edges → HasItsEdges o (list_any is_edges others) (with_part o here at parts i).edges
-unfolding symbols_of rows.edges_of
-edges_kept o part.Edges others at parts i good g =
-    let w : AreEdgesOf (ending_of o) (edges_at (ending_of o) at parts) = written_edges (ending_of o) at parts good in
-    record { there = λ s. either_second (list_any is_edges others) _ (w.ending s); good = w.good }
-edges_kept o _ others at parts i good g = g
+-- one part more, and what that means to each field
+module _ (o : Op) (others : List Part) (at : ℕ) (parts : List PartValue) (i : WrittenInst) where
+  pub type_kept : (here : Part) → IsOfRow o here → AreGoodFrom at (symbols_of o here) parts
+      → HasField is_type o (list_any is_type (here ∷ others)) IsPlainType i.ty → HasField is_type o (list_any is_type others) IsPlainType (with_part o here at parts i).ty
+  unfolding symbols_of IsGoodPart
+  type_kept part.TypeWord own good g = put is_type o (list_any is_type others) IsPlainType (type_of (part (at + 1) parts)).ty (own is_type refl) (plain_type (type_of (part (at + 1) parts)) good.1.0)
+  type_kept part.ResultType own good g = put is_type o (list_any is_type others) IsPlainType (type_of (part (at + 2) parts)).ty (own is_type refl) (plain_type (type_of (part (at + 2) parts)) (third n.Type at parts good.1.1.0))
+  type_kept _ own good g = g
+
+  pub signature_kept : (here : Part) → IsOfRow o here → AreGoodFrom at (symbols_of o here) parts
+      → HasField is_signature o (list_any is_signature (here ∷ others)) IsGoodSignature i.signature → HasField is_signature o (list_any is_signature others) IsGoodSignature (with_part o here at parts i).signature
+  unfolding symbols_of IsGoodPart
+  signature_kept part.SignatureWord own good g = put is_signature o (list_any is_signature others) IsGoodSignature _ (own is_signature refl) (third n.FunctionType at parts good.1.1.0)
+  signature_kept _ own good g = g
+
+  pub function_kept : (here : Part) → IsOfRow o here
+      → (is_some i.function || list_any is_callee (here ∷ others)) ≡ row_has is_callee o → (is_some (with_part o here at parts i).function || list_any is_callee others) ≡ row_has is_callee o
+  function_kept part.Callee own g = sym (own is_callee refl)
+  function_kept _ own g = g
+
+  pub member_kept : (here : Part) → IsOfRow o here → AreGoodFrom at (symbols_of o here) parts
+      → HasField is_member o (list_any is_member (here ∷ others)) IsMemberSpelled i.member → HasField is_member o (list_any is_member others) IsMemberSpelled (with_part o here at parts i).member
+  unfolding symbols_of rows.member_of
+  member_kept part.Member own good g = put is_member o (list_any is_member others) IsMemberSpelled (member_of (part at parts)) (own is_member refl) (spelled_member (detail_of o) (part at parts) good.0)
+  member_kept _ own good g = g
+
+  pub text_kept : (here : Part) → IsOfRow o here → AreGoodFrom at (symbols_of o here) parts
+      → HasField is_text o (list_any is_text (here ∷ others)) (IsTextFor (detail_of o)) i.text → HasField is_text o (list_any is_text others) (IsTextFor (detail_of o)) (with_part o here at parts i).text
+  unfolding symbols_of rows.text_of
+  text_kept part.Text own good g = put is_text o (list_any is_text others) (IsTextFor (detail_of o)) (text_at at parts) (own is_text refl) (text_for (detail_of o) (text_at at parts) good.0)
+  text_kept _ own good g = g
+
+  pub number_kept : (here : Part) → may_stand o here others ≡ true → IsOfRow o here → IfSome i.ty IsPlainType → fault_of_part o here at parts i ≡ None
+      → HasField is_number o (list_any is_number (here ∷ others)) (IsNumberFor (detail_of o) i.ty (list_any is_type (here ∷ others))) i.number
+      → HasField is_number o (list_any is_number others) (IsNumberFor (detail_of o) (with_part o here at parts i).ty (list_any is_type others)) (with_part o here at parts i).number
+  number_kept part.Number stands own plain h g =
+      put_number o (list_any is_number others) (list_any is_type others) i.ty _ (own is_number refl)
+      (read_number (detail_of o) i.ty (list_any is_type others) (text_at at parts) (place_at at parts) (not_true (list_any is_type others) stands) plain h)
+  number_kept part.TypeWord stands own plain h g = record { there = g.there; fine = no_number (detail_of o) i.ty _ (list_any is_type others) i.number g.fine }
+  number_kept part.ResultType stands own plain h g = record { there = g.there; fine = no_number (detail_of o) i.ty _ (list_any is_type others) i.number g.fine }
+  number_kept _ stands own plain h g = g
+
+  pub qualifier_kept : (here : Part) → may_stand o here others ≡ true → AreGoodFrom at (symbols_of o here) parts → IsTrue (may_have o i.qualifier.word) → IsTrue (may_have o (with_part o here at parts i).qualifier.word)
+  unfolding symbols_of rows.qualifier_of
+  qualifier_kept part.Qualifier stands good g = word_among (words_of o) (part at parts) stands good.0
+  qualifier_kept _ stands good g = g
+
+  pub flags_kept : (here : Part) → IsOfRow o here
+      → IsTrue (row_has is_flags o || not (i.lexical || i.var_decl)) → IsTrue (row_has is_flags o || not ((with_part o here at parts i).lexical || (with_part o here at parts i).var_decl))
+  flags_kept part.Flags own g = either_first _ _ (own is_flags refl)
+  flags_kept _ own g = g
+
+  pub debug_kept : (here : Part) → IsOfRow o here → AreGoodFrom at (symbols_of o here) parts
+      → IsTrue (row_has is_debug o || is_silent i.debug) × IsGoodDebug i.debug → IsTrue (row_has is_debug o || is_silent (with_part o here at parts i).debug) × IsGoodDebug (with_part o here at parts i).debug
+  unfolding symbols_of IsGoodPart
+  debug_kept part.Debug own good g = (either_first _ _ (own is_debug refl), good.0)
+  debug_kept _ own good g = g
+
+  pub edges_kept : (here : Part) → AreGoodFrom at (symbols_of o here) parts → HasItsEdges o (list_any is_edges (here ∷ others)) i.edges → HasItsEdges o (list_any is_edges others) (with_part o here at parts i).edges
+  unfolding symbols_of rows.edges_of
+  edges_kept part.Edges good g =
+      let w : AreEdgesOf (ending_of o) (edges_at (ending_of o) at parts) = written_edges (ending_of o) at parts good in
+      record { there = λ s. either_second (list_any is_edges others) _ (w.ending s); good = w.good }
+  edges_kept _ good g = g
+
+  -- no part changes these
+
+  pub same_op : (here : Part) → (with_part o here at parts i).op ≡ i.op
+  same_op part.Flags = refl
+  same_op _ = refl
+
+  pub same_results : (here : Part) → (with_part o here at parts i).results ≡ i.results
+  same_results part.Flags = refl
+  same_results _ = refl

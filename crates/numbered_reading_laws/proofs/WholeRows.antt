@@ -7,7 +7,6 @@ use Rattle.instruction_table.specs.Forms.{detail_of, is_terminator, parts_of, wo
 use Rattle.instruction_table.specs.declared.entries.Words.{Words}
 use Rattle.instruction_table.specs.declared.entries.Words.TheVariants as words
 use Rattle.instruction_table.specs.declared.forms.Part.{Part}
-use Rattle.instruction_table.specs.declared.forms.Part.TheVariants as part
 use Rattle.instruction_table.specs.declared.op.Op.{Op}
 use Rattle.sil_ast.specs.declared.inst.Qualifier.TheVariants as qualifier
 use Rattle.sil_shape.specs.Rows.{comma_behind, ends_block, parts_row, row_body, row_part, symbols_of}
@@ -30,7 +29,7 @@ use Rattle.numbered_form.specs.Types.{HasEdgeTypes, HasSignatureTypes, IsPlainTy
 use Rattle.numbered_reading_laws.proofs.ListsAndFaults.{Each-weaker, either_first, either_second, first_of_both, no_first, no_second, second_of_both}
 use Rattle.numbered_reading_laws.proofs.FaultlessParts.{AreGoodFrom, IsGoodAnywhere, IsGoodDebug, IsGoodEdge, IsGoodPart, IsGoodSignature, nothing_shown}
 use Rattle.numbered_reading_laws.proofs.OperandLemmas.{AreOperandsBefore, operands_kept}
-use Rattle.numbered_reading_laws.proofs.RowFields.{HasField, HasItsEdges, IsNumberFor, IsOfRow, IsTextFor, debug_kept, edges_kept, flags_kept, function_kept, member_kept, number_kept, qualifier_kept, signature_kept, text_kept, type_kept}
+use Rattle.numbered_reading_laws.proofs.RowFields.{HasField, HasItsEdges, IsNumberFor, IsOfRow, IsTextFor, debug_kept, edges_kept, flags_kept, function_kept, member_kept, number_kept, qualifier_kept, same_op, same_results, signature_kept, text_kept, type_kept}
 use Rattle.numbered_reading_laws.proofs.RowLemmas.{results_few, results_there}
 use Rattle.numbered_reading_laws.proofs.RowRules.{edges_stand, few_operand_parts, is_edges, may_all_stand, may_stand, operand_parts, parts_stand}
 
@@ -51,16 +50,6 @@ pub record IsGoodSoFar (o : Op) (ps : List Part) (i : WrittenInst) : Type 0 wher
   pub operands : AreOperandsBefore o ps i.operands
   pub edges : HasItsEdges o (list_any is_edges ps) i.edges
 
--- no part changes these
-
-same_op : (o : Op) (here : Part) (at : ℕ) (parts : List PartValue) (i : WrittenInst) → (with_part o here at parts i).op ≡ i.op
-same_op o part.Flags at parts i = refl
-same_op o _ at parts i = refl
-
-same_results : (o : Op) (here : Part) (at : ℕ) (parts : List PartValue) (i : WrittenInst) → (with_part o here at parts i).results ≡ i.results
-same_results o part.Flags at parts i = refl
-same_results o _ at parts i = refl
-
 -- one part more
 one_more_part : (o : Op) (here : Part) (others : List Part) (at : ℕ) (parts : List PartValue) (i : WrittenInst) → may_stand o here others ≡ true → AreGoodFrom at (symbols_of o here) parts
     → fault_of_part o here at parts i ≡ None → IsGoodSoFar o (here ∷ others) i → IsGoodSoFar o others (with_part o here at parts i)
@@ -68,19 +57,19 @@ one_more_part o here others at parts i stands good h g =
     let own : IsOfRow o here = (λ test e. g.of_row test (either_first (test here) (list_any test others) e)) in
     record {
       of_row = λ test e. g.of_row test (either_second (test here) (list_any test others) e);
-      op = same_op o here at parts i ∙ g.op;
-      no_results = same_results o here at parts i ∙ g.no_results;
-      ty = type_kept o here others at parts i own good g.ty;
-      signature = signature_kept o here others at parts i own good g.signature;
-      function = function_kept o here others at parts i own g.function;
-      member = member_kept o here others at parts i own good g.member;
-      text = text_kept o here others at parts i own good g.text;
-      number = number_kept o here others at parts i stands own g.ty.fine h g.number;
-      qualifier = qualifier_kept o here others at parts i stands good g.qualifier;
-      flags = flags_kept o here at parts i own g.flags;
-      debug = debug_kept o here at parts i own good g.debug;
+      op = same_op o others at parts i here ∙ g.op;
+      no_results = same_results o others at parts i here ∙ g.no_results;
+      ty = type_kept o others at parts i here own good g.ty;
+      signature = signature_kept o others at parts i here own good g.signature;
+      function = function_kept o others at parts i here own g.function;
+      member = member_kept o others at parts i here own good g.member;
+      text = text_kept o others at parts i here own good g.text;
+      number = number_kept o others at parts i here stands own g.ty.fine h g.number;
+      qualifier = qualifier_kept o others at parts i here stands good g.qualifier;
+      flags = flags_kept o others at parts i here own g.flags;
+      debug = debug_kept o others at parts i here own good g.debug;
       operands = operands_kept o here others at parts i stands good h g.operands;
-      edges = edges_kept o here others at parts i good g.edges;
+      edges = edges_kept o others at parts i here good g.edges;
     }
 
 -- the parts in front, and those behind them
