@@ -1,3 +1,3 @@
-mod ByLengthLemmas
+mod ByLetterLemmas
 mod LawLemmas
 pub mod SpellingLemmas

@@ -1,3 +1,3 @@
-pub mod ByLength
+pub mod ByLetter
 pub mod Laws
 pub mod Spelling

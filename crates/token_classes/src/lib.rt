@@ -1,7 +1,7 @@
 //! The classes of tokens that the grammar tells apart, and how each word, name with `@` and piece of punctuation is spelled.
 #![tactic(auto)]
 
-mod by_length;
+mod by_letter;
 mod classes;
 mod laws;
 mod spellings;

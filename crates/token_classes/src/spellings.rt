@@ -6,7 +6,7 @@ ghost use Rattle.token_classes.specs.declared.classes.AtWord.{AtWord};
 ghost use Rattle.token_classes.specs.declared.classes.Punctuation.{Punctuation};
 ghost use Rattle.token_classes.specs.Spelling.{spelling, keyword_of, at_spelling, at_words, known_at_word, at_word_of, punctuation_spelling, signs, punctuation_of};
 
-use crate::by_length::look_up;
+use crate::by_letter::look_up;
 use crate::classes::{AtWord, Keyword, Punctuation};
 use instruction_table::row_of;
 

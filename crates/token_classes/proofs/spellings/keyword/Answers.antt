@@ -2,7 +2,7 @@ use Rattle.std.proofs.Common.{◌∙◌, ap}
 use Rattle.std.specs.Prelude.{unwrap_or}
 use Rattle.token_classes.specs.declared.classes.Keyword.TheVariants as k
 use Rattle.token_classes.specs.Spelling.{keyword_of}
-use Rattle.token_classes.proofs.ByLengthLemmas.{looked_up-known}
+use Rattle.token_classes.proofs.ByLetterLemmas.{looked_up-known}
 use Rattle.token_classes.proofs.SpellingLemmas.{keyword_each, keyword_known}
 use Rattle.token_classes.proofs.spellings.keyword.Goals as goal
 

@@ -1,16 +1,16 @@
--- The table by length answers as a search through all keywords does.
-use Rattle.std.proofs.Common.{◌≡◌, ℕ, List, length, refl, subst}
+-- The table by first letters answers as a search through all keywords does.
+use Rattle.std.proofs.Common.{◌≡◌, ℕ, List, refl, subst}
 use Rattle.std.specs.Prelude.{Option, Some, None, IfSome}
 use Rattle.instruction_table.specs.declared.op.Op.TheVariants as op
 use Rattle.token_classes.specs.declared.classes.Keyword.{Keyword}
 use Rattle.token_classes.specs.declared.classes.Keyword.TheVariants as k
 use Rattle.token_classes.specs.Spelling.{spelling, keywords, known_keyword}
-use Rattle.token_classes.specs.ByLength.{keywords_of_length, looked_up}
+use Rattle.token_classes.specs.ByLetter.{keywords_at, looked_up, place_of}
 use Rattle.token_classes.proofs.SpellingLemmas.{find_spelled}
 
 -- each keyword has its place in the table: computed for all of them
 looked_up-spelling : (keyword : Keyword) → looked_up (spelling keyword) ≡ known_keyword (spelling keyword)
-unfolding looked_up keywords_of_length known_keyword keywords spelling
+unfolding looked_up keywords_at known_keyword keywords spelling
 looked_up-spelling k.Other = refl
 looked_up-spelling (k.Mnemonic op.IntegerLiteral) = refl
 looked_up-spelling (k.Mnemonic _) = refl
@@ -41,4 +41,4 @@ agree f g word same h i = alike (f word) (g word) (implied IsSpelled Agree (f wo
 
 pub looked_up-known : (word : List ℕ) → looked_up word ≡ known_keyword word
 unfolding looked_up known_keyword
-looked_up-known word = agree looked_up known_keyword word looked_up-spelling (find_spelled spelling word (keywords_of_length (length word))) (find_spelled spelling word keywords)
+looked_up-known word = agree looked_up known_keyword word looked_up-spelling (find_spelled spelling word (keywords_at (place_of word))) (find_spelled spelling word keywords)
