@@ -88,7 +88,7 @@ replays class_of (derived_rule {ss = ss} {steps = steps} q rest) lexemes same e 
     }
 
 -- what tokens stand for is of the symbols' kinds
-kinds_of : {class_of : Lexeme → Class} {ss : List Symbol} {lexemes : List Lexeme} {values : List PartValue} → Stands class_of ss lexemes values → AreOf ss values
+pub kinds_of : {class_of : Lexeme → Class} {ss : List Symbol} {lexemes : List Lexeme} {values : List PartValue} → Stands class_of ss lexemes values → AreOf ss values
 kinds_of nothing = tt
 kinds_of {class_of} (token {s = s} l accepted more) = (leaf_kind s (class_of l) l accepted, kinds_of more)
 kinds_of (production {parts = parts} {value = value} q inside means more) =
