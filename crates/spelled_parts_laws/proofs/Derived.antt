@@ -18,7 +18,7 @@ use Rattle.written_modules.specs.PartFaults.{part_fault}
 use Rattle.written_modules.specs.Replay.{first_fault, parts_of, reduced, replay}
 use Rattle.written_tree.specs.declared.fault.Fault.{Fault}
 use Rattle.written_tree.specs.Faults.{earlier}
-use Rattle.spelled_parts_laws.specs.Laws.{AreStoodFor, IsReplayed}
+use Rattle.spelled_parts_laws.specs.Laws.{AreReplayed, IsReplayed}
 use Rattle.spelled_parts_laws.specs.Stands.{Stands}
 use Rattle.spelled_parts_laws.specs.Stands.Stands.{nothing, token, production}
 use Rattle.spelled_parts_laws.proofs.Agreement.{agrees}
@@ -148,7 +148,7 @@ derived_whole class_of ss lexemes values d =
     (subst (λ ls. Derived class_of ss ls (values ++ [])) (append-nil lexemes) (subst (λ all. Derived class_of all (lexemes ++ []) (values ++ [])) (append-nil ss) d)) in
     record { steps = w.steps; derived = w.derived; no_fault = w.no_fault; same = w.same }
 
-pub stood_for : AreStoodFor
+pub stood_for : AreReplayed
 stood_for class_of ss lexemes values = (
   λ st. derived_whole class_of ss lexemes values (derive st [] [] [] (nothing_left class_of)),
   λ r. subst (Stands class_of ss lexemes) r.same (replays class_of r.derived lexemes (are_classes class_of lexemes) r.no_fault).stands,

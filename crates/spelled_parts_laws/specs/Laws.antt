@@ -16,6 +16,6 @@ pub record IsReplayed (class_of : Lexeme → Class) (ss : List Symbol) (lexemes 
   pub no_fault : first_fault steps lexemes ≡ None
   pub same : replay steps lexemes ≡ values
 
-abbrev pub AreStoodFor : Type 0
-AreStoodFor = (class_of : Lexeme → Class) (ss : List Symbol) (lexemes : List Lexeme) (values : List PartValue)
+abbrev pub AreReplayed : Type 0
+AreReplayed = (class_of : Lexeme → Class) (ss : List Symbol) (lexemes : List Lexeme) (values : List PartValue)
     → Stands class_of ss lexemes values ↔ IsReplayed class_of ss lexemes values
