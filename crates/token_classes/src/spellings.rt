@@ -4,9 +4,11 @@ ghost use Rattle.std.specs.Prelude.{◌≡◌, ◌⊎◌, IfSome};
 ghost use Rattle.token_classes.specs.declared.classes.Keyword.{Keyword};
 ghost use Rattle.token_classes.specs.declared.classes.AtWord.{AtWord};
 ghost use Rattle.token_classes.specs.declared.classes.Punctuation.{Punctuation};
-ghost use Rattle.token_classes.specs.Spelling.{spelling, keywords_of_length, known_keyword, keyword_of, at_spelling, at_words, known_at_word, at_word_of, punctuation_spelling, signs, punctuation_of};
+ghost use Rattle.token_classes.specs.Spelling.{spelling, keyword_of, at_spelling, at_words, known_at_word, at_word_of, punctuation_spelling, signs, punctuation_of};
 
+use crate::by_letter::look_up;
 use crate::classes::{AtWord, Keyword, Punctuation};
+use instruction_table::row_of;
 
 /// How a keyword is spelled; nothing for `Other`.
 #[tactic(auto, unfolding(crate::specs::Spelling::spelling))]
@@ -21,8 +23,6 @@ pub fn spelling(keyword: Keyword) -> &'static [u8]
         Keyword::Import => b"import",
         Keyword::Final => b"final",
         Keyword::Class => b"class",
-        Keyword::Struct => b"struct",
-        Keyword::Enum => b"enum",
         Keyword::Sil => b"sil",
         Keyword::SilVtable => b"sil_vtable",
         Keyword::Deinit => b"deinit",
@@ -47,46 +47,7 @@ pub fn spelling(keyword: Keyword) -> &'static [u8]
         Keyword::Public => b"public",
         Keyword::Thin => b"thin",
         Keyword::Method => b"method",
-        Keyword::IntegerLiteral => b"integer_literal",
-        Keyword::FunctionRef => b"function_ref",
-        Keyword::BuiltinMnemonic => b"builtin",
-        Keyword::CondFail => b"cond_fail",
-        Keyword::AllocRef => b"alloc_ref",
-        Keyword::AllocStack => b"alloc_stack",
-        Keyword::DeallocStack => b"dealloc_stack",
-        Keyword::CopyValue => b"copy_value",
-        Keyword::DestroyValue => b"destroy_value",
-        Keyword::MoveValue => b"move_value",
-        Keyword::BeginBorrow => b"begin_borrow",
-        Keyword::EndBorrow => b"end_borrow",
-        Keyword::Load => b"load",
-        Keyword::Store => b"store",
         Keyword::To => b"to",
-        Keyword::LoadBorrow => b"load_borrow",
-        Keyword::DestroyAddr => b"destroy_addr",
-        Keyword::LoadWeak => b"load_weak",
-        Keyword::StoreWeak => b"store_weak",
-        Keyword::LoadUnowned => b"load_unowned",
-        Keyword::StoreUnowned => b"store_unowned",
-        Keyword::Tuple => b"tuple",
-        Keyword::StructExtract => b"struct_extract",
-        Keyword::TupleExtract => b"tuple_extract",
-        Keyword::DestructureStruct => b"destructure_struct",
-        Keyword::DestructureTuple => b"destructure_tuple",
-        Keyword::StructElementAddr => b"struct_element_addr",
-        Keyword::TupleElementAddr => b"tuple_element_addr",
-        Keyword::RefElementAddr => b"ref_element_addr",
-        Keyword::Apply => b"apply",
-        Keyword::DebugValue => b"debug_value",
-        Keyword::StrongRetain => b"strong_retain",
-        Keyword::StrongRelease => b"strong_release",
-        Keyword::RetainValue => b"retain_value",
-        Keyword::ReleaseValue => b"release_value",
-        Keyword::Br => b"br",
-        Keyword::CondBr => b"cond_br",
-        Keyword::SwitchEnum => b"switch_enum",
-        Keyword::Return => b"return",
-        Keyword::Unreachable => b"unreachable",
         Keyword::Default => b"default",
         Keyword::Enumelt => b"enumelt",
         Keyword::Lexical => b"lexical",
@@ -101,131 +62,8 @@ pub fn spelling(keyword: Keyword) -> &'static [u8]
         Keyword::Expr => b"expr",
         Keyword::OpDeref => b"op_deref",
         Keyword::Destroyer => b"destroyer",
+        Keyword::Mnemonic(op) => row_of(op).mnemonic,
     }
-}
-
-/// The keywords of so many bytes.
-#[tactic(auto, unfolding(crate::specs::Spelling::keywords_of_length))]
-fn keywords_of_length(length: usize) -> &'static [Keyword]
-    ensures { result.now ≡ keywords_of_length length }
-{
-    match length {
-        2 => &[Keyword::To, Keyword::Br],
-        3 => &[
-            Keyword::Raw,
-            Keyword::Sil,
-            Keyword::Var,
-            Keyword::Let,
-            Keyword::Get,
-            Keyword::Set,
-        ],
-        4 => &[
-            Keyword::Enum,
-            Keyword::Init,
-            Keyword::Weak,
-            Keyword::Case,
-            Keyword::Int1,
-            Keyword::Int8,
-            Keyword::Thin,
-            Keyword::Load,
-            Keyword::Copy,
-            Keyword::Take,
-            Keyword::Name,
-            Keyword::Expr,
-        ],
-        5 => &[
-            Keyword::Final,
-            Keyword::Class,
-            Keyword::Int16,
-            Keyword::Int32,
-            Keyword::Int64,
-            Keyword::Store,
-            Keyword::Tuple,
-            Keyword::Apply,
-            Keyword::Argno,
-        ],
-        6 => &[
-            Keyword::Import,
-            Keyword::Struct,
-            Keyword::Deinit,
-            Keyword::Hidden,
-            Keyword::Shared,
-            Keyword::Public,
-            Keyword::Method,
-            Keyword::Return,
-            Keyword::Assign,
-        ],
-        7 => &[
-            Keyword::Unowned,
-            Keyword::Builtin,
-            Keyword::Private,
-            Keyword::BuiltinMnemonic,
-            Keyword::CondBr,
-            Keyword::Default,
-            Keyword::Enumelt,
-            Keyword::Lexical,
-            Keyword::Trivial,
-        ],
-        8 => &[Keyword::Optional, Keyword::VarDecl, Keyword::OpDeref],
-        9 => &[
-            Keyword::SilStage,
-            Keyword::Canonical,
-            Keyword::CondFail,
-            Keyword::AllocRef,
-            Keyword::LoadWeak,
-            Keyword::Destroyer,
-        ],
-        10 => &[
-            Keyword::SilVtable,
-            Keyword::CopyValue,
-            Keyword::MoveValue,
-            Keyword::EndBorrow,
-            Keyword::StoreWeak,
-        ],
-        11 => &[
-            Keyword::AllocStack,
-            Keyword::LoadBorrow,
-            Keyword::DebugValue,
-            Keyword::SwitchEnum,
-            Keyword::Unreachable,
-        ],
-        12 => &[
-            Keyword::FunctionRef,
-            Keyword::BeginBorrow,
-            Keyword::DestroyAddr,
-            Keyword::LoadUnowned,
-            Keyword::RetainValue,
-        ],
-        13 => &[
-            Keyword::DeallocStack,
-            Keyword::DestroyValue,
-            Keyword::StoreUnowned,
-            Keyword::TupleExtract,
-            Keyword::StrongRetain,
-            Keyword::ReleaseValue,
-        ],
-        14 => &[
-            Keyword::StructExtract,
-            Keyword::StrongRelease,
-            Keyword::Initialization,
-        ],
-        15 => &[Keyword::IntegerLiteral],
-        16 => &[Keyword::RefElementAddr],
-        17 => &[Keyword::DestructureTuple],
-        18 => &[Keyword::DestructureStruct, Keyword::TupleElementAddr],
-        19 => &[Keyword::StructElementAddr],
-        _ => &[],
-    }
-}
-
-#[tactic(auto, unfolding(crate::specs::Spelling::known_keyword))]
-fn known_keyword(word: &[u8]) -> Option<Keyword>
-    ensures { result ≡ known_keyword word.now }
-{
-    keywords_of_length(word.len())
-        .iter()
-        .copied()
-        .find(|keyword| spelling(*keyword) == word)
 }
 
 /// The keyword that a word spells.
@@ -237,7 +75,7 @@ pub fn keyword(word: &[u8]) -> Keyword
     ensures each { (k : Keyword) → spelling k ≡ word.now → result ≡ k }
     ensures known { (result ≡ Keyword.Other) ⊎ (spelling result ≡ word.now) }
 {
-    known_keyword(word).unwrap_or(Keyword::Other)
+    look_up(word).unwrap_or(Keyword::Other)
 }
 
 /// How a name with `@` is spelled, without the `@`; nothing for `Other`.
