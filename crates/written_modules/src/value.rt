@@ -7,8 +7,8 @@ use sil_ast::{
     Stage,
 };
 use written_tree::{
-    WrittenArg, WrittenBlock, WrittenCase, WrittenEdge, WrittenEntry, WrittenField, WrittenInst,
-    WrittenItem, WrittenModule, WrittenOperand, WrittenQualifier, WrittenToken,
+    Fault, WrittenArg, WrittenBlock, WrittenCase, WrittenEdge, WrittenEntry, WrittenField,
+    WrittenInst, WrittenItem, WrittenModule, WrittenOperand, WrittenQualifier, WrittenToken,
 };
 
 /// What a token or a part of a text stands for. Large parts stand in boxes, since a hostile text leaves a million
@@ -60,6 +60,13 @@ pub(crate) enum Value {
     Debug(Debug),
     Entry(Boxed<WrittenEntry>),
     Module(WrittenModule),
+}
+
+/// What a production stands for, and the first fault in it by itself.
+#[derive(Drop)]
+pub(crate) struct Reduced {
+    pub value: Value,
+    pub fault: Option<Fault>,
 }
 
 /// `[lexical]` and `[var_decl]`
