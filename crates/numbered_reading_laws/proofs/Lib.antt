@@ -2,7 +2,7 @@ pub mod ListsAndFaults
 pub mod FaultlessParts
 pub mod TypeLemmas
 pub mod NumberLemmas
-pub mod RowLemmas
+pub mod ResultLemmas
 pub mod RowRules
 pub mod OperandLemmas
 pub mod RowFields

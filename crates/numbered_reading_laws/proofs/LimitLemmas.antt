@@ -30,7 +30,7 @@ use Rattle.numbered_reading_laws.proofs.BlockLemmas.{Each-blocks, block_limits, 
 use Rattle.numbered_reading_laws.proofs.FieldLemmas.{in_decls, in_functions}
 use Rattle.numbered_reading_laws.proofs.FaultlessParts.{IsGoodBlock, IsGoodEnd, IsGoodFunction, IsGoodModule}
 use Rattle.numbered_reading_laws.proofs.ListsAndFaults.{second_of_both}
-use Rattle.numbered_reading_laws.proofs.RowLemmas.{length-counted}
+use Rattle.numbered_reading_laws.proofs.ResultLemmas.{length-counted}
 use Rattle.numbered_reading_laws.proofs.RowRules.{ends_alone, takes_none}
 
 -- how many

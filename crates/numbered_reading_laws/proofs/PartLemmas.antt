@@ -36,7 +36,7 @@ use Rattle.numbered_form.specs.Types.{HasFieldType, HasPayloadType, IsPlainType}
 use Rattle.numbered_reading_laws.proofs.ListsAndFaults.{Each-map, no_first, no_second, not_passed, not_passed-map}
 use Rattle.numbered_reading_laws.proofs.FaultlessParts.{AreGoodCases, AreGoodFrom, AreGoodGivens, AreGoodOperands, AreGoodParams, AreGoodSwitch, IsGoodBlock, IsGoodBranch, IsGoodCase, IsGoodDecl, IsGoodField, IsGoodFunction, IsGoodItem, IsGoodModule, IsGoodPart, IsGoodSignature, IsGoodToken, IsGoodType, IsStrongField, IsWordToken, nothing_shown}
 use Rattle.numbered_reading_laws.proofs.NumberLemmas.{good_small}
-use Rattle.numbered_reading_laws.proofs.RowLemmas.{renamed}
+use Rattle.numbered_reading_laws.proofs.ResultLemmas.{renamed}
 use Rattle.numbered_reading_laws.proofs.OperandLemmas.{operands_have_types, operands_typed}
 use Rattle.numbered_reading_laws.proofs.WholeRows.{good_row}
 use Rattle.numbered_reading_laws.proofs.TypeLemmas.{good_questions, good_name, good_optional, good_parens, good_unowned, good_weak, good_width, more_good_types, no_good_types, placed_address, placed_plain, plain_type, room}

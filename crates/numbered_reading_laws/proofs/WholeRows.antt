@@ -30,7 +30,7 @@ use Rattle.numbered_reading_laws.proofs.ListsAndFaults.{Each-weaker, either_firs
 use Rattle.numbered_reading_laws.proofs.FaultlessParts.{AreGoodFrom, IsGoodAnywhere, IsGoodDebug, IsGoodEdge, IsGoodPart, IsGoodSignature, nothing_shown}
 use Rattle.numbered_reading_laws.proofs.OperandLemmas.{AreOperandsBefore, operands_kept}
 use Rattle.numbered_reading_laws.proofs.RowFields.{HasField, HasItsEdges, IsNumberFor, IsOfRow, IsTextFor, debug_kept, edges_kept, flags_kept, function_kept, member_kept, number_kept, qualifier_kept, same_op, same_results, signature_kept, text_kept, type_kept}
-use Rattle.numbered_reading_laws.proofs.RowLemmas.{results_few, results_there}
+use Rattle.numbered_reading_laws.proofs.ResultLemmas.{results_few, results_there}
 use Rattle.numbered_reading_laws.proofs.RowRules.{edges_stand, few_operand_parts, is_edges, may_all_stand, may_stand, operand_parts, parts_stand}
 
 -- an instruction of a row of which these parts are still to come
