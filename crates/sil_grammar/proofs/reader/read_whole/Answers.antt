@@ -25,12 +25,12 @@ pub returns-in-None-clause-found : goal.returns-in-None-clause-found
 returns-in-None-clause-found c =
     let text = c.args.text.now in
     let spelled = faultless_whole text c.args.tokens.now c.requires.lexed c.args.steps.now c.requires.derived c.in_ok-built.built.written
-      (sym c.in_ok-built.ensures.fault ∙ c.in-None.is) c.in_ok-built.ensures.written in
+    (sym c.in_ok-built.ensures.fault ∙ c.in-None.is) c.in_ok-built.ensures.written in
     IfOk-weaker c.numbered.result _ (λ m. Spells m text) (λ m found. found text spelled) c.numbered.ensures.found
 
 pub returns-in-None-clause-refused : goal.returns-in-None-clause-refused
 returns-in-None-clause-refused c =
     let text = c.args.text.now in
     let spelled = faultless_whole text c.args.tokens.now c.requires.lexed c.args.steps.now c.requires.derived c.in_ok-built.built.written
-      (sym c.in_ok-built.ensures.fault ∙ c.in-None.is) c.in_ok-built.ensures.written in
+    (sym c.in_ok-built.ensures.fault ∙ c.in-None.is) c.in_ok-built.ensures.written in
     IfErr-weaker c.numbered.result _ (IsRefusalOf text) (λ r refused. refused text spelled) c.numbered.ensures.refused
