@@ -15,7 +15,7 @@ use Rattle.sil_shape.specs.declared.grammar.Nonterminal.{Nonterminal}
 use Rattle.sil_shape.specs.declared.grammar.Nonterminal.TheVariants as n
 use Rattle.sil_shape.specs.declared.grammar.Production.{Production}
 use Rattle.sil_shape.specs.declared.grammar.Production.TheVariants as p
-use Rattle.sil_shape.specs.Accepts.{keyword_number, at_number, punctuation_number, class_number}
+use Rattle.sil_shape.specs.ClassNumbers.{keyword_number, at_number, punctuation_number, class_number}
 
 -- the end, and each class
 unfoldable pub fixed_looks : List (Option Class)

@@ -1,11 +1,11 @@
 //! The numbers of the classes, by which they are compared.
 
 ghost use Rattle.std.specs.Prelude.{◌≡◌};
-ghost use Rattle.sil_shape.specs.Accepts.{at_number, class_number, keyword_number, punctuation_number};
+ghost use Rattle.sil_shape.specs.ClassNumbers.{at_number, class_number, keyword_number, punctuation_number};
 
 use token_classes::{AtWord, Class, Keyword, Punctuation};
 
-#[tactic(auto, unfolding(crate::specs::Accepts::keyword_number))]
+#[tactic(auto, unfolding(crate::specs::ClassNumbers::keyword_number))]
 fn keyword_number(word: Keyword) -> u8
     ensures { result ≡ keyword_number word }
 {
@@ -60,14 +60,14 @@ fn keyword_number(word: Keyword) -> u8
     }
 }
 
-#[tactic(auto, unfolding(crate::specs::Accepts::at_number))]
+#[tactic(auto, unfolding(crate::specs::ClassNumbers::at_number))]
 fn at_number(word: AtWord) -> u8
     ensures { result ≡ at_number word }
 {
     word as u8
 }
 
-#[tactic(auto, unfolding(crate::specs::Accepts::punctuation_number))]
+#[tactic(auto, unfolding(crate::specs::ClassNumbers::punctuation_number))]
 fn punctuation_number(punctuation: Punctuation) -> u8
     ensures { result ≡ punctuation_number punctuation }
 {
@@ -75,7 +75,7 @@ fn punctuation_number(punctuation: Punctuation) -> u8
 }
 
 /// A number of its own for each class.
-#[tactic(auto, unfolding(crate::specs::Accepts::class_number))]
+#[tactic(auto, unfolding(crate::specs::ClassNumbers::class_number))]
 pub(crate) fn class_number(class: Class) -> u16
     ensures { result ≡ class_number class }
 {
