@@ -1,13 +1,17 @@
 //! The numbers of the classes, by which they are compared.
 
 ghost use Rattle.std.specs.Prelude.{◌≡◌};
+ghost use Rattle.instruction_table.specs.declared.op.Op.{Op};
+ghost use Rattle.token_classes.specs.declared.classes.Keyword.TheVariants.{Mnemonic};
 ghost use Rattle.sil_shape.specs.ClassNumbers.{at_number, class_number, keyword_number, punctuation_number};
 
 use token_classes::{AtWord, Class, Keyword, Punctuation};
 
+/// The number of a word that is no mnemonic, and that of the first mnemonic for all of them.
 #[tactic(auto, unfolding(crate::specs::ClassNumbers::keyword_number))]
-fn keyword_number(word: Keyword) -> u8
-    ensures { result ≡ keyword_number word }
+fn fixed_number(word: Keyword) -> u8
+    ensures mnemonic { (o : Op) → word ≡ Mnemonic o → result ≡ 46 }
+    ensures fixed { ((o : Op) → word ≡ Mnemonic o → ⊥) → result ≡ keyword_number word }
 {
     match word {
         Keyword::Other => 0,
@@ -56,7 +60,18 @@ fn keyword_number(word: Keyword) -> u8
         Keyword::Expr => 43,
         Keyword::OpDeref => 44,
         Keyword::Destroyer => 45,
-        Keyword::Mnemonic(op) => 46 + op as u8,
+        Keyword::Mnemonic(_) => 46,
+    }
+}
+
+#[tactic(auto, unfolding(crate::specs::ClassNumbers::keyword_number))]
+fn keyword_number(word: Keyword) -> u8
+    ensures { result ≡ keyword_number word }
+{
+    let fixed = fixed_number(word);
+    match word {
+        Keyword::Mnemonic(op) => fixed + op as u8,
+        _ => fixed,
     }
 }
 
