@@ -24,6 +24,7 @@ pub mod NumberReading
 pub mod DebugReading
 pub mod OperandForms
 pub mod RowForms
+pub mod RowShapes
 pub mod RowKept
 pub mod WrittenParts
 pub mod EdgeForms

@@ -7,14 +7,17 @@ use Rattle.sil_ast.specs.declared.inst.Qualifier.TheVariants as qualifier
 use Rattle.instruction_table.specs.declared.op.Op.{Op}
 use Rattle.sil_printer.specs.CanonicalInsts.{parts_text}
 use Rattle.sil_shape.specs.Grammar.{body, written}
+use Rattle.sil_shape.specs.Rows.{row_body, row_part}
 use Rattle.sil_shape.specs.declared.grammar.Nonterminal.{Nonterminal}
-use Rattle.sil_shape.specs.declared.grammar.Production.{Production}
+use Rattle.sil_shape.specs.declared.grammar.Production.TheVariants as p
 use Rattle.sil_shape.specs.declared.grammar.Symbol.{Symbol}
 use Rattle.written_modules.specs.Meaning.{meaning}
 use Rattle.written_modules.specs.Opened.{PartValue}
-use Rattle.written_modules.specs.PartFaults.{part_fault}
+use Rattle.written_modules.specs.PartFaults.{part_fault, row_fault}
+use Rattle.written_modules.specs.RowMeaning.{row}
 use Rattle.written_modules.specs.Values.{inst_of, no_debug}
 use Rattle.written_tree.specs.declared.fault.Fault.{Fault}
+use Rattle.written_tree.specs.declared.written_instructions.WrittenInst.{WrittenInst}
 use Rattle.printed_reading_laws.proofs.Pieces.{Reads, Reads as reads, Stands}
 use Rattle.printed_reading_laws.proofs.Written.{IsInstWritten}
 
@@ -46,17 +49,18 @@ abbrev pub no_fault : List PartValue → Option Fault
 no_fault parts = None
 
 -- the tokens and parts of a row, whose values stand for the instruction
-pub record RowReads (text : List ℕ) (functions : List Function) (i : Inst) (ss : List Symbol) (stands_for : List PartValue → PartValue) (fault_of : List PartValue → Option Fault) (left after : List ℕ) : Type 0 where
+pub record RowReads (text : List ℕ) (functions : List Function) (i : Inst) (ss : List Symbol) (stands_for : List PartValue → WrittenInst) (fault_of : List PartValue → Option Fault) (left after : List ℕ) : Type 0 where
   pub values : List PartValue
-  pub stands : IsInstWritten functions i (inst_of (stands_for values))
+  pub stands : IsInstWritten functions i (stands_for values)
   pub reads : Reads text ss left values after
   pub faultless : fault_of values ≡ None
 
--- they are the body of a production
-pub as_row : {text : List ℕ} {functions : List Function} {i : Inst} {left after : List ℕ} → (p : Production)
-    → RowReads text functions i (body p) (meaning p) (part_fault p) left after
-    → Stands text (written p) (λ x. IsInstWritten functions i (inst_of x)) left after
-as_row p r = record { value = meaning p r.values; stands = r.stands; reads = reads.rule p r.reads r.faultless reads.nothing }
+-- they are what the production of the row writes
+pub as_row : {text : List ℕ} {functions : List Function} {i : Inst} {left after : List ℕ} → (o : Op)
+    → RowReads text functions i (row_body o) (row o) (row_fault o) left after
+    → Stands text (row_part o) (λ x. IsInstWritten functions i (inst_of x)) left after
+unfolding body written meaning part_fault inst_of
+as_row o r = record { value = meaning (p.Row o) r.values; stands = r.stands; reads = reads.rule (p.Row o) r.reads r.faultless reads.nothing }
 
 -- the row of the instruction, without its results
 abbrev pub RowStands : List ℕ → List Function → List ℕ → Nonterminal → Inst → Type 0
