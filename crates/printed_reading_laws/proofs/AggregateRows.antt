@@ -14,7 +14,6 @@ use Rattle.sil_printer.specs.CanonicalSignatures.{signature_text}
 use Rattle.sil_printer.specs.CanonicalTypes.{type_text}
 use Rattle.sil_printer.specs.Words.{if_there, listed}
 use Rattle.sil_lexer.specs.declared.token.TokenKind.TheVariants as kind
-use Rattle.sil_shape.specs.Accepts.{accepts, class_number, keyword_number, punctuation_number}
 use Rattle.sil_shape.specs.Grammar.{body, written}
 use Rattle.sil_shape.specs.Rows as rows
 use Rattle.sil_shape.specs.Rows.{brings_comma, comma_behind, comma_between, ends_block, parts_row, row_body, row_part, symbols_of, text_of}
@@ -51,7 +50,7 @@ module _ (text : List ℕ) (functions : List Function) (after : List ℕ) (ends 
   pub struct_row : (rs : List ValueId) (os : List Operand) (ty : Option TypeName) → AreTyped os → IsThere ty
       → IsInstPrintable functions (record (bare op.Struct) { results = rs; operands = os; ty = ty })
       → RowStands text functions after n.Row (record (bare op.Struct) { results = rs; operands = os; ty = ty })
-  unfolding body written meaning part_fault row_body row_part ends_block parts_row symbols_of comma_behind comma_between brings_comma rows.operand_of rows.member_of rows.qualifier_of text_of rows.edges_of earlier inst_of operands_of accepts class_number keyword_number keyword_of known_keyword keywords spelling punctuation_number punctuation_of punctuation_spelling signs
+  unfolding body written meaning part_fault row_body row_part ends_block parts_row symbols_of comma_behind comma_between brings_comma rows.operand_of rows.member_of rows.qualifier_of text_of rows.edges_of earlier inst_of operands_of keyword_of known_keyword keywords spelling punctuation_of punctuation_spelling signs
   struct_row rs os _ typed (there ty) h =
       let args = listed_operands_read text os (41 ∷ after) typed refl in
       let inside = type_reads text ty (32 ∷ 40 ∷ listed typed_text os ++ 41 ∷ after) h.types.ty refl in
@@ -67,7 +66,7 @@ module _ (text : List ℕ) (functions : List Function) (after : List ℕ) (ends 
   pub tuple_row : (rs : List ValueId) (os : List Operand) → AreTyped os
       → IsInstPrintable functions (record (bare op.Tuple) { results = rs; operands = os })
       → RowStands text functions after n.Row (record (bare op.Tuple) { results = rs; operands = os })
-  unfolding body written meaning part_fault row_body row_part ends_block parts_row symbols_of comma_behind comma_between brings_comma rows.operand_of rows.member_of rows.qualifier_of text_of rows.edges_of earlier inst_of operands_of accepts class_number keyword_number keyword_of known_keyword keywords spelling punctuation_number punctuation_of punctuation_spelling signs
+  unfolding body written meaning part_fault row_body row_part ends_block parts_row symbols_of comma_behind comma_between brings_comma rows.operand_of rows.member_of rows.qualifier_of text_of rows.edges_of earlier inst_of operands_of keyword_of known_keyword keywords spelling punctuation_of punctuation_spelling signs
   tuple_row rs os typed h =
       let args = listed_operands_read text os (41 ∷ after) typed refl in
       rw (append-nil (listed typed_text os ++ 41 ∷ []), append_assoc (listed typed_text os) (41 ∷ []) after)
@@ -79,7 +78,7 @@ module _ (text : List ℕ) (functions : List Function) (after : List ℕ) (ends 
   -- `, %1 : $T`, or nothing
   payload_read : (os : List Operand) → IsAtMostOneTyped os → Each IsSmallOperand os → Each HasOperandType os
       → Stands text n.EnumOperand (λ x. AllZip IsOperandWritten os (operands_of x)) (if_there (codes ", ") typed_text (slice_get os 0) ++ after) after
-  unfolding body written meaning part_fault row_body row_part ends_block parts_row symbols_of comma_behind comma_between brings_comma rows.operand_of rows.member_of rows.qualifier_of text_of rows.edges_of earlier operands_of accepts class_number punctuation_number punctuation_of punctuation_spelling signs
+  unfolding body written meaning part_fault row_body row_part ends_block parts_row symbols_of comma_behind comma_between brings_comma rows.operand_of rows.member_of rows.qualifier_of text_of rows.edges_of earlier operands_of punctuation_of punctuation_spelling signs
   payload_read _ lacking small types = stands_by p.EnumOperandNone _ reads.nothing refl tt
   payload_read _ (given o typed) small types =
       let operand = operand_reads text o after typed small.0 types.0 ends in
@@ -93,7 +92,7 @@ module _ (text : List ℕ) (functions : List Function) (after : List ℕ) (ends 
   pub enum_row : (rs : List ValueId) (os : List Operand) (ty : Option TypeName) (member : Option Member) → IsAtMostOneTyped os → IsThere ty → IsThere member
       → IsInstPrintable functions (record (bare op.Enum) { results = rs; operands = os; ty = ty; member = member })
       → RowStands text functions after n.Row (record (bare op.Enum) { results = rs; operands = os; ty = ty; member = member })
-  unfolding body written meaning part_fault row_body row_part ends_block parts_row symbols_of comma_behind comma_between brings_comma rows.operand_of rows.member_of rows.qualifier_of text_of rows.edges_of earlier inst_of operands_of accepts class_number keyword_number keyword_of known_keyword keywords spelling punctuation_number punctuation_of punctuation_spelling signs
+  unfolding body written meaning part_fault row_body row_part ends_block parts_row symbols_of comma_behind comma_between brings_comma rows.operand_of rows.member_of rows.qualifier_of text_of rows.edges_of earlier inst_of operands_of keyword_of known_keyword keywords spelling punctuation_of punctuation_spelling signs
   enum_row rs os _ _ payload (there ty) (there m) h =
       let given_text = if_there (codes ", ") typed_text (slice_get os 0) in
       let operands = payload_read os payload h.operands h.types.operands in
@@ -112,7 +111,7 @@ module _ (text : List ℕ) (functions : List Function) (after : List ℕ) (ends 
   pub apply_row : (rs : List ValueId) (os : List Operand) (signature : Option Signature) → AreBare os → IsThere signature
       → IsInstPrintable functions (record (bare op.Apply) { results = rs; operands = os; signature = signature })
       → RowStands text functions after n.Row (record (bare op.Apply) { results = rs; operands = os; signature = signature })
-  unfolding body written meaning part_fault row_body row_part ends_block parts_row symbols_of comma_behind comma_between brings_comma rows.operand_of rows.member_of rows.qualifier_of text_of rows.edges_of earlier inst_of tokens_of token_of kept_of accepts class_number keyword_number keyword_of known_keyword keywords spelling punctuation_number punctuation_of punctuation_spelling signs
+  unfolding body written meaning part_fault row_body row_part ends_block parts_row symbols_of comma_behind comma_between brings_comma rows.operand_of rows.member_of rows.qualifier_of text_of rows.edges_of earlier inst_of tokens_of token_of kept_of keyword_of known_keyword keywords spelling punctuation_of punctuation_spelling signs
   apply_row rs _ _ (called f args bare_ones) (there s) h =
       let behind_args = 32 ∷ 58 ∷ 32 ∷ 36 ∷ signature_text s in
       let names = argument_names_read (λ o. o.value) text args (41 ∷ behind_args ++ after) h.operands.1 refl in

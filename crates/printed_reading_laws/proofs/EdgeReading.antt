@@ -10,7 +10,6 @@ use Rattle.sil_ast.specs.declared.operands.Operand.{Operand}
 use Rattle.sil_ast.specs.declared.place.BlockId.{BlockId}
 use Rattle.sil_printer.specs.CanonicalInsts.{block_name, edge_text, typed_text}
 use Rattle.sil_printer.specs.Words.{listed, parens_if_any}
-use Rattle.sil_shape.specs.Accepts.{accepts, class_number, keyword_number, punctuation_number}
 use Rattle.sil_shape.specs.Grammar.{body, written}
 use Rattle.token_classes.specs.Spelling.{keyword_of, keywords, known_keyword, punctuation_of, punctuation_spelling, signs, spelling}
 use Rattle.sil_shape.specs.declared.grammar.Nonterminal.TheVariants as n
@@ -34,7 +33,7 @@ use Rattle.printed_reading_laws.proofs.Written.{IsEdgeWritten, IsOperandWritten}
 -- `(%1 : $T, %2 : $U)`, or nothing
 edge_args_read : (text : List ℕ) (os : List Operand) (after : List ℕ) → AreTyped os
     → Stands text n.EdgeArgs (λ x. AllZip IsOperandWritten os (operands_of x)) (parens_if_any typed_text os ++ after) after
-unfolding body written meaning part_fault operands_of accepts class_number punctuation_number punctuation_of punctuation_spelling signs
+unfolding body written meaning part_fault operands_of punctuation_of punctuation_spelling signs
 edge_args_read text [] after h = stands_by p.EdgeArgsNone _ reads.nothing refl tt
 edge_args_read text (o ∷ os) after h =
     let args = some_operands_read text o os (41 ∷ after) h refl in
@@ -71,7 +70,7 @@ case_to block m = record { block = block; args = []; case_of = Some m }
 case_edge_reads : (text : List ℕ) (block : BlockId) (m : Member) (es : List Edge) (after : List ℕ) → IsSmall block.0 → IsMemberSpelled m → Ends after
     → Stands text n.SwitchMore (λ x. AllZip IsEdgeWritten es (edges_of x)) (other_edges_text es ++ after) after
     → Stands text n.SwitchPart (λ x. AllZip IsEdgeWritten (case_to block m ∷ es) (edges_of x)) (edge_text op.SwitchEnum (case_to block m) ++ (other_edges_text es ++ after)) after
-unfolding body written meaning part_fault edges_of token_of kept_of accepts class_number punctuation_number punctuation_of punctuation_spelling signs keyword_number keyword_of known_keyword keywords spelling
+unfolding body written meaning part_fault edges_of token_of kept_of punctuation_of punctuation_spelling signs keyword_of known_keyword keywords spelling
 case_edge_reads text block m es after small spelled ends more =
     let rest = other_edges_text es ++ after in
     let name = case_reads text m (58 ∷ 32 ∷ 98 ∷ 98 ∷ decimal block.0 ++ rest) spelled refl in
@@ -86,7 +85,7 @@ case_edge_reads text block m es after small spelled ends more =
 -- `default bb1`
 default_edge_reads : (text : List ℕ) (block : BlockId) (after : List ℕ) → IsSmall block.0 → Ends after
     → Stands text n.SwitchPart (λ x. AllZip IsEdgeWritten (branch_to block [] ∷ []) (edges_of x)) (edge_text op.SwitchEnum (branch_to block []) ++ after) after
-unfolding body written meaning part_fault edges_of token_of kept_of accepts class_number keyword_number keyword_of known_keyword keywords spelling
+unfolding body written meaning part_fault edges_of token_of kept_of keyword_of known_keyword keywords spelling
 default_edge_reads text block after small ends =
     rw (append-nil (decimal block.0))
     (stands_by p.SwitchDefault _ (word_token (codes "default") refl refl refl (reads.blank 32 refl (label_token block.0 small ends reads.nothing))) refl
@@ -94,7 +93,7 @@ default_edge_reads text block after small ends =
 
 other_edges_read : (text : List ℕ) (es : List Edge) (after : List ℕ) → AreCases es → Ends after
     → Stands text n.SwitchMore (λ x. AllZip IsEdgeWritten es (edges_of x)) (other_edges_text es ++ after) after
-unfolding body written meaning part_fault edges_of accepts class_number punctuation_number punctuation_of punctuation_spelling signs
+unfolding body written meaning part_fault edges_of punctuation_of punctuation_spelling signs
 other_edges_read text _ after no_case ends = stands_by p.SwitchMoreEnd _ reads.nothing refl tt
 other_edges_read text _ after (default_last block small) ends =
     let this = default_edge_reads text block after small ends in

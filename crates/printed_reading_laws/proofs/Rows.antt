@@ -5,7 +5,6 @@ use Rattle.sil_ast.specs.declared.function.Function.{Function}
 use Rattle.sil_ast.specs.declared.inst.Inst.{Inst}
 use Rattle.instruction_table.specs.declared.op.Op.{Op}
 use Rattle.instruction_table.specs.declared.op.Op.TheVariants as op
-use Rattle.sil_shape.specs.Accepts.{accepts, class_number, keyword_number}
 use Rattle.sil_shape.specs.Grammar.{body, written}
 use Rattle.sil_shape.specs.Rows as rows
 use Rattle.sil_shape.specs.Rows.{brings_comma, comma_behind, comma_between, ends_block, parts_row, row_body, row_part, symbols_of, text_of}
@@ -32,7 +31,7 @@ module _ (text : List ℕ) (functions : List Function) (after : List ℕ) (ends 
   OfRow o i = only_row (parts_of o) (record i { op = o })
 
   row_of : (o : Op) (i : Inst) → IsInstPrintable functions (OfRow o i) → IsFalse (is_terminator o) → RowStands text functions after n.Row (OfRow o i)
-  unfolding body written meaning part_fault row_body row_part ends_block parts_row symbols_of comma_behind comma_between brings_comma rows.operand_of rows.member_of rows.qualifier_of text_of rows.edges_of earlier accepts class_number keyword_number keyword_of known_keyword keywords spelling
+  unfolding body written meaning part_fault row_body row_part ends_block parts_row symbols_of comma_behind comma_between brings_comma rows.operand_of rows.member_of rows.qualifier_of text_of rows.edges_of earlier keyword_of known_keyword keywords spelling
   row_of op.IntegerLiteral i h inside = literal_row text functions after ends i.results i.ty i.number (is_there i.ty h.parts.ty) (is_there i.number h.parts.number) h
   row_of op.FunctionRef i h inside = function_row text functions after ends i.results i.function i.signature (is_there i.function h.parts.function) (is_there i.signature h.parts.signature) h
   row_of op.Builtin i h inside = builtin_row text functions after ends i.results i.operands i.ty i.text (record { typed = all_typed i.operands h.parts.operands; small = h.operands; types = h.types.operands }) (is_there i.ty h.parts.ty) (is_there i.text h.parts.text) h
@@ -72,7 +71,7 @@ module _ (text : List ℕ) (functions : List Function) (after : List ℕ) (ends 
   row_of _ i h inside = absurd (true≢false inside)
 
   end_of : (o : Op) (i : Inst) → IsInstPrintable functions (OfRow o i) → IsTrue (is_terminator o) → RowStands text functions after n.Terminator (OfRow o i)
-  unfolding body written meaning part_fault row_body row_part ends_block parts_row symbols_of comma_behind comma_between brings_comma rows.operand_of rows.member_of rows.qualifier_of text_of rows.edges_of earlier accepts class_number keyword_number keyword_of known_keyword keywords spelling
+  unfolding body written meaning part_fault row_body row_part ends_block parts_row symbols_of comma_behind comma_between brings_comma rows.operand_of rows.member_of rows.qualifier_of text_of rows.edges_of earlier keyword_of known_keyword keywords spelling
   end_of op.Br i h last = br_row text functions after ends i.results i.edges (one_branch i.edges h.parts.edges h.edges h.types.edges h.limits.edges)
   end_of op.CondBr i h last = cond_br_row text functions after ends i.results i.operands i.edges (just_bare i.operands h.parts.operands) (two_branches i.edges h.parts.edges h.edges h.types.edges h.limits.edges) h
   end_of op.SwitchEnum i h last = switch_row text functions after ends i.results i.operands i.edges (one_typed i.operands h.parts.operands) (switch_edges i.edges h.parts.edges h.spelled.edges h.edges) h

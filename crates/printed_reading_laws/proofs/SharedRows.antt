@@ -11,7 +11,6 @@ use Rattle.instruction_table.specs.declared.op.Op.{Op}
 use Rattle.sil_ast.specs.declared.operands.Operand.{Operand}
 use Rattle.sil_ast.specs.declared.place.ValueId.{ValueId}
 use Rattle.sil_printer.specs.CanonicalInsts.{field_name, member_text, parts_text, qualifier_text, typed_text}
-use Rattle.sil_shape.specs.Accepts.{accepts, class_number, keyword_number, punctuation_number}
 use Rattle.sil_shape.specs.Derivation.{Accepts}
 use Rattle.sil_shape.specs.Terminals.{punctuation, word}
 use Rattle.token_classes.specs.Spelling.{keyword_of, keywords, known_keyword, punctuation_of, punctuation_spelling, signs, spelling}
@@ -103,7 +102,7 @@ module _ (text : List ℕ) (functions : List Function) (after : List ℕ) (ends 
       → RowReads text functions (record (bare o) { operands = os; qualifier = q })
       (Read (word (k.Mnemonic o)) ∷ Read (t.Just c.Percent) ∷ Read (word k.To) ∷ Part word_part ∷ Part n.Operand ∷ []) (stored o) no_fault
       (mnemonic_of o ++ parts_text functions (record (bare o) { results = rs; operands = os; qualifier = q }) None os (part.Bare ∷ part.To ∷ part.Qualifier ∷ part.Typed ∷ []) ++ after) after
-  unfolding inst_of token_of kept_of accepts class_number keyword_number keyword_of known_keyword keywords spelling
+  unfolding inst_of token_of kept_of keyword_of known_keyword keywords spelling
   stored_row o word_part rs _ q (two a x bare_one typed) h spells qualifier =
       let operand = operand_reads text x after typed h.operands.1.0 h.types.operands.1.0 ends in
       let words = qualifier (32 ∷ typed_text x ++ after) in
@@ -128,7 +127,7 @@ module _ (text : List ℕ) (functions : List Function) (after : List ℕ) (ends 
       → IsInstPrintable functions (record (bare o) { results = rs; operands = os; member = member }) → Spells o → ((m : Member) → member_text o m ≡ field_name m)
       → RowReads text functions (record (bare o) { operands = os; member = member }) (Read (word (k.Mnemonic o)) ∷ Part n.Operand ∷ Read (punctuation m.Comma) ∷ Part n.MemberName ∷ []) (of_member o) no_fault
       (mnemonic_of o ++ parts_text functions (record (bare o) { results = rs; operands = os; member = member }) None os (part.Typed ∷ part.Member ∷ []) ++ after) after
-  unfolding inst_of accepts class_number punctuation_number punctuation_of punctuation_spelling signs
+  unfolding inst_of punctuation_of punctuation_spelling signs
   member_row o rs _ _ (one x typed) (there f) h spells is_field =
       let member = field_reads text f after h.spelled.member ends in
       let operand = operand_reads text x (44 ∷ 32 ∷ field_name f ++ after) typed h.operands.0 h.types.operands.0 refl in
@@ -146,7 +145,7 @@ module _ (text : List ℕ) (functions : List Function) (after : List ℕ) (ends 
       → RowReads text functions (record (bare o) { operands = os; number = number }) (Read (word (k.Mnemonic o)) ∷ Part n.Operand ∷ Read (punctuation m.Comma) ∷ Read (t.Just c.Number) ∷ []) (of_element o)
       (λ parts. out_of_range (element_of (text_at 3 parts)) (place_at 3 parts))
       (mnemonic_of o ++ parts_text functions (record (bare o) { results = rs; operands = os; number = number }) None os (part.Typed ∷ part.Number ∷ []) ++ after) after
-  unfolding inst_of token_of kept_of accepts class_number punctuation_number punctuation_of punctuation_spelling signs
+  unfolding inst_of token_of kept_of punctuation_of punctuation_spelling signs
   element_row o rs _ _ (one x typed) (there z) h spells few =
       let element = element_reads z few in
       let operand = operand_reads text x (44 ∷ 32 ∷ signed_decimal z ++ after) typed h.operands.0 h.types.operands.0 refl in

@@ -14,7 +14,6 @@ use Rattle.sil_printer.specs.CanonicalInsts.{debug_text, typed_text}
 use Rattle.sil_printer.specs.CanonicalSignatures.{signature_text}
 use Rattle.sil_printer.specs.CanonicalTypes.{type_text}
 use Rattle.sil_printer.specs.Words.{listed}
-use Rattle.sil_shape.specs.Accepts.{accepts, class_number, keyword_number, punctuation_number}
 use Rattle.builtin_names.specs.BuiltinNames.{is_builtin_name}
 use Rattle.sil_shape.specs.Derivation.{Accepts}
 use Rattle.sil_shape.specs.Grammar.{body, written}
@@ -57,7 +56,7 @@ module _ (text : List ℕ) (functions : List Function) (after : List ℕ) (ends 
   pub literal_row : (rs : List ValueId) (ty : Option TypeName) (number : Option ℤ) → IsThere ty → IsThere number
       → IsInstPrintable functions (record (bare op.IntegerLiteral) { results = rs; ty = ty; number = number })
       → RowStands text functions after n.Row (record (bare op.IntegerLiteral) { results = rs; ty = ty; number = number })
-  unfolding body written meaning part_fault row_body row_part ends_block parts_row symbols_of comma_behind comma_between brings_comma rows.operand_of rows.member_of rows.qualifier_of text_of rows.edges_of earlier inst_of token_of kept_of accepts class_number keyword_number keyword_of known_keyword keywords spelling punctuation_number punctuation_of punctuation_spelling signs
+  unfolding body written meaning part_fault row_body row_part ends_block parts_row symbols_of comma_behind comma_between brings_comma rows.operand_of rows.member_of rows.qualifier_of text_of rows.edges_of earlier inst_of token_of kept_of keyword_of known_keyword keywords spelling punctuation_of punctuation_spelling signs
   literal_row rs _ _ (there ty) (there z) h =
       let literal = literal_reads ty z h.types.ty h.literals.number in
       let inside = type_reads text ty (44 ∷ 32 ∷ signed_decimal z ++ after) h.types.ty refl in
@@ -74,7 +73,7 @@ module _ (text : List ℕ) (functions : List Function) (after : List ℕ) (ends 
   pub function_row : (rs : List ValueId) (function : Option FuncId) (signature : Option Signature) → IsThere function → IsThere signature
       → IsInstPrintable functions (record (bare op.FunctionRef) { results = rs; function = function; signature = signature })
       → RowStands text functions after n.Row (record (bare op.FunctionRef) { results = rs; function = function; signature = signature })
-  unfolding body written meaning part_fault row_body row_part ends_block parts_row symbols_of comma_behind comma_between brings_comma rows.operand_of rows.member_of rows.qualifier_of text_of rows.edges_of earlier inst_of token_of kept_of accepts class_number keyword_number keyword_of known_keyword keywords spelling punctuation_number punctuation_of punctuation_spelling signs
+  unfolding body written meaning part_fault row_body row_part ends_block parts_row symbols_of comma_behind comma_between brings_comma rows.operand_of rows.member_of rows.qualifier_of text_of rows.edges_of earlier inst_of token_of kept_of keyword_of known_keyword keywords spelling punctuation_of punctuation_spelling signs
   function_row rs _ _ (there f) (there s) h =
       let named = is_name_at functions f h.function h.names in
       let inside = signature_reads text s after h.types.signature h.limits.signature ends in
@@ -90,7 +89,7 @@ module _ (text : List ℕ) (functions : List Function) (after : List ℕ) (ends 
   pub builtin_row : (rs : List ValueId) (os : List Operand) (ty : Option TypeName) (name : Option (List ℕ)) → AreTyped os → IsThere ty → IsThere name
       → IsInstPrintable functions (record (bare op.Builtin) { results = rs; operands = os; ty = ty; text = name })
       → RowStands text functions after n.Row (record (bare op.Builtin) { results = rs; operands = os; ty = ty; text = name })
-  unfolding body written meaning part_fault row_body row_part ends_block parts_row symbols_of comma_behind comma_between brings_comma rows.operand_of rows.member_of rows.qualifier_of text_of rows.edges_of earlier inst_of token_of kept_of accepts class_number keyword_number keyword_of known_keyword keywords spelling punctuation_number punctuation_of punctuation_spelling signs
+  unfolding body written meaning part_fault row_body row_part ends_block parts_row symbols_of comma_behind comma_between brings_comma rows.operand_of rows.member_of rows.qualifier_of text_of rows.edges_of earlier inst_of token_of kept_of keyword_of known_keyword keywords spelling punctuation_of punctuation_spelling signs
   builtin_row rs os _ _ typed (there ty) (there x) h =
       let behind_args = 32 ∷ 58 ∷ 32 ∷ 36 ∷ type_text ty in
       let known : Accepts (Read (t.Just c.BuiltinText)) (text_class (is_builtin_name x)) = subst (λ known. Accepts (Read (t.Just c.BuiltinText)) (text_class known)) (sym h.literals.text) refl in
@@ -114,7 +113,7 @@ module _ (text : List ℕ) (functions : List Function) (after : List ℕ) (ends 
   pub fail_row : (rs : List ValueId) (os : List Operand) (message : Option (List ℕ)) → IsOneTyped os → IsThere message
       → IsInstPrintable functions (record (bare op.CondFail) { results = rs; operands = os; text = message })
       → RowStands text functions after n.Row (record (bare op.CondFail) { results = rs; operands = os; text = message })
-  unfolding body written meaning part_fault row_body row_part ends_block parts_row symbols_of comma_behind comma_between brings_comma rows.operand_of rows.member_of rows.qualifier_of text_of rows.edges_of earlier inst_of token_of kept_of accepts class_number keyword_number keyword_of known_keyword keywords spelling punctuation_number punctuation_of punctuation_spelling signs
+  unfolding body written meaning part_fault row_body row_part ends_block parts_row symbols_of comma_behind comma_between brings_comma rows.operand_of rows.member_of rows.qualifier_of text_of rows.edges_of earlier inst_of token_of kept_of keyword_of known_keyword keywords spelling punctuation_of punctuation_spelling signs
   fail_row rs _ _ (one o typed) (there x) h =
       let operand = operand_reads text o (44 ∷ 32 ∷ 34 ∷ (x ++ 34 ∷ []) ++ after) typed h.operands.0 h.types.operands.0 refl in
       rw (append-nil (x ++ 34 ∷ []), append_assoc (typed_text o) (44 ∷ 32 ∷ 34 ∷ (x ++ 34 ∷ [])) after)
@@ -129,7 +128,7 @@ module _ (text : List ℕ) (functions : List Function) (after : List ℕ) (ends 
   pub alloc_ref_row : (rs : List ValueId) (ty : Option TypeName) → IsThere ty
       → IsInstPrintable functions (record (bare op.AllocRef) { results = rs; ty = ty })
       → RowStands text functions after n.Row (record (bare op.AllocRef) { results = rs; ty = ty })
-  unfolding body written meaning part_fault row_body row_part ends_block parts_row symbols_of comma_behind comma_between brings_comma rows.operand_of rows.member_of rows.qualifier_of text_of rows.edges_of earlier inst_of accepts class_number keyword_number keyword_of known_keyword keywords spelling punctuation_number punctuation_of punctuation_spelling signs
+  unfolding body written meaning part_fault row_body row_part ends_block parts_row symbols_of comma_behind comma_between brings_comma rows.operand_of rows.member_of rows.qualifier_of text_of rows.edges_of earlier inst_of keyword_of known_keyword keywords spelling punctuation_of punctuation_spelling signs
   alloc_ref_row rs _ (there ty) h =
       let inside = type_reads text ty after h.types.ty ends in
       rw (append-nil (type_text ty))
@@ -140,7 +139,7 @@ module _ (text : List ℕ) (functions : List Function) (after : List ℕ) (ends 
   pub alloc_stack_row : (rs : List ValueId) (ty : Option TypeName) (lexical var_decl : Bool) (debug : Debug) → IsThere ty
       → IsInstPrintable functions (record (bare op.AllocStack) { results = rs; ty = ty; lexical = lexical; var_decl = var_decl; debug = debug })
       → RowStands text functions after n.Row (record (bare op.AllocStack) { results = rs; ty = ty; lexical = lexical; var_decl = var_decl; debug = debug })
-  unfolding body written meaning part_fault row_body row_part ends_block parts_row symbols_of comma_behind comma_between brings_comma rows.operand_of rows.member_of rows.qualifier_of text_of rows.edges_of earlier inst_of accepts class_number keyword_number keyword_of known_keyword keywords spelling punctuation_number punctuation_of punctuation_spelling signs
+  unfolding body written meaning part_fault row_body row_part ends_block parts_row symbols_of comma_behind comma_between brings_comma rows.operand_of rows.member_of rows.qualifier_of text_of rows.edges_of earlier inst_of keyword_of known_keyword keywords spelling punctuation_of punctuation_spelling signs
   alloc_stack_row rs _ lexical var_decl debug (there ty) h =
       let said = debug_reads text after ends debug h.spelled.debug h.literals.argno in
       let inside = type_reads text ty (debug_text debug ++ after) h.types.ty (ends_debug text after ends debug h.spelled.debug h.literals.argno) in
@@ -158,7 +157,7 @@ module _ (text : List ℕ) (functions : List Function) (after : List ℕ) (ends 
   pub debug_value_row : (rs : List ValueId) (os : List Operand) (debug : Debug) → IsOneTyped os
       → IsInstPrintable functions (record (bare op.DebugValue) { results = rs; operands = os; debug = debug })
       → RowStands text functions after n.Row (record (bare op.DebugValue) { results = rs; operands = os; debug = debug })
-  unfolding body written meaning part_fault row_body row_part ends_block parts_row symbols_of comma_behind comma_between brings_comma rows.operand_of rows.member_of rows.qualifier_of text_of rows.edges_of earlier inst_of accepts class_number keyword_number keyword_of known_keyword keywords spelling
+  unfolding body written meaning part_fault row_body row_part ends_block parts_row symbols_of comma_behind comma_between brings_comma rows.operand_of rows.member_of rows.qualifier_of text_of rows.edges_of earlier inst_of keyword_of known_keyword keywords spelling
   debug_value_row rs _ debug (one o typed) h =
       let said = debug_reads text after ends debug h.spelled.debug h.literals.argno in
       let operand = operand_reads text o (debug_text debug ++ after) typed h.operands.0 h.types.operands.0 (ends_debug text after ends debug h.spelled.debug h.literals.argno) in

@@ -8,7 +8,6 @@ use Rattle.sil_ast.specs.declared.operands.Operand.{Operand}
 use Rattle.sil_ast.specs.declared.place.ValueId.{ValueId}
 use Rattle.sil_printer.specs.CanonicalInsts.{block_name, edge_text, typed_text}
 use Rattle.sil_printer.specs.Words.{listed, parens_if_any}
-use Rattle.sil_shape.specs.Accepts.{accepts, class_number, keyword_number, punctuation_number}
 use Rattle.sil_shape.specs.Grammar.{body, written}
 use Rattle.sil_shape.specs.Rows as rows
 use Rattle.sil_shape.specs.Rows.{brings_comma, comma_behind, comma_between, ends_block, parts_row, row_body, row_part, symbols_of, text_of}
@@ -34,7 +33,7 @@ module _ (text : List ℕ) (functions : List Function) (after : List ℕ) (ends 
   -- `br bb1(%1 : $T)`
   pub br_row : (rs : List ValueId) (es : List Edge) → IsOneBranch es
       → RowStands text functions after n.Terminator (record (bare op.Br) { results = rs; edges = es })
-  unfolding body written meaning part_fault row_body row_part ends_block parts_row symbols_of comma_behind comma_between brings_comma rows.operand_of rows.member_of rows.qualifier_of text_of rows.edges_of earlier inst_of accepts class_number keyword_number keyword_of known_keyword keywords spelling
+  unfolding body written meaning part_fault row_body row_part ends_block parts_row symbols_of comma_behind comma_between brings_comma rows.operand_of rows.member_of rows.qualifier_of text_of rows.edges_of earlier inst_of keyword_of known_keyword keywords spelling
   br_row rs _ (only_to _ (branch block args small typed few)) =
       let edge = branch_reads text block args after small typed few ends in
       let name = decimal block.0 ++ parens_if_any typed_text args in
@@ -46,7 +45,7 @@ module _ (text : List ℕ) (functions : List Function) (after : List ℕ) (ends 
   pub cond_br_row : (rs : List ValueId) (os : List Operand) (es : List Edge) → IsOneBare os → IsTwoBranches es
       → IsInstPrintable functions (record (bare op.CondBr) { results = rs; operands = os; edges = es })
       → RowStands text functions after n.Terminator (record (bare op.CondBr) { results = rs; operands = os; edges = es })
-  unfolding body written meaning part_fault row_body row_part ends_block parts_row symbols_of comma_behind comma_between brings_comma rows.operand_of rows.member_of rows.qualifier_of text_of rows.edges_of earlier inst_of token_of kept_of accepts class_number keyword_number keyword_of known_keyword keywords spelling punctuation_number punctuation_of punctuation_spelling signs
+  unfolding body written meaning part_fault row_body row_part ends_block parts_row symbols_of comma_behind comma_between brings_comma rows.operand_of rows.member_of rows.qualifier_of text_of rows.edges_of earlier inst_of token_of kept_of keyword_of known_keyword keywords spelling punctuation_of punctuation_spelling signs
   cond_br_row rs _ _ (one_bare o bare_one) (either_to _ _ (branch block args small typed few) (branch other other_args other_small other_typed other_few)) h =
       let second = branch_reads text other other_args after other_small other_typed other_few ends in
       let second_text = block_name other.0 ++ parens_if_any typed_text other_args in
@@ -65,7 +64,7 @@ module _ (text : List ℕ) (functions : List Function) (after : List ℕ) (ends 
   pub switch_row : (rs : List ValueId) (os : List Operand) (es : List Edge) → IsOneTyped os → AreSwitchEdges es
       → IsInstPrintable functions (record (bare op.SwitchEnum) { results = rs; operands = os; edges = es })
       → RowStands text functions after n.Terminator (record (bare op.SwitchEnum) { results = rs; operands = os; edges = es })
-  unfolding body written meaning part_fault row_body row_part ends_block parts_row symbols_of comma_behind comma_between brings_comma rows.operand_of rows.member_of rows.qualifier_of text_of rows.edges_of earlier inst_of accepts class_number keyword_number keyword_of known_keyword keywords spelling punctuation_number punctuation_of punctuation_spelling signs
+  unfolding body written meaning part_fault row_body row_part ends_block parts_row symbols_of comma_behind comma_between brings_comma rows.operand_of rows.member_of rows.qualifier_of text_of rows.edges_of earlier inst_of keyword_of known_keyword keywords spelling punctuation_of punctuation_spelling signs
   switch_row rs _ es (one o typed) switch h =
       let cases = switch_reads text es after switch ends in
       let cases_text = listed (edge_text op.SwitchEnum) es in
@@ -79,5 +78,5 @@ module _ (text : List ℕ) (functions : List Function) (after : List ℕ) (ends 
 
   -- `unreachable`
   pub unreachable_row : (rs : List ValueId) → RowStands text functions after n.Terminator (record (bare op.Unreachable) { results = rs })
-  unfolding body written meaning part_fault row_body row_part ends_block parts_row symbols_of comma_behind comma_between brings_comma rows.operand_of rows.member_of rows.qualifier_of text_of rows.edges_of earlier inst_of accepts class_number keyword_number keyword_of known_keyword keywords spelling
+  unfolding body written meaning part_fault row_body row_part ends_block parts_row symbols_of comma_behind comma_between brings_comma rows.operand_of rows.member_of rows.qualifier_of text_of rows.edges_of earlier inst_of keyword_of known_keyword keywords spelling
   unreachable_row rs = stands_by (p.Row op.Unreachable) _ (word_token (codes "unreachable") refl refl ends reads.nothing) refl (mnemonic_written functions op.Unreachable _)
