@@ -7,7 +7,7 @@ use Rattle.token_classes.specs.declared.classes.Punctuation.TheVariants as m
 use Rattle.sil_shape.specs.declared.grammar.Nonterminal.{Nonterminal}
 use Rattle.sil_shape.specs.declared.grammar.Symbol.TheVariants.{Part, Read}
 use Rattle.sil_shape.specs.declared.grammar.Terminal.TheVariants as t
-use Rattle.sil_shape.specs.Grammar.{punctuation, word}
+use Rattle.sil_shape.specs.Terminals.{punctuation, word}
 use Rattle.token_classes.specs.Spelling.{punctuation_spelling, spelling}
 use Rattle.written_modules.specs.Meaning.{kept_of}
 use Rattle.written_modules.specs.Opened.{PartValue}

@@ -8,7 +8,8 @@ use Rattle.sil_shape.specs.declared.grammar.Production.{Production}
 use Rattle.sil_shape.specs.declared.grammar.Symbol.{Symbol}
 use Rattle.sil_shape.specs.declared.grammar.Symbol.TheVariants.{Read, Part}
 use Rattle.sil_shape.specs.Accepts.{accepts, class_number, punctuation_number}
-use Rattle.sil_shape.specs.Grammar.{body, punctuation, written}
+use Rattle.sil_shape.specs.Grammar.{body, written}
+use Rattle.sil_shape.specs.Terminals.{punctuation}
 use Rattle.token_classes.specs.Spelling.{punctuation_of, punctuation_spelling, signs}
 use Rattle.written_modules.specs.Meaning.{meaning}
 use Rattle.written_modules.specs.Opened.{PartValue}

@@ -10,7 +10,7 @@ use Rattle.sil_shape.specs.Accepts.{accepts, class_number, keyword_number, punct
 use Rattle.builtin_names.specs.BuiltinNames.{is_builtin_name}
 use Rattle.sil_shape.specs.Derivation.{Accepts}
 use Rattle.sil_shape.specs.Grammar.{body, written}
-use Rattle.token_classes.specs.Spelling.{keyword_of, keywords_of_length, known_keyword, punctuation_of, punctuation_spelling, signs, spelling}
+use Rattle.token_classes.specs.Spelling.{keyword_of, keywords, known_keyword, punctuation_of, punctuation_spelling, signs, spelling}
 use Rattle.sil_shape.specs.declared.grammar.Nonterminal.{Nonterminal}
 use Rattle.sil_shape.specs.declared.grammar.Nonterminal.TheVariants as n
 use Rattle.sil_shape.specs.declared.grammar.Production.TheVariants as p
@@ -69,7 +69,7 @@ module _ (text : List ℕ) (after : List ℕ) (ends : Ends after) where
   deref_text deref = if_set (codes ", expr op_deref") deref ++ after
 
   deref_rest : (deref : Bool) → ReadsRest text n.DebugDerefPart (record no_debug { deref = deref }) after (deref_text deref)
-  unfolding body written meaning part_fault debug_of accepts class_number keyword_number keyword_of keywords_of_length known_keyword spelling
+  unfolding body written meaning part_fault debug_of accepts class_number keyword_number keyword_of known_keyword keywords spelling
   deref_rest true = goes_on (stands_by p.DebugDeref _ (word_token (codes "expr") refl refl refl (reads.blank 32 refl (word_token (codes "op_deref") refl refl ends reads.nothing))) refl refl)
   deref_rest false = ended refl
 
@@ -84,7 +84,7 @@ module _ (text : List ℕ) (after : List ℕ) (ends : Ends after) where
 
   number_rest : (argno : Option ℕ) (deref : Bool) → IfSome argno (λ n. n ≤ 65535)
       → ReadsRest text n.DebugNumberPart (record no_debug { argno = argno; deref = deref }) after (number_text argno deref)
-  unfolding body written meaning part_fault debug_of token_of kept_of accepts class_number keyword_number keyword_of keywords_of_length known_keyword spelling
+  unfolding body written meaning part_fault debug_of token_of kept_of accepts class_number keyword_number keyword_of known_keyword keywords spelling
   number_rest None deref few = without_number (deref_rest deref)
   number_rest (Some k) deref few =
       let rest = after_number (deref_rest deref) in
@@ -105,7 +105,7 @@ module _ (text : List ℕ) (after : List ℕ) (ends : Ends after) where
 
   name_rest : (name : Option (List ℕ)) (argno : Option ℕ) (deref : Bool) → IfSome name (λ text. IsTrue (is_quotable text)) → IfSome argno (λ n. n ≤ 65535)
       → ReadsRest text n.DebugNamePart (record no_debug { name = name; argno = argno; deref = deref }) after (name_text name argno deref)
-  unfolding body written meaning part_fault debug_of token_of kept_of accepts class_number keyword_number keyword_of keywords_of_length known_keyword spelling
+  unfolding body written meaning part_fault debug_of token_of kept_of accepts class_number keyword_number keyword_of known_keyword keywords spelling
   name_rest None argno deref quotable few = without_name (number_rest argno deref few)
   name_rest (Some x) argno deref quotable few =
       let rest = after_name (number_rest argno deref few) in
@@ -125,7 +125,7 @@ module _ (text : List ℕ) (after : List ℕ) (ends : Ends after) where
 
   said : (binding : Option Binding) (name : Option (List ℕ)) (argno : Option ℕ) (deref : Bool) → IfSome name (λ text. IsTrue (is_quotable text)) → IfSome argno (λ n. n ≤ 65535)
       → ReadsRest text n.DebugPart (record { binding = binding; name = name; argno = argno; deref = deref }) after (said_text binding name argno deref)
-  unfolding body written meaning part_fault debug_of accepts class_number keyword_number keyword_of keywords_of_length known_keyword spelling
+  unfolding body written meaning part_fault debug_of accepts class_number keyword_number keyword_of known_keyword keywords spelling
   said None name argno deref quotable few = without_binding (name_rest name argno deref quotable few)
   said (Some Let) name argno deref quotable few =
       let rest = after_binding (name_rest name argno deref quotable few) in

@@ -7,6 +7,7 @@ use Rattle.sil_ast.specs.declared.decl.Decl.TheVariants as decl
 use Rattle.sil_ast.specs.declared.decl.Field.{Field}
 use Rattle.sil_ast.specs.declared.decl.Storage.{Storage}
 use Rattle.sil_ast.specs.declared.decl.Storage.TheVariants as storage
+use Rattle.instruction_table.specs.declared.op.Op.TheVariants as op
 use Rattle.sil_ast.specs.declared.type_name.TypeName.{TypeName, TypeName-F, fold_out-TypeName, map-TypeName, out-TypeName}
 use Rattle.sil_printer.specs.CanonicalDecls.{case_text, decl_text, field_text, payload_text}
 use Rattle.sil_printer.specs.CanonicalTypes.{is_several, several_over, type_over, type_text}
@@ -201,12 +202,12 @@ pub decl_reads : (text : List ℕ) (d : Decl) (after : List ℕ) → IsDeclPrint
 unfolding body written meaning part_fault item_of spelling
 decl_reads text (decl.Struct name fields) after printable =
     let inside = fields_read text fields (125 ∷ 10 ∷ after) (fields_printable fields printable.members printable.types) printable.strong in
-    let whole = braced_reads k.Struct name (indented field_text fields) after refl printable.name inside in
+    let whole = braced_reads (k.Mnemonic op.Struct) name (indented field_text fields) after refl printable.name inside in
     stands_by p.StructItem (IsItem item.Decl IsDeclWritten (decl.Struct name fields)) whole.reads (few_fields inside.value fields inside.stands printable.limits)
     (record { item = _; is_item = refl; stands = ap₂ decl.Struct whole.named inside.stands })
 decl_reads text (decl.Enum name cases) after printable =
     let inside = cases_read text cases (125 ∷ 10 ∷ after) (cases_printable cases printable.members printable.types) in
-    let whole = braced_reads k.Enum name (indented case_text cases) after refl printable.name inside in
+    let whole = braced_reads (k.Mnemonic op.Enum) name (indented case_text cases) after refl printable.name inside in
     stands_by p.EnumItem (IsItem item.Decl IsDeclWritten (decl.Enum name cases)) whole.reads (few_cases inside.value cases inside.stands printable.limits)
     (record { item = _; is_item = refl; stands = ap₂ decl.Enum whole.named inside.stands })
 decl_reads text (decl.Class name fields) after printable =

@@ -11,7 +11,7 @@ use Rattle.sil_shape.specs.declared.grammar.Symbol.{Symbol}
 use Rattle.sil_shape.specs.declared.grammar.Symbol.TheVariants.{Read}
 use Rattle.sil_shape.specs.declared.grammar.Terminal.TheVariants as t
 use Rattle.sil_shape.specs.Accepts.{accepts, class_number, punctuation_number}
-use Rattle.sil_shape.specs.Grammar.{at, punctuation, word}
+use Rattle.sil_shape.specs.Terminals.{at, punctuation, word}
 use Rattle.token_classes.specs.Spelling.{at_spelling, punctuation_of, punctuation_spelling, spelling}
 use Rattle.token_classes.proofs.SpellingLemmas.{at_word_of-at_spelling, keyword_of-spelling, punctuation_of-punctuation_spelling}
 use Rattle.sil_grammar.specs.Classes.{punctuation_class}

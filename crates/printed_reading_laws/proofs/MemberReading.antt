@@ -5,7 +5,7 @@ use Rattle.sil_ast.specs.declared.member.Member.{Member}
 use Rattle.sil_printer.specs.CanonicalInsts.{case_name, field_name}
 use Rattle.sil_shape.specs.Accepts.{accepts, class_number, keyword_number, punctuation_number}
 use Rattle.sil_shape.specs.Grammar.{body, written}
-use Rattle.token_classes.specs.Spelling.{keyword_of, keywords_of_length, known_keyword, punctuation_of, punctuation_spelling, signs, spelling}
+use Rattle.token_classes.specs.Spelling.{keyword_of, keywords, known_keyword, punctuation_of, punctuation_spelling, signs, spelling}
 use Rattle.sil_shape.specs.declared.grammar.Nonterminal.TheVariants as n
 use Rattle.sil_shape.specs.declared.grammar.Production.TheVariants as p
 use Rattle.written_modules.specs.Meaning.{kept_of, meaning}
@@ -27,7 +27,7 @@ field_reads text m after spelled ends =
 -- `#E.c!enumelt`
 pub case_reads : (text : List ℕ) (m : Member) (after : List ℕ) → IsMemberSpelled m → Ends after
     → Stands text n.EnumElement (λ x. member_of x ≡ m) (case_name m ++ after) after
-unfolding body written meaning part_fault member_of token_of kept_of accepts class_number punctuation_number punctuation_of punctuation_spelling signs keyword_number keyword_of keywords_of_length known_keyword spelling
+unfolding body written meaning part_fault member_of token_of kept_of accepts class_number punctuation_number punctuation_of punctuation_spelling signs keyword_number keyword_of known_keyword keywords spelling
 case_reads text m after spelled ends =
     rw (append_assoc ((m.owner ++ 46 ∷ []) ++ m.name) (codes "!enumelt") after, append_assoc (m.owner ++ 46 ∷ []) m.name (codes "!enumelt" ++ after), append_assoc m.owner (46 ∷ []) (m.name ++ (codes "!enumelt" ++ after)))
     (stands_by p.WholeEnumElement _

@@ -12,9 +12,9 @@ use Rattle.sil_ast.specs.declared.type_name.TypeName.TheOpen as level
 use Rattle.written_numbers.proofs.Printed.{printed_literal, printed_number}
 use Rattle.written_numbers.proofs.Residues.{half_small, mag_below}
 use Rattle.written_numbers.specs.Laws.{IsSigned}
-use Rattle.written_numbers.specs.Numbers.{literal_of, small_of}
+use Rattle.written_numbers.specs.Numbers.{literal_of}
 use Rattle.written_tree.specs.Faults.{out_of_range}
-use Rattle.written_modules.specs.Meaning.{element_of}
+use Rattle.written_modules.specs.RowMeaning.{element_of}
 use Rattle.written_modules.specs.Types.{width_in_range, width_of, width_over}
 use Rattle.numbered_form.specs.Literals.{is_element_number, is_residue, literal_width}
 use Rattle.numbered_form.specs.Types.{IsPlainType}
@@ -70,12 +70,12 @@ in_range o x place e = ap (λ o. out_of_range o place) e
 pub record ReadsElement (n : ℤ) : Type 0 where
   pub small : mag n < 2 ^ 63
   pub reads : element_of (signed_decimal n) ≡ Some n
-  pub faultless : (place : Place) → out_of_range (small_of 63 (signed_decimal n)) place ≡ None
+  pub faultless : (place : Place) → out_of_range (element_of (signed_decimal n)) place ≡ None
 
 pub element_reads : (n : ℤ) → IsTrue (is_element_number n) → ReadsElement n
 element_reads (pos n) h =
     let high : pos n ≤ℤ pos 63 = le_holds (pos n) (pos 63) (second_of_both (int_le (pos 0) (pos n)) (int_le (pos n) (pos 63)) h) in
     let few : n ≤ 63 = omega (arith, ints) in
-    let e : small_of 63 (decimal n) ≡ Some n = printed_number 63 n (omega arith) few in
-    record { small = omega arith; reads = ap (option_map pos) e; faultless = λ place. in_range (small_of 63 (decimal n)) n place e }
+    let e : element_of (decimal n) ≡ Some (pos n) = ap (option_map pos) (printed_number 63 n (omega arith) few) in
+    record { small = omega arith; reads = e; faultless = λ place. in_range (element_of (decimal n)) (pos n) place e }
 element_reads (negsuc n) h = absurd (true≢false (sym h))

@@ -5,7 +5,7 @@ use Rattle.std.specs.Prelude.{is_none}
 use Rattle.sil_ast.specs.declared.operands.Operand.{Operand}
 use Rattle.numbered_reading_laws.proofs.ListsAndFaults.{first_of_both, second_of_both}
 use Rattle.numbered_form.specs.Lists.{is_empty}
-use Rattle.written_modules.specs.Meaning.{bare_operand}
+use Rattle.written_modules.specs.RowMeaning.{bare_operand}
 use Rattle.written_tree.specs.declared.written_declarations.WrittenToken.{WrittenToken}
 use Rattle.numbered_form.specs.Parts.{first_then, is_bare, is_typed}
 use Rattle.printed_reading_laws.proofs.Written.{IsOperandWritten, IsValueNamed}

@@ -18,7 +18,7 @@ use Rattle.sil_shape.specs.declared.grammar.Production.TheVariants as p
 use Rattle.sil_shape.specs.declared.grammar.Symbol.TheVariants.{Part}
 use Rattle.sil_shape.specs.Accepts.{accepts, at_number, class_number, keyword_number, punctuation_number}
 use Rattle.sil_shape.specs.Grammar.{body, written}
-use Rattle.token_classes.specs.Spelling.{at_spelling, at_word_of, at_words, keyword_of, keywords_of_length, known_at_word, known_keyword, punctuation_of, punctuation_spelling, signs, spelling}
+use Rattle.token_classes.specs.Spelling.{at_spelling, at_word_of, at_words, keyword_of, keywords, known_at_word, known_keyword, punctuation_of, punctuation_spelling, signs, spelling}
 use Rattle.sil_rules.specs.declared.limit_word.LimitWord.TheVariants as limit
 use Rattle.written_modules.specs.Meaning.{meaning}
 use Rattle.written_modules.specs.Opened.{PartGivens, PartParams, PartValue}
@@ -213,7 +213,7 @@ convention_text-word convention.Thin = refl
 convention_text-word convention.Method = refl
 
 convention_reads : (text : List ℕ) (c : Convention) → ReadsAs text (Part n.Convention) (λ x. convention_of x ≡ c) (convention_word c)
-unfolding body written part_fault meaning convention_of accepts class_number keyword_number keyword_of known_keyword keywords_of_length spelling
+unfolding body written part_fault meaning convention_of accepts class_number keyword_number keyword_of known_keyword keywords spelling
 convention_reads text convention.Thin after ends = record { value = _; stands = refl; reads = reads.rule p.Thin (word_token (codes "thin") refl refl ends reads.nothing) refl reads.nothing }
 convention_reads text convention.Method after ends = record { value = _; stands = refl; reads = reads.rule p.Method (word_token (codes "method") refl refl ends reads.nothing) refl reads.nothing }
 

@@ -15,8 +15,9 @@ use Rattle.sil_shape.specs.declared.grammar.Production.TheVariants as p
 use Rattle.sil_shape.specs.declared.grammar.Symbol.TheVariants.{Read, Part}
 use Rattle.sil_shape.specs.Accepts.{accepts, class_number, is_type_word, keyword_number, punctuation_number}
 use Rattle.sil_shape.specs.Grammar as grammar
-use Rattle.sil_shape.specs.Grammar.{body, word, written}
-use Rattle.token_classes.specs.Spelling.{at_spelling, at_word_of, at_words, keyword_of, keywords_of_length, known_at_word, known_keyword, punctuation_of, punctuation_spelling, signs, spelling}
+use Rattle.sil_shape.specs.Grammar.{body, written}
+use Rattle.sil_shape.specs.Terminals.{word}
+use Rattle.token_classes.specs.Spelling.{at_spelling, at_word_of, at_words, keyword_of, keywords, known_at_word, known_keyword, punctuation_of, punctuation_spelling, signs, spelling}
 use Rattle.written_tree.specs.declared.written_declarations.WrittenToken.{WrittenToken}
 use Rattle.written_tree.specs.declared.fault.Fault.{Fault}
 use Rattle.written_modules.specs.Meaning.{kept_of, meaning}
@@ -103,7 +104,7 @@ module _ (text : List ℕ) where
       → ((token : WrittenToken) (parts : List PartValue) → ((tailed token (meaning rule parts)).ty ≡ ty.Int width) × ((tailed token (meaning rule parts)).depth ≡ 1))
       → IsTrue (is_word (codes "Int" ++ decimal width)) → keyword_of (codes "Int" ++ decimal width) ≡ keyword
       → ReadsAs text (Part n.OpenType) (IsTypeOf (ty.Int width) 1) (codes "Builtin.Int" ++ decimal width)
-  unfolding body written meaning part_fault type_of token_of kept_of accepts class_number keyword_number punctuation_number punctuation_of punctuation_spelling signs keyword_of known_keyword keywords_of_length spelling
+  unfolding body written meaning part_fault type_of token_of kept_of accepts class_number keyword_number punctuation_number punctuation_of punctuation_spelling signs keyword_of known_keyword keywords spelling
   by_width width keyword rule is_written is_body faultless makes spelled known after ends = base_open text (ty.Int width) 1 (record {
     value = _;
     stands = makes _ _;
@@ -122,7 +123,7 @@ one_of_widths : (width : ℕ) → IsTrue (is_width width) → (width ≡ 1) ⊎ 
 one_of_widths width h = grind (arith, nat_tests)
 
 pub int_reads : (text : List ℕ) (width : ℕ) → IsTrue (is_width width) → ReadsAs text (Part n.OpenType) (IsTypeOf (ty.Int width) 1) (codes "Builtin.Int" ++ decimal width)
-unfolding written body meaning part_fault tailed keyword_of known_keyword keywords_of_length spelling digits
+unfolding written body meaning part_fault tailed keyword_of known_keyword keywords spelling digits
 int_reads text width h =
     let as_int : ℕ → Type 0 = λ width. ReadsAs text (Part n.OpenType) (IsTypeOf (ty.Int width) 1) (codes "Builtin.Int" ++ decimal width) in
     elim (one_of_widths width h) [
@@ -164,7 +165,7 @@ module _ (text : List ℕ) (t : TypeName) (depth : ℕ) (written : List ℕ) (in
       (λ sigil inner is. no_room_needed (type_of inner) depth _ is.1 room) (inside after ends)
 
   pub optional_reads : ReadsAs text (Part n.OpenType) (IsTypeOf (ty.Optional t) (1 + depth)) (codes "Optional<" ++ written ++ codes ">")
-  unfolding body grammar.written meaning part_fault type_of tailed accepts class_number keyword_number punctuation_number punctuation_of punctuation_spelling signs keyword_of known_keyword keywords_of_length spelling
+  unfolding body grammar.written meaning part_fault type_of tailed accepts class_number keyword_number punctuation_number punctuation_of punctuation_spelling signs keyword_of known_keyword keywords spelling
   optional_reads after ends =
       let r = inside (62 ∷ after) refl in
       rw (append_assoc written (codes ">") after) (base_open text (ty.Optional t) (1 + depth) (record {

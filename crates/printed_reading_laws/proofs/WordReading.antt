@@ -9,7 +9,8 @@ use Rattle.sil_shape.specs.declared.grammar.Nonterminal.TheVariants as n
 use Rattle.sil_shape.specs.declared.grammar.Production.{Production}
 use Rattle.sil_shape.specs.declared.grammar.Symbol.TheVariants.{Read, Part}
 use Rattle.sil_shape.specs.Accepts.{accepts, class_number}
-use Rattle.sil_shape.specs.Grammar.{at, body, word, written}
+use Rattle.sil_shape.specs.Grammar.{body, written}
+use Rattle.sil_shape.specs.Terminals.{at, word}
 use Rattle.token_classes.specs.Spelling.{at_spelling, at_word_of, keyword_of}
 use Rattle.written_modules.specs.Meaning.{meaning}
 use Rattle.written_modules.specs.Opened.{PartValue}
