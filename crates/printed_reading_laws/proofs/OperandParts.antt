@@ -1,5 +1,5 @@
 -- Each part of a row that takes operands reads as itself.
-use Rattle.std.proofs.Common.{◌≡◌, ◌≤◌, ℕ, List, [], ◌∷◌, ◌++◌, length, map, slice_get, take, Option, Some, None, Bool, true, false, IsTrue, IsFalse, refl, ap, sym, subst, codes, decimal, if◌then◌else◌, ◌||◌, ◌&&◌}
+use Rattle.std.proofs.Common.{◌≡◌, ◌≤◌, ℕ, List, [], ◌∷◌, ◌++◌, length, map, slice_get, take, Some, None, Bool, true, false, IsTrue, IsFalse, refl, sym, subst, codes, if◌then◌else◌, ◌||◌, ◌&&◌}
 use Rattle.std.specs.Prelude.{not}
 use Rattle.std.specs.List.{AllZip, list_all}
 use Rattle.std.proofs.lemmas.List.{append_assoc}
@@ -9,7 +9,6 @@ use Rattle.instruction_table.specs.declared.forms.Part.TheVariants as form
 use Rattle.sil_ast.specs.declared.function.Function.{Function}
 use Rattle.sil_ast.specs.declared.inst.Inst.{Inst}
 use Rattle.sil_ast.specs.declared.operands.Operand.{Operand}
-use Rattle.sil_lexer.specs.declared.token.TokenKind.TheVariants as kind
 use Rattle.sil_printer.specs.CanonicalInsts.{bare_text, gap, part_text, typed_text}
 use Rattle.sil_printer.specs.Words.{if_there, in_parens, listed}
 use Rattle.sil_shape.specs.Accepts.{accepts, class_number, punctuation_number}
@@ -37,7 +36,7 @@ use Rattle.numbered_form.specs.Parts.{first_then, is_bare, is_typed}
 use Rattle.numbered_form.specs.Types.{HasOperandType}
 use Rattle.printed_reading_laws.proofs.ListLimits.{none_passed}
 use Rattle.printed_reading_laws.proofs.NameReading.{argument_names_read}
-use Rattle.printed_reading_laws.proofs.OperandForms.{all_bare_written, bare_written, impossible}
+use Rattle.printed_reading_laws.proofs.OperandForms.{all_bare_written, bare_written, impossible, none_there, one_there}
 use Rattle.printed_reading_laws.proofs.OperandReading.{listed_operands_read, operand_reads}
 use Rattle.printed_reading_laws.proofs.PartReads.{ReadsAsValues, ReadsPart}
 use Rattle.printed_reading_laws.proofs.Pieces.{Ends, Reads, Reads as reads, Stands, behind}
@@ -183,12 +182,7 @@ module _ (text : List ℕ) (functions : List Function) (i : Inst) (done : List P
         faultless = λ others w is. few_written os w _ few is (args.stands others);
       }
 
-  -- no operand may be lacking where one is there
-  one_there : (has lack : Bool) → IsTrue (has || (lack && false)) → IsTrue has
-  one_there true lack h = refl
-  one_there false true h = h
-  one_there false false h = h
-
+  -- one that is there has a type
   typed_front : (rest_fits : List Operand → Bool) (lack : Bool) (os : List Operand) → IsTrue (first_then is_typed rest_fits os || (lack && is_empty os)) → IsTrue (list_all is_typed (take 1 os))
   typed_front rest_fits lack [] h = refl
   typed_front rest_fits lack (x ∷ os) h =
@@ -203,14 +197,10 @@ module _ (text : List ℕ) (functions : List Function) (i : Inst) (done : List P
   typed_part false never item ends rest_fits (x ∷ os) h small types =
       typed_one ends never x os (first_of_both (is_typed x) (rest_fits os) (one_there (is_typed x && rest_fits os) false h)) small.0 types.0
 
-  no_lack : {A : Type 0} (lack : Bool) → IsTrue (not lack) → IsTrue (false || (lack && true)) → A
-  no_lack true never h = impossible never
-  no_lack false never h = impossible h
-
   -- `%1`, which lacks in no row
   pub bare_part : (lack : Bool) → IsTrue (not lack) → Ends rest
       → (rest_fits : List Operand → Bool) (os : List Operand) → IsTrue (first_then is_bare rest_fits os || (lack && is_empty os)) → Each IsSmallOperand os
       → Takes form.Bare os (take 1 os)
-  bare_part lack never ends rest_fits [] h small = no_lack lack never h
+  bare_part lack never ends rest_fits [] h small = none_there lack never h
   bare_part lack never ends rest_fits (x ∷ os) h small =
       bare_one ends x os (first_of_both (is_bare x) (rest_fits os) (one_there (is_bare x && rest_fits os) lack h)) small.0

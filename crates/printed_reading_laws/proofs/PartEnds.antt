@@ -1,5 +1,5 @@
 -- No name or number goes on with the parts of a row.
-use Rattle.std.proofs.Common.{◌≡◌, ℕ, List, [], ◌∷◌, ◌++◌, Option, Some, None, Bool, true, false, IsTrue, refl, slice_get, codes, if◌then◌else◌, ◌&&◌}
+use Rattle.std.proofs.Common.{ℕ, List, [], ◌∷◌, ◌++◌, Option, Some, None, Bool, true, false, IsTrue, refl, slice_get, codes, if◌then◌else◌, ◌&&◌}
 use Rattle.std.specs.Fmt.{signed_decimal}
 use Rattle.std.proofs.lemmas.List.{append_assoc}
 use Rattle.instruction_table.specs.Forms.{is_item}

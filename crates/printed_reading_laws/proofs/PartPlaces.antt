@@ -1,5 +1,5 @@
 -- What a part puts into an instruction doesn't depend on what stands before it in the row.
-use Rattle.std.proofs.Common.{◌≡◌, ℕ, List, ◌∷◌, ◌++◌, [], ◌+◌, length, map, Option, Some, refl, ap, arith, ◌∙◌}
+use Rattle.std.proofs.Common.{◌≡◌, ℕ, List, ◌∷◌, ◌++◌, [], ◌+◌, length, map, Some, refl, ap, arith, ◌∙◌}
 use Rattle.std.proofs.lemmas.List.{get_or-append-add}
 use Rattle.instruction_table.specs.Forms.{detail_of, ending_of, may_lack_operand}
 use Rattle.instruction_table.specs.declared.entries.Ending.{Ending}

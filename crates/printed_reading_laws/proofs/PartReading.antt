@@ -1,5 +1,5 @@
 -- Each part of a row reads as itself, but for operands.
-use Rattle.std.proofs.Common.{◌≡◌, ◌<◌, ℕ, List, length, [], ◌∷◌, ◌++◌, Option, Some, None, Bool, true, false, IsTrue, refl, ap, sym, subst, codes, ℤ, IfSome, ◌&&◌, ◌∙◌, if◌then◌else◌}
+use Rattle.std.proofs.Common.{◌≡◌, ◌<◌, ℕ, List, length, [], ◌∷◌, ◌++◌, Option, Some, None, Bool, true, false, IsTrue, refl, ap, sym, subst, codes, ℤ, IfSome, ◌∙◌}
 use Rattle.std.specs.Fmt.{signed_decimal}
 use Rattle.std.specs.List.{list_any}
 use Rattle.std.specs.Option.{option_map}
@@ -18,7 +18,6 @@ use Rattle.sil_ast.specs.declared.member.Member.{Member}
 use Rattle.sil_ast.specs.declared.operands.Operand.{Operand}
 use Rattle.sil_ast.specs.declared.place.FuncId.{FuncId}
 use Rattle.sil_ast.specs.declared.place.Place.{Place}
-use Rattle.sil_ast.specs.declared.signature.Signature.{Signature}
 use Rattle.sil_ast.specs.declared.type_name.TypeName.{TypeName}
 use Rattle.sil_printer.specs.CanonicalInsts.{debug_text, edge_text, flags_text, function_name, gap, member_text, part_text, qualifier_text, quoted, signature_word, type_word}
 use Rattle.sil_printer.specs.CanonicalInsts as printed
@@ -27,7 +26,6 @@ use Rattle.sil_shape.specs.Accepts.{accepts, class_number, keyword_number, punct
 use Rattle.sil_shape.specs.Derivation.{Accepts}
 use Rattle.sil_shape.specs.Rows.{behind_colon, behind_dollar, brings_comma, symbols_of, text_by, text_of, word_by}
 use Rattle.sil_shape.specs.Rows as rows
-use Rattle.sil_shape.specs.Terminals.{punctuation}
 use Rattle.sil_shape.specs.declared.grammar.Nonterminal.TheVariants as n
 use Rattle.sil_shape.specs.declared.grammar.Symbol.TheVariants.{Part as NamedPart, Read}
 use Rattle.sil_shape.specs.declared.grammar.Terminal.TheVariants as t
@@ -38,8 +36,7 @@ use Rattle.written_modules.specs.Meaning.{kept_of}
 use Rattle.written_modules.specs.Opened.{PartValue}
 use Rattle.written_modules.specs.Parts.{part, text_at}
 use Rattle.written_modules.specs.RowMeaning.{number_by}
-use Rattle.written_modules.specs.Types.{width_of}
-use Rattle.written_modules.specs.Values.{member_of, qualifier_of, signature_of, token_of, type_of}
+use Rattle.written_modules.specs.Values.{member_of, signature_of, token_of, type_of}
 use Rattle.written_tree.specs.Faults.{out_of_range}
 use Rattle.written_tree.specs.declared.written_instructions.WrittenInst.{WrittenInst}
 use Rattle.name_resolution.specs.Names.{name_of}
@@ -203,10 +200,10 @@ module _ (text : List ℕ) (functions : List Function) (i : Inst) (h : IsInstPri
   unfolding symbols_of accepts class_number punctuation_number punctuation_of punctuation_spelling signs
   signature_part given =
       let shown : IsShown (codes " : ") signature_word i.signature rest (λ o left. ReadsAsValues text (behind_colon n.FunctionType)
-              (λ values. (others : List PartValue) → Some (signature_of (part 2 (values ++ others))) ≡ o) (codes " : " ++ left) rest) =
-          shown_by (codes " : ") signature_word rest _ i.signature given (λ s e.
-          let inside = signature_reads text s rest (subst (λ o. IfSome o HasSignatureTypes) e h.types.signature) (subst (λ o. IfSome o IsSignatureInLimits) e h.limits.signature) ends in
-          record { values = _; reads = reads.blank 32 refl (punctuation_token 58 refl refl (reads.blank 32 refl (punctuation_token 36 refl refl inside.reads))); stands = λ others. ap Some inside.stands }) in
+      (λ values. (others : List PartValue) → Some (signature_of (part 2 (values ++ others))) ≡ o) (codes " : " ++ left) rest) =
+      shown_by (codes " : ") signature_word rest _ i.signature given (λ s e.
+      let inside = signature_reads text s rest (subst (λ o. IfSome o HasSignatureTypes) e h.types.signature) (subst (λ o. IfSome o IsSignatureInLimits) e h.limits.signature) ends in
+      record { values = _; reads = reads.blank 32 refl (punctuation_token 58 refl refl (reads.blank 32 refl (punctuation_token 36 refl refl inside.reads))); stands = λ others. ap Some inside.stands }) in
       subst (λ left. ReadsPart text functions i form.SignatureWord done all all left rest) shown.is_text record {
         commas = [];
         middle = _;
@@ -221,10 +218,10 @@ module _ (text : List ℕ) (functions : List Function) (i : Inst) (h : IsInstPri
   unfolding symbols_of rows.member_of brings_comma
   member_part given =
       let shown : IsShown (lead form.Member) (member_text i.op) i.member rest (λ o left. ReadsAsValues text (NamedPart (rows.member_of i.op) ∷ [])
-              (λ values. (others : List PartValue) → Some (member_of (part 0 (values ++ others))) ≡ o) left rest) =
-          shown_by (lead form.Member) (member_text i.op) rest _ i.member given (λ m e.
-          let inside = member_reads text (detail_of i.op) m rest (subst (λ o. IfSome o IsMemberSpelled) e h.spelled.member) ends in
-          record { values = _; reads = inside.reads; stands = λ others. ap Some inside.stands }) in
+      (λ values. (others : List PartValue) → Some (member_of (part 0 (values ++ others))) ≡ o) left rest) =
+      shown_by (lead form.Member) (member_text i.op) rest _ i.member given (λ m e.
+      let inside = member_reads text (detail_of i.op) m rest (subst (λ o. IfSome o IsMemberSpelled) e h.spelled.member) ends in
+      record { values = _; reads = inside.reads; stands = λ others. ap Some inside.stands }) in
       let before = gap_reads text i.op done form.Member shown.inner refl refl in
       subst (λ left. ReadsPart text functions i form.Member done all all left rest) shown.is_text record {
         commas = before.values;
@@ -240,13 +237,13 @@ module _ (text : List ℕ) (functions : List Function) (i : Inst) (h : IsInstPri
   unfolding symbols_of brings_comma
   number_part given typed is_typed fits typed_there =
       let shown : IsShown (lead form.Number) signed_decimal i.number rest (λ o left. ReadsAsValues text (Read (t.Just c.Number) ∷ [])
-              (λ values. (others : List PartValue) → number_by (detail_of i.op) (kept_if typed i.ty) (text_at 0 (values ++ others)) ≡ o) left rest) =
-          shown_by (lead form.Number) signed_decimal rest _ i.number given (λ z e.
-          let inside = number_reads text (detail_of i.op) typed i.ty z rest fits typed_there h.types.ty (subst (λ o. IfSome o (λ z. IsTrue (is_number_by (detail_of i.op) i.ty z))) e h.literals.number) ends in
-          record { values = inside.value ∷ []; reads = inside.reads; stands = λ others. inside.stands }) in
+      (λ values. (others : List PartValue) → number_by (detail_of i.op) (kept_if typed i.ty) (text_at 0 (values ++ others)) ≡ o) left rest) =
+      shown_by (lead form.Number) signed_decimal rest _ i.number given (λ z e.
+      let inside = number_reads text (detail_of i.op) typed i.ty z rest fits typed_there h.types.ty (subst (λ o. IfSome o (λ z. IsTrue (is_number_by (detail_of i.op) i.ty z))) e h.literals.number) ends in
+      record { values = inside.value ∷ []; reads = inside.reads; stands = λ others. inside.stands }) in
       let before = gap_reads text i.op done form.Number shown.inner refl refl in
       let numbered : (others : List PartValue) (w : WrittenInst) → IsInstWritten functions (so_far done all i) w → number_by (detail_of i.op) w.ty (text_at 0 (shown.reads.values ++ others)) ≡ i.number =
-          λ others w is. ap (λ ty. number_by (detail_of i.op) ty (text_at 0 (shown.reads.values ++ others))) (is.ty ∙ ap (λ typed. kept_if typed i.ty) (sym is_typed)) ∙ shown.reads.stands others in
+      λ others w is. ap (λ ty. number_by (detail_of i.op) ty (text_at 0 (shown.reads.values ++ others))) (is.ty ∙ ap (λ typed. kept_if typed i.ty) (sym is_typed)) ∙ shown.reads.stands others in
       subst (λ left. ReadsPart text functions i form.Number done all all left rest) shown.is_text record {
         commas = before.values;
         middle = shown.inner;
@@ -261,11 +258,11 @@ module _ (text : List ℕ) (functions : List Function) (i : Inst) (h : IsInstPri
   unfolding symbols_of text_of brings_comma token_of kept_of
   text_part given =
       let shown : IsShown (lead form.Text) quoted i.text rest (λ o left. ReadsAsValues text (Read (text_of i.op) ∷ [])
-              (λ values. (others : List PartValue) → Some (text_at 0 (values ++ others)) ≡ o) left rest) =
-          shown_by (lead form.Text) quoted rest _ i.text given (λ x e.
-          let accepted = text_accepted (detail_of i.op) x (subst (λ o. IfSome o (λ x. IsTrue (is_text_by (detail_of i.op) x))) e h.literals.text) in
-          let inside = text_token x rest (subst (λ o. IfSome o (λ x. IsTrue (is_quotable x))) e h.spelled.text) accepted reads.nothing in
-          record { values = _; reads = inside; stands = λ others. ap Some (between_quotes x) }) in
+      (λ values. (others : List PartValue) → Some (text_at 0 (values ++ others)) ≡ o) left rest) =
+      shown_by (lead form.Text) quoted rest _ i.text given (λ x e.
+      let accepted = text_accepted (detail_of i.op) x (subst (λ o. IfSome o (λ x. IsTrue (is_text_by (detail_of i.op) x))) e h.literals.text) in
+      let inside = text_token x rest (subst (λ o. IfSome o (λ x. IsTrue (is_quotable x))) e h.spelled.text) accepted reads.nothing in
+      record { values = _; reads = inside; stands = λ others. ap Some (between_quotes x) }) in
       let before = gap_reads text i.op done form.Text shown.inner refl refl in
       subst (λ left. ReadsPart text functions i form.Text done all all left rest) shown.is_text record {
         commas = before.values;
@@ -281,10 +278,10 @@ module _ (text : List ℕ) (functions : List Function) (i : Inst) (h : IsInstPri
   unfolding symbols_of brings_comma token_of kept_of accepts
   callee_part given =
       let shown : IsShown (lead form.Callee) (function_name functions) i.function rest (λ o left. ReadsAsValues text (Read t.AnyAt ∷ [])
-              (λ values. (others : List PartValue) → Some (name_of (token_of (part 0 (values ++ others)))) ≡ option_map (name_in functions) o) left rest) =
-          shown_by (lead form.Callee) (function_name functions) rest _ i.function given (λ f e.
-          let named = is_name_at functions f (subst (λ o. IfSome o (λ (f : FuncId). f.0 < length functions)) e h.function) h.names in
-          rw named.text record { values = _; reads = at_token (name_in functions f) named.spelled refl ends reads.nothing; stands = λ others. refl }) in
+      (λ values. (others : List PartValue) → Some (name_of (token_of (part 0 (values ++ others)))) ≡ option_map (name_in functions) o) left rest) =
+      shown_by (lead form.Callee) (function_name functions) rest _ i.function given (λ f e.
+      let named = is_name_at functions f (subst (λ o. IfSome o (λ (f : FuncId). f.0 < length functions)) e h.function) h.names in
+      rw named.text record { values = _; reads = at_token (name_in functions f) named.spelled refl ends reads.nothing; stands = λ others. refl }) in
       let before = gap_reads text i.op done form.Callee shown.inner refl refl in
       subst (λ left. ReadsPart text functions i form.Callee done all all left rest) shown.is_text record {
         commas = before.values;

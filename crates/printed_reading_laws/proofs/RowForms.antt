@@ -1,5 +1,5 @@
 -- A row of the table of instructions: its text, and that it reads as itself.
-use Rattle.std.proofs.Common.{◌≡◌, ℕ, List, [], ◌++◌, Option, None, false}
+use Rattle.std.proofs.Common.{ℕ, List, [], ◌++◌, None, false}
 use Rattle.instruction_table.specs.Forms.{mnemonic_of, parts_of}
 use Rattle.sil_ast.specs.declared.function.Function.{Function}
 use Rattle.sil_ast.specs.declared.inst.Inst.{Inst}

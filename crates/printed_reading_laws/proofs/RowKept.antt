@@ -1,5 +1,5 @@
 -- An instruction without some of its parts, and that one with just the parts of its row is itself.
-use Rattle.std.proofs.Common.{◌≡◌, ℕ, List, [], ◌∷◌, Option, Some, None, Bool, true, false, IsTrue, refl, sym, ◌∙◌, if◌then◌else◌, is_some, ◌||◌, ◌&&◌, true≢false}
+use Rattle.std.proofs.Common.{◌≡◌, ℕ, List, [], ◌∷◌, Option, Some, None, Bool, true, false, IsTrue, refl, ◌∙◌, if◌then◌else◌, is_some, ◌||◌, ◌&&◌, true≢false}
 use Rattle.std.specs.Prelude.{not}
 use Rattle.std.specs.List.{list_any}
 use Rattle.instruction_table.specs.Forms.{ending_of, parts_of, words_of}

@@ -1,5 +1,5 @@
 -- Which operands the parts of a row leave to those behind them, and whether the table's rows can be read from left to right.
-use Rattle.std.proofs.Common.{◌≡◌, List, [], ◌∷◌, ◌++◌, drop, take, Bool, true, false, IsTrue, refl, ap, ◌⊎◌, inl, inr, ◌||◌, ◌&&◌, ◌∙◌}
+use Rattle.std.proofs.Common.{◌≡◌, List, [], ◌∷◌, ◌++◌, drop, take, Bool, true, false, IsTrue, refl, ap, ◌⊎◌, inl, inr, ◌||◌, ◌&&◌}
 use Rattle.std.specs.Prelude.{not}
 use Rattle.std.specs.List.{list_all, list_any}
 use Rattle.std.proofs.lemmas.List.{append_assoc, append-nil}
@@ -12,8 +12,8 @@ use Rattle.sil_ast.specs.declared.operands.Operand.{Operand}
 use Rattle.sil_printer.specs.CanonicalInsts.{operands_after}
 use Rattle.numbered_form.specs.Lists.{Each, is_empty}
 use Rattle.numbered_form.specs.Parts.{are_of_part, are_of_parts, is_bare, is_type, is_typed, row_has}
-use Rattle.numbered_reading_laws.proofs.ListsAndFaults.{first_of_both, second_of_both}
-use Rattle.printed_reading_laws.proofs.OperandForms.{impossible}
+use Rattle.numbered_reading_laws.proofs.ListsAndFaults.{either_first, second_of_both}
+use Rattle.printed_reading_laws.proofs.OperandForms.{either_second, impossible, none_there, one_there}
 use Rattle.printed_reading_laws.proofs.PartReading.{number_fits}
 use Rattle.printed_reading_laws.proofs.RowEdges.{has_blocks}
 use Rattle.printed_reading_laws.proofs.RowGaps.{is_behind_item}
@@ -99,31 +99,14 @@ quiet_take_none (here ∷ others) quiet =
 abbrev pub are_left : Op → List Part → List Operand → Bool
 are_left o parts left = are_of_parts parts left || (may_lack_operand o && is_empty left)
 
-either_first : (a b : Bool) → IsTrue a → IsTrue (a || b)
-either_first true b h = refl
-either_first false b h = impossible h
-
-either_second : (a b : Bool) → IsTrue b → IsTrue (a || b)
-either_second true b h = refl
-either_second false b h = h
-
-one_there : (has lack : Bool) → IsTrue (has || (lack && false)) → IsTrue has
-one_there true lack h = refl
-one_there false true h = h
-one_there false false h = h
-
-no_lack : {A : Type 0} (lack : Bool) → IsTrue (not lack) → IsTrue (false || (lack && true)) → A
-no_lack true never h = impossible never
-no_lack false never h = impossible h
-
-pub typed_left : (o : Op) (parts : List Part) (left : List Operand) → IsTrue (are_left o (part.Typed ∷ parts) left) → IsTrue (are_left o parts (drop 1 left))
+typed_left : (o : Op) (parts : List Part) (left : List Operand) → IsTrue (are_left o (part.Typed ∷ parts) left) → IsTrue (are_left o parts (drop 1 left))
 typed_left o parts [] h = either_second (are_of_parts parts []) (may_lack_operand o && true) h
 typed_left o parts (x ∷ left) h =
     either_first (are_of_parts parts left) (may_lack_operand o && is_empty left)
     (second_of_both (is_typed x) (are_of_parts parts left) (one_there (is_typed x && are_of_parts parts left) (may_lack_operand o) h))
 
 bare_left : (o : Op) (parts : List Part) (left : List Operand) → IsTrue (not (may_lack_operand o)) → IsTrue (are_left o (part.Bare ∷ parts) left) → IsTrue (are_left o parts (drop 1 left))
-bare_left o parts [] never h = no_lack (may_lack_operand o) never h
+bare_left o parts [] never h = none_there (may_lack_operand o) never h
 bare_left o parts (x ∷ left) never h =
     either_first (are_of_parts parts left) (may_lack_operand o && is_empty left)
     (second_of_both (is_bare x) (are_of_parts parts left) (one_there (is_bare x && are_of_parts parts left) (may_lack_operand o) h))

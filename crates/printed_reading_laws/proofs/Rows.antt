@@ -1,9 +1,9 @@
 -- Each row of the table of instructions reads as itself: part by part, from left to right.
-use Rattle.std.proofs.Common.{◌≡◌, ◌≤◌, ◌+◌, ℕ, suc, List, [], ◌∷◌, ◌++◌, length, take, Option, Some, None, Bool, true, false, IsTrue, IsFalse, refl, ap, sym, subst, arith, if◌then◌else◌, inr, ◌||◌, ◌∙◌}
+use Rattle.std.proofs.Common.{◌≡◌, ◌≤◌, ◌+◌, ℕ, suc, List, [], ◌∷◌, ◌++◌, length, take, Some, None, Bool, true, false, IsTrue, IsFalse, refl, ap, sym, subst, arith, if◌then◌else◌, inr, ◌||◌, ◌∙◌}
 use Rattle.std.specs.Prelude.{not}
 use Rattle.std.specs.List.{list_any}
 use Rattle.std.proofs.lemmas.List.{append_assoc, append-nil, length-append}
-use Rattle.instruction_table.specs.Forms.{detail_of, ending_of, is_terminator, may_lack_operand, mnemonic_of, parts_of}
+use Rattle.instruction_table.specs.Forms.{detail_of, is_terminator, may_lack_operand, mnemonic_of, parts_of}
 use Rattle.instruction_table.specs.declared.forms.Part.{Part}
 use Rattle.instruction_table.specs.declared.forms.Part.TheVariants as part
 use Rattle.instruction_table.specs.declared.op.Op.{Op}
@@ -13,8 +13,7 @@ use Rattle.sil_ast.specs.declared.inst.Inst.{Inst}
 use Rattle.sil_ast.specs.declared.operands.Operand.{Operand}
 use Rattle.sil_printer.specs.CanonicalInsts.{gap, operands_after, part_text, parts_text}
 use Rattle.sil_shape.specs.Grammar.{body, written}
-use Rattle.sil_shape.specs.Rows.{comma_behind, ends_block, parts_row, row_body, row_part, symbols_of}
-use Rattle.sil_shape.specs.declared.grammar.Nonterminal.{Nonterminal}
+use Rattle.sil_shape.specs.Rows.{comma_behind, ends_block, row_body, row_part, symbols_of}
 use Rattle.sil_shape.specs.declared.grammar.Nonterminal.TheVariants as n
 use Rattle.sil_shape.specs.declared.grammar.Production.TheVariants as p
 use Rattle.sil_shape.specs.declared.grammar.Symbol.{Symbol}
@@ -34,7 +33,7 @@ use Rattle.numbered_form.specs.Parts.{are_of_parts, is_bare, is_callee, is_membe
 use Rattle.numbered_form.specs.Types.{HasOperandType}
 use Rattle.numbered_reading_laws.proofs.ListsAndFaults.{first_of_both, second_of_both}
 use Rattle.printed_reading_laws.proofs.FixedTokens.{keyword_here}
-use Rattle.printed_reading_laws.proofs.OperandForms.{impossible, is_there}
+use Rattle.printed_reading_laws.proofs.OperandForms.{either_second, impossible, is_there}
 use Rattle.printed_reading_laws.proofs.OperandParts.{bare_args_part, bare_part, typed_args_part, typed_part}
 use Rattle.printed_reading_laws.proofs.PartEnds.{parts_end}
 use Rattle.printed_reading_laws.proofs.PartPlaces.{fault_moved, with_part_moved}
@@ -44,7 +43,7 @@ use Rattle.printed_reading_laws.proofs.Pieces.{Ends, Reads, Reads as reads, behi
 use Rattle.printed_reading_laws.proofs.Printable.{IsInstPrintable, IsSmallOperand}
 use Rattle.printed_reading_laws.proofs.ProductionReading.{stands_by}
 use Rattle.printed_reading_laws.proofs.RowForms.{RowStands}
-use Rattle.printed_reading_laws.proofs.RowGaps.{comma_before, comma_first, comma_first_is, last_of, parts_behind, parts_row_is}
+use Rattle.printed_reading_laws.proofs.RowGaps.{comma_first, comma_first_is, last_of, parts_behind, parts_row_is}
 use Rattle.printed_reading_laws.proofs.RowKept.{all_kept, so_far, turned}
 use Rattle.printed_reading_laws.proofs.RowOperands.{ArePrinted, are_fit, are_left, args_pass, each_left, fits, left_by, next_left, next_printed, none_left, printed_there, rows_fit, same_together, taken_by}
 use Rattle.printed_reading_laws.proofs.Written.{IsInstWritten}
@@ -70,10 +69,6 @@ pub record ReadsRow (text : List ℕ) (functions : List Function) (i : Inst) (pa
 mnemonic_is_word : (o : Op) → IsTrue (is_word (mnemonic_of o))
 mnemonic_is_word op.Load = refl
 mnemonic_is_word _ = refl
-
-either_second : (a b : Bool) → IsTrue b → IsTrue (a || b)
-either_second true b h = refl
-either_second false b h = h
 
 follows : (a b : Bool) → IsTrue (not a || b) → IsTrue a → IsTrue b
 follows true b h given = h
@@ -198,11 +193,11 @@ module _ (text : List ℕ) (functions : List Function) (i : Inst) (h : IsInstPri
       let others_text = parts_text functions i (Some here) (operands_after here os) others in
       let few : length (all ++ left) ≤ 64 = subst (λ (os : List Operand). length os ≤ 64) (sym joined) h.limits.operands in
       let more = parts_read others (here ∷ done) (operands_after here os) (taken_by here all left) (left_by here left) fit_behind
-          (λ test there. within test (either_second (test here) (list_any test others) there))
-          (next_left i.op done here others left fits_here are) (next_printed i.op done here others os left fits_here shown)
-          (same_together here all left ∙ joined) (each_left IsSmallOperand here left small) (each_left HasOperandType here left types) in
+      (λ test there. within test (either_second (test here) (list_any test others) there))
+      (next_left i.op done here others left fits_here are) (next_printed i.op done here others os left fits_here shown)
+      (same_together here all left ∙ joined) (each_left IsSmallOperand here left small) (each_left HasOperandType here left types) in
       let this = one_part here others done os all left (others_text ++ after) fits_here within are shown few small types
-          (parts_end text functions i h others (here ∷ done) (operands_after here os) after ends) in
+      (parts_end text functions i h others (here ∷ done) (operands_after here os) after ends) in
       rw (append_assoc (part_text functions i os (gap (last_of done) here) here) others_text after)
       (with_others here others done all (taken_by here all left) _ _ this more)
 
