@@ -34,9 +34,9 @@ pub mod PartEnds
 pub mod PartPlaces
 pub mod PartReads
 pub mod RowEdges
-pub mod PartReading
-pub mod OperandParts
 pub mod RowOperands
+pub mod OperandParts
+pub mod PartReading
 pub mod Rows
 pub mod ResultReading
 pub mod InstReading

@@ -1,5 +1,5 @@
--- Parts that are there, operands that may be lacking, and operands without types.
-use Rattle.std.proofs.Common.{◌≡◌, List, [], ◌∷◌, Option, Some, None, Bool, true, false, IsTrue, is_some, refl, sym, ◌||◌, ◌&&◌, true≢false, map}
+-- Operands that are there or lacking, and operands without types.
+use Rattle.std.proofs.Common.{◌≡◌, List, [], ◌∷◌, Option, Some, None, Bool, true, false, IsTrue, refl, sym, ◌||◌, ◌&&◌, true≢false, map}
 use Rattle.std.specs.List.{AllZip, list_all}
 use Rattle.std.specs.Prelude.{is_none, not}
 use Rattle.sil_ast.specs.declared.operands.Operand.{Operand}
@@ -11,14 +11,6 @@ use Rattle.printed_reading_laws.proofs.Written.{IsOperandWritten, IsValueNamed}
 
 pub impossible : {A : Type 0} → IsTrue false → A
 impossible h = absurd (true≢false (sym h))
-
--- a part that is there
-pub data IsThere {A : Type 0} : Option A → Type 0 where
-  there : (x : A) → IsThere (Some x)
-
-pub is_there : {A : Type 0} (o : Option A) → is_some o ≡ true → IsThere o
-is_there None h = impossible h
-is_there (Some x) h = there x
 
 pub either_second : (a b : Bool) → IsTrue b → IsTrue (a || b)
 either_second true b h = refl

@@ -21,9 +21,7 @@ use Rattle.sil_shape.specs.declared.grammar.Symbol.TheVariants.{Part as NamedPar
 use Rattle.token_classes.specs.Spelling.{punctuation_of, punctuation_spelling, signs}
 use Rattle.sil_rules.specs.declared.limit_word.LimitWord.TheVariants as limit
 use Rattle.written_modules.specs.Meaning.{kept_of, meaning}
-use Rattle.written_modules.specs.Opened.{PartValue}
 use Rattle.written_modules.specs.PartFaults.{part_fault}
-use Rattle.written_modules.specs.Parts.{part}
 use Rattle.written_modules.specs.RowMeaning.{bare_operand, typed_by}
 use Rattle.written_modules.specs.Values.{operands_of, token_of, tokens_of}
 use Rattle.written_tree.specs.Faults.{passed}
@@ -38,11 +36,11 @@ use Rattle.printed_reading_laws.proofs.ListLimits.{none_passed}
 use Rattle.printed_reading_laws.proofs.NameReading.{argument_names_read}
 use Rattle.printed_reading_laws.proofs.OperandForms.{all_bare_written, bare_written, impossible, none_there, one_there}
 use Rattle.printed_reading_laws.proofs.OperandReading.{listed_operands_read, operand_reads}
-use Rattle.printed_reading_laws.proofs.PartReads.{ReadsAsValues, ReadsPart}
+use Rattle.printed_reading_laws.proofs.PartReads.{ReadsInner, ReadsPart, by_itself, led, unled}
 use Rattle.printed_reading_laws.proofs.Pieces.{Ends, Reads, Reads as reads, Stands, behind}
 use Rattle.printed_reading_laws.proofs.Printable.{IsSmallOperand}
 use Rattle.printed_reading_laws.proofs.ProductionReading.{stands_by}
-use Rattle.printed_reading_laws.proofs.RowGaps.{ReadsGap, comma_before, comma_gap, gap_reads, is_behind_item, last_of, no_comma, no_gap, own_comma}
+use Rattle.printed_reading_laws.proofs.RowGaps.{comma_gap, is_behind_item, last_of, own_comma}
 use Rattle.printed_reading_laws.proofs.RowKept.{so_far}
 use Rattle.printed_reading_laws.proofs.Tokens.{punctuation_token, value_token}
 use Rattle.printed_reading_laws.proofs.Written.{IsInstWritten, IsOperandWritten}
@@ -63,22 +61,26 @@ module _ (text : List ℕ) (functions : List Function) (i : Inst) (done : List P
   abbrev pub Takes : Part → List Operand → List Operand → Type 0
   Takes here os taken = ReadsPart text functions i here done all (all ++ taken) (part_text functions i os (lead here) here ++ rest) rest
 
+  -- with these operands more, within the limit
+  more_written : (taken : List Operand) (w : WrittenInst) (ws : List WrittenOperand) → IsInstWritten functions (so_far done all i) w → AllZip IsOperandWritten taken ws
+      → IsInstWritten functions (record (so_far done all i) { operands = all ++ taken }) (record w { operands = w.operands ++ ws })
+  more_written taken w ws is h = with_operands functions (so_far done all i) w (all ++ taken) (w.operands ++ ws) is (zip_append IsOperandWritten all taken w.operands ws is.operands h)
+
+  few_written : (taken : List Operand) (w : WrittenInst) (ws : List WrittenOperand) → length (all ++ taken) ≤ 64 → IsInstWritten functions (so_far done all i) w → AllZip IsOperandWritten taken ws
+      → passed limit.Arguments 64 (map operand_place (w.operands ++ ws)) ≡ None
+  few_written taken w ws few is h =
+      none_passed IsOperandWritten operand_place limit.Arguments 64 (all ++ taken) (w.operands ++ ws) (zip_append IsOperandWritten all taken w.operands ws is.operands h) few
+
   -- `%1 : $T`
   typed_one : Ends rest → IsFalse (may_lack_operand i.op) → (x : Operand) (os : List Operand) → IsTrue (is_typed x) → IsSmallOperand x → HasOperandType x → Takes form.Typed (x ∷ os) (x ∷ [])
   unfolding symbols_of rows.operand_of brings_comma
   typed_one ends never x os typed small has_type =
       let operand = operand_reads text x rest typed small has_type ends in
-      let before = gap_reads text i.op done form.Typed (typed_text x ++ rest) refl never in
-      rw (append_assoc (lead form.Typed) (typed_text x) rest)
-      record {
-        commas = before.values;
-        middle = typed_text x ++ rest;
-        led = before.reads;
+      led (typed_text x) refl never record {
         values = operand.value ∷ [];
         reads = subst (λ lack. Reads text (NamedPart (if lack then n.EnumOperand else n.Operand) ∷ []) (typed_text x ++ rest) (operand.value ∷ []) rest) (sym never) operand.reads;
-        written = λ others w is. with_operands functions (so_far done all i) w _ _ is
-            (zip_append IsOperandWritten all (x ∷ []) w.operands _ is.operands (subst (λ lack. AllZip IsOperandWritten (x ∷ []) (typed_by lack operand.value)) (sym never) (operand.stands, tt)));
-        faultless = λ others w is. refl;
+        stands = λ others w is.
+            (more_written (x ∷ []) w (typed_by (may_lack_operand i.op) operand.value) is (subst (λ lack. AllZip IsOperandWritten (x ∷ []) (typed_by lack operand.value)) (sym never) (operand.stands, tt)), refl);
       }
 
   -- `, %1 : $T`, or nothing
@@ -96,91 +98,12 @@ module _ (text : List ℕ) (functions : List Function) (i : Inst) (done : List P
   typed_or_none ends may item os typed small types =
       let operand = lacking_reads ends os typed small types in
       rw (comma_gap done item)
-      record {
-        commas = [];
-        middle = _;
-        led = no_gap text i.op done form.Typed _ (own_comma i.op done form.Typed may);
+      (unled (own_comma i.op done form.Typed may) record {
         values = operand.value ∷ [];
         reads = subst (λ lack. Reads text (NamedPart (if lack then n.EnumOperand else n.Operand) ∷ []) (if_there (codes ", ") typed_text (slice_get os 0) ++ rest) (operand.value ∷ []) rest) (sym may) operand.reads;
-        written = λ others w is. with_operands functions (so_far done all i) w _ _ is
-            (zip_append IsOperandWritten all (take 1 os) w.operands _ is.operands (subst (λ lack. AllZip IsOperandWritten (take 1 os) (typed_by lack operand.value)) (sym may) operand.stands));
-        faultless = λ others w is. refl;
-      }
-
-  -- `%1`
-  bare_one : Ends rest → (x : Operand) (os : List Operand) → IsTrue (is_bare x) → IsSmallOperand x → Takes form.Bare (x ∷ os) (x ∷ [])
-  unfolding symbols_of brings_comma token_of kept_of
-  bare_one ends x os bare small =
-      let before = gap_reads text i.op done form.Bare (bare_text x ++ rest) refl refl in
-      rw (append_assoc (lead form.Bare) (bare_text x) rest)
-      record {
-        commas = before.values;
-        middle = bare_text x ++ rest;
-        led = before.reads;
-        values = _;
-        reads = value_token x.value.0 small ends reads.nothing;
-        written = λ others w is. with_operands functions (so_far done all i) w _ _ is (zip_append IsOperandWritten all (x ∷ []) w.operands _ is.operands (bare_written x _ bare refl, tt));
-        faultless = λ others w is. refl;
-      }
-
-  -- operands within the limit
-  few_written : (taken : List Operand) (w : WrittenInst) (ws : List WrittenOperand) → length (all ++ taken) ≤ 64 → IsInstWritten functions (so_far done all i) w → AllZip IsOperandWritten taken ws
-      → passed limit.Arguments 64 (map operand_place (w.operands ++ ws)) ≡ None
-  few_written taken w ws few is h =
-      none_passed IsOperandWritten operand_place limit.Arguments 64 (all ++ taken) (w.operands ++ ws) (zip_append IsOperandWritten all taken w.operands ws is.operands h) few
-
-  -- `(%1, %2)`
-  pub bare_args_part : (os : List Operand) → IsTrue (list_all is_bare os) → Each IsSmallOperand os → length (all ++ os) ≤ 64 → Takes form.BareArgs os os
-  unfolding symbols_of accepts class_number punctuation_number punctuation_of punctuation_spelling signs
-  bare_args_part os bare small few =
-      let names = argument_names_read (λ o. o.value) text os (41 ∷ rest) small refl in
-      let named : AllZip IsOperandWritten os (map bare_operand (tokens_of names.value)) = all_bare_written os (tokens_of names.value) bare names.stands in
-      rw (append_assoc (listed bare_text os) (41 ∷ []) rest)
-      record {
-        commas = [];
-        middle = _;
-        led = no_gap text i.op done form.BareArgs _ (no_comma i.op done form.BareArgs refl);
-        values = _;
-        reads = punctuation_token 40 refl refl (behind names.reads (punctuation_token 41 refl refl reads.nothing));
-        written = λ others w is. with_operands functions (so_far done all i) w _ _ is (zip_append IsOperandWritten all os w.operands _ is.operands named);
-        faultless = λ others w is. few_written os w _ few is named;
-      }
-
-  -- arguments stand behind a text at once, and else behind a blank
-  args_gap_by : (before : Part) (others : List Part) (left : List ℕ) → ReadsGap text (comma_before i.op (before ∷ others) form.TypedArgs) (gap (Some before) form.TypedArgs ++ left) left
-  unfolding brings_comma
-  args_gap_by form.Text others left = record { values = []; reads = no_gap text i.op (form.Text ∷ others) form.TypedArgs left (no_comma i.op (form.Text ∷ others) form.TypedArgs refl) }
-  args_gap_by before others left = gap_reads text i.op (before ∷ others) form.TypedArgs left refl refl
-
-  args_gap : (parts : List Part) (left : List ℕ) → ReadsGap text (comma_before i.op parts form.TypedArgs) (gap (last_of parts) form.TypedArgs ++ left) left
-  unfolding brings_comma
-  args_gap [] left = gap_reads text i.op [] form.TypedArgs left refl refl
-  args_gap (before ∷ others) left = args_gap_by before others left
-
-  -- `(%1 : $T, %2 : $U)`
-  args_read : (os : List Operand) → IsTrue (list_all is_typed os) → Each IsSmallOperand os → Each HasOperandType os
-      → ReadsAsValues text (rows.in_parens n.Operands) (λ values. (others : List PartValue) → AllZip IsOperandWritten os (operands_of (part 1 (values ++ others)))) (in_parens typed_text os ++ rest) rest
-  unfolding accepts class_number punctuation_number punctuation_of punctuation_spelling signs
-  args_read os typed small types =
-      let args = listed_operands_read text os (41 ∷ rest) (record { typed = typed; small = small; types = types }) refl in
-      rw (append_assoc (listed typed_text os) (41 ∷ []) rest)
-      record { values = _; reads = punctuation_token 40 refl refl (behind args.reads (punctuation_token 41 refl refl reads.nothing)); stands = λ others. args.stands }
-
-  pub typed_args_part : (os : List Operand) → IsTrue (list_all is_typed os) → Each IsSmallOperand os → Each HasOperandType os → length (all ++ os) ≤ 64 → Takes form.TypedArgs os os
-  unfolding symbols_of
-  typed_args_part os typed small types few =
-      let args = args_read os typed small types in
-      let before = args_gap done (in_parens typed_text os ++ rest) in
-      rw (append_assoc (lead form.TypedArgs) (in_parens typed_text os) rest)
-      record {
-        commas = before.values;
-        middle = in_parens typed_text os ++ rest;
-        led = before.reads;
-        values = args.values;
-        reads = args.reads;
-        written = λ others w is. with_operands functions (so_far done all i) w _ _ is (zip_append IsOperandWritten all os w.operands _ is.operands (args.stands others));
-        faultless = λ others w is. few_written os w _ few is (args.stands others);
-      }
+        stands = λ others w is.
+            (more_written (take 1 os) w (typed_by (may_lack_operand i.op) operand.value) is (subst (λ lack. AllZip IsOperandWritten (take 1 os) (typed_by lack operand.value)) (sym may) operand.stands), refl);
+      })
 
   -- one that is there has a type
   typed_front : (rest_fits : List Operand → Bool) (lack : Bool) (os : List Operand) → IsTrue (first_then is_typed rest_fits os || (lack && is_empty os)) → IsTrue (list_all is_typed (take 1 os))
@@ -188,7 +111,7 @@ module _ (text : List ℕ) (functions : List Function) (i : Inst) (done : List P
   typed_front rest_fits lack (x ∷ os) h =
       both (is_typed x) true (first_of_both (is_typed x) (rest_fits os) (one_there (is_typed x && rest_fits os) lack h)) refl
 
-  -- `%1 : $T`, which may be lacking in some rows
+  -- an operand with its type, which may be lacking in some rows
   pub typed_part : (lack : Bool) → may_lack_operand i.op ≡ lack → IsTrue (not lack || is_behind_item done) → Ends rest
       → (rest_fits : List Operand → Bool) (os : List Operand) → IsTrue (first_then is_typed rest_fits os || (lack && is_empty os)) → Each IsSmallOperand os → Each HasOperandType os
       → Takes form.Typed os (take 1 os)
@@ -201,6 +124,53 @@ module _ (text : List ℕ) (functions : List Function) (i : Inst) (done : List P
   pub bare_part : (lack : Bool) → IsTrue (not lack) → Ends rest
       → (rest_fits : List Operand → Bool) (os : List Operand) → IsTrue (first_then is_bare rest_fits os || (lack && is_empty os)) → Each IsSmallOperand os
       → Takes form.Bare os (take 1 os)
+  unfolding symbols_of brings_comma token_of kept_of
   bare_part lack never ends rest_fits [] h small = none_there lack never h
   bare_part lack never ends rest_fits (x ∷ os) h small =
-      bare_one ends x os (first_of_both (is_bare x) (rest_fits os) (one_there (is_bare x && rest_fits os) lack h)) small.0
+      let bare = first_of_both (is_bare x) (rest_fits os) (one_there (is_bare x && rest_fits os) lack h) in
+      led (bare_text x) refl refl record {
+        values = _;
+        reads = value_token x.value.0 small.0 ends reads.nothing;
+        stands = λ others w is. (more_written (x ∷ []) w _ is (bare_written x _ bare refl, tt), refl);
+      }
+
+  -- `(%1, %2)`
+  pub bare_args_part : (os : List Operand) → IsTrue (list_all is_bare os) → Each IsSmallOperand os → length (all ++ os) ≤ 64 → Takes form.BareArgs os os
+  unfolding symbols_of accepts class_number punctuation_number punctuation_of punctuation_spelling signs
+  bare_args_part os bare small few =
+      let names = argument_names_read (λ o. o.value) text os (41 ∷ rest) small refl in
+      let named : AllZip IsOperandWritten os (map bare_operand (tokens_of names.value)) = all_bare_written os (tokens_of names.value) bare names.stands in
+      rw (append_assoc (listed bare_text os) (41 ∷ []) rest)
+      (by_itself refl record {
+        values = _;
+        reads = punctuation_token 40 refl refl (behind names.reads (punctuation_token 41 refl refl reads.nothing));
+        stands = λ others w is. (more_written os w _ is named, few_written os w _ few is named);
+      })
+
+  -- `(%1 : $T, %2 : $U)`
+  args_read : (os : List Operand) → IsTrue (list_all is_typed os) → Each IsSmallOperand os → Each HasOperandType os → length (all ++ os) ≤ 64
+      → ReadsInner text functions i form.TypedArgs done all (all ++ os) (in_parens typed_text os ++ rest) rest
+  unfolding symbols_of accepts class_number punctuation_number punctuation_of punctuation_spelling signs
+  args_read os typed small types few =
+      let args = listed_operands_read text os (41 ∷ rest) (record { typed = typed; small = small; types = types }) refl in
+      rw (append_assoc (listed typed_text os) (41 ∷ []) rest)
+      record {
+        values = _;
+        reads = punctuation_token 40 refl refl (behind args.reads (punctuation_token 41 refl refl reads.nothing));
+        stands = λ others w is. (more_written os w _ is args.stands, few_written os w _ few is args.stands);
+      }
+
+-- arguments stand behind a text at once, and else behind a blank
+args_behind : (text : List ℕ) (functions : List Function) (i : Inst) (before : Part) (done : List Part) (all now os : List Operand) (rest : List ℕ)
+    → ReadsInner text functions i form.TypedArgs (before ∷ done) all now (in_parens typed_text os ++ rest) rest
+    → ReadsPart text functions i form.TypedArgs (before ∷ done) all now ((gap (Some before) form.TypedArgs ++ in_parens typed_text os) ++ rest) rest
+unfolding brings_comma
+args_behind text functions i form.Text done all now os rest inner = by_itself refl inner
+args_behind text functions i _ done all now os rest inner = led (in_parens typed_text os) refl refl inner
+
+pub typed_args_part : (text : List ℕ) (functions : List Function) (i : Inst) (done : List Part) (all : List Operand) (rest : List ℕ) (os : List Operand)
+    → IsTrue (list_all is_typed os) → Each IsSmallOperand os → Each HasOperandType os → length (all ++ os) ≤ 64 → Takes text functions i done all rest form.TypedArgs os os
+unfolding brings_comma
+typed_args_part text functions i [] all rest os typed small types few = led (in_parens typed_text os) refl refl (args_read text functions i [] all rest os typed small types few)
+typed_args_part text functions i (before ∷ done) all rest os typed small types few =
+    args_behind text functions i before done all (all ++ os) os rest (args_read text functions i (before ∷ done) all rest os typed small types few)

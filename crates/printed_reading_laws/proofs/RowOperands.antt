@@ -1,23 +1,33 @@
 -- Which operands the parts of a row leave to those behind them, and whether the table's rows can be read from left to right.
-use Rattle.std.proofs.Common.{◌≡◌, List, [], ◌∷◌, ◌++◌, drop, take, Bool, true, false, IsTrue, refl, ap, ◌⊎◌, inl, inr, ◌||◌, ◌&&◌}
+use Rattle.std.proofs.Common.{◌∙◌, ◌≡◌, ◌≤◌, length, subst, sym, List, [], ◌∷◌, ◌++◌, drop, take, Bool, true, false, IsTrue, refl, ap, ◌⊎◌, inl, inr, ◌||◌, ◌&&◌}
 use Rattle.std.specs.Prelude.{not}
 use Rattle.std.specs.List.{list_all, list_any}
 use Rattle.std.proofs.lemmas.List.{append_assoc, append-nil}
 use Rattle.instruction_table.specs.Forms.{detail_of, ending_of, may_lack_operand, parts_of}
+use Rattle.instruction_table.specs.declared.entries.Detail.{Detail}
+use Rattle.instruction_table.specs.declared.entries.Detail.TheVariants as detail
 use Rattle.instruction_table.specs.declared.forms.Part.{Part}
 use Rattle.instruction_table.specs.declared.forms.Part.TheVariants as part
 use Rattle.instruction_table.specs.declared.op.Op.{Op}
 use Rattle.instruction_table.specs.declared.op.Op.TheVariants as op
+use Rattle.sil_ast.specs.declared.inst.Inst.{Inst}
 use Rattle.sil_ast.specs.declared.operands.Operand.{Operand}
 use Rattle.sil_printer.specs.CanonicalInsts.{operands_after}
 use Rattle.numbered_form.specs.Lists.{Each, is_empty}
 use Rattle.numbered_form.specs.Parts.{are_of_part, are_of_parts, is_bare, is_type, is_typed, row_has}
 use Rattle.numbered_reading_laws.proofs.ListsAndFaults.{either_first, second_of_both}
 use Rattle.printed_reading_laws.proofs.OperandForms.{either_second, impossible, none_there, one_there}
-use Rattle.printed_reading_laws.proofs.PartReading.{number_fits}
+use Rattle.numbered_form.specs.Types.{HasOperandType}
+use Rattle.printed_reading_laws.proofs.Printable.{IsSmallOperand}
 use Rattle.printed_reading_laws.proofs.RowEdges.{has_blocks}
 use Rattle.printed_reading_laws.proofs.RowGaps.{is_behind_item}
 use Rattle.printed_reading_laws.proofs.RowKept.{has_operand}
+
+-- a number is a literal of the type that stands before it, or that of an element
+abbrev pub number_fits : Detail → Bool → Bool
+number_fits detail.Literal typed = typed
+number_fits detail.Element typed = true
+number_fits _ typed = false
 
 -- what a part asks of the parts before it and behind it
 abbrev pub fits : Op → List Part → Part → List Part → Bool
@@ -57,7 +67,7 @@ front_and_rest : (all left : List Operand) → (all ++ take 1 left) ++ drop 1 le
 front_and_rest all [] = append_assoc all [] []
 front_and_rest all (x ∷ left) = append_assoc all (x ∷ []) left
 
-pub same_together : (here : Part) (all left : List Operand) → taken_by here all left ++ left_by here left ≡ all ++ left
+same_together : (here : Part) (all left : List Operand) → taken_by here all left ++ left_by here left ≡ all ++ left
 same_together part.Typed all left = front_and_rest all left
 same_together part.Bare all left = front_and_rest all left
 same_together part.BareArgs all left = append-nil (all ++ left)
@@ -68,7 +78,7 @@ each_behind : (P : Operand → Type 0) (left : List Operand) → Each P left →
 each_behind P [] h = tt
 each_behind P (x ∷ left) h = h.1
 
-pub each_left : (P : Operand → Type 0) (here : Part) (left : List Operand) → Each P left → Each P (left_by here left)
+each_left : (P : Operand → Type 0) (here : Part) (left : List Operand) → Each P left → Each P (left_by here left)
 each_left P part.Typed left h = each_behind P left h
 each_left P part.Bare left h = each_behind P left h
 each_left P part.BareArgs left h = tt
@@ -114,7 +124,7 @@ bare_left o parts (x ∷ left) never h =
 quiet_left : (o : Op) (parts : List Part) → AreQuiet parts → IsTrue (are_left o parts [])
 quiet_left o parts quiet = either_first (are_of_parts parts []) (may_lack_operand o && true) (quiet_take_none parts quiet)
 
-pub next_left : (o : Op) (done : List Part) (here : Part) (others : List Part) (left : List Operand) → IsTrue (fits o done here others)
+next_left : (o : Op) (done : List Part) (here : Part) (others : List Part) (left : List Operand) → IsTrue (fits o done here others)
     → IsTrue (are_left o (here ∷ others) left) → IsTrue (are_left o others (left_by here left))
 next_left o done part.Typed others left fit h = typed_left o others left h
 next_left o done part.Bare others left fit h = bare_left o others left fit h
@@ -130,7 +140,7 @@ behind_one : (o : List Operand) (left : List Operand) (parts : List Part) → Is
 behind_one o left parts (inl quiet) = impossible quiet
 behind_one o left parts (inr e) = inr (ap (drop 1) e)
 
-pub next_printed : (o : Op) (done : List Part) (here : Part) (others : List Part) (os left : List Operand) → IsTrue (fits o done here others)
+next_printed : (o : Op) (done : List Part) (here : Part) (others : List Part) (os left : List Operand) → IsTrue (fits o done here others)
     → ArePrinted (here ∷ others) os left → ArePrinted others (operands_after here os) (left_by here left)
 next_printed o done part.Typed others os left fit h = behind_one os left others h
 next_printed o done part.Bare others os left fit h = behind_one os left others h
@@ -144,7 +154,7 @@ printed_there parts os left (inl quiet) = impossible quiet
 printed_there parts os left (inr e) = e
 
 -- at the end none is left
-pub none_left : (o : Op) (left : List Operand) → IsTrue (are_left o [] left) → [] ≡ left
+none_left : (o : Op) (left : List Operand) → IsTrue (are_left o [] left) → [] ≡ left
 none_left o [] h = refl
 none_left o (x ∷ left) h = impossible (one_there false (may_lack_operand o) h)
 
@@ -152,3 +162,32 @@ none_left o (x ∷ left) h = impossible (one_there false (may_lack_operand o) h)
 pub args_pass : (test : Operand → Bool) (lack : Bool) (left : List Operand) → IsTrue (list_all test left || (lack && is_empty left)) → IsTrue (list_all test left)
 args_pass test lack [] h = refl
 args_pass test lack (x ∷ left) h = one_there (list_all test (x ∷ left)) lack h
+
+-- some parts stand in the row
+abbrev pub AreInRow : Op → List Part → Type 0
+AreInRow o parts = (test : Part → Bool) → IsTrue (list_any test parts) → IsTrue (row_has test o)
+
+-- what is left of an instruction's operands for some parts, and what the parts before have taken
+pub record AreLeft (i : Inst) (parts : List Part) (os all left : List Operand) : Type 0 where
+  pub are : IsTrue (are_left i.op parts left)
+  pub shown : ArePrinted parts os left
+  pub joined : all ++ left ≡ i.operands
+  pub small : Each IsSmallOperand left
+  pub types : Each HasOperandType left
+
+pub few_operands : {i : Inst} {parts : List Part} {os all left : List Operand} → length i.operands ≤ 64 → AreLeft i parts os all left → length (all ++ left) ≤ 64
+few_operands few operands = subst (λ (os : List Operand). length os ≤ 64) (sym operands.joined) few
+
+pub next_operands : {i : Inst} {os all left : List Operand} (done : List Part) (here : Part) (others : List Part) → IsTrue (fits i.op done here others)
+    → AreLeft i (here ∷ others) os all left → AreLeft i others (operands_after here os) (taken_by here all left) (left_by here left)
+next_operands {i} {os} {all} {left} done here others fit operands = record {
+  are = next_left i.op done here others left fit operands.are;
+  shown = next_printed i.op done here others os left fit operands.shown;
+  joined = same_together here all left ∙ operands.joined;
+  small = each_left IsSmallOperand here left operands.small;
+  types = each_left HasOperandType here left operands.types;
+}
+
+-- behind the last part all are taken
+pub all_taken : {i : Inst} {os all left : List Operand} → AreLeft i [] os all left → all ≡ i.operands
+all_taken {i} {os} {all} {left} operands = sym (append-nil all) ∙ ap (λ left. all ++ left) (none_left i.op left operands.are) ∙ operands.joined

@@ -1,11 +1,9 @@
 -- Each row of the table of instructions reads as itself: part by part, from left to right.
-use Rattle.std.proofs.Common.{◌≡◌, ◌≤◌, ◌+◌, ℕ, suc, List, [], ◌∷◌, ◌++◌, length, take, Some, None, Bool, true, false, IsTrue, IsFalse, refl, ap, sym, subst, arith, if◌then◌else◌, inr, ◌||◌, ◌∙◌}
-use Rattle.std.specs.Prelude.{not}
+use Rattle.std.proofs.Common.{◌≡◌, ◌+◌, ℕ, suc, List, [], ◌∷◌, ◌++◌, length, Some, None, IsTrue, IsFalse, refl, ap, sym, subst, arith, if◌then◌else◌, inr, ◌∙◌}
 use Rattle.std.specs.List.{list_any}
-use Rattle.std.proofs.lemmas.List.{append_assoc, append-nil, length-append}
-use Rattle.instruction_table.specs.Forms.{detail_of, is_terminator, may_lack_operand, mnemonic_of, parts_of}
+use Rattle.std.proofs.lemmas.List.{append_assoc, length-append}
+use Rattle.instruction_table.specs.Forms.{is_terminator, mnemonic_of, parts_of}
 use Rattle.instruction_table.specs.declared.forms.Part.{Part}
-use Rattle.instruction_table.specs.declared.forms.Part.TheVariants as part
 use Rattle.instruction_table.specs.declared.op.Op.{Op}
 use Rattle.instruction_table.specs.declared.op.Op.TheVariants as op
 use Rattle.sil_ast.specs.declared.function.Function.{Function}
@@ -27,25 +25,21 @@ use Rattle.written_modules.specs.RowMeaning.{behind_part, with_part, with_parts}
 use Rattle.written_modules.specs.Values.{bare_inst, inst_of, token_of}
 use Rattle.written_tree.specs.Faults.{earlier}
 use Rattle.written_tree.specs.declared.written_instructions.WrittenInst.{WrittenInst}
-use Rattle.numbered_form.specs.Lists.{Each}
 use Rattle.numbered_form.specs.Names.{is_word}
-use Rattle.numbered_form.specs.Parts.{are_of_parts, is_bare, is_callee, is_member, is_number, is_signature, is_text, is_type, is_typed, row_has}
-use Rattle.numbered_form.specs.Types.{HasOperandType}
 use Rattle.numbered_reading_laws.proofs.ListsAndFaults.{first_of_both, second_of_both}
 use Rattle.printed_reading_laws.proofs.FixedTokens.{keyword_here}
-use Rattle.printed_reading_laws.proofs.OperandForms.{either_second, impossible, is_there}
-use Rattle.printed_reading_laws.proofs.OperandParts.{bare_args_part, bare_part, typed_args_part, typed_part}
+use Rattle.printed_reading_laws.proofs.OperandForms.{either_second}
 use Rattle.printed_reading_laws.proofs.PartEnds.{parts_end}
 use Rattle.printed_reading_laws.proofs.PartPlaces.{fault_moved, with_part_moved}
-use Rattle.printed_reading_laws.proofs.PartReading.{callee_part, debug_part, edges_part, flags_part, member_part, number_fits, number_part, qualifier_part, result_part, signature_part, text_part, to_part, type_part}
+use Rattle.printed_reading_laws.proofs.PartReading.{part_reads}
 use Rattle.printed_reading_laws.proofs.PartReads.{ReadsPart}
 use Rattle.printed_reading_laws.proofs.Pieces.{Ends, Reads, Reads as reads, behind, lexeme_before}
-use Rattle.printed_reading_laws.proofs.Printable.{IsInstPrintable, IsSmallOperand}
+use Rattle.printed_reading_laws.proofs.Printable.{IsInstPrintable}
 use Rattle.printed_reading_laws.proofs.ProductionReading.{stands_by}
 use Rattle.printed_reading_laws.proofs.RowForms.{RowStands}
 use Rattle.printed_reading_laws.proofs.RowGaps.{comma_first, comma_first_is, last_of, parts_behind, parts_row_is}
 use Rattle.printed_reading_laws.proofs.RowKept.{all_kept, so_far, turned}
-use Rattle.printed_reading_laws.proofs.RowOperands.{ArePrinted, are_fit, are_left, args_pass, each_left, fits, left_by, next_left, next_printed, none_left, printed_there, rows_fit, same_together, taken_by}
+use Rattle.printed_reading_laws.proofs.RowOperands.{AreInRow, AreLeft, all_taken, are_fit, fits, left_by, next_operands, rows_fit, taken_by}
 use Rattle.printed_reading_laws.proofs.Written.{IsInstWritten}
 use Rattle.printed_reading_laws.proofs.WrittenParts.{mnemonic_written}
 
@@ -70,10 +64,6 @@ mnemonic_is_word : (o : Op) → IsTrue (is_word (mnemonic_of o))
 mnemonic_is_word op.Load = refl
 mnemonic_is_word _ = refl
 
-follows : (a b : Bool) → IsTrue (not a || b) → IsTrue a → IsTrue b
-follows true b h given = h
-follows false b h given = impossible given
-
 module _ (text : List ℕ) (functions : List Function) (i : Inst) (h : IsInstPrintable functions i) (after : List ℕ) (ends : Ends after) where
   -- a part, and the parts behind it
   module _ (here : Part) (others done : List Part) (all now : List Operand) (left middle : List ℕ)
@@ -83,129 +73,74 @@ module _ (text : List ℕ) (functions : List Function) (i : Inst) (h : IsInstPri
       at = length front + length (comma_first i.op done (here ∷ others))
 
       abbrev whole : List PartValue
-      whole = front ++ (r.commas ++ (r.values ++ q.values))
+      whole = front ++ (r.commas ++ (r.inner.values ++ q.values))
 
       abbrev before : List PartValue
       before = front ++ r.commas
 
-      same_whole : whole ≡ before ++ (r.values ++ q.values)
-      same_whole = sym (append_assoc front r.commas (r.values ++ q.values))
+      same_whole : whole ≡ before ++ (r.inner.values ++ q.values)
+      same_whole = sym (append_assoc front r.commas (r.inner.values ++ q.values))
 
       same_at : at ≡ length before
       same_at = ap (λ ss. length front + length ss) (comma_first_is i.op done here others) ∙ ap (λ n. length front + n) (sym (as_many r.led)) ∙ sym (length-append front r.commas)
 
       -- the part at its place
-      part_is : (w : WrittenInst) → with_part i.op here at whole w ≡ with_part i.op here 0 (r.values ++ q.values) w
-      part_is w = (λ j. with_part i.op here (same_at j) (same_whole j) w) ∙ with_part_moved before (r.values ++ q.values) i.op here w
+      part_is : (w : WrittenInst) → with_part i.op here at whole w ≡ with_part i.op here 0 (r.inner.values ++ q.values) w
+      part_is w = (λ j. with_part i.op here (same_at j) (same_whole j) w) ∙ with_part_moved before (r.inner.values ++ q.values) i.op here w
 
-      fault_is : (w : WrittenInst) → fault_of_part i.op here at whole w ≡ fault_of_part i.op here 0 (r.values ++ q.values) w
-      fault_is w = (λ j. fault_of_part i.op here (same_at j) (same_whole j) w) ∙ fault_moved before (r.values ++ q.values) i.op here w
+      fault_is : (w : WrittenInst) → fault_of_part i.op here at whole w ≡ fault_of_part i.op here 0 (r.inner.values ++ q.values) w
+      fault_is w = (λ j. fault_of_part i.op here (same_at j) (same_whole j) w) ∙ fault_moved before (r.inner.values ++ q.values) i.op here w
 
       -- the parts behind it
       abbrev passed : List PartValue
-      passed = before ++ r.values
+      passed = before ++ r.inner.values
 
       whole_passed : whole ≡ passed ++ q.values
-      whole_passed = same_whole ∙ sym (append_assoc before r.values q.values)
+      whole_passed = same_whole ∙ sym (append_assoc before r.inner.values q.values)
 
       at_passed : behind_part i.op here others at ≡ length passed + length (comma_behind i.op here others)
       at_passed =
           let e : at ≡ length before = same_at in
-          let m : length r.values ≡ length (symbols_of i.op here) = as_many r.reads in
-          let l : length passed ≡ length before + length r.values = length-append before r.values in
+          let m : length r.inner.values ≡ length (symbols_of i.op here) = as_many r.inner.reads in
+          let l : length passed ≡ length before + length r.inner.values = length-append before r.inner.values in
           omega (arith, e, m, l)
 
     with_others : ReadsRow text functions i (here ∷ others) done all left after
     unfolding earlier
     with_others = record {
-      values = r.commas ++ (r.values ++ q.values);
-      reads = behind r.led (behind r.reads q.reads);
+      values = r.commas ++ (r.inner.values ++ q.values);
+      reads = behind r.led (behind r.inner.reads q.reads);
       written = λ front w is.
           subst (IsInstWritten functions (so_far (turned others (here ∷ done)) i.operands i))
           (sym (λ j. with_parts i.op others (at_passed front j) (whole_passed front j) (part_is front w j)))
-          (q.written (passed front) (with_part i.op here 0 (r.values ++ q.values) w) (r.written q.values w is));
+          (q.written (passed front) (with_part i.op here 0 (r.inner.values ++ q.values) w) (r.inner.stands q.values w is).0);
       faultless = λ front w is.
-          (λ j. parts_fault i.op others (at_passed front j) (whole_passed front j) (part_is front w j) ((fault_is front w ∙ r.faultless q.values w is) j))
-          ∙ q.faultless (passed front) (with_part i.op here 0 (r.values ++ q.values) w) (r.written q.values w is);
+          (λ j. parts_fault i.op others (at_passed front j) (whole_passed front j) (part_is front w j) ((fault_is front w ∙ (r.inner.stands q.values w is).1) j))
+          ∙ q.faultless (passed front) (with_part i.op here 0 (r.inner.values ++ q.values) w) (r.inner.stands q.values w is).0;
     }
 
-  -- the parts stand in the row
-  abbrev AreInRow : List Part → Type 0
-  AreInRow parts = (test : Part → Bool) → IsTrue (list_any test parts) → IsTrue (row_has test i.op)
-
-  one_part : (here : Part) (others done : List Part) (os all left : List Operand) (rest : List ℕ) → IsTrue (fits i.op done here others) → AreInRow (here ∷ others)
-      → IsTrue (are_left i.op (here ∷ others) left) → ArePrinted (here ∷ others) os left → length (all ++ left) ≤ 64 → Each IsSmallOperand left → Each HasOperandType left → Ends rest
-      → ReadsPart text functions i here done all (taken_by here all left) (part_text functions i os (gap (last_of done) here) here ++ rest) rest
-  one_part part.Flags others done os all left rest fit within are shown few small types ends = flags_part text functions i h done os all rest ends
-  one_part part.Qualifier others done os all left rest fit within are shown few small types ends = qualifier_part text functions i h done os all rest ends
-  one_part part.Typed others done os all left rest fit within are shown few small types ends =
-      subst (λ os. ReadsPart text functions i part.Typed done all (all ++ take 1 left) (part_text functions i os (gap (last_of done) part.Typed) part.Typed ++ rest) rest)
-      (sym (printed_there others os left shown))
-      (typed_part text functions i done all rest (may_lack_operand i.op) refl fit ends (are_of_parts others) left are small types)
-  one_part part.Bare others done os all left rest fit within are shown few small types ends =
-      subst (λ os. ReadsPart text functions i part.Bare done all (all ++ take 1 left) (part_text functions i os (gap (last_of done) part.Bare) part.Bare ++ rest) rest)
-      (sym (printed_there others os left shown))
-      (bare_part text functions i done all rest (may_lack_operand i.op) fit ends (are_of_parts others) left are small)
-  one_part part.To others done os all left rest fit within are shown few small types ends = to_part text functions i h done os all rest ends
-  one_part part.TypeWord others done os all left rest fit within are shown few small types ends =
-      type_part text functions i h done os all rest ends (is_there i.ty (h.parts.ty ∙ within is_type refl))
-  one_part part.Member others done os all left rest fit within are shown few small types ends =
-      member_part text functions i h done os all rest ends (is_there i.member (h.parts.member ∙ within is_member refl))
-  one_part part.Number others done os all left rest fit within are shown few small types ends =
-      let typed = list_any is_type done in
-      let known = number_fits (detail_of i.op) typed in
-      number_part text functions i h done os all rest ends (is_there i.number (h.parts.number ∙ within is_number refl)) typed refl (first_of_both known (not typed || row_has is_type i.op) fit)
-      (λ before. is_there i.ty (h.parts.ty ∙ follows typed (row_has is_type i.op) (second_of_both known (not typed || row_has is_type i.op) fit) before))
-  one_part part.Text others done os all left rest fit within are shown few small types ends =
-      text_part text functions i h done os all rest ends (is_there i.text (h.parts.text ∙ within is_text refl))
-  one_part part.Callee others done os all left rest fit within are shown few small types ends =
-      callee_part text functions i h done os all rest ends (is_there i.function (h.parts.function ∙ within is_callee refl))
-  one_part part.BareArgs others done os all left rest fit within are shown few small types ends =
-      subst (λ os. ReadsPart text functions i part.BareArgs done all (all ++ left) (part_text functions i os (gap (last_of done) part.BareArgs) part.BareArgs ++ rest) rest)
-      (sym (printed_there others os left shown))
-      (bare_args_part text functions i done all rest left (args_pass is_bare (may_lack_operand i.op) left are) small few)
-  one_part part.TypedArgs others done os all left rest fit within are shown few small types ends =
-      subst (λ os. ReadsPart text functions i part.TypedArgs done all (all ++ left) (part_text functions i os (gap (last_of done) part.TypedArgs) part.TypedArgs ++ rest) rest)
-      (sym (printed_there others os left shown))
-      (typed_args_part text functions i done all rest left (args_pass is_typed (may_lack_operand i.op) left are) small types few)
-  one_part part.ResultType others done os all left rest fit within are shown few small types ends =
-      result_part text functions i h done os all rest ends (is_there i.ty (h.parts.ty ∙ within is_type refl))
-  one_part part.SignatureWord others done os all left rest fit within are shown few small types ends =
-      signature_part text functions i h done os all rest ends (is_there i.signature (h.parts.signature ∙ within is_signature refl))
-  one_part part.Debug others done os all left rest fit within are shown few small types ends = debug_part text functions i h done os all rest ends
-  one_part part.Edges others done os all left rest fit within are shown few small types ends = edges_part text functions i h done os all rest ends fit
-
   -- the parts from one on
-  parts_read : (parts done : List Part) (os all left : List Operand) → IsTrue (are_fit i.op done parts) → AreInRow parts → IsTrue (are_left i.op parts left) → ArePrinted parts os left
-      → all ++ left ≡ i.operands → Each IsSmallOperand left → Each HasOperandType left
+  parts_read : (parts done : List Part) (os all left : List Operand) → IsTrue (are_fit i.op done parts) → AreInRow i.op parts → AreLeft i parts os all left
       → ReadsRow text functions i parts done all (parts_text functions i (last_of done) os parts ++ after) after
-  parts_read [] done os all left fit within are shown joined small types =
-      let same : all ≡ i.operands = sym (append-nil all) ∙ ap (λ left. all ++ left) (none_left i.op left are) ∙ joined in
-      record {
-        values = [];
-        reads = reads.nothing;
-        written = λ front w is. subst (λ os. IsInstWritten functions (so_far done os i) w) same is;
-        faultless = λ front w is. refl;
-      }
-  parts_read (here ∷ others) done os all left fit within are shown joined small types =
+  parts_read [] done os all left fit within operands =
+      record { values = []; reads = reads.nothing; written = λ front w is. subst (λ os. IsInstWritten functions (so_far done os i) w) (all_taken operands) is; faultless = λ front w is. refl }
+  parts_read (here ∷ others) done os all left fit within operands =
       let fits_here = first_of_both (fits i.op done here others) (are_fit i.op (here ∷ done) others) fit in
-      let fit_behind = second_of_both (fits i.op done here others) (are_fit i.op (here ∷ done) others) fit in
       let others_text = parts_text functions i (Some here) (operands_after here os) others in
-      let few : length (all ++ left) ≤ 64 = subst (λ (os : List Operand). length os ≤ 64) (sym joined) h.limits.operands in
-      let more = parts_read others (here ∷ done) (operands_after here os) (taken_by here all left) (left_by here left) fit_behind
+      let others_end = parts_end text functions i h others (here ∷ done) (operands_after here os) after ends in
+      let more = parts_read others (here ∷ done) (operands_after here os) (taken_by here all left) (left_by here left)
+      (second_of_both (fits i.op done here others) (are_fit i.op (here ∷ done) others) fit)
       (λ test there. within test (either_second (test here) (list_any test others) there))
-      (next_left i.op done here others left fits_here are) (next_printed i.op done here others os left fits_here shown)
-      (same_together here all left ∙ joined) (each_left IsSmallOperand here left small) (each_left HasOperandType here left types) in
-      let this = one_part here others done os all left (others_text ++ after) fits_here within are shown few small types
-      (parts_end text functions i h others (here ∷ done) (operands_after here os) after ends) in
+      (next_operands done here others fits_here operands) in
       rw (append_assoc (part_text functions i os (gap (last_of done) here) here) others_text after)
-      (with_others here others done all (taken_by here all left) _ _ this more)
+      (with_others here others done all (taken_by here all left) _ _ (part_reads text functions i h done os all left (others_text ++ after) others_end here others fits_here within operands) more)
 
   -- the whole row
   row_stands : RowStands text functions after (row_part i.op) i
   unfolding body written meaning part_fault row_body inst_of spelling
   row_stands =
-      let row = parts_read (parts_of i.op) [] i.operands [] i.operands (rows_fit i.op) (λ test there. there) h.parts.operands (inr refl) refl h.operands h.types.operands in
+      let row = parts_read (parts_of i.op) [] i.operands [] i.operands (rows_fit i.op) (λ test there. there)
+      (record { are = h.parts.operands; shown = inr refl; joined = refl; small = h.operands; types = h.types.operands }) in
       let behind_name = parts_text functions i None i.operands (parts_of i.op) ++ after in
       let name = leaf_of (lexeme_before text kind.Word (mnemonic_of i.op) behind_name) in
       let begun = bare_inst i.op (token_of name).place in
