@@ -1,9 +1,8 @@
 -- What holds of good instructions and blocks holds where they are resolved.
-use Rattle.std.proofs.Common.{◌≡◌, ℕ, ◌+◌, suc, List, [], ◌∷◌, length, true, false, ap, sym, refl, true≢false}
+use Rattle.std.proofs.Common.{◌≡◌, ℕ, ◌+◌, suc, List, [], ◌∷◌, length, true, false, not, ap, refl}
 use Rattle.sil_ast.specs.declared.function.Block.{Block}
 use Rattle.sil_ast.specs.declared.inst.Inst.{Inst}
 use Rattle.instruction_table.specs.declared.op.Op.{Op}
-use Rattle.instruction_table.specs.declared.op.Op.TheVariants as op
 use Rattle.written_tree.specs.declared.written_declarations.WrittenToken.{WrittenToken}
 use Rattle.written_tree.specs.declared.written_functions.WrittenArg.{WrittenArg}
 use Rattle.written_tree.specs.declared.written_functions.WrittenBlock.{WrittenBlock}
@@ -12,9 +11,11 @@ use Rattle.name_resolution.specs.Resolved.{Scope, counted, defined_by, defined_b
 use Rattle.numbered_form.specs.Lists.{Each}
 use Rattle.numbered_form.specs.Insts.{EachInBlock}
 use Rattle.numbered_form.specs.Limits.{IsBlockInLimits, IsInstInLimits}
-use Rattle.instruction_table.specs.Forms.{has_one_result, is_terminator}
+use Rattle.instruction_table.specs.Forms.{extra_value_of, has_one_result, is_terminator}
 use Rattle.numbered_form.specs.Parts.{BlockHasParts, IsInside}
 use Rattle.numbered_form.specs.Types.{HasArgType, HasBlockTypes, HasInstTypes}
+use Rattle.numbered_reading_laws.proofs.ListsAndFaults.{first_of_both, not_true}
+use Rattle.numbered_reading_laws.proofs.RowRules.{ends_alone, takes_none}
 use Rattle.numbered_reading_laws.proofs.FaultlessParts.{IsGoodArg, IsGoodBlock, IsGoodEnd, IsGoodInside, IsGoodInst}
 
 pub Each-insts : (s : Scope) (P : WrittenInst → Type 0) (Q : Inst → Type 0) → ((first : ℕ) (w : WrittenInst) → P w → Q (resolved_inst s first w))
@@ -44,14 +45,8 @@ in_block Q h s first b g =
     (Each-insts s IsGoodInside Q (λ first w k. h (resolved_inst s first w) (k.good s first)) _ b.insts g.insts, h _ (g.terminator.good s _))
 
 -- a terminator gives no result
-pub ends_unnamed : (o : Op) → is_terminator o ≡ true → has_one_result o ≡ false
-unfolding has_one_result
-ends_unnamed op.Br e = refl
-ends_unnamed op.CondBr e = refl
-ends_unnamed op.SwitchEnum e = refl
-ends_unnamed op.Return e = refl
-ends_unnamed op.Unreachable e = refl
-ends_unnamed _ e = absurd (true≢false (sym e))
+ends_unnamed : (o : Op) → is_terminator o ≡ true → has_one_result o ≡ false
+ends_unnamed o e = not_true (has_one_result o) (first_of_both (not (has_one_result o)) (takes_none (extra_value_of o)) (ends_alone o e))
 
 none_defined : (o : Op) (tokens : List WrittenToken) → has_one_result o ≡ false → tokens ≡ [] → defined_by o tokens ≡ []
 none_defined o tokens e f = rw (f, e) refl

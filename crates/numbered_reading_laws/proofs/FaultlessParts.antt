@@ -33,7 +33,7 @@ use Rattle.written_tree.specs.declared.written_module.WrittenModule.{WrittenModu
 use Rattle.written_tree.specs.declared.written_module.WrittenVtable.{WrittenVtable}
 use Rattle.written_modules.specs.Opened.{PartGivens, PartParams, PartType, PartTypes, PartValue, module_value}
 use Rattle.written_modules.specs.Types.{tailed}
-use Rattle.written_modules.specs.Meaning.{part}
+use Rattle.written_modules.specs.Parts.{part}
 use Rattle.written_tree.specs.Places.{attribute_places, decl_names, function_names, mnemonics_of, values_of_block}
 use Rattle.written_modules.specs.Values.{token_of, items_of, item_of, fields_of, field_of, field_before, cases_of, type_of, payload_of, types_of, tokens_of, params_of, param_before, givens_of, given_before, starred, signature_of, blocks_of, block_of, args_of, arg_of, insts_of, terminator_of, inst_of, operands_of, operand_of, edges_of, edge_of, member_of, qualifier_of, debug_of, entry_of, no_debug}
 use Rattle.name_resolution.specs.Resolved.{Scope, resolved_decl, resolved_edge, resolved_inst, resolved_operand}
@@ -43,9 +43,8 @@ use Rattle.numbered_form.specs.Limits.{IsDeclInLimits, IsEdgeInLimits, IsInstInL
 use Rattle.numbered_form.specs.Literals.{HasLiterals}
 use Rattle.numbered_form.specs.Names.{IsDeclSpelled, IsEdgeSpelled, IsInstSpelled, IsMemberSpelled, IsWord, is_at_name, is_quotable}
 use Rattle.instruction_table.specs.Forms.{is_terminator}
-use Rattle.numbered_form.specs.Parts.{HasItsParts, are_cases, has_operands, is_branch, is_plain_or_init, is_plain_or_take, is_typed}
+use Rattle.numbered_form.specs.Parts.{HasItsParts, are_cases, is_branch, is_plain_or_init, is_plain_or_take, is_typed}
 use Rattle.numbered_form.specs.Types.{HasDeclTypes, HasEdgeTypes, HasGivenType, HasInstTypes, HasOperandType, HasParamType, HasSignatureTypes, IsPlacedType, IsPlainType, is_plain_type, same}
-use Rattle.instruction_table.specs.declared.op.Op.TheVariants as op
 use Rattle.numbered_reading_laws.specs.Leaves.{IsTextOf}
 
 -- types
@@ -132,11 +131,10 @@ pub record IsGoodEnd (w : WrittenInst) : Type 0 where
 abbrev pub AreGoodOperands : List WrittenOperand → Type 0
 AreGoodOperands os = (s : Scope) → Each IsGoodOperand (map (resolved_operand s) os)
 
--- the value of `enum`, if it is there
+-- an operand that may be left out
 pub record AreEnumOperands (os : List WrittenOperand) : Type 0 where
   pub good : AreGoodOperands os
-  pub operands : (s : Scope) → IsTrue (has_operands op.Enum (map (resolved_operand s) os))
-  pub few : length os ≤ 64
+  pub few : length os ≤ 1
 
 pub record IsGoodBranch (e : WrittenEdge) : Type 0 where
   pub good : (s : Scope) → IsGoodEdge (resolved_edge s e)
@@ -283,6 +281,7 @@ IsGoodToken t.TypeWord text = IsWord text
 IsGoodToken t.AnyAt text = IsTrue (is_at_name text)
 IsGoodToken t.AnyText text = IsTrue (is_quotable text)
 IsGoodToken (t.Just class) text = IsTextOf class text
+IsGoodToken _ text = ⊤
 
 abbrev pub IsGood : Symbol → PartValue → Type 0
 IsGood (Read terminal) x = IsGoodToken terminal (token_of x).text

@@ -2,9 +2,11 @@ pub mod ListsAndFaults
 pub mod FaultlessParts
 pub mod TypeLemmas
 pub mod NumberLemmas
-pub mod RowLemmas
-pub mod SharedRows
-pub mod SingleRows
+pub mod ResultLemmas
+pub mod RowRules
+pub mod OperandLemmas
+pub mod RowFields
+pub mod WholeRows
 pub mod PartLemmas
 pub mod ReplayLemmas
 pub mod ModuleLemmas

@@ -1,5 +1,5 @@
 -- A good module, once it is resolved, is within the limits.
-use Rattle.std.proofs.Common.{◌≡◌, ℕ, ◌+◌, ◌≤◌, suc, List, [], ◌∷◌, ◌++◌, length, map, filter, Option, Some, None, Bool, true, false, cond, if◌then◌else◌, ap, sym, refl, ◌∙◌, arith, flat_map, count_by, length-append, ap₂, true≢false}
+use Rattle.std.proofs.Common.{◌≡◌, ℕ, ◌+◌, ◌≤◌, suc, List, [], ◌∷◌, ◌++◌, length, map, filter, Option, Some, None, Bool, true, false, cond, not, if◌then◌else◌, ap, sym, refl, ◌∙◌, arith, flat_map, count_by, length-append, ap₂, true≢false}
 use Rattle.std.proofs.lemmas.List.{length-map}
 use Rattle.std.proofs.lemmas.List.Sums.{sum_by-append, sum_by-cons}
 use Rattle.sil_ast.specs.declared.function.Block.{Block}
@@ -7,7 +7,8 @@ use Rattle.sil_ast.specs.declared.inst.Inst.{Inst}
 use Rattle.sil_ast.specs.declared.inst.Qualifier.{Qualifier}
 use Rattle.sil_ast.specs.declared.inst.Qualifier.TheVariants as qualifier
 use Rattle.instruction_table.specs.declared.op.Op.{Op}
-use Rattle.instruction_table.specs.declared.op.Op.TheVariants as op
+use Rattle.instruction_table.specs.declared.entries.ExtraValue.{ExtraValue}
+use Rattle.instruction_table.specs.declared.entries.ExtraValue.TheVariants as extra
 use Rattle.sil_ast.specs.declared.place.Place.{Place}
 use Rattle.written_tree.specs.declared.written_declarations.WrittenToken.{WrittenToken}
 use Rattle.written_tree.specs.declared.written_functions.WrittenBlock.{WrittenBlock}
@@ -16,19 +17,21 @@ use Rattle.written_tree.specs.declared.written_instructions.WrittenInst.{Written
 use Rattle.written_tree.specs.declared.written_module.WrittenItem.{WrittenItem}
 use Rattle.written_tree.specs.declared.written_module.WrittenItem.TheVariants as item
 use Rattle.written_tree.specs.declared.written_module.WrittenModule.{WrittenModule}
-use Rattle.written_tree.specs.Places.{arg_place, attribute_places, decl_names, extra_places, function_names, is_kept, mnemonic_place, mnemonics_of, result_places, token_place, value_places_of, values_of_block}
+use Rattle.written_tree.specs.Places.{arg_place, attribute_places, decl_names, extra_places, extra_places_by, function_names, is_kept, mnemonic_place, mnemonics_of, result_places, token_place, value_places_of, values_of_block}
 use Rattle.name_resolution.specs.Names.{Name, decls_of, functions_of, name_of}
 use Rattle.name_resolution.specs.Resolved.{Scope, counted, defined_by, defined_by_inst, defined_in, resolved, resolved_block, resolved_blocks, resolved_decl, resolved_function, resolved_inst, resolved_insts, scope_of}
 use Rattle.numbered_form.specs.Lists.{Each}
 use Rattle.numbered_form.specs.Insts.{insts_in, insts_of}
-use Rattle.numbered_form.specs.Limits.{AreLimitsKept, IsBlockInLimits, IsDeclInLimits, IsFunctionInLimits, inst_takes_value, takes_value, value_count}
+use Rattle.numbered_form.specs.Limits.{AreLimitsKept, IsBlockInLimits, IsDeclInLimits, IsFunctionInLimits, inst_takes_value, takes_value, takes_value_by, value_count}
 use Rattle.numbered_form.specs.Numbering.{results_of, value_of, values_of}
 use Rattle.numbered_form.specs.Numbering as numbering
-use Rattle.instruction_table.specs.Forms.{has_one_result, is_terminator}
+use Rattle.instruction_table.specs.Forms.{extra_value_of, has_one_result, is_terminator}
 use Rattle.numbered_reading_laws.proofs.BlockLemmas.{Each-blocks, block_limits, end_defines_none, length-args, length-blocks}
 use Rattle.numbered_reading_laws.proofs.FieldLemmas.{in_decls, in_functions}
 use Rattle.numbered_reading_laws.proofs.FaultlessParts.{IsGoodBlock, IsGoodEnd, IsGoodFunction, IsGoodModule}
-use Rattle.numbered_reading_laws.proofs.RowLemmas.{length-counted}
+use Rattle.numbered_reading_laws.proofs.ListsAndFaults.{second_of_both}
+use Rattle.numbered_reading_laws.proofs.ResultLemmas.{length-counted}
+use Rattle.numbered_reading_laws.proofs.RowRules.{ends_alone, takes_none}
 
 -- how many
 
@@ -64,12 +67,15 @@ unfolding no_name
 result_count o mnemonic [] = unnamed_places (has_one_result o) mnemonic
 result_count o mnemonic (token ∷ tokens) = length-map (token ∷ tokens) token_place ∙ sym (length-map (token ∷ tokens) (λ name. Some (name_of name)))
 
+extra_count_by : (e : ExtraValue) (mnemonic : Place) (q : Qualifier) (place : Place) → length (extra_places_by e mnemonic q place) ≡ cond (takes_value_by e q) 1 0
+extra_count_by extra.Never mnemonic q place = refl
+extra_count_by extra.WhereAssigned mnemonic qualifier.Assign place = refl
+extra_count_by extra.WhereAssigned mnemonic _ place = refl
+extra_count_by extra.Always mnemonic q place = refl
+
 pub extra_count : (o : Op) (mnemonic : Place) (q : Qualifier) (place : Place) → length (extra_places o mnemonic q place) ≡ cond (takes_value o q) 1 0
 unfolding extra_places
-extra_count op.Store mnemonic qualifier.Assign place = refl
-extra_count op.Store mnemonic _ place = refl
-extra_count op.DestroyAddr mnemonic q place = refl
-extra_count _ mnemonic q place = refl
+extra_count o mnemonic q place = extra_count_by (extra_value_of o) mnemonic q place
 
 -- the results of some instructions, with those that lowering takes more
 unfoldable pub values_with : List Inst → ℕ
@@ -97,10 +103,13 @@ insts_values s first last (w ∷ ws) e =
     ∙ ap₂ (λ a b. a + b) (inst_values s first w) (insts_values s next last ws e)
     ∙ sym (length-append (value_places_of w) (flat_map value_places_of ws))
 
+never_taken : (e : ExtraValue) (q : Qualifier) → takes_none e ≡ true → takes_value_by e q ≡ false
+never_taken extra.Never q e = refl
+never_taken extra.WhereAssigned q e = absurd (true≢false (sym e))
+never_taken extra.Always q e = absurd (true≢false (sym e))
+
 pub ends_take_none : (o : Op) (q : Qualifier) → is_terminator o ≡ true → takes_value o q ≡ false
-ends_take_none op.Store q e = absurd (true≢false (sym e))
-ends_take_none op.DestroyAddr q e = absurd (true≢false (sym e))
-ends_take_none _ q e = refl
+ends_take_none o q e = never_taken (extra_value_of o) q (second_of_both (not (has_one_result o)) (takes_none (extra_value_of o)) (ends_alone o e))
 
 end_values : (s : Scope) (first : ℕ) (w : WrittenInst) → IsGoodEnd w → values_with (resolved_inst s first w ∷ []) ≡ 0
 unfolding values_with

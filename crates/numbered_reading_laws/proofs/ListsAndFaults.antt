@@ -1,5 +1,5 @@
 -- Facts of lists, tests and faults.
-use Rattle.std.proofs.Common.{if◌then◌else◌, ◌≡◌, ℕ, ◌≤◌, zero, suc, List, [], ◌∷◌, ◌++◌, length, map, slice_get, Option, Some, None, Bool, true, false, ◌&&◌, ◌||◌, sym, refl, arith, flat_map}
+use Rattle.std.proofs.Common.{if◌then◌else◌, ◌≡◌, ℕ, ◌≤◌, zero, suc, List, [], ◌∷◌, ◌++◌, length, map, slice_get, Option, Some, None, Bool, true, false, ◌&&◌, ◌||◌, not, sym, refl, arith, flat_map}
 use Rattle.std.specs.List.{list_all}
 use Rattle.std.specs.Option.{option_map}
 use Rattle.std.proofs.lemmas.List.{length-map}
@@ -25,6 +25,18 @@ second_of_both false b e = cc
 pub either_first : (a b : Bool) → a ≡ true → (a || b) ≡ true
 either_first true b e = refl
 either_first false b e = cc
+
+pub either_second : (a b : Bool) → b ≡ true → (a || b) ≡ true
+either_second true b e = refl
+either_second false b e = e
+
+pub implied : (a b : Bool) → a ≡ true → (not a || b) ≡ true → b ≡ true
+implied true b e f = f
+implied false b e f = cc
+
+pub not_true : (b : Bool) → not b ≡ true → b ≡ false
+not_true true e = sym e
+not_true false e = refl
 
 -- elements one by one
 

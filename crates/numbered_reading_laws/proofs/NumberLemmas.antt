@@ -9,7 +9,7 @@ use Rattle.sil_ast.specs.declared.type_name.TypeName.{TypeName}
 use Rattle.written_numbers.specs.Numbers.{literal_of, small_of, up_to, value_of}
 use Rattle.written_numbers.proofs.Residues.{literal_is_signed, half_some, half_doubled}
 use Rattle.written_tree.specs.Faults.{out_of_range}
-use Rattle.written_modules.specs.Meaning.{element_of}
+use Rattle.written_modules.specs.RowMeaning.{element_of}
 use Rattle.written_modules.specs.Types.{width_of}
 use Rattle.numbered_form.specs.Literals.{is_element_number, is_residue, literal_width}
 use Rattle.numbered_form.specs.Types.{is_plain_type}
@@ -67,9 +67,9 @@ small_cases largest value (Some n) is = up_to_is largest value n is
 pub good_small : (largest : ℕ) (spelling : List ℕ) → IfSome (small_of largest spelling) (λ n. n ≤ largest)
 good_small largest spelling = small_cases largest (value_of spelling) (small_of largest spelling) refl
 
-element_cases : (value : ℤ) (place : Place) (small : Option ℕ) → up_to 63 value ≡ small → out_of_range small place ≡ None → IsGoodElement (option_map pos small)
+element_cases : (value : ℤ) (place : Place) (small : Option ℕ) → up_to 63 value ≡ small → out_of_range (option_map pos small) place ≡ None → IsGoodElement (option_map pos small)
 element_cases value place None is e = absurd (cc)
 element_cases value place (Some n) is e = record { there = refl; small = both (int_le (pos 0) (pos n)) (int_le (pos n) (pos 63)) (le_true (pos 0) (pos n) (omega (arith, ints))) (le_true (pos n) (pos 63) (let h : n ≤ 63 = up_to_is 63 value n is in omega (arith, ints))) }
 
-pub good_element : (spelling : List ℕ) (place : Place) → out_of_range (small_of 63 spelling) place ≡ None → IsGoodElement (element_of spelling)
+pub good_element : (spelling : List ℕ) (place : Place) → out_of_range (element_of spelling) place ≡ None → IsGoodElement (element_of spelling)
 good_element spelling place e = element_cases (value_of spelling) place (small_of 63 spelling) refl e

@@ -14,7 +14,7 @@ use Rattle.numbered_form.specs.Numbering.{AreCountedFrom, AreNumbered, IsEdgeInR
 use Rattle.numbered_form.specs.Numbering as numbering
 use Rattle.numbered_reading_laws.proofs.BlockLemmas.{end_defines_none, length-args}
 use Rattle.numbered_reading_laws.proofs.FaultlessParts.{IsGoodBlock}
-use Rattle.numbered_reading_laws.proofs.RowLemmas.{length-counted}
+use Rattle.numbered_reading_laws.proofs.ResultLemmas.{length-counted}
 
 -- counting
 

@@ -1,9 +1,8 @@
 -- Each part is good where the parts of its body are, and nothing in it is at fault.
-use Rattle.std.proofs.Common.{◌≡◌, ℕ, ◌≤◌, suc, List, [], ◌∷◌, length, map, Some, None, true, IsTrue, ap, refl, subst, arith, flat_map}
+use Rattle.std.proofs.Common.{◌≡◌, ℕ, ◌≤◌, suc, List, [], ◌∷◌, length, map, Some, None, IsTrue, ap, refl, subst, arith, flat_map}
 use Rattle.std.proofs.lemmas.List.{length-map}
 use Rattle.sil_ast.specs.declared.function.Linkage.{Linkage}
 use Rattle.sil_ast.specs.declared.member.Member.{Member}
-use Rattle.instruction_table.specs.declared.op.Op.TheVariants as op
 use Rattle.sil_ast.specs.declared.place.Place.{Place}
 use Rattle.sil_ast.specs.declared.signature.Convention.{Convention}
 use Rattle.sil_ast.specs.declared.signature.Given.{Given}
@@ -12,7 +11,6 @@ use Rattle.sil_ast.specs.declared.signature.Signature.{Signature}
 use Rattle.sil_shape.specs.declared.grammar.Production.{Production}
 use Rattle.sil_shape.specs.declared.grammar.Production.TheVariants as p
 use Rattle.sil_shape.specs.Grammar.{written, body}
-use Rattle.written_numbers.specs.Numbers.{literal_of}
 use Rattle.sil_rules.specs.declared.limit_word.LimitWord.TheVariants as limit
 use Rattle.written_tree.specs.declared.written_declarations.WrittenCase.{WrittenCase}
 use Rattle.written_tree.specs.declared.written_declarations.WrittenDecl.TheVariants as decl
@@ -23,23 +21,24 @@ use Rattle.written_tree.specs.declared.written_instructions.WrittenEdge.{Written
 use Rattle.written_tree.specs.declared.written_instructions.WrittenOperand.{WrittenOperand}
 use Rattle.written_tree.specs.declared.written_module.WrittenModule.{WrittenModule}
 use Rattle.written_tree.specs.Faults.{earlier, passed}
-use Rattle.written_modules.specs.Meaning.{element_of, meaning, part, place_at, text_at}
+use Rattle.written_modules.specs.Meaning.{meaning}
+use Rattle.written_modules.specs.Parts.{part, place_at, text_at}
 use Rattle.written_modules.specs.Opened.{PartGivens, PartParams, PartType, PartValue}
 use Rattle.written_modules.specs.PartFaults.{body_fault, function_fault, module_fault, part_fault}
 use Rattle.written_tree.specs.Places.{arg_place, attribute_places, case_place, decl_names, field_place, function_names, label_place, operand_place, token_place}
-use Rattle.written_modules.specs.Types.{in_parens, tailed, type_before, width_of}
+use Rattle.written_modules.specs.Types.{in_parens, tailed, type_before}
 use Rattle.written_modules.specs.Values.{token_of, stage_of, imports_of, items_of, item_of, fields_of, field_of, field_before, cases_of, type_of, payload_of, types_of, questions_of, linkage_of, tokens_of, params_of, param_before, givens_of, given_before, signature_of, blocks_of, block_of, args_of, arg_of, starred, insts_of, terminator_of, inst_of, operands_of, operand_of, edges_of, edge_of, member_of, flags_of, qualifier_of, debug_of, entry_of}
 use Rattle.name_resolution.specs.Resolved.{Scope, resolved_case, resolved_decl, resolved_field, resolved_operand}
 use Rattle.numbered_form.specs.Lists.{Each}
 use Rattle.numbered_form.specs.Fields.{IsStrong}
 use Rattle.numbered_form.specs.Names.{IsMemberSpelled, IsWord, case_name, field_name, is_at_name}
 use Rattle.numbered_form.specs.Types.{HasFieldType, HasPayloadType, IsPlainType}
-use Rattle.numbered_reading_laws.proofs.ListsAndFaults.{Each-map, both, either_first, no_first, no_second, not_passed, not_passed-map}
-use Rattle.numbered_reading_laws.proofs.FaultlessParts.{AreEnumOperands, AreGoodCases, AreGoodFrom, AreGoodGivens, AreGoodOperands, AreGoodParams, AreGoodSwitch, IsGoodBlock, IsGoodBranch, IsGoodCase, IsGoodDecl, IsGoodField, IsGoodFunction, IsGoodItem, IsGoodModule, IsGoodPart, IsGoodSignature, IsGoodToken, IsGoodType, IsStrongField, IsWordToken, nothing_shown}
-use Rattle.numbered_reading_laws.proofs.NumberLemmas.{good_element, good_literal, good_small}
-use Rattle.numbered_reading_laws.proofs.RowLemmas.{renamed}
-use Rattle.numbered_reading_laws.proofs.SharedRows.{element_row, flagged_row, loaded_row, member_row, operands_have_types, operands_typed, over_one_row, stored_row}
-use Rattle.numbered_reading_laws.proofs.SingleRows.{alloc_ref_row, alloc_stack_row, apply_row, br_row, builtin_row, cond_br_row, debug_row, enum_row, fail_row, function_row, literal_row, struct_row, switch_row, tuple_row, unreachable_row}
+use Rattle.numbered_reading_laws.proofs.ListsAndFaults.{Each-map, no_first, no_second, not_passed, not_passed-map}
+use Rattle.numbered_reading_laws.proofs.FaultlessParts.{AreGoodCases, AreGoodFrom, AreGoodGivens, AreGoodOperands, AreGoodParams, AreGoodSwitch, IsGoodBlock, IsGoodBranch, IsGoodCase, IsGoodDecl, IsGoodField, IsGoodFunction, IsGoodItem, IsGoodModule, IsGoodPart, IsGoodSignature, IsGoodToken, IsGoodType, IsStrongField, IsWordToken, nothing_shown}
+use Rattle.numbered_reading_laws.proofs.NumberLemmas.{good_small}
+use Rattle.numbered_reading_laws.proofs.ResultLemmas.{renamed}
+use Rattle.numbered_reading_laws.proofs.OperandLemmas.{operands_have_types, operands_typed}
+use Rattle.numbered_reading_laws.proofs.WholeRows.{good_row}
 use Rattle.numbered_reading_laws.proofs.TypeLemmas.{good_questions, good_name, good_optional, good_parens, good_unowned, good_weak, good_width, more_good_types, no_good_types, placed_address, placed_plain, plain_type, room}
 
 -- a type that begins elsewhere
@@ -163,13 +162,6 @@ good_default label = record {
   some = λ s. refl;
 }
 
-one_enum_operand : (o : WrittenOperand) → AreGoodOperands (o ∷ []) → AreEnumOperands (o ∷ [])
-one_enum_operand o g = record {
-  good = g;
-  operands = λ s. either_first _ _ (both _ true (g s).0.typed refl);
-  few = omega arith;
-}
-
 pub good_part : (q : Production) (parts : List PartValue) → AreGoodFrom 0 (body q) parts → part_fault q parts ≡ None → IsGoodPart (written q) (meaning q parts)
 unfolding body written meaning part_fault tailed IsGoodPart IsGoodToken token_of stage_of imports_of items_of item_of fields_of field_of field_before cases_of type_of payload_of types_of questions_of tokens_of params_of param_before givens_of given_before signature_of blocks_of block_of args_of arg_of starred insts_of terminator_of inst_of operands_of operand_of edges_of edge_of member_of flags_of qualifier_of debug_of entry_of
 good_part p.WholeModule parts g h = λ w e. let whole : WrittenModule = record { stage = stage_of (part 0 parts); imports = imports_of (part 1 parts); items = items_of (part 2 parts) } in let same : whole ≡ w = (cc) in subst IsGoodModule same (good_items whole g.1.1.0 h)
@@ -253,47 +245,7 @@ good_part p.CodeEnd parts g h = (tt, g.0)
 good_part p.InstOneName parts g h = record { goes_on = g.1.1.0.goes_on; good = λ s first. renamed s first (inst_of (part 2 parts)) (token_of (part 0 parts) ∷ []) (omega arith) (g.1.1.0.good s first) }
 good_part p.InstNames parts g h = record { goes_on = g.1.1.1.1.0.goes_on; good = λ s first. renamed s first (inst_of (part 4 parts)) (tokens_of (part 1 parts)) (not_passed-map token_place limit.Arguments 64 (tokens_of (part 1 parts)) h) (g.1.1.1.1.0.good s first) }
 good_part p.InstUnnamed parts g h = record { goes_on = g.0.goes_on; good = g.0.good }
-good_part p.RowIntegerLiteral parts g h = record { goes_on = refl; no_results = refl; good = (let l = good_literal (type_of (part 2 parts)).ty (text_at 4 parts) (place_at 4 parts) g.1.1.0.written h in literal_row (place_at 0 parts) (type_of (part 2 parts)).ty (literal_of (width_of (type_of (part 2 parts)).ty) (text_at 4 parts)) (plain_type (type_of (part 2 parts)) g.1.1.0) l.there l.residue) }
-good_part p.RowFunctionRef parts g h = record { goes_on = refl; no_results = refl; good = function_row (place_at 0 parts) (token_of (part 1 parts)) (signature_of (part 4 parts)) g.1.1.1.1.0 }
-good_part p.RowBuiltin parts g h = record { goes_on = refl; no_results = refl; good = builtin_row (place_at 0 parts) (text_at 1 parts) (operands_of (part 3 parts)) (type_of (part 7 parts)).ty g.1.0.known g.1.0.quotable g.1.1.1.0 (not_passed-map operand_place limit.Arguments 64 (operands_of (part 3 parts)) h) (plain_type (type_of (part 7 parts)) g.1.1.1.1.1.1.1.0) }
-good_part p.RowCondFail parts g h = record { goes_on = refl; no_results = refl; good = fail_row (place_at 0 parts) (operand_of (part 1 parts)) (text_at 3 parts) g.1.1.1.0 g.1.0 }
-good_part p.RowAllocRef parts g h = record { goes_on = refl; no_results = refl; good = alloc_ref_row (place_at 0 parts) (type_of (part 2 parts)).ty (plain_type (type_of (part 2 parts)) g.1.1.0) }
-good_part p.RowAllocStack parts g h = record { goes_on = refl; no_results = refl; good = alloc_stack_row (place_at 0 parts) (flags_of (part 1 parts)).lexical (flags_of (part 1 parts)).var_decl (type_of (part 3 parts)).ty (debug_of (part 4 parts)) (plain_type (type_of (part 3 parts)) g.1.1.1.0) g.1.1.1.1.0 }
-good_part p.RowDeallocStack parts g h = record { goes_on = refl; no_results = refl; good = over_one_row op.DeallocStack (place_at 0 parts) (operand_of (part 1 parts)) refl refl refl g.1.0 }
-good_part p.RowCopyValue parts g h = record { goes_on = refl; no_results = refl; good = over_one_row op.CopyValue (place_at 0 parts) (operand_of (part 1 parts)) refl refl refl g.1.0 }
-good_part p.RowDestroyValue parts g h = record { goes_on = refl; no_results = refl; good = over_one_row op.DestroyValue (place_at 0 parts) (operand_of (part 1 parts)) refl refl refl g.1.0 }
-good_part p.RowMoveValue parts g h = record { goes_on = refl; no_results = refl; good = flagged_row op.MoveValue (place_at 0 parts) (operand_of (part 2 parts)) (flags_of (part 1 parts)).lexical (flags_of (part 1 parts)).var_decl refl refl refl g.1.1.0 }
-good_part p.RowBeginBorrow parts g h = record { goes_on = refl; no_results = refl; good = flagged_row op.BeginBorrow (place_at 0 parts) (operand_of (part 2 parts)) (flags_of (part 1 parts)).lexical (flags_of (part 1 parts)).var_decl refl refl refl g.1.1.0 }
-good_part p.RowEndBorrow parts g h = record { goes_on = refl; no_results = refl; good = over_one_row op.EndBorrow (place_at 0 parts) (operand_of (part 1 parts)) refl refl refl g.1.0 }
-good_part p.RowLoad parts g h = record { goes_on = refl; no_results = refl; good = loaded_row op.Load (place_at 0 parts) (operand_of (part 2 parts)) (qualifier_of (part 1 parts)) refl refl refl g.1.1.0 }
-good_part p.RowStore parts g h = record { goes_on = refl; no_results = refl; good = stored_row op.Store (place_at 0 parts) (token_of (part 1 parts)) (operand_of (part 4 parts)) (qualifier_of (part 3 parts)) refl refl refl g.1.1.1.1.0 }
-good_part p.RowLoadBorrow parts g h = record { goes_on = refl; no_results = refl; good = over_one_row op.LoadBorrow (place_at 0 parts) (operand_of (part 1 parts)) refl refl refl g.1.0 }
-good_part p.RowDestroyAddr parts g h = record { goes_on = refl; no_results = refl; good = over_one_row op.DestroyAddr (place_at 0 parts) (operand_of (part 1 parts)) refl refl refl g.1.0 }
-good_part p.RowLoadWeak parts g h = record { goes_on = refl; no_results = refl; good = loaded_row op.LoadWeak (place_at 0 parts) (operand_of (part 2 parts)) (qualifier_of (part 1 parts)) refl refl g.1.0 g.1.1.0 }
-good_part p.RowStoreWeak parts g h = record { goes_on = refl; no_results = refl; good = stored_row op.StoreWeak (place_at 0 parts) (token_of (part 1 parts)) (operand_of (part 4 parts)) (qualifier_of (part 3 parts)) refl refl g.1.1.1.0 g.1.1.1.1.0 }
-good_part p.RowLoadUnowned parts g h = record { goes_on = refl; no_results = refl; good = loaded_row op.LoadUnowned (place_at 0 parts) (operand_of (part 2 parts)) (qualifier_of (part 1 parts)) refl refl g.1.0 g.1.1.0 }
-good_part p.RowStoreUnowned parts g h = record { goes_on = refl; no_results = refl; good = stored_row op.StoreUnowned (place_at 0 parts) (token_of (part 1 parts)) (operand_of (part 4 parts)) (qualifier_of (part 3 parts)) refl refl g.1.1.1.0 g.1.1.1.1.0 }
-good_part p.RowStruct parts g h = record { goes_on = refl; no_results = refl; good = struct_row (place_at 0 parts) (type_of (part 2 parts)).ty (operands_of (part 4 parts)) g.1.1.1.1.0 (not_passed-map operand_place limit.Arguments 64 (operands_of (part 4 parts)) h) (plain_type (type_of (part 2 parts)) g.1.1.0) }
-good_part p.RowTuple parts g h = record { goes_on = refl; no_results = refl; good = tuple_row (place_at 0 parts) (operands_of (part 2 parts)) g.1.1.0 (not_passed-map operand_place limit.Arguments 64 (operands_of (part 2 parts)) h) }
-good_part p.RowEnum parts g h = record { goes_on = refl; no_results = refl; good = enum_row (place_at 0 parts) (type_of (part 2 parts)).ty (member_of (part 4 parts)) (operands_of (part 5 parts)) (plain_type (type_of (part 2 parts)) g.1.1.0) g.1.1.1.1.0 g.1.1.1.1.1.0 }
-good_part p.RowStructExtract parts g h = record { goes_on = refl; no_results = refl; good = member_row op.StructExtract (place_at 0 parts) (operand_of (part 1 parts)) (member_of (part 3 parts)) refl refl refl g.1.1.1.0 g.1.0 }
-good_part p.RowTupleExtract parts g h = record { goes_on = refl; no_results = refl; good = (let e = good_element (text_at 3 parts) (place_at 3 parts) h in element_row op.TupleExtract (place_at 0 parts) (operand_of (part 1 parts)) (element_of (text_at 3 parts)) refl refl refl e.small e.there g.1.0) }
-good_part p.RowDestructureStruct parts g h = record { goes_on = refl; no_results = refl; good = over_one_row op.DestructureStruct (place_at 0 parts) (operand_of (part 1 parts)) refl refl refl g.1.0 }
-good_part p.RowDestructureTuple parts g h = record { goes_on = refl; no_results = refl; good = over_one_row op.DestructureTuple (place_at 0 parts) (operand_of (part 1 parts)) refl refl refl g.1.0 }
-good_part p.RowStructElementAddr parts g h = record { goes_on = refl; no_results = refl; good = member_row op.StructElementAddr (place_at 0 parts) (operand_of (part 1 parts)) (member_of (part 3 parts)) refl refl refl g.1.1.1.0 g.1.0 }
-good_part p.RowTupleElementAddr parts g h = record { goes_on = refl; no_results = refl; good = (let e = good_element (text_at 3 parts) (place_at 3 parts) h in element_row op.TupleElementAddr (place_at 0 parts) (operand_of (part 1 parts)) (element_of (text_at 3 parts)) refl refl refl e.small e.there g.1.0) }
-good_part p.RowRefElementAddr parts g h = record { goes_on = refl; no_results = refl; good = member_row op.RefElementAddr (place_at 0 parts) (operand_of (part 1 parts)) (member_of (part 3 parts)) refl refl refl g.1.1.1.0 g.1.0 }
-good_part p.RowApply parts g h = record { goes_on = refl; no_results = refl; good = apply_row (place_at 0 parts) (token_of (part 1 parts)) (tokens_of (part 3 parts)) (signature_of (part 7 parts)) (not_passed-map token_place limit.Arguments 64 (token_of (part 1 parts) ∷ tokens_of (part 3 parts)) h) g.1.1.1.1.1.1.1.0 }
-good_part p.RowDebugValue parts g h = record { goes_on = refl; no_results = refl; good = debug_row (place_at 0 parts) (operand_of (part 1 parts)) (debug_of (part 2 parts)) g.1.1.0 g.1.0 }
-good_part p.RowStrongRetain parts g h = record { goes_on = refl; no_results = refl; good = over_one_row op.StrongRetain (place_at 0 parts) (operand_of (part 1 parts)) refl refl refl g.1.0 }
-good_part p.RowStrongRelease parts g h = record { goes_on = refl; no_results = refl; good = over_one_row op.StrongRelease (place_at 0 parts) (operand_of (part 1 parts)) refl refl refl g.1.0 }
-good_part p.RowRetainValue parts g h = record { goes_on = refl; no_results = refl; good = over_one_row op.RetainValue (place_at 0 parts) (operand_of (part 1 parts)) refl refl refl g.1.0 }
-good_part p.RowReleaseValue parts g h = record { goes_on = refl; no_results = refl; good = over_one_row op.ReleaseValue (place_at 0 parts) (operand_of (part 1 parts)) refl refl refl g.1.0 }
-good_part p.RowBr parts g h = record { ends = refl; no_results = refl; good = br_row (place_at 0 parts) (edge_of (part 1 parts)) g.1.0 }
-good_part p.RowCondBr parts g h = record { ends = refl; no_results = refl; good = cond_br_row (place_at 0 parts) (token_of (part 1 parts)) (edge_of (part 3 parts)) (edge_of (part 5 parts)) g.1.1.1.0 g.1.1.1.1.1.0 }
-good_part p.RowSwitchEnum parts g h = record { ends = refl; no_results = refl; good = switch_row (place_at 0 parts) (operand_of (part 1 parts)) (edges_of (part 3 parts)) g.1.1.1.0 g.1.0 }
-good_part p.RowReturn parts g h = record { ends = refl; no_results = refl; good = over_one_row op.Return (place_at 0 parts) (operand_of (part 1 parts)) refl refl refl g.1.0 }
-good_part p.RowUnreachable parts g h = record { ends = refl; no_results = refl; good = unreachable_row (place_at 0 parts) }
+good_part (p.Row o) parts g h = good_row o parts (meaning (p.Row o) parts) refl g h
 good_part p.WholeOperand parts g h = λ s. record { typed = refl; ty = g.1.1.1.0 (type_of (part 4 parts)).ty (plain_type (type_of (part 4 parts)) g.1.1.1.1.0) }
 good_part p.OperandsSome parts g h = λ s. (g.0 s, g.1.0 s)
 good_part p.OperandsNone parts g h = λ s. tt
@@ -307,8 +259,8 @@ good_part p.SwitchDefault parts g h = good_default (token_of (part 1 parts))
 good_part p.SwitchMoreSome parts g h = g.1.0.good
 good_part p.SwitchMoreEnd parts g h = record { good = λ s. tt; cases = λ s. refl }
 good_part p.WholeEnumElement parts g h = record { owner = g.1.0; name = g.1.1.1.0 }
-good_part p.EnumOperandSome parts g h = one_enum_operand (operand_of (part 1 parts)) (λ s. (g.1.0 s, tt))
-good_part p.EnumOperandNone parts g h = record { good = λ s. tt; operands = λ s. refl; few = omega arith }
+good_part p.EnumOperandSome parts g h = record { good = λ s. (g.1.0 s, tt); few = omega arith }
+good_part p.EnumOperandNone parts g h = record { good = λ s. tt; few = omega arith }
 good_part p.WholeMemberName parts g h = record { owner = g.1.0; name = g.1.1.1.0 }
 good_part p.TakeFlagSome parts g h = refl
 good_part p.TakeFlagNone parts g h = refl

@@ -1,28 +1,25 @@
 -- What derived steps stand for is good, part by part, where there is no fault.
-use Rattle.std.proofs.Common.{◌≡◌, ℕ, ◌+◌, List, [], ◌∷◌, ◌++◌, length, take, drop, None, true, IsTrue, ap, sym, refl, subst, ◌∙◌, add-one, if◌then◌else◌, nat_lt, true≢false}
-use Rattle.std.specs.Prelude.{⊤, ◌==◌}
-use Rattle.std.proofs.lemmas.Bool.{eqb-true}
+use Rattle.std.proofs.Common.{◌≡◌, ℕ, ◌+◌, List, [], ◌∷◌, ◌++◌, length, take, drop, None, true, sym, refl, subst, add-one, true≢false}
+use Rattle.std.specs.Prelude.{⊤}
 use Rattle.sil_lexer.specs.Lexes.{Lexeme}
 use Rattle.token_classes.specs.declared.classes.Class.{Class}
 use Rattle.token_classes.specs.declared.classes.Class.TheVariants as c
-use Rattle.token_classes.specs.declared.classes.AtWord.TheVariants as a
-use Rattle.token_classes.specs.declared.classes.Keyword.TheVariants as k
-use Rattle.token_classes.specs.declared.classes.Punctuation.TheVariants as m
 use Rattle.sil_shape.specs.declared.grammar.Symbol.{Symbol}
 use Rattle.sil_shape.specs.declared.grammar.Symbol.TheVariants.{Read, Part}
 use Rattle.sil_shape.specs.declared.grammar.Terminal.{Terminal}
 use Rattle.sil_shape.specs.declared.grammar.Terminal.TheVariants as t
 use Rattle.sil_shape.specs.declared.steps.Step.{Step}
-use Rattle.sil_shape.specs.Accepts.{accepts, at_number, class_number, keyword_number, punctuation_number}
+use Rattle.sil_shape.specs.Accepts.{accepts}
 use Rattle.sil_shape.specs.Derivation.{Derives}
 use Rattle.sil_shape.specs.Derivation.Derives.{nothing, token, rule}
 use Rattle.sil_shape.specs.Grammar.{body}
-use Rattle.written_modules.specs.Meaning.{kept_of, leaf_of, part}
+use Rattle.sil_shape.proofs.ClassNumbers.{stands_for_itself}
+use Rattle.written_modules.specs.Meaning.{kept_of, leaf_of}
+use Rattle.written_modules.specs.Parts.{part}
 use Rattle.written_modules.specs.Opened.{PartValue}
 use Rattle.written_modules.specs.Replay.{first_fault, parts_of, reduced, replay}
 use Rattle.written_modules.specs.Values.{token_of}
-use Rattle.numbered_reading_laws.specs.Leaves.{AreOfClasses, IsBuiltinText, IsOfClass, IsTextOf}
-use Rattle.numbered_form.specs.Names.{IsWord, is_at_name, is_quotable}
+use Rattle.numbered_reading_laws.specs.Leaves.{AreOfClasses, IsOfClass, IsTextOf}
 use Rattle.numbered_reading_laws.proofs.ListsAndFaults.{no_first, no_second}
 use Rattle.numbered_reading_laws.proofs.FaultlessParts.{AreGoodFrom, IsGood, IsGoodToken}
 use Rattle.numbered_reading_laws.proofs.PartLemmas.{good_part}
@@ -55,64 +52,6 @@ good_from [] values g = tt
 good_from (s ∷ ss) [] g = absurd g
 good_from (s ∷ ss) (x ∷ values) g = (g.0, good_behind 0 ss x values (good_from ss values g.1))
 
--- which texts a class may have, by its number
-data Kind : Type 0 where
-  Names : Kind
-  AtNames : Kind
-  BuiltinTexts : Kind
-  Texts : Kind
-  Others : Kind
-
-kind_of : Class → Kind
-kind_of (c.Word w) = Names
-kind_of (c.At w) = AtNames
-kind_of c.BuiltinText = BuiltinTexts
-kind_of c.OtherText = Texts
-kind_of _ = Others
-
-kind_at : ℕ → Kind
-kind_at n = if nat_lt n 88 then Names else (if nat_lt n 96 then AtNames else (if n == 116 then BuiltinTexts else (if n == 117 then Texts else Others)))
-
-kind_at-number : (class : Class) → kind_at (class_number class) ≡ kind_of class
-unfolding kind_at kind_of class_number keyword_number at_number punctuation_number
-kind_at-number (c.Word k.Other) = refl
-kind_at-number (c.Word _) = refl
-kind_at-number (c.At a.Other) = refl
-kind_at-number (c.At _) = refl
-kind_at-number (c.Punctuation m.LeftBrace) = refl
-kind_at-number (c.Punctuation _) = refl
-kind_at-number _ = refl
-
-IsTextOfKind : Kind → List ℕ → Type 0
-IsTextOfKind Names text = IsWord text
-IsTextOfKind AtNames text = IsTrue (is_at_name text)
-IsTextOfKind BuiltinTexts text = IsBuiltinText text
-IsTextOfKind Texts text = IsTrue (is_quotable text)
-IsTextOfKind Others text = ⊤
-
-of_kind : (class : Class) (text : List ℕ) → IsTextOf class text → IsTextOfKind (kind_of class) text
-unfolding kind_of IsTextOfKind
-of_kind (c.Word w) text g = g
-of_kind (c.At w) text g = g
-of_kind c.BuiltinText text g = g
-of_kind c.OtherText text g = g
-of_kind _ text g = tt
-
-from_kind : (class : Class) (text : List ℕ) → IsTextOfKind (kind_of class) text → IsTextOf class text
-unfolding kind_of IsTextOfKind
-from_kind (c.Word w) text g = g
-from_kind (c.At w) text g = g
-from_kind c.BuiltinText text g = g
-from_kind c.OtherText text g = g
-from_kind _ text g = tt
-
--- classes of one number have the same texts
-same_texts : (wanted class : Class) (text : List ℕ) → (class_number wanted == class_number class) ≡ true → IsTextOf class text → IsTextOf wanted text
-same_texts wanted class text e g =
-    let number : class_number wanted ≡ class_number class = eqb-true (class_number wanted) (class_number class) e in
-    let kind : kind_of class ≡ kind_of wanted = sym (kind_at-number class) ∙ ap kind_at (sym number) ∙ kind_at-number wanted in
-    from_kind wanted text (subst (λ (k : Kind). IsTextOfKind k text) kind (of_kind class text g))
-
 good_leaf : (terminal : Terminal) (class : Class) (l : Lexeme) → accepts terminal class ≡ true → IsOfClass class l → IsGoodToken terminal (token_of (leaf_of l)).text
 unfolding accepts IsGoodToken token_of
 good_leaf t.AnyWord (c.Word w) l e g = g
@@ -120,7 +59,11 @@ good_leaf t.TypeWord (c.Word w) l e g = g
 good_leaf t.AnyAt (c.At w) l e g = g
 good_leaf t.AnyText c.BuiltinText l e g = g.quotable
 good_leaf t.AnyText c.OtherText l e g = g
-good_leaf (t.Just wanted) class l e g = same_texts wanted class (kept_of l.kind l.spelling) e g
+good_leaf t.RowWord class l e g = tt
+good_leaf t.EndWord class l e g = tt
+good_leaf (t.Just wanted) class l e g =
+    let same : wanted ≡ class = (stands_for_itself wanted class).0 e in
+    subst (λ (k : Class). IsTextOf k (kept_of l.kind l.spelling)) (sym same) g
 good_leaf _ _ l e g = absurd (true≢false (sym e))
 
 pub good_replay : {ss : List Symbol} {ks : List Class} {steps : List Step} → Derives ss ks steps → (lexemes : List Lexeme) → AreOfClasses ks lexemes → first_fault steps lexemes ≡ None → AreGood ss (replay steps lexemes)

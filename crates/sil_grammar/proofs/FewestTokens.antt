@@ -2,6 +2,8 @@
 use Rattle.std.proofs.Common.{◌≡◌, ℕ, ◌+◌, ◌≤◌, List, [], ◌∷◌, ◌++◌, length, refl, sym, subst, ◌∙◌, arith, true}
 use Rattle.std.specs.Prelude.{◌==◌, nat_lt}
 use Rattle.std.proofs.lemmas.Bool.{eqb-true, ltb-true}
+use Rattle.instruction_table.specs.declared.op.Op.{Op}
+use Rattle.instruction_table.specs.declared.op.Op.TheVariants as op
 use Rattle.token_classes.specs.declared.classes.Class.{Class}
 use Rattle.sil_shape.specs.declared.grammar.Nonterminal.{Nonterminal}
 use Rattle.sil_shape.specs.declared.grammar.Nonterminal.TheVariants as n
@@ -12,6 +14,7 @@ use Rattle.sil_shape.specs.declared.grammar.Production.TheVariants as p
 use Rattle.sil_shape.specs.declared.steps.Step.{Step}
 use Rattle.sil_shape.specs.Derivation.{Accepts, Derives, nothing, token, rule}
 use Rattle.sil_shape.specs.Grammar.{written, body}
+use Rattle.sil_shape.specs.Rows.{brings_comma, comma_behind, comma_between, edges_of, ends_block, member_of, operand_of, parts_row, qualifier_of, row_body, row_part, symbols_of, text_of}
 use Rattle.sil_shape.specs.Shortest.{shortest, Shortens, written as nothing_left, step}
 use Rattle.sil_shape.specs.Values.{takes_of}
 use Rattle.sil_shape.proofs.NextClasses.{Derives-inner, Fits, Fits-expand, FitsOne-start}
@@ -65,13 +68,19 @@ least_all [] = 0
 least_all (s ∷ ss) = least_one s + least_all ss
 
 computed_shortest : (part : Nonterminal) → (least_all (body (shortest part)) == least part) ≡ true
-unfolding body shortest least least_one least_all
+unfolding body row_body parts_row symbols_of comma_behind comma_between brings_comma operand_of member_of qualifier_of text_of edges_of shortest least least_one least_all
 computed_shortest n.Module = refl
 computed_shortest _ = refl
 
+-- the row of each instruction
+computed_row : (o : Op) → nat_lt (least (row_part o)) (least_all (row_body o) + 1) ≡ true
+unfolding row_part ends_block row_body parts_row symbols_of comma_behind comma_between brings_comma operand_of member_of qualifier_of text_of edges_of least least_one least_all
+computed_row op.IntegerLiteral = refl
+computed_row _ = refl
+
 computed_least : (p : Production) → nat_lt (least (written p)) (least_all (body p) + 1) ≡ true
 unfolding written body least least_one least_all
-computed_least p.WholeModule = refl
+computed_least (p.Row o) = computed_row o
 computed_least _ = refl
 
 least_all-append : (ss rr : List Symbol) → least_all (ss ++ rr) ≡ least_all ss + least_all rr

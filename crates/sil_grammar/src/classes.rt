@@ -9,9 +9,8 @@ ghost use Rattle.sil_grammar.specs.Classes.{class_by, punctuation_class, text_cl
 use builtin_names::is_builtin_name;
 use sil_ast::Exhausted;
 use sil_lexer::{TokenKind, Tokens, without_quotes, without_sigil};
-use token_classes::Class;
-use token_classes::{at_word, keyword, punctuation};
 use std::alloc::Global;
+use token_classes::{Class, at_word, keyword, punctuation};
 
 fn text_class(content: &[u8]) -> Class
     ensures { result ≡ text_class (is_builtin_name content.now) }

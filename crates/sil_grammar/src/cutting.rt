@@ -1,15 +1,14 @@
 //! A derivation cut behind the last token that it takes: what no token has decided is left to be written.
 
-ghost use Rattle.std.specs.Prelude.{◌≡◌, ◌≤◌, ◌++◌, drop, length, reverse, take, IfOk, OnOk};
+ghost use Rattle.std.specs.Prelude.{◌≡◌, ◌≤◌, drop, length, reverse, take, IfOk, OnOk};
 ghost use Rattle.sil_shape.specs.Derivation.{start};
-ghost use Rattle.sil_shape.specs.Grammar.{body};
 ghost use Rattle.sil_shape.specs.Turns.{Pops};
 ghost use Rattle.sil_shape.specs.Values.{takes_of};
 ghost use Rattle.sil_grammar.specs.Left.{after, left_after, AreDecided, IsCut};
 
 use sil_ast::Exhausted;
-use sil_shape::bodies::body;
-use sil_shape::grammar::{Nonterminal, Production, Symbol};
+use sil_shape::bodies::push_body;
+use sil_shape::grammar::{Nonterminal, Symbol};
 use sil_shape::steps::{Front, Step};
 use std::alloc::Global;
 
@@ -32,17 +31,6 @@ fn pop_symbol(stack: &mut Vec<Symbol>) -> Option<Symbol>
     ensures { Pops (reverse stack.old.items) result (reverse stack.new.items) }
 {
     stack.pop()
-}
-
-/// Puts the body of a production on the stack, its first symbol on top.
-fn push_body(stack: &mut Vec<Symbol>, production: Production) -> Result<(), Exhausted>
-    ensures { OnOk result (reverse stack.new.items ≡ body production ++ reverse stack.old.items) }
-{
-    let symbols = body(production);
-    for i in (0..symbols.len()).rev() {
-        stack.push(symbols[i])?;
-    }
-    Ok(())
 }
 
 /// Does a step to what is left to be written.

@@ -15,11 +15,11 @@ ghost use Rattle.sil_grammar.specs.Shape.{IsShapeOf};
 use crate::classes::classes_of;
 use sil_ast::{Exhausted, Place};
 use sil_lexer::{LexRefusal, LexStop, Tokens, end_place, lex};
-use token_classes::Class;
 use sil_shape::machine::{ShapeRefusal, steps_of};
 use sil_shape::steps::{Front, Step};
 use sil_shape::unsupported::is_unsupported;
 use std::alloc::Global;
+use token_classes::Class;
 
 /// What is wrong at a place of a text.
 #[derive(Clone, Copy, Debug, PartialEq, Eq)]

@@ -1,7 +1,10 @@
 pub mod Derived
+pub mod RowLemmas
 pub mod ValuesLemmas
 pub mod Sets
 pub mod Numbered
+pub mod ChoiceLemmas
+pub mod ClassNumbers
 pub mod Computed
 pub mod Shortened
 pub mod NextClasses

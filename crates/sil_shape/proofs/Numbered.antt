@@ -1,8 +1,11 @@
 -- All classes, productions and parts, each at a number of its own.
-use Rattle.std.proofs.Common.{◌≡◌, ℕ, zero, suc, List, [], ◌∷◌, refl, ap, sym, subst, ◌∙◌, Bool, true}
-use Rattle.std.specs.Prelude.{Option, Some, None, ◌==◌, slice_index_or}
+use Rattle.std.proofs.Common.{◌≡◌, ℕ, zero, suc, ◌+◌, List, [], ◌∷◌, ◌++◌, refl, ap, sym, subst, ◌∙◌, Bool, true}
+use Rattle.std.specs.Prelude.{Option, Some, None, ◌==◌, map, slice_index_or}
 use Rattle.std.proofs.lemmas.Bool.{and_parts, eqb-true}
 use Rattle.std.specs.List.{list_all}
+use Rattle.instruction_table.specs.declared.op.Op.TheVariants as op
+use Rattle.instruction_table.specs.declared.op.TheConstants.{OPS}
+use Rattle.instruction_table.specs.Forms.{number_of}
 use Rattle.token_classes.specs.declared.classes.Keyword.TheVariants as k
 use Rattle.token_classes.specs.declared.classes.AtWord.TheVariants as a
 use Rattle.token_classes.specs.declared.classes.Punctuation.TheVariants as m
@@ -15,12 +18,16 @@ use Rattle.sil_shape.specs.declared.grammar.Production.TheVariants as p
 use Rattle.sil_shape.specs.Accepts.{keyword_number, at_number, punctuation_number, class_number}
 
 -- the end, and each class
+unfoldable pub fixed_looks : List (Option Class)
+fixed_looks = None ∷ Some c.Percent ∷ Some c.Number ∷ Some c.BuiltinText ∷ Some c.OtherText ∷ Some (c.At a.Other) ∷ Some (c.At a.HasStorage) ∷ Some (c.At a.SilWeak) ∷ Some (c.At a.SilUnowned) ∷ Some (c.At a.Convention) ∷ Some (c.At a.Owned) ∷ Some (c.At a.Guaranteed) ∷ Some (c.At a.Inout) ∷ Some (c.Punctuation m.LeftBrace) ∷ Some (c.Punctuation m.RightBrace) ∷ Some (c.Punctuation m.LeftParen) ∷ Some (c.Punctuation m.RightParen) ∷ Some (c.Punctuation m.LeftBracket) ∷ Some (c.Punctuation m.RightBracket) ∷ Some (c.Punctuation m.Less) ∷ Some (c.Punctuation m.Greater) ∷ Some (c.Punctuation m.Comma) ∷ Some (c.Punctuation m.Colon) ∷ Some (c.Punctuation m.Dot) ∷ Some (c.Punctuation m.Question) ∷ Some (c.Punctuation m.Star) ∷ Some (c.Punctuation m.Equals) ∷ Some (c.Punctuation m.Bang) ∷ Some (c.Punctuation m.Dollar) ∷ Some (c.Punctuation m.Hash) ∷ Some (c.Punctuation m.Arrow) ∷ Some (c.Word k.Other) ∷ Some (c.Word k.SilStage) ∷ Some (c.Word k.Raw) ∷ Some (c.Word k.Canonical) ∷ Some (c.Word k.Import) ∷ Some (c.Word k.Final) ∷ Some (c.Word k.Class) ∷ Some (c.Word k.Sil) ∷ Some (c.Word k.SilVtable) ∷ Some (c.Word k.Deinit) ∷ Some (c.Word k.Init) ∷ Some (c.Word k.Weak) ∷ Some (c.Word k.Unowned) ∷ Some (c.Word k.Var) ∷ Some (c.Word k.Let) ∷ Some (c.Word k.Get) ∷ Some (c.Word k.Set) ∷ Some (c.Word k.Case) ∷ Some (c.Word k.Builtin) ∷ Some (c.Word k.Optional) ∷ Some (c.Word k.Int1) ∷ Some (c.Word k.Int8) ∷ Some (c.Word k.Int16) ∷ Some (c.Word k.Int32) ∷ Some (c.Word k.Int64) ∷ Some (c.Word k.Hidden) ∷ Some (c.Word k.Private) ∷ Some (c.Word k.Shared) ∷ Some (c.Word k.Public) ∷ Some (c.Word k.Thin) ∷ Some (c.Word k.Method) ∷ Some (c.Word k.To) ∷ Some (c.Word k.Default) ∷ Some (c.Word k.Enumelt) ∷ Some (c.Word k.Lexical) ∷ Some (c.Word k.VarDecl) ∷ Some (c.Word k.Copy) ∷ Some (c.Word k.Take) ∷ Some (c.Word k.Trivial) ∷ Some (c.Word k.Assign) ∷ Some (c.Word k.Initialization) ∷ Some (c.Word k.Name) ∷ Some (c.Word k.Argno) ∷ Some (c.Word k.Expr) ∷ Some (c.Word k.OpDeref) ∷ Some (c.Word k.Destroyer) ∷ []
+
 unfoldable pub all_looks : List (Option Class)
-all_looks = None ∷ Some (c.Word k.Other) ∷ Some (c.Word k.SilStage) ∷ Some (c.Word k.Raw) ∷ Some (c.Word k.Canonical) ∷ Some (c.Word k.Import) ∷ Some (c.Word k.Final) ∷ Some (c.Word k.Class) ∷ Some (c.Word k.Struct) ∷ Some (c.Word k.Enum) ∷ Some (c.Word k.Sil) ∷ Some (c.Word k.SilVtable) ∷ Some (c.Word k.Deinit) ∷ Some (c.Word k.Init) ∷ Some (c.Word k.Weak) ∷ Some (c.Word k.Unowned) ∷ Some (c.Word k.Var) ∷ Some (c.Word k.Let) ∷ Some (c.Word k.Get) ∷ Some (c.Word k.Set) ∷ Some (c.Word k.Case) ∷ Some (c.Word k.Builtin) ∷ Some (c.Word k.Optional) ∷ Some (c.Word k.Int1) ∷ Some (c.Word k.Int8) ∷ Some (c.Word k.Int16) ∷ Some (c.Word k.Int32) ∷ Some (c.Word k.Int64) ∷ Some (c.Word k.Hidden) ∷ Some (c.Word k.Private) ∷ Some (c.Word k.Shared) ∷ Some (c.Word k.Public) ∷ Some (c.Word k.Thin) ∷ Some (c.Word k.Method) ∷ Some (c.Word k.IntegerLiteral) ∷ Some (c.Word k.FunctionRef) ∷ Some (c.Word k.BuiltinMnemonic) ∷ Some (c.Word k.CondFail) ∷ Some (c.Word k.AllocRef) ∷ Some (c.Word k.AllocStack) ∷ Some (c.Word k.DeallocStack) ∷ Some (c.Word k.CopyValue) ∷ Some (c.Word k.DestroyValue) ∷ Some (c.Word k.MoveValue) ∷ Some (c.Word k.BeginBorrow) ∷ Some (c.Word k.EndBorrow) ∷ Some (c.Word k.Load) ∷ Some (c.Word k.Store) ∷ Some (c.Word k.To) ∷ Some (c.Word k.LoadBorrow) ∷ Some (c.Word k.DestroyAddr) ∷ Some (c.Word k.LoadWeak) ∷ Some (c.Word k.StoreWeak) ∷ Some (c.Word k.LoadUnowned) ∷ Some (c.Word k.StoreUnowned) ∷ Some (c.Word k.Tuple) ∷ Some (c.Word k.StructExtract) ∷ Some (c.Word k.TupleExtract) ∷ Some (c.Word k.DestructureStruct) ∷ Some (c.Word k.DestructureTuple) ∷ Some (c.Word k.StructElementAddr) ∷ Some (c.Word k.TupleElementAddr) ∷ Some (c.Word k.RefElementAddr) ∷ Some (c.Word k.Apply) ∷ Some (c.Word k.DebugValue) ∷ Some (c.Word k.StrongRetain) ∷ Some (c.Word k.StrongRelease) ∷ Some (c.Word k.RetainValue) ∷ Some (c.Word k.ReleaseValue) ∷ Some (c.Word k.Br) ∷ Some (c.Word k.CondBr) ∷ Some (c.Word k.SwitchEnum) ∷ Some (c.Word k.Return) ∷ Some (c.Word k.Unreachable) ∷ Some (c.Word k.Default) ∷ Some (c.Word k.Enumelt) ∷ Some (c.Word k.Lexical) ∷ Some (c.Word k.VarDecl) ∷ Some (c.Word k.Copy) ∷ Some (c.Word k.Take) ∷ Some (c.Word k.Trivial) ∷ Some (c.Word k.Assign) ∷ Some (c.Word k.Initialization) ∷ Some (c.Word k.Name) ∷ Some (c.Word k.Argno) ∷ Some (c.Word k.Expr) ∷ Some (c.Word k.OpDeref) ∷ Some (c.Word k.Destroyer) ∷ Some (c.At a.Other) ∷ Some (c.At a.HasStorage) ∷ Some (c.At a.SilWeak) ∷ Some (c.At a.SilUnowned) ∷ Some (c.At a.Convention) ∷ Some (c.At a.Owned) ∷ Some (c.At a.Guaranteed) ∷ Some (c.At a.Inout) ∷ Some (c.Punctuation m.LeftBrace) ∷ Some (c.Punctuation m.RightBrace) ∷ Some (c.Punctuation m.LeftParen) ∷ Some (c.Punctuation m.RightParen) ∷ Some (c.Punctuation m.LeftBracket) ∷ Some (c.Punctuation m.RightBracket) ∷ Some (c.Punctuation m.Less) ∷ Some (c.Punctuation m.Greater) ∷ Some (c.Punctuation m.Comma) ∷ Some (c.Punctuation m.Colon) ∷ Some (c.Punctuation m.Dot) ∷ Some (c.Punctuation m.Question) ∷ Some (c.Punctuation m.Star) ∷ Some (c.Punctuation m.Equals) ∷ Some (c.Punctuation m.Bang) ∷ Some (c.Punctuation m.Dollar) ∷ Some (c.Punctuation m.Hash) ∷ Some (c.Punctuation m.Arrow) ∷ Some c.Percent ∷ Some c.Number ∷ Some c.BuiltinText ∷ Some c.OtherText ∷ []
+all_looks = fixed_looks ++ map (λ o. Some (c.Word (k.Mnemonic o))) OPS
 
 unfoldable pub each_look : (Option Class → Bool) → Bool
 each_look f = list_all f all_looks
 
+-- a number of its own for each production, those of rows last
 unfoldable pub production_number : Production → ℕ
 production_number p.WholeModule = 0
 production_number p.StageSome = 1
@@ -138,109 +145,72 @@ production_number p.NamesSome = 112
 production_number p.NamesNone = 113
 production_number p.MoreNamesMore = 114
 production_number p.MoreNamesEnd = 115
-production_number p.RowIntegerLiteral = 116
-production_number p.RowFunctionRef = 117
-production_number p.RowBuiltin = 118
-production_number p.RowCondFail = 119
-production_number p.RowAllocRef = 120
-production_number p.RowAllocStack = 121
-production_number p.RowDeallocStack = 122
-production_number p.RowCopyValue = 123
-production_number p.RowDestroyValue = 124
-production_number p.RowMoveValue = 125
-production_number p.RowBeginBorrow = 126
-production_number p.RowEndBorrow = 127
-production_number p.RowLoad = 128
-production_number p.RowStore = 129
-production_number p.RowLoadBorrow = 130
-production_number p.RowDestroyAddr = 131
-production_number p.RowLoadWeak = 132
-production_number p.RowStoreWeak = 133
-production_number p.RowLoadUnowned = 134
-production_number p.RowStoreUnowned = 135
-production_number p.RowStruct = 136
-production_number p.RowTuple = 137
-production_number p.RowEnum = 138
-production_number p.RowStructExtract = 139
-production_number p.RowTupleExtract = 140
-production_number p.RowDestructureStruct = 141
-production_number p.RowDestructureTuple = 142
-production_number p.RowStructElementAddr = 143
-production_number p.RowTupleElementAddr = 144
-production_number p.RowRefElementAddr = 145
-production_number p.RowApply = 146
-production_number p.RowDebugValue = 147
-production_number p.RowStrongRetain = 148
-production_number p.RowStrongRelease = 149
-production_number p.RowRetainValue = 150
-production_number p.RowReleaseValue = 151
-production_number p.RowBr = 152
-production_number p.RowCondBr = 153
-production_number p.RowSwitchEnum = 154
-production_number p.RowReturn = 155
-production_number p.RowUnreachable = 156
-production_number p.WholeOperand = 157
-production_number p.OperandsSome = 158
-production_number p.OperandsNone = 159
-production_number p.MoreOperandsMore = 160
-production_number p.MoreOperandsEnd = 161
-production_number p.BareNamesSome = 162
-production_number p.BareNamesNone = 163
-production_number p.WholeEdge = 164
-production_number p.EdgeArgsSome = 165
-production_number p.EdgeArgsNone = 166
-production_number p.SwitchCase = 167
-production_number p.SwitchDefault = 168
-production_number p.SwitchMoreSome = 169
-production_number p.SwitchMoreEnd = 170
-production_number p.WholeEnumElement = 171
-production_number p.SuffixSome = 172
-production_number p.SuffixNone = 173
-production_number p.EnumOperandSome = 174
-production_number p.EnumOperandNone = 175
-production_number p.WholeMemberName = 176
-production_number p.FlagsSome = 177
-production_number p.FlagsNone = 178
-production_number p.LexicalFirst = 179
-production_number p.VarDeclFirst = 180
-production_number p.VarDeclAfterSome = 181
-production_number p.VarDeclAfterNone = 182
-production_number p.LexicalAfterSome = 183
-production_number p.LexicalAfterNone = 184
-production_number p.QualifierSome = 185
-production_number p.QualifierNone = 186
-production_number p.QualifierCopy = 187
-production_number p.QualifierTake = 188
-production_number p.QualifierTrivial = 189
-production_number p.QualifierInit = 190
-production_number p.QualifierAssign = 191
-production_number p.TakeFlagSome = 192
-production_number p.TakeFlagNone = 193
-production_number p.InitFlagSome = 194
-production_number p.InitFlagNone = 195
-production_number p.InitShort = 196
-production_number p.InitLong = 197
-production_number p.DebugSome = 198
-production_number p.DebugNone = 199
-production_number p.DebugLet = 200
-production_number p.DebugVar = 201
-production_number p.DebugRest = 202
-production_number p.DebugAfterBindingSome = 203
-production_number p.DebugAfterBindingNone = 204
-production_number p.DebugName = 205
-production_number p.DebugNoName = 206
-production_number p.DebugAfterNameSome = 207
-production_number p.DebugAfterNameNone = 208
-production_number p.DebugNumber = 209
-production_number p.DebugNoNumber = 210
-production_number p.DebugAfterNumberSome = 211
-production_number p.DebugAfterNumberNone = 212
-production_number p.DebugDeref = 213
-production_number p.EntrySome = 214
-production_number p.EntryNone = 215
+production_number p.WholeOperand = 116
+production_number p.OperandsSome = 117
+production_number p.OperandsNone = 118
+production_number p.MoreOperandsMore = 119
+production_number p.MoreOperandsEnd = 120
+production_number p.BareNamesSome = 121
+production_number p.BareNamesNone = 122
+production_number p.WholeEdge = 123
+production_number p.EdgeArgsSome = 124
+production_number p.EdgeArgsNone = 125
+production_number p.SwitchCase = 126
+production_number p.SwitchDefault = 127
+production_number p.SwitchMoreSome = 128
+production_number p.SwitchMoreEnd = 129
+production_number p.WholeEnumElement = 130
+production_number p.SuffixSome = 131
+production_number p.SuffixNone = 132
+production_number p.EnumOperandSome = 133
+production_number p.EnumOperandNone = 134
+production_number p.WholeMemberName = 135
+production_number p.FlagsSome = 136
+production_number p.FlagsNone = 137
+production_number p.LexicalFirst = 138
+production_number p.VarDeclFirst = 139
+production_number p.VarDeclAfterSome = 140
+production_number p.VarDeclAfterNone = 141
+production_number p.LexicalAfterSome = 142
+production_number p.LexicalAfterNone = 143
+production_number p.QualifierSome = 144
+production_number p.QualifierNone = 145
+production_number p.QualifierCopy = 146
+production_number p.QualifierTake = 147
+production_number p.QualifierTrivial = 148
+production_number p.QualifierInit = 149
+production_number p.QualifierAssign = 150
+production_number p.TakeFlagSome = 151
+production_number p.TakeFlagNone = 152
+production_number p.InitFlagSome = 153
+production_number p.InitFlagNone = 154
+production_number p.InitShort = 155
+production_number p.InitLong = 156
+production_number p.DebugSome = 157
+production_number p.DebugNone = 158
+production_number p.DebugLet = 159
+production_number p.DebugVar = 160
+production_number p.DebugRest = 161
+production_number p.DebugAfterBindingSome = 162
+production_number p.DebugAfterBindingNone = 163
+production_number p.DebugName = 164
+production_number p.DebugNoName = 165
+production_number p.DebugAfterNameSome = 166
+production_number p.DebugAfterNameNone = 167
+production_number p.DebugNumber = 168
+production_number p.DebugNoNumber = 169
+production_number p.DebugAfterNumberSome = 170
+production_number p.DebugAfterNumberNone = 171
+production_number p.DebugDeref = 172
+production_number p.EntrySome = 173
+production_number p.EntryNone = 174
+production_number (p.Row o) = 175 + number_of o
 
 all_productions : List Production
-all_productions = p.WholeModule ∷ p.StageSome ∷ p.StageNone ∷ p.Raw ∷ p.Canonical ∷ p.ImportsMore ∷ p.ImportsEnd ∷ p.ItemsMore ∷ p.ItemsEnd ∷ p.FinalClass ∷ p.PlainClass ∷ p.StructItem ∷ p.EnumItem ∷ p.FunctionItem ∷ p.VtableItem ∷ p.MembersMore ∷ p.MembersEnd ∷ p.StoredMember ∷ p.FinalMember ∷ p.PlainMember ∷ p.DeinitMember ∷ p.InitMember ∷ p.ModifiedStored ∷ p.ModifiedFinal ∷ p.ModifiedVariable ∷ p.WeakVariable ∷ p.UnownedVariable ∷ p.StrongVariable ∷ p.VarBinding ∷ p.LetBinding ∷ p.FieldsMore ∷ p.FieldsEnd ∷ p.StoredField ∷ p.PlainField ∷ p.AccessorsSome ∷ p.AccessorsNone ∷ p.SetterSome ∷ p.SetterNone ∷ p.CasesMore ∷ p.CasesEnd ∷ p.PayloadSome ∷ p.PayloadNone ∷ p.BareType ∷ p.ParenType ∷ p.BaseOpen ∷ p.WeakOpen ∷ p.UnownedOpen ∷ p.BuiltinBase ∷ p.OptionalBase ∷ p.NamedBase ∷ p.BuiltinInt ∷ p.BuiltinName ∷ p.OptionalOf ∷ p.OptionalName ∷ p.Width1 ∷ p.Width8 ∷ p.Width16 ∷ p.Width32 ∷ p.Width64 ∷ p.QuestionsMore ∷ p.QuestionsEnd ∷ p.TypesSome ∷ p.TypesNone ∷ p.MoreTypesMore ∷ p.MoreTypesEnd ∷ p.LinkageHidden ∷ p.LinkagePrivate ∷ p.LinkageShared ∷ p.LinkagePublic ∷ p.LinkagePlain ∷ p.AttributesMore ∷ p.AttributesEnd ∷ p.BodySome ∷ p.BodyNone ∷ p.WholeFunctionType ∷ p.Thin ∷ p.Method ∷ p.ParamsSome ∷ p.ParamsNone ∷ p.MoreParamsMore ∷ p.MoreParamsEnd ∷ p.ParamOwned ∷ p.ParamGuaranteed ∷ p.ParamInout ∷ p.ParamPlain ∷ p.ResultList ∷ p.ResultOwned ∷ p.ResultPlain ∷ p.InsideSome ∷ p.InsideNone ∷ p.MoreGivensMore ∷ p.MoreGivensEnd ∷ p.GivenOwned ∷ p.GivenPlain ∷ p.WholeBlock ∷ p.BlocksMore ∷ p.BlocksEnd ∷ p.BlockArgsSome ∷ p.BlockArgsNone ∷ p.MoreBlockArgsMore ∷ p.MoreBlockArgsEnd ∷ p.WholeBlockArg ∷ p.OwnershipOwned ∷ p.OwnershipGuaranteed ∷ p.OwnershipNone ∷ p.StarSome ∷ p.StarNone ∷ p.CodeInst ∷ p.CodeEnd ∷ p.InstOneName ∷ p.InstNames ∷ p.InstUnnamed ∷ p.NamesSome ∷ p.NamesNone ∷ p.MoreNamesMore ∷ p.MoreNamesEnd ∷ p.RowIntegerLiteral ∷ p.RowFunctionRef ∷ p.RowBuiltin ∷ p.RowCondFail ∷ p.RowAllocRef ∷ p.RowAllocStack ∷ p.RowDeallocStack ∷ p.RowCopyValue ∷ p.RowDestroyValue ∷ p.RowMoveValue ∷ p.RowBeginBorrow ∷ p.RowEndBorrow ∷ p.RowLoad ∷ p.RowStore ∷ p.RowLoadBorrow ∷ p.RowDestroyAddr ∷ p.RowLoadWeak ∷ p.RowStoreWeak ∷ p.RowLoadUnowned ∷ p.RowStoreUnowned ∷ p.RowStruct ∷ p.RowTuple ∷ p.RowEnum ∷ p.RowStructExtract ∷ p.RowTupleExtract ∷ p.RowDestructureStruct ∷ p.RowDestructureTuple ∷ p.RowStructElementAddr ∷ p.RowTupleElementAddr ∷ p.RowRefElementAddr ∷ p.RowApply ∷ p.RowDebugValue ∷ p.RowStrongRetain ∷ p.RowStrongRelease ∷ p.RowRetainValue ∷ p.RowReleaseValue ∷ p.RowBr ∷ p.RowCondBr ∷ p.RowSwitchEnum ∷ p.RowReturn ∷ p.RowUnreachable ∷ p.WholeOperand ∷ p.OperandsSome ∷ p.OperandsNone ∷ p.MoreOperandsMore ∷ p.MoreOperandsEnd ∷ p.BareNamesSome ∷ p.BareNamesNone ∷ p.WholeEdge ∷ p.EdgeArgsSome ∷ p.EdgeArgsNone ∷ p.SwitchCase ∷ p.SwitchDefault ∷ p.SwitchMoreSome ∷ p.SwitchMoreEnd ∷ p.WholeEnumElement ∷ p.SuffixSome ∷ p.SuffixNone ∷ p.EnumOperandSome ∷ p.EnumOperandNone ∷ p.WholeMemberName ∷ p.FlagsSome ∷ p.FlagsNone ∷ p.LexicalFirst ∷ p.VarDeclFirst ∷ p.VarDeclAfterSome ∷ p.VarDeclAfterNone ∷ p.LexicalAfterSome ∷ p.LexicalAfterNone ∷ p.QualifierSome ∷ p.QualifierNone ∷ p.QualifierCopy ∷ p.QualifierTake ∷ p.QualifierTrivial ∷ p.QualifierInit ∷ p.QualifierAssign ∷ p.TakeFlagSome ∷ p.TakeFlagNone ∷ p.InitFlagSome ∷ p.InitFlagNone ∷ p.InitShort ∷ p.InitLong ∷ p.DebugSome ∷ p.DebugNone ∷ p.DebugLet ∷ p.DebugVar ∷ p.DebugRest ∷ p.DebugAfterBindingSome ∷ p.DebugAfterBindingNone ∷ p.DebugName ∷ p.DebugNoName ∷ p.DebugAfterNameSome ∷ p.DebugAfterNameNone ∷ p.DebugNumber ∷ p.DebugNoNumber ∷ p.DebugAfterNumberSome ∷ p.DebugAfterNumberNone ∷ p.DebugDeref ∷ p.EntrySome ∷ p.EntryNone ∷ []
+all_productions = fixed_productions ++ map p.Row OPS
+  where
+    fixed_productions : List Production
+    fixed_productions = p.WholeModule ∷ p.StageSome ∷ p.StageNone ∷ p.Raw ∷ p.Canonical ∷ p.ImportsMore ∷ p.ImportsEnd ∷ p.ItemsMore ∷ p.ItemsEnd ∷ p.FinalClass ∷ p.PlainClass ∷ p.StructItem ∷ p.EnumItem ∷ p.FunctionItem ∷ p.VtableItem ∷ p.MembersMore ∷ p.MembersEnd ∷ p.StoredMember ∷ p.FinalMember ∷ p.PlainMember ∷ p.DeinitMember ∷ p.InitMember ∷ p.ModifiedStored ∷ p.ModifiedFinal ∷ p.ModifiedVariable ∷ p.WeakVariable ∷ p.UnownedVariable ∷ p.StrongVariable ∷ p.VarBinding ∷ p.LetBinding ∷ p.FieldsMore ∷ p.FieldsEnd ∷ p.StoredField ∷ p.PlainField ∷ p.AccessorsSome ∷ p.AccessorsNone ∷ p.SetterSome ∷ p.SetterNone ∷ p.CasesMore ∷ p.CasesEnd ∷ p.PayloadSome ∷ p.PayloadNone ∷ p.BareType ∷ p.ParenType ∷ p.BaseOpen ∷ p.WeakOpen ∷ p.UnownedOpen ∷ p.BuiltinBase ∷ p.OptionalBase ∷ p.NamedBase ∷ p.BuiltinInt ∷ p.BuiltinName ∷ p.OptionalOf ∷ p.OptionalName ∷ p.Width1 ∷ p.Width8 ∷ p.Width16 ∷ p.Width32 ∷ p.Width64 ∷ p.QuestionsMore ∷ p.QuestionsEnd ∷ p.TypesSome ∷ p.TypesNone ∷ p.MoreTypesMore ∷ p.MoreTypesEnd ∷ p.LinkageHidden ∷ p.LinkagePrivate ∷ p.LinkageShared ∷ p.LinkagePublic ∷ p.LinkagePlain ∷ p.AttributesMore ∷ p.AttributesEnd ∷ p.BodySome ∷ p.BodyNone ∷ p.WholeFunctionType ∷ p.Thin ∷ p.Method ∷ p.ParamsSome ∷ p.ParamsNone ∷ p.MoreParamsMore ∷ p.MoreParamsEnd ∷ p.ParamOwned ∷ p.ParamGuaranteed ∷ p.ParamInout ∷ p.ParamPlain ∷ p.ResultList ∷ p.ResultOwned ∷ p.ResultPlain ∷ p.InsideSome ∷ p.InsideNone ∷ p.MoreGivensMore ∷ p.MoreGivensEnd ∷ p.GivenOwned ∷ p.GivenPlain ∷ p.WholeBlock ∷ p.BlocksMore ∷ p.BlocksEnd ∷ p.BlockArgsSome ∷ p.BlockArgsNone ∷ p.MoreBlockArgsMore ∷ p.MoreBlockArgsEnd ∷ p.WholeBlockArg ∷ p.OwnershipOwned ∷ p.OwnershipGuaranteed ∷ p.OwnershipNone ∷ p.StarSome ∷ p.StarNone ∷ p.CodeInst ∷ p.CodeEnd ∷ p.InstOneName ∷ p.InstNames ∷ p.InstUnnamed ∷ p.NamesSome ∷ p.NamesNone ∷ p.MoreNamesMore ∷ p.MoreNamesEnd ∷ p.WholeOperand ∷ p.OperandsSome ∷ p.OperandsNone ∷ p.MoreOperandsMore ∷ p.MoreOperandsEnd ∷ p.BareNamesSome ∷ p.BareNamesNone ∷ p.WholeEdge ∷ p.EdgeArgsSome ∷ p.EdgeArgsNone ∷ p.SwitchCase ∷ p.SwitchDefault ∷ p.SwitchMoreSome ∷ p.SwitchMoreEnd ∷ p.WholeEnumElement ∷ p.SuffixSome ∷ p.SuffixNone ∷ p.EnumOperandSome ∷ p.EnumOperandNone ∷ p.WholeMemberName ∷ p.FlagsSome ∷ p.FlagsNone ∷ p.LexicalFirst ∷ p.VarDeclFirst ∷ p.VarDeclAfterSome ∷ p.VarDeclAfterNone ∷ p.LexicalAfterSome ∷ p.LexicalAfterNone ∷ p.QualifierSome ∷ p.QualifierNone ∷ p.QualifierCopy ∷ p.QualifierTake ∷ p.QualifierTrivial ∷ p.QualifierInit ∷ p.QualifierAssign ∷ p.TakeFlagSome ∷ p.TakeFlagNone ∷ p.InitFlagSome ∷ p.InitFlagNone ∷ p.InitShort ∷ p.InitLong ∷ p.DebugSome ∷ p.DebugNone ∷ p.DebugLet ∷ p.DebugVar ∷ p.DebugRest ∷ p.DebugAfterBindingSome ∷ p.DebugAfterBindingNone ∷ p.DebugName ∷ p.DebugNoName ∷ p.DebugAfterNameSome ∷ p.DebugAfterNameNone ∷ p.DebugNumber ∷ p.DebugNoNumber ∷ p.DebugAfterNumberSome ∷ p.DebugAfterNumberNone ∷ p.DebugDeref ∷ p.EntrySome ∷ p.EntryNone ∷ []
 
 unfoldable pub part_number : Nonterminal → ℕ
 part_number n.Module = 0
@@ -329,14 +299,16 @@ all_parts : List Nonterminal
 all_parts = n.Module ∷ n.Stage ∷ n.StageWord ∷ n.Imports ∷ n.Items ∷ n.Item ∷ n.Members ∷ n.Member ∷ n.Modified ∷ n.Variable ∷ n.Binding ∷ n.Fields ∷ n.Field ∷ n.Accessors ∷ n.Setter ∷ n.Cases ∷ n.Payload ∷ n.Type ∷ n.OpenType ∷ n.Base ∷ n.BuiltinTail ∷ n.OptionalTail ∷ n.Width ∷ n.Questions ∷ n.Types ∷ n.MoreTypes ∷ n.Linkage ∷ n.Attributes ∷ n.Body ∷ n.FunctionType ∷ n.Convention ∷ n.Params ∷ n.MoreParams ∷ n.Param ∷ n.Results ∷ n.ResultsInside ∷ n.MoreGivens ∷ n.Given ∷ n.Block ∷ n.Blocks ∷ n.BlockArgs ∷ n.MoreBlockArgs ∷ n.BlockArg ∷ n.Ownership ∷ n.Star ∷ n.Code ∷ n.Inst ∷ n.Names ∷ n.MoreNames ∷ n.Row ∷ n.Terminator ∷ n.Operand ∷ n.Operands ∷ n.MoreOperands ∷ n.BareNames ∷ n.Edge ∷ n.EdgeArgs ∷ n.SwitchPart ∷ n.SwitchMore ∷ n.EnumElement ∷ n.ElementSuffix ∷ n.EnumOperand ∷ n.MemberName ∷ n.Flags ∷ n.FirstFlag ∷ n.VarDeclAfter ∷ n.LexicalAfter ∷ n.Qualifier ∷ n.QualifierWord ∷ n.TakeFlag ∷ n.InitFlag ∷ n.InitWord ∷ n.Debug ∷ n.DebugPart ∷ n.DebugAfterBinding ∷ n.DebugNamePart ∷ n.DebugAfterName ∷ n.DebugNumberPart ∷ n.DebugAfterNumber ∷ n.DebugDerefPart ∷ n.VtableEntry ∷ []
 
 -- each stands in the list of all, at its number
-look_number : Option Class → ℕ
+unfoldable pub look_number : Option Class → ℕ
 look_number None = 0
 look_number (Some k) = class_number k
 
-all_looks-at : (l : Option Class) → slice_index_or all_looks (look_number l) None ≡ l
-unfolding all_looks look_number class_number keyword_number at_number punctuation_number
+pub all_looks-at : (l : Option Class) → slice_index_or all_looks (look_number l) None ≡ l
+unfolding all_looks fixed_looks look_number class_number keyword_number at_number punctuation_number
 all_looks-at None = refl
 all_looks-at (Some (c.Word k.Other)) = refl
+all_looks-at (Some (c.Word (k.Mnemonic op.IntegerLiteral))) = refl
+all_looks-at (Some (c.Word (k.Mnemonic _))) = refl
 all_looks-at (Some (c.Word _)) = refl
 all_looks-at (Some (c.At a.Other)) = refl
 all_looks-at (Some (c.At _)) = refl
@@ -350,6 +322,8 @@ all_looks-at (Some c.OtherText) = refl
 all_productions-at : (q : Production) → slice_index_or all_productions (production_number q) p.WholeModule ≡ q
 unfolding all_productions production_number
 all_productions-at p.WholeModule = refl
+all_productions-at (p.Row op.IntegerLiteral) = refl
+all_productions-at (p.Row _) = refl
 all_productions-at _ = refl
 
 all_parts-at : (part : Nonterminal) → slice_index_or all_parts (part_number part) n.Module ≡ part
@@ -363,7 +337,7 @@ list_all-at f d (x ∷ xs) zero e h = (and_parts (f x) (list_all f xs) h).0
 list_all-at f d (x ∷ xs) (suc i) e h = list_all-at f d xs i e (and_parts (f x) (list_all f xs) h).1
 
 pub each_look-at : (f : Option Class → Bool) → each_look f ≡ true → (l : Option Class) → f l ≡ true
-unfolding each_look all_looks
+unfolding each_look all_looks fixed_looks
 each_look-at f h l = subst (λ x. f x ≡ true) (all_looks-at l) (list_all-at f None all_looks (look_number l) (and_parts (f None) _ h).0 h)
 
 pub same_production : (x y : Production) → (production_number x == production_number y) ≡ true → x ≡ y

@@ -11,6 +11,7 @@ use Rattle.sil_shape.specs.declared.steps.Step.{Step}
 use Rattle.sil_shape.specs.declared.steps.Step.TheVariants.{Expand}
 use Rattle.sil_shape.specs.Accepts.{accepts, is_type_word, class_number}
 use Rattle.sil_shape.specs.Grammar.{body}
+use Rattle.sil_shape.specs.Rows.{ends_block}
 use Rattle.sil_shape.specs.Derivation.{Derives, nothing, token, rule}
 use Rattle.sil_shape.specs.Shortest.{shortest, shortest_step, after_step, Shortens, written, step}
 use Rattle.sil_shape.proofs.Sets.{needed}
@@ -33,11 +34,13 @@ pub fewer : (s : Symbol) {stack rest new : List Symbol} → stack ≡ s ∷ rest
 fewer s {rest = rest} popped pushed = rw (popped, pushed) (omega (arith, needed-step s rest))
 
 accepts-example : (t : Terminal) → accepts t (example t) ≡ true
-unfolding accepts example is_type_word class_number
+unfolding accepts example is_type_word class_number ends_block
 accepts-example t.AnyWord = refl
 accepts-example t.TypeWord = refl
 accepts-example t.AnyAt = refl
 accepts-example t.AnyText = refl
+accepts-example t.RowWord = refl
+accepts-example t.EndWord = refl
 accepts-example (t.Just wanted) = eq-eqb (class_number wanted) (class_number wanted) refl
 
 -- the classes that a step takes

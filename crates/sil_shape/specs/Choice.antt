@@ -18,7 +18,7 @@ use Rattle.sil_shape.specs.declared.grammar.Nonterminal.TheVariants as n
 use Rattle.sil_shape.specs.declared.grammar.Production.{Production}
 use Rattle.sil_shape.specs.declared.grammar.Production.TheVariants as p
 
--- what a text of a production that is not empty begins with
+-- what a text of a production begins with that is not empty; rows are told by their mnemonics alone
 unfoldable pub starts : Production → List Terminal
 starts p.WholeModule = word k.SilStage ∷ word k.Import ∷ word k.Final ∷ word k.Class ∷ word (k.Mnemonic op.Struct) ∷ word (k.Mnemonic op.Enum) ∷ word k.Sil ∷ word k.SilVtable ∷ []
 starts p.StageSome = word k.SilStage ∷ []
@@ -136,8 +136,7 @@ starts p.NamesSome = t.Just c.Percent ∷ []
 starts p.NamesNone = []
 starts p.MoreNamesMore = punctuation m.Comma ∷ []
 starts p.MoreNamesEnd = []
-starts (p.Row o) = word (k.Mnemonic o) ∷ []
-starts p.RowFunctionRef = word k.FunctionRef ∷ []
+starts (p.Row o) = []
 starts p.WholeOperand = t.Just c.Percent ∷ []
 starts p.OperandsSome = t.Just c.Percent ∷ []
 starts p.OperandsNone = []

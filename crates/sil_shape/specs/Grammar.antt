@@ -1,13 +1,9 @@
 -- The grammar: what each production writes, and in which tokens and parts in a row.
 use Rattle.std.specs.Prelude.{List, [], ◌∷◌}
-use Rattle.token_classes.specs.declared.classes.Keyword.{Keyword}
 use Rattle.token_classes.specs.declared.classes.Keyword.TheVariants as k
-use Rattle.token_classes.specs.declared.classes.AtWord.{AtWord}
 use Rattle.token_classes.specs.declared.classes.AtWord.TheVariants as a
-use Rattle.token_classes.specs.declared.classes.Punctuation.{Punctuation}
 use Rattle.token_classes.specs.declared.classes.Punctuation.TheVariants as m
 use Rattle.token_classes.specs.declared.classes.Class.TheVariants as c
-use Rattle.sil_shape.specs.declared.grammar.Terminal.{Terminal}
 use Rattle.sil_shape.specs.declared.grammar.Terminal.TheVariants as t
 use Rattle.sil_shape.specs.declared.grammar.Nonterminal.{Nonterminal}
 use Rattle.sil_shape.specs.declared.grammar.Nonterminal.TheVariants as n
@@ -138,7 +134,6 @@ written p.NamesNone = n.Names
 written p.MoreNamesMore = n.MoreNames
 written p.MoreNamesEnd = n.MoreNames
 written (p.Row o) = row_part o
-written p.RowFunctionRef = n.Row
 written p.WholeOperand = n.Operand
 written p.OperandsSome = n.Operands
 written p.OperandsNone = n.Operands
@@ -318,7 +313,6 @@ body p.NamesNone = []
 body p.MoreNamesMore = Read (punctuation m.Comma) ∷ Read (t.Just c.Percent) ∷ Part n.MoreNames ∷ []
 body p.MoreNamesEnd = []
 body (p.Row o) = row_body o
-body p.RowFunctionRef = Read (word k.FunctionRef) ∷ Read t.AnyAt ∷ Read (punctuation m.Colon) ∷ Read (punctuation m.Dollar) ∷ Part n.FunctionType ∷ []
 body p.WholeOperand = Read (t.Just c.Percent) ∷ Read (punctuation m.Colon) ∷ Read (punctuation m.Dollar) ∷ Part n.Star ∷ Part n.Type ∷ []
 body p.OperandsSome = Part n.Operand ∷ Part n.MoreOperands ∷ []
 body p.OperandsNone = []

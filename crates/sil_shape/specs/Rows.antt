@@ -1,6 +1,6 @@
 -- The rows of the grammar, as the table of instructions gives them: what each part of an instruction's form is in the
 -- grammar, and which part of the grammar the instruction writes.
-use Rattle.std.specs.Prelude.{List, [], ◌∷◌, ◌++◌, Bool, true, false, if◌then◌else◌, ◌&&◌, not}
+use Rattle.std.specs.Prelude.{List, [], ◌∷◌, ◌++◌, Bool, false, if◌then◌else◌, ◌&&◌, not}
 use Rattle.instruction_table.specs.declared.entries.Detail.{Detail}
 use Rattle.instruction_table.specs.declared.entries.Detail.TheVariants as detail
 use Rattle.instruction_table.specs.declared.entries.Ending.{Ending}
@@ -10,7 +10,7 @@ use Rattle.instruction_table.specs.declared.entries.Words.TheVariants as words
 use Rattle.instruction_table.specs.declared.forms.Part.{Part}
 use Rattle.instruction_table.specs.declared.forms.Part.TheVariants as part
 use Rattle.instruction_table.specs.declared.op.Op.{Op}
-use Rattle.instruction_table.specs.Forms.{detail_of, ending_of, is_item, may_lack_operand, parts_of, words_of}
+use Rattle.instruction_table.specs.Forms.{detail_of, ending_of, is_item, is_terminator, may_lack_operand, parts_of, words_of}
 use Rattle.token_classes.specs.declared.classes.Class.TheVariants as c
 use Rattle.token_classes.specs.declared.classes.Keyword.TheVariants as k
 use Rattle.token_classes.specs.declared.classes.Punctuation.TheVariants as m
@@ -22,17 +22,9 @@ use Rattle.sil_shape.specs.declared.grammar.Terminal.{Terminal}
 use Rattle.sil_shape.specs.declared.grammar.Terminal.TheVariants as t
 use Rattle.sil_shape.specs.Terminals.{word, punctuation}
 
-abbrev pub is_end : Ending → Bool
-is_end ending.Inside = false
-is_end ending.OneBranch = true
-is_end ending.TwoBranches = true
-is_end ending.Cases = true
-is_end ending.Return = true
-is_end ending.Unreachable = true
-
--- the instruction is a terminator
+-- the instruction ends a block
 unfoldable pub ends_block : Op → Bool
-ends_block o = is_end (ending_of o)
+ends_block o = is_terminator o
 
 -- the part of the grammar that its row writes
 unfoldable pub row_part : Op → Nonterminal

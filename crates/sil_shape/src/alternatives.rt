@@ -5,7 +5,7 @@ ghost use Rattle.sil_shape.specs.Grammar.{alternatives};
 
 use crate::grammar::{Nonterminal, Production};
 
-/// The productions that write a part.
+/// The productions that write a part. Those of rows are told by their mnemonics alone.
 #[tactic(auto, unfolding(crate::specs::Grammar::alternatives))]
 pub fn alternatives(part: Nonterminal) -> &'static [Production]
     ensures { result.now ≡ alternatives part }
@@ -121,51 +121,7 @@ pub fn alternatives(part: Nonterminal) -> &'static [Production]
         ],
         Nonterminal::Names => &[Production::NamesSome, Production::NamesNone],
         Nonterminal::MoreNames => &[Production::MoreNamesMore, Production::MoreNamesEnd],
-        Nonterminal::Row => &[
-            Production::RowIntegerLiteral,
-            Production::RowFunctionRef,
-            Production::RowBuiltin,
-            Production::RowCondFail,
-            Production::RowAllocRef,
-            Production::RowAllocStack,
-            Production::RowDeallocStack,
-            Production::RowCopyValue,
-            Production::RowDestroyValue,
-            Production::RowMoveValue,
-            Production::RowBeginBorrow,
-            Production::RowEndBorrow,
-            Production::RowLoad,
-            Production::RowStore,
-            Production::RowLoadBorrow,
-            Production::RowDestroyAddr,
-            Production::RowLoadWeak,
-            Production::RowStoreWeak,
-            Production::RowLoadUnowned,
-            Production::RowStoreUnowned,
-            Production::RowStruct,
-            Production::RowTuple,
-            Production::RowEnum,
-            Production::RowStructExtract,
-            Production::RowTupleExtract,
-            Production::RowDestructureStruct,
-            Production::RowDestructureTuple,
-            Production::RowStructElementAddr,
-            Production::RowTupleElementAddr,
-            Production::RowRefElementAddr,
-            Production::RowApply,
-            Production::RowDebugValue,
-            Production::RowStrongRetain,
-            Production::RowStrongRelease,
-            Production::RowRetainValue,
-            Production::RowReleaseValue,
-        ],
-        Nonterminal::Terminator => &[
-            Production::RowBr,
-            Production::RowCondBr,
-            Production::RowSwitchEnum,
-            Production::RowReturn,
-            Production::RowUnreachable,
-        ],
+        Nonterminal::Row | Nonterminal::Terminator => &[],
         Nonterminal::Operand => &[Production::WholeOperand],
         Nonterminal::Operands => &[Production::OperandsSome, Production::OperandsNone],
         Nonterminal::MoreOperands => &[Production::MoreOperandsMore, Production::MoreOperandsEnd],

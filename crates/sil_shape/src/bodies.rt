@@ -1,14 +1,25 @@
 //! What each production writes: tokens and parts, in a row.
 
-ghost use Rattle.std.specs.Prelude.{◌≡◌};
+ghost use Rattle.std.specs.Prelude.{◌≡◌, ◌++◌, length, reverse, OnOk};
+ghost use Rattle.instruction_table.specs.declared.op.Op.{Op};
 ghost use Rattle.sil_shape.specs.Grammar.{body};
+ghost use Rattle.sil_shape.specs.declared.grammar.Production.TheVariants.{Row};
 
-use token_classes::{AtWord, Class, Keyword, Punctuation};
 use crate::grammar::{Nonterminal, Production, Symbol, Terminal};
+use crate::rows::{push_row, push_symbols, row_length};
+use instruction_table::Op;
+use std::alloc::AllocError;
+use token_classes::{AtWord, Class, Keyword, Punctuation};
 
 macro_rules! word {
     ($keyword:ident) => {
         Symbol::Read(Terminal::Just(Class::Word(Keyword::$keyword)))
+    };
+}
+
+macro_rules! mnemonic {
+    ($op:ident) => {
+        Symbol::Read(Terminal::Just(Class::Word(Keyword::Mnemonic(Op::$op))))
     };
 }
 
@@ -30,9 +41,32 @@ macro_rules! part {
     };
 }
 
-/// What a production writes.
+/// Puts the body of a production on the stack, its first symbol on top.
 #[tactic(auto, unfolding(crate::specs::Grammar::body))]
-pub fn body(production: Production) -> &'static [Symbol]
+pub fn push_body(stack: &mut Vec<Symbol>, production: Production) -> Result<(), AllocError>
+    ensures { OnOk result (reverse stack.new.items ≡ body production ++ reverse stack.old.items) }
+{
+    match production {
+        Production::Row(op) => push_row(stack, op),
+        _ => push_symbols(stack, fixed_body(production)),
+    }
+}
+
+/// How many symbols the body of a production has.
+#[tactic(auto, unfolding(crate::specs::Grammar::body))]
+pub fn body_length(production: Production) -> usize
+    ensures { result ≡ length (body production) }
+{
+    match production {
+        Production::Row(op) => row_length(op),
+        _ => fixed_body(production).len(),
+    }
+}
+
+/// What a production writes that isn't the row of an instruction.
+#[tactic(auto, unfolding(crate::specs::Grammar::body))]
+fn fixed_body(production: Production) -> &'static [Symbol]
+    requires { (op : Op) → production ≡ Row op → ⊥ }
     ensures { result.now ≡ body production }
 {
     match production {
@@ -65,14 +99,14 @@ pub fn body(production: Production) -> &'static [Symbol]
             punctuation!(RightBrace),
         ],
         Production::StructItem => &[
-            word!(Struct),
+            mnemonic!(Struct),
             Symbol::Read(Terminal::AnyWord),
             punctuation!(LeftBrace),
             part!(Fields),
             punctuation!(RightBrace),
         ],
         Production::EnumItem => &[
-            word!(Enum),
+            mnemonic!(Enum),
             Symbol::Read(Terminal::AnyWord),
             punctuation!(LeftBrace),
             part!(Cases),
@@ -294,162 +328,7 @@ pub fn body(production: Production) -> &'static [Symbol]
             part!(MoreNames),
         ],
         Production::MoreNamesEnd => &[],
-        Production::RowIntegerLiteral => &[
-            word!(IntegerLiteral),
-            punctuation!(Dollar),
-            part!(Type),
-            punctuation!(Comma),
-            Symbol::Read(Terminal::Just(Class::Number)),
-        ],
-        Production::RowFunctionRef => &[
-            word!(FunctionRef),
-            Symbol::Read(Terminal::AnyAt),
-            punctuation!(Colon),
-            punctuation!(Dollar),
-            part!(FunctionType),
-        ],
-        Production::RowBuiltin => &[
-            word!(BuiltinMnemonic),
-            Symbol::Read(Terminal::Just(Class::BuiltinText)),
-            punctuation!(LeftParen),
-            part!(Operands),
-            punctuation!(RightParen),
-            punctuation!(Colon),
-            punctuation!(Dollar),
-            part!(Type),
-        ],
-        Production::RowCondFail => &[
-            word!(CondFail),
-            part!(Operand),
-            punctuation!(Comma),
-            Symbol::Read(Terminal::AnyText),
-        ],
-        Production::RowAllocRef => &[word!(AllocRef), punctuation!(Dollar), part!(Type)],
-        Production::RowAllocStack => &[
-            word!(AllocStack),
-            part!(Flags),
-            punctuation!(Dollar),
-            part!(Type),
-            part!(Debug),
-        ],
-        Production::RowDeallocStack => &[word!(DeallocStack), part!(Operand)],
-        Production::RowCopyValue => &[word!(CopyValue), part!(Operand)],
-        Production::RowDestroyValue => &[word!(DestroyValue), part!(Operand)],
-        Production::RowMoveValue => &[word!(MoveValue), part!(Flags), part!(Operand)],
-        Production::RowBeginBorrow => &[word!(BeginBorrow), part!(Flags), part!(Operand)],
-        Production::RowEndBorrow => &[word!(EndBorrow), part!(Operand)],
-        Production::RowLoad => &[word!(Load), part!(Qualifier), part!(Operand)],
-        Production::RowStore => &[
-            word!(Store),
-            Symbol::Read(Terminal::Just(Class::Percent)),
-            word!(To),
-            part!(Qualifier),
-            part!(Operand),
-        ],
-        Production::RowLoadBorrow => &[word!(LoadBorrow), part!(Operand)],
-        Production::RowDestroyAddr => &[word!(DestroyAddr), part!(Operand)],
-        Production::RowLoadWeak => &[word!(LoadWeak), part!(TakeFlag), part!(Operand)],
-        Production::RowStoreWeak => &[
-            word!(StoreWeak),
-            Symbol::Read(Terminal::Just(Class::Percent)),
-            word!(To),
-            part!(InitFlag),
-            part!(Operand),
-        ],
-        Production::RowLoadUnowned => &[word!(LoadUnowned), part!(TakeFlag), part!(Operand)],
-        Production::RowStoreUnowned => &[
-            word!(StoreUnowned),
-            Symbol::Read(Terminal::Just(Class::Percent)),
-            word!(To),
-            part!(InitFlag),
-            part!(Operand),
-        ],
-        Production::RowStruct => &[
-            word!(Struct),
-            punctuation!(Dollar),
-            part!(Type),
-            punctuation!(LeftParen),
-            part!(Operands),
-            punctuation!(RightParen),
-        ],
-        Production::RowTuple => &[
-            word!(Tuple),
-            punctuation!(LeftParen),
-            part!(Operands),
-            punctuation!(RightParen),
-        ],
-        Production::RowEnum => &[
-            word!(Enum),
-            punctuation!(Dollar),
-            part!(Type),
-            punctuation!(Comma),
-            part!(EnumElement),
-            part!(EnumOperand),
-        ],
-        Production::RowStructExtract => &[
-            word!(StructExtract),
-            part!(Operand),
-            punctuation!(Comma),
-            part!(MemberName),
-        ],
-        Production::RowTupleExtract => &[
-            word!(TupleExtract),
-            part!(Operand),
-            punctuation!(Comma),
-            Symbol::Read(Terminal::Just(Class::Number)),
-        ],
-        Production::RowDestructureStruct => &[word!(DestructureStruct), part!(Operand)],
-        Production::RowDestructureTuple => &[word!(DestructureTuple), part!(Operand)],
-        Production::RowStructElementAddr => &[
-            word!(StructElementAddr),
-            part!(Operand),
-            punctuation!(Comma),
-            part!(MemberName),
-        ],
-        Production::RowTupleElementAddr => &[
-            word!(TupleElementAddr),
-            part!(Operand),
-            punctuation!(Comma),
-            Symbol::Read(Terminal::Just(Class::Number)),
-        ],
-        Production::RowRefElementAddr => &[
-            word!(RefElementAddr),
-            part!(Operand),
-            punctuation!(Comma),
-            part!(MemberName),
-        ],
-        Production::RowApply => &[
-            word!(Apply),
-            Symbol::Read(Terminal::Just(Class::Percent)),
-            punctuation!(LeftParen),
-            part!(BareNames),
-            punctuation!(RightParen),
-            punctuation!(Colon),
-            punctuation!(Dollar),
-            part!(FunctionType),
-        ],
-        Production::RowDebugValue => &[word!(DebugValue), part!(Operand), part!(Debug)],
-        Production::RowStrongRetain => &[word!(StrongRetain), part!(Operand)],
-        Production::RowStrongRelease => &[word!(StrongRelease), part!(Operand)],
-        Production::RowRetainValue => &[word!(RetainValue), part!(Operand)],
-        Production::RowReleaseValue => &[word!(ReleaseValue), part!(Operand)],
-        Production::RowBr => &[word!(Br), part!(Edge)],
-        Production::RowCondBr => &[
-            word!(CondBr),
-            Symbol::Read(Terminal::Just(Class::Percent)),
-            punctuation!(Comma),
-            part!(Edge),
-            punctuation!(Comma),
-            part!(Edge),
-        ],
-        Production::RowSwitchEnum => &[
-            word!(SwitchEnum),
-            part!(Operand),
-            punctuation!(Comma),
-            part!(SwitchPart),
-        ],
-        Production::RowReturn => &[word!(Return), part!(Operand)],
-        Production::RowUnreachable => &[word!(Unreachable)],
+        Production::Row(_) => unreachable!(),
         Production::WholeOperand => &[
             Symbol::Read(Terminal::Just(Class::Percent)),
             punctuation!(Colon),

@@ -1,50 +1,17 @@
 //! The choice of a production by the next token.
 
-ghost use Rattle.std.specs.Prelude.{◌≡◌, ◌↔◌, IsTrue};
-ghost use Rattle.sil_shape.specs.Accepts.{keyword_number, at_number, punctuation_number, class_number, is_type_word, accepts};
+ghost use Rattle.std.specs.Prelude.{◌≡◌, ◌↔◌, find, IsTrue};
+ghost use Rattle.sil_shape.specs.Accepts.{is_type_word, accepts};
 ghost use Rattle.sil_shape.specs.Derivation.{Accepts};
-ghost use Rattle.sil_shape.specs.Choice.{has_class, has, started, choose};
+ghost use Rattle.sil_shape.specs.Choice.{choose, has, has_class, row_at_end, row_inside, started, starts};
+ghost use Rattle.sil_shape.specs.Grammar.{alternatives};
 
 use crate::alternatives::alternatives;
-use token_classes::{AtWord, Class, Keyword, Punctuation};
+use crate::class_numbers::class_number;
 use crate::grammar::{Nonterminal, Production, Symbol, Terminal};
+use crate::rows::ends_block;
 use crate::starts::{empty_choice, starts};
-
-#[tactic(auto, unfolding(crate::specs::Accepts::keyword_number))]
-fn keyword_number(word: Keyword) -> u8
-    ensures { result ≡ keyword_number word }
-{
-    word as u8
-}
-
-#[tactic(auto, unfolding(crate::specs::Accepts::at_number))]
-fn at_number(word: AtWord) -> u8
-    ensures { result ≡ at_number word }
-{
-    word as u8
-}
-
-#[tactic(auto, unfolding(crate::specs::Accepts::punctuation_number))]
-fn punctuation_number(punctuation: Punctuation) -> u8
-    ensures { result ≡ punctuation_number punctuation }
-{
-    punctuation as u8
-}
-
-#[tactic(auto, unfolding(crate::specs::Accepts::class_number))]
-fn class_number(class: Class) -> u16
-    ensures { result ≡ class_number class }
-{
-    match class {
-        Class::Word(word) => 1 + keyword_number(word) as u16,
-        Class::At(word) => 88 + at_number(word) as u16,
-        Class::Punctuation(punctuation) => 96 + punctuation_number(punctuation) as u16,
-        Class::Percent => 114,
-        Class::Number => 115,
-        Class::BuiltinText => 116,
-        Class::OtherText => 117,
-    }
-}
+use token_classes::{Class, Keyword};
 
 #[tactic(auto, unfolding(crate::specs::Accepts::is_type_word))]
 fn is_type_word(word: Keyword) -> bool
@@ -78,6 +45,14 @@ pub(crate) fn accepts_terminal(terminal: Terminal, class: Class) -> bool
             Class::BuiltinText | Class::OtherText => true,
             _ => false,
         },
+        Terminal::RowWord => match class {
+            Class::Word(Keyword::Mnemonic(op)) => !ends_block(op),
+            _ => false,
+        },
+        Terminal::EndWord => match class {
+            Class::Word(Keyword::Mnemonic(op)) => ends_block(op),
+            _ => false,
+        },
         Terminal::Just(wanted) => class_number(wanted) == class_number(class),
     }
 }
@@ -99,14 +74,48 @@ fn has(terminals: &[Terminal], look: Option<Class>) -> bool
     }
 }
 
-#[tactic(auto, unfolding(crate::specs::Choice::started))]
-fn started(part: Nonterminal, look: Option<Class>) -> Option<Production>
-    ensures { result ≡ started part look }
+/// The row that begins with a mnemonic inside a block.
+#[tactic(auto, unfolding(crate::specs::Choice::row_inside))]
+fn row_inside(look: Option<Class>) -> Option<Production>
+    ensures { result ≡ row_inside look }
+{
+    match look {
+        Some(Class::Word(Keyword::Mnemonic(op))) if !ends_block(op) => Some(Production::Row(op)),
+        _ => None,
+    }
+}
+
+/// The row that begins with a mnemonic at the end of a block.
+#[tactic(auto, unfolding(crate::specs::Choice::row_at_end))]
+fn row_at_end(look: Option<Class>) -> Option<Production>
+    ensures { result ≡ row_at_end look }
+{
+    match look {
+        Some(Class::Word(Keyword::Mnemonic(op))) if ends_block(op) => Some(Production::Row(op)),
+        _ => None,
+    }
+}
+
+/// The production that begins with the next token, among those that the grammar lists for a part.
+fn listed(part: Nonterminal, look: Option<Class>) -> Option<Production>
+    ensures { result ≡ find (λ p. has (starts p) look) (alternatives part) }
 {
     alternatives(part)
         .iter()
         .copied()
         .find(|production| has(starts(*production), look))
+}
+
+/// The production of a part whose text begins with the next token.
+#[tactic(auto, unfolding(crate::specs::Choice::started))]
+fn started(part: Nonterminal, look: Option<Class>) -> Option<Production>
+    ensures { result ≡ started part look }
+{
+    match part {
+        Nonterminal::Row => row_inside(look),
+        Nonterminal::Terminator => row_at_end(look),
+        _ => listed(part, look),
+    }
 }
 
 /// The production of a part that is taken at the next token, or at the end.

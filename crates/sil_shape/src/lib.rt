@@ -2,11 +2,14 @@
 //! It knows of no text, no value and no limit: the crate above builds a module from the steps that are found here.
 #![tactic(auto)]
 
-pub mod alternatives;
+mod alternatives;
 pub mod bodies;
 mod choice;
+mod class_numbers;
 pub mod grammar;
+pub mod laws;
 pub mod machine;
+mod rows;
 pub mod shortest;
 pub mod shortest_steps;
 mod starts;

@@ -2,19 +2,18 @@
 //! of the text takes room on the stack of the program.
 
 ghost use Rattle.std.specs.Prelude.{◌≡◌, ◌++◌, ◌∷◌, [], List, ◌≤◌, ◌+◌, ◌↔◌, length, reverse, slice_get, IfOk, OnOk, IfErr, IsTrue, MatchResult, MatchBool};
-ghost use Rattle.sil_shape.specs.Grammar.{body};
 ghost use Rattle.sil_shape.specs.Turns.{Turns, IsAccepted, Pops, Expands, Settles, Takes, Refuses};
 ghost use Rattle.sil_shape.specs.Derivation.{start, IsDerivation};
 ghost use Rattle.sil_shape.specs.Values.{takes_of, values_left, IsEnough};
 ghost use Rattle.sil_shape.specs.Refusal.{IsRefusal};
 ghost use Rattle.sil_shape.specs.declared.machine.ShapeRefusal.TheVariants.{FirstBad, Memory};
 
-use crate::bodies::body;
+use crate::bodies::push_body;
 use crate::choice::{accepts, choose};
-use token_classes::Class;
 use crate::grammar::{Nonterminal, Production, Symbol};
 use crate::steps::{Front, Step};
 use std::alloc::{AllocError, Global};
+use token_classes::Class;
 
 /// Why a list of classes has no derivation.
 #[derive(Drop)]
@@ -39,17 +38,6 @@ pub(crate) fn pop_symbol(stack: &mut Vec<Symbol>) -> Option<Symbol>
     ensures { Pops (reverse stack.old.items) result (reverse stack.new.items) }
 {
     stack.pop()
-}
-
-/// Puts the body of a production on the stack, its first symbol on top.
-pub(crate) fn push_body(stack: &mut Vec<Symbol>, production: Production) -> Result<(), AllocError>
-    ensures { OnOk result (reverse stack.new.items ≡ body production ++ reverse stack.old.items) }
-{
-    let symbols = body(production);
-    for i in (0..symbols.len()).rev() {
-        stack.push(symbols[i])?;
-    }
-    Ok(())
 }
 
 /// What stands first.

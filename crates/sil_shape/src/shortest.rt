@@ -4,6 +4,7 @@ ghost use Rattle.std.specs.Prelude.{◌≡◌};
 ghost use Rattle.sil_shape.specs.Shortest.{shortest};
 
 use crate::grammar::{Nonterminal, Production};
+use instruction_table::Op;
 
 /// The production of a part that leads to the fewest tokens.
 #[tactic(auto, unfolding(crate::specs::Shortest::shortest))]
@@ -60,8 +61,8 @@ pub fn shortest(part: Nonterminal) -> Production
         Nonterminal::Inst => Production::InstUnnamed,
         Nonterminal::Names => Production::NamesNone,
         Nonterminal::MoreNames => Production::MoreNamesEnd,
-        Nonterminal::Row => Production::RowTuple,
-        Nonterminal::Terminator => Production::RowUnreachable,
+        Nonterminal::Row => Production::Row(Op::Tuple),
+        Nonterminal::Terminator => Production::Row(Op::Unreachable),
         Nonterminal::Operand => Production::WholeOperand,
         Nonterminal::Operands => Production::OperandsNone,
         Nonterminal::MoreOperands => Production::MoreOperandsEnd,

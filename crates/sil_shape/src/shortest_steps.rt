@@ -4,8 +4,9 @@ ghost use Rattle.std.specs.Prelude.{◌≡◌, ◌++◌, ◌∷◌, [], reverse,
 ghost use Rattle.sil_shape.specs.Shortest.{shortest_step, after_step, Shortens};
 ghost use Rattle.sil_shape.specs.declared.grammar.Symbol.TheVariants.{Part};
 
+use crate::bodies::push_body;
 use crate::grammar::{Nonterminal, Symbol};
-use crate::machine::{pop_symbol, push_body};
+use crate::machine::pop_symbol;
 use crate::shortest::shortest;
 use crate::steps::Step;
 use std::alloc::{AllocError, Global};

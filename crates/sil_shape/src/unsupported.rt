@@ -2,42 +2,22 @@
 
 ghost use Rattle.std.specs.Prelude.{◌≡◌, ◌++◌, ◌∷◌, [], ◌↔◌, IfOk, IsTrue};
 ghost use Rattle.sil_shape.specs.Derivation.{BeginsShape, IsFirstBad};
-ghost use Rattle.sil_shape.specs.Unsupported.{begins_by, begins_some, is_mnemonic, GoesOn, IsUnknown, IsUnsupported};
+ghost use Rattle.sil_shape.specs.Unsupported.{is_mnemonic, GoesOn, IsUnknown, IsUnsupported};
 ghost use Rattle.token_classes.specs.declared.classes.Class.TheVariants.{Word};
 
-use crate::alternatives::alternatives;
-use crate::bodies::body;
-use crate::choice::accepts_terminal;
-use token_classes::{Class, Keyword};
-use crate::grammar::{Nonterminal, Symbol};
 use crate::machine::{ShapeRefusal, steps_of};
+use instruction_table::Op;
 use std::alloc::{AllocError, Global};
-
-fn begins_by(symbols: &[Symbol], class: Class) -> bool
-    ensures { result ≡ begins_by symbols.now class }
-{
-    match symbols {
-        [Symbol::Read(terminal), ..] => accepts_terminal(*terminal, class),
-        [Symbol::Part(_), ..] => false,
-        [] => false,
-    }
-}
-
-fn begins_some(part: Nonterminal, class: Class) -> bool
-    ensures { result ≡ begins_some part class }
-{
-    alternatives(part)
-        .iter()
-        .any(|production| begins_by(body(*production), class))
-}
+use token_classes::{Class, Keyword};
 
 /// Whether a row begins with the word.
-#[tactic(auto, unfolding(crate::specs::Unsupported::is_mnemonic))]
 fn is_mnemonic(word: Keyword) -> bool
     ensures { result ≡ is_mnemonic word }
 {
-    let class = Class::Word(word);
-    begins_some(Nonterminal::Row, class) || begins_some(Nonterminal::Terminator, class)
+    match word {
+        Keyword::Mnemonic(_) => true,
+        _ => false,
+    }
 }
 
 /// Whether some list goes on with this class.
@@ -59,7 +39,7 @@ fn is_unknown_word(alloc: Global, front: &[Class], word: Keyword) -> Result<bool
     ensures { IfOk result (λ yes. IsTrue yes ↔ IsUnknown front.now (Word word)) }
 {
     if !is_mnemonic(word) {
-        if goes_on(alloc, front, Class::Word(Keyword::Load))? {
+        if goes_on(alloc, front, Class::Word(Keyword::Mnemonic(Op::Load)))? {
             return Ok(true);
         }
     }

@@ -1,1 +1,3 @@
+mod ByLetterLemmas
+mod LawLemmas
 pub mod SpellingLemmas

@@ -1,1 +1,3 @@
+pub mod ByLetter
+pub mod Laws
 pub mod Spelling

@@ -82,9 +82,11 @@ at_spelling a.Owned = codes "owned"
 at_spelling a.Guaranteed = codes "guaranteed"
 at_spelling a.Inout = codes "inout"
 
+-- every one of them
 unfoldable pub at_words : List AtWord
 at_words = a.HasStorage ∷ a.SilWeak ∷ a.SilUnowned ∷ a.Convention ∷ a.Owned ∷ a.Guaranteed ∷ a.Inout ∷ []
 
+-- the one that is spelled so
 unfoldable pub known_at_word : List ℕ → Option AtWord
 known_at_word name = find (λ a. bytes_eq (at_spelling a) name) at_words
 
@@ -92,6 +94,7 @@ known_at_word name = find (λ a. bytes_eq (at_spelling a) name) at_words
 unfoldable pub at_word_of : List ℕ → AtWord
 at_word_of name = unwrap_or (known_at_word name) a.Other
 
+-- how a piece of punctuation is spelled
 unfoldable pub punctuation_spelling : Punctuation → List ℕ
 punctuation_spelling m.LeftBrace = codes "{"
 punctuation_spelling m.RightBrace = codes "}"
@@ -112,6 +115,7 @@ punctuation_spelling m.Dollar = codes "$"
 punctuation_spelling m.Hash = codes "#"
 punctuation_spelling m.Arrow = codes "->"
 
+-- every piece of punctuation
 unfoldable pub signs : List Punctuation
 signs = m.LeftBrace ∷ m.RightBrace ∷ m.LeftParen ∷ m.RightParen ∷ m.LeftBracket ∷ m.RightBracket ∷ m.Less ∷ m.Greater ∷ m.Comma ∷ m.Colon ∷ m.Dot ∷ m.Question ∷ m.Star ∷ m.Equals ∷ m.Bang ∷ m.Dollar ∷ m.Hash ∷ m.Arrow ∷ []
 

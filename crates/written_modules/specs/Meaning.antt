@@ -1,7 +1,6 @@
 -- What the parts of a text stand for: a token by its bytes and its place, and a production by what the parts of its
 -- body stand for.
-use Rattle.std.specs.Prelude.{◌-◌, ℕ, List, [], ◌∷◌, drop, map, length, Bool, true, false, ◌||◌, Option, Some, None, slice_index_or, codes, nat_eq, ℤ, pos}
-use Rattle.std.specs.Option.{option_map}
+use Rattle.std.specs.Prelude.{ℕ, List, [], ◌∷◌, Bool, true, false, ◌||◌, Some, None, codes, nat_eq}
 use Rattle.std.specs.Cmp.Lexicographic.{pointwise}
 use Rattle.sil_ast.specs.declared.debug.Binding.TheVariants as debugged
 use Rattle.sil_ast.specs.declared.decl.Storage.TheVariants as storage
@@ -11,9 +10,6 @@ use Rattle.sil_ast.specs.declared.inst.Qualifier.{Qualifier}
 use Rattle.sil_ast.specs.declared.inst.Qualifier.TheVariants as qualifier
 use Rattle.sil_ast.specs.declared.module.Imports.{Imports}
 use Rattle.sil_ast.specs.declared.module.Stage.TheVariants as stage
-use Rattle.instruction_table.specs.declared.op.Op.{Op}
-use Rattle.instruction_table.specs.declared.op.Op.TheVariants as op
-use Rattle.sil_ast.specs.declared.place.Place.{Place}
 use Rattle.sil_ast.specs.declared.signature.Convention.TheVariants as convention
 use Rattle.sil_ast.specs.declared.signature.Passing.TheVariants as passing
 use Rattle.sil_ast.specs.declared.signature.Passing.{Passing}
@@ -24,19 +20,15 @@ use Rattle.sil_lexer.specs.declared.token.TokenKind.{TokenKind}
 use Rattle.sil_lexer.specs.declared.token.TokenKind.TheVariants as token
 use Rattle.sil_shape.specs.declared.grammar.Production.{Production}
 use Rattle.sil_shape.specs.declared.grammar.Production.TheVariants as p
-use Rattle.sil_rules.specs.declared.limits.TheConstants.{ARGUMENTS}
-use Rattle.written_numbers.specs.Numbers.{literal_of, small_of}
+use Rattle.written_numbers.specs.Numbers.{small_of}
 use Rattle.written_modules.specs.declared.value.Value.{Value}
 use Rattle.written_modules.specs.declared.value.Value.TheVariants as v
 use Rattle.written_tree.specs.declared.written_declarations.WrittenDecl.TheVariants as decl
-use Rattle.written_tree.specs.declared.written_declarations.WrittenToken.{WrittenToken}
-use Rattle.written_tree.specs.declared.written_instructions.WrittenInst.{WrittenInst}
-use Rattle.written_tree.specs.declared.written_instructions.WrittenOperand.{WrittenOperand}
 use Rattle.written_tree.specs.declared.written_module.WrittenItem.TheVariants as item
 use Rattle.written_modules.specs.Parts.{part, place_at, text_at}
 use Rattle.written_modules.specs.RowMeaning.{row}
-use Rattle.written_modules.specs.Types.{in_parens, with_questions, named_type, one_deeper, one_token, tailed, type_before, width_of}
-use Rattle.written_modules.specs.Values.{token_of, stage_of, imports_of, items_of, item_of, fields_of, field_of, field_before, cases_of, type_of, payload_of, types_of, questions_of, linkage_of, tokens_of, convention_of, params_of, param_before, givens_of, given_before, signature_of, blocks_of, block_of, args_of, arg_of, ownership_of, starred, insts_of, terminator_of, inst_of, operands_of, operand_of, edges_of, edge_of, member_of, flags_of, qualifier_of, debug_of, entry_of, bare_inst, no_debug, no_givens, no_params, no_qualifier, no_types}
+use Rattle.written_modules.specs.Types.{in_parens, with_questions, named_type, one_deeper, one_token, tailed, type_before}
+use Rattle.written_modules.specs.Values.{token_of, stage_of, imports_of, items_of, item_of, fields_of, field_of, field_before, cases_of, type_of, payload_of, types_of, questions_of, linkage_of, tokens_of, convention_of, params_of, param_before, givens_of, given_before, signature_of, blocks_of, block_of, args_of, arg_of, ownership_of, starred, insts_of, terminator_of, inst_of, operands_of, operand_of, edges_of, member_of, flags_of, debug_of, entry_of, no_debug, no_givens, no_params, no_qualifier, no_types}
 
 -- what is kept of a token's bytes
 unfoldable pub kept_of : TokenKind → List ℕ → List ℕ

@@ -5,7 +5,7 @@ use Rattle.sil_ast.specs.declared.place.Place.{Place}
 use Rattle.sil_ast.specs.declared.type_name.TypeName.{TypeName}
 use Rattle.sil_shape.specs.declared.grammar.Production.{Production}
 use Rattle.sil_shape.specs.declared.grammar.Production.TheVariants as p
-use Rattle.written_numbers.specs.Numbers.{literal_of, small_of}
+use Rattle.written_numbers.specs.Numbers.{small_of}
 use Rattle.written_tree.specs.declared.fault.Fault.{Fault}
 use Rattle.written_tree.specs.declared.fault.FaultKind.TheVariants.{Limit}
 use Rattle.sil_rules.specs.declared.limits.TheConstants.{ARGUMENTS, BLOCKS, DECLARATIONS, DEPTH, FUNCTIONS, INSTRUCTIONS, MEMBERS, VALUES}
@@ -24,8 +24,8 @@ use Rattle.written_tree.specs.declared.written_instructions.WrittenInst.{Written
 use Rattle.written_modules.specs.Parts.{part, place_at, text_at}
 use Rattle.written_modules.specs.RowMeaning.{begun, behind_part, number_by, with_part}
 use Rattle.written_tree.specs.Places.{arg_place, attribute_places, case_place, decl_names, field_place, function_names, label_place, mnemonics_of, operand_place, token_place, values_of_block}
-use Rattle.written_modules.specs.Types.{in_parens, type_before, width_of}
-use Rattle.written_modules.specs.Values.{args_of, blocks_of, cases_of, fields_of, givens_of, items_of, questions_of, operands_of, params_of, token_of, tokens_of, type_of, types_of}
+use Rattle.written_modules.specs.Types.{in_parens, type_before}
+use Rattle.written_modules.specs.Values.{args_of, blocks_of, cases_of, fields_of, givens_of, items_of, questions_of, operands_of, params_of, tokens_of, type_of, types_of}
 
 -- a type that is one level deeper than one at the limit
 abbrev pub too_deep : ℕ → Place → Option Fault
@@ -95,7 +95,6 @@ part_fault p.WholeFunctionType parts = earlier
 part_fault p.WholeBlock parts = passed limit.Arguments ARGUMENTS (map arg_place (args_of (part 1 parts)))
 part_fault p.InstNames parts = passed limit.Arguments ARGUMENTS (map token_place (tokens_of (part 1 parts)))
 part_fault (p.Row o) parts = row_fault o parts
-part_fault p.RowBuiltin parts = passed limit.Arguments ARGUMENTS (map operand_place (operands_of (part 3 parts)))
 part_fault p.WholeEdge parts = passed limit.Arguments ARGUMENTS (map operand_place (operands_of (part 1 parts)))
 part_fault p.DebugNumber parts = out_of_range (small_of 65535 (text_at 1 parts)) (place_at 1 parts)
 part_fault _ parts = None

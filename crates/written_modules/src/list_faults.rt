@@ -1,19 +1,20 @@
 //! Lists that become too long.
 
-ghost use Rattle.std.specs.Prelude.{◌≡◌, ◌∷◌, ◌-◌, map};
+ghost use Rattle.std.specs.Prelude.{◌≡◌, map};
 ghost use Rattle.sil_rules.specs.declared.limits.TheConstants.{ARGUMENTS, MEMBERS};
 ghost use Rattle.sil_rules.specs.declared.limit_word.LimitWord.TheVariants as limit;
 ghost use Rattle.written_tree.specs.Faults as faults;
 ghost use Rattle.written_modules.specs.PartFaults as said;
 ghost use Rattle.written_tree.specs.Places as placed;
-ghost use Rattle.written_modules.specs.Values.{args_of, blocks_of, cases_of, fields_of, givens_of, items_of, operands_of, params_of, token_of, tokens_of};
+ghost use Rattle.written_modules.specs.Values.{args_of, blocks_of, cases_of, fields_of, givens_of, items_of, operands_of, params_of, tokens_of};
 
 use crate::counted_parts::{Attributes, Declarations, Functions, Instructions, Values};
 use crate::found::{held_place, place_of};
 use crate::prepended::Prepended;
 use crate::value::Value;
+use sil_ast::List;
 use sil_rules::{LimitWord, limits};
-use written_tree::{Fault, WrittenBlock, WrittenItem, earlier, passed};
+use written_tree::{Fault, WrittenBlock, WrittenItem, WrittenOperand, earlier, passed};
 
 #[tactic(auto, using(crate::proofs::FoundLemmas::decls_one_by_one, crate::proofs::FoundLemmas::functions_one_by_one))]
 fn module_fault(items: &Prepended<WrittenItem>) -> Option<Fault>
@@ -122,17 +123,13 @@ pub(crate) fn names_fault(value: &Value) -> Option<Fault>
     }
 }
 
-/// The fault of names behind a first one.
-#[tactic(auto, unfolding(crate::specs::Values::tokens_of))]
-pub(crate) fn other_names_fault(first: &Value, others: &Value) -> Option<Fault>
-    ensures { result ≡ faults.passed limit.Arguments ARGUMENTS (map placed.token_place (token_of first.now ∷ tokens_of others.now)) }
+/// The fault of an instruction's operands that become too many.
+pub(crate) fn many_operands_fault(operands: &List<WrittenOperand>) -> Option<Fault>
+    ensures { result ≡ faults.passed limit.Arguments ARGUMENTS (map placed.operand_place operands.now) }
 {
-    match others {
-        Value::Tokens(names) => passed(
-            LimitWord::Arguments,
-            place_of(names, limits::ARGUMENTS - 1),
-        ),
-        _ => None,
+    match operands.get(limits::ARGUMENTS) {
+        Some(operand) => passed(LimitWord::Arguments, Some(operand.name.place)),
+        None => None,
     }
 }
 

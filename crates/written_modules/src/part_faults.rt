@@ -2,21 +2,21 @@
 
 ghost use Rattle.std.specs.Prelude.{◌≡◌, ◌<◌, ◌≤◌, length};
 ghost use Rattle.sil_shape.specs.Grammar.{body};
-ghost use Rattle.written_modules.specs.Meaning as meant;
+ghost use Rattle.written_modules.specs.Parts as meant;
 ghost use Rattle.written_modules.specs.PartFaults as said;
 ghost use Rattle.written_modules.specs.Replay.{parts_of};
+ghost use Rattle.written_modules.specs.Sections.{IsNoRow};
 
 use crate::list_faults::{
     args_fault, attributes_fault, body_fault, cases_fault, fields_fault, givens_fault, items_fault,
-    names_fault, operands_fault, other_names_fault, params_fault,
+    names_fault, operands_fault, params_fault,
 };
-use crate::number_faults::{literal_fault, small_fault};
+use crate::number_faults::small_fault;
 use crate::prepended::Prepended;
 use crate::type_faults::{
     one_deeper_fault, optional_fault, paren_fault, payload_fault, questions_fault,
 };
 use crate::value::Value;
-use sil_rules::limits;
 use sil_shape::grammar::Production;
 use written_tree::{Fault, earlier};
 
@@ -29,10 +29,11 @@ fn part(values: &Prepended<Value>, production: Production, i: usize) -> &Value
     values.at(i)
 }
 
-/// The first fault in a part of a text, whose own parts are the first values.
-#[tactic(auto, unfolding(crate::specs::PartFaults::part_fault, sil_shape::specs::Grammar::body))]
+/// The first fault in a part of a text that isn't a row, whose own parts are the first values.
+#[tactic(auto, unfolding(crate::specs::PartFaults::part_fault, crate::specs::Sections::IsNoRow, sil_shape::specs::Grammar::body))]
 pub(crate) fn part_fault(production: Production, values: &Prepended<Value>) -> Option<Fault>
-    requires { length (body production) ≤ length values.now }
+    requires no_row { IsNoRow production }
+    requires parts { length (body production) ≤ length values.now }
     ensures { result ≡ said.part_fault production (parts_of production values.now) }
 {
     match production {
@@ -74,21 +75,6 @@ pub(crate) fn part_fault(production: Production, values: &Prepended<Value>) -> O
         ),
         Production::WholeBlock => args_fault(part(values, production, 1)),
         Production::InstNames => names_fault(part(values, production, 1)),
-        Production::RowIntegerLiteral => literal_fault(
-            part(values, production, 2),
-            part(values, production, 4),
-        ),
-        Production::RowBuiltin => operands_fault(part(values, production, 3)),
-        Production::RowStruct => operands_fault(part(values, production, 4)),
-        Production::RowTuple => operands_fault(part(values, production, 2)),
-        Production::RowTupleExtract | Production::RowTupleElementAddr => small_fault(
-            part(values, production, 3),
-            (limits::ARGUMENTS - 1) as u16,
-        ),
-        Production::RowApply => other_names_fault(
-            part(values, production, 1),
-            part(values, production, 3),
-        ),
         Production::WholeEdge => operands_fault(part(values, production, 1)),
         Production::DebugNumber => small_fault(part(values, production, 1), 65535),
         _ => None,

@@ -36,3 +36,12 @@ pub(crate) fn second_of_three(values: &mut Prepended<Value>) -> Value
     skip(values);
     second
 }
+
+pub(crate) fn third_of_three(values: &mut Prepended<Value>) -> Value
+    requires { 3 ≤ length values.old }
+    ensures { (first second : Value) × (values.old ≡ first ∷ second ∷ result ∷ values.new) }
+{
+    skip(values);
+    skip(values);
+    values.pop_front()
+}

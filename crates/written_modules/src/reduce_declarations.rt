@@ -1,7 +1,7 @@
 //! What the productions of declarations stand for.
 
 ghost use Rattle.std.specs.Prelude.{◌≡◌, ◌∷◌, ◌≤◌, length, IfOk};
-ghost use Rattle.sil_shape.specs.Grammar.{body, written};
+ghost use Rattle.sil_shape.specs.Grammar.{body};
 ghost use Rattle.written_modules.specs.declared.sections.Section.TheVariants.{Declarations};
 ghost use Rattle.written_modules.specs.Replay.{reduced};
 ghost use Rattle.written_modules.specs.Sections.{section};
@@ -15,13 +15,13 @@ use sil_shape::grammar::Production;
 use std::alloc::Global;
 
 /// What a production of declarations stands for, from the values of its body, which are the first ones.
-#[tactic(auto, unfolding(crate::specs::Replay::reduced, crate::specs::Meaning::meaning, crate::specs::Sections::section, sil_shape::specs::Grammar::body, sil_shape::specs::Grammar::written))]
+#[tactic(auto, unfolding(crate::specs::Replay::reduced, crate::specs::Meaning::meaning, crate::specs::Sections::section, crate::specs::Sections::part_section, sil_shape::specs::Grammar::body, sil_shape::specs::Grammar::written))]
 pub(crate) fn reduce_declaration(
     alloc: Global,
     production: Production,
     values: &mut Prepended<Value>,
 ) -> Result<Value, Exhausted>
-    requires section { section (written production) ≡ Declarations }
+    requires section { section production ≡ Declarations }
     requires parts { length (body production) ≤ length values.old }
     ensures { IfOk result (λ value. reduced production values.old ≡ value ∷ values.new) }
 {

@@ -1,7 +1,6 @@
 //! The sections of the grammar, of which each has a table of builders.
 
 ghost use Rattle.std.specs.Prelude.{◌≡◌};
-ghost use Rattle.sil_shape.specs.Grammar.{written};
 ghost use Rattle.written_modules.specs.Sections.{section};
 
 use sil_shape::grammar::Production;
@@ -19,8 +18,6 @@ pub(crate) enum Section {
     Functions,
     /// blocks, their instructions in a row, and names
     Blocks,
-    /// instructions by their mnemonics
-    Rows,
     /// operands, edges and members
     Operands,
     /// flags, qualifiers and words for a debugger
@@ -28,9 +25,9 @@ pub(crate) enum Section {
 }
 
 /// The section of a production.
-#[tactic(auto, unfolding(crate::specs::Sections::section, sil_shape::specs::Grammar::written))]
+#[tactic(auto, unfolding(crate::specs::Sections::section, crate::specs::Sections::part_section, sil_shape::specs::Grammar::written))]
 pub(crate) fn section_of(production: Production) -> Section
-    ensures { result ≡ section (written production) }
+    ensures { result ≡ section production }
 {
     match production {
         Production::WholeModule
@@ -151,49 +148,9 @@ pub(crate) fn section_of(production: Production) -> Section
         | Production::NamesNone
         | Production::MoreNamesMore
         | Production::MoreNamesEnd
+        | Production::Row(_)
         | Production::BareNamesSome
         | Production::BareNamesNone => Section::Blocks,
-        Production::RowIntegerLiteral
-        | Production::RowFunctionRef
-        | Production::RowBuiltin
-        | Production::RowCondFail
-        | Production::RowAllocRef
-        | Production::RowAllocStack
-        | Production::RowDeallocStack
-        | Production::RowCopyValue
-        | Production::RowDestroyValue
-        | Production::RowMoveValue
-        | Production::RowBeginBorrow
-        | Production::RowEndBorrow
-        | Production::RowLoad
-        | Production::RowStore
-        | Production::RowLoadBorrow
-        | Production::RowDestroyAddr
-        | Production::RowLoadWeak
-        | Production::RowStoreWeak
-        | Production::RowLoadUnowned
-        | Production::RowStoreUnowned
-        | Production::RowStruct => Section::Rows,
-        Production::RowTuple
-        | Production::RowEnum
-        | Production::RowStructExtract
-        | Production::RowTupleExtract
-        | Production::RowDestructureStruct
-        | Production::RowDestructureTuple
-        | Production::RowStructElementAddr
-        | Production::RowTupleElementAddr
-        | Production::RowRefElementAddr
-        | Production::RowApply
-        | Production::RowDebugValue
-        | Production::RowStrongRetain
-        | Production::RowStrongRelease
-        | Production::RowRetainValue
-        | Production::RowReleaseValue
-        | Production::RowBr
-        | Production::RowCondBr
-        | Production::RowSwitchEnum
-        | Production::RowReturn
-        | Production::RowUnreachable => Section::Rows,
         Production::WholeOperand
         | Production::OperandsSome
         | Production::OperandsNone

@@ -7,7 +7,7 @@ use sil_ast::{
     Stage,
 };
 use written_tree::{
-    WrittenArg, WrittenBlock, WrittenCase, WrittenEdge, WrittenEntry, WrittenField, WrittenInst,
+    Fault, WrittenArg, WrittenBlock, WrittenCase, WrittenEdge, WrittenEntry, WrittenField, WrittenInst,
     WrittenItem, WrittenModule, WrittenOperand, WrittenQualifier, WrittenToken,
 };
 
@@ -60,6 +60,13 @@ pub(crate) enum Value {
     Debug(Debug),
     Entry(Boxed<WrittenEntry>),
     Module(WrittenModule),
+}
+
+/// What a production stands for, and the first fault in it by itself.
+#[derive(Drop)]
+pub(crate) struct Reduced {
+    pub value: Value,
+    pub fault: Option<Fault>,
 }
 
 /// `[lexical]` and `[var_decl]`

@@ -1,0 +1,91 @@
+//! The numbers of the classes, by which they are compared.
+
+ghost use Rattle.std.specs.Prelude.{◌≡◌};
+ghost use Rattle.sil_shape.specs.Accepts.{at_number, class_number, keyword_number, punctuation_number};
+
+use token_classes::{AtWord, Class, Keyword, Punctuation};
+
+#[tactic(auto, unfolding(crate::specs::Accepts::keyword_number))]
+fn keyword_number(word: Keyword) -> u8
+    ensures { result ≡ keyword_number word }
+{
+    match word {
+        Keyword::Other => 0,
+        Keyword::SilStage => 1,
+        Keyword::Raw => 2,
+        Keyword::Canonical => 3,
+        Keyword::Import => 4,
+        Keyword::Final => 5,
+        Keyword::Class => 6,
+        Keyword::Sil => 7,
+        Keyword::SilVtable => 8,
+        Keyword::Deinit => 9,
+        Keyword::Init => 10,
+        Keyword::Weak => 11,
+        Keyword::Unowned => 12,
+        Keyword::Var => 13,
+        Keyword::Let => 14,
+        Keyword::Get => 15,
+        Keyword::Set => 16,
+        Keyword::Case => 17,
+        Keyword::Builtin => 18,
+        Keyword::Optional => 19,
+        Keyword::Int1 => 20,
+        Keyword::Int8 => 21,
+        Keyword::Int16 => 22,
+        Keyword::Int32 => 23,
+        Keyword::Int64 => 24,
+        Keyword::Hidden => 25,
+        Keyword::Private => 26,
+        Keyword::Shared => 27,
+        Keyword::Public => 28,
+        Keyword::Thin => 29,
+        Keyword::Method => 30,
+        Keyword::To => 31,
+        Keyword::Default => 32,
+        Keyword::Enumelt => 33,
+        Keyword::Lexical => 34,
+        Keyword::VarDecl => 35,
+        Keyword::Copy => 36,
+        Keyword::Take => 37,
+        Keyword::Trivial => 38,
+        Keyword::Assign => 39,
+        Keyword::Initialization => 40,
+        Keyword::Name => 41,
+        Keyword::Argno => 42,
+        Keyword::Expr => 43,
+        Keyword::OpDeref => 44,
+        Keyword::Destroyer => 45,
+        Keyword::Mnemonic(op) => 46 + op as u8,
+    }
+}
+
+#[tactic(auto, unfolding(crate::specs::Accepts::at_number))]
+fn at_number(word: AtWord) -> u8
+    ensures { result ≡ at_number word }
+{
+    word as u8
+}
+
+#[tactic(auto, unfolding(crate::specs::Accepts::punctuation_number))]
+fn punctuation_number(punctuation: Punctuation) -> u8
+    ensures { result ≡ punctuation_number punctuation }
+{
+    punctuation as u8
+}
+
+/// A number of its own for each class.
+#[tactic(auto, unfolding(crate::specs::Accepts::class_number))]
+pub(crate) fn class_number(class: Class) -> u16
+    ensures { result ≡ class_number class }
+{
+    match class {
+        Class::Percent => 1,
+        Class::Number => 2,
+        Class::BuiltinText => 3,
+        Class::OtherText => 4,
+        Class::At(word) => 5 + at_number(word) as u16,
+        Class::Punctuation(punctuation) => 13 + punctuation_number(punctuation) as u16,
+        Class::Word(word) => 31 + keyword_number(word) as u16,
+    }
+}

@@ -1,0 +1,194 @@
+//! The rows of the grammar: what an instruction writes there, by the table of instructions.
+
+ghost use Rattle.std.specs.Prelude.{◌≡◌, ◌++◌, ◌∷◌, [], length, reverse, OnOk};
+ghost use Rattle.sil_shape.specs.Rows.{brings_comma, comma_behind, edges_of, ends_block, member_of, operand_of, qualifier_of, row_body, symbols_of, text_of};
+ghost use Rattle.sil_shape.specs.declared.grammar.Symbol.TheVariants as s;
+
+use crate::grammar::{Nonterminal, Symbol, Terminal};
+use instruction_table::{
+    Detail, Ending, Op, Part, Words, detail_of, ending_of, may_lack_operand, row_of, words_of,
+};
+use std::alloc::AllocError;
+use token_classes::{Class, Keyword, Punctuation};
+
+macro_rules! punctuation {
+    ($punctuation:ident) => {
+        Symbol::Read(Terminal::Just(Class::Punctuation(Punctuation::$punctuation)))
+    };
+}
+
+macro_rules! part {
+    ($part:ident) => {
+        Symbol::Part(Nonterminal::$part)
+    };
+}
+
+/// Whether an instruction ends a block.
+#[tactic(auto, unfolding(crate::specs::Rows::ends_block))]
+pub(crate) fn ends_block(op: Op) -> bool
+    ensures { result ≡ ends_block op }
+{
+    match ending_of(op) {
+        Ending::Inside => false,
+        Ending::OneBranch
+        | Ending::TwoBranches
+        | Ending::Cases
+        | Ending::Return
+        | Ending::Unreachable => true,
+    }
+}
+
+#[tactic(auto, unfolding(crate::specs::Rows::operand_of))]
+fn operand_of(op: Op) -> &'static [Symbol]
+    ensures { result.now ≡ s.Part (operand_of op) ∷ [] }
+{
+    if may_lack_operand(op) {
+        &[part!(EnumOperand)]
+    } else {
+        &[part!(Operand)]
+    }
+}
+
+#[tactic(auto, unfolding(crate::specs::Rows::member_of))]
+fn member_of(op: Op) -> &'static [Symbol]
+    ensures { result.now ≡ s.Part (member_of op) ∷ [] }
+{
+    match detail_of(op) {
+        Detail::Case => &[part!(EnumElement)],
+        _ => &[part!(MemberName)],
+    }
+}
+
+#[tactic(auto, unfolding(crate::specs::Rows::qualifier_of))]
+fn qualifier_of(op: Op) -> &'static [Symbol]
+    ensures { result.now ≡ s.Part (qualifier_of op) ∷ [] }
+{
+    match words_of(op) {
+        Words::TakeWord => &[part!(TakeFlag)],
+        Words::InitWord => &[part!(InitFlag)],
+        Words::AnyWord | Words::NoWord => &[part!(Qualifier)],
+    }
+}
+
+#[tactic(auto, unfolding(crate::specs::Rows::text_of))]
+fn text_of(op: Op) -> &'static [Symbol]
+    ensures { result.now ≡ s.Read (text_of op) ∷ [] }
+{
+    match detail_of(op) {
+        Detail::Operation => &[Symbol::Read(Terminal::Just(Class::BuiltinText))],
+        _ => &[Symbol::Read(Terminal::AnyText)],
+    }
+}
+
+#[tactic(auto, unfolding(crate::specs::Rows::edges_of))]
+fn edges_of(op: Op) -> &'static [Symbol]
+    ensures { result.now ≡ edges_of op }
+{
+    match ending_of(op) {
+        Ending::OneBranch => &[part!(Edge)],
+        Ending::TwoBranches => &[part!(Edge), punctuation!(Comma), part!(Edge)],
+        Ending::Cases => &[part!(SwitchPart)],
+        Ending::Inside | Ending::Return | Ending::Unreachable => &[],
+    }
+}
+
+/// What a part of an instruction's form is in the grammar.
+#[tactic(auto, unfolding(crate::specs::Rows::symbols_of))]
+fn symbols_of(op: Op, part: Part) -> &'static [Symbol]
+    ensures { result.now ≡ symbols_of op part }
+{
+    match part {
+        Part::Flags => &[part!(Flags)],
+        Part::Qualifier => qualifier_of(op),
+        Part::Typed => operand_of(op),
+        Part::Bare => &[Symbol::Read(Terminal::Just(Class::Percent))],
+        Part::To => &[Symbol::Read(Terminal::Just(Class::Word(Keyword::To)))],
+        Part::TypeWord => &[punctuation!(Dollar), part!(Type)],
+        Part::Member => member_of(op),
+        Part::Number => &[Symbol::Read(Terminal::Just(Class::Number))],
+        Part::Text => text_of(op),
+        Part::Callee => &[Symbol::Read(Terminal::AnyAt)],
+        Part::BareArgs => &[
+            punctuation!(LeftParen),
+            part!(BareNames),
+            punctuation!(RightParen),
+        ],
+        Part::TypedArgs => &[
+            punctuation!(LeftParen),
+            part!(Operands),
+            punctuation!(RightParen),
+        ],
+        Part::ResultType => &[punctuation!(Colon), punctuation!(Dollar), part!(Type)],
+        Part::SignatureWord => &[
+            punctuation!(Colon),
+            punctuation!(Dollar),
+            part!(FunctionType),
+        ],
+        Part::Debug => &[part!(Debug)],
+        Part::Edges => edges_of(op),
+    }
+}
+
+/// Whether a part brings its own comma.
+#[tactic(auto, unfolding(crate::specs::Rows::brings_comma))]
+fn brings_comma(op: Op, part: Part) -> bool
+    ensures { result ≡ brings_comma op part }
+{
+    match part {
+        Part::Typed => may_lack_operand(op),
+        _ => false,
+    }
+}
+
+/// The comma behind a part, where others follow.
+#[tactic(auto, unfolding(crate::specs::Rows::comma_behind, crate::specs::Rows::comma_between))]
+fn comma_behind(op: Op, here: Part, others: &[Part]) -> &'static [Symbol]
+    ensures { result.now ≡ comma_behind op here others.now }
+{
+    match others {
+        [next, ..] => {
+            if here.is_item() && next.is_item() && !brings_comma(op, *next) {
+                &[punctuation!(Comma)]
+            } else {
+                &[]
+            }
+        }
+        [] => &[],
+    }
+}
+
+/// Puts symbols on the stack, the first of them on top.
+pub(crate) fn push_symbols(stack: &mut Vec<Symbol>, symbols: &[Symbol]) -> Result<(), AllocError>
+    ensures { OnOk result (reverse stack.new.items ≡ symbols.now ++ reverse stack.old.items) }
+{
+    for i in (0..symbols.len()).rev() {
+        stack.push(symbols[i])?;
+    }
+    Ok(())
+}
+
+/// Puts the row of an instruction on the stack, its mnemonic on top.
+pub(crate) fn push_row(stack: &mut Vec<Symbol>, op: Op) -> Result<(), AllocError>
+    ensures { OnOk result (reverse stack.new.items ≡ row_body op ++ reverse stack.old.items) }
+{
+    let parts = row_of(op).parts;
+    for i in (0..parts.len()).rev() {
+        push_symbols(stack, comma_behind(op, parts[i], &parts[i + 1..]))?;
+        push_symbols(stack, symbols_of(op, parts[i]))?;
+    }
+    stack.push(Symbol::Read(Terminal::Just(Class::Word(Keyword::Mnemonic(op)))))?;
+    Ok(())
+}
+
+/// How many symbols the row of an instruction has.
+pub(crate) fn row_length(op: Op) -> usize
+    ensures { result ≡ length (row_body op) }
+{
+    let parts = row_of(op).parts;
+    let mut length = 1;
+    for i in 0..parts.len() {
+        length += symbols_of(op, parts[i]).len();
+        length += comma_behind(op, parts[i], &parts[i + 1..]).len();
+    }
+    length
+}

@@ -1,2 +1,0 @@
-mod ClassNumbers
-mod WordSpellings
