@@ -11,6 +11,7 @@ use Rattle.sil_shape.specs.declared.grammar.Symbol.{Symbol}
 use Rattle.sil_shape.specs.declared.grammar.Symbol.TheVariants.{Read, Part}
 use Rattle.sil_shape.specs.declared.steps.Step.{Step}
 use Rattle.sil_shape.specs.Grammar.{body}
+use Rattle.sil_shape.specs.Rows.{comma_behind, parts_row, row_body, symbols_of}
 use Rattle.sil_shape.specs.Shortest.{shortest, Shortens, written, step}
 use Rattle.sil_shape.specs.Values.{IsEnough}
 use Rattle.sil_shape.proofs.Shortened.{Shortens-derives}
@@ -27,12 +28,12 @@ use Rattle.written_modules.specs.Types.{tailed}
 use Rattle.written_modules.specs.Values.{token_of, stage_of, imports_of, items_of, item_of, fields_of, field_of, field_before, cases_of, type_of, payload_of, types_of, questions_of, linkage_of, tokens_of, convention_of, params_of, param_before, givens_of, given_before, signature_of, blocks_of, block_of, args_of, arg_of, ownership_of, starred, insts_of, terminator_of, inst_of, operands_of, operand_of, edges_of, edge_of, member_of, flags_of, qualifier_of, debug_of, entry_of}
 
 lacking-part : (part : Nonterminal) → lacking (Part part) ≡ meaning (shortest part) (map lacking (body (shortest part)))
-unfolding lacking lacking_within shortest body meaning tailed token_of stage_of imports_of items_of item_of fields_of field_of field_before cases_of type_of payload_of types_of questions_of linkage_of tokens_of convention_of params_of param_before givens_of given_before signature_of blocks_of block_of args_of arg_of ownership_of starred insts_of terminator_of inst_of operands_of operand_of edges_of edge_of member_of flags_of qualifier_of debug_of entry_of
+unfolding lacking lacking_within shortest body row_body parts_row symbols_of comma_behind meaning tailed token_of stage_of imports_of items_of item_of fields_of field_of field_before cases_of type_of payload_of types_of questions_of linkage_of tokens_of convention_of params_of param_before givens_of given_before signature_of blocks_of block_of args_of arg_of ownership_of starred insts_of terminator_of inst_of operands_of operand_of edges_of edge_of member_of flags_of qualifier_of debug_of entry_of
 lacking-part n.Module = refl
 lacking-part _ = refl
 
 fault-part : (part : Nonterminal) → part_fault (shortest part) (map lacking (body (shortest part))) ≡ None
-unfolding part_fault earlier lacking lacking_within shortest body meaning tailed token_of stage_of imports_of items_of item_of fields_of field_of field_before cases_of type_of payload_of types_of questions_of linkage_of tokens_of convention_of params_of param_before givens_of given_before signature_of blocks_of block_of args_of arg_of ownership_of starred insts_of terminator_of inst_of operands_of operand_of edges_of edge_of member_of flags_of qualifier_of debug_of entry_of
+unfolding part_fault earlier lacking lacking_within shortest body row_body parts_row symbols_of comma_behind meaning tailed token_of stage_of imports_of items_of item_of fields_of field_of field_before cases_of type_of payload_of types_of questions_of linkage_of tokens_of convention_of params_of param_before givens_of given_before signature_of blocks_of block_of args_of arg_of ownership_of starred insts_of terminator_of inst_of operands_of operand_of edges_of edge_of member_of flags_of qualifier_of debug_of entry_of
 fault-part n.Module = refl
 fault-part _ = refl
 

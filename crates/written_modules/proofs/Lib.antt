@@ -1,5 +1,6 @@
 pub mod LeafLemmas
 pub mod BuildLemmas
+pub mod RowLemmas
 pub mod FoundLemmas
 pub mod LackingLemmas
 pub mod WholeLemmas

@@ -1,5 +1,6 @@
 -- A derivation of a module begins with the module's own production, and leaves one value, the module.
 use Rattle.std.proofs.Common.{◌≡◌, ℕ, ◌≤◌, List, [], ◌∷◌, ◌++◌, length, take, refl, ap, sym, subst, ◌∙◌, arith, length-append}
+use Rattle.std.specs.Prelude.{Bool, true, false, if◌then◌else◌}
 use Rattle.std.proofs.lemmas.List.{append-nil, length-map, take_all}
 use Rattle.sil_lexer.specs.Lexes.{Lexeme}
 use Rattle.sil_lexer.specs.Lexing.{Lexing, lexeme_of, lexemes_of}
@@ -14,6 +15,7 @@ use Rattle.sil_shape.specs.declared.steps.Step.TheVariants.{Expand}
 use Rattle.sil_shape.specs.Begun.{LeadsTo}
 use Rattle.sil_shape.specs.Derivation.{Accepts, Derives, nothing, rule, start, token}
 use Rattle.sil_shape.specs.Grammar.{written}
+use Rattle.sil_shape.specs.Rows.{ends_block, row_part}
 use Rattle.sil_shape.specs.Shortest.{Shortens}
 use Rattle.sil_shape.specs.Values.{takes_of, IsEnough}
 use Rattle.sil_shape.proofs.Shortened.{Shortens-derives}
@@ -25,9 +27,14 @@ use Rattle.written_modules.specs.Meaning.{meaning}
 use Rattle.written_modules.specs.Replay.{reduced, replay}
 use Rattle.written_modules.proofs.BuildLemmas.{length-replay}
 
+no_row : (ends : Bool) → (if ends then n.Terminator else n.Row) ≡ n.Module → ⊥
+no_row true h = cc
+no_row false h = cc
+
 only_whole : (q : Production) → written q ≡ n.Module → q ≡ p.WholeModule
-unfolding written
+unfolding written row_part
 only_whole p.WholeModule h = refl
+only_whole (p.Row o) h = absurd (no_row (ends_block o) h)
 only_whole _ h = cc
 
 record WholeFirst (steps : List Step) : Type 0 where

@@ -95,8 +95,3 @@ part_section n.DebugDerefPart = Words
 unfoldable pub section : Production → Section
 section (p.Row o) = Blocks
 section production = part_section (written production)
-
--- it isn't the row of an instruction
-unfoldable pub IsNoRow : Production → Type 0
-IsNoRow (p.Row o) = ⊥
-IsNoRow _ = Unit {0}

@@ -118,7 +118,9 @@ pub(crate) fn put_part(
         }
         Part::Qualifier => inst.qualifier = values.pop_front().into_qualifier(),
         Part::Typed => append_typed(alloc, op, &mut inst.operands, values.pop_front())?,
-        Part::Bare => inst.operands.push(bare_operand(values.pop_front().into_token(alloc)))?,
+        Part::Bare => inst
+            .operands
+            .push(bare_operand(values.pop_front().into_token(alloc)))?,
         Part::To => skip(values),
         Part::TypeWord => inst.ty = Some(second_of_two(values).into_type(alloc).ty),
         Part::Member => inst.member = Some(values.pop_front().into_member(alloc)),
@@ -130,11 +132,17 @@ pub(crate) fn put_part(
         Part::Text => inst.text = Some(values.pop_front().into_token(alloc).text),
         Part::Callee => inst.function = Some(values.pop_front().into_token(alloc)),
         Part::BareArgs => {
-            append_bare(&mut inst.operands, second_of_three(values).into_tokens(alloc))?;
+            append_bare(
+                &mut inst.operands,
+                second_of_three(values).into_tokens(alloc),
+            )?;
             fault = many_operands_fault(&inst.operands);
         }
         Part::TypedArgs => {
-            append(&mut inst.operands, second_of_three(values).into_operands(alloc))?;
+            append(
+                &mut inst.operands,
+                second_of_three(values).into_operands(alloc),
+            )?;
             fault = many_operands_fault(&inst.operands);
         }
         Part::ResultType => inst.ty = Some(third_of_three(values).into_type(alloc).ty),

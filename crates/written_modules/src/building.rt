@@ -14,13 +14,12 @@ ghost use Rattle.written_modules.specs.Replay.{first_fault, replay, Writes};
 
 use crate::lacking::fill;
 use crate::leaves::leaf_at;
-use crate::part_faults::part_fault;
 use crate::prepended::Prepended;
 use crate::reduce::reduce;
 use crate::value::Value;
 use sil_ast::Exhausted;
 use sil_lexer::Tokens;
-use sil_shape::bodies::body;
+use sil_shape::bodies::body_length;
 use sil_shape::grammar::Symbol;
 use sil_shape::steps::{Front, Step};
 use std::alloc::Global;
@@ -74,10 +73,10 @@ fn replay(
                 values.push_front(value)?;
             }
             Step::Expand(production) => {
-                fill(alloc, &mut values, &mut left, body(production).len())?;
-                fault = earlier(part_fault(production, &values), fault);
-                let value = reduce(alloc, production, &mut values)?;
-                values.push_front(value)?;
+                fill(alloc, &mut values, &mut left, body_length(production))?;
+                let made = reduce(alloc, production, &mut values)?;
+                fault = earlier(made.fault, fault);
+                values.push_front(made.value)?;
             }
         }
     }

@@ -11,7 +11,7 @@ use crate::prepended::Prepended;
 use crate::reduce::reduce;
 use crate::value::Value;
 use sil_ast::Exhausted;
-use sil_shape::bodies::body;
+use sil_shape::bodies::body_length;
 use sil_shape::grammar::{Nonterminal, Symbol};
 use sil_shape::shortest::shortest;
 use sil_shape::shortest_steps::shortest_steps;
@@ -28,8 +28,8 @@ fn replay_lacking(alloc: Global, steps: &[Step]) -> Result<Prepended<Value>, Exh
         match steps[i] {
             Step::Take => values.push_front(Value::Nothing)?,
             Step::Expand(production) => {
-                let value = reduce(alloc, production, &mut values)?;
-                values.push_front(value)?;
+                let made = reduce(alloc, production, &mut values)?;
+                values.push_front(made.value)?;
             }
         }
     }
@@ -41,10 +41,10 @@ fn lacking_part(alloc: Global, part: Nonterminal) -> Result<Value, Exhausted>
     ensures { IfOk result (λ value. value ≡ lacking (Part part)) }
 {
     let production = shortest(part);
-    if body(production).is_empty() {
+    if body_length(production) == 0 {
         let mut nothing = Prepended::new(alloc);
-        let value = reduce(alloc, production, &mut nothing)?;
-        return Ok(value);
+        let made = reduce(alloc, production, &mut nothing)?;
+        return Ok(made.value);
     }
     let steps = shortest_steps(alloc, part)?;
     let mut values = replay_lacking(alloc, steps.as_slice())?;

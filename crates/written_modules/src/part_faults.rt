@@ -1,11 +1,12 @@
 //! The first fault in a part of a text by itself: its lists, its numbers, and its types that become too deep.
 
 ghost use Rattle.std.specs.Prelude.{◌≡◌, ◌<◌, ◌≤◌, length};
+ghost use Rattle.instruction_table.specs.declared.op.Op.{Op};
 ghost use Rattle.sil_shape.specs.Grammar.{body};
+ghost use Rattle.sil_shape.specs.declared.grammar.Production.TheVariants.{Row};
 ghost use Rattle.written_modules.specs.Parts as meant;
 ghost use Rattle.written_modules.specs.PartFaults as said;
 ghost use Rattle.written_modules.specs.Replay.{parts_of};
-ghost use Rattle.written_modules.specs.Sections.{IsNoRow};
 
 use crate::list_faults::{
     args_fault, attributes_fault, body_fault, cases_fault, fields_fault, givens_fault, items_fault,
@@ -30,9 +31,9 @@ fn part(values: &Prepended<Value>, production: Production, i: usize) -> &Value
 }
 
 /// The first fault in a part of a text that isn't a row, whose own parts are the first values.
-#[tactic(auto, unfolding(crate::specs::PartFaults::part_fault, crate::specs::Sections::IsNoRow, sil_shape::specs::Grammar::body))]
+#[tactic(auto, unfolding(crate::specs::PartFaults::part_fault, sil_shape::specs::Grammar::body))]
 pub(crate) fn part_fault(production: Production, values: &Prepended<Value>) -> Option<Fault>
-    requires no_row { IsNoRow production }
+    requires no_row { (op : Op) → production ≡ Row op → ⊥ }
     requires parts { length (body production) ≤ length values.now }
     ensures { result ≡ said.part_fault production (parts_of production values.now) }
 {

@@ -1,10 +1,11 @@
 //! What a production stands for, and the first fault in it by itself: the builders by sections of the grammar.
 
 ghost use Rattle.std.specs.Prelude.{◌≡◌, ◌∷◌, ◌≤◌, length, IfOk};
+ghost use Rattle.instruction_table.specs.declared.op.Op.{Op};
 ghost use Rattle.sil_shape.specs.Grammar.{body};
+ghost use Rattle.sil_shape.specs.declared.grammar.Production.TheVariants.{Row};
 ghost use Rattle.written_modules.specs.PartFaults as said;
 ghost use Rattle.written_modules.specs.Replay.{parts_of, reduced};
-ghost use Rattle.written_modules.specs.Sections.{IsNoRow};
 
 use crate::build_rows;
 use crate::part_faults::part_fault;
@@ -28,7 +29,7 @@ fn value_of(
     production: Production,
     values: &mut Prepended<Value>,
 ) -> Result<Value, Exhausted>
-    requires no_row { IsNoRow production }
+    requires no_row { (op : Op) → production ≡ Row op → ⊥ }
     requires parts { length (body production) ≤ length values.old }
     ensures { IfOk result (λ value. reduced production values.old ≡ value ∷ values.new) }
 {
@@ -44,7 +45,6 @@ fn value_of(
 }
 
 /// What a production stands for, from the values of its body, which are the first ones, and the first fault in it.
-#[tactic(auto, unfolding(crate::specs::Sections::IsNoRow))]
 pub(crate) fn reduce(
     alloc: Global,
     production: Production,

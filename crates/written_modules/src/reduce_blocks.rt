@@ -1,10 +1,12 @@
 //! What the productions of blocks stand for.
 
 ghost use Rattle.std.specs.Prelude.{◌≡◌, ◌∷◌, ◌≤◌, length, IfOk};
+ghost use Rattle.instruction_table.specs.declared.op.Op.{Op};
 ghost use Rattle.sil_shape.specs.Grammar.{body};
+ghost use Rattle.sil_shape.specs.declared.grammar.Production.TheVariants.{Row};
 ghost use Rattle.written_modules.specs.declared.sections.Section.TheVariants.{Blocks};
 ghost use Rattle.written_modules.specs.Replay.{reduced};
-ghost use Rattle.written_modules.specs.Sections.{section, IsNoRow};
+ghost use Rattle.written_modules.specs.Sections.{section};
 
 use crate::build_blocks;
 use crate::passed_on::constant;
@@ -15,14 +17,14 @@ use sil_shape::grammar::Production;
 use std::alloc::Global;
 
 /// What a production of blocks stands for that isn't a row, from the values of its body, which are the first ones.
-#[tactic(auto, unfolding(crate::specs::Replay::reduced, crate::specs::Meaning::meaning, crate::specs::Sections::section, crate::specs::Sections::part_section, crate::specs::Sections::IsNoRow, sil_shape::specs::Grammar::body, sil_shape::specs::Grammar::written))]
+#[tactic(auto, unfolding(crate::specs::Replay::reduced, crate::specs::Meaning::meaning, crate::specs::Sections::section, crate::specs::Sections::part_section, sil_shape::specs::Grammar::body, sil_shape::specs::Grammar::written))]
 pub(crate) fn reduce_block(
     alloc: Global,
     production: Production,
     values: &mut Prepended<Value>,
 ) -> Result<Value, Exhausted>
     requires section { section production ≡ Blocks }
-    requires no_row { IsNoRow production }
+    requires no_row { (op : Op) → production ≡ Row op → ⊥ }
     requires parts { length (body production) ≤ length values.old }
     ensures { IfOk result (λ value. reduced production values.old ≡ value ∷ values.new) }
 {

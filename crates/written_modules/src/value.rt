@@ -7,8 +7,8 @@ use sil_ast::{
     Stage,
 };
 use written_tree::{
-    Fault, WrittenArg, WrittenBlock, WrittenCase, WrittenEdge, WrittenEntry, WrittenField, WrittenInst,
-    WrittenItem, WrittenModule, WrittenOperand, WrittenQualifier, WrittenToken,
+    Fault, WrittenArg, WrittenBlock, WrittenCase, WrittenEdge, WrittenEntry, WrittenField,
+    WrittenInst, WrittenItem, WrittenModule, WrittenOperand, WrittenQualifier, WrittenToken,
 };
 
 /// What a token or a part of a text stands for. Large parts stand in boxes, since a hostile text leaves a million

@@ -86,13 +86,10 @@ fill-requires g c =
     let below = within c.args.steps.now g.rest c.loop-i.i c.loop-i.auto.i in
     let here = among_all c.args.steps.now g.rest c.loop-i.i _ _ c.loop-i-test.true c.loop-i.auto.i c.in-Expand.is in
     let long = enough_there all (drop c.loop-i.token lexemes) c.loop-i.i _ c.in-Expand.production c.requires.1.1.1.1 c.loop-i-test.true below here in
-    omega (arith, long, ap length c.body.ensures, ap length c.loop-i.invariant.values, waiting-length c.loop-i.values (reverse c.loop-i.left.items), length-reverse c.loop-i.left.items)
-
-pub part_fault-requires : goal.part_fault-requires
-part_fault-requires g c = omega (arith, ap length c.body.ensures, c.in_ok-fill-in-Expand.ensures.enough)
+    omega (arith, long, c.body_length.ensures, ap length c.loop-i.invariant.values, waiting-length c.loop-i.values (reverse c.loop-i.left.items), length-reverse c.loop-i.left.items)
 
 pub reduce-requires : goal.reduce-requires
-reduce-requires g c = omega (arith, ap length c.body.ensures, c.in_ok-fill-in-Expand.ensures.enough)
+reduce-requires g c = omega (arith, c.body_length.ensures, c.in_ok-fill-in-Expand.ensures.enough)
 
 pub loop-i-preserved : goal.loop-i-preserved
 loop-i-preserved g c =
@@ -103,11 +100,11 @@ loop-i-preserved g c =
     let p = c.in-Expand.production in
     let left = reverse c.fill.new.left.items in
     let built = c.fill.new.values in
-    let enough : length (body p) ≤ length built = omega (arith, ap length c.body.ensures, c.in_ok-fill-in-Expand.ensures.enough) in
+    let enough : length (body p) ≤ length built = omega (arith, c.body_length.ensures, c.in_ok-fill-in-Expand.ensures.enough) in
     let are = c.in_ok-fill-in-Expand.ensures.same ∙ c.loop-i.invariant.values in
-    let reduced_is = reduced-waiting p built (map lacking left) c.reduce.new.values c.in_ok-value-in-Expand.value enough c.in_ok-value-in-Expand.ensures in
-    let own : c.part_fault.result ≡ part_fault p (parts_of p (waiting built left)) =
-    c.part_fault.ensures ∙ ap (part_fault p) (sym (parts-waiting p built (map lacking left) enough)) in
+    let reduced_is = reduced-waiting p built (map lacking left) c.reduce.new.values c.in_ok-made-in-Expand.made.value enough c.in_ok-made-in-Expand.ensures.value in
+    let own : c.in_ok-made-in-Expand.made.fault ≡ part_fault p (parts_of p (waiting built left)) =
+    c.in_ok-made-in-Expand.ensures.fault ∙ ap (part_fault p) (sym (parts-waiting p built (map lacking left) enough)) in
     record {
       takes = omega (arith, takes_expanded all c.loop-i.i _ p c.loop-i-test.true below here, c.loop-i.invariant.takes);
       values = ap (λ vs. waiting vs left) c.in_ok-push_front-in-Expand.ensures

@@ -1,6 +1,5 @@
 -- The steps of the shortest text leave one value, that of the part.
 use Rattle.std.proofs.Common.{◌≡◌, [], ◌∷◌, ◌∙◌, ap, arith, length, subst, sym}
-use Rattle.std.proofs.lemmas.Bool.{eqb-true}
 use Rattle.sil_shape.specs.declared.grammar.Symbol.TheVariants.{Part}
 use Rattle.sil_shape.specs.Values.{IsEnough}
 use Rattle.written_modules.specs.Lacking.{lacking}
@@ -8,9 +7,9 @@ use Rattle.written_modules.specs.Replay.{replay}
 use Rattle.written_modules.proofs.LackingLemmas.{lacking_empty, enough_alone, one_part}
 use Rattle.written_modules.proofs.lacking.lacking_part.Goals as goal
 
-pub returns-then-is_empty : goal.returns-then-is_empty
-returns-then-is_empty c =
-    lacking_empty c.args.part _ _ _ c.in_ok-value.value c.shortest-production.ensures (ap length (sym c.body.ensures) ∙ eqb-true _ _ (sym c.if-is_empty.ensures)) c.new-nothing.ensures c.in_ok-value.ensures
+pub returns-then-body_length-eq0 : goal.returns-then-body_length-eq0
+returns-then-body_length-eq0 c =
+    lacking_empty c.args.part _ _ _ c.in_ok-made.made.value c.shortest-production.ensures (omega (arith, c.body_length.ensures, c.if-body_length-eq0.true)) c.new-nothing.ensures c.in_ok-made.ensures.value
 
 pub replay_lacking-requires : goal.replay_lacking-requires
 replay_lacking-requires c = subst IsEnough (sym c.as_slice.ensures.value) (enough_alone c.in_ok-steps.ensures)
