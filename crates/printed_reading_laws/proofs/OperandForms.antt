@@ -12,10 +12,6 @@ use Rattle.printed_reading_laws.proofs.Written.{IsOperandWritten, IsValueNamed}
 pub impossible : {A : Type 0} → IsTrue false → A
 impossible h = absurd (true≢false (sym h))
 
-pub either_second : (a b : Bool) → IsTrue b → IsTrue (a || b)
-either_second true b h = refl
-either_second false b h = h
-
 -- where one is there, none is lacking
 pub one_there : (has lack : Bool) → IsTrue (has || (lack && false)) → IsTrue has
 one_there true lack h = refl

@@ -38,7 +38,7 @@ use Rattle.numbered_form.specs.Limits.{IsSignatureInLimits}
 use Rattle.numbered_form.specs.Literals.{is_number_by, is_text_by}
 use Rattle.numbered_form.specs.Names.{IsMemberSpelled, is_quotable}
 use Rattle.numbered_form.specs.Parts.{are_of_parts, is_among, is_bare, is_callee, is_member, is_number, is_signature, is_text, is_type, is_typed, row_has}
-use Rattle.numbered_reading_laws.proofs.ListsAndFaults.{first_of_both, second_of_both}
+use Rattle.numbered_reading_laws.proofs.ListsAndFaults.{first_of_both, implied, second_of_both}
 use Rattle.numbered_form.specs.Types.{HasSignatureTypes, IsPlainType}
 use Rattle.sil_grammar.specs.Classes.{text_class}
 use Rattle.printed_reading_laws.proofs.DebugReading.{any_text, debug_reads}
@@ -61,23 +61,26 @@ use Rattle.printed_reading_laws.proofs.TypeReading.{type_reads}
 use Rattle.printed_reading_laws.proofs.Written.{name_in}
 use Rattle.printed_reading_laws.proofs.WrittenParts.{with_debug, with_edges, with_flags, with_function, with_member, with_number, with_qualifier, with_signature, with_text, with_type}
 
+-- the words that the row allows in brackets
 word_reads : (text : List ℕ) (allowed : Words) (q : Qualifier) → IsTrue (is_among allowed q) → ReadsQualifier text (word_by allowed) q
 word_reads text words.AnyWord q may = qualifier_reads text q
 word_reads text words.NoWord q may = qualifier_reads text q
 word_reads text words.TakeWord q may = take_reads text q may
 word_reads text words.InitWord q may = init_reads text q may
 
+-- a case, or a field
 member_reads : (text : List ℕ) (said : Detail) (m : Member) (after : List ℕ) → IsMemberSpelled m → Ends after
     → Stands text (rows.member_by said) (λ x. member_of x ≡ m) (printed.member_by said m ++ after) after
 member_reads text detail.Case m after spelled ends = case_reads text m after spelled ends
 member_reads text _ m after spelled ends = field_reads text m after spelled ends
 
+-- a text that the row allows is one that the grammar asks for there
 text_accepted : (said : Detail) (x : List ℕ) → IsTrue (is_text_by said x) → Accepts (Read (text_by said)) (text_class (is_builtin_name x))
 unfolding accepts class_number
 text_accepted detail.Operation x known = subst (λ known. Accepts (Read (t.Just c.BuiltinText)) (text_class known)) (sym known) refl
 text_accepted _ x known = any_text (is_builtin_name x)
 
--- a number of the width of its type, or that of an element
+-- a printed number is read as itself, at the type that is known before it
 pub record ReadsNumber (text : List ℕ) (said : Detail) (known : Option TypeName) (z : ℤ) (rest : List ℕ) : Type 0 where
   pub value : PartValue
   pub reads : Reads text (Read (t.Just c.Number) ∷ []) (signed_decimal z ++ rest) (value ∷ []) rest
@@ -100,14 +103,11 @@ number_reads text detail.Element typed ty z rest fits given plain h ends =
     record { value = _; reads = number_token z rest element.small ends reads.nothing; stands = element.reads }
 number_reads text _ typed ty z rest fits given plain h ends = impossible fits
 
-follows : (a b : Bool) → IsTrue (not a || b) → IsTrue a → IsTrue b
-follows true b h given = h
-follows false b h given = impossible given
-
 module _ (text : List ℕ) (functions : List Function) (i : Inst) (h : IsInstPrintable functions i) (done : List Part) (os all left : List Operand) (rest : List ℕ) (ends : Ends rest) where
   abbrev lead : Part → List ℕ
   lead here = gap (last_of done) here
 
+  -- the part reads as itself behind those that are done, and takes its operands
   abbrev pub IsRead : Part → Type 0
   IsRead here = ReadsPart text functions i here done all (taken_by here all left) (part_text functions i os (lead here) here ++ rest) rest
 
@@ -161,7 +161,7 @@ module _ (text : List ℕ) (functions : List Function) (i : Inst) (h : IsInstPri
       let typed = list_any is_type done in
       let known = number_fits (detail_of i.op) typed in
       number_part typed refl (first_of_both known (not typed || row_has is_type i.op) fit)
-      (λ there. is_there i.ty (h.parts.ty ∙ follows typed (row_has is_type i.op) (second_of_both known (not typed || row_has is_type i.op) fit) there))
+      (λ there. is_there i.ty (h.parts.ty ∙ implied typed (row_has is_type i.op) there (second_of_both known (not typed || row_has is_type i.op) fit)))
       (is_there i.number (h.parts.number ∙ within is_number refl))
   part_reads form.Text others fit within operands =
       let x = is_there i.text (h.parts.text ∙ within is_text refl) in

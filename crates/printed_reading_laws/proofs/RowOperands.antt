@@ -15,8 +15,8 @@ use Rattle.sil_ast.specs.declared.operands.Operand.{Operand}
 use Rattle.sil_printer.specs.CanonicalInsts.{operands_after}
 use Rattle.numbered_form.specs.Lists.{Each, is_empty}
 use Rattle.numbered_form.specs.Parts.{are_of_part, are_of_parts, is_bare, is_type, is_typed, row_has}
-use Rattle.numbered_reading_laws.proofs.ListsAndFaults.{either_first, second_of_both}
-use Rattle.printed_reading_laws.proofs.OperandForms.{either_second, impossible, none_there, one_there}
+use Rattle.numbered_reading_laws.proofs.ListsAndFaults.{either_first, either_second, second_of_both}
+use Rattle.printed_reading_laws.proofs.OperandForms.{impossible, none_there, one_there}
 use Rattle.numbered_form.specs.Types.{HasOperandType}
 use Rattle.printed_reading_laws.proofs.Printable.{IsSmallOperand}
 use Rattle.printed_reading_laws.proofs.RowEdges.{has_blocks}

@@ -26,9 +26,8 @@ use Rattle.written_modules.specs.Values.{bare_inst, inst_of, token_of}
 use Rattle.written_tree.specs.Faults.{earlier}
 use Rattle.written_tree.specs.declared.written_instructions.WrittenInst.{WrittenInst}
 use Rattle.numbered_form.specs.Names.{is_word}
-use Rattle.numbered_reading_laws.proofs.ListsAndFaults.{first_of_both, second_of_both}
+use Rattle.numbered_reading_laws.proofs.ListsAndFaults.{either_second, first_of_both, second_of_both}
 use Rattle.printed_reading_laws.proofs.FixedTokens.{keyword_here}
-use Rattle.printed_reading_laws.proofs.OperandForms.{either_second}
 use Rattle.printed_reading_laws.proofs.PartEnds.{parts_end}
 use Rattle.printed_reading_laws.proofs.PartPlaces.{fault_moved, with_part_moved}
 use Rattle.printed_reading_laws.proofs.PartReading.{part_reads}
