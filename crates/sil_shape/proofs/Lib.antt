@@ -4,6 +4,7 @@ pub mod ValuesLemmas
 pub mod Sets
 pub mod Numbered
 pub mod ChoiceLemmas
+pub mod ClassNumbers
 pub mod Computed
 pub mod Shortened
 pub mod NextClasses

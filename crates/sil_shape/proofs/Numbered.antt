@@ -299,11 +299,11 @@ all_parts : List Nonterminal
 all_parts = n.Module ∷ n.Stage ∷ n.StageWord ∷ n.Imports ∷ n.Items ∷ n.Item ∷ n.Members ∷ n.Member ∷ n.Modified ∷ n.Variable ∷ n.Binding ∷ n.Fields ∷ n.Field ∷ n.Accessors ∷ n.Setter ∷ n.Cases ∷ n.Payload ∷ n.Type ∷ n.OpenType ∷ n.Base ∷ n.BuiltinTail ∷ n.OptionalTail ∷ n.Width ∷ n.Questions ∷ n.Types ∷ n.MoreTypes ∷ n.Linkage ∷ n.Attributes ∷ n.Body ∷ n.FunctionType ∷ n.Convention ∷ n.Params ∷ n.MoreParams ∷ n.Param ∷ n.Results ∷ n.ResultsInside ∷ n.MoreGivens ∷ n.Given ∷ n.Block ∷ n.Blocks ∷ n.BlockArgs ∷ n.MoreBlockArgs ∷ n.BlockArg ∷ n.Ownership ∷ n.Star ∷ n.Code ∷ n.Inst ∷ n.Names ∷ n.MoreNames ∷ n.Row ∷ n.Terminator ∷ n.Operand ∷ n.Operands ∷ n.MoreOperands ∷ n.BareNames ∷ n.Edge ∷ n.EdgeArgs ∷ n.SwitchPart ∷ n.SwitchMore ∷ n.EnumElement ∷ n.ElementSuffix ∷ n.EnumOperand ∷ n.MemberName ∷ n.Flags ∷ n.FirstFlag ∷ n.VarDeclAfter ∷ n.LexicalAfter ∷ n.Qualifier ∷ n.QualifierWord ∷ n.TakeFlag ∷ n.InitFlag ∷ n.InitWord ∷ n.Debug ∷ n.DebugPart ∷ n.DebugAfterBinding ∷ n.DebugNamePart ∷ n.DebugAfterName ∷ n.DebugNumberPart ∷ n.DebugAfterNumber ∷ n.DebugDerefPart ∷ n.VtableEntry ∷ []
 
 -- each stands in the list of all, at its number
-look_number : Option Class → ℕ
+unfoldable pub look_number : Option Class → ℕ
 look_number None = 0
 look_number (Some k) = class_number k
 
-all_looks-at : (l : Option Class) → slice_index_or all_looks (look_number l) None ≡ l
+pub all_looks-at : (l : Option Class) → slice_index_or all_looks (look_number l) None ≡ l
 unfolding all_looks fixed_looks look_number class_number keyword_number at_number punctuation_number
 all_looks-at None = refl
 all_looks-at (Some (c.Word k.Other)) = refl

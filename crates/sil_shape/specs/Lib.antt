@@ -10,3 +10,4 @@ pub mod Choice
 pub mod Turns
 pub mod Shortest
 pub mod Unsupported
+pub mod Laws

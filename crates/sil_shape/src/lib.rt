@@ -7,6 +7,7 @@ pub mod bodies;
 mod choice;
 mod class_numbers;
 pub mod grammar;
+pub mod laws;
 pub mod machine;
 mod rows;
 pub mod shortest;
