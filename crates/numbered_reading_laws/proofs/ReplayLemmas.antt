@@ -1,5 +1,5 @@
 -- What derived steps stand for is good, part by part, where there is no fault.
-use Rattle.std.proofs.Common.{◌≡◌, ℕ, ◌+◌, List, [], ◌∷◌, ◌++◌, length, take, drop, None, true, sym, refl, subst, add-one, true≢false}
+use Rattle.std.proofs.Common.{◌≡◌, ℕ, ◌+◌, List, [], ◌∷◌, ◌++◌, length, take, drop, None, sym, refl, subst, add-one, true≢false}
 use Rattle.std.specs.Prelude.{⊤}
 use Rattle.sil_lexer.specs.Lexes.{Lexeme}
 use Rattle.token_classes.specs.declared.classes.Class.{Class}
@@ -9,11 +9,10 @@ use Rattle.sil_shape.specs.declared.grammar.Symbol.TheVariants.{Read, Part}
 use Rattle.sil_shape.specs.declared.grammar.Terminal.{Terminal}
 use Rattle.sil_shape.specs.declared.grammar.Terminal.TheVariants as t
 use Rattle.sil_shape.specs.declared.steps.Step.{Step}
-use Rattle.sil_shape.specs.Accepts.{accepts}
+use Rattle.sil_shape.specs.Accepts.{Suits}
 use Rattle.sil_shape.specs.Derivation.{Derives}
 use Rattle.sil_shape.specs.Derivation.Derives.{nothing, token, rule}
 use Rattle.sil_shape.specs.Grammar.{body}
-use Rattle.sil_shape.proofs.ClassNumbers.{stands_for_itself}
 use Rattle.written_modules.specs.Meaning.{kept_of, leaf_of}
 use Rattle.written_modules.specs.Parts.{part}
 use Rattle.written_modules.specs.Opened.{PartValue}
@@ -52,8 +51,8 @@ good_from [] values g = tt
 good_from (s ∷ ss) [] g = absurd g
 good_from (s ∷ ss) (x ∷ values) g = (g.0, good_behind 0 ss x values (good_from ss values g.1))
 
-good_leaf : (terminal : Terminal) (class : Class) (l : Lexeme) → accepts terminal class ≡ true → IsOfClass class l → IsGoodToken terminal (token_of (leaf_of l)).text
-unfolding accepts IsGoodToken token_of
+good_leaf : (terminal : Terminal) (class : Class) (l : Lexeme) → Suits terminal class → IsOfClass class l → IsGoodToken terminal (token_of (leaf_of l)).text
+unfolding IsGoodToken token_of
 good_leaf t.AnyWord (c.Word w) l e g = g
 good_leaf t.TypeWord (c.Word w) l e g = g
 good_leaf t.AnyAt (c.At w) l e g = g
@@ -61,9 +60,7 @@ good_leaf t.AnyText c.BuiltinText l e g = g.quotable
 good_leaf t.AnyText c.OtherText l e g = g
 good_leaf t.RowWord class l e g = tt
 good_leaf t.EndWord class l e g = tt
-good_leaf (t.Just wanted) class l e g =
-    let same : wanted ≡ class = (stands_for_itself wanted class).0 e in
-    subst (λ (k : Class). IsTextOf k (kept_of l.kind l.spelling)) (sym same) g
+good_leaf (t.Just wanted) class l same g = subst (λ (k : Class). IsTextOf k (kept_of l.kind l.spelling)) (sym same) g
 good_leaf _ _ l e g = absurd (true≢false (sym e))
 
 pub good_replay : {ss : List Symbol} {ks : List Class} {steps : List Step} → Derives ss ks steps → (lexemes : List Lexeme) → AreOfClasses ks lexemes → first_fault steps lexemes ≡ None → AreGood ss (replay steps lexemes)

@@ -7,7 +7,6 @@ use Rattle.sil_shape.specs.declared.grammar.Nonterminal.{Nonterminal}
 use Rattle.sil_shape.specs.declared.grammar.Production.{Production}
 use Rattle.sil_shape.specs.declared.grammar.Symbol.{Symbol}
 use Rattle.sil_shape.specs.declared.grammar.Symbol.TheVariants.{Read, Part}
-use Rattle.sil_shape.specs.Accepts.{accepts, class_number, punctuation_number}
 use Rattle.sil_shape.specs.Grammar.{body, written}
 use Rattle.sil_shape.specs.Terminals.{punctuation}
 use Rattle.token_classes.specs.Spelling.{punctuation_of, punctuation_spelling, signs}
@@ -94,7 +93,7 @@ module _ (text : List ℕ) {A : Type 0} (item : Symbol) (more : Nonterminal) (Is
   }
 
   pub more_reads : (rules : MoreItems item more Is Are) (xs : List A) → Each (λ x. ReadsAs text item (Is x) (write x)) xs → ReadsAs text (Part more) (Are xs) (more_text write xs)
-  unfolding accepts class_number punctuation_number punctuation_of punctuation_spelling signs
+  unfolding punctuation_of punctuation_spelling signs
   more_reads rules [] each after ends = record {
     value = _;
     stands = rules.end_makes;

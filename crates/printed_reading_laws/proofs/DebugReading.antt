@@ -6,7 +6,6 @@ use Rattle.sil_ast.specs.declared.debug.Binding.TheVariants.{Let, Var}
 use Rattle.sil_ast.specs.declared.debug.Debug.{Debug}
 use Rattle.sil_printer.specs.CanonicalInsts.{binding_text, debug_text, quoted}
 use Rattle.sil_printer.specs.Words.{if_set, if_there}
-use Rattle.sil_shape.specs.Accepts.{accepts, class_number, keyword_number, punctuation_number}
 use Rattle.builtin_names.specs.BuiltinNames.{is_builtin_name}
 use Rattle.sil_shape.specs.Derivation.{Accepts}
 use Rattle.sil_shape.specs.Grammar.{body, written}
@@ -38,28 +37,27 @@ ends_rest ends (goes_on s) = refl
 
 -- any text will do
 pub any_text : (known : Bool) → Accepts (Read t.AnyText) (text_class known)
-unfolding accepts
 any_text true = refl
 any_text false = refl
 
 -- behind a number, a name, a binding, and behind what the instruction is about
 after_number : {text : List ℕ} {d : Debug} {after left : List ℕ} → ReadsRest text n.DebugDerefPart d after left → Stands text n.DebugAfterNumber (λ x. debug_of x ≡ d) left after
-unfolding body written meaning part_fault debug_of accepts class_number punctuation_number punctuation_of punctuation_spelling signs
+unfolding body written meaning part_fault debug_of punctuation_of punctuation_spelling signs
 after_number (ended e) = stands_by p.DebugAfterNumberNone _ reads.nothing refl e
 after_number (goes_on s) = stands_by p.DebugAfterNumberSome _ (punctuation_token 44 refl refl (reads.blank 32 refl s.reads)) refl s.stands
 
 after_name : {text : List ℕ} {d : Debug} {after left : List ℕ} → ReadsRest text n.DebugNumberPart d after left → Stands text n.DebugAfterName (λ x. debug_of x ≡ d) left after
-unfolding body written meaning part_fault debug_of accepts class_number punctuation_number punctuation_of punctuation_spelling signs
+unfolding body written meaning part_fault debug_of punctuation_of punctuation_spelling signs
 after_name (ended e) = stands_by p.DebugAfterNameNone _ reads.nothing refl e
 after_name (goes_on s) = stands_by p.DebugAfterNameSome _ (punctuation_token 44 refl refl (reads.blank 32 refl s.reads)) refl s.stands
 
 after_binding : {text : List ℕ} {d : Debug} {after left : List ℕ} → ReadsRest text n.DebugNamePart d after left → Stands text n.DebugAfterBinding (λ x. debug_of x ≡ d) left after
-unfolding body written meaning part_fault debug_of accepts class_number punctuation_number punctuation_of punctuation_spelling signs
+unfolding body written meaning part_fault debug_of punctuation_of punctuation_spelling signs
 after_binding (ended e) = stands_by p.DebugAfterBindingNone _ reads.nothing refl e
 after_binding (goes_on s) = stands_by p.DebugAfterBindingSome _ (punctuation_token 44 refl refl (reads.blank 32 refl s.reads)) refl s.stands
 
 all_said : {text : List ℕ} {d : Debug} {after left : List ℕ} → ReadsRest text n.DebugPart d after left → Stands text n.Debug (λ x. debug_of x ≡ d) left after
-unfolding body written meaning part_fault debug_of accepts class_number punctuation_number punctuation_of punctuation_spelling signs
+unfolding body written meaning part_fault debug_of punctuation_of punctuation_spelling signs
 all_said (ended e) = stands_by p.DebugNone _ reads.nothing refl e
 all_said (goes_on s) = stands_by p.DebugSome _ (punctuation_token 44 refl refl (reads.blank 32 refl s.reads)) refl s.stands
 
@@ -69,7 +67,7 @@ module _ (text : List ℕ) (after : List ℕ) (ends : Ends after) where
   deref_text deref = if_set (codes ", expr op_deref") deref ++ after
 
   deref_rest : (deref : Bool) → ReadsRest text n.DebugDerefPart (record no_debug { deref = deref }) after (deref_text deref)
-  unfolding body written meaning part_fault debug_of accepts class_number keyword_number keyword_of known_keyword keywords spelling
+  unfolding body written meaning part_fault debug_of keyword_of known_keyword keywords spelling
   deref_rest true = goes_on (stands_by p.DebugDeref _ (word_token (codes "expr") refl refl refl (reads.blank 32 refl (word_token (codes "op_deref") refl refl ends reads.nothing))) refl refl)
   deref_rest false = ended refl
 
@@ -84,7 +82,7 @@ module _ (text : List ℕ) (after : List ℕ) (ends : Ends after) where
 
   number_rest : (argno : Option ℕ) (deref : Bool) → IfSome argno (λ n. n ≤ 65535)
       → ReadsRest text n.DebugNumberPart (record no_debug { argno = argno; deref = deref }) after (number_text argno deref)
-  unfolding body written meaning part_fault debug_of token_of kept_of accepts class_number keyword_number keyword_of known_keyword keywords spelling
+  unfolding body written meaning part_fault debug_of token_of kept_of keyword_of known_keyword keywords spelling
   number_rest None deref few = without_number (deref_rest deref)
   number_rest (Some k) deref few =
       let rest = after_number (deref_rest deref) in
@@ -105,7 +103,7 @@ module _ (text : List ℕ) (after : List ℕ) (ends : Ends after) where
 
   name_rest : (name : Option (List ℕ)) (argno : Option ℕ) (deref : Bool) → IfSome name (λ text. IsTrue (is_quotable text)) → IfSome argno (λ n. n ≤ 65535)
       → ReadsRest text n.DebugNamePart (record no_debug { name = name; argno = argno; deref = deref }) after (name_text name argno deref)
-  unfolding body written meaning part_fault debug_of token_of kept_of accepts class_number keyword_number keyword_of known_keyword keywords spelling
+  unfolding body written meaning part_fault debug_of token_of kept_of keyword_of known_keyword keywords spelling
   name_rest None argno deref quotable few = without_name (number_rest argno deref few)
   name_rest (Some x) argno deref quotable few =
       let rest = after_name (number_rest argno deref few) in
@@ -125,7 +123,7 @@ module _ (text : List ℕ) (after : List ℕ) (ends : Ends after) where
 
   said : (binding : Option Binding) (name : Option (List ℕ)) (argno : Option ℕ) (deref : Bool) → IfSome name (λ text. IsTrue (is_quotable text)) → IfSome argno (λ n. n ≤ 65535)
       → ReadsRest text n.DebugPart (record { binding = binding; name = name; argno = argno; deref = deref }) after (said_text binding name argno deref)
-  unfolding body written meaning part_fault debug_of accepts class_number keyword_number keyword_of known_keyword keywords spelling
+  unfolding body written meaning part_fault debug_of keyword_of known_keyword keywords spelling
   said None name argno deref quotable few = without_binding (name_rest name argno deref quotable few)
   said (Some Let) name argno deref quotable few =
       let rest = after_binding (name_rest name argno deref quotable few) in

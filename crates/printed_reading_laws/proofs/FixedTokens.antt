@@ -1,16 +1,13 @@
 -- One token that the grammar names in front of a piece, and any word.
-use Rattle.std.proofs.Common.{◌≡◌, ℕ, List, [], ◌∷◌, ◌++◌, IsTrue, true, refl, ap, sym, ◌∙◌}
+use Rattle.std.proofs.Common.{◌≡◌, ℕ, List, [], ◌∷◌, ◌++◌, IsTrue, refl, ap, sym, ◌∙◌}
 use Rattle.sil_lexer.specs.declared.token.TokenKind.TheVariants as kind
 use Rattle.sil_lexer.specs.Bytes.{is_punctuation}
 use Rattle.token_classes.specs.declared.classes.AtWord.{AtWord}
-use Rattle.token_classes.specs.declared.classes.Class.TheVariants as c
 use Rattle.token_classes.specs.declared.classes.Keyword.{Keyword}
 use Rattle.token_classes.specs.declared.classes.Punctuation.{Punctuation}
-use Rattle.token_classes.specs.declared.classes.Punctuation.TheVariants as m
 use Rattle.sil_shape.specs.declared.grammar.Symbol.{Symbol}
 use Rattle.sil_shape.specs.declared.grammar.Symbol.TheVariants.{Read}
 use Rattle.sil_shape.specs.declared.grammar.Terminal.TheVariants as t
-use Rattle.sil_shape.specs.Accepts.{accepts, class_number, punctuation_number}
 use Rattle.sil_shape.specs.Terminals.{at, punctuation, word}
 use Rattle.token_classes.specs.Spelling.{at_spelling, punctuation_of, punctuation_spelling, spelling}
 use Rattle.token_classes.proofs.SpellingLemmas.{at_word_of-at_spelling, keyword_of-spelling, punctuation_of-punctuation_spelling}
@@ -21,11 +18,6 @@ use Rattle.numbered_form.specs.Names.{IsWord, is_at_name}
 use Rattle.printed_reading_laws.proofs.Pieces.{Ends, Reads, lexeme_before}
 use Rattle.printed_reading_laws.proofs.Tokens.{at_token, punctuation_token, word_token}
 use Rattle.printed_reading_laws.proofs.WordReading.{at_accepted, word_accepted}
-
-punctuation_accepted : (sign : Punctuation) → accepts (punctuation sign) (c.Punctuation sign) ≡ true
-unfolding accepts class_number punctuation_number
-punctuation_accepted m.Comma = refl
-punctuation_accepted _ = refl
 
 -- a keyword
 pub keyword_here : {text : List ℕ} {ss : List Symbol} {rest : List ℕ} {values : List PartValue} {after : List ℕ} → (keyword : Keyword)
@@ -38,7 +30,6 @@ keyword_here keyword spelled ends r =
 pub any_word : {text : List ℕ} {ss : List Symbol} {rest : List ℕ} {values : List PartValue} {after : List ℕ} → (name : List ℕ)
     → IsWord name → Ends rest → Reads text ss rest values after
     → Reads text (Read t.AnyWord ∷ ss) (name ++ rest) (leaf_of (lexeme_before text kind.Word name rest) ∷ values) after
-unfolding accepts
 any_word name spelled ends r = word_token name spelled refl ends r
 
 -- a name with `@` that the grammar names
@@ -52,7 +43,6 @@ at_here name spelled ends r =
 pub any_at : {text : List ℕ} {ss : List Symbol} {rest : List ℕ} {values : List PartValue} {after : List ℕ} → (name : List ℕ)
     → IsTrue (is_at_name name) → Ends rest → Reads text ss rest values after
     → Reads text (Read t.AnyAt ∷ ss) (64 ∷ name ++ rest) (leaf_of (lexeme_before text kind.AtName (64 ∷ name) rest) ∷ values) after
-unfolding accepts
 any_at name spelled ends r = at_token name spelled refl ends r
 
 -- punctuation of one byte
@@ -60,4 +50,4 @@ pub punctuation_here : {text : List ℕ} {ss : List Symbol} {rest : List ℕ} {v
     → punctuation_spelling sign ≡ byte ∷ [] → IsTrue (is_punctuation byte) → Reads text ss rest values after
     → Reads text (Read (punctuation sign) ∷ ss) (byte ∷ rest) (leaf_of (lexeme_before text kind.Punctuation (byte ∷ []) rest) ∷ values) after
 punctuation_here sign byte spelled is_one r =
-    punctuation_token byte is_one (ap (λ bytes. accepts (punctuation sign) (punctuation_class (punctuation_of bytes))) (sym spelled) ∙ ap (λ found. accepts (punctuation sign) (punctuation_class found)) (punctuation_of-punctuation_spelling sign) ∙ punctuation_accepted sign) r
+    punctuation_token byte is_one (sym (ap (λ bytes. punctuation_class (punctuation_of bytes)) (sym spelled) ∙ ap punctuation_class (punctuation_of-punctuation_spelling sign))) r

@@ -15,8 +15,8 @@ use Rattle.printed_reading_laws.proofs.Written.{IsInstWritten}
 pub inst_reads : (text : List ℕ) (functions : List Function) (i : Inst) (after : List ℕ) → IsInstPrintable functions i → IsFalse (is_terminator i.op) → Ends after
     → Stands text n.Inst (λ x. IsInstWritten functions i (inst_of x)) (inst_text functions i ++ after) after
 inst_reads text functions i after printable inside ends =
-    inst_with_results text functions after i (row_reads text functions after ends i printable inside) printable.results printable.limits.results
+    inst_with_results text functions after i (row_reads text functions i printable after ends inside) printable.results printable.limits.results
 
 pub terminator_reads : (text : List ℕ) (functions : List Function) (i : Inst) (after : List ℕ) → IsInstPrintable functions i → IsTrue (is_terminator i.op) → i.results ≡ [] → Ends after
     → Stands text n.Terminator (λ x. IsInstWritten functions i (inst_of x)) (inst_text functions i ++ after) after
-terminator_reads text functions i after printable last unnamed ends = inst_unnamed text functions after i (end_reads text functions after ends i printable last) unnamed
+terminator_reads text functions i after printable last unnamed ends = inst_unnamed text functions after i (end_reads text functions i printable after ends last) unnamed

@@ -3,7 +3,6 @@ use Rattle.std.proofs.Common.{◌≡◌, ℕ, List, [], ◌∷◌, ◌++◌, ref
 use Rattle.std.proofs.lemmas.List.{append_assoc}
 use Rattle.sil_ast.specs.declared.member.Member.{Member}
 use Rattle.sil_printer.specs.CanonicalInsts.{case_name, field_name}
-use Rattle.sil_shape.specs.Accepts.{accepts, class_number, keyword_number, punctuation_number}
 use Rattle.sil_shape.specs.Grammar.{body, written}
 use Rattle.token_classes.specs.Spelling.{keyword_of, keywords, known_keyword, punctuation_of, punctuation_spelling, signs, spelling}
 use Rattle.sil_shape.specs.declared.grammar.Nonterminal.TheVariants as n
@@ -19,7 +18,7 @@ use Rattle.printed_reading_laws.proofs.Tokens.{punctuation_token, word_token}
 -- `#T.m`
 pub field_reads : (text : List ℕ) (m : Member) (after : List ℕ) → IsMemberSpelled m → Ends after
     → Stands text n.MemberName (λ x. member_of x ≡ m) (field_name m ++ after) after
-unfolding body written meaning part_fault member_of token_of kept_of accepts class_number punctuation_number punctuation_of punctuation_spelling signs
+unfolding body written meaning part_fault member_of token_of kept_of punctuation_of punctuation_spelling signs
 field_reads text m after spelled ends =
     rw (append_assoc (m.owner ++ 46 ∷ []) m.name after, append_assoc m.owner (46 ∷ []) (m.name ++ after))
     (stands_by p.WholeMemberName _ (punctuation_token 35 refl refl (word_token m.owner spelled.owner refl refl (punctuation_token 46 refl refl (word_token m.name spelled.name refl ends reads.nothing)))) refl refl)
@@ -27,7 +26,7 @@ field_reads text m after spelled ends =
 -- `#E.c!enumelt`
 pub case_reads : (text : List ℕ) (m : Member) (after : List ℕ) → IsMemberSpelled m → Ends after
     → Stands text n.EnumElement (λ x. member_of x ≡ m) (case_name m ++ after) after
-unfolding body written meaning part_fault member_of token_of kept_of accepts class_number punctuation_number punctuation_of punctuation_spelling signs keyword_number keyword_of known_keyword keywords spelling
+unfolding body written meaning part_fault member_of token_of kept_of punctuation_of punctuation_spelling signs keyword_of known_keyword keywords spelling
 case_reads text m after spelled ends =
     rw (append_assoc ((m.owner ++ 46 ∷ []) ++ m.name) (codes "!enumelt") after, append_assoc (m.owner ++ 46 ∷ []) m.name (codes "!enumelt" ++ after), append_assoc m.owner (46 ∷ []) (m.name ++ (codes "!enumelt" ++ after)))
     (stands_by p.WholeEnumElement _

@@ -12,7 +12,6 @@ use Rattle.sil_shape.specs.declared.grammar.Nonterminal.TheVariants as n
 use Rattle.sil_shape.specs.declared.grammar.Production.TheVariants as p
 use Rattle.sil_shape.specs.declared.grammar.Symbol.TheVariants.{Part}
 use Rattle.sil_shape.specs.Grammar.{body, written}
-use Rattle.sil_shape.specs.Accepts.{accepts, class_number, punctuation_number}
 use Rattle.token_classes.specs.Spelling.{punctuation_of, punctuation_spelling, signs}
 use Rattle.written_modules.specs.Meaning.{kept_of, meaning}
 use Rattle.written_modules.specs.Opened.{PartValue}
@@ -33,7 +32,7 @@ use Rattle.printed_reading_laws.proofs.Written.{IsOperandWritten}
 -- `%1 : $T`
 operand_with : (text : List ℕ) (v : ValueId) (ty : Option TypeName) (after : List ℕ) → IsTrue (is_typed (record { value = v; ty = ty })) → IsSmall v.0 → IfSome ty IsPlacedType → Ends after
     → Stands text n.Operand (λ x. IsOperandWritten (record { value = v; ty = ty }) (operand_of x)) (typed_text (record { value = v; ty = ty }) ++ after) after
-unfolding body written meaning part_fault kept_of token_of operand_of accepts class_number punctuation_number punctuation_of punctuation_spelling signs
+unfolding body written meaning part_fault kept_of token_of operand_of punctuation_of punctuation_spelling signs
 operand_with text v None after typed small placed ends = absurd (true≢false (sym typed))
 operand_with text v (Some t) after typed small placed ends =
     let ty = placed_reads text t after placed ends in

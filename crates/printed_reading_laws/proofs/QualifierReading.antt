@@ -4,7 +4,6 @@ use Rattle.sil_ast.specs.declared.inst.Qualifier.{Qualifier}
 use Rattle.sil_ast.specs.declared.inst.Qualifier.TheVariants as q
 use Rattle.sil_printer.specs.CanonicalInsts.{qualifier_text}
 use Rattle.sil_printer.specs.Words.{if_set}
-use Rattle.sil_shape.specs.Accepts.{accepts, class_number, keyword_number, punctuation_number}
 use Rattle.sil_shape.specs.Grammar.{body, written}
 use Rattle.token_classes.specs.Spelling.{keyword_of, keywords, known_keyword, punctuation_of, punctuation_spelling, signs, spelling}
 use Rattle.sil_shape.specs.declared.grammar.Nonterminal.{Nonterminal}
@@ -29,7 +28,7 @@ ends_flags false false rest ends = ends
 
 pub flags_read : (text : List ℕ) (lexical var_decl : Bool) (rest : List ℕ)
     → Stands text n.Flags (λ x. ((flags_of x).lexical ≡ lexical) × ((flags_of x).var_decl ≡ var_decl)) (flag_words lexical var_decl ++ rest) rest
-unfolding body written meaning part_fault flags_of accepts class_number punctuation_number punctuation_of punctuation_spelling signs keyword_number keyword_of known_keyword keywords spelling
+unfolding body written meaning part_fault flags_of punctuation_of punctuation_spelling signs keyword_of known_keyword keywords spelling
 flags_read text true true rest =
     stands_by p.FlagsSome _ (reads.blank 32 refl (punctuation_token 91 refl refl (reads.rule p.LexicalFirst
     (word_token (codes "lexical") refl refl refl (punctuation_token 93 refl refl (reads.rule p.VarDeclAfterSome
@@ -55,7 +54,7 @@ abbrev pub ReadsQualifier : List ℕ → Nonterminal → Qualifier → Type 0
 ReadsQualifier text part q = (rest : List ℕ) → Stands text part (λ x. (qualifier_of x).word ≡ q) (qualifier_text q ++ rest) rest
 
 pub qualifier_reads : (text : List ℕ) (q : Qualifier) → ReadsQualifier text n.Qualifier q
-unfolding body written meaning part_fault qualifier_of accepts class_number punctuation_number punctuation_of punctuation_spelling signs keyword_number keyword_of known_keyword keywords spelling
+unfolding body written meaning part_fault qualifier_of punctuation_of punctuation_spelling signs keyword_of known_keyword keywords spelling
 qualifier_reads text q.Plain rest = stands_by p.QualifierNone _ reads.nothing refl refl
 qualifier_reads text q.Copy rest =
     stands_by p.QualifierSome _ (reads.blank 32 refl (punctuation_token 91 refl refl (reads.rule p.QualifierCopy (word_token (codes "copy") refl refl refl reads.nothing) refl (punctuation_token 93 refl refl reads.nothing)))) refl refl
@@ -70,7 +69,7 @@ qualifier_reads text q.Assign rest =
 
 -- only `[take]`
 pub take_reads : (text : List ℕ) (q : Qualifier) → IsTrue (is_plain_or_take q) → ReadsQualifier text n.TakeFlag q
-unfolding body written meaning part_fault qualifier_of accepts class_number punctuation_number punctuation_of punctuation_spelling signs keyword_number keyword_of known_keyword keywords spelling
+unfolding body written meaning part_fault qualifier_of punctuation_of punctuation_spelling signs keyword_of known_keyword keywords spelling
 take_reads text q.Plain may rest = stands_by p.TakeFlagNone _ reads.nothing refl refl
 take_reads text q.Take may rest =
     stands_by p.TakeFlagSome _ (reads.blank 32 refl (punctuation_token 91 refl refl (word_token (codes "take") refl refl refl (punctuation_token 93 refl refl reads.nothing)))) refl refl
@@ -78,7 +77,7 @@ take_reads text _ may rest = absurd (true≢false (sym may))
 
 -- only `[init]`
 pub init_reads : (text : List ℕ) (q : Qualifier) → IsTrue (is_plain_or_init q) → ReadsQualifier text n.InitFlag q
-unfolding body written meaning part_fault qualifier_of accepts class_number punctuation_number punctuation_of punctuation_spelling signs keyword_number keyword_of known_keyword keywords spelling
+unfolding body written meaning part_fault qualifier_of punctuation_of punctuation_spelling signs keyword_of known_keyword keywords spelling
 init_reads text q.Plain may rest = stands_by p.InitFlagNone _ reads.nothing refl refl
 init_reads text q.Init may rest =
     stands_by p.InitFlagSome _ (reads.blank 32 refl (punctuation_token 91 refl refl (reads.rule p.InitShort (word_token (codes "init") refl refl refl reads.nothing) refl (punctuation_token 93 refl refl reads.nothing)))) refl refl

@@ -7,7 +7,6 @@ use Rattle.sil_ast.specs.declared.inst.Inst.{Inst}
 use Rattle.sil_ast.specs.declared.place.ValueId.{ValueId}
 use Rattle.sil_printer.specs.CanonicalInsts.{inst_text, parts_text, results_text, value_text}
 use Rattle.sil_printer.specs.Words.{in_parens, listed}
-use Rattle.sil_shape.specs.Accepts.{accepts, class_number, punctuation_number}
 use Rattle.sil_shape.specs.Grammar.{body, written}
 use Rattle.token_classes.specs.Spelling.{punctuation_of, punctuation_spelling, signs}
 use Rattle.sil_shape.specs.declared.grammar.Nonterminal.TheVariants as n
@@ -32,7 +31,7 @@ module _ (text : List ℕ) (functions : List Function) (after : List ℕ) (i : I
   -- the results in parentheses
   listed_results : (rs : List ValueId) → Each IsSmallValue rs → length rs ≤ 64
       → Stands text n.Inst (λ x. IsInstWritten functions (record i { results = rs }) (inst_of x)) ((in_parens value_text rs ++ codes " = ") ++ (row_text functions i ++ after)) after
-  unfolding body written meaning part_fault inst_of accepts class_number punctuation_number punctuation_of punctuation_spelling signs
+  unfolding body written meaning part_fault inst_of punctuation_of punctuation_spelling signs
   listed_results rs small few =
       let names = result_names_read (λ v. v) text rs (41 ∷ 32 ∷ 61 ∷ 32 ∷ row_text functions i ++ after) small refl in
       rw (append_assoc (listed value_text rs) (41 ∷ []) (32 ∷ 61 ∷ 32 ∷ []), append_assoc (listed value_text rs) (41 ∷ 32 ∷ 61 ∷ 32 ∷ []) (row_text functions i ++ after))
@@ -43,7 +42,7 @@ module _ (text : List ℕ) (functions : List Function) (after : List ℕ) (i : I
 
   one_result : (v : ValueId) → IsSmallValue v
       → Stands text n.Inst (λ x. IsInstWritten functions (record i { results = v ∷ [] }) (inst_of x)) ((value_text v ++ codes " = ") ++ (row_text functions i ++ after)) after
-  unfolding body written meaning part_fault inst_of token_of kept_of accepts class_number punctuation_number punctuation_of punctuation_spelling signs
+  unfolding body written meaning part_fault inst_of token_of kept_of punctuation_of punctuation_spelling signs
   one_result v small =
       rw (append_assoc (decimal v.0) (32 ∷ 61 ∷ 32 ∷ []) (row_text functions i ++ after))
       (stands_by p.InstOneName _

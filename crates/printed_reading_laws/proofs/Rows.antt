@@ -1,91 +1,160 @@
--- Each row of the table of instructions reads as itself.
-use Rattle.std.proofs.Common.{◌≡◌, ℕ, List, IsTrue, IsFalse, refl, sym, subst, true≢false}
-use Rattle.instruction_table.specs.Forms.{is_terminator, parts_of}
-use Rattle.sil_ast.specs.declared.function.Function.{Function}
-use Rattle.sil_ast.specs.declared.inst.Inst.{Inst}
+-- Each row of the table of instructions reads as itself: part by part, from left to right.
+use Rattle.std.proofs.Common.{◌≡◌, ◌+◌, ℕ, suc, List, [], ◌∷◌, ◌++◌, length, Some, None, IsTrue, IsFalse, refl, ap, sym, subst, arith, if◌then◌else◌, inr, ◌∙◌}
+use Rattle.std.specs.List.{list_any}
+use Rattle.std.proofs.lemmas.List.{append_assoc, length-append}
+use Rattle.instruction_table.specs.Forms.{is_terminator, mnemonic_of, parts_of}
+use Rattle.instruction_table.specs.declared.forms.Part.{Part}
 use Rattle.instruction_table.specs.declared.op.Op.{Op}
 use Rattle.instruction_table.specs.declared.op.Op.TheVariants as op
-use Rattle.sil_shape.specs.Accepts.{accepts, class_number, keyword_number}
+use Rattle.sil_ast.specs.declared.function.Function.{Function}
+use Rattle.sil_ast.specs.declared.inst.Inst.{Inst}
+use Rattle.sil_ast.specs.declared.operands.Operand.{Operand}
+use Rattle.sil_printer.specs.CanonicalInsts.{gap, operands_after, part_text, parts_text}
 use Rattle.sil_shape.specs.Grammar.{body, written}
-use Rattle.sil_shape.specs.Rows as rows
-use Rattle.sil_shape.specs.Rows.{brings_comma, comma_behind, comma_between, ends_block, parts_row, row_body, row_part, symbols_of, text_of}
-use Rattle.token_classes.specs.Spelling.{keyword_of, keywords, known_keyword, spelling}
+use Rattle.sil_shape.specs.Rows.{comma_behind, ends_block, row_body, row_part, symbols_of}
 use Rattle.sil_shape.specs.declared.grammar.Nonterminal.TheVariants as n
-use Rattle.written_modules.specs.Meaning.{meaning}
-use Rattle.written_modules.specs.PartFaults.{part_fault}
+use Rattle.sil_shape.specs.declared.grammar.Production.TheVariants as p
+use Rattle.sil_shape.specs.declared.grammar.Symbol.{Symbol}
+use Rattle.token_classes.specs.Spelling.{spelling}
+use Rattle.token_classes.specs.declared.classes.Keyword.TheVariants as k
+use Rattle.sil_lexer.specs.declared.token.TokenKind.TheVariants as kind
+use Rattle.written_modules.specs.Meaning.{leaf_of, meaning}
+use Rattle.written_modules.specs.Opened.{PartValue}
+use Rattle.written_modules.specs.PartFaults.{fault_of_part, part_fault, parts_fault}
+use Rattle.written_modules.specs.RowMeaning.{behind_part, with_part, with_parts}
+use Rattle.written_modules.specs.Values.{bare_inst, inst_of, token_of}
 use Rattle.written_tree.specs.Faults.{earlier}
-use Rattle.printed_reading_laws.proofs.AggregateRows.{apply_row, enum_row, struct_row, tuple_row}
-use Rattle.printed_reading_laws.proofs.EdgeForms.{one_branch, switch_edges, two_branches}
-use Rattle.printed_reading_laws.proofs.OperandForms.{all_typed, are_bare, at_most_one, bare_then_typed, is_there, just_bare, one_typed}
-use Rattle.printed_reading_laws.proofs.Pieces.{Ends}
+use Rattle.written_tree.specs.declared.written_instructions.WrittenInst.{WrittenInst}
+use Rattle.numbered_form.specs.Names.{is_word}
+use Rattle.numbered_reading_laws.proofs.ListsAndFaults.{either_second, first_of_both, second_of_both}
+use Rattle.printed_reading_laws.proofs.FixedTokens.{keyword_here}
+use Rattle.printed_reading_laws.proofs.PartEnds.{parts_end}
+use Rattle.printed_reading_laws.proofs.PartPlaces.{fault_moved, with_part_moved}
+use Rattle.printed_reading_laws.proofs.PartReading.{part_reads}
+use Rattle.printed_reading_laws.proofs.PartReads.{ReadsPart}
+use Rattle.printed_reading_laws.proofs.Pieces.{Ends, Reads, Reads as reads, behind, lexeme_before}
 use Rattle.printed_reading_laws.proofs.Printable.{IsInstPrintable}
-use Rattle.printed_reading_laws.proofs.QualifierReading.{init_reads, qualifier_reads, take_reads}
-use Rattle.printed_reading_laws.proofs.RowForms.{RowStands, as_row}
-use Rattle.printed_reading_laws.proofs.RowKept.{only_row, only_row_same}
-use Rattle.printed_reading_laws.proofs.SharedRows.{element_row, flagged_row, loaded_row, member_row, over_one_row, stored_row}
-use Rattle.printed_reading_laws.proofs.SingleRows.{alloc_ref_row, alloc_stack_row, builtin_row, debug_value_row, fail_row, function_row, literal_row}
-use Rattle.printed_reading_laws.proofs.TerminatorRows.{br_row, cond_br_row, switch_row, unreachable_row}
+use Rattle.printed_reading_laws.proofs.ProductionReading.{stands_by}
+use Rattle.printed_reading_laws.proofs.RowForms.{RowStands}
+use Rattle.printed_reading_laws.proofs.RowGaps.{comma_first, comma_first_is, last_of, parts_behind, parts_row_is}
+use Rattle.printed_reading_laws.proofs.RowKept.{all_kept, so_far, turned}
+use Rattle.printed_reading_laws.proofs.RowOperands.{AreInRow, AreLeft, all_taken, are_fit, fits, left_by, next_operands, rows_fit, taken_by}
+use Rattle.printed_reading_laws.proofs.Written.{IsInstWritten}
+use Rattle.printed_reading_laws.proofs.WrittenParts.{mnemonic_written}
 
-module _ (text : List ℕ) (functions : List Function) (after : List ℕ) (ends : Ends after) where
-  -- an instruction of the row that has nothing else
-  abbrev OfRow : Op → Inst → Inst
-  OfRow o i = only_row (parts_of o) (record i { op = o })
+-- as many values as symbols
+as_many : {text : List ℕ} {ss : List Symbol} {left : List ℕ} {values : List PartValue} {after : List ℕ} → Reads text ss left values after → length values ≡ length ss
+as_many (reads.nothing) = refl
+as_many (reads.blank byte h r) = as_many r
+as_many (reads.token kind spelled accepted is short r) = ap suc (as_many r)
+as_many (reads.rule p inside h r) = ap suc (as_many r)
 
-  row_of : (o : Op) (i : Inst) → IsInstPrintable functions (OfRow o i) → IsFalse (is_terminator o) → RowStands text functions after n.Row (OfRow o i)
-  unfolding body written meaning part_fault row_body row_part ends_block parts_row symbols_of comma_behind comma_between brings_comma rows.operand_of rows.member_of rows.qualifier_of text_of rows.edges_of earlier accepts class_number keyword_number keyword_of known_keyword keywords spelling
-  row_of op.IntegerLiteral i h inside = literal_row text functions after ends i.results i.ty i.number (is_there i.ty h.parts.ty) (is_there i.number h.parts.number) h
-  row_of op.FunctionRef i h inside = function_row text functions after ends i.results i.function i.signature (is_there i.function h.parts.function) (is_there i.signature h.parts.signature) h
-  row_of op.Builtin i h inside = builtin_row text functions after ends i.results i.operands i.ty i.text (record { typed = all_typed i.operands h.parts.operands; small = h.operands; types = h.types.operands }) (is_there i.ty h.parts.ty) (is_there i.text h.parts.text) h
-  row_of op.CondFail i h inside = fail_row text functions after ends i.results i.operands i.text (one_typed i.operands h.parts.operands) (is_there i.text h.parts.text) h
-  row_of op.AllocRef i h inside = alloc_ref_row text functions after ends i.results i.ty (is_there i.ty h.parts.ty) h
-  row_of op.AllocStack i h inside = alloc_stack_row text functions after ends i.results i.ty i.lexical i.var_decl i.debug (is_there i.ty h.parts.ty) h
-  row_of op.DeallocStack i h inside = as_row op.DeallocStack (over_one_row text functions after ends op.DeallocStack i.results i.operands (one_typed i.operands h.parts.operands) h (refl, refl))
-  row_of op.CopyValue i h inside = as_row op.CopyValue (over_one_row text functions after ends op.CopyValue i.results i.operands (one_typed i.operands h.parts.operands) h (refl, refl))
-  row_of op.DestroyValue i h inside = as_row op.DestroyValue (over_one_row text functions after ends op.DestroyValue i.results i.operands (one_typed i.operands h.parts.operands) h (refl, refl))
-  row_of op.MoveValue i h inside = as_row op.MoveValue (flagged_row text functions after ends op.MoveValue i.results i.operands i.lexical i.var_decl (one_typed i.operands h.parts.operands) h (refl, refl))
-  row_of op.BeginBorrow i h inside = as_row op.BeginBorrow (flagged_row text functions after ends op.BeginBorrow i.results i.operands i.lexical i.var_decl (one_typed i.operands h.parts.operands) h (refl, refl))
-  row_of op.EndBorrow i h inside = as_row op.EndBorrow (over_one_row text functions after ends op.EndBorrow i.results i.operands (one_typed i.operands h.parts.operands) h (refl, refl))
-  row_of op.Load i h inside = as_row op.Load (loaded_row text functions after ends op.Load n.Qualifier i.results i.operands i.qualifier (one_typed i.operands h.parts.operands) h (refl, refl) (qualifier_reads text i.qualifier))
-  row_of op.Store i h inside = as_row op.Store (stored_row text functions after ends op.Store n.Qualifier i.results i.operands i.qualifier (bare_then_typed i.operands h.parts.operands) h (refl, refl) (qualifier_reads text i.qualifier))
-  row_of op.LoadBorrow i h inside = as_row op.LoadBorrow (over_one_row text functions after ends op.LoadBorrow i.results i.operands (one_typed i.operands h.parts.operands) h (refl, refl))
-  row_of op.DestroyAddr i h inside = as_row op.DestroyAddr (over_one_row text functions after ends op.DestroyAddr i.results i.operands (one_typed i.operands h.parts.operands) h (refl, refl))
-  row_of op.LoadWeak i h inside = as_row op.LoadWeak (loaded_row text functions after ends op.LoadWeak n.TakeFlag i.results i.operands i.qualifier (one_typed i.operands h.parts.operands) h (refl, refl) (take_reads text i.qualifier h.parts.qualifier))
-  row_of op.StoreWeak i h inside = as_row op.StoreWeak (stored_row text functions after ends op.StoreWeak n.InitFlag i.results i.operands i.qualifier (bare_then_typed i.operands h.parts.operands) h (refl, refl) (init_reads text i.qualifier h.parts.qualifier))
-  row_of op.LoadUnowned i h inside = as_row op.LoadUnowned (loaded_row text functions after ends op.LoadUnowned n.TakeFlag i.results i.operands i.qualifier (one_typed i.operands h.parts.operands) h (refl, refl) (take_reads text i.qualifier h.parts.qualifier))
-  row_of op.StoreUnowned i h inside = as_row op.StoreUnowned (stored_row text functions after ends op.StoreUnowned n.InitFlag i.results i.operands i.qualifier (bare_then_typed i.operands h.parts.operands) h (refl, refl) (init_reads text i.qualifier h.parts.qualifier))
-  row_of op.Struct i h inside = struct_row text functions after ends i.results i.operands i.ty (record { typed = all_typed i.operands h.parts.operands; small = h.operands; types = h.types.operands }) (is_there i.ty h.parts.ty) h
-  row_of op.Tuple i h inside = tuple_row text functions after ends i.results i.operands (record { typed = all_typed i.operands h.parts.operands; small = h.operands; types = h.types.operands }) h
-  row_of op.Enum i h inside = enum_row text functions after ends i.results i.operands i.ty i.member (at_most_one i.operands h.parts.operands) (is_there i.ty h.parts.ty) (is_there i.member h.parts.member) h
-  row_of op.StructExtract i h inside = as_row op.StructExtract (member_row text functions after ends op.StructExtract i.results i.operands i.member (one_typed i.operands h.parts.operands) (is_there i.member h.parts.member) h (refl, refl) (λ m. refl))
-  row_of op.TupleExtract i h inside = as_row op.TupleExtract (element_row text functions after ends op.TupleExtract i.results i.operands i.number (one_typed i.operands h.parts.operands) (is_there i.number h.parts.number) h (refl, refl) h.literals.number)
-  row_of op.DestructureStruct i h inside = as_row op.DestructureStruct (over_one_row text functions after ends op.DestructureStruct i.results i.operands (one_typed i.operands h.parts.operands) h (refl, refl))
-  row_of op.DestructureTuple i h inside = as_row op.DestructureTuple (over_one_row text functions after ends op.DestructureTuple i.results i.operands (one_typed i.operands h.parts.operands) h (refl, refl))
-  row_of op.StructElementAddr i h inside = as_row op.StructElementAddr (member_row text functions after ends op.StructElementAddr i.results i.operands i.member (one_typed i.operands h.parts.operands) (is_there i.member h.parts.member) h (refl, refl) (λ m. refl))
-  row_of op.TupleElementAddr i h inside = as_row op.TupleElementAddr (element_row text functions after ends op.TupleElementAddr i.results i.operands i.number (one_typed i.operands h.parts.operands) (is_there i.number h.parts.number) h (refl, refl) h.literals.number)
-  row_of op.RefElementAddr i h inside = as_row op.RefElementAddr (member_row text functions after ends op.RefElementAddr i.results i.operands i.member (one_typed i.operands h.parts.operands) (is_there i.member h.parts.member) h (refl, refl) (λ m. refl))
-  row_of op.Apply i h inside = apply_row text functions after ends i.results i.operands i.signature (are_bare i.operands h.parts.operands) (is_there i.signature h.parts.signature) h
-  row_of op.DebugValue i h inside = debug_value_row text functions after ends i.results i.operands i.debug (one_typed i.operands h.parts.operands) h
-  row_of op.StrongRetain i h inside = as_row op.StrongRetain (over_one_row text functions after ends op.StrongRetain i.results i.operands (one_typed i.operands h.parts.operands) h (refl, refl))
-  row_of op.StrongRelease i h inside = as_row op.StrongRelease (over_one_row text functions after ends op.StrongRelease i.results i.operands (one_typed i.operands h.parts.operands) h (refl, refl))
-  row_of op.RetainValue i h inside = as_row op.RetainValue (over_one_row text functions after ends op.RetainValue i.results i.operands (one_typed i.operands h.parts.operands) h (refl, refl))
-  row_of op.ReleaseValue i h inside = as_row op.ReleaseValue (over_one_row text functions after ends op.ReleaseValue i.results i.operands (one_typed i.operands h.parts.operands) h (refl, refl))
-  row_of _ i h inside = absurd (true≢false inside)
+-- what the parts of the row that are still to come put into the instruction, wherever they stand
+pub record ReadsRow (text : List ℕ) (functions : List Function) (i : Inst) (parts done : List Part) (all : List Operand) (left after : List ℕ) : Type 0 where
+  pub values : List PartValue
+  pub reads : Reads text (parts_behind i.op done parts) left values after
+  pub written : (front : List PartValue) (w : WrittenInst) → IsInstWritten functions (so_far done all i) w
+      → IsInstWritten functions (so_far (turned parts done) i.operands i) (with_parts i.op parts (length front + length (comma_first i.op done parts)) (front ++ values) w)
+  pub faultless : (front : List PartValue) (w : WrittenInst) → IsInstWritten functions (so_far done all i) w
+      → parts_fault i.op parts (length front + length (comma_first i.op done parts)) (front ++ values) w None ≡ None
 
-  end_of : (o : Op) (i : Inst) → IsInstPrintable functions (OfRow o i) → IsTrue (is_terminator o) → RowStands text functions after n.Terminator (OfRow o i)
-  unfolding body written meaning part_fault row_body row_part ends_block parts_row symbols_of comma_behind comma_between brings_comma rows.operand_of rows.member_of rows.qualifier_of text_of rows.edges_of earlier accepts class_number keyword_number keyword_of known_keyword keywords spelling
-  end_of op.Br i h last = br_row text functions after ends i.results i.edges (one_branch i.edges h.parts.edges h.edges h.types.edges h.limits.edges)
-  end_of op.CondBr i h last = cond_br_row text functions after ends i.results i.operands i.edges (just_bare i.operands h.parts.operands) (two_branches i.edges h.parts.edges h.edges h.types.edges h.limits.edges) h
-  end_of op.SwitchEnum i h last = switch_row text functions after ends i.results i.operands i.edges (one_typed i.operands h.parts.operands) (switch_edges i.edges h.parts.edges h.spelled.edges h.edges) h
-  end_of op.Return i h last = as_row op.Return (over_one_row text functions after ends op.Return i.results i.operands (one_typed i.operands h.parts.operands) h (refl, refl))
-  end_of op.Unreachable i h last = unreachable_row text functions after ends i.results
-  end_of _ i h last = absurd (true≢false (sym last))
+-- each mnemonic is a word: computed for all of them
+mnemonic_is_word : (o : Op) → IsTrue (is_word (mnemonic_of o))
+mnemonic_is_word op.Load = refl
+mnemonic_is_word _ = refl
 
-  pub row_reads : (i : Inst) → IsInstPrintable functions i → IsFalse (is_terminator i.op) → RowStands text functions after n.Row i
-  row_reads i h inside =
-      let same : only_row (parts_of i.op) i ≡ i = only_row_same i h.parts in
-      subst (RowStands text functions after n.Row) same (row_of i.op i (subst (IsInstPrintable functions) (sym same) h) inside)
+module _ (text : List ℕ) (functions : List Function) (i : Inst) (h : IsInstPrintable functions i) (after : List ℕ) (ends : Ends after) where
+  -- a part, and the parts behind it
+  module _ (here : Part) (others done : List Part) (all now : List Operand) (left middle : List ℕ)
+      (r : ReadsPart text functions i here done all now left middle) (q : ReadsRow text functions i others (here ∷ done) now middle after) where
+    module _ (front : List PartValue) where
+      abbrev at : ℕ
+      at = length front + length (comma_first i.op done (here ∷ others))
 
-  pub end_reads : (i : Inst) → IsInstPrintable functions i → IsTrue (is_terminator i.op) → RowStands text functions after n.Terminator i
-  end_reads i h last =
-      let same : only_row (parts_of i.op) i ≡ i = only_row_same i h.parts in
-      subst (RowStands text functions after n.Terminator) same (end_of i.op i (subst (IsInstPrintable functions) (sym same) h) last)
+      abbrev whole : List PartValue
+      whole = front ++ (r.commas ++ (r.inner.values ++ q.values))
+
+      abbrev before : List PartValue
+      before = front ++ r.commas
+
+      same_whole : whole ≡ before ++ (r.inner.values ++ q.values)
+      same_whole = sym (append_assoc front r.commas (r.inner.values ++ q.values))
+
+      same_at : at ≡ length before
+      same_at = ap (λ ss. length front + length ss) (comma_first_is i.op done here others) ∙ ap (λ n. length front + n) (sym (as_many r.led)) ∙ sym (length-append front r.commas)
+
+      -- the part at its place
+      part_is : (w : WrittenInst) → with_part i.op here at whole w ≡ with_part i.op here 0 (r.inner.values ++ q.values) w
+      part_is w = (λ j. with_part i.op here (same_at j) (same_whole j) w) ∙ with_part_moved before (r.inner.values ++ q.values) i.op here w
+
+      fault_is : (w : WrittenInst) → fault_of_part i.op here at whole w ≡ fault_of_part i.op here 0 (r.inner.values ++ q.values) w
+      fault_is w = (λ j. fault_of_part i.op here (same_at j) (same_whole j) w) ∙ fault_moved before (r.inner.values ++ q.values) i.op here w
+
+      -- the parts behind it
+      abbrev passed : List PartValue
+      passed = before ++ r.inner.values
+
+      whole_passed : whole ≡ passed ++ q.values
+      whole_passed = same_whole ∙ sym (append_assoc before r.inner.values q.values)
+
+      at_passed : behind_part i.op here others at ≡ length passed + length (comma_behind i.op here others)
+      at_passed =
+          let e : at ≡ length before = same_at in
+          let m : length r.inner.values ≡ length (symbols_of i.op here) = as_many r.inner.reads in
+          let l : length passed ≡ length before + length r.inner.values = length-append before r.inner.values in
+          omega (arith, e, m, l)
+
+    with_others : ReadsRow text functions i (here ∷ others) done all left after
+    unfolding earlier
+    with_others = record {
+      values = r.commas ++ (r.inner.values ++ q.values);
+      reads = behind r.led (behind r.inner.reads q.reads);
+      written = λ front w is.
+          subst (IsInstWritten functions (so_far (turned others (here ∷ done)) i.operands i))
+          (sym (λ j. with_parts i.op others (at_passed front j) (whole_passed front j) (part_is front w j)))
+          (q.written (passed front) (with_part i.op here 0 (r.inner.values ++ q.values) w) (r.inner.stands q.values w is).0);
+      faultless = λ front w is.
+          (λ j. parts_fault i.op others (at_passed front j) (whole_passed front j) (part_is front w j) ((fault_is front w ∙ (r.inner.stands q.values w is).1) j))
+          ∙ q.faultless (passed front) (with_part i.op here 0 (r.inner.values ++ q.values) w) (r.inner.stands q.values w is).0;
+    }
+
+  -- the parts from one on
+  parts_read : (parts done : List Part) (os all left : List Operand) → IsTrue (are_fit i.op done parts) → AreInRow i.op parts → AreLeft i parts os all left
+      → ReadsRow text functions i parts done all (parts_text functions i (last_of done) os parts ++ after) after
+  parts_read [] done os all left fit within operands =
+      record { values = []; reads = reads.nothing; written = λ front w is. subst (λ os. IsInstWritten functions (so_far done os i) w) (all_taken operands) is; faultless = λ front w is. refl }
+  parts_read (here ∷ others) done os all left fit within operands =
+      let fits_here = first_of_both (fits i.op done here others) (are_fit i.op (here ∷ done) others) fit in
+      let others_text = parts_text functions i (Some here) (operands_after here os) others in
+      let others_end = parts_end text functions i h others (here ∷ done) (operands_after here os) after ends in
+      let more = parts_read others (here ∷ done) (operands_after here os) (taken_by here all left) (left_by here left)
+      (second_of_both (fits i.op done here others) (are_fit i.op (here ∷ done) others) fit)
+      (λ test there. within test (either_second (test here) (list_any test others) there))
+      (next_operands done here others fits_here operands) in
+      rw (append_assoc (part_text functions i os (gap (last_of done) here) here) others_text after)
+      (with_others here others done all (taken_by here all left) _ _ (part_reads text functions i h done os all left (others_text ++ after) others_end here others fits_here within operands) more)
+
+  -- the whole row
+  row_stands : RowStands text functions after (row_part i.op) i
+  unfolding body written meaning part_fault row_body inst_of spelling
+  row_stands =
+      let row = parts_read (parts_of i.op) [] i.operands [] i.operands (rows_fit i.op) (λ test there. there)
+      (record { are = h.parts.operands; shown = inr refl; joined = refl; small = h.operands; types = h.types.operands }) in
+      let behind_name = parts_text functions i None i.operands (parts_of i.op) ++ after in
+      let name = leaf_of (lexeme_before text kind.Word (mnemonic_of i.op) behind_name) in
+      let begun = bare_inst i.op (token_of name).place in
+      rw (append_assoc (mnemonic_of i.op) (parts_text functions i None i.operands (parts_of i.op)) after)
+      (stands_by (p.Row i.op) _
+      (keyword_here (k.Mnemonic i.op) (mnemonic_is_word i.op) (parts_end text functions i h (parts_of i.op) [] i.operands after ends)
+      (subst (λ ss. Reads text ss behind_name row.values after) (sym (parts_row_is i.op (parts_of i.op))) row.reads))
+      (row.faultless (name ∷ []) begun (mnemonic_written functions i.op _))
+      (subst (λ i. IsInstWritten functions i (with_parts i.op (parts_of i.op) 1 (name ∷ row.values) begun)) (all_kept i h.parts)
+      (row.written (name ∷ []) begun (mnemonic_written functions i.op _))))
+
+  pub row_reads : IsFalse (is_terminator i.op) → RowStands text functions after n.Row i
+  unfolding row_part ends_block
+  row_reads inside = subst (λ last. RowStands text functions after (if last then n.Terminator else n.Row) i) inside row_stands
+
+  pub end_reads : IsTrue (is_terminator i.op) → RowStands text functions after n.Terminator i
+  unfolding row_part ends_block
+  end_reads last = subst (λ last. RowStands text functions after (if last then n.Terminator else n.Row) i) last row_stands

@@ -16,7 +16,6 @@ use Rattle.token_classes.specs.declared.classes.AtWord.TheVariants as a
 use Rattle.sil_shape.specs.declared.grammar.Nonterminal.TheVariants as n
 use Rattle.sil_shape.specs.declared.grammar.Production.TheVariants as p
 use Rattle.sil_shape.specs.declared.grammar.Symbol.TheVariants.{Part}
-use Rattle.sil_shape.specs.Accepts.{accepts, at_number, class_number, keyword_number, punctuation_number}
 use Rattle.sil_shape.specs.Grammar.{body, written}
 use Rattle.token_classes.specs.Spelling.{at_spelling, at_word_of, at_words, keyword_of, keywords, known_at_word, known_keyword, punctuation_of, punctuation_spelling, signs, spelling}
 use Rattle.sil_rules.specs.declared.limit_word.LimitWord.TheVariants as limit
@@ -172,7 +171,7 @@ module _ (text : List ℕ) where
 
   -- results in parentheses
   results_between : (givens : List Given) → Each HasGivenType givens → ReadsAs text (Part n.Results) (AreGivenValues givens) (in_parens given_text givens)
-  unfolding body written part_fault meaning givens_of accepts class_number punctuation_number punctuation_of punctuation_spelling signs
+  unfolding body written part_fault meaning givens_of punctuation_of punctuation_spelling signs
   results_between givens types after ends =
       let each = Each-weaker HasGivenType (λ given. ReadsAs text (Part n.Given) (IsGivenValue given) (given_text given)) (λ given plain. given_reads given.owned given.ty plain) givens types in
       let r = list_reads text (Part n.Given) n.MoreGivens IsGivenValue AreGivenValues given_text n.ResultsInside all_givens givens each (41 ∷ after) refl in
@@ -213,7 +212,7 @@ convention_text-word convention.Thin = refl
 convention_text-word convention.Method = refl
 
 convention_reads : (text : List ℕ) (c : Convention) → ReadsAs text (Part n.Convention) (λ x. convention_of x ≡ c) (convention_word c)
-unfolding body written part_fault meaning convention_of accepts class_number keyword_number keyword_of known_keyword keywords spelling
+unfolding body written part_fault meaning convention_of keyword_of known_keyword keywords spelling
 convention_reads text convention.Thin after ends = record { value = _; stands = refl; reads = reads.rule p.Thin (word_token (codes "thin") refl refl ends reads.nothing) refl reads.nothing }
 convention_reads text convention.Method after ends = record { value = _; stands = refl; reads = reads.rule p.Method (word_token (codes "method") refl refl ends reads.nothing) refl reads.nothing }
 
@@ -243,7 +242,7 @@ same_signature c params results s e f g =
 
 pub signature_reads : (text : List ℕ) (s : Signature) (after : List ℕ) → HasSignatureTypes s → IsSignatureInLimits s → Ends after
     → Stands text n.FunctionType (λ x. signature_of x ≡ s) (signature_text s ++ after) after
-unfolding body written part_fault meaning signature_of accepts class_number at_number punctuation_number punctuation_of punctuation_spelling signs at_word_of known_at_word at_words at_spelling
+unfolding body written part_fault meaning signature_of punctuation_of punctuation_spelling signs at_word_of known_at_word at_words at_spelling
 signature_reads text s after types limits ends =
     let results = results_read text s.results types.results after ends in
     let params = params_read text s.params types.params (codes ") -> " ++ (results_text s.results ++ after)) refl in

@@ -19,7 +19,6 @@ use Rattle.token_classes.specs.declared.classes.Class.TheVariants as c
 use Rattle.sil_shape.specs.declared.grammar.Symbol.{Symbol}
 use Rattle.sil_shape.specs.declared.grammar.Symbol.TheVariants.{Read}
 use Rattle.sil_shape.specs.declared.grammar.Terminal.TheVariants as t
-use Rattle.sil_shape.specs.Accepts.{accepts, class_number}
 use Rattle.builtin_names.specs.BuiltinNames.{is_builtin_name}
 use Rattle.sil_shape.specs.Derivation.{Accepts}
 use Rattle.token_classes.specs.Spelling.{at_word_of, keyword_of, punctuation_of}
@@ -143,7 +142,7 @@ at_token name spelled accepted ends r =
 pub value_token : {text : List ℕ} {ss : List Symbol} {rest : List ℕ} {values : List PartValue} {after : List ℕ} → (n : ℕ)
     → IsSmall n → Ends rest → Reads text ss rest values after
     → Reads text (Read (t.Just c.Percent) ∷ ss) (37 ∷ decimal n ++ rest) (leaf_of (lexeme_before text kind.Percent (37 ∷ decimal n) rest) ∷ values) after
-unfolding class_by accepts class_number
+unfolding class_by
 value_token n small ends r =
     let few : length (decimal n) ≤ 4 = short_decimal n small in
     reads.token kind.Percent (37 ∷ decimal n) refl
@@ -154,14 +153,13 @@ value_token n small ends r =
 pub label_token : {text : List ℕ} {ss : List Symbol} {rest : List ℕ} {values : List PartValue} {after : List ℕ} → (n : ℕ)
     → IsSmall n → Ends rest → Reads text ss rest values after
     → Reads text (Read t.AnyWord ∷ ss) (98 ∷ 98 ∷ decimal n ++ rest) (leaf_of (lexeme_before text kind.Word (98 ∷ 98 ∷ decimal n) rest) ∷ values) after
-unfolding accepts
 label_token n small ends r = word_token (98 ∷ 98 ∷ decimal n) (label_is_word n small) refl ends r
 
 -- `12` and `-12`
 pub number_token : {text : List ℕ} {ss : List Symbol} {values : List PartValue} {after : List ℕ} → (z : ℤ) (rest : List ℕ)
     → mag z < 2 ^ 63 → Ends rest → Reads text ss rest values after
     → Reads text (Read (t.Just c.Number) ∷ ss) (signed_decimal z ++ rest) (leaf_of (lexeme_before text kind.Number (signed_decimal z) rest) ∷ values) after
-unfolding class_by accepts class_number
+unfolding class_by
 number_token (pos n) rest small ends r =
     reads.token kind.Number (decimal n) refl
     (record { spelled = number_spells (decimal n) (decimal_digits n (omega arith)) (decimal_nonempty n (omega arith)); ended = no_digit_behind rest ends })

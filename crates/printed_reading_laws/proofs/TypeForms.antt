@@ -13,7 +13,7 @@ use Rattle.sil_shape.specs.declared.grammar.Nonterminal.TheVariants as n
 use Rattle.sil_shape.specs.declared.grammar.Production.{Production}
 use Rattle.sil_shape.specs.declared.grammar.Production.TheVariants as p
 use Rattle.sil_shape.specs.declared.grammar.Symbol.TheVariants.{Read, Part}
-use Rattle.sil_shape.specs.Accepts.{accepts, class_number, is_type_word, keyword_number, punctuation_number}
+use Rattle.sil_shape.specs.Accepts.{is_type_word}
 use Rattle.sil_shape.specs.Grammar as grammar
 use Rattle.sil_shape.specs.Grammar.{body, written}
 use Rattle.sil_shape.specs.Terminals.{word}
@@ -67,7 +67,6 @@ data WordSort : Keyword → Type 0 where
   other : {keyword : Keyword} → IsTrue (is_type_word keyword) → WordSort keyword
 
 sort_of : (keyword : Keyword) → WordSort keyword
-unfolding is_type_word
 sort_of k.Builtin = builtin
 sort_of k.Optional = optional
 sort_of _ = other refl
@@ -75,7 +74,7 @@ sort_of _ = other refl
 module _ (text : List ℕ) where
   name_reads : (name : List ℕ) (keyword : Keyword) → keyword_of name ≡ keyword → WordSort keyword → IsTrue (is_word name)
       → ReadsAs text (Part n.Base) (IsTypeOf (ty.Named name) 1) name
-  unfolding body written meaning part_fault type_of token_of tailed kept_of accepts
+  unfolding body written meaning part_fault type_of token_of tailed kept_of
   name_reads name _ e builtin spelled after ends = record {
     value = _;
     stands = (refl, refl);
@@ -104,7 +103,7 @@ module _ (text : List ℕ) where
       → ((token : WrittenToken) (parts : List PartValue) → ((tailed token (meaning rule parts)).ty ≡ ty.Int width) × ((tailed token (meaning rule parts)).depth ≡ 1))
       → IsTrue (is_word (codes "Int" ++ decimal width)) → keyword_of (codes "Int" ++ decimal width) ≡ keyword
       → ReadsAs text (Part n.OpenType) (IsTypeOf (ty.Int width) 1) (codes "Builtin.Int" ++ decimal width)
-  unfolding body written meaning part_fault type_of token_of kept_of accepts class_number keyword_number punctuation_number punctuation_of punctuation_spelling signs keyword_of known_keyword keywords spelling
+  unfolding body written meaning part_fault type_of token_of kept_of punctuation_of punctuation_spelling signs keyword_of known_keyword keywords spelling
   by_width width keyword rule is_written is_body faultless makes spelled known after ends = base_open text (ty.Int width) 1 (record {
     value = _;
     stands = makes _ _;
@@ -165,7 +164,7 @@ module _ (text : List ℕ) (t : TypeName) (depth : ℕ) (written : List ℕ) (in
       (λ sigil inner is. no_room_needed (type_of inner) depth _ is.1 room) (inside after ends)
 
   pub optional_reads : ReadsAs text (Part n.OpenType) (IsTypeOf (ty.Optional t) (1 + depth)) (codes "Optional<" ++ written ++ codes ">")
-  unfolding body grammar.written meaning part_fault type_of tailed accepts class_number keyword_number punctuation_number punctuation_of punctuation_spelling signs keyword_of known_keyword keywords spelling
+  unfolding body grammar.written meaning part_fault type_of tailed punctuation_of punctuation_spelling signs keyword_of known_keyword keywords spelling
   optional_reads after ends =
       let r = inside (62 ∷ after) refl in
       rw (append_assoc written (codes ">") after) (base_open text (ty.Optional t) (1 + depth) (record {

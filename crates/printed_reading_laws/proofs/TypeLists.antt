@@ -11,7 +11,6 @@ use Rattle.sil_printer.specs.Words.{listed, in_parens}
 use Rattle.sil_shape.specs.declared.grammar.Nonterminal.TheVariants as n
 use Rattle.sil_shape.specs.declared.grammar.Production.TheVariants as p
 use Rattle.sil_shape.specs.declared.grammar.Symbol.TheVariants.{Part}
-use Rattle.sil_shape.specs.Accepts.{accepts, class_number, punctuation_number}
 use Rattle.sil_shape.specs.Grammar.{body, written}
 use Rattle.token_classes.specs.Spelling.{punctuation_of, punctuation_spelling, signs}
 use Rattle.sil_rules.specs.declared.limit_word.LimitWord.TheVariants as limit
@@ -122,7 +121,7 @@ module _ (text : List ℕ) where
   pub tuple_reads : (ts : List TypeName) → Each (λ t. ReadsAs text (Part n.Type) (IsType t) (type_text t)) ts
       → (length ts == 1) ≡ false → length ts ≤ 64 → 1 + largest (map depth_of ts) ≤ 32
       → ReadsAs text (Part n.Type) (IsTypeOf (ty.Tuple ts) (1 + largest (map depth_of ts))) (in_parens type_text ts)
-  unfolding body written part_fault meaning type_of types_of questions_of accepts class_number punctuation_number punctuation_of punctuation_spelling signs
+  unfolding body written part_fault meaning type_of types_of questions_of punctuation_of punctuation_spelling signs
   tuple_reads ts each several few room after ends =
       let r = list_reads text (Part n.Type) n.MoreTypes IsType AreTypesOf type_text n.Types all_types ts each (41 ∷ after) refl in
       rw (append_assoc (listed type_text ts) (codes ")") after) (record {
@@ -138,7 +137,7 @@ module _ (text : List ℕ) where
       → ((list : PartTypes) (first last : Place) → AreTypes (t ∷ ts) list → (between list.types list.depth first last).ty ≡ whole)
       → ((list : PartTypes) (last : Place) → AreTypes (t ∷ ts) list → tuple_fault list last ≡ None)
       → (after : List ℕ) → Stands text n.Payload (λ x. payload_of x ≡ Some whole) (in_parens type_text (t ∷ ts) ++ after) after
-  unfolding body written part_fault meaning payload_of accepts class_number punctuation_number punctuation_of punctuation_spelling signs
+  unfolding body written part_fault meaning payload_of punctuation_of punctuation_spelling signs
   parens_payload t ts whole each makes faultless after =
       let r = listed_reads text (Part n.Type) n.MoreTypes IsType AreTypesOf type_text more_types t ts each.0 each.1 (41 ∷ after) refl in
       let are = one_in_front t ts (type_of r.first) (types_of r.others) r.is_first.0 r.is_first.1 r.are_others in

@@ -14,7 +14,6 @@ use Rattle.sil_printer.specs.Words.{in_parens}
 use Rattle.sil_shape.specs.declared.grammar.Nonterminal.TheVariants as n
 use Rattle.sil_shape.specs.declared.grammar.Production.TheVariants as p
 use Rattle.sil_shape.specs.declared.grammar.Symbol.TheVariants.{Part}
-use Rattle.sil_shape.specs.Accepts.{accepts, class_number, punctuation_number}
 use Rattle.sil_shape.specs.Grammar.{body, written}
 use Rattle.token_classes.specs.Spelling.{punctuation_of, punctuation_spelling, signs}
 use Rattle.written_modules.specs.Meaning.{meaning}
@@ -149,7 +148,7 @@ unplaced text t plain after ends =
     record { star = _; inside = r.value; stands = r.stands.ty; reads = reads.rule p.StarNone reads.nothing refl r.reads }
 
 placed_address : (text : List ℕ) (t : TypeName) → IsPlainType t → (after : List ℕ) → Ends after → ReadsPlaced text (Address t) (type_text (Address t) ++ after) after
-unfolding body written part_fault meaning starred accepts class_number punctuation_number punctuation_of punctuation_spelling signs
+unfolding body written part_fault meaning starred punctuation_of punctuation_spelling signs
 placed_address text t plain after ends =
     let r = type_reads text t after plain ends in
     rw (type_text-Address t) (record {

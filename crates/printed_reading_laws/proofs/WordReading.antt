@@ -1,6 +1,5 @@
 -- Tokens that spell a word which the grammar knows, and types behind such a word.
-use Rattle.std.proofs.Common.{◌≡◌, ℕ, List, [], ◌∷◌, ◌++◌, None, true, ◌==◌, IsTrue, refl, ap, ◌∙◌, arith}
-use Rattle.std.proofs.lemmas.Bool.Decides.{nat_tests}
+use Rattle.std.proofs.Common.{◌≡◌, ℕ, List, [], ◌∷◌, ◌++◌, None, IsTrue, refl, ap, sym}
 use Rattle.token_classes.specs.declared.classes.AtWord.{AtWord}
 use Rattle.token_classes.specs.declared.classes.Class.TheVariants as c
 use Rattle.token_classes.specs.declared.classes.Keyword.{Keyword}
@@ -8,7 +7,7 @@ use Rattle.sil_shape.specs.declared.grammar.Nonterminal.{Nonterminal}
 use Rattle.sil_shape.specs.declared.grammar.Nonterminal.TheVariants as n
 use Rattle.sil_shape.specs.declared.grammar.Production.{Production}
 use Rattle.sil_shape.specs.declared.grammar.Symbol.TheVariants.{Read, Part}
-use Rattle.sil_shape.specs.Accepts.{accepts, class_number}
+use Rattle.sil_shape.specs.Accepts.{Suits}
 use Rattle.sil_shape.specs.Grammar.{body, written}
 use Rattle.sil_shape.specs.Terminals.{at, word}
 use Rattle.token_classes.specs.Spelling.{at_spelling, at_word_of, keyword_of}
@@ -20,17 +19,12 @@ use Rattle.printed_reading_laws.proofs.Commas.{by_rule}
 use Rattle.printed_reading_laws.proofs.Pieces.{Reads as reads, Stands}
 use Rattle.printed_reading_laws.proofs.Tokens.{at_token}
 
-itself : (number : ℕ) → (number == number) ≡ true
-itself number = grind (arith, nat_tests)
-
 -- a word is one that is asked for where it spells it
-pub word_accepted : (name : List ℕ) (keyword : Keyword) → keyword_of name ≡ keyword → accepts (word keyword) (c.Word (keyword_of name)) ≡ true
-unfolding accepts
-word_accepted name keyword e = ap (λ known. class_number (c.Word keyword) == class_number (c.Word known)) e ∙ itself (class_number (c.Word keyword))
+pub word_accepted : (name : List ℕ) (keyword : Keyword) → keyword_of name ≡ keyword → Suits (word keyword) (c.Word (keyword_of name))
+word_accepted name keyword e = ap c.Word (sym e)
 
-pub at_accepted : (name : List ℕ) (known : AtWord) → at_word_of name ≡ known → accepts (at known) (c.At (at_word_of name)) ≡ true
-unfolding accepts
-at_accepted name known e = ap (λ found. class_number (c.At known) == class_number (c.At found)) e ∙ itself (class_number (c.At known))
+pub at_accepted : (name : List ℕ) (known : AtWord) → at_word_of name ≡ known → Suits (at known) (c.At (at_word_of name))
+at_accepted name known e = ap c.At (sym e)
 
 -- `@owned T`: a word, a blank and a type
 pub worded_reads : {text : List ℕ} {part : Nonterminal} {P Q : PartValue → Type 0} {left after : List ℕ} → (rule : Production) (known : AtWord)

@@ -1,7 +1,8 @@
 -- What is written of an instruction, part by part.
-use Rattle.std.proofs.Common.{◌≡◌, ℕ, List, Option, Some, Bool, refl, ap}
+use Rattle.std.proofs.Common.{◌≡◌, ℕ, List, Option, Some, Bool, refl}
 use Rattle.std.specs.Prelude.{ℤ}
 use Rattle.std.specs.List.{AllZip}
+use Rattle.std.specs.Option.{option_map}
 use Rattle.sil_ast.specs.declared.debug.Debug.{Debug}
 use Rattle.sil_ast.specs.declared.function.Function.{Function}
 use Rattle.sil_ast.specs.declared.inst.Edge.{Edge}
@@ -81,13 +82,13 @@ with_operands functions i w os ws h operands = record {
   edges = h.edges;
 }
 
-pub with_type : (functions : List Function) (i : Inst) (w : WrittenInst) (t u : TypeName) → IsInstWritten functions i w → u ≡ t
-    → IsInstWritten functions (record i { ty = Some t }) (record w { ty = Some u })
+pub with_type : (functions : List Function) (i : Inst) (w : WrittenInst) (t : Option TypeName) (u : TypeName) → IsInstWritten functions i w → Some u ≡ t
+    → IsInstWritten functions (record i { ty = t }) (record w { ty = Some u })
 with_type functions i w t u h same = record {
   op = h.op;
   results = h.results;
   operands = h.operands;
-  ty = ap Some same;
+  ty = same;
   signature = h.signature;
   function = h.function;
   member = h.member;
@@ -100,14 +101,14 @@ with_type functions i w t u h same = record {
   edges = h.edges;
 }
 
-pub with_signature : (functions : List Function) (i : Inst) (w : WrittenInst) (s u : Signature) → IsInstWritten functions i w → u ≡ s
-    → IsInstWritten functions (record i { signature = Some s }) (record w { signature = Some u })
+pub with_signature : (functions : List Function) (i : Inst) (w : WrittenInst) (s : Option Signature) (u : Signature) → IsInstWritten functions i w → Some u ≡ s
+    → IsInstWritten functions (record i { signature = s }) (record w { signature = Some u })
 with_signature functions i w s u h same = record {
   op = h.op;
   results = h.results;
   operands = h.operands;
   ty = h.ty;
-  signature = ap Some same;
+  signature = same;
   function = h.function;
   member = h.member;
   number = h.number;
@@ -119,15 +120,15 @@ with_signature functions i w s u h same = record {
   edges = h.edges;
 }
 
-pub with_function : (functions : List Function) (i : Inst) (w : WrittenInst) (f : FuncId) (token : WrittenToken) → IsInstWritten functions i w → token.text ≡ name_in functions f
-    → IsInstWritten functions (record i { function = Some f }) (record w { function = Some token })
+pub with_function : (functions : List Function) (i : Inst) (w : WrittenInst) (f : Option FuncId) (token : WrittenToken) → IsInstWritten functions i w → Some token.text ≡ option_map (name_in functions) f
+    → IsInstWritten functions (record i { function = f }) (record w { function = Some token })
 with_function functions i w f token h same = record {
   op = h.op;
   results = h.results;
   operands = h.operands;
   ty = h.ty;
   signature = h.signature;
-  function = ap Some same;
+  function = same;
   member = h.member;
   number = h.number;
   text = h.text;
@@ -138,8 +139,8 @@ with_function functions i w f token h same = record {
   edges = h.edges;
 }
 
-pub with_member : (functions : List Function) (i : Inst) (w : WrittenInst) (m u : Member) → IsInstWritten functions i w → u ≡ m
-    → IsInstWritten functions (record i { member = Some m }) (record w { member = Some u })
+pub with_member : (functions : List Function) (i : Inst) (w : WrittenInst) (m : Option Member) (u : Member) → IsInstWritten functions i w → Some u ≡ m
+    → IsInstWritten functions (record i { member = m }) (record w { member = Some u })
 with_member functions i w m u h same = record {
   op = h.op;
   results = h.results;
@@ -147,7 +148,7 @@ with_member functions i w m u h same = record {
   ty = h.ty;
   signature = h.signature;
   function = h.function;
-  member = ap Some same;
+  member = same;
   number = h.number;
   text = h.text;
   qualifier = h.qualifier;
@@ -176,8 +177,8 @@ with_number functions i w n u h same = record {
   edges = h.edges;
 }
 
-pub with_text : (functions : List Function) (i : Inst) (w : WrittenInst) (t u : List ℕ) → IsInstWritten functions i w → u ≡ t
-    → IsInstWritten functions (record i { text = Some t }) (record w { text = Some u })
+pub with_text : (functions : List Function) (i : Inst) (w : WrittenInst) (t : Option (List ℕ)) (u : List ℕ) → IsInstWritten functions i w → Some u ≡ t
+    → IsInstWritten functions (record i { text = t }) (record w { text = Some u })
 with_text functions i w t u h same = record {
   op = h.op;
   results = h.results;
@@ -187,7 +188,7 @@ with_text functions i w t u h same = record {
   function = h.function;
   member = h.member;
   number = h.number;
-  text = ap Some same;
+  text = same;
   qualifier = h.qualifier;
   lexical = h.lexical;
   var_decl = h.var_decl;

@@ -14,7 +14,7 @@ use Rattle.sil_shape.specs.declared.grammar.Symbol.{Symbol}
 use Rattle.sil_shape.specs.declared.grammar.Symbol.TheVariants.{Read, Part}
 use Rattle.sil_shape.specs.declared.grammar.Production.{Production}
 use Rattle.sil_shape.specs.declared.grammar.Production.TheVariants as p
-use Rattle.sil_shape.specs.Accepts.{keyword_number, at_number, punctuation_number, class_number, is_type_word, accepts}
+use Rattle.sil_shape.specs.ClassNumbers.{keyword_number, at_number, punctuation_number, class_number, accepts}
 use Rattle.sil_shape.specs.Grammar.{written, body, alternatives}
 use Rattle.sil_shape.specs.Shortest.{shortest}
 use Rattle.sil_shape.specs.Choice.{starts, empty_choice, has_class, has, started, row_inside, row_at_end, or_empty, choose}
@@ -103,21 +103,21 @@ example t.EndWord = c.Word (k.Mnemonic op.Br)
 example (t.Just wanted) = wanted
 
 pub computed_first : (p : Production) → each_look (λ l. implies (begins (body p) l) (has (first (written p)) l)) ≡ true
-unfolding written body first follow ends follows nullable has has_class accepts is_type_word keyword_number at_number punctuation_number class_number begins_one begins vanishes_one vanishes implies comes each_look all_looks fixed_looks row_body row_part ends_block parts_row symbols_of comma_behind comma_between brings_comma operand_of member_of qualifier_of text_of edges_of
+unfolding written body first follow ends follows nullable has has_class accepts keyword_number at_number punctuation_number class_number begins_one begins vanishes_one vanishes implies comes each_look all_looks fixed_looks row_body row_part ends_block parts_row symbols_of comma_behind comma_between brings_comma operand_of member_of qualifier_of text_of edges_of
 computed_first p.WholeModule = refl
 computed_first (p.Row op.IntegerLiteral) = refl
 computed_first (p.Row _) = refl
 computed_first _ = refl
 
 pub computed_nullable : (p : Production) → implies (vanishes (body p)) (nullable (written p)) ≡ true
-unfolding written body first follow ends follows nullable has has_class accepts is_type_word keyword_number at_number punctuation_number class_number begins_one begins vanishes_one vanishes implies comes each_look all_looks fixed_looks row_body row_part ends_block parts_row symbols_of comma_behind comma_between brings_comma operand_of member_of qualifier_of text_of edges_of
+unfolding written body first follow ends follows nullable has has_class accepts keyword_number at_number punctuation_number class_number begins_one begins vanishes_one vanishes implies comes each_look all_looks fixed_looks row_body row_part ends_block parts_row symbols_of comma_behind comma_between brings_comma operand_of member_of qualifier_of text_of edges_of
 computed_nullable p.WholeModule = refl
 computed_nullable (p.Row op.IntegerLiteral) = refl
 computed_nullable (p.Row _) = refl
 computed_nullable _ = refl
 
 pub computed_follow : (p : Production) → fits (written p) (body p) ≡ true
-unfolding written body first follow ends follows nullable has has_class accepts is_type_word keyword_number at_number punctuation_number class_number begins_one begins vanishes_one vanishes implies comes each_look all_looks fixed_looks fits fits_one row_body row_part ends_block parts_row symbols_of comma_behind comma_between brings_comma operand_of member_of qualifier_of text_of edges_of
+unfolding written body first follow ends follows nullable has has_class accepts keyword_number at_number punctuation_number class_number begins_one begins vanishes_one vanishes implies comes each_look all_looks fixed_looks fits fits_one row_body row_part ends_block parts_row symbols_of comma_behind comma_between brings_comma operand_of member_of qualifier_of text_of edges_of
 computed_follow p.WholeModule = refl
 computed_follow (p.Row op.IntegerLiteral) = refl
 computed_follow (p.Row _) = refl
@@ -125,19 +125,19 @@ computed_follow _ = refl
 
 -- the next token chooses each production: no two begin alike
 pub computed_choice : (p : Production) → each_look (λ l. implies (comes (written p) (body p) l) (is_it (choose (written p) l) p)) ≡ true
-unfolding written body first follow ends follows nullable has has_class accepts is_type_word keyword_number at_number punctuation_number class_number begins_one begins vanishes_one vanishes implies comes each_look all_looks fixed_looks choose started row_inside row_at_end or_empty alternatives starts empty_choice is_it production_number row_body row_part ends_block parts_row symbols_of comma_behind comma_between brings_comma operand_of member_of qualifier_of text_of edges_of
+unfolding written body first follow ends follows nullable has has_class accepts keyword_number at_number punctuation_number class_number begins_one begins vanishes_one vanishes implies comes each_look all_looks fixed_looks choose started row_inside row_at_end or_empty alternatives starts empty_choice is_it production_number row_body row_part ends_block parts_row symbols_of comma_behind comma_between brings_comma operand_of member_of qualifier_of text_of edges_of
 computed_choice p.WholeModule = refl
 computed_choice (p.Row op.IntegerLiteral) = refl
 computed_choice (p.Row _) = refl
 computed_choice _ = refl
 
 pub computed_way : (part : Nonterminal) → each_look (λ l. is_way (choose part l) part) ≡ true
-unfolding written body first follow ends follows nullable has has_class accepts is_type_word keyword_number at_number punctuation_number class_number begins_one begins vanishes_one vanishes implies comes each_look all_looks fixed_looks choose started row_inside row_at_end or_empty alternatives starts empty_choice is_way part_number row_body row_part ends_block parts_row symbols_of comma_behind comma_between brings_comma operand_of member_of qualifier_of text_of edges_of
+unfolding written body first follow ends follows nullable has has_class accepts keyword_number at_number punctuation_number class_number begins_one begins vanishes_one vanishes implies comes each_look all_looks fixed_looks choose started row_inside row_at_end or_empty alternatives starts empty_choice is_way part_number row_body row_part ends_block parts_row symbols_of comma_behind comma_between brings_comma operand_of member_of qualifier_of text_of edges_of
 computed_way n.Module = refl
 computed_way _ = refl
 
 pub computed_weight : (p : Production) → nat_lt (lead (body p)) (weight (written p)) ≡ true
-unfolding written body first follow ends follows nullable has has_class accepts is_type_word keyword_number at_number punctuation_number class_number begins_one begins vanishes_one vanishes implies comes each_look all_looks fixed_looks lead weight_one if_vanishes weight row_body row_part ends_block parts_row symbols_of comma_behind comma_between brings_comma operand_of member_of qualifier_of text_of edges_of
+unfolding written body first follow ends follows nullable has has_class accepts keyword_number at_number punctuation_number class_number begins_one begins vanishes_one vanishes implies comes each_look all_looks fixed_looks lead weight_one if_vanishes weight row_body row_part ends_block parts_row symbols_of comma_behind comma_between brings_comma operand_of member_of qualifier_of text_of edges_of
 computed_weight p.WholeModule = refl
 computed_weight (p.Row op.IntegerLiteral) = refl
 computed_weight (p.Row _) = refl

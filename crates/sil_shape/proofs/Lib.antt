@@ -4,7 +4,7 @@ pub mod ValuesLemmas
 pub mod Sets
 pub mod Numbered
 pub mod ChoiceLemmas
-pub mod ClassNumbers
+pub mod SuitsLemmas
 pub mod Computed
 pub mod Shortened
 pub mod NextClasses

@@ -14,6 +14,7 @@ use Rattle.sil_shape.specs.declared.steps.Step.{Step}
 use Rattle.sil_shape.specs.declared.steps.Step.TheVariants.{Expand}
 use Rattle.sil_shape.specs.Derivation.{Accepts, Derives, nothing, token, rule}
 use Rattle.sil_shape.proofs.Sets.{first, nullable}
+use Rattle.sil_shape.proofs.SuitsLemmas.{accepts-suits}
 use Rattle.sil_shape.proofs.Numbered.{each_look-at, same_production, same_part}
 use Rattle.sil_shape.proofs.Computed.{follows, begins_one, begins, vanishes_one, vanishes, implies, comes, fits_one, fits, is_it, is_way, computed_first, computed_nullable, computed_follow, computed_choice, computed_way, follows-start}
 
@@ -88,7 +89,7 @@ starts_later s ss l v h =
 
 accepted : (s : Symbol) (k : Class) → Accepts s k → begins_one s (Some k) ≡ true
 unfolding begins_one
-accepted (Read t) k a = a
+accepted (Read t) k a = (accepts-suits t k).1 a
 accepted (Part part) k a = absurd a
 
 begins_part : (p : Production) (l : Option Class) → begins (body p) l ≡ true → begins_one (Part (written p)) l ≡ true

@@ -15,12 +15,13 @@ use Rattle.sil_shape.specs.declared.grammar.Nonterminal.{Nonterminal}
 use Rattle.sil_shape.specs.declared.grammar.Nonterminal.TheVariants as n
 use Rattle.sil_shape.specs.declared.grammar.Production.{Production}
 use Rattle.sil_shape.specs.declared.grammar.Production.TheVariants as p
-use Rattle.sil_shape.specs.Accepts.{keyword_number, at_number, punctuation_number, class_number}
+use Rattle.sil_shape.specs.ClassNumbers.{keyword_number, at_number, punctuation_number, class_number}
 
--- the end, and each class
+-- the end, and each class but the mnemonics
 unfoldable pub fixed_looks : List (Option Class)
 fixed_looks = None ∷ Some c.Percent ∷ Some c.Number ∷ Some c.BuiltinText ∷ Some c.OtherText ∷ Some (c.At a.Other) ∷ Some (c.At a.HasStorage) ∷ Some (c.At a.SilWeak) ∷ Some (c.At a.SilUnowned) ∷ Some (c.At a.Convention) ∷ Some (c.At a.Owned) ∷ Some (c.At a.Guaranteed) ∷ Some (c.At a.Inout) ∷ Some (c.Punctuation m.LeftBrace) ∷ Some (c.Punctuation m.RightBrace) ∷ Some (c.Punctuation m.LeftParen) ∷ Some (c.Punctuation m.RightParen) ∷ Some (c.Punctuation m.LeftBracket) ∷ Some (c.Punctuation m.RightBracket) ∷ Some (c.Punctuation m.Less) ∷ Some (c.Punctuation m.Greater) ∷ Some (c.Punctuation m.Comma) ∷ Some (c.Punctuation m.Colon) ∷ Some (c.Punctuation m.Dot) ∷ Some (c.Punctuation m.Question) ∷ Some (c.Punctuation m.Star) ∷ Some (c.Punctuation m.Equals) ∷ Some (c.Punctuation m.Bang) ∷ Some (c.Punctuation m.Dollar) ∷ Some (c.Punctuation m.Hash) ∷ Some (c.Punctuation m.Arrow) ∷ Some (c.Word k.Other) ∷ Some (c.Word k.SilStage) ∷ Some (c.Word k.Raw) ∷ Some (c.Word k.Canonical) ∷ Some (c.Word k.Import) ∷ Some (c.Word k.Final) ∷ Some (c.Word k.Class) ∷ Some (c.Word k.Sil) ∷ Some (c.Word k.SilVtable) ∷ Some (c.Word k.Deinit) ∷ Some (c.Word k.Init) ∷ Some (c.Word k.Weak) ∷ Some (c.Word k.Unowned) ∷ Some (c.Word k.Var) ∷ Some (c.Word k.Let) ∷ Some (c.Word k.Get) ∷ Some (c.Word k.Set) ∷ Some (c.Word k.Case) ∷ Some (c.Word k.Builtin) ∷ Some (c.Word k.Optional) ∷ Some (c.Word k.Int1) ∷ Some (c.Word k.Int8) ∷ Some (c.Word k.Int16) ∷ Some (c.Word k.Int32) ∷ Some (c.Word k.Int64) ∷ Some (c.Word k.Hidden) ∷ Some (c.Word k.Private) ∷ Some (c.Word k.Shared) ∷ Some (c.Word k.Public) ∷ Some (c.Word k.Thin) ∷ Some (c.Word k.Method) ∷ Some (c.Word k.To) ∷ Some (c.Word k.Default) ∷ Some (c.Word k.Enumelt) ∷ Some (c.Word k.Lexical) ∷ Some (c.Word k.VarDecl) ∷ Some (c.Word k.Copy) ∷ Some (c.Word k.Take) ∷ Some (c.Word k.Trivial) ∷ Some (c.Word k.Assign) ∷ Some (c.Word k.Initialization) ∷ Some (c.Word k.Name) ∷ Some (c.Word k.Argno) ∷ Some (c.Word k.Expr) ∷ Some (c.Word k.OpDeref) ∷ Some (c.Word k.Destroyer) ∷ []
 
+-- the end, and each class
 unfoldable pub all_looks : List (Option Class)
 all_looks = fixed_looks ++ map (λ o. Some (c.Word (k.Mnemonic o))) OPS
 

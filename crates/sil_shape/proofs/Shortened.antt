@@ -1,6 +1,6 @@
 -- The shortest way to write a stack: there is one, and it gives a list that the stack derives.
-use Rattle.std.proofs.Common.{◌≡◌, ℕ, zero, suc, ◌+◌, ◌<◌, List, [], ◌∷◌, ◌++◌, refl, sym, subst, append_assoc, arith, true}
-use Rattle.std.proofs.lemmas.Bool.{eq-eqb, eqb-true}
+use Rattle.std.proofs.Common.{◌≡◌, ℕ, zero, suc, ◌+◌, ◌<◌, List, [], ◌∷◌, ◌++◌, refl, sym, subst, append_assoc, arith}
+use Rattle.std.proofs.lemmas.Bool.{eqb-true}
 use Rattle.std.proofs.lemmas.List.{append-nil}
 use Rattle.token_classes.specs.declared.classes.Class.{Class}
 use Rattle.sil_shape.specs.declared.grammar.Terminal.{Terminal}
@@ -9,7 +9,7 @@ use Rattle.sil_shape.specs.declared.grammar.Symbol.{Symbol}
 use Rattle.sil_shape.specs.declared.grammar.Symbol.TheVariants.{Read, Part}
 use Rattle.sil_shape.specs.declared.steps.Step.{Step}
 use Rattle.sil_shape.specs.declared.steps.Step.TheVariants.{Expand}
-use Rattle.sil_shape.specs.Accepts.{accepts, is_type_word, class_number}
+use Rattle.sil_shape.specs.Accepts.{Suits}
 use Rattle.sil_shape.specs.Grammar.{body}
 use Rattle.sil_shape.specs.Rows.{ends_block}
 use Rattle.sil_shape.specs.Derivation.{Derives, nothing, token, rule}
@@ -33,15 +33,15 @@ needed-step (Part part) ss =
 pub fewer : (s : Symbol) {stack rest new : List Symbol} → stack ≡ s ∷ rest → new ≡ after_step s ++ rest → needed_all new < needed_all stack
 fewer s {rest = rest} popped pushed = rw (popped, pushed) (omega (arith, needed-step s rest))
 
-accepts-example : (t : Terminal) → accepts t (example t) ≡ true
-unfolding accepts example is_type_word class_number ends_block
-accepts-example t.AnyWord = refl
-accepts-example t.TypeWord = refl
-accepts-example t.AnyAt = refl
-accepts-example t.AnyText = refl
-accepts-example t.RowWord = refl
-accepts-example t.EndWord = refl
-accepts-example (t.Just wanted) = eq-eqb (class_number wanted) (class_number wanted) refl
+Suits-example : (t : Terminal) → Suits t (example t)
+unfolding example ends_block
+Suits-example t.AnyWord = refl
+Suits-example t.TypeWord = refl
+Suits-example t.AnyAt = refl
+Suits-example t.AnyText = refl
+Suits-example t.RowWord = refl
+Suits-example t.EndWord = refl
+Suits-example (t.Just wanted) = refl
 
 -- the classes that a step takes
 abbrev examples : Symbol → List Class
@@ -49,7 +49,7 @@ examples (Read t) = example t ∷ []
 examples (Part part) = []
 
 Derives-step : (s : Symbol) {ss : List Symbol} {ks : List Class} {more : List Step} → Derives (after_step s ++ ss) ks more → Derives (s ∷ ss) (examples s ++ ks) (shortest_step s ∷ more)
-Derives-step (Read t) d = token (accepts-example t) d
+Derives-step (Read t) d = token (Suits-example t) d
 Derives-step (Part part) {ss = ss} {ks = ks} {more = more} d =
     subst (λ x. Derives (Part x ∷ ss) ks (Expand (shortest part) ∷ more)) (shortest-way part) (rule (shortest part) d)
 

@@ -1,6 +1,6 @@
 -- Turns of the machine follow one another, and end.
 use Rattle.std.proofs.Common.{◌≡◌, ℕ, ◌+◌, ◌<◌, ◌≤◌, List, [], ◌∷◌, ◌++◌, refl, ap, sym, subst, ◌∙◌, arith, Bool, true, false}
-use Rattle.std.specs.Prelude.{Option, Some, None, ◌&&◌, drop, slice_get}
+use Rattle.std.specs.Prelude.{Option, Some, None, ◌&&◌, ◌↔◌, IsTrue, drop, slice_get}
 use Rattle.std.proofs.lemmas.Bool.{ltb-true}
 use Rattle.token_classes.specs.declared.classes.Class.{Class}
 use Rattle.sil_shape.specs.declared.grammar.Nonterminal.{Nonterminal}
@@ -11,6 +11,7 @@ use Rattle.sil_shape.specs.declared.steps.Step.{Step}
 use Rattle.sil_shape.specs.declared.steps.Step.TheVariants.{Take}
 use Rattle.sil_shape.specs.Grammar.{written, body}
 use Rattle.sil_shape.specs.Choice.{choose}
+use Rattle.sil_shape.specs.Derivation.{Accepts}
 use Rattle.sil_shape.specs.Turns.{Turns, turn, Pops, Expands, IsSettled, Settles, IsAccepted, IsStuck, Takes, Refuses}
 use Rattle.sil_shape.proofs.Sets.{weight}
 use Rattle.sil_shape.proofs.Computed.{lead, weight_one, if_vanishes, vanishes, vanishes_one, computed_weight}
@@ -44,6 +45,12 @@ part_first [] h = cc
 part_first {part = part} (s ∷ ss) h =
     let same : s ≡ Part part = cc in
     ap (λ x. x ∷ ss) same
+
+pub accepted_first : (k : Class) (stack : List Symbol) (s : Symbol) {suits : Bool} → slice_get stack 0 ≡ Some s → IsTrue suits ↔ Accepts s k → IsTrue suits ↔ IsAccepted k stack
+accepted_first k [] s h accepts = cc
+accepted_first k (x ∷ ss) s {suits = suits} h accepts =
+    let same : s ≡ x = cc in
+    subst (λ y. IsTrue suits ↔ Accepts y k) same accepts
 
 stuck_at : (k : Class) (stack : List Symbol) → IsSettled (Some k) stack → (IsAccepted k stack → ⊥) → IsStuck (Some k) stack
 stuck_at k [] settled no_fit = tt

@@ -1,126 +1,51 @@
 -- Which tokens may stand for a terminal.
-use Rattle.std.specs.Prelude.{ℕ, ◌+◌, ◌==◌, Bool, true, false, not}
-use Rattle.instruction_table.specs.Forms.{number_of}
+use Rattle.std.specs.Prelude.{◌≡◌, Bool, true, false, not, IsTrue}
 use Rattle.token_classes.specs.declared.classes.Keyword.{Keyword}
 use Rattle.token_classes.specs.declared.classes.Keyword.TheVariants as k
-use Rattle.token_classes.specs.declared.classes.AtWord.{AtWord}
-use Rattle.token_classes.specs.declared.classes.AtWord.TheVariants as a
-use Rattle.token_classes.specs.declared.classes.Punctuation.{Punctuation}
-use Rattle.token_classes.specs.declared.classes.Punctuation.TheVariants as m
 use Rattle.token_classes.specs.declared.classes.Class.{Class}
 use Rattle.token_classes.specs.declared.classes.Class.TheVariants as c
 use Rattle.sil_shape.specs.declared.grammar.Terminal.{Terminal}
 use Rattle.sil_shape.specs.declared.grammar.Terminal.TheVariants as t
 use Rattle.sil_shape.specs.Rows.{ends_block}
 
--- a number of its own for each class
-unfoldable pub keyword_number : Keyword → ℕ
-keyword_number k.Other = 0
-keyword_number k.SilStage = 1
-keyword_number k.Raw = 2
-keyword_number k.Canonical = 3
-keyword_number k.Import = 4
-keyword_number k.Final = 5
-keyword_number k.Class = 6
-keyword_number k.Sil = 7
-keyword_number k.SilVtable = 8
-keyword_number k.Deinit = 9
-keyword_number k.Init = 10
-keyword_number k.Weak = 11
-keyword_number k.Unowned = 12
-keyword_number k.Var = 13
-keyword_number k.Let = 14
-keyword_number k.Get = 15
-keyword_number k.Set = 16
-keyword_number k.Case = 17
-keyword_number k.Builtin = 18
-keyword_number k.Optional = 19
-keyword_number k.Int1 = 20
-keyword_number k.Int8 = 21
-keyword_number k.Int16 = 22
-keyword_number k.Int32 = 23
-keyword_number k.Int64 = 24
-keyword_number k.Hidden = 25
-keyword_number k.Private = 26
-keyword_number k.Shared = 27
-keyword_number k.Public = 28
-keyword_number k.Thin = 29
-keyword_number k.Method = 30
-keyword_number k.To = 31
-keyword_number k.Default = 32
-keyword_number k.Enumelt = 33
-keyword_number k.Lexical = 34
-keyword_number k.VarDecl = 35
-keyword_number k.Copy = 36
-keyword_number k.Take = 37
-keyword_number k.Trivial = 38
-keyword_number k.Assign = 39
-keyword_number k.Initialization = 40
-keyword_number k.Name = 41
-keyword_number k.Argno = 42
-keyword_number k.Expr = 43
-keyword_number k.OpDeref = 44
-keyword_number k.Destroyer = 45
-keyword_number (k.Mnemonic o) = 46 + number_of o
-
-unfoldable pub at_number : AtWord → ℕ
-at_number a.Other = 0
-at_number a.HasStorage = 1
-at_number a.SilWeak = 2
-at_number a.SilUnowned = 3
-at_number a.Convention = 4
-at_number a.Owned = 5
-at_number a.Guaranteed = 6
-at_number a.Inout = 7
-
-unfoldable pub punctuation_number : Punctuation → ℕ
-punctuation_number m.LeftBrace = 0
-punctuation_number m.RightBrace = 1
-punctuation_number m.LeftParen = 2
-punctuation_number m.RightParen = 3
-punctuation_number m.LeftBracket = 4
-punctuation_number m.RightBracket = 5
-punctuation_number m.Less = 6
-punctuation_number m.Greater = 7
-punctuation_number m.Comma = 8
-punctuation_number m.Colon = 9
-punctuation_number m.Dot = 10
-punctuation_number m.Question = 11
-punctuation_number m.Star = 12
-punctuation_number m.Equals = 13
-punctuation_number m.Bang = 14
-punctuation_number m.Dollar = 15
-punctuation_number m.Hash = 16
-punctuation_number m.Arrow = 17
-
-unfoldable pub class_number : Class → ℕ
-class_number c.Percent = 1
-class_number c.Number = 2
-class_number c.BuiltinText = 3
-class_number c.OtherText = 4
-class_number (c.At w) = 5 + at_number w
-class_number (c.Punctuation x) = 13 + punctuation_number x
-class_number (c.Word w) = 31 + keyword_number w
+abbrev pub is_word : Class → Bool
+is_word (c.Word w) = true
+is_word _ = false
 
 -- whether a word alone names a type: these two begin a longer type as well
-unfoldable pub is_type_word : Keyword → Bool
+abbrev pub is_type_word : Keyword → Bool
 is_type_word k.Builtin = false
 is_type_word k.Optional = false
 is_type_word _ = true
 
--- whether a token of this class may stand for the terminal
-unfoldable pub accepts : Terminal → Class → Bool
-accepts t.AnyWord (c.Word w) = true
-accepts t.AnyWord _ = false
-accepts t.TypeWord (c.Word w) = is_type_word w
-accepts t.TypeWord _ = false
-accepts t.AnyAt (c.At w) = true
-accepts t.AnyAt _ = false
-accepts t.AnyText c.BuiltinText = true
-accepts t.AnyText c.OtherText = true
-accepts t.AnyText _ = false
-accepts t.RowWord (c.Word (k.Mnemonic o)) = not (ends_block o)
-accepts t.RowWord _ = false
-accepts t.EndWord (c.Word (k.Mnemonic o)) = ends_block o
-accepts t.EndWord _ = false
-accepts (t.Just wanted) class = class_number wanted == class_number class
+abbrev pub is_type : Class → Bool
+is_type (c.Word w) = is_type_word w
+is_type _ = false
+
+abbrev pub is_at_word : Class → Bool
+is_at_word (c.At w) = true
+is_at_word _ = false
+
+abbrev pub is_text : Class → Bool
+is_text c.BuiltinText = true
+is_text c.OtherText = true
+is_text _ = false
+
+-- the mnemonic of an instruction that ends no block, and of one that ends a block
+abbrev pub stays_inside : Class → Bool
+stays_inside (c.Word (k.Mnemonic o)) = not (ends_block o)
+stays_inside _ = false
+
+abbrev pub ends : Class → Bool
+ends (c.Word (k.Mnemonic o)) = ends_block o
+ends _ = false
+
+-- a token of this class may stand for the terminal
+abbrev pub Suits : Terminal → Class → Type 0
+Suits t.AnyWord class = IsTrue (is_word class)
+Suits t.TypeWord class = IsTrue (is_type class)
+Suits t.AnyAt class = IsTrue (is_at_word class)
+Suits t.AnyText class = IsTrue (is_text class)
+Suits t.RowWord class = IsTrue (stays_inside class)
+Suits t.EndWord class = IsTrue (ends class)
+Suits (t.Just wanted) class = wanted ≡ class

@@ -1,7 +1,7 @@
 -- The table by which the next token chooses a production. No definition of the language rests on it.
 use Rattle.std.specs.Prelude.{Bool, false, List, [], ◌∷◌, Option, Some, None, find, if◌then◌else◌}
 use Rattle.std.specs.List.{list_any}
-use Rattle.sil_shape.specs.Accepts.{accepts}
+use Rattle.sil_shape.specs.ClassNumbers.{accepts}
 use Rattle.sil_shape.specs.Grammar.{alternatives}
 use Rattle.sil_shape.specs.Terminals.{at, punctuation, word}
 use Rattle.sil_shape.specs.Rows.{ends_block}

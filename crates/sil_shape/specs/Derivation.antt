@@ -1,5 +1,5 @@
 -- What the grammar derives: the lists of classes that have the shape of a module, each by the steps of its leftmost derivation.
-use Rattle.std.specs.Prelude.{ℕ, ◌+◌, ◌<◌, ◌≤◌, length, take, IsTrue, List, [], ◌∷◌, ◌++◌, ◌≡◌}
+use Rattle.std.specs.Prelude.{ℕ, ◌+◌, ◌<◌, ◌≤◌, length, take, List, [], ◌∷◌, ◌++◌, ◌≡◌}
 use Rattle.token_classes.specs.declared.classes.Class.{Class}
 use Rattle.sil_shape.specs.declared.grammar.Nonterminal.TheVariants.{Module}
 use Rattle.sil_shape.specs.declared.grammar.Symbol.{Symbol}
@@ -7,12 +7,12 @@ use Rattle.sil_shape.specs.declared.grammar.Symbol.TheVariants.{Read, Part}
 use Rattle.sil_shape.specs.declared.grammar.Production.{Production}
 use Rattle.sil_shape.specs.declared.steps.Step.{Step}
 use Rattle.sil_shape.specs.declared.steps.Step.TheVariants.{Take, Expand}
-use Rattle.sil_shape.specs.Accepts.{accepts}
+use Rattle.sil_shape.specs.Accepts.{Suits}
 use Rattle.sil_shape.specs.Grammar.{written, body}
 
 -- a token of this class may stand for the symbol
 abbrev pub Accepts : Symbol → Class → Type 0
-Accepts (Read t) k = IsTrue (accepts t k)
+Accepts (Read t) k = Suits t k
 Accepts (Part part) k = ⊥
 
 -- these symbols in a row derive these classes by these steps, each at the symbol that stands first

@@ -1,6 +1,7 @@
 pub mod Terminals
 pub mod Rows
 pub mod Accepts
+pub mod ClassNumbers
 pub mod Grammar
 pub mod Derivation
 pub mod Values
@@ -10,4 +11,3 @@ pub mod Choice
 pub mod Turns
 pub mod Shortest
 pub mod Unsupported
-pub mod Laws

@@ -1,7 +1,8 @@
 //! The choice of a production by the next token.
 
 ghost use Rattle.std.specs.Prelude.{◌≡◌, ◌↔◌, find, IsTrue};
-ghost use Rattle.sil_shape.specs.Accepts.{is_type_word, accepts};
+ghost use Rattle.sil_shape.specs.Accepts.{is_type_word};
+ghost use Rattle.sil_shape.specs.ClassNumbers.{accepts};
 ghost use Rattle.sil_shape.specs.Derivation.{Accepts};
 ghost use Rattle.sil_shape.specs.Choice.{choose, has, has_class, row_at_end, row_inside, started, starts};
 ghost use Rattle.sil_shape.specs.Grammar.{alternatives};
@@ -13,7 +14,6 @@ use crate::rows::ends_block;
 use crate::starts::{empty_choice, starts};
 use token_classes::{Class, Keyword};
 
-#[tactic(auto, unfolding(crate::specs::Accepts::is_type_word))]
 fn is_type_word(word: Keyword) -> bool
     ensures { result ≡ is_type_word word }
 {
@@ -24,7 +24,7 @@ fn is_type_word(word: Keyword) -> bool
 }
 
 /// Whether a token of this class may stand for the terminal.
-#[tactic(auto, unfolding(crate::specs::Accepts::accepts))]
+#[tactic(auto, unfolding(crate::specs::ClassNumbers::accepts))]
 pub(crate) fn accepts_terminal(terminal: Terminal, class: Class) -> bool
     ensures { result ≡ accepts terminal class }
 {

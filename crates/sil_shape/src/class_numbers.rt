@@ -1,13 +1,17 @@
 //! The numbers of the classes, by which they are compared.
 
 ghost use Rattle.std.specs.Prelude.{◌≡◌};
-ghost use Rattle.sil_shape.specs.Accepts.{at_number, class_number, keyword_number, punctuation_number};
+ghost use Rattle.instruction_table.specs.declared.op.Op.{Op};
+ghost use Rattle.token_classes.specs.declared.classes.Keyword.TheVariants.{Mnemonic};
+ghost use Rattle.sil_shape.specs.ClassNumbers.{at_number, class_number, keyword_number, punctuation_number};
 
 use token_classes::{AtWord, Class, Keyword, Punctuation};
 
-#[tactic(auto, unfolding(crate::specs::Accepts::keyword_number))]
-fn keyword_number(word: Keyword) -> u8
-    ensures { result ≡ keyword_number word }
+/// The number of a word that is no mnemonic, and that of the first mnemonic for all of them.
+#[tactic(auto, unfolding(crate::specs::ClassNumbers::keyword_number))]
+fn fixed_number(word: Keyword) -> u8
+    ensures mnemonic { (o : Op) → word ≡ Mnemonic o → result ≡ 46 }
+    ensures fixed { ((o : Op) → word ≡ Mnemonic o → ⊥) → result ≡ keyword_number word }
 {
     match word {
         Keyword::Other => 0,
@@ -56,18 +60,29 @@ fn keyword_number(word: Keyword) -> u8
         Keyword::Expr => 43,
         Keyword::OpDeref => 44,
         Keyword::Destroyer => 45,
-        Keyword::Mnemonic(op) => 46 + op as u8,
+        Keyword::Mnemonic(_) => 46,
     }
 }
 
-#[tactic(auto, unfolding(crate::specs::Accepts::at_number))]
+#[tactic(auto, unfolding(crate::specs::ClassNumbers::keyword_number))]
+fn keyword_number(word: Keyword) -> u8
+    ensures { result ≡ keyword_number word }
+{
+    let fixed = fixed_number(word);
+    match word {
+        Keyword::Mnemonic(op) => fixed + op as u8,
+        _ => fixed,
+    }
+}
+
+#[tactic(auto, unfolding(crate::specs::ClassNumbers::at_number))]
 fn at_number(word: AtWord) -> u8
     ensures { result ≡ at_number word }
 {
     word as u8
 }
 
-#[tactic(auto, unfolding(crate::specs::Accepts::punctuation_number))]
+#[tactic(auto, unfolding(crate::specs::ClassNumbers::punctuation_number))]
 fn punctuation_number(punctuation: Punctuation) -> u8
     ensures { result ≡ punctuation_number punctuation }
 {
@@ -75,7 +90,7 @@ fn punctuation_number(punctuation: Punctuation) -> u8
 }
 
 /// A number of its own for each class.
-#[tactic(auto, unfolding(crate::specs::Accepts::class_number))]
+#[tactic(auto, unfolding(crate::specs::ClassNumbers::class_number))]
 pub(crate) fn class_number(class: Class) -> u16
     ensures { result ≡ class_number class }
 {

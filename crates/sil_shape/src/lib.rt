@@ -7,7 +7,6 @@ pub mod bodies;
 mod choice;
 mod class_numbers;
 pub mod grammar;
-pub mod laws;
 pub mod machine;
 mod rows;
 pub mod shortest;

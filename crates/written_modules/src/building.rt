@@ -12,14 +12,13 @@ ghost use Rattle.sil_shape.specs.Values.{takes_of, IsEnough};
 ghost use Rattle.written_modules.specs.Lacking.{waiting};
 ghost use Rattle.written_modules.specs.Replay.{first_fault, replay, Writes};
 
-use crate::lacking::fill;
+use crate::lacking::{fill, fill_body};
 use crate::leaves::leaf_at;
 use crate::prepended::Prepended;
 use crate::reduce::reduce;
 use crate::value::Value;
 use sil_ast::Exhausted;
 use sil_lexer::Tokens;
-use sil_shape::bodies::body_length;
 use sil_shape::grammar::Symbol;
 use sil_shape::steps::{Front, Step};
 use std::alloc::Global;
@@ -73,7 +72,7 @@ fn replay(
                 values.push_front(value)?;
             }
             Step::Expand(production) => {
-                fill(alloc, &mut values, &mut left, body_length(production))?;
+                fill_body(alloc, production, &mut values, &mut left)?;
                 let made = reduce(alloc, production, &mut values)?;
                 fault = earlier(made.fault, fault);
                 values.push_front(made.value)?;

@@ -1,6 +1,7 @@
 //! What the symbols stand for that a front leaves to be written: their shortest texts, of which all tokens are lacking.
 
 ghost use Rattle.std.specs.Prelude.{◌≡◌, ◌+◌, ◌≤◌, [], ◌∷◌, length, reverse, IfOk, OnOk};
+ghost use Rattle.sil_shape.specs.Grammar.{body};
 ghost use Rattle.sil_shape.specs.declared.grammar.Symbol.TheVariants.{Part};
 ghost use Rattle.sil_shape.specs.Shortest.{Shortens};
 ghost use Rattle.sil_shape.specs.Values.{IsEnough};
@@ -12,7 +13,7 @@ use crate::reduce::reduce;
 use crate::value::Value;
 use sil_ast::Exhausted;
 use sil_shape::bodies::body_length;
-use sil_shape::grammar::{Nonterminal, Symbol};
+use sil_shape::grammar::{Nonterminal, Production, Symbol};
 use sil_shape::shortest::shortest;
 use sil_shape::shortest_steps::shortest_steps;
 use sil_shape::steps::Step;
@@ -76,4 +77,20 @@ pub(crate) fn fill(
         values.push_back(value)?;
     }
     Ok(())
+}
+
+/// Builds values of symbols that are left, until there are those of a production's body. Where none is left, they are there.
+pub(crate) fn fill_body(
+    alloc: Global,
+    production: Production,
+    values: &mut Prepended<Value>,
+    left: &mut Vec<Symbol>,
+) -> Result<(), Exhausted>
+    requires { length (body production) ≤ length values.old + length left.old.items }
+    ensures { OnOk result (Fills (length (body production)) values.old (reverse left.old.items) values.new (reverse left.new.items)) }
+{
+    if left.is_empty() {
+        return Ok(());
+    }
+    fill(alloc, values, left, body_length(production))
 }

@@ -79,17 +79,17 @@ loop-i-preserved-in-Continue-branch-2 g c =
       fault = fault_taken all lexemes c.loop-i.i _ c.loop-i.token c.loop-i.fault c.loop-i-test.true below here some c.loop-i.invariant.fault;
     }
 
-pub fill-requires : goal.fill-requires
-fill-requires g c =
+pub fill_body-requires : goal.fill_body-requires
+fill_body-requires g c =
     let all : List Step = c.args.steps.now ++ g.rest in
     let lexemes : List Lexeme = take c.args.count (lexemes_of c.args.text.now c.args.tokens.now) in
     let below = within c.args.steps.now g.rest c.loop-i.i c.loop-i.auto.i in
     let here = among_all c.args.steps.now g.rest c.loop-i.i _ _ c.loop-i-test.true c.loop-i.auto.i c.in-Expand.is in
     let long = enough_there all (drop c.loop-i.token lexemes) c.loop-i.i _ c.in-Expand.production c.requires.1.1.1.1 c.loop-i-test.true below here in
-    omega (arith, long, c.body_length.ensures, ap length c.loop-i.invariant.values, waiting-length c.loop-i.values (reverse c.loop-i.left.items), length-reverse c.loop-i.left.items)
+    omega (arith, long, ap length c.loop-i.invariant.values, waiting-length c.loop-i.values (reverse c.loop-i.left.items), length-reverse c.loop-i.left.items)
 
 pub reduce-requires : goal.reduce-requires
-reduce-requires g c = omega (arith, c.body_length.ensures, c.in_ok-fill-in-Expand.ensures.enough)
+reduce-requires g c = omega (arith, c.in_ok-fill_body-in-Expand.ensures.enough)
 
 pub loop-i-preserved : goal.loop-i-preserved
 loop-i-preserved g c =
@@ -98,10 +98,10 @@ loop-i-preserved g c =
     let below = within c.args.steps.now g.rest c.loop-i.i c.loop-i.auto.i in
     let here = among_all c.args.steps.now g.rest c.loop-i.i _ _ c.loop-i-test.true c.loop-i.auto.i c.in-Expand.is in
     let p = c.in-Expand.production in
-    let left = reverse c.fill.new.left.items in
-    let built = c.fill.new.values in
-    let enough : length (body p) ≤ length built = omega (arith, c.body_length.ensures, c.in_ok-fill-in-Expand.ensures.enough) in
-    let are = c.in_ok-fill-in-Expand.ensures.same ∙ c.loop-i.invariant.values in
+    let left = reverse c.fill_body.new.left.items in
+    let built = c.fill_body.new.values in
+    let enough : length (body p) ≤ length built = omega (arith, c.in_ok-fill_body-in-Expand.ensures.enough) in
+    let are = c.in_ok-fill_body-in-Expand.ensures.same ∙ c.loop-i.invariant.values in
     let reduced_is = reduced-waiting p built (map lacking left) c.reduce.new.values c.in_ok-made-in-Expand.made.value enough c.in_ok-made-in-Expand.ensures.value in
     let own : c.in_ok-made-in-Expand.made.fault ≡ part_fault p (parts_of p (waiting built left)) =
     c.in_ok-made-in-Expand.ensures.fault ∙ ap (part_fault p) (sym (parts-waiting p built (map lacking left) enough)) in
