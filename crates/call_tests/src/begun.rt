@@ -1,13 +1,12 @@
 //! Lists of classes, written as words with blanks between, and the shortest modules that begin with them.
 
-use token_classes::Class;
 use sil_shape::grammar::Symbol;
 use sil_shape::machine::{ShapeRefusal, steps_of};
 use sil_shape::shortest_steps::shortest_steps;
-use token_classes::{at_word, keyword, punctuation};
 use sil_shape::steps::{Front, Step};
 use std::alloc::{AllocError, Global};
 use std::test::Fail;
+use token_classes::{Class, at_word, keyword, punctuation};
 
 // The words that a list begins with, and how many more the shortest such list has.
 const BEGUN: [(&str, usize); 9] = [
