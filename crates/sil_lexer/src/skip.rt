@@ -1,8 +1,10 @@
 //! The way over blanks and comments.
 
-ghost use Rattle.std.specs.Prelude.{◌+◌, ◌≤◌, length, drop, IsFalse, IsTrue, MatchOption};
+ghost use Rattle.std.specs.Prelude.{◌≡◌, ◌+◌, ◌≤◌, length, drop, IsFalse, IsTrue};
+ghost use Rattle.sil_lexer.specs.Bytes as byte;
+ghost use Rattle.sil_lexer.specs.Spelling.{begins_with};
 ghost use Rattle.sil_lexer.specs.Places.{IsInLimit, IsPlaceIn};
-ghost use Rattle.sil_lexer.specs.Lexes.{begins_comment, begins_skipped};
+ghost use Rattle.sil_lexer.specs.Lexes.{begins_comment, Skips};
 ghost use Rattle.sil_lexer.specs.Scan.{SkipsOne, SkipsTo};
 
 use crate::bytes::{is_blank, line_length};
@@ -15,29 +17,37 @@ pub(crate) fn skip(text: &[u8], start: Place) -> Place
     requires placed { IsPlaceIn text.now start }
     ensures { SkipsTo text.now start result }
 {
-    let mut at = start;
-    while let Some(next) = skip_one(text, at) {
-        at = next;
+    let mut at = skip_blanks(text, start);
+    while is_comment_at(text, at) {
+        at = skip_blanks(text, skip_comment(text, at));
     }
     at
 }
 
-/// The place behind the blank or the comment at a place, if one stands there.
-fn skip_one(text: &[u8], at: Place) -> Option<Place>
+/// The first place from `start` on where no blank stands.
+fn skip_blanks(text: &[u8], start: Place) -> Place
+    requires limit { IsInLimit text.now }
+    requires placed { IsPlaceIn text.now start }
+    ensures placed { IsPlaceIn text.now result }
+    ensures forward { start.offset ≤ result.offset }
+    ensures skipped { Skips (drop start.offset text.now) (drop result.offset text.now) }
+    ensures no_blank { IsFalse (begins_with byte.is_blank (drop result.offset text.now)) }
+{
+    let mut at = start;
+    while (at.offset as usize) < text.len() && is_blank(text[at.offset as usize]) {
+        at = next_place(text, at);
+    }
+    at
+}
+
+fn is_comment_at(text: &[u8], at: Place) -> bool
     requires limit { IsInLimit text.now }
     requires placed { IsPlaceIn text.now at }
-    ensures { MatchOption result (IsFalse (begins_skipped (drop at.offset text.now))) (SkipsOne text.now at) }
+    ensures comment { result ≡ begins_comment (drop at.offset text.now) }
+    ensures room { IsTrue result → at.offset + 2 ≤ length text.now }
 {
-    let rest = &text[at.offset as usize..];
-    if rest.is_empty() {
-        None
-    } else if is_blank(rest[0]) {
-        Some(next_place(text, at))
-    } else if rest.len() > 1 && rest[0] == b'/' && rest[1] == b'/' {
-        Some(skip_comment(text, at))
-    } else {
-        None
-    }
+    let offset = at.offset as usize;
+    offset + 1 < text.len() && text[offset] == b'/' && text[offset + 1] == b'/'
 }
 
 /// The place behind the comment at a place and its line feed.

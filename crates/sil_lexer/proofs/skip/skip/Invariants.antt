@@ -1,14 +1,17 @@
-use Rattle.std.proofs.Common.{ℕ, ◌-◌, ◌≤◌, List, length, drop}
+use Rattle.std.proofs.Common.{◌≡◌, ◌-◌, ◌≤◌, false, length, drop}
+use Rattle.sil_lexer.specs.Bytes.{is_blank}
+use Rattle.sil_lexer.specs.Spelling.{begins_with}
 use Rattle.sil_lexer.specs.Lexes.{Skips}
 use Rattle.sil_lexer.specs.Places.{IsPlaceIn}
 use Rattle.sil_lexer.proofs.skip.skip.Given as goal
 
-abbrev pub invariant-loop-next : goal.invariant-loop-next
-invariant-loop-next l = record {
+abbrev pub invariant-loop-at : goal.invariant-loop-at
+invariant-loop-at l = record {
   placed : IsPlaceIn l.text l.at;
   forward : l.fn.start.offset ≤ l.at.offset;
-  skipped : (rest : List ℕ) → Skips (drop l.at.offset l.text) rest → Skips (drop l.fn.start.offset l.text) rest;
+  skipped : Skips (drop l.fn.start.offset l.text) (drop l.at.offset l.text);
+  no_blank : begins_with is_blank (drop l.at.offset l.text) ≡ false;
 }
 
-abbrev pub decreases-loop-next : goal.decreases-loop-next
-decreases-loop-next l = length l.text - l.at.offset
+abbrev pub decreases-loop-at : goal.decreases-loop-at
+decreases-loop-at l = length l.text - l.at.offset
