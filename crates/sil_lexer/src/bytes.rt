@@ -5,6 +5,17 @@ ghost use Rattle.std.specs.List.{prefix_len};
 ghost use Rattle.std.specs.Char.{is_ascii_digit};
 ghost use Rattle.sil_lexer.specs.Bytes.{is_blank, is_in_line, is_punctuation, is_name_byte, is_text_byte, is_word_start};
 
+/// Each byte of a name stands at its own place, and a point at every other.
+static NAME_BYTES: [u8; 256] = *b"\
+    ................................\
+    ....$...........0123456789......\
+    .ABCDEFGHIJKLMNOPQRSTUVWXYZ...._\
+    .abcdefghijklmnopqrstuvwxyz.....\
+    ................................\
+    ................................\
+    ................................\
+    ................................";
+
 pub(crate) fn is_blank(b: u8) -> bool
     ensures { result ≡ is_blank b }
 {
@@ -20,7 +31,7 @@ pub(crate) fn is_word_start(b: u8) -> bool
 fn is_name_byte(b: u8) -> bool
     ensures { result ≡ is_name_byte b }
 {
-    b.is_ascii_alphabetic() || b.is_ascii_digit() || b == b'_' || b == b'$'
+    NAME_BYTES[b as usize] != b'.'
 }
 
 fn is_text_byte(b: u8) -> bool
