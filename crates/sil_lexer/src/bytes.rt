@@ -3,7 +3,7 @@
 ghost use Rattle.std.specs.Prelude.{◌≡◌, ◌≤◌, length};
 ghost use Rattle.std.specs.List.{prefix_len};
 ghost use Rattle.std.specs.Char.{is_ascii_digit};
-ghost use Rattle.sil_lexer.specs.Bytes.{is_blank, is_in_line, is_punctuation, is_name_byte, is_text_byte, is_word_start};
+ghost use Rattle.sil_lexer.specs.Bytes.{is_blank, is_in_line, is_punctuation, is_name_byte, is_text_byte};
 
 /// Each byte of a name stands at its own place, and a point at every other.
 static NAME_BYTES: [u8; 256] = *b"\
@@ -19,13 +19,7 @@ static NAME_BYTES: [u8; 256] = *b"\
 pub(crate) fn is_blank(b: u8) -> bool
     ensures { result ≡ is_blank b }
 {
-    matches!(b, b' ' | b'\t' | b'\r' | b'\n')
-}
-
-pub(crate) fn is_word_start(b: u8) -> bool
-    ensures { result ≡ is_word_start b }
-{
-    b.is_ascii_alphabetic() || b == b'_'
+    b <= b' ' && matches!(b, b' ' | b'\t' | b'\r' | b'\n')
 }
 
 fn is_name_byte(b: u8) -> bool

@@ -8,7 +8,7 @@ ghost use Rattle.sil_lexer.specs.Places.{IsInLimit};
 ghost use Rattle.sil_lexer.specs.Lexes.{begins_skipped};
 ghost use Rattle.sil_lexer.specs.Scan.{begins_longer, is_sigil, HasRoom, IsScan};
 
-use crate::bytes::{digits_length, is_punctuation, is_word_start, name_length, text_length};
+use crate::bytes::{digits_length, is_punctuation, name_length, text_length};
 use crate::place::ahead;
 use crate::token::{LexRefusal, Token, TokenKind};
 use sil_ast::Place;
@@ -22,21 +22,14 @@ pub(crate) fn token_at(rest: &[u8], at: Place) -> Result<Token, LexRefusal>
     requires no_gap { IsFalse (begins_skipped rest.now) }
     ensures { IsScan rest.now at result }
 {
-    let first = rest[0];
-    if is_word_start(first) {
-        word_at(rest, at)
-    } else if first == b'%' {
-        sigil_name_at(rest, at, TokenKind::Percent)
-    } else if first == b'@' {
-        sigil_name_at(rest, at, TokenKind::AtName)
-    } else if first.is_ascii_digit() {
-        number_at(rest, at)
-    } else if first == b'-' {
-        minus_at(rest, at)
-    } else if first == b'"' {
-        text_at(rest, at)
-    } else {
-        punctuation_at(rest, at)
+    match rest[0] {
+        b'a'..=b'z' | b'A'..=b'Z' | b'_' => word_at(rest, at),
+        b'%' => sigil_name_at(rest, at, TokenKind::Percent),
+        b'@' => sigil_name_at(rest, at, TokenKind::AtName),
+        b'0'..=b'9' => number_at(rest, at),
+        b'-' => minus_at(rest, at),
+        b'"' => text_at(rest, at),
+        _ => punctuation_at(rest, at),
     }
 }
 

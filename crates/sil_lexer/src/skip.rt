@@ -12,6 +12,7 @@ use crate::place::{ahead, next_place};
 use sil_ast::Place;
 
 /// The first place from `start` on where neither a blank nor a comment stands.
+#[inline(always)]
 pub(crate) fn skip(text: &[u8], start: Place) -> Place
     requires limit { IsInLimit text.now }
     requires placed { IsPlaceIn text.now start }
