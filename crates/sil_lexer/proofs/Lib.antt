@@ -3,6 +3,7 @@ pub mod RunLemmas
 pub mod SkipLemmas
 pub mod SpellLemmas
 pub mod StopLemmas
+pub mod StartLemmas
 pub mod LexLemmas
 pub mod FrontLemmas
 pub mod UniqueLemmas

@@ -116,9 +116,9 @@ takes_arrow (a ∷ b ∷ rest) first some second =
       never_continued [] = refl
       never_continued (c ∷ bytes) = refl
 
-pub takes_punctuation : (rest : List ℕ) → 0 < length rest → is_punctuation (get_or rest 0 0) ≡ true → Takes Punctuation 1 rest
-takes_punctuation [] some is_punctuation = absurd (omega arith)
-takes_punctuation (b ∷ rest) some passes = record { spelled = punctuation b passes; ended = never_continued rest } where
+pub takes_punctuation : (rest : List ℕ) → begins_with is_punctuation rest ≡ true → Takes Punctuation 1 rest
+takes_punctuation [] first = absurd (false≢true first)
+takes_punctuation (b ∷ rest) passes = record { spelled = punctuation b passes; ended = never_continued rest } where
   never_continued : (bytes : List ℕ) → begins_with (continues Punctuation) bytes ≡ false
   never_continued [] = refl
   never_continued (c ∷ bytes) = refl

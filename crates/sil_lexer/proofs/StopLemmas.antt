@@ -1,11 +1,11 @@
 -- Where no token can be taken, and that the refusal stands at its place of the text.
-use Rattle.std.proofs.Common.{◌≡◌, ℕ, zero, suc, ◌+◌, ◌-◌, ◌<◌, Bool, true, false, List, [], ◌∷◌, ◌++◌, length, get_or, take, drop, refl, sym, ap, ◌∙◌, subst, arith, length-drop, get_or-drop, drop-drop, take-append-drop}
+use Rattle.std.proofs.Common.{◌≡◌, ℕ, zero, suc, ◌+◌, ◌-◌, ◌<◌, Bool, true, false, not, List, [], ◌∷◌, ◌++◌, length, get_or, take, drop, refl, sym, ap, ◌∙◌, subst, arith, length-drop, get_or-drop, drop-drop, take-append-drop}
 use Rattle.std.specs.Prelude.{◌≢◌, ◌==◌, ◌||◌, ◌&&◌}
 use Rattle.std.specs.List.{prefix_len, list_all}
 use Rattle.std.specs.Char.{is_ascii_digit}
 use Rattle.std.proofs.lemmas.List.{drop_more, take_all}
 use Rattle.std.proofs.lemmas.List.Sums.{prefix_len_stops, prefix_len_passes}
-use Rattle.std.proofs.lemmas.Bool.{or_left, or_right, or_parts, or_from, and_parts, and_left, false≢true, false_from_ne_true, eqb-true, ne_eqb}
+use Rattle.std.proofs.lemmas.Bool.{or_left, or_right, or_parts, or_from, and_parts, and_left, not-true, false≢true, false_from_ne_true, eqb-true, ne_eqb}
 use Rattle.sil_ast.specs.declared.place.Place.{Place}
 use Rattle.sil_lexer.specs.declared.token.TokenKind.{TokenKind}
 use Rattle.sil_lexer.specs.declared.token.LexRefusal.{LexRefusal}
@@ -92,11 +92,14 @@ stops_at_minus at rest first no_digit not_arrow =
     subst (λ bs. StopsAt bs at (BadByte at)) (sym (opened 45 rest first))
     (stops_at_nothing (45 ∷ drop 1 rest) at (λ same. cc) refl refl (rw (run_none is_ascii_digit (drop 1 rest) no_digit, not_arrow) refl))
 
-pub stops_at_byte : (at : Place) (rest : List ℕ) → 0 < length rest → begins_skipped rest ≡ false → begins_with begins_longer rest ≡ false
-    → is_punctuation (get_or rest 0 0) ≡ false → StopsAt rest at (BadByte at)
+pub stops_at_byte : (at : Place) (rest : List ℕ) → begins_skipped rest ≡ false → begins_with (λ b. not (begins_longer b) && not (is_punctuation b)) rest ≡ true
+    → StopsAt rest at (BadByte at)
 unfolding begins_token
-stops_at_byte at [] some no_gap no_longer no_punctuation = absurd (omega arith)
-stops_at_byte at (b ∷ rest) some no_gap no_longer no_punctuation =
+stops_at_byte at [] no_gap neither = absurd (false≢true neither)
+stops_at_byte at (b ∷ rest) no_gap neither =
+    let parts = and_parts (not (begins_longer b)) (not (is_punctuation b)) neither in
+    let no_longer : begins_longer b ≡ false = not-true _ parts.0 in
+    let no_punctuation : is_punctuation b ≡ false = not-true _ parts.1 in
     let quote = or_parts _ (b == 34) no_longer in
     let minus = or_parts _ (b == 45) quote.0 in
     let digit = or_parts _ (is_ascii_digit b) minus.0 in

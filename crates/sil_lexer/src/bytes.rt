@@ -3,7 +3,7 @@
 ghost use Rattle.std.specs.Prelude.{◌≡◌, ◌≤◌, length};
 ghost use Rattle.std.specs.List.{prefix_len};
 ghost use Rattle.std.specs.Char.{is_ascii_digit};
-ghost use Rattle.sil_lexer.specs.Bytes.{is_blank, is_in_line, is_punctuation, is_name_byte, is_text_byte};
+ghost use Rattle.sil_lexer.specs.Bytes.{is_blank, is_in_line, is_name_byte, is_text_byte};
 
 /// Each byte of a name stands at its own place, and a point at every other.
 static NAME_BYTES: [u8; 256] = *b"\
@@ -32,30 +32,6 @@ fn is_text_byte(b: u8) -> bool
     ensures { result ≡ is_text_byte b }
 {
     0x20 <= b && b <= 0x7E && b != b'"' && b != b'\\'
-}
-
-pub(crate) fn is_punctuation(b: u8) -> bool
-    ensures { result ≡ is_punctuation b }
-{
-    matches!(
-        b,
-        b'{' | b'}'
-            | b'('
-            | b')'
-            | b'['
-            | b']'
-            | b'<'
-            | b'>'
-            | b','
-            | b':'
-            | b'.'
-            | b'?'
-            | b'*'
-            | b'='
-            | b'!'
-            | b'$'
-            | b'#'
-    )
 }
 
 /// How many bytes of a name stand at the front.

@@ -8,6 +8,7 @@ mod place;
 mod scan;
 mod skip;
 mod spelling;
+mod starts;
 mod token;
 mod tokens;
 

@@ -6,10 +6,11 @@ ghost use Rattle.sil_lexer.specs.Bytes.{is_word_start};
 ghost use Rattle.sil_lexer.specs.Spelling.{begins_with};
 ghost use Rattle.sil_lexer.specs.Places.{IsInLimit};
 ghost use Rattle.sil_lexer.specs.Lexes.{begins_skipped};
-ghost use Rattle.sil_lexer.specs.Scan.{begins_longer, is_sigil, HasRoom, IsScan};
+ghost use Rattle.sil_lexer.specs.Scan.{is_sigil, HasRoom, IsScan};
 
-use crate::bytes::{digits_length, is_punctuation, name_length, text_length};
+use crate::bytes::{digits_length, name_length, text_length};
 use crate::place::ahead;
+use crate::starts::{STARTS, Start};
 use crate::token::{LexRefusal, Token, TokenKind};
 use sil_ast::Place;
 use sil_rules::limits;
@@ -22,14 +23,19 @@ pub(crate) fn token_at(rest: &[u8], at: Place) -> Result<Token, LexRefusal>
     requires no_gap { IsFalse (begins_skipped rest.now) }
     ensures { IsScan rest.now at result }
 {
-    match rest[0] {
-        b'a'..=b'z' | b'A'..=b'Z' | b'_' => word_at(rest, at),
-        b'%' => sigil_name_at(rest, at, TokenKind::Percent),
-        b'@' => sigil_name_at(rest, at, TokenKind::AtName),
-        b'0'..=b'9' => number_at(rest, at),
-        b'-' => minus_at(rest, at),
-        b'"' => text_at(rest, at),
-        _ => punctuation_at(rest, at),
+    match STARTS[rest[0] as usize] {
+        Start::Letter => word_at(rest, at),
+        Start::AtSign => sigil_name_at(rest, at, TokenKind::AtName),
+        Start::Percent => sigil_name_at(rest, at, TokenKind::Percent),
+        Start::Digit => number_at(rest, at),
+        Start::Minus => minus_at(rest, at),
+        Start::Quote => text_at(rest, at),
+        Start::Mark => Ok(Token {
+            kind: TokenKind::Punctuation,
+            place: at,
+            length: 1,
+        }),
+        Start::Nothing => Err(LexRefusal::BadByte(at)),
     }
 }
 
@@ -121,22 +127,5 @@ fn text_at(rest: &[u8], at: Place) -> Result<Token, LexRefusal>
         kind: TokenKind::Text,
         place: at,
         length: 1 + end as u32,
-    })
-}
-
-/// Punctuation of one byte, where no other token begins.
-fn punctuation_at(rest: &[u8], at: Place) -> Result<Token, LexRefusal>
-    requires some_byte { 0 < length rest.now }
-    requires no_gap { IsFalse (begins_skipped rest.now) }
-    requires no_other { IsFalse (begins_with begins_longer rest.now) }
-    ensures { IsScan rest.now at result }
-{
-    if !is_punctuation(rest[0]) {
-        return Err(LexRefusal::BadByte(at));
-    }
-    Ok(Token {
-        kind: TokenKind::Punctuation,
-        place: at,
-        length: 1,
     })
 }
