@@ -47,3 +47,11 @@ place_ahead text at n placed inside no_feeds = record {
   inside = inside;
   exact = ap (λ p. ahead_of p n) placed.exact ∙ sym (place_of-line text at.offset n inside (λ k below. sym (ap is_line_feed (get_or-drop at.offset text k 0)) ∙ no_feeds k below));
 }
+
+-- and behind one byte of its line
+pub place_behind : (text : List ℕ) (at : Place) → IsPlaceIn text at → at.offset < length text → is_line_feed (get_or text at.offset 0) ≡ false
+    → IsPlaceIn text (ahead_of at 1)
+place_behind text at placed some_byte no_feed = record {
+  inside = omega arith;
+  exact = ap (λ p. ahead_of p 1) placed.exact ∙ sym (place_of-same_line text at.offset some_byte no_feed);
+}

@@ -7,7 +7,7 @@ ghost use Rattle.sil_lexer.specs.Places.{IsInLimit, IsPlaceIn};
 ghost use Rattle.sil_lexer.specs.Lexes.{begins_comment, Skips};
 ghost use Rattle.sil_lexer.specs.Scan.{SkipsOne, SkipsTo};
 
-use crate::bytes::{is_blank, line_length};
+use crate::bytes::line_length;
 use crate::place::{ahead, next_place};
 use sil_ast::Place;
 
@@ -35,8 +35,12 @@ fn skip_blanks(text: &[u8], start: Place) -> Place
     ensures no_blank { IsFalse (begins_with byte.is_blank (drop result.offset text.now)) }
 {
     let mut at = start;
-    while (at.offset as usize) < text.len() && is_blank(text[at.offset as usize]) {
-        at = next_place(text, at);
+    while (at.offset as usize) < text.len() {
+        match text[at.offset as usize] {
+            b' ' | b'\t' | b'\r' => at = ahead(at, 1),
+            b'\n' => at = next_place(text, at),
+            _ => return at,
+        }
     }
     at
 }
