@@ -1,13 +1,12 @@
 -- Blanks and comments at the front of a list, and at a place of a text.
 use Rattle.std.proofs.Common.{◌≡◌, ℕ, ◌+◌, ◌<◌, ◌≤◌, true, false, List, [], ◌∷◌, ◌++◌, length, get_or, take, drop, refl, sym, ap, ◌∙◌, subst, arith, eqb, zero, suc, drop-drop, length-drop}
-use Rattle.std.specs.Prelude.{◌==◌, ◌&&◌, slice_range}
+use Rattle.std.specs.Prelude.{slice_range}
 use Rattle.std.specs.List.{prefix_len, list_all}
 use Rattle.std.proofs.lemmas.List.{drop_more, drop_all, take_all, take_rest}
 use Rattle.std.proofs.lemmas.List.Sums.{prefix_len_stops, prefix_len_passes}
 use Rattle.std.proofs.lemmas.Bool.{and_parts, and_right, eqb-true, not-false, not-true, false≢true}
 use Rattle.sil_ast.specs.declared.place.Place.{Place}
 use Rattle.sil_lexer.specs.Bytes.{is_blank, is_in_line, is_line_feed}
-use Rattle.sil_lexer.specs.Spelling.{begins_with}
 use Rattle.sil_lexer.specs.Places.{ahead_of, IsPlaceIn}
 use Rattle.sil_lexer.specs.Lexes.{Skips, nothing, blank, comment, last_comment, begins_comment}
 use Rattle.sil_lexer.proofs.PlaceLemmas.{place_ahead}
@@ -42,21 +41,6 @@ pub blank_skipped : (text : List ℕ) (o next : ℕ) → o < length text → is_
     → (rest : List ℕ) → Skips (drop next text) rest → Skips (drop o text) rest
 blank_skipped text o next some_byte passes is_next rest skips =
     subst (λ bs. Skips bs rest) (sym (drop_more text o 0 some_byte)) (blank _ _ rest passes (subst (λ n. Skips (drop n text) rest) is_next skips))
-
--- a comment begins where two bytes are left, and both are `/`
-pub comment_at : (text : List ℕ) (o : ℕ) → o + 1 < length text → begins_comment (drop o text) ≡ (get_or text o 0 == 47 && get_or text (o + 1) 0 == 47)
-comment_at text o inside =
-    ap begins_comment (drop_more text o 0 (omega arith)) ∙ ap (λ bytes. get_or text o 0 == 47 && begins_with (λ next. next == 47) bytes) (drop_more text (o + 1) 0 inside)
-
-short_begins_none : (bytes : List ℕ) → length bytes ≤ 1 → begins_comment bytes ≡ false
-short_begins_none [] short = refl
-short_begins_none (b ∷ []) short = and_right (eqb b 47) false refl
-short_begins_none (a ∷ b ∷ bytes) short = absurd (omega arith)
-
-pub no_comment_at : (text : List ℕ) (o : ℕ) → length text ≤ o + 1 → begins_comment (drop o text) ≡ false
-no_comment_at text o ends =
-    let size = length-drop o text in
-    short_begins_none (drop o text) (omega arith)
 
 -- what a comment begins with
 pub comment_opens : (bytes : List ℕ) → begins_comment bytes ≡ true → bytes ≡ 47 ∷ 47 ∷ drop 2 bytes

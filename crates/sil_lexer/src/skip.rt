@@ -52,7 +52,10 @@ fn is_comment_at(text: &[u8], at: Place) -> bool
     ensures room { IsTrue result → at.offset + 2 ≤ length text.now }
 {
     let offset = at.offset as usize;
-    offset + 1 < text.len() && text[offset] == b'/' && text[offset + 1] == b'/'
+    if offset == text.len() || text[offset] != b'/' {
+        return false;
+    }
+    offset + 1 < text.len() && text[offset + 1] == b'/'
 }
 
 /// The place behind the comment at a place and its line feed.
