@@ -11,7 +11,7 @@ ghost use Rattle.sil_shape.specs.declared.machine.ShapeRefusal.TheVariants.{Firs
 use crate::bodies::push_body;
 use crate::choice::accepts;
 use crate::grammar::{Nonterminal, Production, Symbol};
-use crate::lookahead::Lookahead;
+use crate::lookahead::{Lookahead, NumberedClass};
 use crate::parse_table::ParseTable;
 use crate::steps::{Front, Step};
 use std::alloc::{AllocError, Global};
@@ -68,6 +68,8 @@ fn expand(
 }
 
 /// Expands what stands first until that is a token or nothing, or a part for which the next token chooses no body.
+/// This is done for each token.
+#[inline(always)]
 fn settle(
     stack: &mut Vec<Symbol>,
     steps: &mut Vec<Step>,
@@ -86,11 +88,11 @@ fn settle(
 }
 
 /// Whether a token of this class may stand for what stands first.
-fn first_accepts(stack: &[Symbol], class: Class) -> bool
-    ensures { IsTrue result ↔ IsAccepted class (reverse stack.now) }
+fn first_accepts(stack: &[Symbol], token: NumberedClass) -> bool
+    ensures { IsTrue result ↔ IsAccepted token.class (reverse stack.now) }
 {
     match first(stack) {
-        Some(symbol) => accepts(symbol, class),
+        Some(symbol) => accepts(symbol, token),
         None => false,
     }
 }
@@ -106,8 +108,9 @@ fn take(
         (Takes class (reverse stack.old.items) steps.old.items (reverse stack.new.items) steps.new.items)
         (Refuses (Some class) (reverse stack.old.items) steps.old.items (reverse stack.new.items) steps.new.items)) }
 {
-    settle(stack, steps, table, Lookahead::token(class))?;
-    if !first_accepts(stack.as_slice(), class) {
+    let token = NumberedClass::new(class);
+    settle(stack, steps, table, Lookahead::token(token))?;
+    if !first_accepts(stack.as_slice(), token) {
         return Ok(false);
     }
     pop_symbol(stack);
