@@ -54,6 +54,7 @@ fn first(stack: &[Symbol]) -> Option<Symbol>
 }
 
 /// Puts the body of a production in the place of the part that stands first.
+#[inline(always)]
 fn expand(
     stack: &mut Vec<Symbol>,
     steps: &mut Vec<Step>,
@@ -68,15 +69,14 @@ fn expand(
 }
 
 /// Expands what stands first until that is a token or nothing, or a part for which the next token chooses no body.
-/// This is done for each token.
 #[inline(always)]
 fn settle(
     stack: &mut Vec<Symbol>,
     steps: &mut Vec<Step>,
     table: &mut ParseTable,
-    look: Lookahead,
+    look: &Lookahead,
 ) -> Result<(), AllocError>
-    ensures { OnOk result (Settles look.class (reverse stack.old.items) steps.old.items (reverse stack.new.items) steps.new.items) }
+    ensures { OnOk result (Settles look.now.class (reverse stack.old.items) steps.old.items (reverse stack.new.items) steps.new.items) }
 {
     while let Some(Symbol::Part(part)) = first(stack.as_slice()) {
         let Some(production) = table.predict(part, look) else {
@@ -109,7 +109,7 @@ fn take(
         (Refuses (Some class) (reverse stack.old.items) steps.old.items (reverse stack.new.items) steps.new.items)) }
 {
     let token = NumberedClass::new(class);
-    settle(stack, steps, table, Lookahead::token(token))?;
+    settle(stack, steps, table, &Lookahead::token(token))?;
     if !first_accepts(stack.as_slice(), token) {
         return Ok(false);
     }
@@ -128,7 +128,7 @@ fn end(
         (Turns None (reverse stack.old.items) steps.old.items [] steps.new.items)
         (Refuses None (reverse stack.old.items) steps.old.items (reverse stack.new.items) steps.new.items)) }
 {
-    settle(stack, steps, table, Lookahead::end())?;
+    settle(stack, steps, table, &Lookahead::end())?;
     Ok(stack.is_empty())
 }
 

@@ -48,10 +48,10 @@ impl ParseTable {
     }
 
     /// The production of a part that is taken at a lookahead.
-    pub fn predict(&mut self, part: Nonterminal, look: Lookahead) -> Option<Production>
-        ensures { result ≡ choose part look.class }
+    pub fn predict(&mut self, part: Nonterminal, look: &Lookahead) -> Option<Production>
+        ensures { result ≡ choose part look.now.class }
     {
-        match self.known[place(part, look)] {
+        match self.known[place(part, *look)] {
             Some(production) => Some(production),
             None => self.fill(part, look),
         }
@@ -59,11 +59,11 @@ impl ParseTable {
 
     /// Finds a production, and keeps it.
     #[cold]
-    fn fill(&mut self, part: Nonterminal, look: Lookahead) -> Option<Production>
-        ensures { result ≡ choose part look.class }
+    fn fill(&mut self, part: Nonterminal, look: &Lookahead) -> Option<Production>
+        ensures { result ≡ choose part look.now.class }
     {
         let production = choose(part, look.class);
-        self.known[place(part, look)] = production;
+        self.known[place(part, *look)] = production;
         production
     }
 }
