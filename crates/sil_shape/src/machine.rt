@@ -74,9 +74,9 @@ fn settle(
     stack: &mut Vec<Symbol>,
     steps: &mut Vec<Step>,
     table: &mut ParseTable,
-    look: &Lookahead,
+    look: Lookahead,
 ) -> Result<(), AllocError>
-    ensures { OnOk result (Settles look.now.class (reverse stack.old.items) steps.old.items (reverse stack.new.items) steps.new.items) }
+    ensures { OnOk result (Settles look.class (reverse stack.old.items) steps.old.items (reverse stack.new.items) steps.new.items) }
 {
     while let Some(Symbol::Part(part)) = first(stack.as_slice()) {
         let Some(production) = table.predict(part, look) else {
@@ -109,7 +109,7 @@ fn take(
         (Refuses (Some class) (reverse stack.old.items) steps.old.items (reverse stack.new.items) steps.new.items)) }
 {
     let token = NumberedClass::new(class);
-    settle(stack, steps, table, &Lookahead::token(token))?;
+    settle(stack, steps, table, Lookahead::token(token))?;
     if !first_accepts(stack.as_slice(), token) {
         return Ok(false);
     }
@@ -128,7 +128,7 @@ fn end(
         (Turns None (reverse stack.old.items) steps.old.items [] steps.new.items)
         (Refuses None (reverse stack.old.items) steps.old.items (reverse stack.new.items) steps.new.items)) }
 {
-    settle(stack, steps, table, &Lookahead::end())?;
+    settle(stack, steps, table, Lookahead::end())?;
     Ok(stack.is_empty())
 }
 

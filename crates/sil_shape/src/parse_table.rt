@@ -9,6 +9,7 @@ use crate::choice::choose;
 use crate::grammar::{Nonterminal, Production};
 use crate::lookahead::Lookahead;
 use std::alloc::{AllocError, Global};
+use token_classes::Class;
 
 /// How many parts the grammar has.
 const PARTS: usize = 81;
@@ -48,22 +49,25 @@ impl ParseTable {
     }
 
     /// The production of a part that is taken at a lookahead.
-    pub fn predict(&mut self, part: Nonterminal, look: &Lookahead) -> Option<Production>
-        ensures { result ≡ choose part look.now.class }
+    pub fn predict(&mut self, part: Nonterminal, look: Lookahead) -> Option<Production>
+        ensures { result ≡ choose part look.class }
     {
-        match self.known[place(part, *look)] {
+        let at = place(part, look);
+        match self.known[at] {
             Some(production) => Some(production),
-            None => self.fill(part, look),
+            None => self.fill(at, part, look.class),
         }
     }
 
-    /// Finds a production, and keeps it.
+    /// Finds the production of a part before a class or the end, and keeps it in its place.
     #[cold]
-    fn fill(&mut self, part: Nonterminal, look: &Lookahead) -> Option<Production>
-        ensures { result ≡ choose part look.now.class }
+    fn fill(&mut self, at: usize, part: Nonterminal, class: Option<Class>) -> Option<Production>
+        requires place { at ≡ place part class }
+        requires inside { at < LOOKAHEADS * PARTS }
+        ensures { result ≡ choose part class }
     {
-        let production = choose(part, look.class);
-        self.known[place(part, *look)] = production;
+        let production = choose(part, class);
+        self.known[at] = production;
         production
     }
 }
