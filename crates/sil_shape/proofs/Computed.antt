@@ -20,7 +20,8 @@ use Rattle.sil_shape.specs.Shortest.{shortest}
 use Rattle.sil_shape.specs.Choice.{starts, empty_choice, has_class, has, started, row_inside, row_at_end, or_empty, choose}
 use Rattle.sil_shape.specs.Rows.{brings_comma, comma_behind, comma_between, edges_of, ends_block, member_of, operand_of, parts_row, qualifier_of, row_body, row_part, symbols_of, text_of}
 use Rattle.sil_shape.proofs.Sets.{first, follow, ends, nullable, weight, needed}
-use Rattle.sil_shape.proofs.Numbered.{all_looks, fixed_looks, each_look, production_number, part_number}
+use Rattle.sil_shape.specs.ParseTable.{part_number}
+use Rattle.sil_shape.proofs.Numbered.{all_looks, fixed_looks, each_look, is_it, production_number}
 
 -- whether this may come after a text of the part
 unfoldable pub follows : Nonterminal → Option Class → Bool
@@ -74,10 +75,6 @@ weight_one (Part part) = weight part
 unfoldable pub lead : List Symbol → ℕ
 lead [] = 0
 lead (s ∷ ss) = weight_one s + if_vanishes (vanishes_one s) (lead ss)
-
-unfoldable pub is_it : Option Production → Production → Bool
-is_it None q = false
-is_it (Some r) q = production_number r == production_number q
 
 unfoldable pub is_way : Option Production → Nonterminal → Bool
 is_way None part = true

@@ -5,6 +5,7 @@ pub mod Sets
 pub mod Numbered
 pub mod ChoiceLemmas
 pub mod SuitsLemmas
+pub mod ParseTableLemmas
 pub mod Computed
 pub mod Shortened
 pub mod NextClasses

@@ -1,5 +1,5 @@
 -- What comes next decides the production: the table is right and complete for stacks that fit the grammar.
-use Rattle.std.proofs.Common.{◌≡◌, ◌⊎◌, inl, inr, List, [], ◌∷◌, ◌++◌, refl, ap, subst, Bool, true, false}
+use Rattle.std.proofs.Common.{◌≡◌, ◌⊎◌, inl, inr, List, [], ◌∷◌, ◌++◌, refl, subst, Bool, true, false}
 use Rattle.std.specs.Prelude.{Option, Some, None, ◌&&◌, ◌||◌}
 use Rattle.std.proofs.lemmas.Bool.{and_parts, and_from, or_cases, or_left, or_right, false≢true}
 use Rattle.token_classes.specs.declared.classes.Class.{Class}
@@ -15,8 +15,8 @@ use Rattle.sil_shape.specs.declared.steps.Step.TheVariants.{Expand}
 use Rattle.sil_shape.specs.Derivation.{Accepts, Derives, nothing, token, rule}
 use Rattle.sil_shape.proofs.Sets.{first, nullable}
 use Rattle.sil_shape.proofs.SuitsLemmas.{accepts-suits}
-use Rattle.sil_shape.proofs.Numbered.{each_look-at, same_production, same_part}
-use Rattle.sil_shape.proofs.Computed.{follows, begins_one, begins, vanishes_one, vanishes, implies, comes, fits_one, fits, is_it, is_way, computed_first, computed_nullable, computed_follow, computed_choice, computed_way, follows-start}
+use Rattle.sil_shape.proofs.Numbered.{each_look-at, is_it, is_it_some, same_part}
+use Rattle.sil_shape.proofs.Computed.{follows, begins_one, begins, vanishes_one, vanishes, implies, comes, fits_one, fits, is_way, computed_first, computed_nullable, computed_follow, computed_choice, computed_way, follows-start}
 
 -- the class that comes next, if any does
 abbrev pub look : List Class → Option Class
@@ -145,11 +145,6 @@ Fits-body part (s ∷ rest) ss h after below =
 
 pub Fits-expand : (p : Production) (ss : List Symbol) → Fits (Part (written p) ∷ ss) → Fits (body p ++ ss)
 Fits-expand p ss h = Fits-body (written p) (body p) ss (computed_follow p) h.0 h.1
-
-is_it_some : (o : Option Production) (p : Production) → is_it o p ≡ true → o ≡ Some p
-unfolding is_it
-is_it_some None p h = absurd (false≢true h)
-is_it_some (Some q) p h = ap Some (same_production q p h)
 
 chosen : (p : Production) (ss : List Symbol) (l : Option Class) → FitsOne (Part (written p)) ss → looks_like (body p ++ ss) l ≡ true → choose (written p) l ≡ Some p
 chosen p ss l after h =

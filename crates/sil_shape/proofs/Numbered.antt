@@ -1,7 +1,7 @@
 -- All classes, productions and parts, each at a number of its own.
-use Rattle.std.proofs.Common.{◌≡◌, ℕ, zero, suc, ◌+◌, List, [], ◌∷◌, ◌++◌, refl, ap, sym, subst, ◌∙◌, Bool, true}
+use Rattle.std.proofs.Common.{◌≡◌, ℕ, zero, suc, ◌+◌, List, [], ◌∷◌, ◌++◌, refl, ap, sym, subst, ◌∙◌, Bool, true, false}
 use Rattle.std.specs.Prelude.{Option, Some, None, ◌==◌, map, slice_index_or}
-use Rattle.std.proofs.lemmas.Bool.{and_parts, eqb-true}
+use Rattle.std.proofs.lemmas.Bool.{and_parts, eqb-true, eq-eqb, false≢true}
 use Rattle.std.specs.List.{list_all}
 use Rattle.instruction_table.specs.declared.op.Op.TheVariants as op
 use Rattle.instruction_table.specs.declared.op.TheConstants.{OPS}
@@ -16,6 +16,7 @@ use Rattle.sil_shape.specs.declared.grammar.Nonterminal.TheVariants as n
 use Rattle.sil_shape.specs.declared.grammar.Production.{Production}
 use Rattle.sil_shape.specs.declared.grammar.Production.TheVariants as p
 use Rattle.sil_shape.specs.ClassNumbers.{keyword_number, at_number, punctuation_number, class_number}
+use Rattle.sil_shape.specs.ParseTable.{look_number, part_number}
 
 -- the end, and each class but the mnemonics
 unfoldable pub fixed_looks : List (Option Class)
@@ -213,97 +214,10 @@ all_productions = fixed_productions ++ map p.Row OPS
     fixed_productions : List Production
     fixed_productions = p.WholeModule ∷ p.StageSome ∷ p.StageNone ∷ p.Raw ∷ p.Canonical ∷ p.ImportsMore ∷ p.ImportsEnd ∷ p.ItemsMore ∷ p.ItemsEnd ∷ p.FinalClass ∷ p.PlainClass ∷ p.StructItem ∷ p.EnumItem ∷ p.FunctionItem ∷ p.VtableItem ∷ p.MembersMore ∷ p.MembersEnd ∷ p.StoredMember ∷ p.FinalMember ∷ p.PlainMember ∷ p.DeinitMember ∷ p.InitMember ∷ p.ModifiedStored ∷ p.ModifiedFinal ∷ p.ModifiedVariable ∷ p.WeakVariable ∷ p.UnownedVariable ∷ p.StrongVariable ∷ p.VarBinding ∷ p.LetBinding ∷ p.FieldsMore ∷ p.FieldsEnd ∷ p.StoredField ∷ p.PlainField ∷ p.AccessorsSome ∷ p.AccessorsNone ∷ p.SetterSome ∷ p.SetterNone ∷ p.CasesMore ∷ p.CasesEnd ∷ p.PayloadSome ∷ p.PayloadNone ∷ p.BareType ∷ p.ParenType ∷ p.BaseOpen ∷ p.WeakOpen ∷ p.UnownedOpen ∷ p.BuiltinBase ∷ p.OptionalBase ∷ p.NamedBase ∷ p.BuiltinInt ∷ p.BuiltinName ∷ p.OptionalOf ∷ p.OptionalName ∷ p.Width1 ∷ p.Width8 ∷ p.Width16 ∷ p.Width32 ∷ p.Width64 ∷ p.QuestionsMore ∷ p.QuestionsEnd ∷ p.TypesSome ∷ p.TypesNone ∷ p.MoreTypesMore ∷ p.MoreTypesEnd ∷ p.LinkageHidden ∷ p.LinkagePrivate ∷ p.LinkageShared ∷ p.LinkagePublic ∷ p.LinkagePlain ∷ p.AttributesMore ∷ p.AttributesEnd ∷ p.BodySome ∷ p.BodyNone ∷ p.WholeFunctionType ∷ p.Thin ∷ p.Method ∷ p.ParamsSome ∷ p.ParamsNone ∷ p.MoreParamsMore ∷ p.MoreParamsEnd ∷ p.ParamOwned ∷ p.ParamGuaranteed ∷ p.ParamInout ∷ p.ParamPlain ∷ p.ResultList ∷ p.ResultOwned ∷ p.ResultPlain ∷ p.InsideSome ∷ p.InsideNone ∷ p.MoreGivensMore ∷ p.MoreGivensEnd ∷ p.GivenOwned ∷ p.GivenPlain ∷ p.WholeBlock ∷ p.BlocksMore ∷ p.BlocksEnd ∷ p.BlockArgsSome ∷ p.BlockArgsNone ∷ p.MoreBlockArgsMore ∷ p.MoreBlockArgsEnd ∷ p.WholeBlockArg ∷ p.OwnershipOwned ∷ p.OwnershipGuaranteed ∷ p.OwnershipNone ∷ p.StarSome ∷ p.StarNone ∷ p.CodeInst ∷ p.CodeEnd ∷ p.InstOneName ∷ p.InstNames ∷ p.InstUnnamed ∷ p.NamesSome ∷ p.NamesNone ∷ p.MoreNamesMore ∷ p.MoreNamesEnd ∷ p.WholeOperand ∷ p.OperandsSome ∷ p.OperandsNone ∷ p.MoreOperandsMore ∷ p.MoreOperandsEnd ∷ p.BareNamesSome ∷ p.BareNamesNone ∷ p.WholeEdge ∷ p.EdgeArgsSome ∷ p.EdgeArgsNone ∷ p.SwitchCase ∷ p.SwitchDefault ∷ p.SwitchMoreSome ∷ p.SwitchMoreEnd ∷ p.WholeEnumElement ∷ p.SuffixSome ∷ p.SuffixNone ∷ p.EnumOperandSome ∷ p.EnumOperandNone ∷ p.WholeMemberName ∷ p.FlagsSome ∷ p.FlagsNone ∷ p.LexicalFirst ∷ p.VarDeclFirst ∷ p.VarDeclAfterSome ∷ p.VarDeclAfterNone ∷ p.LexicalAfterSome ∷ p.LexicalAfterNone ∷ p.QualifierSome ∷ p.QualifierNone ∷ p.QualifierCopy ∷ p.QualifierTake ∷ p.QualifierTrivial ∷ p.QualifierInit ∷ p.QualifierAssign ∷ p.TakeFlagSome ∷ p.TakeFlagNone ∷ p.InitFlagSome ∷ p.InitFlagNone ∷ p.InitShort ∷ p.InitLong ∷ p.DebugSome ∷ p.DebugNone ∷ p.DebugLet ∷ p.DebugVar ∷ p.DebugRest ∷ p.DebugAfterBindingSome ∷ p.DebugAfterBindingNone ∷ p.DebugName ∷ p.DebugNoName ∷ p.DebugAfterNameSome ∷ p.DebugAfterNameNone ∷ p.DebugNumber ∷ p.DebugNoNumber ∷ p.DebugAfterNumberSome ∷ p.DebugAfterNumberNone ∷ p.DebugDeref ∷ p.EntrySome ∷ p.EntryNone ∷ []
 
-unfoldable pub part_number : Nonterminal → ℕ
-part_number n.Module = 0
-part_number n.Stage = 1
-part_number n.StageWord = 2
-part_number n.Imports = 3
-part_number n.Items = 4
-part_number n.Item = 5
-part_number n.Members = 6
-part_number n.Member = 7
-part_number n.Modified = 8
-part_number n.Variable = 9
-part_number n.Binding = 10
-part_number n.Fields = 11
-part_number n.Field = 12
-part_number n.Accessors = 13
-part_number n.Setter = 14
-part_number n.Cases = 15
-part_number n.Payload = 16
-part_number n.Type = 17
-part_number n.OpenType = 18
-part_number n.Base = 19
-part_number n.BuiltinTail = 20
-part_number n.OptionalTail = 21
-part_number n.Width = 22
-part_number n.Questions = 23
-part_number n.Types = 24
-part_number n.MoreTypes = 25
-part_number n.Linkage = 26
-part_number n.Attributes = 27
-part_number n.Body = 28
-part_number n.FunctionType = 29
-part_number n.Convention = 30
-part_number n.Params = 31
-part_number n.MoreParams = 32
-part_number n.Param = 33
-part_number n.Results = 34
-part_number n.ResultsInside = 35
-part_number n.MoreGivens = 36
-part_number n.Given = 37
-part_number n.Block = 38
-part_number n.Blocks = 39
-part_number n.BlockArgs = 40
-part_number n.MoreBlockArgs = 41
-part_number n.BlockArg = 42
-part_number n.Ownership = 43
-part_number n.Star = 44
-part_number n.Code = 45
-part_number n.Inst = 46
-part_number n.Names = 47
-part_number n.MoreNames = 48
-part_number n.Row = 49
-part_number n.Terminator = 50
-part_number n.Operand = 51
-part_number n.Operands = 52
-part_number n.MoreOperands = 53
-part_number n.BareNames = 54
-part_number n.Edge = 55
-part_number n.EdgeArgs = 56
-part_number n.SwitchPart = 57
-part_number n.SwitchMore = 58
-part_number n.EnumElement = 59
-part_number n.ElementSuffix = 60
-part_number n.EnumOperand = 61
-part_number n.MemberName = 62
-part_number n.Flags = 63
-part_number n.FirstFlag = 64
-part_number n.VarDeclAfter = 65
-part_number n.LexicalAfter = 66
-part_number n.Qualifier = 67
-part_number n.QualifierWord = 68
-part_number n.TakeFlag = 69
-part_number n.InitFlag = 70
-part_number n.InitWord = 71
-part_number n.Debug = 72
-part_number n.DebugPart = 73
-part_number n.DebugAfterBinding = 74
-part_number n.DebugNamePart = 75
-part_number n.DebugAfterName = 76
-part_number n.DebugNumberPart = 77
-part_number n.DebugAfterNumber = 78
-part_number n.DebugDerefPart = 79
-part_number n.VtableEntry = 80
-
 all_parts : List Nonterminal
 all_parts = n.Module ∷ n.Stage ∷ n.StageWord ∷ n.Imports ∷ n.Items ∷ n.Item ∷ n.Members ∷ n.Member ∷ n.Modified ∷ n.Variable ∷ n.Binding ∷ n.Fields ∷ n.Field ∷ n.Accessors ∷ n.Setter ∷ n.Cases ∷ n.Payload ∷ n.Type ∷ n.OpenType ∷ n.Base ∷ n.BuiltinTail ∷ n.OptionalTail ∷ n.Width ∷ n.Questions ∷ n.Types ∷ n.MoreTypes ∷ n.Linkage ∷ n.Attributes ∷ n.Body ∷ n.FunctionType ∷ n.Convention ∷ n.Params ∷ n.MoreParams ∷ n.Param ∷ n.Results ∷ n.ResultsInside ∷ n.MoreGivens ∷ n.Given ∷ n.Block ∷ n.Blocks ∷ n.BlockArgs ∷ n.MoreBlockArgs ∷ n.BlockArg ∷ n.Ownership ∷ n.Star ∷ n.Code ∷ n.Inst ∷ n.Names ∷ n.MoreNames ∷ n.Row ∷ n.Terminator ∷ n.Operand ∷ n.Operands ∷ n.MoreOperands ∷ n.BareNames ∷ n.Edge ∷ n.EdgeArgs ∷ n.SwitchPart ∷ n.SwitchMore ∷ n.EnumElement ∷ n.ElementSuffix ∷ n.EnumOperand ∷ n.MemberName ∷ n.Flags ∷ n.FirstFlag ∷ n.VarDeclAfter ∷ n.LexicalAfter ∷ n.Qualifier ∷ n.QualifierWord ∷ n.TakeFlag ∷ n.InitFlag ∷ n.InitWord ∷ n.Debug ∷ n.DebugPart ∷ n.DebugAfterBinding ∷ n.DebugNamePart ∷ n.DebugAfterName ∷ n.DebugNumberPart ∷ n.DebugAfterNumber ∷ n.DebugDerefPart ∷ n.VtableEntry ∷ []
 
 -- each stands in the list of all, at its number
-unfoldable pub look_number : Option Class → ℕ
-look_number None = 0
-look_number (Some k) = class_number k
-
 pub all_looks-at : (l : Option Class) → slice_index_or all_looks (look_number l) None ≡ l
 unfolding all_looks fixed_looks look_number class_number keyword_number at_number punctuation_number
 all_looks-at None = refl
@@ -346,3 +260,17 @@ same_production x y h = sym (all_productions-at x) ∙ ap (λ i. slice_index_or 
 
 pub same_part : (x y : Nonterminal) → (part_number x == part_number y) ≡ true → x ≡ y
 same_part x y h = sym (all_parts-at x) ∙ ap (λ i. slice_index_or all_parts i n.Module) (eqb-true _ _ h) ∙ all_parts-at y
+
+-- whether it is this production
+unfoldable pub is_it : Option Production → Production → Bool
+is_it None q = false
+is_it (Some r) q = production_number r == production_number q
+
+pub is_it_some : (o : Option Production) (p : Production) → is_it o p ≡ true → o ≡ Some p
+unfolding is_it
+is_it_some None p h = absurd (false≢true h)
+is_it_some (Some q) p h = ap Some (same_production q p h)
+
+pub is_it-self : (p : Production) → is_it (Some p) p ≡ true
+unfolding is_it
+is_it-self p = eq-eqb (production_number p) (production_number p) refl

@@ -1,7 +1,7 @@
 -- Turns of the machine follow one another, and end.
 use Rattle.std.proofs.Common.{◌≡◌, ℕ, ◌+◌, ◌<◌, ◌≤◌, List, [], ◌∷◌, ◌++◌, refl, ap, sym, subst, ◌∙◌, arith, Bool, true, false}
 use Rattle.std.specs.Prelude.{Option, Some, None, ◌&&◌, ◌↔◌, IsTrue, drop, slice_get}
-use Rattle.std.proofs.lemmas.Bool.{ltb-true}
+use Rattle.std.proofs.lemmas.Bool.{ltb-true, false≢true}
 use Rattle.token_classes.specs.declared.classes.Class.{Class}
 use Rattle.sil_shape.specs.declared.grammar.Nonterminal.{Nonterminal}
 use Rattle.sil_shape.specs.declared.grammar.Symbol.{Symbol}
@@ -85,6 +85,14 @@ settled_else l (Part part ∷ ss) h = absurd (h part refl)
 
 pub refused_token : {k : Class} {stack last : List Symbol} {steps more : List Step} → Settles (Some k) stack steps last more → (IsAccepted k last → ⊥) → Refuses (Some k) stack steps last more
 refused_token {k = k} {last = last} s no_fit = record { turns = s.turns; stuck = stuck_at k last s.settled no_fit }
+
+-- the same of a class with its number, and of the stack as a slice shows it
+pub refused_numbered : (k j : Class) (l : Option Class) (shown : List Symbol) {stack last : List Symbol} {steps more : List Step} {suits : Bool}
+    → j ≡ k → l ≡ Some j → shown ≡ last → Settles l stack steps last more → IsTrue suits ↔ IsAccepted j shown → suits ≡ false → Refuses (Some k) stack steps last more
+refused_numbered k j l shown {stack = stack} {last = last} {steps = steps} {more = more} {suits = suits} same look items s accepts stays =
+    let settles : Settles (Some k) stack steps last more = subst (λ x. Settles x stack steps last more) (look ∙ ap Some same) s in
+    let fits : IsTrue suits ↔ IsAccepted k last = subst (λ x. IsTrue suits ↔ IsAccepted x last) same (subst (λ x. IsTrue suits ↔ IsAccepted j x) items accepts) in
+    refused_token settles (λ a. false≢true (sym stays ∙ fits.1 a))
 
 pub refused_end : {stack last : List Symbol} {steps more : List Step} → Settles None stack steps last more → (last ≡ [] → ⊥) → Refuses None stack steps last more
 refused_end {last = last} s some = record { turns = s.turns; stuck = stuck_at_end last s.settled some }

@@ -9,5 +9,6 @@ pub mod Begun
 pub mod Refusal
 pub mod Choice
 pub mod Turns
+pub mod ParseTable
 pub mod Shortest
 pub mod Unsupported

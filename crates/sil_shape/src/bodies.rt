@@ -42,6 +42,7 @@ macro_rules! part {
 }
 
 /// Puts the body of a production on the stack, its first symbol on top.
+#[inline(always)]
 #[tactic(auto, unfolding(crate::specs::Grammar::body))]
 pub fn push_body(stack: &mut Vec<Symbol>, production: Production) -> Result<(), AllocError>
     ensures { OnOk result (reverse stack.new.items ≡ body production ++ reverse stack.old.items) }

@@ -10,6 +10,7 @@ ghost use Rattle.sil_shape.specs.Grammar.{alternatives};
 use crate::alternatives::alternatives;
 use crate::class_numbers::class_number;
 use crate::grammar::{Nonterminal, Production, Symbol, Terminal};
+use crate::lookahead::NumberedClass;
 use crate::rows::ends_block;
 use crate::starts::{empty_choice, starts};
 use token_classes::{Class, Keyword};
@@ -25,35 +26,35 @@ fn is_type_word(word: Keyword) -> bool
 
 /// Whether a token of this class may stand for the terminal.
 #[tactic(auto, unfolding(crate::specs::ClassNumbers::accepts))]
-pub(crate) fn accepts_terminal(terminal: Terminal, class: Class) -> bool
-    ensures { result ≡ accepts terminal class }
+pub(crate) fn accepts_terminal(terminal: Terminal, token: NumberedClass) -> bool
+    ensures { result ≡ accepts terminal token.class }
 {
     match terminal {
-        Terminal::AnyWord => match class {
+        Terminal::AnyWord => match token.class {
             Class::Word(_) => true,
             _ => false,
         },
-        Terminal::TypeWord => match class {
+        Terminal::TypeWord => match token.class {
             Class::Word(word) => is_type_word(word),
             _ => false,
         },
-        Terminal::AnyAt => match class {
+        Terminal::AnyAt => match token.class {
             Class::At(_) => true,
             _ => false,
         },
-        Terminal::AnyText => match class {
+        Terminal::AnyText => match token.class {
             Class::BuiltinText | Class::OtherText => true,
             _ => false,
         },
-        Terminal::RowWord => match class {
+        Terminal::RowWord => match token.class {
             Class::Word(Keyword::Mnemonic(op)) => !ends_block(op),
             _ => false,
         },
-        Terminal::EndWord => match class {
+        Terminal::EndWord => match token.class {
             Class::Word(Keyword::Mnemonic(op)) => ends_block(op),
             _ => false,
         },
-        Terminal::Just(wanted) => class_number(wanted) == class_number(class),
+        Terminal::Just(wanted) => class_number(wanted) == token.number,
     }
 }
 
@@ -61,7 +62,8 @@ pub(crate) fn accepts_terminal(terminal: Terminal, class: Class) -> bool
 fn has_class(terminals: &[Terminal], class: Class) -> bool
     ensures { result ≡ has_class terminals.now class }
 {
-    terminals.iter().any(|t| accepts_terminal(*t, class))
+    let token = NumberedClass::new(class);
+    terminals.iter().any(|t| accepts_terminal(*t, token))
 }
 
 #[tactic(auto, unfolding(crate::specs::Choice::has))]
@@ -130,11 +132,11 @@ pub fn choose(part: Nonterminal, look: Option<Class>) -> Option<Production>
 }
 
 /// Whether a token of this class may stand for the symbol.
-pub fn accepts(symbol: Symbol, class: Class) -> bool
-    ensures { IsTrue result ↔ Accepts symbol class }
+pub(crate) fn accepts(symbol: Symbol, token: NumberedClass) -> bool
+    ensures { IsTrue result ↔ Accepts symbol token.class }
 {
     match symbol {
-        Symbol::Read(terminal) => accepts_terminal(terminal, class),
+        Symbol::Read(terminal) => accepts_terminal(terminal, token),
         Symbol::Part(_) => false,
     }
 }

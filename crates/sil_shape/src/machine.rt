@@ -9,8 +9,10 @@ ghost use Rattle.sil_shape.specs.Refusal.{IsRefusal};
 ghost use Rattle.sil_shape.specs.declared.machine.ShapeRefusal.TheVariants.{FirstBad, Memory};
 
 use crate::bodies::push_body;
-use crate::choice::{accepts, choose};
+use crate::choice::accepts;
 use crate::grammar::{Nonterminal, Production, Symbol};
+use crate::lookahead::{Lookahead, NumberedClass};
+use crate::parse_table::ParseTable;
 use crate::steps::{Front, Step};
 use std::alloc::{AllocError, Global};
 use token_classes::Class;
@@ -52,6 +54,7 @@ fn first(stack: &[Symbol]) -> Option<Symbol>
 }
 
 /// Puts the body of a production in the place of the part that stands first.
+#[inline(always)]
 fn expand(
     stack: &mut Vec<Symbol>,
     steps: &mut Vec<Step>,
@@ -66,15 +69,17 @@ fn expand(
 }
 
 /// Expands what stands first until that is a token or nothing, or a part for which the next token chooses no body.
+#[inline(always)]
 fn settle(
     stack: &mut Vec<Symbol>,
     steps: &mut Vec<Step>,
-    look: Option<Class>,
+    table: &mut ParseTable,
+    look: Lookahead,
 ) -> Result<(), AllocError>
-    ensures { OnOk result (Settles look (reverse stack.old.items) steps.old.items (reverse stack.new.items) steps.new.items) }
+    ensures { OnOk result (Settles look.class (reverse stack.old.items) steps.old.items (reverse stack.new.items) steps.new.items) }
 {
     while let Some(Symbol::Part(part)) = first(stack.as_slice()) {
-        let Some(production) = choose(part, look) else {
+        let Some(production) = table.predict(part, look) else {
             return Ok(());
         };
         expand(stack, steps, production)?;
@@ -83,23 +88,29 @@ fn settle(
 }
 
 /// Whether a token of this class may stand for what stands first.
-fn first_accepts(stack: &[Symbol], class: Class) -> bool
-    ensures { IsTrue result ↔ IsAccepted class (reverse stack.now) }
+fn first_accepts(stack: &[Symbol], token: NumberedClass) -> bool
+    ensures { IsTrue result ↔ IsAccepted token.class (reverse stack.now) }
 {
     match first(stack) {
-        Some(symbol) => accepts(symbol, class),
+        Some(symbol) => accepts(symbol, token),
         None => false,
     }
 }
 
 /// Takes the next token, where it suits what stands first; else that stays.
-fn take(stack: &mut Vec<Symbol>, steps: &mut Vec<Step>, class: Class) -> Result<bool, AllocError>
+fn take(
+    stack: &mut Vec<Symbol>,
+    steps: &mut Vec<Step>,
+    table: &mut ParseTable,
+    class: Class,
+) -> Result<bool, AllocError>
     ensures { IfOk result (λ taken. MatchBool taken
         (Takes class (reverse stack.old.items) steps.old.items (reverse stack.new.items) steps.new.items)
         (Refuses (Some class) (reverse stack.old.items) steps.old.items (reverse stack.new.items) steps.new.items)) }
 {
-    settle(stack, steps, Some(class))?;
-    if !first_accepts(stack.as_slice(), class) {
+    let token = NumberedClass::new(class);
+    settle(stack, steps, table, Lookahead::token(token))?;
+    if !first_accepts(stack.as_slice(), token) {
         return Ok(false);
     }
     pop_symbol(stack);
@@ -108,12 +119,16 @@ fn take(stack: &mut Vec<Symbol>, steps: &mut Vec<Step>, class: Class) -> Result<
 }
 
 /// Whether the list may end here.
-fn end(stack: &mut Vec<Symbol>, steps: &mut Vec<Step>) -> Result<bool, AllocError>
+fn end(
+    stack: &mut Vec<Symbol>,
+    steps: &mut Vec<Step>,
+    table: &mut ParseTable,
+) -> Result<bool, AllocError>
     ensures { IfOk result (λ ends. MatchBool ends
         (Turns None (reverse stack.old.items) steps.old.items [] steps.new.items)
         (Refuses None (reverse stack.old.items) steps.old.items (reverse stack.new.items) steps.new.items)) }
 {
-    settle(stack, steps, None)?;
+    settle(stack, steps, table, Lookahead::end())?;
     Ok(stack.is_empty())
 }
 
@@ -148,13 +163,14 @@ pub fn steps_of(alloc: Global, classes: &[Class]) -> Result<Vec<Step>, ShapeRefu
     ensures refused { IfErr result (IsRefusal classes.now) }
 {
     let mut stack = full_stack(alloc)?;
-    let mut steps = Vec::new(alloc);
+    let mut steps = Vec::with_capacity(alloc, classes.len())?;
+    let mut table = ParseTable::new(alloc)?;
     for (place, class) in classes.iter().enumerate() {
-        if !take(&mut stack, &mut steps, *class)? {
+        if !take(&mut stack, &mut steps, &mut table, *class)? {
             return Err(first_bad(place, steps, stack));
         }
     }
-    if !end(&mut stack, &mut steps)? {
+    if !end(&mut stack, &mut steps, &mut table)? {
         return Err(first_bad(classes.len(), steps, stack));
     }
     Ok(steps)

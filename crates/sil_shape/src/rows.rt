@@ -168,6 +168,7 @@ pub(crate) fn push_symbols(stack: &mut Vec<Symbol>, symbols: &[Symbol]) -> Resul
 }
 
 /// Puts the row of an instruction on the stack, its mnemonic on top.
+#[inline(never)]
 pub(crate) fn push_row(stack: &mut Vec<Symbol>, op: Op) -> Result<(), AllocError>
     ensures { OnOk result (reverse stack.new.items ≡ row_body op ++ reverse stack.old.items) }
 {

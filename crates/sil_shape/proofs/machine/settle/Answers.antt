@@ -10,7 +10,7 @@ loop-part-init c = stay
 pub loop-part-smaller : goal.loop-part-smaller
 loop-part-smaller c =
     let now = ap (λ xs. slice_get (reverse xs) 0) c.as_slice.ensures.value in
-    smaller _ (sym now ∙ sym c.first.ensures ∙ c.in-Some-Part.is ∙ ap Some c.in-Some-Part.field-0-is) (sym c.in-Some.ensures) c.in_ok-expand.ensures
+    smaller c.args.look.class (sym now ∙ sym c.first.ensures ∙ c.in-Some-Part.is ∙ ap Some c.in-Some-Part.field-0-is) (sym c.in-Some.ensures) c.in_ok-expand.ensures
 
 pub loop-part-preserved : goal.loop-part-preserved
 loop-part-preserved c =

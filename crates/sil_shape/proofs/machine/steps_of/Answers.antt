@@ -6,7 +6,7 @@ use Rattle.sil_shape.proofs.ValuesLemmas.{takes_of-derives, values_left-derives,
 use Rattle.sil_shape.proofs.machine.steps_of.Goals as goal
 
 pub loop-place-init : goal.loop-place-init
-loop-place-init c = rw (c.in_ok-stack.ensures, c.new-steps.ensures.items) Reached-start
+loop-place-init c = rw (c.in_ok-stack.ensures, c.in_ok-steps.ensures.items) Reached-start
 
 pub returns-then-not-branch-clause-refused : goal.returns-then-not-branch-clause-refused
 returns-then-not-branch-clause-refused c =
