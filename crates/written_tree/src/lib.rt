@@ -1,5 +1,5 @@
 //! A module as its text writes it, with names and places where a module has numbers: plain data, and which of two faults
-//! in it comes first. It knows of no text.
+//! in it comes first. Its spellings share the bytes of the text, and it doesn't know what these say.
 #![tactic(auto)]
 
 mod fault;

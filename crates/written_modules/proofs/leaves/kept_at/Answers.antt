@@ -1,5 +1,5 @@
 -- The token stands inside the text.
-use Rattle.std.proofs.Common.{◌≡◌, ◌≤◌, ◌+◌, ◌∙◌, ap, arith, get_or, length}
+use Rattle.std.proofs.Common.{◌∙◌, ap, arith, get_or, length}
 use Rattle.sil_lexer.specs.declared.token.Token.{Token}
 use Rattle.sil_lexer.specs.Lexing.{spelling_of}
 use Rattle.written_modules.proofs.LeafLemmas.{some_token, spelling-length, token_inside}
