@@ -25,7 +25,7 @@ pub(crate) fn declared(
     let mut defined = Definitions::of_imports(alloc, imports)?;
     for item in items {
         if let WrittenItem::Decl(decl) = item {
-            defined.define(alloc, decl.name())?;
+            defined.define(decl.name())?;
         }
     }
     Ok(defined)
@@ -40,7 +40,7 @@ pub(crate) fn defined_functions(
     let mut defined = Definitions::new(alloc);
     for item in items {
         if let WrittenItem::Function(function) = item {
-            defined.define(alloc, &function.name)?;
+            defined.define(&function.name)?;
         }
     }
     Ok(defined)
@@ -56,7 +56,7 @@ pub(crate) fn classes_of_vtables(
     let mut defined = Definitions::new(alloc);
     for item in items {
         if let WrittenItem::Vtable(vtable) = item {
-            defined.define(alloc, &vtable.class_name)?;
+            defined.define(&vtable.class_name)?;
         }
     }
     Ok(defined)
@@ -77,7 +77,7 @@ fn defined_fields(alloc: Global, fields: &[WrittenField]) -> Result<Definitions,
 {
     let mut defined = Definitions::new(alloc);
     for field in fields {
-        defined.define(alloc, &field.name)?;
+        defined.define(&field.name)?;
     }
     Ok(defined)
 }
@@ -87,7 +87,7 @@ fn defined_cases(alloc: Global, cases: &[WrittenCase]) -> Result<Definitions, Ex
 {
     let mut defined = Definitions::new(alloc);
     for case in cases {
-        defined.define(alloc, &case.name)?;
+        defined.define(&case.name)?;
     }
     Ok(defined)
 }
@@ -100,7 +100,7 @@ pub(crate) fn defined_labels(
 {
     let mut defined = Definitions::new(alloc);
     for block in blocks {
-        defined.define(alloc, &block.label)?;
+        defined.define(&block.label)?;
     }
     Ok(defined)
 }
@@ -113,58 +113,42 @@ pub(crate) fn defined_values(
 {
     let mut defined = Definitions::new(alloc);
     for block in blocks {
-        define_in_block(alloc, &mut defined, block)?;
+        define_in_block(&mut defined, block)?;
     }
     Ok(defined)
 }
 
-fn define_in_block(
-    alloc: Global,
-    defined: &mut Definitions,
-    block: &WrittenBlock,
-) -> Result<(), Exhausted>
+fn define_in_block(defined: &mut Definitions, block: &WrittenBlock) -> Result<(), Exhausted>
     ensures { OnOk result (defined.new ≡ with_tokens defined.old (values_defined block.now)) }
 {
-    define_args(alloc, defined, block.args.as_slice())?;
-    define_in_insts(alloc, defined, block.insts.as_slice())?;
-    define_results(alloc, defined, block.terminator.results.as_slice())
+    define_args(defined, block.args.as_slice())?;
+    define_in_insts(defined, block.insts.as_slice())?;
+    define_results(defined, block.terminator.results.as_slice())
 }
 
-fn define_args(
-    alloc: Global,
-    defined: &mut Definitions,
-    args: &[WrittenArg],
-) -> Result<(), Exhausted>
+fn define_args(defined: &mut Definitions, args: &[WrittenArg]) -> Result<(), Exhausted>
     ensures { OnOk result (defined.new ≡ with_tokens defined.old (map arg_name args.now)) }
 {
     for arg in args {
-        defined.define(alloc, &arg.name)?;
+        defined.define(&arg.name)?;
     }
     Ok(())
 }
 
-fn define_in_insts(
-    alloc: Global,
-    defined: &mut Definitions,
-    insts: &[WrittenInst],
-) -> Result<(), Exhausted>
+fn define_in_insts(defined: &mut Definitions, insts: &[WrittenInst]) -> Result<(), Exhausted>
     ensures { OnOk result (defined.new ≡ with_tokens defined.old (flat_map results_of insts.now)) }
 {
     for inst in insts {
-        define_results(alloc, defined, inst.results.as_slice())?;
+        define_results(defined, inst.results.as_slice())?;
     }
     Ok(())
 }
 
-fn define_results(
-    alloc: Global,
-    defined: &mut Definitions,
-    results: &[WrittenToken],
-) -> Result<(), Exhausted>
+fn define_results(defined: &mut Definitions, results: &[WrittenToken]) -> Result<(), Exhausted>
     ensures { OnOk result (defined.new ≡ with_tokens defined.old results.now) }
 {
     for result in results {
-        defined.define(alloc, result)?;
+        defined.define(result)?;
     }
     Ok(())
 }

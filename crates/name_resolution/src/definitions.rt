@@ -3,15 +3,16 @@
 ghost use Rattle.std.specs.Prelude.{◌≡◌, None, OnOk, IfOk};
 
 use indexmap::IndexSet;
-use sil_ast::{Exhausted, Imports, Text, TryClone};
+use sil_ast::{Exhausted, Imports};
 use std::alloc::Global;
 use std::marker::Model;
-use written_tree::{Fault, FaultKind, WrittenToken, earlier};
+use std::rc::Rc;
+use written_tree::{Fault, FaultKind, Spelling, WrittenToken, earlier};
 
 /// Names, and the first token whose name stood before.
 #[derive(Drop)]
 pub(crate) struct Definitions {
-    names: IndexSet<Text>,
+    names: IndexSet<Spelling>,
     twice: Option<Fault>,
 }
 
@@ -62,14 +63,14 @@ impl Definitions {
     fn reserve(&mut self, alloc: Global, name: &[u8]) -> Result<(), Exhausted>
         ensures { OnOk result (self.new ≡ with_reserved self.old (name.now ∷ [])) }
     {
-        self.names.insert(Text::from_slice(alloc, name)?)?;
+        self.names.insert(spelling(alloc, name)?)?;
         Ok(())
     }
 
-    pub(crate) fn define(&mut self, alloc: Global, token: &WrittenToken) -> Result<(), Exhausted>
+    pub(crate) fn define(&mut self, token: &WrittenToken) -> Result<(), Exhausted>
         ensures { OnOk result (self.new ≡ with_token self.old token.now) }
     {
-        let is_new = self.names.insert(token.text.try_clone(alloc)?)?;
+        let is_new = self.names.insert(token.text.again()?)?;
         let here = if is_new {
             None
         } else {
@@ -102,4 +103,12 @@ impl Definitions {
             })
         }
     }
+}
+
+// The spelling of a name that stands in no text.
+fn spelling(alloc: Global, name: &[u8]) -> Result<Spelling, Exhausted>
+    ensures { IfOk result (λ spelling. spelling ≡ name.now) }
+{
+    let text = Rc::new(alloc, Vec::from_slice(alloc, name)?)?;
+    Spelling::part(&text, 0, name.len())
 }

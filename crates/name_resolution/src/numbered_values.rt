@@ -21,7 +21,7 @@ pub(crate) fn numbered_functions(
     let mut numbering = Numbering::new(alloc);
     for item in items {
         if let WrittenItem::Function(function) = item {
-            numbering.define(alloc, &function.name.text)?;
+            numbering.define(&function.name.text)?;
         }
     }
     Ok(numbering)
@@ -35,7 +35,7 @@ pub(crate) fn numbered_blocks(
 {
     let mut numbering = Numbering::new(alloc);
     for block in blocks {
-        numbering.define(alloc, &block.label.text)?;
+        numbering.define(&block.label.text)?;
     }
     Ok(numbering)
 }
@@ -48,43 +48,31 @@ pub(crate) fn numbered_values(
 {
     let mut numbering = Numbering::new(alloc);
     for block in blocks {
-        number_args(alloc, &mut numbering, block.args.as_slice())?;
-        number_insts(alloc, &mut numbering, block.insts.as_slice())?;
+        number_args(&mut numbering, block.args.as_slice())?;
+        number_insts(&mut numbering, block.insts.as_slice())?;
     }
     Ok(numbering)
 }
 
-fn number_args(
-    alloc: Global,
-    numbering: &mut Numbering,
-    args: &[WrittenArg],
-) -> Result<(), Exhausted>
+fn number_args(numbering: &mut Numbering, args: &[WrittenArg]) -> Result<(), Exhausted>
     ensures { OnOk result (numbering.new ≡ with_values numbering.old (map defined_by_arg args.now)) }
 {
     for arg in args {
-        numbering.define(alloc, &arg.name.text)?;
+        numbering.define(&arg.name.text)?;
     }
     Ok(())
 }
 
-fn number_insts(
-    alloc: Global,
-    numbering: &mut Numbering,
-    insts: &[WrittenInst],
-) -> Result<(), Exhausted>
+fn number_insts(numbering: &mut Numbering, insts: &[WrittenInst]) -> Result<(), Exhausted>
     ensures { OnOk result (numbering.new ≡ with_values numbering.old (flat_map defined_by_inst insts.now)) }
 {
     for inst in insts {
-        number_results(alloc, numbering, inst)?;
+        number_results(numbering, inst)?;
     }
     Ok(())
 }
 
-fn number_results(
-    alloc: Global,
-    numbering: &mut Numbering,
-    inst: &WrittenInst,
-) -> Result<(), Exhausted>
+fn number_results(numbering: &mut Numbering, inst: &WrittenInst) -> Result<(), Exhausted>
     ensures { OnOk result (numbering.new ≡ with_values numbering.old (defined_by_inst inst.now)) }
 {
     match inst.results.as_slice() {
@@ -94,19 +82,15 @@ fn number_results(
             }
             Ok(())
         }
-        tokens => number_tokens(alloc, numbering, tokens),
+        tokens => number_tokens(numbering, tokens),
     }
 }
 
-fn number_tokens(
-    alloc: Global,
-    numbering: &mut Numbering,
-    tokens: &[WrittenToken],
-) -> Result<(), Exhausted>
+fn number_tokens(numbering: &mut Numbering, tokens: &[WrittenToken]) -> Result<(), Exhausted>
     ensures { OnOk result (numbering.new ≡ with_values numbering.old (map named tokens.now)) }
 {
     for token in tokens {
-        numbering.define(alloc, &token.text)?;
+        numbering.define(&token.text)?;
     }
     Ok(())
 }

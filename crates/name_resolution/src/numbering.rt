@@ -3,14 +3,15 @@
 ghost use Rattle.std.specs.Prelude.{◌≡◌, ◌+◌, None, Some, IfOk, OnOk};
 
 use indexmap::IndexMap;
-use sil_ast::{Exhausted, Text, TryClone};
+use sil_ast::Exhausted;
 use std::alloc::Global;
 use std::marker::Model;
+use written_tree::Spelling;
 
 /// Names, each with the number of its first definition.
 #[derive(Drop)]
 pub(crate) struct Numbering {
-    numbers: IndexMap<Text, u32>,
+    numbers: IndexMap<Spelling, u32>,
     count: u32,
 }
 
@@ -35,12 +36,12 @@ impl Numbering {
     }
 
     /// Gives the next number to `name`, which keeps its own where it has one.
-    pub(crate) fn define(&mut self, alloc: Global, name: &Text) -> Result<(), Exhausted>
+    pub(crate) fn define(&mut self, name: &Spelling) -> Result<(), Exhausted>
         ensures { OnOk result (self.new ≡ with_value self.old (Some name.now)) }
     {
         let next = advanced(self.count, 1)?;
         if !self.numbers.contains_key(name) {
-            self.numbers.insert(name.try_clone(alloc)?, self.count)?;
+            self.numbers.insert(name.again()?, self.count)?;
         }
         self.count = next;
         Ok(())
@@ -55,7 +56,7 @@ impl Numbering {
     }
 
     /// The number of a name that is defined.
-    pub(crate) fn number_of(&self, name: &Text) -> u32
+    pub(crate) fn number_of(&self, name: &Spelling) -> u32
         ensures { result ≡ number_in self.now name.now }
     {
         match self.numbers.get(name) {

@@ -54,7 +54,11 @@ fn resolve_item(
     match item {
         WrittenItem::Decl(decl) => whole.decls.push(resolve_decl(alloc, decl)?),
         WrittenItem::Function(f) => { whole.functions.push(resolve_function(alloc, numbering, f)?) }
-        WrittenItem::Vtable(vtable) => whole.vtables.push(resolve_vtable(numbering, vtable)),
+        WrittenItem::Vtable(vtable) => {
+            whole
+                .vtables
+                .push(resolve_vtable(alloc, numbering, &vtable)?)
+        }
     }
 }
 
@@ -63,15 +67,15 @@ fn resolve_decl(alloc: Global, decl: WrittenDecl) -> Result<Decl, Exhausted>
 {
     match decl {
         WrittenDecl::Class { name, fields } => Ok(Decl::Class {
-            name: name.text,
+            name: name.text.to_text(alloc)?,
             fields: resolve_fields(alloc, fields)?,
         }),
         WrittenDecl::Struct { name, fields } => Ok(Decl::Struct {
-            name: name.text,
+            name: name.text.to_text(alloc)?,
             fields: resolve_fields(alloc, fields)?,
         }),
         WrittenDecl::Enum { name, cases } => Ok(Decl::Enum {
-            name: name.text,
+            name: name.text.to_text(alloc)?,
             cases: resolve_cases(alloc, cases)?,
         }),
     }
@@ -83,7 +87,7 @@ fn resolve_fields(alloc: Global, fields: List<WrittenField>) -> Result<List<Fiel
     let mut resolved = List::with_capacity(alloc, fields.len())?;
     for field in fields.into_vec() {
         resolved.push(Field {
-            name: field.name.text,
+            name: field.name.text.to_text(alloc)?,
             storage: field.storage,
             ty: field.ty,
         })?;
@@ -97,7 +101,7 @@ fn resolve_cases(alloc: Global, cases: List<WrittenCase>) -> Result<List<Case>, 
     let mut resolved = List::with_capacity(alloc, cases.len())?;
     for case in cases.into_vec() {
         resolved.push(Case {
-            name: case.name.text,
+            name: case.name.text.to_text(alloc)?,
             payload: case.payload,
         })?;
     }
@@ -114,9 +118,10 @@ fn resolve_function(
     ensures { IfOk result (λ function. function ≡ resolved_function names f) }
 {
     let form = form_of(f.attributes.as_slice(), f.blocks.as_slice());
+    let name = f.name.text.to_text(alloc)?;
     let attributes = kept_attributes(alloc, f.attributes)?;
     Ok(Function {
-        name: f.name.text,
+        name,
         form,
         linkage: f.linkage,
         attributes,
@@ -172,36 +177,41 @@ fn kept_attributes(alloc: Global, words: List<WrittenToken>) -> Result<List<Text
     let mut kept = List::new(alloc);
     for word in words.into_vec() {
         if !word.is_ossa() {
-            kept.push(word.text)?;
+            kept.push(word.text.to_text(alloc)?)?;
         }
     }
     Ok(kept)
 }
 
-fn resolve_vtable(numbering: &Numbering, vtable: WrittenVtable) -> Vtable
+fn resolve_vtable(
+    alloc: Global,
+    numbering: &Numbering,
+    vtable: &WrittenVtable,
+) -> Result<Vtable, Exhausted>
     ghost names: { List Name }
     requires { FindsNames numbering.now names }
-    ensures { result ≡ resolved_vtable names vtable }
+    ensures { IfOk result (λ resolved. resolved ≡ resolved_vtable names vtable.now) }
 {
-    Vtable {
-        class_name: vtable.class_name.text,
-        entry: resolve_entry(numbering, vtable.entry),
-    }
+    Ok(Vtable {
+        class_name: vtable.class_name.text.to_text(alloc)?,
+        entry: resolve_entry(alloc, numbering, &vtable.entry)?,
+    })
 }
 
-fn resolve_entry(numbering: &Numbering, entry: Option<WrittenEntry>) -> Option<DeinitEntry>
+fn resolve_entry(
+    alloc: Global,
+    numbering: &Numbering,
+    entry: &Option<WrittenEntry>,
+) -> Result<Option<DeinitEntry>, Exhausted>
     ghost names: { List Name }
     requires { FindsNames numbering.now names }
-    ensures { result ≡ option_map (resolved_entry names) entry }
+    ensures { IfOk result (λ resolved. resolved ≡ option_map (resolved_entry names) entry.now) }
 {
     match entry {
-        None => None,
-        Some(entry) => {
-            let function = FuncId(numbering.number_of(&entry.function.text));
-            Some(DeinitEntry {
-                owner: entry.owner,
-                function,
-            })
-        }
+        None => Ok(None),
+        Some(entry) => Ok(Some(DeinitEntry {
+            owner: entry.owner.to_text(alloc)?,
+            function: FuncId(numbering.number_of(&entry.function.text)),
+        })),
     }
 }

@@ -1,11 +1,13 @@
--- What is taken at a token that is there.
-use Rattle.std.proofs.Common.{◌≡◌, ℕ, ◌+◌, ◌<◌, ◌≤◌, List, [], ◌∷◌, length, take, drop, get_or, ap, sym, ◌∙◌, arith}
+-- What is taken at a token that is there, and the parts of the text that are kept of it.
+use Rattle.std.proofs.Common.{◌≡◌, ℕ, ◌+◌, ◌-◌, ◌<◌, ◌≤◌, List, [], ◌∷◌, length, take, drop, get_or, ap, sym, ◌∙◌, arith}
 use Rattle.std.proofs.Math.ListN.{get_or-map}
-use Rattle.std.proofs.lemmas.List.{drop_more, get_or-take, length-map, length-take-le}
+use Rattle.std.proofs.lemmas.List.{drop_more, drop-drop, drop-take, get_or-take, length-drop, length-map, length-take-le}
+use Rattle.std.proofs.lemmas.List.Elements.{All-get_or}
+use Rattle.std.specs.Prelude.{slice_range}
 use Rattle.sil_lexer.specs.declared.token.Token.{Token}
 use Rattle.sil_lexer.specs.declared.token.TokenKind.TheVariants.{Word}
 use Rattle.sil_lexer.specs.Lexes.{Lexeme}
-use Rattle.sil_lexer.specs.Lexing.{Lexing, lexeme_of, lexemes_of}
+use Rattle.sil_lexer.specs.Lexing.{Lexing, lexeme_of, lexemes_of, spelling_of, IsInside, IsLexingOf}
 use Rattle.written_modules.specs.declared.value.Value.{Value}
 use Rattle.written_modules.specs.declared.value.Value.TheVariants as v
 use Rattle.written_modules.specs.Meaning.{leaf_of}
@@ -16,7 +18,7 @@ abbrev pub taken : List Lexeme → Value
 taken [] = v.Nothing
 taken (l ∷ lexemes) = leaf_of l
 
-some_token : Token
+pub some_token : Token
 some_token = record { kind = Word; place = record { offset = 0; line = 0; column = 0 }; length = 0 }
 
 pub taken_there : (text : List ℕ) (lexing : Lexing) (count i : ℕ) (value : Value) → i < count → count ≤ length lexing.tokens
@@ -30,3 +32,27 @@ taken_there text lexing count i value below inside leaf_is =
     let here : get_or (take count lexemes) i some ≡ lexeme_of text (get_or lexing.tokens i some_token) =
     get_or-take count lexemes i some below ∙ get_or-map (lexeme_of text) lexing.tokens i some_token in
     leaf_is some_token ∙ (ap leaf_of (sym here) ∙ sym (ap taken first))
+
+-- a part without its first byte is the part from the next byte on
+pub sigil-part : (text : List ℕ) (from count : ℕ) → 0 < count
+    → drop 1 (slice_range text from (from + count)) ≡ slice_range text (from + 1) (from + 1 + (count - 1))
+sigil-part text from count some =
+    let long : from + count - from ≡ 1 + (count - 1) = omega (arith, some) in
+    let less : from + 1 + (count - 1) - (from + 1) ≡ count - 1 = omega arith in
+    ap (λ n. drop 1 (take n (drop from text))) long
+    ∙ drop-take 1 (count - 1) (drop from text)
+    ∙ ap (take (count - 1)) (drop-drop 1 from text)
+    ∙ ap (λ n. take n (drop (from + 1) text)) (sym less)
+
+-- the bytes of a token are as many as it says
+pub spelling-length : (text : List ℕ) (token : Token) → IsInside text token → length (spelling_of text token) ≡ token.length
+spelling-length text token inside =
+    let from : ℕ = token.place.offset in
+    let long : from + token.length - from ≡ token.length = omega arith in
+    let enough : token.length ≤ length (drop from text) = omega (arith, inside, length-drop from text) in
+    ap (λ n. length (take n (drop from text))) long ∙ length-take-le token.length (drop from text) enough
+
+-- each token of a text stands inside it
+pub token_inside : (text : List ℕ) (lexing : Lexing) (i : ℕ) → IsLexingOf text lexing → i < length lexing.tokens
+    → IsInside text (get_or lexing.tokens i some_token)
+token_inside text lexing i lexed below = All-get_or (IsInside text) lexing.tokens i some_token below lexed.inside

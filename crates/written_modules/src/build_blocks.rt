@@ -32,7 +32,7 @@ pub(crate) fn whole_block(alloc: Global, values: &mut Prepended<Value>) -> Resul
     requires { 4 ≤ length values.old }
     ensures { IfOk result (λ value. reduced Production.WholeBlock values.old ≡ value ∷ values.new) }
 {
-    let label = values.pop_front().into_token(alloc);
+    let label = values.pop_front().into_token();
     let args = values.pop_front().into_args(alloc).into_list();
     skip(values);
     let (insts, terminator) = values.pop_front().into_code(alloc)?;
@@ -100,7 +100,7 @@ pub(crate) fn block_arg(alloc: Global, values: &mut Prepended<Value>) -> Result<
     requires { 6 ≤ length values.old }
     ensures { IfOk result (λ value. reduced Production.WholeBlockArg values.old ≡ value ∷ values.new) }
 {
-    let name = values.pop_front().into_token(alloc);
+    let name = values.pop_front().into_token();
     skip(values);
     let kind = values.pop_front().into_ownership();
     skip(values);
@@ -142,7 +142,7 @@ pub(crate) fn one_name(alloc: Global, values: &mut Prepended<Value>) -> Result<V
     requires { 3 ≤ length values.old }
     ensures { IfOk result (λ value. reduced Production.InstOneName values.old ≡ value ∷ values.new) }
 {
-    let name = values.pop_front().into_token(alloc);
+    let name = values.pop_front().into_token();
     let mut results = List::new(alloc);
     results.push(name)?;
     skip(values);
@@ -166,7 +166,7 @@ pub(crate) fn some_names(alloc: Global, values: &mut Prepended<Value>) -> Result
     requires { 2 ≤ length values.old }
     ensures { IfOk result (λ value. reduced Production.NamesSome values.old ≡ value ∷ values.new) }
 {
-    let name = values.pop_front().into_token(alloc);
+    let name = values.pop_front().into_token();
     let mut others = values.pop_front().into_tokens(alloc);
     others.push_front(name)?;
     Ok(Value::Tokens(others))
@@ -178,7 +178,7 @@ pub(crate) fn more_names(alloc: Global, values: &mut Prepended<Value>) -> Result
     ensures { IfOk result (λ value. reduced Production.MoreNamesMore values.old ≡ value ∷ values.new) }
 {
     skip(values);
-    let name = values.pop_front().into_token(alloc);
+    let name = values.pop_front().into_token();
     let mut others = values.pop_front().into_tokens(alloc);
     others.push_front(name)?;
     Ok(Value::Tokens(others))
@@ -192,7 +192,7 @@ pub(crate) fn some_bare_names(
     requires { 2 ≤ length values.old }
     ensures { IfOk result (λ value. reduced Production.BareNamesSome values.old ≡ value ∷ values.new) }
 {
-    let name = values.pop_front().into_token(alloc);
+    let name = values.pop_front().into_token();
     let mut others = values.pop_front().into_tokens(alloc);
     others.push_front(name)?;
     Ok(Value::Tokens(others))

@@ -19,7 +19,7 @@ pub(crate) fn plain_class(alloc: Global, values: &mut Prepended<Value>) -> Resul
     ensures { IfOk result (λ value. reduced Production.PlainClass values.old ≡ value ∷ values.new) }
 {
     skip(values);
-    let name = values.pop_front().into_token(alloc);
+    let name = values.pop_front().into_token();
     skip(values);
     let fields = values.pop_front().into_fields(alloc).into_list();
     skip(values);
@@ -34,7 +34,7 @@ pub(crate) fn final_class(alloc: Global, values: &mut Prepended<Value>) -> Resul
 {
     skip(values);
     skip(values);
-    let name = values.pop_front().into_token(alloc);
+    let name = values.pop_front().into_token();
     skip(values);
     let fields = values.pop_front().into_fields(alloc).into_list();
     skip(values);
@@ -48,7 +48,7 @@ pub(crate) fn struct_item(alloc: Global, values: &mut Prepended<Value>) -> Resul
     ensures { IfOk result (λ value. reduced Production.StructItem values.old ≡ value ∷ values.new) }
 {
     skip(values);
-    let name = values.pop_front().into_token(alloc);
+    let name = values.pop_front().into_token();
     skip(values);
     let fields = values.pop_front().into_fields(alloc).into_list();
     skip(values);
@@ -62,7 +62,7 @@ pub(crate) fn enum_item(alloc: Global, values: &mut Prepended<Value>) -> Result<
     ensures { IfOk result (λ value. reduced Production.EnumItem values.old ≡ value ∷ values.new) }
 {
     skip(values);
-    let name = values.pop_front().into_token(alloc);
+    let name = values.pop_front().into_token();
     skip(values);
     let cases = values.pop_front().into_cases(alloc).into_list();
     skip(values);
@@ -147,7 +147,7 @@ pub(crate) fn var_binding(alloc: Global, values: &mut Prepended<Value>) -> Resul
     ensures { IfOk result (λ value. reduced Production.VarBinding values.old ≡ value ∷ values.new) }
 {
     skip(values);
-    let name = values.pop_front().into_token(alloc);
+    let name = values.pop_front().into_token();
     skip(values);
     let ty = values.pop_front().into_type(alloc).ty;
     skip(values);
@@ -165,7 +165,7 @@ pub(crate) fn let_binding(alloc: Global, values: &mut Prepended<Value>) -> Resul
     ensures { IfOk result (λ value. reduced Production.LetBinding values.old ≡ value ∷ values.new) }
 {
     skip(values);
-    let name = values.pop_front().into_token(alloc);
+    let name = values.pop_front().into_token();
     skip(values);
     let ty = values.pop_front().into_type(alloc).ty;
     skip(values);
@@ -183,7 +183,7 @@ pub(crate) fn more_cases(alloc: Global, values: &mut Prepended<Value>) -> Result
     ensures { IfOk result (λ value. reduced Production.CasesMore values.old ≡ value ∷ values.new) }
 {
     skip(values);
-    let name = values.pop_front().into_token(alloc);
+    let name = values.pop_front().into_token();
     let payload = values.pop_front().into_payload();
     let mut cases = values.pop_front().into_cases(alloc);
     cases.push_front(WrittenCase { name, payload })?;

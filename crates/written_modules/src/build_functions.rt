@@ -23,7 +23,7 @@ pub(crate) fn function(alloc: Global, values: &mut Prepended<Value>) -> Result<V
     skip(values);
     let linkage = values.pop_front().into_linkage();
     let attributes = values.pop_front().into_tokens(alloc).into_list();
-    let name = values.pop_front().into_token(alloc);
+    let name = values.pop_front().into_token();
     skip(values);
     skip(values);
     let signature = values.pop_front().into_signature(alloc);
@@ -47,7 +47,7 @@ pub(crate) fn more_attributes(
     ensures { IfOk result (λ value. reduced Production.AttributesMore values.old ≡ value ∷ values.new) }
 {
     skip(values);
-    let word = values.pop_front().into_token(alloc);
+    let word = values.pop_front().into_token();
     skip(values);
     let mut others = values.pop_front().into_tokens(alloc);
     others.push_front(word)?;
@@ -164,7 +164,7 @@ pub(crate) fn param(alloc: Global, passing: Passing, values: &mut Prepended<Valu
     requires { 2 ≤ length values.old }
     ensures { (word ty : Value) × (values.old ≡ word ∷ ty ∷ values.new) × (result ≡ param passing (word ∷ ty ∷ [])) }
 {
-    let first = values.pop_front().into_token(alloc).place;
+    let first = values.pop_front().into_token().place;
     let ty = values.pop_front().into_type(alloc).ty;
     Value::Param(Param { passing, ty }, first)
 }
@@ -211,7 +211,7 @@ pub(crate) fn owned_result(alloc: Global, values: &mut Prepended<Value>) -> Resu
     requires { 2 ≤ length values.old }
     ensures { IfOk result (λ value. reduced Production.ResultOwned values.old ≡ value ∷ values.new) }
 {
-    let first = values.pop_front().into_token(alloc).place;
+    let first = values.pop_front().into_token().place;
     let ty = values.pop_front().into_type(alloc).ty;
     Ok(Value::Givens(one_given(alloc, Given { owned: true, ty }, first)?))
 }
@@ -230,7 +230,7 @@ pub(crate) fn owned_given(alloc: Global, values: &mut Prepended<Value>) -> Value
     requires { 2 ≤ length values.old }
     ensures { reduced Production.GivenOwned values.old ≡ result ∷ values.new }
 {
-    let first = values.pop_front().into_token(alloc).place;
+    let first = values.pop_front().into_token().place;
     let ty = values.pop_front().into_type(alloc).ty;
     Value::Given(Given { owned: true, ty }, first)
 }

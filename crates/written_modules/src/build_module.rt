@@ -38,12 +38,12 @@ fn with_import(name: &[u8], imports: Imports) -> Imports
 }
 
 #[tactic(auto, unfolding(crate::specs::Replay::reduced, crate::specs::Meaning::meaning, sil_shape::specs::Grammar::body))]
-pub(crate) fn more_imports(alloc: Global, values: &mut Prepended<Value>) -> Value
+pub(crate) fn more_imports(values: &mut Prepended<Value>) -> Value
     requires { 3 ≤ length values.old }
     ensures { reduced Production.ImportsMore values.old ≡ result ∷ values.new }
 {
     skip(values);
-    let name = values.pop_front().into_token(alloc);
+    let name = values.pop_front().into_token();
     let imports = values.pop_front().into_imports();
     Value::Imports(with_import(name.text.as_slice(), imports))
 }
@@ -65,7 +65,7 @@ pub(crate) fn vtable(alloc: Global, values: &mut Prepended<Value>) -> Result<Val
     ensures { IfOk result (λ value. reduced Production.VtableItem values.old ≡ value ∷ values.new) }
 {
     skip(values);
-    let class_name = values.pop_front().into_token(alloc);
+    let class_name = values.pop_front().into_token();
     skip(values);
     let entry = values.pop_front().into_entry();
     skip(values);
@@ -79,12 +79,12 @@ pub(crate) fn entry(alloc: Global, values: &mut Prepended<Value>) -> Result<Valu
     ensures { IfOk result (λ value. reduced Production.EntrySome values.old ≡ value ∷ values.new) }
 {
     skip(values);
-    let owner = values.pop_front().into_token(alloc).text;
+    let owner = values.pop_front().into_token().text;
     skip(values);
     skip(values);
     skip(values);
     skip(values);
     skip(values);
-    let function = values.pop_front().into_token(alloc);
+    let function = values.pop_front().into_token();
     Ok(Value::Entry(Boxed::new(alloc, WrittenEntry { owner, function })?))
 }

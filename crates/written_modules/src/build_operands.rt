@@ -18,7 +18,7 @@ pub(crate) fn operand(alloc: Global, values: &mut Prepended<Value>) -> Result<Va
     requires { 5 ≤ length values.old }
     ensures { IfOk result (λ value. reduced Production.WholeOperand values.old ≡ value ∷ values.new) }
 {
-    let name = values.pop_front().into_token(alloc);
+    let name = values.pop_front().into_token();
     skip(values);
     skip(values);
     let star = values.pop_front();
@@ -35,7 +35,7 @@ pub(crate) fn some_operands(
     requires { 2 ≤ length values.old }
     ensures { IfOk result (λ value. reduced Production.OperandsSome values.old ≡ value ∷ values.new) }
 {
-    let operand = values.pop_front().into_operand(alloc);
+    let operand = values.pop_front().into_operand();
     let mut others = values.pop_front().into_operands(alloc);
     others.push_front(operand)?;
     Ok(Value::Operands(others))
@@ -50,7 +50,7 @@ pub(crate) fn more_operands(
     ensures { IfOk result (λ value. reduced Production.MoreOperandsMore values.old ≡ value ∷ values.new) }
 {
     skip(values);
-    let operand = values.pop_front().into_operand(alloc);
+    let operand = values.pop_front().into_operand();
     let mut others = values.pop_front().into_operands(alloc);
     others.push_front(operand)?;
     Ok(Value::Operands(others))
@@ -65,7 +65,7 @@ pub(crate) fn some_edge_args(
     ensures { IfOk result (λ value. reduced Production.EdgeArgsSome values.old ≡ value ∷ values.new) }
 {
     skip(values);
-    let operand = values.pop_front().into_operand(alloc);
+    let operand = values.pop_front().into_operand();
     let mut others = values.pop_front().into_operands(alloc);
     skip(values);
     others.push_front(operand)?;
@@ -77,7 +77,7 @@ pub(crate) fn edge(alloc: Global, values: &mut Prepended<Value>) -> Result<Value
     requires { 2 ≤ length values.old }
     ensures { IfOk result (λ value. reduced Production.WholeEdge values.old ≡ value ∷ values.new) }
 {
-    let label = values.pop_front().into_token(alloc);
+    let label = values.pop_front().into_token();
     let args = values.pop_front().into_operands(alloc).into_list();
     let edge = WrittenEdge {
         label,
@@ -95,7 +95,7 @@ pub(crate) fn switch_case(alloc: Global, values: &mut Prepended<Value>) -> Resul
     skip(values);
     let case_of = Some(values.pop_front().into_member(alloc));
     skip(values);
-    let label = values.pop_front().into_token(alloc);
+    let label = values.pop_front().into_token();
     let mut edges = values.pop_front().into_edges(alloc);
     edges.push_front(WrittenEdge {
         label,
@@ -114,7 +114,7 @@ pub(crate) fn switch_default(
     ensures { IfOk result (λ value. reduced Production.SwitchDefault values.old ≡ value ∷ values.new) }
 {
     skip(values);
-    let label = values.pop_front().into_token(alloc);
+    let label = values.pop_front().into_token();
     let mut edges = Prepended::new(alloc);
     edges.push_front(WrittenEdge {
         label,
@@ -131,33 +131,33 @@ pub(crate) fn enum_operand(alloc: Global, values: &mut Prepended<Value>) -> Resu
 {
     skip(values);
     let mut operands = Prepended::new(alloc);
-    operands.push_front(values.pop_front().into_operand(alloc))?;
+    operands.push_front(values.pop_front().into_operand())?;
     Ok(Value::Operands(operands))
 }
 
 #[tactic(auto, unfolding(crate::specs::Replay::reduced, crate::specs::Meaning::meaning, sil_shape::specs::Grammar::body))]
-pub(crate) fn enum_element(alloc: Global, values: &mut Prepended<Value>) -> Value
+pub(crate) fn enum_element(alloc: Global, values: &mut Prepended<Value>) -> Result<Value, Exhausted>
     requires { 7 ≤ length values.old }
-    ensures { reduced Production.WholeEnumElement values.old ≡ result ∷ values.new }
+    ensures { IfOk result (λ value. reduced Production.WholeEnumElement values.old ≡ value ∷ values.new) }
 {
     skip(values);
-    let owner = values.pop_front().into_token(alloc).text;
+    let owner = values.pop_front().into_text(alloc)?;
     skip(values);
-    let name = values.pop_front().into_token(alloc).text;
+    let name = values.pop_front().into_text(alloc)?;
     skip(values);
     skip(values);
     skip(values);
-    Value::Member(Member { owner, name })
+    Ok(Value::Member(Member { owner, name }))
 }
 
 #[tactic(auto, unfolding(crate::specs::Replay::reduced, crate::specs::Meaning::meaning, sil_shape::specs::Grammar::body))]
-pub(crate) fn member_name(alloc: Global, values: &mut Prepended<Value>) -> Value
+pub(crate) fn member_name(alloc: Global, values: &mut Prepended<Value>) -> Result<Value, Exhausted>
     requires { 4 ≤ length values.old }
-    ensures { reduced Production.WholeMemberName values.old ≡ result ∷ values.new }
+    ensures { IfOk result (λ value. reduced Production.WholeMemberName values.old ≡ value ∷ values.new) }
 {
     skip(values);
-    let owner = values.pop_front().into_token(alloc).text;
+    let owner = values.pop_front().into_text(alloc)?;
     skip(values);
-    let name = values.pop_front().into_token(alloc).text;
-    Value::Member(Member { owner, name })
+    let name = values.pop_front().into_text(alloc)?;
+    Ok(Value::Member(Member { owner, name }))
 }

@@ -67,7 +67,7 @@ fn append_typed(
     if may_lack_operand(op) {
         append(operands, value.into_operands(alloc))
     } else {
-        operands.push(value.into_operand(alloc))
+        operands.push(value.into_operand())
     }
 }
 
@@ -120,17 +120,17 @@ pub(crate) fn put_part(
         Part::Typed => append_typed(alloc, op, &mut inst.operands, values.pop_front())?,
         Part::Bare => inst
             .operands
-            .push(bare_operand(values.pop_front().into_token(alloc)))?,
+            .push(bare_operand(values.pop_front().into_token()))?,
         Part::To => skip(values),
         Part::TypeWord => inst.ty = Some(second_of_two(values).into_type(alloc).ty),
         Part::Member => inst.member = Some(values.pop_front().into_member(alloc)),
         Part::Number => {
-            let token = values.pop_front().into_token(alloc);
+            let token = values.pop_front().into_token();
             inst.number = number_by(detail_of(op), &inst.ty, token.text.as_slice());
             fault = out_of_range(inst.number, token.place);
         }
-        Part::Text => inst.text = Some(values.pop_front().into_token(alloc).text),
-        Part::Callee => inst.function = Some(values.pop_front().into_token(alloc)),
+        Part::Text => inst.text = Some(values.pop_front().into_text(alloc)?),
+        Part::Callee => inst.function = Some(values.pop_front().into_token()),
         Part::BareArgs => {
             append_bare(
                 &mut inst.operands,

@@ -50,7 +50,7 @@ pub(crate) fn row(
     ensures value { IfOk result (λ made. reduced (Row op) values.old ≡ made.value ∷ values.new) }
     ensures fault { IfOk result (λ made. made.fault ≡ part_fault (Row op) (parts_of (Row op) values.old)) }
 {
-    let mnemonic = values.pop_front().into_token(alloc).place;
+    let mnemonic = values.pop_front().into_token().place;
     let mut inst = bare_inst(alloc, op, mnemonic);
     let mut fault = None;
     let parts = row_of(op).parts;

@@ -5,7 +5,7 @@ ghost use Rattle.sil_shape.specs.declared.grammar.Production.{Production};
 ghost use Rattle.written_modules.specs.Replay.{reduced};
 ghost use Rattle.sil_ast.specs.declared.type_name.TypeName.TheVariants as ty;
 ghost use Rattle.written_modules.specs.declared.value.Value.TheVariants as v;
-ghost use Rattle.written_modules.specs.Types.{deeper, in_parens, kept, with_questions, one_deeper, one_token, tailed, type_before};
+ghost use Rattle.written_modules.specs.Types.{deeper, in_parens, kept, named_type, with_questions, one_deeper, one_token, tailed, type_before};
 ghost use Rattle.written_modules.specs.Values.{token_of};
 
 use crate::nothing::{discard, skip, unit_type};
@@ -135,21 +135,28 @@ fn type_before(ty: WrittenType, others: TypeList) -> Result<TypeList, Exhausted>
     })
 }
 
+fn named_type(alloc: Global, token: &WrittenToken) -> Result<WrittenType, Exhausted>
+    ensures { IfOk result (λ ty. ty ≡ named_type token.now) }
+{
+    let name = token.text.to_text(alloc)?;
+    Ok(one_token(TypeName::Named(name), token.place))
+}
+
 /// A word that names a type by itself, or begins a longer one.
 #[tactic(auto, unfolding(crate::specs::Values::type_of, crate::specs::Types::tailed))]
-fn tailed(token: WrittenToken, tail: Value) -> WrittenType
-    ensures { result ≡ tailed token tail }
+fn tailed(alloc: Global, token: WrittenToken, tail: Value) -> Result<WrittenType, Exhausted>
+    ensures { IfOk result (λ ty. ty ≡ tailed token tail) }
 {
     match tail {
-        Value::Type(ty) => WrittenType {
+        Value::Type(ty) => Ok(WrittenType {
             ty: ty.ty,
             depth: ty.depth,
             first: token.place,
             last: ty.last,
-        },
+        }),
         other => {
             discard(other);
-            one_token(TypeName::Named(token.text), token.place)
+            named_type(alloc, &token)
         }
     }
 }
@@ -159,10 +166,10 @@ pub(crate) fn payload(alloc: Global, values: &mut Prepended<Value>) -> Result<Va
     requires { 4 ≤ length values.old }
     ensures { IfOk result (λ value. reduced Production.PayloadSome values.old ≡ value ∷ values.new) }
 {
-    let first = values.pop_front().into_token(alloc).place;
+    let first = values.pop_front().into_token().place;
     let ty = values.pop_front().into_type(alloc);
     let others = values.pop_front().into_types(alloc);
-    let last = values.pop_front().into_token(alloc).place;
+    let last = values.pop_front().into_token().place;
     Ok(Value::Type(in_parens(alloc, first, type_before(ty, others)?, last)))
 }
 
@@ -171,9 +178,9 @@ pub(crate) fn paren_type(alloc: Global, values: &mut Prepended<Value>) -> Result
     requires { 4 ≤ length values.old }
     ensures { IfOk result (λ value. reduced Production.ParenType values.old ≡ value ∷ values.new) }
 {
-    let first = values.pop_front().into_token(alloc).place;
+    let first = values.pop_front().into_token().place;
     let types = values.pop_front().into_types(alloc);
-    let last = values.pop_front().into_token(alloc).place;
+    let last = values.pop_front().into_token().place;
     let questions = values.pop_front().into_questions(alloc);
     let inner = in_parens(alloc, first, types, last);
     Ok(Value::Type(with_questions(alloc, inner, questions)?))
@@ -194,7 +201,7 @@ pub(crate) fn weak_type(alloc: Global, values: &mut Prepended<Value>) -> Result<
     requires { 2 ≤ length values.old }
     ensures { IfOk result (λ value. reduced Production.WeakOpen values.old ≡ value ∷ values.new) }
 {
-    let first = values.pop_front().into_token(alloc).place;
+    let first = values.pop_front().into_token().place;
     let inner = values.pop_front().into_type(alloc);
     let ty = TypeName::Weak(Boxed::new(alloc, inner.ty)?);
     Ok(Value::Type(one_deeper(alloc, inner.depth, ty, first, inner.last)))
@@ -205,37 +212,40 @@ pub(crate) fn unowned_type(alloc: Global, values: &mut Prepended<Value>) -> Resu
     requires { 2 ≤ length values.old }
     ensures { IfOk result (λ value. reduced Production.UnownedOpen values.old ≡ value ∷ values.new) }
 {
-    let first = values.pop_front().into_token(alloc).place;
+    let first = values.pop_front().into_token().place;
     let inner = values.pop_front().into_type(alloc);
     let ty = TypeName::Unowned(Boxed::new(alloc, inner.ty)?);
     Ok(Value::Type(one_deeper(alloc, inner.depth, ty, first, inner.last)))
 }
 
 #[tactic(auto, unfolding(crate::specs::Replay::reduced, crate::specs::Meaning::meaning, sil_shape::specs::Grammar::body))]
-pub(crate) fn builtin_base(alloc: Global, values: &mut Prepended<Value>) -> Value
+pub(crate) fn builtin_base(alloc: Global, values: &mut Prepended<Value>) -> Result<Value, Exhausted>
     requires { 2 ≤ length values.old }
-    ensures { reduced Production.BuiltinBase values.old ≡ result ∷ values.new }
+    ensures { IfOk result (λ value. reduced Production.BuiltinBase values.old ≡ value ∷ values.new) }
 {
-    let word = values.pop_front().into_token(alloc);
-    Value::Type(tailed(word, values.pop_front()))
+    let word = values.pop_front().into_token();
+    Ok(Value::Type(tailed(alloc, word, values.pop_front())?))
 }
 
 #[tactic(auto, unfolding(crate::specs::Replay::reduced, crate::specs::Meaning::meaning, sil_shape::specs::Grammar::body))]
-pub(crate) fn optional_base(alloc: Global, values: &mut Prepended<Value>) -> Value
+pub(crate) fn optional_base(
+    alloc: Global,
+    values: &mut Prepended<Value>,
+) -> Result<Value, Exhausted>
     requires { 2 ≤ length values.old }
-    ensures { reduced Production.OptionalBase values.old ≡ result ∷ values.new }
+    ensures { IfOk result (λ value. reduced Production.OptionalBase values.old ≡ value ∷ values.new) }
 {
-    let word = values.pop_front().into_token(alloc);
-    Value::Type(tailed(word, values.pop_front()))
+    let word = values.pop_front().into_token();
+    Ok(Value::Type(tailed(alloc, word, values.pop_front())?))
 }
 
 #[tactic(auto, unfolding(crate::specs::Replay::reduced, crate::specs::Meaning::meaning, sil_shape::specs::Grammar::body))]
-pub(crate) fn named_base(alloc: Global, values: &mut Prepended<Value>) -> Value
+pub(crate) fn named_base(alloc: Global, values: &mut Prepended<Value>) -> Result<Value, Exhausted>
     requires { 1 ≤ length values.old }
-    ensures { reduced Production.NamedBase values.old ≡ result ∷ values.new }
+    ensures { IfOk result (λ value. reduced Production.NamedBase values.old ≡ value ∷ values.new) }
 {
-    let word = values.pop_front().into_token(alloc);
-    Value::Type(one_token(TypeName::Named(word.text), word.place))
+    let word = values.pop_front().into_token();
+    Ok(Value::Type(named_type(alloc, &word)?))
 }
 
 #[tactic(auto, unfolding(crate::specs::Replay::reduced, crate::specs::Meaning::meaning, sil_shape::specs::Grammar::body))]
@@ -243,19 +253,19 @@ pub(crate) fn optional_of(alloc: Global, values: &mut Prepended<Value>) -> Resul
     requires { 3 ≤ length values.old }
     ensures { IfOk result (λ value. reduced Production.OptionalOf values.old ≡ value ∷ values.new) }
 {
-    let first = values.pop_front().into_token(alloc).place;
+    let first = values.pop_front().into_token().place;
     let inner = values.pop_front().into_type(alloc);
-    let last = values.pop_front().into_token(alloc).place;
+    let last = values.pop_front().into_token().place;
     let ty = TypeName::Optional(Boxed::new(alloc, inner.ty)?);
     Ok(Value::Type(one_deeper(alloc, inner.depth, ty, first, last)))
 }
 
 /// `Int64` behind `Builtin.`
-pub(crate) fn int_type(alloc: Global, width: u8, values: &mut Prepended<Value>) -> Value
+pub(crate) fn int_type(width: u8, values: &mut Prepended<Value>) -> Value
     requires { 1 ≤ length values.old }
     ensures { (word : Value) × (values.old ≡ word ∷ values.new) × (result ≡ v.Type (one_token (ty.Int width) (token_of word).place)) }
 {
-    let place = values.pop_front().into_token(alloc).place;
+    let place = values.pop_front().into_token().place;
     Value::Type(one_token(TypeName::Int(width), place))
 }
 
@@ -267,7 +277,7 @@ pub(crate) fn more_questions(
     requires { 2 ≤ length values.old }
     ensures { IfOk result (λ value. reduced Production.QuestionsMore values.old ≡ value ∷ values.new) }
 {
-    let question = values.pop_front().into_token(alloc).place;
+    let question = values.pop_front().into_token().place;
     let mut questions = values.pop_front().into_questions(alloc);
     questions.push_front(question)?;
     Ok(Value::Questions(questions))

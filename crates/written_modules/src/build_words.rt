@@ -1,6 +1,6 @@
 //! Builds the flags, the qualifiers and the words for a debugger.
 
-ghost use Rattle.std.specs.Prelude.{◌≡◌, [], ◌∷◌, ◌≤◌, length};
+ghost use Rattle.std.specs.Prelude.{◌≡◌, [], ◌∷◌, ◌≤◌, length, IfOk};
 ghost use Rattle.sil_shape.specs.declared.grammar.Production.{Production};
 ghost use Rattle.written_modules.specs.Replay.{reduced};
 ghost use Rattle.written_modules.specs.Meaning as meant;
@@ -9,7 +9,7 @@ ghost use Rattle.written_modules.specs.Meaning.{qualified};
 use crate::nothing::{no_debug, skip};
 use crate::prepended::Prepended;
 use crate::value::{Flags, Value};
-use sil_ast::{Binding, Qualifier};
+use sil_ast::{Binding, Exhausted, Qualifier};
 use sil_shape::grammar::Production;
 use std::alloc::Global;
 use written_numbers::small_number;
@@ -50,21 +50,21 @@ pub(crate) fn var_decl_first(values: &mut Prepended<Value>) -> Value
 }
 
 /// A qualifier's word, and where it stands.
-pub(crate) fn qualifier(alloc: Global, word: Qualifier, values: &mut Prepended<Value>) -> Value
+pub(crate) fn qualifier(word: Qualifier, values: &mut Prepended<Value>) -> Value
     requires { 1 ≤ length values.old }
     ensures { (a : Value) × (values.old ≡ a ∷ values.new) × (result ≡ qualified word 0 (a ∷ [])) }
 {
-    let place = values.pop_front().into_token(alloc).place;
+    let place = values.pop_front().into_token().place;
     Value::Qualifier(WrittenQualifier { word, place })
 }
 
 #[tactic(auto, unfolding(crate::specs::Replay::reduced, crate::specs::Meaning::meaning, sil_shape::specs::Grammar::body))]
-pub(crate) fn take_flag(alloc: Global, values: &mut Prepended<Value>) -> Value
+pub(crate) fn take_flag(values: &mut Prepended<Value>) -> Value
     requires { 3 ≤ length values.old }
     ensures { reduced Production.TakeFlagSome values.old ≡ result ∷ values.new }
 {
     skip(values);
-    let place = values.pop_front().into_token(alloc).place;
+    let place = values.pop_front().into_token().place;
     skip(values);
     Value::Qualifier(WrittenQualifier {
         word: Qualifier::Take,
@@ -95,24 +95,24 @@ pub(crate) fn debug_var(values: &mut Prepended<Value>) -> Value
 }
 
 #[tactic(auto, unfolding(crate::specs::Replay::reduced, crate::specs::Meaning::meaning, sil_shape::specs::Grammar::body))]
-pub(crate) fn debug_name(alloc: Global, values: &mut Prepended<Value>) -> Value
+pub(crate) fn debug_name(alloc: Global, values: &mut Prepended<Value>) -> Result<Value, Exhausted>
     requires { 3 ≤ length values.old }
-    ensures { reduced Production.DebugName values.old ≡ result ∷ values.new }
+    ensures { IfOk result (λ value. reduced Production.DebugName values.old ≡ value ∷ values.new) }
 {
     skip(values);
-    let name = values.pop_front().into_token(alloc).text;
+    let name = values.pop_front().into_text(alloc)?;
     let mut debug = values.pop_front().into_debug();
     debug.name = Some(name);
-    Value::Debug(debug)
+    Ok(Value::Debug(debug))
 }
 
 #[tactic(auto, unfolding(crate::specs::Replay::reduced, crate::specs::Meaning::meaning, sil_shape::specs::Grammar::body))]
-pub(crate) fn debug_number(alloc: Global, values: &mut Prepended<Value>) -> Value
+pub(crate) fn debug_number(values: &mut Prepended<Value>) -> Value
     requires { 3 ≤ length values.old }
     ensures { reduced Production.DebugNumber values.old ≡ result ∷ values.new }
 {
     skip(values);
-    let spelling = values.pop_front().into_token(alloc).text;
+    let spelling = values.pop_front().into_token().text;
     let mut debug = values.pop_front().into_debug();
     debug.argno = small_number(spelling.as_slice(), 65_535);
     Value::Debug(debug)

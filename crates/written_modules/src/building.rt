@@ -22,6 +22,7 @@ use sil_lexer::Tokens;
 use sil_shape::grammar::Symbol;
 use sil_shape::steps::{Front, Step};
 use std::alloc::Global;
+use std::rc::Rc;
 use written_tree::{Fault, WrittenModule, earlier};
 
 /// What the steps of a derivation stand for.
@@ -45,20 +46,20 @@ struct Replayed {
 /// them. Behind the steps the symbols that are left are written in the shortest way, with no tokens.
 fn replay(
     alloc: Global,
-    text: &[u8],
+    text: &Rc<Vec<u8>>,
     tokens: &Tokens,
     count: usize,
     steps: &[Step],
     left: Vec<Symbol>,
 ) -> Result<Replayed, Exhausted>
     ghost rest: { List Step }
-    requires lexed { IsLexingOf text.now tokens.now }
+    requires lexed { IsLexingOf text.now.value.items tokens.now }
     requires inside { count ≤ length tokens.now.tokens }
     requires taken { takes_of steps.now ≡ count }
     requires shortest { Shortens (reverse left.items) rest }
     requires enough { IsEnough (steps.now ++ rest) }
-    ensures values { IfOk result (λ replayed. waiting replayed.values (reverse replayed.left.items) ≡ replay (steps.now ++ rest) (take count (lexemes_of text.now tokens.now))) }
-    ensures fault { IfOk result (λ replayed. replayed.fault ≡ first_fault (steps.now ++ rest) (take count (lexemes_of text.now tokens.now))) }
+    ensures values { IfOk result (λ replayed. waiting replayed.values (reverse replayed.left.items) ≡ replay (steps.now ++ rest) (take count (lexemes_of text.now.value.items tokens.now))) }
+    ensures fault { IfOk result (λ replayed. replayed.fault ≡ first_fault (steps.now ++ rest) (take count (lexemes_of text.now.value.items tokens.now))) }
 {
     let mut values = Prepended::new(alloc);
     let mut left = left;
@@ -68,7 +69,7 @@ fn replay(
         match steps[i] {
             Step::Take => {
                 token -= 1;
-                let value = leaf_at(alloc, text, tokens, token)?;
+                let value = leaf_at(text, tokens, token)?;
                 values.push_front(value)?;
             }
             Step::Expand(production) => {
@@ -86,6 +87,13 @@ fn replay(
     })
 }
 
+/// The text, to be shared by the tokens that are kept of it.
+fn shared(alloc: Global, text: &[u8]) -> Result<Rc<Vec<u8>>, Exhausted>
+    ensures { IfOk result (λ shared. shared.value.items ≡ text.now) }
+{
+    Ok(Rc::new(alloc, Vec::from_slice(alloc, text)?)?)
+}
+
 /// What the steps of a derivation from all tokens stand for.
 pub fn build(
     alloc: Global,
@@ -99,11 +107,12 @@ pub fn build(
     ensures written { IfOk result (λ built. Writes steps.now (lexemes_of text.now tokens.now) built.written) }
     ensures fault { IfOk result (λ built. built.fault ≡ first_fault steps.now (lexemes_of text.now tokens.now)) }
 {
+    let source = shared(alloc, text)?;
     let Replayed {
         mut values,
         mut left,
         fault,
-    } = replay(alloc, text, tokens, tokens.len(), steps, Vec::new(alloc))?;
+    } = replay(alloc, &source, tokens, tokens.len(), steps, Vec::new(alloc))?;
     fill(alloc, &mut values, &mut left, 1)?;
     let written = values.pop_front().into_module(alloc);
     Ok(Built { written, fault })
@@ -125,6 +134,7 @@ pub fn front_fault(
         × (fault ≡ first_fault (front.steps.items ++ rest) (take count (lexemes_of text.now tokens.now)))) }
 {
     let Front { steps, left } = front;
-    let replayed = replay(alloc, text, tokens, count, steps.as_slice(), left)?;
+    let source = shared(alloc, text)?;
+    let replayed = replay(alloc, &source, tokens, count, steps.as_slice(), left)?;
     Ok(replayed.fault)
 }

@@ -1,57 +1,81 @@
-//! What the tokens of a text stand for.
+//! What the tokens of a text stand for. What is kept of their bytes is shared with the text.
 
-ghost use Rattle.std.specs.Prelude.{◌≡◌, ◌<◌, length, IfOk};
-ghost use Rattle.sil_lexer.specs.Lexing.{IsLexingOf, lexemes_of};
+ghost use Rattle.std.specs.Prelude.{◌≡◌, ◌+◌, ◌<◌, ◌≤◌, length, slice_range, IfOk};
+ghost use Rattle.sil_lexer.specs.Lexing.{IsLexingOf};
+ghost use Rattle.sil_lexer.specs.Spelling.{without_quotes, without_sigil};
 ghost use Rattle.written_modules.specs.Meaning as meant;
 ghost use Rattle.written_modules.specs.Replay.{IsKeptAt, IsLeafAt};
 
 use crate::value::Value;
-use sil_ast::{Exhausted, Text};
-use sil_lexer::{TokenKind, Tokens, without_quotes, without_sigil};
-use std::alloc::Global;
-use written_tree::WrittenToken;
+use sil_ast::Exhausted;
+use sil_lexer::{TokenKind, Tokens};
+use std::rc::Rc;
+use written_tree::{Spelling, WrittenToken};
 
-/// What is kept of a token's bytes.
-#[tactic(auto, unfolding(crate::specs::Meaning::kept_of))]
-fn kept_of(kind: TokenKind, spelling: &[u8]) -> &[u8]
-    ensures { result.now ≡ meant.kept_of kind spelling.now }
+/// A part of the text, without the sigil that it begins with.
+fn without_sigil(text: &Rc<Vec<u8>>, from: usize, count: usize) -> Result<Spelling, Exhausted>
+    requires { from + count ≤ length text.now.value.items }
+    ensures { IfOk result (λ kept. kept ≡ without_sigil (slice_range text.now.value.items from (from + count))) }
 {
-    match kind {
-        TokenKind::Word => spelling,
-        TokenKind::AtName => without_sigil(spelling),
-        TokenKind::Percent => without_sigil(spelling),
-        TokenKind::Number => spelling,
-        TokenKind::Text => without_quotes(spelling),
-        TokenKind::Punctuation => &[],
+    if count == 0 {
+        Ok(Spelling::none())
+    } else {
+        Spelling::part(text, from + 1, count - 1)
     }
 }
 
-/// What is kept of the token at `i`. The bytes of punctuation aren't looked at.
-#[tactic(auto, unfolding(crate::specs::Meaning::kept_of))]
-fn kept_at(alloc: Global, text: &[u8], tokens: &Tokens, i: usize) -> Result<Text, Exhausted>
-    requires lexed { IsLexingOf text.now tokens.now }
-    requires in_range { i < length tokens.now.tokens }
-    ensures { IfOk result (λ kept. IsKeptAt text.now tokens.now i kept) }
+/// A part of the text, without the quotes at its ends.
+fn without_quotes(text: &Rc<Vec<u8>>, from: usize, count: usize) -> Result<Spelling, Exhausted>
+    requires { from + count ≤ length text.now.value.items }
+    ensures { IfOk result (λ kept. kept ≡ without_quotes (slice_range text.now.value.items from (from + count))) }
 {
-    match tokens.kind(i) {
-        TokenKind::Punctuation => Ok(Text::new(alloc)),
-        kind => Text::from_slice(alloc, kept_of(kind, tokens.text(text, i))),
+    if count < 2 {
+        Ok(Spelling::none())
+    } else {
+        Spelling::part(text, from + 1, count - 2)
     }
+}
+
+/// What is kept of a token's bytes. Those of punctuation aren't looked at.
+#[tactic(auto, unfolding(crate::specs::Meaning::kept_of))]
+fn kept_of(
+    kind: TokenKind,
+    text: &Rc<Vec<u8>>,
+    from: usize,
+    count: usize,
+) -> Result<Spelling, Exhausted>
+    requires { from + count ≤ length text.now.value.items }
+    ensures { IfOk result (λ kept. kept ≡ meant.kept_of kind (slice_range text.now.value.items from (from + count))) }
+{
+    match kind {
+        TokenKind::Word => Spelling::part(text, from, count),
+        TokenKind::AtName => without_sigil(text, from, count),
+        TokenKind::Percent => without_sigil(text, from, count),
+        TokenKind::Number => Spelling::part(text, from, count),
+        TokenKind::Text => without_quotes(text, from, count),
+        TokenKind::Punctuation => Ok(Spelling::none()),
+    }
+}
+
+/// What is kept of the token at `i`.
+fn kept_at(text: &Rc<Vec<u8>>, tokens: &Tokens, i: usize) -> Result<Spelling, Exhausted>
+    requires lexed { IsLexingOf text.now.value.items tokens.now }
+    requires in_range { i < length tokens.now.tokens }
+    ensures { IfOk result (λ kept. IsKeptAt text.now.value.items tokens.now i kept) }
+{
+    let from = tokens.place(i).offset as usize;
+    let count = tokens.text(text.as_ref().as_slice(), i).len();
+    kept_of(tokens.kind(i), text, from, count)
 }
 
 /// What the token at `i` stands for.
-pub(crate) fn leaf_at(
-    alloc: Global,
-    text: &[u8],
-    tokens: &Tokens,
-    i: usize,
-) -> Result<Value, Exhausted>
-    requires lexed { IsLexingOf text.now tokens.now }
+pub(crate) fn leaf_at(text: &Rc<Vec<u8>>, tokens: &Tokens, i: usize) -> Result<Value, Exhausted>
+    requires lexed { IsLexingOf text.now.value.items tokens.now }
     requires in_range { i < length tokens.now.tokens }
-    ensures { IfOk result (λ value. IsLeafAt text.now tokens.now i value) }
+    ensures { IfOk result (λ value. IsLeafAt text.now.value.items tokens.now i value) }
 {
     Ok(Value::Token(WrittenToken {
-        text: kept_at(alloc, text, tokens, i)?,
+        text: kept_at(text, tokens, i)?,
         place: tokens.place(i),
     }))
 }

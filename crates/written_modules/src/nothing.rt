@@ -8,9 +8,9 @@ use crate::prepended::Prepended;
 use crate::value::Value;
 use crate::written_types::{GivenList, ParamList, TypeList, WrittenType};
 use instruction_table::Op;
-use sil_ast::{Debug, List, Place, Qualifier, Text, TypeName};
+use sil_ast::{Debug, List, Place, Qualifier, TypeName};
 use std::alloc::Global;
-use written_tree::{WrittenInst, WrittenQualifier, WrittenToken};
+use written_tree::{Spelling, WrittenInst, WrittenQualifier, WrittenToken};
 
 /// Takes the value of the first part away.
 pub(crate) fn skip(values: &mut Prepended<Value>)
@@ -32,11 +32,11 @@ pub(crate) const NO_PLACE: Place = Place {
     column: 0,
 };
 
-pub(crate) fn no_token(alloc: Global) -> WrittenToken
+pub(crate) fn no_token() -> WrittenToken
     ensures { result ≡ none.no_token }
 {
     WrittenToken {
-        text: Text::new(alloc),
+        text: Spelling::none(),
         place: NO_PLACE,
     }
 }

@@ -26,17 +26,17 @@ pub(crate) fn reduce_base_type(
     ensures { IfOk result (λ value. reduced production values.old ≡ value ∷ values.new) }
 {
     match production {
-        Production::BuiltinBase => Ok(build_types::builtin_base(alloc, values)),
-        Production::OptionalBase => Ok(build_types::optional_base(alloc, values)),
-        Production::NamedBase => Ok(build_types::named_base(alloc, values)),
+        Production::BuiltinBase => build_types::builtin_base(alloc, values),
+        Production::OptionalBase => build_types::optional_base(alloc, values),
+        Production::NamedBase => build_types::named_base(alloc, values),
         Production::BuiltinInt => Ok(second_of_two(values)),
         Production::BuiltinName | Production::OptionalName => Ok(Value::Nothing),
         Production::OptionalOf => build_types::optional_of(alloc, values),
-        Production::Width1 => Ok(build_types::int_type(alloc, 1, values)),
-        Production::Width8 => Ok(build_types::int_type(alloc, 8, values)),
-        Production::Width16 => Ok(build_types::int_type(alloc, 16, values)),
-        Production::Width32 => Ok(build_types::int_type(alloc, 32, values)),
-        Production::Width64 => Ok(build_types::int_type(alloc, 64, values)),
+        Production::Width1 => Ok(build_types::int_type(1, values)),
+        Production::Width8 => Ok(build_types::int_type(8, values)),
+        Production::Width16 => Ok(build_types::int_type(16, values)),
+        Production::Width32 => Ok(build_types::int_type(32, values)),
+        Production::Width64 => Ok(build_types::int_type(64, values)),
         _ => unreachable!(),
     }
 }

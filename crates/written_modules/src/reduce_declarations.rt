@@ -36,7 +36,7 @@ pub(crate) fn reduce_declaration(
         Production::StageNone => Ok(Value::Stage(Stage::Canonical)),
         Production::Raw => Ok(constant(values, 1, Value::Stage(Stage::Raw))),
         Production::Canonical => Ok(constant(values, 1, Value::Stage(Stage::Canonical))),
-        Production::ImportsMore => Ok(build_module::more_imports(alloc, values)),
+        Production::ImportsMore => Ok(build_module::more_imports(values)),
         Production::ImportsEnd => Ok(Value::Imports(Imports {
             builtin: false,
             swift: false,

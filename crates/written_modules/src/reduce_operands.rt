@@ -39,11 +39,11 @@ pub(crate) fn reduce_operand(
         Production::SwitchDefault => build_operands::switch_default(alloc, values),
         Production::SwitchMoreSome => Ok(second_of_two(values)),
         Production::SwitchMoreEnd => Ok(Value::Edges(Prepended::new(alloc))),
-        Production::WholeEnumElement => Ok(build_operands::enum_element(alloc, values)),
+        Production::WholeEnumElement => build_operands::enum_element(alloc, values),
         Production::SuffixSome => Ok(constant(values, 2, Value::Nothing)),
         Production::SuffixNone => Ok(Value::Nothing),
         Production::EnumOperandSome => build_operands::enum_operand(alloc, values),
-        Production::WholeMemberName => Ok(build_operands::member_name(alloc, values)),
+        Production::WholeMemberName => build_operands::member_name(alloc, values),
         _ => unreachable!(),
     }
 }

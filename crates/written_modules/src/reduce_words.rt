@@ -44,18 +44,14 @@ pub(crate) fn reduce_word(
         Production::QualifierNone | Production::TakeFlagNone | Production::InitFlagNone => Ok(
             Value::Qualifier(no_qualifier()),
         ),
-        Production::QualifierCopy => Ok(build_words::qualifier(alloc, Qualifier::Copy, values)),
-        Production::QualifierTake => Ok(build_words::qualifier(alloc, Qualifier::Take, values)),
-        Production::QualifierTrivial => Ok(build_words::qualifier(
-            alloc,
-            Qualifier::Trivial,
-            values,
-        )),
+        Production::QualifierCopy => Ok(build_words::qualifier(Qualifier::Copy, values)),
+        Production::QualifierTake => Ok(build_words::qualifier(Qualifier::Take, values)),
+        Production::QualifierTrivial => Ok(build_words::qualifier(Qualifier::Trivial, values)),
         Production::QualifierInit | Production::InitShort | Production::InitLong => Ok(
-            build_words::qualifier(alloc, Qualifier::Init, values),
+            build_words::qualifier(Qualifier::Init, values),
         ),
-        Production::QualifierAssign => Ok(build_words::qualifier(alloc, Qualifier::Assign, values)),
-        Production::TakeFlagSome => Ok(build_words::take_flag(alloc, values)),
+        Production::QualifierAssign => Ok(build_words::qualifier(Qualifier::Assign, values)),
+        Production::TakeFlagSome => Ok(build_words::take_flag(values)),
         Production::DebugNone
         | Production::DebugAfterBindingNone
         | Production::DebugAfterNameNone
@@ -65,8 +61,8 @@ pub(crate) fn reduce_word(
         Production::DebugRest | Production::DebugNoName | Production::DebugNoNumber => Ok(
             values.pop_front(),
         ),
-        Production::DebugName => Ok(build_words::debug_name(alloc, values)),
-        Production::DebugNumber => Ok(build_words::debug_number(alloc, values)),
+        Production::DebugName => build_words::debug_name(alloc, values),
+        Production::DebugNumber => Ok(build_words::debug_number(values)),
         Production::DebugDeref => Ok(build_words::debug_deref(values)),
         _ => unreachable!(),
     }

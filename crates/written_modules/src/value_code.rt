@@ -54,7 +54,7 @@ impl Value {
             other => {
                 discard(other);
                 WrittenBlock {
-                    label: no_token(alloc),
+                    label: no_token(),
                     args: List::new(alloc),
                     insts: List::new(alloc),
                     terminator: no_inst(alloc),
@@ -85,7 +85,7 @@ impl Value {
             other => {
                 discard(other);
                 WrittenArg {
-                    name: no_token(alloc),
+                    name: no_token(),
                     kind: ArgKind::Plain,
                     ty: unit_type(alloc),
                 }
@@ -146,7 +146,7 @@ impl Value {
     }
 
     #[tactic(auto, unfolding(crate::specs::Values::operand_of))]
-    pub(crate) fn into_operand(self, alloc: Global) -> WrittenOperand
+    pub(crate) fn into_operand(self) -> WrittenOperand
         ensures { result ≡ operand_of self }
     {
         match self {
@@ -154,7 +154,7 @@ impl Value {
             other => {
                 discard(other);
                 WrittenOperand {
-                    name: no_token(alloc),
+                    name: no_token(),
                     ty: None,
                 }
             }
@@ -183,7 +183,7 @@ impl Value {
             other => {
                 discard(other);
                 WrittenEdge {
-                    label: no_token(alloc),
+                    label: no_token(),
                     args: List::new(alloc),
                     case_of: None,
                 }

@@ -1,6 +1,6 @@
 //! Takes out of a value of a module, a declaration, a type or a signature what stands in it.
 
-ghost use Rattle.std.specs.Prelude.{◌≡◌};
+ghost use Rattle.std.specs.Prelude.{◌≡◌, IfOk};
 ghost use Rattle.written_modules.specs.declared.value.Value.TheVariants as v;
 ghost use Rattle.written_tree.specs.declared.written_module.WrittenModule.{WrittenModule};
 ghost use Rattle.written_modules.specs.Values.{token_of, stage_of, imports_of, items_of, item_of, fields_of, field_of, cases_of, type_of, payload_of, types_of, questions_of, linkage_of, tokens_of, convention_of, params_of, givens_of, signature_of};
@@ -9,7 +9,9 @@ use crate::nothing::{discard, no_givens, no_params, no_token, no_type, no_types,
 use crate::prepended::Prepended;
 use crate::value::Value;
 use crate::written_types::{GivenList, ParamList, TypeList, WrittenType};
-use sil_ast::{Convention, Imports, Linkage, List, Place, Signature, Stage, Storage, TypeName};
+use sil_ast::{
+    Convention, Exhausted, Imports, Linkage, List, Place, Signature, Stage, Storage, Text, TypeName,
+};
 use std::alloc::Global;
 use written_tree::{
     WrittenCase, WrittenDecl, WrittenField, WrittenItem, WrittenModule, WrittenToken,
@@ -17,16 +19,23 @@ use written_tree::{
 
 impl Value {
     #[tactic(auto, unfolding(crate::specs::Values::token_of))]
-    pub(crate) fn into_token(self, alloc: Global) -> WrittenToken
+    pub(crate) fn into_token(self) -> WrittenToken
         ensures { result ≡ token_of self }
     {
         match self {
             Value::Token(kept) => kept,
             other => {
                 discard(other);
-                no_token(alloc)
+                no_token()
             }
         }
+    }
+
+    /// A copy of a token's bytes, for what the module keeps.
+    pub(crate) fn into_text(self, alloc: Global) -> Result<Text, Exhausted>
+        ensures { IfOk result (λ text. text ≡ (token_of self).text) }
+    {
+        self.into_token().text.to_text(alloc)
     }
 
     #[tactic(auto, unfolding(crate::specs::Values::stage_of))]
@@ -80,7 +89,7 @@ impl Value {
             other => {
                 discard(other);
                 WrittenItem::Decl(WrittenDecl::Class {
-                    name: no_token(alloc),
+                    name: no_token(),
                     fields: List::new(alloc),
                 })
             }
@@ -109,7 +118,7 @@ impl Value {
             other => {
                 discard(other);
                 WrittenField {
-                    name: no_token(alloc),
+                    name: no_token(),
                     storage: Storage::Strong,
                     ty: unit_type(alloc),
                 }

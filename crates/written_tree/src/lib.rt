@@ -1,9 +1,10 @@
 //! A module as its text writes it, with names and places where a module has numbers: plain data, and which of two faults
-//! in it comes first. It knows of no text.
+//! in it comes first. Its spellings share the bytes of the text, and it doesn't know what these say.
 #![tactic(auto)]
 
 mod fault;
 mod fault_order;
+mod spelling;
 mod written_declarations;
 mod written_functions;
 mod written_instructions;
@@ -11,6 +12,7 @@ mod written_module;
 
 pub use fault::{Fault, FaultKind};
 pub use fault_order::{earlier, limit_fault, out_of_range, passed};
+pub use spelling::Spelling;
 pub use written_declarations::{WrittenCase, WrittenDecl, WrittenField, WrittenToken};
 pub use written_functions::{WrittenArg, WrittenBlock, WrittenFunction};
 pub use written_instructions::{WrittenEdge, WrittenInst, WrittenOperand, WrittenQualifier};

@@ -3,13 +3,14 @@
 ghost use Rattle.std.specs.Prelude.{◌≡◌};
 ghost use Rattle.written_tree.specs.Places as placed;
 
-use sil_ast::{List, Place, Storage, Text, TypeName};
+use crate::spelling::Spelling;
+use sil_ast::{List, Place, Storage, TypeName};
 
 /// What a token says, and where it stands: a word, a name without its sigil, a text without its quotes, a number as it
 /// is spelled. Of punctuation nothing is kept but its place.
 #[derive(Drop)]
 pub struct WrittenToken {
-    pub text: Text,
+    pub text: Spelling,
     pub place: Place,
 }
 

@@ -1,8 +1,9 @@
 //! A whole module as a text writes it. Nothing here is resolved.
 
+use crate::spelling::Spelling;
 use crate::written_declarations::{WrittenDecl, WrittenToken};
 use crate::written_functions::WrittenFunction;
-use sil_ast::{Imports, List, Stage, Text};
+use sil_ast::{Imports, List, Stage};
 
 /// A text's stage, its imports, and its items in order.
 #[derive(Drop)]
@@ -30,6 +31,6 @@ pub struct WrittenVtable {
 /// `#C.deinit!destroyer: @f`
 #[derive(Drop)]
 pub struct WrittenEntry {
-    pub owner: Text,
+    pub owner: Spelling,
     pub function: WrittenToken,
 }

@@ -2,7 +2,7 @@
 use Rattle.std.proofs.Common.{◌≡◌, [], ◌∷◌, ◌++◌, ◌∙◌, List, ap, arith, length, map, reverse, subst, sym}
 use Rattle.std.proofs.lemmas.List.{append-nil, length-reverse}
 use Rattle.sil_lexer.specs.Lexes.{Lexeme}
-use Rattle.sil_lexer.specs.Lexing.{lexemes_of}
+use Rattle.sil_lexer.specs.Lexing.{lexemes_of, IsLexingOf}
 use Rattle.sil_shape.specs.Shortest.{Shortens, written}
 use Rattle.sil_shape.specs.Values.{IsEnough}
 use Rattle.sil_shape.proofs.ValuesLemmas.{IsEnough-derives}
@@ -16,7 +16,7 @@ use Rattle.written_modules.proofs.building.build.Goals as goal
 
 pub replay-requires : goal.replay-requires
 replay-requires c = (
-  c.requires.lexed,
+  subst (λ text. IsLexingOf text c.args.tokens.now) (sym c.in_ok-source.ensures) c.requires.lexed,
   (
     omega (arith, c.len.ensures),
     (
@@ -33,7 +33,8 @@ pub fill-requires : goal.fill-requires
 fill-requires c =
     let lexemes : List Lexeme = lexemes_of c.args.text.now c.args.tokens.now in
     let whole = one_module lexemes c.requires.derived.1 in
-    let are = c.in_ok-values.ensures.values ∙ all_of replay c.args.steps.now c.args.text.now c.args.tokens.now c.len.result c.len.ensures ∙ whole.is in
+    let are = c.in_ok-values.ensures.values ∙ all_of replay c.args.steps.now c.in_ok-source.source.value.items c.args.tokens.now c.len.result c.len.ensures
+    ∙ ap (λ text. replay c.args.steps.now (lexemes_of text c.args.tokens.now)) c.in_ok-source.ensures ∙ whole.is in
     omega (arith, ap length are, waiting-length c.in_ok-values.field-0.values (reverse c.in_ok-values.field-0.left.items), length-reverse c.in_ok-values.field-0.left.items)
 
 pub pop_front-requires : goal.pop_front-requires
@@ -43,7 +44,8 @@ pub returns-clause-written : goal.returns-clause-written
 returns-clause-written c =
     let lexemes : List Lexeme = lexemes_of c.args.text.now c.args.tokens.now in
     let whole = one_module lexemes c.requires.derived.1 in
-    let replayed = c.in_ok-values.ensures.values ∙ all_of replay c.args.steps.now c.args.text.now c.args.tokens.now c.len.result c.len.ensures ∙ whole.is in
+    let replayed = c.in_ok-values.ensures.values ∙ all_of replay c.args.steps.now c.in_ok-source.source.value.items c.args.tokens.now c.len.result c.len.ensures
+    ∙ ap (λ text. replay c.args.steps.now (lexemes_of text c.args.tokens.now)) c.in_ok-source.ensures ∙ whole.is in
     let behind : List Value = map lacking (reverse c.fill.new.left.items) in
     let are : c.pop_front.result ∷ c.pop_front.new.self ++ behind ≡ v.Module whole.written ∷ [] =
     ap (λ values. values ++ behind) (sym c.pop_front.ensures) ∙ c.in_ok-fill.ensures.same ∙ replayed in
@@ -52,4 +54,5 @@ returns-clause-written c =
 
 pub returns-clause-fault : goal.returns-clause-fault
 returns-clause-fault c =
-    c.in_ok-values.ensures.fault ∙ all_of first_fault c.args.steps.now c.args.text.now c.args.tokens.now c.len.result c.len.ensures
+    c.in_ok-values.ensures.fault ∙ all_of first_fault c.args.steps.now c.in_ok-source.source.value.items c.args.tokens.now c.len.result c.len.ensures
+    ∙ ap (λ text. first_fault c.args.steps.now (lexemes_of text c.args.tokens.now)) c.in_ok-source.ensures

@@ -1,6 +1,6 @@
 -- The steps and the shortest way to write what is left derive a module.
 use Rattle.std.proofs.Common.{◌++◌, ◌∙◌, ap, reverse, subst, sym, take}
-use Rattle.sil_lexer.specs.Lexing.{lexemes_of}
+use Rattle.sil_lexer.specs.Lexing.{lexemes_of, IsLexingOf}
 use Rattle.sil_shape.specs.Values.{takes_of, IsEnough}
 use Rattle.sil_shape.proofs.Shortened.{shortened}
 use Rattle.written_modules.specs.Replay.{first_fault}
@@ -13,7 +13,7 @@ replay-requires c =
     let steps = c.args.front.steps.items in
     let begun = c.requires.begun in
     let way = (shortened left).1 in (
-      c.requires.lexed,
+      subst (λ text. IsLexingOf text c.args.tokens.now) (sym c.in_ok-source.ensures) c.requires.lexed,
       (
         c.requires.inside,
         (
@@ -30,5 +30,6 @@ returns c =
       rest,
       (shortened left).1,
       c.in_ok-replayed.ensures.fault
-          ∙ ap (λ s. first_fault (s ++ rest) (take c.args.count (lexemes_of c.args.text.now c.args.tokens.now))) c.as_slice.ensures.value,
+          ∙ ap (λ s. first_fault (s ++ rest) (take c.args.count (lexemes_of c.in_ok-source.source.value.items c.args.tokens.now))) c.as_slice.ensures.value
+          ∙ ap (λ text. first_fault (c.args.front.steps.items ++ rest) (take c.args.count (lexemes_of text c.args.tokens.now))) c.in_ok-source.ensures,
     )

@@ -21,9 +21,9 @@ use Rattle.written_modules.proofs.building.replay.Goals as goal
 pub loop-i-init : goal.loop-i-init
 loop-i-init g c =
     let steps = c.args.steps.now in
-    let lexemes : List Lexeme = take c.args.count (lexemes_of c.args.text.now c.args.tokens.now) in
+    let lexemes : List Lexeme = take c.args.count (lexemes_of c.args.text.now.value.items c.args.tokens.now) in
     let behind = drop-append_seam steps g.rest in
-    let none : drop c.args.count lexemes ≡ [] = drop_of_length-le lexemes (omega (arith, length-take c.args.count (lexemes_of c.args.text.now c.args.tokens.now))) in
+    let none : drop c.args.count lexemes ≡ [] = drop_of_length-le lexemes (omega (arith, length-take c.args.count (lexemes_of c.args.text.now.value.items c.args.tokens.now))) in
     record {
       takes = omega (arith, ap takes_of behind, takes_of-append steps g.rest, c.requires.1.1.0);
       values = ap (λ vs. waiting vs (reverse c.args.left.items)) c.new-values.ensures ∙ sym (replay_lacking c.requires.1.1.1.0)
@@ -57,7 +57,7 @@ leaf_at-requires-clause-in_range g c =
 pub loop-i-preserved-in-Continue-branch-2 : goal.loop-i-preserved-in-Continue-branch-2
 loop-i-preserved-in-Continue-branch-2 g c =
     let all : List Step = c.args.steps.now ++ g.rest in
-    let lexemes : List Lexeme = take c.args.count (lexemes_of c.args.text.now c.args.tokens.now) in
+    let lexemes : List Lexeme = take c.args.count (lexemes_of c.args.text.now.value.items c.args.tokens.now) in
     let below = within c.args.steps.now g.rest c.loop-i.i c.loop-i.auto.i in
     let here = among_all c.args.steps.now g.rest c.loop-i.i _ _ c.loop-i-test.true c.loop-i.auto.i c.in-Take.is in
     let there = token_there all c.loop-i.i _ c.loop-i-test.true below here in
@@ -70,7 +70,7 @@ loop-i-preserved-in-Continue-branch-2 g c =
       c.requires.1.1.0,
     ) in
     let value = c.in_ok-value-in-Take.value in
-    let value_is = taken_there c.args.text.now c.args.tokens.now c.args.count (c.loop-i.token - 1) value (omega (arith, some, counted)) c.requires.1.0 c.in_ok-value-in-Take.ensures in
+    let value_is = taken_there c.args.text.now.value.items c.args.tokens.now c.args.count (c.loop-i.token - 1) value (omega (arith, some, counted)) c.requires.1.0 c.in_ok-value-in-Take.ensures in
     record {
       takes = omega (arith, there.one_more, c.loop-i.invariant.takes, some);
       values = ap (λ vs. waiting vs (reverse c.loop-i.left.items)) c.in_ok-push_front-in-Take.ensures
@@ -82,7 +82,7 @@ loop-i-preserved-in-Continue-branch-2 g c =
 pub fill_body-requires : goal.fill_body-requires
 fill_body-requires g c =
     let all : List Step = c.args.steps.now ++ g.rest in
-    let lexemes : List Lexeme = take c.args.count (lexemes_of c.args.text.now c.args.tokens.now) in
+    let lexemes : List Lexeme = take c.args.count (lexemes_of c.args.text.now.value.items c.args.tokens.now) in
     let below = within c.args.steps.now g.rest c.loop-i.i c.loop-i.auto.i in
     let here = among_all c.args.steps.now g.rest c.loop-i.i _ _ c.loop-i-test.true c.loop-i.auto.i c.in-Expand.is in
     let long = enough_there all (drop c.loop-i.token lexemes) c.loop-i.i _ c.in-Expand.production c.requires.1.1.1.1 c.loop-i-test.true below here in
@@ -94,7 +94,7 @@ reduce-requires g c = omega (arith, c.in_ok-fill_body-in-Expand.ensures.enough)
 pub loop-i-preserved : goal.loop-i-preserved
 loop-i-preserved g c =
     let all : List Step = c.args.steps.now ++ g.rest in
-    let lexemes : List Lexeme = take c.args.count (lexemes_of c.args.text.now c.args.tokens.now) in
+    let lexemes : List Lexeme = take c.args.count (lexemes_of c.args.text.now.value.items c.args.tokens.now) in
     let below = within c.args.steps.now g.rest c.loop-i.i c.loop-i.auto.i in
     let here = among_all c.args.steps.now g.rest c.loop-i.i _ _ c.loop-i-test.true c.loop-i.auto.i c.in-Expand.is in
     let p = c.in-Expand.production in
@@ -116,7 +116,7 @@ loop-i-preserved g c =
 pub returns : goal.returns
 returns g c =
     let all : List Step = c.args.steps.now ++ g.rest in
-    let lexemes : List Lexeme = take c.args.count (lexemes_of c.args.text.now c.args.tokens.now) in
+    let lexemes : List Lexeme = take c.args.count (lexemes_of c.args.text.now.value.items c.args.tokens.now) in
     let first = c.loop-i-test.false in
     record {
       values = all_replayed replay all lexemes c.loop-i.i c.loop-i.token _ first c.loop-i.invariant.takes c.loop-i.invariant.values;

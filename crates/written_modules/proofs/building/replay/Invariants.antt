@@ -9,6 +9,6 @@ use Rattle.written_modules.proofs.building.replay.Given as goal
 abbrev pub invariant-loop-i : goal.invariant-loop-i
 invariant-loop-i g l = record {
   takes : takes_of (drop l.i (l.steps ++ g.rest)) + l.token ≡ takes_of (l.steps ++ g.rest);
-  values : waiting l.values (reverse l.left.items) ≡ replay (drop l.i (l.steps ++ g.rest)) (drop l.token (take l.count (lexemes_of l.text l.tokens)));
-  fault : l.fault ≡ first_fault (drop l.i (l.steps ++ g.rest)) (drop l.token (take l.count (lexemes_of l.text l.tokens)));
+  values : waiting l.values (reverse l.left.items) ≡ replay (drop l.i (l.steps ++ g.rest)) (drop l.token (take l.count (lexemes_of l.text.value.items l.tokens)));
+  fault : l.fault ≡ first_fault (drop l.i (l.steps ++ g.rest)) (drop l.token (take l.count (lexemes_of l.text.value.items l.tokens)));
 }
