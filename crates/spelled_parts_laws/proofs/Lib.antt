@@ -1,5 +1,5 @@
 pub mod ValueKinds
-pub mod Faultless
+pub mod FaultLists
 pub mod TypeAgreement
 pub mod RowPlaces
 pub mod RowAgreement

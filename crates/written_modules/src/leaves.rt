@@ -2,7 +2,7 @@
 
 ghost use Rattle.std.specs.Prelude.{◌≡◌, ◌<◌, length, IfOk};
 ghost use Rattle.sil_lexer.specs.Lexing.{IsLexingOf, lexemes_of};
-ghost use Rattle.written_modules.specs.Meaning as meant;
+ghost use Rattle.written_modules.specs.Leaves as meant;
 ghost use Rattle.written_modules.specs.Replay.{IsKeptAt, IsLeafAt};
 
 use crate::value::Value;
@@ -12,7 +12,7 @@ use std::alloc::Global;
 use written_tree::WrittenToken;
 
 /// What is kept of a token's bytes.
-#[tactic(auto, unfolding(crate::specs::Meaning::kept_of))]
+#[tactic(auto, unfolding(crate::specs::Leaves::kept_of))]
 fn kept_of(kind: TokenKind, spelling: &[u8]) -> &[u8]
     ensures { result.now ≡ meant.kept_of kind spelling.now }
 {
@@ -27,7 +27,7 @@ fn kept_of(kind: TokenKind, spelling: &[u8]) -> &[u8]
 }
 
 /// What is kept of the token at `i`. The bytes of punctuation aren't looked at.
-#[tactic(auto, unfolding(crate::specs::Meaning::kept_of))]
+#[tactic(auto, unfolding(crate::specs::Leaves::kept_of))]
 fn kept_at(alloc: Global, text: &[u8], tokens: &Tokens, i: usize) -> Result<Text, Exhausted>
     requires lexed { IsLexingOf text.now tokens.now }
     requires in_range { i < length tokens.now.tokens }
