@@ -5,3 +5,4 @@ pub mod RowPlaces
 pub mod RowAgreement
 pub mod Agreement
 pub mod Derived
+pub mod Trees

@@ -1,6 +1,6 @@
 -- Numbers and limits: which number a spelling writes, and what is at fault where a limit is passed or a number is out of
 -- range. What is at fault is a list of one fault, or of none.
-use Rattle.std.specs.Prelude.{◌≡◌, ◌-◌, ℕ, List, [], ◌∷◌, Option, Some, ℤ, pos, if◌then◌else◌, ◌==◌}
+use Rattle.std.specs.Prelude.{◌-◌, ℕ, List, [], ◌∷◌, Option, Some, None, ℤ, pos, if◌then◌else◌, ◌==◌}
 use Rattle.std.specs.Option.{option_map, option_to_list}
 use Rattle.instruction_table.specs.declared.entries.Detail.{Detail}
 use Rattle.instruction_table.specs.declared.entries.Detail.TheVariants as detail
@@ -37,7 +37,7 @@ abbrev pub bits_of : TypeName → ℕ
 bits_of t = bits_over (out-TypeName t)
 
 -- the number of an instruction, if it is in its range: a literal of the width of the type before it, or a tuple's element
-unfoldable pub IsNumberOf : Detail → Option TypeName → List ℕ → Option ℤ → Type 0
-IsNumberOf detail.Literal (Some t) spelling number = number ≡ literal_of (bits_of t) spelling
-IsNumberOf detail.Element _ spelling number = number ≡ option_map pos (small_of (ARGUMENTS - 1) spelling)
-IsNumberOf _ _ _ _ = ⊥
+unfoldable pub number_of : Detail → Option TypeName → List ℕ → Option ℤ
+number_of detail.Literal (Some t) spelling = literal_of (bits_of t) spelling
+number_of detail.Element _ spelling = option_map pos (small_of (ARGUMENTS - 1) spelling)
+number_of _ _ _ = None

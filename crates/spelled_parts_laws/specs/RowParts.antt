@@ -1,5 +1,5 @@
 -- The row of an instruction, from the parts of its form, and what is at fault in it.
-use Rattle.std.specs.Prelude.{◌≡◌, List, [], ◌∷◌, ◌++◌, length, drop, map, None, Option, Some, ℤ}
+use Rattle.std.specs.Prelude.{◌≡◌, List, [], ◌∷◌, ◌++◌, length, drop, map, Option, Some, ℤ}
 use Rattle.instruction_table.specs.Forms.{detail_of, ending_of}
 use Rattle.instruction_table.specs.declared.entries.Ending.{Ending}
 use Rattle.instruction_table.specs.declared.entries.Ending.TheVariants as ending
@@ -17,7 +17,7 @@ use Rattle.written_tree.specs.declared.written_declarations.WrittenToken.{Writte
 use Rattle.written_tree.specs.declared.written_instructions.WrittenEdge.{WrittenEdge}
 use Rattle.written_tree.specs.declared.written_instructions.WrittenInst.{WrittenInst}
 use Rattle.written_tree.specs.declared.written_instructions.WrittenOperand.{WrittenOperand}
-use Rattle.spelled_parts_laws.specs.Limits.{IsNumberOf, no_number, past}
+use Rattle.spelled_parts_laws.specs.Limits.{no_number, number_of, past}
 
 -- an operand of which only the name is written
 abbrev pub bare : WrittenToken → WrittenOperand
@@ -48,8 +48,8 @@ IsRow o (form.To ∷ others) (_ ∷ values) i inst faults = IsRow o others value
 IsRow o (form.TypeWord ∷ others) (_ ∷ v.Type t ∷ values) i inst faults = IsRow o others (past_comma o form.TypeWord others values) (record i { ty = Some t.ty }) inst faults
 IsRow o (form.Member ∷ others) (v.Member m ∷ values) i inst faults = IsRow o others (past_comma o form.Member others values) (record i { member = Some m }) inst faults
 IsRow o (form.Number ∷ others) (v.Token spelling ∷ values) i inst faults =
-    (number : Option ℤ) × (more : List Fault) × IsNumberOf (detail_of o) i.ty spelling.text number
-    × IsRow o others (past_comma o form.Number others values) (record i { number = number }) inst more
+    let number : Option ℤ = number_of (detail_of o) i.ty spelling.text in
+    (more : List Fault) × IsRow o others (past_comma o form.Number others values) (record i { number = number }) inst more
     × (faults ≡ no_number number spelling.place ++ more)
 IsRow o (form.Text ∷ others) (v.Token text ∷ values) i inst faults = IsRow o others (past_comma o form.Text others values) (record i { text = Some text.text }) inst faults
 IsRow o (form.Callee ∷ others) (v.Token name ∷ values) i inst faults = IsRow o others values (record i { function = Some name }) inst faults
