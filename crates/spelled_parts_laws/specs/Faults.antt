@@ -1,5 +1,5 @@
 -- What is at fault in each production of the grammar by itself, by what the parts of its body stand for: one line for each
--- production that can be at fault. Where several things are, they stand in the order in which the text has them.
+-- production that can be at fault. Which fault stands first in a list counts only for faults at one place and of one rank.
 use Rattle.std.specs.Prelude.{◌≡◌, ℕ, List, [], ◌∷◌, ◌++◌, map}
 use Rattle.std.specs.List.{flat_map}
 use Rattle.instruction_table.specs.Forms.{parts_of}
