@@ -111,9 +111,8 @@ row_kind true inst = (inst, refl)
 row_kind false inst = (inst, refl)
 
 -- the walk over the parts of a row
-row_walk : (o : Op) (xs : Contents (row_body o)) → RowAgrees o (parts_of o) (values_of (parts_row o (parts_of o)) xs.1) (bare_inst o xs.0.place)
-unfolding row_body
-row_walk o xs = rows o (parts_of o) xs.1 (bare_inst o xs.0.place) (all_fit o) tt
+row_walk : (o : Op) (mnemonic : WrittenToken) (xs : Contents (parts_row o (parts_of o))) → RowAgrees o (parts_of o) (values_of (parts_row o (parts_of o)) xs) (bare_inst o mnemonic.place)
+row_walk o mnemonic xs = rows o (parts_of o) xs (bare_inst o mnemonic.place) (all_fit o) tt
 
 row_means : (o : Op) (xs : Contents (row_body o)) → MeansSo (p.Row o) (values_of (row_body o) xs)
 unfolding body written meaning Means kind_of_part row_body row_part token_of
@@ -121,7 +120,7 @@ row_means o xs =
     let tail : List PartValue = values_of (parts_row o (parts_of o)) xs.1 in
     let parts : List PartValue = v.Token xs.0 ∷ tail in
     let begin : WrittenInst = bare_inst o xs.0.place in
-    let r = row_walk o xs in
+    let r = row_walk o xs.0 xs.1 in
     let moved : with_parts o (parts_of o) 1 parts begin ≡ row_from o (parts_of o) tail begin = row_moved o (parts_of o) 1 parts begin in
     record {
       kind = row_kind (ends_block o) (row o parts);
@@ -135,7 +134,7 @@ row_faults_are o xs =
     let tail : List PartValue = values_of (parts_row o (parts_of o)) xs.1 in
     let parts : List PartValue = v.Token xs.0 ∷ tail in
     let begin : WrittenInst = bare_inst o xs.0.place in
-    let r = row_walk o xs in
+    let r = row_walk o xs.0 xs.1 in
     record {
       own = faults_from o (parts_of o) tail begin;
       listed = (row_from o (parts_of o) tail begin, r.stands);

@@ -33,19 +33,19 @@ use Rattle.spelled_parts_laws.proofs.ValueKinds.{AreOf, IsOf, back_of, front_of}
 
 -- what the replay comes to is of the symbols' kinds, whether tokens are lacking or not
 
-leaf_kind : (s : Symbol) {class : Class} (l : Lexeme) → Accepts s class → IsOf s (leaf_of l)
-leaf_kind (Read terminal) l accepted = (record { text = kept_of l.kind l.spelling; place = l.place }, refl)
-leaf_kind (Part part) l accepted = absurd accepted
+leaf_kind : (s : Symbol) (class : Class) (l : Lexeme) → Accepts s class → IsOf s (leaf_of l)
+leaf_kind (Read terminal) class l accepted = (record { text = kept_of l.kind l.spelling; place = l.place }, refl)
+leaf_kind (Part part) class l accepted = absurd accepted
 
-lacking_kind : (s : Symbol) {class : Class} → Accepts s class → IsOf s (v.Token no_token)
-lacking_kind (Read terminal) accepted = (no_token, refl)
-lacking_kind (Part part) accepted = absurd accepted
+lacking_kind : (s : Symbol) (class : Class) → Accepts s class → IsOf s (v.Token no_token)
+lacking_kind (Read terminal) class accepted = (no_token, refl)
+lacking_kind (Part part) class accepted = absurd accepted
 
 kinds_at : {ss : List Symbol} {ks : List Class} {steps : List Step} → Derives ss ks steps → (lexemes : List Lexeme) → AreOf ss (replay steps lexemes)
 unfolding reduced
 kinds_at derived_nothing lexemes = tt
-kinds_at (derived_token {s = s} accepted rest) [] = (lacking_kind s accepted, kinds_at rest [])
-kinds_at (derived_token {s = s} accepted rest) (l ∷ lexemes) = (leaf_kind s l accepted, kinds_at rest lexemes)
+kinds_at (derived_token {s = s} {k = class} accepted rest) [] = (lacking_kind s class accepted, kinds_at rest [])
+kinds_at (derived_token {s = s} {k = class} accepted rest) (l ∷ lexemes) = (leaf_kind s class l accepted, kinds_at rest lexemes)
 kinds_at (derived_rule {ss = ss} {steps = steps} q rest) lexemes =
     let values : List PartValue = replay steps lexemes in
     let g = kinds_at rest lexemes in
@@ -82,9 +82,9 @@ told (derived_rule {ss = ss} {steps = steps} q rest) lexemes h =
     let long = AreOf-length (body q) (parts_of q values) kinds in
     let whole : Reads steps lexemes (parts_of q values ++ drop (length (body q)) values) = subst (Reads steps lexemes) (sym (take-append-drop (length (body q)) values)) t.reading in
     record {
-      reading = reads.production q whole long a.means.stands;
+      reading = reads.production q (parts_of q values) whole long a.means.stands;
       faults = a.faults.own ++ t.faults;
-      all = found.production q whole long a.faults.listed t.all;
+      all = found.production q (parts_of q values) (drop (length (body q)) values) a.faults.own t.faults whole long a.faults.listed t.all;
       first = first-append a.faults.own t.faults ∙ ap₂ earlier a.faults.first t.first;
     }
 
@@ -118,7 +118,7 @@ unfolding reduced
 read_same derived_nothing reads.nothing = refl
 read_same (derived_token accepted rest) (reads.token l r) = ap (λ vs. leaf_of l ∷ vs) (read_same rest r)
 read_same (derived_token accepted rest) (reads.lacking r) = ap (λ vs. v.Token no_token ∷ vs) (read_same rest r)
-read_same (derived_rule {ss = ss} {steps = steps} q rest) (reads.production {lexemes = lexemes} {parts = parts} {value = value} {values = values} _ r long means) =
+read_same (derived_rule {ss = ss} {steps = steps} q rest) (reads.production {lexemes = lexemes} {value = value} {values = values} _ parts r long means) =
     let s = same_parts q ss (replay steps lexemes) parts values (kinds_at rest lexemes) (read_same rest r) long in
     ap₂ (λ x xs. x ∷ xs) (s.agreed.means.back value means ∙ ap (meaning q) (sym s.taken)) (sym s.left)
 
@@ -130,7 +130,7 @@ pub faults_same : {ss : List Symbol} {ks : List Class} {steps : List Step} {lexe
     → first_of faults ≡ first_fault steps lexemes
 faults_same derived_nothing found.nothing = refl
 faults_same (derived_token {steps = steps} accepted rest) (found.token {lexemes = lexemes} h) = faults_same rest h ∙ behind_token steps lexemes
-faults_same (derived_rule {ss = ss} {steps = steps} q rest) (found.production {lexemes = lexemes} {parts = parts} {values = values} {own = own} {others = others} _ r long at h) =
+faults_same (derived_rule {ss = ss} {steps = steps} q rest) (found.production {lexemes = lexemes} _ parts values own others r long at h) =
     let s = same_parts q ss (replay steps lexemes) parts values (kinds_at rest lexemes) (read_same rest r) long in
     let here : first_of own ≡ part_fault q (parts_of q (replay steps lexemes)) =
     ap first_of (s.agreed.faults.only own at) ∙ s.agreed.faults.first ∙ ap (part_fault q) (sym s.taken) in

@@ -62,10 +62,13 @@ first-option (Some f) = refl
 pub first-two : (a b : Option Fault) → first_of (option_to_list a ++ option_to_list b) ≡ earlier a b
 first-two a b = first-append (option_to_list a) (option_to_list b) ∙ ap (λ o. earlier o (first_of (option_to_list b))) (first-option a) ∙ ap (earlier a) (first-option b)
 
-pub first-four : (a b c d : Option Fault) → first_of (option_to_list a ++ (option_to_list b ++ (option_to_list c ++ option_to_list d))) ≡ earlier a (earlier b (earlier c d))
+first-after : (fs : List Fault) (a b : Option Fault) → first_of fs ≡ a → first_of (fs ++ option_to_list b) ≡ earlier a b
+first-after fs a b e = first-append fs (option_to_list b) ∙ ap (λ o. earlier o (first_of (option_to_list b))) e ∙ ap (earlier a) (first-option b)
+
+pub first-four : (a b c d : Option Fault) → first_of (option_to_list a ++ option_to_list b ++ option_to_list c ++ option_to_list d) ≡ earlier a (earlier b (earlier c d))
 first-four a b c d =
-    first-append (option_to_list a) _ ∙ ap (λ o. earlier o (first_of (option_to_list b ++ (option_to_list c ++ option_to_list d)))) (first-option a)
-    ∙ ap (earlier a) (first-append (option_to_list b) _ ∙ ap (λ o. earlier o (first_of (option_to_list c ++ option_to_list d))) (first-option b) ∙ ap (earlier b) (first-two c d))
+    first-after _ (earlier (earlier a b) c) d (first-after _ (earlier a b) c (first-two a b))
+    ∙ earlier-assoc (earlier a b) c d ∙ earlier-assoc a b (earlier c d)
 
 -- no fault is first where there is none
 

@@ -45,9 +45,9 @@ record Steps (o : Op) (here : Part) (others : List Part) (values rest : List Par
       → (more : List Fault) × IsRow o others rest (with_part o here 0 values i) result more × (faults ≡ option_to_list (fault_of_part o here 0 values i) ++ more)
 
 -- the same row from equal values and an equal instruction
-moved : (o : Op) (others : List Part) {left rest : List PartValue} {i more : WrittenInst} (result : WrittenInst) {faults : List Fault} → left ≡ rest → i ≡ more
+moved : (o : Op) (others : List Part) {left rest : List PartValue} {i more : WrittenInst} (result : WrittenInst) (faults : List Fault) → left ≡ rest → i ≡ more
     → IsRow o others left i result faults → IsRow o others rest more result faults
-moved o others {rest = rest} {i = i} result {faults} e f m = subst (λ j. IsRow o others rest j result faults) f (subst (λ values. IsRow o others values i result faults) e m)
+moved o others {rest = rest} {i = i} result faults e f m = subst (λ j. IsRow o others rest j result faults) f (subst (λ values. IsRow o others values i result faults) e m)
 
 -- a part without a number or a list
 simple : {o : Op} {others : List Part} {left rest : List PartValue} {i : WrittenInst} → (here : Part) (values : List PartValue) (before : WrittenInst)
@@ -56,8 +56,8 @@ simple : {o : Op} {others : List Part} {left rest : List PartValue} {i : Written
 simple {o} {others} here values before e f none same = record {
   stands = λ result more m.
       subst (λ (own : Option Fault). IsRow o (here ∷ others) values before result (option_to_list own ++ more)) (sym none)
-      (subst (λ T. T) (sym (same result more)) (moved o others result (sym e) (sym f) m));
-  back = λ result faults m. (faults, moved o others result e f (subst (λ T. T) (same result faults) m), ap (λ (own : Option Fault). option_to_list own ++ faults) (sym none));
+      (subst (λ T. T) (sym (same result more)) (moved o others result _ (sym e) (sym f) m));
+  back = λ result faults m. (faults, moved o others result _ e f (subst (λ T. T) (same result faults) m), ap (λ (own : Option Fault). option_to_list own ++ faults) (sym none));
 }
 
 -- what stands for a part of which the grammar depends on the instruction
@@ -96,9 +96,9 @@ unfolding symbols_of IsRow kind_of_part operand_part qualifier_part member_part 
 number_steps o others spelling left rest i past bits =
     let e = number_is (detail_of o) i.ty spelling.text bits in
     record {
-      stands = λ result more m. (more, moved o others result (sym past) (ap (λ (x : Option ℤ). record i { number = x }) e) m, ap (λ (x : Option ℤ). no_number x spelling.place ++ more) e);
+      stands = λ result more m. (more, moved o others result _ (sym past) (ap (λ (x : Option ℤ). record i { number = x }) e) m, ap (λ (x : Option ℤ). no_number x spelling.place ++ more) e);
       back = λ result faults m.
-          (m.0, moved o others result past (ap (λ (x : Option ℤ). record i { number = x }) (sym e)) m.1, m.2 ∙ ap (λ (x : Option ℤ). no_number x spelling.place ++ m.0) (sym e));
+          (m.0, moved o others result _ past (ap (λ (x : Option ℤ). record i { number = x }) (sym e)) m.1, m.2 ∙ ap (λ (x : Option ℤ). no_number x spelling.place ++ m.0) (sym e));
     }
 
 -- the blocks that a terminator goes to
@@ -131,10 +131,10 @@ unfolding IsRow
 edge_steps o others own left rest i past goes =
     let values : List PartValue = values_of (edges_by (ending_of o)) own ++ left in
     record {
-      stands = λ result more m. (edges_at (ending_of o) 0 values, left, edges_are (ending_of o) own left goes, moved o others result (sym past) refl m);
+      stands = λ result more m. (edges_at (ending_of o) 0 values, left, edges_are (ending_of o) own left goes, moved o others result _ (sym past) refl m);
       back = λ result faults m.
           let b = edges_back (ending_of o) own left m.0 m.1 m.2 in
-          (faults, moved o others result (ap (past_comma o form.Edges others) b.1 ∙ past) (ap (λ (edges : List WrittenEdge). record i { edges = edges }) b.0) m.3, refl);
+          (faults, moved o others result _ (ap (past_comma o form.Edges others) b.1 ∙ past) (ap (λ (edges : List WrittenEdge). record i { edges = edges }) b.0) m.3, refl);
     }
 
 -- only an instruction that goes on to blocks has a part for them
@@ -168,12 +168,12 @@ steps o form.Number others own comma rest i clear past fits bits = number_steps 
 steps o form.Text others own comma rest i clear past fits bits = simple form.Text _ i past refl refl (λ result faults. refl)
 steps o form.Callee others own comma rest i clear past fits bits = simple form.Callee _ i (clear refl) refl refl (λ result faults. refl)
 steps o form.BareArgs others own comma rest i clear past fits bits = record {
-  stands = λ result more m. (more, moved o others result (sym (clear refl)) refl m, refl);
-  back = λ result faults m. (m.0, moved o others result (clear refl) refl m.1, m.2);
+  stands = λ result more m. (more, moved o others result _ (sym (clear refl)) refl m, refl);
+  back = λ result faults m. (m.0, moved o others result _ (clear refl) refl m.1, m.2);
 }
 steps o form.TypedArgs others own comma rest i clear past fits bits = record {
-  stands = λ result more m. (more, moved o others result (sym (clear refl)) refl m, refl);
-  back = λ result faults m. (m.0, moved o others result (clear refl) refl m.1, m.2);
+  stands = λ result more m. (more, moved o others result _ (sym (clear refl)) refl m, refl);
+  back = λ result faults m. (m.0, moved o others result _ (clear refl) refl m.1, m.2);
 }
 steps o form.ResultType others own comma rest i clear past fits bits = simple form.ResultType _ i (clear refl) refl refl (λ result faults. refl)
 steps o form.SignatureWord others own comma rest i clear past fits bits = simple form.SignatureWord _ i (clear refl) refl refl (λ result faults. refl)

@@ -129,8 +129,8 @@ under depth question questions h more =
     let u = below depth h in
     let next : nat_lt 32 (depth + 1) ≡ false = grind (arith, nat_tests) in
     let one : 32 - depth ≡ suc (32 - (depth + 1)) = omega (arith, h) in
-    let here : too_many_questions depth (question ∷ questions) ≡ passed limit.Depth (32 - (depth + 1)) questions =
-    ap (λ (over : Bool). if over then None else passed limit.Depth (32 - depth) (question ∷ questions)) u.0 ∙ ap (λ (n : ℕ). passed limit.Depth n (question ∷ questions)) one in
+    let here : passed limit.Depth (32 - depth) (question ∷ questions) ≡ passed limit.Depth (32 - (depth + 1)) questions =
+    ap (λ (n : ℕ). passed limit.Depth n (question ∷ questions)) one in
     let there : too_many_questions (depth + 1) questions ≡ passed limit.Depth (32 - (depth + 1)) questions =
     ap (λ (over : Bool). if over then None else passed limit.Depth (32 - (depth + 1)) questions) next in
     rw (u.1, u.0) (more ∙ there ∙ sym here)

@@ -1,5 +1,5 @@
 -- The row of an instruction, from the parts of its form, and what is at fault in it.
-use Rattle.std.specs.Prelude.{◌≡◌, List, [], ◌∷◌, ◌++◌, length, drop, map, Option, Some, ℤ}
+use Rattle.std.specs.Prelude.{◌≡◌, List, [], ◌∷◌, ◌++◌, length, drop, map, None, Option, Some, ℤ}
 use Rattle.instruction_table.specs.Forms.{detail_of, ending_of}
 use Rattle.instruction_table.specs.declared.entries.Ending.{Ending}
 use Rattle.instruction_table.specs.declared.entries.Ending.TheVariants as ending
