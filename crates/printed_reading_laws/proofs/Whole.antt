@@ -8,9 +8,8 @@ use Rattle.sil_shape.specs.declared.grammar.Symbol.{Symbol}
 use Rattle.sil_shape.specs.Derivation.{start}
 use Rattle.written_tree.specs.declared.written_module.WrittenModule.{WrittenModule}
 use Rattle.written_modules.specs.Opened.{PartValue, module_value}
-use Rattle.spelled_parts_laws.specs.Stands.{Stands, Stands as stands}
-use Rattle.spelled_parts_laws.proofs.Agreement.{agrees}
-use Rattle.spelled_parts_laws.proofs.Derived.{kinds_of}
+use Rattle.spelled_parts_laws.specs.Stands.{Stands}
+use Rattle.spelled_parts_laws.proofs.Trees.{Tree, Tree as tree, tree_stands}
 use Rattle.sil_grammar.specs.Classes.{token_class}
 use Rattle.sil_grammar.specs.Spells.{SpellsWritten}
 use Rattle.printed_reading_laws.proofs.Pieces.{Reads, lexeme_before, Reads as reads}
@@ -19,7 +18,7 @@ use Rattle.printed_reading_laws.proofs.Pieces.{Reads, lexeme_before, Reads as re
 record Tokens (text : List ℕ) (ss : List Symbol) (left : List ℕ) (values : List PartValue) (after : List ℕ) : Type 0 where
   lexemes : List Lexeme
   lexed : (others : List Lexeme) (stop : Option LexRefusal) → Lexes text after others stop → Lexes text left (lexemes ++ others) stop
-  stood : Stands token_class ss lexemes values
+  stood : Tree token_class ss lexemes values
 
 -- a blank in front changes no token
 blank_before : {text left : List ℕ} {lexemes : List Lexeme} {stop : Option LexRefusal} → (byte : ℕ) → IsTrue (is_blank byte)
@@ -31,7 +30,7 @@ blank_before byte h (lexes.stop left rest refusal s stops) = lexes.stop (byte �
 
 tokens_of : {text : List ℕ} {ss : List Symbol} {left : List ℕ} {values : List PartValue} {after : List ℕ}
     → Reads text ss left values after → Tokens text ss left values after
-tokens_of reads.nothing = record { lexemes = []; lexed = λ others stop l. l; stood = stands.nothing }
+tokens_of reads.nothing = record { lexemes = []; lexed = λ others stop l. l; stood = tree.nothing }
 tokens_of (reads.blank byte h r) =
     let s = tokens_of r in
     record { lexemes = s.lexemes; lexed = λ others stop l. blank_before byte h (s.lexed others stop l); stood = s.stood }
@@ -41,15 +40,15 @@ tokens_of {text = text} (reads.token {rest = rest} kind spelling accepted spelle
     record {
       lexemes = here ∷ s.lexemes;
       lexed = λ others stop l. lexes.token _ spelling rest kind (s.lexemes ++ others) stop (skips.nothing _) spelled short (s.lexed others stop l);
-      stood = stands.token here accepted s.stood;
+      stood = tree.token here accepted s.stood;
     }
-tokens_of (reads.rule {parts = parts} p inside h r) =
+tokens_of (reads.rule p inside h r) =
     let s = tokens_of inside in
     let u = tokens_of r in
     record {
       lexemes = s.lexemes ++ u.lexemes;
       lexed = λ others stop l. rw (append_assoc s.lexemes u.lexemes others) (s.lexed (u.lexemes ++ others) stop (u.lexed others stop l));
-      stood = stands.production p s.stood ((agrees p parts (kinds_of s.stood)).stands h) u.stood;
+      stood = tree.production p s.stood h u.stood;
     }
 
 -- a text that reads as a module from its front to its end is spelled by it
@@ -59,5 +58,5 @@ spelled_whole text value w r e =
     record {
       lexemes = s.lexemes;
       lexed = rw (append-nil s.lexemes) at (s.lexed [] None (lexes.end [] (skips.nothing [])));
-      stands = subst (λ (x : PartValue). Stands token_class start s.lexemes (x ∷ [])) e s.stood;
+      stands = subst (λ (x : PartValue). Stands token_class start s.lexemes (x ∷ [])) e (tree_stands s.stood);
     }

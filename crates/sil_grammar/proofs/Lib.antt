@@ -4,6 +4,7 @@ pub mod FewestTokens
 pub mod FirstBadLemmas
 pub mod LexemeLemmas
 pub mod ReplayedSpelling
+pub mod FaultLemmas
 pub mod ReadLemmas
 pub mod RefusedOnce
 pub mod ShapeLemmas

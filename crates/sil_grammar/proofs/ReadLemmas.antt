@@ -22,12 +22,13 @@ use Rattle.sil_grammar.specs.declared.refusal.ReadRefusal.{ReadRefusal}
 use Rattle.sil_grammar.specs.declared.refusal.ReadRefusal.TheVariants.{Memory}
 use Rattle.sil_grammar.specs.Classes.{token_class}
 use Rattle.sil_grammar.specs.FirstBad.{HasShape, IsFirstBadPlace}
-use Rattle.sil_grammar.specs.Front.{IsFrontFault}
+use Rattle.sil_grammar.specs.Front.{IsFound, IsFrontFault}
 use Rattle.sil_grammar.specs.Refusals.{IsFaulty, IsFront, IsRefusalOf, IsShapeless, SpellsNone, exhausted, in_front, in_whole}
 use Rattle.sil_grammar.specs.Shape.{IsBroken, IsWhole}
 use Rattle.sil_grammar.specs.Spells.{AreSpelledOnce, SpellsWritten}
 use Rattle.sil_grammar.specs.Left.{IsCut}
 use Rattle.sil_grammar.proofs.CutLemmas.{cut_completes}
+use Rattle.sil_grammar.proofs.FaultLemmas.{is_found, of_front, whole_found}
 use Rattle.sil_grammar.proofs.FirstBadLemmas.{no_bad_place}
 use Rattle.sil_grammar.proofs.ReplayedSpelling.{replayed, spelled_by}
 
@@ -89,11 +90,10 @@ pub front_found : (text : List ℕ) (lexing : Lexing) (count : ℕ) (front cut :
     → LeadsTo (map token_class (take count (lexemes_of text lexing))) front.steps.items (reverse front.left.items) → IsCut front cut
     → (rest : List Step) × Shortens (reverse cut.left.items) rest × (fault ≡ first_fault (cut.steps.items ++ rest) (take count (lexemes_of text lexing)))
     → IsFrontFault text lexing count fault
-front_found text lexing count front cut fault leads is found = record {
-  steps = cut.steps.items ++ found.0;
-  begun = cut_completes (map token_class (take count (lexemes_of text lexing))) front cut leads is found.0 found.1;
-  first = found.2;
-}
+front_found text lexing count front cut fault leads is found =
+    let tokens : List Lexeme = take count (lexemes_of text lexing) in
+    let begun = cut_completes (map token_class tokens) front cut leads is found.0 found.1 in
+    record { steps = cut.steps.items ++ found.0; begun = begun; first = (is_found tokens (cut.steps.items ++ found.0) fault begun).1 (sym found.2) }
 
 module _ (text : List ℕ) (lexing : Lexing) (is : IsLexingOf text lexing) where
   module _ (steps : List Step) (whole : IsWhole text lexing steps) where
@@ -111,9 +111,13 @@ module _ (text : List ℕ) (lexing : Lexing) (is : IsLexingOf text lexing) where
     faultless_whole w none writes = spelled_by text w (lexemes_of text lexing) steps lexed whole.derived.derives none writes
 
     pub faulty_whole : (fault : Fault) → first_fault steps (lexemes_of text lexing) ≡ Some fault → IsFaulty text fault
-    faulty_whole fault first = in_whole (lexemes_of text lexing) steps lexed whole.derived.derives first
+    faulty_whole fault first =
+        in_whole (lexemes_of text lexing) steps lexed whole.derived.derives ((whole_found (lexemes_of text lexing) steps fault whole.derived.derives).1 first)
 
   module _ (bad : BadPlace) (count : ℕ) (fault : Option Fault) (left : Front) (broken : IsBroken text lexing bad count left) (found : IsFrontFault text lexing count fault) where
+    abbrev tokens : List Lexeme
+    tokens = take count (lexemes_of text lexing)
+
     front : IsFront text
     front = record {
       lexemes = lexemes_of text lexing;
@@ -128,8 +132,12 @@ module _ (text : List ℕ) (lexing : Lexing) (is : IsLexingOf text lexing) where
 
     pub faulty_front : (f : Fault) → fault ≡ Some f → f.place.offset < bad.place.offset → IsFaulty text f
     unfolding front
-    faulty_front f some before = in_front bad front broken.first (sym found.first ∙ some) before
+    faulty_front f some before = in_front bad front broken.first (subst (IsFound found.steps tokens) some found.first) before
 
     pub clear_front : ((f : Fault) → fault ≡ Some f → bad.place.offset ≤ f.place.offset) → IsShapeless text bad
     unfolding front
-    clear_front behind = record { first_bad = broken.first; front = front; no_fault = λ f is. behind f (found.first ∙ is) }
+    clear_front behind = record {
+      first_bad = broken.first;
+      front = front;
+      no_fault = λ f of. behind f (sym ((is_found tokens found.steps fault found.begun).0 found.first) ∙ (of_front front f).0 of);
+    }

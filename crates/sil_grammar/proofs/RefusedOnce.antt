@@ -15,9 +15,10 @@ use Rattle.sil_grammar.specs.declared.first_bad.BadPlace.{BadPlace}
 use Rattle.sil_grammar.specs.Classes.{token_class}
 use Rattle.sil_grammar.specs.Completion.{IsShortestFrom}
 use Rattle.sil_grammar.specs.FirstBad.{HasShape}
-use Rattle.sil_grammar.specs.Refusals.{AreRefusedOnce, IsFaulty, IsFront, IsMisnamed, IsShapeless, exhausted, fault_of, faulty, in_front, in_whole, misnamed, refusal_of_bad, refusal_of_fault, shapeless}
+use Rattle.sil_grammar.specs.Refusals.{AreRefusedOnce, IsFaulty, IsFront, IsMisnamed, IsShapeless, exhausted, faulty, in_front, in_whole, misnamed, refusal_of_bad, refusal_of_fault, shapeless}
 use Rattle.sil_grammar.specs.Spells.{SpellsWritten}
 use Rattle.sil_grammar.proofs.CompletionLemmas.{shortest_begins, shortest_once}
+use Rattle.sil_grammar.proofs.FaultLemmas.{fault_of, of_front, whole_found}
 use Rattle.sil_grammar.proofs.FirstBadLemmas.{no_bad_place, once}
 use Rattle.sil_grammar.proofs.ReadLemmas.{written_once}
 use Rattle.sil_grammar.proofs.ReplayedSpelling.{replayed}
@@ -91,19 +92,19 @@ no_fault_before : (text : List ℕ) (place : BadPlace) (fault : Fault) → IsSha
 no_fault_before text place fault s (in_whole lexemes steps lexed derived first) = no_bad_place text (shape_of text lexemes steps lexed derived) place s.first_bad.is_bad
 no_fault_before text place fault s (in_front other front first_bad first before) =
     let same : other ≡ place = once text other place first_bad s.first_bad in
-    let behind : place.place.offset ≤ fault.place.offset = s.no_fault fault (front_once text s.front front ∙ first) in
+    let behind : place.place.offset ≤ fault.place.offset = s.no_fault fault ((of_front s.front fault).1 (front_once text s.front front ∙ (of_front front fault).0 first)) in
     omega (arith, before, behind, ap (λ (p : BadPlace). p.place.offset) same)
 
 -- a text has one first fault
 faulty_once : (text : List ℕ) (a b : Fault) → IsFaulty text a → IsFaulty text b → b ≡ a
 faulty_once text a b (in_whole lexemes steps lexed derived first) (in_whole others other l d f) =
-    some_same (sym f ∙ sym (whole_once text lexemes others steps other lexed derived l d) ∙ first)
+    some_same (sym ((whole_found others other b d).0 f) ∙ sym (whole_once text lexemes others steps other lexed derived l d) ∙ (whole_found lexemes steps a derived).0 first)
 faulty_once text a b (in_whole lexemes steps lexed derived first) (in_front place front first_bad f before) =
     absurd (no_bad_place text (shape_of text lexemes steps lexed derived) place first_bad.is_bad)
 faulty_once text a b (in_front place front first_bad f before) (in_whole lexemes steps lexed derived first) =
     absurd (no_bad_place text (shape_of text lexemes steps lexed derived) place first_bad.is_bad)
 faulty_once text a b (in_front place front first_bad first before) (in_front other others bad f behind) =
-    some_same (sym f ∙ front_once text others front ∙ first)
+    some_same (sym ((of_front others b).0 f) ∙ front_once text others front ∙ (of_front front a).0 first)
 
 -- a text that writes a module without a fault has neither
 misnamed_shaped : (text : List ℕ) (place : BadPlace) (fault : Fault) → IsShapeless text place → IsMisnamed text fault → ⊥
@@ -112,7 +113,7 @@ misnamed_shaped text place fault s m = no_bad_place text (spells_shape text m.wr
 misnamed_faultless : (text : List ℕ) (a b : Fault) → IsFaulty text a → IsMisnamed text b → ⊥
 misnamed_faultless text a b (in_whole lexemes steps lexed derived first) m =
     let r = replayed m.spells in
-    some_or_none first (whole_once text lexemes m.spells.lexemes steps r.steps lexed derived m.spells.lexed r.derived ∙ r.no_fault)
+    some_or_none ((whole_found lexemes steps a derived).0 first) (whole_once text lexemes m.spells.lexemes steps r.steps lexed derived m.spells.lexed r.derived ∙ r.no_fault)
 misnamed_faultless text a b (in_front place front first_bad first before) m = no_bad_place text (spells_shape text m.written m.spells) place first_bad.is_bad
 
 misnamed_once : (text : List ℕ) (a b : Fault) → IsMisnamed text a → IsMisnamed text b → b ≡ a

@@ -11,7 +11,7 @@ use Rattle.written_tree.specs.declared.fault.Fault.{Fault}
 use Rattle.written_tree.specs.declared.fault.FaultKind.{FaultKind}
 use Rattle.written_tree.specs.declared.fault.FaultKind.TheVariants as kind
 use Rattle.written_tree.specs.declared.written_module.WrittenModule.{WrittenModule}
-use Rattle.written_modules.specs.Replay.{first_fault}
+use Rattle.spelled_parts_laws.specs.Reading.{IsFirstFault}
 use Rattle.name_resolution.specs.NameFaults.{name_fault}
 use Rattle.sil_grammar.specs.declared.first_bad.BadKind.{BadKind}
 use Rattle.sil_grammar.specs.declared.first_bad.BadKind.TheVariants as bad
@@ -40,23 +40,23 @@ pub record IsFront (text : List ℕ) : Type 0 where
   pub steps : List Step
   pub shortest : IsShortestFrom (map token_class (take count lexemes)) steps
 
--- the first fault in what this module stands for. The tokens that the text lacks stand for nothing
-abbrev pub fault_of : {text : List ℕ} → IsFront text → Option Fault
-fault_of front = first_fault front.steps (take front.count front.lexemes)
+-- the first fault in what this module stands for. The tokens that the text lacks stand behind all others
+abbrev pub IsFaultOf : {text : List ℕ} → IsFront text → Fault → Type 0
+IsFaultOf front fault = IsFirstFault front.steps (take front.count front.lexemes) fault
 
 -- the first bad place of the text, with no fault before it
 pub record IsShapeless (text : List ℕ) (place : BadPlace) : Type 0 where
   pub first_bad : IsFirstBadPlace text place
   pub front : IsFront text
-  pub no_fault : (fault : Fault) → fault_of front ≡ Some fault → place.place.offset ≤ fault.place.offset
+  pub no_fault : (fault : Fault) → IsFaultOf front fault → place.place.offset ≤ fault.place.offset
 
 -- the first fault of the text, a number out of range or a token that passes a limit
 pub data IsFaulty (text : List ℕ) (fault : Fault) : Type 0 where
   -- the text has the shape of a module
   in_whole : (lexemes : List Lexeme) (steps : List Step) → Lexes text text lexemes None → Derives start (map token_class lexemes) steps
-      → first_fault steps lexemes ≡ Some fault → IsFaulty text fault
+      → IsFirstFault steps lexemes fault → IsFaulty text fault
   -- it has none, and the fault comes before the first place where it goes wrong
-  in_front : (place : BadPlace) (front : IsFront text) → IsFirstBadPlace text place → fault_of front ≡ Some fault
+  in_front : (place : BadPlace) (front : IsFront text) → IsFirstBadPlace text place → IsFaultOf front fault
       → fault.place.offset < place.place.offset → IsFaulty text fault
 
 -- the text writes a module, and this name is the first that is defined twice, or used and not defined

@@ -1,7 +1,8 @@
--- What tokens stand for is what the replay of their derivation comes to, step by step.
-use Rattle.std.proofs.Common.{◌≡◌, suc, List, [], ◌∷◌, ◌++◌, length, take, drop, map, Option, None, ap, ap₂, sym, refl, subst, ◌∙◌, append_assoc, append-nil}
-use Rattle.std.specs.List.{AllZip}
+-- What the steps of a derivation stand for is what their replay comes to, step by step, and what is at fault in them is what
+-- the replay finds.
+use Rattle.std.proofs.Common.{◌≡◌, ◌≤◌, suc, List, [], ◌∷◌, ◌++◌, length, take, drop, map, Option, Some, None, ap, ap₂, sym, refl, subst, ◌∙◌, arith}
 use Rattle.std.proofs.Math.Seq.{drop-append_seam, take-append_seam}
+use Rattle.std.proofs.lemmas.List.{length-map, take-append-drop}
 use Rattle.sil_lexer.specs.Lexes.{Lexeme}
 use Rattle.sil_shape.specs.declared.grammar.Production.{Production}
 use Rattle.sil_shape.specs.declared.grammar.Symbol.{Symbol}
@@ -12,144 +13,148 @@ use Rattle.sil_shape.specs.Derivation.{Accepts, Derives}
 use Rattle.sil_shape.specs.Derivation.Derives.{nothing as derived_nothing, token as derived_token, rule as derived_rule}
 use Rattle.sil_shape.specs.Grammar.{body, written}
 use Rattle.token_classes.specs.declared.classes.Class.{Class}
-use Rattle.written_modules.specs.Meaning.{kept_of, leaf_of, meaning}
+use Rattle.written_modules.specs.Leaves.{kept_of, leaf_of}
+use Rattle.written_modules.specs.Meaning.{meaning}
 use Rattle.written_modules.specs.Opened.{PartValue}
 use Rattle.written_modules.specs.PartFaults.{part_fault}
 use Rattle.written_modules.specs.Replay.{first_fault, parts_of, reduced, replay}
+use Rattle.written_modules.specs.Values.{no_token}
+use Rattle.written_modules.specs.Variants as v
 use Rattle.written_tree.specs.declared.fault.Fault.{Fault}
 use Rattle.written_tree.specs.Faults.{earlier}
-use Rattle.spelled_parts_laws.specs.Laws.{AreReplayed, IsReplayed}
+use Rattle.spelled_parts_laws.specs.Faults.{AreFaultsOf}
+use Rattle.spelled_parts_laws.specs.Laws.{AreReplayed, AreToldByReplay, IsReplayed}
+use Rattle.spelled_parts_laws.specs.Means.{Means}
+use Rattle.spelled_parts_laws.specs.Reading.{HasFaults, HasFaults as found, IsFirstFault, Reads, Reads as reads}
 use Rattle.spelled_parts_laws.specs.Stands.{Stands}
-use Rattle.spelled_parts_laws.specs.Stands.Stands.{nothing, token, production}
-use Rattle.spelled_parts_laws.proofs.Agreement.{agrees}
-use Rattle.spelled_parts_laws.proofs.Faultless.{no_first, no_second}
+use Rattle.spelled_parts_laws.proofs.Agreement.{Agrees, agrees}
+use Rattle.spelled_parts_laws.proofs.FaultLists.{first-append, first_of, found_first, is_first, none_first}
 use Rattle.spelled_parts_laws.proofs.ValueKinds.{AreOf, IsOf, back_of, front_of}
 
--- tokens that stand for symbols in a row are those of the first symbols, and those of the others behind them
-record Splits (class_of : Lexeme → Class) (front ss : List Symbol) (lexemes : List Lexeme) (values : List PartValue) : Type 0 where
-  own : List Lexeme
-  behind : List Lexeme
-  all : own ++ behind ≡ lexemes
-  first : Stands class_of front own (take (length front) values)
-  second : Stands class_of ss behind (drop (length front) values)
-
-split : (class_of : Lexeme → Class) (front ss : List Symbol) {lexemes : List Lexeme} {values : List PartValue}
-    → Stands class_of (front ++ ss) lexemes values → Splits class_of front ss lexemes values
-split class_of [] ss {lexemes} {values} st = record { own = []; behind = lexemes; all = refl; first = nothing; second = st }
-split class_of (s ∷ front) ss (token l accepted more) =
-    let rest = split class_of front ss more in
-    record { own = l ∷ rest.own; behind = rest.behind; all = ap (λ ls. l ∷ ls) rest.all; first = token l accepted rest.first; second = rest.second }
-split class_of (s ∷ front) ss (production {own = own} q inside means more) =
-    let rest = split class_of front ss more in
-    record {
-      own = own ++ rest.own;
-      behind = rest.behind;
-      all = append_assoc own rest.own rest.behind ∙ ap (λ ls. own ++ ls) rest.all;
-      first = production q inside means rest.first;
-      second = rest.second;
-    }
-
--- the classes are those of the tokens
-AreClasses : (Lexeme → Class) → List Class → List Lexeme → Type 0
-AreClasses class_of ks lexemes = AllZip (λ k l. k ≡ class_of l) ks lexemes
-
-are_classes : (class_of : Lexeme → Class) (lexemes : List Lexeme) → AreClasses class_of (map class_of lexemes) lexemes
-unfolding AreClasses
-are_classes class_of [] = tt
-are_classes class_of (l ∷ lexemes) = (refl, are_classes class_of lexemes)
-
--- where nothing is at fault, the tokens stand for what the replay comes to
-record Replays (class_of : Lexeme → Class) (ss : List Symbol) (lexemes : List Lexeme) (values : List PartValue) : Type 0 where
-  stands : Stands class_of ss lexemes values
-  kinds : AreOf ss values
+-- what the replay comes to is of the symbols' kinds, whether tokens are lacking or not
 
 leaf_kind : (s : Symbol) (class : Class) (l : Lexeme) → Accepts s class → IsOf s (leaf_of l)
 leaf_kind (Read terminal) class l accepted = (record { text = kept_of l.kind l.spelling; place = l.place }, refl)
 leaf_kind (Part part) class l accepted = absurd accepted
 
-replays : (class_of : Lexeme → Class) {ss : List Symbol} {ks : List Class} {steps : List Step} → Derives ss ks steps → (lexemes : List Lexeme) → AreClasses class_of ks lexemes
-    → first_fault steps lexemes ≡ None → Replays class_of ss lexemes (replay steps lexemes)
-unfolding AreClasses reduced
-replays class_of derived_nothing [] same e = record { stands = nothing; kinds = tt }
-replays class_of derived_nothing (l ∷ lexemes) same e = absurd same
-replays class_of (derived_token accepted rest) [] same e = absurd same
-replays class_of (derived_token {s = s} accepted rest) (l ∷ lexemes) same e =
-    let g = replays class_of rest lexemes same.1 e in
-    let taken : Accepts s (class_of l) = subst (Accepts s) same.0 accepted in
-    record { stands = token l taken g.stands; kinds = (leaf_kind s (class_of l) l taken, g.kinds) }
-replays class_of (derived_rule {ss = ss} {steps = steps} q rest) lexemes same e =
+lacking_kind : (s : Symbol) (class : Class) → Accepts s class → IsOf s (v.Token no_token)
+lacking_kind (Read terminal) class accepted = (no_token, refl)
+lacking_kind (Part part) class accepted = absurd accepted
+
+kinds_at : {ss : List Symbol} {ks : List Class} {steps : List Step} → Derives ss ks steps → (lexemes : List Lexeme) → AreOf ss (replay steps lexemes)
+unfolding reduced
+kinds_at derived_nothing lexemes = tt
+kinds_at (derived_token {s = s} {k = class} accepted rest) [] = (lacking_kind s class accepted, kinds_at rest [])
+kinds_at (derived_token {s = s} {k = class} accepted rest) (l ∷ lexemes) = (leaf_kind s class l accepted, kinds_at rest lexemes)
+kinds_at (derived_rule {ss = ss} {steps = steps} q rest) lexemes =
     let values : List PartValue = replay steps lexemes in
-    let g = replays class_of rest lexemes same (no_second _ _ e) in
-    let parts = split class_of (body q) ss g.stands in
-    let a = agrees q (parts_of q values) (front_of (body q) ss values g.kinds) in
+    let g = kinds_at rest lexemes in
+    ((agrees q (parts_of q values) (front_of (body q) ss values g)).means.kind, back_of (body q) ss values g)
+
+AreOf-length : (ss : List Symbol) (values : List PartValue) → AreOf ss values → length values ≡ length ss
+AreOf-length [] [] g = refl
+AreOf-length (s ∷ ss) (value ∷ values) g = ap suc (AreOf-length ss values g.1)
+AreOf-length _ _ g = absurd g
+
+-- the steps stand for what the replay comes to, and all that is at fault is found
+
+pub record Told (steps : List Step) (lexemes : List Lexeme) : Type 0 where
+  pub reading : Reads steps lexemes (replay steps lexemes)
+  pub faults : List Fault
+  pub all : HasFaults steps lexemes faults
+  pub first : first_of faults ≡ first_fault steps lexemes
+
+pub told : {ss : List Symbol} {ks : List Class} {steps : List Step} → Derives ss ks steps → (lexemes : List Lexeme) → length lexemes ≤ length ks → Told steps lexemes
+unfolding reduced
+told derived_nothing [] h = record { reading = reads.nothing; faults = []; all = found.nothing; first = refl }
+told derived_nothing (l ∷ lexemes) h = absurd (omega (arith, h))
+told (derived_token accepted rest) [] h =
+    let t = told rest [] (omega arith) in
+    record { reading = reads.lacking t.reading; faults = t.faults; all = found.token t.all; first = t.first }
+told (derived_token accepted rest) (l ∷ lexemes) h =
+    let t = told rest lexemes (omega (arith, h)) in
+    record { reading = reads.token l t.reading; faults = t.faults; all = found.token t.all; first = t.first }
+told (derived_rule {ss = ss} {steps = steps} q rest) lexemes h =
+    let values : List PartValue = replay steps lexemes in
+    let t = told rest lexemes h in
+    let kinds = front_of (body q) ss values (kinds_at rest lexemes) in
+    let a = agrees q (parts_of q values) kinds in
+    let long = AreOf-length (body q) (parts_of q values) kinds in
+    let whole : Reads steps lexemes (parts_of q values ++ drop (length (body q)) values) = subst (Reads steps lexemes) (sym (take-append-drop (length (body q)) values)) t.reading in
     record {
-      stands = subst (λ ls. Stands class_of (Part (written q) ∷ ss) ls (reduced q values)) parts.all (production q parts.first (a.stands (no_first _ _ e)) parts.second);
-      kinds = (a.kind (no_first _ _ e), back_of (body q) ss values g.kinds);
+      reading = reads.production q (parts_of q values) whole long a.means.stands;
+      faults = a.faults.own ++ t.faults;
+      all = found.production q (parts_of q values) (drop (length (body q)) values) a.faults.own t.faults whole long a.faults.listed t.all;
+      first = first-append a.faults.own t.faults ∙ ap₂ earlier a.faults.first t.first;
     }
 
--- what tokens stand for is of the symbols' kinds
-pub kinds_of : {class_of : Lexeme → Class} {ss : List Symbol} {lexemes : List Lexeme} {values : List PartValue} → Stands class_of ss lexemes values → AreOf ss values
-kinds_of nothing = tt
-kinds_of {class_of} (token {s = s} l accepted more) = (leaf_kind s (class_of l) l accepted, kinds_of more)
-kinds_of (production {parts = parts} {value = value} q inside means more) =
-    let a = agrees q parts (kinds_of inside) in
-    let b = a.back value means in
-    (subst (IsOf (Part (written q))) (sym b.0) (a.kind b.1), kinds_of more)
+-- and for nothing else
 
-lengths : {class_of : Lexeme → Class} {ss : List Symbol} {lexemes : List Lexeme} {values : List PartValue} → Stands class_of ss lexemes values → length values ≡ length ss
-lengths nothing = refl
-lengths (token l accepted more) = ap suc (lengths more)
-lengths (production q inside means more) = ap suc (lengths more)
-
--- steps by which the tokens derive, before others
-record Derived (class_of : Lexeme → Class) (ss : List Symbol) (lexemes : List Lexeme) (values : List PartValue) : Type 0 where
-  steps : List Step
-  derived : Derives ss (map class_of lexemes) steps
-  no_fault : first_fault steps lexemes ≡ None
-  same : replay steps lexemes ≡ values
-
-take_parts : (q : Production) (parts values : List PartValue) → length parts ≡ length (body q) → parts_of q (parts ++ values) ≡ parts
+pub take_parts : (q : Production) (parts values : List PartValue) → length parts ≡ length (body q) → parts_of q (parts ++ values) ≡ parts
 take_parts q parts values e = subst (λ n. take n (parts ++ values) ≡ parts) e (take-append_seam parts values)
 
-drop_parts : (q : Production) (parts values : List PartValue) → length parts ≡ length (body q) → drop (length (body q)) (parts ++ values) ≡ values
+pub drop_parts : (q : Production) (parts values : List PartValue) → length parts ≡ length (body q) → drop (length (body q)) (parts ++ values) ≡ values
 drop_parts q parts values e = subst (λ n. drop n (parts ++ values) ≡ values) e (drop-append_seam parts values)
 
-no_fault_by : (q : Production) (values parts : List PartValue) (found : Option Fault) → parts_of q values ≡ parts → part_fault q parts ≡ None → found ≡ None
-    → earlier (part_fault q (parts_of q values)) found ≡ None
-unfolding earlier
-no_fault_by q values parts found e h none = rw e (rw h none)
+-- the parts that a production reads are those that the replay takes
+record SameParts (q : Production) (replayed parts values : List PartValue) : Type 0 where
+  taken : parts_of q replayed ≡ parts
+  left : drop (length (body q)) replayed ≡ values
+  agreed : Agrees q parts
 
-derive : {class_of : Lexeme → Class} {ss : List Symbol} {lexemes : List Lexeme} {values : List PartValue} → Stands class_of ss lexemes values
-    → (tail : List Symbol) (last : List Lexeme) (others : List PartValue) → Derived class_of tail last others → Derived class_of (ss ++ tail) (lexemes ++ last) (values ++ others)
+same_parts : (q : Production) (ss : List Symbol) (replayed parts values : List PartValue) → AreOf (body q ++ ss) replayed → parts ++ values ≡ replayed
+    → length parts ≡ length (body q) → SameParts q replayed parts values
+same_parts q ss replayed parts values kinds same long =
+    let taken : parts_of q replayed ≡ parts = ap (parts_of q) (sym same) ∙ take_parts q parts values long in
+    record {
+      taken = taken;
+      left = ap (drop (length (body q))) (sym same) ∙ drop_parts q parts values long;
+      agreed = agrees q parts (subst (AreOf (body q)) taken (front_of (body q) ss replayed kinds));
+    }
+
+pub read_same : {ss : List Symbol} {ks : List Class} {steps : List Step} {lexemes : List Lexeme} {values : List PartValue} → Derives ss ks steps → Reads steps lexemes values
+    → values ≡ replay steps lexemes
 unfolding reduced
-derive nothing tail last others d = d
-derive (token l accepted more) tail last others d =
-    let rest = derive more tail last others d in
-    record { steps = Take ∷ rest.steps; derived = derived_token accepted rest.derived; no_fault = rest.no_fault; same = ap (λ vs. leaf_of l ∷ vs) rest.same }
-derive {class_of} (production {own = own} {parts = parts} {value = value} {ss = ss} {behind = behind} {values = values} q inside means more) tail last others d =
-    let rest = derive more tail last others d in
-    let whole = derive inside (ss ++ tail) (behind ++ last) (values ++ others) rest in
-    let a = (agrees q parts (kinds_of inside)).back value means in
-    let taken : parts_of q (replay whole.steps (own ++ (behind ++ last))) ≡ parts = ap (parts_of q) whole.same ∙ take_parts q parts (values ++ others) (lengths inside) in
-    let left : drop (length (body q)) (replay whole.steps (own ++ (behind ++ last))) ≡ values ++ others = ap (drop (length (body q))) whole.same ∙ drop_parts q parts (values ++ others) (lengths inside) in
-    subst (λ ls. Derived class_of (Part (written q) ∷ (ss ++ tail)) ls (value ∷ (values ++ others))) (sym (append_assoc own behind last)) (record {
-      steps = Expand q ∷ whole.steps;
-      derived = derived_rule q whole.derived;
-      no_fault = no_fault_by q (replay whole.steps (own ++ (behind ++ last))) parts _ taken a.1 whole.no_fault;
-      same = ap₂ (λ x xs. x ∷ xs) (ap (meaning q) taken ∙ sym a.0) left;
-    })
+read_same derived_nothing reads.nothing = refl
+read_same (derived_token accepted rest) (reads.token l r) = ap (λ vs. leaf_of l ∷ vs) (read_same rest r)
+read_same (derived_token accepted rest) (reads.lacking r) = ap (λ vs. v.Token no_token ∷ vs) (read_same rest r)
+read_same (derived_rule {ss = ss} {steps = steps} q rest) (reads.production {lexemes = lexemes} {value = value} {values = values} _ parts r long means) =
+    let s = same_parts q ss (replay steps lexemes) parts values (kinds_at rest lexemes) (read_same rest r) long in
+    ap₂ (λ x xs. x ∷ xs) (s.agreed.means.back value means ∙ ap (meaning q) (sym s.taken)) (sym s.left)
 
-nothing_left : (class_of : Lexeme → Class) → Derived class_of [] [] []
-nothing_left class_of = record { steps = []; derived = derived_nothing; no_fault = refl; same = refl }
+behind_token : (steps : List Step) (lexemes : List Lexeme) → first_fault steps (drop 1 lexemes) ≡ first_fault (Take ∷ steps) lexemes
+behind_token steps [] = refl
+behind_token steps (l ∷ lexemes) = refl
 
-derived_whole : (class_of : Lexeme → Class) (ss : List Symbol) (lexemes : List Lexeme) (values : List PartValue) → Derived class_of (ss ++ []) (lexemes ++ []) (values ++ []) → IsReplayed class_of ss lexemes values
-derived_whole class_of ss lexemes values d =
-    let w : Derived class_of ss lexemes values = subst (λ vs. Derived class_of ss lexemes vs) (append-nil values)
-    (subst (λ ls. Derived class_of ss ls (values ++ [])) (append-nil lexemes) (subst (λ all. Derived class_of all (lexemes ++ []) (values ++ [])) (append-nil ss) d)) in
-    record { steps = w.steps; derived = w.derived; no_fault = w.no_fault; same = w.same }
+pub faults_same : {ss : List Symbol} {ks : List Class} {steps : List Step} {lexemes : List Lexeme} {faults : List Fault} → Derives ss ks steps → HasFaults steps lexemes faults
+    → first_of faults ≡ first_fault steps lexemes
+faults_same derived_nothing found.nothing = refl
+faults_same (derived_token {steps = steps} accepted rest) (found.token {lexemes = lexemes} h) = faults_same rest h ∙ behind_token steps lexemes
+faults_same (derived_rule {ss = ss} {steps = steps} q rest) (found.production {lexemes = lexemes} _ parts values own others r long at h) =
+    let s = same_parts q ss (replay steps lexemes) parts values (kinds_at rest lexemes) (read_same rest r) long in
+    let here : first_of own ≡ part_fault q (parts_of q (replay steps lexemes)) =
+    ap first_of (s.agreed.faults.only own at) ∙ s.agreed.faults.first ∙ ap (part_fault q) (sym s.taken) in
+    first-append own others ∙ ap₂ earlier here (faults_same rest h)
+
+pub told_by_replay : AreToldByReplay
+told_by_replay ss classes steps lexemes d h =
+    let t = told d lexemes h in
+    record {
+      values = λ values. (λ r. sym (read_same d r), λ e. subst (Reads steps lexemes) e t.reading);
+      none = (λ all. sym (faults_same d all), λ e. subst (HasFaults steps lexemes) (none_first t.faults (t.first ∙ e)) t.all);
+      first = λ fault. (λ f. sym (faults_same d f.all) ∙ found_first f.first, λ e. record { faults = t.faults; all = t.all; first = is_first t.faults fault (t.first ∙ e) });
+    }
 
 pub stood_for : AreReplayed
 stood_for class_of ss lexemes values = (
-  λ st. derived_whole class_of ss lexemes values (derive st [] [] [] (nothing_left class_of)),
-  λ r. subst (Stands class_of ss lexemes) r.same (replays class_of r.derived lexemes (are_classes class_of lexemes) r.no_fault).stands,
+  λ s.
+    record { steps = s.steps; derived = s.derived; no_fault = sym (faults_same s.derived s.faultless); same = sym (read_same s.derived s.reading) },
+  λ r.
+    let t = told r.derived lexemes (omega (arith, length-map lexemes class_of)) in
+    record {
+      steps = r.steps;
+      derived = r.derived;
+      reading = subst (Reads r.steps lexemes) r.same t.reading;
+      faultless = subst (HasFaults r.steps lexemes) (none_first t.faults (t.first ∙ r.no_fault)) t.all;
+    },
 )

@@ -1,8 +1,8 @@
 -- Rows: what their parts stand for is what the replay makes of them, by induction over the parts and not by instruction.
 use Rattle.std.proofs.Common.{◌≡◌, ℕ, suc, ◌+◌, List, [], ◌∷◌, ◌++◌, length, drop, Option, Some, None, Bool, true, false, ◌&&◌, IfSome, if◌then◌else◌, ap, ap₂, sym, refl, subst, ◌∙◌, append_assoc}
-use Rattle.std.specs.Prelude.{ℤ, pos}
+use Rattle.std.specs.Prelude.{ℤ}
 use Rattle.std.specs.List.{list_all}
-use Rattle.std.specs.Option.{option_map}
+use Rattle.std.specs.Option.{option_to_list}
 use Rattle.std.proofs.lemmas.List.{length-append}
 use Rattle.std.proofs.Math.Seq.{drop-append_seam}
 use Rattle.instruction_table.specs.Forms.{detail_of, ending_of, is_item, may_lack_operand, parts_of, words_of}
@@ -18,44 +18,46 @@ use Rattle.instruction_table.specs.declared.op.Op.{Op}
 use Rattle.instruction_table.specs.declared.op.Op.TheVariants as op
 use Rattle.sil_ast.specs.declared.member.Member.{Member}
 use Rattle.sil_ast.specs.declared.type_name.TypeName.{TypeName}
-use Rattle.sil_rules.specs.declared.limit_word.LimitWord.TheVariants as limit
 use Rattle.sil_shape.specs.declared.grammar.Nonterminal.TheVariants as n
 use Rattle.sil_shape.specs.declared.grammar.Symbol.{Symbol}
 use Rattle.sil_shape.specs.Rows.{comma_behind, comma_between, edges_by, edges_of, member_by, member_of as member_part, operand_of as operand_part, parts_row, qualifier_of as qualifier_part, symbols_of, word_by}
-use Rattle.written_numbers.specs.Numbers.{literal_of, small_of}
+use Rattle.written_numbers.specs.Numbers.{literal_of}
 use Rattle.written_modules.specs.Opened.{PartValue}
 use Rattle.written_modules.specs.PartFaults.{fault_of_part}
 use Rattle.written_modules.specs.RowMeaning.{edges_at, number_by, typed_by, with_part}
 use Rattle.written_modules.specs.Values.{debug_of, edge_of, edges_of as stored_edges, flags_of, member_of, operand_of, operands_of, qualifier_of, signature_of, token_of, tokens_of, type_of}
 use Rattle.written_modules.specs.Variants as v
-use Rattle.written_tree.specs.Faults.{out_of_range}
-use Rattle.written_tree.specs.Places.{operand_place}
+use Rattle.written_tree.specs.declared.fault.Fault.{Fault}
 use Rattle.written_tree.specs.declared.written_declarations.WrittenToken.{WrittenToken}
 use Rattle.written_tree.specs.declared.written_instructions.WrittenEdge.{WrittenEdge}
 use Rattle.written_tree.specs.declared.written_instructions.WrittenInst.{WrittenInst}
 use Rattle.written_tree.specs.declared.written_instructions.WrittenQualifier.{WrittenQualifier}
-use Rattle.spelled_parts_laws.specs.Limits.{IsNumberOf}
+use Rattle.spelled_parts_laws.specs.Limits.{no_number, number_of}
 use Rattle.spelled_parts_laws.specs.RowParts.{AreEdges, IsRow, past_comma}
-use Rattle.spelled_parts_laws.proofs.Faultless.{few, in_range, none_past}
-use Rattle.spelled_parts_laws.proofs.RowPlaces.{AreFaultless, left_behind, row_from}
+use Rattle.spelled_parts_laws.proofs.RowPlaces.{faults_from, left_behind, row_from}
 use Rattle.spelled_parts_laws.proofs.ValueKinds.{Contents, HasBits, kind_of_part, split_contents, values_of}
 
 -- one part at the front of these values, and those behind it and its comma
 record Steps (o : Op) (here : Part) (others : List Part) (values rest : List PartValue) (i : WrittenInst) : Type 0 where
-  stands : (result : WrittenInst) → fault_of_part o here 0 values i ≡ None → IsRow o others rest (with_part o here 0 values i) result → IsRow o (here ∷ others) values i result
-  back : (result : WrittenInst) → IsRow o (here ∷ others) values i result → IsRow o others rest (with_part o here 0 values i) result × (fault_of_part o here 0 values i ≡ None)
+  stands : (result : WrittenInst) (more : List Fault) → IsRow o others rest (with_part o here 0 values i) result more
+      → IsRow o (here ∷ others) values i result (option_to_list (fault_of_part o here 0 values i) ++ more)
+  back : (result : WrittenInst) (faults : List Fault) → IsRow o (here ∷ others) values i result faults
+      → (more : List Fault) × IsRow o others rest (with_part o here 0 values i) result more × (faults ≡ option_to_list (fault_of_part o here 0 values i) ++ more)
 
 -- the same row from equal values and an equal instruction
-moved : (o : Op) (others : List Part) {left rest : List PartValue} {i more : WrittenInst} (result : WrittenInst) → left ≡ rest → i ≡ more → IsRow o others left i result → IsRow o others rest more result
-moved o others {rest = rest} {i = i} result e f m = subst (λ j. IsRow o others rest j result) f (subst (λ values. IsRow o others values i result) e m)
+moved : (o : Op) (others : List Part) {left rest : List PartValue} {i more : WrittenInst} (result : WrittenInst) (faults : List Fault) → left ≡ rest → i ≡ more
+    → IsRow o others left i result faults → IsRow o others rest more result faults
+moved o others {rest = rest} {i = i} result faults e f m = subst (λ j. IsRow o others rest j result faults) f (subst (λ values. IsRow o others values i result faults) e m)
 
 -- a part without a number or a list
 simple : {o : Op} {others : List Part} {left rest : List PartValue} {i : WrittenInst} → (here : Part) (values : List PartValue) (before : WrittenInst)
     → left ≡ rest → i ≡ with_part o here 0 values before → fault_of_part o here 0 values before ≡ None
-    → ((result : WrittenInst) → IsRow o (here ∷ others) values before result ≡ IsRow o others left i result) → Steps o here others values rest before
+    → ((result : WrittenInst) (faults : List Fault) → IsRow o (here ∷ others) values before result faults ≡ IsRow o others left i result faults) → Steps o here others values rest before
 simple {o} {others} here values before e f none same = record {
-  stands = λ result h m. subst (λ T. T) (sym (same result)) (moved o others result (sym e) (sym f) m);
-  back = λ result m. (moved o others result e f (subst (λ T. T) (same result) m), none);
+  stands = λ result more m.
+      subst (λ (own : Option Fault). IsRow o (here ∷ others) values before result (option_to_list own ++ more)) (sym none)
+      (subst (λ T. T) (sym (same result more)) (moved o others result _ (sym e) (sym f) m));
+  back = λ result faults m. (faults, moved o others result _ e f (subst (λ T. T) (same result faults) m), ap (λ (own : Option Fault). option_to_list own ++ faults) (sym none));
 }
 
 -- what stands for a part of which the grammar depends on the instruction
@@ -76,39 +78,28 @@ typed_steps : (o : Op) (others : List Part) (lacks : Bool) → may_lack_operand 
     → past_comma o form.Typed others left ≡ rest → Steps o form.Typed others ((kind_of_part (if lacks then n.EnumOperand else n.Operand)).value x ∷ left) rest i
 unfolding symbols_of IsRow kind_of_part operand_part qualifier_part member_part edges_of flags_of debug_of edge_of member_of operand_of operands_of qualifier_of signature_of stored_edges token_of tokens_of type_of
 typed_steps o others true e x left rest i past =
-    simple form.Typed (v.Operands x ∷ left) i past (ap (λ (lacks : Bool). record i { operands = i.operands ++ typed_by lacks (v.Operands x) }) (sym e)) refl (λ result. refl)
+    simple form.Typed (v.Operands x ∷ left) i past (ap (λ (lacks : Bool). record i { operands = i.operands ++ typed_by lacks (v.Operands x) }) (sym e)) refl (λ result faults. refl)
 typed_steps o others false e x left rest i past =
-    simple form.Typed (v.Operand x ∷ left) i past (ap (λ (lacks : Bool). record i { operands = i.operands ++ typed_by lacks (v.Operand x) }) (sym e)) refl (λ result. refl)
+    simple form.Typed (v.Operand x ∷ left) i past (ap (λ (lacks : Bool). record i { operands = i.operands ++ typed_by lacks (v.Operand x) }) (sym e)) refl (λ result faults. refl)
 
 -- numbers
 
-mapped : (o : Option ℕ) (number : ℤ) → option_map pos o ≡ Some number → (n : ℕ) × (o ≡ Some n) × (number ≡ pos n)
-mapped None number e = absurd (cc)
-mapped (Some n) number e = (n, refl, cc)
-
-number_is : (d : Detail) (t : Option TypeName) (text : List ℕ) (number : ℤ) → IfSome t HasBits → number_by d t text ≡ Some number → IsNumberOf d t text number
-unfolding IsNumberOf
-number_is detail.Literal (Some t) text number bits e = subst (λ (width : ℕ). literal_of width text ≡ Some number) bits e
-number_is detail.Element t text number bits e = mapped (small_of 63 text) number e
-number_is _ _ text number bits e = absurd (cc)
-
-number_back : (d : Detail) (t : Option TypeName) (text : List ℕ) (number : ℤ) → IfSome t HasBits → IsNumberOf d t text number → number_by d t text ≡ Some number
-unfolding IsNumberOf
-number_back detail.Literal (Some t) text number bits m = subst (λ (width : ℕ). literal_of width text ≡ Some number) (sym bits) m
-number_back detail.Element t text number bits m = ap (option_map pos) m.1 ∙ ap (λ (x : ℤ). Some x) (sym m.2)
-number_back _ _ text number bits m = absurd m
+number_is : (d : Detail) (t : Option TypeName) (text : List ℕ) → IfSome t HasBits → number_by d t text ≡ number_of d t text
+unfolding number_of
+number_is detail.Literal (Some t) text bits = ap (λ (width : ℕ). literal_of width text) bits
+number_is detail.Element t text bits = refl
+number_is _ _ text bits = refl
 
 number_steps : (o : Op) (others : List Part) (spelling : WrittenToken) (left rest : List PartValue) (i : WrittenInst)
     → past_comma o form.Number others left ≡ rest → IfSome i.ty HasBits → Steps o form.Number others (v.Token spelling ∷ left) rest i
 unfolding symbols_of IsRow kind_of_part operand_part qualifier_part member_part edges_of flags_of debug_of edge_of member_of operand_of operands_of qualifier_of signature_of stored_edges token_of tokens_of type_of
-number_steps o others spelling left rest i past bits = record {
-  stands = λ result h m.
-      let found = in_range (number_by (detail_of o) i.ty spelling.text) spelling.place h in
-      (found.0, number_is (detail_of o) i.ty spelling.text found.0 bits found.1, moved o others result (sym past) (ap (λ (x : Option ℤ). record i { number = x }) found.1) m);
-  back = λ result m.
-      let e = number_back (detail_of o) i.ty spelling.text m.0 bits m.1 in
-      (moved o others result past (ap (λ (x : Option ℤ). record i { number = x }) (sym e)) m.2, ap (λ (x : Option ℤ). out_of_range x spelling.place) e);
-}
+number_steps o others spelling left rest i past bits =
+    let e = number_is (detail_of o) i.ty spelling.text bits in
+    record {
+      stands = λ result more m. (more, moved o others result _ (sym past) (ap (λ (x : Option ℤ). record i { number = x }) e) m, ap (λ (x : Option ℤ). no_number x spelling.place ++ more) e);
+      back = λ result faults m.
+          (m.0, moved o others result _ past (ap (λ (x : Option ℤ). record i { number = x }) (sym e)) m.1, m.2 ∙ ap (λ (x : Option ℤ). no_number x spelling.place ++ m.0) (sym e));
+    }
 
 -- the blocks that a terminator goes to
 
@@ -140,10 +131,10 @@ unfolding IsRow
 edge_steps o others own left rest i past goes =
     let values : List PartValue = values_of (edges_by (ending_of o)) own ++ left in
     record {
-      stands = λ result h m. (edges_at (ending_of o) 0 values, left, edges_are (ending_of o) own left goes, moved o others result (sym past) refl m);
-      back = λ result m.
+      stands = λ result more m. (edges_at (ending_of o) 0 values, left, edges_are (ending_of o) own left goes, moved o others result _ (sym past) refl m);
+      back = λ result faults m.
           let b = edges_back (ending_of o) own left m.0 m.1 m.2 in
-          (moved o others result (ap (past_comma o form.Edges others) b.1 ∙ past) (ap (λ (edges : List WrittenEdge). record i { edges = edges }) b.0) m.3, refl);
+          (faults, moved o others result _ (ap (past_comma o form.Edges others) b.1 ∙ past) (ap (λ (edges : List WrittenEdge). record i { edges = edges }) b.0) m.3, refl);
     }
 
 -- only an instruction that goes on to blocks has a part for them
@@ -162,31 +153,31 @@ steps : (o : Op) (here : Part) (others : List Part) (own : Contents (symbols_of 
     → (is_item here ≡ false → comma ++ rest ≡ rest) → past_comma o here others (comma ++ rest) ≡ rest → fits_in o here ≡ true → IfSome i.ty HasBits
     → Steps o here others ((values_of (symbols_of o here) own ++ comma) ++ rest) rest i
 unfolding symbols_of IsRow kind_of_part operand_part qualifier_part member_part edges_of flags_of debug_of edge_of member_of operand_of operands_of qualifier_of signature_of stored_edges token_of tokens_of type_of fits_in
-steps o form.Flags others own comma rest i clear past fits bits = simple form.Flags _ i (clear refl) refl refl (λ result. refl)
+steps o form.Flags others own comma rest i clear past fits bits = simple form.Flags _ i (clear refl) refl refl (λ result faults. refl)
 steps o form.Qualifier others own comma rest i clear past fits bits =
     let q = qualifier_by (words_of o) own.0 in
-    subst (λ (x : PartValue). Steps o form.Qualifier others (x ∷ (comma ++ rest)) rest i) (sym q.1) (simple form.Qualifier (v.Qualifier q.0 ∷ (comma ++ rest)) i (clear refl) refl refl (λ result. refl))
+    subst (λ (x : PartValue). Steps o form.Qualifier others (x ∷ (comma ++ rest)) rest i) (sym q.1) (simple form.Qualifier (v.Qualifier q.0 ∷ (comma ++ rest)) i (clear refl) refl refl (λ result faults. refl))
 steps o form.Typed others own comma rest i clear past fits bits = typed_steps o others (may_lack_operand o) refl own.0 (comma ++ rest) rest i past
-steps o form.Bare others own comma rest i clear past fits bits = simple form.Bare _ i past refl refl (λ result. refl)
-steps o form.To others own comma rest i clear past fits bits = simple form.To _ i (clear refl) refl refl (λ result. refl)
-steps o form.TypeWord others own comma rest i clear past fits bits = simple form.TypeWord _ i past refl refl (λ result. refl)
+steps o form.Bare others own comma rest i clear past fits bits = simple form.Bare _ i past refl refl (λ result faults. refl)
+steps o form.To others own comma rest i clear past fits bits = simple form.To _ i (clear refl) refl refl (λ result faults. refl)
+steps o form.TypeWord others own comma rest i clear past fits bits = simple form.TypeWord _ i past refl refl (λ result faults. refl)
 steps o form.Member others own comma rest i clear past fits bits =
     let m = member_is (detail_of o) own.0 in
-    subst (λ (x : PartValue). Steps o form.Member others (x ∷ (comma ++ rest)) rest i) (sym m.1) (simple form.Member (v.Member m.0 ∷ (comma ++ rest)) i past refl refl (λ result. refl))
+    subst (λ (x : PartValue). Steps o form.Member others (x ∷ (comma ++ rest)) rest i) (sym m.1) (simple form.Member (v.Member m.0 ∷ (comma ++ rest)) i past refl refl (λ result faults. refl))
 steps o form.Number others own comma rest i clear past fits bits = number_steps o others own.0 (comma ++ rest) rest i past bits
-steps o form.Text others own comma rest i clear past fits bits = simple form.Text _ i past refl refl (λ result. refl)
-steps o form.Callee others own comma rest i clear past fits bits = simple form.Callee _ i (clear refl) refl refl (λ result. refl)
+steps o form.Text others own comma rest i clear past fits bits = simple form.Text _ i past refl refl (λ result faults. refl)
+steps o form.Callee others own comma rest i clear past fits bits = simple form.Callee _ i (clear refl) refl refl (λ result faults. refl)
 steps o form.BareArgs others own comma rest i clear past fits bits = record {
-  stands = λ result h m. (few operand_place limit.Arguments 64 _ h, moved o others result (sym (clear refl)) refl m);
-  back = λ result m. (moved o others result (clear refl) refl m.1, none_past operand_place limit.Arguments 64 _ m.0);
+  stands = λ result more m. (more, moved o others result _ (sym (clear refl)) refl m, refl);
+  back = λ result faults m. (m.0, moved o others result _ (clear refl) refl m.1, m.2);
 }
 steps o form.TypedArgs others own comma rest i clear past fits bits = record {
-  stands = λ result h m. (few operand_place limit.Arguments 64 _ h, moved o others result (sym (clear refl)) refl m);
-  back = λ result m. (moved o others result (clear refl) refl m.1, none_past operand_place limit.Arguments 64 _ m.0);
+  stands = λ result more m. (more, moved o others result _ (sym (clear refl)) refl m, refl);
+  back = λ result faults m. (m.0, moved o others result _ (clear refl) refl m.1, m.2);
 }
-steps o form.ResultType others own comma rest i clear past fits bits = simple form.ResultType _ i (clear refl) refl refl (λ result. refl)
-steps o form.SignatureWord others own comma rest i clear past fits bits = simple form.SignatureWord _ i (clear refl) refl refl (λ result. refl)
-steps o form.Debug others own comma rest i clear past fits bits = simple form.Debug _ i (clear refl) refl refl (λ result. refl)
+steps o form.ResultType others own comma rest i clear past fits bits = simple form.ResultType _ i (clear refl) refl refl (λ result faults. refl)
+steps o form.SignatureWord others own comma rest i clear past fits bits = simple form.SignatureWord _ i (clear refl) refl refl (λ result faults. refl)
+steps o form.Debug others own comma rest i clear past fits bits = simple form.Debug _ i (clear refl) refl refl (λ result faults. refl)
 steps o form.Edges others own comma rest i clear past fits bits =
     subst (λ (values : List PartValue). Steps o form.Edges others values rest i) (sym (append_assoc (values_of (edges_by (ending_of o)) own) comma rest))
     (edge_steps o others own (comma ++ rest) rest i past fits)
@@ -203,8 +194,8 @@ bits_after o _ own left i bits = bits
 -- all parts in a row
 
 pub record RowAgrees (o : Op) (ps : List Part) (values : List PartValue) (i : WrittenInst) : Type 0 where
-  pub stands : AreFaultless o ps values i → IsRow o ps values i (row_from o ps values i)
-  pub back : (result : WrittenInst) → IsRow o ps values i result → (result ≡ row_from o ps values i) × AreFaultless o ps values i
+  pub stands : IsRow o ps values i (row_from o ps values i) (faults_from o ps values i)
+  pub back : (result : WrittenInst) (faults : List Fault) → IsRow o ps values i result faults → (result ≡ row_from o ps values i) × (faults ≡ faults_from o ps values i)
 
 values_length : (ss : List Symbol) (xs : Contents ss) → length (values_of ss xs) ≡ length ss
 values_length [] xs = refl
@@ -232,21 +223,24 @@ second_of_both false b e = absurd (cc)
 
 one_more : (o : Op) (here : Part) (others : List Part) (values rest : List PartValue) (i : WrittenInst) → Steps o here others values rest i → left_behind o here others values ≡ rest
     → RowAgrees o others rest (with_part o here 0 values i) → RowAgrees o (here ∷ others) values i
-unfolding IsRow
 one_more o here others values rest i step left more =
     let next : WrittenInst = with_part o here 0 values i in
+    let own : List Fault = option_to_list (fault_of_part o here 0 values i) in
     record {
-      stands = λ h. step.stands (row_from o others (left_behind o here others values) next) h.0
-          (subst (λ (vs : List PartValue). IsRow o others rest next (row_from o others vs next)) (sym left) (more.stands (subst (λ (vs : List PartValue). AreFaultless o others vs next) left h.1)));
-      back = λ result m.
-          let s = step.back result m in
-          let b = more.back result s.0 in
-          (b.0 ∙ ap (λ (vs : List PartValue). row_from o others vs next) (sym left), (s.1, subst (λ (vs : List PartValue). AreFaultless o others vs next) (sym left) b.1));
+      stands =
+          subst (λ (vs : List PartValue). IsRow o (here ∷ others) values i (row_from o others vs next) (own ++ faults_from o others vs next)) (sym left)
+          (step.stands (row_from o others rest next) (faults_from o others rest next) more.stands);
+      back = λ result faults m.
+          let s = step.back result faults m in
+          let b = more.back result s.0 s.1 in (
+            b.0 ∙ ap (λ (vs : List PartValue). row_from o others vs next) (sym left),
+            s.2 ∙ ap (λ (fs : List Fault). own ++ fs) (b.1 ∙ ap (λ (vs : List PartValue). faults_from o others vs next) (sym left)),
+          );
     }
 
 pub rows : (o : Op) (ps : List Part) (xs : Contents (parts_row o ps)) (i : WrittenInst) → list_all (fits_in o) ps ≡ true → IfSome i.ty HasBits → RowAgrees o ps (values_of (parts_row o ps) xs) i
 unfolding parts_row IsRow
-rows o [] xs i f bits = record { stands = λ h. refl; back = λ result m. (m, tt) }
+rows o [] xs i f bits = record { stands = (refl, refl); back = λ result faults m. m }
 rows o (here ∷ others) xs i f bits =
     let mark : List Symbol = comma_behind o here others in
     let s = split_contents (symbols_of o here ++ mark) (parts_row o others) xs in

@@ -1,6 +1,6 @@
 -- The replay of a row counts the places of its parts. Here it takes their values from the front of what is left.
-use Rattle.std.proofs.Common.{◌≡◌, ℕ, zero, suc, ◌+◌, List, [], ◌∷◌, length, drop, Option, Some, None, ap, sym, refl, subst, ◌∙◌}
-use Rattle.std.specs.Prelude.{⊤, ◌↔◌}
+use Rattle.std.proofs.Common.{◌≡◌, ℕ, zero, suc, ◌+◌, List, [], ◌∷◌, ◌++◌, length, drop, Option, Some, ap, sym, refl, subst, ◌∙◌}
+use Rattle.std.specs.Option.{option_to_list}
 use Rattle.std.proofs.lemmas.List.{drop-drop}
 use Rattle.std.proofs.Math.Nat.{suc-add, zero-add}
 use Rattle.instruction_table.specs.Forms.{detail_of, ending_of}
@@ -19,7 +19,7 @@ use Rattle.written_tree.specs.declared.fault.Fault.{Fault}
 use Rattle.written_tree.specs.Faults.{earlier, out_of_range}
 use Rattle.written_tree.specs.declared.written_instructions.WrittenEdge.{WrittenEdge}
 use Rattle.written_tree.specs.declared.written_instructions.WrittenInst.{WrittenInst}
-use Rattle.spelled_parts_laws.proofs.Faultless.{no_fault_of_two, no_first, no_second}
+use Rattle.spelled_parts_laws.proofs.FaultLists.{earlier-assoc, earlier-none, first-append, first-option, first_of}
 
 -- what is left behind a part
 abbrev pub left_behind : Op → Part → List Part → List PartValue → List PartValue
@@ -30,11 +30,11 @@ abbrev pub row_from : Op → List Part → List PartValue → WrittenInst → Wr
 row_from o [] values i = i
 row_from o (here ∷ others) values i = row_from o others (left_behind o here others values) (with_part o here 0 values i)
 
--- no part is at fault
-abbrev pub AreFaultless : Op → List Part → List PartValue → WrittenInst → Type 0
-AreFaultless o [] values i = ⊤
-AreFaultless o (here ∷ others) values i =
-    (fault_of_part o here 0 values i ≡ None) × AreFaultless o others (left_behind o here others values) (with_part o here 0 values i)
+-- what is at fault in these parts, from the first to the last
+abbrev pub faults_from : Op → List Part → List PartValue → WrittenInst → List Fault
+faults_from o [] values i = []
+faults_from o (here ∷ others) values i =
+    option_to_list (fault_of_part o here 0 values i) ++ faults_from o others (left_behind o here others values) (with_part o here 0 values i)
 
 part_from : (k at : ℕ) (parts : List PartValue) → part (at + k) parts ≡ part k (drop at parts)
 part_from k zero parts = ap (λ n. part n parts) (zero-add k)
@@ -78,16 +78,20 @@ row_moved o (here ∷ others) at parts i =
     ∙ ap (λ values. row_from o others values (with_part o here at parts i)) (sym (drop-drop n at parts))
     ∙ ap (row_from o others (drop n (drop at parts))) (part_moved o here at parts i)
 
--- a fault that was found before stays
-pub faultless : (o : Op) (ps : List Part) (at : ℕ) (parts : List PartValue) (i : WrittenInst) (found : Option Fault)
-    → (parts_fault o ps at parts i found ≡ None) ↔ ((found ≡ None) × AreFaultless o ps (drop at parts) i)
-faultless o [] at parts i found = (λ e. (e, tt), λ m. m.0)
-faultless o (here ∷ others) at parts i found =
+-- a fault that was found before stands first
+pub row_faults_moved : (o : Op) (ps : List Part) (at : ℕ) (parts : List PartValue) (i : WrittenInst) (found : Option Fault)
+    → parts_fault o ps at parts i found ≡ earlier found (first_of (faults_from o ps (drop at parts) i))
+row_faults_moved o [] at parts i found = sym (earlier-none found)
+row_faults_moved o (here ∷ others) at parts i found =
     let n : ℕ = length (symbols_of o here) + length (comma_behind o here others) in
-    let rest = faultless o others (at + n) parts (with_part o here at parts i) (earlier found (fault_of_part o here at parts i)) in
-    let same : AreFaultless o others (drop (at + n) parts) (with_part o here at parts i) ≡ AreFaultless o others (drop n (drop at parts)) (with_part o here 0 (drop at parts) i) =
-    ap (λ values. AreFaultless o others values (with_part o here at parts i)) (sym (drop-drop n at parts))
-    ∙ ap (AreFaultless o others (drop n (drop at parts))) (part_moved o here at parts i) in (
-      λ e. let m = rest.0 e in (no_first _ _ m.0, (sym (fault_moved o here at parts i) ∙ no_second _ _ m.0, subst (λ T. T) same m.1)),
-      λ m. rest.1 (no_fault_of_two _ _ m.0 (fault_moved o here at parts i ∙ m.1.0), subst (λ T. T) (sym same) m.1.1),
-    )
+    let own : Option Fault = fault_of_part o here 0 (drop at parts) i in
+    let next : WrittenInst = with_part o here 0 (drop at parts) i in
+    let rest : List Fault = faults_from o others (drop n (drop at parts)) next in
+    let same : faults_from o others (drop (at + n) parts) (with_part o here at parts i) ≡ rest =
+    ap (λ values. faults_from o others values (with_part o here at parts i)) (sym (drop-drop n at parts))
+    ∙ ap (faults_from o others (drop n (drop at parts))) (part_moved o here at parts i) in
+    row_faults_moved o others (at + n) parts (with_part o here at parts i) (earlier found (fault_of_part o here at parts i))
+    ∙ ap (λ (f : Option Fault). earlier (earlier found f) (first_of (faults_from o others (drop (at + n) parts) (with_part o here at parts i)))) (fault_moved o here at parts i)
+    ∙ ap (λ (fs : List Fault). earlier (earlier found own) (first_of fs)) same
+    ∙ earlier-assoc found own (first_of rest)
+    ∙ ap (earlier found) (ap (λ (f : Option Fault). earlier f (first_of rest)) (sym (first-option own)) ∙ sym (first-append (option_to_list own) rest))

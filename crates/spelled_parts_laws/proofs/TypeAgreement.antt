@@ -1,6 +1,8 @@
--- Types that no limit cuts off are built up alike by the relations and by the replay.
-use Rattle.std.proofs.Common.{◌≡◌, ℕ, suc, ◌+◌, ◌-◌, ◌≤◌, List, [], ◌∷◌, length, Option, Some, None, Bool, true, false, if◌then◌else◌, ◌==◌, nat_lt, subst, ap, ap₂, sym, refl, ◌∙◌, arith}
+-- Types that are built up level by level: literals are of their own bits, and the levels that are too deep are those that the replay finds.
+use Rattle.std.proofs.Common.{◌≡◌, ℕ, suc, ◌+◌, ◌-◌, ◌<◌, ◌≤◌, List, [], ◌∷◌, ◌++◌, Option, Some, None, Bool, true, false, if◌then◌else◌, ◌==◌, nat_lt, slice_get, subst, ap, ap₂, sym, refl, ◌∙◌, arith, inl, inr}
 use Rattle.std.specs.List.{AllByRecursion}
+use Rattle.std.specs.Option.{option_map, option_to_list}
+use Rattle.std.proofs.lemmas.Bool.{cases_order}
 use Rattle.std.proofs.lemmas.Bool.Decides.{nat_tests}
 use Rattle.sil_ast.specs.declared.place.Place.{Place}
 use Rattle.sil_ast.specs.declared.type_name.TypeName.{TypeName, out-TypeName, out-roll-TypeName}
@@ -10,21 +12,15 @@ use Rattle.sil_ast.specs.declared.type_name.TypeName.TheVariants as ty
 use Rattle.sil_rules.specs.declared.limit_word.LimitWord.TheVariants as limit
 use Rattle.written_tree.specs.declared.fault.Fault.{Fault}
 use Rattle.written_tree.specs.declared.fault.FaultKind.TheVariants.{Limit}
-use Rattle.written_tree.specs.Faults.{fault, passed}
+use Rattle.written_tree.specs.Faults.{earlier, fault, passed}
 use Rattle.written_modules.specs.Opened.{PartType, PartTypes}
 use Rattle.written_modules.specs.PartFaults.{too_deep, too_deep_among, too_many_questions, tuple_fault}
 use Rattle.written_modules.specs.Types.{between, deeper, in_parens, kept, one_deeper, type_before, width_in_range, width_over, with_questions}
 use Rattle.written_modules.specs.Values.{no_types}
-use Rattle.spelled_parts_laws.specs.Limits.{bits_over}
-use Rattle.spelled_parts_laws.specs.TypeParts.{HasQuestions, IsAmong, IsDeeper, IsInParens}
-use Rattle.spelled_parts_laws.proofs.Faultless.{few_counted, few_places, no_fault_of_two, no_first, no_places_past, no_second, none_past_counted}
+use Rattle.spelled_parts_laws.specs.Faults.{level_faults, parens_faults, question_faults}
+use Rattle.spelled_parts_laws.specs.Limits.{bits_over, past, too_deep as too_deep_here}
+use Rattle.spelled_parts_laws.proofs.FaultLists.{first-append, first-option, first_of}
 use Rattle.spelled_parts_laws.proofs.ValueKinds.{AreKept, HasBits, IsKept}
-
--- what a relation says of a type, and what the replay makes with a fault or without
-pub record AgreesOnType (found : Option Fault) (Is : PartType → Type 0) (t : PartType) : Type 0 where
-  pub kept : found ≡ None → IsKept t
-  pub stands : found ≡ None → Is t
-  pub back : (whole : PartType) → Is whole → (whole ≡ t) × (found ≡ None)
 
 -- the bits of literals
 
@@ -51,115 +47,103 @@ unowned_bits t = by_level (ty.Unowned t) (level.Unowned t) (ap out-TypeName (sym
 
 -- one level
 
-below_limit : (n : ℕ) → n ≤ 32 → nat_lt 32 n ≡ false
-below_limit n h = grind (arith, nat_tests)
+depth_kept : (depth : ℕ) (past : Bool) → nat_lt 32 depth ≡ past → depth ≤ 33 → (if past then depth else depth + 1) ≤ 33
+depth_kept depth true e h = h
+depth_kept depth false e h = grind (arith, nat_tests)
 
-one_more : (depth : ℕ) → depth ≤ 32 → deeper depth ≡ depth + 1
-one_more depth h = rw (below_limit depth h) refl
+kept_bits : (past : Bool) (t : TypeName) → HasBits t → HasBits (if past then ty.Tuple [] else t)
+kept_bits true t bits = tuple_bits []
+kept_bits false t bits = bits
 
-all_kept : (depth : ℕ) (t : TypeName) → depth + 1 ≤ 32 → kept (deeper depth) t ≡ t
-all_kept depth t h = rw (one_more depth (omega arith), below_limit (depth + 1) h) refl
+pub level_kept : (depth : ℕ) (t : TypeName) (first last : Place) → depth ≤ 33 → HasBits t → IsKept (one_deeper depth t first last)
+level_kept depth t first last h bits = record { limit = depth_kept depth (nat_lt 32 depth) refl h; bits = kept_bits (nat_lt 32 (deeper depth)) t bits }
 
-not_so : (test : Bool) (f : Fault) → (if test then Some f else None) ≡ None → test ≡ false
-not_so true f e = cc
-not_so false f e = refl
+pub questions_kept : (t : PartType) (questions : List Place) → IsKept t → IsKept (with_questions t questions)
+questions_kept t [] kept = kept
+questions_kept t (question ∷ questions) kept =
+    questions_kept (one_deeper t.depth (ty.Optional t.ty) t.first question) questions (level_kept t.depth (ty.Optional t.ty) t.first question kept.limit (optional_bits t.ty))
 
-has_room : (depth : ℕ) → depth ≤ 32 → (depth == 32) ≡ false → depth + 1 ≤ 32
-has_room depth h e = grind (arith, nat_tests)
+between_kept : (types : List TypeName) (depth : ℕ) (first last : Place) → depth ≤ 33 → AllByRecursion HasBits types → IsKept (between types depth first last)
+between_kept [] depth first last h bits = level_kept depth (ty.Tuple []) first last h (tuple_bits [])
+between_kept (t ∷ []) depth first last h bits = record { limit = h; bits = bits.0 }
+between_kept (t ∷ u ∷ types) depth first last h bits = level_kept depth (ty.Tuple (t ∷ u ∷ types)) first last h (tuple_bits (t ∷ u ∷ types))
 
-not_full : (depth : ℕ) → depth + 1 ≤ 32 → (depth == 32) ≡ false
-not_full depth h = grind (arith, nat_tests)
-
-room : (depth : ℕ) (last : Place) → depth ≤ 32 → too_deep depth last ≡ None → depth + 1 ≤ 32
-room depth last h e = has_room depth h (not_so (depth == 32) (fault (Limit limit.Depth) last) e)
-
-not_too_deep : (depth : ℕ) (last : Place) → depth + 1 ≤ 32 → too_deep depth last ≡ None
-not_too_deep depth last h = rw (not_full depth h) refl
-
-level_is : (depth : ℕ) (t : TypeName) (first last : Place) → depth + 1 ≤ 32 → IsDeeper depth t first last (one_deeper depth t first last)
-level_is depth t first last h = record {
-  limit = h;
-  same = ap₂ (λ (kept_type : TypeName) (n : ℕ). record { ty = kept_type; depth = n; first = first; last = last }) (all_kept depth t h) (one_more depth (omega arith));
-}
-
-level_back : (depth : ℕ) (t : TypeName) (first last : Place) (whole : PartType) → IsDeeper depth t first last whole → whole ≡ one_deeper depth t first last
-level_back depth t first last whole m = m.same ∙ sym (level_is depth t first last m.limit).same
-
-pub level_agrees : (depth : ℕ) (t : TypeName) (first last place : Place) → depth ≤ 32 → HasBits t
-    → AgreesOnType (too_deep depth place) (IsDeeper depth t first last) (one_deeper depth t first last)
-level_agrees depth t first last place h bits = record {
-  kept = λ e. let less : depth + 1 ≤ 32 = room depth place h e in record { limit = omega (arith, less, one_more depth h); bits = subst HasBits (sym (all_kept depth t less)) bits };
-  stands = λ e. level_is depth t first last (room depth place h e);
-  back = λ whole m. (level_back depth t first last whole m, not_too_deep depth place m.limit);
-}
-
--- the question marks behind a type
-
-next_depth : (t : PartType) (question : Place) → t.depth ≤ 32 → (one_deeper t.depth (ty.Optional t.ty) t.first question).depth ≡ t.depth + 1
-next_depth t question h = one_more t.depth h
-
-questions_kept : (t : PartType) (questions : List Place) → IsKept t → t.depth + length questions ≤ 32 → IsKept (with_questions t questions)
-questions_kept t [] kept h = kept
-questions_kept t (question ∷ questions) kept h =
-    let less : t.depth + 1 ≤ 32 = omega (arith, h) in
-    let deep = next_depth t question (omega (arith, h)) in
-    questions_kept (one_deeper t.depth (ty.Optional t.ty) t.first question) questions
-    (record { limit = omega (arith, less, deep); bits = subst HasBits (sym (all_kept t.depth (ty.Optional t.ty) less)) (optional_bits t.ty) })
-    (omega (arith, h, deep))
-
-questions_are : (t : PartType) (questions : List Place) → t.depth + length questions ≤ 32 → HasQuestions t questions (with_questions t questions)
-questions_are t [] h = refl
-questions_are t (question ∷ questions) h =
-    let next : PartType = one_deeper t.depth (ty.Optional t.ty) t.first question in
-    (next, level_is t.depth (ty.Optional t.ty) t.first question (omega (arith, h)), questions_are next questions (omega (arith, h, next_depth t question (omega (arith, h)))))
-
-questions_back : (t : PartType) (questions : List Place) (whole : PartType) → t.depth ≤ 32 → HasQuestions t questions whole → (whole ≡ with_questions t questions) × (t.depth + length questions ≤ 32)
-questions_back t [] whole h m = (m, omega (arith, h))
-questions_back t (question ∷ questions) whole h m =
-    let more : PartType = m.0 in
-    let deep : more.depth ≡ t.depth + 1 = ap (λ (x : PartType). x.depth) m.1.same in
-    let rest = questions_back more questions whole (omega (arith, deep, m.1.limit)) m.2 in
-    (rest.0 ∙ ap (λ (x : PartType). with_questions x questions) (level_back t.depth (ty.Optional t.ty) t.first question more m.1), omega (arith, deep, rest.1))
-
-few_questions : (depth : ℕ) (questions : List Place) → depth ≤ 32 → too_many_questions depth questions ≡ None → passed limit.Depth (32 - depth) questions ≡ None
-few_questions depth questions h e = rw (below_limit depth h) at e
-
-room_for : (depth : ℕ) (questions : List Place) → depth ≤ 32 → too_many_questions depth questions ≡ None → depth + length questions ≤ 32
-room_for depth questions h e =
-    let few : length questions ≤ 32 - depth = few_places limit.Depth (32 - depth) questions (few_questions depth questions h e) in
-    omega (arith, few, h)
-
-not_too_many : (depth : ℕ) (questions : List Place) → depth ≤ 32 → depth + length questions ≤ 32 → too_many_questions depth questions ≡ None
-not_too_many depth questions h few = rw (below_limit depth h) (no_places_past limit.Depth (32 - depth) questions (omega (arith, few)))
-
-pub questions_agree : (t : PartType) (questions : List Place) → IsKept t
-    → AgreesOnType (too_many_questions t.depth questions) (HasQuestions t questions) (with_questions t questions)
-questions_agree t questions kept = record {
-  kept = λ e. questions_kept t questions kept (room_for t.depth questions kept.limit e);
-  stands = λ e. questions_are t questions (room_for t.depth questions kept.limit e);
-  back = λ whole m. let b = questions_back t questions whole kept.limit m in (b.0, not_too_many t.depth questions kept.limit b.1);
-}
-
--- types between parentheses
-
-among_agrees : (types : List TypeName) (depth : ℕ) (first last : Place) → depth ≤ 32 → AllByRecursion HasBits types
-    → AgreesOnType (too_deep_among types depth last) (IsAmong types depth first last) (between types depth first last)
-among_agrees [] depth first last h bits = level_agrees depth (ty.Tuple []) first last last h (tuple_bits [])
-among_agrees (t ∷ []) depth first last h bits = record { kept = λ e. record { limit = h; bits = bits.0 }; stands = λ e. refl; back = λ whole m. (m, refl) }
-among_agrees (t ∷ u ∷ types) depth first last h bits = level_agrees depth (ty.Tuple (t ∷ u ∷ types)) first last last h (tuple_bits (t ∷ u ∷ types))
-
-pub parens_agree : (first : Place) (list : PartTypes) (last : Place) → AreKept list
-    → AgreesOnType (tuple_fault list last) (IsInParens first list last) (in_parens first list last)
-parens_agree first list last kept =
-    let a = among_agrees list.types list.depth first last kept.limit kept.bits in
-    record {
-      kept = λ e. a.kept (no_second _ _ e);
-      stands = λ e. (few_counted limit.Arguments 64 list.types list.firsts kept.counted (no_first _ _ e), a.stands (no_second _ _ e));
-      back = λ whole m. let b = a.back whole m.1 in (b.0, no_fault_of_two _ _ (none_past_counted limit.Arguments 64 list.types list.firsts kept.counted m.0) b.1);
-    }
+pub parens_kept : (first : Place) (list : PartTypes) (last : Place) → AreKept list → IsKept (in_parens first list last)
+parens_kept first list last kept = between_kept list.types list.depth first last kept.limit kept.bits
 
 pub kept_before : (t : PartType) (others : PartTypes) → IsKept t → AreKept others → AreKept (type_before t others)
-kept_before t others kept more = record { limit = omega (arith, kept.limit, more.limit); bits = (kept.bits, more.bits); counted = ap suc more.counted }
+kept_before t others kept more = record { limit = omega (arith, kept.limit, more.limit); bits = (kept.bits, more.bits) }
 
 pub none_kept : AreKept no_types
-none_kept = record { limit = omega arith; bits = tt; counted = refl }
+none_kept = record { limit = omega arith; bits = tt }
+
+-- what is at fault
+
+one_or_none : (test : Bool) (f : Fault) → first_of (if test then f ∷ [] else []) ≡ (if test then Some f else None)
+unfolding earlier
+one_or_none true f = refl
+one_or_none false f = refl
+
+pub level_found : (depth : ℕ) (last : Place) → first_of (too_deep_here depth last) ≡ too_deep depth last
+level_found depth last = one_or_none (depth == 32) (fault (Limit limit.Depth) last)
+
+among_found : (types : List TypeName) (depth : ℕ) (last : Place) → first_of (level_faults types depth last) ≡ too_deep_among types depth last
+among_found [] depth last = level_found depth last
+among_found (t ∷ []) depth last = refl
+among_found (t ∷ u ∷ types) depth last = level_found depth last
+
+pub parens_found : (list : PartTypes) (last : Place) → first_of (parens_faults list last) ≡ tuple_fault list last
+parens_found list last =
+    first-append (past limit.Arguments 64 list.firsts) (level_faults list.types list.depth last)
+    ∙ ap₂ earlier (first-option (passed limit.Arguments 64 list.firsts)) (among_found list.types list.depth last)
+
+-- past the limit nothing more is at fault
+over : (depth : ℕ) → 32 < depth → (nat_lt 32 depth ≡ true) × ((depth == 32) ≡ false)
+over depth h = (grind (arith, nat_tests), grind (arith, nat_tests))
+
+below : (depth : ℕ) → depth < 32 → (nat_lt 32 depth ≡ false) × ((depth == 32) ≡ false)
+below depth h = (grind (arith, nat_tests), grind (arith, nat_tests))
+
+none_over : (depth : ℕ) (questions : List Place) → 32 < depth → first_of (question_faults depth questions) ≡ None
+none_over depth [] h = refl
+none_over depth (question ∷ questions) h = let o = over depth h in rw (o.1, o.0) (none_over depth questions h)
+
+none_by : (over : Bool) (n : ℕ) → None ≡ (if over then None else passed limit.Depth n [])
+none_by true n = refl
+none_by false n = refl
+
+over_limit : (depth : ℕ) (questions : List Place) → 32 < depth → too_many_questions depth questions ≡ None
+over_limit depth questions h = rw (over depth h).0 refl
+
+at_thirty_two : (question : Place) (questions : List Place) → first_of (question_faults 32 (question ∷ questions)) ≡ too_many_questions 32 (question ∷ questions)
+unfolding earlier
+at_thirty_two question questions = ap (earlier (Some (fault (Limit limit.Depth) question))) (none_over 33 questions (omega arith))
+
+at_limit : (depth : ℕ) (question : Place) (questions : List Place) → depth ≡ 32
+    → first_of (question_faults depth (question ∷ questions)) ≡ too_many_questions depth (question ∷ questions)
+at_limit depth question questions e = subst (λ (n : ℕ). first_of (question_faults n (question ∷ questions)) ≡ too_many_questions n (question ∷ questions)) (sym e) (at_thirty_two question questions)
+
+under : (depth : ℕ) (question : Place) (questions : List Place) → depth < 32 → first_of (question_faults (depth + 1) questions) ≡ too_many_questions (depth + 1) questions
+    → first_of (question_faults depth (question ∷ questions)) ≡ too_many_questions depth (question ∷ questions)
+under depth question questions h more =
+    let u = below depth h in
+    let next : nat_lt 32 (depth + 1) ≡ false = grind (arith, nat_tests) in
+    let one : 32 - depth ≡ suc (32 - (depth + 1)) = omega (arith, h) in
+    let here : passed limit.Depth (32 - depth) (question ∷ questions) ≡ passed limit.Depth (32 - (depth + 1)) questions =
+    ap (λ (n : ℕ). passed limit.Depth n (question ∷ questions)) one in
+    let there : too_many_questions (depth + 1) questions ≡ passed limit.Depth (32 - (depth + 1)) questions =
+    ap (λ (over : Bool). if over then None else passed limit.Depth (32 - (depth + 1)) questions) next in
+    rw (u.1, u.0) (more ∙ there ∙ sym here)
+
+none_asked : (depth : ℕ) → None ≡ too_many_questions depth []
+none_asked depth = none_by (nat_lt 32 depth) (32 - depth)
+
+pub questions_found : (depth : ℕ) (questions : List Place) → first_of (question_faults depth questions) ≡ too_many_questions depth questions
+questions_found depth [] = none_asked depth
+questions_found depth (question ∷ questions) = elim (cases_order depth 32) [
+  | inl same ↦ at_limit depth question questions same
+  | inr other ↦ elim other [
+    | inl less ↦ under depth question questions less (questions_found (depth + 1) questions)
+    | inr more ↦ none_over depth (question ∷ questions) more ∙ sym (over_limit depth (question ∷ questions) more)
+  ]
+]

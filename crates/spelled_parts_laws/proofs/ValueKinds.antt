@@ -68,16 +68,14 @@ fields = record { Content = List WrittenField; value = λ x. v.Fields x }
 abbrev pub field : Kind
 field = record { Content = WrittenField; value = λ x. v.Field x }
 
--- a type that isn't too deep, and of which the replay reads literals by its own bits
+-- a type of which the replay reads literals by its own bits, and of a depth one past the limit at most
 pub record IsKept (t : PartType) : Type 0 where
-  pub limit : t.depth ≤ 32
+  pub limit : t.depth ≤ 33
   pub bits : HasBits t.ty
 
--- types with a place for each
 pub record AreKept (list : PartTypes) : Type 0 where
-  pub limit : list.depth ≤ 32
+  pub limit : list.depth ≤ 33
   pub bits : AllByRecursion HasBits list.types
-  pub counted : length list.types ≡ length list.firsts
 
 abbrev pub KeptType : Type 0
 KeptType = (t : PartType) × IsKept t
@@ -91,12 +89,11 @@ optional_type = record { Content = Option KeptType; value = optional (λ x. v.Ty
 abbrev pub types : Kind
 types = record { Content = (list : PartTypes) × AreKept list; value = λ x. v.Types x.0 }
 
--- parameters and results with a place for each
 abbrev pub params : Kind
-params = record { Content = (list : PartParams) × (length list.params ≡ length list.firsts); value = λ x. v.Params x.0 }
+params = record { Content = PartParams; value = λ x. v.Params x }
 
 abbrev pub givens : Kind
-givens = record { Content = (list : PartGivens) × (length list.givens ≡ length list.firsts); value = λ x. v.Givens x.0 }
+givens = record { Content = PartGivens; value = λ x. v.Givens x }
 
 abbrev pub tokens : Kind
 tokens = record { Content = List WrittenToken; value = λ x. v.Tokens x }

@@ -1,6 +1,7 @@
 pub mod Limits
-pub mod TypeParts
 pub mod RowParts
 pub mod Means
+pub mod Faults
+pub mod Reading
 pub mod Stands
 pub mod Laws

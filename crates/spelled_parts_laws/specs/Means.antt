@@ -1,7 +1,7 @@
 -- What each production of the grammar stands for, by what the parts of its body stand for: one line a production.
--- Where a limit is to be kept or a number to be in its range, the line says so.
+-- No limit is asked for here. A type past the limit on depth isn't kept: `()` stands in its place, of a depth past the limit.
+-- A number that is out of its range is none.
 use Rattle.std.specs.Prelude.{◌≡◌, ℕ, List, [], ◌∷◌, Some, None, true, false}
-use Rattle.std.specs.List.{flat_map}
 use Rattle.instruction_table.specs.Forms.{parts_of}
 use Rattle.sil_ast.specs.declared.debug.Binding.TheVariants as debugged
 use Rattle.sil_ast.specs.declared.decl.Storage.TheVariants as storage
@@ -14,26 +14,22 @@ use Rattle.sil_ast.specs.declared.signature.Passing.TheVariants as passing
 use Rattle.sil_ast.specs.declared.type_name.TypeName.TheVariants as ty
 use Rattle.sil_shape.specs.declared.grammar.Production.{Production}
 use Rattle.sil_shape.specs.declared.grammar.Production.TheVariants as p
-use Rattle.sil_rules.specs.declared.limits.TheConstants.{ARGUMENTS, BLOCKS, DECLARATIONS, FUNCTIONS, INSTRUCTIONS, MEMBERS, VALUES}
-use Rattle.written_modules.specs.Meaning.{with_import}
-use Rattle.written_modules.specs.Opened.{PartType, PartValue}
-use Rattle.written_modules.specs.Types.{named_type, one_token, type_before}
+use Rattle.written_numbers.specs.Numbers.{small_of}
+use Rattle.written_modules.specs.Leaves.{with_import}
+use Rattle.written_modules.specs.Opened.{PartValue}
+use Rattle.written_modules.specs.Types.{in_parens, named_type, one_deeper, one_token, type_before, with_questions}
 use Rattle.written_modules.specs.Values.{bare_inst, no_debug, no_givens, no_params, no_qualifier, no_types}
 use Rattle.written_modules.specs.Variants as v
-use Rattle.written_tree.specs.Places.{attribute_places, decl_names, function_names, mnemonics_of, values_of_block}
+use Rattle.written_tree.specs.declared.fault.Fault.{Fault}
 use Rattle.written_tree.specs.declared.written_declarations.WrittenDecl.TheVariants as decl
 use Rattle.written_tree.specs.declared.written_instructions.WrittenInst.{WrittenInst}
 use Rattle.written_tree.specs.declared.written_module.WrittenItem.TheVariants as item
-use Rattle.spelled_parts_laws.specs.Limits.{AreAtMost, IsNumberUpTo}
 use Rattle.spelled_parts_laws.specs.RowParts.{IsRow}
-use Rattle.spelled_parts_laws.specs.TypeParts.{HasQuestions, IsDeeper, IsInParens}
 
 unfoldable pub Means : Production → List PartValue → PartValue → Type 0
 -- a module: its stage, its imports and its items in order
 Means p.WholeModule (v.Stage s ∷ v.Imports imports ∷ v.Items items ∷ []) value =
-    AreAtMost DECLARATIONS (flat_map decl_names items)
-    × AreAtMost FUNCTIONS (flat_map function_names items)
-    × (value ≡ v.Module (record { stage = s; imports = imports; items = items }))
+    value ≡ v.Module (record { stage = s; imports = imports; items = items })
 -- a stage that isn't written is canonical
 Means p.StageSome (_ ∷ v.Stage s ∷ []) value = value ≡ v.Stage s
 Means p.StageNone [] value = value ≡ v.Stage stage.Canonical
@@ -45,17 +41,13 @@ Means p.ImportsEnd [] value = value ≡ v.Imports (record { builtin = false; swi
 Means p.ItemsMore (v.Item i ∷ v.Items others ∷ []) value = value ≡ v.Items (i ∷ others)
 Means p.ItemsEnd [] value = value ≡ v.Items []
 -- declarations: `final` is dropped
-Means p.FinalClass (_ ∷ _ ∷ v.Token name ∷ _ ∷ v.Fields fields ∷ _ ∷ []) value = AreAtMost MEMBERS fields × (value ≡ v.Item (item.Decl (decl.Class name fields)))
-Means p.PlainClass (_ ∷ v.Token name ∷ _ ∷ v.Fields fields ∷ _ ∷ []) value = AreAtMost MEMBERS fields × (value ≡ v.Item (item.Decl (decl.Class name fields)))
-Means p.StructItem (_ ∷ v.Token name ∷ _ ∷ v.Fields fields ∷ _ ∷ []) value = AreAtMost MEMBERS fields × (value ≡ v.Item (item.Decl (decl.Struct name fields)))
-Means p.EnumItem (_ ∷ v.Token name ∷ _ ∷ v.Cases cases ∷ _ ∷ []) value = AreAtMost MEMBERS cases × (value ≡ v.Item (item.Decl (decl.Enum name cases)))
+Means p.FinalClass (_ ∷ _ ∷ v.Token name ∷ _ ∷ v.Fields fields ∷ _ ∷ []) value = value ≡ v.Item (item.Decl (decl.Class name fields))
+Means p.PlainClass (_ ∷ v.Token name ∷ _ ∷ v.Fields fields ∷ _ ∷ []) value = value ≡ v.Item (item.Decl (decl.Class name fields))
+Means p.StructItem (_ ∷ v.Token name ∷ _ ∷ v.Fields fields ∷ _ ∷ []) value = value ≡ v.Item (item.Decl (decl.Struct name fields))
+Means p.EnumItem (_ ∷ v.Token name ∷ _ ∷ v.Cases cases ∷ _ ∷ []) value = value ≡ v.Item (item.Decl (decl.Enum name cases))
 -- a function: `[ossa]` is read with its attributes and isn't counted among them
 Means p.FunctionItem (_ ∷ v.Linkage l ∷ v.Tokens attributes ∷ v.Token name ∷ _ ∷ _ ∷ v.Signature s ∷ v.Blocks blocks ∷ []) value =
-    AreAtMost ARGUMENTS (attribute_places attributes)
-    × AreAtMost BLOCKS blocks
-    × AreAtMost INSTRUCTIONS (flat_map mnemonics_of blocks)
-    × AreAtMost VALUES (flat_map values_of_block blocks)
-    × (value ≡ v.Item (item.Function (record { name = name; linkage = l; attributes = attributes; signature = s; blocks = blocks })))
+    value ≡ v.Item (item.Function (record { name = name; linkage = l; attributes = attributes; signature = s; blocks = blocks }))
 -- a table of a class's deinitialiser, with an entry or without
 Means p.VtableItem (_ ∷ v.Token name ∷ _ ∷ v.Entry e ∷ _ ∷ []) value = value ≡ v.Item (item.Vtable (record { class_name = name; entry = Some e }))
 Means p.VtableItem (_ ∷ v.Token name ∷ _ ∷ v.Nothing ∷ _ ∷ []) value = value ≡ v.Item (item.Vtable (record { class_name = name; entry = None }))
@@ -93,16 +85,15 @@ Means p.PlainField (v.Field f ∷ []) value = value ≡ v.Field f
 Means p.CasesMore (_ ∷ v.Token name ∷ v.Type t ∷ v.Cases others ∷ []) value = value ≡ v.Cases (record { name = name; payload = Some t.ty } ∷ others)
 Means p.CasesMore (_ ∷ v.Token name ∷ v.Nothing ∷ v.Cases others ∷ []) value = value ≡ v.Cases (record { name = name; payload = None } ∷ others)
 Means p.CasesEnd [] value = value ≡ v.Cases []
-Means p.PayloadSome (v.Token left ∷ v.Type t ∷ v.Types others ∷ v.Token right ∷ []) value =
-    (whole : PartType) × IsInParens left.place (type_before t others) right.place whole × (value ≡ v.Type whole)
+Means p.PayloadSome (v.Token left ∷ v.Type t ∷ v.Types others ∷ v.Token right ∷ []) value = value ≡ v.Type (in_parens left.place (type_before t others) right.place)
 Means p.PayloadNone [] value = value ≡ v.Nothing
 -- types: one type in parentheses is that type, and `T?` is `Optional<T>`
 Means p.BareType (v.Type t ∷ []) value = value ≡ v.Type t
 Means p.ParenType (v.Token left ∷ v.Types types ∷ v.Token right ∷ v.Questions questions ∷ []) value =
-    (inside whole : PartType) × IsInParens left.place types right.place inside × HasQuestions inside questions whole × (value ≡ v.Type whole)
-Means p.BaseOpen (v.Type t ∷ v.Questions questions ∷ []) value = (whole : PartType) × HasQuestions t questions whole × (value ≡ v.Type whole)
-Means p.WeakOpen (v.Token word ∷ v.Type t ∷ []) value = (whole : PartType) × IsDeeper t.depth (ty.Weak t.ty) word.place t.last whole × (value ≡ v.Type whole)
-Means p.UnownedOpen (v.Token word ∷ v.Type t ∷ []) value = (whole : PartType) × IsDeeper t.depth (ty.Unowned t.ty) word.place t.last whole × (value ≡ v.Type whole)
+    value ≡ v.Type (with_questions (in_parens left.place types right.place) questions)
+Means p.BaseOpen (v.Type t ∷ v.Questions questions ∷ []) value = value ≡ v.Type (with_questions t questions)
+Means p.WeakOpen (v.Token word ∷ v.Type t ∷ []) value = value ≡ v.Type (one_deeper t.depth (ty.Weak t.ty) word.place t.last)
+Means p.UnownedOpen (v.Token word ∷ v.Type t ∷ []) value = value ≡ v.Type (one_deeper t.depth (ty.Unowned t.ty) word.place t.last)
 Means p.QuestionsMore (v.Token question ∷ v.Questions others ∷ []) value = value ≡ v.Questions (question.place ∷ others)
 Means p.QuestionsEnd [] value = value ≡ v.Questions []
 -- `Builtin` and `Optional` name a type by themselves, or begin a longer one
@@ -113,7 +104,7 @@ Means p.OptionalBase (v.Token word ∷ v.Nothing ∷ []) value = value ≡ v.Typ
 Means p.NamedBase (v.Token word ∷ []) value = value ≡ v.Type (named_type word)
 Means p.BuiltinInt (_ ∷ v.Type t ∷ []) value = value ≡ v.Type t
 Means p.BuiltinName [] value = value ≡ v.Nothing
-Means p.OptionalOf (v.Token left ∷ v.Type t ∷ v.Token right ∷ []) value = (whole : PartType) × IsDeeper t.depth (ty.Optional t.ty) left.place right.place whole × (value ≡ v.Type whole)
+Means p.OptionalOf (v.Token left ∷ v.Type t ∷ v.Token right ∷ []) value = value ≡ v.Type (one_deeper t.depth (ty.Optional t.ty) left.place right.place)
 Means p.OptionalName [] value = value ≡ v.Nothing
 Means p.Width1 (v.Token word ∷ []) value = value ≡ v.Type (one_token (ty.Int 1) word.place)
 Means p.Width8 (v.Token word ∷ []) value = value ≡ v.Type (one_token (ty.Int 8) word.place)
@@ -133,9 +124,7 @@ Means p.LinkagePlain [] value = value ≡ v.Linkage linkage.Plain
 Means p.AttributesMore (_ ∷ v.Token word ∷ _ ∷ v.Tokens others ∷ []) value = value ≡ v.Tokens (word ∷ others)
 Means p.AttributesEnd [] value = value ≡ v.Tokens []
 Means p.WholeFunctionType (_ ∷ _ ∷ v.Convention c ∷ _ ∷ _ ∷ v.Params params ∷ _ ∷ _ ∷ v.Givens results ∷ []) value =
-    AreAtMost ARGUMENTS params.params
-    × AreAtMost ARGUMENTS results.givens
-    × (value ≡ v.Signature (record { convention = c; params = params.params; results = results.givens }))
+    value ≡ v.Signature (record { convention = c; params = params.params; results = results.givens })
 Means p.Thin (_ ∷ []) value = value ≡ v.Convention convention.Thin
 Means p.Method (_ ∷ []) value = value ≡ v.Convention convention.Method
 Means p.ParamsSome (v.Param x first ∷ v.Params others ∷ []) value = value ≡ v.Params (record { params = x ∷ others.params; firsts = first ∷ others.firsts })
@@ -162,7 +151,7 @@ Means p.BodyNone [] value = value ≡ v.Blocks []
 Means p.BlocksMore (v.Block b ∷ v.Blocks others ∷ []) value = value ≡ v.Blocks (b ∷ others)
 Means p.BlocksEnd [] value = value ≡ v.Blocks []
 Means p.WholeBlock (v.Token label ∷ v.Args args ∷ _ ∷ v.Code insts terminator ∷ []) value =
-    AreAtMost ARGUMENTS args × (value ≡ v.Block (record { label = label; args = args; insts = insts; terminator = terminator }))
+    value ≡ v.Block (record { label = label; args = args; insts = insts; terminator = terminator })
 Means p.BlockArgsSome (_ ∷ v.Arg a ∷ v.Args others ∷ _ ∷ []) value = value ≡ v.Args (a ∷ others)
 Means p.BlockArgsNone [] value = value ≡ v.Args []
 Means p.MoreBlockArgsMore (_ ∷ v.Arg a ∷ v.Args others ∷ []) value = value ≡ v.Args (a ∷ others)
@@ -179,7 +168,7 @@ Means p.StarNone [] value = value ≡ v.Nothing
 Means p.CodeInst (v.Inst i ∷ v.Code insts terminator ∷ []) value = value ≡ v.Code (i ∷ insts) terminator
 Means p.CodeEnd (v.Inst terminator ∷ []) value = value ≡ v.Code [] terminator
 Means p.InstOneName (v.Token name ∷ _ ∷ v.Inst i ∷ []) value = value ≡ v.Inst (record i { results = name ∷ [] })
-Means p.InstNames (_ ∷ v.Tokens names ∷ _ ∷ _ ∷ v.Inst i ∷ []) value = AreAtMost ARGUMENTS names × (value ≡ v.Inst (record i { results = names }))
+Means p.InstNames (_ ∷ v.Tokens names ∷ _ ∷ _ ∷ v.Inst i ∷ []) value = value ≡ v.Inst (record i { results = names })
 Means p.InstUnnamed (v.Inst i ∷ []) value = value ≡ v.Inst i
 Means p.NamesSome (v.Token name ∷ v.Tokens others ∷ []) value = value ≡ v.Tokens (name ∷ others)
 Means p.NamesNone [] value = value ≡ v.Tokens []
@@ -187,7 +176,7 @@ Means p.MoreNamesMore (_ ∷ v.Token name ∷ v.Tokens others ∷ []) value = va
 Means p.MoreNamesEnd [] value = value ≡ v.Tokens []
 -- the row of an instruction: its mnemonic, and the parts that the table of instructions gives it
 Means (p.Row o) (v.Token mnemonic ∷ parts) value =
-    (inst : WrittenInst) × IsRow o (parts_of o) parts (bare_inst o mnemonic.place) inst × (value ≡ v.Inst inst)
+    (inst : WrittenInst) × (faults : List Fault) × IsRow o (parts_of o) parts (bare_inst o mnemonic.place) inst faults × (value ≡ v.Inst inst)
 -- operands
 Means p.WholeOperand (v.Token name ∷ _ ∷ _ ∷ v.Star ∷ v.Type t ∷ []) value = value ≡ v.Operand (record { name = name; ty = Some (ty.Address t.ty) })
 Means p.WholeOperand (v.Token name ∷ _ ∷ _ ∷ v.Nothing ∷ v.Type t ∷ []) value = value ≡ v.Operand (record { name = name; ty = Some t.ty })
@@ -200,7 +189,7 @@ Means p.BareNamesNone [] value = value ≡ v.Tokens []
 Means p.EnumOperandSome (_ ∷ v.Operand o ∷ []) value = value ≡ v.Operands (o ∷ [])
 Means p.EnumOperandNone [] value = value ≡ v.Operands []
 -- the blocks that a terminator goes to
-Means p.WholeEdge (v.Token label ∷ v.Operands args ∷ []) value = AreAtMost ARGUMENTS args × (value ≡ v.Edge (record { label = label; args = args; case_of = None }))
+Means p.WholeEdge (v.Token label ∷ v.Operands args ∷ []) value = value ≡ v.Edge (record { label = label; args = args; case_of = None })
 Means p.EdgeArgsSome (_ ∷ v.Operand o ∷ v.Operands others ∷ _ ∷ []) value = value ≡ v.Operands (o ∷ others)
 Means p.EdgeArgsNone [] value = value ≡ v.Operands []
 Means p.SwitchCase (_ ∷ v.Member m ∷ _ ∷ v.Token label ∷ v.Edges others ∷ []) value = value ≡ v.Edges (record { label = label; args = []; case_of = Some m } ∷ others)
@@ -247,7 +236,7 @@ Means p.DebugName (_ ∷ v.Token text ∷ v.Debug d ∷ []) value = value ≡ v.
 Means p.DebugNoName (v.Debug d ∷ []) value = value ≡ v.Debug d
 Means p.DebugAfterNameSome (_ ∷ v.Debug d ∷ []) value = value ≡ v.Debug d
 Means p.DebugAfterNameNone [] value = value ≡ v.Debug no_debug
-Means p.DebugNumber (_ ∷ v.Token spelling ∷ v.Debug d ∷ []) value = (n : ℕ) × IsNumberUpTo 65535 spelling.text n × (value ≡ v.Debug (record d { argno = Some n }))
+Means p.DebugNumber (_ ∷ v.Token spelling ∷ v.Debug d ∷ []) value = value ≡ v.Debug (record d { argno = small_of 65535 spelling.text })
 Means p.DebugNoNumber (v.Debug d ∷ []) value = value ≡ v.Debug d
 Means p.DebugAfterNumberSome (_ ∷ v.Debug d ∷ []) value = value ≡ v.Debug d
 Means p.DebugAfterNumberNone [] value = value ≡ v.Debug no_debug

@@ -25,7 +25,7 @@ use Rattle.written_modules.specs.Meaning.{meaning}
 use Rattle.written_modules.specs.PartFaults.{part_fault}
 use Rattle.written_modules.specs.Replay.{first_fault, parts_of, reduced, replay}
 use Rattle.written_modules.specs.Types.{tailed}
-use Rattle.written_modules.specs.Values.{token_of, stage_of, imports_of, items_of, item_of, fields_of, field_of, field_before, cases_of, type_of, payload_of, types_of, questions_of, linkage_of, tokens_of, convention_of, params_of, param_before, givens_of, given_before, signature_of, blocks_of, block_of, args_of, arg_of, ownership_of, starred, insts_of, terminator_of, inst_of, operands_of, operand_of, edges_of, edge_of, member_of, flags_of, qualifier_of, debug_of, entry_of}
+use Rattle.written_modules.specs.Values.{no_token, token_of, stage_of, imports_of, items_of, item_of, fields_of, field_of, field_before, cases_of, type_of, payload_of, types_of, questions_of, linkage_of, tokens_of, convention_of, params_of, param_before, givens_of, given_before, signature_of, blocks_of, block_of, args_of, arg_of, ownership_of, starred, insts_of, terminator_of, inst_of, operands_of, operand_of, edges_of, edge_of, member_of, flags_of, qualifier_of, debug_of, entry_of}
 
 lacking-part : (part : Nonterminal) → lacking (Part part) ≡ meaning (shortest part) (map lacking (body (shortest part)))
 unfolding lacking lacking_within shortest body row_body parts_row symbols_of comma_behind meaning tailed token_of stage_of imports_of items_of item_of fields_of field_of field_before cases_of type_of payload_of types_of questions_of linkage_of tokens_of convention_of params_of param_before givens_of given_before signature_of blocks_of block_of args_of arg_of ownership_of starred insts_of terminator_of inst_of operands_of operand_of edges_of edge_of member_of flags_of qualifier_of debug_of entry_of
@@ -52,7 +52,7 @@ reduced-behind p own bs e =
 pub replay_lacking : {ss : List Symbol} {steps : List Step} → Shortens ss steps → replay steps [] ≡ map lacking ss
 unfolding lacking lacking_within
 replay_lacking written = refl
-replay_lacking (step (Read t) h) = ap (λ values. v.Nothing ∷ values) (replay_lacking h)
+replay_lacking (step (Read t) h) = ap (λ values. v.Token no_token ∷ values) (replay_lacking h)
 replay_lacking (step {ss = ss} (Part part) h) =
     let bodies : List Value = map lacking (body (shortest part)) in
     ap (reduced (shortest part)) (replay_lacking h ∙ map-append lacking (body (shortest part)) ss)

@@ -10,12 +10,13 @@ use Rattle.sil_lexer.specs.Lexes.{Lexeme}
 use Rattle.sil_lexer.specs.Lexing.{Lexing, lexeme_of, lexemes_of, spelling_of, IsInside, IsLexingOf}
 use Rattle.written_modules.specs.declared.value.Value.{Value}
 use Rattle.written_modules.specs.declared.value.Value.TheVariants as v
-use Rattle.written_modules.specs.Meaning.{leaf_of}
+use Rattle.written_modules.specs.Leaves.{leaf_of}
 use Rattle.written_modules.specs.Replay.{IsLeafAt}
+use Rattle.written_modules.specs.Values.{no_token}
 
--- what a step that takes a token stands for: the first of the tokens that are left, or nothing where none is left
+-- what a step that takes a token stands for: the first of the tokens that are left, or an empty one where none is left
 abbrev pub taken : List Lexeme → Value
-taken [] = v.Nothing
+taken [] = v.Token no_token
 taken (l ∷ lexemes) = leaf_of l
 
 pub some_token : Token

@@ -1,4 +1,4 @@
--- What a symbol stands for in its shortest text, where all tokens are lacking.
+-- What the replay makes of a symbol in its shortest text, where all tokens are lacking.
 use Rattle.std.specs.Prelude.{ℕ, zero, suc, ◌≡◌, ◌≤◌, List, ◌++◌, length, map}
 use Rattle.sil_shape.specs.declared.grammar.Symbol.{Symbol}
 use Rattle.sil_shape.specs.declared.grammar.Symbol.TheVariants.{Read, Part}
@@ -7,11 +7,12 @@ use Rattle.sil_shape.specs.Shortest.{shortest}
 use Rattle.written_modules.specs.declared.value.Value.{Value}
 use Rattle.written_modules.specs.declared.value.Value.TheVariants as v
 use Rattle.written_modules.specs.Meaning.{meaning}
+use Rattle.written_modules.specs.Values.{no_token}
 
 -- down to so many levels of parts
 unfoldable pub lacking_within : ℕ → Symbol → Value
 lacking_within zero s = v.Nothing
-lacking_within (suc n) (Read t) = v.Nothing
+lacking_within (suc n) (Read t) = v.Token no_token
 lacking_within (suc n) (Part part) = meaning (shortest part) (map (lacking_within n) (body (shortest part)))
 
 -- no shortest text has as many levels

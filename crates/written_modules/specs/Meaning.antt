@@ -1,23 +1,16 @@
--- What the parts of a text stand for: a token by its bytes and its place, and a production by what the parts of its
--- body stand for.
-use Rattle.std.specs.Prelude.{ℕ, List, [], ◌∷◌, Bool, true, false, ◌||◌, Some, None, codes, nat_eq}
-use Rattle.std.specs.Cmp.Lexicographic.{pointwise}
+-- What the parts of a text come to in the replay: a production by what the parts of its body come to.
+use Rattle.std.specs.Prelude.{ℕ, List, [], ◌∷◌, Bool, true, false, Some, None}
 use Rattle.sil_ast.specs.declared.debug.Binding.TheVariants as debugged
 use Rattle.sil_ast.specs.declared.decl.Storage.TheVariants as storage
 use Rattle.sil_ast.specs.declared.function.ArgKind.TheVariants as kind
 use Rattle.sil_ast.specs.declared.function.Linkage.TheVariants as linkage
 use Rattle.sil_ast.specs.declared.inst.Qualifier.{Qualifier}
 use Rattle.sil_ast.specs.declared.inst.Qualifier.TheVariants as qualifier
-use Rattle.sil_ast.specs.declared.module.Imports.{Imports}
 use Rattle.sil_ast.specs.declared.module.Stage.TheVariants as stage
 use Rattle.sil_ast.specs.declared.signature.Convention.TheVariants as convention
 use Rattle.sil_ast.specs.declared.signature.Passing.TheVariants as passing
 use Rattle.sil_ast.specs.declared.signature.Passing.{Passing}
 use Rattle.sil_ast.specs.declared.type_name.TypeName.TheVariants as ty
-use Rattle.sil_lexer.specs.Lexes.{Lexeme}
-use Rattle.sil_lexer.specs.Spelling.{without_quotes, without_sigil}
-use Rattle.sil_lexer.specs.declared.token.TokenKind.{TokenKind}
-use Rattle.sil_lexer.specs.declared.token.TokenKind.TheVariants as token
 use Rattle.sil_shape.specs.declared.grammar.Production.{Production}
 use Rattle.sil_shape.specs.declared.grammar.Production.TheVariants as p
 use Rattle.written_numbers.specs.Numbers.{small_of}
@@ -25,32 +18,11 @@ use Rattle.written_modules.specs.declared.value.Value.{Value}
 use Rattle.written_modules.specs.declared.value.Value.TheVariants as v
 use Rattle.written_tree.specs.declared.written_declarations.WrittenDecl.TheVariants as decl
 use Rattle.written_tree.specs.declared.written_module.WrittenItem.TheVariants as item
+pub use Rattle.written_modules.specs.Leaves.{kept_of, leaf_of, with_import}
 use Rattle.written_modules.specs.Parts.{part, place_at, text_at}
 use Rattle.written_modules.specs.RowMeaning.{row}
 use Rattle.written_modules.specs.Types.{in_parens, with_questions, named_type, one_deeper, one_token, tailed, type_before}
 use Rattle.written_modules.specs.Values.{token_of, stage_of, imports_of, items_of, item_of, fields_of, field_of, field_before, cases_of, type_of, payload_of, types_of, questions_of, linkage_of, tokens_of, convention_of, params_of, param_before, givens_of, given_before, signature_of, blocks_of, block_of, args_of, arg_of, ownership_of, starred, insts_of, terminator_of, inst_of, operands_of, operand_of, edges_of, member_of, flags_of, debug_of, entry_of, no_debug, no_givens, no_params, no_qualifier, no_types}
-
--- what is kept of a token's bytes
-unfoldable pub kept_of : TokenKind → List ℕ → List ℕ
-kept_of token.Word spelling = spelling
-kept_of token.AtName spelling = without_sigil spelling
-kept_of token.Percent spelling = without_sigil spelling
-kept_of token.Number spelling = spelling
-kept_of token.Text spelling = without_quotes spelling
-kept_of token.Punctuation spelling = []
-
-abbrev pub leaf_of : Lexeme → Value
-leaf_of l = v.Token (record { text = kept_of l.kind l.spelling; place = l.place })
-
--- of the imports these two are kept
-abbrev pub is_text : List ℕ → List ℕ → Bool
-is_text = pointwise nat_eq
-
-abbrev pub with_import : List ℕ → Imports → Imports
-with_import name imports = record {
-  builtin = is_text name (codes "Builtin") || imports.builtin;
-  swift = is_text name (codes "Swift") || imports.swift;
-}
 
 -- `var f: T`
 abbrev pub binding : List Value → Value

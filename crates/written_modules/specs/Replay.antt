@@ -13,8 +13,10 @@ use Rattle.written_modules.specs.declared.value.Value.{Value}
 use Rattle.written_modules.specs.declared.value.Value.TheVariants as v
 use Rattle.written_tree.specs.declared.written_module.WrittenModule.{WrittenModule}
 use Rattle.written_tree.specs.Faults.{earlier}
-use Rattle.written_modules.specs.Meaning.{kept_of, leaf_of, meaning}
+use Rattle.written_modules.specs.Leaves.{kept_of, leaf_of}
+use Rattle.written_modules.specs.Meaning.{meaning}
 use Rattle.written_modules.specs.PartFaults.{part_fault}
+use Rattle.written_modules.specs.Values.{no_token}
 
 -- the values of the parts that a production has
 abbrev pub parts_of : Production → List Value → List Value
@@ -24,10 +26,10 @@ parts_of p values = take (length (body p)) values
 unfoldable pub reduced : Production → List Value → List Value
 reduced p values = meaning p (parts_of p values) ∷ drop (length (body p)) values
 
--- where more tokens are taken than there are, those that are lacking stand for nothing
+-- where more tokens are taken than there are, those that are lacking are empty, and stand behind every token
 abbrev pub replay : List Step → List Lexeme → List Value
 replay [] lexemes = []
-replay (Take ∷ steps) [] = v.Nothing ∷ replay steps []
+replay (Take ∷ steps) [] = v.Token no_token ∷ replay steps []
 replay (Take ∷ steps) (l ∷ lexemes) = leaf_of l ∷ replay steps lexemes
 replay (Expand p ∷ steps) lexemes = reduced p (replay steps lexemes)
 

@@ -8,6 +8,7 @@ ghost use Rattle.sil_shape.specs.Values.{IsEnough};
 ghost use Rattle.written_modules.specs.Lacking.{lacking, Fills};
 ghost use Rattle.written_modules.specs.Replay.{replay};
 
+use crate::nothing::no_token;
 use crate::prepended::Prepended;
 use crate::reduce::reduce;
 use crate::value::Value;
@@ -27,7 +28,7 @@ fn replay_lacking(alloc: Global, steps: &[Step]) -> Result<Prepended<Value>, Exh
     let mut values = Prepended::new(alloc);
     for i in (0..steps.len()).rev() {
         match steps[i] {
-            Step::Take => values.push_front(Value::Nothing)?,
+            Step::Take => values.push_front(Value::Token(no_token(alloc)))?,
             Step::Expand(production) => {
                 let made = reduce(alloc, production, &mut values)?;
                 values.push_front(made.value)?;
@@ -56,7 +57,7 @@ fn lacking(alloc: Global, symbol: Symbol) -> Result<Value, Exhausted>
     ensures { IfOk result (λ value. value ≡ lacking symbol) }
 {
     match symbol {
-        Symbol::Read(_) => Ok(Value::Nothing),
+        Symbol::Read(_) => Ok(Value::Token(no_token(alloc))),
         Symbol::Part(part) => lacking_part(alloc, part),
     }
 }

@@ -3,7 +3,7 @@
 ghost use Rattle.std.specs.Prelude.{◌≡◌, ◌+◌, ◌<◌, ◌≤◌, length, slice_range, IfOk};
 ghost use Rattle.sil_lexer.specs.Lexing.{IsLexingOf};
 ghost use Rattle.sil_lexer.specs.Spelling.{without_quotes, without_sigil};
-ghost use Rattle.written_modules.specs.Meaning as meant;
+ghost use Rattle.written_modules.specs.Leaves as meant;
 ghost use Rattle.written_modules.specs.Replay.{IsKeptAt, IsLeafAt};
 
 use crate::value::Value;
@@ -37,7 +37,7 @@ fn without_quotes(text: &Rc<Vec<u8>>, from: usize, count: usize) -> Result<Spell
 }
 
 /// What is kept of a token's bytes. Those of punctuation aren't looked at.
-#[tactic(auto, unfolding(crate::specs::Meaning::kept_of))]
+#[tactic(auto, unfolding(crate::specs::Leaves::kept_of))]
 fn kept_of(
     kind: TokenKind,
     text: &Rc<Vec<u8>>,
