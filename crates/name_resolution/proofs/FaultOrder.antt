@@ -5,9 +5,9 @@ use Rattle.std.proofs.lemmas.Bool.Decides.{nat_tests}
 use Rattle.written_tree.specs.declared.fault.Fault.{Fault}
 use Rattle.written_tree.specs.declared.written_declarations.WrittenToken.{WrittenToken}
 use Rattle.written_tree.specs.Faults.{comes_before, earlier, earliest, rank}
-use Rattle.name_resolution.specs.Defined.{unknown_of}
 use Rattle.name_resolution.specs.NameFaults.{unknown_in}
 use Rattle.name_resolution.specs.Names.{Name}
+use Rattle.name_resolution.specs.Symbols.{unknown_of}
 
 pub earlier_none : (a : Option Fault) → earlier a None ≡ a
 unfolding earlier
@@ -54,5 +54,6 @@ unfolding earlier
 unknown_of_append names [] ys = refl
 unknown_of_append names (x ∷ xs) ys = ap (earlier (unknown_in names x)) (unknown_of_append names xs ys) ∙ sym (earlier_assoc (unknown_in names x) (unknown_of names xs) (unknown_of names ys))
 
-pub unknown_of_one : (names : List Name) (x : WrittenToken) → unknown_of names (x ∷ []) ≡ unknown_in names x
-unknown_of_one names x = earlier_none (unknown_in names x)
+-- with more that is used behind
+pub unknown_more : (names : List Name) (first : Option Fault) (xs ys : List WrittenToken) → earlier (earlier first (unknown_of names xs)) (unknown_of names ys) ≡ earlier first (unknown_of names (xs ++ ys))
+unknown_more names first xs ys = earlier_assoc first (unknown_of names xs) (unknown_of names ys) ∙ ap (earlier first) (sym (unknown_of_append names xs ys))

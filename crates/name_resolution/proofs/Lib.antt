@@ -1,4 +1,6 @@
 pub mod DefinedNames
+pub mod FaultLemmas
 pub mod FaultOrder
 pub mod NumberLemmas
 pub mod ResolvedLemmas
+pub mod SymbolLemmas

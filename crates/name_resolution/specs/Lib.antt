@@ -1,8 +1,8 @@
-pub mod Defined
+pub mod FirstFaults
 pub mod Items
 pub mod NameFaults
 pub mod Names
-pub mod Numbered
 pub mod Refusals
 pub mod Resolved
+pub mod Symbols
 pub mod Tables

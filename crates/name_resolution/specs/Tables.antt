@@ -5,14 +5,14 @@ use Rattle.std.specs.Str.{bytes_eq}
 use Rattle.written_tree.specs.declared.written_functions.WrittenBlock.{WrittenBlock}
 use Rattle.written_tree.specs.declared.written_module.WrittenItem.{WrittenItem}
 use Rattle.name_resolution.specs.Names.{Name, function_name, functions_of, label_of, name_of}
-use Rattle.name_resolution.specs.Numbered.{Numbered, number_in}
 use Rattle.name_resolution.specs.Resolved.{Scope, defined_in, has_name}
+use Rattle.name_resolution.specs.Symbols.{Symbols, number_in}
 
 -- a look-up finds the place of a name in this list
-abbrev pub FindsNames : Numbered → List Name → Type 0
+abbrev pub FindsNames : Symbols → List Name → Type 0
 FindsNames n names = (name : Name) → number_in n name ≡ unwrap_or (position (bytes_eq name) names) 0
 
-abbrev pub FindsValues : Numbered → List (Option Name) → Type 0
+abbrev pub FindsValues : Symbols → List (Option Name) → Type 0
 FindsValues n values = (name : Name) → number_in n name ≡ unwrap_or (position (has_name name) values) 0
 
 -- the names by which functions are looked up
@@ -24,7 +24,7 @@ abbrev pub scope_in : List Name → List WrittenBlock → Scope
 scope_in functions blocks = record { functions = functions; blocks = map (λ b. name_of (label_of b)) blocks; values = flat_map defined_in blocks }
 
 -- look-ups find the places of functions, blocks and values
-pub record FindsScope (f b v : Numbered) (s : Scope) : Type 0 where
+pub record FindsScope (f b v : Symbols) (s : Scope) : Type 0 where
   pub functions : FindsNames f s.functions
   pub blocks : FindsNames b s.blocks
   pub values : FindsValues v s.values

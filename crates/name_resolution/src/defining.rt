@@ -1,12 +1,14 @@
-//! Goes through the names that a module defines, in the order of the text.
+//! Goes through the names that a module defines, in the order of the text, and makes the table of each scope.
 
-ghost use Rattle.std.specs.Prelude.{◌≡◌, [], map, IfOk, OnOk};
+ghost use Rattle.std.specs.Prelude.{◌≡◌, [], length, map, IfOk, OnOk};
 ghost use Rattle.std.specs.List.{flat_map};
 ghost use Rattle.written_tree.specs.Places.{name_of_decl};
-ghost use Rattle.name_resolution.specs.Defined.{reserved_only, with_tokens};
-ghost use Rattle.name_resolution.specs.Names.{arg_name, case_name, decls_of, field_name, function_name, functions_of, label_of, member_names, reserved, results_of, values_defined, vtable_name, vtables_of};
+ghost use Rattle.name_resolution.specs.Names.{arg_name, case_name, decls_of, field_name, function_name, functions_of, label_of, member_names, reserved, vtable_name, vtables_of};
+ghost use Rattle.name_resolution.specs.Resolved.{defined_by_inst};
+ghost use Rattle.name_resolution.specs.Symbols.{definitions_by, definitions_in, labels_in, numbered, numbered_by, unnumbered, unnumbered_after, values_in, with_definitions};
 
-use crate::definitions::Definitions;
+use crate::symbol_table::SymbolTable;
+use instruction_table::has_one_result;
 use sil_ast::{Exhausted, Imports};
 use std::alloc::Global;
 use written_tree::{
@@ -19,136 +21,172 @@ pub(crate) fn declared(
     alloc: Global,
     imports: Imports,
     items: &[WrittenItem],
-) -> Result<Definitions, Exhausted>
-    ensures { IfOk result (λ d. d ≡ with_tokens (reserved_only (reserved imports)) (map name_of_decl (flat_map decls_of items.now))) }
+) -> Result<SymbolTable, Exhausted>
+    ensures { IfOk result (λ t. t ≡ unnumbered_after (reserved imports) (map name_of_decl (flat_map decls_of items.now))) }
 {
-    let mut defined = Definitions::of_imports(alloc, imports)?;
+    let mut table = SymbolTable::of_imports(alloc, imports)?;
     for item in items {
         if let WrittenItem::Decl(decl) = item {
-            defined.define(decl.name())?;
+            table.define_unnumbered(decl.name())?;
         }
     }
-    Ok(defined)
+    Ok(table)
 }
 
-pub(crate) fn defined_functions(
-    alloc: Global,
-    items: &[WrittenItem],
-) -> Result<Definitions, Exhausted>
-    ensures { IfOk result (λ d. d ≡ with_tokens (reserved_only []) (map function_name (flat_map functions_of items.now))) }
+pub(crate) fn functions(alloc: Global, items: &[WrittenItem]) -> Result<SymbolTable, Exhausted>
+    ensures { IfOk result (λ t. t ≡ numbered_by (map function_name (flat_map functions_of items.now))) }
 {
-    let mut defined = Definitions::new(alloc);
+    let mut table = SymbolTable::with_capacity(alloc, items.len())?;
     for item in items {
         if let WrittenItem::Function(function) = item {
-            defined.define(&function.name)?;
+            table.define(&function.name)?;
         }
     }
-    Ok(defined)
+    Ok(table)
 }
 
 /// The classes that have a vtable.
 pub(crate) fn classes_of_vtables(
     alloc: Global,
     items: &[WrittenItem],
-) -> Result<Definitions, Exhausted>
-    ensures { IfOk result (λ d. d ≡ with_tokens (reserved_only []) (map vtable_name (flat_map vtables_of items.now))) }
+) -> Result<SymbolTable, Exhausted>
+    ensures { IfOk result (λ t. t ≡ unnumbered_after [] (map vtable_name (flat_map vtables_of items.now))) }
 {
-    let mut defined = Definitions::new(alloc);
+    let mut table = SymbolTable::with_capacity(alloc, 0)?;
     for item in items {
         if let WrittenItem::Vtable(vtable) = item {
-            defined.define(&vtable.class_name)?;
+            table.define_unnumbered(&vtable.class_name)?;
         }
     }
-    Ok(defined)
+    Ok(table)
 }
 
-pub(crate) fn defined_members(alloc: Global, decl: &WrittenDecl) -> Result<Definitions, Exhausted>
-    ensures { IfOk result (λ d. d ≡ with_tokens (reserved_only []) (member_names decl.now)) }
+pub(crate) fn members(alloc: Global, decl: &WrittenDecl) -> Result<SymbolTable, Exhausted>
+    ensures { IfOk result (λ t. t ≡ unnumbered_after [] (member_names decl.now)) }
 {
     match decl {
-        WrittenDecl::Class { fields, .. } => defined_fields(alloc, fields.as_slice()),
-        WrittenDecl::Struct { fields, .. } => defined_fields(alloc, fields.as_slice()),
-        WrittenDecl::Enum { cases, .. } => defined_cases(alloc, cases.as_slice()),
+        WrittenDecl::Class { fields, .. } => names_of_fields(alloc, fields.as_slice()),
+        WrittenDecl::Struct { fields, .. } => names_of_fields(alloc, fields.as_slice()),
+        WrittenDecl::Enum { cases, .. } => names_of_cases(alloc, cases.as_slice()),
     }
 }
 
-fn defined_fields(alloc: Global, fields: &[WrittenField]) -> Result<Definitions, Exhausted>
-    ensures { IfOk result (λ d. d ≡ with_tokens (reserved_only []) (map field_name fields.now)) }
+fn names_of_fields(alloc: Global, fields: &[WrittenField]) -> Result<SymbolTable, Exhausted>
+    ensures { IfOk result (λ t. t ≡ unnumbered_after [] (map field_name fields.now)) }
 {
-    let mut defined = Definitions::new(alloc);
+    let mut table = SymbolTable::with_capacity(alloc, fields.len())?;
     for field in fields {
-        defined.define(&field.name)?;
+        table.define_unnumbered(&field.name)?;
     }
-    Ok(defined)
+    Ok(table)
 }
 
-fn defined_cases(alloc: Global, cases: &[WrittenCase]) -> Result<Definitions, Exhausted>
-    ensures { IfOk result (λ d. d ≡ with_tokens (reserved_only []) (map case_name cases.now)) }
+fn names_of_cases(alloc: Global, cases: &[WrittenCase]) -> Result<SymbolTable, Exhausted>
+    ensures { IfOk result (λ t. t ≡ unnumbered_after [] (map case_name cases.now)) }
 {
-    let mut defined = Definitions::new(alloc);
+    let mut table = SymbolTable::with_capacity(alloc, cases.len())?;
     for case in cases {
-        defined.define(&case.name)?;
+        table.define_unnumbered(&case.name)?;
     }
-    Ok(defined)
+    Ok(table)
 }
 
-pub(crate) fn defined_labels(
-    alloc: Global,
-    blocks: &[WrittenBlock],
-) -> Result<Definitions, Exhausted>
-    ensures { IfOk result (λ d. d ≡ with_tokens (reserved_only []) (map label_of blocks.now)) }
+pub(crate) fn labels(alloc: Global, blocks: &[WrittenBlock]) -> Result<SymbolTable, Exhausted>
+    ensures { IfOk result (λ t. t ≡ labels_in blocks.now) }
 {
-    let mut defined = Definitions::new(alloc);
+    let mut table = SymbolTable::with_capacity(alloc, blocks.len())?;
     for block in blocks {
-        defined.define(&block.label)?;
+        table.define(&block.label)?;
     }
-    Ok(defined)
+    Ok(table)
 }
 
-pub(crate) fn defined_values(
-    alloc: Global,
-    blocks: &[WrittenBlock],
-) -> Result<Definitions, Exhausted>
-    ensures { IfOk result (λ d. d ≡ with_tokens (reserved_only []) (flat_map values_defined blocks.now)) }
+/// The values of a function.
+pub(crate) fn values(alloc: Global, blocks: &[WrittenBlock]) -> Result<SymbolTable, Exhausted>
+    ensures { IfOk result (λ t. t ≡ values_in blocks.now) }
 {
-    let mut defined = Definitions::new(alloc);
+    let mut table = SymbolTable::with_capacity(alloc, room_for_values(blocks))?;
     for block in blocks {
-        define_in_block(&mut defined, block)?;
+        define_in_block(&mut table, block)?;
     }
-    Ok(defined)
+    Ok(table)
 }
 
-fn define_in_block(defined: &mut Definitions, block: &WrittenBlock) -> Result<(), Exhausted>
-    ensures { OnOk result (defined.new ≡ with_tokens defined.old (values_defined block.now)) }
+// Enough for the names of most functions, since few instructions define several values.
+fn room_for_values(blocks: &[WrittenBlock]) -> usize {
+    let mut room: usize = 0;
+    for block in blocks {
+        room = room
+            .saturating_add(block.args.len())
+            .saturating_add(block.insts.len());
+    }
+    room
+}
+
+fn define_in_block(table: &mut SymbolTable, block: &WrittenBlock) -> Result<(), Exhausted>
+    ensures { OnOk result (table.new ≡ with_definitions table.old (definitions_in block.now)) }
 {
-    define_args(defined, block.args.as_slice())?;
-    define_in_insts(defined, block.insts.as_slice())?;
-    define_results(defined, block.terminator.results.as_slice())
+    define_args(table, block.args.as_slice())?;
+    define_in_insts(table, block.insts.as_slice())?;
+    define_unnumbered(table, block.terminator.results.as_slice())
 }
 
-fn define_args(defined: &mut Definitions, args: &[WrittenArg]) -> Result<(), Exhausted>
-    ensures { OnOk result (defined.new ≡ with_tokens defined.old (map arg_name args.now)) }
+fn define_args(table: &mut SymbolTable, args: &[WrittenArg]) -> Result<(), Exhausted>
+    ensures { OnOk result (table.new ≡ with_definitions table.old (map numbered (map arg_name args.now))) }
 {
     for arg in args {
-        defined.define(&arg.name)?;
+        table.define(&arg.name)?;
     }
     Ok(())
 }
 
-fn define_in_insts(defined: &mut Definitions, insts: &[WrittenInst]) -> Result<(), Exhausted>
-    ensures { OnOk result (defined.new ≡ with_tokens defined.old (flat_map results_of insts.now)) }
+fn define_in_insts(table: &mut SymbolTable, insts: &[WrittenInst]) -> Result<(), Exhausted>
+    ensures { OnOk result (table.new ≡ with_definitions table.old (flat_map definitions_by insts.now)) }
 {
     for inst in insts {
-        define_results(defined, inst.results.as_slice())?;
+        define_results(table, inst)?;
     }
     Ok(())
 }
 
-fn define_results(defined: &mut Definitions, results: &[WrittenToken]) -> Result<(), Exhausted>
-    ensures { OnOk result (defined.new ≡ with_tokens defined.old results.now) }
+fn define_results(table: &mut SymbolTable, inst: &WrittenInst) -> Result<(), Exhausted>
+    ensures { OnOk result (table.new ≡ with_definitions table.old (definitions_by inst.now)) }
 {
-    for result in results {
-        defined.define(result)?;
+    match inst.results.as_slice() {
+        [] => {
+            if has_one_result(inst.op) {
+                table.define_unnamed()?;
+            }
+            Ok(())
+        }
+        tokens => define_numbered(table, tokens),
+    }
+}
+
+fn define_numbered(table: &mut SymbolTable, tokens: &[WrittenToken]) -> Result<(), Exhausted>
+    ensures { OnOk result (table.new ≡ with_definitions table.old (map numbered tokens.now)) }
+{
+    for token in tokens {
+        table.define(token)?;
     }
     Ok(())
+}
+
+fn define_unnumbered(table: &mut SymbolTable, tokens: &[WrittenToken]) -> Result<(), Exhausted>
+    ensures { OnOk result (table.new ≡ with_definitions table.old (map unnumbered tokens.now)) }
+{
+    for token in tokens {
+        table.define_unnumbered(token)?;
+    }
+    Ok(())
+}
+
+/// How many values an instruction defines.
+pub(crate) fn count_of_results(inst: &WrittenInst) -> usize
+    ensures { result ≡ length (defined_by_inst inst.now) }
+{
+    match inst.results.as_slice() {
+        [] => { if has_one_result(inst.op) { 1 } else { 0 } }
+        tokens => tokens.len(),
+    }
 }

@@ -3,15 +3,12 @@
 #![tactic(auto)]
 
 mod defining;
-mod definitions;
-mod name_faults;
-mod numbered_values;
-mod numbering;
+mod first_faults;
 mod refusal;
 mod resolved_code;
 mod resolved_items;
 mod resolving;
-mod using;
+mod symbol_table;
 
 pub use refusal::NameRefusal;
 pub use resolving::resolve;

@@ -1,27 +1,34 @@
-//! Instructions and blocks, with numbers for their names. What has no name is moved out of the written module.
+//! Instructions and blocks, with numbers for their names. What has no name is moved out of the written module. Each use of
+//! a name is looked up once: a name that isn't defined is noted, and its number is 0.
 
-ghost use Rattle.std.specs.Prelude.{◌≡◌, ◌+◌, length, map, IfOk, OnOk};
+ghost use Rattle.std.specs.Prelude.{◌≡◌, ◌+◌, [], ◌∷◌, length, map, IfOk, OnOk};
 ghost use Rattle.std.specs.List.{flat_map};
-ghost use Rattle.std.specs.Option.{option_map};
+ghost use Rattle.std.specs.Option.{option_map, option_to_list};
+ghost use Rattle.written_tree.specs.Faults as said;
+ghost use Rattle.name_resolution.specs.FirstFaults.{known_in, with_code, with_edges, with_operands};
+ghost use Rattle.name_resolution.specs.NameFaults.{unknown_in};
+ghost use Rattle.name_resolution.specs.Names.{code_of, operand_name};
 ghost use Rattle.name_resolution.specs.Resolved.{Scope, counted, defined_by_inst, defined_in, function_of, resolved_args, resolved_block, resolved_blocks, resolved_edge, resolved_inst, resolved_insts, resolved_operand};
-ghost use Rattle.name_resolution.specs.Tables.{FindsScope};
+ghost use Rattle.name_resolution.specs.Symbols.{names_in, unknown_of};
+ghost use Rattle.name_resolution.specs.Tables.{FindsNames, FindsScope, FindsValues};
 
-use crate::numbered_values::count_of_results;
-use crate::numbering::{Numbering, advanced};
+use crate::defining::count_of_results;
+use crate::first_faults::CodeFaults;
+use crate::symbol_table::{SymbolTable, advanced};
 use sil_ast::{
     Block, BlockArg, BlockId, Edge, Exhausted, FuncId, Inst, List, Operand, Operands, ValueId,
 };
 use std::alloc::Global;
 use written_tree::{
-    WrittenArg, WrittenBlock, WrittenEdge, WrittenInst, WrittenOperand, WrittenToken,
+    Fault, WrittenArg, WrittenBlock, WrittenEdge, WrittenInst, WrittenOperand, WrittenToken,
 };
 
 /// Where the names of a function are looked up.
 #[derive(Clone, Copy)]
 pub(crate) struct Tables<'a> {
-    pub(crate) functions: &'a Numbering,
-    pub(crate) blocks: &'a Numbering,
-    pub(crate) values: &'a Numbering,
+    pub(crate) functions: &'a SymbolTable,
+    pub(crate) blocks: &'a SymbolTable,
+    pub(crate) values: &'a SymbolTable,
 }
 
 /// The values and blocks of an instruction, by their numbers.
@@ -31,19 +38,22 @@ struct Uses {
     edges: List<Edge>,
 }
 
+#[tactic(auto, using(std::proofs::lemmas::Grind::common_steps, crate::proofs::FaultLemmas::blocks_more, crate::proofs::FaultLemmas::code_done))]
 pub(crate) fn resolve_blocks(
     alloc: Global,
     tables: Tables<'_>,
+    faults: &mut CodeFaults,
     blocks: List<WrittenBlock>,
 ) -> Result<List<Block>, Exhausted>
     ghost s: { Scope }
     requires { FindsScope tables.functions.now tables.blocks.now tables.values.now s }
-    ensures { IfOk result (λ resolved. resolved ≡ resolved_blocks s 0 blocks) }
+    ensures blocks { IfOk result (λ resolved. resolved ≡ resolved_blocks s 0 blocks) }
+    ensures faults { OnOk result (faults.new ≡ with_code (known_in tables.entry.functions.now tables.entry.blocks.now tables.entry.values.now) faults.old (flat_map code_of blocks)) }
 {
     let mut next = 0;
     let mut resolved = List::with_capacity(alloc, blocks.len())?;
     for block in blocks.into_vec() {
-        resolved.push(resolve_block(alloc, tables, &mut next, block)?)?;
+        resolved.push(resolve_block(alloc, tables, faults, &mut next, block)?)?;
     }
     Ok(resolved)
 }
@@ -52,6 +62,7 @@ pub(crate) fn resolve_blocks(
 fn resolve_block(
     alloc: Global,
     tables: Tables<'_>,
+    faults: &mut CodeFaults,
     next: &mut u32,
     block: WrittenBlock,
 ) -> Result<Block, Exhausted>
@@ -59,14 +70,15 @@ fn resolve_block(
     requires { FindsScope tables.functions.now tables.blocks.now tables.values.now s }
     ensures block { IfOk result (λ resolved. resolved ≡ resolved_block s next.old block) }
     ensures next { OnOk result (next.new ≡ next.old + length (defined_in block)) }
+    ensures faults { OnOk result (faults.new ≡ with_code (known_in tables.entry.functions.now tables.entry.blocks.now tables.entry.values.now) faults.old (code_of block)) }
 {
     let args = resolve_args(alloc, next, block.args)?;
-    let insts = resolve_insts(alloc, tables, next, block.insts)?;
+    let insts = resolve_insts(alloc, tables, faults, next, block.insts)?;
     let mut behind = *next;
     Ok(Block {
         args,
         insts,
-        terminator: resolve_inst(alloc, tables, &mut behind, block.terminator)?,
+        terminator: resolve_inst(alloc, tables, faults, &mut behind, block.terminator)?,
     })
 }
 
@@ -91,9 +103,11 @@ fn resolve_args(
     Ok(resolved)
 }
 
+#[tactic(auto, using(std::proofs::lemmas::Grind::common_steps, crate::proofs::FaultLemmas::insts_more, crate::proofs::FaultLemmas::code_done))]
 fn resolve_insts(
     alloc: Global,
     tables: Tables<'_>,
+    faults: &mut CodeFaults,
     next: &mut u32,
     insts: List<WrittenInst>,
 ) -> Result<List<Inst>, Exhausted>
@@ -101,18 +115,21 @@ fn resolve_insts(
     requires { FindsScope tables.functions.now tables.blocks.now tables.values.now s }
     ensures insts { IfOk result (λ resolved. resolved ≡ resolved_insts s next.old insts) }
     ensures next { OnOk result (next.new ≡ next.old + length (flat_map defined_by_inst insts)) }
+    ensures faults { OnOk result (faults.new ≡ with_code (known_in tables.entry.functions.now tables.entry.blocks.now tables.entry.values.now) faults.old insts) }
 {
     let mut resolved = List::with_capacity(alloc, insts.len())?;
     for inst in insts.into_vec() {
-        resolved.push(resolve_inst(alloc, tables, next, inst)?)?;
+        resolved.push(resolve_inst(alloc, tables, faults, next, inst)?)?;
     }
     Ok(resolved)
 }
 
 // `next` is the number of the first result, and then that behind the last.
+#[tactic(auto, using(std::proofs::lemmas::Grind::common_steps, crate::proofs::FaultOrder::unknown_more), unfolding(crate::specs::FirstFaults::with_code, crate::specs::FirstFaults::with_edges))]
 fn resolve_inst(
     alloc: Global,
     tables: Tables<'_>,
+    faults: &mut CodeFaults,
     next: &mut u32,
     inst: WrittenInst,
 ) -> Result<Inst, Exhausted>
@@ -120,16 +137,18 @@ fn resolve_inst(
     requires { FindsScope tables.functions.now tables.blocks.now tables.values.now s }
     ensures inst { IfOk result (λ resolved. resolved ≡ resolved_inst s next.old inst) }
     ensures next { OnOk result (next.new ≡ next.old + length (defined_by_inst inst)) }
+    ensures faults { OnOk result (faults.new ≡ with_code (known_in tables.entry.functions.now tables.entry.blocks.now tables.entry.values.now) faults.old (inst ∷ [])) }
 {
+    let function = resolve_callee(tables.functions, &mut faults.functions, &inst.function);
     let results = resolve_results(alloc, next, &inst)?;
-    let uses = resolve_uses(alloc, tables, inst.operands, inst.edges)?;
+    let uses = resolve_uses(alloc, tables, faults, inst.operands, inst.edges)?;
     Ok(Inst {
         op: inst.op,
         results,
         operands: uses.operands,
         ty: inst.ty,
         signature: inst.signature,
-        function: resolve_callee(tables, &inst.function),
+        function,
         member: inst.member,
         number: inst.number,
         text: inst.text,
@@ -144,6 +163,7 @@ fn resolve_inst(
 fn resolve_uses(
     alloc: Global,
     tables: Tables<'_>,
+    faults: &mut CodeFaults,
     operands: List<WrittenOperand>,
     edges: List<WrittenEdge>,
 ) -> Result<Uses, Exhausted>
@@ -151,10 +171,11 @@ fn resolve_uses(
     requires { FindsScope tables.functions.now tables.blocks.now tables.values.now s }
     ensures operands { IfOk result (λ uses. uses.operands ≡ map (resolved_operand s) operands) }
     ensures edges { IfOk result (λ uses. uses.edges ≡ map (resolved_edge s) edges) }
+    ensures faults { OnOk result (faults.new ≡ with_edges (known_in tables.entry.functions.now tables.entry.blocks.now tables.entry.values.now) (with_operands (known_in tables.entry.functions.now tables.entry.blocks.now tables.entry.values.now) faults.old operands) edges) }
 {
     Ok(Uses {
-        operands: resolve_operands(alloc, tables, operands)?,
-        edges: resolve_edges(alloc, tables, edges)?,
+        operands: resolve_operands(alloc, tables.values, &mut faults.values, operands)?,
+        edges: resolve_edges(alloc, tables, faults, edges)?,
     })
 }
 
@@ -188,83 +209,110 @@ fn counted_results(
     Ok(results)
 }
 
-fn resolve_callee(tables: Tables<'_>, function: &Option<WrittenToken>) -> Option<FuncId>
+#[tactic(auto, using(std::proofs::lemmas::Grind::common_steps, crate::proofs::FaultOrder::earlier_none))]
+fn resolve_callee(
+    functions: &SymbolTable,
+    unknown: &mut Option<Fault>,
+    function: &Option<WrittenToken>,
+) -> Option<FuncId>
     ghost s: { Scope }
-    requires { FindsScope tables.functions.now tables.blocks.now tables.values.now s }
-    ensures { result ≡ option_map (function_of s) function.now }
+    requires { FindsNames functions.now s.functions }
+    ensures function { result ≡ option_map (function_of s) function.now }
+    ensures unknown { unknown.new ≡ said.earlier unknown.old (unknown_of (names_in functions.now) (option_to_list function.now)) }
 {
     match function {
-        Some(name) => Some(FuncId(tables.functions.number_of(&name.text))),
+        Some(name) => Some(FuncId(functions.number_of(name, unknown))),
         None => None,
     }
 }
 
+#[tactic(auto, using(std::proofs::lemmas::Grind::common_steps, crate::proofs::FaultLemmas::edges_more, crate::proofs::FaultLemmas::edges_done))]
 fn resolve_edges(
     alloc: Global,
     tables: Tables<'_>,
+    faults: &mut CodeFaults,
     edges: List<WrittenEdge>,
 ) -> Result<List<Edge>, Exhausted>
     ghost s: { Scope }
     requires { FindsScope tables.functions.now tables.blocks.now tables.values.now s }
-    ensures { IfOk result (λ resolved. resolved ≡ map (resolved_edge s) edges) }
+    ensures edges { IfOk result (λ resolved. resolved ≡ map (resolved_edge s) edges) }
+    ensures faults { OnOk result (faults.new ≡ with_edges (known_in tables.entry.functions.now tables.entry.blocks.now tables.entry.values.now) faults.old edges) }
 {
     let mut resolved = List::with_capacity(alloc, edges.len())?;
     for edge in edges.into_vec() {
-        resolved.push(resolve_edge(alloc, tables, edge)?)?;
+        resolved.push(resolve_edge(alloc, tables, faults, edge)?)?;
     }
     Ok(resolved)
 }
 
-fn resolve_edge(alloc: Global, tables: Tables<'_>, edge: WrittenEdge) -> Result<Edge, Exhausted>
+#[tactic(auto, using(std::proofs::lemmas::Grind::common_steps, crate::proofs::FaultOrder::earlier_none), unfolding(crate::specs::FirstFaults::with_edges))]
+fn resolve_edge(
+    alloc: Global,
+    tables: Tables<'_>,
+    faults: &mut CodeFaults,
+    edge: WrittenEdge,
+) -> Result<Edge, Exhausted>
     ghost s: { Scope }
     requires { FindsScope tables.functions.now tables.blocks.now tables.values.now s }
-    ensures { IfOk result (λ resolved. resolved ≡ resolved_edge s edge) }
+    ensures edge { IfOk result (λ resolved. resolved ≡ resolved_edge s edge) }
+    ensures faults { OnOk result (faults.new ≡ with_edges (known_in tables.entry.functions.now tables.entry.blocks.now tables.entry.values.now) faults.old (edge ∷ [])) }
 {
     Ok(Edge {
-        block: BlockId(tables.blocks.number_of(&edge.label.text)),
-        args: resolve_edge_args(alloc, tables, edge.args)?,
+        block: BlockId(tables.blocks.number_of(&edge.label, &mut faults.labels)),
+        args: resolve_edge_args(alloc, tables.values, &mut faults.values, edge.args)?,
         case_of: edge.case_of,
     })
 }
 
+#[tactic(auto, using(std::proofs::lemmas::Grind::common_steps, crate::proofs::FaultOrder::earlier_none, crate::proofs::FaultOrder::earlier_assoc))]
 fn resolve_edge_args(
     alloc: Global,
-    tables: Tables<'_>,
+    values: &SymbolTable,
+    unknown: &mut Option<Fault>,
     operands: List<WrittenOperand>,
 ) -> Result<List<Operand>, Exhausted>
     ghost s: { Scope }
-    requires { FindsScope tables.functions.now tables.blocks.now tables.values.now s }
-    ensures { IfOk result (λ resolved. resolved ≡ map (resolved_operand s) operands) }
+    requires { FindsValues values.now s.values }
+    ensures operands { IfOk result (λ resolved. resolved ≡ map (resolved_operand s) operands) }
+    ensures unknown { OnOk result (unknown.new ≡ said.earlier unknown.old (unknown_of (names_in values.now) (map operand_name operands))) }
 {
     let mut resolved = List::with_capacity(alloc, operands.len())?;
     for operand in operands.into_vec() {
-        resolved.push(resolve_operand(tables, operand))?;
+        resolved.push(resolve_operand(values, unknown, operand))?;
     }
     Ok(resolved)
 }
 
+#[tactic(auto, using(std::proofs::lemmas::Grind::common_steps, crate::proofs::FaultOrder::earlier_none, crate::proofs::FaultOrder::earlier_assoc))]
 fn resolve_operands(
     alloc: Global,
-    tables: Tables<'_>,
+    values: &SymbolTable,
+    unknown: &mut Option<Fault>,
     operands: List<WrittenOperand>,
 ) -> Result<Operands, Exhausted>
     ghost s: { Scope }
-    requires { FindsScope tables.functions.now tables.blocks.now tables.values.now s }
-    ensures { IfOk result (λ resolved. resolved ≡ map (resolved_operand s) operands) }
+    requires { FindsValues values.now s.values }
+    ensures operands { IfOk result (λ resolved. resolved ≡ map (resolved_operand s) operands) }
+    ensures unknown { OnOk result (unknown.new ≡ said.earlier unknown.old (unknown_of (names_in values.now) (map operand_name operands))) }
 {
     let mut resolved = Operands::new(alloc);
     for operand in operands.into_vec() {
-        resolved.push(resolve_operand(tables, operand))?;
+        resolved.push(resolve_operand(values, unknown, operand))?;
     }
     Ok(resolved)
 }
 
-fn resolve_operand(tables: Tables<'_>, operand: WrittenOperand) -> Operand
+fn resolve_operand(
+    values: &SymbolTable,
+    unknown: &mut Option<Fault>,
+    operand: WrittenOperand,
+) -> Operand
     ghost s: { Scope }
-    requires { FindsScope tables.functions.now tables.blocks.now tables.values.now s }
-    ensures { result ≡ resolved_operand s operand }
+    requires { FindsValues values.now s.values }
+    ensures operand { result ≡ resolved_operand s operand }
+    ensures unknown { unknown.new ≡ said.earlier unknown.old (unknown_in (names_in values.now) operand.name) }
 {
-    let value = ValueId(tables.values.number_of(&operand.name.text));
+    let value = ValueId(values.number_of(&operand.name, unknown));
     Operand {
         value,
         ty: operand.ty,

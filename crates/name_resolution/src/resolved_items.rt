@@ -1,65 +1,88 @@
-//! Declarations, functions and vtables, with numbers for their names. What has no number is moved out of the written
+//! Declarations, functions and vtables, with numbers for their names. What has no name is moved out of the written
 //! module.
 
 ghost use Rattle.std.specs.Prelude.{◌≡◌, List, [], ◌∷◌, filter, map, IfOk, OnOk};
 ghost use Rattle.std.specs.List.{list_any};
-ghost use Rattle.std.specs.Option.{option_map};
+ghost use Rattle.written_tree.specs.declared.written_module.WrittenItem.TheVariants as written;
+ghost use Rattle.written_tree.specs.Faults as said;
 ghost use Rattle.written_tree.specs.Places.{is_kept, is_ossa};
+ghost use Rattle.name_resolution.specs.FirstFaults.{with_body, with_faults};
 ghost use Rattle.name_resolution.specs.Items.{with_items};
-ghost use Rattle.name_resolution.specs.Names.{Name, name_of};
+ghost use Rattle.name_resolution.specs.NameFaults.{members_fault, unknown_in};
+ghost use Rattle.name_resolution.specs.Names.{Name, name_of, used_by_item};
 ghost use Rattle.name_resolution.specs.Resolved.{form_of, resolved_blocks, resolved_case, resolved_decl, resolved_entry, resolved_field, resolved_function, resolved_vtable};
+ghost use Rattle.name_resolution.specs.Symbols.{names_in, unknown_of};
 ghost use Rattle.name_resolution.specs.Tables.{FindsNames, scope_in};
 
-use crate::numbered_values::{numbered_blocks, numbered_values};
-use crate::numbering::Numbering;
+use crate::defining::{labels, members, values};
+use crate::first_faults::{CodeFaults, ItemFaults};
 use crate::resolved_code::{Tables, resolve_blocks};
+use crate::symbol_table::SymbolTable;
 use sil_ast::{
     Block, Case, Decl, DeinitEntry, Exhausted, Field, Form, FuncId, Function, List, Module, Text,
     Vtable,
 };
 use std::alloc::Global;
 use written_tree::{
-    WrittenBlock, WrittenCase, WrittenDecl, WrittenEntry, WrittenField, WrittenFunction,
-    WrittenItem, WrittenToken, WrittenVtable,
+    Fault, WrittenBlock, WrittenCase, WrittenDecl, WrittenEntry, WrittenField, WrittenFunction,
+    WrittenItem, WrittenToken, WrittenVtable, earlier,
 };
 
 /// Adds items to the lists of a module.
-#[tactic(auto, using(std::proofs::lemmas::Grind::common_steps, crate::proofs::ResolvedLemmas::items_more, crate::proofs::ResolvedLemmas::items_done))]
+#[tactic(auto, using(std::proofs::lemmas::Grind::common_steps, crate::proofs::ResolvedLemmas::items_more, crate::proofs::ResolvedLemmas::items_done, crate::proofs::FaultLemmas::item_faults_more, crate::proofs::FaultLemmas::item_faults_done))]
 pub(crate) fn resolve_items(
     alloc: Global,
-    numbering: &Numbering,
+    functions: &SymbolTable,
     items: List<WrittenItem>,
     whole: &mut Module,
+    faults: &mut ItemFaults,
 ) -> Result<(), Exhausted>
     ghost names: { List Name }
-    requires { FindsNames numbering.now names }
-    ensures { OnOk result (whole.new ≡ with_items names whole.old items) }
+    requires { FindsNames functions.now names }
+    ensures items { OnOk result (whole.new ≡ with_items names whole.old items) }
+    ensures faults { OnOk result (faults.new ≡ with_faults (names_in functions.now) faults.old items) }
 {
     for item in items.into_vec() {
-        resolve_item(alloc, numbering, item, whole)?;
+        resolve_item(alloc, functions, item, whole, faults)?;
     }
     Ok(())
 }
 
+#[tactic(auto, using(std::proofs::lemmas::Grind::common_steps, crate::proofs::FaultLemmas::decl_faults, crate::proofs::FaultLemmas::function_faults, crate::proofs::FaultLemmas::vtable_faults))]
 fn resolve_item(
     alloc: Global,
-    numbering: &Numbering,
+    functions: &SymbolTable,
     item: WrittenItem,
     whole: &mut Module,
+    faults: &mut ItemFaults,
 ) -> Result<(), Exhausted>
     ghost names: { List Name }
-    requires { FindsNames numbering.now names }
-    ensures { OnOk result (whole.new ≡ with_items names whole.old (item ∷ [])) }
+    requires { FindsNames functions.now names }
+    ensures items { OnOk result (whole.new ≡ with_items names whole.old (item ∷ [])) }
+    ensures faults { OnOk result (faults.new ≡ with_faults (names_in functions.now) faults.old (item ∷ [])) }
 {
     match item {
-        WrittenItem::Decl(decl) => whole.decls.push(resolve_decl(alloc, decl)?),
-        WrittenItem::Function(f) => { whole.functions.push(resolve_function(alloc, numbering, f)?) }
-        WrittenItem::Vtable(vtable) => {
+        WrittenItem::Decl(decl) => {
+            faults.members = earlier(faults.members, members_fault(alloc, &decl)?);
+            whole.decls.push(resolve_decl(alloc, decl)?)
+        }
+        WrittenItem::Function(f) => {
             whole
-                .vtables
-                .push(resolve_vtable(alloc, numbering, &vtable)?)
+                .functions
+                .push(resolve_function(alloc, functions, f, faults)?)
+        }
+        WrittenItem::Vtable(vtable) => {
+            let vtable = resolve_vtable(alloc, functions, &mut faults.functions, vtable)?;
+            whole.vtables.push(vtable)
         }
     }
+}
+
+#[tactic(auto, using(crate::proofs::DefinedNames::twice_of_unreserved))]
+fn members_fault(alloc: Global, decl: &WrittenDecl) -> Result<Option<Fault>, Exhausted>
+    ensures { IfOk result (λ fault. fault ≡ members_fault decl.now) }
+{
+    Ok(members(alloc, decl)?.twice())
 }
 
 fn resolve_decl(alloc: Global, decl: WrittenDecl) -> Result<Decl, Exhausted>
@@ -110,44 +133,55 @@ fn resolve_cases(alloc: Global, cases: List<WrittenCase>) -> Result<List<Case>, 
 
 fn resolve_function(
     alloc: Global,
-    numbering: &Numbering,
+    functions: &SymbolTable,
     f: WrittenFunction,
+    faults: &mut ItemFaults,
 ) -> Result<Function, Exhausted>
     ghost names: { List Name }
-    requires { FindsNames numbering.now names }
-    ensures { IfOk result (λ function. function ≡ resolved_function names f) }
+    requires { FindsNames functions.now names }
+    ensures function { IfOk result (λ function. function ≡ resolved_function names f) }
+    ensures faults { OnOk result (faults.new ≡ with_body (names_in functions.now) faults.old f.blocks) }
 {
     let form = form_of(f.attributes.as_slice(), f.blocks.as_slice());
-    let name = f.name.text.to_text(alloc)?;
     let attributes = kept_attributes(alloc, f.attributes)?;
     Ok(Function {
-        name,
+        name: f.name.text.to_text(alloc)?,
         form,
         linkage: f.linkage,
         attributes,
         signature: f.signature,
-        blocks: resolve_body(alloc, numbering, f.blocks)?,
+        blocks: resolve_body(alloc, functions, f.blocks, faults)?,
     })
 }
 
 // The blocks of a function, whose labels and values are numbered for it alone.
 fn resolve_body(
     alloc: Global,
-    numbering: &Numbering,
+    functions: &SymbolTable,
     blocks: List<WrittenBlock>,
+    faults: &mut ItemFaults,
 ) -> Result<List<Block>, Exhausted>
     ghost names: { List Name }
-    requires { FindsNames numbering.now names }
-    ensures { IfOk result (λ resolved. resolved ≡ resolved_blocks (scope_in names blocks) 0 blocks) }
+    requires { FindsNames functions.now names }
+    ensures blocks { IfOk result (λ resolved. resolved ≡ resolved_blocks (scope_in names blocks) 0 blocks) }
+    ensures faults { OnOk result (faults.new ≡ with_body (names_in functions.now) faults.old blocks) }
 {
-    let labels = numbered_blocks(alloc, blocks.as_slice())?;
-    let values = numbered_values(alloc, blocks.as_slice())?;
+    let labels = labels(alloc, blocks.as_slice())?;
+    let values = values(alloc, blocks.as_slice())?;
     let tables = Tables {
-        functions: numbering,
+        functions,
         blocks: &labels,
         values: &values,
     };
-    resolve_blocks(alloc, tables, blocks)
+    let mut code = CodeFaults {
+        functions: faults.functions,
+        labels: labels.twice(),
+        values: values.twice(),
+    };
+    let resolved = resolve_blocks(alloc, tables, &mut code, blocks)?;
+    faults.functions = code.functions;
+    faults.bodies = earlier(faults.bodies, earlier(code.labels, code.values));
+    Ok(resolved)
 }
 
 fn form_of(words: &[WrittenToken], blocks: &[WrittenBlock]) -> Form
@@ -183,35 +217,43 @@ fn kept_attributes(alloc: Global, words: List<WrittenToken>) -> Result<List<Text
     Ok(kept)
 }
 
+#[tactic(auto, using(std::proofs::lemmas::Grind::common_steps, crate::proofs::FaultOrder::earlier_none))]
 fn resolve_vtable(
     alloc: Global,
-    numbering: &Numbering,
-    vtable: &WrittenVtable,
+    functions: &SymbolTable,
+    unknown: &mut Option<Fault>,
+    vtable: WrittenVtable,
 ) -> Result<Vtable, Exhausted>
     ghost names: { List Name }
-    requires { FindsNames numbering.now names }
-    ensures { IfOk result (λ resolved. resolved ≡ resolved_vtable names vtable.now) }
+    requires { FindsNames functions.now names }
+    ensures vtable { IfOk result (λ resolved. resolved ≡ resolved_vtable names vtable) }
+    ensures unknown { OnOk result (unknown.new ≡ said.earlier unknown.old (unknown_of (names_in functions.now) (used_by_item (written.Vtable vtable)))) }
 {
+    let WrittenVtable { class_name, entry } = vtable;
+    let entry = match entry {
+        None => None,
+        Some(entry) => Some(resolve_entry(alloc, functions, unknown, entry)?),
+    };
     Ok(Vtable {
-        class_name: vtable.class_name.text.to_text(alloc)?,
-        entry: resolve_entry(alloc, numbering, &vtable.entry)?,
+        class_name: class_name.text.to_text(alloc)?,
+        entry,
     })
 }
 
 fn resolve_entry(
     alloc: Global,
-    numbering: &Numbering,
-    entry: &Option<WrittenEntry>,
-) -> Result<Option<DeinitEntry>, Exhausted>
+    functions: &SymbolTable,
+    unknown: &mut Option<Fault>,
+    entry: WrittenEntry,
+) -> Result<DeinitEntry, Exhausted>
     ghost names: { List Name }
-    requires { FindsNames numbering.now names }
-    ensures { IfOk result (λ resolved. resolved ≡ option_map (resolved_entry names) entry.now) }
+    requires { FindsNames functions.now names }
+    ensures entry { IfOk result (λ resolved. resolved ≡ resolved_entry names entry) }
+    ensures unknown { OnOk result (unknown.new ≡ said.earlier unknown.old (unknown_in (names_in functions.now) entry.function)) }
 {
-    match entry {
-        None => Ok(None),
-        Some(entry) => Ok(Some(DeinitEntry {
-            owner: entry.owner.to_text(alloc)?,
-            function: FuncId(numbering.number_of(&entry.function.text)),
-        })),
-    }
+    let function = FuncId(functions.number_of(&entry.function, unknown));
+    Ok(DeinitEntry {
+        owner: entry.owner.to_text(alloc)?,
+        function,
+    })
 }

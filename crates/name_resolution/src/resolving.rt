@@ -1,35 +1,68 @@
 //! Resolves the names of a whole module.
 
-ghost use Rattle.std.specs.Prelude.{◌≡◌, IfErr, IfOk, None};
-ghost use Rattle.name_resolution.specs.NameFaults.{name_fault};
+ghost use Rattle.std.specs.Prelude.{◌≡◌, [], map, IfErr, IfOk, None, OnOk};
+ghost use Rattle.std.specs.List.{flat_map};
+ghost use Rattle.written_tree.specs.Faults as said;
+ghost use Rattle.written_tree.specs.Places.{name_of_decl};
+ghost use Rattle.name_resolution.specs.FirstFaults.{with_faults};
+ghost use Rattle.name_resolution.specs.NameFaults.{name_fault, twice_after};
+ghost use Rattle.name_resolution.specs.Names.{decls_of, function_name, functions_of, reserved, vtable_name, vtables_of};
 ghost use Rattle.name_resolution.specs.Refusals.{IsRefusalOf};
 ghost use Rattle.name_resolution.specs.Resolved.{resolved};
+ghost use Rattle.name_resolution.specs.Symbols.{names_in, numbered_by};
 
-use crate::name_faults::name_fault;
-use crate::numbered_values::numbered_functions;
+use crate::defining::{classes_of_vtables, declared, functions};
+use crate::first_faults::ItemFaults;
 use crate::refusal::NameRefusal;
 use crate::resolved_items::resolve_items;
-use sil_ast::{Exhausted, List, Module};
+use crate::symbol_table::SymbolTable;
+use sil_ast::{Exhausted, Imports, List, Module};
 use std::alloc::Global;
-use written_tree::WrittenModule;
+use written_tree::{Fault, WrittenItem, WrittenModule, earlier};
 
 /// The module that `w` stands for, with numbers for its names. Types, signatures and texts are moved into it.
+#[tactic(auto, using(std::proofs::lemmas::Grind::common_steps, crate::proofs::FaultLemmas::fault_of_parts))]
 pub fn resolve(alloc: Global, w: WrittenModule) -> Result<Module, NameRefusal>
     ensures sound { IfOk result (λ m. name_fault w ≡ None) }
     ensures resolved { IfOk result (λ m. m ≡ resolved w) }
     ensures refused { IfErr result (IsRefusalOf w) }
 {
-    if let Some(fault) = name_fault(alloc, &w)? {
-        return Err(NameRefusal::Name(fault));
+    let functions = functions(alloc, w.items.as_slice())?;
+    let twice = twice_fault(alloc, w.imports, w.items.as_slice(), functions.twice())?;
+    let mut faults = ItemFaults::none();
+    let module = resolve_module(alloc, &functions, w, &mut faults)?;
+    match earlier(twice, faults.first()) {
+        Some(fault) => Err(NameRefusal::Name(fault)),
+        None => Ok(module),
     }
-    Ok(resolve_module(alloc, w)?)
+}
+
+// The first declaration, function or vtable whose name stood before; `functions` is the first such function.
+#[tactic(auto, using(crate::proofs::DefinedNames::twice_of_unnumbered))]
+fn twice_fault(
+    alloc: Global,
+    imports: Imports,
+    items: &[WrittenItem],
+    functions: Option<Fault>,
+) -> Result<Option<Fault>, Exhausted>
+    ensures { IfOk result (λ fault. fault ≡ said.earlier (twice_after (reserved imports) (map name_of_decl (flat_map decls_of items.now))) (said.earlier functions (twice_after [] (map vtable_name (flat_map vtables_of items.now))))) }
+{
+    let declarations = declared(alloc, imports, items)?.twice();
+    let vtables = classes_of_vtables(alloc, items)?.twice();
+    Ok(earlier(declarations, earlier(functions, vtables)))
 }
 
 #[tactic(auto, unfolding(crate::specs::Resolved::resolved))]
-fn resolve_module(alloc: Global, w: WrittenModule) -> Result<Module, Exhausted>
-    ensures { IfOk result (λ m. m ≡ resolved w) }
+fn resolve_module(
+    alloc: Global,
+    functions: &SymbolTable,
+    w: WrittenModule,
+    faults: &mut ItemFaults,
+) -> Result<Module, Exhausted>
+    requires { functions.now ≡ numbered_by (map function_name (flat_map functions_of w.items)) }
+    ensures module { IfOk result (λ m. m ≡ resolved w) }
+    ensures faults { OnOk result (faults.new ≡ with_faults (names_in functions.now) faults.old w.items) }
 {
-    let functions = numbered_functions(alloc, w.items.as_slice())?;
     let mut module = Module {
         stage: w.stage,
         imports: w.imports,
@@ -37,6 +70,6 @@ fn resolve_module(alloc: Global, w: WrittenModule) -> Result<Module, Exhausted>
         functions: List::new(alloc),
         vtables: List::new(alloc),
     };
-    resolve_items(alloc, &functions, w.items, &mut module)?;
+    resolve_items(alloc, functions, w.items, &mut module, faults)?;
     Ok(module)
 }

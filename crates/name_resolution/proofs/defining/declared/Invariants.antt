@@ -1,9 +1,9 @@
 use Rattle.std.proofs.Common.{◌≡◌, take, map}
 use Rattle.std.specs.List.{flat_map}
 use Rattle.written_tree.specs.Places.{name_of_decl}
-use Rattle.name_resolution.specs.Defined.{reserved_only, with_tokens}
 use Rattle.name_resolution.specs.Names.{decls_of, reserved}
+use Rattle.name_resolution.specs.Symbols.{unnumbered_after}
 use Rattle.name_resolution.proofs.defining.declared.Given as goal
 
 abbrev pub invariant-loop-item : goal.invariant-loop-item
-invariant-loop-item l = l.defined ≡ with_tokens (reserved_only (reserved l.fn.imports)) (map name_of_decl (flat_map decls_of (take l.item-index l.items)))
+invariant-loop-item l = l.table ≡ unnumbered_after (reserved l.fn.imports) (map name_of_decl (flat_map decls_of (take l.item-index l.items)))

@@ -1,5 +1,8 @@
 use Rattle.std.proofs.Common.{◌≡◌, ◌++◌}
+use Rattle.std.specs.List.{flat_map}
 use Rattle.std.specs.Vec.Iter.{into_iter_items}
+use Rattle.name_resolution.specs.FirstFaults.{known_in, with_code}
+use Rattle.name_resolution.specs.Names.{code_of}
 use Rattle.name_resolution.specs.Resolved.{resolved_blocks}
 use Rattle.name_resolution.proofs.resolved_code.resolve_blocks.Given as goal
 
@@ -7,4 +10,7 @@ abbrev pub ghost-resolve_block : goal.ghost-resolve_block
 ghost-resolve_block g a = g.s
 
 abbrev pub invariant-loop-block : goal.invariant-loop-block
-invariant-loop-block g l = resolved_blocks g.s 0 l.fn.blocks ≡ l.resolved ++ resolved_blocks g.s l.next (into_iter_items l.block-iterator)
+invariant-loop-block g l = record {
+  resolved : resolved_blocks g.s 0 l.fn.blocks ≡ l.resolved ++ resolved_blocks g.s l.next (into_iter_items l.block-iterator);
+  faults : with_code (known_in l.tables.functions.now l.tables.blocks.now l.tables.values.now) l.initial.faults (flat_map code_of l.fn.blocks) ≡ with_code (known_in l.tables.functions.now l.tables.blocks.now l.tables.values.now) l.faults (flat_map code_of (into_iter_items l.block-iterator));
+}

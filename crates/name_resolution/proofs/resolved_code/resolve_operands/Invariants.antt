@@ -1,10 +1,16 @@
 use Rattle.std.proofs.Common.{◌≡◌, ◌++◌, map}
 use Rattle.std.specs.Vec.Iter.{into_iter_items}
+use Rattle.written_tree.specs.Faults.{earlier}
+use Rattle.name_resolution.specs.Names.{operand_name}
 use Rattle.name_resolution.specs.Resolved.{resolved_operand}
+use Rattle.name_resolution.specs.Symbols.{names_in, unknown_of}
 use Rattle.name_resolution.proofs.resolved_code.resolve_operands.Given as goal
 
 abbrev pub ghost-resolve_operand : goal.ghost-resolve_operand
 ghost-resolve_operand g a = g.s
 
 abbrev pub invariant-loop-operand : goal.invariant-loop-operand
-invariant-loop-operand g l = map (resolved_operand g.s) l.fn.operands ≡ l.resolved ++ map (resolved_operand g.s) (into_iter_items l.operand-iterator)
+invariant-loop-operand g l = record {
+  resolved : map (resolved_operand g.s) l.fn.operands ≡ l.resolved ++ map (resolved_operand g.s) (into_iter_items l.operand-iterator);
+  unknown : earlier l.initial.unknown (unknown_of (names_in l.values) (map operand_name l.fn.operands)) ≡ earlier l.unknown (unknown_of (names_in l.values) (map operand_name (into_iter_items l.operand-iterator)));
+}

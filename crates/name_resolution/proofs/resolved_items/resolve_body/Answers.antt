@@ -1,6 +1,5 @@
-use Rattle.std.specs.List.{flat_map}
 use Rattle.name_resolution.specs.Names.{label_of}
-use Rattle.name_resolution.specs.Resolved.{defined_in}
+use Rattle.name_resolution.proofs.FaultLemmas.{body_done}
 use Rattle.name_resolution.proofs.NumberLemmas.{finds_each, finds_values}
 use Rattle.name_resolution.proofs.resolved_items.resolve_body.Goals as goal
 
@@ -10,5 +9,10 @@ resolve_blocks-requires g c =
     record {
       functions = c.requires;
       blocks = rw (c.in_ok-labels.ensures, c.as_slice.ensures) (finds_each label_of blocks);
-      values = rw (c.in_ok-values.ensures, c.as_slice-2.ensures) (finds_values (flat_map defined_in blocks));
+      values = rw (c.in_ok-values.ensures, c.as_slice-2.ensures) (finds_values blocks);
     }
+
+pub returns-clause-faults : goal.returns-clause-faults
+returns-clause-faults g c =
+    let found = rw (c.twice.ensures, c.twice-2.ensures, c.in_ok-labels.ensures, c.as_slice.ensures, c.in_ok-values.ensures, c.as_slice-2.ensures) at c.in_ok-resolved.ensures.faults in
+    rw (c.earlier-faults.ensures, c.earlier.ensures) (body_done c.args.functions.now c.args.blocks c.args.faults.now c.resolve_blocks.new.faults found)

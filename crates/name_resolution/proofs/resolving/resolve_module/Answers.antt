@@ -4,5 +4,4 @@ use Rattle.name_resolution.proofs.NumberLemmas.{finds_each}
 use Rattle.name_resolution.proofs.resolving.resolve_module.Goals as goal
 
 pub resolve_items-requires : goal.resolve_items-requires
-resolve_items-requires c =
-    rw (← c.as_slice.ensures, c.in_ok-functions.ensures) (finds_each function_name (flat_map functions_of c.as_slice.result.now))
+resolve_items-requires c = rw c.requires (finds_each function_name (flat_map functions_of c.args.w.items))
