@@ -145,13 +145,13 @@ told_by_replay ss classes steps lexemes d h =
 pub stood_for : AreReplayed
 stood_for class_of ss lexemes values = (
   λ s.
-    record { steps = s.steps; derived = s.derived; no_fault = sym (faults_same s.derived s.faultless); same = sym (read_same s.derived s.reading) },
+      record { steps = s.steps; derived = s.derived; no_fault = sym (faults_same s.derived s.faultless); same = sym (read_same s.derived s.reading) },
   λ r.
-    let t = told r.derived lexemes (omega (arith, length-map lexemes class_of)) in
-    record {
-      steps = r.steps;
-      derived = r.derived;
-      reading = subst (Reads r.steps lexemes) r.same t.reading;
-      faultless = subst (HasFaults r.steps lexemes) (none_first t.faults (t.first ∙ r.no_fault)) t.all;
-    },
+      let t = told r.derived lexemes (omega (arith, length-map lexemes class_of)) in
+      record {
+        steps = r.steps;
+        derived = r.derived;
+        reading = subst (Reads r.steps lexemes) r.same t.reading;
+        faultless = subst (HasFaults r.steps lexemes) (none_first t.faults (t.first ∙ r.no_fault)) t.all;
+      },
 )
