@@ -1,5 +1,5 @@
 -- The first fault of a text that has shape, or of a front, is the one that the replay finds.
-use Rattle.std.proofs.Common.{◌≡◌, ◌≤◌, ℕ, List, ◌++◌, length, length-append, map, take, Option, Some, None, ◌∙◌, arith, sym}
+use Rattle.std.proofs.Common.{◌≡◌, ℕ, List, ◌++◌, length-append, map, take, Option, Some, None, arith}
 use Rattle.std.specs.Prelude.{◌↔◌}
 use Rattle.std.proofs.lemmas.List.{length-map}
 use Rattle.sil_lexer.specs.Lexes.{Lexeme}
@@ -8,7 +8,6 @@ use Rattle.sil_shape.specs.Derivation.{Derives, start}
 use Rattle.spelled_parts_laws.specs.Laws.{IsToldByReplay}
 use Rattle.spelled_parts_laws.specs.Reading.{IsFirstFault}
 use Rattle.spelled_parts_laws.proofs.Derived.{told_by_replay}
-use Rattle.token_classes.specs.declared.classes.Class.{Class}
 use Rattle.written_modules.specs.Replay.{first_fault}
 use Rattle.written_tree.specs.declared.fault.Fault.{Fault}
 use Rattle.sil_grammar.specs.Classes.{token_class}

@@ -1,9 +1,8 @@
 -- Where the parts of a production are of its symbols' kinds, what it stands for is what the replay makes of them, and what is
 -- at fault in it is what the replay finds.
-use Rattle.std.proofs.Common.{◌≡◌, ℕ, suc, List, [], ◌∷◌, Option, Some, None, Bool, true, false, if◌then◌else◌, ap, ap₂, refl, sym, subst, ◌∙◌, arith}
+use Rattle.std.proofs.Common.{◌≡◌, ℕ, List, [], ◌∷◌, Option, Some, None, Bool, true, false, if◌then◌else◌, ap, ap₂, refl, sym, subst, ◌∙◌, arith}
 use Rattle.instruction_table.specs.Forms.{parts_of}
 use Rattle.instruction_table.specs.declared.op.Op.{Op}
-use Rattle.sil_ast.specs.declared.debug.Debug as debug
 use Rattle.sil_ast.specs.declared.function.ArgKind.{ArgKind}
 use Rattle.sil_ast.specs.declared.place.Place.{Place}
 use Rattle.sil_ast.specs.declared.type_name.TypeName.TheVariants as ty
@@ -14,7 +13,7 @@ use Rattle.sil_shape.specs.declared.grammar.Symbol.TheVariants.{Part}
 use Rattle.sil_shape.specs.Grammar.{body, written}
 use Rattle.sil_shape.specs.Rows.{ends_block, parts_row, row_body, row_part}
 use Rattle.written_modules.specs.Meaning.{meaning}
-use Rattle.written_modules.specs.Opened.{PartType, PartTypes, PartValue}
+use Rattle.written_modules.specs.Opened.{PartType, PartValue}
 use Rattle.written_modules.specs.PartFaults.{part_fault}
 use Rattle.written_modules.specs.RowMeaning.{row, with_parts}
 use Rattle.written_modules.specs.Types.{in_parens, named_type, one_token, tailed, type_before, width_in_range}
@@ -33,7 +32,7 @@ use Rattle.spelled_parts_laws.proofs.FaultLists.{first-append, first-four, first
 use Rattle.spelled_parts_laws.proofs.RowAgreement.{RowAgrees, all_fit, rows}
 use Rattle.spelled_parts_laws.proofs.RowPlaces.{faults_from, row_faults_moved, row_from, row_moved}
 use Rattle.spelled_parts_laws.proofs.TypeAgreement.{int_bits, kept_before, level_found, level_kept, named_bits, none_kept, optional_bits, parens_found, parens_kept, questions_found, questions_kept, unowned_bits, weak_bits}
-use Rattle.spelled_parts_laws.proofs.ValueKinds.{AreKept, AreOf, Contents, IsKept, IsOf, KeptType, contents_of, kind_of_part, optional, star, values_of}
+use Rattle.spelled_parts_laws.proofs.ValueKinds.{AreOf, Contents, IsKept, IsOf, KeptType, contents_of, kind_of_part, optional, star, values_of}
 
 -- what the production stands for
 pub record MeansSo (q : Production) (parts : List PartValue) : Type 0 where

@@ -1,6 +1,6 @@
 -- What the steps of a derivation stand for is what their replay comes to, step by step, and what is at fault in them is what
 -- the replay finds.
-use Rattle.std.proofs.Common.{◌≡◌, ◌≤◌, suc, List, [], ◌∷◌, ◌++◌, length, take, drop, map, Option, Some, None, ap, ap₂, sym, refl, subst, ◌∙◌, arith}
+use Rattle.std.proofs.Common.{◌≡◌, ◌≤◌, suc, List, [], ◌∷◌, ◌++◌, length, take, drop, ap, ap₂, sym, refl, subst, ◌∙◌, arith}
 use Rattle.std.proofs.Math.Seq.{drop-append_seam, take-append_seam}
 use Rattle.std.proofs.lemmas.List.{length-map, take-append-drop}
 use Rattle.sil_lexer.specs.Lexes.{Lexeme}
@@ -8,10 +8,10 @@ use Rattle.sil_shape.specs.declared.grammar.Production.{Production}
 use Rattle.sil_shape.specs.declared.grammar.Symbol.{Symbol}
 use Rattle.sil_shape.specs.declared.grammar.Symbol.TheVariants.{Read, Part}
 use Rattle.sil_shape.specs.declared.steps.Step.{Step}
-use Rattle.sil_shape.specs.declared.steps.Step.TheVariants.{Take, Expand}
+use Rattle.sil_shape.specs.declared.steps.Step.TheVariants.{Take}
 use Rattle.sil_shape.specs.Derivation.{Accepts, Derives}
 use Rattle.sil_shape.specs.Derivation.Derives.{nothing as derived_nothing, token as derived_token, rule as derived_rule}
-use Rattle.sil_shape.specs.Grammar.{body, written}
+use Rattle.sil_shape.specs.Grammar.{body}
 use Rattle.token_classes.specs.declared.classes.Class.{Class}
 use Rattle.written_modules.specs.Leaves.{kept_of, leaf_of}
 use Rattle.written_modules.specs.Meaning.{meaning}
@@ -22,11 +22,8 @@ use Rattle.written_modules.specs.Values.{no_token}
 use Rattle.written_modules.specs.Variants as v
 use Rattle.written_tree.specs.declared.fault.Fault.{Fault}
 use Rattle.written_tree.specs.Faults.{earlier}
-use Rattle.spelled_parts_laws.specs.Faults.{AreFaultsOf}
-use Rattle.spelled_parts_laws.specs.Laws.{AreReplayed, AreToldByReplay, IsReplayed}
-use Rattle.spelled_parts_laws.specs.Means.{Means}
-use Rattle.spelled_parts_laws.specs.Reading.{HasFaults, HasFaults as found, IsFirstFault, Reads, Reads as reads}
-use Rattle.spelled_parts_laws.specs.Stands.{Stands}
+use Rattle.spelled_parts_laws.specs.Laws.{AreReplayed, AreToldByReplay}
+use Rattle.spelled_parts_laws.specs.Reading.{HasFaults, HasFaults as found, Reads, Reads as reads}
 use Rattle.spelled_parts_laws.proofs.Agreement.{Agrees, agrees}
 use Rattle.spelled_parts_laws.proofs.FaultLists.{first-append, first_of, found_first, is_first, none_first}
 use Rattle.spelled_parts_laws.proofs.ValueKinds.{AreOf, IsOf, back_of, front_of}
@@ -148,13 +145,13 @@ told_by_replay ss classes steps lexemes d h =
 pub stood_for : AreReplayed
 stood_for class_of ss lexemes values = (
   λ s.
-    record { steps = s.steps; derived = s.derived; no_fault = sym (faults_same s.derived s.faultless); same = sym (read_same s.derived s.reading) },
+      record { steps = s.steps; derived = s.derived; no_fault = sym (faults_same s.derived s.faultless); same = sym (read_same s.derived s.reading) },
   λ r.
-    let t = told r.derived lexemes (omega (arith, length-map lexemes class_of)) in
-    record {
-      steps = r.steps;
-      derived = r.derived;
-      reading = subst (Reads r.steps lexemes) r.same t.reading;
-      faultless = subst (HasFaults r.steps lexemes) (none_first t.faults (t.first ∙ r.no_fault)) t.all;
-    },
+      let t = told r.derived lexemes (omega (arith, length-map lexemes class_of)) in
+      record {
+        steps = r.steps;
+        derived = r.derived;
+        reading = subst (Reads r.steps lexemes) r.same t.reading;
+        faultless = subst (HasFaults r.steps lexemes) (none_first t.faults (t.first ∙ r.no_fault)) t.all;
+      },
 )

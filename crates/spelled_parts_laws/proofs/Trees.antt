@@ -1,6 +1,5 @@
 -- Tokens that are put together as a tree of productions, of which none is at fault, stand for what the tree comes to.
-use Rattle.std.proofs.Common.{◌≡◌, suc, List, [], ◌∷◌, ◌++◌, length, take, drop, map, Option, None, ap, ap₂, sym, refl, subst, ◌∙◌, append_assoc, append-nil}
-use Rattle.std.proofs.Math.Seq.{drop-append_seam, take-append_seam}
+use Rattle.std.proofs.Common.{◌≡◌, suc, List, [], ◌∷◌, ◌++◌, length, drop, map, Option, None, ap, ap₂, sym, refl, subst, ◌∙◌, append_assoc, append-nil}
 use Rattle.sil_lexer.specs.Lexes.{Lexeme}
 use Rattle.sil_shape.specs.declared.grammar.Production.{Production}
 use Rattle.sil_shape.specs.declared.grammar.Symbol.{Symbol}

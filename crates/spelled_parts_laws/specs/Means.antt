@@ -1,7 +1,7 @@
 -- What each production of the grammar stands for, by what the parts of its body stand for: one line a production.
 -- No limit is asked for here. A type past the limit on depth isn't kept: `()` stands in its place, of a depth past the limit.
 -- A number that is out of its range is none.
-use Rattle.std.specs.Prelude.{◌≡◌, ℕ, List, [], ◌∷◌, Some, None, true, false}
+use Rattle.std.specs.Prelude.{◌≡◌, List, [], ◌∷◌, Some, None, true, false}
 use Rattle.instruction_table.specs.Forms.{parts_of}
 use Rattle.sil_ast.specs.declared.debug.Binding.TheVariants as debugged
 use Rattle.sil_ast.specs.declared.decl.Storage.TheVariants as storage

@@ -18,7 +18,7 @@ use Rattle.written_modules.specs.declared.value.Value.{Value}
 use Rattle.written_modules.specs.declared.value.Value.TheVariants as v
 use Rattle.written_tree.specs.declared.written_declarations.WrittenDecl.TheVariants as decl
 use Rattle.written_tree.specs.declared.written_module.WrittenItem.TheVariants as item
-pub use Rattle.written_modules.specs.Leaves.{kept_of, leaf_of, with_import}
+unfoldable pub use Rattle.written_modules.specs.Leaves.{kept_of, leaf_of, with_import}
 use Rattle.written_modules.specs.Parts.{part, place_at, text_at}
 use Rattle.written_modules.specs.RowMeaning.{row}
 use Rattle.written_modules.specs.Types.{in_parens, with_questions, named_type, one_deeper, one_token, tailed, type_before}
