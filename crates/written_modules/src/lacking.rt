@@ -28,7 +28,7 @@ fn replay_lacking(alloc: Global, steps: &[Step]) -> Result<Prepended<Value>, Exh
     let mut values = Prepended::new(alloc);
     for i in (0..steps.len()).rev() {
         match steps[i] {
-            Step::Take => values.push_front(Value::Token(no_token(alloc)))?,
+            Step::Take => values.push_front(Value::Token(no_token()))?,
             Step::Expand(production) => {
                 let made = reduce(alloc, production, &mut values)?;
                 values.push_front(made.value)?;
@@ -57,7 +57,7 @@ fn lacking(alloc: Global, symbol: Symbol) -> Result<Value, Exhausted>
     ensures { IfOk result (λ value. value ≡ lacking symbol) }
 {
     match symbol {
-        Symbol::Read(_) => Ok(Value::Token(no_token(alloc))),
+        Symbol::Read(_) => Ok(Value::Token(no_token())),
         Symbol::Part(part) => lacking_part(alloc, part),
     }
 }
