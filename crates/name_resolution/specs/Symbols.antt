@@ -14,7 +14,7 @@ use Rattle.written_tree.specs.declared.written_functions.WrittenBlock.{WrittenBl
 use Rattle.written_tree.specs.declared.written_instructions.WrittenInst.{WrittenInst}
 use Rattle.written_tree.specs.Faults.{earlier, earliest, fault}
 use Rattle.name_resolution.specs.NameFaults.{is_among, unknown_in}
-use Rattle.name_resolution.specs.Names.{Name, arg_name, function_name, functions_of, label_of}
+use Rattle.name_resolution.specs.Names.{Name, arg_name, label_of}
 
 -- each name with its number, if it has one; how many numbers are given; and the first token whose name stood before
 pub record Symbols : Type 0 where

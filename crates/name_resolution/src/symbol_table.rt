@@ -2,7 +2,6 @@
 
 ghost use Rattle.std.specs.Prelude.{◌≡◌, ◌+◌, [], ◌∷◌, true, Some, None, IfOk, OnOk};
 ghost use Rattle.written_tree.specs.Faults as said;
-ghost use Rattle.written_tree.specs.declared.fault.FaultKind.TheVariants.{Twice, UnknownName};
 ghost use Rattle.name_resolution.specs.NameFaults.{unknown_in};
 ghost use Rattle.name_resolution.specs.Names.{reserved, swift_names};
 
@@ -30,7 +29,7 @@ impl Model for SymbolTable {
 }
 
 impl SymbolTable {
-    ghost use Rattle.name_resolution.specs.Symbols.{names_in, number_in, numbered, reserved_only, unnamed, unnumbered, with_definition, with_kept, with_name, with_next, with_reserved};
+    ghost use Rattle.name_resolution.specs.Symbols.{names_in, number_in, numbered, reserved_only, unnamed, unnumbered, with_definition, with_kept, with_name, with_reserved};
 
     /// No names, with room for `count`.
     pub(crate) fn with_capacity(alloc: Global, count: usize) -> Result<SymbolTable, Exhausted>
