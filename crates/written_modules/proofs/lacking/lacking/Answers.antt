@@ -1,7 +1,8 @@
-use Rattle.std.proofs.Common.{refl}
+use Rattle.std.proofs.Common.{ap}
+use Rattle.written_modules.specs.declared.value.Value.TheVariants.{Token}
 use Rattle.written_modules.specs.Lacking.{lacking, lacking_within}
 use Rattle.written_modules.proofs.lacking.lacking.Goals as goal
 
 pub returns-in-Read : goal.returns-in-Read
 unfolding lacking lacking_within
-returns-in-Read c = rw c.in-Read.is refl
+returns-in-Read c = rw c.in-Read.is (ap Token c.no_token.ensures)
