@@ -9,7 +9,7 @@ ghost use Rattle.type_definitions.specs.Mentions.{in_edge, in_inst, in_operand, 
 use crate::decls::{any_if_there, any_in_signature};
 use crate::tests::MentionTest;
 use instruction_table::{Op, makes_tuple, may_have_storage};
-use sil_ast::{Edge, Inst, Operand, Signature};
+use sil_ast::{Boxed, Edge, Inst, Operand, Signature};
 use type_definitions::Standing;
 
 pub(crate) fn any_in_inst<T: MentionTest>(test: &T, inst: &Inst) -> bool
@@ -32,11 +32,11 @@ fn standing_in(op: Op) -> Standing
     }
 }
 
-fn any_in_given_signature<T: MentionTest>(test: &T, signature: &Option<Signature>) -> bool
+fn any_in_given_signature<T: MentionTest>(test: &T, signature: &Option<Boxed<Signature>>) -> bool
     ensures { result ≡ list_any (T.holds test.now) (flat_map in_signature (option_to_list signature.now)) }
 {
     match signature {
-        Some(signature) => any_in_signature(test, signature),
+        Some(signature) => any_in_signature(test, signature.get()),
         None => false,
     }
 }

@@ -6,7 +6,7 @@ ghost use Rattle.std.specs.Option.{option_to_list};
 ghost use Rattle.type_definitions.specs.Mentions.{block_members, edge_members, function_members, inst_members};
 
 use crate::tests::MemberTest;
-use sil_ast::{Block, Edge, Function, Inst, Member};
+use sil_ast::{Block, Boxed, Edge, Function, Inst, Member};
 
 /// Whether the test holds of a member that an instruction of the function names.
 pub fn any_member_in_function<T: MemberTest>(test: &T, function: &Function) -> bool
@@ -43,11 +43,11 @@ fn any_in_inst<T: MemberTest>(test: &T, inst: &Inst) -> bool
     is_if_there(test, &inst.member) || any_in_edges(test, inst.edges.as_slice())
 }
 
-fn is_if_there<T: MemberTest>(test: &T, member: &Option<Member>) -> bool
+fn is_if_there<T: MemberTest>(test: &T, member: &Option<Boxed<Member>>) -> bool
     ensures { result ≡ list_any (T.fails test.now) (option_to_list member.now) }
 {
     match member {
-        Some(member) => test.of_member(member),
+        Some(member) => test.of_member(member.get()),
         None => false,
     }
 }
