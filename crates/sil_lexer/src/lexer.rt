@@ -32,7 +32,7 @@ pub fn lex(alloc: Global, text: &[u8]) -> Result<Tokens, LexStop>
     requires { IsInLimit text.now }
     ensures { IfOk result (IsLexingOf text.now) }
 {
-    let mut tokens = Vec::new(alloc);
+    let mut tokens = with_room(alloc, text.len() / 3)?;
     let mut at = skip(text, START);
     while (at.offset as usize) < text.len() {
         match token_at(&text[at.offset as usize..], at) {
@@ -44,6 +44,14 @@ pub fn lex(alloc: Global, text: &[u8]) -> Result<Tokens, LexStop>
         }
     }
     Ok(Tokens::new(tokens, None))
+}
+
+/// No tokens, with room for so many.
+fn with_room(alloc: Global, count: usize) -> Result<Vec<Token>, Exhausted>
+    ensures { IfOk result (λ tokens. tokens.items ≡ []) }
+{
+    let tokens = Vec::with_capacity(alloc, count)?;
+    Ok(tokens)
 }
 
 fn push(tokens: &mut Vec<Token>, token: Token) -> Result<(), Exhausted>

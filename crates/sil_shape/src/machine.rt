@@ -163,7 +163,8 @@ pub fn steps_of(alloc: Global, classes: &[Class]) -> Result<Vec<Step>, ShapeRefu
     ensures refused { IfErr result (IsRefusal classes.now) }
 {
     let mut stack = full_stack(alloc)?;
-    let mut steps = Vec::with_capacity(alloc, classes.len())?;
+    // each token takes a step of its own, and seldom more than two others
+    let mut steps = Vec::with_capacity(alloc, classes.len().saturating_mul(3))?;
     let mut table = ParseTable::new(alloc)?;
     for (place, class) in classes.iter().enumerate() {
         if !take(&mut stack, &mut steps, &mut table, *class)? {

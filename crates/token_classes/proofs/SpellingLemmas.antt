@@ -1,5 +1,5 @@
 -- A spelling is read as what it spells, and nothing else is.
-use Rattle.std.proofs.Common.{rules, ◌≡◌, ℕ, List, [], ◌∷◌, refl, ap, sym, ◌∙◌, Bool, true, false, bytes_eq, inl, inr, ◌⊎◌}
+use Rattle.std.proofs.Common.{rules, arith, ◌≡◌, ◌≢◌, ℕ, List, [], ◌∷◌, length, get_or, refl, ap, sym, subst, ◌∙◌, Bool, true, false, bytes_eq, inl, inr, ◌⊎◌}
 use Rattle.std.specs.Prelude.{Option, Some, None, cond, find, unwrap_or, IfSome}
 use Rattle.std.proofs.lemmas.Slice.Eq.{bytes_eq-Decides}
 use Rattle.instruction_table.specs.declared.op.Op.TheVariants as op
@@ -66,3 +66,32 @@ pub at_word_known : (name : List ℕ) (known : Option AtWord) (outcome : AtWord)
     → known ≡ known_at_word name → outcome ≡ unwrap_or known a.Other → (outcome ≡ a.Other) ⊎ (at_spelling outcome ≡ name)
 unfolding known_at_word
 at_word_known name known outcome f o = rw (o, f) (or_other at_spelling name a.Other (known_at_word name) (find_spelled at_spelling name at_words))
+
+-- punctuation of other than one byte is the arrow
+only_arrow : (bytes : List ℕ) (o : Option Punctuation) → IfSome o (λ m. punctuation_spelling m ≡ bytes) → length bytes ≢ 1 → punctuation_spelling m.Arrow ≢ bytes → None ≡ o
+unfolding punctuation_spelling
+only_arrow bytes None known several other = refl
+only_arrow bytes (Some m.Arrow) known several other = absurd (other known)
+only_arrow bytes (Some _) known several other = absurd (several (sym (ap length known)))
+
+bytes_eq-false : (xs ys : List ℕ) → bytes_eq xs ys ≡ false → ys ≢ xs
+bytes_eq-false xs ys h = search (rules, bytes_eq-Decides)
+
+punctuation_known : (bytes : List ℕ) (outcome : Option Punctuation) → outcome ≡ punctuation_of bytes → IfSome outcome (λ m. punctuation_spelling m ≡ bytes)
+unfolding punctuation_of
+punctuation_known bytes outcome same = rw same (find_spelled punctuation_spelling bytes signs)
+
+one_byte : (bytes : List ℕ) → length bytes ≡ 1 → get_or bytes 0 0 ∷ [] ≡ bytes
+one_byte [] one = absurd (omega (arith, one))
+one_byte (b ∷ []) one = refl
+one_byte (b ∷ c ∷ bytes) one = absurd (omega (arith, one))
+
+pub is_mark : (bytes : List ℕ) (outcome : Option Punctuation) → length bytes ≡ 1 → outcome ≡ punctuation_of (get_or bytes 0 0 ∷ []) → IfSome outcome (λ m. punctuation_spelling m ≡ bytes)
+is_mark bytes outcome one same = punctuation_known bytes outcome (same ∙ ap punctuation_of (one_byte bytes one))
+
+pub is_arrow : (bytes arrow : List ℕ) → arrow ≡ punctuation_spelling m.Arrow → bytes_eq bytes arrow ≡ true → Some m.Arrow ≡ punctuation_of bytes
+is_arrow bytes arrow spelled same = sym (ap punctuation_of (bytes_eq-true bytes arrow same ∙ spelled) ∙ punctuation_of-punctuation_spelling m.Arrow)
+
+pub no_punctuation : (bytes arrow : List ℕ) → length bytes ≢ 1 → arrow ≡ punctuation_spelling m.Arrow → bytes_eq bytes arrow ≡ false → None ≡ punctuation_of bytes
+no_punctuation bytes arrow several spelled other =
+    only_arrow bytes (punctuation_of bytes) (punctuation_known bytes (punctuation_of bytes) refl) several (subst (λ a. a ≢ bytes) spelled (bytes_eq-false bytes arrow other))

@@ -1,6 +1,6 @@
 //! How the words, the names with `@` and the punctuation of the grammar are spelled, and which class a spelling has.
 
-ghost use Rattle.std.specs.Prelude.{◌≡◌, ◌⊎◌, IfSome};
+ghost use Rattle.std.specs.Prelude.{◌≡◌, ◌∷◌, [], ◌⊎◌, IfSome};
 ghost use Rattle.token_classes.specs.declared.classes.Keyword.{Keyword};
 ghost use Rattle.token_classes.specs.declared.classes.AtWord.{AtWord};
 ghost use Rattle.token_classes.specs.declared.classes.Punctuation.{Punctuation};
@@ -152,35 +152,45 @@ pub fn at_word(name: &[u8]) -> AtWord
     known_at_word(name).unwrap_or(AtWord::Other)
 }
 
+/// The punctuation of one byte.
+#[tactic(auto, unfolding(crate::specs::Spelling::punctuation_of, crate::specs::Spelling::signs, crate::specs::Spelling::punctuation_spelling))]
+fn mark(byte: u8) -> Option<Punctuation>
+    ensures { result ≡ punctuation_of (byte ∷ []) }
+{
+    match byte {
+        b'{' => Some(Punctuation::LeftBrace),
+        b'}' => Some(Punctuation::RightBrace),
+        b'(' => Some(Punctuation::LeftParen),
+        b')' => Some(Punctuation::RightParen),
+        b'[' => Some(Punctuation::LeftBracket),
+        b']' => Some(Punctuation::RightBracket),
+        b'<' => Some(Punctuation::Less),
+        b'>' => Some(Punctuation::Greater),
+        b',' => Some(Punctuation::Comma),
+        b':' => Some(Punctuation::Colon),
+        b'.' => Some(Punctuation::Dot),
+        b'?' => Some(Punctuation::Question),
+        b'*' => Some(Punctuation::Star),
+        b'=' => Some(Punctuation::Equals),
+        b'!' => Some(Punctuation::Bang),
+        b'$' => Some(Punctuation::Dollar),
+        b'#' => Some(Punctuation::Hash),
+        _ => None,
+    }
+}
+
 /// The punctuation that these bytes spell, if they spell one.
-#[tactic(auto, unfolding(crate::specs::Spelling::punctuation_of, crate::specs::Spelling::signs))]
 pub fn punctuation(bytes: &[u8]) -> Option<Punctuation>
     ensures value { result ≡ punctuation_of bytes.now }
 
     ensures known { IfSome result (λ m. punctuation_spelling m ≡ bytes.now) }
 {
-    let signs: &[Punctuation] = &[
-        Punctuation::LeftBrace,
-        Punctuation::RightBrace,
-        Punctuation::LeftParen,
-        Punctuation::RightParen,
-        Punctuation::LeftBracket,
-        Punctuation::RightBracket,
-        Punctuation::Less,
-        Punctuation::Greater,
-        Punctuation::Comma,
-        Punctuation::Colon,
-        Punctuation::Dot,
-        Punctuation::Question,
-        Punctuation::Star,
-        Punctuation::Equals,
-        Punctuation::Bang,
-        Punctuation::Dollar,
-        Punctuation::Hash,
-        Punctuation::Arrow,
-    ];
-    signs
-        .iter()
-        .copied()
-        .find(|punctuation| punctuation_spelling(*punctuation) == bytes)
+    if bytes.len() == 1 {
+        return mark(bytes[0]);
+    }
+    if bytes == punctuation_spelling(Punctuation::Arrow) {
+        Some(Punctuation::Arrow)
+    } else {
+        None
+    }
 }

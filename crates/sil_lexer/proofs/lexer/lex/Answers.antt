@@ -15,8 +15,8 @@ loop-at-init c =
     record {
       placed = c.skip-at.ensures.placed;
       no_gap = c.skip-at.ensures.no_more;
-      inside = subst (All (IsInside text)) (sym c.new-tokens.ensures.items) (All-nil (IsInside text));
-      before = subst (λ tokens. LexedBefore text tokens c.skip-at.result) (sym c.new-tokens.ensures.items) (lexed_none text _ c.skip-at.result refl c.skip-at.ensures);
+      inside = subst (All (IsInside text)) (sym c.in_ok-tokens.ensures) (All-nil (IsInside text));
+      before = subst (λ tokens. LexedBefore text tokens c.skip-at.result) (sym c.in_ok-tokens.ensures) (lexed_none text _ c.skip-at.result refl c.skip-at.ensures);
     }
 
 pub token_at-requires-clause-room : goal.token_at-requires-clause-room
