@@ -5,5 +5,6 @@ pub mod PickedMarks
 pub mod Together
 pub mod FirstShown
 pub mod Touching
+pub mod Starts
 pub mod OwnEntries
 pub mod OneSubject

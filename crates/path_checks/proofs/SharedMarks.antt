@@ -73,8 +73,8 @@ unmarked (Some m ∷ marks) subject n (suc d) e none =
     All-cons (λ (e : Entry). e.subject ≡ subject → ⊥) (record { subject = n; mark = m }) (shared_from (n + 1) marks) (λ same. omega arith) (unmarked marks subject (n + 1) d (omega arith) none)
 
 -- what has the subjects of the items that share, and those with a mark, has all that these items touch
-pub sharing_touched : (first count : ℕ) (entries : List (Vec Entry Global)) (marks : List (Option Mark)) (sharing : List Bool) (own : List (Vec ℕ Global)) (together : List ℕ) →
-    ((i : ℕ) → HasTouched first count (accesses_at entries i) (accesses_at own i)) → HasMarked first count marks together → HasSharing (accesses_at own) sharing together →
+pub sharing_touched : (first count : ℕ) (entries : List (Vec Entry Global)) (marks : List (Option Mark)) (sharing : List Bool) (own : ℕ → List ℕ) (together : List ℕ) →
+    ((i : ℕ) → HasTouched first count (accesses_at entries i) (own i)) → HasMarked first count marks together → HasSharing own sharing together →
     (i : ℕ) → is_sharing sharing i ≡ true → HasTouched first count (entries_with entries marks sharing i) together
 sharing_touched first count entries marks sharing own together all marked has i shares u lu none =
     let P : Entry → Type 0 = λ e. e.subject ≡ first + u → ⊥ in

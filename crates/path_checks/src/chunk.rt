@@ -10,10 +10,12 @@ ghost use Rattle.path_checks.specs.Shared as shared;
 ghost use Rattle.path_checks.specs.Shared.{entries_with, shared_if};
 ghost use Rattle.path_checks.specs.Order.{IsOrderOf};
 ghost use Rattle.path_checks.specs.Chunks.{IsRising, HasTouched};
+ghost use Rattle.path_checks.specs.Touched.{touched_at};
 
 use crate::entry::Entry;
 use crate::order::entries_of;
 use crate::sharing::{is_sharing, mark_of};
+use crate::touched::Touched;
 use path_patterns::{Mark, turn};
 use reach_engine::{Family, Step};
 
@@ -27,15 +29,15 @@ pub struct Chunk<'a> {
     pub sharing: &'a [bool],
     pub first: usize,
     pub count: usize,
-    pub touched: Vec<Vec<u32>>,
+    pub touched: Touched,
     pub together: Vec<u32>,
     ghost few: { count ≤ 1024 },
     ghost fits: { first + count ≤ 2 ^ 32 },
-    ghost size: { length touched.items ≡ length entries.now },
+    ghost size: { length touched.starts.items ≡ length entries.now + 1 },
     ghost ordered_size: { length ordered.now ≡ length entries.now },
     ghost order: { (i : ℕ) → IsOrderOf (accesses_at entries.now i) (accesses_at ordered.now i) },
-    ghost rising: { (i : ℕ) → IsRising count (accesses_at touched.items i) },
-    ghost all: { (i : ℕ) → HasTouched first count (accesses_at entries.now i) (accesses_at touched.items i) },
+    ghost rising: { (i : ℕ) → IsRising count (touched_at touched.subjects.items touched.starts.items i) },
+    ghost all: { (i : ℕ) → HasTouched first count (accesses_at entries.now i) (touched_at touched.subjects.items touched.starts.items i) },
     ghost together_rising: { IsRising count together.items },
     ghost together_all: { (i : ℕ) → shared.is_sharing sharing.now i ≡ true → HasTouched first count (entries_with entries.now marks.now sharing.now i) together.items },
 }
@@ -122,7 +124,7 @@ fn step_item(
 impl Family for Chunk<'_> {
     ghost step_of = { λ c u. subject_step (entries_with c.entries.now c.marks.now c.sharing.now) (c.first + u) };
 
-    ghost touched_of = { λ c i. cond (shared.is_sharing c.sharing.now i) c.together.items (accesses_at c.touched.items i) };
+    ghost touched_of = { λ c i. cond (shared.is_sharing c.sharing.now i) c.together.items (touched_at c.touched.subjects.items c.touched.starts.items i) };
 
     ghost subject_count = { λ c. c.count };
 
@@ -158,7 +160,7 @@ impl Family for Chunk<'_> {
         if is_sharing(self.sharing, item) {
             self.together.as_slice()
         } else {
-            self.touched[item].as_slice()
+            self.touched.by(item)
         }
     }
 }

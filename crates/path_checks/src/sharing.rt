@@ -1,10 +1,11 @@
 //! The entries that items share, and the subjects that an item touches which has them.
 
 ghost use Rattle.std.specs.Prelude.{◌≡◌, ℕ, ◌+◌, ◌<◌, ◌≤◌, ◌^◌, IfOk, OnOk, All, Contains, None, slice_get, unwrap_or};
-ghost use Rattle.path_patterns.specs.Reads.{accesses_at};
 ghost use Rattle.path_checks.specs.Chunks.{IsRising, HasMarked, HasSharing};
 ghost use Rattle.path_checks.specs.Shared as shared;
+ghost use Rattle.path_checks.specs.Touched.{touched_at};
 
+use crate::touched::Touched;
 use path_patterns::Mark;
 use sil_ast::Exhausted;
 use std::alloc::Global;
@@ -51,14 +52,14 @@ fn marked_subjects(
 }
 
 /// Adds what each item that shares touches by its own entries.
-fn add_own(touched: &mut Vec<u32>, own: &[Vec<u32>], sharing: &[bool]) -> Result<(), Exhausted>
-    ensures below { OnOk result ((count : ℕ) → All (λ u. u < count) touched.old.items → ((i : ℕ) → All (λ u. u < count) (accesses_at own.now i)) → All (λ u. u < count) touched.new.items) }
+fn add_own(touched: &mut Vec<u32>, own: &Touched, sharing: &[bool]) -> Result<(), Exhausted>
+    ensures below { OnOk result ((count : ℕ) → All (λ u. u < count) touched.old.items → ((i : ℕ) → All (λ u. u < count) (touched_at own.now.subjects.items own.now.starts.items i)) → All (λ u. u < count) touched.new.items) }
     ensures kept { OnOk result ((u : ℕ) → Contains touched.old.items u → Contains touched.new.items u) }
-    ensures own { OnOk result (HasSharing (accesses_at own.now) sharing.now touched.new.items) }
+    ensures own { OnOk result (HasSharing (touched_at own.now.subjects.items own.now.starts.items) sharing.now touched.new.items) }
 {
-    for item in 0..own.len() {
+    for item in 0..own.items() {
         if is_sharing(sharing, item) {
-            touched.extend_from_slice(own[item].as_slice())?;
+            touched.extend_from_slice(own.by(item))?;
         }
     }
     Ok(())
@@ -67,7 +68,7 @@ fn add_own(touched: &mut Vec<u32>, own: &[Vec<u32>], sharing: &[bool]) -> Result
 /// What the items that share touch together, if `own` has what each item touches by its own entries: each as its distance from `first`, in ascending order.
 pub fn touched_by_sharing(
     alloc: Global,
-    own: &[Vec<u32>],
+    own: &Touched,
     marks: &[Option<Mark>],
     sharing: &[bool],
     first: usize,
@@ -75,10 +76,10 @@ pub fn touched_by_sharing(
 ) -> Result<Vec<u32>, Exhausted>
     requires few { count ≤ 1024 }
     requires fits { first + count ≤ 2 ^ 32 }
-    requires rising { (i : ℕ) → IsRising count (accesses_at own.now i) }
+    requires rising { (i : ℕ) → IsRising count (touched_at own.now.subjects.items own.now.starts.items i) }
     ensures rising { IfOk result (λ v. IsRising count v.items) }
     ensures marked { IfOk result (λ v. HasMarked first count marks.now v.items) }
-    ensures own { IfOk result (λ v. HasSharing (accesses_at own.now) sharing.now v.items) }
+    ensures own { IfOk result (λ v. HasSharing (touched_at own.now.subjects.items own.now.starts.items) sharing.now v.items) }
 {
     let mut touched = marked_subjects(alloc, marks, first, count)?;
     add_own(&mut touched, own, sharing)?;

@@ -3,6 +3,7 @@
 ghost use Rattle.std.specs.Prelude.{◌≡◌, ℕ, ◌+◌, ◌<◌, ◌≤◌, ◌^◌, IfOk, OnOk, length, All};
 ghost use Rattle.path_patterns.specs.Reads.{accesses_at};
 ghost use Rattle.path_checks.specs.Chunks.{IsRising, HasTouched, PutIn};
+ghost use Rattle.path_checks.specs.Touched.{AreStarts, touched_at};
 
 use crate::entry::Entry;
 use sil_ast::Exhausted;
@@ -29,24 +30,53 @@ fn put_in(
     Ok(())
 }
 
-/// The subjects that the entries name, of the `count` ones from `first` on, each as its distance from `first`, in ascending order.
-fn touched_by(
-    alloc: Global,
+/// The subjects that each item touches: those of an item behind those of the item before.
+#[derive(Drop)]
+pub struct Touched {
+    pub subjects: Vec<u32>,
+    /// Where those of each item begin, and behind the last item the end of all.
+    pub starts: Vec<usize>,
+    ghost are: { AreStarts subjects.items starts.items },
+    ghost some: { 0 < length starts.items },
+}
+
+impl Touched {
+    /// How many items there are.
+    pub fn items(&self) -> usize
+        ensures { result + 1 ≡ length self.now.starts.items }
+    {
+        self.starts.len() - 1
+    }
+
+    /// The subjects that the item touches.
+    pub fn by(&self, item: usize) -> &[u32]
+        requires { item + 1 < length self.now.starts.items }
+        ensures { result.now ≡ touched_at self.now.subjects.items self.now.starts.items item }
+    {
+        let first = self.starts[item];
+        let end = self.starts[item + 1];
+        &self.subjects[first..end]
+    }
+}
+
+/// Makes `touched` the subjects that the entries name, of the `count` ones from `first` on, each as its distance from `first`, in ascending order.
+fn make_touched(
+    touched: &mut Vec<u32>,
     entries: &[Entry],
     first: usize,
     count: usize,
-) -> Result<Vec<u32>, Exhausted>
+) -> Result<(), Exhausted>
     requires { count ≤ 1024 }
-    ensures rising { IfOk result (λ v. IsRising count v.items) }
-    ensures all { IfOk result (λ v. HasTouched first count entries.now v.items) }
+    ensures rising { OnOk result (IsRising count touched.new.items) }
+    ensures all { OnOk result (HasTouched first count entries.now touched.new.items) }
 {
-    let mut touched = Vec::new(alloc);
+    touched.clear();
     for entry in entries {
-        put_in(&mut touched, entry.subject as usize, first, count)?;
+        put_in(touched, entry.subject as usize, first, count)?;
     }
     touched.sort()?;
     touched.dedup();
-    Ok(touched)
+    Ok(())
 }
 
 /// The same for the entries of every item.
@@ -55,17 +85,22 @@ pub fn touched_subjects(
     entries: &[Vec<Entry>],
     first: usize,
     count: usize,
-) -> Result<Vec<Vec<u32>>, Exhausted>
+) -> Result<Touched, Exhausted>
     requires { count ≤ 1024 }
-    ensures size { IfOk result (λ v. length v.items ≡ length entries.now) }
-    ensures rising { IfOk result (λ v. (i : ℕ) → IsRising count (accesses_at v.items i)) }
-    ensures all { IfOk result (λ v. (i : ℕ) → HasTouched first count (accesses_at entries.now i) (accesses_at v.items i)) }
+    ensures size { IfOk result (λ t. length t.starts.items ≡ length entries.now + 1) }
+    ensures rising { IfOk result (λ t. (i : ℕ) → IsRising count (touched_at t.subjects.items t.starts.items i)) }
+    ensures all { IfOk result (λ t. (i : ℕ) → HasTouched first count (accesses_at entries.now i) (touched_at t.subjects.items t.starts.items i)) }
 {
-    let mut touched = Vec::with_capacity(alloc, entries.len())?;
+    let mut subjects = Vec::with_capacity(alloc, entries.len())?;
+    let mut starts = Vec::with_capacity(alloc, entries.len() + 1)?;
+    let mut own = Vec::new(alloc);
+    starts.push(0)?;
     for item in entries {
-        touched.push(touched_by(alloc, item.as_slice(), first, count)?)?;
+        make_touched(&mut own, item.as_slice(), first, count)?;
+        subjects.extend_from_slice(own.as_slice())?;
+        starts.push(subjects.len())?;
     }
-    Ok(touched)
+    Ok(Touched { subjects, starts })
 }
 
 /// A number above every subject, and not below `least`.

@@ -154,88 +154,79 @@ pub fn known_effects<F: Family>(
     Ok(effects)
 }
 
-/// The bundle behind the items, each of which is passed.
-fn passed_rows<F: Family>(
-    alloc: Global,
+/// The bundle behind the items, each of which is passed. What `rows` holds doesn't matter: the bundle is made there.
+fn pass_rows<F: Family>(
     family: &F,
     width: usize,
     items: &[usize],
     bundle: &[u64],
+    rows: &mut [u64],
     bad: &mut [u64],
-) -> Result<Vec<u64>, Exhausted>
+)
     requires fits { F.subject_count family.now ≤ 64 * width }
     requires width { width ≤ 16 }
     requires items { All (λ i. i < F.item_count family.now) items.now }
     requires bundle { length bundle.now ≡ F.state_count family.now * width }
+    requires rows { length rows.old ≡ F.state_count family.now * width }
     requires bad { length bad.old ≡ width }
-    ensures size { IfOk result (λ v. length v.items ≡ F.state_count family.now * width) }
-    ensures moved { IfOk result (λ v. AllMoved (F.step_of family.now) (F.state_count family.now) (F.subject_count family.now) width items.now bundle.now v.items bad.old bad.new) }
+    ensures { AllMoved (F.step_of family.now) (F.state_count family.now) (F.subject_count family.now) width items.now bundle.now rows.new bad.old bad.new }
 {
-    let mut rows = bundle.to_vec(alloc)?;
-    pass_all(family, width, items, rows.as_mut_slice(), bad);
-    Ok(rows)
+    rows.copy_from_slice(bundle);
+    pass_all(family, width, items, rows, bad);
 }
 
-/// The bundle behind the block's items, as the block's effects say.
-fn applied_rows<F: Family>(
-    alloc: Global,
+/// The bundle behind the block's items, as the block's effects say. What `rows` holds doesn't matter: the bundle is made there.
+fn apply_rows<F: Family>(
     family: &F,
     g: &Graph,
     width: usize,
     block: BlockId,
     effects: &[u64],
     bundle: &[u64],
+    rows: &mut [u64],
     bad: &mut [u64],
-) -> Result<Vec<u64>, Exhausted>
+)
     requires fits { F.subject_count family.now ≤ 64 * width }
     requires width { width ≤ 16 }
     requires block { block.0 < block_count (numbered g.now) }
     requires bundle { length bundle.now ≡ F.state_count family.now * width }
+    requires rows { length rows.old ≡ F.state_count family.now * width }
     requires bad { length bad.old ≡ width }
     requires some { length effects.now ≢ 0 }
     requires effects { AreKnown (numbered g.now) (F.step_of family.now) (F.state_count family.now) (F.subject_count family.now) width effects.now }
-    ensures size { IfOk result (λ v. length v.items ≡ F.state_count family.now * width) }
-    ensures moved { IfOk result (λ v. AllMoved (F.step_of family.now) (F.state_count family.now) (F.subject_count family.now) width (items_at (numbered g.now) block.0) bundle.now v.items bad.old bad.new) }
+    ensures { AllMoved (F.step_of family.now) (F.state_count family.now) (F.subject_count family.now) width (items_at (numbered g.now) block.0) bundle.now rows.new bad.old bad.new }
 {
     let states = family.states() as usize;
-    let mut rows = vec![in alloc; 0u64; states * width]?;
     let from = block.0 as usize * (states * ((states + 1) * width));
-    apply(
-        effects,
-        from,
-        states,
-        width,
-        bundle,
-        rows.as_mut_slice(),
-        bad,
-    );
-    Ok(rows)
+    rows.fill(0);
+    apply(effects, from, states, width, bundle, rows, bad);
 }
 
 /// The bundle behind the block's items: by the block's effects where they are known, and else item by item.
-pub fn moved_rows<F: Family>(
-    alloc: Global,
+/// What `rows` holds doesn't matter: the bundle is made there.
+pub fn move_rows<F: Family>(
     family: &F,
     g: &Graph,
     width: usize,
     block: BlockId,
     effects: &[u64],
     bundle: &[u64],
+    rows: &mut [u64],
     bad: &mut [u64],
-) -> Result<Vec<u64>, Exhausted>
+)
     requires items { F.item_count family.now ≡ item_count g.now }
     requires fits { F.subject_count family.now ≤ 64 * width }
     requires width { width ≤ 16 }
     requires block { block.0 < block_count (numbered g.now) }
     requires bundle { length bundle.now ≡ F.state_count family.now * width }
+    requires rows { length rows.old ≡ F.state_count family.now * width }
     requires bad { length bad.old ≡ width }
     requires effects { AreKnown (numbered g.now) (F.step_of family.now) (F.state_count family.now) (F.subject_count family.now) width effects.now }
-    ensures size { IfOk result (λ v. length v.items ≡ F.state_count family.now * width) }
-    ensures moved { IfOk result (λ v. AllMoved (F.step_of family.now) (F.state_count family.now) (F.subject_count family.now) width (items_at (numbered g.now) block.0) bundle.now v.items bad.old bad.new) }
+    ensures { AllMoved (F.step_of family.now) (F.state_count family.now) (F.subject_count family.now) width (items_at (numbered g.now) block.0) bundle.now rows.new bad.old bad.new }
 {
     if effects.is_empty() {
-        passed_rows(alloc, family, width, g.items_of(block), bundle, bad)
+        pass_rows(family, width, g.items_of(block), bundle, rows, bad);
     } else {
-        applied_rows(alloc, family, g, width, block, effects, bundle, bad)
+        apply_rows(family, g, width, block, effects, bundle, rows, bad);
     }
 }

@@ -10,7 +10,7 @@ ghost use Rattle.reach_engine.specs.Reached.{AreExact, AreBad, EdgeTaken, EdgesT
 
 use crate::bits::{merge, set_bit};
 use crate::bundle::turn_all;
-use crate::effect::{known_effects, moved_rows};
+use crate::effect::{known_effects, move_rows};
 use crate::family::Family;
 use sil_ast::{BlockId, EdgeId, Exhausted};
 use sil_cfg::Graph;
@@ -52,184 +52,190 @@ fn take_edge<F: Family>(
 }
 
 /// Moves the rows of one block over its items and along its edges, marks the blocks that gain a subject, and tells whether there are any.
+/// What `bundle` and `copy` hold doesn't matter: they are memory for the block's rows, and for what an edge makes of them.
 fn take_block<F: Family>(
-    alloc: Global,
     family: &F,
     g: &Graph,
     width: usize,
     block: BlockId,
     effects: &[u64],
+    bundle: &mut [u64],
+    copy: &mut [u64],
     rows: &mut [u64],
     bad: &mut [u64],
     dirty: &mut [bool],
-) -> Result<bool, Exhausted>
+) -> bool
     requires items { F.item_count family.now ≡ item_count g.now }
     requires fits { F.subject_count family.now ≤ 64 * width }
     requires width { width ≤ 16 }
     requires block { block.0 < block_count (numbered g.now) }
     requires effects { AreKnown (numbered g.now) (F.step_of family.now) (F.state_count family.now) (F.subject_count family.now) width effects.now }
+    requires bundle { length bundle.old ≡ F.state_count family.now * width }
+    requires copy { length copy.old ≡ F.state_count family.now * width }
     requires rows { length rows.old ≡ block_count (numbered g.now) * (F.state_count family.now * width) }
     requires bad { length bad.old ≡ width }
     requires dirty { length dirty.old ≡ block_count (numbered g.now) }
-    ensures taken { IfOk result (BlockTaken (numbered g.now) (F.step_of family.now) (F.state_count family.now) (F.subject_count family.now) width block.0 rows.old rows.new bad.old bad.new) }
-    ensures marks { IfOk result (MarksGains (F.state_count family.now) (F.subject_count family.now) width rows.old rows.new dirty.old dirty.new) }
+    ensures taken { BlockTaken (numbered g.now) (F.step_of family.now) (F.state_count family.now) (F.subject_count family.now) width block.0 rows.old rows.new bad.old bad.new result }
+    ensures marks { MarksGains (F.state_count family.now) (F.subject_count family.now) width rows.old rows.new dirty.old dirty.new result }
 {
     let row = family.states() as usize * width;
     let first = block.0 as usize * row;
     let old = &rows[first..first + row];
-    let bundle = moved_rows(alloc, family, g, width, block, effects, old, bad)?;
-    let is_new = take_edges(
-        alloc,
-        family,
-        g,
-        width,
-        block,
-        bundle.as_slice(),
-        rows,
-        bad,
-        dirty,
-    )?;
-    Ok(is_new)
+    move_rows(family, g, width, block, effects, old, bundle, bad);
+    take_edges(family, g, width, block, bundle, copy, rows, bad, dirty)
 }
 
-/// Moves a bundle along each edge of the block.
+/// Moves a bundle along each edge of the block. What `copy` holds doesn't matter.
 fn take_edges<F: Family>(
-    alloc: Global,
     family: &F,
     g: &Graph,
     width: usize,
     block: BlockId,
     bundle: &[u64],
+    copy: &mut [u64],
     rows: &mut [u64],
     bad: &mut [u64],
     dirty: &mut [bool],
-) -> Result<bool, Exhausted>
+) -> bool
     requires items { F.item_count family.now ≡ item_count g.now }
     requires fits { F.subject_count family.now ≤ 64 * width }
     requires width { width ≤ 16 }
     requires block { block.0 < block_count (numbered g.now) }
     requires bundle { length bundle.now ≡ F.state_count family.now * width }
+    requires copy { length copy.old ≡ F.state_count family.now * width }
     requires rows { length rows.old ≡ block_count (numbered g.now) * (F.state_count family.now * width) }
     requires bad { length bad.old ≡ width }
     requires dirty { length dirty.old ≡ block_count (numbered g.now) }
-    ensures taken { IfOk result (EdgesTaken (numbered g.now) (F.step_of family.now) (F.state_count family.now) (F.subject_count family.now) width block.0 bundle.now rows.old rows.new bad.old bad.new (edge_count (numbered g.now) block.0)) }
-    ensures marks { IfOk result (MarksGains (F.state_count family.now) (F.subject_count family.now) width rows.old rows.new dirty.old dirty.new) }
+    ensures taken { EdgesTaken (numbered g.now) (F.step_of family.now) (F.state_count family.now) (F.subject_count family.now) width block.0 bundle.now rows.old rows.new bad.old bad.new (edge_count (numbered g.now) block.0) result }
+    ensures marks { MarksGains (F.state_count family.now) (F.subject_count family.now) width rows.old rows.new dirty.old dirty.new result }
 {
     let mut is_new = false;
     for index in 0..g.edges(block) {
         let edge = EdgeId { block, index };
-        let mut copy = bundle.to_vec(alloc)?;
+        copy.copy_from_slice(bundle);
         let target = g.edge_to(edge).0 as usize;
-        if take_edge(family, g, width, edge, copy.as_mut_slice(), rows, bad) {
+        if take_edge(family, g, width, edge, copy, rows, bad) {
             is_new = true;
             dirty[target] = true;
         }
     }
-    Ok(is_new)
+    is_new
 }
 
 /// Takes the block if it is dirty, and tells whether it was.
 fn take_dirty<F: Family>(
-    alloc: Global,
     family: &F,
     g: &Graph,
     width: usize,
     block: BlockId,
     effects: &[u64],
+    bundle: &mut [u64],
+    copy: &mut [u64],
     rows: &mut [u64],
     bad: &mut [u64],
     dirty: &mut [bool],
-) -> Result<bool, Exhausted>
+) -> bool
     requires items { F.item_count family.now ≡ item_count g.now }
     requires fits { F.subject_count family.now ≤ 64 * width }
     requires width { width ≤ 16 }
     requires block { block.0 < block_count (numbered g.now) }
     requires effects { AreKnown (numbered g.now) (F.step_of family.now) (F.state_count family.now) (F.subject_count family.now) width effects.now }
+    requires bundle { length bundle.old ≡ F.state_count family.now * width }
+    requires copy { length copy.old ≡ F.state_count family.now * width }
     requires settled { IsSettled (numbered g.now) (F.step_of family.now) (F.state_count family.now) (F.subject_count family.now) width rows.old bad.old dirty.old }
-    ensures { IfOk result (DirtyTaken (numbered g.now) (F.step_of family.now) (F.state_count family.now) (F.subject_count family.now) width block.0 rows.old rows.new bad.new dirty.old dirty.new) }
+    ensures { DirtyTaken (numbered g.now) (F.step_of family.now) (F.state_count family.now) (F.subject_count family.now) width block.0 rows.old rows.new bad.new dirty.old dirty.new result }
 {
     let at = block.0 as usize;
     if !dirty[at] {
-        return Ok(false);
+        return false;
     }
     dirty[at] = false;
-    take_block(alloc, family, g, width, block, effects, rows, bad, dirty)?;
-    Ok(true)
+    take_block(
+        family, g, width, block, effects, bundle, copy, rows, bad, dirty,
+    );
+    true
 }
 
 /// Takes each dirty block once, counts these visits, and tells whether there was one.
 fn sweep<F: Family>(
-    alloc: Global,
     family: &F,
     g: &Graph,
     width: usize,
     effects: &[u64],
+    bundle: &mut [u64],
+    copy: &mut [u64],
     rows: &mut [u64],
     bad: &mut [u64],
     dirty: &mut [bool],
     visits: &mut usize,
-) -> Result<bool, Exhausted>
+) -> bool
     requires items { F.item_count family.now ≡ item_count g.now }
     requires fits { F.subject_count family.now ≤ 64 * width }
     requires width { width ≤ 16 }
     requires effects { AreKnown (numbered g.now) (F.step_of family.now) (F.state_count family.now) (F.subject_count family.now) width effects.now }
+    requires bundle { length bundle.old ≡ F.state_count family.now * width }
+    requires copy { length copy.old ≡ F.state_count family.now * width }
     requires settled { IsSettled (numbered g.now) (F.step_of family.now) (F.state_count family.now) (F.subject_count family.now) width rows.old bad.old dirty.old }
-    ensures { IfOk result (Swept (numbered g.now) (F.step_of family.now) (F.state_count family.now) (F.subject_count family.now) width rows.old rows.new bad.new dirty.old dirty.new (block_count (numbered g.now))) }
+    ensures { Swept (numbered g.now) (F.step_of family.now) (F.state_count family.now) (F.subject_count family.now) width rows.old rows.new bad.new dirty.old dirty.new (block_count (numbered g.now)) result }
 {
     let mut changed = false;
     for block in 0..g.blocks() {
         if take_dirty(
-            alloc,
             family,
             g,
             width,
             BlockId(block),
             effects,
+            bundle,
+            copy,
             rows,
             bad,
             dirty,
-        )? {
+        ) {
             changed = true;
             *visits = visits.saturating_add(1);
         }
     }
-    Ok(changed)
+    changed
 }
 
 /// Goes on until no block is dirty, with the effects of the blocks.
 fn settle_by<F: Family>(
-    alloc: Global,
     family: &F,
     g: &Graph,
     width: usize,
     effects: &[u64],
+    bundle: &mut [u64],
+    copy: &mut [u64],
     rows: &mut [u64],
     bad: &mut [u64],
     dirty: &mut [bool],
-) -> Result<(), Exhausted>
+)
     requires items { F.item_count family.now ≡ item_count g.now }
     requires fits { F.subject_count family.now ≤ 64 * width }
     requires width { width ≤ 16 }
     requires effects { AreKnown (numbered g.now) (F.step_of family.now) (F.state_count family.now) (F.subject_count family.now) width effects.now }
+    requires bundle { length bundle.old ≡ F.state_count family.now * width }
+    requires copy { length copy.old ≡ F.state_count family.now * width }
     requires settled { IsSettled (numbered g.now) (F.step_of family.now) (F.state_count family.now) (F.subject_count family.now) width rows.old bad.old dirty.old }
-    ensures { OnOk result (IsClosed (numbered g.now) (F.step_of family.now) (F.state_count family.now) (F.subject_count family.now) width rows.new bad.new) }
+    ensures { IsClosed (numbered g.now) (F.step_of family.now) (F.state_count family.now) (F.subject_count family.now) width rows.new bad.new }
 {
     let mut visits = 0;
     let mut changed = true;
     while changed {
         changed = sweep(
-            alloc,
             family,
             g,
             width,
             effects,
+            bundle,
+            copy,
             rows,
             bad,
             dirty,
             &mut visits,
-        )?;
+        );
     }
-    Ok(())
 }
 
 /// Goes on until no block is dirty. Where blocks are visited often, their effects are found, and used from then on.
@@ -238,6 +244,8 @@ fn settle<F: Family>(
     family: &F,
     g: &Graph,
     width: usize,
+    bundle: &mut [u64],
+    copy: &mut [u64],
     rows: &mut [u64],
     bad: &mut [u64],
     dirty: &mut [bool],
@@ -245,6 +253,8 @@ fn settle<F: Family>(
     requires items { F.item_count family.now ≡ item_count g.now }
     requires fits { F.subject_count family.now ≤ 64 * width }
     requires width { width ≤ 16 }
+    requires bundle { length bundle.old ≡ F.state_count family.now * width }
+    requires copy { length copy.old ≡ F.state_count family.now * width }
     requires settled { IsSettled (numbered g.now) (F.step_of family.now) (F.state_count family.now) (F.subject_count family.now) width rows.old bad.old dirty.old }
     ensures { OnOk result (IsClosed (numbered g.now) (F.step_of family.now) (F.state_count family.now) (F.subject_count family.now) width rows.new bad.new) }
 {
@@ -252,22 +262,35 @@ fn settle<F: Family>(
     let mut visits = 0;
     let mut changed = true;
     while changed && visits < few {
-        changed = sweep(alloc, family, g, width, &[], rows, bad, dirty, &mut visits)?;
+        changed = sweep(
+            family,
+            g,
+            width,
+            &[],
+            bundle,
+            copy,
+            rows,
+            bad,
+            dirty,
+            &mut visits,
+        );
     }
     if !changed {
         return Ok(());
     }
     let effects = known_effects(alloc, family, g, width)?;
     settle_by(
-        alloc,
         family,
         g,
         width,
         effects.as_slice(),
+        bundle,
+        copy,
         rows,
         bad,
         dirty,
-    )
+    );
+    Ok(())
 }
 
 /// Puts each subject into the first row.
@@ -305,8 +328,21 @@ fn fill<F: Family>(
     ensures { OnOk result (IsClosed (numbered g.now) (F.step_of family.now) (F.state_count family.now) (F.subject_count family.now) width rows.new bad.new) }
 {
     let _blocks = g.blocks();
+    let row = family.states() as usize * width;
+    let mut bundle = vec![in alloc; 0u64; row]?;
+    let mut copy = vec![in alloc; 0u64; row]?;
     seed(rows, family.subjects());
-    settle(alloc, family, g, width, rows, bad, dirty)
+    settle(
+        alloc,
+        family,
+        g,
+        width,
+        bundle.as_mut_slice(),
+        copy.as_mut_slice(),
+        rows,
+        bad,
+        dirty,
+    )
 }
 
 /// The rows that walks reach, and the subjects that some walk brings to a bad item.

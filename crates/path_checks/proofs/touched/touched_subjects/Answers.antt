@@ -1,37 +1,71 @@
-use Rattle.std.proofs.Common.{◌≡◌, ◌≢◌, ◌+◌, ◌<◌, ◌≤◌, ℕ, List, [], ◌∷◌, ◌++◌, length, sym, ap, ◌∙◌, subst, ◌⊎◌, inl, inr, arith}
-use Rattle.std.specs.declared.vec.Vec.{Vec}
-use Rattle.std.specs.declared.alloc.Global.{Global}
+use Rattle.std.proofs.Common.{◌≡◌, ◌≢◌, ◌+◌, ◌<◌, ◌≤◌, ℕ, List, [], ◌∷◌, ◌++◌, length, sym, ap, ◌∙◌, subst, ◌⊎◌, inl, inr, arith, length-append}
+use Rattle.std.specs.Prelude.{slice_index_or}
 use Rattle.std.proofs.lemmas.Bool.{cases_eq, cases_lt}
 use Rattle.sil_cfg.proofs.Gets.{length_push}
 use Rattle.path_patterns.specs.Reads.{accesses_at}
 use Rattle.path_checks.specs.declared.entry.Entry.{Entry}
 use Rattle.path_checks.specs.Chunks.{IsRising, HasTouched}
-use Rattle.path_checks.proofs.Accesses.{accesses_there, accesses_past, accesses_kept, accesses_last, accesses_more, accesses_each}
+use Rattle.path_checks.specs.Touched.{AreStarts, touched_at}
+use Rattle.path_checks.proofs.Accesses.{accesses_there, accesses_past}
+use Rattle.path_checks.proofs.Starts.{last_start, starts_more, touched_kept, touched_last, touched_past}
 use Rattle.path_checks.proofs.Touching.{rising_none, touched_none}
 use Rattle.path_checks.proofs.touched.touched_subjects.Goals as goal
 
-rising_push : (count : ℕ) (touched : List (Vec ℕ Global)) (x : Vec ℕ Global) → ((i : ℕ) → IsRising count (accesses_at touched i)) → IsRising count x.items → (i : ℕ) → IsRising count (accesses_at (touched ++ x ∷ []) i)
-rising_push count touched x h is i = at (cases_lt i (length touched)) (cases_eq i (length touched))
+-- what holds of each item holds with one more
+one_more : (R : ℕ → List ℕ → Type 0) (old new : ℕ → List ℕ) (n : ℕ) → ((i : ℕ) → i < n → new i ≡ old i) → ((i : ℕ) → i < n → R i (old i)) → R n (new n) → (i : ℕ) → i < n + 1 → R i (new i)
+one_more R old new n same h is i lt = at (cases_eq i n)
   where
-    at : (i < length touched) ⊎ (length touched ≤ i) → (i ≡ length touched) ⊎ (i ≢ length touched) → IsRising count (accesses_at (touched ++ x ∷ []) i)
-    at (inl lt) e = subst (IsRising count) (sym (accesses_kept touched x i lt)) (h i)
-    at (inr le) (inl e) = subst (IsRising count) (sym (accesses_last touched x i e)) is
-    at (inr le) (inr n) = let past : length (touched ++ x ∷ []) ≤ i = (let l : length (touched ++ x ∷ []) ≡ length touched + 1 = length_push touched x in omega arith) in
-        subst (IsRising count) (sym (accesses_past (touched ++ x ∷ []) i past)) (rising_none count)
+    at : (i ≡ n) ⊎ (i ≢ n) → R i (new i)
+    at (inl e) = subst (λ k. R k (new k)) (sym e) is
+    at (inr ne) = subst (R i) (sym (same i (omega arith))) (h i (omega arith))
+
+moved : (P : List ℕ → List ℕ → Type 0) (xs ys ks ls : List ℕ) → xs ≡ ys → ks ≡ ls → P ys ls → P xs ks
+moved P xs ys ks ls e f p = subst (λ v. P v ks) (sym e) (subst (P ys) (sym f) p)
 
 pub loop-item-preserved : goal.loop-item-preserved
 loop-item-preserved c =
-    let here : accesses_at c.args.entries.now c.loop-item.item-index ≡ c.as_slice.result.now = accesses_there c.args.entries.now c.loop-item.item-index c.item-item.result (omega arith) c.item-item.is ∙ sym c.as_slice.ensures.value in
-    let new : c.push.new.self.items ≡ c.loop-item.touched.items ++ c.in_ok-touched_by.field-0 ∷ [] = c.in_ok-push.ensures.items in
-    let P : List (Vec ℕ Global) → Type 0 = λ v. (i : ℕ) → IsRising c.args.count (accesses_at v i) in
-    let Q : List (Vec ℕ Global) → Type 0 = λ v. (i : ℕ) → i < c.loop-item.item-index + 1 → HasTouched c.args.first c.args.count (accesses_at c.args.entries.now i) (accesses_at v i) in
-    let R : List Entry → Type 0 = λ v. HasTouched c.args.first c.args.count v c.in_ok-touched_by.field-0.items in
+    let n = c.loop-item.item-index in
+    let subjects = c.loop-item.subjects.items in
+    let starts = c.loop-item.starts.items in
+    let own = c.make_touched.new.touched.items in
+    let x = c.len.result in
+    let entries = c.args.entries.now in
+    let size : length starts ≡ n + 1 = c.loop-item.invariant.size in
+    let last : slice_index_or starts n 0 ≡ length subjects = c.loop-item.invariant.last in
+    let here : accesses_at entries n ≡ c.as_slice.result.now = accesses_there entries n c.item-item.result (omega arith) c.item-item.is ∙ sym c.as_slice.ensures.value in
+    let added : c.extend_from_slice.new.self.items ≡ subjects ++ own = c.in_ok-extend_from_slice.ensures.items ∙ ap (λ v. subjects ++ v) c.as_slice-in-loop-item.ensures.value in
+    let grown : c.push-in-loop-item.new.self.items ≡ starts ++ x ∷ [] = c.in_ok-push-2.ensures.items in
+    let whole : length c.extend_from_slice.new.self.items ≡ length subjects + length own = ap length added ∙ length-append subjects own in
+    let end : x ≡ length subjects + length own = omega arith in
+    let kept = touched_kept subjects starts own x n size last end c.loop-item.invariant.are in
+    let is_last : touched_at (subjects ++ own) (starts ++ x ∷ []) n ≡ own = touched_last subjects starts own x n size last end in
+    let R : ℕ → List ℕ → Type 0 = λ i v. IsRising c.args.count v in
+    let H : ℕ → List ℕ → Type 0 = λ i v. HasTouched c.args.first c.args.count (accesses_at entries i) v in
+    let E : List Entry → Type 0 = λ es. HasTouched c.args.first c.args.count es own in
     record {
-      size = ap length new ∙ length_push c.loop-item.touched.items c.in_ok-touched_by.field-0 ∙ ap (λ n. n + 1) c.loop-item.invariant.size;
-      rising = subst P (sym new) (rising_push c.args.count c.loop-item.touched.items c.in_ok-touched_by.field-0 c.loop-item.invariant.rising c.in_ok-touched_by.ensures.rising);
-      all = subst Q (sym new) (accesses_more (HasTouched c.args.first c.args.count) c.args.entries.now c.loop-item.touched.items c.item-item.result c.in_ok-touched_by.field-0 c.loop-item.item-index c.loop-item.invariant.size (here ∙ c.as_slice.ensures.value)
-          c.loop-item.invariant.all (subst R c.as_slice.ensures.value c.in_ok-touched_by.ensures.all));
+      size = ap length grown ∙ length_push starts x ∙ ap (λ k. k + 1) size;
+      last = ap (λ v. slice_index_or v (n + 1) 0) grown ∙ last_start subjects starts own x n size last end ∙ end ∙ sym (length-append subjects own) ∙ sym (ap length added);
+      are = moved AreStarts _ _ _ _ added grown (starts_more subjects starts own x n size last end c.loop-item.invariant.are);
+      rising = moved (λ v w. (i : ℕ) → i < n + 1 → IsRising c.args.count (touched_at v w i)) _ _ _ _ added grown
+          (one_more R (touched_at subjects starts) (touched_at (subjects ++ own) (starts ++ x ∷ [])) n kept c.loop-item.invariant.rising (subst (IsRising c.args.count) (sym is_last) c.in_ok-make_touched.ensures.rising));
+      all = moved (λ v w. (i : ℕ) → i < n + 1 → H i (touched_at v w i)) _ _ _ _ added grown
+          (one_more H (touched_at subjects starts) (touched_at (subjects ++ own) (starts ++ x ∷ [])) n kept c.loop-item.invariant.all (subst (H n) (sym is_last) (subst E (sym here) c.in_ok-make_touched.ensures.all)));
     }
 
+pub returns-clause-rising : goal.returns-clause-rising
+returns-clause-rising c = λ i. at i (cases_lt i c.loop-item.item-index)
+  where
+    at : (i : ℕ) → (i < c.loop-item.item-index) ⊎ (c.loop-item.item-index ≤ i) → IsRising c.args.count (touched_at c.loop-item.subjects.items c.loop-item.starts.items i)
+    at i (inl lt) = c.loop-item.invariant.rising i lt
+    at i (inr le) =
+        let size : length c.loop-item.starts.items ≡ c.loop-item.item-index + 1 = c.loop-item.invariant.size in
+        subst (IsRising c.args.count) (sym (touched_past c.loop-item.subjects.items c.loop-item.starts.items i (omega arith))) (rising_none c.args.count)
+
 pub returns-clause-all : goal.returns-clause-all
-returns-clause-all c = accesses_each (HasTouched c.args.first c.args.count) c.args.entries.now c.loop-item.touched.items (c.loop-item.invariant.size ∙ omega arith) (λ i lt. c.loop-item.invariant.all i (omega arith)) (touched_none c.args.first c.args.count [])
+returns-clause-all c = λ i. at i (cases_lt i c.loop-item.item-index)
+  where
+    at : (i : ℕ) → (i < c.loop-item.item-index) ⊎ (c.loop-item.item-index ≤ i) → HasTouched c.args.first c.args.count (accesses_at c.args.entries.now i) (touched_at c.loop-item.subjects.items c.loop-item.starts.items i)
+    at i (inl lt) = c.loop-item.invariant.all i lt
+    at i (inr le) =
+        let E : List Entry → Type 0 = λ es. HasTouched c.args.first c.args.count es (touched_at c.loop-item.subjects.items c.loop-item.starts.items i) in
+        subst E (sym (accesses_past c.args.entries.now i (omega arith))) (touched_none c.args.first c.args.count (touched_at c.loop-item.subjects.items c.loop-item.starts.items i))

@@ -19,12 +19,12 @@ loop-index-preserved g c =
       bad_size = c.take_edge.auto.bad ∙ c.loop-index.invariant.bad_size;
       taken = edges_more (numbered c.args.g.now) (g.F.Family.step_of c.args.family.now) (g.F.Family.state_count c.args.family.now) (g.F.Family.subject_count c.args.family.now) c.args.width c.args.block.0 c.args.bundle.now c.args.rows.now c.loop-index.rows c.take_edge.new.rows c.args.bad.now c.loop-index.bad c.take_edge.new.bad c.loop-index.index c.loop-index.is_new c.take_edge.result c.if-take_edge.is_new
           (omega arith) c.loop-index.invariant.taken
-          (subst P (c.as_mut_slice.ensures.value ∙ c.in_ok-copy.ensures.items_if_clones_equal (λ x y e. e)) c.take_edge.ensures)
+          (subst P c.copy_from_slice.ensures.after c.take_edge.ensures)
           (elim c.if-take_edge.branch [ then-take_edge w ↦ inl (w.if-take_edge.true, w.is_new-is) | else-take_edge w ↦ inr (w.if-take_edge.false, w.is_new-is) ]);
       dirty_size = dirty_at;
       marks = marks_more (numbered c.args.g.now) (g.F.Family.step_of c.args.family.now) (g.F.Family.state_count c.args.family.now) (g.F.Family.subject_count c.args.family.now) c.args.width (edge_id c.args.block.0 c.loop-index.index) c.args.bundle.now c.args.rows.now c.loop-index.rows c.take_edge.new.rows c.loop-index.bad c.take_edge.new.bad c.args.dirty.now c.loop-index.dirty c.if-take_edge.dirty c.loop-index.is_new c.take_edge.result c.if-take_edge.is_new
           within c.loop-index.invariant.marks
-          (subst P (c.as_mut_slice.ensures.value ∙ c.in_ok-copy.ensures.items_if_clones_equal (λ x y e. e)) c.take_edge.ensures)
+          (subst P c.copy_from_slice.ensures.after c.take_edge.ensures)
           (elim c.if-take_edge.branch [
             | then-take_edge w ↦ inl (w.if-take_edge.true, w.is_new-is, w.dirty-is ∙ ap (λ k. set c.loop-index.dirty k true) there)
             | else-take_edge w ↦ inr (w.if-take_edge.false, w.is_new-is, w.dirty-is)

@@ -1,4 +1,4 @@
-use Rattle.std.proofs.Common.{◌≡◌, ◌+◌, ◌<◌, ℕ, List, sym, ap, ◌∙◌, subst, All, arith}
+use Rattle.std.proofs.Common.{◌+◌, ◌<◌, ℕ, List, sym, ap, ◌∙◌, subst, All}
 use Rattle.std.specs.Prelude.{Contains}
 use Rattle.std.specs.List.Sorted.{IsStrictlyIncreasing}
 use Rattle.reach_engine.specs.declared.scan.Step.TheVariants.{Go}
@@ -8,7 +8,6 @@ use Rattle.path_patterns.specs.Switch.{mark_step}
 use Rattle.path_checks.specs.declared.entry.Entry.{Entry}
 use Rattle.path_checks.specs.Entries.{means}
 use Rattle.path_checks.specs.Shared.{entries_with}
-use Rattle.path_checks.proofs.Accesses.{accesses_there}
 use Rattle.path_checks.proofs.OtherSubjects.{quiet_run}
 use Rattle.path_checks.proofs.SharedMarks.{own_alone}
 use Rattle.path_checks.proofs.chunk.ChunkFamily.touched.Goals as goal
@@ -28,20 +27,16 @@ returns-then-is_sharing-clause-others c = λ u s lu ls none.
     (c.args.self.now.together_all c.args.item (sym c.is_sharing.ensures ∙ c.if-is_sharing.true) u lu (λ x. none (subst P (sym c.as_slice.ensures.value) x)))
 
 pub returns-else-is_sharing-clause-ascending : goal.returns-else-is_sharing-clause-ascending
-returns-else-is_sharing-clause-ascending c =
-    let same : accesses_at c.args.self.now.touched.items c.args.item ≡ c.as_slice-else-is_sharing.result.now = accesses_there c.args.self.now.touched.items c.args.item c.index.result.now (omega (arith, c.args.self.now.size)) c.index.ensures ∙ sym c.as_slice-else-is_sharing.ensures.value in
-    subst IsStrictlyIncreasing same (c.args.self.now.rising c.args.item).ascending
+returns-else-is_sharing-clause-ascending c = subst IsStrictlyIncreasing (sym c.by.ensures) (c.args.self.now.rising c.args.item).ascending
 
 pub returns-else-is_sharing-clause-below : goal.returns-else-is_sharing-clause-below
 returns-else-is_sharing-clause-below c =
-    let same : accesses_at c.args.self.now.touched.items c.args.item ≡ c.as_slice-else-is_sharing.result.now = accesses_there c.args.self.now.touched.items c.args.item c.index.result.now (omega (arith, c.args.self.now.size)) c.index.ensures ∙ sym c.as_slice-else-is_sharing.ensures.value in
     let P : List ℕ → Type 0 = λ v. All (λ u. u < c.args.self.now.count) v in
-    subst P same (c.args.self.now.rising c.args.item).below
+    subst P (sym c.by.ensures) (c.args.self.now.rising c.args.item).below
 
 pub returns-else-is_sharing-clause-others : goal.returns-else-is_sharing-clause-others
 returns-else-is_sharing-clause-others c = λ u s lu ls none.
-    let same : accesses_at c.args.self.now.touched.items c.args.item ≡ c.as_slice-else-is_sharing.result.now = accesses_there c.args.self.now.touched.items c.args.item c.index.result.now (omega (arith, c.args.self.now.size)) c.index.ensures ∙ sym c.as_slice-else-is_sharing.ensures.value in
     let P : List ℕ → Type 0 = λ v. Contains v u in
     let alone = own_alone c.args.self.now.entries.now c.args.self.now.marks.now c.args.self.now.sharing.now c.args.item (sym c.is_sharing.ensures ∙ c.if-is_sharing.false) in
     ap (λ (v : List Entry). run (read_step mark_step (means (c.args.self.now.first + u))) (Go s) v) alone
-    ∙ quiet_run (c.args.self.now.first + u) s (accesses_at c.args.self.now.entries.now c.args.item) (c.args.self.now.all c.args.item u lu (λ x. none (subst P same x)))
+    ∙ quiet_run (c.args.self.now.first + u) s (accesses_at c.args.self.now.entries.now c.args.item) (c.args.self.now.all c.args.item u lu (λ x. none (subst P (sym c.by.ensures) x)))

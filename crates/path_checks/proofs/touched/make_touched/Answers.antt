@@ -5,7 +5,7 @@ use Rattle.std.proofs.lemmas.List.Filters.{dedup_is}
 use Rattle.path_checks.specs.declared.entry.Entry.{Entry}
 use Rattle.path_checks.specs.Chunks.{HasTouched}
 use Rattle.path_checks.proofs.Touching.{touched_more, below_more, rising_sorted, touched_sorted}
-use Rattle.path_checks.proofs.touched.touched_by.Goals as goal
+use Rattle.path_checks.proofs.touched.make_touched.Goals as goal
 
 pub loop-entry-preserved : goal.loop-entry-preserved
 loop-entry-preserved c = record {

@@ -1,6 +1,6 @@
 use Rattle.std.proofs.Common.{◌<◌, take, All}
 use Rattle.path_checks.specs.Chunks.{HasTouched}
-use Rattle.path_checks.proofs.touched.touched_by.Given as goal
+use Rattle.path_checks.proofs.touched.make_touched.Given as goal
 
 abbrev pub invariant-loop-entry : goal.invariant-loop-entry
 invariant-loop-entry l = record {
