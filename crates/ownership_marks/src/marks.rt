@@ -236,7 +236,7 @@ pub(crate) fn all_marks(
 {
     let mut taken = Vec::new(alloc);
     let mut defined = Vec::new(alloc);
-    let mut all = Vec::new(alloc);
+    let mut all = Vec::with_capacity(alloc, g.items())?;
     for i in 0..g.items() {
         let marks = marks_of_item(alloc, table, f, g.item(i), &mut taken, &mut defined)?;
         all.push(marks)?;

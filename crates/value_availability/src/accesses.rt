@@ -156,7 +156,7 @@ pub fn entries_by_item(alloc: Global, f: &Function, g: &Graph) -> Result<Vec<Vec
     ensures size { IfOk result (λ v. length v.items ≡ item_count g.now) }
     ensures entries { IfOk result (λ v. AgreesWith g.now (accesses_at v.items) (accesses_of f.now)) }
 {
-    let mut all = Vec::new(alloc);
+    let mut all = Vec::with_capacity(alloc, g.items())?;
     for i in 0..g.items() {
         all.push(entries_of(alloc, f, g.item(i))?)?;
     }
