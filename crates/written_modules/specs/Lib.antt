@@ -10,4 +10,3 @@ pub mod Found
 pub mod Lacking
 pub mod Opened
 pub mod Variants
-pub mod Sections

@@ -7,7 +7,7 @@ ghost use Rattle.written_modules.specs.PartFaults.{fault_of_part};
 ghost use Rattle.written_modules.specs.RowMeaning.{bare_operand, edges_at, number_by, typed_by, with_part};
 
 use crate::build_numbers::number_by;
-use crate::list_faults::many_operands_fault;
+use crate::faults::too_many_operands;
 use crate::nothing::skip;
 use crate::passed_on::{second_of_three, second_of_two, third_of_three};
 use crate::prepended::Prepended;
@@ -136,14 +136,14 @@ pub(crate) fn put_part(
                 &mut inst.operands,
                 second_of_three(values).into_tokens(alloc),
             )?;
-            fault = many_operands_fault(&inst.operands);
+            fault = too_many_operands(&inst.operands);
         }
         Part::TypedArgs => {
             append(
                 &mut inst.operands,
                 second_of_three(values).into_operands(alloc),
             )?;
-            fault = many_operands_fault(&inst.operands);
+            fault = too_many_operands(&inst.operands);
         }
         Part::ResultType => inst.ty = Some(third_of_three(values).into_type(alloc).ty),
         Part::SignatureWord => {
