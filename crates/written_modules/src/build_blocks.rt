@@ -135,7 +135,7 @@ pub(crate) fn one_name(alloc: Global, values: &mut Prepended<Value>) -> Result<V
     ensures { IfOk result (λ value. reduced Production.InstOneName values.old ≡ value ∷ values.new) }
 {
     let name = values.pop_front().into_token();
-    let mut results = List::new(alloc);
+    let mut results = List::with_capacity(alloc, 1)?;
     results.push(name)?;
     skip(values);
     named(alloc, values.pop_front().into_inst(alloc), results)

@@ -30,7 +30,7 @@ pub(crate) fn operand(alloc: Global, values: &mut Prepended<Value>) -> Result<Va
     let star = values.pop_front();
     let ty = values.pop_front().into_type(alloc).ty;
     let ty = Some(starred(alloc, star, ty)?);
-    Ok(Value::Operand(Boxed::new(alloc, WrittenOperand { name, ty })?))
+    Ok(Value::Operand(WrittenOperand { name, ty }))
 }
 
 /// An operand, and the operands behind it.
@@ -70,7 +70,7 @@ pub(crate) fn switch_case(alloc: Global, values: &mut Prepended<Value>) -> Resul
     ensures { IfOk result (λ value. reduced Production.SwitchCase values.old ≡ value ∷ values.new) }
 {
     skip(values);
-    let case_of = Some(values.pop_front().into_member(alloc));
+    let case_of = Some(values.pop_front().into_member(alloc)?);
     skip(values);
     let label = values.pop_front().into_token();
     let mut edges = values.pop_front().into_edges(alloc);
@@ -121,5 +121,5 @@ pub(crate) fn member(alloc: Global, values: &mut Prepended<Value>) -> Result<Val
     let owner = values.pop_front().into_text(alloc)?;
     skip(values);
     let name = values.pop_front().into_text(alloc)?;
-    Ok(Value::Member(Member { owner, name }))
+    Ok(Value::Member(Boxed::new(alloc, Member { owner, name })?))
 }

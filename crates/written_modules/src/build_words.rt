@@ -12,7 +12,7 @@ ghost use Rattle.written_modules.specs.Values.{debug_of};
 use crate::nothing::{no_debug, skip};
 use crate::prepended::Prepended;
 use crate::value::{Flags, Reduced, Value};
-use sil_ast::{Binding, Exhausted, Qualifier};
+use sil_ast::{Binding, Boxed, Exhausted, Qualifier};
 use sil_shape::grammar::Production;
 use std::alloc::Global;
 use written_numbers::small_number;
@@ -78,7 +78,7 @@ pub(crate) fn debug_name(alloc: Global, values: &mut Prepended<Value>) -> Result
     ensures { IfOk result (λ value. reduced Production.DebugName values.old ≡ value ∷ values.new) }
 {
     skip(values);
-    let name = values.pop_front().into_text(alloc)?;
+    let name = Boxed::new(alloc, values.pop_front().into_text(alloc)?)?;
     let mut debug = values.pop_front().into_debug();
     debug.name = Some(name);
     Ok(Value::Debug(debug))
