@@ -10,3 +10,4 @@ pub mod Found
 pub mod Lacking
 pub mod Opened
 pub mod Variants
+pub mod Sections

@@ -18,7 +18,10 @@ use std::alloc::Global;
 use written_tree::{WrittenArg, WrittenBlock, WrittenInst, WrittenToken};
 
 /// A block, and the blocks behind it.
-pub(crate) fn blocks_before(alloc: Global, values: &mut Prepended<Value>) -> Result<Value, Exhausted>
+pub(crate) fn blocks_before(
+    alloc: Global,
+    values: &mut Prepended<Value>,
+) -> Result<Value, Exhausted>
     requires { 2 ≤ length values.old }
     ensures { IfOk result (λ value. (first others : Value) × (values.old ≡ first ∷ others ∷ values.new) × (value ≡ v.Blocks (block_of first ∷ blocks_of others))) }
 {
@@ -51,7 +54,10 @@ pub(crate) fn names_before(alloc: Global, values: &mut Prepended<Value>) -> Resu
 }
 
 #[tactic(auto, unfolding(crate::specs::Replay::reduced, crate::specs::Meaning::meaning, crate::specs::PartFaults::part_fault, sil_shape::specs::Grammar::body))]
-pub(crate) fn whole_block(alloc: Global, values: &mut Prepended<Value>) -> Result<Reduced, Exhausted>
+pub(crate) fn whole_block(
+    alloc: Global,
+    values: &mut Prepended<Value>,
+) -> Result<Reduced, Exhausted>
     requires { 4 ≤ length values.old }
     ensures value { IfOk result (λ made. reduced Production.WholeBlock values.old ≡ made.value ∷ values.new) }
     ensures fault { IfOk result (λ made. made.fault ≡ part_fault Production.WholeBlock (parts_of Production.WholeBlock values.old)) }

@@ -31,7 +31,10 @@ fn declared(alloc: Global, decl: WrittenDecl, fault: Option<Fault>) -> Result<Re
 }
 
 #[tactic(auto, unfolding(crate::specs::Replay::reduced, crate::specs::Meaning::meaning, crate::specs::PartFaults::part_fault, sil_shape::specs::Grammar::body))]
-pub(crate) fn plain_class(alloc: Global, values: &mut Prepended<Value>) -> Result<Reduced, Exhausted>
+pub(crate) fn plain_class(
+    alloc: Global,
+    values: &mut Prepended<Value>,
+) -> Result<Reduced, Exhausted>
     requires { 5 ≤ length values.old }
     ensures value { IfOk result (λ made. reduced Production.PlainClass values.old ≡ made.value ∷ values.new) }
     ensures fault { IfOk result (λ made. made.fault ≡ part_fault Production.PlainClass (parts_of Production.PlainClass values.old)) }
@@ -47,7 +50,10 @@ pub(crate) fn plain_class(alloc: Global, values: &mut Prepended<Value>) -> Resul
 }
 
 #[tactic(auto, unfolding(crate::specs::Replay::reduced, crate::specs::Meaning::meaning, crate::specs::PartFaults::part_fault, sil_shape::specs::Grammar::body))]
-pub(crate) fn final_class(alloc: Global, values: &mut Prepended<Value>) -> Result<Reduced, Exhausted>
+pub(crate) fn final_class(
+    alloc: Global,
+    values: &mut Prepended<Value>,
+) -> Result<Reduced, Exhausted>
     requires { 6 ≤ length values.old }
     ensures value { IfOk result (λ made. reduced Production.FinalClass values.old ≡ made.value ∷ values.new) }
     ensures fault { IfOk result (λ made. made.fault ≡ part_fault Production.FinalClass (parts_of Production.FinalClass values.old)) }
@@ -64,7 +70,10 @@ pub(crate) fn final_class(alloc: Global, values: &mut Prepended<Value>) -> Resul
 }
 
 #[tactic(auto, unfolding(crate::specs::Replay::reduced, crate::specs::Meaning::meaning, crate::specs::PartFaults::part_fault, sil_shape::specs::Grammar::body))]
-pub(crate) fn struct_item(alloc: Global, values: &mut Prepended<Value>) -> Result<Reduced, Exhausted>
+pub(crate) fn struct_item(
+    alloc: Global,
+    values: &mut Prepended<Value>,
+) -> Result<Reduced, Exhausted>
     requires { 5 ≤ length values.old }
     ensures value { IfOk result (λ made. reduced Production.StructItem values.old ≡ made.value ∷ values.new) }
     ensures fault { IfOk result (λ made. made.fault ≡ part_fault Production.StructItem (parts_of Production.StructItem values.old)) }

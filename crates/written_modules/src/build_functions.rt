@@ -134,7 +134,10 @@ fn given_before(value: Value, others: GivenList) -> Result<GivenList, Exhausted>
 }
 
 /// A parameter, and the parameters behind it.
-pub(crate) fn params_before(alloc: Global, values: &mut Prepended<Value>) -> Result<Value, Exhausted>
+pub(crate) fn params_before(
+    alloc: Global,
+    values: &mut Prepended<Value>,
+) -> Result<Value, Exhausted>
     requires { 2 ≤ length values.old }
     ensures { IfOk result (λ value. (first others : Value) × (values.old ≡ first ∷ others ∷ values.new) × (value ≡ v.Params (param_before first (params_of others)))) }
 {
@@ -144,7 +147,10 @@ pub(crate) fn params_before(alloc: Global, values: &mut Prepended<Value>) -> Res
 }
 
 /// A result, and the results behind it.
-pub(crate) fn givens_before(alloc: Global, values: &mut Prepended<Value>) -> Result<Value, Exhausted>
+pub(crate) fn givens_before(
+    alloc: Global,
+    values: &mut Prepended<Value>,
+) -> Result<Value, Exhausted>
     requires { 2 ≤ length values.old }
     ensures { IfOk result (λ value. (first others : Value) × (values.old ≡ first ∷ others ∷ values.new) × (value ≡ v.Givens (given_before first (givens_of others)))) }
 {

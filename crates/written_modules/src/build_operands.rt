@@ -34,7 +34,10 @@ pub(crate) fn operand(alloc: Global, values: &mut Prepended<Value>) -> Result<Va
 }
 
 /// An operand, and the operands behind it.
-pub(crate) fn operands_before(alloc: Global, values: &mut Prepended<Value>) -> Result<Value, Exhausted>
+pub(crate) fn operands_before(
+    alloc: Global,
+    values: &mut Prepended<Value>,
+) -> Result<Value, Exhausted>
     requires { 2 ≤ length values.old }
     ensures { IfOk result (λ value. (first others : Value) × (values.old ≡ first ∷ others ∷ values.new) × (value ≡ v.Operands (operand_of first ∷ operands_of others))) }
 {

@@ -50,12 +50,7 @@ fn single_operands(parts: &[Part]) -> usize {
 }
 
 /// An instruction of which nothing is written but its mnemonic.
-fn begun(
-    alloc: Global,
-    op: Op,
-    mnemonic: Place,
-    parts: &[Part],
-) -> Result<WrittenInst, Exhausted>
+fn begun(alloc: Global, op: Op, mnemonic: Place, parts: &[Part]) -> Result<WrittenInst, Exhausted>
     ensures { IfOk result (λ inst. inst ≡ none.bare_inst op mnemonic) }
 {
     let mut inst = bare_inst(alloc, op, mnemonic);

@@ -224,7 +224,10 @@ pub(crate) fn weak_type(alloc: Global, values: &mut Prepended<Value>) -> Result<
 }
 
 #[tactic(auto, unfolding(crate::specs::Replay::reduced, crate::specs::Meaning::meaning, crate::specs::PartFaults::part_fault, sil_shape::specs::Grammar::body))]
-pub(crate) fn unowned_type(alloc: Global, values: &mut Prepended<Value>) -> Result<Reduced, Exhausted>
+pub(crate) fn unowned_type(
+    alloc: Global,
+    values: &mut Prepended<Value>,
+) -> Result<Reduced, Exhausted>
     requires { 2 ≤ length values.old }
     ensures value { IfOk result (λ made. reduced Production.UnownedOpen values.old ≡ made.value ∷ values.new) }
     ensures fault { IfOk result (λ made. made.fault ≡ part_fault Production.UnownedOpen (parts_of Production.UnownedOpen values.old)) }
@@ -256,7 +259,10 @@ pub(crate) fn named_base(alloc: Global, values: &mut Prepended<Value>) -> Result
 }
 
 #[tactic(auto, unfolding(crate::specs::Replay::reduced, crate::specs::Meaning::meaning, crate::specs::PartFaults::part_fault, sil_shape::specs::Grammar::body))]
-pub(crate) fn optional_of(alloc: Global, values: &mut Prepended<Value>) -> Result<Reduced, Exhausted>
+pub(crate) fn optional_of(
+    alloc: Global,
+    values: &mut Prepended<Value>,
+) -> Result<Reduced, Exhausted>
     requires { 3 ≤ length values.old }
     ensures value { IfOk result (λ made. reduced Production.OptionalOf values.old ≡ made.value ∷ values.new) }
     ensures fault { IfOk result (λ made. made.fault ≡ part_fault Production.OptionalOf (parts_of Production.OptionalOf values.old)) }
@@ -280,7 +286,10 @@ pub(crate) fn int_type(width: u8, values: &mut Prepended<Value>) -> Value
 }
 
 #[tactic(auto, unfolding(crate::specs::Replay::reduced, crate::specs::Meaning::meaning, sil_shape::specs::Grammar::body))]
-pub(crate) fn more_questions(alloc: Global, values: &mut Prepended<Value>) -> Result<Value, Exhausted>
+pub(crate) fn more_questions(
+    alloc: Global,
+    values: &mut Prepended<Value>,
+) -> Result<Value, Exhausted>
     requires { 2 ≤ length values.old }
     ensures { IfOk result (λ value. reduced Production.QuestionsMore values.old ≡ value ∷ values.new) }
 {

@@ -32,10 +32,7 @@ pub(crate) fn too_many<T: Placed>(
 pub(crate) fn too_many_arguments(firsts: &Prepended<Place>) -> Option<Fault>
     ensures { result ≡ faults.passed limit.Arguments ARGUMENTS firsts.now }
 {
-    passed(
-        LimitWord::Arguments,
-        firsts.get(limits::ARGUMENTS).copied(),
-    )
+    passed(LimitWord::Arguments, firsts.get(limits::ARGUMENTS).copied())
 }
 
 /// The fault of an instruction's operands that become too many.
@@ -133,8 +130,5 @@ fn too_deep_among(list: &TypeList, last: Place) -> Option<Fault>
 pub(crate) fn tuple_fault(list: &TypeList, last: Place) -> Option<Fault>
     ensures { result ≡ said.tuple_fault list.now last }
 {
-    earlier(
-        too_many_arguments(&list.firsts),
-        too_deep_among(list, last),
-    )
+    earlier(too_many_arguments(&list.firsts), too_deep_among(list, last))
 }
