@@ -30,8 +30,7 @@ fn replay_lacking(alloc: Global, steps: &[Step]) -> Result<Prepended<Value>, Exh
         match steps[i] {
             Step::Take => values.push_front(Value::Token(no_token()))?,
             Step::Expand(production) => {
-                let made = reduce(alloc, production, &mut values)?;
-                values.push_front(made.value)?;
+                reduce(alloc, production, &mut values)?;
             }
         }
     }
@@ -44,9 +43,9 @@ fn lacking_part(alloc: Global, part: Nonterminal) -> Result<Value, Exhausted>
 {
     let production = shortest(part);
     if body_length(production) == 0 {
-        let mut nothing = Prepended::new(alloc);
-        let made = reduce(alloc, production, &mut nothing)?;
-        return Ok(made.value);
+        let mut values = Prepended::new(alloc);
+        reduce(alloc, production, &mut values)?;
+        return Ok(values.pop_front());
     }
     let steps = shortest_steps(alloc, part)?;
     let mut values = replay_lacking(alloc, steps.as_slice())?;
