@@ -1,12 +1,12 @@
 //! What the symbols stand for that a front leaves to be written: their shortest texts, of which all tokens are lacking.
 
-ghost use Rattle.std.specs.Prelude.{◌≡◌, ◌+◌, ◌≤◌, [], ◌∷◌, length, reverse, IfOk, OnOk};
+ghost use Rattle.std.specs.Prelude.{◌≡◌, ◌+◌, ◌≤◌, List, [], ◌∷◌, length, reverse, IfOk, OnOk};
 ghost use Rattle.sil_shape.specs.Grammar.{body};
 ghost use Rattle.sil_shape.specs.declared.grammar.Symbol.TheVariants.{Part};
 ghost use Rattle.sil_shape.specs.Shortest.{Shortens};
 ghost use Rattle.sil_shape.specs.Values.{IsEnough};
 ghost use Rattle.written_modules.specs.Lacking.{lacking, Fills};
-ghost use Rattle.written_modules.specs.Replay.{replay};
+ghost use Rattle.written_modules.specs.Replay.{reduced, replay};
 
 use crate::nothing::no_token;
 use crate::prepended::Prepended;
@@ -37,15 +37,24 @@ fn replay_lacking(alloc: Global, steps: &[Step]) -> Result<Prepended<Value>, Exh
     Ok(values)
 }
 
+/// What a production stands for that writes nothing.
+#[tactic(auto, using(crate::proofs::LackingLemmas::some_reduced))]
+fn reduce_nothing(alloc: Global, production: Production) -> Result<Value, Exhausted>
+    requires { length (body production) ≡ 0 }
+    ensures { IfOk result (λ value. (rest : List Value) × (reduced production [] ≡ value ∷ rest)) }
+{
+    let mut values = Prepended::new(alloc);
+    reduce(alloc, production, &mut values)?;
+    Ok(values.pop_front())
+}
+
 /// What a part stands for. Nearly all shortest texts are empty, and take no steps to find.
 fn lacking_part(alloc: Global, part: Nonterminal) -> Result<Value, Exhausted>
     ensures { IfOk result (λ value. value ≡ lacking (Part part)) }
 {
     let production = shortest(part);
     if body_length(production) == 0 {
-        let mut values = Prepended::new(alloc);
-        reduce(alloc, production, &mut values)?;
-        return Ok(values.pop_front());
+        return reduce_nothing(alloc, production);
     }
     let steps = shortest_steps(alloc, part)?;
     let mut values = replay_lacking(alloc, steps.as_slice())?;

@@ -9,7 +9,8 @@ use Rattle.written_modules.proofs.lacking.lacking_part.Goals as goal
 
 pub returns-then-body_length-eq0 : goal.returns-then-body_length-eq0
 returns-then-body_length-eq0 c =
-    lacking_empty c.args.part _ _ _ _ c.shortest-production.ensures (omega (arith, c.body_length.ensures, c.if-body_length-eq0.true)) c.new-values.ensures (sym c.in_ok-reduce.ensures.values ∙ c.pop_front.ensures)
+    let h = c.reduce_nothing.ensures in
+    λ value is. lacking_empty c.args.part _ [] _ value c.shortest-production.ensures (omega (arith, c.body_length.ensures, c.if-body_length-eq0.true)) refl (h value is).1
 
 pub replay_lacking-requires : goal.replay_lacking-requires
 replay_lacking-requires c = subst IsEnough (sym c.as_slice.ensures.value) (enough_alone c.in_ok-steps.ensures)
