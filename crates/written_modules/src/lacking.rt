@@ -1,12 +1,13 @@
 //! What the symbols stand for that a front leaves to be written: their shortest texts, of which all tokens are lacking.
 
-ghost use Rattle.std.specs.Prelude.{◌≡◌, ◌+◌, ◌≤◌, List, [], ◌∷◌, length, reverse, IfOk, OnOk};
+ghost use Rattle.std.specs.Prelude.{◌≡◌, ◌+◌, ◌≤◌, [], ◌∷◌, length, reverse, IfOk, OnOk};
 ghost use Rattle.sil_shape.specs.Grammar.{body};
 ghost use Rattle.sil_shape.specs.declared.grammar.Symbol.TheVariants.{Part};
+ghost use Rattle.sil_shape.specs.Shortest as said;
 ghost use Rattle.sil_shape.specs.Shortest.{Shortens};
 ghost use Rattle.sil_shape.specs.Values.{IsEnough};
 ghost use Rattle.written_modules.specs.Lacking.{lacking, Fills};
-ghost use Rattle.written_modules.specs.Replay.{reduced, replay};
+ghost use Rattle.written_modules.specs.Replay.{replay};
 
 use crate::nothing::no_token;
 use crate::prepended::Prepended;
@@ -37,12 +38,12 @@ fn replay_lacking(alloc: Global, steps: &[Step]) -> Result<Prepended<Value>, Exh
     Ok(values)
 }
 
-/// What a production stands for that writes nothing.
-#[tactic(auto, using(crate::proofs::LackingLemmas::some_reduced))]
-fn reduce_nothing(alloc: Global, production: Production) -> Result<Value, Exhausted>
-    requires { length (body production) ≡ 0 }
-    ensures { IfOk result (λ value. (rest : List Value) × (reduced production [] ≡ value ∷ rest)) }
+/// What a part stands for whose shortest text is empty.
+fn empty_part(alloc: Global, part: Nonterminal) -> Result<Value, Exhausted>
+    requires { length (body (said.shortest part)) ≡ 0 }
+    ensures { IfOk result (λ value. value ≡ lacking (Part part)) }
 {
+    let production = shortest(part);
     let mut values = Prepended::new(alloc);
     reduce(alloc, production, &mut values)?;
     Ok(values.pop_front())
@@ -54,7 +55,7 @@ fn lacking_part(alloc: Global, part: Nonterminal) -> Result<Value, Exhausted>
 {
     let production = shortest(part);
     if body_length(production) == 0 {
-        return reduce_nothing(alloc, production);
+        return empty_part(alloc, part);
     }
     let steps = shortest_steps(alloc, part)?;
     let mut values = replay_lacking(alloc, steps.as_slice())?;
