@@ -1,5 +1,6 @@
 //! What an instruction says for a debugger.
 
+use crate::boxed::Boxed;
 use crate::exhausted::Exhausted;
 use crate::text::Text;
 use crate::try_clone::TryClone;
@@ -9,7 +10,7 @@ use std::alloc::Global;
 #[derive(Drop)]
 pub struct Debug {
     pub binding: Option<Binding>,
-    pub name: Option<Text>,
+    pub name: Option<Boxed<Text>>,
     pub argno: Option<u16>,
     pub deref: bool,
 }

@@ -1,5 +1,6 @@
 //! Instructions and terminators, each with the parts that its form has.
 
+use crate::boxed::Boxed;
 use crate::debug::Debug;
 use crate::exhausted::Exhausted;
 use crate::list::List;
@@ -14,7 +15,7 @@ use instruction_table::Op;
 use std::alloc::Global;
 
 /// An instruction or a terminator: `%2 = load [copy] %1 : $*Node`.
-/// A part that it doesn't have is empty, `None`, `Plain` or `false`.
+/// A part that it doesn't have is empty, `None`, `Plain` or `false`. Parts that few have stand in boxes, so that the others take less memory.
 #[derive(Drop)]
 pub struct Inst {
     pub op: Op,
@@ -25,14 +26,14 @@ pub struct Inst {
     /// The type that stands for itself: `$T` of `alloc_ref $T`, or of `builtin "..."(..) : $T`.
     pub ty: Option<TypeName>,
     /// The signature of `function_ref` and `apply`.
-    pub signature: Option<Signature>,
+    pub signature: Option<Boxed<Signature>>,
     /// `@f` of `function_ref @f`.
     pub function: Option<FuncId>,
-    pub member: Option<Member>,
+    pub member: Option<Boxed<Member>>,
     /// A literal as the signed residue of its width, or the number of a tuple's element, from 0.
     pub number: Option<i64>,
     /// The name of a builtin, or the message of `cond_fail`.
-    pub text: Option<Text>,
+    pub text: Option<Boxed<Text>>,
     pub qualifier: Qualifier,
     /// `[lexical]`
     pub lexical: bool,
@@ -59,7 +60,7 @@ pub enum Qualifier {
 pub struct Edge {
     pub block: BlockId,
     pub args: List<Operand>,
-    pub case_of: Option<Member>,
+    pub case_of: Option<Boxed<Member>>,
 }
 
 impl TryClone for Inst {

@@ -18,11 +18,11 @@ pub struct Operand {
     pub ty: Option<TypeName>,
 }
 
-/// A growing list of operands. Up to four stand in the value itself and take no memory.
+/// A growing list of operands. Up to two stand in the value itself and take no memory.
 /// To a contract it is the list of the operands.
 #[derive(Drop)]
 pub struct Operands {
-    items: SmallVec<Operand, 4>,
+    items: SmallVec<Operand, 2>,
 }
 
 impl Model for Operands {

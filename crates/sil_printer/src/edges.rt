@@ -8,7 +8,7 @@ ghost use Rattle.sil_printer.specs.CanonicalInsts.{block_name, default_word, edg
 use crate::operands::push_case_name;
 use crate::pieces::{push_bytes, push_decimal, push_parens_if_any, push_separator};
 use instruction_table::{Ending, Op, ending_of};
-use sil_ast::{Edge, Exhausted, Member};
+use sil_ast::{Boxed, Edge, Exhausted, Member};
 
 /// Puts the edges of an instruction behind `lead`.
 pub(crate) fn push_edges(
@@ -35,13 +35,17 @@ fn push_edge(out: &mut Vec<u8>, op: Op, edge: &Edge) -> Result<(), Exhausted>
     push_parens_if_any(out, edge.args.as_slice())
 }
 
-fn push_edge_word(out: &mut Vec<u8>, op: Op, case_of: &Option<Member>) -> Result<(), Exhausted>
+fn push_edge_word(
+    out: &mut Vec<u8>,
+    op: Op,
+    case_of: &Option<Boxed<Member>>,
+) -> Result<(), Exhausted>
     ensures { OnOk result (out.new.items ≡ out.old.items ++ edge_word op case_of.now) }
 {
     match case_of {
         Some(member) => {
             push_bytes(out, b"case ")?;
-            push_case_name(out, member)?;
+            push_case_name(out, member.get())?;
             push_bytes(out, b": ")
         }
         None => push_bytes(out, default_word(op)),

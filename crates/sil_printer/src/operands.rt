@@ -10,7 +10,9 @@ use crate::pieces::{
 };
 use crate::types::push_type;
 use instruction_table::{Detail, Op, detail_of};
-use sil_ast::{Exhausted, FuncId, Function, Member, Operand, Signature, Text, TypeName, ValueId};
+use sil_ast::{
+    Boxed, Exhausted, FuncId, Function, Member, Operand, Signature, Text, TypeName, ValueId,
+};
 
 impl Canonical for ValueId {
     ghost text = { value_text };
@@ -52,7 +54,7 @@ pub(crate) fn push_type_word(
 pub(crate) fn push_signature_word(
     out: &mut Vec<u8>,
     lead: &[u8],
-    signature: &Option<Signature>,
+    signature: &Option<Boxed<Signature>>,
 ) -> Result<(), Exhausted>
     ensures { OnOk result (out.new.items ≡ out.old.items ++ if_there lead.now signature_word signature.now) }
 {
@@ -60,7 +62,7 @@ pub(crate) fn push_signature_word(
         Some(signature) => {
             push_bytes(out, lead)?;
             push_bytes(out, b"$")?;
-            signature.push_to(out)
+            signature.get().push_to(out)
         }
         None => Ok(()),
     }
@@ -150,7 +152,7 @@ pub(crate) fn push_number(
 pub(crate) fn push_quoted(
     out: &mut Vec<u8>,
     lead: &[u8],
-    text: &Option<Text>,
+    text: &Option<Boxed<Text>>,
 ) -> Result<(), Exhausted>
     ensures { OnOk result (out.new.items ≡ out.old.items ++ if_there lead.now quoted text.now) }
 {
@@ -158,7 +160,7 @@ pub(crate) fn push_quoted(
         Some(text) => {
             push_bytes(out, lead)?;
             push_bytes(out, b"\"")?;
-            push_bytes(out, text.as_slice())?;
+            push_bytes(out, text.get().as_slice())?;
             push_bytes(out, b"\"")
         }
         None => Ok(()),
@@ -205,7 +207,7 @@ pub(crate) fn push_member(
     out: &mut Vec<u8>,
     lead: &[u8],
     op: Op,
-    member: &Option<Member>,
+    member: &Option<Boxed<Member>>,
 ) -> Result<(), Exhausted>
     ensures { OnOk result (out.new.items ≡ out.old.items ++ if_there lead.now (member_text op) member.now) }
 {
@@ -213,13 +215,13 @@ pub(crate) fn push_member(
         Some(member) => {
             push_bytes(out, lead)?;
             match detail_of(op) {
-                Detail::Case => push_case_name(out, member),
+                Detail::Case => push_case_name(out, member.get()),
                 Detail::Field
                 | Detail::NoDetail
                 | Detail::Literal
                 | Detail::Element
                 | Detail::Operation
-                | Detail::Message => push_field_name(out, member),
+                | Detail::Message => push_field_name(out, member.get()),
             }
         }
         None => Ok(()),

@@ -73,15 +73,17 @@ fault_lacking (step {ss = ss} {steps = steps} (Part part) h) =
     no_fault here (fault_lacking h)
 
 -- the values of a production's body were built, and others wait behind them
-pub reduced-waiting : (p : Production) (built left new : List Value) (value : Value) → length (body p) ≤ length built
-    → reduced p built ≡ value ∷ new → reduced p (built ++ left) ≡ value ∷ new ++ left
+pub reduced-waiting : (p : Production) (built left new : List Value) → length (body p) ≤ length built → new ≡ reduced p built → reduced p (built ++ left) ≡ new ++ left
 unfolding reduced
-reduced-waiting p built left new value enough is =
+reduced-waiting p built left new enough is =
     let front = take-append-le (length (body p)) built left enough in
     let rest = drop-append-le (length (body p)) built left enough in
-    let value_is : meaning p (take (length (body p)) built) ≡ value = cc is in
-    let new_is : drop (length (body p)) built ≡ new = cc is in
-    cc (front, rest, value_is, new_is)
+    let behind : new ++ left ≡ meaning p (take (length (body p)) built) ∷ (drop (length (body p)) built ++ left) = ap (λ vs. vs ++ left) is in
+    cc (front, rest, behind)
+
+pub some_reduced : (p : Production) (values new : List Value) → new ≡ reduced p values → 0 < length new
+unfolding reduced
+some_reduced p values new is = omega (arith, ap length is)
 
 pub parts-waiting : (p : Production) (built left : List Value) → length (body p) ≤ length built → parts_of p (built ++ left) ≡ parts_of p built
 parts-waiting p built left enough = take-append-le (length (body p)) built left enough

@@ -2,83 +2,81 @@
 
 ghost use Rattle.std.specs.Prelude.{◌≡◌, ◌∷◌, ◌≤◌, length, IfOk};
 ghost use Rattle.sil_shape.specs.declared.grammar.Production.{Production};
-ghost use Rattle.written_modules.specs.Replay.{reduced};
+ghost use Rattle.written_modules.specs.PartFaults.{part_fault};
+ghost use Rattle.written_modules.specs.Replay.{parts_of, reduced};
 ghost use Rattle.written_modules.specs.declared.value.Value.TheVariants as v;
-ghost use Rattle.written_modules.specs.Values.{starred};
+ghost use Rattle.written_modules.specs.Values.{arg_of, args_of, block_of, blocks_of, starred, token_of, tokens_of};
 
+use crate::faults::too_many;
 use crate::nothing::{discard, skip};
 use crate::prepended::Prepended;
-use crate::value::Value;
+use crate::value::{Reduced, Value};
 use sil_ast::{Boxed, Exhausted, List, TypeName};
+use sil_rules::{LimitWord, limits};
 use sil_shape::grammar::Production;
 use std::alloc::Global;
 use written_tree::{WrittenArg, WrittenBlock, WrittenInst, WrittenToken};
 
-#[tactic(auto, unfolding(crate::specs::Replay::reduced, crate::specs::Meaning::meaning, sil_shape::specs::Grammar::body))]
-pub(crate) fn some_body(alloc: Global, values: &mut Prepended<Value>) -> Result<Value, Exhausted>
-    requires { 4 ≤ length values.old }
-    ensures { IfOk result (λ value. reduced Production.BodySome values.old ≡ value ∷ values.new) }
+/// A block, and the blocks behind it.
+pub(crate) fn blocks_before(
+    alloc: Global,
+    values: &mut Prepended<Value>,
+) -> Result<Value, Exhausted>
+    requires { 2 ≤ length values.old }
+    ensures { IfOk result (λ value. (first others : Value) × (values.old ≡ first ∷ others ∷ values.new) × (value ≡ v.Blocks (block_of first ∷ blocks_of others))) }
 {
-    skip(values);
     let block = values.pop_front().into_block(alloc);
-    let mut blocks = values.pop_front().into_blocks(alloc);
-    skip(values);
-    blocks.push_front(block)?;
-    Ok(Value::Blocks(blocks))
+    let mut others = values.pop_front().into_blocks(alloc);
+    others.push_front(block)?;
+    Ok(Value::Blocks(others))
 }
 
-#[tactic(auto, unfolding(crate::specs::Replay::reduced, crate::specs::Meaning::meaning, sil_shape::specs::Grammar::body))]
-pub(crate) fn whole_block(alloc: Global, values: &mut Prepended<Value>) -> Result<Value, Exhausted>
+/// An argument of a block, and those behind it.
+pub(crate) fn args_before(alloc: Global, values: &mut Prepended<Value>) -> Result<Value, Exhausted>
+    requires { 2 ≤ length values.old }
+    ensures { IfOk result (λ value. (first others : Value) × (values.old ≡ first ∷ others ∷ values.new) × (value ≡ v.Args (arg_of first ∷ args_of others))) }
+{
+    let arg = values.pop_front().into_arg(alloc);
+    let mut others = values.pop_front().into_args(alloc);
+    others.push_front(arg)?;
+    Ok(Value::Args(others))
+}
+
+/// A name, and the names behind it.
+pub(crate) fn names_before(alloc: Global, values: &mut Prepended<Value>) -> Result<Value, Exhausted>
+    requires { 2 ≤ length values.old }
+    ensures { IfOk result (λ value. (first others : Value) × (values.old ≡ first ∷ others ∷ values.new) × (value ≡ v.Tokens (token_of first ∷ tokens_of others))) }
+{
+    let name = values.pop_front().into_token();
+    let mut others = values.pop_front().into_tokens(alloc);
+    others.push_front(name)?;
+    Ok(Value::Tokens(others))
+}
+
+#[tactic(auto, unfolding(crate::specs::Replay::reduced, crate::specs::Meaning::meaning, crate::specs::PartFaults::part_fault, sil_shape::specs::Grammar::body))]
+pub(crate) fn whole_block(
+    alloc: Global,
+    values: &mut Prepended<Value>,
+) -> Result<Reduced, Exhausted>
     requires { 4 ≤ length values.old }
-    ensures { IfOk result (λ value. reduced Production.WholeBlock values.old ≡ value ∷ values.new) }
+    ensures value { IfOk result (λ made. reduced Production.WholeBlock values.old ≡ made.value ∷ values.new) }
+    ensures fault { IfOk result (λ made. made.fault ≡ part_fault Production.WholeBlock (parts_of Production.WholeBlock values.old)) }
 {
     let label = values.pop_front().into_token();
-    let args = values.pop_front().into_args(alloc).into_list();
+    let args = values.pop_front().into_args(alloc);
     skip(values);
     let (insts, terminator) = values.pop_front().into_code(alloc)?;
+    let fault = too_many(LimitWord::Arguments, &args, limits::ARGUMENTS);
     let block = WrittenBlock {
         label,
-        args,
+        args: args.into_list(),
         insts: insts.into_list(),
         terminator: terminator.into_inner(),
     };
-    Ok(Value::Block(Boxed::new(alloc, block)?))
-}
-
-#[tactic(auto, unfolding(crate::specs::Replay::reduced, crate::specs::Meaning::meaning, sil_shape::specs::Grammar::body))]
-pub(crate) fn more_blocks(alloc: Global, values: &mut Prepended<Value>) -> Result<Value, Exhausted>
-    requires { 2 ≤ length values.old }
-    ensures { IfOk result (λ value. reduced Production.BlocksMore values.old ≡ value ∷ values.new) }
-{
-    let block = values.pop_front().into_block(alloc);
-    let mut blocks = values.pop_front().into_blocks(alloc);
-    blocks.push_front(block)?;
-    Ok(Value::Blocks(blocks))
-}
-
-#[tactic(auto, unfolding(crate::specs::Replay::reduced, crate::specs::Meaning::meaning, sil_shape::specs::Grammar::body))]
-pub(crate) fn some_args(alloc: Global, values: &mut Prepended<Value>) -> Result<Value, Exhausted>
-    requires { 4 ≤ length values.old }
-    ensures { IfOk result (λ value. reduced Production.BlockArgsSome values.old ≡ value ∷ values.new) }
-{
-    skip(values);
-    let arg = values.pop_front().into_arg(alloc);
-    let mut args = values.pop_front().into_args(alloc);
-    skip(values);
-    args.push_front(arg)?;
-    Ok(Value::Args(args))
-}
-
-#[tactic(auto, unfolding(crate::specs::Replay::reduced, crate::specs::Meaning::meaning, sil_shape::specs::Grammar::body))]
-pub(crate) fn more_args(alloc: Global, values: &mut Prepended<Value>) -> Result<Value, Exhausted>
-    requires { 3 ≤ length values.old }
-    ensures { IfOk result (λ value. reduced Production.MoreBlockArgsMore values.old ≡ value ∷ values.new) }
-{
-    skip(values);
-    let arg = values.pop_front().into_arg(alloc);
-    let mut args = values.pop_front().into_args(alloc);
-    args.push_front(arg)?;
-    Ok(Value::Args(args))
+    Ok(Reduced {
+        value: Value::Block(Boxed::new(alloc, block)?),
+        fault,
+    })
 }
 
 /// The type of an address behind a `*`, and else the type itself.
@@ -143,57 +141,24 @@ pub(crate) fn one_name(alloc: Global, values: &mut Prepended<Value>) -> Result<V
     ensures { IfOk result (λ value. reduced Production.InstOneName values.old ≡ value ∷ values.new) }
 {
     let name = values.pop_front().into_token();
-    let mut results = List::new(alloc);
+    let mut results = List::with_capacity(alloc, 1)?;
     results.push(name)?;
     skip(values);
     named(alloc, values.pop_front().into_inst(alloc), results)
 }
 
-#[tactic(auto, unfolding(crate::specs::Replay::reduced, crate::specs::Meaning::meaning, sil_shape::specs::Grammar::body))]
-pub(crate) fn names(alloc: Global, values: &mut Prepended<Value>) -> Result<Value, Exhausted>
+#[tactic(auto, unfolding(crate::specs::Replay::reduced, crate::specs::Meaning::meaning, crate::specs::PartFaults::part_fault, sil_shape::specs::Grammar::body))]
+pub(crate) fn names(alloc: Global, values: &mut Prepended<Value>) -> Result<Reduced, Exhausted>
     requires { 5 ≤ length values.old }
-    ensures { IfOk result (λ value. reduced Production.InstNames values.old ≡ value ∷ values.new) }
+    ensures value { IfOk result (λ made. reduced Production.InstNames values.old ≡ made.value ∷ values.new) }
+    ensures fault { IfOk result (λ made. made.fault ≡ part_fault Production.InstNames (parts_of Production.InstNames values.old)) }
 {
     skip(values);
-    let results = values.pop_front().into_tokens(alloc).into_list();
+    let results = values.pop_front().into_tokens(alloc);
     skip(values);
     skip(values);
-    named(alloc, values.pop_front().into_inst(alloc), results)
-}
-
-#[tactic(auto, unfolding(crate::specs::Replay::reduced, crate::specs::Meaning::meaning, sil_shape::specs::Grammar::body))]
-pub(crate) fn some_names(alloc: Global, values: &mut Prepended<Value>) -> Result<Value, Exhausted>
-    requires { 2 ≤ length values.old }
-    ensures { IfOk result (λ value. reduced Production.NamesSome values.old ≡ value ∷ values.new) }
-{
-    let name = values.pop_front().into_token();
-    let mut others = values.pop_front().into_tokens(alloc);
-    others.push_front(name)?;
-    Ok(Value::Tokens(others))
-}
-
-#[tactic(auto, unfolding(crate::specs::Replay::reduced, crate::specs::Meaning::meaning, sil_shape::specs::Grammar::body))]
-pub(crate) fn more_names(alloc: Global, values: &mut Prepended<Value>) -> Result<Value, Exhausted>
-    requires { 3 ≤ length values.old }
-    ensures { IfOk result (λ value. reduced Production.MoreNamesMore values.old ≡ value ∷ values.new) }
-{
-    skip(values);
-    let name = values.pop_front().into_token();
-    let mut others = values.pop_front().into_tokens(alloc);
-    others.push_front(name)?;
-    Ok(Value::Tokens(others))
-}
-
-#[tactic(auto, unfolding(crate::specs::Replay::reduced, crate::specs::Meaning::meaning, sil_shape::specs::Grammar::body))]
-pub(crate) fn some_bare_names(
-    alloc: Global,
-    values: &mut Prepended<Value>,
-) -> Result<Value, Exhausted>
-    requires { 2 ≤ length values.old }
-    ensures { IfOk result (λ value. reduced Production.BareNamesSome values.old ≡ value ∷ values.new) }
-{
-    let name = values.pop_front().into_token();
-    let mut others = values.pop_front().into_tokens(alloc);
-    others.push_front(name)?;
-    Ok(Value::Tokens(others))
+    let fault = too_many(LimitWord::Arguments, &results, limits::ARGUMENTS);
+    let inst = values.pop_front().into_inst(alloc);
+    let value = named(alloc, inst, results.into_list())?;
+    Ok(Reduced { value, fault })
 }

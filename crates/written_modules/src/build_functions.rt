@@ -2,40 +2,48 @@
 
 ghost use Rattle.std.specs.Prelude.{◌≡◌, [], ◌∷◌, ◌≤◌, length, IfOk};
 ghost use Rattle.sil_shape.specs.declared.grammar.Production.{Production};
-ghost use Rattle.written_modules.specs.Replay.{reduced};
+ghost use Rattle.written_modules.specs.declared.value.Value.TheVariants as v;
 ghost use Rattle.written_modules.specs.Meaning.{param};
-ghost use Rattle.written_modules.specs.Values.{given_before, param_before};
+ghost use Rattle.written_modules.specs.PartFaults.{part_fault};
+ghost use Rattle.written_modules.specs.Replay.{parts_of, reduced};
+ghost use Rattle.written_modules.specs.Values.{given_before, givens_of, param_before, params_of};
 
+use crate::faults::{body_fault, too_many_arguments, too_many_attributes};
 use crate::nothing::{discard, skip};
 use crate::prepended::Prepended;
-use crate::value::Value;
+use crate::value::{Reduced, Value};
 use crate::written_types::{GivenList, ParamList, WrittenType};
 use sil_ast::{Boxed, Exhausted, Given, Param, Passing, Place, Signature};
 use sil_shape::grammar::Production;
 use std::alloc::Global;
-use written_tree::{WrittenFunction, WrittenItem};
+use written_tree::{WrittenFunction, WrittenItem, earlier};
 
-#[tactic(auto, unfolding(crate::specs::Replay::reduced, crate::specs::Meaning::meaning, sil_shape::specs::Grammar::body))]
-pub(crate) fn function(alloc: Global, values: &mut Prepended<Value>) -> Result<Value, Exhausted>
+#[tactic(auto, unfolding(crate::specs::Replay::reduced, crate::specs::Meaning::meaning, crate::specs::PartFaults::part_fault, sil_shape::specs::Grammar::body))]
+pub(crate) fn function(alloc: Global, values: &mut Prepended<Value>) -> Result<Reduced, Exhausted>
     requires { 8 ≤ length values.old }
-    ensures { IfOk result (λ value. reduced Production.FunctionItem values.old ≡ value ∷ values.new) }
+    ensures value { IfOk result (λ made. reduced Production.FunctionItem values.old ≡ made.value ∷ values.new) }
+    ensures fault { IfOk result (λ made. made.fault ≡ part_fault Production.FunctionItem (parts_of Production.FunctionItem values.old)) }
 {
     skip(values);
     let linkage = values.pop_front().into_linkage();
-    let attributes = values.pop_front().into_tokens(alloc).into_list();
+    let attributes = values.pop_front().into_tokens(alloc);
     let name = values.pop_front().into_token();
     skip(values);
     skip(values);
     let signature = values.pop_front().into_signature(alloc);
-    let blocks = values.pop_front().into_blocks(alloc).into_list();
+    let blocks = values.pop_front().into_blocks(alloc);
+    let fault = earlier(too_many_attributes(&attributes), body_fault(&blocks));
     let function = WrittenFunction {
         name,
         linkage,
-        attributes,
+        attributes: attributes.into_list(),
         signature,
-        blocks,
+        blocks: blocks.into_list(),
     };
-    Ok(Value::Item(Boxed::new(alloc, WrittenItem::Function(function))?))
+    Ok(Reduced {
+        value: Value::Item(Boxed::new(alloc, WrittenItem::Function(function))?),
+        fault,
+    })
 }
 
 #[tactic(auto, unfolding(crate::specs::Replay::reduced, crate::specs::Meaning::meaning, sil_shape::specs::Grammar::body))]
@@ -54,25 +62,33 @@ pub(crate) fn more_attributes(
     Ok(Value::Tokens(others))
 }
 
-#[tactic(auto, unfolding(crate::specs::Replay::reduced, crate::specs::Meaning::meaning, sil_shape::specs::Grammar::body))]
-pub(crate) fn function_type(alloc: Global, values: &mut Prepended<Value>) -> Value
+#[tactic(auto, unfolding(crate::specs::Replay::reduced, crate::specs::Meaning::meaning, crate::specs::PartFaults::part_fault, sil_shape::specs::Grammar::body))]
+pub(crate) fn function_type(alloc: Global, values: &mut Prepended<Value>) -> Reduced
     requires { 9 ≤ length values.old }
-    ensures { reduced Production.WholeFunctionType values.old ≡ result ∷ values.new }
+    ensures value { reduced Production.WholeFunctionType values.old ≡ result.value ∷ values.new }
+    ensures fault { result.fault ≡ part_fault Production.WholeFunctionType (parts_of Production.WholeFunctionType values.old) }
 {
     skip(values);
     skip(values);
     let convention = values.pop_front().into_convention();
     skip(values);
     skip(values);
-    let params = values.pop_front().into_params(alloc).params.into_list();
+    let params = values.pop_front().into_params(alloc);
     skip(values);
     skip(values);
-    let results = values.pop_front().into_givens(alloc).givens.into_list();
-    Value::Signature(Signature {
-        convention,
-        params,
-        results,
-    })
+    let results = values.pop_front().into_givens(alloc);
+    let fault = earlier(
+        too_many_arguments(&params.firsts),
+        too_many_arguments(&results.firsts),
+    );
+    Reduced {
+        value: Value::Signature(Signature {
+            convention,
+            params: params.params.into_list(),
+            results: results.givens.into_list(),
+        }),
+        fault,
+    }
 }
 
 #[tactic(auto, unfolding(crate::specs::Values::param_before))]
@@ -117,46 +133,30 @@ fn given_before(value: Value, others: GivenList) -> Result<GivenList, Exhausted>
     }
 }
 
-#[tactic(auto, unfolding(crate::specs::Replay::reduced, crate::specs::Meaning::meaning, sil_shape::specs::Grammar::body))]
-pub(crate) fn some_params(alloc: Global, values: &mut Prepended<Value>) -> Result<Value, Exhausted>
+/// A parameter, and the parameters behind it.
+pub(crate) fn params_before(
+    alloc: Global,
+    values: &mut Prepended<Value>,
+) -> Result<Value, Exhausted>
     requires { 2 ≤ length values.old }
-    ensures { IfOk result (λ value. reduced Production.ParamsSome values.old ≡ value ∷ values.new) }
+    ensures { IfOk result (λ value. (first others : Value) × (values.old ≡ first ∷ others ∷ values.new) × (value ≡ v.Params (param_before first (params_of others)))) }
 {
-    let param = values.pop_front();
+    let first = values.pop_front();
     let others = values.pop_front().into_params(alloc);
-    Ok(Value::Params(param_before(param, others)?))
+    Ok(Value::Params(param_before(first, others)?))
 }
 
-#[tactic(auto, unfolding(crate::specs::Replay::reduced, crate::specs::Meaning::meaning, sil_shape::specs::Grammar::body))]
-pub(crate) fn more_params(alloc: Global, values: &mut Prepended<Value>) -> Result<Value, Exhausted>
-    requires { 3 ≤ length values.old }
-    ensures { IfOk result (λ value. reduced Production.MoreParamsMore values.old ≡ value ∷ values.new) }
-{
-    skip(values);
-    let param = values.pop_front();
-    let others = values.pop_front().into_params(alloc);
-    Ok(Value::Params(param_before(param, others)?))
-}
-
-#[tactic(auto, unfolding(crate::specs::Replay::reduced, crate::specs::Meaning::meaning, sil_shape::specs::Grammar::body))]
-pub(crate) fn some_givens(alloc: Global, values: &mut Prepended<Value>) -> Result<Value, Exhausted>
+/// A result, and the results behind it.
+pub(crate) fn givens_before(
+    alloc: Global,
+    values: &mut Prepended<Value>,
+) -> Result<Value, Exhausted>
     requires { 2 ≤ length values.old }
-    ensures { IfOk result (λ value. reduced Production.InsideSome values.old ≡ value ∷ values.new) }
+    ensures { IfOk result (λ value. (first others : Value) × (values.old ≡ first ∷ others ∷ values.new) × (value ≡ v.Givens (given_before first (givens_of others)))) }
 {
-    let given = values.pop_front();
+    let first = values.pop_front();
     let others = values.pop_front().into_givens(alloc);
-    Ok(Value::Givens(given_before(given, others)?))
-}
-
-#[tactic(auto, unfolding(crate::specs::Replay::reduced, crate::specs::Meaning::meaning, sil_shape::specs::Grammar::body))]
-pub(crate) fn more_givens(alloc: Global, values: &mut Prepended<Value>) -> Result<Value, Exhausted>
-    requires { 3 ≤ length values.old }
-    ensures { IfOk result (λ value. reduced Production.MoreGivensMore values.old ≡ value ∷ values.new) }
-{
-    skip(values);
-    let given = values.pop_front();
-    let others = values.pop_front().into_givens(alloc);
-    Ok(Value::Givens(given_before(given, others)?))
+    Ok(Value::Givens(given_before(first, others)?))
 }
 
 /// A parameter behind the word that says how it is passed.

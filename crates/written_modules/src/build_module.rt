@@ -2,30 +2,37 @@
 
 ghost use Rattle.std.specs.Prelude.{◌≡◌, ◌∷◌, ◌≤◌, length, IfOk};
 ghost use Rattle.sil_shape.specs.declared.grammar.Production.{Production};
-ghost use Rattle.written_modules.specs.Replay.{reduced};
 ghost use Rattle.written_modules.specs.Meaning.{with_import};
+ghost use Rattle.written_modules.specs.PartFaults.{part_fault};
+ghost use Rattle.written_modules.specs.Replay.{parts_of, reduced};
 
+use crate::faults::module_fault;
 use crate::nothing::skip;
 use crate::prepended::Prepended;
-use crate::value::Value;
+use crate::value::{Reduced, Value};
 use sil_ast::{Boxed, Exhausted, Imports};
 use sil_shape::grammar::Production;
 use std::alloc::Global;
 use written_tree::{WrittenEntry, WrittenItem, WrittenModule, WrittenVtable};
 
-#[tactic(auto, unfolding(crate::specs::Replay::reduced, crate::specs::Meaning::meaning, sil_shape::specs::Grammar::body))]
-pub(crate) fn whole_module(alloc: Global, values: &mut Prepended<Value>) -> Value
+#[tactic(auto, unfolding(crate::specs::Replay::reduced, crate::specs::Meaning::meaning, crate::specs::PartFaults::part_fault, sil_shape::specs::Grammar::body))]
+pub(crate) fn whole_module(alloc: Global, values: &mut Prepended<Value>) -> Reduced
     requires { 3 ≤ length values.old }
-    ensures { reduced Production.WholeModule values.old ≡ result ∷ values.new }
+    ensures value { reduced Production.WholeModule values.old ≡ result.value ∷ values.new }
+    ensures fault { result.fault ≡ part_fault Production.WholeModule (parts_of Production.WholeModule values.old) }
 {
     let stage = values.pop_front().into_stage();
     let imports = values.pop_front().into_imports();
-    let items = values.pop_front().into_items(alloc).into_list();
-    Value::Module(WrittenModule {
-        stage,
-        imports,
-        items,
-    })
+    let items = values.pop_front().into_items(alloc);
+    let fault = module_fault(&items);
+    Reduced {
+        value: Value::Module(WrittenModule {
+            stage,
+            imports,
+            items: items.into_list(),
+        }),
+        fault,
+    }
 }
 
 fn with_import(name: &[u8], imports: Imports) -> Imports

@@ -7,13 +7,13 @@ ghost use Rattle.written_modules.specs.PartFaults.{fault_of_part};
 ghost use Rattle.written_modules.specs.RowMeaning.{bare_operand, edges_at, number_by, typed_by, with_part};
 
 use crate::build_numbers::number_by;
-use crate::list_faults::many_operands_fault;
+use crate::faults::too_many_operands;
 use crate::nothing::skip;
 use crate::passed_on::{second_of_three, second_of_two, third_of_three};
 use crate::prepended::Prepended;
 use crate::value::Value;
 use instruction_table::{Ending, Op, Part, detail_of, ending_of, may_lack_operand};
-use sil_ast::{Exhausted, List};
+use sil_ast::{Boxed, Exhausted, List};
 use std::alloc::Global;
 use written_tree::{Fault, WrittenEdge, WrittenInst, WrittenOperand, WrittenToken, out_of_range};
 
@@ -123,31 +123,38 @@ pub(crate) fn put_part(
             .push(bare_operand(values.pop_front().into_token()))?,
         Part::To => skip(values),
         Part::TypeWord => inst.ty = Some(second_of_two(values).into_type(alloc).ty),
-        Part::Member => inst.member = Some(values.pop_front().into_member(alloc)),
+        Part::Member => inst.member = Some(values.pop_front().into_member(alloc)?),
         Part::Number => {
             let token = values.pop_front().into_token();
             inst.number = number_by(detail_of(op), &inst.ty, token.text.as_slice());
             fault = out_of_range(inst.number, token.place);
         }
-        Part::Text => inst.text = Some(values.pop_front().into_text(alloc)?),
-        Part::Callee => inst.function = Some(values.pop_front().into_token()),
+        Part::Text => {
+            let text = values.pop_front().into_text(alloc)?;
+            inst.text = Some(Boxed::new(alloc, text)?);
+        }
+        Part::Callee => {
+            let callee = values.pop_front().into_token();
+            inst.function = Some(Boxed::new(alloc, callee)?);
+        }
         Part::BareArgs => {
             append_bare(
                 &mut inst.operands,
                 second_of_three(values).into_tokens(alloc),
             )?;
-            fault = many_operands_fault(&inst.operands);
+            fault = too_many_operands(&inst.operands);
         }
         Part::TypedArgs => {
             append(
                 &mut inst.operands,
                 second_of_three(values).into_operands(alloc),
             )?;
-            fault = many_operands_fault(&inst.operands);
+            fault = too_many_operands(&inst.operands);
         }
         Part::ResultType => inst.ty = Some(third_of_three(values).into_type(alloc).ty),
         Part::SignatureWord => {
-            inst.signature = Some(third_of_three(values).into_signature(alloc));
+            let signature = third_of_three(values).into_signature(alloc);
+            inst.signature = Some(Boxed::new(alloc, signature)?);
         }
         Part::Debug => inst.debug = values.pop_front().into_debug(),
         Part::Edges => inst.edges = edges(alloc, ending_of(op), values)?,

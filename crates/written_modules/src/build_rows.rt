@@ -6,15 +6,16 @@ ghost use Rattle.sil_shape.specs.Rows.{brings_comma, comma_behind};
 ghost use Rattle.sil_shape.specs.declared.grammar.Production.TheVariants.{Row};
 ghost use Rattle.written_modules.specs.PartFaults.{part_fault};
 ghost use Rattle.written_modules.specs.Replay.{parts_of, reduced};
+ghost use Rattle.written_modules.specs.Values as none;
 
 use crate::build_row_parts::put_part;
 use crate::nothing::{bare_inst, skip};
 use crate::prepended::Prepended;
 use crate::value::{Reduced, Value};
 use instruction_table::{Op, Part, may_lack_operand, row_of};
-use sil_ast::{Boxed, Exhausted};
+use sil_ast::{Boxed, Exhausted, List, Place};
 use std::alloc::Global;
-use written_tree::earlier;
+use written_tree::{WrittenInst, earlier};
 
 /// Whether a part brings its own comma.
 #[tactic(auto, unfolding(sil_shape::specs::Rows::brings_comma))]
@@ -40,6 +41,23 @@ fn skip_comma(op: Op, here: Part, others: &[Part], values: &mut Prepended<Value>
     }
 }
 
+/// How many parts are an operand each, for which room is made at once.
+fn single_operands(parts: &[Part]) -> usize {
+    parts
+        .iter()
+        .filter(|part| matches!(part, Part::Typed | Part::Bare))
+        .count()
+}
+
+/// An instruction of which nothing is written but its mnemonic.
+fn begun(alloc: Global, op: Op, mnemonic: Place, parts: &[Part]) -> Result<WrittenInst, Exhausted>
+    ensures { IfOk result (λ inst. inst ≡ none.bare_inst op mnemonic) }
+{
+    let mut inst = bare_inst(alloc, op, mnemonic);
+    inst.operands = List::with_capacity(alloc, single_operands(parts))?;
+    Ok(inst)
+}
+
 /// The instruction that a row writes, from the values of its body, which are the first ones, and the first fault in it.
 pub(crate) fn row(
     alloc: Global,
@@ -51,9 +69,9 @@ pub(crate) fn row(
     ensures fault { IfOk result (λ made. made.fault ≡ part_fault (Row op) (parts_of (Row op) values.old)) }
 {
     let mnemonic = values.pop_front().into_token().place;
-    let mut inst = bare_inst(alloc, op, mnemonic);
-    let mut fault = None;
     let parts = row_of(op).parts;
+    let mut inst = begun(alloc, op, mnemonic, parts)?;
+    let mut fault = None;
     for i in 0..parts.len() {
         let found = put_part(alloc, op, parts[i], values, &mut inst)?;
         fault = earlier(fault, found);

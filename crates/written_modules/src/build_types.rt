@@ -2,21 +2,23 @@
 
 ghost use Rattle.std.specs.Prelude.{◌≡◌, ◌∷◌, ◌≤◌, length, IfOk};
 ghost use Rattle.sil_shape.specs.declared.grammar.Production.{Production};
-ghost use Rattle.written_modules.specs.Replay.{reduced};
+ghost use Rattle.written_modules.specs.PartFaults.{part_fault};
+ghost use Rattle.written_modules.specs.Replay.{parts_of, reduced};
 ghost use Rattle.sil_ast.specs.declared.type_name.TypeName.TheVariants as ty;
 ghost use Rattle.written_modules.specs.declared.value.Value.TheVariants as v;
 ghost use Rattle.written_modules.specs.Types.{deeper, in_parens, kept, named_type, with_questions, one_deeper, one_token, tailed, type_before};
-ghost use Rattle.written_modules.specs.Values.{token_of};
+ghost use Rattle.written_modules.specs.Values.{token_of, type_of, types_of};
 
-use crate::nothing::{discard, skip, unit_type};
+use crate::faults::{too_deep, too_many_questions, tuple_fault};
+use crate::nothing::{discard, unit_type};
 use crate::prepended::Prepended;
-use crate::value::Value;
+use crate::value::{Reduced, Value};
 use crate::written_types::{TypeList, WrittenType};
 use sil_ast::{Boxed, Exhausted, Place, TypeName};
 use sil_rules::limits;
 use sil_shape::grammar::Production;
 use std::alloc::Global;
-use written_tree::WrittenToken;
+use written_tree::{WrittenToken, earlier};
 
 pub(crate) fn deeper(depth: u32) -> u32
     ensures { result ≡ deeper depth }
@@ -161,79 +163,87 @@ fn tailed(alloc: Global, token: WrittenToken, tail: Value) -> Result<WrittenType
     }
 }
 
-#[tactic(auto, unfolding(crate::specs::Replay::reduced, crate::specs::Meaning::meaning, sil_shape::specs::Grammar::body))]
-pub(crate) fn payload(alloc: Global, values: &mut Prepended<Value>) -> Result<Value, Exhausted>
+#[tactic(auto, unfolding(crate::specs::Replay::reduced, crate::specs::Meaning::meaning, crate::specs::PartFaults::part_fault, sil_shape::specs::Grammar::body))]
+pub(crate) fn payload(alloc: Global, values: &mut Prepended<Value>) -> Result<Reduced, Exhausted>
     requires { 4 ≤ length values.old }
-    ensures { IfOk result (λ value. reduced Production.PayloadSome values.old ≡ value ∷ values.new) }
+    ensures value { IfOk result (λ made. reduced Production.PayloadSome values.old ≡ made.value ∷ values.new) }
+    ensures fault { IfOk result (λ made. made.fault ≡ part_fault Production.PayloadSome (parts_of Production.PayloadSome values.old)) }
 {
     let first = values.pop_front().into_token().place;
     let ty = values.pop_front().into_type(alloc);
     let others = values.pop_front().into_types(alloc);
     let last = values.pop_front().into_token().place;
-    Ok(Value::Type(in_parens(alloc, first, type_before(ty, others)?, last)))
+    let list = type_before(ty, others)?;
+    let fault = tuple_fault(&list, last);
+    let value = Value::Type(in_parens(alloc, first, list, last));
+    Ok(Reduced { value, fault })
 }
 
-#[tactic(auto, unfolding(crate::specs::Replay::reduced, crate::specs::Meaning::meaning, sil_shape::specs::Grammar::body))]
-pub(crate) fn paren_type(alloc: Global, values: &mut Prepended<Value>) -> Result<Value, Exhausted>
+#[tactic(auto, unfolding(crate::specs::Replay::reduced, crate::specs::Meaning::meaning, crate::specs::PartFaults::part_fault, sil_shape::specs::Grammar::body))]
+pub(crate) fn paren_type(alloc: Global, values: &mut Prepended<Value>) -> Result<Reduced, Exhausted>
     requires { 4 ≤ length values.old }
-    ensures { IfOk result (λ value. reduced Production.ParenType values.old ≡ value ∷ values.new) }
+    ensures value { IfOk result (λ made. reduced Production.ParenType values.old ≡ made.value ∷ values.new) }
+    ensures fault { IfOk result (λ made. made.fault ≡ part_fault Production.ParenType (parts_of Production.ParenType values.old)) }
 {
     let first = values.pop_front().into_token().place;
     let types = values.pop_front().into_types(alloc);
     let last = values.pop_front().into_token().place;
     let questions = values.pop_front().into_questions(alloc);
+    let fault = tuple_fault(&types, last);
     let inner = in_parens(alloc, first, types, last);
-    Ok(Value::Type(with_questions(alloc, inner, questions)?))
+    let fault = earlier(fault, too_many_questions(inner.depth, &questions));
+    let value = Value::Type(with_questions(alloc, inner, questions)?);
+    Ok(Reduced { value, fault })
 }
 
-#[tactic(auto, unfolding(crate::specs::Replay::reduced, crate::specs::Meaning::meaning, sil_shape::specs::Grammar::body))]
-pub(crate) fn base_type(alloc: Global, values: &mut Prepended<Value>) -> Result<Value, Exhausted>
+#[tactic(auto, unfolding(crate::specs::Replay::reduced, crate::specs::Meaning::meaning, crate::specs::PartFaults::part_fault, sil_shape::specs::Grammar::body))]
+pub(crate) fn base_type(alloc: Global, values: &mut Prepended<Value>) -> Result<Reduced, Exhausted>
     requires { 2 ≤ length values.old }
-    ensures { IfOk result (λ value. reduced Production.BaseOpen values.old ≡ value ∷ values.new) }
+    ensures value { IfOk result (λ made. reduced Production.BaseOpen values.old ≡ made.value ∷ values.new) }
+    ensures fault { IfOk result (λ made. made.fault ≡ part_fault Production.BaseOpen (parts_of Production.BaseOpen values.old)) }
 {
     let base = values.pop_front().into_type(alloc);
     let questions = values.pop_front().into_questions(alloc);
-    Ok(Value::Type(with_questions(alloc, base, questions)?))
+    let fault = too_many_questions(base.depth, &questions);
+    let value = Value::Type(with_questions(alloc, base, questions)?);
+    Ok(Reduced { value, fault })
 }
 
-#[tactic(auto, unfolding(crate::specs::Replay::reduced, crate::specs::Meaning::meaning, sil_shape::specs::Grammar::body))]
-pub(crate) fn weak_type(alloc: Global, values: &mut Prepended<Value>) -> Result<Value, Exhausted>
+#[tactic(auto, unfolding(crate::specs::Replay::reduced, crate::specs::Meaning::meaning, crate::specs::PartFaults::part_fault, sil_shape::specs::Grammar::body))]
+pub(crate) fn weak_type(alloc: Global, values: &mut Prepended<Value>) -> Result<Reduced, Exhausted>
     requires { 2 ≤ length values.old }
-    ensures { IfOk result (λ value. reduced Production.WeakOpen values.old ≡ value ∷ values.new) }
+    ensures value { IfOk result (λ made. reduced Production.WeakOpen values.old ≡ made.value ∷ values.new) }
+    ensures fault { IfOk result (λ made. made.fault ≡ part_fault Production.WeakOpen (parts_of Production.WeakOpen values.old)) }
 {
     let first = values.pop_front().into_token().place;
     let inner = values.pop_front().into_type(alloc);
+    let fault = too_deep(inner.depth, inner.last);
     let ty = TypeName::Weak(Boxed::new(alloc, inner.ty)?);
-    Ok(Value::Type(one_deeper(alloc, inner.depth, ty, first, inner.last)))
+    let value = Value::Type(one_deeper(alloc, inner.depth, ty, first, inner.last));
+    Ok(Reduced { value, fault })
 }
 
-#[tactic(auto, unfolding(crate::specs::Replay::reduced, crate::specs::Meaning::meaning, sil_shape::specs::Grammar::body))]
-pub(crate) fn unowned_type(alloc: Global, values: &mut Prepended<Value>) -> Result<Value, Exhausted>
-    requires { 2 ≤ length values.old }
-    ensures { IfOk result (λ value. reduced Production.UnownedOpen values.old ≡ value ∷ values.new) }
-{
-    let first = values.pop_front().into_token().place;
-    let inner = values.pop_front().into_type(alloc);
-    let ty = TypeName::Unowned(Boxed::new(alloc, inner.ty)?);
-    Ok(Value::Type(one_deeper(alloc, inner.depth, ty, first, inner.last)))
-}
-
-#[tactic(auto, unfolding(crate::specs::Replay::reduced, crate::specs::Meaning::meaning, sil_shape::specs::Grammar::body))]
-pub(crate) fn builtin_base(alloc: Global, values: &mut Prepended<Value>) -> Result<Value, Exhausted>
-    requires { 2 ≤ length values.old }
-    ensures { IfOk result (λ value. reduced Production.BuiltinBase values.old ≡ value ∷ values.new) }
-{
-    let word = values.pop_front().into_token();
-    Ok(Value::Type(tailed(alloc, word, values.pop_front())?))
-}
-
-#[tactic(auto, unfolding(crate::specs::Replay::reduced, crate::specs::Meaning::meaning, sil_shape::specs::Grammar::body))]
-pub(crate) fn optional_base(
+#[tactic(auto, unfolding(crate::specs::Replay::reduced, crate::specs::Meaning::meaning, crate::specs::PartFaults::part_fault, sil_shape::specs::Grammar::body))]
+pub(crate) fn unowned_type(
     alloc: Global,
     values: &mut Prepended<Value>,
-) -> Result<Value, Exhausted>
+) -> Result<Reduced, Exhausted>
     requires { 2 ≤ length values.old }
-    ensures { IfOk result (λ value. reduced Production.OptionalBase values.old ≡ value ∷ values.new) }
+    ensures value { IfOk result (λ made. reduced Production.UnownedOpen values.old ≡ made.value ∷ values.new) }
+    ensures fault { IfOk result (λ made. made.fault ≡ part_fault Production.UnownedOpen (parts_of Production.UnownedOpen values.old)) }
+{
+    let first = values.pop_front().into_token().place;
+    let inner = values.pop_front().into_type(alloc);
+    let fault = too_deep(inner.depth, inner.last);
+    let ty = TypeName::Unowned(Boxed::new(alloc, inner.ty)?);
+    let value = Value::Type(one_deeper(alloc, inner.depth, ty, first, inner.last));
+    Ok(Reduced { value, fault })
+}
+
+/// `Builtin` or `Optional`, and what stands behind it.
+pub(crate) fn tailed_base(alloc: Global, values: &mut Prepended<Value>) -> Result<Value, Exhausted>
+    requires { 2 ≤ length values.old }
+    ensures { IfOk result (λ value. (word tail : Value) × (values.old ≡ word ∷ tail ∷ values.new) × (value ≡ v.Type (tailed (token_of word) tail))) }
 {
     let word = values.pop_front().into_token();
     Ok(Value::Type(tailed(alloc, word, values.pop_front())?))
@@ -248,16 +258,22 @@ pub(crate) fn named_base(alloc: Global, values: &mut Prepended<Value>) -> Result
     Ok(Value::Type(named_type(alloc, &word)?))
 }
 
-#[tactic(auto, unfolding(crate::specs::Replay::reduced, crate::specs::Meaning::meaning, sil_shape::specs::Grammar::body))]
-pub(crate) fn optional_of(alloc: Global, values: &mut Prepended<Value>) -> Result<Value, Exhausted>
+#[tactic(auto, unfolding(crate::specs::Replay::reduced, crate::specs::Meaning::meaning, crate::specs::PartFaults::part_fault, sil_shape::specs::Grammar::body))]
+pub(crate) fn optional_of(
+    alloc: Global,
+    values: &mut Prepended<Value>,
+) -> Result<Reduced, Exhausted>
     requires { 3 ≤ length values.old }
-    ensures { IfOk result (λ value. reduced Production.OptionalOf values.old ≡ value ∷ values.new) }
+    ensures value { IfOk result (λ made. reduced Production.OptionalOf values.old ≡ made.value ∷ values.new) }
+    ensures fault { IfOk result (λ made. made.fault ≡ part_fault Production.OptionalOf (parts_of Production.OptionalOf values.old)) }
 {
     let first = values.pop_front().into_token().place;
     let inner = values.pop_front().into_type(alloc);
     let last = values.pop_front().into_token().place;
+    let fault = too_deep(inner.depth, last);
     let ty = TypeName::Optional(Boxed::new(alloc, inner.ty)?);
-    Ok(Value::Type(one_deeper(alloc, inner.depth, ty, first, last)))
+    let value = Value::Type(one_deeper(alloc, inner.depth, ty, first, last));
+    Ok(Reduced { value, fault })
 }
 
 /// `Int64` behind `Builtin.`
@@ -283,22 +299,11 @@ pub(crate) fn more_questions(
     Ok(Value::Questions(questions))
 }
 
-#[tactic(auto, unfolding(crate::specs::Replay::reduced, crate::specs::Meaning::meaning, sil_shape::specs::Grammar::body))]
-pub(crate) fn some_types(alloc: Global, values: &mut Prepended<Value>) -> Result<Value, Exhausted>
+/// A type, and the types behind it.
+pub(crate) fn types_before(alloc: Global, values: &mut Prepended<Value>) -> Result<Value, Exhausted>
     requires { 2 ≤ length values.old }
-    ensures { IfOk result (λ value. reduced Production.TypesSome values.old ≡ value ∷ values.new) }
+    ensures { IfOk result (λ value. (first others : Value) × (values.old ≡ first ∷ others ∷ values.new) × (value ≡ v.Types (type_before (type_of first) (types_of others)))) }
 {
-    let ty = values.pop_front().into_type(alloc);
-    let others = values.pop_front().into_types(alloc);
-    Ok(Value::Types(type_before(ty, others)?))
-}
-
-#[tactic(auto, unfolding(crate::specs::Replay::reduced, crate::specs::Meaning::meaning, sil_shape::specs::Grammar::body))]
-pub(crate) fn more_types(alloc: Global, values: &mut Prepended<Value>) -> Result<Value, Exhausted>
-    requires { 3 ≤ length values.old }
-    ensures { IfOk result (λ value. reduced Production.MoreTypesMore values.old ≡ value ∷ values.new) }
-{
-    skip(values);
     let ty = values.pop_front().into_type(alloc);
     let others = values.pop_front().into_types(alloc);
     Ok(Value::Types(type_before(ty, others)?))

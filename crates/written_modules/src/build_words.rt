@@ -1,19 +1,22 @@
 //! Builds the flags, the qualifiers and the words for a debugger.
 
-ghost use Rattle.std.specs.Prelude.{◌≡◌, [], ◌∷◌, ◌≤◌, length, IfOk};
+ghost use Rattle.std.specs.Prelude.{◌≡◌, [], ◌∷◌, Some, ◌≤◌, length, IfOk};
 ghost use Rattle.sil_shape.specs.declared.grammar.Production.{Production};
-ghost use Rattle.written_modules.specs.Replay.{reduced};
+ghost use Rattle.written_modules.specs.declared.value.Value.TheVariants as v;
 ghost use Rattle.written_modules.specs.Meaning as meant;
 ghost use Rattle.written_modules.specs.Meaning.{qualified};
+ghost use Rattle.written_modules.specs.PartFaults.{part_fault};
+ghost use Rattle.written_modules.specs.Replay.{parts_of, reduced};
+ghost use Rattle.written_modules.specs.Values.{debug_of};
 
 use crate::nothing::{no_debug, skip};
 use crate::prepended::Prepended;
-use crate::value::{Flags, Value};
-use sil_ast::{Binding, Exhausted, Qualifier};
+use crate::value::{Flags, Reduced, Value};
+use sil_ast::{Binding, Boxed, Exhausted, Qualifier};
 use sil_shape::grammar::Production;
 use std::alloc::Global;
 use written_numbers::small_number;
-use written_tree::WrittenQualifier;
+use written_tree::{WrittenQualifier, out_of_range};
 
 pub(crate) fn flags(lexical: bool, var_decl: bool) -> Value
     ensures { result ≡ meant.flags lexical var_decl }
@@ -58,39 +61,14 @@ pub(crate) fn qualifier(word: Qualifier, values: &mut Prepended<Value>) -> Value
     Value::Qualifier(WrittenQualifier { word, place })
 }
 
-#[tactic(auto, unfolding(crate::specs::Replay::reduced, crate::specs::Meaning::meaning, sil_shape::specs::Grammar::body))]
-pub(crate) fn take_flag(values: &mut Prepended<Value>) -> Value
-    requires { 3 ≤ length values.old }
-    ensures { reduced Production.TakeFlagSome values.old ≡ result ∷ values.new }
-{
-    skip(values);
-    let place = values.pop_front().into_token().place;
-    skip(values);
-    Value::Qualifier(WrittenQualifier {
-        word: Qualifier::Take,
-        place,
-    })
-}
-
-#[tactic(auto, unfolding(crate::specs::Replay::reduced, crate::specs::Meaning::meaning, sil_shape::specs::Grammar::body))]
-pub(crate) fn debug_let(values: &mut Prepended<Value>) -> Value
+/// `let` or `var`, and what a debugger is told behind it.
+pub(crate) fn debug_binding(binding: Binding, values: &mut Prepended<Value>) -> Value
     requires { 2 ≤ length values.old }
-    ensures { reduced Production.DebugLet values.old ≡ result ∷ values.new }
+    ensures { (word rest : Value) × (values.old ≡ word ∷ rest ∷ values.new) × (result ≡ v.Debug (record (debug_of rest) { binding = Some binding })) }
 {
     skip(values);
     let mut debug = values.pop_front().into_debug();
-    debug.binding = Some(Binding::Let);
-    Value::Debug(debug)
-}
-
-#[tactic(auto, unfolding(crate::specs::Replay::reduced, crate::specs::Meaning::meaning, sil_shape::specs::Grammar::body))]
-pub(crate) fn debug_var(values: &mut Prepended<Value>) -> Value
-    requires { 2 ≤ length values.old }
-    ensures { reduced Production.DebugVar values.old ≡ result ∷ values.new }
-{
-    skip(values);
-    let mut debug = values.pop_front().into_debug();
-    debug.binding = Some(Binding::Var);
+    debug.binding = Some(binding);
     Value::Debug(debug)
 }
 
@@ -100,22 +78,27 @@ pub(crate) fn debug_name(alloc: Global, values: &mut Prepended<Value>) -> Result
     ensures { IfOk result (λ value. reduced Production.DebugName values.old ≡ value ∷ values.new) }
 {
     skip(values);
-    let name = values.pop_front().into_text(alloc)?;
+    let name = Boxed::new(alloc, values.pop_front().into_text(alloc)?)?;
     let mut debug = values.pop_front().into_debug();
     debug.name = Some(name);
     Ok(Value::Debug(debug))
 }
 
-#[tactic(auto, unfolding(crate::specs::Replay::reduced, crate::specs::Meaning::meaning, sil_shape::specs::Grammar::body))]
-pub(crate) fn debug_number(values: &mut Prepended<Value>) -> Value
+#[tactic(auto, unfolding(crate::specs::Replay::reduced, crate::specs::Meaning::meaning, crate::specs::PartFaults::part_fault, sil_shape::specs::Grammar::body))]
+pub(crate) fn debug_number(values: &mut Prepended<Value>) -> Reduced
     requires { 3 ≤ length values.old }
-    ensures { reduced Production.DebugNumber values.old ≡ result ∷ values.new }
+    ensures value { reduced Production.DebugNumber values.old ≡ result.value ∷ values.new }
+    ensures fault { result.fault ≡ part_fault Production.DebugNumber (parts_of Production.DebugNumber values.old) }
 {
     skip(values);
-    let spelling = values.pop_front().into_token().text;
+    let number = values.pop_front().into_token();
     let mut debug = values.pop_front().into_debug();
-    debug.argno = small_number(spelling.as_slice(), 65_535);
-    Value::Debug(debug)
+    debug.argno = small_number(number.text.as_slice(), 65_535);
+    let fault = out_of_range(debug.argno, number.place);
+    Reduced {
+        value: Value::Debug(debug),
+        fault,
+    }
 }
 
 #[tactic(auto, unfolding(crate::specs::Replay::reduced, crate::specs::Meaning::meaning, sil_shape::specs::Grammar::body))]

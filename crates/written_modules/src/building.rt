@@ -74,9 +74,8 @@ fn replay(
             }
             Step::Expand(production) => {
                 fill_body(alloc, production, &mut values, &mut left)?;
-                let made = reduce(alloc, production, &mut values)?;
-                fault = earlier(made.fault, fault);
-                values.push_front(made.value)?;
+                let found = reduce(alloc, production, &mut values)?;
+                fault = earlier(found, fault);
             }
         }
     }

@@ -3,6 +3,7 @@
 ghost use Rattle.std.specs.Prelude.{◌≡◌, ◌+◌, ◌≤◌, [], ◌∷◌, length, reverse, IfOk, OnOk};
 ghost use Rattle.sil_shape.specs.Grammar.{body};
 ghost use Rattle.sil_shape.specs.declared.grammar.Symbol.TheVariants.{Part};
+ghost use Rattle.sil_shape.specs.Shortest as said;
 ghost use Rattle.sil_shape.specs.Shortest.{Shortens};
 ghost use Rattle.sil_shape.specs.Values.{IsEnough};
 ghost use Rattle.written_modules.specs.Lacking.{lacking, Fills};
@@ -30,12 +31,22 @@ fn replay_lacking(alloc: Global, steps: &[Step]) -> Result<Prepended<Value>, Exh
         match steps[i] {
             Step::Take => values.push_front(Value::Token(no_token()))?,
             Step::Expand(production) => {
-                let made = reduce(alloc, production, &mut values)?;
-                values.push_front(made.value)?;
+                reduce(alloc, production, &mut values)?;
             }
         }
     }
     Ok(values)
+}
+
+/// What a part stands for whose shortest text is empty.
+fn empty_part(alloc: Global, part: Nonterminal) -> Result<Value, Exhausted>
+    requires { length (body (said.shortest part)) ≡ 0 }
+    ensures { IfOk result (λ value. value ≡ lacking (Part part)) }
+{
+    let production = shortest(part);
+    let mut values = Prepended::new(alloc);
+    reduce(alloc, production, &mut values)?;
+    Ok(values.pop_front())
 }
 
 /// What a part stands for. Nearly all shortest texts are empty, and take no steps to find.
@@ -44,9 +55,7 @@ fn lacking_part(alloc: Global, part: Nonterminal) -> Result<Value, Exhausted>
 {
     let production = shortest(part);
     if body_length(production) == 0 {
-        let mut nothing = Prepended::new(alloc);
-        let made = reduce(alloc, production, &mut nothing)?;
-        return Ok(made.value);
+        return empty_part(alloc, part);
     }
     let steps = shortest_steps(alloc, part)?;
     let mut values = replay_lacking(alloc, steps.as_slice())?;

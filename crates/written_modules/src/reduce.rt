@@ -1,15 +1,13 @@
 //! What a production stands for, and the first fault in it by itself: the builders by sections of the grammar.
 
-ghost use Rattle.std.specs.Prelude.{◌≡◌, ◌∷◌, ◌≤◌, length, IfOk};
-ghost use Rattle.instruction_table.specs.declared.op.Op.{Op};
+ghost use Rattle.std.specs.Prelude.{◌≡◌, ◌≤◌, length, IfOk, OnOk};
 ghost use Rattle.sil_shape.specs.Grammar.{body};
-ghost use Rattle.sil_shape.specs.declared.grammar.Production.TheVariants.{Row};
-ghost use Rattle.written_modules.specs.PartFaults as said;
+ghost use Rattle.written_modules.specs.PartFaults.{part_fault};
 ghost use Rattle.written_modules.specs.Replay.{parts_of, reduced};
 
 use crate::build_rows;
-use crate::part_faults::part_fault;
 use crate::prepended::Prepended;
+use crate::put::put;
 use crate::reduce_base_types::reduce_base_type;
 use crate::reduce_blocks::reduce_block;
 use crate::reduce_declarations::reduce_declaration;
@@ -18,21 +16,27 @@ use crate::reduce_operands::reduce_operand;
 use crate::reduce_types::reduce_type;
 use crate::reduce_words::reduce_word;
 use crate::sections::{Section, section_of};
-use crate::value::{Reduced, Value};
+use crate::value::Value;
 use sil_ast::Exhausted;
 use sil_shape::grammar::Production;
 use std::alloc::Global;
+use written_tree::Fault;
 
-/// What a production stands for that isn't a row.
-fn value_of(
+/// Puts what a production stands for in the place of the values of its body, which are the first ones, and answers the
+/// first fault in it by itself.
+#[tactic(auto, unfolding(crate::specs::Replay::reduced))]
+pub(crate) fn reduce(
     alloc: Global,
     production: Production,
     values: &mut Prepended<Value>,
-) -> Result<Value, Exhausted>
-    requires no_row { (op : Op) → production ≡ Row op → ⊥ }
-    requires parts { length (body production) ≤ length values.old }
-    ensures { IfOk result (λ value. reduced production values.old ≡ value ∷ values.new) }
+) -> Result<Option<Fault>, Exhausted>
+    requires { length (body production) ≤ length values.old }
+    ensures values { OnOk result (values.new ≡ reduced production values.old) }
+    ensures fault { IfOk result (λ fault. fault ≡ part_fault production (parts_of production values.old)) }
 {
+    if let Production::Row(op) = production {
+        return put(build_rows::row(alloc, op, values)?, values);
+    }
     match section_of(production) {
         Section::Declarations => reduce_declaration(alloc, production, values),
         Section::Types => reduce_type(alloc, production, values),
@@ -41,25 +45,5 @@ fn value_of(
         Section::Blocks => reduce_block(alloc, production, values),
         Section::Operands => reduce_operand(alloc, production, values),
         Section::Words => reduce_word(alloc, production, values),
-    }
-}
-
-/// What a production stands for, from the values of its body, which are the first ones, and the first fault in it.
-pub(crate) fn reduce(
-    alloc: Global,
-    production: Production,
-    values: &mut Prepended<Value>,
-) -> Result<Reduced, Exhausted>
-    requires { length (body production) ≤ length values.old }
-    ensures value { IfOk result (λ made. reduced production values.old ≡ made.value ∷ values.new) }
-    ensures fault { IfOk result (λ made. made.fault ≡ said.part_fault production (parts_of production values.old)) }
-{
-    match production {
-        Production::Row(op) => build_rows::row(alloc, op, values),
-        other => {
-            let fault = part_fault(other, values);
-            let value = value_of(alloc, other, values)?;
-            Ok(Reduced { value, fault })
-        }
     }
 }

@@ -1,49 +1,74 @@
 //! What the productions of operands stand for.
 
-ghost use Rattle.std.specs.Prelude.{◌≡◌, ◌∷◌, ◌≤◌, length, IfOk};
+ghost use Rattle.std.specs.Prelude.{◌≡◌, ◌≤◌, length, IfOk, OnOk};
 ghost use Rattle.sil_shape.specs.Grammar.{body};
 ghost use Rattle.written_modules.specs.declared.sections.Section.TheVariants.{Operands};
-ghost use Rattle.written_modules.specs.Replay.{reduced};
+ghost use Rattle.written_modules.specs.PartFaults.{part_fault};
+ghost use Rattle.written_modules.specs.Replay.{parts_of, reduced};
 ghost use Rattle.written_modules.specs.Sections.{section};
 
 use crate::build_operands;
+use crate::nothing::skip;
 use crate::passed_on::{constant, second_of_two};
 use crate::prepended::Prepended;
+use crate::put::{put, put_value};
 use crate::value::Value;
 use sil_ast::Exhausted;
 use sil_shape::grammar::Production;
 use std::alloc::Global;
+use written_tree::Fault;
 
-/// What a production of operands stands for, from the values of its body, which are the first ones.
-#[tactic(auto, unfolding(crate::specs::Replay::reduced, crate::specs::Meaning::meaning, crate::specs::Sections::section, crate::specs::Sections::part_section, sil_shape::specs::Grammar::body, sil_shape::specs::Grammar::written))]
+/// Puts what a production of operands stands for in the place of the values of its body.
+#[tactic(auto, unfolding(crate::specs::Replay::reduced, crate::specs::Meaning::meaning, crate::specs::PartFaults::part_fault, crate::specs::Sections::section, crate::specs::Sections::part_section, sil_shape::specs::Grammar::body, sil_shape::specs::Grammar::written))]
 pub(crate) fn reduce_operand(
     alloc: Global,
     production: Production,
     values: &mut Prepended<Value>,
-) -> Result<Value, Exhausted>
+) -> Result<Option<Fault>, Exhausted>
     requires section { section production ≡ Operands }
     requires parts { length (body production) ≤ length values.old }
-    ensures { IfOk result (λ value. reduced production values.old ≡ value ∷ values.new) }
+    ensures values { OnOk result (values.new ≡ reduced production values.old) }
+    ensures fault { IfOk result (λ fault. fault ≡ part_fault production (parts_of production values.old)) }
 {
     match production {
-        Production::WholeOperand => build_operands::operand(alloc, values),
-        Production::OperandsSome => build_operands::some_operands(alloc, values),
+        Production::WholeOperand => put_value(build_operands::operand(alloc, values)?, values),
+        Production::OperandsSome => put_value(
+            build_operands::operands_before(alloc, values)?,
+            values,
+        ),
+        Production::MoreOperandsMore => {
+            skip(values);
+            put_value(build_operands::operands_before(alloc, values)?, values)
+        },
+        Production::EdgeArgsSome => {
+            skip(values);
+            let operands = build_operands::operands_before(alloc, values)?;
+            skip(values);
+            put_value(operands, values)
+        },
         Production::OperandsNone
         | Production::MoreOperandsEnd
         | Production::EdgeArgsNone
-        | Production::EnumOperandNone => Ok(Value::Operands(Prepended::new(alloc))),
-        Production::MoreOperandsMore => build_operands::more_operands(alloc, values),
-        Production::WholeEdge => build_operands::edge(alloc, values),
-        Production::EdgeArgsSome => build_operands::some_edge_args(alloc, values),
-        Production::SwitchCase => build_operands::switch_case(alloc, values),
-        Production::SwitchDefault => build_operands::switch_default(alloc, values),
-        Production::SwitchMoreSome => Ok(second_of_two(values)),
-        Production::SwitchMoreEnd => Ok(Value::Edges(Prepended::new(alloc))),
-        Production::WholeEnumElement => build_operands::enum_element(alloc, values),
-        Production::SuffixSome => Ok(constant(values, 2, Value::Nothing)),
-        Production::SuffixNone => Ok(Value::Nothing),
-        Production::EnumOperandSome => build_operands::enum_operand(alloc, values),
-        Production::WholeMemberName => build_operands::member_name(alloc, values),
+        | Production::EnumOperandNone => put_value(Value::Operands(Prepended::new(alloc)), values),
+        Production::EnumOperandSome => put_value(
+            build_operands::enum_operand(alloc, values)?,
+            values,
+        ),
+        Production::WholeEdge => put(build_operands::edge(alloc, values)?, values),
+        Production::SwitchCase => put_value(build_operands::switch_case(alloc, values)?, values),
+        Production::SwitchDefault => put_value(
+            build_operands::switch_default(alloc, values)?,
+            values,
+        ),
+        Production::SwitchMoreEnd => put_value(Value::Edges(Prepended::new(alloc)), values),
+        Production::WholeMemberName => put_value(build_operands::member(alloc, values)?, values),
+        Production::WholeEnumElement => {
+            let member = build_operands::member(alloc, values)?;
+            put_value(constant(values, 3, member), values)
+        },
+        Production::SwitchMoreSome => put_value(second_of_two(values), values),
+        Production::SuffixSome => put_value(constant(values, 2, Value::Nothing), values),
+        Production::SuffixNone => put_value(Value::Nothing, values),
         _ => unreachable!(),
     }
 }

@@ -1,41 +1,51 @@
 //! What the productions of types stand for.
 
-ghost use Rattle.std.specs.Prelude.{◌≡◌, ◌∷◌, ◌≤◌, length, IfOk};
+ghost use Rattle.std.specs.Prelude.{◌≡◌, ◌≤◌, length, IfOk, OnOk};
 ghost use Rattle.sil_shape.specs.Grammar.{body};
 ghost use Rattle.written_modules.specs.declared.sections.Section.TheVariants.{Types};
-ghost use Rattle.written_modules.specs.Replay.{reduced};
+ghost use Rattle.written_modules.specs.PartFaults.{part_fault};
+ghost use Rattle.written_modules.specs.Replay.{parts_of, reduced};
 ghost use Rattle.written_modules.specs.Sections.{section};
 
 use crate::build_types;
-use crate::nothing::no_types;
+use crate::nothing::{no_types, skip};
 use crate::prepended::Prepended;
+use crate::put::{put, put_value};
 use crate::value::Value;
 use sil_ast::Exhausted;
 use sil_shape::grammar::Production;
 use std::alloc::Global;
+use written_tree::Fault;
 
-/// What a production of types stands for, from the values of its body, which are the first ones.
-#[tactic(auto, unfolding(crate::specs::Replay::reduced, crate::specs::Meaning::meaning, crate::specs::Sections::section, crate::specs::Sections::part_section, sil_shape::specs::Grammar::body, sil_shape::specs::Grammar::written))]
+/// Puts what a production of types stands for in the place of the values of its body.
+#[tactic(auto, unfolding(crate::specs::Replay::reduced, crate::specs::Meaning::meaning, crate::specs::PartFaults::part_fault, crate::specs::Sections::section, crate::specs::Sections::part_section, sil_shape::specs::Grammar::body, sil_shape::specs::Grammar::written))]
 pub(crate) fn reduce_type(
     alloc: Global,
     production: Production,
     values: &mut Prepended<Value>,
-) -> Result<Value, Exhausted>
+) -> Result<Option<Fault>, Exhausted>
     requires section { section production ≡ Types }
     requires parts { length (body production) ≤ length values.old }
-    ensures { IfOk result (λ value. reduced production values.old ≡ value ∷ values.new) }
+    ensures values { OnOk result (values.new ≡ reduced production values.old) }
+    ensures fault { IfOk result (λ fault. fault ≡ part_fault production (parts_of production values.old)) }
 {
     match production {
-        Production::BareType => Ok(values.pop_front()),
-        Production::ParenType => build_types::paren_type(alloc, values),
-        Production::BaseOpen => build_types::base_type(alloc, values),
-        Production::WeakOpen => build_types::weak_type(alloc, values),
-        Production::UnownedOpen => build_types::unowned_type(alloc, values),
-        Production::QuestionsMore => build_types::more_questions(alloc, values),
-        Production::QuestionsEnd => Ok(Value::Questions(Prepended::new(alloc))),
-        Production::TypesSome => build_types::some_types(alloc, values),
-        Production::TypesNone | Production::MoreTypesEnd => Ok(Value::Types(no_types(alloc))),
-        Production::MoreTypesMore => build_types::more_types(alloc, values),
+        Production::ParenType => put(build_types::paren_type(alloc, values)?, values),
+        Production::BaseOpen => put(build_types::base_type(alloc, values)?, values),
+        Production::WeakOpen => put(build_types::weak_type(alloc, values)?, values),
+        Production::UnownedOpen => put(build_types::unowned_type(alloc, values)?, values),
+        Production::QuestionsMore => put_value(build_types::more_questions(alloc, values)?, values),
+        Production::QuestionsEnd => put_value(Value::Questions(Prepended::new(alloc)), values),
+        Production::TypesSome => put_value(build_types::types_before(alloc, values)?, values),
+        Production::MoreTypesMore => {
+            skip(values);
+            put_value(build_types::types_before(alloc, values)?, values)
+        },
+        Production::TypesNone | Production::MoreTypesEnd => put_value(
+            Value::Types(no_types(alloc)),
+            values,
+        ),
+        Production::BareType => put_value(values.pop_front(), values),
         _ => unreachable!(),
     }
 }

@@ -150,7 +150,7 @@ impl Value {
         ensures { result ≡ operand_of self }
     {
         match self {
-            Value::Operand(kept) => kept.into_inner(),
+            Value::Operand(kept) => kept,
             other => {
                 discard(other);
                 WrittenOperand {
@@ -192,17 +192,20 @@ impl Value {
     }
 
     #[tactic(auto, unfolding(crate::specs::Values::member_of))]
-    pub(crate) fn into_member(self, alloc: Global) -> Member
-        ensures { result ≡ member_of self }
+    pub(crate) fn into_member(self, alloc: Global) -> Result<Boxed<Member>, Exhausted>
+        ensures { IfOk result (λ member. member ≡ member_of self) }
     {
         match self {
-            Value::Member(kept) => kept,
+            Value::Member(kept) => Ok(kept),
             other => {
                 discard(other);
-                Member {
-                    owner: Text::new(alloc),
-                    name: Text::new(alloc),
-                }
+                Boxed::new(
+                    alloc,
+                    Member {
+                        owner: Text::new(alloc),
+                        name: Text::new(alloc),
+                    },
+                )
             }
         }
     }

@@ -2,7 +2,7 @@
 
 use crate::written_declarations::WrittenToken;
 use instruction_table::Op;
-use sil_ast::{Debug, List, Member, Place, Qualifier, Signature, Text, TypeName};
+use sil_ast::{Boxed, Debug, List, Member, Place, Qualifier, Signature, Text, TypeName};
 
 /// `%2 = load [copy] %1 : $*T`: the parts of an instruction of a module, with names where that has numbers.
 #[derive(Drop)]
@@ -14,12 +14,12 @@ pub struct WrittenInst {
     pub results: List<WrittenToken>,
     pub operands: List<WrittenOperand>,
     pub ty: Option<TypeName>,
-    pub signature: Option<Signature>,
-    pub function: Option<WrittenToken>,
-    pub member: Option<Member>,
+    pub signature: Option<Boxed<Signature>>,
+    pub function: Option<Boxed<WrittenToken>>,
+    pub member: Option<Boxed<Member>>,
     /// `None` too where the number isn't in its range.
     pub number: Option<i64>,
-    pub text: Option<Text>,
+    pub text: Option<Boxed<Text>>,
     pub qualifier: WrittenQualifier,
     pub lexical: bool,
     pub var_decl: bool,
@@ -46,5 +46,5 @@ pub struct WrittenOperand {
 pub struct WrittenEdge {
     pub label: WrittenToken,
     pub args: List<WrittenOperand>,
-    pub case_of: Option<Member>,
+    pub case_of: Option<Boxed<Member>>,
 }

@@ -25,8 +25,8 @@ pop_front-requires c = omega (arith, c.requires)
 pub loop-i-init : goal.loop-i-init
 loop-i-init c =
     let none = put_none c.args.op _ c.pop_front.new.self c.pop_front.result c.pop_front.ensures in
-    let inst = ap (bare_inst c.args.op) (ap (λ t. t.place) (sym c.into_token.ensures)) ∙ sym c.bare_inst-inst.ensures in
-    subst (λ left. Put c.args.op c.args.values.now left c.pop_front.new.self c.bare_inst-inst.result None) (sym c.row_of.ensures.parts)
+    let inst = ap (bare_inst c.args.op) (ap (λ t. t.place) (sym c.into_token.ensures)) ∙ sym c.in_ok-inst.ensures in
+    subst (λ left. Put c.args.op c.args.values.now left c.pop_front.new.self c.in_ok-inst.inst None) (sym c.row_of.ensures.parts)
     (subst (λ i. Put c.args.op c.args.values.now (parts_of c.args.op) c.pop_front.new.self i None) inst none)
 
 -- the parts behind this one, as the code takes them

@@ -102,13 +102,12 @@ loop-i-preserved g c =
     let built = c.fill_body.new.values in
     let enough : length (body p) ≤ length built = omega (arith, c.in_ok-fill_body-in-Expand.ensures.enough) in
     let are = c.in_ok-fill_body-in-Expand.ensures.same ∙ c.loop-i.invariant.values in
-    let reduced_is = reduced-waiting p built (map lacking left) c.reduce.new.values c.in_ok-made-in-Expand.made.value enough c.in_ok-made-in-Expand.ensures.value in
-    let own : c.in_ok-made-in-Expand.made.fault ≡ part_fault p (parts_of p (waiting built left)) =
-    c.in_ok-made-in-Expand.ensures.fault ∙ ap (part_fault p) (sym (parts-waiting p built (map lacking left) enough)) in
+    let reduced_is = reduced-waiting p built (map lacking left) c.reduce.new.values enough c.in_ok-found-in-Expand.ensures.values in
+    let own : c.in_ok-found-in-Expand.found ≡ part_fault p (parts_of p (waiting built left)) =
+    c.in_ok-found-in-Expand.ensures.fault ∙ ap (part_fault p) (sym (parts-waiting p built (map lacking left) enough)) in
     record {
       takes = omega (arith, takes_expanded all c.loop-i.i _ p c.loop-i-test.true below here, c.loop-i.invariant.takes);
-      values = ap (λ vs. waiting vs left) c.in_ok-push_front-in-Expand.ensures
-          ∙ replay_expanded all (drop c.loop-i.token lexemes) c.loop-i.i _ p (waiting built left) _ c.loop-i-test.true below here are reduced_is;
+      values = replay_expanded all (drop c.loop-i.token lexemes) c.loop-i.i _ p (waiting built left) _ c.loop-i-test.true below here are reduced_is;
       fault = c.earlier-fault.ensures ∙ ap (λ f. earlier f c.loop-i.fault) own
           ∙ fault_expanded all (drop c.loop-i.token lexemes) c.loop-i.i _ p (waiting built left) c.loop-i.fault c.loop-i-test.true below here are c.loop-i.invariant.fault;
     }
