@@ -3,6 +3,7 @@
 ghost use Rattle.std.specs.Prelude.{◌≡◌, ◌+◌, ◌≤◌, [], ◌∷◌, length, reverse, IfOk, OnOk};
 ghost use Rattle.sil_shape.specs.Grammar.{body};
 ghost use Rattle.sil_shape.specs.declared.grammar.Symbol.TheVariants.{Part};
+ghost use Rattle.sil_shape.specs.Shortest as said;
 ghost use Rattle.sil_shape.specs.Shortest.{Shortens};
 ghost use Rattle.sil_shape.specs.Values.{IsEnough};
 ghost use Rattle.written_modules.specs.Lacking.{lacking, Fills};
@@ -37,15 +38,24 @@ fn replay_lacking(alloc: Global, steps: &[Step]) -> Result<Prepended<Value>, Exh
     Ok(values)
 }
 
+/// What a part stands for whose shortest text is empty.
+fn empty_part(alloc: Global, part: Nonterminal) -> Result<Value, Exhausted>
+    requires { length (body (said.shortest part)) ≡ 0 }
+    ensures { IfOk result (λ value. value ≡ lacking (Part part)) }
+{
+    let production = shortest(part);
+    let mut values = Prepended::new(alloc);
+    reduce(alloc, production, &mut values)?;
+    Ok(values.pop_front())
+}
+
 /// What a part stands for. Nearly all shortest texts are empty, and take no steps to find.
 fn lacking_part(alloc: Global, part: Nonterminal) -> Result<Value, Exhausted>
     ensures { IfOk result (λ value. value ≡ lacking (Part part)) }
 {
     let production = shortest(part);
     if body_length(production) == 0 {
-        let mut values = Prepended::new(alloc);
-        reduce(alloc, production, &mut values)?;
-        return Ok(values.pop_front());
+        return empty_part(alloc, part);
     }
     let steps = shortest_steps(alloc, part)?;
     let mut values = replay_lacking(alloc, steps.as_slice())?;

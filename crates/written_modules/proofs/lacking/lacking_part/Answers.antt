@@ -1,15 +1,16 @@
 -- The steps of the shortest text leave one value, that of the part.
 use Rattle.std.proofs.Common.{◌≡◌, [], ◌∷◌, ◌∙◌, ap, arith, length, subst, sym}
 use Rattle.sil_shape.specs.declared.grammar.Symbol.TheVariants.{Part}
+use Rattle.sil_shape.specs.Grammar.{body}
 use Rattle.sil_shape.specs.Values.{IsEnough}
 use Rattle.written_modules.specs.Lacking.{lacking}
 use Rattle.written_modules.specs.Replay.{replay}
-use Rattle.written_modules.proofs.LackingLemmas.{lacking_empty, enough_alone, one_part}
+use Rattle.written_modules.proofs.LackingLemmas.{enough_alone, one_part}
 use Rattle.written_modules.proofs.lacking.lacking_part.Goals as goal
 
-pub returns-then-body_length-eq0 : goal.returns-then-body_length-eq0
-returns-then-body_length-eq0 c =
-    lacking_empty c.args.part _ _ _ _ c.shortest-production.ensures (omega (arith, c.body_length.ensures, c.if-body_length-eq0.true)) c.new-values.ensures (sym c.in_ok-reduce.ensures.values ∙ c.pop_front.ensures)
+pub empty_part-requires : goal.empty_part-requires
+empty_part-requires c =
+    omega (arith, c.body_length.ensures, c.if-body_length-eq0.true, ap (λ p. length (body p)) c.shortest-production.ensures)
 
 pub replay_lacking-requires : goal.replay_lacking-requires
 replay_lacking-requires c = subst IsEnough (sym c.as_slice.ensures.value) (enough_alone c.in_ok-steps.ensures)
