@@ -66,7 +66,7 @@ pub(crate) fn case_of_edge<'t>(
     ensures { option_map payload_told result ≡ rules.case_of_edge table.now ty.now edge.now }
 {
     match &edge.case_of {
-        Some(member) => case_in(table, member, ty),
+        Some(member) => case_in(table, member.get(), ty),
         None => None,
     }
 }

@@ -83,7 +83,7 @@ fn is_made_by_case(table: &TypeTable, inst: &Inst, ty: &TypeName) -> bool
     ensures { result ≡ is_made_by_case table.now inst.now ty.now }
 {
     match &inst.member {
-        Some(member) => match case_in(table, member, ty) {
+        Some(member) => match case_in(table, member.get(), ty) {
             Some(found) => is_payload(inst.operands.as_slice(), found.ty),
             None => false,
         },

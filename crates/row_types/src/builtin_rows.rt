@@ -99,7 +99,7 @@ fn named_in(inst: &Inst) -> Option<BuiltinAt>
     ensures { option_map builtin_told result ≡ option_and_then builtins.builtin_named inst.now.text }
 {
     match &inst.text {
-        Some(name) => builtin_named(name.as_slice()),
+        Some(name) => builtin_named(name.get().as_slice()),
         None => None,
     }
 }

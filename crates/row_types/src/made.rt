@@ -115,7 +115,10 @@ pub(crate) fn gives_by_signature(inst: &Inst) -> Option<Made<'_>>
     ensures { option_map made_told result ≡ rows.gives (option_map given_type inst.now.signature) }
 {
     match &inst.signature {
-        Some(signature) => Some(Made::One(TypeView::GivenBy(signature.results.as_slice()))),
+        Some(signature) => {
+            let results = signature.get().results.as_slice();
+            Some(Made::One(TypeView::GivenBy(results)))
+        }
         None => None,
     }
 }

@@ -33,7 +33,7 @@ fn struct_field_of<'a>(
     ensures { option_copied result ≡ option_and_then (λ m. option_and_then (shapes.struct_field table.now m) (option_copied ty.entry)) inst.now.member }
 {
     match (&inst.member, ty) {
-        (Some(member), Some(ty)) => struct_field(table, member, ty),
+        (Some(member), Some(ty)) => struct_field(table, member.get(), ty),
         _ => None,
     }
 }
@@ -43,7 +43,7 @@ fn class_field_of<'a>(table: &'a TypeTable, inst: &Inst, ty: Option<&TypeName>) 
     ensures { option_copied result ≡ option_and_then (λ m. option_and_then (shapes.class_field table.now m) (option_copied ty.entry)) inst.now.member }
 {
     match (&inst.member, ty) {
-        (Some(member), Some(ty)) => class_field(table, member, ty),
+        (Some(member), Some(ty)) => class_field(table, member.get(), ty),
         _ => None,
     }
 }

@@ -43,7 +43,7 @@ fn has_named_signature(m: &Module, functions: &[Option<FuncId>], inst: &Inst) ->
         None => true,
         Some(written) => match named_signature(m, functions, inst) {
             None => true,
-            Some(named) => same_signature(written, named),
+            Some(named) => same_signature(written.get(), named),
         },
     }
 }
