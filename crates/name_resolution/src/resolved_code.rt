@@ -126,13 +126,12 @@ fn resolve_args(
 {
     let mut resolved = List::with_capacity(alloc, args.len())?;
     for arg in args.into_vec() {
-        let value = ValueId(*next);
-        *next = advanced(*next, 1)?;
         resolved.push(BlockArg {
-            value,
+            value: ValueId(*next),
             kind: arg.kind,
             ty: arg.ty,
         })?;
+        *next = advanced(*next, 1)?;
     }
     Ok(resolved)
 }

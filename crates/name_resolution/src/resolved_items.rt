@@ -100,15 +100,24 @@ fn resolve_decl(alloc: Global, decl: WrittenDecl) -> Result<Decl, Exhausted>
 {
     let name = decl.name().text.to_text(alloc)?;
     match decl {
-        WrittenDecl::Class { fields, .. } => Ok(Decl::Class {
+        WrittenDecl::Class {
+            name: _token,
+            fields,
+        } => Ok(Decl::Class {
             name,
             fields: resolve_fields(alloc, fields)?,
         }),
-        WrittenDecl::Struct { fields, .. } => Ok(Decl::Struct {
+        WrittenDecl::Struct {
+            name: _token,
+            fields,
+        } => Ok(Decl::Struct {
             name,
             fields: resolve_fields(alloc, fields)?,
         }),
-        WrittenDecl::Enum { cases, .. } => Ok(Decl::Enum {
+        WrittenDecl::Enum {
+            name: _token,
+            cases,
+        } => Ok(Decl::Enum {
             name,
             cases: resolve_cases(alloc, cases)?,
         }),

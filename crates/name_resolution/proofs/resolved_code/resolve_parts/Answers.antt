@@ -1,4 +1,4 @@
-use Rattle.std.proofs.Common.{[], ◌∷◌, ap, ◌∙◌}
+use Rattle.std.proofs.Common.{[], ◌∷◌, ◌++◌, ap, ◌∙◌}
 use Rattle.name_resolution.specs.FirstFaults.{Known, known_in, with_code}
 use Rattle.name_resolution.proofs.FaultLemmas.{code_more}
 use Rattle.name_resolution.proofs.resolved_code.resolve_parts.Goals as goal
@@ -9,4 +9,5 @@ returns-clause-faults g c =
     let known : Known = known_in tables.functions.now tables.blocks.now tables.values.now in
     c.in_ok-names.ensures.faults
     ∙ ap (λ faults. with_code known faults (c.args.block.now.terminator ∷ [])) c.in_ok-insts.ensures.faults
-    ∙ code_more known c.args.faults.now c.args.block.now.insts (c.args.block.now.terminator ∷ [])
+    ∙ code_more known c.args.faults.now c.replace-insts.result (c.args.block.now.terminator ∷ [])
+    ∙ ap (λ insts. with_code known c.args.faults.now (insts ++ c.args.block.now.terminator ∷ [])) c.replace-insts.ensures.value
