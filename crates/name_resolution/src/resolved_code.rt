@@ -1,11 +1,11 @@
 //! Instructions and blocks, with numbers for their names. What has no name is moved out of the written module. Each use of
 //! a name is looked up once: a name that isn't defined is noted, and its number is 0.
 
-ghost use Rattle.std.specs.Prelude.{◌≡◌, ◌+◌, [], ◌∷◌, length, map, IfOk, OnOk};
+ghost use Rattle.std.specs.Prelude.{◌≡◌, ◌+◌, [], ◌∷◌, ◌++◌, length, map, IfOk, OnOk};
 ghost use Rattle.std.specs.List.{flat_map};
 ghost use Rattle.std.specs.Option.{option_map, option_to_list};
 ghost use Rattle.written_tree.specs.Faults as said;
-ghost use Rattle.name_resolution.specs.FirstFaults.{known_in, with_code, with_edges, with_operands};
+ghost use Rattle.name_resolution.specs.FirstFaults.{known_in, with_code, with_edges};
 ghost use Rattle.name_resolution.specs.NameFaults.{unknown_in};
 ghost use Rattle.name_resolution.specs.Names.{code_of, operand_name};
 ghost use Rattle.name_resolution.specs.Resolved.{Scope, counted, defined_by_inst, defined_in, function_of, resolved_args, resolved_block, resolved_blocks, resolved_edge, resolved_inst, resolved_insts, resolved_operand};
@@ -16,9 +16,11 @@ use crate::defining::count_of_results;
 use crate::first_faults::CodeFaults;
 use crate::symbol_table::{SymbolTable, advanced};
 use sil_ast::{
-    Block, BlockArg, BlockId, Edge, Exhausted, FuncId, Inst, List, Operand, Operands, ValueId,
+    Block, BlockArg, BlockId, Boxed, Edge, Exhausted, FuncId, Inst, List, Operand, Operands,
+    ValueId,
 };
 use std::alloc::Global;
+use std::mem;
 use written_tree::{
     Fault, WrittenArg, WrittenBlock, WrittenEdge, WrittenInst, WrittenOperand, WrittenToken,
 };
@@ -31,11 +33,21 @@ pub(crate) struct Tables<'a> {
     pub(crate) values: &'a SymbolTable,
 }
 
-/// The values and blocks of an instruction, by their numbers.
+/// The names of an instruction, by their numbers.
 #[derive(Drop)]
-struct Uses {
+struct Names {
+    results: List<ValueId>,
+    function: Option<FuncId>,
     operands: Operands,
     edges: List<Edge>,
+}
+
+/// A block's arguments and instructions, and the names of its terminator.
+#[derive(Drop)]
+struct Parts {
+    args: List<BlockArg>,
+    insts: List<Inst>,
+    names: Names,
 }
 
 #[tactic(auto, using(std::proofs::lemmas::Grind::common_steps, crate::proofs::FaultLemmas::blocks_more, crate::proofs::FaultLemmas::code_done))]
@@ -53,33 +65,55 @@ pub(crate) fn resolve_blocks(
     let mut next = 0;
     let mut resolved = List::with_capacity(alloc, blocks.len())?;
     for block in blocks.into_vec() {
-        resolved.push(resolve_block(alloc, tables, faults, &mut next, block)?)?;
+        add_block(alloc, tables, faults, &mut next, block, &mut resolved)?;
     }
     Ok(resolved)
 }
 
 // `next` is the number of the first value, and then that behind the last.
-fn resolve_block(
+fn add_block(
     alloc: Global,
     tables: Tables<'_>,
     faults: &mut CodeFaults,
     next: &mut u32,
-    block: WrittenBlock,
-) -> Result<Block, Exhausted>
+    mut block: WrittenBlock,
+    resolved: &mut List<Block>,
+) -> Result<(), Exhausted>
     ghost s: { Scope }
     requires { FindsScope tables.functions.now tables.blocks.now tables.values.now s }
-    ensures block { IfOk result (λ resolved. resolved ≡ resolved_block s next.old block) }
+    ensures block { OnOk result (resolved.new ≡ resolved.old ++ resolved_block s next.old block ∷ []) }
     ensures next { OnOk result (next.new ≡ next.old + length (defined_in block)) }
     ensures faults { OnOk result (faults.new ≡ with_code (known_in tables.entry.functions.now tables.entry.blocks.now tables.entry.values.now) faults.old (code_of block)) }
 {
-    let args = resolve_args(alloc, next, block.args)?;
-    let insts = resolve_insts(alloc, tables, faults, next, block.insts)?;
-    let mut behind = *next;
-    Ok(Block {
-        args,
-        insts,
-        terminator: resolve_inst(alloc, tables, faults, &mut behind, block.terminator)?,
+    let parts = resolve_parts(alloc, tables, faults, next, &mut block)?;
+    resolved.push(Block {
+        args: parts.args,
+        insts: parts.insts,
+        terminator: with_names(block.terminator, parts.names),
     })
+}
+
+// Takes out of the block what is resolved: of its terminator the rest stays.
+fn resolve_parts(
+    alloc: Global,
+    tables: Tables<'_>,
+    faults: &mut CodeFaults,
+    next: &mut u32,
+    block: &mut WrittenBlock,
+) -> Result<Parts, Exhausted>
+    ghost s: { Scope }
+    requires { FindsScope tables.functions.now tables.blocks.now tables.values.now s }
+    ensures block { IfOk result (λ parts. resolved_block s next.old block.old ≡ record { args = parts.args; insts = parts.insts; terminator = record { op = block.new.terminator.op; results = parts.names.results; operands = parts.names.operands; ty = block.new.terminator.ty; signature = block.new.terminator.signature; function = parts.names.function; member = block.new.terminator.member; number = block.new.terminator.number; text = block.new.terminator.text; qualifier = block.new.terminator.qualifier.word; lexical = block.new.terminator.lexical; var_decl = block.new.terminator.var_decl; debug = block.new.terminator.debug; edges = parts.names.edges } }) }
+    ensures next { OnOk result (next.new ≡ next.old + length (defined_in block.old)) }
+    ensures faults { OnOk result (faults.new ≡ with_code (known_in tables.entry.functions.now tables.entry.blocks.now tables.entry.values.now) faults.old (code_of block.old)) }
+{
+    let args = mem::replace(&mut block.args, List::new(alloc));
+    let args = resolve_args(alloc, next, args)?;
+    let insts = mem::replace(&mut block.insts, List::new(alloc));
+    let insts = resolve_insts(alloc, tables, faults, next, insts)?;
+    let mut behind = *next;
+    let names = resolve_names(alloc, tables, faults, &mut behind, &mut block.terminator)?;
+    Ok(Parts { args, insts, names })
 }
 
 fn resolve_args(
@@ -92,13 +126,12 @@ fn resolve_args(
 {
     let mut resolved = List::with_capacity(alloc, args.len())?;
     for arg in args.into_vec() {
-        let value = ValueId(*next);
-        *next = advanced(*next, 1)?;
         resolved.push(BlockArg {
-            value,
+            value: ValueId(*next),
             kind: arg.kind,
             ty: arg.ty,
         })?;
+        *next = advanced(*next, 1)?;
     }
     Ok(resolved)
 }
@@ -119,36 +152,69 @@ fn resolve_insts(
 {
     let mut resolved = List::with_capacity(alloc, insts.len())?;
     for inst in insts.into_vec() {
-        resolved.push(resolve_inst(alloc, tables, faults, next, inst)?)?;
+        add_inst(alloc, tables, faults, next, inst, &mut resolved)?;
     }
     Ok(resolved)
 }
 
 // `next` is the number of the first result, and then that behind the last.
-#[tactic(auto, using(std::proofs::lemmas::Grind::common_steps, crate::proofs::FaultOrder::unknown_more), unfolding(crate::specs::FirstFaults::with_code, crate::specs::FirstFaults::with_edges))]
-fn resolve_inst(
+fn add_inst(
     alloc: Global,
     tables: Tables<'_>,
     faults: &mut CodeFaults,
     next: &mut u32,
-    inst: WrittenInst,
-) -> Result<Inst, Exhausted>
+    mut inst: WrittenInst,
+    resolved: &mut List<Inst>,
+) -> Result<(), Exhausted>
     ghost s: { Scope }
     requires { FindsScope tables.functions.now tables.blocks.now tables.values.now s }
-    ensures inst { IfOk result (λ resolved. resolved ≡ resolved_inst s next.old inst) }
+    ensures inst { OnOk result (resolved.new ≡ resolved.old ++ resolved_inst s next.old inst ∷ []) }
     ensures next { OnOk result (next.new ≡ next.old + length (defined_by_inst inst)) }
     ensures faults { OnOk result (faults.new ≡ with_code (known_in tables.entry.functions.now tables.entry.blocks.now tables.entry.values.now) faults.old (inst ∷ [])) }
 {
+    let names = resolve_names(alloc, tables, faults, next, &mut inst)?;
+    resolved.push(with_names(inst, names))
+}
+
+// Takes the operands and the edges out of the instruction.
+#[tactic(auto, using(std::proofs::lemmas::Grind::common_steps, crate::proofs::FaultOrder::unknown_more), unfolding(crate::specs::FirstFaults::with_code, crate::specs::FirstFaults::with_edges))]
+fn resolve_names(
+    alloc: Global,
+    tables: Tables<'_>,
+    faults: &mut CodeFaults,
+    next: &mut u32,
+    inst: &mut WrittenInst,
+) -> Result<Names, Exhausted>
+    ghost s: { Scope }
+    requires { FindsScope tables.functions.now tables.blocks.now tables.values.now s }
+    ensures inst { IfOk result (λ names. resolved_inst s next.old inst.old ≡ record { op = inst.new.op; results = names.results; operands = names.operands; ty = inst.new.ty; signature = inst.new.signature; function = names.function; member = inst.new.member; number = inst.new.number; text = inst.new.text; qualifier = inst.new.qualifier.word; lexical = inst.new.lexical; var_decl = inst.new.var_decl; debug = inst.new.debug; edges = names.edges }) }
+    ensures next { OnOk result (next.new ≡ next.old + length (defined_by_inst inst.old)) }
+    ensures faults { OnOk result (faults.new ≡ with_code (known_in tables.entry.functions.now tables.entry.blocks.now tables.entry.values.now) faults.old (inst.old ∷ [])) }
+{
     let function = resolve_callee(tables.functions, &mut faults.functions, &inst.function);
-    let results = resolve_results(alloc, next, &inst)?;
-    let uses = resolve_uses(alloc, tables, faults, inst.operands, inst.edges)?;
-    Ok(Inst {
-        op: inst.op,
+    let results = resolve_results(alloc, next, inst)?;
+    let operands = mem::replace(&mut inst.operands, List::new(alloc));
+    let operands = resolve_operands(alloc, tables.values, &mut faults.values, operands)?;
+    let edges = mem::replace(&mut inst.edges, List::new(alloc));
+    let edges = resolve_edges(alloc, tables, faults, edges)?;
+    Ok(Names {
         results,
-        operands: uses.operands,
+        function,
+        operands,
+        edges,
+    })
+}
+
+fn with_names(inst: WrittenInst, names: Names) -> Inst
+    ensures { result ≡ record { op = inst.op; results = names.results; operands = names.operands; ty = inst.ty; signature = inst.signature; function = names.function; member = inst.member; number = inst.number; text = inst.text; qualifier = inst.qualifier.word; lexical = inst.lexical; var_decl = inst.var_decl; debug = inst.debug; edges = names.edges } }
+{
+    Inst {
+        op: inst.op,
+        results: names.results,
+        operands: names.operands,
         ty: inst.ty,
         signature: inst.signature,
-        function,
+        function: names.function,
         member: inst.member,
         number: inst.number,
         text: inst.text,
@@ -156,27 +222,8 @@ fn resolve_inst(
         lexical: inst.lexical,
         var_decl: inst.var_decl,
         debug: inst.debug,
-        edges: uses.edges,
-    })
-}
-
-fn resolve_uses(
-    alloc: Global,
-    tables: Tables<'_>,
-    faults: &mut CodeFaults,
-    operands: List<WrittenOperand>,
-    edges: List<WrittenEdge>,
-) -> Result<Uses, Exhausted>
-    ghost s: { Scope }
-    requires { FindsScope tables.functions.now tables.blocks.now tables.values.now s }
-    ensures operands { IfOk result (λ uses. uses.operands ≡ map (resolved_operand s) operands) }
-    ensures edges { IfOk result (λ uses. uses.edges ≡ map (resolved_edge s) edges) }
-    ensures faults { OnOk result (faults.new ≡ with_edges (known_in tables.entry.functions.now tables.entry.blocks.now tables.entry.values.now) (with_operands (known_in tables.entry.functions.now tables.entry.blocks.now tables.entry.values.now) faults.old operands) edges) }
-{
-    Ok(Uses {
-        operands: resolve_operands(alloc, tables.values, &mut faults.values, operands)?,
-        edges: resolve_edges(alloc, tables, faults, edges)?,
-    })
+        edges: names.edges,
+    }
 }
 
 // `next` is the number of the first, and then that behind the last.
@@ -213,7 +260,7 @@ fn counted_results(
 fn resolve_callee(
     functions: &SymbolTable,
     unknown: &mut Option<Fault>,
-    function: &Option<WrittenToken>,
+    function: &Option<Boxed<WrittenToken>>,
 ) -> Option<FuncId>
     ghost s: { Scope }
     requires { FindsNames functions.now s.functions }
@@ -221,7 +268,7 @@ fn resolve_callee(
     ensures unknown { unknown.new ≡ said.earlier unknown.old (unknown_of (names_in functions.now) (option_to_list function.now)) }
 {
     match function {
-        Some(name) => Some(FuncId(functions.number_of(name, unknown))),
+        Some(name) => Some(FuncId(functions.number_of(name.get(), unknown))),
         None => None,
     }
 }

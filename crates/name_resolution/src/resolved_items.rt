@@ -11,7 +11,7 @@ ghost use Rattle.name_resolution.specs.Items.{with_items};
 ghost use Rattle.name_resolution.specs.NameFaults.{members_fault, unknown_in};
 ghost use Rattle.name_resolution.specs.Names.{Name, name_of, used_by_item};
 ghost use Rattle.name_resolution.specs.Resolved.{form_of, resolved_blocks, resolved_case, resolved_decl, resolved_entry, resolved_field, resolved_function, resolved_vtable};
-ghost use Rattle.name_resolution.specs.Symbols.{names_in, unknown_of};
+ghost use Rattle.name_resolution.specs.Symbols.{labels_in, names_in, unknown_of, values_in};
 ghost use Rattle.name_resolution.specs.Tables.{FindsNames, scope_in};
 
 use crate::defining::{labels, members, values};
@@ -23,10 +23,20 @@ use sil_ast::{
     Vtable,
 };
 use std::alloc::Global;
+use std::mem;
 use written_tree::{
     Fault, WrittenBlock, WrittenCase, WrittenDecl, WrittenEntry, WrittenField, WrittenFunction,
     WrittenItem, WrittenToken, WrittenVtable, earlier,
 };
+
+/// The parts of a function that hold names.
+#[derive(Drop)]
+struct Parts {
+    name: Text,
+    form: Form,
+    attributes: List<Text>,
+    blocks: List<Block>,
+}
 
 /// Adds items to the lists of a module.
 #[tactic(auto, using(std::proofs::lemmas::Grind::common_steps, crate::proofs::ResolvedLemmas::items_more, crate::proofs::ResolvedLemmas::items_done, crate::proofs::FaultLemmas::item_faults_more, crate::proofs::FaultLemmas::item_faults_done))]
@@ -88,17 +98,27 @@ fn members_fault(alloc: Global, decl: &WrittenDecl) -> Result<Option<Fault>, Exh
 fn resolve_decl(alloc: Global, decl: WrittenDecl) -> Result<Decl, Exhausted>
     ensures { IfOk result (λ resolved. resolved ≡ resolved_decl decl) }
 {
+    let name = decl.name().text.to_text(alloc)?;
     match decl {
-        WrittenDecl::Class { name, fields } => Ok(Decl::Class {
-            name: name.text.to_text(alloc)?,
+        WrittenDecl::Class {
+            name: _token,
+            fields,
+        } => Ok(Decl::Class {
+            name,
             fields: resolve_fields(alloc, fields)?,
         }),
-        WrittenDecl::Struct { name, fields } => Ok(Decl::Struct {
-            name: name.text.to_text(alloc)?,
+        WrittenDecl::Struct {
+            name: _token,
+            fields,
+        } => Ok(Decl::Struct {
+            name,
             fields: resolve_fields(alloc, fields)?,
         }),
-        WrittenDecl::Enum { name, cases } => Ok(Decl::Enum {
-            name: name.text.to_text(alloc)?,
+        WrittenDecl::Enum {
+            name: _token,
+            cases,
+        } => Ok(Decl::Enum {
+            name,
             cases: resolve_cases(alloc, cases)?,
         }),
     }
@@ -134,7 +154,7 @@ fn resolve_cases(alloc: Global, cases: List<WrittenCase>) -> Result<List<Case>, 
 fn resolve_function(
     alloc: Global,
     functions: &SymbolTable,
-    f: WrittenFunction,
+    mut f: WrittenFunction,
     faults: &mut ItemFaults,
 ) -> Result<Function, Exhausted>
     ghost names: { List Name }
@@ -142,15 +162,40 @@ fn resolve_function(
     ensures function { IfOk result (λ function. function ≡ resolved_function names f) }
     ensures faults { OnOk result (faults.new ≡ with_body (names_in functions.now) faults.old f.blocks) }
 {
-    let form = form_of(f.attributes.as_slice(), f.blocks.as_slice());
-    let attributes = kept_attributes(alloc, f.attributes)?;
+    let parts = resolve_parts(alloc, functions, &mut f, faults)?;
     Ok(Function {
-        name: f.name.text.to_text(alloc)?,
-        form,
+        name: parts.name,
+        form: parts.form,
         linkage: f.linkage,
-        attributes,
+        attributes: parts.attributes,
         signature: f.signature,
-        blocks: resolve_body(alloc, functions, f.blocks, faults)?,
+        blocks: parts.blocks,
+    })
+}
+
+// Takes the attributes and the blocks out of the function.
+fn resolve_parts(
+    alloc: Global,
+    functions: &SymbolTable,
+    f: &mut WrittenFunction,
+    faults: &mut ItemFaults,
+) -> Result<Parts, Exhausted>
+    ghost names: { List Name }
+    requires { FindsNames functions.now names }
+    ensures function { IfOk result (λ parts. resolved_function names f.old ≡ record { name = parts.name; form = parts.form; linkage = f.new.linkage; attributes = parts.attributes; signature = f.new.signature; blocks = parts.blocks }) }
+    ensures faults { OnOk result (faults.new ≡ with_body (names_in functions.now) faults.old f.old.blocks) }
+{
+    let form = form_of(f.attributes.as_slice(), f.blocks.as_slice());
+    let name = f.name.text.to_text(alloc)?;
+    let attributes = mem::replace(&mut f.attributes, List::new(alloc));
+    let attributes = kept_attributes(alloc, attributes)?;
+    let blocks = mem::replace(&mut f.blocks, List::new(alloc));
+    let blocks = resolve_body(alloc, functions, blocks, faults)?;
+    Ok(Parts {
+        name,
+        form,
+        attributes,
+        blocks,
     })
 }
 
@@ -173,10 +218,26 @@ fn resolve_body(
         blocks: &labels,
         values: &values,
     };
+    resolve_in(alloc, tables, blocks, faults)
+}
+
+fn resolve_in(
+    alloc: Global,
+    tables: Tables<'_>,
+    blocks: List<WrittenBlock>,
+    faults: &mut ItemFaults,
+) -> Result<List<Block>, Exhausted>
+    ghost names: { List Name }
+    requires functions { FindsNames tables.functions.now names }
+    requires labels { tables.blocks.now ≡ labels_in blocks }
+    requires values { tables.values.now ≡ values_in blocks }
+    ensures blocks { IfOk result (λ resolved. resolved ≡ resolved_blocks (scope_in names blocks) 0 blocks) }
+    ensures faults { OnOk result (faults.new ≡ with_body (names_in tables.entry.functions.now) faults.old blocks) }
+{
     let mut code = CodeFaults {
         functions: faults.functions,
-        labels: labels.twice(),
-        values: values.twice(),
+        labels: tables.blocks.twice(),
+        values: tables.values.twice(),
     };
     let resolved = resolve_blocks(alloc, tables, &mut code, blocks)?;
     faults.functions = code.functions;

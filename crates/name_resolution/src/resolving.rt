@@ -21,16 +21,30 @@ use std::alloc::Global;
 use written_tree::{Fault, WrittenItem, WrittenModule, earlier};
 
 /// The module that `w` stands for, with numbers for its names. Types, signatures and texts are moved into it.
-#[tactic(auto, using(std::proofs::lemmas::Grind::common_steps, crate::proofs::FaultLemmas::fault_of_parts))]
 pub fn resolve(alloc: Global, w: WrittenModule) -> Result<Module, NameRefusal>
     ensures sound { IfOk result (λ m. name_fault w ≡ None) }
     ensures resolved { IfOk result (λ m. m ≡ resolved w) }
     ensures refused { IfErr result (IsRefusalOf w) }
 {
     let functions = functions(alloc, w.items.as_slice())?;
+    resolve_with(alloc, &functions, w)
+}
+
+// `functions` are those of the module.
+#[tactic(auto, using(std::proofs::lemmas::Grind::common_steps, crate::proofs::FaultLemmas::fault_of_parts))]
+fn resolve_with(
+    alloc: Global,
+    functions: &SymbolTable,
+    w: WrittenModule,
+) -> Result<Module, NameRefusal>
+    requires { functions.now ≡ numbered_by (map function_name (flat_map functions_of w.items)) }
+    ensures sound { IfOk result (λ m. name_fault w ≡ None) }
+    ensures resolved { IfOk result (λ m. m ≡ resolved w) }
+    ensures refused { IfErr result (IsRefusalOf w) }
+{
     let twice = twice_fault(alloc, w.imports, w.items.as_slice(), functions.twice())?;
     let mut faults = ItemFaults::none();
-    let module = resolve_module(alloc, &functions, w, &mut faults)?;
+    let module = resolve_module(alloc, functions, w, &mut faults)?;
     match earlier(twice, faults.first()) {
         Some(fault) => Err(NameRefusal::Name(fault)),
         None => Ok(module),

@@ -6,8 +6,8 @@ use Rattle.name_resolution.specs.Names.{code_of}
 use Rattle.name_resolution.specs.Resolved.{resolved_blocks}
 use Rattle.name_resolution.proofs.resolved_code.resolve_blocks.Given as goal
 
-abbrev pub ghost-resolve_block : goal.ghost-resolve_block
-ghost-resolve_block g a = g.s
+abbrev pub ghost-add_block : goal.ghost-add_block
+ghost-add_block g a = g.s
 
 abbrev pub invariant-loop-block : goal.invariant-loop-block
 invariant-loop-block g l = record {

@@ -5,8 +5,8 @@ use Rattle.name_resolution.specs.FirstFaults.{known_in, with_code}
 use Rattle.name_resolution.specs.Resolved.{defined_by_inst, resolved_insts}
 use Rattle.name_resolution.proofs.resolved_code.resolve_insts.Given as goal
 
-abbrev pub ghost-resolve_inst : goal.ghost-resolve_inst
-ghost-resolve_inst g a = g.s
+abbrev pub ghost-add_inst : goal.ghost-add_inst
+ghost-add_inst g a = g.s
 
 abbrev pub invariant-loop-inst : goal.invariant-loop-inst
 invariant-loop-inst g l = record {

@@ -1,5 +1,4 @@
-use Rattle.name_resolution.specs.Tables.{scope_in}
 use Rattle.name_resolution.proofs.resolved_items.resolve_body.Given as goal
 
-abbrev pub ghost-resolve_blocks : goal.ghost-resolve_blocks
-ghost-resolve_blocks g a = scope_in g.names a.blocks
+abbrev pub ghost-resolve_in : goal.ghost-resolve_in
+ghost-resolve_in g a = g.names

@@ -1,4 +1,7 @@
-use Rattle.name_resolution.proofs.resolved_code.resolve_uses.Given as goal
+use Rattle.name_resolution.proofs.resolved_code.resolve_names.Given as goal
+
+abbrev pub ghost-resolve_callee : goal.ghost-resolve_callee
+ghost-resolve_callee g a = g.s
 
 abbrev pub ghost-resolve_operands : goal.ghost-resolve_operands
 ghost-resolve_operands g a = g.s
