@@ -141,7 +141,7 @@ fn are_as_called(types: &[Option<TypeView<'_>>], inst: &Inst) -> bool
 {
     let operands = inst.operands.as_slice();
     match &inst.signature {
-        Some(signature) => are_arguments(types, operands, signature.params.as_slice()),
+        Some(signature) => are_arguments(types, operands, signature.get().params.as_slice()),
         None => operands.len() <= 1,
     }
 }
