@@ -1,8 +1,7 @@
 -- The shortest way to write what is left, replayed with no tokens, builds the values of what is left, and no fault.
-use Rattle.std.proofs.Common.{◌≡◌, ℕ, ◌+◌, ◌<◌, ◌≤◌, List, [], ◌∷◌, ◌++◌, length, map, take, drop, refl, ap, sym, subst, ◌∙◌, arith, append_assoc, length-append, reverse, Some}
+use Rattle.std.proofs.Common.{◌≡◌, ℕ, ◌+◌, ◌<◌, ◌≤◌, List, [], ◌∷◌, ◌++◌, length, map, take, drop, refl, ap, sym, subst, ◌∙◌, arith, append_assoc, length-append, reverse}
 use Rattle.std.specs.Prelude.{Option, None}
-use Rattle.std.specs.Option.{option_to_list}
-use Rattle.std.proofs.lemmas.List.{drop-append-le, length-map, length-reverse, map-append, reverse-append, take-append-le}
+use Rattle.std.proofs.lemmas.List.{drop-append-le, length-map, length-reverse, map-append, take-append-le}
 use Rattle.std.proofs.Math.Seq.{take-append_seam, drop-append_seam}
 use Rattle.sil_shape.specs.declared.grammar.Nonterminal.{Nonterminal}
 use Rattle.sil_shape.specs.declared.grammar.Nonterminal.TheVariants as n
@@ -120,12 +119,6 @@ one_moved built symbol value rest is = append_assoc built (value ∷ []) (map la
 
 pub waiting-length : (built : List Value) (left : List Symbol) → length (waiting built left) ≡ length built + length left
 waiting-length built left = length-append built (map lacking left) ∙ ap (λ n. length built + n) (length-map left lacking)
-
-pub popped : (old new : List Symbol) (symbol : Symbol) (r : Option Symbol) → old ≡ new ++ option_to_list r → r ≡ Some symbol → old ≡ new ++ symbol ∷ []
-popped old new symbol r is some = is ∙ ap (λ o. new ++ option_to_list o) some
-
-pub first_popped : (old new : List Symbol) (symbol : Symbol) → old ≡ new ++ symbol ∷ [] → reverse old ≡ symbol ∷ reverse new
-first_popped old new symbol is = ap reverse is ∙ reverse-append new (symbol ∷ [])
 
 -- as many values wait as before, so some are left where too few are built
 pub some_left : (built built0 : List Value) (left left0 : List Symbol) (count : ℕ) → waiting built (reverse left) ≡ waiting built0 (reverse left0)

@@ -3,4 +3,5 @@ pub mod BuildLemmas
 pub mod RowLemmas
 pub mod FoundLemmas
 pub mod LackingLemmas
+pub mod Popped
 pub mod WholeLemmas
