@@ -71,7 +71,7 @@ fn params_of(inst: &Inst) -> &[Param]
 {
     match &inst.signature {
         None => &[],
-        Some(signature) => signature.params.as_slice(),
+        Some(signature) => signature.get().params.as_slice(),
     }
 }
 
