@@ -108,7 +108,7 @@ pub(crate) fn entries_by_item(
     ensures size { IfOk result (λ v. length v.items ≡ item_count g.now) }
     ensures entries { IfOk result (λ v. (n : ℕ) → n < item_count g.now → accesses_at v.items n ≡ flat_map (lives_by (facts_of k.now)) (marks_at k.now n)) }
 {
-    let mut all = Vec::new(alloc);
+    let mut all = Vec::with_capacity(alloc, g.items())?;
     for i in 0..g.items() {
         all.push(entries_of(alloc, k, i)?)?;
     }

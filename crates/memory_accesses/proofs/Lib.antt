@@ -1,3 +1,4 @@
 pub mod ByItem
 pub mod Following
 pub mod Gathered
+pub mod Idle

@@ -3,7 +3,6 @@
 ghost use Rattle.std.specs.Prelude.{◌≡◌, ◌++◌, OnOk, map};
 ghost use Rattle.std.specs.List.{flat_map};
 ghost use Rattle.std.specs.Option.{option_copied, option_to_list};
-ghost use Rattle.ownership_marks.specs.Marks.{item_defined, item_taken};
 ghost use Rattle.memory_accesses.specs.Accesses as spec;
 ghost use Rattle.memory_accesses.specs.declared.access.Access.TheVariants.{Does};
 
@@ -12,9 +11,7 @@ use crate::columns::{Allowance, allowance_of};
 use crate::memory::Memory;
 use crate::operations::{add_addresses, add_operations, deallocates};
 use crate::source::Source;
-use ownership_marks::{
-    Mark, MarkSort, Taken, add_item_defined, add_item_taken, inst_at, terminator_of,
-};
+use ownership_marks::{Mark, MarkSort, Taken, inst_at, terminator_of};
 use sil_ast::{Exhausted, Function, Inst, ValueId};
 use sil_cfg::Item;
 
@@ -68,7 +65,8 @@ fn add_mentioned(
     Ok(())
 }
 
-fn add_mentions(
+/// Adds the operands of an item's instruction, with the unfinished objects that it takes.
+pub(crate) fn add_mentions(
     accesses: &mut Vec<Access>,
     inst: Option<&Inst>,
     taken: &[Taken],
@@ -82,20 +80,6 @@ fn add_mentions(
         return Ok(());
     }
     add_mentioned(accesses, allowance_of(inst.op), taken)
-}
-
-/// Adds the operands of an item, with the unfinished objects that its instruction takes.
-pub(crate) fn add_item_mentions(
-    accesses: &mut Vec<Access>,
-    f: &Function,
-    item: Item,
-) -> Result<(), Exhausted>
-    ensures { OnOk result (accesses.new.items ≡ accesses.old.items ++ spec.mentions_of (spec.item_inst f.now item) (item_taken f.now item)) }
-{
-    let mut taken = Vec::new(*accesses.allocator());
-    add_item_taken(&mut taken, f, item)?;
-    add_mentions(accesses, inst_of(f, item), taken.as_slice())?;
-    Ok(())
 }
 
 fn add_each_operated(accesses: &mut Vec<Access>, operations: &[Operated]) -> Result<(), Exhausted>
@@ -169,7 +153,12 @@ fn made_by(m: &Memory, value: ValueId) -> Option<Access>
     }
 }
 
-fn add_made(accesses: &mut Vec<Access>, m: &Memory, defined: &[ValueId]) -> Result<(), Exhausted>
+/// Adds what is allocated and given: those of the values that are defined.
+pub(crate) fn add_made(
+    accesses: &mut Vec<Access>,
+    m: &Memory,
+    defined: &[ValueId],
+) -> Result<(), Exhausted>
     ensures { OnOk result (accesses.new.items ≡ accesses.old.items ++ flat_map (spec.made m.now) defined.now) }
 {
     for value in defined {
@@ -177,20 +166,5 @@ fn add_made(accesses: &mut Vec<Access>, m: &Memory, defined: &[ValueId]) -> Resu
             accesses.push(access)?;
         }
     }
-    Ok(())
-}
-
-/// Adds what is allocated and given by the item: those of the values that it defines.
-pub(crate) fn add_item_made(
-    accesses: &mut Vec<Access>,
-    m: &Memory,
-    f: &Function,
-    item: Item,
-) -> Result<(), Exhausted>
-    ensures { OnOk result (accesses.new.items ≡ accesses.old.items ++ flat_map (spec.made m.now) (item_defined f.now item)) }
-{
-    let mut defined = Vec::new(*accesses.allocator());
-    add_item_defined(&mut defined, f, item)?;
-    add_made(accesses, m, defined.as_slice())?;
     Ok(())
 }

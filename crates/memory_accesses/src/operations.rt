@@ -1,8 +1,7 @@
 //! What an instruction does to the locations at its addresses.
 
-ghost use Rattle.std.specs.Prelude.{◌≡◌, ◌++◌, OnOk};
+ghost use Rattle.std.specs.Prelude.{◌≡◌, ◌++◌, OnOk, Some};
 ghost use Rattle.std.specs.List.{flat_map};
-ghost use Rattle.std.specs.Option.{option_to_list};
 ghost use Rattle.memory_accesses.specs.Operations as spec;
 
 use crate::access::{Operated, Operation};
@@ -94,26 +93,18 @@ pub fn add_addresses(addresses: &mut Vec<ValueId>, inst: &Inst) -> Result<(), Ex
     Ok(())
 }
 
-fn operated_at(operation: Option<Operation>, address: ValueId) -> Option<Operated>
-    ensures { spec.operated_at operation address ≡ option_to_list result }
-{
-    match operation {
-        None => None,
-        Some(operation) => Some(Operated { address, operation }),
-    }
-}
-
 fn add_operated(
     operations: &mut Vec<Operated>,
-    operation: Option<Operation>,
+    operation: Operation,
     addresses: &[ValueId],
 ) -> Result<(), Exhausted>
-    ensures { OnOk result (operations.new.items ≡ operations.old.items ++ flat_map (spec.operated_at operation) addresses.now) }
+    ensures { OnOk result (operations.new.items ≡ operations.old.items ++ flat_map (spec.operated_at (Some operation)) addresses.now) }
 {
     for address in addresses {
-        if let Some(operated) = operated_at(operation, *address) {
-            operations.push(operated)?;
-        }
+        operations.push(Operated {
+            address: *address,
+            operation,
+        })?;
     }
     Ok(())
 }
@@ -122,7 +113,9 @@ fn add_operated(
 pub fn add_operations(operations: &mut Vec<Operated>, inst: &Inst) -> Result<(), Exhausted>
     ensures { OnOk result (operations.new.items ≡ operations.old.items ++ spec.operations_of inst.now) }
 {
-    let operation = operation_by(access_kind_of(inst.op), inst.qualifier);
+    let Some(operation) = operation_by(access_kind_of(inst.op), inst.qualifier) else {
+        return Ok(());
+    };
     let mut addresses = Vec::new(*operations.allocator());
     add_addresses(&mut addresses, inst)?;
     add_operated(operations, operation, addresses.as_slice())?;

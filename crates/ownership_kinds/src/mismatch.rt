@@ -1,6 +1,6 @@
 //! 304: an operand has a kind that the instruction doesn't take.
 
-ghost use Rattle.std.specs.Prelude.{◌≡◌, ◌++◌, IfOk, OnOk};
+ghost use Rattle.std.specs.Prelude.{◌≡◌, ◌++◌, OnOk};
 ghost use Rattle.std.specs.List.{flat_map};
 ghost use Rattle.ownership_marks.specs.Roles.{taken_along};
 ghost use Rattle.ownership_kinds.specs.Faults.{least, taken_faults};
@@ -15,7 +15,6 @@ use instruction_table::Role;
 use ownership_marks::{Taken, add_taken_along, add_taken_by};
 use sil_ast::{Edge, Exhausted, Inst, PointId};
 use sil_rules::Rule;
-use std::alloc::Global;
 use type_definitions::Kind;
 
 fn add_all_along(taken: &mut Vec<Taken>, edges: &[Edge]) -> Result<(), Exhausted>
@@ -27,14 +26,13 @@ fn add_all_along(taken: &mut Vec<Taken>, edges: &[Edge]) -> Result<(), Exhausted
     Ok(())
 }
 
-/// What an instruction takes: its operands, and what its edges hand over.
-pub(crate) fn all_taken(alloc: Global, inst: &Inst) -> Result<Vec<Taken>, Exhausted>
-    ensures { IfOk result (λ taken. taken.items ≡ statics.all_taken inst.now) }
+/// Makes `taken` what an instruction takes: its operands, and what its edges hand over.
+pub(crate) fn take_all(taken: &mut Vec<Taken>, inst: &Inst) -> Result<(), Exhausted>
+    ensures { OnOk result (taken.new.items ≡ statics.all_taken inst.now) }
 {
-    let mut taken = Vec::new(alloc);
-    add_taken_by(&mut taken, inst)?;
-    add_all_along(&mut taken, inst.edges.as_slice())?;
-    Ok(taken)
+    taken.clear();
+    add_taken_by(taken, inst)?;
+    add_all_along(taken, inst.edges.as_slice())
 }
 
 /// Whether the role doesn't take the kind. The end of a scope takes the result of a borrow itself alone.

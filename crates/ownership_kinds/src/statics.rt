@@ -11,10 +11,11 @@ ghost use Rattle.ownership_kinds.specs.Statics.{HasKinds, IsFirstBroken};
 use crate::annotations::add_annotation;
 use crate::defaults::add_lacking;
 use crate::fault::StaticFault;
-use crate::mismatch::{add_mismatches, all_taken};
+use crate::mismatch::{add_mismatches, take_all};
 use crate::mixed::add_mixed;
 use crate::rings::{add_ring, add_rings};
 use forwarding_chains::Facts;
+use ownership_marks::Taken;
 use sil_ast::{Block, BlockArg, BlockId, Exhausted, Function, Inst, PointId, ValueId};
 use sil_types::TypeTable;
 use std::alloc::Global;
@@ -33,9 +34,9 @@ pub(crate) struct Known<'a> {
     pub ring: Option<ValueId>,
 }
 
-/// The first of what was found and of the faults of the instruction at the point.
+/// The first of what was found and of the faults of the instruction at the point. What `taken` holds doesn't matter: it is memory for what the instruction takes.
 fn add_inst(
-    alloc: Global,
+    taken: &mut Vec<Taken>,
     known: &Known<'_>,
     f: &Function,
     point: PointId,
@@ -44,7 +45,7 @@ fn add_inst(
 ) -> Result<Option<StaticFault>, Exhausted>
     ensures { IfOk result (λ r. r ≡ least found (inst_faults (kind_told known.now.facts.now) known.now.borrows.now known.now.ring f.now point.block.0 point.index inst.now)) }
 {
-    let taken = all_taken(alloc, inst)?;
+    take_all(taken, inst)?;
     let found = add_rings(known.ring, point, inst.results.as_slice(), found);
     let found = add_mixed(known.facts, point, inst, found);
     let found = add_mismatches(known.facts, known.borrows, point, taken.as_slice(), found);
@@ -53,7 +54,7 @@ fn add_inst(
 
 /// The first of what was found and of the faults of a block's instructions, its terminator left out.
 fn add_insts(
-    alloc: Global,
+    taken: &mut Vec<Taken>,
     known: &Known<'_>,
     f: &Function,
     block: BlockId,
@@ -65,7 +66,7 @@ fn add_insts(
 {
     let mut index = 0;
     for inst in insts {
-        found = add_inst(alloc, known, f, PointId { block, index }, inst, found)?;
+        found = add_inst(taken, known, f, PointId { block, index }, inst, found)?;
         index += 1;
     }
     Ok(found)
@@ -91,7 +92,7 @@ fn add_args(
 
 /// The first of what was found and of the faults of a block.
 fn add_block(
-    alloc: Global,
+    taken: &mut Vec<Taken>,
     known: &Known<'_>,
     types: &TypeTable,
     f: &Function,
@@ -106,12 +107,12 @@ fn add_block(
 {
     let switched = switch_of(known.switches, number.0 as usize);
     let found = add_args(known, types, switched, number, block.args.as_slice(), found);
-    let found = add_insts(alloc, known, f, number, block.insts.as_slice(), found)?;
+    let found = add_insts(taken, known, f, number, block.insts.as_slice(), found)?;
     let point = PointId {
         block: number,
         index: block.insts.len() as u32,
     };
-    add_inst(alloc, known, f, point, &block.terminator, found)
+    add_inst(taken, known, f, point, &block.terminator, found)
 }
 
 /// The least of all faults of the function.
@@ -126,9 +127,18 @@ fn least_fault(
     requires switches { AreSwitches f.now known.now.switches.now }
     ensures { IfOk result (λ r. r ≡ least None (faults_of (kind_told known.now.facts.now) known.now.borrows.now known.now.ring types.now f.now)) }
 {
+    let mut taken = Vec::new(alloc);
     let mut found = None;
     for (number, block) in f.blocks.as_slice().iter().enumerate() {
-        found = add_block(alloc, known, types, f, BlockId(number as u32), block, found)?;
+        found = add_block(
+            &mut taken,
+            known,
+            types,
+            f,
+            BlockId(number as u32),
+            block,
+            found,
+        )?;
     }
     Ok(found)
 }

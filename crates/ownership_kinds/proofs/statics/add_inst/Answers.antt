@@ -17,5 +17,5 @@ returns c =
     (lacking_faults (kind_told k.facts.now) c.args.f.now n i inst)
     (c.add_rings-found.ensures ∙ ap (λ vs. least c.args.found (flat_map (ring_faults k.ring n i) vs)) c.as_slice.ensures) c.add_mixed-found.ensures
     (c.add_mismatches-found.ensures ∙
-    ap (λ ts. least c.add_mixed-found.result (flat_map (taken_faults (kind_told k.facts.now) k.borrows.now n i) ts)) (c.as_slice-2.ensures.value ∙ c.in_ok-taken.ensures))
+    ap (λ ts. least c.add_mixed-found.result (flat_map (taken_faults (kind_told k.facts.now) k.borrows.now n i) ts)) (c.as_slice-2.ensures.value ∙ c.in_ok-take_all.ensures))
     c.add_lacking.ensures
