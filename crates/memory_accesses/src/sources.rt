@@ -90,10 +90,13 @@ fn member_place(table: &TypeTable, inst: &Inst) -> Option<usize>
 {
     match &inst.member {
         None => None,
-        Some(member) => match table.field(&member.owner, &member.name) {
-            None => None,
-            Some(found) => Some(found.index as usize),
-        },
+        Some(member) => {
+            let member = member.get();
+            match table.field(&member.owner, &member.name) {
+                None => None,
+                Some(found) => Some(found.index as usize),
+            }
+        }
     }
 }
 
