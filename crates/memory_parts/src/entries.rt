@@ -125,7 +125,7 @@ fn add_entries(
     access: Access,
 ) -> Result<(), Exhausted>
     requires few { length batch.now ≤ 1024 }
-    requires index { 16 < length batch.now → IsIndexOf m.now batch.now rows.now }
+    requires index { IsIndexOf m.now batch.now rows.now }
     ensures { OnOk result (entries.new.items ≡ entries.old.items ++ joint m.now (facts_of k.now) batch.now access) }
 {
     if batch.len() <= FEW {
@@ -145,7 +145,7 @@ fn entries_of(
     accesses: &[Access],
 ) -> Result<Vec<Entry>, Exhausted>
     requires few { length batch.now ≤ 1024 }
-    requires index { 16 < length batch.now → IsIndexOf m.now batch.now rows.now }
+    requires index { IsIndexOf m.now batch.now rows.now }
     ensures { IfOk result (λ v. v.items ≡ flat_map (joint m.now (facts_of k.now) batch.now) accesses.now) }
 {
     let mut entries = Vec::new(alloc);
@@ -153,18 +153,6 @@ fn entries_of(
         add_entries(&mut entries, m, k, batch, rows, *access)?;
     }
     Ok(entries)
-}
-
-/// An index of the parts, where there are more than few: else it isn't asked.
-fn index_if_many(alloc: Global, m: &Memory, batch: &[Part]) -> Result<Vec<Vec<u32>>, Exhausted>
-    requires { length batch.now ≤ 1024 }
-    ensures { IfOk result (λ v. 16 < length batch.now → IsIndexOf m.now batch.now v.items) }
-{
-    if batch.len() <= FEW {
-        Ok(Vec::new(alloc))
-    } else {
-        index_of(alloc, m, batch)
-    }
 }
 
 /// The entries of every item, by the item's number, if `accesses` has what each item does.
@@ -179,8 +167,8 @@ pub(crate) fn entries_by_item(
     ensures size { IfOk result (λ v. length v.items ≡ length accesses.now) }
     ensures entries { IfOk result (λ v. (n : ℕ) → n < length accesses.now → accesses_at v.items n ≡ flat_map (joint m.now (facts_of k.now) batch.now) (accesses_at accesses.now n)) }
 {
-    let rows = index_if_many(alloc, m, batch)?;
-    let mut all = Vec::with_capacity(alloc, accesses.len())?;
+    let rows = index_of(alloc, m, batch)?;
+    let mut all = Vec::new(alloc);
     for item in accesses {
         all.push(entries_of(alloc, m, k, batch, rows.as_slice(), item.as_slice())?)?;
     }

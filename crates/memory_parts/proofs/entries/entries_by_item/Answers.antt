@@ -23,4 +23,4 @@ loop-item-preserved c =
     }
 
 pub entries_of-requires-clause-index : goal.entries_of-requires-clause-index
-entries_of-requires-clause-index c = λ many. subst (IsIndexOf c.args.m.now c.args.batch.now) (sym c.as_slice.ensures.value) (c.in_ok-rows.ensures many)
+entries_of-requires-clause-index c = subst (IsIndexOf c.args.m.now c.args.batch.now) (sym c.as_slice.ensures.value) c.in_ok-rows.ensures

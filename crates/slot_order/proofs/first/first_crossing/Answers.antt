@@ -1,7 +1,7 @@
-use Rattle.std.proofs.Common.{◌≡◌, ◌<◌, List, get_or, sym, subst, arith, rules}
+use Rattle.std.proofs.Common.{◌<◌, List, get_or, sym, subst, arith}
 use Rattle.std.specs.Prelude.{All, AllPairs, length}
 use Rattle.std.proofs.lemmas.List.{take_all}
-use Rattle.std.proofs.lemmas.List.Elements.{All-from_get_or, All-get_or, All-nil, All-weaker}
+use Rattle.std.proofs.lemmas.List.Elements.{All-from_get_or, All-get_or, All-weaker}
 use Rattle.sil_ast.specs.declared.place.ValueId.{ValueId}
 use Rattle.path_patterns.specs.Reads.{accesses_at}
 use Rattle.slot_order.specs.Pairs.{IsSlot}
@@ -16,16 +16,6 @@ loop-first-preserved c =
     let are : AreSlots c.args.sources.now (length c.args.sources.now) slots = subst (AreSlots c.args.sources.now (length c.args.sources.now)) (sym c.as_slice-slots.ensures.value) c.in_ok-listed.ensures in
     clean_more c.args.g.now c.args.f.now c.requires.graph (accesses_at c.args.accesses.now) c.args.sources.now slots are c.args.k.now c.requires.accesses c.loop-first.first-index _ c.in_ok-crossing.field-0
     c.loop-first-test.true c.loop-first.invariant c.in_ok-crossing.ensures c.in_default.is
-
--- without slots none cross
-pub returns-then-is_empty : goal.returns-then-is_empty
-returns-then-is_empty c =
-    let slots = c.as_slice-slots.result.now in
-    let are : AreSlots c.args.sources.now (length c.args.sources.now) slots = subst (AreSlots c.args.sources.now (length c.args.sources.now)) (sym c.as_slice-slots.ensures.value) c.in_ok-listed.ensures in
-    let none : length slots ≡ 0 = search rules in
-    let P : ValueId → Type 0 = λ a. All (IsUncrossed c.args.g.now (accesses_at c.args.accesses.now) a) slots in
-    let clean : All P slots = subst (λ (v : List ValueId). All P v) (take_all 0 slots (omega arith)) (All-nil P) in
-    none_first c.args.g.now c.args.f.now c.requires.graph (accesses_at c.args.accesses.now) c.args.sources.now slots are c.args.k.now c.requires.accesses clean
 
 pub returns-in-Some : goal.returns-in-Some
 returns-in-Some c =
