@@ -1,4 +1,4 @@
--- Tokens have shape up to the end of their text, or the text has a first bad place: for `shape_of`.
+-- Tokens have shape up to the end of their text, or the text has a first bad place: for `shape_by`.
 use Rattle.std.proofs.Common.{◌≡◌, ℕ, ◌+◌, ◌<◌, ◌≤◌, List, [], ◌++◌, length, map, reverse, take, Option, Some, None, Vec, Global, arith, ap, refl, sym, subst, ◌∙◌}
 use Rattle.std.specs.Prelude.{MatchOption}
 use Rattle.std.proofs.lemmas.List.{append-nil, length-map, length-take-le, take_all, take-map}

@@ -156,8 +156,8 @@ fn bad_token_or_stop(
     bad_token(alloc, text, tokens, classes, i)
 }
 
-/// How far the tokens of a text have the shape of a module.
-pub(crate) fn shape_of(
+/// How far tokens of these classes have the shape of a module.
+fn shape_by(
     alloc: Global,
     text: &[u8],
     tokens: &Tokens,
@@ -183,14 +183,23 @@ pub(crate) fn shape_of(
     }
 }
 
+/// How far the tokens of a text have the shape of a module.
+pub(crate) fn shape_of(alloc: Global, text: &[u8], tokens: &Tokens) -> Result<Shape, Exhausted>
+    requires limit { IsInLimit text.now }
+    requires lexed { IsLexingOf text.now tokens.now }
+    ensures { IfOk result (IsShapeOf text.now tokens.now) }
+{
+    let classes = classes_of(alloc, text, tokens)?;
+    shape_by(alloc, text, tokens, classes.as_slice())
+}
+
 /// The first bad place of cut tokens, if they have one.
 fn first_bad_of(alloc: Global, text: &[u8], tokens: &Tokens) -> Result<Option<BadPlace>, Exhausted>
     requires limit { IsInLimit text.now }
     requires lexed { IsLexingOf text.now tokens.now }
     ensures { IfOk result (λ r. MatchOption r (HasShape text.now) (IsFirstBadPlace text.now)) }
 {
-    let classes = classes_of(alloc, text, tokens)?;
-    match shape_of(alloc, text, tokens, classes.as_slice())? {
+    match shape_of(alloc, text, tokens)? {
         Shape::Whole(_steps) => Ok(None),
         Shape::Broken { bad, .. } => Ok(Some(bad)),
     }

@@ -12,9 +12,6 @@ use Rattle.sil_grammar.proofs.reader.read.Goals as goal
 pub returns-in_err-tokens-clause-refused : goal.returns-in_err-tokens-clause-refused
 returns-in_err-tokens-clause-refused c = out_of_memory c.args.text.now c.from_residual.result c.from_residual.ensures.1
 
-pub returns-in_err-classes-clause-refused : goal.returns-in_err-classes-clause-refused
-returns-in_err-classes-clause-refused c = out_of_memory c.args.text.now c.from_residual-in_err-classes.result c.from_residual-in_err-classes.ensures.1
-
 pub returns-in_err-steps-clause-refused : goal.returns-in_err-steps-clause-refused
 returns-in_err-steps-clause-refused c = out_of_memory c.args.text.now c.from_residual-in_err-steps.result c.from_residual-in_err-steps.ensures.1
 
@@ -45,8 +42,8 @@ pub returns-in_err-fault-in-Broken-clause-refused : goal.returns-in_err-fault-in
 returns-in_err-fault-in-Broken-clause-refused c =
     out_of_memory c.args.text.now c.from_residual-in_err-fault-in-Broken.result c.from_residual-in_err-fault-in-Broken.ensures.1
 
-pub returns-clause-refused : goal.returns-clause-refused
-returns-clause-refused c =
+pub returns-in_ok-fault-in-Broken-clause-refused : goal.returns-in_ok-fault-in-Broken-clause-refused
+returns-in_ok-fault-in-Broken-clause-refused c =
     let broken : IsBroken c.args.text.now c.in_ok-tokens.tokens c.in-Broken.bad c.in-Broken.count c.in-Broken.front =
     subst (IsShapeOf c.args.text.now c.in_ok-tokens.tokens) c.in-Broken.is c.in_ok-steps.ensures in
     c.earlier_refusal.ensures c.args.text.now c.in_ok-tokens.tokens c.in-Broken.count c.in-Broken.front c.in_ok-tokens.ensures broken c.in_ok-fault-in-Broken.ensures

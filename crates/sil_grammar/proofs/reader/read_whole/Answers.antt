@@ -14,8 +14,8 @@ returns-in_err-built-clause-refused c = out_of_memory c.args.text.now c.from_res
 pub returns-in-Some-clause-refused : goal.returns-in-Some-clause-refused
 returns-in-Some-clause-refused c =
     let text = c.args.text.now in
-    let tokens = c.args.tokens.now in
-    let steps = c.args.steps.now in
+    let tokens = c.args.tokens in
+    let steps = c.args.steps.items in
     let fault = c.in-Some.fault in
     let first : first_fault steps (lexemes_of text tokens) ≡ Some fault = sym c.in_ok-built.ensures.fault ∙ c.in-Some.is in
     subst (IsRefusalOf text) (sym c.refusal_of_fault.ensures)
@@ -24,13 +24,13 @@ returns-in-Some-clause-refused c =
 pub returns-in-None-clause-found : goal.returns-in-None-clause-found
 returns-in-None-clause-found c =
     let text = c.args.text.now in
-    let spelled = faultless_whole text c.args.tokens.now c.requires.lexed c.args.steps.now c.requires.derived c.in_ok-built.built.written
+    let spelled = faultless_whole text c.args.tokens c.requires.lexed c.args.steps.items c.requires.derived c.in_ok-built.built.written
     (sym c.in_ok-built.ensures.fault ∙ c.in-None.is) c.in_ok-built.ensures.written in
     IfOk-weaker c.numbered.result _ (λ m. Spells m text) (λ m found. found text spelled) c.numbered.ensures.found
 
 pub returns-in-None-clause-refused : goal.returns-in-None-clause-refused
 returns-in-None-clause-refused c =
     let text = c.args.text.now in
-    let spelled = faultless_whole text c.args.tokens.now c.requires.lexed c.args.steps.now c.requires.derived c.in_ok-built.built.written
+    let spelled = faultless_whole text c.args.tokens c.requires.lexed c.args.steps.items c.requires.derived c.in_ok-built.built.written
     (sym c.in_ok-built.ensures.fault ∙ c.in-None.is) c.in_ok-built.ensures.written in
     IfErr-weaker c.numbered.result _ (IsRefusalOf text) (λ r refused. refused text spelled) c.numbered.ensures.refused

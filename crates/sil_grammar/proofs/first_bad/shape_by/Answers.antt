@@ -1,6 +1,6 @@
--- For `shape_of`: a derivation goes to the end of the text or to the stop, and else the text breaks off.
+-- For `shape_by`: a derivation goes to the end of the text or to the stop, and else the text breaks off.
 use Rattle.sil_grammar.proofs.ShapeLemmas.{broken_at, shaped}
-use Rattle.sil_grammar.proofs.first_bad.shape_of.Goals as goal
+use Rattle.sil_grammar.proofs.first_bad.shape_by.Goals as goal
 
 pub returns-in-Ok : goal.returns-in-Ok
 returns-in-Ok c =
