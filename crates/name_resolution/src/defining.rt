@@ -12,7 +12,7 @@ use instruction_table::has_one_result;
 use sil_ast::{Exhausted, Imports};
 use std::alloc::Global;
 use written_tree::{
-    WrittenArg, WrittenBlock, WrittenCase, WrittenDecl, WrittenField, WrittenInst, WrittenItem,
+    InstBox, WrittenArg, WrittenBlock, WrittenCase, WrittenDecl, WrittenField, WrittenInst, WrittenItem,
     WrittenToken,
 };
 
@@ -140,11 +140,11 @@ fn define_args(table: &mut SymbolTable, args: &[WrittenArg]) -> Result<(), Exhau
     Ok(())
 }
 
-fn define_in_insts(table: &mut SymbolTable, insts: &[WrittenInst]) -> Result<(), Exhausted>
+fn define_in_insts(table: &mut SymbolTable, insts: &[InstBox]) -> Result<(), Exhausted>
     ensures { OnOk result (table.new ≡ with_definitions table.old (flat_map definitions_by insts.now)) }
 {
     for inst in insts {
-        define_results(table, inst)?;
+        define_results(table, inst.get())?;
     }
     Ok(())
 }

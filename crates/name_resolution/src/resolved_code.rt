@@ -22,7 +22,8 @@ use sil_ast::{
 use std::alloc::Global;
 use std::mem;
 use written_tree::{
-    Fault, WrittenArg, WrittenBlock, WrittenEdge, WrittenInst, WrittenOperand, WrittenToken,
+    Fault, InstBox, WrittenArg, WrittenBlock, WrittenEdge, WrittenInst, WrittenOperand,
+    WrittenToken,
 };
 
 /// Where the names of a function are looked up.
@@ -142,7 +143,7 @@ fn resolve_insts(
     tables: Tables<'_>,
     faults: &mut CodeFaults,
     next: &mut u32,
-    insts: List<WrittenInst>,
+    insts: List<InstBox>,
 ) -> Result<List<Inst>, Exhausted>
     ghost s: { Scope }
     requires { FindsScope tables.functions.now tables.blocks.now tables.values.now s }
@@ -152,7 +153,7 @@ fn resolve_insts(
 {
     let mut resolved = List::with_capacity(alloc, insts.len())?;
     for inst in insts.into_vec() {
-        add_inst(alloc, tables, faults, next, inst, &mut resolved)?;
+        add_inst(alloc, tables, faults, next, inst.into_inner(), &mut resolved)?;
     }
     Ok(resolved)
 }

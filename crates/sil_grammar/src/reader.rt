@@ -12,7 +12,6 @@ ghost use Rattle.sil_grammar.specs.Front.{IsFrontFault};
 ghost use Rattle.sil_grammar.specs.Refusals.{IsRefusalOf};
 ghost use Rattle.sil_grammar.specs.Shape.{IsBroken, IsWhole};
 ghost use Rattle.sil_grammar.specs.Spells.{Spells, SpellsWritten};
-ghost use Rattle.written_modules.specs.Replay.{first_fault, Writes};
 
 use crate::cutting::cut_at_last_token;
 use crate::first_bad::{BadPlace, Shape, shape_of};
@@ -22,7 +21,7 @@ use sil_ast::{Exhausted, Module};
 use sil_lexer::{Tokens, lex};
 use sil_shape::steps::{Front, Step};
 use std::alloc::Global;
-use written_modules::{Built, build, front_fault};
+use written_modules::{build, front_fault};
 use written_tree::{Fault, WrittenModule};
 
 /// The module that a text spells which writes `written`.
@@ -37,21 +36,6 @@ fn numbered(alloc: Global, written: WrittenModule) -> Result<Module, ReadRefusal
     }
 }
 
-/// What these steps of a text's tokens stand for. Steps and tokens aren't needed behind it, and go.
-fn built_from(
-    alloc: Global,
-    text: &[u8],
-    tokens: Tokens,
-    steps: Vec<Step>,
-) -> Result<Built, Exhausted>
-    requires lexed { IsLexingOf text.now tokens }
-    requires derived { IsWhole text.now tokens steps.items }
-    ensures written { IfOk result (λ built. Writes steps.items (lexemes_of text.now tokens) built.written) }
-    ensures fault { IfOk result (λ built. built.fault ≡ first_fault steps.items (lexemes_of text.now tokens)) }
-{
-    build(alloc, text, &tokens, steps.as_slice())
-}
-
 /// The module that a text spells whose tokens have these steps.
 fn read_whole(
     alloc: Global,
@@ -64,7 +48,7 @@ fn read_whole(
     ensures found { IfOk result (λ m. Spells m text.now) }
     ensures refused { IfErr result (IsRefusalOf text.now) }
 {
-    let built = built_from(alloc, text, tokens, steps)?;
+    let built = build(alloc, text, tokens, steps)?;
     match built.fault {
         Some(fault) => Err(refusal_of_fault(fault)),
         None => numbered(alloc, built.written),
@@ -76,14 +60,14 @@ fn read_whole(
 fn fault_before(
     alloc: Global,
     text: &[u8],
-    tokens: &Tokens,
+    tokens: Tokens,
     count: usize,
     front: Front,
 ) -> Result<Option<Fault>, Exhausted>
-    requires lexed { IsLexingOf text.now tokens.now }
-    requires inside { count ≤ length tokens.now.tokens }
-    requires leads { LeadsTo (map token_class (take count (lexemes_of text.now tokens.now))) front.steps.items (reverse front.left.items) }
-    ensures { IfOk result (IsFrontFault text.now tokens.now count) }
+    requires lexed { IsLexingOf text.now tokens }
+    requires inside { count ≤ length tokens.tokens }
+    requires leads { LeadsTo (map token_class (take count (lexemes_of text.now tokens))) front.steps.items (reverse front.left.items) }
+    ensures { IfOk result (IsFrontFault text.now tokens count) }
 {
     let front = cut_at_last_token(alloc, front)?;
     let fault = front_fault(alloc, text, tokens, count, front)?;
@@ -116,7 +100,7 @@ pub fn read(alloc: Global, text: &[u8]) -> Result<Module, ReadRefusal>
     match shape_of(alloc, text, &tokens)? {
         Shape::Whole(steps) => read_whole(alloc, text, tokens, steps),
         Shape::Broken { bad, count, front } => {
-            let fault = fault_before(alloc, text, &tokens, count, front)?;
+            let fault = fault_before(alloc, text, tokens, count, front)?;
             Err(earlier_refusal(fault, bad))
         }
     }

@@ -1,6 +1,6 @@
 //! The tokens of a text in order, and the place where they end. They keep no bytes: the text shows those.
 
-ghost use Rattle.std.specs.Prelude.{◌≡◌, ◌<◌, length};
+ghost use Rattle.std.specs.Prelude.{All, ◌≡◌, ◌<◌, length, take};
 ghost use Rattle.std.specs.List.{HoldsAt};
 
 use crate::token::{LexRefusal, Token, TokenKind};
@@ -23,7 +23,7 @@ impl Model for Tokens {
 }
 
 impl Tokens {
-    ghost use Rattle.sil_lexer.specs.Lexing.{spelling_of, IsLexingOf};
+    ghost use Rattle.sil_lexer.specs.Lexing.{spelling_of, IsInside};
 
     pub(crate) fn new(tokens: Vec<Token>, stop: Option<LexRefusal>) -> Tokens
         ensures tokens { result.tokens ≡ tokens.items }
@@ -56,12 +56,26 @@ impl Tokens {
     /// The bytes of the token in `source`, the text that was cut: all of them, with a sigil and quotes.
     pub fn text<'t>(&self, source: &'t [u8], i: usize) -> &'t [u8]
         requires in_range { i < length self.now.tokens }
-        requires of_text { IsLexingOf source.now self.now }
+        requires inside { All (IsInside source.now) self.now.tokens }
         ensures { HoldsAt (λ token. result.now ≡ spelling_of source.now token) self.now.tokens i }
     {
         let token = self.tokens[i];
         let from = token.place.offset as usize;
         &source[from..from + token.length as usize]
+    }
+
+    /// Lets go of all tokens but the first `count`.
+    pub fn truncate(&mut self, count: usize)
+        ensures { self.new.tokens ≡ take count self.old.tokens }
+    {
+        self.tokens.truncate(count);
+    }
+
+    /// Gives back the memory that the tokens don't need any more.
+    pub fn shrink_to_fit(&mut self)
+        ensures { self.new.tokens ≡ self.old.tokens }
+    {
+        self.tokens.shrink_to_fit();
     }
 
     /// The place where the tokens end, and why, if they don't reach the end of the text.

@@ -1,4 +1,5 @@
 pub mod LeafLemmas
+pub mod ReplayLength
 pub mod BuildLemmas
 pub mod RowLemmas
 pub mod FoundLemmas

@@ -1,9 +1,7 @@
 -- A derivation of a module begins with the module's own production, and leaves one value, the module.
-use Rattle.std.proofs.Common.{◌≡◌, ℕ, ◌≤◌, List, [], ◌∷◌, ◌++◌, length, take, refl, ap, sym, subst, ◌∙◌, arith, length-append}
+use Rattle.std.proofs.Common.{◌≡◌, ℕ, List, [], ◌∷◌, ◌++◌, length, refl, ap, sym, subst, ◌∙◌, arith, length-append}
 use Rattle.std.specs.Prelude.{Bool, true, false, if◌then◌else◌}
-use Rattle.std.proofs.lemmas.List.{append-nil, length-map, take_all}
 use Rattle.sil_lexer.specs.Lexes.{Lexeme}
-use Rattle.sil_lexer.specs.Lexing.{Lexing, lexeme_of, lexemes_of}
 use Rattle.token_classes.specs.declared.classes.Class.{Class}
 use Rattle.sil_shape.specs.declared.grammar.Nonterminal.TheVariants as n
 use Rattle.sil_shape.specs.declared.grammar.Production.{Production}
@@ -25,7 +23,7 @@ use Rattle.written_modules.specs.declared.value.Value.TheVariants as v
 use Rattle.written_tree.specs.declared.written_module.WrittenModule.{WrittenModule}
 use Rattle.written_modules.specs.Meaning.{meaning}
 use Rattle.written_modules.specs.Replay.{reduced, replay}
-use Rattle.written_modules.proofs.BuildLemmas.{length-replay}
+use Rattle.written_modules.proofs.ReplayLength.{length-replay}
 
 no_row : (ends : Bool) → (if ends then n.Terminator else n.Row) ≡ n.Module → ⊥
 no_row true h = cc
@@ -75,13 +73,6 @@ one_module {steps = steps} lexemes d =
     let e : replay steps lexemes ≡ v.Module whole.written ∷ whole.rest = ap (λ s. replay s lexemes) first.is ∙ whole.is in
     let one : length (replay steps lexemes) ≡ 1 = length-replay steps lexemes ∙ values_left-derives d in
     record { written = whole.written; is = e ∙ alone (v.Module whole.written) whole.rest (ap length (sym e) ∙ one) }
-
--- nothing stands behind all steps, and all tokens are taken
-pub all_of : {X : Type 0} (over : List Step → List Lexeme → X) (steps : List Step) (text : List ℕ) (lexing : Lexing) (count : ℕ) → count ≡ length lexing.tokens
-    → over (steps ++ []) (take count (lexemes_of text lexing)) ≡ over steps (lexemes_of text lexing)
-all_of over steps text lexing count all =
-    let long : length (lexemes_of text lexing) ≤ count = omega (arith, all, length-map lexing.tokens (lexeme_of text)) in
-    ap (λ s. over s (take count (lexemes_of text lexing))) (append-nil steps) ∙ ap (over steps) (take_all count (lexemes_of text lexing) long)
 
 -- a derivation of a module that begins with some classes, up to what is left, and on from there
 module _ (classes : List Class) (steps : List Step) (left : List Symbol) (leads : LeadsTo classes steps left) {rest : List Step} (way : Shortens left rest) where

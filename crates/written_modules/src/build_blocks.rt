@@ -15,7 +15,7 @@ use sil_ast::{Boxed, Exhausted, List, TypeName};
 use sil_rules::{LimitWord, limits};
 use sil_shape::grammar::Production;
 use std::alloc::Global;
-use written_tree::{WrittenArg, WrittenBlock, WrittenInst, WrittenToken};
+use written_tree::{InstBox, WrittenArg, WrittenBlock, WrittenToken};
 
 /// A block, and the blocks behind it.
 pub(crate) fn blocks_before(
@@ -113,9 +113,9 @@ pub(crate) fn more_code(alloc: Global, values: &mut Prepended<Value>) -> Result<
     requires { 2 ≤ length values.old }
     ensures { IfOk result (λ value. reduced Production.CodeInst values.old ≡ value ∷ values.new) }
 {
-    let inst = values.pop_front().into_boxed_inst(alloc)?;
+    let inst = values.pop_front().into_inst(alloc)?;
     let (mut insts, terminator) = values.pop_front().into_code(alloc)?;
-    insts.push_front(inst.into_inner())?;
+    insts.push_front(inst)?;
     Ok(Value::Code(insts, terminator))
 }
 
@@ -124,15 +124,17 @@ pub(crate) fn last_code(alloc: Global, values: &mut Prepended<Value>) -> Result<
     requires { 1 ≤ length values.old }
     ensures { IfOk result (λ value. reduced Production.CodeEnd values.old ≡ value ∷ values.new) }
 {
-    let terminator = values.pop_front().into_boxed_inst(alloc)?;
+    let terminator = values.pop_front().into_inst(alloc)?;
     Ok(Value::Code(Prepended::new(alloc), terminator))
 }
 
 /// An instruction with these names before its `=`.
-fn named(alloc: Global, inst: WrittenInst, results: List<WrittenToken>) -> Result<Value, Exhausted>
-    ensures { IfOk result (λ made. made ≡ v.Inst (record inst { results = results })) }
+fn named(inst: InstBox, results: List<WrittenToken>) -> Value
+    ensures { result ≡ v.Inst (record inst { results = results }) }
 {
-    Ok(Value::Inst(Boxed::new(alloc, WrittenInst { results, ..inst })?))
+    let mut inst = inst;
+    inst.set_results(results);
+    Value::Inst(inst)
 }
 
 #[tactic(auto, unfolding(crate::specs::Replay::reduced, crate::specs::Meaning::meaning, sil_shape::specs::Grammar::body))]
@@ -144,7 +146,7 @@ pub(crate) fn one_name(alloc: Global, values: &mut Prepended<Value>) -> Result<V
     let mut results = List::with_capacity(alloc, 1)?;
     results.push(name)?;
     skip(values);
-    named(alloc, values.pop_front().into_inst(alloc), results)
+    Ok(named(values.pop_front().into_inst(alloc)?, results))
 }
 
 #[tactic(auto, unfolding(crate::specs::Replay::reduced, crate::specs::Meaning::meaning, crate::specs::PartFaults::part_fault, sil_shape::specs::Grammar::body))]
@@ -158,7 +160,9 @@ pub(crate) fn names(alloc: Global, values: &mut Prepended<Value>) -> Result<Redu
     skip(values);
     skip(values);
     let fault = too_many(LimitWord::Arguments, &results, limits::ARGUMENTS);
-    let inst = values.pop_front().into_inst(alloc);
-    let value = named(alloc, inst, results.into_list())?;
-    Ok(Reduced { value, fault })
+    let inst = values.pop_front().into_inst(alloc)?;
+    Ok(Reduced {
+        value: named(inst, results.into_list()),
+        fault,
+    })
 }

@@ -71,6 +71,15 @@ fn append_typed(
     }
 }
 
+/// How many blocks a terminator names, for which room is made at once.
+fn count_of_branches(ending: Ending) -> usize {
+    match ending {
+        Ending::OneBranch => 1,
+        Ending::TwoBranches => 2,
+        Ending::Cases | Ending::Inside | Ending::Return | Ending::Unreachable => 0,
+    }
+}
+
 /// The blocks that a terminator goes to, from the first values.
 fn edges(
     alloc: Global,
@@ -81,7 +90,7 @@ fn edges(
     ensures edges { IfOk result (λ edges. edges ≡ edges_at ending 0 values.old) }
     ensures rest { OnOk result (values.new ≡ drop (length (edges_by ending)) values.old) }
 {
-    let mut edges = List::new(alloc);
+    let mut edges = List::with_capacity(alloc, count_of_branches(ending))?;
     match ending {
         Ending::OneBranch => edges.push(values.pop_front().into_edge(alloc))?,
         Ending::TwoBranches => {

@@ -13,9 +13,9 @@ use crate::nothing::{bare_inst, skip};
 use crate::prepended::Prepended;
 use crate::value::{Reduced, Value};
 use instruction_table::{Op, Part, may_lack_operand, row_of};
-use sil_ast::{Boxed, Exhausted, List, Place};
+use sil_ast::{Exhausted, List, Place};
 use std::alloc::Global;
-use written_tree::{WrittenInst, earlier};
+use written_tree::{InstBox, WrittenInst, earlier};
 
 /// Whether a part brings its own comma.
 #[tactic(auto, unfolding(sil_shape::specs::Rows::brings_comma))]
@@ -78,7 +78,7 @@ pub(crate) fn row(
         skip_comma(op, parts[i], &parts[i + 1..], values);
     }
     Ok(Reduced {
-        value: Value::Inst(Boxed::new(alloc, inst)?),
+        value: Value::Inst(InstBox::new(alloc, inst)?),
         fault,
     })
 }

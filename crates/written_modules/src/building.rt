@@ -1,8 +1,8 @@
 //! The second pass of the reader: from the last step to the first, it builds what the parts of the text stand for, and
 //! keeps the first fault.
 
-ghost use Rattle.std.specs.Prelude.{◌≡◌, ◌≤◌, ◌++◌, List, length, reverse, take, IfOk};
-ghost use Rattle.sil_lexer.specs.Lexing.{IsLexingOf, lexemes_of};
+ghost use Rattle.std.specs.Prelude.{◌≡◌, ◌≤◌, ◌++◌, All, List, length, reverse, take, IfOk};
+ghost use Rattle.sil_lexer.specs.Lexing.{IsInside, IsLexingOf, lexemes_of};
 ghost use Rattle.token_classes.specs.declared.classes.Class.{Class};
 ghost use Rattle.sil_shape.specs.declared.steps.Step.{Step};
 ghost use Rattle.sil_shape.specs.Begun.{LeadsTo};
@@ -13,7 +13,7 @@ ghost use Rattle.written_modules.specs.Lacking.{waiting};
 ghost use Rattle.written_modules.specs.Replay.{first_fault, replay, Writes};
 
 use crate::lacking::{fill, fill_body};
-use crate::leaves::leaf_at;
+use crate::leaves::take_last;
 use crate::prepended::Prepended;
 use crate::reduce::reduce;
 use crate::value::Value;
@@ -42,35 +42,47 @@ struct Replayed {
     fault: Option<Fault>,
 }
 
-/// The values that steps build which take the first `count` tokens, that of the first step first, and the first fault in
-/// them. Behind the steps the symbols that are left are written in the shortest way, with no tokens.
+/// After how many tokens the memory is given back of those, and of their steps.
+const PIECE: usize = 8192;
+
+/// Gives back memory that tokens and steps don't need any more, now and then.
+fn let_go(tokens: &mut Tokens, steps: &mut Vec<Step>)
+    ensures tokens { tokens.new.tokens ≡ tokens.old.tokens }
+    ensures steps { steps.new.items ≡ steps.old.items }
+{
+    if tokens.len() % PIECE == 0 {
+        tokens.shrink_to_fit();
+        steps.shrink_to_fit();
+    }
+}
+
+/// The values that steps build which take these tokens, that of the first step first, and the first fault in them. Both go
+/// as they are replayed. Behind the steps the symbols that are left are written in the shortest way, with no tokens.
 fn replay(
     alloc: Global,
     text: &Rc<Vec<u8>>,
-    tokens: &Tokens,
-    count: usize,
-    steps: &[Step],
+    tokens: Tokens,
+    steps: Vec<Step>,
     left: Vec<Symbol>,
 ) -> Result<Replayed, Exhausted>
     ghost rest: { List Step }
-    requires lexed { IsLexingOf text.now.value.items tokens.now }
-    requires inside { count ≤ length tokens.now.tokens }
-    requires taken { takes_of steps.now ≡ count }
+    requires inside { All (IsInside text.now.value.items) tokens.tokens }
+    requires taken { takes_of steps.items ≡ length tokens.tokens }
     requires shortest { Shortens (reverse left.items) rest }
-    requires enough { IsEnough (steps.now ++ rest) }
-    ensures values { IfOk result (λ replayed. waiting replayed.values (reverse replayed.left.items) ≡ replay (steps.now ++ rest) (take count (lexemes_of text.now.value.items tokens.now))) }
-    ensures fault { IfOk result (λ replayed. replayed.fault ≡ first_fault (steps.now ++ rest) (take count (lexemes_of text.now.value.items tokens.now))) }
+    requires enough { IsEnough (steps.items ++ rest) }
+    ensures values { IfOk result (λ replayed. waiting replayed.values (reverse replayed.left.items) ≡ replay (steps.items ++ rest) (lexemes_of text.now.value.items tokens)) }
+    ensures fault { IfOk result (λ replayed. replayed.fault ≡ first_fault (steps.items ++ rest) (lexemes_of text.now.value.items tokens)) }
 {
     let mut values = Prepended::new(alloc);
+    let mut tokens = tokens;
+    let mut steps = steps;
     let mut left = left;
     let mut fault = None;
-    let mut token = count;
-    for i in (0..steps.len()).rev() {
-        match steps[i] {
+    while let Some(step) = steps.pop() {
+        match step {
             Step::Take => {
-                token -= 1;
-                let value = leaf_at(text, tokens, token)?;
-                values.push_front(value)?;
+                values.push_front(take_last(text, &mut tokens)?)?;
+                let_go(&mut tokens, &mut steps);
             }
             Step::Expand(production) => {
                 fill_body(alloc, production, &mut values, &mut left)?;
@@ -97,21 +109,21 @@ fn shared(alloc: Global, text: &[u8]) -> Result<Rc<Vec<u8>>, Exhausted>
 pub fn build(
     alloc: Global,
     text: &[u8],
-    tokens: &Tokens,
-    steps: &[Step],
+    tokens: Tokens,
+    steps: Vec<Step>,
 ) -> Result<Built, Exhausted>
-    requires lexed { IsLexingOf text.now tokens.now }
-    requires derived { (classes : List Class) × Derives start classes steps.now }
-    requires taken { takes_of steps.now ≡ length tokens.now.tokens }
-    ensures written { IfOk result (λ built. Writes steps.now (lexemes_of text.now tokens.now) built.written) }
-    ensures fault { IfOk result (λ built. built.fault ≡ first_fault steps.now (lexemes_of text.now tokens.now)) }
+    requires lexed { IsLexingOf text.now tokens }
+    requires derived { (classes : List Class) × Derives start classes steps.items }
+    requires taken { takes_of steps.items ≡ length tokens.tokens }
+    ensures written { IfOk result (λ built. Writes steps.items (lexemes_of text.now tokens) built.written) }
+    ensures fault { IfOk result (λ built. built.fault ≡ first_fault steps.items (lexemes_of text.now tokens)) }
 {
     let source = shared(alloc, text)?;
     let Replayed {
         mut values,
         mut left,
         fault,
-    } = replay(alloc, &source, tokens, tokens.len(), steps, Vec::new(alloc))?;
+    } = replay(alloc, &source, tokens, steps, Vec::new(alloc))?;
     fill(alloc, &mut values, &mut left, 1)?;
     let written = values.pop_front().into_module(alloc);
     Ok(Built { written, fault })
@@ -122,18 +134,20 @@ pub fn build(
 pub fn front_fault(
     alloc: Global,
     text: &[u8],
-    tokens: &Tokens,
+    tokens: Tokens,
     count: usize,
     front: Front,
 ) -> Result<Option<Fault>, Exhausted>
-    requires lexed { IsLexingOf text.now tokens.now }
-    requires inside { count ≤ length tokens.now.tokens }
+    requires lexed { IsLexingOf text.now tokens }
+    requires inside { count ≤ length tokens.tokens }
     requires begun { (classes : List Class) × (length classes ≡ count) × LeadsTo classes front.steps.items (reverse front.left.items) }
     ensures { IfOk result (λ fault. (rest : List Step) × Shortens (reverse front.left.items) rest
-        × (fault ≡ first_fault (front.steps.items ++ rest) (take count (lexemes_of text.now tokens.now)))) }
+        × (fault ≡ first_fault (front.steps.items ++ rest) (take count (lexemes_of text.now tokens)))) }
 {
     let Front { steps, left } = front;
     let source = shared(alloc, text)?;
-    let replayed = replay(alloc, &source, tokens, count, steps.as_slice(), left)?;
+    let mut tokens = tokens;
+    tokens.truncate(count);
+    let replayed = replay(alloc, &source, tokens, steps, left)?;
     Ok(replayed.fault)
 }

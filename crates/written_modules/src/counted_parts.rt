@@ -8,7 +8,7 @@ ghost use Rattle.written_tree.specs.Places as placed;
 use crate::found::{Found, Holds, find_listed, find_one};
 use instruction_table::{ExtraValue, extra_value_of, has_one_result};
 use sil_ast::Qualifier;
-use written_tree::{WrittenBlock, WrittenInst, WrittenItem, WrittenToken};
+use written_tree::{InstBox, WrittenBlock, WrittenInst, WrittenItem, WrittenToken};
 
 /// Declarations, at their names.
 pub(crate) struct Declarations;
@@ -91,12 +91,12 @@ impl Holds for Values {
     }
 }
 
-fn find_in_insts(insts: &[WrittenInst], i: usize) -> Found
+fn find_in_insts(insts: &[InstBox], i: usize) -> Found
     ensures { Finds (flat_map placed.value_places_of insts.now) i result }
 {
     let mut left = i;
     for inst in insts {
-        match find_in_inst(inst, left) {
+        match find_in_inst(inst.get(), left) {
             Found::At(place) => return Found::At(place),
             Found::Past(rest) => left = rest,
         }

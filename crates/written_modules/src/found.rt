@@ -9,7 +9,7 @@ ghost use Rattle.written_tree.specs.Places as placed;
 use crate::prepended::Prepended;
 use sil_ast::Place;
 use written_tree::{
-    WrittenArg, WrittenBlock, WrittenCase, WrittenField, WrittenInst, WrittenOperand, WrittenToken,
+    InstBox, WrittenArg, WrittenBlock, WrittenCase, WrittenField, WrittenOperand, WrittenToken,
 };
 
 /// What a search comes to.
@@ -76,11 +76,11 @@ impl Placed for WrittenBlock {
     }
 }
 
-impl Placed for WrittenInst {
+impl Placed for InstBox {
     ghost place = { placed.mnemonic_place };
 
     fn place(&self) -> Place {
-        self.mnemonic
+        self.get().mnemonic
     }
 }
 

@@ -69,11 +69,12 @@ impl<T> Prepended<T> {
         self.backwards.pop().unwrap()
     }
 
-    /// The elements in order, in the same memory.
+    /// The elements in order, in as much memory as they need.
     pub(crate) fn into_list(self) -> List<T>
         ensures { result ≡ self }
     {
         let Prepended { mut backwards } = self;
+        backwards.shrink_to_fit();
         backwards.reverse();
         List::from_vec(backwards)
     }

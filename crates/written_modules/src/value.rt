@@ -7,8 +7,8 @@ use sil_ast::{
     Stage,
 };
 use written_tree::{
-    Fault, WrittenArg, WrittenBlock, WrittenCase, WrittenEdge, WrittenEntry, WrittenField,
-    WrittenInst, WrittenItem, WrittenModule, WrittenOperand, WrittenQualifier, WrittenToken,
+    Fault, InstBox, WrittenArg, WrittenBlock, WrittenCase, WrittenEdge, WrittenEntry, WrittenField,
+    WrittenItem, WrittenModule, WrittenOperand, WrittenQualifier, WrittenToken,
 };
 
 /// What a token or a part of a text stands for. Large parts stand in boxes, since a hostile text leaves a million
@@ -48,8 +48,8 @@ pub(crate) enum Value {
     /// The `*` before a type.
     Star,
     /// Instructions and the terminator behind them.
-    Code(Prepended<WrittenInst>, Boxed<WrittenInst>),
-    Inst(Boxed<WrittenInst>),
+    Code(Prepended<InstBox>, InstBox),
+    Inst(InstBox),
     Operands(Prepended<WrittenOperand>),
     Operand(WrittenOperand),
     Edges(Prepended<WrittenEdge>),

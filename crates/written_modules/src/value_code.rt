@@ -9,8 +9,7 @@ use crate::value::{Flags, Value};
 use sil_ast::{ArgKind, Boxed, Debug, Exhausted, List, Member, Text};
 use std::alloc::Global;
 use written_tree::{
-    WrittenArg, WrittenBlock, WrittenEdge, WrittenEntry, WrittenInst, WrittenOperand,
-    WrittenQualifier,
+    InstBox, WrittenArg, WrittenBlock, WrittenEdge, WrittenEntry, WrittenOperand, WrittenQualifier,
 };
 
 impl Value {
@@ -19,7 +18,7 @@ impl Value {
     pub(crate) fn into_code(
         self,
         alloc: Global,
-    ) -> Result<(Prepended<WrittenInst>, Boxed<WrittenInst>), Exhausted>
+    ) -> Result<(Prepended<InstBox>, InstBox), Exhausted>
         ensures insts { IfOk result (λ code. code.0 ≡ insts_of self) }
         ensures terminator { IfOk result (λ code. code.1 ≡ terminator_of self) }
     {
@@ -27,7 +26,7 @@ impl Value {
             Value::Code(insts, terminator) => Ok((insts, terminator)),
             other => {
                 discard(other);
-                Ok((Prepended::new(alloc), Boxed::new(alloc, no_inst(alloc))?))
+                Ok((Prepended::new(alloc), InstBox::new(alloc, no_inst(alloc))?))
             }
         }
     }
@@ -107,27 +106,14 @@ impl Value {
     }
 
     #[tactic(auto, unfolding(crate::specs::Values::inst_of))]
-    pub(crate) fn into_boxed_inst(self, alloc: Global) -> Result<Boxed<WrittenInst>, Exhausted>
+    pub(crate) fn into_inst(self, alloc: Global) -> Result<InstBox, Exhausted>
         ensures { IfOk result (λ inst. inst ≡ inst_of self) }
     {
         match self {
             Value::Inst(kept) => Ok(kept),
             other => {
                 discard(other);
-                Boxed::new(alloc, no_inst(alloc))
-            }
-        }
-    }
-
-    #[tactic(auto, unfolding(crate::specs::Values::inst_of))]
-    pub(crate) fn into_inst(self, alloc: Global) -> WrittenInst
-        ensures { result ≡ inst_of self }
-    {
-        match self {
-            Value::Inst(kept) => kept.into_inner(),
-            other => {
-                discard(other);
-                no_inst(alloc)
+                InstBox::new(alloc, no_inst(alloc))
             }
         }
     }

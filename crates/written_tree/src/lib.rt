@@ -4,6 +4,7 @@
 
 mod fault;
 mod fault_order;
+mod inst_box;
 mod spelling;
 mod written_declarations;
 mod written_functions;
@@ -12,6 +13,7 @@ mod written_module;
 
 pub use fault::{Fault, FaultKind};
 pub use fault_order::{earlier, limit_fault, out_of_range, passed};
+pub use inst_box::InstBox;
 pub use spelling::Spelling;
 pub use written_declarations::{WrittenCase, WrittenDecl, WrittenField, WrittenToken};
 pub use written_functions::{WrittenArg, WrittenBlock, WrittenFunction};

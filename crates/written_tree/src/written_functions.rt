@@ -1,5 +1,6 @@
 //! Functions and blocks as a text writes them.
 
+use crate::inst_box::InstBox;
 use crate::written_declarations::WrittenToken;
 use crate::written_instructions::WrittenInst;
 use sil_ast::{ArgKind, Linkage, List, Signature, TypeName};
@@ -21,7 +22,7 @@ pub struct WrittenFunction {
 pub struct WrittenBlock {
     pub label: WrittenToken,
     pub args: List<WrittenArg>,
-    pub insts: List<WrittenInst>,
+    pub insts: List<InstBox>,
     pub terminator: WrittenInst,
 }
 

@@ -1,8 +1,9 @@
 -- The steps of a derivation of a module leave one value, the module.
 use Rattle.std.proofs.Common.{◌≡◌, [], ◌∷◌, ◌++◌, ◌∙◌, List, ap, arith, length, map, reverse, subst, sym}
+use Rattle.std.specs.Prelude.{All}
 use Rattle.std.proofs.lemmas.List.{append-nil, length-reverse}
 use Rattle.sil_lexer.specs.Lexes.{Lexeme}
-use Rattle.sil_lexer.specs.Lexing.{lexemes_of, IsLexingOf}
+use Rattle.sil_lexer.specs.Lexing.{lexemes_of, IsInside}
 use Rattle.sil_shape.specs.Shortest.{Shortens, written}
 use Rattle.sil_shape.specs.Values.{IsEnough}
 use Rattle.sil_shape.proofs.ValuesLemmas.{IsEnough-derives}
@@ -11,30 +12,27 @@ use Rattle.written_modules.specs.declared.value.Value.TheVariants as v
 use Rattle.written_modules.specs.Lacking.{lacking}
 use Rattle.written_modules.specs.Replay.{first_fault, replay}
 use Rattle.written_modules.proofs.LackingLemmas.{waiting-length}
-use Rattle.written_modules.proofs.WholeLemmas.{all_of, one_module}
+use Rattle.written_modules.proofs.WholeLemmas.{one_module}
 use Rattle.written_modules.proofs.building.build.Goals as goal
 
 pub replay-requires : goal.replay-requires
 replay-requires c = (
-  subst (λ text. IsLexingOf text c.args.tokens.now) (sym c.in_ok-source.ensures) c.requires.lexed,
+  subst (λ text. All (IsInside text) c.args.tokens.tokens) (sym c.in_ok-source.ensures) c.requires.lexed.inside,
   (
-    omega (arith, c.len.ensures),
+    c.requires.taken,
     (
-      c.requires.taken ∙ sym c.len.ensures,
-      (
-        subst (λ l. Shortens (reverse l) []) (sym c.new.ensures.items) written,
-        subst IsEnough (sym (append-nil c.args.steps.now)) (IsEnough-derives c.requires.derived.1),
-      ),
+      subst (λ l. Shortens (reverse l) []) (sym c.new.ensures.items) written,
+      subst IsEnough (sym (append-nil c.args.steps.items)) (IsEnough-derives c.requires.derived.1),
     ),
   ),
 )
 
 pub fill-requires : goal.fill-requires
 fill-requires c =
-    let lexemes : List Lexeme = lexemes_of c.args.text.now c.args.tokens.now in
+    let lexemes : List Lexeme = lexemes_of c.args.text.now c.args.tokens in
     let whole = one_module lexemes c.requires.derived.1 in
-    let are = c.in_ok-values.ensures.values ∙ all_of replay c.args.steps.now c.in_ok-source.source.value.items c.args.tokens.now c.len.result c.len.ensures
-    ∙ ap (λ text. replay c.args.steps.now (lexemes_of text c.args.tokens.now)) c.in_ok-source.ensures ∙ whole.is in
+    let are = c.in_ok-values.ensures.values ∙ ap (λ steps. replay steps (lexemes_of c.in_ok-source.source.value.items c.args.tokens)) (append-nil c.args.steps.items)
+    ∙ ap (λ text. replay c.args.steps.items (lexemes_of text c.args.tokens)) c.in_ok-source.ensures ∙ whole.is in
     omega (arith, ap length are, waiting-length c.in_ok-values.field-0.values (reverse c.in_ok-values.field-0.left.items), length-reverse c.in_ok-values.field-0.left.items)
 
 pub pop_front-requires : goal.pop_front-requires
@@ -42,10 +40,10 @@ pop_front-requires c = omega (arith, c.in_ok-fill.ensures.enough)
 
 pub returns-clause-written : goal.returns-clause-written
 returns-clause-written c =
-    let lexemes : List Lexeme = lexemes_of c.args.text.now c.args.tokens.now in
+    let lexemes : List Lexeme = lexemes_of c.args.text.now c.args.tokens in
     let whole = one_module lexemes c.requires.derived.1 in
-    let replayed = c.in_ok-values.ensures.values ∙ all_of replay c.args.steps.now c.in_ok-source.source.value.items c.args.tokens.now c.len.result c.len.ensures
-    ∙ ap (λ text. replay c.args.steps.now (lexemes_of text c.args.tokens.now)) c.in_ok-source.ensures ∙ whole.is in
+    let replayed = c.in_ok-values.ensures.values ∙ ap (λ steps. replay steps (lexemes_of c.in_ok-source.source.value.items c.args.tokens)) (append-nil c.args.steps.items)
+    ∙ ap (λ text. replay c.args.steps.items (lexemes_of text c.args.tokens)) c.in_ok-source.ensures ∙ whole.is in
     let behind : List Value = map lacking (reverse c.fill.new.left.items) in
     let are : c.pop_front.result ∷ c.pop_front.new.self ++ behind ≡ v.Module whole.written ∷ [] =
     ap (λ values. values ++ behind) (sym c.pop_front.ensures) ∙ c.in_ok-fill.ensures.same ∙ replayed in
@@ -54,5 +52,5 @@ returns-clause-written c =
 
 pub returns-clause-fault : goal.returns-clause-fault
 returns-clause-fault c =
-    c.in_ok-values.ensures.fault ∙ all_of first_fault c.args.steps.now c.in_ok-source.source.value.items c.args.tokens.now c.len.result c.len.ensures
-    ∙ ap (λ text. first_fault c.args.steps.now (lexemes_of text c.args.tokens.now)) c.in_ok-source.ensures
+    c.in_ok-values.ensures.fault ∙ ap (λ steps. first_fault steps (lexemes_of c.in_ok-source.source.value.items c.args.tokens)) (append-nil c.args.steps.items)
+    ∙ ap (λ text. first_fault c.args.steps.items (lexemes_of text c.args.tokens)) c.in_ok-source.ensures

@@ -1,7 +1,9 @@
 -- The steps and the shortest way to write what is left derive a module.
-use Rattle.std.proofs.Common.{◌++◌, ◌∙◌, ap, reverse, subst, sym, take}
-use Rattle.sil_lexer.specs.Lexing.{lexemes_of, IsLexingOf}
-use Rattle.sil_shape.specs.Values.{takes_of, IsEnough}
+use Rattle.std.proofs.Common.{◌≡◌, ◌++◌, ◌∙◌, ap, length, map, reverse, subst, sym, take}
+use Rattle.std.specs.Prelude.{All}
+use Rattle.std.proofs.lemmas.List.{length-take-le, take-map}
+use Rattle.std.proofs.lemmas.List.Elements.{All-take}
+use Rattle.sil_lexer.specs.Lexing.{lexeme_of, lexemes_of, IsInside}
 use Rattle.sil_shape.proofs.Shortened.{shortened}
 use Rattle.written_modules.specs.Replay.{first_fault}
 use Rattle.written_modules.proofs.WholeLemmas.{enough_whole, takes_before}
@@ -12,24 +14,26 @@ replay-requires c =
     let left = reverse c.args.front.left.items in
     let steps = c.args.front.steps.items in
     let begun = c.requires.begun in
-    let way = (shortened left).1 in (
-      subst (λ text. IsLexingOf text c.args.tokens.now) (sym c.in_ok-source.ensures) c.requires.lexed,
+    let way = (shortened left).1 in
+    let tokens = c.args.tokens.tokens in
+    let inside : All (IsInside c.args.text.now) (take c.args.count tokens) = All-take (IsInside c.args.text.now) c.args.count tokens c.requires.lexed.inside in (
+      subst (λ text. All (IsInside text) c.truncate.new.self.tokens) (sym c.in_ok-source.ensures) (subst (All (IsInside c.args.text.now)) (sym c.truncate.ensures) inside),
       (
-        c.requires.inside,
-        (
-          ap takes_of c.as_slice.ensures.value ∙ takes_before begun.0 steps left begun.2 way ∙ begun.1,
-          (way, subst (λ s. IsEnough (s ++ (shortened left).0)) (sym c.as_slice.ensures.value) (enough_whole begun.0 steps left begun.2 way)),
-        ),
+        takes_before begun.0 steps left begun.2 way ∙ begun.1 ∙ sym (length-take-le c.args.count tokens c.requires.inside) ∙ ap length (sym c.truncate.ensures),
+        (way, enough_whole begun.0 steps left begun.2 way),
       ),
     )
 
 pub returns : goal.returns
 returns c =
     let left = reverse c.args.front.left.items in
-    let rest = (shortened left).0 in (
+    let rest = (shortened left).0 in
+    let text = c.args.text.now in
+    let front : lexemes_of text c.truncate.new.self ≡ take c.args.count (lexemes_of text c.args.tokens) =
+    ap (map (lexeme_of text)) c.truncate.ensures ∙ sym (take-map (lexeme_of text) c.args.count c.args.tokens.tokens) in (
       rest,
       (shortened left).1,
       c.in_ok-replayed.ensures.fault
-          ∙ ap (λ s. first_fault (s ++ rest) (take c.args.count (lexemes_of c.in_ok-source.source.value.items c.args.tokens.now))) c.as_slice.ensures.value
-          ∙ ap (λ text. first_fault (c.args.front.steps.items ++ rest) (take c.args.count (lexemes_of text c.args.tokens.now))) c.in_ok-source.ensures,
+          ∙ ap (λ text. first_fault (c.args.front.steps.items ++ rest) (lexemes_of text c.truncate.new.self)) c.in_ok-source.ensures
+          ∙ ap (first_fault (c.args.front.steps.items ++ rest)) front,
     )

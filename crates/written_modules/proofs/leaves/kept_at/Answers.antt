@@ -9,6 +9,6 @@ pub kept_of-requires : goal.kept_of-requires
 kept_of-requires c =
     let token : Token = get_or c.args.tokens.now.tokens c.args.i some_token in
     let text = c.args.text.now.value.items in
-    let inside = token_inside text c.args.tokens.now c.args.i c.requires.lexed c.requires.in_range in
+    let inside = token_inside text c.args.tokens.now.tokens c.args.i c.requires.inside c.requires.in_range in
     let spelled = c.text-count.ensures some_token ∙ ap (λ bytes. spelling_of bytes token) (c.as_slice.ensures.value ∙ ap (λ v. v.items) c.as_ref.ensures) in
     omega (arith, inside, spelling-length text token inside, ap length spelled, ap (λ p. p.offset) (c.place-from.ensures some_token))

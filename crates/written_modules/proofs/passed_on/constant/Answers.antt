@@ -1,6 +1,6 @@
 -- For `constant`: one value more is gone.
 use Rattle.std.proofs.Common.{ap, length, arith}
-use Rattle.written_modules.proofs.BuildLemmas.{drop_next}
+use Rattle.written_modules.proofs.Popped.{drop_next}
 use Rattle.written_modules.proofs.passed_on.constant.Goals as goal
 
 pub loop-i-preserved : goal.loop-i-preserved
