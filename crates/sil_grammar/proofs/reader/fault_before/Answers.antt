@@ -10,10 +10,10 @@ use Rattle.sil_grammar.proofs.reader.fault_before.Goals as goal
 
 pub front_fault-requires-clause-begun : goal.front_fault-requires-clause-begun
 front_fault-requires-clause-begun c =
-    let classes : List Class = map token_class (take c.args.count (lexemes_of c.args.text.now c.args.tokens.now)) in
-    (classes, length-front c.args.text.now c.args.tokens.now c.args.count c.requires.inside, cut_leads classes c.args.front c.in_ok-front.front c.requires.leads c.in_ok-front.ensures)
+    let classes : List Class = map token_class (take c.args.count (lexemes_of c.args.text.now c.args.tokens)) in
+    (classes, length-front c.args.text.now c.args.tokens c.args.count c.requires.inside, cut_leads classes c.args.front c.in_ok-front.front c.requires.leads c.in_ok-front.ensures)
 
 pub returns : goal.returns
 returns c =
-    front_found c.args.text.now c.args.tokens.now c.args.count c.args.front c.in_ok-front.front c.in_ok-fault.fault
+    front_found c.args.text.now c.args.tokens c.args.count c.args.front c.in_ok-front.front c.in_ok-fault.fault
     c.requires.leads c.in_ok-front.ensures c.in_ok-fault.ensures
