@@ -1,7 +1,8 @@
-//! Builds operands, edges and members.
+//! Builds operands, edges and members, and puts them before the values that wait.
 
-ghost use Rattle.std.specs.Prelude.{◌≡◌, [], ◌∷◌, ◌≤◌, length, IfOk};
+ghost use Rattle.std.specs.Prelude.{◌≡◌, [], ◌∷◌, ◌≤◌, List, length, None, IfOk, OnOk};
 ghost use Rattle.sil_shape.specs.declared.grammar.Production.{Production};
+ghost use Rattle.written_modules.specs.declared.value.Value.{Value};
 ghost use Rattle.written_modules.specs.declared.value.Value.TheVariants as v;
 ghost use Rattle.written_modules.specs.Meaning as meant;
 ghost use Rattle.written_modules.specs.PartFaults.{part_fault};
@@ -11,18 +12,26 @@ ghost use Rattle.written_modules.specs.Values.{operand_of, operands_of};
 use crate::build_blocks::starred;
 use crate::faults::too_many;
 use crate::nothing::skip;
+use crate::passed_on::constant;
 use crate::prepended::Prepended;
+use crate::put::{put, put_value};
 use crate::value::{Reduced, Value};
 use sil_ast::{Boxed, Exhausted, List, Member};
 use sil_rules::{LimitWord, limits};
 use sil_shape::grammar::Production;
 use std::alloc::Global;
-use written_tree::{WrittenEdge, WrittenOperand};
+use written_tree::{Fault, WrittenEdge, WrittenOperand};
 
+/// Puts an operand of its name and its type.
+#[inline(never)]
 #[tactic(auto, unfolding(crate::specs::Replay::reduced, crate::specs::Meaning::meaning, sil_shape::specs::Grammar::body))]
-pub(crate) fn operand(alloc: Global, values: &mut Prepended<Value>) -> Result<Value, Exhausted>
+pub(crate) fn operand(
+    alloc: Global,
+    values: &mut Prepended<Value>,
+) -> Result<Option<Fault>, Exhausted>
     requires { 5 ≤ length values.old }
-    ensures { IfOk result (λ value. reduced Production.WholeOperand values.old ≡ value ∷ values.new) }
+    ensures values { OnOk result (values.new ≡ reduced Production.WholeOperand values.old) }
+    ensures fault { IfOk result (λ fault. fault ≡ None) }
 {
     let name = values.pop_front().into_token();
     skip(values);
@@ -30,14 +39,11 @@ pub(crate) fn operand(alloc: Global, values: &mut Prepended<Value>) -> Result<Va
     let star = values.pop_front();
     let ty = values.pop_front().into_type(alloc).ty;
     let ty = Some(starred(alloc, star, ty)?);
-    Ok(Value::Operand(WrittenOperand { name, ty }))
+    put_value(Value::Operand(WrittenOperand { name, ty }), values)
 }
 
 /// An operand, and the operands behind it.
-pub(crate) fn operands_before(
-    alloc: Global,
-    values: &mut Prepended<Value>,
-) -> Result<Value, Exhausted>
+fn operands_before(alloc: Global, values: &mut Prepended<Value>) -> Result<Value, Exhausted>
     requires { 2 ≤ length values.old }
     ensures { IfOk result (λ value. (first others : Value) × (values.old ≡ first ∷ others ∷ values.new) × (value ≡ v.Operands (operand_of first ∷ operands_of others))) }
 {
@@ -47,11 +53,56 @@ pub(crate) fn operands_before(
     Ok(Value::Operands(others))
 }
 
-#[tactic(auto, unfolding(crate::specs::Replay::reduced, crate::specs::Meaning::meaning, crate::specs::PartFaults::part_fault, sil_shape::specs::Grammar::body))]
-pub(crate) fn edge(alloc: Global, values: &mut Prepended<Value>) -> Result<Reduced, Exhausted>
+/// Puts an operand, and the operands behind it.
+#[inline(never)]
+pub(crate) fn operands(
+    alloc: Global,
+    values: &mut Prepended<Value>,
+) -> Result<Option<Fault>, Exhausted>
     requires { 2 ≤ length values.old }
-    ensures value { IfOk result (λ made. reduced Production.WholeEdge values.old ≡ made.value ∷ values.new) }
-    ensures fault { IfOk result (λ made. made.fault ≡ part_fault Production.WholeEdge (parts_of Production.WholeEdge values.old)) }
+    ensures values { OnOk result ((first others : Value) × (rest : List Value) × (values.old ≡ first ∷ others ∷ rest) × (values.new ≡ v.Operands (operand_of first ∷ operands_of others) ∷ rest)) }
+    ensures fault { IfOk result (λ fault. fault ≡ None) }
+{
+    let operands = operands_before(alloc, values)?;
+    put_value(operands, values)
+}
+
+/// Puts the operands between the parentheses of an edge.
+#[inline(never)]
+#[tactic(auto, unfolding(crate::specs::Replay::reduced, crate::specs::Meaning::meaning, sil_shape::specs::Grammar::body))]
+pub(crate) fn edge_operands(
+    alloc: Global,
+    values: &mut Prepended<Value>,
+) -> Result<Option<Fault>, Exhausted>
+    requires { 4 ≤ length values.old }
+    ensures values { OnOk result (values.new ≡ reduced Production.EdgeArgsSome values.old) }
+    ensures fault { IfOk result (λ fault. fault ≡ None) }
+{
+    skip(values);
+    let operands = operands_before(alloc, values)?;
+    skip(values);
+    put_value(operands, values)
+}
+
+/// Puts that there are no operands, or no more of them.
+#[inline(never)]
+pub(crate) fn no_operands(
+    alloc: Global,
+    values: &mut Prepended<Value>,
+) -> Result<Option<Fault>, Exhausted>
+    ensures values { OnOk result (values.new ≡ v.Operands [] ∷ values.old) }
+    ensures fault { IfOk result (λ fault. fault ≡ None) }
+{
+    put_value(Value::Operands(Prepended::new(alloc)), values)
+}
+
+/// Puts an edge of its label and its operands.
+#[inline(never)]
+#[tactic(auto, unfolding(crate::specs::Replay::reduced, crate::specs::Meaning::meaning, crate::specs::PartFaults::part_fault, sil_shape::specs::Grammar::body))]
+pub(crate) fn edge(alloc: Global, values: &mut Prepended<Value>) -> Result<Option<Fault>, Exhausted>
+    requires { 2 ≤ length values.old }
+    ensures values { OnOk result (values.new ≡ reduced Production.WholeEdge values.old) }
+    ensures fault { IfOk result (λ fault. fault ≡ part_fault Production.WholeEdge (parts_of Production.WholeEdge values.old)) }
 {
     let label = values.pop_front().into_token();
     let args = values.pop_front().into_operands(alloc);
@@ -61,16 +112,20 @@ pub(crate) fn edge(alloc: Global, values: &mut Prepended<Value>) -> Result<Reduc
         args: args.into_list(),
         case_of: None,
     };
-    Ok(Reduced {
-        value: Value::Edge(Boxed::new(alloc, edge)?),
-        fault,
-    })
+    let value = Value::Edge(Boxed::new(alloc, edge)?);
+    put(Reduced { value, fault }, values)
 }
 
+/// Puts the edge of a case, and the edges behind it.
+#[inline(never)]
 #[tactic(auto, unfolding(crate::specs::Replay::reduced, crate::specs::Meaning::meaning, sil_shape::specs::Grammar::body))]
-pub(crate) fn switch_case(alloc: Global, values: &mut Prepended<Value>) -> Result<Value, Exhausted>
+pub(crate) fn switch_case(
+    alloc: Global,
+    values: &mut Prepended<Value>,
+) -> Result<Option<Fault>, Exhausted>
     requires { 5 ≤ length values.old }
-    ensures { IfOk result (λ value. reduced Production.SwitchCase values.old ≡ value ∷ values.new) }
+    ensures values { OnOk result (values.new ≡ reduced Production.SwitchCase values.old) }
+    ensures fault { IfOk result (λ fault. fault ≡ None) }
 {
     skip(values);
     let case_of = Some(values.pop_front().into_member(alloc)?);
@@ -82,16 +137,19 @@ pub(crate) fn switch_case(alloc: Global, values: &mut Prepended<Value>) -> Resul
         args: List::new(alloc),
         case_of,
     })?;
-    Ok(Value::Edges(edges))
+    put_value(Value::Edges(edges), values)
 }
 
+/// Puts the edge of a default, behind which there are no edges.
+#[inline(never)]
 #[tactic(auto, unfolding(crate::specs::Replay::reduced, crate::specs::Meaning::meaning, sil_shape::specs::Grammar::body))]
 pub(crate) fn switch_default(
     alloc: Global,
     values: &mut Prepended<Value>,
-) -> Result<Value, Exhausted>
+) -> Result<Option<Fault>, Exhausted>
     requires { 2 ≤ length values.old }
-    ensures { IfOk result (λ value. reduced Production.SwitchDefault values.old ≡ value ∷ values.new) }
+    ensures values { OnOk result (values.new ≡ reduced Production.SwitchDefault values.old) }
+    ensures fault { IfOk result (λ fault. fault ≡ None) }
 {
     skip(values);
     let label = values.pop_front().into_token();
@@ -101,22 +159,40 @@ pub(crate) fn switch_default(
         args: List::new(alloc),
         case_of: None,
     })?;
-    Ok(Value::Edges(edges))
+    put_value(Value::Edges(edges), values)
 }
 
+/// Puts that there are no more edges.
+#[inline(never)]
+pub(crate) fn no_edges(
+    alloc: Global,
+    values: &mut Prepended<Value>,
+) -> Result<Option<Fault>, Exhausted>
+    ensures values { OnOk result (values.new ≡ v.Edges [] ∷ values.old) }
+    ensures fault { IfOk result (λ fault. fault ≡ None) }
+{
+    put_value(Value::Edges(Prepended::new(alloc)), values)
+}
+
+/// Puts the operand of a case, alone in a list.
+#[inline(never)]
 #[tactic(auto, unfolding(crate::specs::Replay::reduced, crate::specs::Meaning::meaning, sil_shape::specs::Grammar::body))]
-pub(crate) fn enum_operand(alloc: Global, values: &mut Prepended<Value>) -> Result<Value, Exhausted>
+pub(crate) fn enum_operand(
+    alloc: Global,
+    values: &mut Prepended<Value>,
+) -> Result<Option<Fault>, Exhausted>
     requires { 2 ≤ length values.old }
-    ensures { IfOk result (λ value. reduced Production.EnumOperandSome values.old ≡ value ∷ values.new) }
+    ensures values { OnOk result (values.new ≡ reduced Production.EnumOperandSome values.old) }
+    ensures fault { IfOk result (λ fault. fault ≡ None) }
 {
     skip(values);
     let mut operands = Prepended::new(alloc);
     operands.push_front(values.pop_front().into_operand())?;
-    Ok(Value::Operands(operands))
+    put_value(Value::Operands(operands), values)
 }
 
 /// `#C.f` of a member's name, or of a case before its suffix.
-pub(crate) fn member(alloc: Global, values: &mut Prepended<Value>) -> Result<Value, Exhausted>
+fn member(alloc: Global, values: &mut Prepended<Value>) -> Result<Value, Exhausted>
     requires { 4 ≤ length values.old }
     ensures { IfOk result (λ value. (a b c d : Value) × (values.old ≡ a ∷ b ∷ c ∷ d ∷ values.new) × (value ≡ meant.member (a ∷ b ∷ c ∷ d ∷ []))) }
 {
@@ -125,4 +201,34 @@ pub(crate) fn member(alloc: Global, values: &mut Prepended<Value>) -> Result<Val
     skip(values);
     let name = values.pop_front().into_text(alloc)?;
     Ok(Value::Member(Boxed::new(alloc, Member { owner, name })?))
+}
+
+/// Puts the name of a member.
+#[inline(never)]
+#[tactic(auto, unfolding(crate::specs::Replay::reduced, crate::specs::Meaning::meaning, sil_shape::specs::Grammar::body))]
+pub(crate) fn member_name(
+    alloc: Global,
+    values: &mut Prepended<Value>,
+) -> Result<Option<Fault>, Exhausted>
+    requires { 4 ≤ length values.old }
+    ensures values { OnOk result (values.new ≡ reduced Production.WholeMemberName values.old) }
+    ensures fault { IfOk result (λ fault. fault ≡ None) }
+{
+    let member = member(alloc, values)?;
+    put_value(member, values)
+}
+
+/// Puts the name of a case, of whose suffix nothing is kept.
+#[inline(never)]
+#[tactic(auto, unfolding(crate::specs::Replay::reduced, crate::specs::Meaning::meaning, sil_shape::specs::Grammar::body))]
+pub(crate) fn enum_element(
+    alloc: Global,
+    values: &mut Prepended<Value>,
+) -> Result<Option<Fault>, Exhausted>
+    requires { 7 ≤ length values.old }
+    ensures values { OnOk result (values.new ≡ reduced Production.WholeEnumElement values.old) }
+    ensures fault { IfOk result (λ fault. fault ≡ None) }
+{
+    let member = member(alloc, values)?;
+    put_value(constant(values, 3, member), values)
 }

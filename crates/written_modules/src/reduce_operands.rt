@@ -9,9 +9,8 @@ ghost use Rattle.written_modules.specs.Sections.{section};
 
 use crate::build_operands;
 use crate::nothing::skip;
-use crate::passed_on::{constant, second_of_two};
 use crate::prepended::Prepended;
-use crate::put::{put, put_value};
+use crate::put::{put_nothing, put_second};
 use crate::value::Value;
 use sil_ast::Exhausted;
 use sil_shape::grammar::Production;
@@ -31,44 +30,31 @@ pub(crate) fn reduce_operand(
     ensures fault { IfOk result (λ fault. fault ≡ part_fault production (parts_of production values.old)) }
 {
     match production {
-        Production::WholeOperand => put_value(build_operands::operand(alloc, values)?, values),
-        Production::OperandsSome => put_value(
-            build_operands::operands_before(alloc, values)?,
-            values,
-        ),
+        Production::WholeOperand => build_operands::operand(alloc, values),
+        Production::OperandsSome => build_operands::operands(alloc, values),
         Production::MoreOperandsMore => {
             skip(values);
-            put_value(build_operands::operands_before(alloc, values)?, values)
+            build_operands::operands(alloc, values)
         },
-        Production::EdgeArgsSome => {
-            skip(values);
-            let operands = build_operands::operands_before(alloc, values)?;
-            skip(values);
-            put_value(operands, values)
-        },
+        Production::EdgeArgsSome => build_operands::edge_operands(alloc, values),
         Production::OperandsNone
         | Production::MoreOperandsEnd
         | Production::EdgeArgsNone
-        | Production::EnumOperandNone => put_value(Value::Operands(Prepended::new(alloc)), values),
-        Production::EnumOperandSome => put_value(
-            build_operands::enum_operand(alloc, values)?,
-            values,
-        ),
-        Production::WholeEdge => put(build_operands::edge(alloc, values)?, values),
-        Production::SwitchCase => put_value(build_operands::switch_case(alloc, values)?, values),
-        Production::SwitchDefault => put_value(
-            build_operands::switch_default(alloc, values)?,
-            values,
-        ),
-        Production::SwitchMoreEnd => put_value(Value::Edges(Prepended::new(alloc)), values),
-        Production::WholeMemberName => put_value(build_operands::member(alloc, values)?, values),
-        Production::WholeEnumElement => {
-            let member = build_operands::member(alloc, values)?;
-            put_value(constant(values, 3, member), values)
+        | Production::EnumOperandNone => build_operands::no_operands(alloc, values),
+        Production::EnumOperandSome => build_operands::enum_operand(alloc, values),
+        Production::WholeEdge => build_operands::edge(alloc, values),
+        Production::SwitchCase => build_operands::switch_case(alloc, values),
+        Production::SwitchDefault => build_operands::switch_default(alloc, values),
+        Production::SwitchMoreEnd => build_operands::no_edges(alloc, values),
+        Production::WholeMemberName => build_operands::member_name(alloc, values),
+        Production::WholeEnumElement => build_operands::enum_element(alloc, values),
+        Production::SwitchMoreSome => put_second(values),
+        Production::SuffixSome => {
+            skip(values);
+            skip(values);
+            put_nothing(values)
         },
-        Production::SwitchMoreSome => put_value(second_of_two(values), values),
-        Production::SuffixSome => put_value(constant(values, 2, Value::Nothing), values),
-        Production::SuffixNone => put_value(Value::Nothing, values),
+        Production::SuffixNone => put_nothing(values),
         _ => unreachable!(),
     }
 }
