@@ -1,21 +1,23 @@
-//! Builds blocks, and the names of their values.
+//! Builds blocks, and the names of their values, and puts them before the values that wait.
 
-ghost use Rattle.std.specs.Prelude.{◌≡◌, ◌∷◌, ◌≤◌, length, IfOk};
+ghost use Rattle.std.specs.Prelude.{◌≡◌, [], ◌∷◌, ◌≤◌, List, length, None, IfOk, OnOk};
 ghost use Rattle.sil_shape.specs.declared.grammar.Production.{Production};
 ghost use Rattle.written_modules.specs.PartFaults.{part_fault};
 ghost use Rattle.written_modules.specs.Replay.{parts_of, reduced};
+ghost use Rattle.written_modules.specs.declared.value.Value.{Value};
 ghost use Rattle.written_modules.specs.declared.value.Value.TheVariants as v;
 ghost use Rattle.written_modules.specs.Values.{arg_of, args_of, block_of, blocks_of, starred, token_of, tokens_of};
 
 use crate::faults::too_many;
 use crate::nothing::{discard, skip};
 use crate::prepended::Prepended;
+use crate::put::{put, put_value};
 use crate::value::{Reduced, Value};
-use sil_ast::{Boxed, Exhausted, List, TypeName};
+use sil_ast::{ArgKind, Boxed, Exhausted, List, TypeName};
 use sil_rules::{LimitWord, limits};
 use sil_shape::grammar::Production;
 use std::alloc::Global;
-use written_tree::{InstBox, WrittenArg, WrittenBlock, WrittenToken};
+use written_tree::{Fault, InstBox, WrittenArg, WrittenBlock, WrittenToken};
 
 /// A block, and the blocks behind it.
 pub(crate) fn blocks_before(
@@ -31,8 +33,35 @@ pub(crate) fn blocks_before(
     Ok(Value::Blocks(others))
 }
 
+/// Puts a block, and the blocks behind it.
+#[inline(never)]
+#[tactic(auto, unfolding(crate::specs::Replay::reduced, crate::specs::Meaning::meaning, sil_shape::specs::Grammar::body))]
+pub(crate) fn blocks(
+    alloc: Global,
+    values: &mut Prepended<Value>,
+) -> Result<Option<Fault>, Exhausted>
+    requires { 2 ≤ length values.old }
+    ensures values { OnOk result (values.new ≡ reduced Production.BlocksMore values.old) }
+    ensures fault { IfOk result (λ fault. fault ≡ None) }
+{
+    let blocks = blocks_before(alloc, values)?;
+    put_value(blocks, values)
+}
+
+/// Puts that there are no more blocks.
+#[inline(never)]
+pub(crate) fn no_blocks(
+    alloc: Global,
+    values: &mut Prepended<Value>,
+) -> Result<Option<Fault>, Exhausted>
+    ensures values { OnOk result (values.new ≡ v.Blocks [] ∷ values.old) }
+    ensures fault { IfOk result (λ fault. fault ≡ None) }
+{
+    put_value(Value::Blocks(Prepended::new(alloc)), values)
+}
+
 /// An argument of a block, and those behind it.
-pub(crate) fn args_before(alloc: Global, values: &mut Prepended<Value>) -> Result<Value, Exhausted>
+fn args_before(alloc: Global, values: &mut Prepended<Value>) -> Result<Value, Exhausted>
     requires { 2 ≤ length values.old }
     ensures { IfOk result (λ value. (first others : Value) × (values.old ≡ first ∷ others ∷ values.new) × (value ≡ v.Args (arg_of first ∷ args_of others))) }
 {
@@ -42,25 +71,86 @@ pub(crate) fn args_before(alloc: Global, values: &mut Prepended<Value>) -> Resul
     Ok(Value::Args(others))
 }
 
-/// A name, and the names behind it.
-pub(crate) fn names_before(alloc: Global, values: &mut Prepended<Value>) -> Result<Value, Exhausted>
+/// Puts the arguments between the parentheses of a block.
+#[inline(never)]
+#[tactic(auto, unfolding(crate::specs::Replay::reduced, crate::specs::Meaning::meaning, sil_shape::specs::Grammar::body))]
+pub(crate) fn args(alloc: Global, values: &mut Prepended<Value>) -> Result<Option<Fault>, Exhausted>
+    requires { 4 ≤ length values.old }
+    ensures values { OnOk result (values.new ≡ reduced Production.BlockArgsSome values.old) }
+    ensures fault { IfOk result (λ fault. fault ≡ None) }
+{
+    skip(values);
+    let args = args_before(alloc, values)?;
+    skip(values);
+    put_value(args, values)
+}
+
+/// Puts an argument of a block behind its comma, and those behind it.
+#[inline(never)]
+#[tactic(auto, unfolding(crate::specs::Replay::reduced, crate::specs::Meaning::meaning, sil_shape::specs::Grammar::body))]
+pub(crate) fn more_args(
+    alloc: Global,
+    values: &mut Prepended<Value>,
+) -> Result<Option<Fault>, Exhausted>
+    requires { 3 ≤ length values.old }
+    ensures values { OnOk result (values.new ≡ reduced Production.MoreBlockArgsMore values.old) }
+    ensures fault { IfOk result (λ fault. fault ≡ None) }
+{
+    skip(values);
+    let args = args_before(alloc, values)?;
+    put_value(args, values)
+}
+
+/// Puts that a block has no arguments, or no more of them.
+#[inline(never)]
+pub(crate) fn no_args(
+    alloc: Global,
+    values: &mut Prepended<Value>,
+) -> Result<Option<Fault>, Exhausted>
+    ensures values { OnOk result (values.new ≡ v.Args [] ∷ values.old) }
+    ensures fault { IfOk result (λ fault. fault ≡ None) }
+{
+    put_value(Value::Args(Prepended::new(alloc)), values)
+}
+
+/// Puts a name, and the names behind it.
+#[inline(never)]
+pub(crate) fn name_list(
+    alloc: Global,
+    values: &mut Prepended<Value>,
+) -> Result<Option<Fault>, Exhausted>
     requires { 2 ≤ length values.old }
-    ensures { IfOk result (λ value. (first others : Value) × (values.old ≡ first ∷ others ∷ values.new) × (value ≡ v.Tokens (token_of first ∷ tokens_of others))) }
+    ensures values { OnOk result ((first others : Value) × (rest : List Value) × (values.old ≡ first ∷ others ∷ rest) × (values.new ≡ v.Tokens (token_of first ∷ tokens_of others) ∷ rest)) }
+    ensures fault { IfOk result (λ fault. fault ≡ None) }
 {
     let name = values.pop_front().into_token();
     let mut others = values.pop_front().into_tokens(alloc);
     others.push_front(name)?;
-    Ok(Value::Tokens(others))
+    put_value(Value::Tokens(others), values)
 }
 
+/// Puts that there are no names, or no more of them.
+#[inline(never)]
+pub(crate) fn no_names(
+    alloc: Global,
+    values: &mut Prepended<Value>,
+) -> Result<Option<Fault>, Exhausted>
+    ensures values { OnOk result (values.new ≡ v.Tokens [] ∷ values.old) }
+    ensures fault { IfOk result (λ fault. fault ≡ None) }
+{
+    put_value(Value::Tokens(Prepended::new(alloc)), values)
+}
+
+/// Puts a block of its label, its arguments and its instructions.
+#[inline(never)]
 #[tactic(auto, unfolding(crate::specs::Replay::reduced, crate::specs::Meaning::meaning, crate::specs::PartFaults::part_fault, sil_shape::specs::Grammar::body))]
 pub(crate) fn whole_block(
     alloc: Global,
     values: &mut Prepended<Value>,
-) -> Result<Reduced, Exhausted>
+) -> Result<Option<Fault>, Exhausted>
     requires { 4 ≤ length values.old }
-    ensures value { IfOk result (λ made. reduced Production.WholeBlock values.old ≡ made.value ∷ values.new) }
-    ensures fault { IfOk result (λ made. made.fault ≡ part_fault Production.WholeBlock (parts_of Production.WholeBlock values.old)) }
+    ensures values { OnOk result (values.new ≡ reduced Production.WholeBlock values.old) }
+    ensures fault { IfOk result (λ fault. fault ≡ part_fault Production.WholeBlock (parts_of Production.WholeBlock values.old)) }
 {
     let label = values.pop_front().into_token();
     let args = values.pop_front().into_args(alloc);
@@ -73,10 +163,8 @@ pub(crate) fn whole_block(
         insts: insts.into_list(),
         terminator: terminator.into_inner(),
     };
-    Ok(Reduced {
-        value: Value::Block(Boxed::new(alloc, block)?),
-        fault,
-    })
+    let value = Value::Block(Boxed::new(alloc, block)?);
+    put(Reduced { value, fault }, values)
 }
 
 /// The type of an address behind a `*`, and else the type itself.
@@ -93,10 +181,37 @@ pub(crate) fn starred(alloc: Global, star: Value, ty: TypeName) -> Result<TypeNa
     }
 }
 
+/// Puts the `*` before a type.
+#[inline(never)]
+pub(crate) fn star(values: &mut Prepended<Value>) -> Result<Option<Fault>, Exhausted>
+    ensures values { OnOk result (values.new ≡ v.Star ∷ values.old) }
+    ensures fault { IfOk result (λ fault. fault ≡ None) }
+{
+    put_value(Value::Star, values)
+}
+
+/// Puts how a block's argument is annotated.
+#[inline(never)]
+pub(crate) fn ownership(
+    kind: ArgKind,
+    values: &mut Prepended<Value>,
+) -> Result<Option<Fault>, Exhausted>
+    ensures values { OnOk result (values.new ≡ v.Ownership kind ∷ values.old) }
+    ensures fault { IfOk result (λ fault. fault ≡ None) }
+{
+    put_value(Value::Ownership(kind), values)
+}
+
+/// Puts an argument of a block of its name, its annotation and its type.
+#[inline(never)]
 #[tactic(auto, unfolding(crate::specs::Replay::reduced, crate::specs::Meaning::meaning, sil_shape::specs::Grammar::body))]
-pub(crate) fn block_arg(alloc: Global, values: &mut Prepended<Value>) -> Result<Value, Exhausted>
+pub(crate) fn block_arg(
+    alloc: Global,
+    values: &mut Prepended<Value>,
+) -> Result<Option<Fault>, Exhausted>
     requires { 6 ≤ length values.old }
-    ensures { IfOk result (λ value. reduced Production.WholeBlockArg values.old ≡ value ∷ values.new) }
+    ensures values { OnOk result (values.new ≡ reduced Production.WholeBlockArg values.old) }
+    ensures fault { IfOk result (λ fault. fault ≡ None) }
 {
     let name = values.pop_front().into_token();
     skip(values);
@@ -105,27 +220,40 @@ pub(crate) fn block_arg(alloc: Global, values: &mut Prepended<Value>) -> Result<
     let star = values.pop_front();
     let ty = values.pop_front().into_type(alloc).ty;
     let ty = starred(alloc, star, ty)?;
-    Ok(Value::Arg(Boxed::new(alloc, WrittenArg { name, kind, ty })?))
+    let arg = Boxed::new(alloc, WrittenArg { name, kind, ty })?;
+    put_value(Value::Arg(arg), values)
 }
 
+/// Puts an instruction, and the code behind it.
+#[inline(never)]
 #[tactic(auto, unfolding(crate::specs::Replay::reduced, crate::specs::Meaning::meaning, sil_shape::specs::Grammar::body))]
-pub(crate) fn more_code(alloc: Global, values: &mut Prepended<Value>) -> Result<Value, Exhausted>
+pub(crate) fn more_code(
+    alloc: Global,
+    values: &mut Prepended<Value>,
+) -> Result<Option<Fault>, Exhausted>
     requires { 2 ≤ length values.old }
-    ensures { IfOk result (λ value. reduced Production.CodeInst values.old ≡ value ∷ values.new) }
+    ensures values { OnOk result (values.new ≡ reduced Production.CodeInst values.old) }
+    ensures fault { IfOk result (λ fault. fault ≡ None) }
 {
     let inst = values.pop_front().into_inst(alloc)?;
     let (mut insts, terminator) = values.pop_front().into_code(alloc)?;
     insts.push_front(inst)?;
-    Ok(Value::Code(insts, terminator))
+    put_value(Value::Code(insts, terminator), values)
 }
 
+/// Puts the code that is a terminator alone.
+#[inline(never)]
 #[tactic(auto, unfolding(crate::specs::Replay::reduced, crate::specs::Meaning::meaning, sil_shape::specs::Grammar::body))]
-pub(crate) fn last_code(alloc: Global, values: &mut Prepended<Value>) -> Result<Value, Exhausted>
+pub(crate) fn last_code(
+    alloc: Global,
+    values: &mut Prepended<Value>,
+) -> Result<Option<Fault>, Exhausted>
     requires { 1 ≤ length values.old }
-    ensures { IfOk result (λ value. reduced Production.CodeEnd values.old ≡ value ∷ values.new) }
+    ensures values { OnOk result (values.new ≡ reduced Production.CodeEnd values.old) }
+    ensures fault { IfOk result (λ fault. fault ≡ None) }
 {
     let terminator = values.pop_front().into_inst(alloc)?;
-    Ok(Value::Code(Prepended::new(alloc), terminator))
+    put_value(Value::Code(Prepended::new(alloc), terminator), values)
 }
 
 /// An instruction with these names before its `=`.
@@ -137,23 +265,35 @@ fn named(inst: InstBox, results: List<WrittenToken>) -> Value
     Value::Inst(inst)
 }
 
+/// Puts an instruction with one name before its `=`.
+#[inline(never)]
 #[tactic(auto, unfolding(crate::specs::Replay::reduced, crate::specs::Meaning::meaning, sil_shape::specs::Grammar::body))]
-pub(crate) fn one_name(alloc: Global, values: &mut Prepended<Value>) -> Result<Value, Exhausted>
+pub(crate) fn one_name(
+    alloc: Global,
+    values: &mut Prepended<Value>,
+) -> Result<Option<Fault>, Exhausted>
     requires { 3 ≤ length values.old }
-    ensures { IfOk result (λ value. reduced Production.InstOneName values.old ≡ value ∷ values.new) }
+    ensures values { OnOk result (values.new ≡ reduced Production.InstOneName values.old) }
+    ensures fault { IfOk result (λ fault. fault ≡ None) }
 {
     let name = values.pop_front().into_token();
     let mut results = List::with_capacity(alloc, 1)?;
     results.push(name)?;
     skip(values);
-    Ok(named(values.pop_front().into_inst(alloc)?, results))
+    let inst = values.pop_front().into_inst(alloc)?;
+    put_value(named(inst, results), values)
 }
 
+/// Puts an instruction with a list of names before its `=`.
+#[inline(never)]
 #[tactic(auto, unfolding(crate::specs::Replay::reduced, crate::specs::Meaning::meaning, crate::specs::PartFaults::part_fault, sil_shape::specs::Grammar::body))]
-pub(crate) fn names(alloc: Global, values: &mut Prepended<Value>) -> Result<Reduced, Exhausted>
+pub(crate) fn names(
+    alloc: Global,
+    values: &mut Prepended<Value>,
+) -> Result<Option<Fault>, Exhausted>
     requires { 5 ≤ length values.old }
-    ensures value { IfOk result (λ made. reduced Production.InstNames values.old ≡ made.value ∷ values.new) }
-    ensures fault { IfOk result (λ made. made.fault ≡ part_fault Production.InstNames (parts_of Production.InstNames values.old)) }
+    ensures values { OnOk result (values.new ≡ reduced Production.InstNames values.old) }
+    ensures fault { IfOk result (λ fault. fault ≡ part_fault Production.InstNames (parts_of Production.InstNames values.old)) }
 {
     skip(values);
     let results = values.pop_front().into_tokens(alloc);
@@ -161,8 +301,6 @@ pub(crate) fn names(alloc: Global, values: &mut Prepended<Value>) -> Result<Redu
     skip(values);
     let fault = too_many(LimitWord::Arguments, &results, limits::ARGUMENTS);
     let inst = values.pop_front().into_inst(alloc)?;
-    Ok(Reduced {
-        value: named(inst, results.into_list()),
-        fault,
-    })
+    let value = named(inst, results.into_list());
+    put(Reduced { value, fault }, values)
 }

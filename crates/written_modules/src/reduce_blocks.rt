@@ -11,9 +11,9 @@ ghost use Rattle.written_modules.specs.Sections.{section};
 
 use crate::build_blocks;
 use crate::nothing::skip;
-use crate::passed_on::constant;
+use crate::passed_on::pass;
 use crate::prepended::Prepended;
-use crate::put::{put, put_value};
+use crate::put::put_nothing;
 use crate::value::Value;
 use sil_ast::{ArgKind, Exhausted};
 use sil_shape::grammar::Production;
@@ -34,52 +34,44 @@ pub(crate) fn reduce_block(
     ensures fault { IfOk result (λ fault. fault ≡ part_fault production (parts_of production values.old)) }
 {
     match production {
-        Production::NamesNone | Production::MoreNamesEnd | Production::BareNamesNone => put_value(
-            Value::Tokens(Prepended::new(alloc)),
-            values,
-        ),
-        Production::BlocksMore => put_value(build_blocks::blocks_before(alloc, values)?, values),
-        Production::BlocksEnd => put_value(Value::Blocks(Prepended::new(alloc)), values),
-        Production::WholeBlock => put(build_blocks::whole_block(alloc, values)?, values),
-        Production::BlockArgsSome => {
+        Production::NamesNone | Production::MoreNamesEnd | Production::BareNamesNone => {
+            build_blocks::no_names(alloc, values)
+        }
+        Production::BlocksMore => build_blocks::blocks(alloc, values),
+        Production::BlocksEnd => build_blocks::no_blocks(alloc, values),
+        Production::WholeBlock => build_blocks::whole_block(alloc, values),
+        Production::BlockArgsSome => build_blocks::args(alloc, values),
+        Production::MoreBlockArgsMore => build_blocks::more_args(alloc, values),
+        Production::BlockArgsNone | Production::MoreBlockArgsEnd => {
+            build_blocks::no_args(alloc, values)
+        }
+        Production::WholeBlockArg => build_blocks::block_arg(alloc, values),
+        Production::OwnershipOwned => {
             skip(values);
-            let args = build_blocks::args_before(alloc, values)?;
-            skip(values);
-            put_value(args, values)
+            build_blocks::ownership(ArgKind::Owned, values)
         },
-        Production::MoreBlockArgsMore => {
+        Production::OwnershipGuaranteed => {
             skip(values);
-            put_value(build_blocks::args_before(alloc, values)?, values)
+            build_blocks::ownership(ArgKind::Guaranteed, values)
         },
-        Production::BlockArgsNone | Production::MoreBlockArgsEnd => put_value(
-            Value::Args(Prepended::new(alloc)),
-            values,
-        ),
-        Production::WholeBlockArg => put_value(build_blocks::block_arg(alloc, values)?, values),
-        Production::OwnershipOwned => put_value(
-            constant(values, 1, Value::Ownership(ArgKind::Owned)),
-            values,
-        ),
-        Production::OwnershipGuaranteed => put_value(
-            constant(values, 1, Value::Ownership(ArgKind::Guaranteed)),
-            values,
-        ),
-        Production::OwnershipNone => put_value(Value::Ownership(ArgKind::Plain), values),
-        Production::StarSome => put_value(constant(values, 1, Value::Star), values),
-        Production::CodeInst => put_value(build_blocks::more_code(alloc, values)?, values),
-        Production::CodeEnd => put_value(build_blocks::last_code(alloc, values)?, values),
-        Production::InstOneName => put_value(build_blocks::one_name(alloc, values)?, values),
-        Production::InstNames => put(build_blocks::names(alloc, values)?, values),
-        Production::NamesSome | Production::BareNamesSome => put_value(
-            build_blocks::names_before(alloc, values)?,
-            values,
-        ),
+        Production::OwnershipNone => build_blocks::ownership(ArgKind::Plain, values),
+        Production::StarSome => {
+            skip(values);
+            build_blocks::star(values)
+        },
+        Production::CodeInst => build_blocks::more_code(alloc, values),
+        Production::CodeEnd => build_blocks::last_code(alloc, values),
+        Production::InstOneName => build_blocks::one_name(alloc, values),
+        Production::InstNames => build_blocks::names(alloc, values),
+        Production::NamesSome | Production::BareNamesSome => {
+            build_blocks::name_list(alloc, values)
+        }
         Production::MoreNamesMore => {
             skip(values);
-            put_value(build_blocks::names_before(alloc, values)?, values)
+            build_blocks::name_list(alloc, values)
         },
-        Production::InstUnnamed => put_value(values.pop_front(), values),
-        Production::StarNone => put_value(Value::Nothing, values),
+        Production::InstUnnamed => pass(values),
+        Production::StarNone => put_nothing(values),
         _ => unreachable!(),
     }
 }
