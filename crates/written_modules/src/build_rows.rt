@@ -1,6 +1,7 @@
-//! Builds the row of any instruction from the parts that the table of instructions lists.
+//! Builds the row of any instruction from the parts that the table of instructions lists, and puts it before the values
+//! that wait.
 
-ghost use Rattle.std.specs.Prelude.{◌≡◌, ◌∷◌, ◌≤◌, drop, length, IfOk};
+ghost use Rattle.std.specs.Prelude.{◌≡◌, ◌∷◌, ◌≤◌, drop, length, IfOk, OnOk};
 ghost use Rattle.sil_shape.specs.Grammar.{body};
 ghost use Rattle.sil_shape.specs.Rows.{brings_comma, comma_behind};
 ghost use Rattle.sil_shape.specs.declared.grammar.Production.TheVariants.{Row};
@@ -11,11 +12,12 @@ ghost use Rattle.written_modules.specs.Values as none;
 use crate::build_row_parts::put_part;
 use crate::nothing::{bare_inst, skip};
 use crate::prepended::Prepended;
+use crate::put::put;
 use crate::value::{Reduced, Value};
 use instruction_table::{Op, Part, may_lack_operand, row_of};
 use sil_ast::{Exhausted, List, Place};
 use std::alloc::Global;
-use written_tree::{InstBox, WrittenInst, earlier};
+use written_tree::{Fault, InstBox, WrittenInst, earlier};
 
 /// Whether a part brings its own comma.
 #[tactic(auto, unfolding(sil_shape::specs::Rows::brings_comma))]
@@ -58,15 +60,17 @@ fn begun(alloc: Global, op: Op, mnemonic: Place, parts: &[Part]) -> Result<Writt
     Ok(inst)
 }
 
-/// The instruction that a row writes, from the values of its body, which are the first ones, and the first fault in it.
+/// Puts the instruction that a row writes, from the values of its body, which are the first ones, and answers the first
+/// fault in it.
+#[inline(never)]
 pub(crate) fn row(
     alloc: Global,
     op: Op,
     values: &mut Prepended<Value>,
-) -> Result<Reduced, Exhausted>
+) -> Result<Option<Fault>, Exhausted>
     requires { length (body (Row op)) ≤ length values.old }
-    ensures value { IfOk result (λ made. reduced (Row op) values.old ≡ made.value ∷ values.new) }
-    ensures fault { IfOk result (λ made. made.fault ≡ part_fault (Row op) (parts_of (Row op) values.old)) }
+    ensures values { OnOk result (values.new ≡ reduced (Row op) values.old) }
+    ensures fault { IfOk result (λ fault. fault ≡ part_fault (Row op) (parts_of (Row op) values.old)) }
 {
     let mnemonic = values.pop_front().into_token().place;
     let parts = row_of(op).parts;
@@ -77,8 +81,6 @@ pub(crate) fn row(
         fault = earlier(fault, found);
         skip_comma(op, parts[i], &parts[i + 1..], values);
     }
-    Ok(Reduced {
-        value: Value::Inst(InstBox::new(alloc, inst)?),
-        fault,
-    })
+    let value = Value::Inst(InstBox::new(alloc, inst)?);
+    put(Reduced { value, fault }, values)
 }

@@ -7,7 +7,6 @@ ghost use Rattle.written_modules.specs.Replay.{parts_of, reduced};
 
 use crate::build_rows;
 use crate::prepended::Prepended;
-use crate::put::put;
 use crate::reduce_base_types::reduce_base_type;
 use crate::reduce_blocks::reduce_block;
 use crate::reduce_declarations::reduce_declaration;
@@ -35,7 +34,7 @@ pub(crate) fn reduce(
     ensures fault { IfOk result (λ fault. fault ≡ part_fault production (parts_of production values.old)) }
 {
     if let Production::Row(op) = production {
-        return put(build_rows::row(alloc, op, values)?, values);
+        return build_rows::row(alloc, op, values);
     }
     match section_of(production) {
         Section::Declarations => reduce_declaration(alloc, production, values),

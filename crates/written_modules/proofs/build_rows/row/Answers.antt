@@ -1,6 +1,6 @@
 -- Each part puts its own values, and the comma behind it is skipped.
 use Rattle.std.proofs.Common.{◌≡◌, ◌∷◌, ◌+◌, ◌-◌, ◌<◌, ◌≤◌, ◌∙◌, ℕ, List, [], drop, take, length, get_or, ap, arith, subst, sym}
-use Rattle.std.specs.Prelude.{Option, None}
+use Rattle.std.specs.Prelude.{Option, None, IfOk, OnOk}
 use Rattle.std.proofs.Math.ListN.{drop_of_length-le}
 use Rattle.std.proofs.lemmas.List.{drop_more, length-drop, take_all}
 use Rattle.instruction_table.specs.Forms.{parts_of}
@@ -61,11 +61,13 @@ done : (o : Op) (all : List Value) (parts : List Part) (i : ℕ) (values : List 
     → Put o all (drop i parts) values inst found → Put o all [] values inst found
 done o all parts i values inst found past = subst (λ left. Put o all left values inst found) (drop_of_length-le parts past)
 
-pub returns-clause-value : goal.returns-clause-value
-returns-clause-value c =
+pub returns-clause-values : goal.returns-clause-values
+returns-clause-values c =
     let all = put_all (done _ _ _ c.loop-i.i _ _ _ c.loop-i-test.false c.loop-i.invariant) in
-    all.0 ∙ ap (λ i. v.Inst i ∷ c.loop-i.values) (sym c.in_ok-new.ensures)
+    subst (λ values. OnOk c.put.result (c.put.new.values ≡ values)) (ap (λ i. v.Inst i ∷ c.loop-i.values) c.in_ok-new.ensures ∙ sym all.0) c.put.ensures.value
 
 pub returns-clause-fault : goal.returns-clause-fault
 unfolding body
-returns-clause-fault c = (put_all (done _ _ _ c.loop-i.i _ _ _ c.loop-i-test.false c.loop-i.invariant)).1
+returns-clause-fault c =
+    let all = put_all (done _ _ _ c.loop-i.i _ _ _ c.loop-i-test.false c.loop-i.invariant) in
+    subst (λ found. IfOk c.put.result (λ fault. fault ≡ found)) all.1 c.put.ensures.fault
