@@ -13,6 +13,7 @@ use std::alloc::Global;
 use written_tree::{Spelling, WrittenInst, WrittenQualifier, WrittenToken};
 
 /// Takes the value of the first part away.
+#[inline(never)]
 pub(crate) fn skip(values: &mut Prepended<Value>)
     requires { 0 < length values.old }
     ensures { (first : Value) × (values.old ≡ first ∷ values.new) }

@@ -1,7 +1,10 @@
 //! Puts what a production stands for before the values that wait.
 
-ghost use Rattle.std.specs.Prelude.{◌≡◌, ◌∷◌, None, IfOk, OnOk};
+ghost use Rattle.std.specs.Prelude.{◌≡◌, ◌<◌, ◌≤◌, ◌∷◌, List, length, None, IfOk, OnOk};
+ghost use Rattle.written_modules.specs.declared.value.Value.{Value};
+ghost use Rattle.written_modules.specs.declared.value.Value.TheVariants as v;
 
+use crate::passed_on::second_of_two;
 use crate::prepended::Prepended;
 use crate::value::{Reduced, Value};
 use sil_ast::Exhausted;
@@ -26,4 +29,33 @@ pub(crate) fn put_value(
 {
     values.push_front(value)?;
     Ok(None)
+}
+
+/// Leaves the first value where it stands, for a production that writes nothing but its only part.
+pub(crate) fn pass(values: &mut Prepended<Value>) -> Result<Option<Fault>, Exhausted>
+    requires { 0 < length values.old }
+    ensures values { (first : Value) × (rest : List Value) × (values.old ≡ first ∷ rest) × (values.new ≡ first ∷ rest) }
+    ensures fault { IfOk result (λ fault. fault ≡ None) }
+{
+    Ok(None)
+}
+
+/// Puts the second of two values in the place of both.
+#[inline(never)]
+pub(crate) fn put_second(values: &mut Prepended<Value>) -> Result<Option<Fault>, Exhausted>
+    requires { 2 ≤ length values.old }
+    ensures values { OnOk result ((first second : Value) × (rest : List Value) × (values.old ≡ first ∷ second ∷ rest) × (values.new ≡ second ∷ rest)) }
+    ensures fault { IfOk result (λ fault. fault ≡ None) }
+{
+    let second = second_of_two(values);
+    put_value(second, values)
+}
+
+/// Puts that nothing is kept before the others.
+#[inline(never)]
+pub(crate) fn put_nothing(values: &mut Prepended<Value>) -> Result<Option<Fault>, Exhausted>
+    ensures values { OnOk result (values.new ≡ v.Nothing ∷ values.old) }
+    ensures fault { IfOk result (λ fault. fault ≡ None) }
+{
+    put_value(Value::Nothing, values)
 }
