@@ -1,5 +1,5 @@
 -- What is popped off a list stands first of the list turned round.
-use Rattle.std.proofs.Common.{◌≡◌, ℕ, ◌+◌, List, [], ◌∷◌, ◌++◌, length, drop, ap, arith, refl, sym, ◌∙◌, reverse, Some}
+use Rattle.std.proofs.Common.{◌≡◌, ℕ, ◌+◌, ◌<◌, List, [], ◌∷◌, ◌++◌, length, drop, ap, arith, refl, sym, ◌∙◌, reverse, Some}
 use Rattle.std.specs.Prelude.{MatchOption, Option, None}
 use Rattle.std.specs.Option.{option_to_list}
 use Rattle.std.proofs.lemmas.List.{drop-drop, reverse-append}
@@ -21,3 +21,7 @@ pub drop_next : {X : Type 0} (i : ℕ) (xs : List X) {all rest : List X} {x : X}
 drop_next i xs {rest = rest} {x = x} e f =
     let g : drop 1 (drop i xs) ≡ rest = ap (drop 1) (sym e ∙ f) in
     sym g ∙ drop-drop 1 i xs
+
+pub first_of : {X : Type 0} (xs : List X) → 0 < length xs → (x : X) × (rest : List X) × xs ≡ x ∷ rest
+first_of [] h = absurd (omega (arith, h))
+first_of (x ∷ xs) h = (x, xs, refl)

@@ -1,24 +1,26 @@
 //! Builds types, level by level.
 
-ghost use Rattle.std.specs.Prelude.{◌≡◌, ◌∷◌, ◌≤◌, length, IfOk};
+ghost use Rattle.std.specs.Prelude.{◌≡◌, [], ◌∷◌, ◌≤◌, List, length, None, IfOk, OnOk};
 ghost use Rattle.sil_shape.specs.declared.grammar.Production.{Production};
 ghost use Rattle.written_modules.specs.PartFaults.{part_fault};
 ghost use Rattle.written_modules.specs.Replay.{parts_of, reduced};
 ghost use Rattle.sil_ast.specs.declared.type_name.TypeName.TheVariants as ty;
 ghost use Rattle.written_modules.specs.declared.value.Value.TheVariants as v;
 ghost use Rattle.written_modules.specs.Types.{deeper, in_parens, kept, named_type, with_questions, one_deeper, one_token, tailed, type_before};
-ghost use Rattle.written_modules.specs.Values.{token_of, type_of, types_of};
+ghost use Rattle.written_modules.specs.declared.value.Value.{Value};
+ghost use Rattle.written_modules.specs.Values.{no_types, token_of, type_of, types_of};
 
 use crate::faults::{too_deep, too_many_questions, tuple_fault};
-use crate::nothing::{discard, unit_type};
+use crate::nothing::{discard, no_types, unit_type};
 use crate::prepended::Prepended;
+use crate::put::{put, put_value};
 use crate::value::{Reduced, Value};
 use crate::written_types::{TypeList, WrittenType};
 use sil_ast::{Boxed, Exhausted, Place, TypeName};
 use sil_rules::limits;
 use sil_shape::grammar::Production;
 use std::alloc::Global;
-use written_tree::{WrittenToken, earlier};
+use written_tree::{Fault, WrittenToken, earlier};
 
 pub(crate) fn deeper(depth: u32) -> u32
     ensures { result ≡ deeper depth }
@@ -179,11 +181,15 @@ pub(crate) fn payload(alloc: Global, values: &mut Prepended<Value>) -> Result<Re
     Ok(Reduced { value, fault })
 }
 
+#[inline(never)]
 #[tactic(auto, unfolding(crate::specs::Replay::reduced, crate::specs::Meaning::meaning, crate::specs::PartFaults::part_fault, sil_shape::specs::Grammar::body))]
-pub(crate) fn paren_type(alloc: Global, values: &mut Prepended<Value>) -> Result<Reduced, Exhausted>
+pub(crate) fn paren_type(
+    alloc: Global,
+    values: &mut Prepended<Value>,
+) -> Result<Option<Fault>, Exhausted>
     requires { 4 ≤ length values.old }
-    ensures value { IfOk result (λ made. reduced Production.ParenType values.old ≡ made.value ∷ values.new) }
-    ensures fault { IfOk result (λ made. made.fault ≡ part_fault Production.ParenType (parts_of Production.ParenType values.old)) }
+    ensures values { OnOk result (values.new ≡ reduced Production.ParenType values.old) }
+    ensures fault { IfOk result (λ fault. fault ≡ part_fault Production.ParenType (parts_of Production.ParenType values.old)) }
 {
     let first = values.pop_front().into_token().place;
     let types = values.pop_front().into_types(alloc);
@@ -193,79 +199,100 @@ pub(crate) fn paren_type(alloc: Global, values: &mut Prepended<Value>) -> Result
     let inner = in_parens(alloc, first, types, last);
     let fault = earlier(fault, too_many_questions(inner.depth, &questions));
     let value = Value::Type(with_questions(alloc, inner, questions)?);
-    Ok(Reduced { value, fault })
+    put(Reduced { value, fault }, values)
 }
 
+#[inline(never)]
 #[tactic(auto, unfolding(crate::specs::Replay::reduced, crate::specs::Meaning::meaning, crate::specs::PartFaults::part_fault, sil_shape::specs::Grammar::body))]
-pub(crate) fn base_type(alloc: Global, values: &mut Prepended<Value>) -> Result<Reduced, Exhausted>
+pub(crate) fn base_type(
+    alloc: Global,
+    values: &mut Prepended<Value>,
+) -> Result<Option<Fault>, Exhausted>
     requires { 2 ≤ length values.old }
-    ensures value { IfOk result (λ made. reduced Production.BaseOpen values.old ≡ made.value ∷ values.new) }
-    ensures fault { IfOk result (λ made. made.fault ≡ part_fault Production.BaseOpen (parts_of Production.BaseOpen values.old)) }
+    ensures values { OnOk result (values.new ≡ reduced Production.BaseOpen values.old) }
+    ensures fault { IfOk result (λ fault. fault ≡ part_fault Production.BaseOpen (parts_of Production.BaseOpen values.old)) }
 {
     let base = values.pop_front().into_type(alloc);
     let questions = values.pop_front().into_questions(alloc);
     let fault = too_many_questions(base.depth, &questions);
     let value = Value::Type(with_questions(alloc, base, questions)?);
-    Ok(Reduced { value, fault })
+    put(Reduced { value, fault }, values)
 }
 
+#[inline(never)]
 #[tactic(auto, unfolding(crate::specs::Replay::reduced, crate::specs::Meaning::meaning, crate::specs::PartFaults::part_fault, sil_shape::specs::Grammar::body))]
-pub(crate) fn weak_type(alloc: Global, values: &mut Prepended<Value>) -> Result<Reduced, Exhausted>
+pub(crate) fn weak_type(
+    alloc: Global,
+    values: &mut Prepended<Value>,
+) -> Result<Option<Fault>, Exhausted>
     requires { 2 ≤ length values.old }
-    ensures value { IfOk result (λ made. reduced Production.WeakOpen values.old ≡ made.value ∷ values.new) }
-    ensures fault { IfOk result (λ made. made.fault ≡ part_fault Production.WeakOpen (parts_of Production.WeakOpen values.old)) }
+    ensures values { OnOk result (values.new ≡ reduced Production.WeakOpen values.old) }
+    ensures fault { IfOk result (λ fault. fault ≡ part_fault Production.WeakOpen (parts_of Production.WeakOpen values.old)) }
 {
     let first = values.pop_front().into_token().place;
     let inner = values.pop_front().into_type(alloc);
     let fault = too_deep(inner.depth, inner.last);
     let ty = TypeName::Weak(Boxed::new(alloc, inner.ty)?);
     let value = Value::Type(one_deeper(alloc, inner.depth, ty, first, inner.last));
-    Ok(Reduced { value, fault })
+    put(Reduced { value, fault }, values)
 }
 
+#[inline(never)]
 #[tactic(auto, unfolding(crate::specs::Replay::reduced, crate::specs::Meaning::meaning, crate::specs::PartFaults::part_fault, sil_shape::specs::Grammar::body))]
 pub(crate) fn unowned_type(
     alloc: Global,
     values: &mut Prepended<Value>,
-) -> Result<Reduced, Exhausted>
+) -> Result<Option<Fault>, Exhausted>
     requires { 2 ≤ length values.old }
-    ensures value { IfOk result (λ made. reduced Production.UnownedOpen values.old ≡ made.value ∷ values.new) }
-    ensures fault { IfOk result (λ made. made.fault ≡ part_fault Production.UnownedOpen (parts_of Production.UnownedOpen values.old)) }
+    ensures values { OnOk result (values.new ≡ reduced Production.UnownedOpen values.old) }
+    ensures fault { IfOk result (λ fault. fault ≡ part_fault Production.UnownedOpen (parts_of Production.UnownedOpen values.old)) }
 {
     let first = values.pop_front().into_token().place;
     let inner = values.pop_front().into_type(alloc);
     let fault = too_deep(inner.depth, inner.last);
     let ty = TypeName::Unowned(Boxed::new(alloc, inner.ty)?);
     let value = Value::Type(one_deeper(alloc, inner.depth, ty, first, inner.last));
-    Ok(Reduced { value, fault })
+    put(Reduced { value, fault }, values)
 }
 
 /// `Builtin` or `Optional`, and what stands behind it.
-pub(crate) fn tailed_base(alloc: Global, values: &mut Prepended<Value>) -> Result<Value, Exhausted>
+#[inline(never)]
+pub(crate) fn tailed_base(
+    alloc: Global,
+    values: &mut Prepended<Value>,
+) -> Result<Option<Fault>, Exhausted>
     requires { 2 ≤ length values.old }
-    ensures { IfOk result (λ value. (word tail : Value) × (values.old ≡ word ∷ tail ∷ values.new) × (value ≡ v.Type (tailed (token_of word) tail))) }
+    ensures values { OnOk result ((word tail : Value) × (rest : List Value) × (values.old ≡ word ∷ tail ∷ rest) × (values.new ≡ v.Type (tailed (token_of word) tail) ∷ rest)) }
+    ensures fault { IfOk result (λ fault. fault ≡ None) }
 {
     let word = values.pop_front().into_token();
-    Ok(Value::Type(tailed(alloc, word, values.pop_front())?))
+    let ty = tailed(alloc, word, values.pop_front())?;
+    put_value(Value::Type(ty), values)
 }
 
+#[inline(never)]
 #[tactic(auto, unfolding(crate::specs::Replay::reduced, crate::specs::Meaning::meaning, sil_shape::specs::Grammar::body))]
-pub(crate) fn named_base(alloc: Global, values: &mut Prepended<Value>) -> Result<Value, Exhausted>
+pub(crate) fn named_base(
+    alloc: Global,
+    values: &mut Prepended<Value>,
+) -> Result<Option<Fault>, Exhausted>
     requires { 1 ≤ length values.old }
-    ensures { IfOk result (λ value. reduced Production.NamedBase values.old ≡ value ∷ values.new) }
+    ensures values { OnOk result (values.new ≡ reduced Production.NamedBase values.old) }
+    ensures fault { IfOk result (λ fault. fault ≡ None) }
 {
     let word = values.pop_front().into_token();
-    Ok(Value::Type(named_type(alloc, &word)?))
+    put_value(Value::Type(named_type(alloc, &word)?), values)
 }
 
+#[inline(never)]
 #[tactic(auto, unfolding(crate::specs::Replay::reduced, crate::specs::Meaning::meaning, crate::specs::PartFaults::part_fault, sil_shape::specs::Grammar::body))]
 pub(crate) fn optional_of(
     alloc: Global,
     values: &mut Prepended<Value>,
-) -> Result<Reduced, Exhausted>
+) -> Result<Option<Fault>, Exhausted>
     requires { 3 ≤ length values.old }
-    ensures value { IfOk result (λ made. reduced Production.OptionalOf values.old ≡ made.value ∷ values.new) }
-    ensures fault { IfOk result (λ made. made.fault ≡ part_fault Production.OptionalOf (parts_of Production.OptionalOf values.old)) }
+    ensures values { OnOk result (values.new ≡ reduced Production.OptionalOf values.old) }
+    ensures fault { IfOk result (λ fault. fault ≡ part_fault Production.OptionalOf (parts_of Production.OptionalOf values.old)) }
 {
     let first = values.pop_front().into_token().place;
     let inner = values.pop_front().into_type(alloc);
@@ -273,38 +300,72 @@ pub(crate) fn optional_of(
     let fault = too_deep(inner.depth, last);
     let ty = TypeName::Optional(Boxed::new(alloc, inner.ty)?);
     let value = Value::Type(one_deeper(alloc, inner.depth, ty, first, last));
-    Ok(Reduced { value, fault })
+    put(Reduced { value, fault }, values)
 }
 
 /// `Int64` behind `Builtin.`
-pub(crate) fn int_type(width: u8, values: &mut Prepended<Value>) -> Value
+#[inline(never)]
+pub(crate) fn int_type(width: u8, values: &mut Prepended<Value>) -> Result<Option<Fault>, Exhausted>
     requires { 1 ≤ length values.old }
-    ensures { (word : Value) × (values.old ≡ word ∷ values.new) × (result ≡ v.Type (one_token (ty.Int width) (token_of word).place)) }
+    ensures values { OnOk result ((word : Value) × (rest : List Value) × (values.old ≡ word ∷ rest) × (values.new ≡ v.Type (one_token (ty.Int width) (token_of word).place) ∷ rest)) }
+    ensures fault { IfOk result (λ fault. fault ≡ None) }
 {
     let place = values.pop_front().into_token().place;
-    Value::Type(one_token(TypeName::Int(width), place))
+    put_value(Value::Type(one_token(TypeName::Int(width), place)), values)
 }
 
+#[inline(never)]
 #[tactic(auto, unfolding(crate::specs::Replay::reduced, crate::specs::Meaning::meaning, sil_shape::specs::Grammar::body))]
 pub(crate) fn more_questions(
     alloc: Global,
     values: &mut Prepended<Value>,
-) -> Result<Value, Exhausted>
+) -> Result<Option<Fault>, Exhausted>
     requires { 2 ≤ length values.old }
-    ensures { IfOk result (λ value. reduced Production.QuestionsMore values.old ≡ value ∷ values.new) }
+    ensures values { OnOk result (values.new ≡ reduced Production.QuestionsMore values.old) }
+    ensures fault { IfOk result (λ fault. fault ≡ None) }
 {
     let question = values.pop_front().into_token().place;
     let mut questions = values.pop_front().into_questions(alloc);
     questions.push_front(question)?;
-    Ok(Value::Questions(questions))
+    put_value(Value::Questions(questions), values)
+}
+
+/// No `?`, or no more.
+#[inline(never)]
+pub(crate) fn no_questions(
+    alloc: Global,
+    values: &mut Prepended<Value>,
+) -> Result<Option<Fault>, Exhausted>
+    ensures values { OnOk result (values.new ≡ v.Questions [] ∷ values.old) }
+    ensures fault { IfOk result (λ fault. fault ≡ None) }
+{
+    put_value(Value::Questions(Prepended::new(alloc)), values)
 }
 
 /// A type, and the types behind it.
-pub(crate) fn types_before(alloc: Global, values: &mut Prepended<Value>) -> Result<Value, Exhausted>
+#[inline(never)]
+pub(crate) fn types_before(
+    alloc: Global,
+    values: &mut Prepended<Value>,
+) -> Result<Option<Fault>, Exhausted>
     requires { 2 ≤ length values.old }
-    ensures { IfOk result (λ value. (first others : Value) × (values.old ≡ first ∷ others ∷ values.new) × (value ≡ v.Types (type_before (type_of first) (types_of others)))) }
+    ensures values { OnOk result ((first others : Value) × (rest : List Value) × (values.old ≡ first ∷ others ∷ rest) × (values.new ≡ v.Types (type_before (type_of first) (types_of others)) ∷ rest)) }
+    ensures fault { IfOk result (λ fault. fault ≡ None) }
 {
     let ty = values.pop_front().into_type(alloc);
     let others = values.pop_front().into_types(alloc);
-    Ok(Value::Types(type_before(ty, others)?))
+    let types = type_before(ty, others)?;
+    put_value(Value::Types(types), values)
+}
+
+/// No types, or no more.
+#[inline(never)]
+pub(crate) fn no_more_types(
+    alloc: Global,
+    values: &mut Prepended<Value>,
+) -> Result<Option<Fault>, Exhausted>
+    ensures values { OnOk result (values.new ≡ v.Types no_types ∷ values.old) }
+    ensures fault { IfOk result (λ fault. fault ≡ None) }
+{
+    put_value(Value::Types(no_types(alloc)), values)
 }

@@ -1,22 +1,11 @@
 //! Values of a body that are passed on as they are, and values that don't depend on a body.
 
-ghost use Rattle.std.specs.Prelude.{◌≡◌, ◌∷◌, ◌<◌, ◌≤◌, List, drop, length, None, IfOk};
+ghost use Rattle.std.specs.Prelude.{◌≡◌, ◌∷◌, ◌≤◌, drop, length};
 ghost use Rattle.written_modules.specs.declared.value.Value.{Value};
 
 use crate::nothing::skip;
 use crate::prepended::Prepended;
 use crate::value::Value;
-use sil_ast::Exhausted;
-use written_tree::Fault;
-
-/// Leaves the first value where it stands, for a production that writes nothing but its only part.
-pub(crate) fn pass(values: &mut Prepended<Value>) -> Result<Option<Fault>, Exhausted>
-    requires { 0 < length values.old }
-    ensures values { (first : Value) × (rest : List Value) × (values.old ≡ first ∷ rest) × (values.new ≡ first ∷ rest) }
-    ensures fault { IfOk result (λ fault. fault ≡ None) }
-{
-    Ok(None)
-}
 
 /// Takes that many values away, for a value that doesn't depend on them.
 pub(crate) fn constant(values: &mut Prepended<Value>, count: usize, value: Value) -> Value

@@ -1,6 +1,6 @@
 //! Puts what a production stands for before the values that wait.
 
-ghost use Rattle.std.specs.Prelude.{◌≡◌, ◌∷◌, ◌≤◌, List, length, None, IfOk, OnOk};
+ghost use Rattle.std.specs.Prelude.{◌≡◌, ◌<◌, ◌≤◌, ◌∷◌, List, length, None, IfOk, OnOk};
 ghost use Rattle.written_modules.specs.declared.value.Value.{Value};
 ghost use Rattle.written_modules.specs.declared.value.Value.TheVariants as v;
 
@@ -28,6 +28,15 @@ pub(crate) fn put_value(
     ensures fault { IfOk result (λ fault. fault ≡ None) }
 {
     values.push_front(value)?;
+    Ok(None)
+}
+
+/// Leaves the first value where it stands, for a production that writes nothing but its only part.
+pub(crate) fn pass(values: &mut Prepended<Value>) -> Result<Option<Fault>, Exhausted>
+    requires { 0 < length values.old }
+    ensures values { (first : Value) × (rest : List Value) × (values.old ≡ first ∷ rest) × (values.new ≡ first ∷ rest) }
+    ensures fault { IfOk result (λ fault. fault ≡ None) }
+{
     Ok(None)
 }
 

@@ -8,9 +8,8 @@ ghost use Rattle.written_modules.specs.Replay.{parts_of, reduced};
 ghost use Rattle.written_modules.specs.Sections.{section};
 
 use crate::build_types;
-use crate::passed_on::second_of_two;
 use crate::prepended::Prepended;
-use crate::put::{put, put_value};
+use crate::put::{put_nothing, put_second};
 use crate::value::Value;
 use sil_ast::Exhausted;
 use sil_shape::grammar::Production;
@@ -30,19 +29,18 @@ pub(crate) fn reduce_base_type(
     ensures fault { IfOk result (λ fault. fault ≡ part_fault production (parts_of production values.old)) }
 {
     match production {
-        Production::BuiltinBase | Production::OptionalBase => put_value(
-            build_types::tailed_base(alloc, values)?,
-            values,
-        ),
-        Production::NamedBase => put_value(build_types::named_base(alloc, values)?, values),
-        Production::OptionalOf => put(build_types::optional_of(alloc, values)?, values),
-        Production::Width1 => put_value(build_types::int_type(1, values), values),
-        Production::Width8 => put_value(build_types::int_type(8, values), values),
-        Production::Width16 => put_value(build_types::int_type(16, values), values),
-        Production::Width32 => put_value(build_types::int_type(32, values), values),
-        Production::Width64 => put_value(build_types::int_type(64, values), values),
-        Production::BuiltinInt => put_value(second_of_two(values), values),
-        Production::BuiltinName | Production::OptionalName => put_value(Value::Nothing, values),
+        Production::BuiltinBase | Production::OptionalBase => {
+            build_types::tailed_base(alloc, values)
+        }
+        Production::NamedBase => build_types::named_base(alloc, values),
+        Production::OptionalOf => build_types::optional_of(alloc, values),
+        Production::Width1 => build_types::int_type(1, values),
+        Production::Width8 => build_types::int_type(8, values),
+        Production::Width16 => build_types::int_type(16, values),
+        Production::Width32 => build_types::int_type(32, values),
+        Production::Width64 => build_types::int_type(64, values),
+        Production::BuiltinInt => put_second(values),
+        Production::BuiltinName | Production::OptionalName => put_nothing(values),
         _ => unreachable!(),
     }
 }

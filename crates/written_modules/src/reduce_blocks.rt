@@ -11,9 +11,8 @@ ghost use Rattle.written_modules.specs.Sections.{section};
 
 use crate::build_blocks;
 use crate::nothing::skip;
-use crate::passed_on::pass;
 use crate::prepended::Prepended;
-use crate::put::put_nothing;
+use crate::put::{pass, put_nothing};
 use crate::value::Value;
 use sil_ast::{ArgKind, Exhausted};
 use sil_shape::grammar::Production;

@@ -8,9 +8,9 @@ ghost use Rattle.written_modules.specs.Replay.{parts_of, reduced};
 ghost use Rattle.written_modules.specs.Sections.{section};
 
 use crate::build_types;
-use crate::nothing::{no_types, skip};
+use crate::nothing::skip;
 use crate::prepended::Prepended;
-use crate::put::{put, put_value};
+use crate::put::pass;
 use crate::value::Value;
 use sil_ast::Exhausted;
 use sil_shape::grammar::Production;
@@ -30,22 +30,21 @@ pub(crate) fn reduce_type(
     ensures fault { IfOk result (λ fault. fault ≡ part_fault production (parts_of production values.old)) }
 {
     match production {
-        Production::ParenType => put(build_types::paren_type(alloc, values)?, values),
-        Production::BaseOpen => put(build_types::base_type(alloc, values)?, values),
-        Production::WeakOpen => put(build_types::weak_type(alloc, values)?, values),
-        Production::UnownedOpen => put(build_types::unowned_type(alloc, values)?, values),
-        Production::QuestionsMore => put_value(build_types::more_questions(alloc, values)?, values),
-        Production::QuestionsEnd => put_value(Value::Questions(Prepended::new(alloc)), values),
-        Production::TypesSome => put_value(build_types::types_before(alloc, values)?, values),
+        Production::ParenType => build_types::paren_type(alloc, values),
+        Production::BaseOpen => build_types::base_type(alloc, values),
+        Production::WeakOpen => build_types::weak_type(alloc, values),
+        Production::UnownedOpen => build_types::unowned_type(alloc, values),
+        Production::QuestionsMore => build_types::more_questions(alloc, values),
+        Production::QuestionsEnd => build_types::no_questions(alloc, values),
+        Production::TypesSome => build_types::types_before(alloc, values),
         Production::MoreTypesMore => {
             skip(values);
-            put_value(build_types::types_before(alloc, values)?, values)
-        },
-        Production::TypesNone | Production::MoreTypesEnd => put_value(
-            Value::Types(no_types(alloc)),
-            values,
-        ),
-        Production::BareType => put_value(values.pop_front(), values),
+            build_types::types_before(alloc, values)
+        }
+        Production::TypesNone | Production::MoreTypesEnd => {
+            build_types::no_more_types(alloc, values)
+        }
+        Production::BareType => pass(values),
         _ => unreachable!(),
     }
 }

@@ -15,10 +15,7 @@ use written_tree::{
 impl Value {
     /// The instructions, and the terminator behind them.
     #[tactic(auto, unfolding(crate::specs::Values::insts_of, crate::specs::Values::terminator_of))]
-    pub(crate) fn into_code(
-        self,
-        alloc: Global,
-    ) -> Result<(Prepended<InstBox>, InstBox), Exhausted>
+    pub(crate) fn into_code(self, alloc: Global) -> Result<(Prepended<InstBox>, InstBox), Exhausted>
         ensures insts { IfOk result (λ code. code.0 ≡ insts_of self) }
         ensures terminator { IfOk result (λ code. code.1 ≡ terminator_of self) }
     {
