@@ -1,10 +1,9 @@
 -- The steps of a derivation are replayed from the last to the first: there is a token at each step that takes one, and
 -- there are the values of its body at each production.
-use Rattle.std.proofs.Common.{◌≡◌, ℕ, ◌+◌, ◌-◌, ◌<◌, ◌≤◌, List, [], ◌∷◌, ◌++◌, length, map, drop, take, get_or, refl, ap, sym, subst, ◌∙◌, arith, append_assoc}
-use Rattle.std.specs.Prelude.{All, Option, None}
-use Rattle.std.proofs.Math.ListN.{drop_of_length-le}
-use Rattle.std.proofs.Math.Seq.{drop-append_seam}
-use Rattle.std.proofs.lemmas.List.{append-nil, drop_more, length-take-le, map-append, take-append-drop}
+use Rattle.std.proofs.Common.{◌≡◌, ℕ, ◌-◌, ◌<◌, ◌≤◌, List, [], ◌∷◌, ◌++◌, length, map, drop, take, get_or, refl, ap, sym, subst, ◌∙◌, arith, append_assoc}
+use Rattle.std.specs.Prelude.{All, Option, None, suc}
+use Rattle.std.proofs.Math.Seq.{drop-append_seam, take-append_seam, take-suc}
+use Rattle.std.proofs.lemmas.List.{append-nil, length-append, length-take-le, map-append, take-append-drop, take-append-le}
 use Rattle.std.proofs.lemmas.List.Elements.{All-take}
 use Rattle.sil_lexer.specs.declared.token.Token.{Token}
 use Rattle.sil_lexer.specs.Lexes.{Lexeme}
@@ -15,7 +14,7 @@ use Rattle.sil_shape.specs.declared.steps.Step.{Step}
 use Rattle.sil_shape.specs.declared.steps.Step.TheVariants.{Take, Expand}
 use Rattle.sil_shape.specs.Grammar.{body}
 use Rattle.sil_shape.specs.Shortest.{Shortens}
-use Rattle.sil_shape.specs.Values.{takes_of, values_left, IsEnough}
+use Rattle.sil_shape.specs.Values.{takes_of, IsEnough}
 use Rattle.sil_shape.proofs.ValuesLemmas.{takes_of-append, IsEnough-drop}
 use Rattle.written_tree.specs.declared.fault.Fault.{Fault}
 use Rattle.written_modules.specs.declared.value.Value.{Value}
@@ -23,9 +22,8 @@ use Rattle.written_tree.specs.Faults.{earlier}
 use Rattle.written_modules.specs.Lacking.{lacking}
 use Rattle.written_modules.specs.Leaves.{leaf_of}
 use Rattle.written_modules.specs.PartFaults.{part_fault}
-use Rattle.written_modules.specs.Replay.{first_fault, parts_of, reduced, replay}
+use Rattle.written_modules.specs.Replay.{first_fault, parts_of, reduced, replay, KeepsFirst}
 use Rattle.written_modules.proofs.LackingLemmas.{fault_lacking, replay_lacking}
-use Rattle.written_modules.proofs.LeafLemmas.{some_token}
 use Rattle.written_modules.proofs.ReplayLength.{length-replay}
 
 -- of all steps and lexemes these steps and tokens are left to be replayed; those behind them have built the values
@@ -58,29 +56,21 @@ module _ {all : List Step} {lexemes : List Lexeme} {text : List ℕ} {old : List
   pub some_left : (steps : List Step) → old ≡ steps ++ Take ∷ [] → 0 < length tokens
   some_left steps last = omega (arith, at.taken, ap takes_of last, takes_of-append steps (Take ∷ []))
 
-  last_token : 0 < length tokens → tokens ≡ take (length tokens - 1) tokens ++ get_or tokens (length tokens - 1) some_token ∷ []
-  last_token some =
-      let n : ℕ = length tokens - 1 in
-      let behind : drop (n + 1) tokens ≡ [] = drop_of_length-le tokens (omega arith) in
-      sym (take-append-drop n tokens) ∙ ap (λ ts. take n tokens ++ ts) (drop_more tokens n some_token (omega (arith, some)) ∙ ap (λ ts. get_or tokens n some_token ∷ ts) behind)
-
   -- what it stands for comes before the values
-  pub token_replayed : (steps : List Step) (others : List Token) (value : Value) → old ≡ steps ++ Take ∷ [] → others ≡ take (length tokens - 1) tokens
-      → value ≡ leaf_of (lexeme_of text (get_or tokens (length tokens - 1) some_token)) → InReplay all lexemes text steps others (value ∷ values) fault
-  token_replayed steps others value last others_are value_is =
-      let n : ℕ = length tokens - 1 in
-      let some : 0 < length tokens = some_left steps last in
-      let lexeme : Lexeme = lexeme_of text (get_or tokens n some_token) in
-      let all : map (lexeme_of text) others ++ lexeme ∷ [] ≡ map (lexeme_of text) tokens =
-      ap (λ ts. map (lexeme_of text) ts ++ lexeme ∷ []) others_are
-      ∙ sym (map-append (lexeme_of text) (take n tokens) (get_or tokens n some_token ∷ [])) ∙ ap (map (lexeme_of text)) (sym (last_token some)) in
+  pub token_replayed : (steps : List Step) (others : List Token) (token : Token) (value : Value) → old ≡ steps ++ Take ∷ [] → tokens ≡ others ++ token ∷ []
+      → value ≡ leaf_of (lexeme_of text token) → InReplay all lexemes text steps others (value ∷ values) fault
+  token_replayed steps others token value last last_token value_is =
+      let lexeme : Lexeme = lexeme_of text token in
+      let are : map (lexeme_of text) tokens ≡ map (lexeme_of text) others ++ lexeme ∷ [] =
+      ap (map (lexeme_of text)) last_token ∙ map-append (lexeme_of text) others (token ∷ []) in
+      let front : take (length others) tokens ≡ others = ap (take (length others)) last_token ∙ take-append_seam others (token ∷ []) in
       record {
         done = Take ∷ at.done;
         behind = lexeme ∷ at.behind;
         steps_are = sym (append_assoc steps (Take ∷ []) at.done) ∙ ap (λ s. s ++ at.done) (sym last) ∙ at.steps_are;
-        lexemes_are = sym (append_assoc (map (lexeme_of text) others) (lexeme ∷ []) at.behind) ∙ ap (λ ls. ls ++ at.behind) all ∙ at.lexemes_are;
-        inside = subst (All (IsInside text)) (sym others_are) (All-take (IsInside text) n tokens at.inside);
-        taken = omega (arith, some, at.taken, ap takes_of last, takes_of-append steps (Take ∷ []), ap length others_are, length-take-le n tokens (omega arith));
+        lexemes_are = sym (append_assoc (map (lexeme_of text) others) (lexeme ∷ []) at.behind) ∙ ap (λ ls. ls ++ at.behind) (sym are) ∙ at.lexemes_are;
+        inside = subst (All (IsInside text)) front (All-take (IsInside text) (length others) tokens at.inside);
+        taken = omega (arith, at.taken, ap takes_of last, takes_of-append steps (Take ∷ []), ap length last_token, length-append others (token ∷ []));
         values_are = ap (λ v. v ∷ values) value_is ∙ ap (λ vs. leaf_of lexeme ∷ vs) at.values_are;
         fault_is = at.fault_is;
       }
@@ -128,3 +118,29 @@ module _ {all : List Step} {lexemes : List Lexeme} {text : List ℕ} {steps : Li
 
   pub all_faults : fault ≡ first_fault all lexemes
   all_faults = at.fault_is ∙ ap (λ s. first_fault s at.behind) all_done ∙ ap (first_fault all) all_behind
+
+-- the first n, of which the last stands apart
+pub front_with_last : {X : Type 0} (n : ℕ) (xs : List X) (d : X) → 0 < n → n ≤ length xs → take n xs ≡ take (n - 1) xs ++ get_or xs (n - 1) d ∷ []
+front_with_last n xs d some there =
+    let e : suc (n - 1) ≡ n = omega (arith, some) in
+    subst (λ k. take k xs ≡ take (n - 1) xs ++ get_or xs (n - 1) d ∷ []) e (take-suc xs (n - 1) d (omega (arith, some, there)))
+
+pub none_left : {X : Type 0} (n : ℕ) (xs : List X) → n ≡ 0 → take n xs ≡ []
+none_left n xs e = ap (λ k. take k xs) e
+
+-- where the first ones are kept
+module _ {X : Type 0} (count : ℕ) (old new : List X) (kept : KeepsFirst count old new) where
+  pub kept_front : take count new ≡ take count old
+  kept_front = sym (take-append-le count new kept.0 kept.2) ∙ ap (take count) (sym kept.1)
+
+  pub kept_all : (P : X → Type 0) → All P old → All P new
+  kept_all P all =
+      let front : take (length new) old ≡ new = ap (take (length new)) kept.1 ∙ take-append_seam new kept.0 in
+      subst (All P) front (All-take P (length new) old all)
+
+pub keeps_first : {X : Type 0} (count : ℕ) (old new : List X) → count ≤ length old → new ≡ take count old → KeepsFirst count old new
+keeps_first count old new there same = (
+  drop count old,
+  sym (take-append-drop count old) ∙ ap (λ xs. xs ++ drop count old) (sym same),
+  omega (arith, ap length same, length-take-le count old there),
+)

@@ -1,5 +1,5 @@
 -- A derivation of a module begins with the module's own production, and leaves one value, the module.
-use Rattle.std.proofs.Common.{◌≡◌, ℕ, List, [], ◌∷◌, ◌++◌, length, refl, ap, sym, subst, ◌∙◌, arith, length-append}
+use Rattle.std.proofs.Common.{◌≡◌, List, [], ◌∷◌, ◌++◌, length, refl, ap, sym, subst, ◌∙◌, arith, length-append}
 use Rattle.std.specs.Prelude.{Bool, true, false, if◌then◌else◌}
 use Rattle.sil_lexer.specs.Lexes.{Lexeme}
 use Rattle.token_classes.specs.declared.classes.Class.{Class}

@@ -1,6 +1,6 @@
 -- What the steps of a derivation and the tokens that they take stand for, and the first fault in it, from the last step
 -- to the first.
-use Rattle.std.specs.Prelude.{◌≡◌, ℕ, List, [], ◌∷◌, length, take, drop, Option, None}
+use Rattle.std.specs.Prelude.{◌≡◌, ◌≤◌, ◌++◌, ℕ, List, [], ◌∷◌, length, take, drop, Option, None}
 use Rattle.std.specs.List.{HoldsAt}
 use Rattle.sil_lexer.specs.Lexes.{Lexeme}
 use Rattle.sil_lexer.specs.Lexing.{Lexing, lexeme_of}
@@ -51,3 +51,7 @@ IsLeafAt text lexing i value = HoldsAt (λ token. value ≡ leaf_of (lexeme_of t
 -- these steps and tokens write the module
 abbrev pub Writes : List Step → List Lexeme → WrittenModule → Type 0
 Writes steps lexemes written = replay steps lexemes ≡ v.Module written ∷ []
+
+-- some may be gone, but not of the first `count`
+abbrev pub KeepsFirst : {X : Type 0} → ℕ → List X → List X → Type 0
+KeepsFirst {X = X} count old new = (gone : List X) × (old ≡ new ++ gone) × (count ≤ length new)

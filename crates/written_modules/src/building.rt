@@ -10,10 +10,10 @@ ghost use Rattle.sil_shape.specs.Derivation.{start, Derives};
 ghost use Rattle.sil_shape.specs.Shortest.{Shortens};
 ghost use Rattle.sil_shape.specs.Values.{takes_of, IsEnough};
 ghost use Rattle.written_modules.specs.Lacking.{waiting};
-ghost use Rattle.written_modules.specs.Replay.{first_fault, replay, Writes};
+ghost use Rattle.written_modules.specs.Replay.{first_fault, replay, KeepsFirst, Writes};
 
 use crate::lacking::{fill, fill_body};
-use crate::leaves::take_last;
+use crate::leaves::leaf_at;
 use crate::prepended::Prepended;
 use crate::reduce::reduce;
 use crate::value::Value;
@@ -45,14 +45,28 @@ struct Replayed {
 /// After how many tokens the memory is given back of those, and of their steps.
 const PIECE: usize = 8192;
 
-/// Gives back memory that tokens and steps don't need any more, now and then.
-fn let_go(tokens: &mut Tokens, steps: &mut Vec<Step>)
-    ensures tokens { tokens.new.tokens ≡ tokens.old.tokens }
-    ensures steps { steps.new.items ≡ steps.old.items }
+/// Gives back the memory of all tokens but the first `token`, and of all steps but the first `step`.
+#[cold]
+fn cut(tokens: &mut Tokens, token: usize, steps: &mut Vec<Step>, step: usize)
+    ensures tokens { tokens.new.tokens ≡ take token tokens.old.tokens }
+    ensures steps { steps.new.items ≡ take step steps.old.items }
 {
-    if tokens.len() % PIECE == 0 {
-        tokens.shrink_to_fit();
-        steps.shrink_to_fit();
+    tokens.truncate(token);
+    tokens.shrink_to_fit();
+    steps.truncate(step);
+    steps.shrink_to_fit();
+}
+
+/// Lets go of tokens and steps that are replayed, now and then: the first ones stay.
+#[inline(always)]
+fn let_go(tokens: &mut Tokens, token: usize, steps: &mut Vec<Step>, step: usize)
+    requires token { token ≤ length tokens.old.tokens }
+    requires step { step ≤ length steps.old.items }
+    ensures tokens { KeepsFirst token tokens.old.tokens tokens.new.tokens }
+    ensures steps { KeepsFirst step steps.old.items steps.new.items }
+{
+    if token % PIECE == 0 {
+        cut(tokens, token, steps, step);
     }
 }
 
@@ -78,11 +92,13 @@ fn replay(
     let mut steps = steps;
     let mut left = left;
     let mut fault = None;
-    while let Some(step) = steps.pop() {
-        match step {
+    let mut token = tokens.len();
+    for i in (0..steps.len()).rev() {
+        match steps[i] {
             Step::Take => {
-                values.push_front(take_last(text, &mut tokens)?)?;
-                let_go(&mut tokens, &mut steps);
+                token -= 1;
+                values.push_front(leaf_at(text, &tokens, token)?)?;
+                let_go(&mut tokens, token, &mut steps, i);
             }
             Step::Expand(production) => {
                 fill_body(alloc, production, &mut values, &mut left)?;

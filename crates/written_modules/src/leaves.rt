@@ -1,6 +1,6 @@
 //! What the tokens of a text stand for. What is kept of their bytes is shared with the text.
 
-ghost use Rattle.std.specs.Prelude.{◌≡◌, ◌+◌, ◌-◌, ◌<◌, ◌≤◌, All, length, slice_range, take, IfOk, OnOk};
+ghost use Rattle.std.specs.Prelude.{◌≡◌, ◌+◌, ◌<◌, ◌≤◌, All, length, slice_range, IfOk};
 ghost use Rattle.sil_lexer.specs.Lexing.{IsInside};
 ghost use Rattle.sil_lexer.specs.Spelling.{without_quotes, without_sigil};
 ghost use Rattle.written_modules.specs.Leaves as meant;
@@ -69,7 +69,7 @@ fn kept_at(text: &Rc<Vec<u8>>, tokens: &Tokens, i: usize) -> Result<Spelling, Ex
 }
 
 /// What the token at `i` stands for.
-fn leaf_at(text: &Rc<Vec<u8>>, tokens: &Tokens, i: usize) -> Result<Value, Exhausted>
+pub(crate) fn leaf_at(text: &Rc<Vec<u8>>, tokens: &Tokens, i: usize) -> Result<Value, Exhausted>
     requires inside { All (IsInside text.now.value.items) tokens.now.tokens }
     requires in_range { i < length tokens.now.tokens }
     ensures { IfOk result (λ value. IsLeafAt text.now.value.items tokens.now i value) }
@@ -78,17 +78,4 @@ fn leaf_at(text: &Rc<Vec<u8>>, tokens: &Tokens, i: usize) -> Result<Value, Exhau
         text: kept_at(text, tokens, i)?,
         place: tokens.place(i),
     }))
-}
-
-/// Takes the last token away, for what it stands for.
-pub(crate) fn take_last(text: &Rc<Vec<u8>>, tokens: &mut Tokens) -> Result<Value, Exhausted>
-    requires inside { All (IsInside text.now.value.items) tokens.old.tokens }
-    requires some { 0 < length tokens.old.tokens }
-    ensures value { IfOk result (IsLeafAt text.now.value.items tokens.old (length tokens.old.tokens - 1)) }
-    ensures others { OnOk result (tokens.new.tokens ≡ take (length tokens.old.tokens - 1) tokens.old.tokens) }
-{
-    let last = tokens.len() - 1;
-    let value = leaf_at(text, tokens, last)?;
-    tokens.truncate(last);
-    Ok(value)
 }

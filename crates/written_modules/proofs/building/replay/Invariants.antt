@@ -1,14 +1,16 @@
 -- The steps and tokens that are left are still to be replayed.
-use Rattle.std.proofs.Common.{◌++◌, length, reverse}
-use Rattle.sil_lexer.specs.Lexing.{lexemes_of}
+use Rattle.std.proofs.Common.{◌++◌, ◌≤◌, length, reverse, take}
+use Rattle.std.specs.Prelude.{All}
+use Rattle.sil_lexer.specs.Lexing.{lexemes_of, IsInside}
 use Rattle.written_modules.specs.Lacking.{waiting}
 use Rattle.written_modules.proofs.BuildLemmas.{InReplay}
 use Rattle.written_modules.proofs.building.replay.Given as goal
 
-abbrev pub invariant-loop-step : goal.invariant-loop-step
-invariant-loop-step g l =
-    InReplay (l.fn.steps.items ++ g.rest) (lexemes_of l.text.value.items l.fn.tokens) l.text.value.items l.steps.items l.tokens.tokens
-    (waiting l.values (reverse l.left.items)) l.fault
-
-abbrev pub decreases-loop-step : goal.decreases-loop-step
-decreases-loop-step g l = length l.steps.items
+abbrev pub invariant-loop-i : goal.invariant-loop-i
+invariant-loop-i g l = record {
+  at : InReplay (l.fn.steps.items ++ g.rest) (lexemes_of l.text.value.items l.fn.tokens) l.text.value.items (take l.i l.steps.items) (take l.token l.tokens.tokens)
+      (waiting l.values (reverse l.left.items)) l.fault;
+  steps : l.i ≤ length l.steps.items;
+  tokens : l.token ≤ length l.tokens.tokens;
+  inside : All (IsInside l.text.value.items) l.tokens.tokens;
+}
