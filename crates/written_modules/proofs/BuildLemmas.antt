@@ -1,8 +1,8 @@
 -- The steps of a derivation are replayed from the last to the first: there is a token at each step that takes one, and
 -- there are the values of its body at each production.
-use Rattle.std.proofs.Common.{◌≡◌, ℕ, ◌-◌, ◌<◌, ◌≤◌, List, [], ◌∷◌, ◌++◌, length, map, drop, take, get_or, refl, ap, sym, subst, ◌∙◌, arith, append_assoc}
-use Rattle.std.specs.Prelude.{All, Option, None, suc}
-use Rattle.std.proofs.Math.Seq.{drop-append_seam, take-append_seam, take-suc}
+use Rattle.std.proofs.Common.{◌≡◌, ℕ, ◌<◌, ◌≤◌, List, [], ◌∷◌, ◌++◌, length, map, drop, take, refl, ap, sym, subst, ◌∙◌, arith, append_assoc}
+use Rattle.std.specs.Prelude.{All, Option, None}
+use Rattle.std.proofs.Math.Seq.{drop-append_seam, take-append_seam}
 use Rattle.std.proofs.lemmas.List.{append-nil, length-append, length-take-le, map-append, take-append-drop, take-append-le}
 use Rattle.std.proofs.lemmas.List.Elements.{All-take}
 use Rattle.sil_lexer.specs.declared.token.Token.{Token}
@@ -118,12 +118,6 @@ module _ {all : List Step} {lexemes : List Lexeme} {text : List ℕ} {steps : Li
 
   pub all_faults : fault ≡ first_fault all lexemes
   all_faults = at.fault_is ∙ ap (λ s. first_fault s at.behind) all_done ∙ ap (first_fault all) all_behind
-
--- the first n, of which the last stands apart
-pub front_with_last : {X : Type 0} (n : ℕ) (xs : List X) (d : X) → 0 < n → n ≤ length xs → take n xs ≡ take (n - 1) xs ++ get_or xs (n - 1) d ∷ []
-front_with_last n xs d some there =
-    let e : suc (n - 1) ≡ n = omega (arith, some) in
-    subst (λ k. take k xs ≡ take (n - 1) xs ++ get_or xs (n - 1) d ∷ []) e (take-suc xs (n - 1) d (omega (arith, some, there)))
 
 pub none_left : {X : Type 0} (n : ℕ) (xs : List X) → n ≡ 0 → take n xs ≡ []
 none_left n xs e = ap (λ k. take k xs) e

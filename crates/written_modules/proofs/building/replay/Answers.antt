@@ -8,9 +8,10 @@ use Rattle.written_tree.specs.Faults.{earlier}
 use Rattle.written_modules.specs.Lacking.{lacking, waiting}
 use Rattle.written_modules.specs.PartFaults.{part_fault}
 use Rattle.written_modules.specs.Replay.{parts_of, reduced}
-use Rattle.written_modules.proofs.BuildLemmas.{InReplay, all_faults, all_replayed, begun, enough_there, front_with_last, kept_all, kept_front, none_left, production_replayed, some_left, token_replayed}
+use Rattle.written_modules.proofs.BuildLemmas.{InReplay, all_faults, all_replayed, begun, enough_there, kept_all, kept_front, none_left, production_replayed, some_left, token_replayed}
 use Rattle.written_modules.proofs.LackingLemmas.{parts-waiting, reduced-waiting, waiting-length}
 use Rattle.written_modules.proofs.LeafLemmas.{some_token}
+use Rattle.written_modules.proofs.Popped.{front_with_last}
 use Rattle.written_modules.proofs.building.replay.Goals as goal
 
 pub loop-i-init : goal.loop-i-init
