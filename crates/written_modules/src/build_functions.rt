@@ -20,11 +20,16 @@ use sil_shape::grammar::Production;
 use std::alloc::Global;
 use written_tree::{Fault, WrittenFunction, WrittenItem, earlier};
 
+/// Puts a function of its linkage, its words in brackets, its name, its signature and its blocks.
+#[inline(never)]
 #[tactic(auto, unfolding(crate::specs::Replay::reduced, crate::specs::Meaning::meaning, crate::specs::PartFaults::part_fault, sil_shape::specs::Grammar::body))]
-pub(crate) fn function(alloc: Global, values: &mut Prepended<Value>) -> Result<Reduced, Exhausted>
+pub(crate) fn function(
+    alloc: Global,
+    values: &mut Prepended<Value>,
+) -> Result<Option<Fault>, Exhausted>
     requires { 8 ≤ length values.old }
-    ensures value { IfOk result (λ made. reduced Production.FunctionItem values.old ≡ made.value ∷ values.new) }
-    ensures fault { IfOk result (λ made. made.fault ≡ part_fault Production.FunctionItem (parts_of Production.FunctionItem values.old)) }
+    ensures values { OnOk result (values.new ≡ reduced Production.FunctionItem values.old) }
+    ensures fault { IfOk result (λ fault. fault ≡ part_fault Production.FunctionItem (parts_of Production.FunctionItem values.old)) }
 {
     skip(values);
     let linkage = values.pop_front().into_linkage();
@@ -42,10 +47,8 @@ pub(crate) fn function(alloc: Global, values: &mut Prepended<Value>) -> Result<R
         signature,
         blocks: blocks.into_list(),
     };
-    Ok(Reduced {
-        value: Value::Item(Boxed::new(alloc, WrittenItem::Function(function))?),
-        fault,
-    })
+    let value = Value::Item(Boxed::new(alloc, WrittenItem::Function(function))?);
+    put(Reduced { value, fault }, values)
 }
 
 /// Puts how far a function is seen.

@@ -160,7 +160,7 @@ pub(crate) fn debug_number(values: &mut Prepended<Value>) -> Result<Option<Fault
     put(Reduced { value, fault }, values)
 }
 
-/// Puts that a debugger is told of what is pointed to.
+/// Puts what a debugger is told by `expr op_deref`.
 #[inline(never)]
 #[tactic(auto, unfolding(crate::specs::Replay::reduced, crate::specs::Meaning::meaning, sil_shape::specs::Grammar::body))]
 pub(crate) fn debug_deref(values: &mut Prepended<Value>) -> Result<Option<Fault>, Exhausted>
