@@ -138,6 +138,7 @@ pub(crate) fn function_type(
     put(Reduced { value, fault }, values)
 }
 
+/// A parameter with its place in front of the others.
 #[tactic(auto, unfolding(crate::specs::Values::param_before))]
 fn param_before(value: Value, others: ParamList) -> Result<ParamList, Exhausted>
     ensures { IfOk result (λ list. list ≡ param_before value others) }
@@ -159,6 +160,7 @@ fn param_before(value: Value, others: ParamList) -> Result<ParamList, Exhausted>
     }
 }
 
+/// A result with its place in front of the others.
 #[tactic(auto, unfolding(crate::specs::Values::given_before))]
 fn given_before(value: Value, others: GivenList) -> Result<GivenList, Exhausted>
     ensures { IfOk result (λ list. list ≡ given_before value others) }

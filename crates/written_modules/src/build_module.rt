@@ -50,6 +50,7 @@ pub(crate) fn stage(stage: Stage, values: &mut Prepended<Value>) -> Result<Optio
     put_value(Value::Stage(stage), values)
 }
 
+/// The imports, and the one of this name.
 fn with_import(name: &[u8], imports: Imports) -> Imports
     ensures { result ≡ with_import name.now imports }
 {
