@@ -20,10 +20,7 @@ use std::alloc::Global;
 use written_tree::{Fault, InstBox, WrittenArg, WrittenBlock, WrittenToken};
 
 /// A block, and the blocks behind it.
-pub(crate) fn blocks_before(
-    alloc: Global,
-    values: &mut Prepended<Value>,
-) -> Result<Value, Exhausted>
+fn blocks_before(alloc: Global, values: &mut Prepended<Value>) -> Result<Value, Exhausted>
     requires { 2 ≤ length values.old }
     ensures { IfOk result (λ value. (first others : Value) × (values.old ≡ first ∷ others ∷ values.new) × (value ≡ v.Blocks (block_of first ∷ blocks_of others))) }
 {
@@ -48,7 +45,21 @@ pub(crate) fn blocks(
     put_value(blocks, values)
 }
 
-/// Puts that there are no more blocks.
+/// Puts the blocks between the braces of a body.
+#[inline(never)]
+#[tactic(auto, unfolding(crate::specs::Replay::reduced, crate::specs::Meaning::meaning, sil_shape::specs::Grammar::body))]
+pub(crate) fn body(alloc: Global, values: &mut Prepended<Value>) -> Result<Option<Fault>, Exhausted>
+    requires { 4 ≤ length values.old }
+    ensures values { OnOk result (values.new ≡ reduced Production.BodySome values.old) }
+    ensures fault { IfOk result (λ fault. fault ≡ None) }
+{
+    skip(values);
+    let blocks = blocks_before(alloc, values)?;
+    skip(values);
+    put_value(blocks, values)
+}
+
+/// Puts that there are no blocks, or no more of them.
 #[inline(never)]
 pub(crate) fn no_blocks(
     alloc: Global,

@@ -1,7 +1,8 @@
-//! Builds declarations and their members.
+//! Builds declarations and their members, and puts them before the values that wait.
 
-ghost use Rattle.std.specs.Prelude.{◌≡◌, [], ◌∷◌, ◌≤◌, length, IfOk};
+ghost use Rattle.std.specs.Prelude.{◌≡◌, [], ◌∷◌, ◌≤◌, List, length, None, IfOk, OnOk};
 ghost use Rattle.sil_shape.specs.declared.grammar.Production.{Production};
+ghost use Rattle.written_modules.specs.declared.value.Value.{Value};
 ghost use Rattle.written_modules.specs.declared.value.Value.TheVariants as v;
 ghost use Rattle.written_modules.specs.Meaning as meant;
 ghost use Rattle.written_modules.specs.PartFaults.{part_fault};
@@ -12,6 +13,7 @@ ghost use Rattle.written_tree.specs.declared.written_module.WrittenItem.TheVaria
 use crate::faults::too_many;
 use crate::nothing::{discard, skip};
 use crate::prepended::Prepended;
+use crate::put::{put, put_value};
 use crate::value::{Reduced, Value};
 use sil_ast::{Boxed, Exhausted, Storage};
 use sil_rules::{LimitWord, limits};
@@ -19,25 +21,31 @@ use sil_shape::grammar::Production;
 use std::alloc::Global;
 use written_tree::{Fault, WrittenCase, WrittenDecl, WrittenField, WrittenItem};
 
-fn declared(alloc: Global, decl: WrittenDecl, fault: Option<Fault>) -> Result<Reduced, Exhausted>
-    ensures value { IfOk result (λ made. made.value ≡ v.Item (item.Decl decl)) }
-    ensures fault { IfOk result (λ made. made.fault ≡ fault) }
+/// Puts a declaration, and answers its fault.
+fn put_declared(
+    alloc: Global,
+    decl: WrittenDecl,
+    fault: Option<Fault>,
+    values: &mut Prepended<Value>,
+) -> Result<Option<Fault>, Exhausted>
+    ensures value { OnOk result (values.new ≡ v.Item (item.Decl decl) ∷ values.old) }
+    ensures fault { IfOk result (λ answered. answered ≡ fault) }
 {
     let item = Boxed::new(alloc, WrittenItem::Decl(decl))?;
-    Ok(Reduced {
-        value: Value::Item(item),
-        fault,
-    })
+    let value = Value::Item(item);
+    put(Reduced { value, fault }, values)
 }
 
+/// Puts a class that isn't final.
+#[inline(never)]
 #[tactic(auto, unfolding(crate::specs::Replay::reduced, crate::specs::Meaning::meaning, crate::specs::PartFaults::part_fault, sil_shape::specs::Grammar::body))]
 pub(crate) fn plain_class(
     alloc: Global,
     values: &mut Prepended<Value>,
-) -> Result<Reduced, Exhausted>
+) -> Result<Option<Fault>, Exhausted>
     requires { 5 ≤ length values.old }
-    ensures value { IfOk result (λ made. reduced Production.PlainClass values.old ≡ made.value ∷ values.new) }
-    ensures fault { IfOk result (λ made. made.fault ≡ part_fault Production.PlainClass (parts_of Production.PlainClass values.old)) }
+    ensures values { OnOk result (values.new ≡ reduced Production.PlainClass values.old) }
+    ensures fault { IfOk result (λ fault. fault ≡ part_fault Production.PlainClass (parts_of Production.PlainClass values.old)) }
 {
     skip(values);
     let name = values.pop_front().into_token();
@@ -46,17 +54,19 @@ pub(crate) fn plain_class(
     skip(values);
     let fault = too_many(LimitWord::Members, &fields, limits::MEMBERS);
     let fields = fields.into_list();
-    declared(alloc, WrittenDecl::Class { name, fields }, fault)
+    put_declared(alloc, WrittenDecl::Class { name, fields }, fault, values)
 }
 
+/// Puts a final class.
+#[inline(never)]
 #[tactic(auto, unfolding(crate::specs::Replay::reduced, crate::specs::Meaning::meaning, crate::specs::PartFaults::part_fault, sil_shape::specs::Grammar::body))]
 pub(crate) fn final_class(
     alloc: Global,
     values: &mut Prepended<Value>,
-) -> Result<Reduced, Exhausted>
+) -> Result<Option<Fault>, Exhausted>
     requires { 6 ≤ length values.old }
-    ensures value { IfOk result (λ made. reduced Production.FinalClass values.old ≡ made.value ∷ values.new) }
-    ensures fault { IfOk result (λ made. made.fault ≡ part_fault Production.FinalClass (parts_of Production.FinalClass values.old)) }
+    ensures values { OnOk result (values.new ≡ reduced Production.FinalClass values.old) }
+    ensures fault { IfOk result (λ fault. fault ≡ part_fault Production.FinalClass (parts_of Production.FinalClass values.old)) }
 {
     skip(values);
     skip(values);
@@ -66,17 +76,19 @@ pub(crate) fn final_class(
     skip(values);
     let fault = too_many(LimitWord::Members, &fields, limits::MEMBERS);
     let fields = fields.into_list();
-    declared(alloc, WrittenDecl::Class { name, fields }, fault)
+    put_declared(alloc, WrittenDecl::Class { name, fields }, fault, values)
 }
 
+/// Puts a struct.
+#[inline(never)]
 #[tactic(auto, unfolding(crate::specs::Replay::reduced, crate::specs::Meaning::meaning, crate::specs::PartFaults::part_fault, sil_shape::specs::Grammar::body))]
 pub(crate) fn struct_item(
     alloc: Global,
     values: &mut Prepended<Value>,
-) -> Result<Reduced, Exhausted>
+) -> Result<Option<Fault>, Exhausted>
     requires { 5 ≤ length values.old }
-    ensures value { IfOk result (λ made. reduced Production.StructItem values.old ≡ made.value ∷ values.new) }
-    ensures fault { IfOk result (λ made. made.fault ≡ part_fault Production.StructItem (parts_of Production.StructItem values.old)) }
+    ensures values { OnOk result (values.new ≡ reduced Production.StructItem values.old) }
+    ensures fault { IfOk result (λ fault. fault ≡ part_fault Production.StructItem (parts_of Production.StructItem values.old)) }
 {
     skip(values);
     let name = values.pop_front().into_token();
@@ -85,14 +97,19 @@ pub(crate) fn struct_item(
     skip(values);
     let fault = too_many(LimitWord::Members, &fields, limits::MEMBERS);
     let fields = fields.into_list();
-    declared(alloc, WrittenDecl::Struct { name, fields }, fault)
+    put_declared(alloc, WrittenDecl::Struct { name, fields }, fault, values)
 }
 
+/// Puts an enum.
+#[inline(never)]
 #[tactic(auto, unfolding(crate::specs::Replay::reduced, crate::specs::Meaning::meaning, crate::specs::PartFaults::part_fault, sil_shape::specs::Grammar::body))]
-pub(crate) fn enum_item(alloc: Global, values: &mut Prepended<Value>) -> Result<Reduced, Exhausted>
+pub(crate) fn enum_item(
+    alloc: Global,
+    values: &mut Prepended<Value>,
+) -> Result<Option<Fault>, Exhausted>
     requires { 5 ≤ length values.old }
-    ensures value { IfOk result (λ made. reduced Production.EnumItem values.old ≡ made.value ∷ values.new) }
-    ensures fault { IfOk result (λ made. made.fault ≡ part_fault Production.EnumItem (parts_of Production.EnumItem values.old)) }
+    ensures values { OnOk result (values.new ≡ reduced Production.EnumItem values.old) }
+    ensures fault { IfOk result (λ fault. fault ≡ part_fault Production.EnumItem (parts_of Production.EnumItem values.old)) }
 {
     skip(values);
     let name = values.pop_front().into_token();
@@ -101,7 +118,7 @@ pub(crate) fn enum_item(alloc: Global, values: &mut Prepended<Value>) -> Result<
     skip(values);
     let fault = too_many(LimitWord::Members, &cases, limits::MEMBERS);
     let cases = cases.into_list();
-    declared(alloc, WrittenDecl::Enum { name, cases }, fault)
+    put_declared(alloc, WrittenDecl::Enum { name, cases }, fault, values)
 }
 
 /// Puts a field in front of the others; `deinit` and `init()` are none.
@@ -119,27 +136,44 @@ fn field_before(
     Ok(others)
 }
 
-/// A member, and the fields behind it.
-pub(crate) fn fields_before(
+/// Puts a member, and the fields behind it.
+#[inline(never)]
+pub(crate) fn fields(
     alloc: Global,
     values: &mut Prepended<Value>,
-) -> Result<Value, Exhausted>
+) -> Result<Option<Fault>, Exhausted>
     requires { 2 ≤ length values.old }
-    ensures { IfOk result (λ value. (first others : Value) × (values.old ≡ first ∷ others ∷ values.new) × (value ≡ v.Fields (field_before first (fields_of others)))) }
+    ensures values { OnOk result ((first others : Value) × (rest : List Value) × (values.old ≡ first ∷ others ∷ rest) × (values.new ≡ v.Fields (field_before first (fields_of others)) ∷ rest)) }
+    ensures fault { IfOk result (λ fault. fault ≡ None) }
 {
     let member = values.pop_front();
     let others = values.pop_front().into_fields(alloc);
-    Ok(Value::Fields(field_before(member, others)?))
+    let fields = field_before(member, others)?;
+    put_value(Value::Fields(fields), values)
 }
 
-/// `weak var f: T`, or `unowned var f: T`
+/// Puts that there are no fields, or no more of them.
+#[inline(never)]
+pub(crate) fn no_fields(
+    alloc: Global,
+    values: &mut Prepended<Value>,
+) -> Result<Option<Fault>, Exhausted>
+    ensures values { OnOk result (values.new ≡ v.Fields [] ∷ values.old) }
+    ensures fault { IfOk result (λ fault. fault ≡ None) }
+{
+    put_value(Value::Fields(Prepended::new(alloc)), values)
+}
+
+/// Puts the field of `weak var f: T`, or of `unowned var f: T`.
+#[inline(never)]
 pub(crate) fn variable(
     alloc: Global,
     storage: Storage,
     values: &mut Prepended<Value>,
-) -> Result<Value, Exhausted>
+) -> Result<Option<Fault>, Exhausted>
     requires { 2 ≤ length values.old }
-    ensures { IfOk result (λ value. (word field : Value) × (values.old ≡ word ∷ field ∷ values.new) × (value ≡ v.Field (record (field_of field) { storage = storage }))) }
+    ensures values { OnOk result ((word field : Value) × (rest : List Value) × (values.old ≡ word ∷ field ∷ rest) × (values.new ≡ v.Field (record (field_of field) { storage = storage }) ∷ rest)) }
+    ensures fault { IfOk result (λ fault. fault ≡ None) }
 {
     skip(values);
     let field = values.pop_front().into_field(alloc);
@@ -148,13 +182,19 @@ pub(crate) fn variable(
         storage,
         ty: field.ty,
     };
-    Ok(Value::Field(Boxed::new(alloc, field)?))
+    let field = Boxed::new(alloc, field)?;
+    put_value(Value::Field(field), values)
 }
 
-/// `var f: T`, or `let f: T`
-pub(crate) fn binding(alloc: Global, values: &mut Prepended<Value>) -> Result<Value, Exhausted>
+/// Puts the field of `var f: T`, or of `let f: T`.
+#[inline(never)]
+pub(crate) fn binding(
+    alloc: Global,
+    values: &mut Prepended<Value>,
+) -> Result<Option<Fault>, Exhausted>
     requires { 5 ≤ length values.old }
-    ensures { IfOk result (λ value. (a b c d e : Value) × (values.old ≡ a ∷ b ∷ c ∷ d ∷ e ∷ values.new) × (value ≡ meant.binding (a ∷ b ∷ c ∷ d ∷ e ∷ []))) }
+    ensures values { OnOk result ((a b c d e : Value) × (rest : List Value) × (values.old ≡ a ∷ b ∷ c ∷ d ∷ e ∷ rest) × (values.new ≡ meant.binding (a ∷ b ∷ c ∷ d ∷ e ∷ []) ∷ rest)) }
+    ensures fault { IfOk result (λ fault. fault ≡ None) }
 {
     skip(values);
     let name = values.pop_front().into_token();
@@ -166,18 +206,37 @@ pub(crate) fn binding(alloc: Global, values: &mut Prepended<Value>) -> Result<Va
         storage: Storage::Strong,
         ty,
     };
-    Ok(Value::Field(Boxed::new(alloc, field)?))
+    let field = Boxed::new(alloc, field)?;
+    put_value(Value::Field(field), values)
 }
 
+/// Puts a case, and the cases behind it.
+#[inline(never)]
 #[tactic(auto, unfolding(crate::specs::Replay::reduced, crate::specs::Meaning::meaning, sil_shape::specs::Grammar::body))]
-pub(crate) fn more_cases(alloc: Global, values: &mut Prepended<Value>) -> Result<Value, Exhausted>
+pub(crate) fn more_cases(
+    alloc: Global,
+    values: &mut Prepended<Value>,
+) -> Result<Option<Fault>, Exhausted>
     requires { 4 ≤ length values.old }
-    ensures { IfOk result (λ value. reduced Production.CasesMore values.old ≡ value ∷ values.new) }
+    ensures values { OnOk result (values.new ≡ reduced Production.CasesMore values.old) }
+    ensures fault { IfOk result (λ fault. fault ≡ None) }
 {
     skip(values);
     let name = values.pop_front().into_token();
     let payload = values.pop_front().into_payload();
     let mut cases = values.pop_front().into_cases(alloc);
     cases.push_front(WrittenCase { name, payload })?;
-    Ok(Value::Cases(cases))
+    put_value(Value::Cases(cases), values)
+}
+
+/// Puts that there are no cases, or no more of them.
+#[inline(never)]
+pub(crate) fn no_cases(
+    alloc: Global,
+    values: &mut Prepended<Value>,
+) -> Result<Option<Fault>, Exhausted>
+    ensures values { OnOk result (values.new ≡ v.Cases [] ∷ values.old) }
+    ensures fault { IfOk result (λ fault. fault ≡ None) }
+{
+    put_value(Value::Cases(Prepended::new(alloc)), values)
 }

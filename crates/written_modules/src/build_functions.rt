@@ -1,28 +1,35 @@
-//! Builds functions and their signatures.
+//! Builds functions and their signatures, and puts them before the values that wait.
 
-ghost use Rattle.std.specs.Prelude.{◌≡◌, [], ◌∷◌, ◌≤◌, length, IfOk};
+ghost use Rattle.std.specs.Prelude.{◌≡◌, [], ◌∷◌, ◌≤◌, List, length, None, IfOk, OnOk};
 ghost use Rattle.sil_shape.specs.declared.grammar.Production.{Production};
+ghost use Rattle.written_modules.specs.declared.value.Value.{Value};
 ghost use Rattle.written_modules.specs.declared.value.Value.TheVariants as v;
 ghost use Rattle.written_modules.specs.Meaning.{param};
 ghost use Rattle.written_modules.specs.PartFaults.{part_fault};
 ghost use Rattle.written_modules.specs.Replay.{parts_of, reduced};
-ghost use Rattle.written_modules.specs.Values.{given_before, givens_of, param_before, params_of};
+ghost use Rattle.written_modules.specs.Values.{given_before, givens_of, no_givens, no_params, param_before, params_of};
 
 use crate::faults::{body_fault, too_many_arguments, too_many_attributes};
-use crate::nothing::{discard, skip};
+use crate::nothing::{discard, no_givens, no_params, skip};
 use crate::prepended::Prepended;
+use crate::put::{put, put_value};
 use crate::value::{Reduced, Value};
 use crate::written_types::{GivenList, ParamList, WrittenType};
-use sil_ast::{Boxed, Exhausted, Given, Param, Passing, Place, Signature};
+use sil_ast::{Boxed, Convention, Exhausted, Given, Linkage, Param, Passing, Place, Signature};
 use sil_shape::grammar::Production;
 use std::alloc::Global;
-use written_tree::{WrittenFunction, WrittenItem, earlier};
+use written_tree::{Fault, WrittenFunction, WrittenItem, earlier};
 
+/// Puts a function of its linkage, its words in brackets, its name, its signature and its blocks.
+#[inline(never)]
 #[tactic(auto, unfolding(crate::specs::Replay::reduced, crate::specs::Meaning::meaning, crate::specs::PartFaults::part_fault, sil_shape::specs::Grammar::body))]
-pub(crate) fn function(alloc: Global, values: &mut Prepended<Value>) -> Result<Reduced, Exhausted>
+pub(crate) fn function(
+    alloc: Global,
+    values: &mut Prepended<Value>,
+) -> Result<Option<Fault>, Exhausted>
     requires { 8 ≤ length values.old }
-    ensures value { IfOk result (λ made. reduced Production.FunctionItem values.old ≡ made.value ∷ values.new) }
-    ensures fault { IfOk result (λ made. made.fault ≡ part_fault Production.FunctionItem (parts_of Production.FunctionItem values.old)) }
+    ensures values { OnOk result (values.new ≡ reduced Production.FunctionItem values.old) }
+    ensures fault { IfOk result (λ fault. fault ≡ part_fault Production.FunctionItem (parts_of Production.FunctionItem values.old)) }
 {
     skip(values);
     let linkage = values.pop_front().into_linkage();
@@ -40,33 +47,75 @@ pub(crate) fn function(alloc: Global, values: &mut Prepended<Value>) -> Result<R
         signature,
         blocks: blocks.into_list(),
     };
-    Ok(Reduced {
-        value: Value::Item(Boxed::new(alloc, WrittenItem::Function(function))?),
-        fault,
-    })
+    let value = Value::Item(Boxed::new(alloc, WrittenItem::Function(function))?);
+    put(Reduced { value, fault }, values)
 }
 
+/// Puts how far a function is seen.
+#[inline(never)]
+pub(crate) fn linkage(
+    linkage: Linkage,
+    values: &mut Prepended<Value>,
+) -> Result<Option<Fault>, Exhausted>
+    ensures values { OnOk result (values.new ≡ v.Linkage linkage ∷ values.old) }
+    ensures fault { IfOk result (λ fault. fault ≡ None) }
+{
+    put_value(Value::Linkage(linkage), values)
+}
+
+/// Puts a word in brackets, and the words behind it.
+#[inline(never)]
 #[tactic(auto, unfolding(crate::specs::Replay::reduced, crate::specs::Meaning::meaning, sil_shape::specs::Grammar::body))]
 pub(crate) fn more_attributes(
     alloc: Global,
     values: &mut Prepended<Value>,
-) -> Result<Value, Exhausted>
+) -> Result<Option<Fault>, Exhausted>
     requires { 4 ≤ length values.old }
-    ensures { IfOk result (λ value. reduced Production.AttributesMore values.old ≡ value ∷ values.new) }
+    ensures values { OnOk result (values.new ≡ reduced Production.AttributesMore values.old) }
+    ensures fault { IfOk result (λ fault. fault ≡ None) }
 {
     skip(values);
     let word = values.pop_front().into_token();
     skip(values);
     let mut others = values.pop_front().into_tokens(alloc);
     others.push_front(word)?;
-    Ok(Value::Tokens(others))
+    put_value(Value::Tokens(others), values)
 }
 
+/// Puts that there are no words in brackets, or no more of them.
+#[inline(never)]
+pub(crate) fn no_attributes(
+    alloc: Global,
+    values: &mut Prepended<Value>,
+) -> Result<Option<Fault>, Exhausted>
+    ensures values { OnOk result (values.new ≡ v.Tokens [] ∷ values.old) }
+    ensures fault { IfOk result (λ fault. fault ≡ None) }
+{
+    put_value(Value::Tokens(Prepended::new(alloc)), values)
+}
+
+/// Puts how a function is called.
+#[inline(never)]
+pub(crate) fn convention(
+    convention: Convention,
+    values: &mut Prepended<Value>,
+) -> Result<Option<Fault>, Exhausted>
+    ensures values { OnOk result (values.new ≡ v.Convention convention ∷ values.old) }
+    ensures fault { IfOk result (λ fault. fault ≡ None) }
+{
+    put_value(Value::Convention(convention), values)
+}
+
+/// Puts a signature of its convention, its parameters and its results.
+#[inline(never)]
 #[tactic(auto, unfolding(crate::specs::Replay::reduced, crate::specs::Meaning::meaning, crate::specs::PartFaults::part_fault, sil_shape::specs::Grammar::body))]
-pub(crate) fn function_type(alloc: Global, values: &mut Prepended<Value>) -> Reduced
+pub(crate) fn function_type(
+    alloc: Global,
+    values: &mut Prepended<Value>,
+) -> Result<Option<Fault>, Exhausted>
     requires { 9 ≤ length values.old }
-    ensures value { reduced Production.WholeFunctionType values.old ≡ result.value ∷ values.new }
-    ensures fault { result.fault ≡ part_fault Production.WholeFunctionType (parts_of Production.WholeFunctionType values.old) }
+    ensures values { OnOk result (values.new ≡ reduced Production.WholeFunctionType values.old) }
+    ensures fault { IfOk result (λ fault. fault ≡ part_fault Production.WholeFunctionType (parts_of Production.WholeFunctionType values.old)) }
 {
     skip(values);
     skip(values);
@@ -81,16 +130,15 @@ pub(crate) fn function_type(alloc: Global, values: &mut Prepended<Value>) -> Red
         too_many_arguments(&params.firsts),
         too_many_arguments(&results.firsts),
     );
-    Reduced {
-        value: Value::Signature(Signature {
-            convention,
-            params: params.params.into_list(),
-            results: results.givens.into_list(),
-        }),
-        fault,
-    }
+    let value = Value::Signature(Signature {
+        convention,
+        params: params.params.into_list(),
+        results: results.givens.into_list(),
+    });
+    put(Reduced { value, fault }, values)
 }
 
+/// A parameter with its place in front of the others.
 #[tactic(auto, unfolding(crate::specs::Values::param_before))]
 fn param_before(value: Value, others: ParamList) -> Result<ParamList, Exhausted>
     ensures { IfOk result (λ list. list ≡ param_before value others) }
@@ -112,6 +160,7 @@ fn param_before(value: Value, others: ParamList) -> Result<ParamList, Exhausted>
     }
 }
 
+/// A result with its place in front of the others.
 #[tactic(auto, unfolding(crate::specs::Values::given_before))]
 fn given_before(value: Value, others: GivenList) -> Result<GivenList, Exhausted>
     ensures { IfOk result (λ list. list ≡ given_before value others) }
@@ -133,55 +182,92 @@ fn given_before(value: Value, others: GivenList) -> Result<GivenList, Exhausted>
     }
 }
 
-/// A parameter, and the parameters behind it.
-pub(crate) fn params_before(
+/// Puts a parameter, and the parameters behind it.
+#[inline(never)]
+pub(crate) fn params(
     alloc: Global,
     values: &mut Prepended<Value>,
-) -> Result<Value, Exhausted>
+) -> Result<Option<Fault>, Exhausted>
     requires { 2 ≤ length values.old }
-    ensures { IfOk result (λ value. (first others : Value) × (values.old ≡ first ∷ others ∷ values.new) × (value ≡ v.Params (param_before first (params_of others)))) }
+    ensures values { OnOk result ((first others : Value) × (rest : List Value) × (values.old ≡ first ∷ others ∷ rest) × (values.new ≡ v.Params (param_before first (params_of others)) ∷ rest)) }
+    ensures fault { IfOk result (λ fault. fault ≡ None) }
 {
     let first = values.pop_front();
     let others = values.pop_front().into_params(alloc);
-    Ok(Value::Params(param_before(first, others)?))
+    let params = param_before(first, others)?;
+    put_value(Value::Params(params), values)
 }
 
-/// A result, and the results behind it.
-pub(crate) fn givens_before(
+/// Puts that there are no parameters, or no more of them.
+#[inline(never)]
+pub(crate) fn no_more_params(
     alloc: Global,
     values: &mut Prepended<Value>,
-) -> Result<Value, Exhausted>
+) -> Result<Option<Fault>, Exhausted>
+    ensures values { OnOk result (values.new ≡ v.Params no_params ∷ values.old) }
+    ensures fault { IfOk result (λ fault. fault ≡ None) }
+{
+    put_value(Value::Params(no_params(alloc)), values)
+}
+
+/// Puts a result, and the results behind it.
+#[inline(never)]
+pub(crate) fn givens(
+    alloc: Global,
+    values: &mut Prepended<Value>,
+) -> Result<Option<Fault>, Exhausted>
     requires { 2 ≤ length values.old }
-    ensures { IfOk result (λ value. (first others : Value) × (values.old ≡ first ∷ others ∷ values.new) × (value ≡ v.Givens (given_before first (givens_of others)))) }
+    ensures values { OnOk result ((first others : Value) × (rest : List Value) × (values.old ≡ first ∷ others ∷ rest) × (values.new ≡ v.Givens (given_before first (givens_of others)) ∷ rest)) }
+    ensures fault { IfOk result (λ fault. fault ≡ None) }
 {
     let first = values.pop_front();
     let others = values.pop_front().into_givens(alloc);
-    Ok(Value::Givens(given_before(first, others)?))
+    let givens = given_before(first, others)?;
+    put_value(Value::Givens(givens), values)
 }
 
-/// A parameter behind the word that says how it is passed.
-pub(crate) fn param(alloc: Global, passing: Passing, values: &mut Prepended<Value>) -> Value
+/// Puts that there are no results, or no more of them.
+#[inline(never)]
+pub(crate) fn no_more_givens(
+    alloc: Global,
+    values: &mut Prepended<Value>,
+) -> Result<Option<Fault>, Exhausted>
+    ensures values { OnOk result (values.new ≡ v.Givens no_givens ∷ values.old) }
+    ensures fault { IfOk result (λ fault. fault ≡ None) }
+{
+    put_value(Value::Givens(no_givens(alloc)), values)
+}
+
+/// Puts a parameter behind the word that says how it is passed.
+#[inline(never)]
+pub(crate) fn param(
+    alloc: Global,
+    passing: Passing,
+    values: &mut Prepended<Value>,
+) -> Result<Option<Fault>, Exhausted>
     requires { 2 ≤ length values.old }
-    ensures { (word ty : Value) × (values.old ≡ word ∷ ty ∷ values.new) × (result ≡ param passing (word ∷ ty ∷ [])) }
+    ensures values { OnOk result ((word ty : Value) × (rest : List Value) × (values.old ≡ word ∷ ty ∷ rest) × (values.new ≡ param passing (word ∷ ty ∷ []) ∷ rest)) }
+    ensures fault { IfOk result (λ fault. fault ≡ None) }
 {
     let first = values.pop_front().into_token().place;
     let ty = values.pop_front().into_type(alloc).ty;
-    Value::Param(Param { passing, ty }, first)
+    put_value(Value::Param(Param { passing, ty }, first), values)
 }
 
+/// Puts a parameter of which no word says how it is passed.
+#[inline(never)]
 #[tactic(auto, unfolding(crate::specs::Replay::reduced, crate::specs::Meaning::meaning, sil_shape::specs::Grammar::body))]
-pub(crate) fn plain_param(alloc: Global, values: &mut Prepended<Value>) -> Value
+pub(crate) fn plain_param(
+    alloc: Global,
+    values: &mut Prepended<Value>,
+) -> Result<Option<Fault>, Exhausted>
     requires { 1 ≤ length values.old }
-    ensures { reduced Production.ParamPlain values.old ≡ result ∷ values.new }
+    ensures values { OnOk result (values.new ≡ reduced Production.ParamPlain values.old) }
+    ensures fault { IfOk result (λ fault. fault ≡ None) }
 {
     let WrittenType { ty, first, .. } = values.pop_front().into_type(alloc);
-    Value::Param(
-        Param {
-            passing: Passing::Plain,
-            ty,
-        },
-        first,
-    )
+    let passing = Passing::Plain;
+    put_value(Value::Param(Param { passing, ty }, first), values)
 }
 
 /// A list of one result.
@@ -195,51 +281,83 @@ fn one_given(alloc: Global, given: Given, first: Place) -> Result<GivenList, Exh
     Ok(GivenList { givens, firsts })
 }
 
+/// Puts the results between two parentheses.
+#[inline(never)]
 #[tactic(auto, unfolding(crate::specs::Replay::reduced, crate::specs::Meaning::meaning, sil_shape::specs::Grammar::body))]
-pub(crate) fn result_list(alloc: Global, values: &mut Prepended<Value>) -> Value
+pub(crate) fn result_list(
+    alloc: Global,
+    values: &mut Prepended<Value>,
+) -> Result<Option<Fault>, Exhausted>
     requires { 3 ≤ length values.old }
-    ensures { reduced Production.ResultList values.old ≡ result ∷ values.new }
+    ensures values { OnOk result (values.new ≡ reduced Production.ResultList values.old) }
+    ensures fault { IfOk result (λ fault. fault ≡ None) }
 {
     skip(values);
     let givens = values.pop_front().into_givens(alloc);
     skip(values);
-    Value::Givens(givens)
+    put_value(Value::Givens(givens), values)
 }
 
+/// Puts an owned result, alone in a list.
+#[inline(never)]
 #[tactic(auto, unfolding(crate::specs::Replay::reduced, crate::specs::Meaning::meaning, sil_shape::specs::Grammar::body))]
-pub(crate) fn owned_result(alloc: Global, values: &mut Prepended<Value>) -> Result<Value, Exhausted>
+pub(crate) fn owned_result(
+    alloc: Global,
+    values: &mut Prepended<Value>,
+) -> Result<Option<Fault>, Exhausted>
     requires { 2 ≤ length values.old }
-    ensures { IfOk result (λ value. reduced Production.ResultOwned values.old ≡ value ∷ values.new) }
+    ensures values { OnOk result (values.new ≡ reduced Production.ResultOwned values.old) }
+    ensures fault { IfOk result (λ fault. fault ≡ None) }
 {
     let first = values.pop_front().into_token().place;
     let ty = values.pop_front().into_type(alloc).ty;
-    Ok(Value::Givens(one_given(alloc, Given { owned: true, ty }, first)?))
+    let givens = one_given(alloc, Given { owned: true, ty }, first)?;
+    put_value(Value::Givens(givens), values)
 }
 
+/// Puts a result that isn't owned, alone in a list.
+#[inline(never)]
 #[tactic(auto, unfolding(crate::specs::Replay::reduced, crate::specs::Meaning::meaning, sil_shape::specs::Grammar::body))]
-pub(crate) fn plain_result(alloc: Global, values: &mut Prepended<Value>) -> Result<Value, Exhausted>
+pub(crate) fn plain_result(
+    alloc: Global,
+    values: &mut Prepended<Value>,
+) -> Result<Option<Fault>, Exhausted>
     requires { 1 ≤ length values.old }
-    ensures { IfOk result (λ value. reduced Production.ResultPlain values.old ≡ value ∷ values.new) }
+    ensures values { OnOk result (values.new ≡ reduced Production.ResultPlain values.old) }
+    ensures fault { IfOk result (λ fault. fault ≡ None) }
 {
     let WrittenType { ty, first, .. } = values.pop_front().into_type(alloc);
-    Ok(Value::Givens(one_given(alloc, Given { owned: false, ty }, first)?))
+    let givens = one_given(alloc, Given { owned: false, ty }, first)?;
+    put_value(Value::Givens(givens), values)
 }
 
+/// Puts an owned result of several.
+#[inline(never)]
 #[tactic(auto, unfolding(crate::specs::Replay::reduced, crate::specs::Meaning::meaning, sil_shape::specs::Grammar::body))]
-pub(crate) fn owned_given(alloc: Global, values: &mut Prepended<Value>) -> Value
+pub(crate) fn owned_given(
+    alloc: Global,
+    values: &mut Prepended<Value>,
+) -> Result<Option<Fault>, Exhausted>
     requires { 2 ≤ length values.old }
-    ensures { reduced Production.GivenOwned values.old ≡ result ∷ values.new }
+    ensures values { OnOk result (values.new ≡ reduced Production.GivenOwned values.old) }
+    ensures fault { IfOk result (λ fault. fault ≡ None) }
 {
     let first = values.pop_front().into_token().place;
     let ty = values.pop_front().into_type(alloc).ty;
-    Value::Given(Given { owned: true, ty }, first)
+    put_value(Value::Given(Given { owned: true, ty }, first), values)
 }
 
+/// Puts a result of several that isn't owned.
+#[inline(never)]
 #[tactic(auto, unfolding(crate::specs::Replay::reduced, crate::specs::Meaning::meaning, sil_shape::specs::Grammar::body))]
-pub(crate) fn plain_given(alloc: Global, values: &mut Prepended<Value>) -> Value
+pub(crate) fn plain_given(
+    alloc: Global,
+    values: &mut Prepended<Value>,
+) -> Result<Option<Fault>, Exhausted>
     requires { 1 ≤ length values.old }
-    ensures { reduced Production.GivenPlain values.old ≡ result ∷ values.new }
+    ensures values { OnOk result (values.new ≡ reduced Production.GivenPlain values.old) }
+    ensures fault { IfOk result (λ fault. fault ≡ None) }
 {
     let WrittenType { ty, first, .. } = values.pop_front().into_type(alloc);
-    Value::Given(Given { owned: false, ty }, first)
+    put_value(Value::Given(Given { owned: false, ty }, first), values)
 }

@@ -1,7 +1,9 @@
-//! Builds a module's stage, its imports and its items, and its tables of deinitialisers.
+//! Builds a module's stage, its imports and its items, and its tables of deinitialisers, and puts them before the values
+//! that wait.
 
-ghost use Rattle.std.specs.Prelude.{◌≡◌, ◌∷◌, ◌≤◌, length, IfOk};
+ghost use Rattle.std.specs.Prelude.{◌≡◌, [], ◌∷◌, ◌≤◌, false, length, None, IfOk, OnOk};
 ghost use Rattle.sil_shape.specs.declared.grammar.Production.{Production};
+ghost use Rattle.written_modules.specs.declared.value.Value.TheVariants as v;
 ghost use Rattle.written_modules.specs.Meaning.{with_import};
 ghost use Rattle.written_modules.specs.PartFaults.{part_fault};
 ghost use Rattle.written_modules.specs.Replay.{parts_of, reduced};
@@ -9,32 +11,46 @@ ghost use Rattle.written_modules.specs.Replay.{parts_of, reduced};
 use crate::faults::module_fault;
 use crate::nothing::skip;
 use crate::prepended::Prepended;
+use crate::put::{put, put_value};
 use crate::value::{Reduced, Value};
-use sil_ast::{Boxed, Exhausted, Imports};
+use sil_ast::{Boxed, Exhausted, Imports, Stage};
 use sil_shape::grammar::Production;
 use std::alloc::Global;
-use written_tree::{WrittenEntry, WrittenItem, WrittenModule, WrittenVtable};
+use written_tree::{Fault, WrittenEntry, WrittenItem, WrittenModule, WrittenVtable};
 
+/// Puts a module of its stage, its imports and its items.
+#[inline(never)]
 #[tactic(auto, unfolding(crate::specs::Replay::reduced, crate::specs::Meaning::meaning, crate::specs::PartFaults::part_fault, sil_shape::specs::Grammar::body))]
-pub(crate) fn whole_module(alloc: Global, values: &mut Prepended<Value>) -> Reduced
+pub(crate) fn whole_module(
+    alloc: Global,
+    values: &mut Prepended<Value>,
+) -> Result<Option<Fault>, Exhausted>
     requires { 3 ≤ length values.old }
-    ensures value { reduced Production.WholeModule values.old ≡ result.value ∷ values.new }
-    ensures fault { result.fault ≡ part_fault Production.WholeModule (parts_of Production.WholeModule values.old) }
+    ensures values { OnOk result (values.new ≡ reduced Production.WholeModule values.old) }
+    ensures fault { IfOk result (λ fault. fault ≡ part_fault Production.WholeModule (parts_of Production.WholeModule values.old)) }
 {
     let stage = values.pop_front().into_stage();
     let imports = values.pop_front().into_imports();
     let items = values.pop_front().into_items(alloc);
     let fault = module_fault(&items);
-    Reduced {
-        value: Value::Module(WrittenModule {
-            stage,
-            imports,
-            items: items.into_list(),
-        }),
-        fault,
-    }
+    let value = Value::Module(WrittenModule {
+        stage,
+        imports,
+        items: items.into_list(),
+    });
+    put(Reduced { value, fault }, values)
 }
 
+/// Puts the stage of a module.
+#[inline(never)]
+pub(crate) fn stage(stage: Stage, values: &mut Prepended<Value>) -> Result<Option<Fault>, Exhausted>
+    ensures values { OnOk result (values.new ≡ v.Stage stage ∷ values.old) }
+    ensures fault { IfOk result (λ fault. fault ≡ None) }
+{
+    put_value(Value::Stage(stage), values)
+}
+
+/// The imports, and the one of this name.
 fn with_import(name: &[u8], imports: Imports) -> Imports
     ensures { result ≡ with_import name.now imports }
 {
@@ -44,32 +60,73 @@ fn with_import(name: &[u8], imports: Imports) -> Imports
     }
 }
 
+/// Puts an import, and the imports behind it.
+#[inline(never)]
 #[tactic(auto, unfolding(crate::specs::Replay::reduced, crate::specs::Meaning::meaning, sil_shape::specs::Grammar::body))]
-pub(crate) fn more_imports(values: &mut Prepended<Value>) -> Value
+pub(crate) fn more_imports(values: &mut Prepended<Value>) -> Result<Option<Fault>, Exhausted>
     requires { 3 ≤ length values.old }
-    ensures { reduced Production.ImportsMore values.old ≡ result ∷ values.new }
+    ensures values { OnOk result (values.new ≡ reduced Production.ImportsMore values.old) }
+    ensures fault { IfOk result (λ fault. fault ≡ None) }
 {
     skip(values);
     let name = values.pop_front().into_token();
     let imports = values.pop_front().into_imports();
-    Value::Imports(with_import(name.text.as_slice(), imports))
+    let imports = with_import(name.text.as_slice(), imports);
+    put_value(Value::Imports(imports), values)
 }
 
+/// Puts that there are no imports, or no more of them.
+#[inline(never)]
+pub(crate) fn no_imports(values: &mut Prepended<Value>) -> Result<Option<Fault>, Exhausted>
+    ensures values { OnOk result (values.new ≡ v.Imports (record { builtin = false; swift = false }) ∷ values.old) }
+    ensures fault { IfOk result (λ fault. fault ≡ None) }
+{
+    let imports = Imports {
+        builtin: false,
+        swift: false,
+    };
+    put_value(Value::Imports(imports), values)
+}
+
+/// Puts an item, and the items behind it.
+#[inline(never)]
 #[tactic(auto, unfolding(crate::specs::Replay::reduced, crate::specs::Meaning::meaning, sil_shape::specs::Grammar::body))]
-pub(crate) fn more_items(alloc: Global, values: &mut Prepended<Value>) -> Result<Value, Exhausted>
+pub(crate) fn more_items(
+    alloc: Global,
+    values: &mut Prepended<Value>,
+) -> Result<Option<Fault>, Exhausted>
     requires { 2 ≤ length values.old }
-    ensures { IfOk result (λ value. reduced Production.ItemsMore values.old ≡ value ∷ values.new) }
+    ensures values { OnOk result (values.new ≡ reduced Production.ItemsMore values.old) }
+    ensures fault { IfOk result (λ fault. fault ≡ None) }
 {
     let item = values.pop_front().into_item(alloc);
     let mut items = values.pop_front().into_items(alloc);
     items.push_front(item)?;
-    Ok(Value::Items(items))
+    put_value(Value::Items(items), values)
 }
 
+/// Puts that there are no items, or no more of them.
+#[inline(never)]
+pub(crate) fn no_items(
+    alloc: Global,
+    values: &mut Prepended<Value>,
+) -> Result<Option<Fault>, Exhausted>
+    ensures values { OnOk result (values.new ≡ v.Items [] ∷ values.old) }
+    ensures fault { IfOk result (λ fault. fault ≡ None) }
+{
+    put_value(Value::Items(Prepended::new(alloc)), values)
+}
+
+/// Puts the table of a class of its name and its entry.
+#[inline(never)]
 #[tactic(auto, unfolding(crate::specs::Replay::reduced, crate::specs::Meaning::meaning, sil_shape::specs::Grammar::body))]
-pub(crate) fn vtable(alloc: Global, values: &mut Prepended<Value>) -> Result<Value, Exhausted>
+pub(crate) fn vtable(
+    alloc: Global,
+    values: &mut Prepended<Value>,
+) -> Result<Option<Fault>, Exhausted>
     requires { 5 ≤ length values.old }
-    ensures { IfOk result (λ value. reduced Production.VtableItem values.old ≡ value ∷ values.new) }
+    ensures values { OnOk result (values.new ≡ reduced Production.VtableItem values.old) }
+    ensures fault { IfOk result (λ fault. fault ≡ None) }
 {
     skip(values);
     let class_name = values.pop_front().into_token();
@@ -77,13 +134,20 @@ pub(crate) fn vtable(alloc: Global, values: &mut Prepended<Value>) -> Result<Val
     let entry = values.pop_front().into_entry();
     skip(values);
     let vtable = WrittenVtable { class_name, entry };
-    Ok(Value::Item(Boxed::new(alloc, WrittenItem::Vtable(vtable))?))
+    let item = Boxed::new(alloc, WrittenItem::Vtable(vtable))?;
+    put_value(Value::Item(item), values)
 }
 
+/// Puts the entry of a table of its class and its function.
+#[inline(never)]
 #[tactic(auto, unfolding(crate::specs::Replay::reduced, crate::specs::Meaning::meaning, sil_shape::specs::Grammar::body))]
-pub(crate) fn entry(alloc: Global, values: &mut Prepended<Value>) -> Result<Value, Exhausted>
+pub(crate) fn entry(
+    alloc: Global,
+    values: &mut Prepended<Value>,
+) -> Result<Option<Fault>, Exhausted>
     requires { 8 ≤ length values.old }
-    ensures { IfOk result (λ value. reduced Production.EntrySome values.old ≡ value ∷ values.new) }
+    ensures values { OnOk result (values.new ≡ reduced Production.EntrySome values.old) }
+    ensures fault { IfOk result (λ fault. fault ≡ None) }
 {
     skip(values);
     let owner = values.pop_front().into_token().text;
@@ -93,5 +157,6 @@ pub(crate) fn entry(alloc: Global, values: &mut Prepended<Value>) -> Result<Valu
     skip(values);
     skip(values);
     let function = values.pop_front().into_token();
-    Ok(Value::Entry(Boxed::new(alloc, WrittenEntry { owner, function })?))
+    let entry = Boxed::new(alloc, WrittenEntry { owner, function })?;
+    put_value(Value::Entry(entry), values)
 }

@@ -165,11 +165,16 @@ fn tailed(alloc: Global, token: WrittenToken, tail: Value) -> Result<WrittenType
     }
 }
 
+/// Puts the type between the parentheses of a case, a tuple where there are several.
+#[inline(never)]
 #[tactic(auto, unfolding(crate::specs::Replay::reduced, crate::specs::Meaning::meaning, crate::specs::PartFaults::part_fault, sil_shape::specs::Grammar::body))]
-pub(crate) fn payload(alloc: Global, values: &mut Prepended<Value>) -> Result<Reduced, Exhausted>
+pub(crate) fn payload(
+    alloc: Global,
+    values: &mut Prepended<Value>,
+) -> Result<Option<Fault>, Exhausted>
     requires { 4 ≤ length values.old }
-    ensures value { IfOk result (λ made. reduced Production.PayloadSome values.old ≡ made.value ∷ values.new) }
-    ensures fault { IfOk result (λ made. made.fault ≡ part_fault Production.PayloadSome (parts_of Production.PayloadSome values.old)) }
+    ensures values { OnOk result (values.new ≡ reduced Production.PayloadSome values.old) }
+    ensures fault { IfOk result (λ fault. fault ≡ part_fault Production.PayloadSome (parts_of Production.PayloadSome values.old)) }
 {
     let first = values.pop_front().into_token().place;
     let ty = values.pop_front().into_type(alloc);
@@ -178,7 +183,7 @@ pub(crate) fn payload(alloc: Global, values: &mut Prepended<Value>) -> Result<Re
     let list = type_before(ty, others)?;
     let fault = tuple_fault(&list, last);
     let value = Value::Type(in_parens(alloc, first, list, last));
-    Ok(Reduced { value, fault })
+    put(Reduced { value, fault }, values)
 }
 
 #[inline(never)]

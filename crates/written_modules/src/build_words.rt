@@ -1,59 +1,70 @@
-//! Builds the flags, the qualifiers and the words for a debugger.
+//! Builds the flags, the qualifiers and the words for a debugger, and puts them before the values that wait.
 
-ghost use Rattle.std.specs.Prelude.{◌≡◌, [], ◌∷◌, Some, ◌≤◌, length, IfOk};
+ghost use Rattle.std.specs.Prelude.{◌≡◌, [], ◌∷◌, Some, ◌≤◌, List, length, None, IfOk, OnOk};
 ghost use Rattle.sil_shape.specs.declared.grammar.Production.{Production};
+ghost use Rattle.written_modules.specs.declared.value.Value.{Value};
 ghost use Rattle.written_modules.specs.declared.value.Value.TheVariants as v;
 ghost use Rattle.written_modules.specs.Meaning as meant;
 ghost use Rattle.written_modules.specs.Meaning.{qualified};
 ghost use Rattle.written_modules.specs.PartFaults.{part_fault};
 ghost use Rattle.written_modules.specs.Replay.{parts_of, reduced};
-ghost use Rattle.written_modules.specs.Values.{debug_of};
+ghost use Rattle.written_modules.specs.Values.{debug_of, no_debug, no_qualifier};
 
-use crate::nothing::{no_debug, skip};
+use crate::nothing::{no_debug, no_qualifier, skip};
 use crate::prepended::Prepended;
+use crate::put::{put, put_value};
 use crate::value::{Flags, Reduced, Value};
 use sil_ast::{Binding, Boxed, Exhausted, Qualifier};
 use sil_shape::grammar::Production;
 use std::alloc::Global;
 use written_numbers::small_number;
-use written_tree::{WrittenQualifier, out_of_range};
+use written_tree::{Fault, WrittenQualifier, out_of_range};
 
-pub(crate) fn flags(lexical: bool, var_decl: bool) -> Value
-    ensures { result ≡ meant.flags lexical var_decl }
+/// Puts which flags are written.
+#[inline(never)]
+pub(crate) fn flags(
+    lexical: bool,
+    var_decl: bool,
+    values: &mut Prepended<Value>,
+) -> Result<Option<Fault>, Exhausted>
+    ensures values { OnOk result (values.new ≡ meant.flags lexical var_decl ∷ values.old) }
+    ensures fault { IfOk result (λ fault. fault ≡ None) }
 {
-    Value::Flags(Flags { lexical, var_decl })
+    put_value(Value::Flags(Flags { lexical, var_decl }), values)
 }
 
+/// Puts `[lexical]` and the flag behind it.
+#[inline(never)]
 #[tactic(auto, unfolding(crate::specs::Replay::reduced, crate::specs::Meaning::meaning, sil_shape::specs::Grammar::body))]
-pub(crate) fn lexical_first(values: &mut Prepended<Value>) -> Value
+pub(crate) fn lexical_first(values: &mut Prepended<Value>) -> Result<Option<Fault>, Exhausted>
     requires { 3 ≤ length values.old }
-    ensures { reduced Production.LexicalFirst values.old ≡ result ∷ values.new }
+    ensures values { OnOk result (values.new ≡ reduced Production.LexicalFirst values.old) }
+    ensures fault { IfOk result (λ fault. fault ≡ None) }
 {
     skip(values);
     skip(values);
-    let after = values.pop_front().into_flags();
-    Value::Flags(Flags {
-        lexical: true,
-        var_decl: after.var_decl,
-    })
+    let Flags { var_decl, .. } = values.pop_front().into_flags();
+    let lexical = true;
+    put_value(Value::Flags(Flags { lexical, var_decl }), values)
 }
 
+/// Puts `[var_decl]` and the flag behind it.
+#[inline(never)]
 #[tactic(auto, unfolding(crate::specs::Replay::reduced, crate::specs::Meaning::meaning, sil_shape::specs::Grammar::body))]
-pub(crate) fn var_decl_first(values: &mut Prepended<Value>) -> Value
+pub(crate) fn var_decl_first(values: &mut Prepended<Value>) -> Result<Option<Fault>, Exhausted>
     requires { 3 ≤ length values.old }
-    ensures { reduced Production.VarDeclFirst values.old ≡ result ∷ values.new }
+    ensures values { OnOk result (values.new ≡ reduced Production.VarDeclFirst values.old) }
+    ensures fault { IfOk result (λ fault. fault ≡ None) }
 {
     skip(values);
     skip(values);
-    let after = values.pop_front().into_flags();
-    Value::Flags(Flags {
-        lexical: after.lexical,
-        var_decl: true,
-    })
+    let Flags { lexical, .. } = values.pop_front().into_flags();
+    let var_decl = true;
+    put_value(Value::Flags(Flags { lexical, var_decl }), values)
 }
 
 /// A qualifier's word, and where it stands.
-pub(crate) fn qualifier(word: Qualifier, values: &mut Prepended<Value>) -> Value
+fn qualified(word: Qualifier, values: &mut Prepended<Value>) -> Value
     requires { 1 ≤ length values.old }
     ensures { (a : Value) × (values.old ≡ a ∷ values.new) × (result ≡ qualified word 0 (a ∷ [])) }
 {
@@ -61,54 +72,114 @@ pub(crate) fn qualifier(word: Qualifier, values: &mut Prepended<Value>) -> Value
     Value::Qualifier(WrittenQualifier { word, place })
 }
 
-/// `let` or `var`, and what a debugger is told behind it.
-pub(crate) fn debug_binding(binding: Binding, values: &mut Prepended<Value>) -> Value
+/// Puts a qualifier's word, and where it stands.
+#[inline(never)]
+pub(crate) fn qualifier(
+    word: Qualifier,
+    values: &mut Prepended<Value>,
+) -> Result<Option<Fault>, Exhausted>
+    requires { 1 ≤ length values.old }
+    ensures values { OnOk result ((a : Value) × (rest : List Value) × (values.old ≡ a ∷ rest) × (values.new ≡ qualified word 0 (a ∷ []) ∷ rest)) }
+    ensures fault { IfOk result (λ fault. fault ≡ None) }
+{
+    let qualifier = qualified(word, values);
+    put_value(qualifier, values)
+}
+
+/// Puts the `take` between two brackets.
+#[inline(never)]
+#[tactic(auto, unfolding(crate::specs::Replay::reduced, crate::specs::Meaning::meaning, sil_shape::specs::Grammar::body))]
+pub(crate) fn take_flag(values: &mut Prepended<Value>) -> Result<Option<Fault>, Exhausted>
+    requires { 3 ≤ length values.old }
+    ensures values { OnOk result (values.new ≡ reduced Production.TakeFlagSome values.old) }
+    ensures fault { IfOk result (λ fault. fault ≡ None) }
+{
+    skip(values);
+    let take = qualified(Qualifier::Take, values);
+    skip(values);
+    put_value(take, values)
+}
+
+/// Puts that there is no qualifier.
+#[inline(never)]
+pub(crate) fn unqualified(values: &mut Prepended<Value>) -> Result<Option<Fault>, Exhausted>
+    ensures values { OnOk result (values.new ≡ v.Qualifier no_qualifier ∷ values.old) }
+    ensures fault { IfOk result (λ fault. fault ≡ None) }
+{
+    put_value(Value::Qualifier(no_qualifier()), values)
+}
+
+/// Puts `let` or `var`, and what a debugger is told behind it.
+#[inline(never)]
+pub(crate) fn debug_binding(
+    binding: Binding,
+    values: &mut Prepended<Value>,
+) -> Result<Option<Fault>, Exhausted>
     requires { 2 ≤ length values.old }
-    ensures { (word rest : Value) × (values.old ≡ word ∷ rest ∷ values.new) × (result ≡ v.Debug (record (debug_of rest) { binding = Some binding })) }
+    ensures values { OnOk result ((word others : Value) × (rest : List Value) × (values.old ≡ word ∷ others ∷ rest) × (values.new ≡ v.Debug (record (debug_of others) { binding = Some binding }) ∷ rest)) }
+    ensures fault { IfOk result (λ fault. fault ≡ None) }
 {
     skip(values);
     let mut debug = values.pop_front().into_debug();
     debug.binding = Some(binding);
-    Value::Debug(debug)
+    put_value(Value::Debug(debug), values)
 }
 
+/// Puts a name, and what a debugger is told behind it.
+#[inline(never)]
 #[tactic(auto, unfolding(crate::specs::Replay::reduced, crate::specs::Meaning::meaning, sil_shape::specs::Grammar::body))]
-pub(crate) fn debug_name(alloc: Global, values: &mut Prepended<Value>) -> Result<Value, Exhausted>
+pub(crate) fn debug_name(
+    alloc: Global,
+    values: &mut Prepended<Value>,
+) -> Result<Option<Fault>, Exhausted>
     requires { 3 ≤ length values.old }
-    ensures { IfOk result (λ value. reduced Production.DebugName values.old ≡ value ∷ values.new) }
+    ensures values { OnOk result (values.new ≡ reduced Production.DebugName values.old) }
+    ensures fault { IfOk result (λ fault. fault ≡ None) }
 {
     skip(values);
     let name = Boxed::new(alloc, values.pop_front().into_text(alloc)?)?;
     let mut debug = values.pop_front().into_debug();
     debug.name = Some(name);
-    Ok(Value::Debug(debug))
+    put_value(Value::Debug(debug), values)
 }
 
+/// Puts the number of an argument, and what a debugger is told behind it.
+#[inline(never)]
 #[tactic(auto, unfolding(crate::specs::Replay::reduced, crate::specs::Meaning::meaning, crate::specs::PartFaults::part_fault, sil_shape::specs::Grammar::body))]
-pub(crate) fn debug_number(values: &mut Prepended<Value>) -> Reduced
+pub(crate) fn debug_number(values: &mut Prepended<Value>) -> Result<Option<Fault>, Exhausted>
     requires { 3 ≤ length values.old }
-    ensures value { reduced Production.DebugNumber values.old ≡ result.value ∷ values.new }
-    ensures fault { result.fault ≡ part_fault Production.DebugNumber (parts_of Production.DebugNumber values.old) }
+    ensures values { OnOk result (values.new ≡ reduced Production.DebugNumber values.old) }
+    ensures fault { IfOk result (λ fault. fault ≡ part_fault Production.DebugNumber (parts_of Production.DebugNumber values.old)) }
 {
     skip(values);
     let number = values.pop_front().into_token();
     let mut debug = values.pop_front().into_debug();
     debug.argno = small_number(number.text.as_slice(), 65_535);
     let fault = out_of_range(debug.argno, number.place);
-    Reduced {
-        value: Value::Debug(debug),
-        fault,
-    }
+    let value = Value::Debug(debug);
+    put(Reduced { value, fault }, values)
 }
 
+/// Puts what a debugger is told by `expr op_deref`.
+#[inline(never)]
 #[tactic(auto, unfolding(crate::specs::Replay::reduced, crate::specs::Meaning::meaning, sil_shape::specs::Grammar::body))]
-pub(crate) fn debug_deref(values: &mut Prepended<Value>) -> Value
+pub(crate) fn debug_deref(values: &mut Prepended<Value>) -> Result<Option<Fault>, Exhausted>
     requires { 2 ≤ length values.old }
-    ensures { reduced Production.DebugDeref values.old ≡ result ∷ values.new }
+    ensures values { OnOk result (values.new ≡ reduced Production.DebugDeref values.old) }
+    ensures fault { IfOk result (λ fault. fault ≡ None) }
 {
     skip(values);
     skip(values);
     let mut debug = no_debug();
     debug.deref = true;
-    Value::Debug(debug)
+    put_value(Value::Debug(debug), values)
+}
+
+/// Puts that a debugger is told nothing, or nothing more.
+#[inline(never)]
+pub(crate) fn no_more_debug(values: &mut Prepended<Value>) -> Result<Option<Fault>, Exhausted>
+    ensures values { OnOk result (values.new ≡ v.Debug no_debug ∷ values.old) }
+    ensures fault { IfOk result (λ fault. fault ≡ None) }
+{
+    put_value(Value::Debug(no_debug()), values)
 }

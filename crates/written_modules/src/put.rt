@@ -4,7 +4,7 @@ ghost use Rattle.std.specs.Prelude.{◌≡◌, ◌<◌, ◌≤◌, ◌∷◌, Li
 ghost use Rattle.written_modules.specs.declared.value.Value.{Value};
 ghost use Rattle.written_modules.specs.declared.value.Value.TheVariants as v;
 
-use crate::passed_on::second_of_two;
+use crate::passed_on::{second_of_three, second_of_two};
 use crate::prepended::Prepended;
 use crate::value::{Reduced, Value};
 use sil_ast::Exhausted;
@@ -48,6 +48,17 @@ pub(crate) fn put_second(values: &mut Prepended<Value>) -> Result<Option<Fault>,
     ensures fault { IfOk result (λ fault. fault ≡ None) }
 {
     let second = second_of_two(values);
+    put_value(second, values)
+}
+
+/// Puts the second of three values in the place of them all.
+#[inline(never)]
+pub(crate) fn put_second_of_three(values: &mut Prepended<Value>) -> Result<Option<Fault>, Exhausted>
+    requires { 3 ≤ length values.old }
+    ensures values { OnOk result ((first second third : Value) × (rest : List Value) × (values.old ≡ first ∷ second ∷ third ∷ rest) × (values.new ≡ second ∷ rest)) }
+    ensures fault { IfOk result (λ fault. fault ≡ None) }
+{
+    let second = second_of_three(values);
     put_value(second, values)
 }
 

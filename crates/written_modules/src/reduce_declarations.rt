@@ -7,12 +7,12 @@ ghost use Rattle.written_modules.specs.PartFaults.{part_fault};
 ghost use Rattle.written_modules.specs.Replay.{parts_of, reduced};
 ghost use Rattle.written_modules.specs.Sections.{section};
 
-use crate::passed_on::{constant, second_of_two};
+use crate::nothing::skip;
 use crate::prepended::Prepended;
-use crate::put::{put, put_value};
+use crate::put::{pass, put_nothing, put_second};
 use crate::value::Value;
 use crate::{build_declarations, build_functions, build_module, build_types};
-use sil_ast::{Exhausted, Imports, Stage, Storage};
+use sil_ast::{Exhausted, Stage, Storage};
 use sil_shape::grammar::Production;
 use std::alloc::Global;
 use written_tree::Fault;
@@ -30,73 +30,76 @@ pub(crate) fn reduce_declaration(
     ensures fault { IfOk result (λ fault. fault ≡ part_fault production (parts_of production values.old)) }
 {
     match production {
-        Production::WholeModule => put(build_module::whole_module(alloc, values), values),
-        Production::StageNone => put_value(Value::Stage(Stage::Canonical), values),
-        Production::Raw => put_value(constant(values, 1, Value::Stage(Stage::Raw)), values),
-        Production::Canonical => put_value(
-            constant(values, 1, Value::Stage(Stage::Canonical)),
+        Production::WholeModule => build_module::whole_module(alloc, values),
+        Production::StageNone => build_module::stage(Stage::Canonical, values),
+        Production::Raw => {
+            skip(values);
+            build_module::stage(Stage::Raw, values)
+        },
+        Production::Canonical => {
+            skip(values);
+            build_module::stage(Stage::Canonical, values)
+        },
+        Production::ImportsMore => build_module::more_imports(values),
+        Production::ImportsEnd => build_module::no_imports(values),
+        Production::ItemsMore => build_module::more_items(alloc, values),
+        Production::ItemsEnd => build_module::no_items(alloc, values),
+        Production::FinalClass => build_declarations::final_class(alloc, values),
+        Production::PlainClass => build_declarations::plain_class(alloc, values),
+        Production::StructItem => build_declarations::struct_item(alloc, values),
+        Production::EnumItem => build_declarations::enum_item(alloc, values),
+        Production::FunctionItem => build_functions::function(alloc, values),
+        Production::VtableItem => build_module::vtable(alloc, values),
+        Production::EntrySome => build_module::entry(alloc, values),
+        Production::MembersMore | Production::FieldsMore => {
+            build_declarations::fields(alloc, values)
+        }
+        Production::MembersEnd | Production::FieldsEnd => {
+            build_declarations::no_fields(alloc, values)
+        }
+        Production::WeakVariable => build_declarations::variable(alloc, Storage::Weak, values),
+        Production::UnownedVariable => build_declarations::variable(
+            alloc,
+            Storage::Unowned,
             values,
         ),
-        Production::ImportsMore => put_value(build_module::more_imports(values), values),
-        Production::ImportsEnd => put_value(
-            Value::Imports(Imports {
-                builtin: false,
-                swift: false,
-            }),
-            values,
-        ),
-        Production::ItemsMore => put_value(build_module::more_items(alloc, values)?, values),
-        Production::ItemsEnd => put_value(Value::Items(Prepended::new(alloc)), values),
-        Production::FinalClass => put(build_declarations::final_class(alloc, values)?, values),
-        Production::PlainClass => put(build_declarations::plain_class(alloc, values)?, values),
-        Production::StructItem => put(build_declarations::struct_item(alloc, values)?, values),
-        Production::EnumItem => put(build_declarations::enum_item(alloc, values)?, values),
-        Production::FunctionItem => put(build_functions::function(alloc, values)?, values),
-        Production::VtableItem => put_value(build_module::vtable(alloc, values)?, values),
-        Production::EntrySome => put_value(build_module::entry(alloc, values)?, values),
-        Production::MembersMore | Production::FieldsMore => put_value(
-            build_declarations::fields_before(alloc, values)?,
-            values,
-        ),
-        Production::MembersEnd | Production::FieldsEnd => put_value(
-            Value::Fields(Prepended::new(alloc)),
-            values,
-        ),
-        Production::WeakVariable => put_value(
-            build_declarations::variable(alloc, Storage::Weak, values)?,
-            values,
-        ),
-        Production::UnownedVariable => put_value(
-            build_declarations::variable(alloc, Storage::Unowned, values)?,
-            values,
-        ),
-        Production::VarBinding | Production::LetBinding => put_value(
-            build_declarations::binding(alloc, values)?,
-            values,
-        ),
-        Production::CasesMore => put_value(build_declarations::more_cases(alloc, values)?, values),
-        Production::CasesEnd => put_value(Value::Cases(Prepended::new(alloc)), values),
-        Production::PayloadSome => put(build_types::payload(alloc, values)?, values),
+        Production::VarBinding | Production::LetBinding => {
+            build_declarations::binding(alloc, values)
+        }
+        Production::CasesMore => build_declarations::more_cases(alloc, values),
+        Production::CasesEnd => build_declarations::no_cases(alloc, values),
+        Production::PayloadSome => build_types::payload(alloc, values),
         Production::PlainMember
         | Production::ModifiedVariable
         | Production::StrongVariable
-        | Production::PlainField => put_value(values.pop_front(), values),
+        | Production::PlainField => pass(values),
         Production::StageSome
         | Production::StoredMember
         | Production::FinalMember
         | Production::ModifiedStored
         | Production::ModifiedFinal
-        | Production::StoredField => put_value(second_of_two(values), values),
-        Production::DeinitMember | Production::SetterSome => put_value(
-            constant(values, 1, Value::Nothing),
-            values,
-        ),
-        Production::InitMember => put_value(constant(values, 3, Value::Nothing), values),
-        Production::AccessorsSome => put_value(constant(values, 4, Value::Nothing), values),
+        | Production::StoredField => put_second(values),
+        Production::DeinitMember | Production::SetterSome => {
+            skip(values);
+            put_nothing(values)
+        },
+        Production::InitMember => {
+            skip(values);
+            skip(values);
+            skip(values);
+            put_nothing(values)
+        },
+        Production::AccessorsSome => {
+            skip(values);
+            skip(values);
+            skip(values);
+            skip(values);
+            put_nothing(values)
+        },
         Production::AccessorsNone
         | Production::SetterNone
         | Production::PayloadNone
-        | Production::EntryNone => put_value(Value::Nothing, values),
+        | Production::EntryNone => put_nothing(values),
         _ => unreachable!(),
     }
 }

@@ -7,10 +7,8 @@ ghost use Rattle.written_modules.specs.PartFaults.{part_fault};
 ghost use Rattle.written_modules.specs.Replay.{parts_of, reduced};
 ghost use Rattle.written_modules.specs.Sections.{section};
 
-use crate::nothing::{no_givens, no_params, skip};
-use crate::passed_on::constant;
+use crate::nothing::skip;
 use crate::prepended::Prepended;
-use crate::put::{put, put_value};
 use crate::value::Value;
 use crate::{build_blocks, build_functions};
 use sil_ast::{Convention, Exhausted, Linkage, Passing};
@@ -31,80 +29,61 @@ pub(crate) fn reduce_function(
     ensures fault { IfOk result (λ fault. fault ≡ part_fault production (parts_of production values.old)) }
 {
     match production {
-        Production::LinkageHidden => put_value(
-            constant(values, 1, Value::Linkage(Linkage::Hidden)),
-            values,
-        ),
-        Production::LinkagePrivate => put_value(
-            constant(values, 1, Value::Linkage(Linkage::Private)),
-            values,
-        ),
-        Production::LinkageShared => put_value(
-            constant(values, 1, Value::Linkage(Linkage::Shared)),
-            values,
-        ),
-        Production::LinkagePublic => put_value(
-            constant(values, 1, Value::Linkage(Linkage::Public)),
-            values,
-        ),
-        Production::LinkagePlain => put_value(Value::Linkage(Linkage::Plain), values),
-        Production::AttributesMore => put_value(
-            build_functions::more_attributes(alloc, values)?,
-            values,
-        ),
-        Production::AttributesEnd => put_value(Value::Tokens(Prepended::new(alloc)), values),
-        Production::WholeFunctionType => put(build_functions::function_type(alloc, values), values),
-        Production::Thin => put_value(
-            constant(values, 1, Value::Convention(Convention::Thin)),
-            values,
-        ),
-        Production::Method => put_value(
-            constant(values, 1, Value::Convention(Convention::Method)),
-            values,
-        ),
-        Production::ParamsSome => put_value(build_functions::params_before(alloc, values)?, values),
+        Production::LinkageHidden => {
+            skip(values);
+            build_functions::linkage(Linkage::Hidden, values)
+        },
+        Production::LinkagePrivate => {
+            skip(values);
+            build_functions::linkage(Linkage::Private, values)
+        },
+        Production::LinkageShared => {
+            skip(values);
+            build_functions::linkage(Linkage::Shared, values)
+        },
+        Production::LinkagePublic => {
+            skip(values);
+            build_functions::linkage(Linkage::Public, values)
+        },
+        Production::LinkagePlain => build_functions::linkage(Linkage::Plain, values),
+        Production::AttributesMore => build_functions::more_attributes(alloc, values),
+        Production::AttributesEnd => build_functions::no_attributes(alloc, values),
+        Production::WholeFunctionType => build_functions::function_type(alloc, values),
+        Production::Thin => {
+            skip(values);
+            build_functions::convention(Convention::Thin, values)
+        },
+        Production::Method => {
+            skip(values);
+            build_functions::convention(Convention::Method, values)
+        },
+        Production::ParamsSome => build_functions::params(alloc, values),
         Production::MoreParamsMore => {
             skip(values);
-            put_value(build_functions::params_before(alloc, values)?, values)
+            build_functions::params(alloc, values)
         },
-        Production::ParamsNone | Production::MoreParamsEnd => put_value(
-            Value::Params(no_params(alloc)),
-            values,
-        ),
-        Production::ParamOwned => put_value(
-            build_functions::param(alloc, Passing::Owned, values),
-            values,
-        ),
-        Production::ParamGuaranteed => put_value(
-            build_functions::param(alloc, Passing::Guaranteed, values),
-            values,
-        ),
-        Production::ParamInout => put_value(
-            build_functions::param(alloc, Passing::Inout, values),
-            values,
-        ),
-        Production::ParamPlain => put_value(build_functions::plain_param(alloc, values), values),
-        Production::ResultList => put_value(build_functions::result_list(alloc, values), values),
-        Production::ResultOwned => put_value(build_functions::owned_result(alloc, values)?, values),
-        Production::ResultPlain => put_value(build_functions::plain_result(alloc, values)?, values),
-        Production::InsideSome => put_value(build_functions::givens_before(alloc, values)?, values),
+        Production::ParamsNone | Production::MoreParamsEnd => {
+            build_functions::no_more_params(alloc, values)
+        }
+        Production::ParamOwned => build_functions::param(alloc, Passing::Owned, values),
+        Production::ParamGuaranteed => build_functions::param(alloc, Passing::Guaranteed, values),
+        Production::ParamInout => build_functions::param(alloc, Passing::Inout, values),
+        Production::ParamPlain => build_functions::plain_param(alloc, values),
+        Production::ResultList => build_functions::result_list(alloc, values),
+        Production::ResultOwned => build_functions::owned_result(alloc, values),
+        Production::ResultPlain => build_functions::plain_result(alloc, values),
+        Production::InsideSome => build_functions::givens(alloc, values),
         Production::MoreGivensMore => {
             skip(values);
-            put_value(build_functions::givens_before(alloc, values)?, values)
+            build_functions::givens(alloc, values)
         },
-        Production::InsideNone | Production::MoreGivensEnd => put_value(
-            Value::Givens(no_givens(alloc)),
-            values,
-        ),
-        Production::GivenOwned => put_value(build_functions::owned_given(alloc, values), values),
-        Production::GivenPlain => put_value(build_functions::plain_given(alloc, values), values),
-        Production::BodySome => {
-            skip(values);
-            let blocks = build_blocks::blocks_before(alloc, values)?;
-            skip(values);
-            put_value(blocks, values)
-        },
-        Production::BodyNone => put_value(Value::Blocks(Prepended::new(alloc)), values),
+        Production::InsideNone | Production::MoreGivensEnd => {
+            build_functions::no_more_givens(alloc, values)
+        }
+        Production::GivenOwned => build_functions::owned_given(alloc, values),
+        Production::GivenPlain => build_functions::plain_given(alloc, values),
+        Production::BodySome => build_blocks::body(alloc, values),
+        Production::BodyNone => build_blocks::no_blocks(alloc, values),
         _ => unreachable!(),
     }
 }

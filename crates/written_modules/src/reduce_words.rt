@@ -8,10 +8,9 @@ ghost use Rattle.written_modules.specs.Replay.{parts_of, reduced};
 ghost use Rattle.written_modules.specs.Sections.{section};
 
 use crate::build_words;
-use crate::nothing::{no_debug, no_qualifier, skip};
-use crate::passed_on::{constant, second_of_three, second_of_two};
+use crate::nothing::skip;
 use crate::prepended::Prepended;
-use crate::put::{put, put_value};
+use crate::put::{pass, put_second, put_second_of_three};
 use crate::value::Value;
 use sil_ast::{Binding, Exhausted, Qualifier};
 use sil_shape::grammar::Production;
@@ -32,68 +31,49 @@ pub(crate) fn reduce_word(
 {
     match production {
         Production::FlagsNone | Production::VarDeclAfterNone | Production::LexicalAfterNone => {
-            put_value(build_words::flags(false, false), values)
-        },
-        Production::LexicalFirst => put_value(build_words::lexical_first(values), values),
-        Production::VarDeclFirst => put_value(build_words::var_decl_first(values), values),
-        Production::VarDeclAfterSome => put_value(
-            constant(values, 3, build_words::flags(false, true)),
-            values,
-        ),
-        Production::LexicalAfterSome => put_value(
-            constant(values, 3, build_words::flags(true, false)),
-            values,
-        ),
-        Production::QualifierNone | Production::TakeFlagNone | Production::InitFlagNone =>
-            put_value(Value::Qualifier(no_qualifier()), values),
-        Production::QualifierCopy => put_value(
-            build_words::qualifier(Qualifier::Copy, values),
-            values,
-        ),
-        Production::QualifierTake => put_value(
-            build_words::qualifier(Qualifier::Take, values),
-            values,
-        ),
-        Production::QualifierTrivial => put_value(
-            build_words::qualifier(Qualifier::Trivial, values),
-            values,
-        ),
-        Production::QualifierInit | Production::InitShort | Production::InitLong => put_value(
-            build_words::qualifier(Qualifier::Init, values),
-            values,
-        ),
-        Production::QualifierAssign => put_value(
-            build_words::qualifier(Qualifier::Assign, values),
-            values,
-        ),
-        Production::TakeFlagSome => {
+            build_words::flags(false, false, values)
+        }
+        Production::LexicalFirst => build_words::lexical_first(values),
+        Production::VarDeclFirst => build_words::var_decl_first(values),
+        Production::VarDeclAfterSome => {
             skip(values);
-            let take = build_words::qualifier(Qualifier::Take, values);
             skip(values);
-            put_value(take, values)
+            skip(values);
+            build_words::flags(false, true, values)
         },
+        Production::LexicalAfterSome => {
+            skip(values);
+            skip(values);
+            skip(values);
+            build_words::flags(true, false, values)
+        },
+        Production::QualifierNone | Production::TakeFlagNone | Production::InitFlagNone => {
+            build_words::unqualified(values)
+        }
+        Production::QualifierCopy => build_words::qualifier(Qualifier::Copy, values),
+        Production::QualifierTake => build_words::qualifier(Qualifier::Take, values),
+        Production::QualifierTrivial => build_words::qualifier(Qualifier::Trivial, values),
+        Production::QualifierInit | Production::InitShort | Production::InitLong => {
+            build_words::qualifier(Qualifier::Init, values)
+        }
+        Production::QualifierAssign => build_words::qualifier(Qualifier::Assign, values),
+        Production::TakeFlagSome => build_words::take_flag(values),
         Production::DebugNone
         | Production::DebugAfterBindingNone
         | Production::DebugAfterNameNone
-        | Production::DebugAfterNumberNone => put_value(Value::Debug(no_debug()), values),
-        Production::DebugLet => put_value(build_words::debug_binding(Binding::Let, values), values),
-        Production::DebugVar => put_value(build_words::debug_binding(Binding::Var, values), values),
-        Production::DebugName => put_value(build_words::debug_name(alloc, values)?, values),
-        Production::DebugNumber => put(build_words::debug_number(values), values),
-        Production::DebugDeref => put_value(build_words::debug_deref(values), values),
-        Production::DebugRest | Production::DebugNoName | Production::DebugNoNumber => put_value(
-            values.pop_front(),
-            values,
-        ),
+        | Production::DebugAfterNumberNone => build_words::no_more_debug(values),
+        Production::DebugLet => build_words::debug_binding(Binding::Let, values),
+        Production::DebugVar => build_words::debug_binding(Binding::Var, values),
+        Production::DebugName => build_words::debug_name(alloc, values),
+        Production::DebugNumber => build_words::debug_number(values),
+        Production::DebugDeref => build_words::debug_deref(values),
+        Production::DebugRest | Production::DebugNoName | Production::DebugNoNumber => pass(values),
         Production::FlagsSome
         | Production::DebugSome
         | Production::DebugAfterBindingSome
         | Production::DebugAfterNameSome
-        | Production::DebugAfterNumberSome => put_value(second_of_two(values), values),
-        Production::QualifierSome | Production::InitFlagSome => put_value(
-            second_of_three(values),
-            values,
-        ),
+        | Production::DebugAfterNumberSome => put_second(values),
+        Production::QualifierSome | Production::InitFlagSome => put_second_of_three(values),
         _ => unreachable!(),
     }
 }
