@@ -1,9 +1,9 @@
 -- What is popped off a list stands first of the list turned round.
-use Rattle.std.proofs.Common.{◌≡◌, ℕ, ◌+◌, ◌-◌, ◌<◌, ◌≤◌, List, [], ◌∷◌, ◌++◌, length, drop, take, get_or, ap, arith, refl, subst, sym, ◌∙◌, reverse, Some}
+use Rattle.std.proofs.Common.{◌≡◌, ℕ, ◌-◌, ◌<◌, ◌≤◌, List, [], ◌∷◌, ◌++◌, length, take, get_or, ap, arith, refl, subst, ◌∙◌, reverse, Some}
 use Rattle.std.specs.Prelude.{MatchOption, Option, None, suc}
 use Rattle.std.specs.Option.{option_to_list}
 use Rattle.std.proofs.Math.Seq.{take-suc}
-use Rattle.std.proofs.lemmas.List.{drop-drop, reverse-append, take_all}
+use Rattle.std.proofs.lemmas.List.{reverse-append}
 
 pub popped : {X : Type 0} (old new : List X) (x : X) (r : Option X) → old ≡ new ++ option_to_list r → r ≡ Some x → old ≡ new ++ x ∷ []
 popped old new x r is some = is ∙ ap (λ o. new ++ option_to_list o) some
@@ -17,12 +17,6 @@ none_popped A B count (x ∷ xs) (Some y) h none e = absurd (none y refl)
 pub first_popped : {X : Type 0} (old new : List X) (x : X) → old ≡ new ++ x ∷ [] → reverse old ≡ x ∷ reverse new
 first_popped old new x is = ap reverse is ∙ reverse-append new (x ∷ [])
 
--- what is behind the first element of the rest
-pub drop_next : {X : Type 0} (i : ℕ) (xs : List X) {all rest : List X} {x : X} → all ≡ drop i xs → all ≡ x ∷ rest → rest ≡ drop (i + 1) xs
-drop_next i xs {rest = rest} {x = x} e f =
-    let g : drop 1 (drop i xs) ≡ rest = ap (drop 1) (sym e ∙ f) in
-    sym g ∙ drop-drop 1 i xs
-
 pub first_of : {X : Type 0} (xs : List X) → 0 < length xs → (x : X) × (rest : List X) × xs ≡ x ∷ rest
 first_of [] h = absurd (omega (arith, h))
 first_of (x ∷ xs) h = (x, xs, refl)
@@ -32,12 +26,3 @@ pub front_with_last : {X : Type 0} (n : ℕ) (xs : List X) (d : X) → 0 < n →
 front_with_last n xs d some there =
     let e : suc (n - 1) ≡ n = omega (arith, some) in
     subst (λ k. take k xs ≡ take (n - 1) xs ++ get_or xs (n - 1) d ∷ []) e (take-suc xs (n - 1) d (omega (arith, some, there)))
-
--- where the last element is cut off, the first of the list turned round is gone
-pub last_cut : {X : Type 0} (xs new : List X) (n : ℕ) → 0 < length xs → n ≡ length xs → new ≡ take (n - 1) xs → (x : X) × reverse xs ≡ x ∷ reverse new
-last_cut {X = X} xs new n some all cut =
-    let d : X = (first_of xs some).0 in
-    let x : X = get_or xs (n - 1) d in
-    let split : xs ≡ new ++ x ∷ [] =
-    sym (take_all n xs (omega (arith, all))) ∙ front_with_last n xs d (omega (arith, some, all)) (omega (arith, all)) ∙ ap (λ ys. ys ++ x ∷ []) (sym cut) in
-    (x, first_popped xs new x split)

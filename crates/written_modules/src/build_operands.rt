@@ -12,7 +12,6 @@ ghost use Rattle.written_modules.specs.Values.{operand_of, operands_of};
 use crate::build_blocks::starred;
 use crate::faults::too_many;
 use crate::nothing::skip;
-use crate::passed_on::constant;
 use crate::prepended::Prepended;
 use crate::put::{put, put_value};
 use crate::value::{Reduced, Value};
@@ -230,5 +229,8 @@ pub(crate) fn enum_element(
     ensures fault { IfOk result (λ fault. fault ≡ None) }
 {
     let member = member(alloc, values)?;
-    put_value(constant(values, 3, member), values)
+    skip(values);
+    skip(values);
+    skip(values);
+    put_value(member, values)
 }

@@ -18,7 +18,7 @@ pub(crate) fn skip(values: &mut Prepended<Value>)
     requires { 0 < length values.old }
     ensures { (first : Value) × (values.old ≡ first ∷ values.new) }
 {
-    values.drop_front();
+    discard(values.pop_front());
 }
 
 /// Drops a value. (In an arm of a `match` the drop would be written out for each variant.)

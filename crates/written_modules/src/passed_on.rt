@@ -1,23 +1,11 @@
-//! Values of a body that are passed on as they are, and values that don't depend on a body.
+//! Values of a body that are passed on as they are.
 
-ghost use Rattle.std.specs.Prelude.{◌≡◌, ◌∷◌, ◌≤◌, drop, length};
+ghost use Rattle.std.specs.Prelude.{◌≡◌, ◌∷◌, ◌≤◌, length};
 ghost use Rattle.written_modules.specs.declared.value.Value.{Value};
 
 use crate::nothing::skip;
 use crate::prepended::Prepended;
 use crate::value::Value;
-
-/// Takes that many values away, for a value that doesn't depend on them.
-pub(crate) fn constant(values: &mut Prepended<Value>, count: usize, value: Value) -> Value
-    requires { count ≤ length values.old }
-    ensures value { result ≡ value }
-    ensures rest { values.new ≡ drop count values.old }
-{
-    for _i in 0..count {
-        skip(values);
-    }
-    value
-}
 
 pub(crate) fn second_of_two(values: &mut Prepended<Value>) -> Value
     requires { 2 ≤ length values.old }

@@ -89,14 +89,6 @@ impl<T: Drop> Prepended<T> {
         Ok(())
     }
 
-    /// Drops the first element where it stands.
-    pub(crate) fn drop_front(&mut self)
-        requires { 0 < length self.old }
-        ensures { (first : T) × (self.old ≡ first ∷ self.new) }
-    {
-        self.backwards.truncate(self.backwards.len() - 1);
-    }
-
     /// Puts `item` behind the others, which are moved.
     pub(crate) fn push_back(&mut self, item: T) -> Result<(), Exhausted>
         ensures { OnOk result (self.new ≡ self.old ++ item ∷ []) }
