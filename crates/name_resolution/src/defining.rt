@@ -12,8 +12,8 @@ use instruction_table::has_one_result;
 use sil_ast::{Exhausted, Imports};
 use std::alloc::Global;
 use written_tree::{
-    InstBox, WrittenArg, WrittenBlock, WrittenCase, WrittenDecl, WrittenField, WrittenInst, WrittenItem,
-    WrittenToken,
+    InstBox, WrittenArg, WrittenBlock, WrittenCase, WrittenDecl, WrittenField, WrittenInst,
+    WrittenItem, WrittenToken,
 };
 
 /// The names of the declarations, behind those that the imports declare.

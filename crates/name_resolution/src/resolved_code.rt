@@ -153,7 +153,14 @@ fn resolve_insts(
 {
     let mut resolved = List::with_capacity(alloc, insts.len())?;
     for inst in insts.into_vec() {
-        add_inst(alloc, tables, faults, next, inst.into_inner(), &mut resolved)?;
+        add_inst(
+            alloc,
+            tables,
+            faults,
+            next,
+            inst.into_inner(),
+            &mut resolved,
+        )?;
     }
     Ok(resolved)
 }
