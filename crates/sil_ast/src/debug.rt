@@ -9,8 +9,8 @@ use std::alloc::Global;
 /// The variable that an instruction shows: `, let, name "x", argno 1, expr op_deref`, each part optional.
 #[derive(Drop)]
 pub struct Debug {
-    pub binding: Option<Binding>,
     pub name: Option<Boxed<Text>>,
+    pub binding: Option<Binding>,
     pub argno: Option<u16>,
     pub deref: bool,
 }
@@ -25,8 +25,8 @@ pub enum Binding {
 impl TryClone for Debug {
     fn try_clone(&self, alloc: Global) -> Result<Debug, Exhausted> {
         Ok(Debug {
-            binding: self.binding,
             name: self.name.try_clone(alloc)?,
+            binding: self.binding,
             argno: self.argno,
             deref: self.deref,
         })

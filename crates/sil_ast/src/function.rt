@@ -1,5 +1,6 @@
 //! Functions and their blocks.
 
+use crate::boxed::Boxed;
 use crate::exhausted::Exhausted;
 use crate::inst::Inst;
 use crate::list::List;
@@ -44,7 +45,8 @@ pub enum Linkage {
 #[derive(Drop)]
 pub struct Block {
     pub args: List<BlockArg>,
-    pub insts: List<Inst>,
+    /// Each in a box: they are large, and a list of them would want its memory in one piece.
+    pub insts: List<Boxed<Inst>>,
     pub terminator: Inst,
 }
 

@@ -7,6 +7,7 @@ use crate::list::List;
 use crate::member::Member;
 use crate::operands::{Operand, Operands};
 use crate::place::{BlockId, FuncId, ValueId};
+use crate::short_list::ShortList;
 use crate::signature::Signature;
 use crate::text::Text;
 use crate::try_clone::{TryClone, copy_four};
@@ -15,30 +16,31 @@ use instruction_table::Op;
 use std::alloc::Global;
 
 /// An instruction or a terminator: `%2 = load [copy] %1 : $*Node`.
-/// A part that it doesn't have is empty, `None`, `Plain` or `false`. Parts that few have stand in boxes, so that the others take less memory.
+/// A part that it doesn't have is empty, `None`, `Plain` or `false`. Parts that few have stand in boxes, and small parts
+/// beside one another, so that an instruction takes less memory.
 #[derive(Drop)]
 pub struct Inst {
     pub op: Op,
+    pub qualifier: Qualifier,
+    /// `[lexical]`
+    pub lexical: bool,
+    /// `[var_decl]`
+    pub var_decl: bool,
+    /// `@f` of `function_ref @f`.
+    pub function: Option<FuncId>,
     /// The values that it defines, from left to right.
-    pub results: List<ValueId>,
+    pub results: ShortList<ValueId, 4>,
     /// All operands in the order of the text, a callee first. The arguments of edges stand in `edges`.
     pub operands: Operands,
     /// The type that stands for itself: `$T` of `alloc_ref $T`, or of `builtin "..."(..) : $T`.
     pub ty: Option<TypeName>,
     /// The signature of `function_ref` and `apply`.
     pub signature: Option<Boxed<Signature>>,
-    /// `@f` of `function_ref @f`.
-    pub function: Option<FuncId>,
     pub member: Option<Boxed<Member>>,
     /// A literal as the signed residue of its width, or the number of a tuple's element, from 0.
     pub number: Option<i64>,
     /// The name of a builtin, or the message of `cond_fail`.
     pub text: Option<Boxed<Text>>,
-    pub qualifier: Qualifier,
-    /// `[lexical]`
-    pub lexical: bool,
-    /// `[var_decl]`
-    pub var_decl: bool,
     pub debug: Debug,
     /// Where a terminator goes, from left to right.
     pub edges: List<Edge>,
@@ -82,17 +84,17 @@ impl TryClone for Inst {
         )?;
         Ok(Inst {
             op: self.op,
+            qualifier: self.qualifier,
+            lexical: self.lexical,
+            var_decl: self.var_decl,
+            function: self.function,
             results,
             operands,
             ty,
             signature,
-            function: self.function,
             member,
             number: self.number,
             text,
-            qualifier: self.qualifier,
-            lexical: self.lexical,
-            var_decl: self.var_decl,
             debug,
             edges,
         })

@@ -21,7 +21,7 @@ pub enum TypeName {
     /// `Optional<T>`, or `T?`.
     Optional(Boxed<TypeName>),
     /// `(T, U)`, and `()` with no element.
-    Tuple(List<TypeName>),
+    Tuple(Boxed<List<TypeName>>),
     /// `@sil_weak T`, a storage type.
     Weak(Boxed<TypeName>),
     /// `@sil_unowned T`, a storage type.
@@ -40,7 +40,7 @@ impl TypeName {
             TypeName::Int(_) => 1,
             TypeName::Named(_) => 1,
             TypeName::Optional(target) => target.get().depth().saturating_add(1),
-            TypeName::Tuple(elements) => deepest(elements.as_slice()).saturating_add(1),
+            TypeName::Tuple(elements) => deepest(elements.get().as_slice()).saturating_add(1),
             TypeName::Weak(target) => target.get().depth().saturating_add(1),
             TypeName::Unowned(target) => target.get().depth().saturating_add(1),
             TypeName::Address(target) => target.get().depth(),
@@ -73,7 +73,7 @@ fn copy(name: &TypeName, alloc: Global) -> Result<TypeName, Exhausted>
         TypeName::Int(width) => Ok(TypeName::Int(*width)),
         TypeName::Named(name) => Ok(TypeName::Named(name.try_clone(alloc)?)),
         TypeName::Optional(target) => Ok(TypeName::Optional(copy_boxed(target, alloc)?)),
-        TypeName::Tuple(elements) => Ok(TypeName::Tuple(copy_all(elements.as_slice(), alloc)?)),
+        TypeName::Tuple(elements) => Ok(TypeName::Tuple(copy_all(elements.get().as_slice(), alloc)?)),
         TypeName::Weak(target) => Ok(TypeName::Weak(copy_boxed(target, alloc)?)),
         TypeName::Unowned(target) => Ok(TypeName::Unowned(copy_boxed(target, alloc)?)),
         TypeName::Address(target) => Ok(TypeName::Address(copy_boxed(target, alloc)?)),
@@ -88,14 +88,14 @@ fn copy_boxed(target: &Boxed<TypeName>, alloc: Global) -> Result<Boxed<TypeName>
 }
 
 #[cycle(copy)]
-fn copy_all(elements: &[TypeName], alloc: Global) -> Result<List<TypeName>, Exhausted>
+fn copy_all(elements: &[TypeName], alloc: Global) -> Result<Boxed<List<TypeName>>, Exhausted>
     ensures { IfOk result (λ copy. copy ≡ elements.now) }
 {
     let mut copies = List::new(alloc);
     for element in elements {
         copies.push(copy(element, alloc)?)?;
     }
-    Ok(copies)
+    Boxed::new(alloc, copies)
 }
 
 impl Same for TypeName {
@@ -112,7 +112,7 @@ fn same_type(a: &TypeName, b: &TypeName) -> bool
         (TypeName::Int(x), TypeName::Int(y)) => *x == *y,
         (TypeName::Named(x), TypeName::Named(y)) => x.same(y),
         (TypeName::Optional(x), TypeName::Optional(y)) => same_type(x.get(), y.get()),
-        (TypeName::Tuple(x), TypeName::Tuple(y)) => same_types(x.as_slice(), y.as_slice()),
+        (TypeName::Tuple(x), TypeName::Tuple(y)) => same_types(x.get().as_slice(), y.get().as_slice()),
         (TypeName::Weak(x), TypeName::Weak(y)) => same_type(x.get(), y.get()),
         (TypeName::Unowned(x), TypeName::Unowned(y)) => same_type(x.get(), y.get()),
         (TypeName::Address(x), TypeName::Address(y)) => same_type(x.get(), y.get()),
