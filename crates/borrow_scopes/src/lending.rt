@@ -6,7 +6,7 @@ ghost use Rattle.borrow_scopes.specs.Lending as lending;
 ghost use Rattle.borrow_scopes.specs.Lending.{block_loans, inst_loans};
 
 use instruction_table::Op;
-use sil_ast::{Block, Exhausted, Function, Inst, ValueId};
+use sil_ast::{Block, Boxed, Exhausted, Function, Inst, ValueId};
 use std::alloc::Global;
 use value_origins::first_value;
 
@@ -45,11 +45,11 @@ fn add_results(loans: &mut Vec<Option<ValueId>>, inst: &Inst) -> Result<(), Exha
     add_times(loans, inst.results.len(), lent_value(inst))
 }
 
-fn add_insts(loans: &mut Vec<Option<ValueId>>, insts: &[Inst]) -> Result<(), Exhausted>
+fn add_insts(loans: &mut Vec<Option<ValueId>>, insts: &[Boxed<Inst>]) -> Result<(), Exhausted>
     ensures { OnOk result (loans.new.items ≡ loans.old.items ++ flat_map inst_loans insts.now) }
 {
     for inst in insts {
-        add_results(loans, inst)?;
+        add_results(loans, inst.get())?;
     }
     Ok(())
 }

@@ -28,6 +28,7 @@ fn a_type_has_one_level_more_than_its_parts(rt: HostRuntime) -> Result<(), Fail>
     let mut elements = List::new(rt.alloc());
     elements.push(optional_node(rt.alloc())?)?;
     elements.push(TypeName::Int(64))?;
+    let elements = Boxed::new(rt.alloc(), elements)?;
     assert_eq!(rt; TypeName::Tuple(elements).depth(), 3);
     Ok(())
 }
@@ -43,10 +44,14 @@ fn lists_grow_at_the_end(rt: HostRuntime) -> Result<(), Fail> {
 }
 
 #[test]
-fn texts_grow_at_the_end(rt: HostRuntime) -> Result<(), Fail> {
-    let mut word = Text::new(rt.alloc());
-    word.push(b'a')?;
-    assert_eq!(rt; word.as_slice(), b"a".as_slice());
+fn short_and_long_texts_keep_their_bytes(rt: HostRuntime) -> Result<(), Fail> {
+    let bytes = b"an_identifier_".as_slice();
+    let longer = b"an_identifier_x".as_slice();
+    for word in [&bytes[..0], bytes, longer] {
+        let text = Text::from_slice(rt.alloc(), word)?;
+        assert_eq!(rt; text.as_slice(), word);
+        assert_eq!(rt; text.into_vec(rt.alloc())?.as_slice(), word);
+    }
     Ok(())
 }
 

@@ -12,7 +12,7 @@ use crate::columns::{AccessKind, access_kind_of};
 use crate::source::Source;
 use row_types::shapes::{is_trivial_object, target};
 use sil_ast::{
-    Block, BlockArg, Decl, Exhausted, Field, Function, Inst, List, Text, TypeName, ValueId,
+    Block, BlockArg, Boxed, Decl, Exhausted, Field, Function, Inst, List, Text, TypeName, ValueId,
 };
 use sil_types::TypeTable;
 use std::alloc::Global;
@@ -161,11 +161,15 @@ fn add_results(sources: &mut List<Source>, table: &TypeTable, inst: &Inst) -> Re
     Ok(())
 }
 
-fn add_insts(sources: &mut List<Source>, table: &TypeTable, insts: &[Inst]) -> Result<(), Exhausted>
+fn add_insts(
+    sources: &mut List<Source>,
+    table: &TypeTable,
+    insts: &[Boxed<Inst>],
+) -> Result<(), Exhausted>
     ensures { OnOk result (sources.new ≡ sources.old ++ flat_map (result_sources table.now) insts.now) }
 {
     for inst in insts {
-        add_results(sources, table, inst)?;
+        add_results(sources, table, inst.get())?;
     }
     Ok(())
 }

@@ -13,7 +13,7 @@ use crate::operations::{is_idle, operations_of};
 use crate::overlaps::{add_overlaps, crossed_with, inout_operands};
 use memory_accesses::{Memory, add_addresses, deallocates};
 use ownership_kinds::StaticFault;
-use sil_ast::{Block, BlockId, Exhausted, Function, Inst, List, PointId, ValueId};
+use sil_ast::{Block, BlockId, Boxed, Exhausted, Function, Inst, List, PointId, ValueId};
 use sil_cfg::RuleFault;
 use sil_rules::Rule;
 use std::alloc::Global;
@@ -61,7 +61,7 @@ fn add_insts(
     alloc: Global,
     m: &Memory,
     block: BlockId,
-    insts: &[Inst],
+    insts: &[Boxed<Inst>],
     mut found: Option<StaticFault>,
 ) -> Result<Option<StaticFault>, Exhausted>
     requires { length insts.now < 2 ^ 32 }
@@ -69,7 +69,7 @@ fn add_insts(
 {
     let mut index = 0;
     for inst in insts {
-        found = add_inst(alloc, m, PointId { block, index }, inst, found)?;
+        found = add_inst(alloc, m, PointId { block, index }, inst.get(), found)?;
         index += 1;
     }
     Ok(found)
@@ -112,7 +112,7 @@ fn inst_at(f: &Function, point: PointId) -> Option<&Inst>
     ensures { (i : Inst) → IsAt f.now point.block.0 point.index i → option_copied result ≡ Some i }
 {
     let block = f.blocks.get(point.block.0 as usize)?;
-    match block.insts.get(point.index as usize) {
+    match block.inst(point.index as usize) {
         Some(inst) => Some(inst),
         None => Some(&block.terminator),
     }

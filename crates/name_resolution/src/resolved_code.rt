@@ -17,7 +17,7 @@ use crate::first_faults::CodeFaults;
 use crate::symbol_table::{SymbolTable, advanced};
 use sil_ast::{
     Block, BlockArg, BlockId, Boxed, Edge, Exhausted, FuncId, Inst, List, Operand, Operands,
-    ValueId,
+    ShortList, ValueId,
 };
 use std::alloc::Global;
 use std::mem;
@@ -37,7 +37,7 @@ pub(crate) struct Tables<'a> {
 /// The names of an instruction, by their numbers.
 #[derive(Drop)]
 struct Names {
-    results: List<ValueId>,
+    results: ShortList<ValueId, 4>,
     function: Option<FuncId>,
     operands: Operands,
     edges: List<Edge>,
@@ -47,7 +47,7 @@ struct Names {
 #[derive(Drop)]
 struct Parts {
     args: List<BlockArg>,
-    insts: List<Inst>,
+    insts: List<Boxed<Inst>>,
     names: Names,
 }
 
@@ -144,7 +144,7 @@ fn resolve_insts(
     faults: &mut CodeFaults,
     next: &mut u32,
     insts: List<InstBox>,
-) -> Result<List<Inst>, Exhausted>
+) -> Result<List<Boxed<Inst>>, Exhausted>
     ghost s: { Scope }
     requires { FindsScope tables.functions.now tables.blocks.now tables.values.now s }
     ensures insts { IfOk result (λ resolved. resolved ≡ resolved_insts s next.old insts) }
@@ -172,7 +172,7 @@ fn add_inst(
     faults: &mut CodeFaults,
     next: &mut u32,
     mut inst: WrittenInst,
-    resolved: &mut List<Inst>,
+    resolved: &mut List<Boxed<Inst>>,
 ) -> Result<(), Exhausted>
     ghost s: { Scope }
     requires { FindsScope tables.functions.now tables.blocks.now tables.values.now s }
@@ -181,7 +181,7 @@ fn add_inst(
     ensures faults { OnOk result (faults.new ≡ with_code (known_in tables.entry.functions.now tables.entry.blocks.now tables.entry.values.now) faults.old (inst ∷ [])) }
 {
     let names = resolve_names(alloc, tables, faults, next, &mut inst)?;
-    resolved.push(with_names(inst, names))
+    resolved.push(Boxed::new(alloc, with_names(inst, names))?)
 }
 
 // Takes the operands and the edges out of the instruction.
@@ -218,17 +218,17 @@ fn with_names(inst: WrittenInst, names: Names) -> Inst
 {
     Inst {
         op: inst.op,
+        qualifier: inst.qualifier.word,
+        lexical: inst.lexical,
+        var_decl: inst.var_decl,
+        function: names.function,
         results: names.results,
         operands: names.operands,
         ty: inst.ty,
         signature: inst.signature,
-        function: names.function,
         member: inst.member,
         number: inst.number,
         text: inst.text,
-        qualifier: inst.qualifier.word,
-        lexical: inst.lexical,
-        var_decl: inst.var_decl,
         debug: inst.debug,
         edges: names.edges,
     }
@@ -239,7 +239,7 @@ fn resolve_results(
     alloc: Global,
     next: &mut u32,
     inst: &WrittenInst,
-) -> Result<List<ValueId>, Exhausted>
+) -> Result<ShortList<ValueId, 4>, Exhausted>
     ensures results { IfOk result (λ results. results ≡ counted next.old (defined_by_inst inst.now)) }
     ensures next { OnOk result (next.new ≡ next.old + length (defined_by_inst inst.now)) }
 {
@@ -253,11 +253,11 @@ fn counted_results(
     alloc: Global,
     first: u32,
     inst: &WrittenInst,
-) -> Result<List<ValueId>, Exhausted>
+) -> Result<ShortList<ValueId, 4>, Exhausted>
     ensures { IfOk result (λ results. results ≡ counted first (defined_by_inst inst.now)) }
 {
     let count = count_of_results(inst);
-    let mut results = List::with_capacity(alloc, count)?;
+    let mut results = ShortList::new(alloc);
     for i in 0..count {
         results.push(ValueId(advanced(first, i)?))?;
     }

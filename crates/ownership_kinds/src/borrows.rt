@@ -7,7 +7,7 @@ ghost use Rattle.ownership_kinds.specs.Statics as statics;
 ghost use Rattle.ownership_kinds.specs.Statics.{block_borrows, borrows_by, result_borrows};
 
 use instruction_table::{Op, ResultKind, result_kind_of};
-use sil_ast::{Block, Exhausted, Function, Inst, ValueId};
+use sil_ast::{Block, Boxed, Exhausted, Function, Inst, ValueId};
 use std::alloc::Global;
 
 /// Whether an instruction's result is a borrow.
@@ -39,11 +39,11 @@ fn add_results(answers: &mut Vec<bool>, inst: &Inst) -> Result<(), Exhausted>
     add_times(answers, inst.results.len(), borrows(inst.op))
 }
 
-fn add_insts(answers: &mut Vec<bool>, insts: &[Inst]) -> Result<(), Exhausted>
+fn add_insts(answers: &mut Vec<bool>, insts: &[Boxed<Inst>]) -> Result<(), Exhausted>
     ensures { OnOk result (answers.new.items ≡ answers.old.items ++ flat_map result_borrows insts.now) }
 {
     for inst in insts {
-        add_results(answers, inst)?;
+        add_results(answers, inst.get())?;
     }
     Ok(())
 }

@@ -16,7 +16,7 @@ use crate::mixed::add_mixed;
 use crate::rings::{add_ring, add_rings};
 use forwarding_chains::Facts;
 use ownership_marks::Taken;
-use sil_ast::{Block, BlockArg, BlockId, Exhausted, Function, Inst, PointId, ValueId};
+use sil_ast::{Block, BlockArg, BlockId, Boxed, Exhausted, Function, Inst, PointId, ValueId};
 use sil_types::TypeTable;
 use std::alloc::Global;
 use value_origins::{Switched, switch_of};
@@ -58,7 +58,7 @@ fn add_insts(
     known: &Known<'_>,
     f: &Function,
     block: BlockId,
-    insts: &[Inst],
+    insts: &[Boxed<Inst>],
     mut found: Option<StaticFault>,
 ) -> Result<Option<StaticFault>, Exhausted>
     requires { length insts.now < 2 ^ 32 }
@@ -66,7 +66,7 @@ fn add_insts(
 {
     let mut index = 0;
     for inst in insts {
-        found = add_inst(taken, known, f, PointId { block, index }, inst, found)?;
+        found = add_inst(taken, known, f, PointId { block, index }, inst.get(), found)?;
         index += 1;
     }
     Ok(found)

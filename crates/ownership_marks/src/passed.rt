@@ -15,7 +15,7 @@ pub fn inst_at(f: &Function, p: PointId) -> Option<&Inst>
 {
     match f.blocks.get(p.block.0 as usize) {
         None => None,
-        Some(block) => block.insts.get(p.index as usize),
+        Some(block) => block.inst(p.index as usize),
     }
 }
 

@@ -78,7 +78,7 @@ fn is_integer_with_bit(width: u8, ty: &TypeName) -> bool
     ensures { result ≡ is_same_type (type.Tuple (type.Int width ∷ type.Int 1 ∷ [])) ty.now }
 {
     match ty {
-        TypeName::Tuple(parts) => are_integer_and_bit(width, parts.as_slice()),
+        TypeName::Tuple(parts) => are_integer_and_bit(width, parts.get().as_slice()),
         _ => false,
     }
 }

@@ -94,7 +94,7 @@ fn is_tuple_of(operands: &[Operand], ty: &TypeName) -> bool
     ensures { result ≡ is_same_type ty.now (type.Tuple (all_written operands.now)) }
 {
     match ty {
-        TypeName::Tuple(parts) => are_written(parts.as_slice(), operands),
+        TypeName::Tuple(parts) => are_written(parts.get().as_slice(), operands),
         _ => false,
     }
 }
@@ -127,7 +127,7 @@ fn is_tuple_given(results: &[Given], ty: &TypeName) -> bool
     ensures { result ≡ is_same_type ty.now (type.Tuple (map result_type results.now)) }
 {
     match ty {
-        TypeName::Tuple(parts) => are_given(parts.as_slice(), results),
+        TypeName::Tuple(parts) => are_given(parts.get().as_slice(), results),
         _ => false,
     }
 }

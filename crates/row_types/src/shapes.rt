@@ -126,7 +126,7 @@ pub fn elements(ty: &TypeName) -> Option<&[TypeName]>
     ensures { option_copied result ≡ shapes.elements ty.now }
 {
     match ty {
-        TypeName::Tuple(parts) => Some(parts.as_slice()),
+        TypeName::Tuple(parts) => Some(parts.get().as_slice()),
         _ => None,
     }
 }

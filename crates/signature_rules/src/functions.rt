@@ -4,7 +4,7 @@ ghost use Rattle.std.specs.Prelude.{◌≡◌, ◌++◌, length, map, replicate,
 ghost use Rattle.std.specs.List.{flat_map};
 ghost use Rattle.sil_types.specs.Typing.Values as values;
 
-use sil_ast::{Block, BlockArg, Exhausted, FuncId, Function, Inst, ValueId};
+use sil_ast::{Block, BlockArg, Boxed, Exhausted, FuncId, Function, Inst, ValueId};
 use std::alloc::Global;
 
 /// The functions that a function's values stand for, by the numbers of the values. Most values stand for none.
@@ -37,11 +37,11 @@ fn add_args(functions: &mut Vec<Option<FuncId>>, args: &[BlockArg]) -> Result<()
     Ok(())
 }
 
-fn add_insts(functions: &mut Vec<Option<FuncId>>, insts: &[Inst]) -> Result<(), Exhausted>
+fn add_insts(functions: &mut Vec<Option<FuncId>>, insts: &[Boxed<Inst>]) -> Result<(), Exhausted>
     ensures { OnOk result (functions.new.items ≡ functions.old.items ++ flat_map values.result_functions insts.now) }
 {
     for inst in insts {
-        add_results(functions, inst)?;
+        add_results(functions, inst.get())?;
     }
     Ok(())
 }

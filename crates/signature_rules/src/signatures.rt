@@ -98,7 +98,7 @@ fn is_given_type(results: &[Given], ty: &TypeName) -> bool
     match results {
         [only] => same_type(&only.ty, ty),
         _ => match ty {
-            TypeName::Tuple(elements) => are_given_types(results, elements.as_slice()),
+            TypeName::Tuple(elements) => are_given_types(results, elements.get().as_slice()),
             _ => false,
         },
     }

@@ -1,5 +1,8 @@
 //! Functions and their blocks.
 
+ghost use Rattle.std.specs.Prelude.{◌≡◌, slice_get};
+ghost use Rattle.std.specs.Option.{option_copied};
+
 use crate::boxed::Boxed;
 use crate::exhausted::Exhausted;
 use crate::inst::Inst;
@@ -64,6 +67,18 @@ pub enum ArgKind {
     Plain,
     Owned,
     Guaranteed,
+}
+
+impl Block {
+    /// The instruction at `i`, counted from 0; none where the terminator stands, and behind it.
+    pub fn inst(&self, i: usize) -> Option<&Inst>
+        ensures { option_copied result ≡ slice_get self.now.insts i }
+    {
+        match self.insts.get(i) {
+            None => None,
+            Some(inst) => Some(inst.get()),
+        }
+    }
 }
 
 impl TryClone for Function {

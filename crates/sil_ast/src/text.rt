@@ -1,36 +1,53 @@
 //! Names and texts as bytes. Nothing here knows which bytes a name may have.
 
-ghost use Rattle.std.specs.Prelude.{◌≡◌, ℕ, List, [], ◌∷◌, ◌++◌, ◌≤◌, ◌↔◌, length, slice_get, IsTrue, IsNone, IfOk, OnOk, OnErr};
+ghost use Rattle.std.specs.Prelude.{◌≡◌, [], ◌≤◌, ◌↔◌, length, slice_get, IsTrue, IsNone, IfOk};
 ghost use Rattle.std.specs.Option.{option_copied};
 
 use crate::exhausted::Exhausted;
 use crate::same::Same;
 use crate::try_clone::TryClone;
-use smallvec::SmallVec;
 use std::alloc::Global;
 use std::hash::{Hash, Hasher};
 use std::marker::Model;
 
-/// A name without its sigil (`main` of `@main`), or a text without its quotes. Up to 16 bytes stand in the value itself
-/// and take no memory, as most names do. To a contract it is the list of its bytes.
+/// A name without its sigil (`main` of `@main`), or a text without its quotes. Up to 14 bytes stand in the value itself
+/// and take no memory of their own, as most names do. To a contract it is the list of its bytes.
 #[derive(Drop)]
 pub struct Text {
-    bytes: SmallVec<u8, 16>,
+    bytes: Bytes,
+}
+
+/// How many bytes stand in a text itself: as many as are left beside what a box needs.
+const MOST_SHORT: usize = 14;
+
+#[derive(Drop)]
+enum Bytes {
+    /// The first `count` of `bytes`.
+    Short { count: u8, bytes: [u8; 14] },
+    Long(Box<Vec<u8>>),
 }
 
 impl Model for Text {
+    ghost use Rattle.std.specs.Prelude.{List, ℕ};
+    ghost use Rattle.sil_ast.specs.Text.{bytes_of, IsInRoom};
+
     ghost Value = { List ℕ };
 
-    ghost view = { λ text. text.bytes.items };
+    ghost view = { λ text. bytes_of text.bytes };
+
+    ghost invariant = { λ text. IsInRoom text.bytes };
 }
 
 impl Text {
-    /// The empty text, which takes no memory.
-    pub fn new(alloc: Global) -> Text
+    /// The empty text, which takes no memory of its own.
+    pub fn new() -> Text
         ensures { result ≡ [] }
     {
         Text {
-            bytes: SmallVec::new(alloc),
+            bytes: Bytes::Short {
+                count: 0,
+                bytes: [0; 14],
+            },
         }
     }
 
@@ -38,38 +55,50 @@ impl Text {
     pub fn from_slice(alloc: Global, bytes: &[u8]) -> Result<Text, Exhausted>
         ensures { IfOk result (λ text. text ≡ bytes.now) }
     {
+        let count = bytes.len();
+        if count > MOST_SHORT {
+            return Text::from_vec(alloc, bytes.to_vec(alloc)?);
+        }
+        let mut short = [0; 14];
+        short[..count].copy_from_slice(bytes);
         Ok(Text {
-            bytes: SmallVec::from_slice(alloc, bytes)?,
+            bytes: Bytes::Short {
+                count: count as u8,
+                bytes: short,
+            },
         })
     }
 
     /// The bytes of `bytes`, in the same memory.
-    pub fn from_vec(bytes: Vec<u8>) -> Text
-        ensures { result ≡ bytes.items }
+    pub fn from_vec(alloc: Global, bytes: Vec<u8>) -> Result<Text, Exhausted>
+        ensures { IfOk result (λ text. text ≡ bytes.items) }
     {
-        Text {
-            bytes: SmallVec::from_vec(bytes),
-        }
+        Ok(Text {
+            bytes: Bytes::Long(Box::new(alloc, bytes)?),
+        })
     }
 
-    /// The bytes, in the same memory where they are more than 16.
-    pub fn into_vec(self) -> Result<Vec<u8>, Exhausted>
+    /// The bytes, in the same memory where they are more than 14.
+    pub fn into_vec(self, alloc: Global) -> Result<Vec<u8>, Exhausted>
         ensures { IfOk result (λ bytes. bytes.items ≡ self) }
     {
         let Text { bytes } = self;
-        Ok(bytes.into_vec()?)
+        match bytes {
+            Bytes::Short { count, bytes } => Ok(bytes[..count as usize].to_vec(alloc)?),
+            Bytes::Long(bytes) => Ok(Box::into_inner(bytes)),
+        }
     }
 
     pub fn len(&self) -> usize
         ensures { result ≡ length self.now }
     {
-        self.bytes.len()
+        self.as_slice().len()
     }
 
     pub fn is_empty(&self) -> bool
         ensures { IsTrue result ↔ (self.now ≡ []) }
     {
-        self.bytes.is_empty()
+        self.as_slice().is_empty()
     }
 
     /// The byte at `i`, counted from 0.
@@ -83,16 +112,10 @@ impl Text {
     pub fn as_slice(&self) -> &[u8]
         ensures { result.now ≡ self.now }
     {
-        self.bytes.as_slice()
-    }
-
-    /// Adds `byte` at the end.
-    pub fn push(&mut self, byte: u8) -> Result<(), Exhausted>
-        ensures ok { OnOk result (self.new ≡ self.old ++ byte ∷ []) }
-        ensures err { OnErr result (self.new ≡ self.old) }
-    {
-        self.bytes.push(byte)?;
-        Ok(())
+        match &self.bytes {
+            Bytes::Short { count, bytes } => &bytes[..*count as usize],
+            Bytes::Long(bytes) => bytes.as_slice(),
+        }
     }
 }
 
@@ -106,7 +129,7 @@ impl PartialEq for Text {
     ghost laws = { partial_equiv_from_equiv nat_list_eq_equiv };
 
     fn eq(&self, other: &Text) -> bool {
-        self.bytes == other.bytes
+        self.as_slice() == other.as_slice()
     }
 }
 
@@ -126,7 +149,7 @@ impl Hash for Text {
     ghost respects_eq = { Prim.search (hashing, rules) };
 
     fn hash<H: Hasher>(&self, state: &mut H) {
-        self.bytes.hash(state);
+        self.as_slice().hash(state);
     }
 }
 

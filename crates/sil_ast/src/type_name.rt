@@ -73,7 +73,10 @@ fn copy(name: &TypeName, alloc: Global) -> Result<TypeName, Exhausted>
         TypeName::Int(width) => Ok(TypeName::Int(*width)),
         TypeName::Named(name) => Ok(TypeName::Named(name.try_clone(alloc)?)),
         TypeName::Optional(target) => Ok(TypeName::Optional(copy_boxed(target, alloc)?)),
-        TypeName::Tuple(elements) => Ok(TypeName::Tuple(copy_all(elements.get().as_slice(), alloc)?)),
+        TypeName::Tuple(elements) => Ok(TypeName::Tuple(copy_all(
+            elements.get().as_slice(),
+            alloc,
+        )?)),
         TypeName::Weak(target) => Ok(TypeName::Weak(copy_boxed(target, alloc)?)),
         TypeName::Unowned(target) => Ok(TypeName::Unowned(copy_boxed(target, alloc)?)),
         TypeName::Address(target) => Ok(TypeName::Address(copy_boxed(target, alloc)?)),
@@ -112,7 +115,10 @@ fn same_type(a: &TypeName, b: &TypeName) -> bool
         (TypeName::Int(x), TypeName::Int(y)) => *x == *y,
         (TypeName::Named(x), TypeName::Named(y)) => x.same(y),
         (TypeName::Optional(x), TypeName::Optional(y)) => same_type(x.get(), y.get()),
-        (TypeName::Tuple(x), TypeName::Tuple(y)) => same_types(x.get().as_slice(), y.get().as_slice()),
+        (TypeName::Tuple(x), TypeName::Tuple(y)) => same_types(
+            x.get().as_slice(),
+            y.get().as_slice(),
+        ),
         (TypeName::Weak(x), TypeName::Weak(y)) => same_type(x.get(), y.get()),
         (TypeName::Unowned(x), TypeName::Unowned(y)) => same_type(x.get(), y.get()),
         (TypeName::Address(x), TypeName::Address(y)) => same_type(x.get(), y.get()),

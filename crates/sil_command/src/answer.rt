@@ -72,7 +72,7 @@ fn print_module(alloc: Global, module: &Module) -> Result<Answer, Exhausted>
     ensures { IfOk result (λ a. AnswersPrint «module».now a.text.items (code_of a.status)) }
 {
     Ok(Answer {
-        text: print(alloc, module)?.into_vec()?,
+        text: print(alloc, module)?.into_vec(alloc)?,
         status: Status::Done,
     })
 }

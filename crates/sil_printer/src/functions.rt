@@ -9,7 +9,7 @@ use crate::edges::push_block_name;
 use crate::insts::push_inst;
 use crate::pieces::{Canonical, push_bytes, push_each, push_parens_if_any, push_separator};
 use crate::types::push_type;
-use sil_ast::{ArgKind, Block, BlockArg, Exhausted, Form, Function, Inst, Linkage, Text};
+use sil_ast::{ArgKind, Block, BlockArg, Boxed, Exhausted, Form, Function, Inst, Linkage, Text};
 
 /// Puts the functions of a module, each after an empty line.
 pub(crate) fn push_functions(out: &mut Vec<u8>, functions: &[Function]) -> Result<(), Exhausted>
@@ -132,11 +132,15 @@ fn kind_word(kind: ArgKind) -> &'static [u8]
     }
 }
 
-fn push_insts(out: &mut Vec<u8>, functions: &[Function], insts: &[Inst]) -> Result<(), Exhausted>
+fn push_insts(
+    out: &mut Vec<u8>,
+    functions: &[Function],
+    insts: &[Boxed<Inst>],
+) -> Result<(), Exhausted>
     ensures { OnOk result (out.new.items ≡ out.old.items ++ indented (inst_text functions.now) insts.now) }
 {
     for inst in insts {
-        push_line(out, functions, inst)?;
+        push_line(out, functions, inst.get())?;
     }
     Ok(())
 }

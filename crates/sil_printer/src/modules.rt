@@ -21,7 +21,7 @@ pub fn print(alloc: Global, m: &Module) -> Result<Text, Exhausted>
     push_each(&mut out, b"\n", m.decls.as_slice())?;
     push_functions(&mut out, m.functions.as_slice())?;
     push_vtables(&mut out, m.functions.as_slice(), m.vtables.as_slice())?;
-    Ok(Text::from_vec(out))
+    Text::from_vec(alloc, out)
 }
 
 fn stage_line(stage: Stage) -> &'static [u8]

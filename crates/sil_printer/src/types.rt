@@ -24,7 +24,7 @@ pub(crate) fn push_type(out: &mut Vec<u8>, ty: &TypeName) -> Result<(), Exhauste
         TypeName::Int(width) => push_int(out, *width),
         TypeName::Named(name) => push_bytes(out, name.as_slice()),
         TypeName::Optional(target) => push_optional(out, target.get()),
-        TypeName::Tuple(elements) => push_tuple(out, elements.as_slice()),
+        TypeName::Tuple(elements) => push_tuple(out, elements.get().as_slice()),
         TypeName::Weak(target) => push_behind(out, b"@sil_weak ", target.get()),
         TypeName::Unowned(target) => push_behind(out, b"@sil_unowned ", target.get()),
         TypeName::Address(target) => push_behind(out, b"*", target.get()),
@@ -84,7 +84,7 @@ pub(crate) fn is_long_tuple(ty: &TypeName) -> bool
     ensures { result ≡ is_several ty.now }
 {
     match ty {
-        TypeName::Tuple(elements) => elements.len() >= 2,
+        TypeName::Tuple(elements) => elements.get().len() >= 2,
         _ => false,
     }
 }

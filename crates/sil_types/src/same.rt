@@ -15,7 +15,10 @@ pub fn same_type(a: &TypeName, b: &TypeName) -> bool
         (TypeName::Int(x), TypeName::Int(y)) => *x == *y,
         (TypeName::Named(x), TypeName::Named(y)) => *x == *y,
         (TypeName::Optional(x), TypeName::Optional(y)) => same_type(x.get(), y.get()),
-        (TypeName::Tuple(x), TypeName::Tuple(y)) => same_types(x.as_slice(), y.as_slice()),
+        (TypeName::Tuple(x), TypeName::Tuple(y)) => same_types(
+            x.get().as_slice(),
+            y.get().as_slice(),
+        ),
         (TypeName::Weak(x), TypeName::Weak(y)) => same_type(x.get(), y.get()),
         (TypeName::Unowned(x), TypeName::Unowned(y)) => same_type(x.get(), y.get()),
         (TypeName::Address(x), TypeName::Address(y)) => same_type(x.get(), y.get()),

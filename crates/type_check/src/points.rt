@@ -11,7 +11,7 @@ ghost use Rattle.value_types.specs.Given.{given_count};
 use crate::body::Body;
 use crate::fault::TypingFault;
 use crate::rules::rule_at_point;
-use sil_ast::{Block, BlockId, FuncId, Inst, PointId};
+use sil_ast::{Block, BlockId, Boxed, FuncId, Inst, PointId};
 
 /// The fault of the instruction at a point.
 fn fault_at(
@@ -44,7 +44,7 @@ fn first_in_insts(
     body: &Body<'_, '_>,
     block: u32,
     given: &[Option<usize>],
-    insts: &[Inst],
+    insts: &[Boxed<Inst>],
 ) -> Option<TypingFault>
     requires body { IsBody body.now }
     requires given { given.now ≡ map (given_count body.now.table.now) insts.now }
@@ -56,7 +56,7 @@ fn first_in_insts(
     let mut index = 0;
     for inst in insts {
         let place = index as usize;
-        if let Some(fault) = fault_at(body, block, index, given[place], inst) {
+        if let Some(fault) = fault_at(body, block, index, given[place], inst.get()) {
             return Some(fault);
         }
         index += 1;

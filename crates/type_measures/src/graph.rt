@@ -97,7 +97,7 @@ fn add_places(
             None => Ok(()),
         },
         TypeName::Optional(target) => add_places(places, table, target.get()),
-        TypeName::Tuple(elements) => add_all_places(places, table, elements.as_slice()),
+        TypeName::Tuple(elements) => add_all_places(places, table, elements.get().as_slice()),
         TypeName::Weak(target) => add_places(places, table, target.get()),
         TypeName::Unowned(target) => add_places(places, table, target.get()),
         TypeName::Address(target) => add_places(places, table, target.get()),

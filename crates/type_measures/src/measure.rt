@@ -67,7 +67,7 @@ pub fn measure_type(table: &DeclarationTable, known: &[Measure], ty: &TypeName) 
                 .as_payloads()
         }
         TypeName::Tuple(elements) => {
-            gather_elements(table, known, elements.as_slice()).as_members()
+            gather_elements(table, known, elements.get().as_slice()).as_members()
         }
         TypeName::Weak(target) => as_storage(measure_type(table, known, target.get())),
         TypeName::Unowned(target) => as_storage(measure_type(table, known, target.get())),

@@ -8,7 +8,7 @@ ghost use Rattle.type_definitions.specs.Mentions.{in_arg, in_block, in_decl, in_
 use crate::decls::{any_in_decl, any_in_signature};
 use crate::insts::any_in_inst;
 use crate::tests::MentionTest;
-use sil_ast::{Block, BlockArg, Decl, Function, Inst, Module};
+use sil_ast::{Block, BlockArg, Boxed, Decl, Function, Inst, Module};
 use type_definitions::Standing;
 
 /// Whether the test holds of a type that the module mentions.
@@ -77,11 +77,11 @@ fn any_in_args<T: MentionTest>(test: &T, args: &[BlockArg]) -> bool
     false
 }
 
-fn any_in_insts<T: MentionTest>(test: &T, insts: &[Inst]) -> bool
+fn any_in_insts<T: MentionTest>(test: &T, insts: &[Boxed<Inst>]) -> bool
     ensures { result ≡ list_any (T.holds test.now) (flat_map in_inst insts.now) }
 {
     for inst in insts {
-        if any_in_inst(test, inst) {
+        if any_in_inst(test, inst.get()) {
             return true;
         }
     }

@@ -26,11 +26,11 @@ fn any_in_block<T: MemberTest>(test: &T, block: &Block) -> bool
     any_in_insts(test, block.insts.as_slice()) || any_in_inst(test, &block.terminator)
 }
 
-fn any_in_insts<T: MemberTest>(test: &T, insts: &[Inst]) -> bool
+fn any_in_insts<T: MemberTest>(test: &T, insts: &[Boxed<Inst>]) -> bool
     ensures { result ≡ list_any (T.fails test.now) (flat_map inst_members insts.now) }
 {
     for inst in insts {
-        if any_in_inst(test, inst) {
+        if any_in_inst(test, inst.get()) {
             return true;
         }
     }

@@ -17,7 +17,7 @@ fn has_storage(ty: &TypeName) -> bool
         TypeName::Int(_) => false,
         TypeName::Named(_) => false,
         TypeName::Optional(target) => has_storage(target.get()),
-        TypeName::Tuple(elements) => have_storage(elements.as_slice()),
+        TypeName::Tuple(elements) => have_storage(elements.get().as_slice()),
         TypeName::Weak(_) => true,
         TypeName::Unowned(_) => true,
         TypeName::Address(target) => has_storage(target.get()),

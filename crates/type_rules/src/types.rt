@@ -19,7 +19,7 @@ fn is_declared(table: &DeclarationTable, ty: &TypeName) -> bool
         TypeName::Int(_) => true,
         TypeName::Named(name) => table.is_name(name),
         TypeName::Optional(target) => table.has_swift() && is_declared(table, target.get()),
-        TypeName::Tuple(elements) => are_declared(table, elements.as_slice()),
+        TypeName::Tuple(elements) => are_declared(table, elements.get().as_slice()),
         TypeName::Weak(target) => is_declared(table, target.get()),
         TypeName::Unowned(target) => is_declared(table, target.get()),
         TypeName::Address(target) => is_declared(table, target.get()),

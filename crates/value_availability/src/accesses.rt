@@ -92,7 +92,7 @@ fn add_inst_at(entries: &mut Vec<Entry>, f: &Function, p: PointId) -> Result<(),
 {
     match f.blocks.get(p.block.0 as usize) {
         None => Ok(()),
-        Some(block) => match block.insts.get(p.index as usize) {
+        Some(block) => match block.inst(p.index as usize) {
             None => Ok(()),
             Some(inst) => add_inst(entries, inst),
         },

@@ -15,7 +15,7 @@ use crate::switched::Switched;
 use crate::switching::{switch_of, switches};
 use forwarding_chains::{Definition, Origin};
 use instruction_table::Op;
-use sil_ast::{Block, BlockArg, Exhausted, Function, Inst, List, ValueId};
+use sil_ast::{Block, BlockArg, Boxed, Exhausted, Function, Inst, List, ValueId};
 use std::alloc::Global;
 
 /// Whether the result is lowered to another name for the operand.
@@ -51,13 +51,13 @@ fn add_results(alloc: Global, inst: &Inst, defs: &mut List<Definition>) -> Resul
 
 fn add_all_results(
     alloc: Global,
-    insts: &[Inst],
+    insts: &[Boxed<Inst>],
     defs: &mut List<Definition>,
 ) -> Result<(), Exhausted>
     ensures { OnOk result (defs.new ≡ defs.old ++ flat_map result_renamings insts.now) }
 {
     for inst in insts {
-        add_results(alloc, inst, defs)?;
+        add_results(alloc, inst.get(), defs)?;
     }
     Ok(())
 }

@@ -14,7 +14,7 @@ use crate::trivial::is_trivial_result;
 use forwarding_chains::{Definition, Origin};
 use instruction_table::{ResultKind, result_kind_of};
 use row_types::{Made, row_types};
-use sil_ast::{Exhausted, Inst, List, Operand, ValueId};
+use sil_ast::{Boxed, Exhausted, Inst, List, Operand, ValueId};
 use sil_types::TypeTable;
 use std::alloc::Global;
 
@@ -130,13 +130,13 @@ pub(crate) fn add_results(
 pub(crate) fn add_all_results(
     alloc: Global,
     table: &TypeTable,
-    insts: &[Inst],
+    insts: &[Boxed<Inst>],
     defs: &mut List<Definition>,
 ) -> Result<(), Exhausted>
     ensures { OnOk result (defs.new ≡ defs.old ++ flat_map (result_definitions table.now) insts.now) }
 {
     for inst in insts {
-        add_results(alloc, table, inst, defs)?;
+        add_results(alloc, table, inst.get(), defs)?;
     }
     Ok(())
 }

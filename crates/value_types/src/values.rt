@@ -10,7 +10,7 @@ ghost use Rattle.value_types.specs.Given.{given_count};
 ghost use Rattle.value_types.specs.Told.{types_told};
 
 use row_types::{Made, TypeView, row_types};
-use sil_ast::{Block, BlockArg, Exhausted, Function, Inst};
+use sil_ast::{Block, BlockArg, Boxed, Exhausted, Function, Inst};
 use sil_types::TypeTable;
 use std::alloc::Global;
 
@@ -87,13 +87,13 @@ fn add_args<'a>(
 fn add_insts<'a>(
     given: &mut GivenTypes<'a>,
     table: &'a TypeTable,
-    insts: &'a [Inst],
+    insts: &'a [Boxed<Inst>],
 ) -> Result<(), Exhausted>
     ensures types { OnOk result (types_told given.new.types.items ≡ types_told given.old.types.items ++ flat_map (result_types table.now) insts.now) }
     ensures counts { OnOk result (given.new.counts.items ≡ given.old.counts.items ++ map (given_count table.now) insts.now) }
 {
     for inst in insts {
-        add_results(given, table, inst)?;
+        add_results(given, table, inst.get())?;
     }
     Ok(())
 }

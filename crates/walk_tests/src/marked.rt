@@ -51,11 +51,7 @@ fn value_at(f: &Function, item: Item) -> Option<ValueId> {
     match item {
         Item::Entry | Item::Exit(_) => None,
         Item::Inst(p) => {
-            let inst = f
-                .blocks
-                .get(p.block.0 as usize)?
-                .insts
-                .get(p.index as usize)?;
+            let inst = f.blocks.get(p.block.0 as usize)?.inst(p.index as usize)?;
             Some(inst.operands.as_slice().get(0)?.value)
         }
         Item::Edge(e) => {

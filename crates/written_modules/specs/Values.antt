@@ -77,7 +77,7 @@ abbrev pub no_inst : WrittenInst
 no_inst = bare_inst op.Unreachable no_place
 
 abbrev pub no_type : WrittenType
-no_type = record { ty = ty.Tuple []; depth = 1; first = no_place; last = no_place }
+no_type = record { ty = ty.Int 0; depth = 1; first = no_place; last = no_place }
 
 abbrev pub no_types : TypeList
 no_types = record { types = []; firsts = []; depth = 0 }
@@ -117,7 +117,7 @@ fields_of _ = []
 
 unfoldable pub field_of : Value → WrittenField
 field_of (v.Field f) = f
-field_of _ = record { name = no_token; storage = Strong; ty = ty.Tuple [] }
+field_of _ = record { name = no_token; storage = Strong; ty = ty.Int 0 }
 
 -- the field in front of the others; `deinit` and `init()` are none
 unfoldable pub field_before : Value → List WrittenField → List WrittenField
@@ -190,7 +190,7 @@ args_of _ = []
 
 unfoldable pub arg_of : Value → WrittenArg
 arg_of (v.Arg a) = a
-arg_of _ = record { name = no_token; kind = kind.Plain; ty = ty.Tuple [] }
+arg_of _ = record { name = no_token; kind = kind.Plain; ty = ty.Int 0 }
 
 unfoldable pub ownership_of : Value → ArgKind
 ownership_of (v.Ownership k) = k

@@ -76,7 +76,7 @@ fn args_before(alloc: Global, values: &mut Prepended<Value>) -> Result<Value, Ex
     requires { 2 ≤ length values.old }
     ensures { IfOk result (λ value. (first others : Value) × (values.old ≡ first ∷ others ∷ values.new) × (value ≡ v.Args (arg_of first ∷ args_of others))) }
 {
-    let arg = values.pop_front().into_arg(alloc);
+    let arg = values.pop_front().into_arg();
     let mut others = values.pop_front().into_args(alloc);
     others.push_front(arg)?;
     Ok(Value::Args(others))
@@ -229,7 +229,7 @@ pub(crate) fn block_arg(
     let kind = values.pop_front().into_ownership();
     skip(values);
     let star = values.pop_front();
-    let ty = values.pop_front().into_type(alloc).ty;
+    let ty = values.pop_front().into_type().ty;
     let ty = starred(alloc, star, ty)?;
     let arg = Boxed::new(alloc, WrittenArg { name, kind, ty })?;
     put_value(Value::Arg(arg), values)

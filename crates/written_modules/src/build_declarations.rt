@@ -176,7 +176,7 @@ pub(crate) fn variable(
     ensures fault { IfOk result (λ fault. fault ≡ None) }
 {
     skip(values);
-    let field = values.pop_front().into_field(alloc);
+    let field = values.pop_front().into_field();
     let field = WrittenField {
         name: field.name,
         storage,
@@ -199,7 +199,7 @@ pub(crate) fn binding(
     skip(values);
     let name = values.pop_front().into_token();
     skip(values);
-    let ty = values.pop_front().into_type(alloc).ty;
+    let ty = values.pop_front().into_type().ty;
     skip(values);
     let field = WrittenField {
         name,

@@ -250,7 +250,7 @@ pub(crate) fn param(
     ensures fault { IfOk result (λ fault. fault ≡ None) }
 {
     let first = values.pop_front().into_token().place;
-    let ty = values.pop_front().into_type(alloc).ty;
+    let ty = values.pop_front().into_type().ty;
     put_value(Value::Param(Param { passing, ty }, first), values)
 }
 
@@ -265,7 +265,7 @@ pub(crate) fn plain_param(
     ensures values { OnOk result (values.new ≡ reduced Production.ParamPlain values.old) }
     ensures fault { IfOk result (λ fault. fault ≡ None) }
 {
-    let WrittenType { ty, first, .. } = values.pop_front().into_type(alloc);
+    let WrittenType { ty, first, .. } = values.pop_front().into_type();
     let passing = Passing::Plain;
     put_value(Value::Param(Param { passing, ty }, first), values)
 }
@@ -310,7 +310,7 @@ pub(crate) fn owned_result(
     ensures fault { IfOk result (λ fault. fault ≡ None) }
 {
     let first = values.pop_front().into_token().place;
-    let ty = values.pop_front().into_type(alloc).ty;
+    let ty = values.pop_front().into_type().ty;
     let givens = one_given(alloc, Given { owned: true, ty }, first)?;
     put_value(Value::Givens(givens), values)
 }
@@ -326,7 +326,7 @@ pub(crate) fn plain_result(
     ensures values { OnOk result (values.new ≡ reduced Production.ResultPlain values.old) }
     ensures fault { IfOk result (λ fault. fault ≡ None) }
 {
-    let WrittenType { ty, first, .. } = values.pop_front().into_type(alloc);
+    let WrittenType { ty, first, .. } = values.pop_front().into_type();
     let givens = one_given(alloc, Given { owned: false, ty }, first)?;
     put_value(Value::Givens(givens), values)
 }
@@ -343,7 +343,7 @@ pub(crate) fn owned_given(
     ensures fault { IfOk result (λ fault. fault ≡ None) }
 {
     let first = values.pop_front().into_token().place;
-    let ty = values.pop_front().into_type(alloc).ty;
+    let ty = values.pop_front().into_type().ty;
     put_value(Value::Given(Given { owned: true, ty }, first), values)
 }
 
@@ -358,6 +358,6 @@ pub(crate) fn plain_given(
     ensures values { OnOk result (values.new ≡ reduced Production.GivenPlain values.old) }
     ensures fault { IfOk result (λ fault. fault ≡ None) }
 {
-    let WrittenType { ty, first, .. } = values.pop_front().into_type(alloc);
+    let WrittenType { ty, first, .. } = values.pop_front().into_type();
     put_value(Value::Given(Given { owned: false, ty }, first), values)
 }

@@ -36,7 +36,7 @@ pub(crate) fn operand(
     skip(values);
     skip(values);
     let star = values.pop_front();
-    let ty = values.pop_front().into_type(alloc).ty;
+    let ty = values.pop_front().into_type().ty;
     let ty = Some(starred(alloc, star, ty)?);
     put_value(Value::Operand(WrittenOperand { name, ty }), values)
 }

@@ -131,7 +131,7 @@ pub(crate) fn put_part(
             .operands
             .push(bare_operand(values.pop_front().into_token()))?,
         Part::To => skip(values),
-        Part::TypeWord => inst.ty = Some(second_of_two(values).into_type(alloc).ty),
+        Part::TypeWord => inst.ty = Some(second_of_two(values).into_type().ty),
         Part::Member => inst.member = Some(values.pop_front().into_member(alloc)?),
         Part::Number => {
             let token = values.pop_front().into_token();
@@ -160,7 +160,7 @@ pub(crate) fn put_part(
             )?;
             fault = too_many_operands(&inst.operands);
         }
-        Part::ResultType => inst.ty = Some(third_of_three(values).into_type(alloc).ty),
+        Part::ResultType => inst.ty = Some(third_of_three(values).into_type().ty),
         Part::SignatureWord => {
             let signature = third_of_three(values).into_signature(alloc);
             inst.signature = Some(Boxed::new(alloc, signature)?);

@@ -33,26 +33,32 @@ pub(crate) fn deeper(depth: u32) -> u32
 }
 
 /// The type, where it isn't too deep.
-fn kept(alloc: Global, depth: u32, ty: TypeName) -> TypeName
-    ensures { result ≡ kept depth ty }
+fn kept(alloc: Global, depth: u32, ty: TypeName) -> Result<TypeName, Exhausted>
+    ensures { IfOk result (λ made. made ≡ kept depth ty) }
 {
     if limits::DEPTH < depth {
         unit_type(alloc)
     } else {
-        ty
+        Ok(ty)
     }
 }
 
-fn one_deeper(alloc: Global, depth: u32, ty: TypeName, first: Place, last: Place) -> WrittenType
-    ensures { result ≡ one_deeper depth ty first last }
+fn one_deeper(
+    alloc: Global,
+    depth: u32,
+    ty: TypeName,
+    first: Place,
+    last: Place,
+) -> Result<WrittenType, Exhausted>
+    ensures { IfOk result (λ made. made ≡ one_deeper depth ty first last) }
 {
     let depth = deeper(depth);
-    WrittenType {
-        ty: kept(alloc, depth, ty),
+    Ok(WrittenType {
+        ty: kept(alloc, depth, ty)?,
         depth,
         first,
         last,
-    }
+    })
 }
 
 fn one_token(ty: TypeName, place: Place) -> WrittenType
@@ -77,7 +83,7 @@ fn optional(alloc: Global, inner: WrittenType, last: Place) -> Result<WrittenTyp
         ..
     } = inner;
     let ty = TypeName::Optional(Boxed::new(alloc, ty)?);
-    Ok(one_deeper(alloc, depth, ty, first, last))
+    one_deeper(alloc, depth, ty, first, last)
 }
 
 /// A type with all the `?` behind it.
@@ -97,8 +103,13 @@ fn with_questions(
 }
 
 /// The types between two parentheses: one alone is that type, and others are a tuple.
-fn in_parens(alloc: Global, first: Place, list: TypeList, last: Place) -> WrittenType
-    ensures { result ≡ in_parens first list last }
+fn in_parens(
+    alloc: Global,
+    first: Place,
+    list: TypeList,
+    last: Place,
+) -> Result<WrittenType, Exhausted>
+    ensures { IfOk result (λ made. made ≡ in_parens first list last) }
 {
     let TypeList {
         mut types,
@@ -106,20 +117,15 @@ fn in_parens(alloc: Global, first: Place, list: TypeList, last: Place) -> Writte
         ..
     } = list;
     if types.len() == 1 {
-        return WrittenType {
+        return Ok(WrittenType {
             ty: types.pop_front(),
             depth,
             first,
             last,
-        };
+        });
     }
-    one_deeper(
-        alloc,
-        depth,
-        TypeName::Tuple(types.into_list()),
-        first,
-        last,
-    )
+    let types = Boxed::new(alloc, types.into_list())?;
+    one_deeper(alloc, depth, TypeName::Tuple(types), first, last)
 }
 
 fn type_before(ty: WrittenType, others: TypeList) -> Result<TypeList, Exhausted>
@@ -177,12 +183,12 @@ pub(crate) fn payload(
     ensures fault { IfOk result (λ fault. fault ≡ part_fault Production.PayloadSome (parts_of Production.PayloadSome values.old)) }
 {
     let first = values.pop_front().into_token().place;
-    let ty = values.pop_front().into_type(alloc);
+    let ty = values.pop_front().into_type();
     let others = values.pop_front().into_types(alloc);
     let last = values.pop_front().into_token().place;
     let list = type_before(ty, others)?;
     let fault = tuple_fault(&list, last);
-    let value = Value::Type(in_parens(alloc, first, list, last));
+    let value = Value::Type(in_parens(alloc, first, list, last)?);
     put(Reduced { value, fault }, values)
 }
 
@@ -201,7 +207,7 @@ pub(crate) fn paren_type(
     let last = values.pop_front().into_token().place;
     let questions = values.pop_front().into_questions(alloc);
     let fault = tuple_fault(&types, last);
-    let inner = in_parens(alloc, first, types, last);
+    let inner = in_parens(alloc, first, types, last)?;
     let fault = earlier(fault, too_many_questions(inner.depth, &questions));
     let value = Value::Type(with_questions(alloc, inner, questions)?);
     put(Reduced { value, fault }, values)
@@ -217,7 +223,7 @@ pub(crate) fn base_type(
     ensures values { OnOk result (values.new ≡ reduced Production.BaseOpen values.old) }
     ensures fault { IfOk result (λ fault. fault ≡ part_fault Production.BaseOpen (parts_of Production.BaseOpen values.old)) }
 {
-    let base = values.pop_front().into_type(alloc);
+    let base = values.pop_front().into_type();
     let questions = values.pop_front().into_questions(alloc);
     let fault = too_many_questions(base.depth, &questions);
     let value = Value::Type(with_questions(alloc, base, questions)?);
@@ -235,10 +241,10 @@ pub(crate) fn weak_type(
     ensures fault { IfOk result (λ fault. fault ≡ part_fault Production.WeakOpen (parts_of Production.WeakOpen values.old)) }
 {
     let first = values.pop_front().into_token().place;
-    let inner = values.pop_front().into_type(alloc);
+    let inner = values.pop_front().into_type();
     let fault = too_deep(inner.depth, inner.last);
     let ty = TypeName::Weak(Boxed::new(alloc, inner.ty)?);
-    let value = Value::Type(one_deeper(alloc, inner.depth, ty, first, inner.last));
+    let value = Value::Type(one_deeper(alloc, inner.depth, ty, first, inner.last)?);
     put(Reduced { value, fault }, values)
 }
 
@@ -253,10 +259,10 @@ pub(crate) fn unowned_type(
     ensures fault { IfOk result (λ fault. fault ≡ part_fault Production.UnownedOpen (parts_of Production.UnownedOpen values.old)) }
 {
     let first = values.pop_front().into_token().place;
-    let inner = values.pop_front().into_type(alloc);
+    let inner = values.pop_front().into_type();
     let fault = too_deep(inner.depth, inner.last);
     let ty = TypeName::Unowned(Boxed::new(alloc, inner.ty)?);
-    let value = Value::Type(one_deeper(alloc, inner.depth, ty, first, inner.last));
+    let value = Value::Type(one_deeper(alloc, inner.depth, ty, first, inner.last)?);
     put(Reduced { value, fault }, values)
 }
 
@@ -300,11 +306,11 @@ pub(crate) fn optional_of(
     ensures fault { IfOk result (λ fault. fault ≡ part_fault Production.OptionalOf (parts_of Production.OptionalOf values.old)) }
 {
     let first = values.pop_front().into_token().place;
-    let inner = values.pop_front().into_type(alloc);
+    let inner = values.pop_front().into_type();
     let last = values.pop_front().into_token().place;
     let fault = too_deep(inner.depth, last);
     let ty = TypeName::Optional(Boxed::new(alloc, inner.ty)?);
-    let value = Value::Type(one_deeper(alloc, inner.depth, ty, first, last));
+    let value = Value::Type(one_deeper(alloc, inner.depth, ty, first, last)?);
     put(Reduced { value, fault }, values)
 }
 
@@ -357,7 +363,7 @@ pub(crate) fn types_before(
     ensures values { OnOk result ((first others : Value) × (rest : List Value) × (values.old ≡ first ∷ others ∷ rest) × (values.new ≡ v.Types (type_before (type_of first) (types_of others)) ∷ rest)) }
     ensures fault { IfOk result (λ fault. fault ≡ None) }
 {
-    let ty = values.pop_front().into_type(alloc);
+    let ty = values.pop_front().into_type();
     let others = values.pop_front().into_types(alloc);
     let types = type_before(ty, others)?;
     put_value(Value::Types(types), values)

@@ -1,6 +1,6 @@
 //! What stands where nothing is written.
 
-ghost use Rattle.std.specs.Prelude.{◌≡◌, ◌∷◌, [], ◌<◌, length};
+ghost use Rattle.std.specs.Prelude.{◌≡◌, ◌∷◌, [], ◌<◌, length, IfOk};
 ghost use Rattle.sil_ast.specs.declared.type_name.TypeName.TheVariants as ty;
 ghost use Rattle.written_modules.specs.Values as none;
 
@@ -8,7 +8,7 @@ use crate::prepended::Prepended;
 use crate::value::Value;
 use crate::written_types::{GivenList, ParamList, TypeList, WrittenType};
 use instruction_table::Op;
-use sil_ast::{Debug, List, Place, Qualifier, TypeName};
+use sil_ast::{Boxed, Debug, Exhausted, List, Place, Qualifier, TypeName};
 use std::alloc::Global;
 use written_tree::{Spelling, WrittenInst, WrittenQualifier, WrittenToken};
 
@@ -43,17 +43,17 @@ pub(crate) fn no_token() -> WrittenToken
 }
 
 /// `()`
-pub(crate) fn unit_type(alloc: Global) -> TypeName
-    ensures { result ≡ ty.Tuple [] }
+pub(crate) fn unit_type(alloc: Global) -> Result<TypeName, Exhausted>
+    ensures { IfOk result (λ made. made ≡ ty.Tuple []) }
 {
-    TypeName::Tuple(List::new(alloc))
+    Ok(TypeName::Tuple(Boxed::new(alloc, List::new(alloc))?))
 }
 
-pub(crate) fn no_type(alloc: Global) -> WrittenType
+pub(crate) fn no_type() -> WrittenType
     ensures { result ≡ none.no_type }
 {
     WrittenType {
-        ty: unit_type(alloc),
+        ty: TypeName::Int(0),
         depth: 1,
         first: NO_PLACE,
         last: NO_PLACE,
@@ -92,8 +92,8 @@ pub(crate) fn no_debug() -> Debug
     ensures { result ≡ none.no_debug }
 {
     Debug {
-        binding: None,
         name: None,
+        binding: None,
         argno: None,
         deref: false,
     }
@@ -114,6 +114,9 @@ pub(crate) fn bare_inst(alloc: Global, op: Op, mnemonic: Place) -> WrittenInst
 {
     WrittenInst {
         op,
+        lexical: false,
+        var_decl: false,
+        qualifier: no_qualifier(),
         mnemonic,
         results: List::new(alloc),
         operands: List::new(alloc),
@@ -123,9 +126,6 @@ pub(crate) fn bare_inst(alloc: Global, op: Op, mnemonic: Place) -> WrittenInst
         member: None,
         number: None,
         text: None,
-        qualifier: no_qualifier(),
-        lexical: false,
-        var_decl: false,
         debug: no_debug(),
         edges: List::new(alloc),
     }

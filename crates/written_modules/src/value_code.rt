@@ -3,10 +3,10 @@
 ghost use Rattle.std.specs.Prelude.{◌≡◌, IfOk};
 ghost use Rattle.written_modules.specs.Values.{blocks_of, block_of, args_of, arg_of, ownership_of, inst_of, operands_of, operand_of, edges_of, edge_of, member_of, flags_of, qualifier_of, debug_of, entry_of, insts_of, terminator_of};
 
-use crate::nothing::{discard, no_debug, no_inst, no_qualifier, no_token, unit_type};
+use crate::nothing::{discard, no_debug, no_inst, no_qualifier, no_token};
 use crate::prepended::Prepended;
 use crate::value::{Flags, Value};
-use sil_ast::{ArgKind, Boxed, Debug, Exhausted, List, Member, Text};
+use sil_ast::{ArgKind, Boxed, Debug, Exhausted, List, Member, Text, TypeName};
 use std::alloc::Global;
 use written_tree::{
     InstBox, WrittenArg, WrittenBlock, WrittenEdge, WrittenEntry, WrittenOperand, WrittenQualifier,
@@ -73,7 +73,7 @@ impl Value {
     }
 
     #[tactic(auto, unfolding(crate::specs::Values::arg_of))]
-    pub(crate) fn into_arg(self, alloc: Global) -> WrittenArg
+    pub(crate) fn into_arg(self) -> WrittenArg
         ensures { result ≡ arg_of self }
     {
         match self {
@@ -83,7 +83,7 @@ impl Value {
                 WrittenArg {
                     name: no_token(),
                     kind: ArgKind::Plain,
-                    ty: unit_type(alloc),
+                    ty: TypeName::Int(0),
                 }
             }
         }
@@ -185,8 +185,8 @@ impl Value {
                 Boxed::new(
                     alloc,
                     Member {
-                        owner: Text::new(alloc),
-                        name: Text::new(alloc),
+                        owner: Text::new(),
+                        name: Text::new(),
                     },
                 )
             }

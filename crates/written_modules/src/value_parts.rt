@@ -5,7 +5,7 @@ ghost use Rattle.written_modules.specs.declared.value.Value.TheVariants as v;
 ghost use Rattle.written_tree.specs.declared.written_module.WrittenModule.{WrittenModule};
 ghost use Rattle.written_modules.specs.Values.{token_of, stage_of, imports_of, items_of, item_of, fields_of, field_of, cases_of, type_of, payload_of, types_of, questions_of, linkage_of, tokens_of, convention_of, params_of, givens_of, signature_of};
 
-use crate::nothing::{discard, no_givens, no_params, no_token, no_type, no_types, unit_type};
+use crate::nothing::{discard, no_givens, no_params, no_token, no_type, no_types};
 use crate::prepended::Prepended;
 use crate::value::Value;
 use crate::written_types::{GivenList, ParamList, TypeList, WrittenType};
@@ -110,7 +110,7 @@ impl Value {
     }
 
     #[tactic(auto, unfolding(crate::specs::Values::field_of))]
-    pub(crate) fn into_field(self, alloc: Global) -> WrittenField
+    pub(crate) fn into_field(self) -> WrittenField
         ensures { result ≡ field_of self }
     {
         match self {
@@ -120,7 +120,7 @@ impl Value {
                 WrittenField {
                     name: no_token(),
                     storage: Storage::Strong,
-                    ty: unit_type(alloc),
+                    ty: TypeName::Int(0),
                 }
             }
         }
@@ -140,14 +140,14 @@ impl Value {
     }
 
     #[tactic(auto, unfolding(crate::specs::Values::type_of))]
-    pub(crate) fn into_type(self, alloc: Global) -> WrittenType
+    pub(crate) fn into_type(self) -> WrittenType
         ensures { result ≡ type_of self }
     {
         match self {
             Value::Type(kept) => kept,
             other => {
                 discard(other);
-                no_type(alloc)
+                no_type()
             }
         }
     }

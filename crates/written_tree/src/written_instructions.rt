@@ -8,6 +8,9 @@ use sil_ast::{Boxed, Debug, List, Member, Place, Qualifier, Signature, Text, Typ
 #[derive(Drop)]
 pub struct WrittenInst {
     pub op: Op,
+    pub lexical: bool,
+    pub var_decl: bool,
+    pub qualifier: WrittenQualifier,
     /// Where its mnemonic stands.
     pub mnemonic: Place,
     /// The names before the `=`; none where there is no `=`.
@@ -20,9 +23,6 @@ pub struct WrittenInst {
     /// `None` too where the number isn't in its range.
     pub number: Option<i64>,
     pub text: Option<Boxed<Text>>,
-    pub qualifier: WrittenQualifier,
-    pub lexical: bool,
-    pub var_decl: bool,
     pub debug: Debug,
     pub edges: List<WrittenEdge>,
 }
