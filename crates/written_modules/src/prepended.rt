@@ -85,20 +85,7 @@ impl<T: Drop> Prepended<T> {
     pub(crate) fn push_front(&mut self, item: T) -> Result<(), Exhausted>
         ensures { OnOk result (self.new ≡ item ∷ self.old) }
     {
-        if self.backwards.len() == self.backwards.capacity() {
-            self.grow()?;
-        }
         self.backwards.push(item)?;
-        Ok(())
-    }
-
-    /// Makes room for one element, and then for twice as many: most lists of a module have one element or two, and so
-    /// they take no more memory than they need.
-    #[cold]
-    fn grow(&mut self) -> Result<(), Exhausted>
-        ensures { self.new ≡ self.old }
-    {
-        self.backwards.reserve_exact(self.backwards.len().max(1))?;
         Ok(())
     }
 
