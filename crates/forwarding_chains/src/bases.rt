@@ -7,7 +7,7 @@ ghost use Rattle.forwarding_chains.specs.Settling.{AreListed};
 ghost use Rattle.forwarding_chains.specs.Union.{IsTurn};
 
 use crate::facts::{Facts, bases_of, is_guaranteed, kind_at};
-use sil_ast::{Exhausted, List, ValueId};
+use sil_ast::{Exhausted, ShortList, ValueId};
 use std::alloc::Global;
 
 /// The least of what two lists have left, and how far each is taken then.
@@ -45,10 +45,14 @@ fn next_turn(one: &[ValueId], i: usize, other: &[ValueId], j: usize) -> Turn
 }
 
 /// The values of two lists in ascending order, in one such list.
-fn union(alloc: Global, one: &[ValueId], other: &[ValueId]) -> Result<List<ValueId>, Exhausted>
+fn union(
+    alloc: Global,
+    one: &[ValueId],
+    other: &[ValueId],
+) -> Result<ShortList<ValueId, 4>, Exhausted>
     ensures { IfOk result (λ all. (count : ℕ) (p q : ℕ → Bool) → one.now ≡ listed count p → other.now ≡ listed count q → all ≡ listed count (λ b. p b || q b)) }
 {
-    let mut all = List::new(alloc);
+    let mut all = ShortList::new(alloc);
     let mut i = 0;
     let mut j = 0;
     while i < one.len() || j < other.len() {
@@ -77,10 +81,10 @@ pub(crate) fn together(
     table: &[Option<Facts>],
     operands: &[ValueId],
     only_guaranteed: bool,
-) -> Result<List<ValueId>, Exhausted>
+) -> Result<ShortList<ValueId, 4>, Exhausted>
     ensures { IfOk result (λ all. (count : ℕ) → AreListed count (told_at table.now) → all ≡ bases_together count only_guaranteed (known_or (told_at table.now)) operands.now) }
 {
-    let mut all = List::new(alloc);
+    let mut all = ShortList::new(alloc);
     for operand in operands {
         let handed = handed_on(table, *operand, only_guaranteed);
         all = union(alloc, all.as_slice(), handed)?;

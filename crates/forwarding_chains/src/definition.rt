@@ -1,6 +1,6 @@
 //! How a value comes by its kind and its bases.
 
-use sil_ast::{List, ValueId};
+use sil_ast::{ShortList, ValueId};
 
 /// What the instruction that defines a value, or the annotation of an argument, says of it.
 #[derive(Clone, Copy, Debug, PartialEq, Eq)]
@@ -27,5 +27,5 @@ pub enum Origin {
 #[derive(Drop)]
 pub struct Definition {
     pub origin: Origin,
-    pub operands: List<ValueId>,
+    pub operands: ShortList<ValueId, 4>,
 }

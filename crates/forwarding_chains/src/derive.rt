@@ -9,7 +9,7 @@ ghost use Rattle.forwarding_chains.specs.Settling.{AreListed};
 use crate::bases::together;
 use crate::definition::{Definition, Origin};
 use crate::facts::{Facts, are_known, is_guaranteed, is_owned, kind_at};
-use sil_ast::{Exhausted, List, ValueId};
+use sil_ast::{Exhausted, ShortList, ValueId};
 use std::alloc::Global;
 use type_definitions::Kind;
 
@@ -49,10 +49,10 @@ fn forwarded_kind(table: &[Option<Facts>], operands: &[ValueId]) -> Kind
 }
 
 /// One value.
-fn alone(alloc: Global, value: ValueId) -> Result<List<ValueId>, Exhausted>
+fn alone(alloc: Global, value: ValueId) -> Result<ShortList<ValueId, 4>, Exhausted>
     ensures { IfOk result (λ values. values ≡ value ∷ []) }
 {
-    let mut values = List::new(alloc);
+    let mut values = ShortList::new(alloc);
     values.push(value)?;
     Ok(values)
 }
@@ -81,7 +81,7 @@ fn facts_by_kind(
     let bases = match kind {
         Kind::Owned => alone(alloc, value)?,
         Kind::Guaranteed => together(alloc, table, operands, true)?,
-        Kind::Plain => List::new(alloc),
+        Kind::Plain => ShortList::new(alloc),
     };
     Ok(Facts { kind, bases })
 }

@@ -5,14 +5,14 @@ ghost use Rattle.std.specs.List.{list_all};
 ghost use Rattle.forwarding_chains.specs.Facts as facts;
 ghost use Rattle.forwarding_chains.specs.Facts.{told_at, is_known, known_or};
 
-use sil_ast::{List, ValueId};
+use sil_ast::{ShortList, ValueId};
 use type_definitions::Kind;
 
 /// The kind of a value, and its bases in ascending order.
 #[derive(Drop)]
 pub struct Facts {
     pub kind: Kind,
-    pub bases: List<ValueId>,
+    pub bases: ShortList<ValueId, 4>,
 }
 
 pub(crate) fn is_owned(kind: Kind) -> bool

@@ -1,6 +1,6 @@
 //! The table of some parts: what each item does to which of them, by their numbers.
 
-ghost use Rattle.std.specs.Prelude.{◌≡◌, ◌++◌, ◌<◌, ◌≤◌, ℕ, length, map, slice_get, IfOk, OnOk};
+ghost use Rattle.std.specs.Prelude.{◌≡◌, ◌++◌, ◌<◌, ◌≤◌, ℕ, length, map, slice_get, IfOk, IfSome, OnOk};
 ghost use Rattle.std.specs.List.{flat_map};
 ghost use Rattle.path_checks.specs.Shared.{entry_if};
 ghost use Rattle.path_patterns.specs.Reads.{accesses_at};
@@ -115,23 +115,37 @@ fn add_by_index(
     add_of_each(entries, m, k, batch, numbers.as_slice(), access)
 }
 
-/// What an access means to the parts, each by its number.
+/// An index of the parts, where there are many.
+fn index_of_many(
+    alloc: Global,
+    m: &Memory,
+    batch: &[Part],
+) -> Result<Option<Vec<Vec<u32>>>, Exhausted>
+    requires { length batch.now ≤ 1024 }
+    ensures { IfOk result (λ index. IfSome index (λ rows. IsIndexOf m.now batch.now rows.items)) }
+{
+    if batch.len() <= FEW {
+        return Ok(None);
+    }
+    Ok(Some(index_of(alloc, m, batch)?))
+}
+
+/// What an access means to the parts, each by its number: where there is an index, it tells which are asked.
 fn add_entries(
     entries: &mut Vec<Entry>,
     m: &Memory,
     k: &Kinds,
     batch: &[Part],
-    rows: &[Vec<u32>],
+    index: &Option<Vec<Vec<u32>>>,
     access: Access,
 ) -> Result<(), Exhausted>
     requires few { length batch.now ≤ 1024 }
-    requires index { IsIndexOf m.now batch.now rows.now }
+    requires index { IfSome index.now (λ rows. IsIndexOf m.now batch.now rows.items) }
     ensures { OnOk result (entries.new.items ≡ entries.old.items ++ joint m.now (facts_of k.now) batch.now access) }
 {
-    if batch.len() <= FEW {
-        add_of_all(entries, m, k, batch, access)
-    } else {
-        add_by_index(entries, m, k, batch, rows, access)
+    match index {
+        None => add_of_all(entries, m, k, batch, access),
+        Some(rows) => add_by_index(entries, m, k, batch, rows.as_slice(), access),
     }
 }
 
@@ -141,16 +155,16 @@ fn entries_of(
     m: &Memory,
     k: &Kinds,
     batch: &[Part],
-    rows: &[Vec<u32>],
+    index: &Option<Vec<Vec<u32>>>,
     accesses: &[Access],
 ) -> Result<Vec<Entry>, Exhausted>
     requires few { length batch.now ≤ 1024 }
-    requires index { IsIndexOf m.now batch.now rows.now }
+    requires index { IfSome index.now (λ rows. IsIndexOf m.now batch.now rows.items) }
     ensures { IfOk result (λ v. v.items ≡ flat_map (joint m.now (facts_of k.now) batch.now) accesses.now) }
 {
     let mut entries = Vec::new(alloc);
     for access in accesses {
-        add_entries(&mut entries, m, k, batch, rows, *access)?;
+        add_entries(&mut entries, m, k, batch, index, *access)?;
     }
     Ok(entries)
 }
@@ -167,10 +181,10 @@ pub(crate) fn entries_by_item(
     ensures size { IfOk result (λ v. length v.items ≡ length accesses.now) }
     ensures entries { IfOk result (λ v. (n : ℕ) → n < length accesses.now → accesses_at v.items n ≡ flat_map (joint m.now (facts_of k.now) batch.now) (accesses_at accesses.now n)) }
 {
-    let rows = index_of(alloc, m, batch)?;
+    let index = index_of_many(alloc, m, batch)?;
     let mut all = Vec::new(alloc);
     for item in accesses {
-        all.push(entries_of(alloc, m, k, batch, rows.as_slice(), item.as_slice())?)?;
+        all.push(entries_of(alloc, m, k, batch, &index, item.as_slice())?)?;
     }
     Ok(all)
 }

@@ -69,6 +69,9 @@ pub fn first_crossing(
 {
     let listed = slots_of(alloc, sources)?;
     let slots = listed.as_slice();
+    if slots.is_empty() {
+        return Ok(None);
+    }
     let doubts = doubted_slots(alloc, g, sources, accesses)?;
     let deallocated = deallocated_slots(alloc, sources.len(), accesses)?;
     let parts = chunks_of(alloc, slots, accesses)?;

@@ -7,7 +7,7 @@ use crate::operands::one_or_none;
 use crate::results::unless_trivial;
 use crate::switched::Switched;
 use forwarding_chains::{Definition, Origin};
-use sil_ast::{ArgKind, BlockArg, Exhausted, List};
+use sil_ast::{ArgKind, BlockArg, Exhausted, List, ShortList};
 use sil_types::TypeTable;
 use std::alloc::Global;
 
@@ -23,7 +23,7 @@ fn guaranteed_definition(
     if entry {
         return Ok(Definition {
             origin: unless_trivial(trivial, Origin::Lender),
-            operands: List::new(alloc),
+            operands: ShortList::new(alloc),
         });
     }
     let operand = match switched {
@@ -48,11 +48,11 @@ fn arg_definition(
     match arg.kind {
         ArgKind::Plain => Ok(Definition {
             origin: Origin::Plain,
-            operands: List::new(alloc),
+            operands: ShortList::new(alloc),
         }),
         ArgKind::Owned => Ok(Definition {
             origin: unless_trivial(table.is_trivial(&arg.ty), Origin::Owned),
-            operands: List::new(alloc),
+            operands: ShortList::new(alloc),
         }),
         ArgKind::Guaranteed => {
             guaranteed_definition(alloc, entry, switched, table.is_trivial(&arg.ty))

@@ -4,17 +4,17 @@ ghost use Rattle.std.specs.Prelude.{◌≡◌, IfOk, map};
 ghost use Rattle.std.specs.Option.{option_to_list};
 ghost use Rattle.value_origins.specs.Switched.{value_of};
 
-use sil_ast::{Exhausted, List, Operand, ValueId};
+use sil_ast::{Exhausted, Operand, ShortList, ValueId};
 use std::alloc::Global;
 
 /// The values of some operands, in order.
 pub(crate) fn operand_values(
     alloc: Global,
     operands: &[Operand],
-) -> Result<List<ValueId>, Exhausted>
+) -> Result<ShortList<ValueId, 4>, Exhausted>
     ensures { IfOk result (λ values. values ≡ map value_of operands.now) }
 {
-    let mut values = List::with_capacity(alloc, operands.len())?;
+    let mut values = ShortList::new(alloc);
     for operand in operands {
         values.push(operand.value)?;
     }
@@ -22,10 +22,13 @@ pub(crate) fn operand_values(
 }
 
 /// One value, or none.
-pub(crate) fn one_or_none(alloc: Global, value: Option<ValueId>) -> Result<List<ValueId>, Exhausted>
+pub(crate) fn one_or_none(
+    alloc: Global,
+    value: Option<ValueId>,
+) -> Result<ShortList<ValueId, 4>, Exhausted>
     ensures { IfOk result (λ values. values ≡ option_to_list value) }
 {
-    let mut values = List::new(alloc);
+    let mut values = ShortList::new(alloc);
     if let Some(value) = value {
         values.push(value)?;
     }

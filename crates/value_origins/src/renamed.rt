@@ -15,7 +15,7 @@ use crate::switched::Switched;
 use crate::switching::{switch_of, switches};
 use forwarding_chains::{Definition, Origin};
 use instruction_table::Op;
-use sil_ast::{Block, BlockArg, Boxed, Exhausted, Function, Inst, List, ValueId};
+use sil_ast::{Block, BlockArg, Boxed, Exhausted, Function, Inst, List, ShortList, ValueId};
 use std::alloc::Global;
 
 /// Whether the result is lowered to another name for the operand.
@@ -31,7 +31,7 @@ fn result_renaming(alloc: Global, inst: &Inst) -> Result<Definition, Exhausted>
     let operands = if renames(inst.op) {
         operand_values(alloc, inst.operands.as_slice())?
     } else {
-        List::new(alloc)
+        ShortList::new(alloc)
     };
     Ok(Definition {
         origin: Origin::Plain,

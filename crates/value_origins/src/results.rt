@@ -14,7 +14,7 @@ use crate::trivial::is_trivial_result;
 use forwarding_chains::{Definition, Origin};
 use instruction_table::{ResultKind, result_kind_of};
 use row_types::{Made, row_types};
-use sil_ast::{Boxed, Exhausted, Inst, List, Operand, ValueId};
+use sil_ast::{Boxed, Exhausted, Inst, List, Operand, ShortList, ValueId};
 use sil_types::TypeTable;
 use std::alloc::Global;
 
@@ -57,13 +57,13 @@ fn chain_operands(
     alloc: Global,
     kind: ResultKind,
     operands: &[Operand],
-) -> Result<List<ValueId>, Exhausted>
+) -> Result<ShortList<ValueId, 4>, Exhausted>
     ensures { IfOk result (λ values. values ≡ spec.chain_operands kind (map value_of operands.now)) }
 {
     match kind {
-        ResultKind::NoneResult => Ok(List::new(alloc)),
-        ResultKind::OwnedResult => Ok(List::new(alloc)),
-        ResultKind::ScopeResult => Ok(List::new(alloc)),
+        ResultKind::NoneResult => Ok(ShortList::new(alloc)),
+        ResultKind::OwnedResult => Ok(ShortList::new(alloc)),
+        ResultKind::ScopeResult => Ok(ShortList::new(alloc)),
         ResultKind::AddressResult => operand_values(alloc, operands),
         ResultKind::ForwardedResult => operand_values(alloc, operands),
         ResultKind::OperandResult => operand_values(alloc, operands),

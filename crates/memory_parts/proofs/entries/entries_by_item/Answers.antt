@@ -1,4 +1,4 @@
-use Rattle.std.proofs.Common.{◌≡◌, ◌+◌, List, [], ◌∷◌, ◌++◌, length, sym, ap, ◌∙◌, subst, arith}
+use Rattle.std.proofs.Common.{◌≡◌, ◌+◌, List, [], ◌∷◌, ◌++◌, length, sym, ap, ◌∙◌, arith}
 use Rattle.std.specs.List.{flat_map}
 use Rattle.std.specs.declared.alloc.Global.{Global}
 use Rattle.std.specs.declared.vec.Vec.{Vec}
@@ -8,12 +8,11 @@ use Rattle.path_checks.specs.declared.entry.Entry.{Entry}
 use Rattle.path_patterns.specs.Reads.{accesses_at}
 use Rattle.ownership_marks.specs.Known.{facts_of}
 use Rattle.memory_parts.specs.Batches.{joint}
-use Rattle.memory_parts.specs.Index.{IsIndexOf}
 use Rattle.memory_parts.proofs.entries.entries_by_item.Goals as goal
 
 pub loop-item-preserved : goal.loop-item-preserved
 loop-item-preserved c =
-    let here : accesses_at c.args.accesses.now c.loop-item.item-index ≡ c.as_slice-in-loop-item.result.now = accesses_there c.args.accesses.now c.loop-item.item-index c.item-item.result (omega arith) c.item-item.is ∙ sym c.as_slice-in-loop-item.ensures.value in
+    let here : accesses_at c.args.accesses.now c.loop-item.item-index ≡ c.as_slice.result.now = accesses_there c.args.accesses.now c.loop-item.item-index c.item-item.result (omega arith) c.item-item.is ∙ sym c.as_slice.ensures.value in
     let new : c.push.new.self.items ≡ c.loop-item.all.items ++ c.in_ok-entries_of.field-0 ∷ [] = c.in_ok-push.ensures.items in
     record {
       size = ap length new ∙ length_push c.loop-item.all.items c.in_ok-entries_of.field-0 ∙ ap (λ n. n + 1) c.loop-item.invariant.size;
@@ -21,6 +20,3 @@ loop-item-preserved c =
           accesses_one_more (λ i. flat_map (joint c.args.m.now (facts_of c.args.k.now) c.args.batch.now) (accesses_at c.args.accesses.now i)) c.loop-item.all.items c.in_ok-entries_of.field-0 c.loop-item.item-index c.loop-item.invariant.size
           (c.in_ok-entries_of.ensures ∙ ap (flat_map (joint c.args.m.now (facts_of c.args.k.now) c.args.batch.now)) (sym here)) c.loop-item.invariant.entries n lt;
     }
-
-pub entries_of-requires-clause-index : goal.entries_of-requires-clause-index
-entries_of-requires-clause-index c = subst (IsIndexOf c.args.m.now c.args.batch.now) (sym c.as_slice.ensures.value) c.in_ok-rows.ensures

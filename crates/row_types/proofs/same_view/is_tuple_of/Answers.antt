@@ -9,6 +9,6 @@ pub returns-in-Tuple : goal.returns-in-Tuple
 returns-in-Tuple c =
     let types = all_written c.args.operands.now in
     c.are_written.ensures
-    ∙ ap (λ parts. are_same_types parts types) c.as_slice.ensures
+    ∙ ap (λ parts. are_same_types parts types) (c.as_slice.ensures ∙ c.get.ensures)
     ∙ sym (same-Tuple c.in-Tuple.parts types)
     ∙ ap (λ t. is_same_type t (Tuple types)) (sym c.in-Tuple.is)

@@ -46,3 +46,11 @@ crossing_in_doubt-requires-clause-never c = λ trusted.
     let slots = c.as_slice-slots.result.now in
     let first : ValueId = get_or slots c.loop-first.first-index _ in
     All-from_get_or (IsUncrossed c.args.g.now (accesses_at c.args.accesses.now) first) slots first (λ i lt. never_out c.args.g.now (accesses_at c.args.accesses.now) first (get_or slots i first) (c.in_ok-deallocated.ensures first trusted))
+
+pub returns-then : goal.returns-then
+returns-then c =
+    let slots = c.as_slice-slots.result.now in
+    let are : AreSlots c.args.sources.now (length c.args.sources.now) slots = subst (AreSlots c.args.sources.now (length c.args.sources.now)) (sym c.as_slice-slots.ensures.value) c.in_ok-listed.ensures in
+    let empty : slots ≡ [] = c.if-is_empty.true in
+    none_first c.args.g.now c.args.f.now c.requires.graph (accesses_at c.args.accesses.now) c.args.sources.now slots are c.args.k.now c.requires.accesses
+    (subst (λ (v : List ValueId). All (λ a. All (IsUncrossed c.args.g.now (accesses_at c.args.accesses.now) a) slots) v) (sym empty) tt)
