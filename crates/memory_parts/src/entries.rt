@@ -169,6 +169,27 @@ fn entries_of(
     Ok(entries)
 }
 
+/// The entries of every item, by the item's number, where `index` is one of the parts, or there is none.
+fn entries_of_each(
+    alloc: Global,
+    m: &Memory,
+    k: &Kinds,
+    batch: &[Part],
+    index: &Option<Vec<Vec<u32>>>,
+    accesses: &[Vec<Access>],
+) -> Result<Vec<Vec<Entry>>, Exhausted>
+    requires few { length batch.now ≤ 1024 }
+    requires index { IfSome index.now (λ rows. IsIndexOf m.now batch.now rows.items) }
+    ensures size { IfOk result (λ v. length v.items ≡ length accesses.now) }
+    ensures entries { IfOk result (λ v. (n : ℕ) → n < length accesses.now → accesses_at v.items n ≡ flat_map (joint m.now (facts_of k.now) batch.now) (accesses_at accesses.now n)) }
+{
+    let mut all = Vec::new(alloc);
+    for item in accesses {
+        all.push(entries_of(alloc, m, k, batch, index, item.as_slice())?)?;
+    }
+    Ok(all)
+}
+
 /// The entries of every item, by the item's number, if `accesses` has what each item does.
 pub(crate) fn entries_by_item(
     alloc: Global,
@@ -182,9 +203,5 @@ pub(crate) fn entries_by_item(
     ensures entries { IfOk result (λ v. (n : ℕ) → n < length accesses.now → accesses_at v.items n ≡ flat_map (joint m.now (facts_of k.now) batch.now) (accesses_at accesses.now n)) }
 {
     let index = index_of_many(alloc, m, batch)?;
-    let mut all = Vec::new(alloc);
-    for item in accesses {
-        all.push(entries_of(alloc, m, k, batch, &index, item.as_slice())?)?;
-    }
-    Ok(all)
+    entries_of_each(alloc, m, k, batch, &index, accesses)
 }

@@ -8,7 +8,7 @@ use Rattle.path_checks.specs.declared.entry.Entry.{Entry}
 use Rattle.path_patterns.specs.Reads.{accesses_at}
 use Rattle.ownership_marks.specs.Known.{facts_of}
 use Rattle.memory_parts.specs.Batches.{joint}
-use Rattle.memory_parts.proofs.entries.entries_by_item.Goals as goal
+use Rattle.memory_parts.proofs.entries.entries_of_each.Goals as goal
 
 pub loop-item-preserved : goal.loop-item-preserved
 loop-item-preserved c =

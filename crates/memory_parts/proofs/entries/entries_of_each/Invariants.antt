@@ -3,7 +3,7 @@ use Rattle.std.specs.List.{flat_map}
 use Rattle.path_patterns.specs.Reads.{accesses_at}
 use Rattle.ownership_marks.specs.Known.{facts_of}
 use Rattle.memory_parts.specs.Batches.{joint}
-use Rattle.memory_parts.proofs.entries.entries_by_item.Given as goal
+use Rattle.memory_parts.proofs.entries.entries_of_each.Given as goal
 
 abbrev pub invariant-loop-item : goal.invariant-loop-item
 invariant-loop-item l = record {

@@ -1,0 +1,12 @@
+use Rattle.std.proofs.Common.{List, sym, subst}
+use Rattle.std.specs.Prelude.{IfSome, Option}
+use Rattle.std.specs.declared.alloc.Global.{Global}
+use Rattle.std.specs.declared.vec.Vec.{Vec}
+use Rattle.std.specs.Prelude.{ℕ}
+use Rattle.memory_parts.specs.Index.{IsIndexOf}
+use Rattle.memory_parts.proofs.entries.add_entries.Goals as goal
+
+pub add_by_index-requires : goal.add_by_index-requires
+add_by_index-requires c =
+    subst (IsIndexOf c.args.m.now c.args.batch.now) (sym c.as_slice.ensures.value)
+    (subst (λ (v : Option (Vec (Vec ℕ Global) Global)). IfSome v (λ rows. IsIndexOf c.args.m.now c.args.batch.now rows.items)) c.in-Some.is c.requires.index)
