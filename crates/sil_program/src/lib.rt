@@ -17,6 +17,9 @@ use std::io::ErrorKind;
 /// The status where the words can't be read, since no memory is left for them.
 const NO_MEMORY: u8 = 9;
 
+/// The size in bytes of a block that `keep_freed_memory` asks for: nearly the largest that it works with.
+const LARGE_BLOCK: usize = 32 * 1024 * 1024 - 64 * 1024;
+
 /// Runs the command with the words behind the program's name, over these two ends, and answers its status.
 ///
 /// Where a word isn't text, no mode is asked for: the command has one empty word in place of all. Where the words couldn't
@@ -34,11 +37,19 @@ pub fn run<S: Source, K: Sink>(
     ensures no_words { IfErr args (λ error. ¬ error_kind error ≡ ErrorKind.InvalidData →
         (result ≡ 9) × (source.new ≡ source.old) × (out.new ≡ out.old)) }
 {
+    keep_freed_memory(alloc);
     match args {
         Ok(args) => run_words(alloc, args, source, out),
         Err(error) if error.kind() == ErrorKind::InvalidData => command(alloc, &[""], source, out),
         Err(_) => NO_MEMORY,
     }
+}
+
+/// Takes a large block and gives it back: no byte of it is touched. The C library gives the memory of large blocks back to
+/// the system at once, until one of them was given back. From then on it keeps that of blocks up to this size for what is
+/// asked for next, and the system has fewer pages to make.
+fn keep_freed_memory(alloc: Global) {
+    let _block: Result<Vec<u8>, AllocError> = Vec::with_capacity(alloc, LARGE_BLOCK);
 }
 
 /// Runs the command with all of these words but the first.

@@ -33,13 +33,9 @@ fn blocks_before(alloc: Global, values: &mut Prepended<Value>) -> Result<Value, 
 /// Puts a block, and the blocks behind it.
 #[inline(never)]
 #[tactic(auto, unfolding(crate::specs::Replay::reduced, crate::specs::Meaning::meaning, sil_shape::specs::Grammar::body))]
-pub(crate) fn blocks(
-    alloc: Global,
-    values: &mut Prepended<Value>,
-) -> Result<Option<Fault>, Exhausted>
+pub(crate) fn blocks(alloc: Global, values: &mut Prepended<Value>) -> Result<(), Exhausted>
     requires { 2 ≤ length values.old }
     ensures values { OnOk result (values.new ≡ reduced Production.BlocksMore values.old) }
-    ensures fault { IfOk result (λ fault. fault ≡ None) }
 {
     let blocks = blocks_before(alloc, values)?;
     put_value(blocks, values)
@@ -48,10 +44,9 @@ pub(crate) fn blocks(
 /// Puts the blocks between the braces of a body.
 #[inline(never)]
 #[tactic(auto, unfolding(crate::specs::Replay::reduced, crate::specs::Meaning::meaning, sil_shape::specs::Grammar::body))]
-pub(crate) fn body(alloc: Global, values: &mut Prepended<Value>) -> Result<Option<Fault>, Exhausted>
+pub(crate) fn body(alloc: Global, values: &mut Prepended<Value>) -> Result<(), Exhausted>
     requires { 4 ≤ length values.old }
     ensures values { OnOk result (values.new ≡ reduced Production.BodySome values.old) }
-    ensures fault { IfOk result (λ fault. fault ≡ None) }
 {
     skip(values);
     let blocks = blocks_before(alloc, values)?;
@@ -61,12 +56,8 @@ pub(crate) fn body(alloc: Global, values: &mut Prepended<Value>) -> Result<Optio
 
 /// Puts that there are no blocks, or no more of them.
 #[inline(never)]
-pub(crate) fn no_blocks(
-    alloc: Global,
-    values: &mut Prepended<Value>,
-) -> Result<Option<Fault>, Exhausted>
+pub(crate) fn no_blocks(alloc: Global, values: &mut Prepended<Value>) -> Result<(), Exhausted>
     ensures values { OnOk result (values.new ≡ v.Blocks [] ∷ values.old) }
-    ensures fault { IfOk result (λ fault. fault ≡ None) }
 {
     put_value(Value::Blocks(Prepended::new(alloc)), values)
 }
@@ -85,10 +76,9 @@ fn args_before(alloc: Global, values: &mut Prepended<Value>) -> Result<Value, Ex
 /// Puts the arguments between the parentheses of a block.
 #[inline(never)]
 #[tactic(auto, unfolding(crate::specs::Replay::reduced, crate::specs::Meaning::meaning, sil_shape::specs::Grammar::body))]
-pub(crate) fn args(alloc: Global, values: &mut Prepended<Value>) -> Result<Option<Fault>, Exhausted>
+pub(crate) fn args(alloc: Global, values: &mut Prepended<Value>) -> Result<(), Exhausted>
     requires { 4 ≤ length values.old }
     ensures values { OnOk result (values.new ≡ reduced Production.BlockArgsSome values.old) }
-    ensures fault { IfOk result (λ fault. fault ≡ None) }
 {
     skip(values);
     let args = args_before(alloc, values)?;
@@ -99,13 +89,9 @@ pub(crate) fn args(alloc: Global, values: &mut Prepended<Value>) -> Result<Optio
 /// Puts an argument of a block behind its comma, and those behind it.
 #[inline(never)]
 #[tactic(auto, unfolding(crate::specs::Replay::reduced, crate::specs::Meaning::meaning, sil_shape::specs::Grammar::body))]
-pub(crate) fn more_args(
-    alloc: Global,
-    values: &mut Prepended<Value>,
-) -> Result<Option<Fault>, Exhausted>
+pub(crate) fn more_args(alloc: Global, values: &mut Prepended<Value>) -> Result<(), Exhausted>
     requires { 3 ≤ length values.old }
     ensures values { OnOk result (values.new ≡ reduced Production.MoreBlockArgsMore values.old) }
-    ensures fault { IfOk result (λ fault. fault ≡ None) }
 {
     skip(values);
     let args = args_before(alloc, values)?;
@@ -114,25 +100,17 @@ pub(crate) fn more_args(
 
 /// Puts that a block has no arguments, or no more of them.
 #[inline(never)]
-pub(crate) fn no_args(
-    alloc: Global,
-    values: &mut Prepended<Value>,
-) -> Result<Option<Fault>, Exhausted>
+pub(crate) fn no_args(alloc: Global, values: &mut Prepended<Value>) -> Result<(), Exhausted>
     ensures values { OnOk result (values.new ≡ v.Args [] ∷ values.old) }
-    ensures fault { IfOk result (λ fault. fault ≡ None) }
 {
     put_value(Value::Args(Prepended::new(alloc)), values)
 }
 
 /// Puts a name, and the names behind it.
 #[inline(never)]
-pub(crate) fn name_list(
-    alloc: Global,
-    values: &mut Prepended<Value>,
-) -> Result<Option<Fault>, Exhausted>
+pub(crate) fn name_list(alloc: Global, values: &mut Prepended<Value>) -> Result<(), Exhausted>
     requires { 2 ≤ length values.old }
     ensures values { OnOk result ((first others : Value) × (rest : List Value) × (values.old ≡ first ∷ others ∷ rest) × (values.new ≡ v.Tokens (token_of first ∷ tokens_of others) ∷ rest)) }
-    ensures fault { IfOk result (λ fault. fault ≡ None) }
 {
     let name = values.pop_front().into_token();
     let mut others = values.pop_front().into_tokens(alloc);
@@ -142,12 +120,8 @@ pub(crate) fn name_list(
 
 /// Puts that there are no names, or no more of them.
 #[inline(never)]
-pub(crate) fn no_names(
-    alloc: Global,
-    values: &mut Prepended<Value>,
-) -> Result<Option<Fault>, Exhausted>
+pub(crate) fn no_names(alloc: Global, values: &mut Prepended<Value>) -> Result<(), Exhausted>
     ensures values { OnOk result (values.new ≡ v.Tokens [] ∷ values.old) }
-    ensures fault { IfOk result (λ fault. fault ≡ None) }
 {
     put_value(Value::Tokens(Prepended::new(alloc)), values)
 }
@@ -194,21 +168,16 @@ pub(crate) fn starred(alloc: Global, star: Value, ty: TypeName) -> Result<TypeNa
 
 /// Puts the `*` before a type.
 #[inline(never)]
-pub(crate) fn star(values: &mut Prepended<Value>) -> Result<Option<Fault>, Exhausted>
+pub(crate) fn star(values: &mut Prepended<Value>) -> Result<(), Exhausted>
     ensures values { OnOk result (values.new ≡ v.Star ∷ values.old) }
-    ensures fault { IfOk result (λ fault. fault ≡ None) }
 {
     put_value(Value::Star, values)
 }
 
 /// Puts how a block's argument is annotated.
 #[inline(never)]
-pub(crate) fn ownership(
-    kind: ArgKind,
-    values: &mut Prepended<Value>,
-) -> Result<Option<Fault>, Exhausted>
+pub(crate) fn ownership(kind: ArgKind, values: &mut Prepended<Value>) -> Result<(), Exhausted>
     ensures values { OnOk result (values.new ≡ v.Ownership kind ∷ values.old) }
-    ensures fault { IfOk result (λ fault. fault ≡ None) }
 {
     put_value(Value::Ownership(kind), values)
 }
@@ -216,13 +185,9 @@ pub(crate) fn ownership(
 /// Puts an argument of a block of its name, its annotation and its type.
 #[inline(never)]
 #[tactic(auto, unfolding(crate::specs::Replay::reduced, crate::specs::Meaning::meaning, sil_shape::specs::Grammar::body))]
-pub(crate) fn block_arg(
-    alloc: Global,
-    values: &mut Prepended<Value>,
-) -> Result<Option<Fault>, Exhausted>
+pub(crate) fn block_arg(alloc: Global, values: &mut Prepended<Value>) -> Result<(), Exhausted>
     requires { 6 ≤ length values.old }
     ensures values { OnOk result (values.new ≡ reduced Production.WholeBlockArg values.old) }
-    ensures fault { IfOk result (λ fault. fault ≡ None) }
 {
     let name = values.pop_front().into_token();
     skip(values);
@@ -238,13 +203,9 @@ pub(crate) fn block_arg(
 /// Puts an instruction, and the code behind it.
 #[inline(never)]
 #[tactic(auto, unfolding(crate::specs::Replay::reduced, crate::specs::Meaning::meaning, sil_shape::specs::Grammar::body))]
-pub(crate) fn more_code(
-    alloc: Global,
-    values: &mut Prepended<Value>,
-) -> Result<Option<Fault>, Exhausted>
+pub(crate) fn more_code(alloc: Global, values: &mut Prepended<Value>) -> Result<(), Exhausted>
     requires { 2 ≤ length values.old }
     ensures values { OnOk result (values.new ≡ reduced Production.CodeInst values.old) }
-    ensures fault { IfOk result (λ fault. fault ≡ None) }
 {
     let inst = values.pop_front().into_inst(alloc)?;
     let (mut insts, terminator) = values.pop_front().into_code(alloc)?;
@@ -255,13 +216,9 @@ pub(crate) fn more_code(
 /// Puts the code that is a terminator alone.
 #[inline(never)]
 #[tactic(auto, unfolding(crate::specs::Replay::reduced, crate::specs::Meaning::meaning, sil_shape::specs::Grammar::body))]
-pub(crate) fn last_code(
-    alloc: Global,
-    values: &mut Prepended<Value>,
-) -> Result<Option<Fault>, Exhausted>
+pub(crate) fn last_code(alloc: Global, values: &mut Prepended<Value>) -> Result<(), Exhausted>
     requires { 1 ≤ length values.old }
     ensures values { OnOk result (values.new ≡ reduced Production.CodeEnd values.old) }
-    ensures fault { IfOk result (λ fault. fault ≡ None) }
 {
     let terminator = values.pop_front().into_inst(alloc)?;
     put_value(Value::Code(Prepended::new(alloc), terminator), values)
@@ -279,13 +236,9 @@ fn named(inst: InstBox, results: List<WrittenToken>) -> Value
 /// Puts an instruction with one name before its `=`.
 #[inline(never)]
 #[tactic(auto, unfolding(crate::specs::Replay::reduced, crate::specs::Meaning::meaning, sil_shape::specs::Grammar::body))]
-pub(crate) fn one_name(
-    alloc: Global,
-    values: &mut Prepended<Value>,
-) -> Result<Option<Fault>, Exhausted>
+pub(crate) fn one_name(alloc: Global, values: &mut Prepended<Value>) -> Result<(), Exhausted>
     requires { 3 ≤ length values.old }
     ensures values { OnOk result (values.new ≡ reduced Production.InstOneName values.old) }
-    ensures fault { IfOk result (λ fault. fault ≡ None) }
 {
     let name = values.pop_front().into_token();
     let mut results = List::with_capacity(alloc, 1)?;

@@ -138,13 +138,9 @@ fn field_before(
 
 /// Puts a member, and the fields behind it.
 #[inline(never)]
-pub(crate) fn fields(
-    alloc: Global,
-    values: &mut Prepended<Value>,
-) -> Result<Option<Fault>, Exhausted>
+pub(crate) fn fields(alloc: Global, values: &mut Prepended<Value>) -> Result<(), Exhausted>
     requires { 2 ≤ length values.old }
     ensures values { OnOk result ((first others : Value) × (rest : List Value) × (values.old ≡ first ∷ others ∷ rest) × (values.new ≡ v.Fields (field_before first (fields_of others)) ∷ rest)) }
-    ensures fault { IfOk result (λ fault. fault ≡ None) }
 {
     let member = values.pop_front();
     let others = values.pop_front().into_fields(alloc);
@@ -154,12 +150,8 @@ pub(crate) fn fields(
 
 /// Puts that there are no fields, or no more of them.
 #[inline(never)]
-pub(crate) fn no_fields(
-    alloc: Global,
-    values: &mut Prepended<Value>,
-) -> Result<Option<Fault>, Exhausted>
+pub(crate) fn no_fields(alloc: Global, values: &mut Prepended<Value>) -> Result<(), Exhausted>
     ensures values { OnOk result (values.new ≡ v.Fields [] ∷ values.old) }
-    ensures fault { IfOk result (λ fault. fault ≡ None) }
 {
     put_value(Value::Fields(Prepended::new(alloc)), values)
 }
@@ -170,10 +162,9 @@ pub(crate) fn variable(
     alloc: Global,
     storage: Storage,
     values: &mut Prepended<Value>,
-) -> Result<Option<Fault>, Exhausted>
+) -> Result<(), Exhausted>
     requires { 2 ≤ length values.old }
     ensures values { OnOk result ((word field : Value) × (rest : List Value) × (values.old ≡ word ∷ field ∷ rest) × (values.new ≡ v.Field (record (field_of field) { storage = storage }) ∷ rest)) }
-    ensures fault { IfOk result (λ fault. fault ≡ None) }
 {
     skip(values);
     let field = values.pop_front().into_field();
@@ -188,13 +179,9 @@ pub(crate) fn variable(
 
 /// Puts the field of `var f: T`, or of `let f: T`.
 #[inline(never)]
-pub(crate) fn binding(
-    alloc: Global,
-    values: &mut Prepended<Value>,
-) -> Result<Option<Fault>, Exhausted>
+pub(crate) fn binding(alloc: Global, values: &mut Prepended<Value>) -> Result<(), Exhausted>
     requires { 5 ≤ length values.old }
     ensures values { OnOk result ((a b c d e : Value) × (rest : List Value) × (values.old ≡ a ∷ b ∷ c ∷ d ∷ e ∷ rest) × (values.new ≡ meant.binding (a ∷ b ∷ c ∷ d ∷ e ∷ []) ∷ rest)) }
-    ensures fault { IfOk result (λ fault. fault ≡ None) }
 {
     skip(values);
     let name = values.pop_front().into_token();
@@ -213,13 +200,9 @@ pub(crate) fn binding(
 /// Puts a case, and the cases behind it.
 #[inline(never)]
 #[tactic(auto, unfolding(crate::specs::Replay::reduced, crate::specs::Meaning::meaning, sil_shape::specs::Grammar::body))]
-pub(crate) fn more_cases(
-    alloc: Global,
-    values: &mut Prepended<Value>,
-) -> Result<Option<Fault>, Exhausted>
+pub(crate) fn more_cases(alloc: Global, values: &mut Prepended<Value>) -> Result<(), Exhausted>
     requires { 4 ≤ length values.old }
     ensures values { OnOk result (values.new ≡ reduced Production.CasesMore values.old) }
-    ensures fault { IfOk result (λ fault. fault ≡ None) }
 {
     skip(values);
     let name = values.pop_front().into_token();
@@ -231,12 +214,8 @@ pub(crate) fn more_cases(
 
 /// Puts that there are no cases, or no more of them.
 #[inline(never)]
-pub(crate) fn no_cases(
-    alloc: Global,
-    values: &mut Prepended<Value>,
-) -> Result<Option<Fault>, Exhausted>
+pub(crate) fn no_cases(alloc: Global, values: &mut Prepended<Value>) -> Result<(), Exhausted>
     ensures values { OnOk result (values.new ≡ v.Cases [] ∷ values.old) }
-    ensures fault { IfOk result (λ fault. fault ≡ None) }
 {
     put_value(Value::Cases(Prepended::new(alloc)), values)
 }

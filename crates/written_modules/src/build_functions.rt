@@ -53,12 +53,8 @@ pub(crate) fn function(
 
 /// Puts how far a function is seen.
 #[inline(never)]
-pub(crate) fn linkage(
-    linkage: Linkage,
-    values: &mut Prepended<Value>,
-) -> Result<Option<Fault>, Exhausted>
+pub(crate) fn linkage(linkage: Linkage, values: &mut Prepended<Value>) -> Result<(), Exhausted>
     ensures values { OnOk result (values.new ≡ v.Linkage linkage ∷ values.old) }
-    ensures fault { IfOk result (λ fault. fault ≡ None) }
 {
     put_value(Value::Linkage(linkage), values)
 }
@@ -66,13 +62,9 @@ pub(crate) fn linkage(
 /// Puts a word in brackets, and the words behind it.
 #[inline(never)]
 #[tactic(auto, unfolding(crate::specs::Replay::reduced, crate::specs::Meaning::meaning, sil_shape::specs::Grammar::body))]
-pub(crate) fn more_attributes(
-    alloc: Global,
-    values: &mut Prepended<Value>,
-) -> Result<Option<Fault>, Exhausted>
+pub(crate) fn more_attributes(alloc: Global, values: &mut Prepended<Value>) -> Result<(), Exhausted>
     requires { 4 ≤ length values.old }
     ensures values { OnOk result (values.new ≡ reduced Production.AttributesMore values.old) }
-    ensures fault { IfOk result (λ fault. fault ≡ None) }
 {
     skip(values);
     let word = values.pop_front().into_token();
@@ -84,12 +76,8 @@ pub(crate) fn more_attributes(
 
 /// Puts that there are no words in brackets, or no more of them.
 #[inline(never)]
-pub(crate) fn no_attributes(
-    alloc: Global,
-    values: &mut Prepended<Value>,
-) -> Result<Option<Fault>, Exhausted>
+pub(crate) fn no_attributes(alloc: Global, values: &mut Prepended<Value>) -> Result<(), Exhausted>
     ensures values { OnOk result (values.new ≡ v.Tokens [] ∷ values.old) }
-    ensures fault { IfOk result (λ fault. fault ≡ None) }
 {
     put_value(Value::Tokens(Prepended::new(alloc)), values)
 }
@@ -99,9 +87,8 @@ pub(crate) fn no_attributes(
 pub(crate) fn convention(
     convention: Convention,
     values: &mut Prepended<Value>,
-) -> Result<Option<Fault>, Exhausted>
+) -> Result<(), Exhausted>
     ensures values { OnOk result (values.new ≡ v.Convention convention ∷ values.old) }
-    ensures fault { IfOk result (λ fault. fault ≡ None) }
 {
     put_value(Value::Convention(convention), values)
 }
@@ -184,13 +171,9 @@ fn given_before(value: Value, others: GivenList) -> Result<GivenList, Exhausted>
 
 /// Puts a parameter, and the parameters behind it.
 #[inline(never)]
-pub(crate) fn params(
-    alloc: Global,
-    values: &mut Prepended<Value>,
-) -> Result<Option<Fault>, Exhausted>
+pub(crate) fn params(alloc: Global, values: &mut Prepended<Value>) -> Result<(), Exhausted>
     requires { 2 ≤ length values.old }
     ensures values { OnOk result ((first others : Value) × (rest : List Value) × (values.old ≡ first ∷ others ∷ rest) × (values.new ≡ v.Params (param_before first (params_of others)) ∷ rest)) }
-    ensures fault { IfOk result (λ fault. fault ≡ None) }
 {
     let first = values.pop_front();
     let others = values.pop_front().into_params(alloc);
@@ -200,25 +183,17 @@ pub(crate) fn params(
 
 /// Puts that there are no parameters, or no more of them.
 #[inline(never)]
-pub(crate) fn no_more_params(
-    alloc: Global,
-    values: &mut Prepended<Value>,
-) -> Result<Option<Fault>, Exhausted>
+pub(crate) fn no_more_params(alloc: Global, values: &mut Prepended<Value>) -> Result<(), Exhausted>
     ensures values { OnOk result (values.new ≡ v.Params no_params ∷ values.old) }
-    ensures fault { IfOk result (λ fault. fault ≡ None) }
 {
     put_value(Value::Params(no_params(alloc)), values)
 }
 
 /// Puts a result, and the results behind it.
 #[inline(never)]
-pub(crate) fn givens(
-    alloc: Global,
-    values: &mut Prepended<Value>,
-) -> Result<Option<Fault>, Exhausted>
+pub(crate) fn givens(alloc: Global, values: &mut Prepended<Value>) -> Result<(), Exhausted>
     requires { 2 ≤ length values.old }
     ensures values { OnOk result ((first others : Value) × (rest : List Value) × (values.old ≡ first ∷ others ∷ rest) × (values.new ≡ v.Givens (given_before first (givens_of others)) ∷ rest)) }
-    ensures fault { IfOk result (λ fault. fault ≡ None) }
 {
     let first = values.pop_front();
     let others = values.pop_front().into_givens(alloc);
@@ -228,12 +203,8 @@ pub(crate) fn givens(
 
 /// Puts that there are no results, or no more of them.
 #[inline(never)]
-pub(crate) fn no_more_givens(
-    alloc: Global,
-    values: &mut Prepended<Value>,
-) -> Result<Option<Fault>, Exhausted>
+pub(crate) fn no_more_givens(alloc: Global, values: &mut Prepended<Value>) -> Result<(), Exhausted>
     ensures values { OnOk result (values.new ≡ v.Givens no_givens ∷ values.old) }
-    ensures fault { IfOk result (λ fault. fault ≡ None) }
 {
     put_value(Value::Givens(no_givens(alloc)), values)
 }
@@ -244,10 +215,9 @@ pub(crate) fn param(
     alloc: Global,
     passing: Passing,
     values: &mut Prepended<Value>,
-) -> Result<Option<Fault>, Exhausted>
+) -> Result<(), Exhausted>
     requires { 2 ≤ length values.old }
     ensures values { OnOk result ((word ty : Value) × (rest : List Value) × (values.old ≡ word ∷ ty ∷ rest) × (values.new ≡ param passing (word ∷ ty ∷ []) ∷ rest)) }
-    ensures fault { IfOk result (λ fault. fault ≡ None) }
 {
     let first = values.pop_front().into_token().place;
     let ty = values.pop_front().into_type().ty;
@@ -257,13 +227,9 @@ pub(crate) fn param(
 /// Puts a parameter of which no word says how it is passed.
 #[inline(never)]
 #[tactic(auto, unfolding(crate::specs::Replay::reduced, crate::specs::Meaning::meaning, sil_shape::specs::Grammar::body))]
-pub(crate) fn plain_param(
-    alloc: Global,
-    values: &mut Prepended<Value>,
-) -> Result<Option<Fault>, Exhausted>
+pub(crate) fn plain_param(alloc: Global, values: &mut Prepended<Value>) -> Result<(), Exhausted>
     requires { 1 ≤ length values.old }
     ensures values { OnOk result (values.new ≡ reduced Production.ParamPlain values.old) }
-    ensures fault { IfOk result (λ fault. fault ≡ None) }
 {
     let WrittenType { ty, first, .. } = values.pop_front().into_type();
     let passing = Passing::Plain;
@@ -284,13 +250,9 @@ fn one_given(alloc: Global, given: Given, first: Place) -> Result<GivenList, Exh
 /// Puts the results between two parentheses.
 #[inline(never)]
 #[tactic(auto, unfolding(crate::specs::Replay::reduced, crate::specs::Meaning::meaning, sil_shape::specs::Grammar::body))]
-pub(crate) fn result_list(
-    alloc: Global,
-    values: &mut Prepended<Value>,
-) -> Result<Option<Fault>, Exhausted>
+pub(crate) fn result_list(alloc: Global, values: &mut Prepended<Value>) -> Result<(), Exhausted>
     requires { 3 ≤ length values.old }
     ensures values { OnOk result (values.new ≡ reduced Production.ResultList values.old) }
-    ensures fault { IfOk result (λ fault. fault ≡ None) }
 {
     skip(values);
     let givens = values.pop_front().into_givens(alloc);
@@ -301,13 +263,9 @@ pub(crate) fn result_list(
 /// Puts an owned result, alone in a list.
 #[inline(never)]
 #[tactic(auto, unfolding(crate::specs::Replay::reduced, crate::specs::Meaning::meaning, sil_shape::specs::Grammar::body))]
-pub(crate) fn owned_result(
-    alloc: Global,
-    values: &mut Prepended<Value>,
-) -> Result<Option<Fault>, Exhausted>
+pub(crate) fn owned_result(alloc: Global, values: &mut Prepended<Value>) -> Result<(), Exhausted>
     requires { 2 ≤ length values.old }
     ensures values { OnOk result (values.new ≡ reduced Production.ResultOwned values.old) }
-    ensures fault { IfOk result (λ fault. fault ≡ None) }
 {
     let first = values.pop_front().into_token().place;
     let ty = values.pop_front().into_type().ty;
@@ -318,13 +276,9 @@ pub(crate) fn owned_result(
 /// Puts a result that isn't owned, alone in a list.
 #[inline(never)]
 #[tactic(auto, unfolding(crate::specs::Replay::reduced, crate::specs::Meaning::meaning, sil_shape::specs::Grammar::body))]
-pub(crate) fn plain_result(
-    alloc: Global,
-    values: &mut Prepended<Value>,
-) -> Result<Option<Fault>, Exhausted>
+pub(crate) fn plain_result(alloc: Global, values: &mut Prepended<Value>) -> Result<(), Exhausted>
     requires { 1 ≤ length values.old }
     ensures values { OnOk result (values.new ≡ reduced Production.ResultPlain values.old) }
-    ensures fault { IfOk result (λ fault. fault ≡ None) }
 {
     let WrittenType { ty, first, .. } = values.pop_front().into_type();
     let givens = one_given(alloc, Given { owned: false, ty }, first)?;
@@ -334,13 +288,9 @@ pub(crate) fn plain_result(
 /// Puts an owned result of several.
 #[inline(never)]
 #[tactic(auto, unfolding(crate::specs::Replay::reduced, crate::specs::Meaning::meaning, sil_shape::specs::Grammar::body))]
-pub(crate) fn owned_given(
-    alloc: Global,
-    values: &mut Prepended<Value>,
-) -> Result<Option<Fault>, Exhausted>
+pub(crate) fn owned_given(alloc: Global, values: &mut Prepended<Value>) -> Result<(), Exhausted>
     requires { 2 ≤ length values.old }
     ensures values { OnOk result (values.new ≡ reduced Production.GivenOwned values.old) }
-    ensures fault { IfOk result (λ fault. fault ≡ None) }
 {
     let first = values.pop_front().into_token().place;
     let ty = values.pop_front().into_type().ty;
@@ -350,13 +300,9 @@ pub(crate) fn owned_given(
 /// Puts a result of several that isn't owned.
 #[inline(never)]
 #[tactic(auto, unfolding(crate::specs::Replay::reduced, crate::specs::Meaning::meaning, sil_shape::specs::Grammar::body))]
-pub(crate) fn plain_given(
-    alloc: Global,
-    values: &mut Prepended<Value>,
-) -> Result<Option<Fault>, Exhausted>
+pub(crate) fn plain_given(alloc: Global, values: &mut Prepended<Value>) -> Result<(), Exhausted>
     requires { 1 ≤ length values.old }
     ensures values { OnOk result (values.new ≡ reduced Production.GivenPlain values.old) }
-    ensures fault { IfOk result (λ fault. fault ≡ None) }
 {
     let WrittenType { ty, first, .. } = values.pop_front().into_type();
     put_value(Value::Given(Given { owned: false, ty }, first), values)

@@ -43,9 +43,8 @@ pub(crate) fn whole_module(
 
 /// Puts the stage of a module.
 #[inline(never)]
-pub(crate) fn stage(stage: Stage, values: &mut Prepended<Value>) -> Result<Option<Fault>, Exhausted>
+pub(crate) fn stage(stage: Stage, values: &mut Prepended<Value>) -> Result<(), Exhausted>
     ensures values { OnOk result (values.new ≡ v.Stage stage ∷ values.old) }
-    ensures fault { IfOk result (λ fault. fault ≡ None) }
 {
     put_value(Value::Stage(stage), values)
 }
@@ -63,10 +62,9 @@ fn with_import(name: &[u8], imports: Imports) -> Imports
 /// Puts an import, and the imports behind it.
 #[inline(never)]
 #[tactic(auto, unfolding(crate::specs::Replay::reduced, crate::specs::Meaning::meaning, sil_shape::specs::Grammar::body))]
-pub(crate) fn more_imports(values: &mut Prepended<Value>) -> Result<Option<Fault>, Exhausted>
+pub(crate) fn more_imports(values: &mut Prepended<Value>) -> Result<(), Exhausted>
     requires { 3 ≤ length values.old }
     ensures values { OnOk result (values.new ≡ reduced Production.ImportsMore values.old) }
-    ensures fault { IfOk result (λ fault. fault ≡ None) }
 {
     skip(values);
     let name = values.pop_front().into_token();
@@ -77,9 +75,8 @@ pub(crate) fn more_imports(values: &mut Prepended<Value>) -> Result<Option<Fault
 
 /// Puts that there are no imports, or no more of them.
 #[inline(never)]
-pub(crate) fn no_imports(values: &mut Prepended<Value>) -> Result<Option<Fault>, Exhausted>
+pub(crate) fn no_imports(values: &mut Prepended<Value>) -> Result<(), Exhausted>
     ensures values { OnOk result (values.new ≡ v.Imports (record { builtin = false; swift = false }) ∷ values.old) }
-    ensures fault { IfOk result (λ fault. fault ≡ None) }
 {
     let imports = Imports {
         builtin: false,
@@ -91,13 +88,9 @@ pub(crate) fn no_imports(values: &mut Prepended<Value>) -> Result<Option<Fault>,
 /// Puts an item, and the items behind it.
 #[inline(never)]
 #[tactic(auto, unfolding(crate::specs::Replay::reduced, crate::specs::Meaning::meaning, sil_shape::specs::Grammar::body))]
-pub(crate) fn more_items(
-    alloc: Global,
-    values: &mut Prepended<Value>,
-) -> Result<Option<Fault>, Exhausted>
+pub(crate) fn more_items(alloc: Global, values: &mut Prepended<Value>) -> Result<(), Exhausted>
     requires { 2 ≤ length values.old }
     ensures values { OnOk result (values.new ≡ reduced Production.ItemsMore values.old) }
-    ensures fault { IfOk result (λ fault. fault ≡ None) }
 {
     let item = values.pop_front().into_item(alloc);
     let mut items = values.pop_front().into_items(alloc);
@@ -107,12 +100,8 @@ pub(crate) fn more_items(
 
 /// Puts that there are no items, or no more of them.
 #[inline(never)]
-pub(crate) fn no_items(
-    alloc: Global,
-    values: &mut Prepended<Value>,
-) -> Result<Option<Fault>, Exhausted>
+pub(crate) fn no_items(alloc: Global, values: &mut Prepended<Value>) -> Result<(), Exhausted>
     ensures values { OnOk result (values.new ≡ v.Items [] ∷ values.old) }
-    ensures fault { IfOk result (λ fault. fault ≡ None) }
 {
     put_value(Value::Items(Prepended::new(alloc)), values)
 }
@@ -120,13 +109,9 @@ pub(crate) fn no_items(
 /// Puts the table of a class of its name and its entry.
 #[inline(never)]
 #[tactic(auto, unfolding(crate::specs::Replay::reduced, crate::specs::Meaning::meaning, sil_shape::specs::Grammar::body))]
-pub(crate) fn vtable(
-    alloc: Global,
-    values: &mut Prepended<Value>,
-) -> Result<Option<Fault>, Exhausted>
+pub(crate) fn vtable(alloc: Global, values: &mut Prepended<Value>) -> Result<(), Exhausted>
     requires { 5 ≤ length values.old }
     ensures values { OnOk result (values.new ≡ reduced Production.VtableItem values.old) }
-    ensures fault { IfOk result (λ fault. fault ≡ None) }
 {
     skip(values);
     let class_name = values.pop_front().into_token();
@@ -141,13 +126,9 @@ pub(crate) fn vtable(
 /// Puts the entry of a table of its class and its function.
 #[inline(never)]
 #[tactic(auto, unfolding(crate::specs::Replay::reduced, crate::specs::Meaning::meaning, sil_shape::specs::Grammar::body))]
-pub(crate) fn entry(
-    alloc: Global,
-    values: &mut Prepended<Value>,
-) -> Result<Option<Fault>, Exhausted>
+pub(crate) fn entry(alloc: Global, values: &mut Prepended<Value>) -> Result<(), Exhausted>
     requires { 8 ≤ length values.old }
     ensures values { OnOk result (values.new ≡ reduced Production.EntrySome values.old) }
-    ensures fault { IfOk result (λ fault. fault ≡ None) }
 {
     skip(values);
     let owner = values.pop_front().into_token().text;

@@ -24,13 +24,9 @@ use written_tree::{Fault, WrittenEdge, WrittenOperand};
 /// Puts an operand of its name and its type.
 #[inline(never)]
 #[tactic(auto, unfolding(crate::specs::Replay::reduced, crate::specs::Meaning::meaning, sil_shape::specs::Grammar::body))]
-pub(crate) fn operand(
-    alloc: Global,
-    values: &mut Prepended<Value>,
-) -> Result<Option<Fault>, Exhausted>
+pub(crate) fn operand(alloc: Global, values: &mut Prepended<Value>) -> Result<(), Exhausted>
     requires { 5 ≤ length values.old }
     ensures values { OnOk result (values.new ≡ reduced Production.WholeOperand values.old) }
-    ensures fault { IfOk result (λ fault. fault ≡ None) }
 {
     let name = values.pop_front().into_token();
     skip(values);
@@ -54,13 +50,9 @@ fn operands_before(alloc: Global, values: &mut Prepended<Value>) -> Result<Value
 
 /// Puts an operand, and the operands behind it.
 #[inline(never)]
-pub(crate) fn operands(
-    alloc: Global,
-    values: &mut Prepended<Value>,
-) -> Result<Option<Fault>, Exhausted>
+pub(crate) fn operands(alloc: Global, values: &mut Prepended<Value>) -> Result<(), Exhausted>
     requires { 2 ≤ length values.old }
     ensures values { OnOk result ((first others : Value) × (rest : List Value) × (values.old ≡ first ∷ others ∷ rest) × (values.new ≡ v.Operands (operand_of first ∷ operands_of others) ∷ rest)) }
-    ensures fault { IfOk result (λ fault. fault ≡ None) }
 {
     let operands = operands_before(alloc, values)?;
     put_value(operands, values)
@@ -69,13 +61,9 @@ pub(crate) fn operands(
 /// Puts the operands between the parentheses of an edge.
 #[inline(never)]
 #[tactic(auto, unfolding(crate::specs::Replay::reduced, crate::specs::Meaning::meaning, sil_shape::specs::Grammar::body))]
-pub(crate) fn edge_operands(
-    alloc: Global,
-    values: &mut Prepended<Value>,
-) -> Result<Option<Fault>, Exhausted>
+pub(crate) fn edge_operands(alloc: Global, values: &mut Prepended<Value>) -> Result<(), Exhausted>
     requires { 4 ≤ length values.old }
     ensures values { OnOk result (values.new ≡ reduced Production.EdgeArgsSome values.old) }
-    ensures fault { IfOk result (λ fault. fault ≡ None) }
 {
     skip(values);
     let operands = operands_before(alloc, values)?;
@@ -85,12 +73,8 @@ pub(crate) fn edge_operands(
 
 /// Puts that there are no operands, or no more of them.
 #[inline(never)]
-pub(crate) fn no_operands(
-    alloc: Global,
-    values: &mut Prepended<Value>,
-) -> Result<Option<Fault>, Exhausted>
+pub(crate) fn no_operands(alloc: Global, values: &mut Prepended<Value>) -> Result<(), Exhausted>
     ensures values { OnOk result (values.new ≡ v.Operands [] ∷ values.old) }
-    ensures fault { IfOk result (λ fault. fault ≡ None) }
 {
     put_value(Value::Operands(Prepended::new(alloc)), values)
 }
@@ -118,13 +102,9 @@ pub(crate) fn edge(alloc: Global, values: &mut Prepended<Value>) -> Result<Optio
 /// Puts the edge of a case, and the edges behind it.
 #[inline(never)]
 #[tactic(auto, unfolding(crate::specs::Replay::reduced, crate::specs::Meaning::meaning, sil_shape::specs::Grammar::body))]
-pub(crate) fn switch_case(
-    alloc: Global,
-    values: &mut Prepended<Value>,
-) -> Result<Option<Fault>, Exhausted>
+pub(crate) fn switch_case(alloc: Global, values: &mut Prepended<Value>) -> Result<(), Exhausted>
     requires { 5 ≤ length values.old }
     ensures values { OnOk result (values.new ≡ reduced Production.SwitchCase values.old) }
-    ensures fault { IfOk result (λ fault. fault ≡ None) }
 {
     skip(values);
     let case_of = Some(values.pop_front().into_member(alloc)?);
@@ -142,13 +122,9 @@ pub(crate) fn switch_case(
 /// Puts the edge of a default, behind which there are no edges.
 #[inline(never)]
 #[tactic(auto, unfolding(crate::specs::Replay::reduced, crate::specs::Meaning::meaning, sil_shape::specs::Grammar::body))]
-pub(crate) fn switch_default(
-    alloc: Global,
-    values: &mut Prepended<Value>,
-) -> Result<Option<Fault>, Exhausted>
+pub(crate) fn switch_default(alloc: Global, values: &mut Prepended<Value>) -> Result<(), Exhausted>
     requires { 2 ≤ length values.old }
     ensures values { OnOk result (values.new ≡ reduced Production.SwitchDefault values.old) }
-    ensures fault { IfOk result (λ fault. fault ≡ None) }
 {
     skip(values);
     let label = values.pop_front().into_token();
@@ -163,12 +139,8 @@ pub(crate) fn switch_default(
 
 /// Puts that there are no more edges.
 #[inline(never)]
-pub(crate) fn no_edges(
-    alloc: Global,
-    values: &mut Prepended<Value>,
-) -> Result<Option<Fault>, Exhausted>
+pub(crate) fn no_edges(alloc: Global, values: &mut Prepended<Value>) -> Result<(), Exhausted>
     ensures values { OnOk result (values.new ≡ v.Edges [] ∷ values.old) }
-    ensures fault { IfOk result (λ fault. fault ≡ None) }
 {
     put_value(Value::Edges(Prepended::new(alloc)), values)
 }
@@ -176,13 +148,9 @@ pub(crate) fn no_edges(
 /// Puts the operand of a case, alone in a list.
 #[inline(never)]
 #[tactic(auto, unfolding(crate::specs::Replay::reduced, crate::specs::Meaning::meaning, sil_shape::specs::Grammar::body))]
-pub(crate) fn enum_operand(
-    alloc: Global,
-    values: &mut Prepended<Value>,
-) -> Result<Option<Fault>, Exhausted>
+pub(crate) fn enum_operand(alloc: Global, values: &mut Prepended<Value>) -> Result<(), Exhausted>
     requires { 2 ≤ length values.old }
     ensures values { OnOk result (values.new ≡ reduced Production.EnumOperandSome values.old) }
-    ensures fault { IfOk result (λ fault. fault ≡ None) }
 {
     skip(values);
     let mut operands = Prepended::new(alloc);
@@ -205,13 +173,9 @@ fn member(alloc: Global, values: &mut Prepended<Value>) -> Result<Value, Exhaust
 /// Puts the name of a member.
 #[inline(never)]
 #[tactic(auto, unfolding(crate::specs::Replay::reduced, crate::specs::Meaning::meaning, sil_shape::specs::Grammar::body))]
-pub(crate) fn member_name(
-    alloc: Global,
-    values: &mut Prepended<Value>,
-) -> Result<Option<Fault>, Exhausted>
+pub(crate) fn member_name(alloc: Global, values: &mut Prepended<Value>) -> Result<(), Exhausted>
     requires { 4 ≤ length values.old }
     ensures values { OnOk result (values.new ≡ reduced Production.WholeMemberName values.old) }
-    ensures fault { IfOk result (λ fault. fault ≡ None) }
 {
     let member = member(alloc, values)?;
     put_value(member, values)
@@ -220,13 +184,9 @@ pub(crate) fn member_name(
 /// Puts the name of a case, of whose suffix nothing is kept.
 #[inline(never)]
 #[tactic(auto, unfolding(crate::specs::Replay::reduced, crate::specs::Meaning::meaning, sil_shape::specs::Grammar::body))]
-pub(crate) fn enum_element(
-    alloc: Global,
-    values: &mut Prepended<Value>,
-) -> Result<Option<Fault>, Exhausted>
+pub(crate) fn enum_element(alloc: Global, values: &mut Prepended<Value>) -> Result<(), Exhausted>
     requires { 7 ≤ length values.old }
     ensures values { OnOk result (values.new ≡ reduced Production.WholeEnumElement values.old) }
-    ensures fault { IfOk result (λ fault. fault ≡ None) }
 {
     let member = member(alloc, values)?;
     skip(values);

@@ -268,13 +268,9 @@ pub(crate) fn unowned_type(
 
 /// `Builtin` or `Optional`, and what stands behind it.
 #[inline(never)]
-pub(crate) fn tailed_base(
-    alloc: Global,
-    values: &mut Prepended<Value>,
-) -> Result<Option<Fault>, Exhausted>
+pub(crate) fn tailed_base(alloc: Global, values: &mut Prepended<Value>) -> Result<(), Exhausted>
     requires { 2 ≤ length values.old }
     ensures values { OnOk result ((word tail : Value) × (rest : List Value) × (values.old ≡ word ∷ tail ∷ rest) × (values.new ≡ v.Type (tailed (token_of word) tail) ∷ rest)) }
-    ensures fault { IfOk result (λ fault. fault ≡ None) }
 {
     let word = values.pop_front().into_token();
     let ty = tailed(alloc, word, values.pop_front())?;
@@ -283,13 +279,9 @@ pub(crate) fn tailed_base(
 
 #[inline(never)]
 #[tactic(auto, unfolding(crate::specs::Replay::reduced, crate::specs::Meaning::meaning, sil_shape::specs::Grammar::body))]
-pub(crate) fn named_base(
-    alloc: Global,
-    values: &mut Prepended<Value>,
-) -> Result<Option<Fault>, Exhausted>
+pub(crate) fn named_base(alloc: Global, values: &mut Prepended<Value>) -> Result<(), Exhausted>
     requires { 1 ≤ length values.old }
     ensures values { OnOk result (values.new ≡ reduced Production.NamedBase values.old) }
-    ensures fault { IfOk result (λ fault. fault ≡ None) }
 {
     let word = values.pop_front().into_token();
     put_value(Value::Type(named_type(alloc, &word)?), values)
@@ -316,10 +308,9 @@ pub(crate) fn optional_of(
 
 /// `Int64` behind `Builtin.`
 #[inline(never)]
-pub(crate) fn int_type(width: u8, values: &mut Prepended<Value>) -> Result<Option<Fault>, Exhausted>
+pub(crate) fn int_type(width: u8, values: &mut Prepended<Value>) -> Result<(), Exhausted>
     requires { 1 ≤ length values.old }
     ensures values { OnOk result ((word : Value) × (rest : List Value) × (values.old ≡ word ∷ rest) × (values.new ≡ v.Type (one_token (ty.Int width) (token_of word).place) ∷ rest)) }
-    ensures fault { IfOk result (λ fault. fault ≡ None) }
 {
     let place = values.pop_front().into_token().place;
     put_value(Value::Type(one_token(TypeName::Int(width), place)), values)
@@ -327,13 +318,9 @@ pub(crate) fn int_type(width: u8, values: &mut Prepended<Value>) -> Result<Optio
 
 #[inline(never)]
 #[tactic(auto, unfolding(crate::specs::Replay::reduced, crate::specs::Meaning::meaning, sil_shape::specs::Grammar::body))]
-pub(crate) fn more_questions(
-    alloc: Global,
-    values: &mut Prepended<Value>,
-) -> Result<Option<Fault>, Exhausted>
+pub(crate) fn more_questions(alloc: Global, values: &mut Prepended<Value>) -> Result<(), Exhausted>
     requires { 2 ≤ length values.old }
     ensures values { OnOk result (values.new ≡ reduced Production.QuestionsMore values.old) }
-    ensures fault { IfOk result (λ fault. fault ≡ None) }
 {
     let question = values.pop_front().into_token().place;
     let mut questions = values.pop_front().into_questions(alloc);
@@ -343,25 +330,17 @@ pub(crate) fn more_questions(
 
 /// No `?`, or no more.
 #[inline(never)]
-pub(crate) fn no_questions(
-    alloc: Global,
-    values: &mut Prepended<Value>,
-) -> Result<Option<Fault>, Exhausted>
+pub(crate) fn no_questions(alloc: Global, values: &mut Prepended<Value>) -> Result<(), Exhausted>
     ensures values { OnOk result (values.new ≡ v.Questions [] ∷ values.old) }
-    ensures fault { IfOk result (λ fault. fault ≡ None) }
 {
     put_value(Value::Questions(Prepended::new(alloc)), values)
 }
 
 /// A type, and the types behind it.
 #[inline(never)]
-pub(crate) fn types_before(
-    alloc: Global,
-    values: &mut Prepended<Value>,
-) -> Result<Option<Fault>, Exhausted>
+pub(crate) fn types_before(alloc: Global, values: &mut Prepended<Value>) -> Result<(), Exhausted>
     requires { 2 ≤ length values.old }
     ensures values { OnOk result ((first others : Value) × (rest : List Value) × (values.old ≡ first ∷ others ∷ rest) × (values.new ≡ v.Types (type_before (type_of first) (types_of others)) ∷ rest)) }
-    ensures fault { IfOk result (λ fault. fault ≡ None) }
 {
     let ty = values.pop_front().into_type();
     let others = values.pop_front().into_types(alloc);
@@ -371,12 +350,8 @@ pub(crate) fn types_before(
 
 /// No types, or no more.
 #[inline(never)]
-pub(crate) fn no_more_types(
-    alloc: Global,
-    values: &mut Prepended<Value>,
-) -> Result<Option<Fault>, Exhausted>
+pub(crate) fn no_more_types(alloc: Global, values: &mut Prepended<Value>) -> Result<(), Exhausted>
     ensures values { OnOk result (values.new ≡ v.Types no_types ∷ values.old) }
-    ensures fault { IfOk result (λ fault. fault ≡ None) }
 {
     put_value(Value::Types(no_types(alloc)), values)
 }

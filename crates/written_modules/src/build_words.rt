@@ -26,9 +26,8 @@ pub(crate) fn flags(
     lexical: bool,
     var_decl: bool,
     values: &mut Prepended<Value>,
-) -> Result<Option<Fault>, Exhausted>
+) -> Result<(), Exhausted>
     ensures values { OnOk result (values.new ≡ meant.flags lexical var_decl ∷ values.old) }
-    ensures fault { IfOk result (λ fault. fault ≡ None) }
 {
     put_value(Value::Flags(Flags { lexical, var_decl }), values)
 }
@@ -36,10 +35,9 @@ pub(crate) fn flags(
 /// Puts `[lexical]` and the flag behind it.
 #[inline(never)]
 #[tactic(auto, unfolding(crate::specs::Replay::reduced, crate::specs::Meaning::meaning, sil_shape::specs::Grammar::body))]
-pub(crate) fn lexical_first(values: &mut Prepended<Value>) -> Result<Option<Fault>, Exhausted>
+pub(crate) fn lexical_first(values: &mut Prepended<Value>) -> Result<(), Exhausted>
     requires { 3 ≤ length values.old }
     ensures values { OnOk result (values.new ≡ reduced Production.LexicalFirst values.old) }
-    ensures fault { IfOk result (λ fault. fault ≡ None) }
 {
     skip(values);
     skip(values);
@@ -51,10 +49,9 @@ pub(crate) fn lexical_first(values: &mut Prepended<Value>) -> Result<Option<Faul
 /// Puts `[var_decl]` and the flag behind it.
 #[inline(never)]
 #[tactic(auto, unfolding(crate::specs::Replay::reduced, crate::specs::Meaning::meaning, sil_shape::specs::Grammar::body))]
-pub(crate) fn var_decl_first(values: &mut Prepended<Value>) -> Result<Option<Fault>, Exhausted>
+pub(crate) fn var_decl_first(values: &mut Prepended<Value>) -> Result<(), Exhausted>
     requires { 3 ≤ length values.old }
     ensures values { OnOk result (values.new ≡ reduced Production.VarDeclFirst values.old) }
-    ensures fault { IfOk result (λ fault. fault ≡ None) }
 {
     skip(values);
     skip(values);
@@ -74,13 +71,9 @@ fn qualified(word: Qualifier, values: &mut Prepended<Value>) -> Value
 
 /// Puts a qualifier's word, and where it stands.
 #[inline(never)]
-pub(crate) fn qualifier(
-    word: Qualifier,
-    values: &mut Prepended<Value>,
-) -> Result<Option<Fault>, Exhausted>
+pub(crate) fn qualifier(word: Qualifier, values: &mut Prepended<Value>) -> Result<(), Exhausted>
     requires { 1 ≤ length values.old }
     ensures values { OnOk result ((a : Value) × (rest : List Value) × (values.old ≡ a ∷ rest) × (values.new ≡ qualified word 0 (a ∷ []) ∷ rest)) }
-    ensures fault { IfOk result (λ fault. fault ≡ None) }
 {
     let qualifier = qualified(word, values);
     put_value(qualifier, values)
@@ -89,10 +82,9 @@ pub(crate) fn qualifier(
 /// Puts the `take` between two brackets.
 #[inline(never)]
 #[tactic(auto, unfolding(crate::specs::Replay::reduced, crate::specs::Meaning::meaning, sil_shape::specs::Grammar::body))]
-pub(crate) fn take_flag(values: &mut Prepended<Value>) -> Result<Option<Fault>, Exhausted>
+pub(crate) fn take_flag(values: &mut Prepended<Value>) -> Result<(), Exhausted>
     requires { 3 ≤ length values.old }
     ensures values { OnOk result (values.new ≡ reduced Production.TakeFlagSome values.old) }
-    ensures fault { IfOk result (λ fault. fault ≡ None) }
 {
     skip(values);
     let take = qualified(Qualifier::Take, values);
@@ -102,9 +94,8 @@ pub(crate) fn take_flag(values: &mut Prepended<Value>) -> Result<Option<Fault>, 
 
 /// Puts that there is no qualifier.
 #[inline(never)]
-pub(crate) fn unqualified(values: &mut Prepended<Value>) -> Result<Option<Fault>, Exhausted>
+pub(crate) fn unqualified(values: &mut Prepended<Value>) -> Result<(), Exhausted>
     ensures values { OnOk result (values.new ≡ v.Qualifier no_qualifier ∷ values.old) }
-    ensures fault { IfOk result (λ fault. fault ≡ None) }
 {
     put_value(Value::Qualifier(no_qualifier()), values)
 }
@@ -114,10 +105,9 @@ pub(crate) fn unqualified(values: &mut Prepended<Value>) -> Result<Option<Fault>
 pub(crate) fn debug_binding(
     binding: Binding,
     values: &mut Prepended<Value>,
-) -> Result<Option<Fault>, Exhausted>
+) -> Result<(), Exhausted>
     requires { 2 ≤ length values.old }
     ensures values { OnOk result ((word others : Value) × (rest : List Value) × (values.old ≡ word ∷ others ∷ rest) × (values.new ≡ v.Debug (record (debug_of others) { binding = Some binding }) ∷ rest)) }
-    ensures fault { IfOk result (λ fault. fault ≡ None) }
 {
     skip(values);
     let mut debug = values.pop_front().into_debug();
@@ -128,13 +118,9 @@ pub(crate) fn debug_binding(
 /// Puts a name, and what a debugger is told behind it.
 #[inline(never)]
 #[tactic(auto, unfolding(crate::specs::Replay::reduced, crate::specs::Meaning::meaning, sil_shape::specs::Grammar::body))]
-pub(crate) fn debug_name(
-    alloc: Global,
-    values: &mut Prepended<Value>,
-) -> Result<Option<Fault>, Exhausted>
+pub(crate) fn debug_name(alloc: Global, values: &mut Prepended<Value>) -> Result<(), Exhausted>
     requires { 3 ≤ length values.old }
     ensures values { OnOk result (values.new ≡ reduced Production.DebugName values.old) }
-    ensures fault { IfOk result (λ fault. fault ≡ None) }
 {
     skip(values);
     let name = Boxed::new(alloc, values.pop_front().into_text(alloc)?)?;
@@ -163,10 +149,9 @@ pub(crate) fn debug_number(values: &mut Prepended<Value>) -> Result<Option<Fault
 /// Puts what a debugger is told by `expr op_deref`.
 #[inline(never)]
 #[tactic(auto, unfolding(crate::specs::Replay::reduced, crate::specs::Meaning::meaning, sil_shape::specs::Grammar::body))]
-pub(crate) fn debug_deref(values: &mut Prepended<Value>) -> Result<Option<Fault>, Exhausted>
+pub(crate) fn debug_deref(values: &mut Prepended<Value>) -> Result<(), Exhausted>
     requires { 2 ≤ length values.old }
     ensures values { OnOk result (values.new ≡ reduced Production.DebugDeref values.old) }
-    ensures fault { IfOk result (λ fault. fault ≡ None) }
 {
     skip(values);
     skip(values);
@@ -177,9 +162,8 @@ pub(crate) fn debug_deref(values: &mut Prepended<Value>) -> Result<Option<Fault>
 
 /// Puts that a debugger is told nothing, or nothing more.
 #[inline(never)]
-pub(crate) fn no_more_debug(values: &mut Prepended<Value>) -> Result<Option<Fault>, Exhausted>
+pub(crate) fn no_more_debug(values: &mut Prepended<Value>) -> Result<(), Exhausted>
     ensures values { OnOk result (values.new ≡ v.Debug no_debug ∷ values.old) }
-    ensures fault { IfOk result (λ fault. fault ≡ None) }
 {
     put_value(Value::Debug(no_debug()), values)
 }

@@ -114,32 +114,24 @@ fn replay(
     })
 }
 
-/// The text, to be shared by the tokens that are kept of it.
-fn shared(alloc: Global, text: &[u8]) -> Result<Rc<Vec<u8>>, Exhausted>
-    ensures { IfOk result (λ shared. shared.value.items ≡ text.now) }
-{
-    Ok(Rc::new(alloc, Vec::from_slice(alloc, text)?)?)
-}
-
-/// What the steps of a derivation from all tokens stand for.
+/// What the steps of a derivation from all tokens stand for. The tokens that are kept share the text.
 pub fn build(
     alloc: Global,
-    text: &[u8],
+    text: &Rc<Vec<u8>>,
     tokens: Tokens,
     steps: Vec<Step>,
 ) -> Result<Built, Exhausted>
-    requires lexed { IsLexingOf text.now tokens }
+    requires lexed { IsLexingOf text.now.value.items tokens }
     requires derived { (classes : List Class) × Derives start classes steps.items }
     requires taken { takes_of steps.items ≡ length tokens.tokens }
-    ensures written { IfOk result (λ built. Writes steps.items (lexemes_of text.now tokens) built.written) }
-    ensures fault { IfOk result (λ built. built.fault ≡ first_fault steps.items (lexemes_of text.now tokens)) }
+    ensures written { IfOk result (λ built. Writes steps.items (lexemes_of text.now.value.items tokens) built.written) }
+    ensures fault { IfOk result (λ built. built.fault ≡ first_fault steps.items (lexemes_of text.now.value.items tokens)) }
 {
-    let source = shared(alloc, text)?;
     let Replayed {
         mut values,
         mut left,
         fault,
-    } = replay(alloc, &source, tokens, steps, Vec::new(alloc))?;
+    } = replay(alloc, text, tokens, steps, Vec::new(alloc))?;
     fill(alloc, &mut values, &mut left, 1)?;
     let written = values.pop_front().into_module(alloc);
     Ok(Built { written, fault })
@@ -149,21 +141,20 @@ pub fn build(
 /// with no tokens.
 pub fn front_fault(
     alloc: Global,
-    text: &[u8],
+    text: &Rc<Vec<u8>>,
     tokens: Tokens,
     count: usize,
     front: Front,
 ) -> Result<Option<Fault>, Exhausted>
-    requires lexed { IsLexingOf text.now tokens }
+    requires lexed { IsLexingOf text.now.value.items tokens }
     requires inside { count ≤ length tokens.tokens }
     requires begun { (classes : List Class) × (length classes ≡ count) × LeadsTo classes front.steps.items (reverse front.left.items) }
     ensures { IfOk result (λ fault. (rest : List Step) × Shortens (reverse front.left.items) rest
-        × (fault ≡ first_fault (front.steps.items ++ rest) (take count (lexemes_of text.now tokens)))) }
+        × (fault ≡ first_fault (front.steps.items ++ rest) (take count (lexemes_of text.now.value.items tokens)))) }
 {
     let Front { steps, left } = front;
-    let source = shared(alloc, text)?;
     let mut tokens = tokens;
     tokens.truncate(count);
-    let replayed = replay(alloc, &source, tokens, steps, left)?;
+    let replayed = replay(alloc, text, tokens, steps, left)?;
     Ok(replayed.fault)
 }

@@ -1,6 +1,6 @@
 //! Puts what a production stands for before the values that wait.
 
-ghost use Rattle.std.specs.Prelude.{◌≡◌, ◌<◌, ◌≤◌, ◌∷◌, List, length, None, IfOk, OnOk};
+ghost use Rattle.std.specs.Prelude.{◌≡◌, ◌<◌, ◌≤◌, ◌∷◌, List, length, IfOk, OnOk};
 ghost use Rattle.written_modules.specs.declared.value.Value.{Value};
 ghost use Rattle.written_modules.specs.declared.value.Value.TheVariants as v;
 
@@ -20,32 +20,23 @@ pub(crate) fn put(made: Reduced, values: &mut Prepended<Value>) -> Result<Option
 }
 
 /// Puts a value in which nothing can be at fault before the others.
-pub(crate) fn put_value(
-    value: Value,
-    values: &mut Prepended<Value>,
-) -> Result<Option<Fault>, Exhausted>
+pub(crate) fn put_value(value: Value, values: &mut Prepended<Value>) -> Result<(), Exhausted>
     ensures value { OnOk result (values.new ≡ value ∷ values.old) }
-    ensures fault { IfOk result (λ fault. fault ≡ None) }
 {
-    values.push_front(value)?;
-    Ok(None)
+    values.push_front(value)
 }
 
 /// Leaves the first value where it stands, for a production that writes nothing but its only part.
-pub(crate) fn pass(values: &mut Prepended<Value>) -> Result<Option<Fault>, Exhausted>
+pub(crate) fn pass(values: &mut Prepended<Value>)
     requires { 0 < length values.old }
-    ensures values { (first : Value) × (rest : List Value) × (values.old ≡ first ∷ rest) × (values.new ≡ first ∷ rest) }
-    ensures fault { IfOk result (λ fault. fault ≡ None) }
-{
-    Ok(None)
-}
+    ensures { (first : Value) × (rest : List Value) × (values.old ≡ first ∷ rest) × (values.new ≡ first ∷ rest) }
+{}
 
 /// Puts the second of two values in the place of both.
 #[inline(never)]
-pub(crate) fn put_second(values: &mut Prepended<Value>) -> Result<Option<Fault>, Exhausted>
+pub(crate) fn put_second(values: &mut Prepended<Value>) -> Result<(), Exhausted>
     requires { 2 ≤ length values.old }
     ensures values { OnOk result ((first second : Value) × (rest : List Value) × (values.old ≡ first ∷ second ∷ rest) × (values.new ≡ second ∷ rest)) }
-    ensures fault { IfOk result (λ fault. fault ≡ None) }
 {
     let second = second_of_two(values);
     put_value(second, values)
@@ -53,10 +44,9 @@ pub(crate) fn put_second(values: &mut Prepended<Value>) -> Result<Option<Fault>,
 
 /// Puts the second of three values in the place of them all.
 #[inline(never)]
-pub(crate) fn put_second_of_three(values: &mut Prepended<Value>) -> Result<Option<Fault>, Exhausted>
+pub(crate) fn put_second_of_three(values: &mut Prepended<Value>) -> Result<(), Exhausted>
     requires { 3 ≤ length values.old }
     ensures values { OnOk result ((first second third : Value) × (rest : List Value) × (values.old ≡ first ∷ second ∷ third ∷ rest) × (values.new ≡ second ∷ rest)) }
-    ensures fault { IfOk result (λ fault. fault ≡ None) }
 {
     let second = second_of_three(values);
     put_value(second, values)
@@ -64,9 +54,8 @@ pub(crate) fn put_second_of_three(values: &mut Prepended<Value>) -> Result<Optio
 
 /// Puts that nothing is kept before the others.
 #[inline(never)]
-pub(crate) fn put_nothing(values: &mut Prepended<Value>) -> Result<Option<Fault>, Exhausted>
+pub(crate) fn put_nothing(values: &mut Prepended<Value>) -> Result<(), Exhausted>
     ensures values { OnOk result (values.new ≡ v.Nothing ∷ values.old) }
-    ensures fault { IfOk result (λ fault. fault ≡ None) }
 {
     put_value(Value::Nothing, values)
 }

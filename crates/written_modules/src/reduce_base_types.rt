@@ -30,17 +30,18 @@ pub(crate) fn reduce_base_type(
 {
     match production {
         Production::BuiltinBase | Production::OptionalBase => {
-            build_types::tailed_base(alloc, values)
+            build_types::tailed_base(alloc, values)?
         }
-        Production::NamedBase => build_types::named_base(alloc, values),
-        Production::OptionalOf => build_types::optional_of(alloc, values),
-        Production::Width1 => build_types::int_type(1, values),
-        Production::Width8 => build_types::int_type(8, values),
-        Production::Width16 => build_types::int_type(16, values),
-        Production::Width32 => build_types::int_type(32, values),
-        Production::Width64 => build_types::int_type(64, values),
-        Production::BuiltinInt => put_second(values),
-        Production::BuiltinName | Production::OptionalName => put_nothing(values),
+        Production::NamedBase => build_types::named_base(alloc, values)?,
+        Production::OptionalOf => return build_types::optional_of(alloc, values),
+        Production::Width1 => build_types::int_type(1, values)?,
+        Production::Width8 => build_types::int_type(8, values)?,
+        Production::Width16 => build_types::int_type(16, values)?,
+        Production::Width32 => build_types::int_type(32, values)?,
+        Production::Width64 => build_types::int_type(64, values)?,
+        Production::BuiltinInt => put_second(values)?,
+        Production::BuiltinName | Production::OptionalName => put_nothing(values)?,
         _ => unreachable!(),
     }
+    Ok(None)
 }

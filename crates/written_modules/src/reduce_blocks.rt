@@ -34,43 +34,44 @@ pub(crate) fn reduce_block(
 {
     match production {
         Production::NamesNone | Production::MoreNamesEnd | Production::BareNamesNone => {
-            build_blocks::no_names(alloc, values)
+            build_blocks::no_names(alloc, values)?
         }
-        Production::BlocksMore => build_blocks::blocks(alloc, values),
-        Production::BlocksEnd => build_blocks::no_blocks(alloc, values),
-        Production::WholeBlock => build_blocks::whole_block(alloc, values),
-        Production::BlockArgsSome => build_blocks::args(alloc, values),
-        Production::MoreBlockArgsMore => build_blocks::more_args(alloc, values),
+        Production::BlocksMore => build_blocks::blocks(alloc, values)?,
+        Production::BlocksEnd => build_blocks::no_blocks(alloc, values)?,
+        Production::WholeBlock => return build_blocks::whole_block(alloc, values),
+        Production::BlockArgsSome => build_blocks::args(alloc, values)?,
+        Production::MoreBlockArgsMore => build_blocks::more_args(alloc, values)?,
         Production::BlockArgsNone | Production::MoreBlockArgsEnd => {
-            build_blocks::no_args(alloc, values)
+            build_blocks::no_args(alloc, values)?
         }
-        Production::WholeBlockArg => build_blocks::block_arg(alloc, values),
+        Production::WholeBlockArg => build_blocks::block_arg(alloc, values)?,
         Production::OwnershipOwned => {
             skip(values);
-            build_blocks::ownership(ArgKind::Owned, values)
+            build_blocks::ownership(ArgKind::Owned, values)?
         },
         Production::OwnershipGuaranteed => {
             skip(values);
-            build_blocks::ownership(ArgKind::Guaranteed, values)
+            build_blocks::ownership(ArgKind::Guaranteed, values)?
         },
-        Production::OwnershipNone => build_blocks::ownership(ArgKind::Plain, values),
+        Production::OwnershipNone => build_blocks::ownership(ArgKind::Plain, values)?,
         Production::StarSome => {
             skip(values);
-            build_blocks::star(values)
+            build_blocks::star(values)?
         },
-        Production::CodeInst => build_blocks::more_code(alloc, values),
-        Production::CodeEnd => build_blocks::last_code(alloc, values),
-        Production::InstOneName => build_blocks::one_name(alloc, values),
-        Production::InstNames => build_blocks::names(alloc, values),
+        Production::CodeInst => build_blocks::more_code(alloc, values)?,
+        Production::CodeEnd => build_blocks::last_code(alloc, values)?,
+        Production::InstOneName => build_blocks::one_name(alloc, values)?,
+        Production::InstNames => return build_blocks::names(alloc, values),
         Production::NamesSome | Production::BareNamesSome => {
-            build_blocks::name_list(alloc, values)
+            build_blocks::name_list(alloc, values)?
         }
         Production::MoreNamesMore => {
             skip(values);
-            build_blocks::name_list(alloc, values)
+            build_blocks::name_list(alloc, values)?
         },
         Production::InstUnnamed => pass(values),
-        Production::StarNone => put_nothing(values),
+        Production::StarNone => put_nothing(values)?,
         _ => unreachable!(),
     }
+    Ok(None)
 }

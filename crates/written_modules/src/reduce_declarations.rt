@@ -30,45 +30,45 @@ pub(crate) fn reduce_declaration(
     ensures fault { IfOk result (λ fault. fault ≡ part_fault production (parts_of production values.old)) }
 {
     match production {
-        Production::WholeModule => build_module::whole_module(alloc, values),
-        Production::StageNone => build_module::stage(Stage::Canonical, values),
+        Production::WholeModule => return build_module::whole_module(alloc, values),
+        Production::StageNone => build_module::stage(Stage::Canonical, values)?,
         Production::Raw => {
             skip(values);
-            build_module::stage(Stage::Raw, values)
+            build_module::stage(Stage::Raw, values)?
         },
         Production::Canonical => {
             skip(values);
-            build_module::stage(Stage::Canonical, values)
+            build_module::stage(Stage::Canonical, values)?
         },
-        Production::ImportsMore => build_module::more_imports(values),
-        Production::ImportsEnd => build_module::no_imports(values),
-        Production::ItemsMore => build_module::more_items(alloc, values),
-        Production::ItemsEnd => build_module::no_items(alloc, values),
-        Production::FinalClass => build_declarations::final_class(alloc, values),
-        Production::PlainClass => build_declarations::plain_class(alloc, values),
-        Production::StructItem => build_declarations::struct_item(alloc, values),
-        Production::EnumItem => build_declarations::enum_item(alloc, values),
-        Production::FunctionItem => build_functions::function(alloc, values),
-        Production::VtableItem => build_module::vtable(alloc, values),
-        Production::EntrySome => build_module::entry(alloc, values),
+        Production::ImportsMore => build_module::more_imports(values)?,
+        Production::ImportsEnd => build_module::no_imports(values)?,
+        Production::ItemsMore => build_module::more_items(alloc, values)?,
+        Production::ItemsEnd => build_module::no_items(alloc, values)?,
+        Production::FinalClass => return build_declarations::final_class(alloc, values),
+        Production::PlainClass => return build_declarations::plain_class(alloc, values),
+        Production::StructItem => return build_declarations::struct_item(alloc, values),
+        Production::EnumItem => return build_declarations::enum_item(alloc, values),
+        Production::FunctionItem => return build_functions::function(alloc, values),
+        Production::VtableItem => build_module::vtable(alloc, values)?,
+        Production::EntrySome => build_module::entry(alloc, values)?,
         Production::MembersMore | Production::FieldsMore => {
-            build_declarations::fields(alloc, values)
+            build_declarations::fields(alloc, values)?
         }
         Production::MembersEnd | Production::FieldsEnd => {
-            build_declarations::no_fields(alloc, values)
+            build_declarations::no_fields(alloc, values)?
         }
-        Production::WeakVariable => build_declarations::variable(alloc, Storage::Weak, values),
+        Production::WeakVariable => build_declarations::variable(alloc, Storage::Weak, values)?,
         Production::UnownedVariable => build_declarations::variable(
             alloc,
             Storage::Unowned,
             values,
-        ),
+        )?,
         Production::VarBinding | Production::LetBinding => {
-            build_declarations::binding(alloc, values)
+            build_declarations::binding(alloc, values)?
         }
-        Production::CasesMore => build_declarations::more_cases(alloc, values),
-        Production::CasesEnd => build_declarations::no_cases(alloc, values),
-        Production::PayloadSome => build_types::payload(alloc, values),
+        Production::CasesMore => build_declarations::more_cases(alloc, values)?,
+        Production::CasesEnd => build_declarations::no_cases(alloc, values)?,
+        Production::PayloadSome => return build_types::payload(alloc, values),
         Production::PlainMember
         | Production::ModifiedVariable
         | Production::StrongVariable
@@ -78,28 +78,29 @@ pub(crate) fn reduce_declaration(
         | Production::FinalMember
         | Production::ModifiedStored
         | Production::ModifiedFinal
-        | Production::StoredField => put_second(values),
+        | Production::StoredField => put_second(values)?,
         Production::DeinitMember | Production::SetterSome => {
             skip(values);
-            put_nothing(values)
+            put_nothing(values)?
         },
         Production::InitMember => {
             skip(values);
             skip(values);
             skip(values);
-            put_nothing(values)
+            put_nothing(values)?
         },
         Production::AccessorsSome => {
             skip(values);
             skip(values);
             skip(values);
             skip(values);
-            put_nothing(values)
+            put_nothing(values)?
         },
         Production::AccessorsNone
         | Production::SetterNone
         | Production::PayloadNone
-        | Production::EntryNone => put_nothing(values),
+        | Production::EntryNone => put_nothing(values)?,
         _ => unreachable!(),
     }
+    Ok(None)
 }

@@ -31,59 +31,60 @@ pub(crate) fn reduce_function(
     match production {
         Production::LinkageHidden => {
             skip(values);
-            build_functions::linkage(Linkage::Hidden, values)
+            build_functions::linkage(Linkage::Hidden, values)?
         },
         Production::LinkagePrivate => {
             skip(values);
-            build_functions::linkage(Linkage::Private, values)
+            build_functions::linkage(Linkage::Private, values)?
         },
         Production::LinkageShared => {
             skip(values);
-            build_functions::linkage(Linkage::Shared, values)
+            build_functions::linkage(Linkage::Shared, values)?
         },
         Production::LinkagePublic => {
             skip(values);
-            build_functions::linkage(Linkage::Public, values)
+            build_functions::linkage(Linkage::Public, values)?
         },
-        Production::LinkagePlain => build_functions::linkage(Linkage::Plain, values),
-        Production::AttributesMore => build_functions::more_attributes(alloc, values),
-        Production::AttributesEnd => build_functions::no_attributes(alloc, values),
-        Production::WholeFunctionType => build_functions::function_type(alloc, values),
+        Production::LinkagePlain => build_functions::linkage(Linkage::Plain, values)?,
+        Production::AttributesMore => build_functions::more_attributes(alloc, values)?,
+        Production::AttributesEnd => build_functions::no_attributes(alloc, values)?,
+        Production::WholeFunctionType => return build_functions::function_type(alloc, values),
         Production::Thin => {
             skip(values);
-            build_functions::convention(Convention::Thin, values)
+            build_functions::convention(Convention::Thin, values)?
         },
         Production::Method => {
             skip(values);
-            build_functions::convention(Convention::Method, values)
+            build_functions::convention(Convention::Method, values)?
         },
-        Production::ParamsSome => build_functions::params(alloc, values),
+        Production::ParamsSome => build_functions::params(alloc, values)?,
         Production::MoreParamsMore => {
             skip(values);
-            build_functions::params(alloc, values)
+            build_functions::params(alloc, values)?
         },
         Production::ParamsNone | Production::MoreParamsEnd => {
-            build_functions::no_more_params(alloc, values)
+            build_functions::no_more_params(alloc, values)?
         }
-        Production::ParamOwned => build_functions::param(alloc, Passing::Owned, values),
-        Production::ParamGuaranteed => build_functions::param(alloc, Passing::Guaranteed, values),
-        Production::ParamInout => build_functions::param(alloc, Passing::Inout, values),
-        Production::ParamPlain => build_functions::plain_param(alloc, values),
-        Production::ResultList => build_functions::result_list(alloc, values),
-        Production::ResultOwned => build_functions::owned_result(alloc, values),
-        Production::ResultPlain => build_functions::plain_result(alloc, values),
-        Production::InsideSome => build_functions::givens(alloc, values),
+        Production::ParamOwned => build_functions::param(alloc, Passing::Owned, values)?,
+        Production::ParamGuaranteed => build_functions::param(alloc, Passing::Guaranteed, values)?,
+        Production::ParamInout => build_functions::param(alloc, Passing::Inout, values)?,
+        Production::ParamPlain => build_functions::plain_param(alloc, values)?,
+        Production::ResultList => build_functions::result_list(alloc, values)?,
+        Production::ResultOwned => build_functions::owned_result(alloc, values)?,
+        Production::ResultPlain => build_functions::plain_result(alloc, values)?,
+        Production::InsideSome => build_functions::givens(alloc, values)?,
         Production::MoreGivensMore => {
             skip(values);
-            build_functions::givens(alloc, values)
+            build_functions::givens(alloc, values)?
         },
         Production::InsideNone | Production::MoreGivensEnd => {
-            build_functions::no_more_givens(alloc, values)
+            build_functions::no_more_givens(alloc, values)?
         }
-        Production::GivenOwned => build_functions::owned_given(alloc, values),
-        Production::GivenPlain => build_functions::plain_given(alloc, values),
-        Production::BodySome => build_blocks::body(alloc, values),
-        Production::BodyNone => build_blocks::no_blocks(alloc, values),
+        Production::GivenOwned => build_functions::owned_given(alloc, values)?,
+        Production::GivenPlain => build_functions::plain_given(alloc, values)?,
+        Production::BodySome => build_blocks::body(alloc, values)?,
+        Production::BodyNone => build_blocks::no_blocks(alloc, values)?,
         _ => unreachable!(),
     }
+    Ok(None)
 }

@@ -30,21 +30,22 @@ pub(crate) fn reduce_type(
     ensures fault { IfOk result (λ fault. fault ≡ part_fault production (parts_of production values.old)) }
 {
     match production {
-        Production::ParenType => build_types::paren_type(alloc, values),
-        Production::BaseOpen => build_types::base_type(alloc, values),
-        Production::WeakOpen => build_types::weak_type(alloc, values),
-        Production::UnownedOpen => build_types::unowned_type(alloc, values),
-        Production::QuestionsMore => build_types::more_questions(alloc, values),
-        Production::QuestionsEnd => build_types::no_questions(alloc, values),
-        Production::TypesSome => build_types::types_before(alloc, values),
+        Production::ParenType => return build_types::paren_type(alloc, values),
+        Production::BaseOpen => return build_types::base_type(alloc, values),
+        Production::WeakOpen => return build_types::weak_type(alloc, values),
+        Production::UnownedOpen => return build_types::unowned_type(alloc, values),
+        Production::QuestionsMore => build_types::more_questions(alloc, values)?,
+        Production::QuestionsEnd => build_types::no_questions(alloc, values)?,
+        Production::TypesSome => build_types::types_before(alloc, values)?,
         Production::MoreTypesMore => {
             skip(values);
-            build_types::types_before(alloc, values)
+            build_types::types_before(alloc, values)?
         }
         Production::TypesNone | Production::MoreTypesEnd => {
-            build_types::no_more_types(alloc, values)
+            build_types::no_more_types(alloc, values)?
         }
         Production::BareType => pass(values),
         _ => unreachable!(),
     }
+    Ok(None)
 }

@@ -17,7 +17,7 @@ use Rattle.written_modules.proofs.building.build.Goals as goal
 
 pub replay-requires : goal.replay-requires
 replay-requires c = (
-  subst (λ text. All (IsInside text) c.args.tokens.tokens) (sym c.in_ok-source.ensures) c.requires.lexed.inside,
+  c.requires.lexed.inside,
   (
     c.requires.taken,
     (
@@ -29,10 +29,9 @@ replay-requires c = (
 
 pub fill-requires : goal.fill-requires
 fill-requires c =
-    let lexemes : List Lexeme = lexemes_of c.args.text.now c.args.tokens in
+    let lexemes : List Lexeme = lexemes_of c.args.text.now.value.items c.args.tokens in
     let whole = one_module lexemes c.requires.derived.1 in
-    let are = c.in_ok-values.ensures.values ∙ ap (λ steps. replay steps (lexemes_of c.in_ok-source.source.value.items c.args.tokens)) (append-nil c.args.steps.items)
-    ∙ ap (λ text. replay c.args.steps.items (lexemes_of text c.args.tokens)) c.in_ok-source.ensures ∙ whole.is in
+    let are = c.in_ok-values.ensures.values ∙ ap (λ steps. replay steps lexemes) (append-nil c.args.steps.items) ∙ whole.is in
     omega (arith, ap length are, waiting-length c.in_ok-values.field-0.values (reverse c.in_ok-values.field-0.left.items), length-reverse c.in_ok-values.field-0.left.items)
 
 pub pop_front-requires : goal.pop_front-requires
@@ -40,10 +39,9 @@ pop_front-requires c = omega (arith, c.in_ok-fill.ensures.enough)
 
 pub returns-clause-written : goal.returns-clause-written
 returns-clause-written c =
-    let lexemes : List Lexeme = lexemes_of c.args.text.now c.args.tokens in
+    let lexemes : List Lexeme = lexemes_of c.args.text.now.value.items c.args.tokens in
     let whole = one_module lexemes c.requires.derived.1 in
-    let replayed = c.in_ok-values.ensures.values ∙ ap (λ steps. replay steps (lexemes_of c.in_ok-source.source.value.items c.args.tokens)) (append-nil c.args.steps.items)
-    ∙ ap (λ text. replay c.args.steps.items (lexemes_of text c.args.tokens)) c.in_ok-source.ensures ∙ whole.is in
+    let replayed = c.in_ok-values.ensures.values ∙ ap (λ steps. replay steps lexemes) (append-nil c.args.steps.items) ∙ whole.is in
     let behind : List Value = map lacking (reverse c.fill.new.left.items) in
     let are : c.pop_front.result ∷ c.pop_front.new.self ++ behind ≡ v.Module whole.written ∷ [] =
     ap (λ values. values ++ behind) (sym c.pop_front.ensures) ∙ c.in_ok-fill.ensures.same ∙ replayed in
@@ -52,5 +50,4 @@ returns-clause-written c =
 
 pub returns-clause-fault : goal.returns-clause-fault
 returns-clause-fault c =
-    c.in_ok-values.ensures.fault ∙ ap (λ steps. first_fault steps (lexemes_of c.in_ok-source.source.value.items c.args.tokens)) (append-nil c.args.steps.items)
-    ∙ ap (λ text. first_fault c.args.steps.items (lexemes_of text c.args.tokens)) c.in_ok-source.ensures
+    c.in_ok-values.ensures.fault ∙ ap (λ steps. first_fault steps (lexemes_of c.args.text.now.value.items c.args.tokens)) (append-nil c.args.steps.items)

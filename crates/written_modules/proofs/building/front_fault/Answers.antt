@@ -16,8 +16,9 @@ replay-requires c =
     let begun = c.requires.begun in
     let way = (shortened left).1 in
     let tokens = c.args.tokens.tokens in
-    let inside : All (IsInside c.args.text.now) (take c.args.count tokens) = All-take (IsInside c.args.text.now) c.args.count tokens c.requires.lexed.inside in (
-      subst (λ text. All (IsInside text) c.truncate.new.self.tokens) (sym c.in_ok-source.ensures) (subst (All (IsInside c.args.text.now)) (sym c.truncate.ensures) inside),
+    let text = c.args.text.now.value.items in
+    let inside : All (IsInside text) (take c.args.count tokens) = All-take (IsInside text) c.args.count tokens c.requires.lexed.inside in (
+      subst (All (IsInside text)) (sym c.truncate.ensures) inside,
       (
         takes_before begun.0 steps left begun.2 way ∙ begun.1 ∙ sym (length-take-le c.args.count tokens c.requires.inside) ∙ ap length (sym c.truncate.ensures),
         (way, enough_whole begun.0 steps left begun.2 way),
@@ -28,12 +29,11 @@ pub returns : goal.returns
 returns c =
     let left = reverse c.args.front.left.items in
     let rest = (shortened left).0 in
-    let text = c.args.text.now in
+    let text = c.args.text.now.value.items in
     let front : lexemes_of text c.truncate.new.self ≡ take c.args.count (lexemes_of text c.args.tokens) =
     ap (map (lexeme_of text)) c.truncate.ensures ∙ sym (take-map (lexeme_of text) c.args.count c.args.tokens.tokens) in (
       rest,
       (shortened left).1,
       c.in_ok-replayed.ensures.fault
-          ∙ ap (λ text. first_fault (c.args.front.steps.items ++ rest) (lexemes_of text c.truncate.new.self)) c.in_ok-source.ensures
           ∙ ap (first_fault (c.args.front.steps.items ++ rest)) front,
     )
