@@ -11,7 +11,7 @@ use crate::texts;
 use crate::verified::answer_end;
 use crate::words::Mode;
 use sil_ast::{Exhausted, Module};
-use sil_grammar::read;
+use sil_grammar::read_owned;
 use sil_printer::print;
 use sil_rules::Status;
 use sil_verifier::verify;
@@ -26,11 +26,11 @@ pub struct Answer {
 }
 
 /// The answer of a mode to a text: to the module that it spells, or why it isn't read.
-pub fn answer_to(alloc: Global, mode: Mode, text: &[u8]) -> Result<Answer, Exhausted>
-    requires { length text.now ≤ TEXT_BYTES }
-    ensures { IfOk result (λ a. AnswersText mode text.now a.text.items (code_of a.status)) }
+pub fn answer_to(alloc: Global, mode: Mode, text: Vec<u8>) -> Result<Answer, Exhausted>
+    requires { length text.items ≤ TEXT_BYTES }
+    ensures { IfOk result (λ a. AnswersText mode text.items a.text.items (code_of a.status)) }
 {
-    match read(alloc, text) {
+    match read_owned(alloc, text) {
         Ok(module) => answer_module(alloc, mode, module),
         Err(reason) => answer_refusal(alloc, reason),
     }

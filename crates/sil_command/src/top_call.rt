@@ -74,7 +74,7 @@ fn run<'a, S: Source, K: Sink>(
         return finish(out, texts::usage(), Status::Usage);
     };
     match read_all(alloc, source, limits::TEXT_BYTES) {
-        Ok(text) => match answer_to(alloc, mode, text.as_slice()) {
+        Ok(text) => match answer_to(alloc, mode, text) {
             Ok(answer) => finish(out, answer.text.as_slice(), answer.status),
             Err(Exhausted) => Status::OutOfMemory.code(),
         },

@@ -13,6 +13,6 @@ pub use first_bad::{BadKind, BadPlace, first_bad_place};
 pub use laws::{
     refused_once, shortest_has_fewest_tokens, spelled_modules_are_numbered, spelled_once,
 };
-pub use reader::read;
+pub use reader::{read, read_owned};
 pub use refusal::ReadRefusal;
 pub use sil_rules::LimitWord;

@@ -16,9 +16,9 @@ returns-in_default-clause-takes g c = stopped _ (search rules) nothing
 pub returns-in-Ok-answer_to-clause-ends : goal.returns-in-Ok-answer_to-clause-ends
 returns-in-Ok-answer_to-clause-ends g c =
     answered _ _ _
-    (whole_answer _ _ _ _ c.in-Some.mode _ c.in-Ok.text.items _ _ _ c.in-Some.ensures c.in-Ok.ensures.all c.in-Ok.ensures.to_end c.as_slice.ensures.value c.in-Ok-answer_to.ensures)
+    (whole_answer _ _ _ _ c.in-Some.mode _ c.in-Ok.text.items _ _ _ c.in-Some.ensures c.in-Ok.ensures.all c.in-Ok.ensures.to_end refl c.in-Ok-answer_to.ensures)
     c.in-Ok.ensures.no_fault
-    (rw c.as_slice-in-Ok-answer_to.ensures.value at c.finish-in-Ok-answer_to.ensures)
+    (rw c.as_slice.ensures.value at c.finish-in-Ok-answer_to.ensures)
 
 pub returns-in-Ok-answer_to-clause-takes : goal.returns-in-Ok-answer_to-clause-takes
 returns-in-Ok-answer_to-clause-takes g c = ended c.in-Ok.text.items (omega (arith, c.in-Ok.ensures.within, c.in-Ok.text.ok.0)) c.in-Ok.ensures.to_end

@@ -1,4 +1,4 @@
--- For `read`: the text is read as far as it has shape.
+-- For `read_shared`: the text is read as far as it has shape.
 use Rattle.std.proofs.Common.{◌≡◌, subst}
 use Rattle.std.proofs.lemmas.Result.{IfOk-weaker}
 use Rattle.sil_grammar.specs.Shape.{IsBroken, IsShapeOf}
@@ -7,7 +7,7 @@ use Rattle.sil_grammar.specs.Spells.{Spells}
 use Rattle.numbered_form.specs.NumberedForm.{IsNumbered}
 use Rattle.sil_grammar.proofs.NumberedLemmas.{spelled_numbered}
 use Rattle.sil_grammar.proofs.ReadLemmas.{out_of_memory, spelled_once}
-use Rattle.sil_grammar.proofs.reader.read.Goals as goal
+use Rattle.sil_grammar.proofs.reader.read_shared.Goals as goal
 
 pub returns-in_err-tokens-clause-refused : goal.returns-in_err-tokens-clause-refused
 returns-in_err-tokens-clause-refused c = out_of_memory c.args.text.now c.from_residual.result c.from_residual.ensures.1
