@@ -5,11 +5,11 @@ use Rattle.std.proofs.Math.Seq.{drop-append_seam}
 use Rattle.std.proofs.lemmas.List.{drop-append-le, take-append-le, take_all}
 use Rattle.item_lists.specs.Lists.{AreEnds, lists_from}
 
-range_kept : {A : Type 0} (xs ys : List A) (a b : ℕ) → a ≤ b → b ≤ length xs → slice_range (xs ++ ys) a b ≡ slice_range xs a b
+pub range_kept : {A : Type 0} (xs ys : List A) (a b : ℕ) → a ≤ b → b ≤ length xs → slice_range (xs ++ ys) a b ≡ slice_range xs a b
 range_kept xs ys a b le within =
     ap (take (b - a)) (drop-append-le a xs ys (omega arith)) ∙ take-append-le (b - a) (drop a xs) ys (omega (arith, length-drop a xs))
 
-range_last : {A : Type 0} (xs ys : List A) (a b : ℕ) → a ≡ length xs → b ≡ length xs + length ys → slice_range (xs ++ ys) a b ≡ ys
+pub range_last : {A : Type 0} (xs ys : List A) (a b : ℕ) → a ≡ length xs → b ≡ length xs + length ys → slice_range (xs ++ ys) a b ≡ ys
 range_last xs ys a b first last =
     ap (λ n. take (b - a) (drop n (xs ++ ys))) first ∙ ap (take (b - a)) (drop-append_seam xs ys) ∙ take_all (b - a) ys (omega arith)
 
