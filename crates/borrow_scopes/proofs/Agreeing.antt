@@ -8,7 +8,8 @@ use Rattle.std.proofs.lemmas.Option.{slice_get_within}
 use Rattle.path_checks.proofs.PickedMarks.{shared_picked}
 use Rattle.path_checks.specs.declared.entry.Entry.{Entry}
 use Rattle.path_checks.specs.Shared.{entries_with, is_sharing, shared_if}
-use Rattle.path_patterns.specs.Reads.{accesses_at, AgreesWith}
+use Rattle.item_lists.specs.Lists.{list_at}
+use Rattle.path_patterns.specs.Reads.{AgreesWith}
 use Rattle.path_patterns.specs.declared.mark.Mark as pattern
 use Rattle.sil_ast.specs.declared.function.Function.{Function}
 use Rattle.sil_ast.specs.declared.place.ValueId.{ValueId}
@@ -83,8 +84,8 @@ module _ (f : Function) (facts : ValueId → Facts) (count : ℕ) (rows : List (
   marks_by_tables marks = flat_map_same (mark_entries_in (borrows_of f) facts rows) (mark_entries f facts count) mark_by_tables marks
 
 -- what items do by their own marks and at a `return` is what they do to the scopes
-pub scopes_agree : (f : Function) (g : Layout) (k : Known) (own : List (Vec Entry Global)) (marks : List (Option pattern.Mark)) (sharing : List Bool) →
-    ((n : ℕ) → n < item_count g → accesses_at own n ≡ flat_map (mark_entries f (facts_of k) (length k.table)) (marks_at k n)) →
+pub scopes_agree : (f : Function) (g : Layout) (k : Known) (own : List (List Entry)) (marks : List (Option pattern.Mark)) (sharing : List Bool) →
+    ((n : ℕ) → n < item_count g → list_at own n ≡ flat_map (mark_entries f (facts_of k) (length k.table)) (marks_at k n)) →
     marks ≡ map (left_mark (borrows_of f) (facts_of k)) (range_with_len 0 (length k.table)) →
     ((n : ℕ) (item : Item) → item_at g n ≡ Some item → is_sharing sharing n ≡ is_return f item) →
     (count : ℕ) (facts : ValueId → Option Facts) → AreKindsBy count facts f g k → AgreesWith g (entries_with own marks sharing) (scopes_of count facts f)

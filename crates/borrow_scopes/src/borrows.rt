@@ -2,7 +2,7 @@
 
 ghost use Rattle.std.specs.Prelude.{◌≡◌, ◌<◌, ℕ, IfErr, IfOk, MatchOption, OnOk, length};
 ghost use Rattle.std.specs.List.{flat_map};
-ghost use Rattle.path_patterns.specs.Reads.{accesses_at};
+ghost use Rattle.item_lists.specs.Lists.{list_at};
 ghost use Rattle.sil_cfg.specs.Build.{IsGraphOf};
 ghost use Rattle.sil_cfg.specs.Layout.{item_count};
 ghost use Rattle.ownership_kinds.specs.Statics as statics;
@@ -14,6 +14,7 @@ use crate::borrowers::borrowers_of;
 use crate::lending::loans_of;
 use crate::others::other_of;
 use crate::scopes::{entries_by_item, marks_at_returns};
+use item_lists::ItemLists;
 use ownership_kinds::borrows_of;
 use ownership_marks::Kinds;
 use path_checks::{Entry, PathFault, first_fault};
@@ -31,10 +32,10 @@ fn marked_entries(
     g: &Graph,
     k: &Kinds,
     borrows: &[bool],
-) -> Result<Vec<Vec<Entry>>, Exhausted>
+) -> Result<ItemLists<Entry>, Exhausted>
     requires { borrows.now ≡ statics.borrows_of f.now }
-    ensures size { IfOk result (λ v. length v.items ≡ item_count g.now) }
-    ensures entries { IfOk result (λ v. (n : ℕ) → n < item_count g.now → accesses_at v.items n ≡ flat_map (mark_entries f.now (facts_of k.now) (length k.now.table)) (marks_at k.now n)) }
+    ensures size { IfOk result (λ v. length v ≡ item_count g.now) }
+    ensures entries { IfOk result (λ v. (n : ℕ) → n < item_count g.now → list_at v n ≡ flat_map (mark_entries f.now (facts_of k.now) (length k.now.table)) (marks_at k.now n)) }
 {
     let loans = loans_of(alloc, f)?;
     let rows = borrowers_of(alloc, k, loans.as_slice())?;

@@ -1,9 +1,9 @@
 //! The table of rules 501 to 505: what each item does to which scope.
 
-ghost use Rattle.std.specs.Prelude.{◌≡◌, ◌++◌, ◌<◌, ◌≤◌, ◌^◌, ℕ, length, map, IfOk, OnOk};
+ghost use Rattle.std.specs.Prelude.{◌≡◌, [], ◌∷◌, ◌++◌, ◌<◌, ◌≤◌, ◌^◌, ℕ, length, map, IfOk, OnOk};
 ghost use Rattle.std.specs.List.{flat_map, range_with_len};
 ghost use Rattle.sil_cfg.specs.Layout.{item_count};
-ghost use Rattle.path_patterns.specs.Reads.{accesses_at};
+ghost use Rattle.item_lists.specs.Lists.{list_at};
 ghost use Rattle.forwarding_chains.specs.Facts as facts;
 ghost use Rattle.ownership_marks.specs.Known.{facts_of, marks_at};
 ghost use Rattle.borrow_scopes.specs.Scopes as scopes;
@@ -11,6 +11,7 @@ ghost use Rattle.borrow_scopes.specs.Scopes.{lost_at_end};
 ghost use Rattle.borrow_scopes.specs.Tables as tables;
 ghost use Rattle.borrow_scopes.specs.Tables.{borrowers_at, lost_at, mark_entries_in, scope_entries_in};
 
+use item_lists::ItemLists;
 use ownership_kinds::is_borrow;
 use ownership_marks::{Kinds, Mark, MarkSort};
 use path_checks::Entry;
@@ -124,21 +125,36 @@ fn add_mark(
     add_lost_at(entries, rows, mark)
 }
 
-/// The entries of the marks of one item.
-fn entries_of(
-    alloc: Global,
+/// The entries of marks.
+fn add_marks(
+    entries: &mut Vec<Entry>,
+    k: &Kinds,
+    borrows: &[bool],
+    rows: &[Vec<u32>],
+    marks: &[Mark],
+) -> Result<(), Exhausted>
+    ensures { OnOk result (entries.new.items ≡ entries.old.items ++ flat_map (mark_entries_in borrows.now (facts_of k.now) rows.now) marks.now) }
+{
+    for mark in marks {
+        add_mark(entries, k, borrows, rows, *mark)?;
+    }
+    Ok(())
+}
+
+/// The entries of the marks of one item, as those behind the items before. `own` is room for them.
+fn push_item(
+    all: &mut ItemLists<Entry>,
+    own: &mut Vec<Entry>,
     k: &Kinds,
     borrows: &[bool],
     rows: &[Vec<u32>],
     number: usize,
-) -> Result<Vec<Entry>, Exhausted>
-    ensures { IfOk result (λ v. v.items ≡ flat_map (mark_entries_in borrows.now (facts_of k.now) rows.now) (marks_at k.now number)) }
+) -> Result<(), Exhausted>
+    ensures { OnOk result (all.new ≡ all.old ++ flat_map (mark_entries_in borrows.now (facts_of k.now) rows.now) (marks_at k.now number) ∷ []) }
 {
-    let mut entries = Vec::new(alloc);
-    for mark in k.marks(number) {
-        add_mark(&mut entries, k, borrows, rows, *mark)?;
-    }
-    Ok(entries)
+    own.clear();
+    add_marks(own, k, borrows, rows, k.marks(number))?;
+    all.push(own.as_slice())
 }
 
 /// The entries of the marks of every item of the function's graph, by the item's number.
@@ -149,13 +165,14 @@ pub(crate) fn entries_by_item(
     k: &Kinds,
     borrows: &[bool],
     rows: &[Vec<u32>],
-) -> Result<Vec<Vec<Entry>>, Exhausted>
-    ensures size { IfOk result (λ v. length v.items ≡ item_count g.now) }
-    ensures entries { IfOk result (λ v. (n : ℕ) → n < item_count g.now → accesses_at v.items n ≡ flat_map (mark_entries_in borrows.now (facts_of k.now) rows.now) (marks_at k.now n)) }
+) -> Result<ItemLists<Entry>, Exhausted>
+    ensures size { IfOk result (λ v. length v ≡ item_count g.now) }
+    ensures entries { IfOk result (λ v. (n : ℕ) → n < item_count g.now → list_at v n ≡ flat_map (mark_entries_in borrows.now (facts_of k.now) rows.now) (marks_at k.now n)) }
 {
-    let mut all = Vec::with_capacity(alloc, g.items())?;
+    let mut all = ItemLists::with_capacity(alloc, g.items())?;
+    let mut own = Vec::new(alloc);
     for i in 0..g.items() {
-        all.push(entries_of(alloc, k, borrows, rows, i)?)?;
+        push_item(&mut all, &mut own, k, borrows, rows, i)?;
     }
     Ok(all)
 }

@@ -1,13 +1,12 @@
 -- Entries by facts that are the same, and the lives from an item's own marks and the shared ones of a `return`.
-use Rattle.std.proofs.Common.{◌≡◌, ℕ, ◌<◌, List, [], ◌∷◌, ◌++◌, length, map, refl, ap, ap₂, ◌∙◌, Bool, true, false, cond, Option, Some, None}
+use Rattle.std.proofs.Common.{◌≡◌, ℕ, ◌<◌, List, [], ◌∷◌, ◌++◌, length, map, refl, ap, ap₂, ◌∙◌, Bool, true, false, cond, Option, Some}
 use Rattle.std.specs.List.{flat_map, range_with_len}
-use Rattle.std.specs.declared.alloc.Global.{Global}
-use Rattle.std.specs.declared.vec.Vec.{Vec}
 use Rattle.std.proofs.lemmas.Option.{slice_get_within}
 use Rattle.path_checks.proofs.PickedMarks.{shared_picked}
 use Rattle.path_checks.specs.declared.entry.Entry.{Entry}
 use Rattle.path_checks.specs.Shared.{entries_with, is_sharing, shared_if}
-use Rattle.path_patterns.specs.Reads.{accesses_at, AgreesWith}
+use Rattle.item_lists.specs.Lists.{list_at}
+use Rattle.path_patterns.specs.Reads.{AgreesWith}
 use Rattle.path_patterns.specs.declared.mark.Mark as pattern
 use Rattle.sil_ast.specs.declared.function.Function.{Function}
 use Rattle.sil_ast.specs.declared.place.ValueId.{ValueId}
@@ -42,8 +41,8 @@ module _ (facts : ValueId → Facts) where
   shared_returned count false = refl
 
 -- what items do by their own marks and at a `return` are their lives
-pub lives_agree : (f : Function) (g : Layout) (k : Known) (own : List (Vec Entry Global)) (marks : List (Option pattern.Mark)) (sharing : List Bool) →
-    ((n : ℕ) → n < item_count g → accesses_at own n ≡ flat_map (lives_by (facts_of k)) (marks_at k n)) →
+pub lives_agree : (f : Function) (g : Layout) (k : Known) (own : List (List Entry)) (marks : List (Option pattern.Mark)) (sharing : List Bool) →
+    ((n : ℕ) → n < item_count g → list_at own n ≡ flat_map (lives_by (facts_of k)) (marks_at k n)) →
     marks ≡ map (left_mark (facts_of k)) (range_with_len 0 (length k.table)) →
     ((n : ℕ) (item : Item) → item_at g n ≡ Some item → is_sharing sharing n ≡ is_return f item) →
     (count : ℕ) (facts : ValueId → Option Facts) → AreKindsBy count facts f g k → AgreesWith g (entries_with own marks sharing) (lives_of count facts f)

@@ -1,14 +1,15 @@
 //! The table of rules 401 to 404: what each item does to which Owned value.
 
-ghost use Rattle.std.specs.Prelude.{◌≡◌, ◌++◌, ◌<◌, ◌≤◌, ◌^◌, ℕ, length, map, IfOk, OnOk};
+ghost use Rattle.std.specs.Prelude.{◌≡◌, [], ◌∷◌, ◌++◌, ◌<◌, ◌≤◌, ◌^◌, ℕ, length, map, IfOk, OnOk};
 ghost use Rattle.std.specs.List.{flat_map, range_with_len};
 ghost use Rattle.sil_cfg.specs.Layout.{item_count};
-ghost use Rattle.path_patterns.specs.Reads.{accesses_at};
+ghost use Rattle.item_lists.specs.Lists.{list_at};
 ghost use Rattle.forwarding_chains.specs.Facts as facts;
 ghost use Rattle.ownership_marks.specs.Known.{facts_of, marks_at};
 ghost use Rattle.lifetime_worklist.specs.Lives as lives;
 ghost use Rattle.lifetime_worklist.specs.Lives.{lives_by};
 
+use item_lists::ItemLists;
 use ownership_marks::{Kinds, Mark, MarkSort};
 use path_checks::Entry;
 use sil_ast::{Exhausted, ValueId};
@@ -90,13 +91,18 @@ pub(crate) fn marks_at_returns(
     Ok(marks)
 }
 
-/// The entries of the marks of one item.
-fn entries_of(alloc: Global, k: &Kinds, number: usize) -> Result<Vec<Entry>, Exhausted>
-    ensures { IfOk result (λ v. v.items ≡ flat_map (lives_by (facts_of k.now)) (marks_at k.now number)) }
+/// The entries of the marks of one item, as those behind the items before. `own` is room for them.
+fn push_item(
+    all: &mut ItemLists<Entry>,
+    own: &mut Vec<Entry>,
+    k: &Kinds,
+    number: usize,
+) -> Result<(), Exhausted>
+    ensures { OnOk result (all.new ≡ all.old ++ flat_map (lives_by (facts_of k.now)) (marks_at k.now number) ∷ []) }
 {
-    let mut entries = Vec::new(alloc);
-    add_marks(&mut entries, k, k.marks(number))?;
-    Ok(entries)
+    own.clear();
+    add_marks(own, k, k.marks(number))?;
+    all.push(own.as_slice())
 }
 
 /// The entries of the marks of every item of the function's graph, by the item's number.
@@ -104,13 +110,14 @@ pub(crate) fn entries_by_item(
     alloc: Global,
     g: &Graph,
     k: &Kinds,
-) -> Result<Vec<Vec<Entry>>, Exhausted>
-    ensures size { IfOk result (λ v. length v.items ≡ item_count g.now) }
-    ensures entries { IfOk result (λ v. (n : ℕ) → n < item_count g.now → accesses_at v.items n ≡ flat_map (lives_by (facts_of k.now)) (marks_at k.now n)) }
+) -> Result<ItemLists<Entry>, Exhausted>
+    ensures size { IfOk result (λ v. length v ≡ item_count g.now) }
+    ensures entries { IfOk result (λ v. (n : ℕ) → n < item_count g.now → list_at v n ≡ flat_map (lives_by (facts_of k.now)) (marks_at k.now n)) }
 {
-    let mut all = Vec::with_capacity(alloc, g.items())?;
+    let mut all = ItemLists::with_capacity(alloc, g.items())?;
+    let mut own = Vec::new(alloc);
     for i in 0..g.items() {
-        all.push(entries_of(alloc, k, i)?)?;
+        push_item(&mut all, &mut own, k, i)?;
     }
     Ok(all)
 }

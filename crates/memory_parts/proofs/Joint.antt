@@ -15,6 +15,7 @@ use Rattle.ownership_marks.proofs.MarkTables.{flat_map_same}
 use Rattle.ownership_marks.specs.Known.{AreKindsBy, Known, facts_of}
 use Rattle.path_checks.specs.Shared.{entries_with, entry_if, shared_from, shared_if}
 use Rattle.path_checks.specs.declared.entry.Entry.{Entry}
+use Rattle.item_lists.specs.Lists.{list_at}
 use Rattle.path_patterns.specs.Reads.{accesses_at, AgreesWith}
 use Rattle.path_patterns.specs.declared.mark.Mark.{Mark}
 use Rattle.memory_accesses.specs.Accesses.{accesses_of}
@@ -63,9 +64,9 @@ module _ (sources : List Source) (facts other : ValueId → Facts) (same : (v : 
   parts_same = flat_map_same (parts_at sources facts) (parts_at sources other) (λ n. ap (λ f. parts_by sources f (value_of n) (source_at sources (value_of n))) (same (value_of n))) (range_with_len 0 (length sources))
 
 -- the entries by number, and the shared ones, are the parts' table
-pub batch_agrees : (sources : List Source) (f : Function) (g : Layout) (k : Known) (accesses : List (Vec Access Global)) (returns : List Bool) (parts : List Part) (own : List (Vec Entry Global)) (marks : List (Option Mark)) →
+pub batch_agrees : (sources : List Source) (f : Function) (g : Layout) (k : Known) (accesses : List (Vec Access Global)) (returns : List Bool) (parts : List Part) (own : List (List Entry)) (marks : List (Option Mark)) →
     AreAccesses sources f g k accesses → AreReturns f g returns →
-    ((n : ℕ) → n < item_count g → accesses_at own n ≡ flat_map (joint sources (facts_of k) parts) (accesses_at accesses n)) → marks ≡ map at_return parts →
+    ((n : ℕ) → n < item_count g → list_at own n ≡ flat_map (joint sources (facts_of k) parts) (accesses_at accesses n)) → marks ≡ map at_return parts →
     (count : ℕ) (facts : ValueId → Option Facts) → AreKindsBy count facts f g k → AgreesWith g (entries_with own marks returns) (batch_table sources facts f parts)
 batch_agrees sources f g k accesses returns parts own marks accesses_are returns_are own_are marks_are count facts by n item e =
     ap₂ (λ x y. x ++ y)

@@ -1,8 +1,9 @@
 //! The table of some parts: what each item does to which of them, by their numbers.
 
-ghost use Rattle.std.specs.Prelude.{◌≡◌, ◌++◌, ◌<◌, ◌≤◌, ℕ, length, map, slice_get, IfOk, IfSome, OnOk};
+ghost use Rattle.std.specs.Prelude.{◌≡◌, [], ◌∷◌, ◌++◌, ◌<◌, ◌≤◌, ℕ, length, map, slice_get, IfOk, IfSome, OnOk};
 ghost use Rattle.std.specs.List.{flat_map};
 ghost use Rattle.path_checks.specs.Shared.{entry_if};
+ghost use Rattle.item_lists.specs.Lists.{list_at};
 ghost use Rattle.path_patterns.specs.Reads.{accesses_at};
 ghost use Rattle.ownership_marks.specs.Known.{facts_of};
 ghost use Rattle.memory_parts.specs.Batches as batches;
@@ -14,6 +15,7 @@ use crate::index::{index_of, numbers_at};
 use crate::key::add_keys_of_access;
 use crate::meaning::{at_return, means};
 use crate::part::Part;
+use item_lists::ItemLists;
 use memory_accesses::{Access, Memory};
 use ownership_marks::Kinds;
 use path_checks::Entry;
@@ -149,24 +151,42 @@ fn add_entries(
     }
 }
 
-/// What the accesses of an item mean to them.
-fn entries_of(
-    alloc: Global,
+/// What accesses mean to them.
+fn add_of_accesses(
+    entries: &mut Vec<Entry>,
     m: &Memory,
     k: &Kinds,
     batch: &[Part],
     index: &Option<Vec<Vec<u32>>>,
     accesses: &[Access],
-) -> Result<Vec<Entry>, Exhausted>
+) -> Result<(), Exhausted>
     requires few { length batch.now ≤ 1024 }
     requires index { IfSome index.now (λ rows. IsIndexOf m.now batch.now rows.items) }
-    ensures { IfOk result (λ v. v.items ≡ flat_map (joint m.now (facts_of k.now) batch.now) accesses.now) }
+    ensures { OnOk result (entries.new.items ≡ entries.old.items ++ flat_map (joint m.now (facts_of k.now) batch.now) accesses.now) }
 {
-    let mut entries = Vec::new(alloc);
     for access in accesses {
-        add_entries(&mut entries, m, k, batch, index, *access)?;
+        add_entries(entries, m, k, batch, index, *access)?;
     }
-    Ok(entries)
+    Ok(())
+}
+
+/// What the accesses of an item mean to them, as the entries behind those of the items before. `own` is room for them.
+fn push_item(
+    all: &mut ItemLists<Entry>,
+    own: &mut Vec<Entry>,
+    m: &Memory,
+    k: &Kinds,
+    batch: &[Part],
+    index: &Option<Vec<Vec<u32>>>,
+    accesses: &[Access],
+) -> Result<(), Exhausted>
+    requires few { length batch.now ≤ 1024 }
+    requires index { IfSome index.now (λ rows. IsIndexOf m.now batch.now rows.items) }
+    ensures { OnOk result (all.new ≡ all.old ++ flat_map (joint m.now (facts_of k.now) batch.now) accesses.now ∷ []) }
+{
+    own.clear();
+    add_of_accesses(own, m, k, batch, index, accesses)?;
+    all.push(own.as_slice())
 }
 
 /// The entries of every item, by the item's number, where `index` is one of the parts, or there is none.
@@ -177,15 +197,16 @@ fn entries_of_each(
     batch: &[Part],
     index: &Option<Vec<Vec<u32>>>,
     accesses: &[Vec<Access>],
-) -> Result<Vec<Vec<Entry>>, Exhausted>
+) -> Result<ItemLists<Entry>, Exhausted>
     requires few { length batch.now ≤ 1024 }
     requires index { IfSome index.now (λ rows. IsIndexOf m.now batch.now rows.items) }
-    ensures size { IfOk result (λ v. length v.items ≡ length accesses.now) }
-    ensures entries { IfOk result (λ v. (n : ℕ) → n < length accesses.now → accesses_at v.items n ≡ flat_map (joint m.now (facts_of k.now) batch.now) (accesses_at accesses.now n)) }
+    ensures size { IfOk result (λ v. length v ≡ length accesses.now) }
+    ensures entries { IfOk result (λ v. (n : ℕ) → n < length accesses.now → list_at v n ≡ flat_map (joint m.now (facts_of k.now) batch.now) (accesses_at accesses.now n)) }
 {
-    let mut all = Vec::new(alloc);
+    let mut all = ItemLists::with_capacity(alloc, accesses.len())?;
+    let mut own = Vec::new(alloc);
     for item in accesses {
-        all.push(entries_of(alloc, m, k, batch, index, item.as_slice())?)?;
+        push_item(&mut all, &mut own, m, k, batch, index, item.as_slice())?;
     }
     Ok(all)
 }
@@ -197,10 +218,10 @@ pub(crate) fn entries_by_item(
     k: &Kinds,
     batch: &[Part],
     accesses: &[Vec<Access>],
-) -> Result<Vec<Vec<Entry>>, Exhausted>
+) -> Result<ItemLists<Entry>, Exhausted>
     requires { length batch.now ≤ 1024 }
-    ensures size { IfOk result (λ v. length v.items ≡ length accesses.now) }
-    ensures entries { IfOk result (λ v. (n : ℕ) → n < length accesses.now → accesses_at v.items n ≡ flat_map (joint m.now (facts_of k.now) batch.now) (accesses_at accesses.now n)) }
+    ensures size { IfOk result (λ v. length v ≡ length accesses.now) }
+    ensures entries { IfOk result (λ v. (n : ℕ) → n < length accesses.now → list_at v n ≡ flat_map (joint m.now (facts_of k.now) batch.now) (accesses_at accesses.now n)) }
 {
     let index = index_of_many(alloc, m, batch)?;
     entries_of_each(alloc, m, k, batch, &index, accesses)

@@ -1,9 +1,7 @@
--- Marks that are read from a table of vectors, and marks by facts that say the same.
-use Rattle.std.proofs.Common.{◌≡◌, ℕ, zero, suc, ◌<◌, List, [], ◌∷◌, ◌++◌, length, refl, sym, ap, ap₂, ◌∙◌, arith, Option, Some, None}
+-- Marks by facts that say the same.
+use Rattle.std.proofs.Common.{◌≡◌, ℕ, List, [], ◌∷◌, ◌++◌, refl, sym, ap, ap₂, ◌∙◌, Option, Some, None}
 use Rattle.std.specs.Prelude.{unwrap_or}
 use Rattle.std.specs.List.{flat_map}
-use Rattle.std.specs.declared.alloc.Global.{Global}
-use Rattle.std.specs.declared.vec.Vec.{Vec}
 use Rattle.sil_ast.specs.declared.function.Function.{Function}
 use Rattle.sil_ast.specs.declared.place.ValueId.{ValueId}
 use Rattle.sil_cfg.specs.Layout.{Layout}
@@ -11,19 +9,9 @@ use Rattle.sil_cfg.specs.declared.item.Item.{Item}
 use Rattle.forwarding_chains.specs.Facts.{facts_with, known_or}
 use Rattle.forwarding_chains.specs.declared.facts.Facts.{Facts}
 use Rattle.type_definitions.specs.declared.kind.Kind.TheVariants as kind
-use Rattle.ownership_marks.specs.Known.{AreKindsBy, Known, lists_of, marks_in}
+use Rattle.ownership_marks.specs.Known.{AreKindsBy, Known}
 use Rattle.ownership_marks.specs.Marks.{begun, begun_with, ended, ended_with, item_defined, item_taken, marks_of, used, used_with}
-use Rattle.ownership_marks.specs.declared.mark.Mark.{Mark}
 use Rattle.ownership_marks.specs.declared.taken.Taken.{Taken}
-
-pub marks_kept : (all : List (Vec Mark Global)) (x : Vec Mark Global) (i : ℕ) → i < length all → marks_in (lists_of (all ++ x ∷ [])) i ≡ marks_in (lists_of all) i
-marks_kept [] x i lt = absurd (omega arith)
-marks_kept (y ∷ all) x zero lt = refl
-marks_kept (y ∷ all) x (suc i) lt = marks_kept all x i (omega arith)
-
-pub marks_last : (all : List (Vec Mark Global)) (x : Vec Mark Global) → marks_in (lists_of (all ++ x ∷ [])) (length all) ≡ x.items
-marks_last [] x = refl
-marks_last (y ∷ all) x = marks_last all x
 
 pub flat_map_same : {X A : Type 0} (p q : X → List A) → ((x : X) → p x ≡ q x) → (xs : List X) → flat_map p xs ≡ flat_map q xs
 flat_map_same p q same [] = refl

@@ -1,7 +1,5 @@
 -- What contracts see of kinds: the facts of each value and the marks of each item, by their numbers.
-use Rattle.std.specs.Prelude.{◌≡◌, ℕ, List, [], map, slice_get, length, Option, Some, unwrap_or}
-use Rattle.std.specs.declared.alloc.Global.{Global}
-use Rattle.std.specs.declared.vec.Vec.{Vec}
+use Rattle.std.specs.Prelude.{◌≡◌, ℕ, List, [], slice_get, length, Option, Some, unwrap_or}
 use Rattle.sil_ast.specs.declared.function.Function.{Function}
 use Rattle.sil_ast.specs.declared.place.ValueId.{ValueId}
 use Rattle.sil_cfg.specs.Layout.{Layout, item_at}
@@ -26,11 +24,8 @@ marks_in lists i = unwrap_or (slice_get lists i) []
 abbrev pub marks_at : Known → ℕ → List Mark
 marks_at k i = marks_in k.marks i
 
-abbrev pub lists_of : List (Vec Mark Global) → List (List Mark)
-lists_of marks = map (λ v. v.items) marks
-
-abbrev pub known_by : List (Option Facts) → List (Vec Mark Global) → Known
-known_by table marks = record { table = table; marks = lists_of marks }
+abbrev pub known_by : List (Option Facts) → List (List Mark) → Known
+known_by table marks = record { table = table; marks = marks }
 
 -- an item's number has the item's marks
 abbrev pub AreMarksOf : (ValueId → Option Facts) → Function → Layout → (ℕ → List Mark) → Type 0

@@ -6,8 +6,9 @@ ghost use Rattle.ownership_marks.specs.Known.{AreKindsBy, facts_of, marks_at};
 ghost use Rattle.ownership_marks.specs.Marks as marks;
 
 use crate::mark::Mark;
-use crate::marks::{all_marks, facts_at, marks_of_item};
+use crate::marks::{all_marks, facts_at, make_marks};
 use forwarding_chains::{Facts, bases_of};
+use item_lists::ItemLists;
 use sil_ast::{Exhausted, Function, List, ValueId};
 use sil_cfg::{Graph, Item};
 use std::alloc::Global;
@@ -18,7 +19,7 @@ use type_definitions::Kind;
 #[derive(Drop)]
 pub struct Kinds {
     table: List<Option<Facts>>,
-    marks: Vec<Vec<Mark>>,
+    marks: ItemLists<Mark>,
 }
 
 impl Model for Kinds {
@@ -27,7 +28,7 @@ impl Model for Kinds {
 
     ghost Value = { Known };
 
-    ghost view = { λ k. known_by k.table k.marks.items };
+    ghost view = { λ k. known_by k.table k.marks };
 
     ghost invariant = { λ k. length k.table ≤ 2 ^ 32 };
 }
@@ -77,24 +78,24 @@ impl Kinds {
     pub fn marks(&self, item: usize) -> &[Mark]
         ensures { result.now ≡ marks_at self.now item }
     {
-        match self.marks.get(item) {
-            None => &[],
-            Some(marks) => marks.as_slice(),
-        }
+        self.marks.at(item)
     }
+
     /// The marks of an item of `f`, made anew: for a caller that knows no number of it.
     pub fn marks_of(&self, alloc: Global, f: &Function, item: Item) -> Result<Vec<Mark>, Exhausted>
         ensures { IfOk result (λ v. v.items ≡ marks.marks_of (told_at self.now.table) f.now item) }
     {
         let mut taken = Vec::new(alloc);
         let mut defined = Vec::new(alloc);
-        marks_of_item(
-            alloc,
+        let mut marks = Vec::new(alloc);
+        make_marks(
+            &mut marks,
             self.table.as_slice(),
             f,
             item,
             &mut taken,
             &mut defined,
-        )
+        )?;
+        Ok(marks)
     }
 }

@@ -6,7 +6,7 @@ ghost use Rattle.std.specs.Option.{option_copied};
 ghost use Rattle.sil_ast.specs.declared.place.ValueId.{ValueId};
 ghost use Rattle.sil_cfg.specs.Layout.{item_count};
 ghost use Rattle.forwarding_chains.specs.Facts.{told_at};
-ghost use Rattle.ownership_marks.specs.Known.{AreMarksOf, lists_of, marks_in};
+ghost use Rattle.ownership_marks.specs.Known.{AreMarksOf, marks_in};
 ghost use Rattle.ownership_marks.specs.Marks as marks;
 ghost use Rattle.ownership_marks.specs.Marks.{begun, end_of, ended, ended_by, marks_of, use_of, used};
 
@@ -15,6 +15,7 @@ use crate::passed::{add_item_defined, add_item_taken};
 use crate::taken::Taken;
 use forwarding_chains::Facts;
 use instruction_table::Role;
+use item_lists::ItemLists;
 use sil_ast::{Exhausted, Function, ValueId};
 use sil_cfg::{Graph, Item};
 use std::alloc::Global;
@@ -201,26 +202,41 @@ fn add_begins(
     Ok(())
 }
 
-/// The marks of an item: ends in the order of its operands, then uses, then beginnings. What `taken` and `defined` hold doesn't matter: they are memory for the operands and the values that it defines.
-pub(crate) fn marks_of_item(
-    alloc: Global,
+/// Makes `marks` those of an item: ends in the order of its operands, then uses, then beginnings. What `taken` and `defined` hold doesn't matter: they are memory for the operands and the values that it defines.
+pub(crate) fn make_marks(
+    marks: &mut Vec<Mark>,
     table: &[Option<Facts>],
     f: &Function,
     item: Item,
     taken: &mut Vec<Taken>,
     defined: &mut Vec<ValueId>,
-) -> Result<Vec<Mark>, Exhausted>
-    ensures { IfOk result (λ v. v.items ≡ marks_of (told_at table.now) f.now item) }
+) -> Result<(), Exhausted>
+    ensures { OnOk result (marks.new.items ≡ marks_of (told_at table.now) f.now item) }
 {
     taken.clear();
     add_item_taken(taken, f, item)?;
     defined.clear();
     add_item_defined(defined, f, item)?;
-    let mut marks = Vec::new(alloc);
-    add_ends(&mut marks, table, taken.as_slice())?;
-    add_uses(&mut marks, table, taken.as_slice())?;
-    add_begins(&mut marks, table, defined.as_slice())?;
-    Ok(marks)
+    marks.clear();
+    add_ends(marks, table, taken.as_slice())?;
+    add_uses(marks, table, taken.as_slice())?;
+    add_begins(marks, table, defined.as_slice())
+}
+
+/// The marks of an item, as those behind the items before. `own`, `taken` and `defined` are room for them.
+fn push_item(
+    all: &mut ItemLists<Mark>,
+    own: &mut Vec<Mark>,
+    table: &[Option<Facts>],
+    f: &Function,
+    item: Item,
+    taken: &mut Vec<Taken>,
+    defined: &mut Vec<ValueId>,
+) -> Result<(), Exhausted>
+    ensures { OnOk result (all.new ≡ all.old ++ marks_of (told_at table.now) f.now item ∷ []) }
+{
+    make_marks(own, table, f, item, taken, defined)?;
+    all.push(own.as_slice())
 }
 
 /// The marks of every item of the function's graph, by the item's number. `table` has what is known of the values.
@@ -230,16 +246,24 @@ pub(crate) fn all_marks(
     table: &[Option<Facts>],
     f: &Function,
     g: &Graph,
-) -> Result<Vec<Vec<Mark>>, Exhausted>
-    ensures size { IfOk result (λ v. length v.items ≡ item_count g.now) }
-    ensures marks { IfOk result (λ v. AreMarksOf (told_at table.now) f.now g.now (marks_in (lists_of v.items))) }
+) -> Result<ItemLists<Mark>, Exhausted>
+    ensures size { IfOk result (λ v. length v ≡ item_count g.now) }
+    ensures marks { IfOk result (λ v. AreMarksOf (told_at table.now) f.now g.now (marks_in v)) }
 {
     let mut taken = Vec::new(alloc);
     let mut defined = Vec::new(alloc);
-    let mut all = Vec::with_capacity(alloc, g.items())?;
+    let mut own = Vec::new(alloc);
+    let mut all = ItemLists::with_capacity(alloc, g.items())?;
     for i in 0..g.items() {
-        let marks = marks_of_item(alloc, table, f, g.item(i), &mut taken, &mut defined)?;
-        all.push(marks)?;
+        push_item(
+            &mut all,
+            &mut own,
+            table,
+            f,
+            g.item(i),
+            &mut taken,
+            &mut defined,
+        )?;
     }
     Ok(all)
 }

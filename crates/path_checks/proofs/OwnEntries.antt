@@ -14,7 +14,11 @@ use Rattle.path_patterns.specs.Reads.{read_step, step_in}
 use Rattle.path_patterns.specs.Switch.{mark_step}
 use Rattle.path_checks.specs.declared.entry.Entry.{Entry}
 use Rattle.path_checks.specs.Entries.{means}
-use Rattle.path_checks.specs.Order.{own_of}
+use Rattle.path_checks.specs.Order.{own_of, IsOrderOf}
+
+-- none in order are in order
+pub order_of_none : (entries ordered : List Entry) → ordered ≡ [] → IsOrderOf entries ordered
+order_of_none entries ordered none = λ some. absurd (let size : length ordered ≡ 0 = ap length none in omega arith)
 
 quiet : (subject : ℕ) (r : Step) (e : Entry) → (e.subject == subject) ≡ false → after (read_step mark_step (means subject)) r e ≡ r
 quiet subject (Go s) e other = ap (λ b. step_in mark_step s (cond b (Some e.mark) None)) other

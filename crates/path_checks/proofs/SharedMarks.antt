@@ -1,14 +1,13 @@
 -- To a subject the shared entries are its own mark, if it has one.
 use Rattle.std.proofs.Common.{◌≡◌, ℕ, zero, suc, ◌+◌, ◌<◌, ◌≤◌, List, [], ◌∷◌, ◌++◌, length, refl, sym, ap, ◌∙◌, subst, Bool, true, false, Option, Some, None, All, arith, append-nil, eq-eqb}
 use Rattle.std.specs.Prelude.{cond, slice_get, unwrap_or}
-use Rattle.std.specs.declared.alloc.Global.{Global}
-use Rattle.std.specs.declared.vec.Vec.{Vec}
 use Rattle.std.proofs.lemmas.List.Elements.{All-nil, All-cons, All-append}
 use Rattle.reach_engine.specs.declared.scan.Step.{Step}
 use Rattle.reach_engine.specs.declared.scan.Step.TheVariants.{Go, Bad}
 use Rattle.reach_engine.specs.Run.{run}
 use Rattle.reach_engine.proofs.Runs.{run_bad}
-use Rattle.path_patterns.specs.Reads.{accesses_at, read_step, step_in}
+use Rattle.item_lists.specs.Lists.{list_at}
+use Rattle.path_patterns.specs.Reads.{read_step, step_in}
 use Rattle.path_patterns.specs.Switch.{mark_step}
 use Rattle.path_patterns.specs.declared.mark.Mark.{Mark}
 use Rattle.path_checks.specs.declared.entry.Entry.{Entry}
@@ -45,16 +44,16 @@ pub shares_run : (marks : List (Option Mark)) (subject s : ℕ) (shares : Bool) 
 shares_run marks subject s shares e = ap (λ b. run (read_step mark_step (means subject)) (Go s) (shared_if marks b)) e ∙ shared_run marks subject 0 subject s (omega arith)
 
 -- an item that doesn't share has its own entries alone
-pub own_alone : (own : List (Vec Entry Global)) (marks : List (Option Mark)) (sharing : List Bool) (i : ℕ) → is_sharing sharing i ≡ false → entries_with own marks sharing i ≡ accesses_at own i
-own_alone own marks sharing i e = ap (λ b. accesses_at own i ++ shared_if marks b) e ∙ append-nil (accesses_at own i)
+pub own_alone : (own : List (List Entry)) (marks : List (Option Mark)) (sharing : List Bool) (i : ℕ) → is_sharing sharing i ≡ false → entries_with own marks sharing i ≡ list_at own i
+own_alone own marks sharing i e = ap (λ b. list_at own i ++ shared_if marks b) e ∙ append-nil (list_at own i)
 
 shared_below : (bound n : ℕ) (marks : List (Option Mark)) → n + length marks ≤ bound → All (λ (e : Entry). e.subject < bound) (shared_from n marks)
 shared_below bound n [] le = All-nil (λ (e : Entry). e.subject < bound)
 shared_below bound n (None ∷ marks) le = shared_below bound (n + 1) marks (omega arith)
 shared_below bound n (Some m ∷ marks) le = All-cons (λ (e : Entry). e.subject < bound) (record { subject = n; mark = m }) (shared_from (n + 1) marks) (omega arith) (shared_below bound (n + 1) marks (omega arith))
 
-pub all_below : (bound : ℕ) (own : List (Vec Entry Global)) (marks : List (Option Mark)) (sharing : List Bool) (i : ℕ) → length marks ≤ bound → All (λ (e : Entry). e.subject < bound) (accesses_at own i) → All (λ (e : Entry). e.subject < bound) (entries_with own marks sharing i)
-all_below bound own marks sharing i le below = All-append (λ (e : Entry). e.subject < bound) (accesses_at own i) (shared_if marks (is_sharing sharing i)) below (at (is_sharing sharing i))
+pub all_below : (bound : ℕ) (own : List (List Entry)) (marks : List (Option Mark)) (sharing : List Bool) (i : ℕ) → length marks ≤ bound → All (λ (e : Entry). e.subject < bound) (list_at own i) → All (λ (e : Entry). e.subject < bound) (entries_with own marks sharing i)
+all_below bound own marks sharing i le below = All-append (λ (e : Entry). e.subject < bound) (list_at own i) (shared_if marks (is_sharing sharing i)) below (at (is_sharing sharing i))
   where
     at : (b : Bool) → All (λ (e : Entry). e.subject < bound) (shared_if marks b)
     at true = shared_below bound 0 marks (omega arith)
@@ -73,11 +72,11 @@ unmarked (Some m ∷ marks) subject n (suc d) e none =
     All-cons (λ (e : Entry). e.subject ≡ subject → ⊥) (record { subject = n; mark = m }) (shared_from (n + 1) marks) (λ same. omega arith) (unmarked marks subject (n + 1) d (omega arith) none)
 
 -- what has the subjects of the items that share, and those with a mark, has all that these items touch
-pub sharing_touched : (first count : ℕ) (entries : List (Vec Entry Global)) (marks : List (Option Mark)) (sharing : List Bool) (own : ℕ → List ℕ) (together : List ℕ) →
-    ((i : ℕ) → HasTouched first count (accesses_at entries i) (own i)) → HasMarked first count marks together → HasSharing own sharing together →
+pub sharing_touched : (first count : ℕ) (entries : List (List Entry)) (marks : List (Option Mark)) (sharing : List Bool) (own : ℕ → List ℕ) (together : List ℕ) →
+    ((i : ℕ) → HasTouched first count (list_at entries i) (own i)) → HasMarked first count marks together → HasSharing own sharing together →
     (i : ℕ) → is_sharing sharing i ≡ true → HasTouched first count (entries_with entries marks sharing i) together
 sharing_touched first count entries marks sharing own together all marked has i shares u lu none =
     let P : Entry → Type 0 = λ e. e.subject ≡ first + u → ⊥ in
     let shared : All P (shared_from 0 marks) = unmarked marks (first + u) 0 (first + u) (omega arith) (marked u lu none) in
     let Q : Bool → Type 0 = λ b. All P (shared_if marks b) in
-    All-append P (accesses_at entries i) (shared_if marks (is_sharing sharing i)) (all i u lu (λ c. none (has i u shares c))) (subst Q {x = true} {y = is_sharing sharing i} (sym shares) shared)
+    All-append P (list_at entries i) (shared_if marks (is_sharing sharing i)) (all i u lu (λ c. none (has i u shares c))) (subst Q {x = true} {y = is_sharing sharing i} (sym shares) shared)

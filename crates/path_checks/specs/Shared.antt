@@ -1,8 +1,6 @@
 -- Entries that items share: one for each subject at most, given by the subjects' marks.
 use Rattle.std.specs.Prelude.{ℕ, ◌+◌, List, [], ◌∷◌, ◌++◌, Bool, true, false, slice_index_or, Option, Some, None}
-use Rattle.std.specs.declared.alloc.Global.{Global}
-use Rattle.std.specs.declared.vec.Vec.{Vec}
-use Rattle.path_patterns.specs.Reads.{accesses_at}
+use Rattle.item_lists.specs.Lists.{list_at}
 use Rattle.path_patterns.specs.declared.mark.Mark.{Mark}
 use Rattle.path_checks.specs.declared.entry.Entry.{Entry}
 
@@ -25,5 +23,5 @@ abbrev pub is_sharing : List Bool → ℕ → Bool
 is_sharing sharing i = slice_index_or sharing i false
 
 -- the item's own entries, and behind them the shared ones if it shares
-abbrev pub entries_with : List (Vec Entry Global) → List (Option Mark) → List Bool → ℕ → List Entry
-entries_with own marks sharing i = accesses_at own i ++ shared_if marks (is_sharing sharing i)
+abbrev pub entries_with : List (List Entry) → List (Option Mark) → List Bool → ℕ → List Entry
+entries_with own marks sharing i = list_at own i ++ shared_if marks (is_sharing sharing i)

@@ -3,6 +3,7 @@
 ghost use Rattle.std.specs.Prelude.{◌≡◌, ℕ, ◌+◌, ◌<◌, ◌≤◌, ◌^◌, ◌++◌, cond, length, true, IfOk};
 ghost use Rattle.reach_engine.specs.Run.{run, StaysBelow};
 ghost use Rattle.reach_engine.specs.declared.scan.Step.TheVariants.{Go};
+ghost use Rattle.item_lists.specs.Lists.{list_at};
 ghost use Rattle.path_patterns.specs.Reads.{accesses_at, read_step};
 ghost use Rattle.path_patterns.specs.Switch.{mark_step};
 ghost use Rattle.path_checks.specs.Entries.{means, subject_step};
@@ -13,9 +14,10 @@ ghost use Rattle.path_checks.specs.Chunks.{IsRising, HasTouched};
 ghost use Rattle.path_checks.specs.Touched.{touched_at};
 
 use crate::entry::Entry;
-use crate::order::entries_of;
+use crate::order::{entries_of, ordered_at};
 use crate::sharing::{is_sharing, mark_of};
 use crate::touched::Touched;
+use item_lists::ItemLists;
 use path_patterns::{Mark, turn};
 use reach_engine::{Family, Step};
 
@@ -23,7 +25,7 @@ use reach_engine::{Family, Step};
 /// `ordered` has the entries of the items that have many, in the order of their subjects.
 #[derive(Drop)]
 pub struct Chunk<'a> {
-    pub entries: &'a [Vec<Entry>],
+    pub entries: &'a ItemLists<Entry>,
     pub ordered: &'a [Vec<Entry>],
     pub marks: &'a [Option<Mark>],
     pub sharing: &'a [bool],
@@ -34,10 +36,9 @@ pub struct Chunk<'a> {
     ghost few: { count ≤ 1024 },
     ghost fits: { first + count ≤ 2 ^ 32 },
     ghost size: { length touched.starts.items ≡ length entries.now + 1 },
-    ghost ordered_size: { length ordered.now ≡ length entries.now },
-    ghost order: { (i : ℕ) → IsOrderOf (accesses_at entries.now i) (accesses_at ordered.now i) },
+    ghost order: { (i : ℕ) → IsOrderOf (list_at entries.now i) (accesses_at ordered.now i) },
     ghost rising: { (i : ℕ) → IsRising count (touched_at touched.subjects.items touched.starts.items i) },
-    ghost all: { (i : ℕ) → HasTouched first count (accesses_at entries.now i) (touched_at touched.subjects.items touched.starts.items i) },
+    ghost all: { (i : ℕ) → HasTouched first count (list_at entries.now i) (touched_at touched.subjects.items touched.starts.items i) },
     ghost together_rising: { IsRising count together.items },
     ghost together_all: { (i : ℕ) → shared.is_sharing sharing.now i ≡ true → HasTouched first count (entries_with entries.now marks.now sharing.now i) together.items },
 }
@@ -148,8 +149,8 @@ impl Family for Chunk<'_> {
         let shares = is_sharing(self.sharing, item);
         step_item(
             self.first + subject,
-            self.entries[item].as_slice(),
-            self.ordered[item].as_slice(),
+            self.entries.at(item),
+            ordered_at(self.ordered, item),
             self.marks,
             shares,
             state,

@@ -4,6 +4,7 @@ ghost use Rattle.std.specs.Prelude.{◌≡◌, ℕ, ◌+◌, ◌<◌, ◌≤◌,
 ghost use Rattle.sil_cfg.specs.declared.item.Item.{Item};
 ghost use Rattle.sil_cfg.specs.Layout.{item_count};
 ghost use Rattle.sil_cfg.specs.Build.{IsGraphOf};
+ghost use Rattle.item_lists.specs.Lists.{list_at};
 ghost use Rattle.path_patterns.specs.Reads.{AgreesWith, accesses_at};
 ghost use Rattle.path_checks.specs.declared.entry.Entry as entry;
 ghost use Rattle.path_checks.specs.Chunks.{IsFirstOfChunk};
@@ -16,6 +17,7 @@ use crate::entry::{Entry, PathFault};
 use crate::order::ordered_entries;
 use crate::sharing::touched_by_sharing;
 use crate::touched::{subject_bound, touched_subjects};
+use item_lists::ItemLists;
 use path_patterns::Mark;
 use reach_engine::first_broken;
 use sil_ast::{Exhausted, Function};
@@ -29,7 +31,7 @@ const CHUNK: usize = 1024;
 fn first_of_chunk(
     alloc: Global,
     g: &Graph,
-    entries: &[Vec<Entry>],
+    entries: &ItemLists<Entry>,
     ordered: &[Vec<Entry>],
     marks: &[Option<Mark>],
     sharing: &[bool],
@@ -37,8 +39,7 @@ fn first_of_chunk(
     count: usize,
 ) -> Result<Option<PathFault>, Exhausted>
     requires items { length entries.now ≡ item_count g.now }
-    requires ordered_size { length ordered.now ≡ length entries.now }
-    requires order { (i : ℕ) → IsOrderOf (accesses_at entries.now i) (accesses_at ordered.now i) }
+    requires order { (i : ℕ) → IsOrderOf (list_at entries.now i) (accesses_at ordered.now i) }
     requires few { count ≤ 1024 }
     requires fits { first + count ≤ 2 ^ 32 }
     ensures { IfOk result (IsFirstOfChunk g.now (entries_with entries.now marks.now sharing.now) first count) }
@@ -74,7 +75,7 @@ pub fn first_fault(
     alloc: Global,
     f: &Function,
     g: &Graph,
-    entries: &[Vec<Entry>],
+    entries: &ItemLists<Entry>,
     marks: &[Option<Mark>],
     sharing: &[bool],
 ) -> Result<Option<PathFault>, Exhausted>

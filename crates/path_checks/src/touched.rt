@@ -1,11 +1,12 @@
 //! Which subjects an item has entries of.
 
 ghost use Rattle.std.specs.Prelude.{◌≡◌, ℕ, ◌+◌, ◌<◌, ◌≤◌, ◌^◌, IfOk, OnOk, length, All};
-ghost use Rattle.path_patterns.specs.Reads.{accesses_at};
+ghost use Rattle.item_lists.specs.Lists.{list_at};
 ghost use Rattle.path_checks.specs.Chunks.{IsRising, HasTouched, PutIn};
 ghost use Rattle.path_checks.specs.Touched.{AreStarts, touched_at};
 
 use crate::entry::Entry;
+use item_lists::ItemLists;
 use sil_ast::Exhausted;
 use std::alloc::Global;
 
@@ -74,6 +75,9 @@ fn make_touched(
     for entry in entries {
         put_in(touched, entry.subject as usize, first, count)?;
     }
+    if touched.len() < 2 {
+        return Ok(());
+    }
     touched.sort()?;
     touched.dedup();
     Ok(())
@@ -82,21 +86,21 @@ fn make_touched(
 /// The same for the entries of every item.
 pub fn touched_subjects(
     alloc: Global,
-    entries: &[Vec<Entry>],
+    entries: &ItemLists<Entry>,
     first: usize,
     count: usize,
 ) -> Result<Touched, Exhausted>
     requires { count ≤ 1024 }
     ensures size { IfOk result (λ t. length t.starts.items ≡ length entries.now + 1) }
     ensures rising { IfOk result (λ t. (i : ℕ) → IsRising count (touched_at t.subjects.items t.starts.items i)) }
-    ensures all { IfOk result (λ t. (i : ℕ) → HasTouched first count (accesses_at entries.now i) (touched_at t.subjects.items t.starts.items i)) }
+    ensures all { IfOk result (λ t. (i : ℕ) → HasTouched first count (list_at entries.now i) (touched_at t.subjects.items t.starts.items i)) }
 {
     let mut subjects = Vec::with_capacity(alloc, entries.len())?;
     let mut starts = Vec::with_capacity(alloc, entries.len() + 1)?;
     let mut own = Vec::new(alloc);
     starts.push(0)?;
-    for item in entries {
-        make_touched(&mut own, item.as_slice(), first, count)?;
+    for item in 0..entries.len() {
+        make_touched(&mut own, entries.at(item), first, count)?;
         subjects.extend_from_slice(own.as_slice())?;
         starts.push(subjects.len())?;
     }
@@ -104,15 +108,15 @@ pub fn touched_subjects(
 }
 
 /// A number above every subject, and not below `least`.
-pub fn subject_bound(entries: &[Vec<Entry>], least: usize) -> usize
+pub fn subject_bound(entries: &ItemLists<Entry>, least: usize) -> usize
     requires { least ≤ 2 ^ 32 }
-    ensures above { (i : ℕ) → All (λ e. e.subject < result) (accesses_at entries.now i) }
+    ensures above { (i : ℕ) → All (λ e. e.subject < result) (list_at entries.now i) }
     ensures least { least ≤ result }
     ensures fits { result ≤ 2 ^ 32 }
 {
     let mut bound = least;
-    for item in entries {
-        bound = bound_over(item.as_slice(), bound);
+    for item in 0..entries.len() {
+        bound = bound_over(entries.at(item), bound);
     }
     bound
 }

@@ -1,11 +1,13 @@
 //! The table of rule 301: what each item does to which value.
 
-ghost use Rattle.std.specs.Prelude.{◌≡◌, ℕ, ◌+◌, ◌<◌, ◌++◌, length, map, slice_get, IfOk, OnOk};
+ghost use Rattle.std.specs.Prelude.{◌≡◌, ℕ, ◌+◌, ◌<◌, [], ◌∷◌, ◌++◌, length, map, slice_get, IfOk, OnOk};
 ghost use Rattle.sil_cfg.specs.Layout.{item_count};
-ghost use Rattle.path_patterns.specs.Reads.{accesses_at, AgreesWith};
+ghost use Rattle.item_lists.specs.Lists.{list_at};
+ghost use Rattle.path_patterns.specs.Reads.{AgreesWith};
 ghost use Rattle.value_availability.specs.Accesses.{used, defined, begun, of_args, of_inst, of_inst_at, of_edge, of_edge_at, of_exit, accesses_of};
 ghost use Rattle.std.specs.Prelude.{Some};
 
+use item_lists::ItemLists;
 use path_checks::Entry;
 use path_patterns::Mark;
 use sil_ast::{
@@ -143,22 +145,33 @@ fn add_item(entries: &mut Vec<Entry>, f: &Function, item: Item) -> Result<(), Ex
     }
 }
 
-fn entries_of(alloc: Global, f: &Function, item: Item) -> Result<Vec<Entry>, Exhausted>
-    ensures { IfOk result (λ v. v.items ≡ accesses_of f.now item) }
+/// The entries of an item, as those behind the items before. `own` is room for them.
+fn push_item(
+    all: &mut ItemLists<Entry>,
+    own: &mut Vec<Entry>,
+    f: &Function,
+    item: Item,
+) -> Result<(), Exhausted>
+    ensures { OnOk result (all.new ≡ all.old ++ accesses_of f.now item ∷ []) }
 {
-    let mut entries = Vec::new(alloc);
-    add_item(&mut entries, f, item)?;
-    Ok(entries)
+    own.clear();
+    add_item(own, f, item)?;
+    all.push(own.as_slice())
 }
 
 /// The entries of every item of the function's graph, by the item's number.
-pub fn entries_by_item(alloc: Global, f: &Function, g: &Graph) -> Result<Vec<Vec<Entry>>, Exhausted>
-    ensures size { IfOk result (λ v. length v.items ≡ item_count g.now) }
-    ensures entries { IfOk result (λ v. AgreesWith g.now (accesses_at v.items) (accesses_of f.now)) }
+pub fn entries_by_item(
+    alloc: Global,
+    f: &Function,
+    g: &Graph,
+) -> Result<ItemLists<Entry>, Exhausted>
+    ensures size { IfOk result (λ v. length v ≡ item_count g.now) }
+    ensures entries { IfOk result (λ v. AgreesWith g.now (list_at v) (accesses_of f.now)) }
 {
-    let mut all = Vec::with_capacity(alloc, g.items())?;
+    let mut all = ItemLists::with_capacity(alloc, g.items())?;
+    let mut own = Vec::new(alloc);
     for i in 0..g.items() {
-        all.push(entries_of(alloc, f, g.item(i))?)?;
+        push_item(&mut all, &mut own, f, g.item(i))?;
     }
     Ok(all)
 }

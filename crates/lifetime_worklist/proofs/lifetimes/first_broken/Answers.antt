@@ -1,10 +1,8 @@
 use Rattle.std.proofs.Common.{ap, ◌∙◌, List}
-use Rattle.std.specs.declared.alloc.Global.{Global}
-use Rattle.std.specs.declared.vec.Vec.{Vec}
 use Rattle.std.specs.Prelude.{Bool}
 use Rattle.std.proofs.lemmas.Result.{IfOk-weaker}
 use Rattle.sil_cfg.specs.declared.item.Item.{Item}
-use Rattle.path_patterns.specs.Reads.{accesses_at, AgreesWith}
+use Rattle.path_patterns.specs.Reads.{AgreesWith}
 use Rattle.path_checks.specs.First.{IsFirst}
 use Rattle.path_checks.specs.Shared.{entries_with, is_sharing}
 use Rattle.path_checks.specs.declared.entry.Entry.{Entry}
@@ -15,15 +13,15 @@ use Rattle.lifetime_worklist.proofs.lifetimes.first_broken.Goals as goal
 
 pub returns : goal.returns
 returns c =
-    let own : List (Vec Entry Global) = c.deref.result.now in
+    let own : List (List Entry) = c.in_ok-entries.entries in
     IfOk-weaker c.first_fault.result
-    (λ r. (table : Item → List Entry) → AgreesWith c.args.g.now (entries_with own c.deref-2.result.now c.deref-3.result.now) table → IsFirst c.args.f.now table r)
+    (λ r. (table : Item → List Entry) → AgreesWith c.args.g.now (entries_with own c.deref.result.now c.deref-2.result.now) table → IsFirst c.args.f.now table r)
     (IsFirstLife c.args.f.now c.args.g.now c.args.k.now)
     (λ r h count facts by.
     h (lives_of count facts c.args.f.now)
-    (lives_agree c.args.f.now c.args.g.now c.args.k.now own c.deref-2.result.now c.deref-3.result.now
-    (λ n lt. ap (λ (v : List (Vec Entry Global)). accesses_at v n) c.deref.ensures.value ∙ c.in_ok-entries.ensures.entries n lt)
-    (c.deref-2.ensures.value ∙ c.in_ok-marks.ensures.marks)
-    (λ n item e. ap (λ (v : List Bool). is_sharing v n) c.deref-3.ensures.value ∙ c.in_ok-returns.ensures n item e)
+    (lives_agree c.args.f.now c.args.g.now c.args.k.now own c.deref.result.now c.deref-2.result.now
+    c.in_ok-entries.ensures.entries
+    (c.deref.ensures.value ∙ c.in_ok-marks.ensures.marks)
+    (λ n item e. ap (λ (v : List Bool). is_sharing v n) c.deref-2.ensures.value ∙ c.in_ok-returns.ensures n item e)
     count facts by))
     c.first_fault.ensures

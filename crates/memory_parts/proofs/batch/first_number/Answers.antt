@@ -1,9 +1,7 @@
-use Rattle.std.proofs.Common.{ap, ◌∙◌, List, arith}
-use Rattle.std.specs.declared.alloc.Global.{Global}
-use Rattle.std.specs.declared.vec.Vec.{Vec}
+use Rattle.std.proofs.Common.{◌∙◌, List, arith}
 use Rattle.std.proofs.lemmas.Result.{IfOk-weaker}
 use Rattle.sil_cfg.specs.declared.item.Item.{Item}
-use Rattle.path_patterns.specs.Reads.{accesses_at, AgreesWith}
+use Rattle.path_patterns.specs.Reads.{AgreesWith}
 use Rattle.path_checks.specs.First.{IsFirst}
 use Rattle.path_checks.specs.Shared.{entries_with}
 use Rattle.path_checks.specs.declared.entry.Entry.{Entry}
@@ -13,14 +11,14 @@ use Rattle.memory_parts.proofs.batch.first_number.Goals as goal
 
 pub returns : goal.returns
 returns c =
-    let own : List (Vec Entry Global) = c.deref.result.now in
+    let own : List (List Entry) = c.in_ok-entries.entries in
     IfOk-weaker c.first_fault.result
-    (λ r. (table : Item → List Entry) → AgreesWith c.args.g.now (entries_with own c.deref-2.result.now c.args.returns.now) table → IsFirst c.args.f.now table r)
+    (λ r. (table : Item → List Entry) → AgreesWith c.args.g.now (entries_with own c.deref.result.now c.args.returns.now) table → IsFirst c.args.f.now table r)
     (IsFirstNumber c.args.m.now c.args.f.now c.args.g.now c.args.k.now c.args.batch.now)
     (λ r h count facts by.
     h (batch_table c.args.m.now facts c.args.f.now c.args.batch.now)
-    (batch_agrees c.args.m.now c.args.f.now c.args.g.now c.args.k.now c.args.accesses.now c.args.returns.now c.args.batch.now own c.deref-2.result.now c.requires.accesses c.requires.returns
-    (λ n lt. ap (λ (v : List (Vec Entry Global)). accesses_at v n) c.deref.ensures.value ∙ c.in_ok-entries.ensures.entries n (let size = c.requires.items in omega arith))
-    (c.deref-2.ensures.value ∙ c.in_ok-marks.ensures.marks)
+    (batch_agrees c.args.m.now c.args.f.now c.args.g.now c.args.k.now c.args.accesses.now c.args.returns.now c.args.batch.now own c.deref.result.now c.requires.accesses c.requires.returns
+    (λ n lt. c.in_ok-entries.ensures.entries n (let size = c.requires.items in omega arith))
+    (c.deref.ensures.value ∙ c.in_ok-marks.ensures.marks)
     count facts by))
     c.first_fault.ensures

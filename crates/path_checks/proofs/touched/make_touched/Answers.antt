@@ -22,3 +22,8 @@ returns-clause-all c =
     let whole : take c.loop-entry.entry-index c.args.entries.now ≡ c.args.entries.now = take_all c.loop-entry.entry-index c.args.entries.now (omega arith) in
     touched_sorted c.args.first c.args.count c.args.entries.now c.loop-entry.touched.items c.sort.new.self.items c.dedup.new.self.items
     (subst (λ (v : List Entry). HasTouched c.args.first c.args.count v c.loop-entry.touched.items) whole c.loop-entry.invariant.all) c.in_ok-sort.ensures.permutation (dedup_is eqb c.sort.new.self.items c.dedup.new.self.items c.dedup.ensures.filtered)
+
+pub returns-then-len-lt2-clause-all : goal.returns-then-len-lt2-clause-all
+returns-then-len-lt2-clause-all c =
+    let whole : take c.loop-entry.entry-index c.args.entries.now ≡ c.args.entries.now = take_all c.loop-entry.entry-index c.args.entries.now (omega arith) in
+    subst (λ (v : List Entry). HasTouched c.args.first c.args.count v c.loop-entry.touched.items) whole c.loop-entry.invariant.all

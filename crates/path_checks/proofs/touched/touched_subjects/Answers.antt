@@ -2,11 +2,11 @@ use Rattle.std.proofs.Common.{◌≡◌, ◌≢◌, ◌+◌, ◌<◌, ◌≤◌,
 use Rattle.std.specs.Prelude.{slice_index_or}
 use Rattle.std.proofs.lemmas.Bool.{cases_eq, cases_lt}
 use Rattle.sil_cfg.proofs.Gets.{length_push}
-use Rattle.path_patterns.specs.Reads.{accesses_at}
+use Rattle.item_lists.specs.Lists.{list_at}
+use Rattle.item_lists.proofs.Items.{list_past}
 use Rattle.path_checks.specs.declared.entry.Entry.{Entry}
 use Rattle.path_checks.specs.Chunks.{IsRising, HasTouched}
 use Rattle.path_checks.specs.Touched.{AreStarts, touched_at}
-use Rattle.path_checks.proofs.Accesses.{accesses_there, accesses_past}
 use Rattle.path_checks.proofs.Starts.{last_start, starts_more, touched_kept, touched_last, touched_past}
 use Rattle.path_checks.proofs.Touching.{rising_none, touched_none}
 use Rattle.path_checks.proofs.touched.touched_subjects.Goals as goal
@@ -24,23 +24,23 @@ moved P xs ys ks ls e f p = subst (λ v. P v ks) (sym e) (subst (P ys) (sym f) p
 
 pub loop-item-preserved : goal.loop-item-preserved
 loop-item-preserved c =
-    let n = c.loop-item.item-index in
+    let n = c.loop-item.item in
     let subjects = c.loop-item.subjects.items in
     let starts = c.loop-item.starts.items in
     let own = c.make_touched.new.touched.items in
-    let x = c.len.result in
+    let x = c.len-in-loop-item.result in
     let entries = c.args.entries.now in
     let size : length starts ≡ n + 1 = c.loop-item.invariant.size in
     let last : slice_index_or starts n 0 ≡ length subjects = c.loop-item.invariant.last in
-    let here : accesses_at entries n ≡ c.as_slice.result.now = accesses_there entries n c.item-item.result (omega arith) c.item-item.is ∙ sym c.as_slice.ensures.value in
-    let added : c.extend_from_slice.new.self.items ≡ subjects ++ own = c.in_ok-extend_from_slice.ensures.items ∙ ap (λ v. subjects ++ v) c.as_slice-in-loop-item.ensures.value in
+    let here : list_at entries n ≡ c.at.result.now = sym c.at.ensures in
+    let added : c.extend_from_slice.new.self.items ≡ subjects ++ own = c.in_ok-extend_from_slice.ensures.items ∙ ap (λ v. subjects ++ v) c.as_slice.ensures.value in
     let grown : c.push-in-loop-item.new.self.items ≡ starts ++ x ∷ [] = c.in_ok-push-2.ensures.items in
     let whole : length c.extend_from_slice.new.self.items ≡ length subjects + length own = ap length added ∙ length-append subjects own in
     let end : x ≡ length subjects + length own = omega arith in
     let kept = touched_kept subjects starts own x n size last end c.loop-item.invariant.are in
     let is_last : touched_at (subjects ++ own) (starts ++ x ∷ []) n ≡ own = touched_last subjects starts own x n size last end in
     let R : ℕ → List ℕ → Type 0 = λ i v. IsRising c.args.count v in
-    let H : ℕ → List ℕ → Type 0 = λ i v. HasTouched c.args.first c.args.count (accesses_at entries i) v in
+    let H : ℕ → List ℕ → Type 0 = λ i v. HasTouched c.args.first c.args.count (list_at entries i) v in
     let E : List Entry → Type 0 = λ es. HasTouched c.args.first c.args.count es own in
     record {
       size = ap length grown ∙ length_push starts x ∙ ap (λ k. k + 1) size;
@@ -53,19 +53,19 @@ loop-item-preserved c =
     }
 
 pub returns-clause-rising : goal.returns-clause-rising
-returns-clause-rising c = λ i. at i (cases_lt i c.loop-item.item-index)
+returns-clause-rising c = λ i. at i (cases_lt i c.loop-item.item)
   where
-    at : (i : ℕ) → (i < c.loop-item.item-index) ⊎ (c.loop-item.item-index ≤ i) → IsRising c.args.count (touched_at c.loop-item.subjects.items c.loop-item.starts.items i)
+    at : (i : ℕ) → (i < c.loop-item.item) ⊎ (c.loop-item.item ≤ i) → IsRising c.args.count (touched_at c.loop-item.subjects.items c.loop-item.starts.items i)
     at i (inl lt) = c.loop-item.invariant.rising i lt
     at i (inr le) =
-        let size : length c.loop-item.starts.items ≡ c.loop-item.item-index + 1 = c.loop-item.invariant.size in
+        let size : length c.loop-item.starts.items ≡ c.loop-item.item + 1 = c.loop-item.invariant.size in
         subst (IsRising c.args.count) (sym (touched_past c.loop-item.subjects.items c.loop-item.starts.items i (omega arith))) (rising_none c.args.count)
 
 pub returns-clause-all : goal.returns-clause-all
-returns-clause-all c = λ i. at i (cases_lt i c.loop-item.item-index)
+returns-clause-all c = λ i. at i (cases_lt i c.loop-item.item)
   where
-    at : (i : ℕ) → (i < c.loop-item.item-index) ⊎ (c.loop-item.item-index ≤ i) → HasTouched c.args.first c.args.count (accesses_at c.args.entries.now i) (touched_at c.loop-item.subjects.items c.loop-item.starts.items i)
+    at : (i : ℕ) → (i < c.loop-item.item) ⊎ (c.loop-item.item ≤ i) → HasTouched c.args.first c.args.count (list_at c.args.entries.now i) (touched_at c.loop-item.subjects.items c.loop-item.starts.items i)
     at i (inl lt) = c.loop-item.invariant.all i lt
     at i (inr le) =
         let E : List Entry → Type 0 = λ es. HasTouched c.args.first c.args.count es (touched_at c.loop-item.subjects.items c.loop-item.starts.items i) in
-        subst E (sym (accesses_past c.args.entries.now i (omega arith))) (touched_none c.args.first c.args.count (touched_at c.loop-item.subjects.items c.loop-item.starts.items i))
+        subst E (sym (list_past c.args.entries.now i (omega arith))) (touched_none c.args.first c.args.count (touched_at c.loop-item.subjects.items c.loop-item.starts.items i))

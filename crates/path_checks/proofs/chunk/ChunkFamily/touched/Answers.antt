@@ -3,7 +3,8 @@ use Rattle.std.specs.Prelude.{Contains}
 use Rattle.std.specs.List.Sorted.{IsStrictlyIncreasing}
 use Rattle.reach_engine.specs.declared.scan.Step.TheVariants.{Go}
 use Rattle.reach_engine.specs.Run.{run}
-use Rattle.path_patterns.specs.Reads.{accesses_at, read_step}
+use Rattle.item_lists.specs.Lists.{list_at}
+use Rattle.path_patterns.specs.Reads.{read_step}
 use Rattle.path_patterns.specs.Switch.{mark_step}
 use Rattle.path_checks.specs.declared.entry.Entry.{Entry}
 use Rattle.path_checks.specs.Entries.{means}
@@ -39,4 +40,4 @@ returns-else-is_sharing-clause-others c = λ u s lu ls none.
     let P : List ℕ → Type 0 = λ v. Contains v u in
     let alone = own_alone c.args.self.now.entries.now c.args.self.now.marks.now c.args.self.now.sharing.now c.args.item (sym c.is_sharing.ensures ∙ c.if-is_sharing.false) in
     ap (λ (v : List Entry). run (read_step mark_step (means (c.args.self.now.first + u))) (Go s) v) alone
-    ∙ quiet_run (c.args.self.now.first + u) s (accesses_at c.args.self.now.entries.now c.args.item) (c.args.self.now.all c.args.item u lu (λ x. none (subst P (sym c.by.ensures) x)))
+    ∙ quiet_run (c.args.self.now.first + u) s (list_at c.args.self.now.entries.now c.args.item) (c.args.self.now.all c.args.item u lu (λ x. none (subst P (sym c.by.ensures) x)))

@@ -1,8 +1,0 @@
-use Rattle.std.proofs.Common.{◌≡◌, take}
-use Rattle.std.specs.List.{flat_map}
-use Rattle.ownership_marks.specs.Known.{facts_of, marks_at}
-use Rattle.borrow_scopes.specs.Tables.{mark_entries_in}
-use Rattle.borrow_scopes.proofs.scopes.entries_of.Given as goal
-
-abbrev pub invariant-loop-mark : goal.invariant-loop-mark
-invariant-loop-mark l = l.entries.items ≡ flat_map (mark_entries_in l.borrows (facts_of l.k) l.rows) (take l.mark-index (marks_at l.k l.number))

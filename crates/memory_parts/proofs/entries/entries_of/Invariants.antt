@@ -1,8 +1,0 @@
-use Rattle.std.proofs.Common.{◌≡◌, take}
-use Rattle.std.specs.List.{flat_map}
-use Rattle.ownership_marks.specs.Known.{facts_of}
-use Rattle.memory_parts.specs.Batches.{joint}
-use Rattle.memory_parts.proofs.entries.entries_of.Given as goal
-
-abbrev pub invariant-loop-access : goal.invariant-loop-access
-invariant-loop-access l = l.entries.items ≡ flat_map (joint l.m (facts_of l.k) l.batch) (take l.access-index l.accesses)
