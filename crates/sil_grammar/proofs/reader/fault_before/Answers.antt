@@ -24,5 +24,5 @@ returns c =
     front_found c.args.text.now c.args.tokens c.args.count c.args.front c.in_ok-front.front c.in_ok-fault.fault
     c.requires.leads c.in_ok-front.ensures
     (subst (λ text. (rest : List Step) × Shortens (reverse c.in_ok-front.front.left.items) rest
-        × (c.in_ok-fault.fault ≡ first_fault (c.in_ok-front.front.steps.items ++ rest) (take c.args.count (lexemes_of text c.args.tokens))))
+    × (c.in_ok-fault.fault ≡ first_fault (c.in_ok-front.front.steps.items ++ rest) (take c.args.count (lexemes_of text c.args.tokens))))
     c.requires.source c.in_ok-fault.ensures)
