@@ -1,7 +1,7 @@
-use Rattle.std.proofs.Common.{◌≡◌, ◌≢◌, ℕ, zero, suc, ◌+◌, ◌*◌, ◌/◌, ◌%◌, ◌<◌, ◌≤◌, List, length, get_or, set, replicate, refl, sym, ap, ◌∙◌, arith, ◌⊎◌, inl, inr, Bool, true, false}
-use Rattle.std.specs.Prelude.{IsTrue, ◌↔◌}
-use Rattle.std.proofs.lemmas.Bool.{cases_eq, cases_lt}
-use Rattle.std.proofs.lemmas.List.{get_or-set_same, get_or-set_other, length-set, length-replicate, get_or-replicate, get_or_past}
+use Rattle.std.proofs.Common.{◌≡◌, ◌≢◌, ℕ, zero, suc, ◌+◌, ◌*◌, ◌/◌, ◌%◌, ◌<◌, ◌≤◌, List, length, get_or, replicate, refl, sym, ap, ◌∙◌, arith, ◌⊎◌, inl, inr}
+use Rattle.std.specs.Prelude.{◌↔◌}
+use Rattle.std.proofs.lemmas.Bool.{cases_eq}
+use Rattle.std.proofs.lemmas.List.{length-replicate}
 use Rattle.std.proofs.lemmas.Nat.{same_from_place}
 use Rattle.std.proofs.lemmas.Nat.Bits.{bit_at-lt}
 use Rattle.reach_engine.specs.Bits.{bit_in}
@@ -21,34 +21,32 @@ pub cell_apart : (width s t u v : ℕ) → u < 64 * width → v < 64 * width →
 cell_apart width s t u v lu lv h e = let p = same_from_place s u t v (64 * width) lu lv e in h p.0 p.1
 
 -- what is kept while a column is taken out, up to row i
-pub record Taking (states width u : ℕ) (first bundle : List ℕ) (taken : List Bool) (i : ℕ) : Type 0 where
+pub record Taking (states width u : ℕ) (first bundle taken : List ℕ) (i : ℕ) : Type 0 where
   pub size : length bundle ≡ length first
-  pub taken_size : length taken ≡ 256
-  pub taken_is : (s : ℕ) → s < i → IsTrue (get_or taken s false) ↔ Has first width s u
+  pub taken_size : length taken ≡ 4
+  pub taken_is : (s : ℕ) → s < i → (bit_in taken s ≡ 1) ↔ Has first width s u
   pub clear : (s : ℕ) → s < i → bit_in bundle (cell width s u) ≡ 0
   pub rest : (s : ℕ) → s < states → i ≤ s → bit_in bundle (cell width s u) ≡ bit_in first (cell width s u)
   pub others : OthersStay states width u first bundle
 
 -- row i has the subject
-pub take_yes : (states width u : ℕ) (first bundle next : List ℕ) (taken : List Bool) (i : ℕ) → u < 64 * width → i < states → states < 256 → Taking states width u first bundle taken i →
+pub take_yes : (states width u : ℕ) (first bundle next taken marked : List ℕ) (i : ℕ) → u < 64 * width → i < states → Taking states width u first bundle taken i →
     bit_in bundle (cell width i u) ≡ 1 → length next ≡ length bundle → bit_in next (cell width i u) ≡ 0 → ((j : ℕ) → j ≢ cell width i u → bit_in next j ≡ bit_in bundle j) →
-    Taking states width u first next (set taken i true) (i + 1)
-take_yes states width u first bundle next taken i lu li few h has size same others = record {
+    length marked ≡ length taken → bit_in marked i ≡ 1 → ((j : ℕ) → j ≢ i → bit_in marked j ≡ bit_in taken j) →
+    Taking states width u first next marked (i + 1)
+take_yes states width u first bundle next taken marked i lu li h has size same others marked_size is_marked stay = record {
   size = size ∙ h.size;
-  taken_size = length-set taken i true ∙ h.taken_size;
+  taken_size = marked_size ∙ h.taken_size;
   taken_is = λ s l. taken_at s l (cases_eq s i);
   clear = λ s l. clear_at s l (cases_eq s i);
   rest = λ s ls le. others (cell width s u) (cell_apart width s i u u lu lu (λ e _. absurd (omega arith))) ∙ h.rest s ls (omega arith);
   others = λ s v ls lv ne. others (cell width s v) (cell_apart width s i v u lv lu (λ _ e. ne e)) ∙ h.others s v ls lv ne;
 }
   where
-    within : i < length taken
-    within = let e : length taken ≡ 256 = h.taken_size in omega arith
-
-    taken_at : (s : ℕ) → s < i + 1 → (s ≡ i) ⊎ (s ≢ i) → IsTrue (get_or (set taken i true) s false) ↔ Has first width s u
+    taken_at : (s : ℕ) → s < i + 1 → (s ≡ i) ⊎ (s ≢ i) → (bit_in marked s ≡ 1) ↔ Has first width s u
     taken_at s l (inl e) =
-        (λ t. ap (λ x. bit_in first (cell width x u)) e ∙ sym (h.rest i li (omega arith)) ∙ has, λ t. ap (λ x. get_or (set taken i true) x false) e ∙ get_or-set_same taken i true false within)
-    taken_at s l (inr n) = let p = h.taken_is s (omega arith) in let stays = get_or-set_other taken i s true false n in
+        (λ t. ap (λ x. bit_in first (cell width x u)) e ∙ sym (h.rest i li (omega arith)) ∙ has, λ t. ap (bit_in marked) e ∙ is_marked)
+    taken_at s l (inr n) = let p = h.taken_is s (omega arith) in let stays = stay s n in
         (λ t. p.0 (sym stays ∙ t), λ t. stays ∙ p.1 t)
 
     clear_at : (s : ℕ) → s < i + 1 → (s ≡ i) ⊎ (s ≢ i) → bit_in next (cell width s u) ≡ 0
@@ -56,9 +54,9 @@ take_yes states width u first bundle next taken i lu li few h has size same othe
     clear_at s l (inr n) = others (cell width s u) (cell_apart width s i u u lu lu (λ e _. n e)) ∙ h.clear s (omega arith)
 
 -- row i doesn't have the subject
-pub take_no : (states width u : ℕ) (first bundle : List ℕ) (taken : List Bool) (i : ℕ) → i < states → states < 256 → Taking states width u first bundle taken i →
-    (bit_in bundle (cell width i u) ≡ 1 → ⊥) → get_or taken i false ≡ false → Taking states width u first bundle taken (i + 1)
-take_no states width u first bundle taken i li few h none off = record {
+pub take_no : (states width u : ℕ) (first bundle taken : List ℕ) (i : ℕ) → i < states → Taking states width u first bundle taken i →
+    (bit_in bundle (cell width i u) ≡ 1 → ⊥) → bit_in taken i ≡ 0 → Taking states width u first bundle taken (i + 1)
+take_no states width u first bundle taken i li h none off = record {
   size = h.size;
   taken_size = h.taken_size;
   taken_is = λ s l. taken_at s l (cases_eq s i);
@@ -67,26 +65,19 @@ take_no states width u first bundle taken i li few h none off = record {
   others = h.others;
 }
   where
-    taken_at : (s : ℕ) → s < i + 1 → (s ≡ i) ⊎ (s ≢ i) → IsTrue (get_or taken s false) ↔ Has first width s u
+    taken_at : (s : ℕ) → s < i + 1 → (s ≡ i) ⊎ (s ≢ i) → (bit_in taken s ≡ 1) ↔ Has first width s u
     taken_at s l (inl e) =
-        (λ t. absurd (let f : get_or taken s false ≡ false = ap (λ x. get_or taken x false) e ∙ off in cc), λ t. absurd (none (h.rest i li (omega arith) ∙ ap (λ x. bit_in first (cell width x u)) (sym e) ∙ t)))
+        (λ t. absurd (let f : bit_in taken s ≡ 0 = ap (bit_in taken) e ∙ off in omega (arith, f, t)), λ t. absurd (none (h.rest i li (omega arith) ∙ ap (λ x. bit_in first (cell width x u)) (sym e) ∙ t)))
     taken_at s l (inr n) = h.taken_is s (omega arith)
 
     clear_at : (s : ℕ) → s < i + 1 → (s ≡ i) ⊎ (s ≢ i) → bit_in bundle (cell width s u) ≡ 0
     clear_at s l (inl e) = ap (λ x. bit_in bundle (cell width x u)) e ∙ bit_zero bundle (cell width i u) none
     clear_at s l (inr n) = h.clear s (omega arith)
 
-pub no_mark : (n k : ℕ) → get_or (replicate n false) k false ≡ false
-no_mark n k = at (cases_lt k n)
-  where
-    at : (k < n) ⊎ (n ≤ k) → get_or (replicate n false) k false ≡ false
-    at (inl lt) = get_or-replicate n k false false lt
-    at (inr le) = let l : length (replicate n false) ≡ n = length-replicate n false in get_or_past (replicate n false) k false (omega arith)
-
-pub take_none : (states width u : ℕ) (first : List ℕ) (taken : List Bool) → taken ≡ replicate 256 false → Taking states width u first first taken 0
+pub take_none : (states width u : ℕ) (first taken : List ℕ) → taken ≡ replicate 4 0 → Taking states width u first first taken 0
 take_none states width u first taken e = record {
   size = refl;
-  taken_size = ap length e ∙ length-replicate 256 false;
+  taken_size = ap length e ∙ length-replicate {A = ℕ} 4 0;
   taken_is = λ s lt. absurd (omega arith);
   clear = λ s lt. absurd (omega arith);
   rest = λ s lt le. refl;

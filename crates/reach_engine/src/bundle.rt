@@ -1,6 +1,6 @@
 //! The rows of one block, while its items are passed: a bundle has a row for each state, with one bit for each subject.
 
-ghost use Rattle.std.specs.Prelude.{◌≡◌, ◌≢◌, ℕ, ◌+◌, ◌*◌, ◌<◌, ◌≤◌, ◌↔◌, ◌∷◌, [], IsTrue, false, length, slice_index_or, All};
+ghost use Rattle.std.specs.Prelude.{◌≡◌, ◌≢◌, ℕ, ◌+◌, ◌*◌, ◌<◌, ◌≤◌, ◌↔◌, ◌∷◌, [], length, All};
 ghost use Rattle.reach_engine.specs.Bits.{bit_in};
 ghost use Rattle.reach_engine.specs.Columns.{cell, Has, Moved, Blamed, OthersStay, Put, AllMoved};
 
@@ -8,21 +8,21 @@ use crate::bits::{clear_bit, has_bit, set_bit};
 use crate::family::Family;
 use crate::scan::Step;
 
-/// Takes a subject out of each row, and tells which rows had it.
-fn take_column(bundle: &mut [u64], width: usize, states: usize, subject: usize) -> [bool; 256]
+/// Takes a subject out of each row, and tells which rows had it: those whose bits are set.
+fn take_column(bundle: &mut [u64], width: usize, states: usize, subject: usize) -> [u64; 4]
     requires subject { subject < 64 * width }
     requires width { width ≤ 16 }
     requires states { states < 256 }
     requires size { length bundle.old ≡ states * width }
-    ensures taken { (s : ℕ) → s < states → IsTrue (slice_index_or result s false) ↔ Has bundle.old width s subject }
+    ensures taken { (s : ℕ) → s < states → (bit_in result s ≡ 1) ↔ Has bundle.old width s subject }
     ensures clear { (s : ℕ) → s < states → bit_in bundle.new (cell width s subject) ≡ 0 }
     ensures others { OthersStay states width subject bundle.old bundle.new }
 {
-    let mut taken = [false; 256];
+    let mut taken = [0u64; 4];
     for state in 0..states {
         let k = state * (64 * width) + subject;
         if has_bit(bundle, k) {
-            taken[state] = true;
+            set_bit(&mut taken, state);
             clear_bit(bundle, k);
         }
     }
@@ -77,7 +77,7 @@ fn turn<F: Family>(
     let states = family.states();
     let taken = take_column(bundle, width, states as usize, subject);
     for state in 0..states {
-        if taken[state as usize] {
+        if has_bit(&taken, state as usize) {
             put(family, width, subject, item, state, bundle, bad);
         }
     }

@@ -1,9 +1,10 @@
-use Rattle.std.proofs.Common.{◌≡◌, ℕ, ◌≤◌, false, get_or}
+use Rattle.std.proofs.Common.{◌≡◌, ℕ, ◌≤◌}
+use Rattle.reach_engine.specs.Bits.{bit_in}
 use Rattle.reach_engine.proofs.ColumnTaken.{Taking}
 use Rattle.reach_engine.proofs.bundle.take_column.Given as goal
 
 abbrev pub invariant-loop-state : goal.invariant-loop-state
 invariant-loop-state l = record {
   taking : Taking l.states l.width l.subject l.initial.bundle l.bundle l.taken l.state;
-  off : (s : ℕ) → l.state ≤ s → get_or l.taken s false ≡ false;
+  off : (s : ℕ) → l.state ≤ s → bit_in l.taken s ≡ 0;
 }
