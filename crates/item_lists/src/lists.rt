@@ -67,7 +67,7 @@ impl<T: Copy> ItemLists<T> {
         ensures err { OnErr result (self.new ≡ self.old) }
     {
         let before = self.elements.len();
-        self.elements.extend_from_slice(list)?;
+        append(&mut self.elements, list)?;
         match self.ends.push(self.elements.len()) {
             Ok(()) => Ok(()),
             Err(_) => {
@@ -76,6 +76,20 @@ impl<T: Copy> ItemLists<T> {
             }
         }
     }
+}
+
+/// Puts elements behind others. Most lists have one element or none, and are worth no call of the library.
+#[inline]
+fn append<T: Copy>(elements: &mut Vec<T>, list: &[T]) -> Result<(), Exhausted>
+    ensures ok { OnOk result (elements.new.items ≡ elements.old.items ++ list.now) }
+    ensures err { OnErr result (elements.new.items ≡ elements.old.items) }
+{
+    match list {
+        [] => {}
+        [one] => elements.push(*one)?,
+        many => elements.extend_from_slice(many)?,
+    }
+    Ok(())
 }
 
 /// Where the list of the item begins: at the end of the one before.
