@@ -32,15 +32,13 @@ impl<T> Model for ItemLists<T> {
 }
 
 impl<T> ItemLists<T> {
-    /// No lists, with memory for the ends of `count` ones.
+    /// No lists, with memory for `count` ones of one element each.
     pub fn with_capacity(alloc: Global, count: usize) -> Result<ItemLists<T>, Exhausted>
         ensures { IfOk result (λ lists. lists ≡ []) }
     {
+        let elements = Vec::with_capacity(alloc, count)?;
         let ends = Vec::with_capacity(alloc, count)?;
-        Ok(ItemLists {
-            elements: Vec::new(alloc),
-            ends,
-        })
+        Ok(ItemLists { elements, ends })
     }
 
     /// How many lists there are.
