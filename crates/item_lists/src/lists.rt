@@ -36,8 +36,8 @@ impl<T> ItemLists<T> {
     pub fn with_capacity(alloc: Global, count: usize) -> Result<ItemLists<T>, Exhausted>
         ensures { IfOk result (λ lists. lists ≡ []) }
     {
-        let elements = Vec::with_capacity(alloc, count)?;
         let ends = Vec::with_capacity(alloc, count)?;
+        let elements = Vec::with_capacity(alloc, count)?;
         Ok(ItemLists { elements, ends })
     }
 

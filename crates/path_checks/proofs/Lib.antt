@@ -1,10 +1,7 @@
 pub mod Accesses
-pub mod OtherSubjects
-pub mod SharedMarks
-pub mod PickedMarks
-pub mod Together
+pub mod EntriesPassed
 pub mod FirstShown
-pub mod Touching
-pub mod Starts
-pub mod OwnEntries
 pub mod OneSubject
+pub mod OtherSubjects
+pub mod PickedMarks
+pub mod SharedMarks

@@ -1,6 +1,6 @@
 -- What a table shows of a subject depends only on the marks that it has of it; and which of the shared entries are a subject's.
-use Rattle.std.proofs.Common.{◌≡◌, ℕ, zero, suc, ◌+◌, ◌<◌, List, [], ◌∷◌, ◌++◌, refl, ap, ap₂, Option, Some, None, arith, eq-eqb}
-use Rattle.std.specs.Prelude.{cond, slice_get, unwrap_or}
+use Rattle.std.proofs.Common.{◌≡◌, ℕ, zero, suc, ◌+◌, ◌<◌, List, [], ◌∷◌, ◌++◌, refl, ap, ap₂, Option, Some, None, arith}
+use Rattle.std.specs.Prelude.{slice_get, unwrap_or}
 use Rattle.sil_ast.specs.declared.function.Function.{Function}
 use Rattle.sil_ast.specs.declared.place.EdgeId.{EdgeId}
 use Rattle.sil_ast.specs.declared.place.PointId.{PointId}
@@ -15,7 +15,7 @@ use Rattle.path_checks.specs.declared.entry.Entry.{Entry}
 use Rattle.path_checks.specs.Entries.{means}
 use Rattle.path_checks.specs.First.{IsShownAt}
 use Rattle.path_checks.specs.Shared.{shared_from}
-use Rattle.path_checks.proofs.OtherSubjects.{no_mark}
+use Rattle.path_checks.proofs.OtherSubjects.{no_mark, own_mark}
 
 -- two tables with the same marks, one of a subject and one of another, show the same of these
 pub same_shown_at : (f : Function) (table table2 : Item → List Entry) (subject subject2 : ℕ) → ((item : Item) → marks_in (means subject) (table item) ≡ marks_in (means subject2) (table2 item)) →
@@ -24,9 +24,6 @@ same_shown_at f table table2 subject subject2 same code walk point item h = reco
   point_is = h.point_is;
   shows = same_shown mark_step IsInPlace code_of switch_decides (means subject) (means subject2) (flow_of f) table table2 same walk code item h.shows;
 }
-
-own : (subject : ℕ) (e : Entry) → e.subject ≡ subject → means subject e ≡ Some e.mark
-own subject e same = ap (λ b. cond b (Some e.mark) None) (eq-eqb e.subject subject same)
 
 none_later : (subject n : ℕ) (marks : List (Option Mark)) → subject < n → marks_in (means subject) (shared_from n marks) ≡ []
 none_later subject n [] lt = refl
@@ -40,6 +37,6 @@ marks_shared (None ∷ marks) subject n zero e = none_later subject (n + 1) mark
 marks_shared (None ∷ marks) subject n (suc d) e = marks_shared marks subject (n + 1) d (omega arith)
 marks_shared (Some m ∷ marks) subject n zero e =
     let same : n ≡ subject = omega arith in
-    ap₂ (λ o v. one_or_none o ++ v) (own subject (record { subject = n; mark = m }) same) (none_later subject (n + 1) marks (omega arith))
+    ap₂ (λ o v. one_or_none o ++ v) (own_mark subject (record { subject = n; mark = m }) same) (none_later subject (n + 1) marks (omega arith))
 marks_shared (Some m ∷ marks) subject n (suc d) e =
     ap₂ (λ o v. one_or_none o ++ v) (no_mark subject (record { subject = n; mark = m }) (λ same. omega arith)) (marks_shared marks subject (n + 1) d (omega arith))

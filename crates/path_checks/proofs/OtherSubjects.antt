@@ -1,5 +1,5 @@
 -- Entries of other subjects are nothing to a subject.
-use Rattle.std.proofs.Common.{◌≡◌, ℕ, List, [], ◌∷◌, refl, ap, ◌∙◌, Bool, true, false, Some, None}
+use Rattle.std.proofs.Common.{◌≡◌, ℕ, List, [], ◌∷◌, refl, ap, ◌∙◌, Bool, true, false, Some, None, eq-eqb}
 use Rattle.std.specs.Prelude.{All, ◌==◌, cond}
 use Rattle.std.proofs.lemmas.Bool.{eqb-true}
 use Rattle.std.proofs.lemmas.List.Elements.{All-head, All-tail}
@@ -16,6 +16,9 @@ no_mark subject e other = at (e.subject == subject) refl
     at : (b : Bool) → (e.subject == subject) ≡ b → means subject e ≡ None
     at true q = absurd (other (eqb-true e.subject subject q))
     at false q = ap (λ b. cond b (Some e.mark) None) q
+
+pub own_mark : (subject : ℕ) (e : Entry) → e.subject ≡ subject → means subject e ≡ Some e.mark
+own_mark subject e same = ap (λ b. cond b (Some e.mark) None) (eq-eqb e.subject subject same)
 
 pub quiet_run : (subject s : ℕ) (entries : List Entry) → All (λ e. e.subject ≡ subject → ⊥) entries → run (read_step mark_step (means subject)) (Go s) entries ≡ Go s
 quiet_run subject s [] h = refl

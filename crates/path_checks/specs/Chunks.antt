@@ -1,37 +1,22 @@
 -- Some of the subjects, searched together.
-use Rattle.std.specs.Prelude.{◌≡◌, ◌⊎◌, ℕ, ◌+◌, ◌-◌, ◌<◌, ◌≤◌, List, [], ◌∷◌, ◌++◌, All, Contains, Bool, true, slice_get, unwrap_or, Option, Some, None}
-use Rattle.std.specs.List.Sorted.{IsStrictlyIncreasing}
+use Rattle.std.specs.Prelude.{◌≡◌, ℕ, ◌+◌, ◌<◌, List, [], ◌∷◌, Option, Some, None}
 use Rattle.sil_cfg.specs.Layout.{Layout, item_at}
 use Rattle.sil_cfg.specs.Flow.{numbered, point_of}
+use Rattle.reach_engine.specs.declared.scan.Step.TheVariants.{Go}
+use Rattle.reach_engine.specs.Columns.{AllMoved}
 use Rattle.reach_engine.specs.Reach.{ReachesFirst}
+use Rattle.reach_engine.specs.Run.{run}
 use Rattle.reach_engine.specs.Search.{IsClean, IsLeastCode, IsShortest}
 use Rattle.path_checks.specs.declared.entry.Entry.{Entry}
 use Rattle.path_checks.specs.declared.entry.PathFault.{PathFault}
-use Rattle.path_patterns.specs.declared.mark.Mark.{Mark}
-use Rattle.path_checks.specs.Entries.{subject_step}
-use Rattle.path_checks.specs.Shared.{is_sharing}
+use Rattle.path_patterns.specs.Reads.{read_step}
+use Rattle.path_patterns.specs.Switch.{mark_step}
+use Rattle.path_checks.specs.Entries.{means, subject_step}
 
--- numbers below the count, each below the next
-pub record IsRising (count : ℕ) (touched : List ℕ) : Type 0 where
-  pub ascending : IsStrictlyIncreasing touched
-  pub below : All (λ u. u < count) touched
-
--- an entry's subject is one of these, counted from the first subject of the chunk
-abbrev pub HasTouched : ℕ → ℕ → List Entry → List ℕ → Type 0
-HasTouched first count entries touched = (u : ℕ) → u < count → (Contains touched u → ⊥) → All (λ e. e.subject ≡ first + u → ⊥) entries
-
--- the subject is put in, or it isn't of the chunk
-abbrev pub PutIn : ℕ → ℕ → ℕ → List ℕ → List ℕ → Type 0
-PutIn first count subject old new =
-    ((first ≤ subject) × (subject - first < count) × (new ≡ old ++ (subject - first) ∷ [])) ⊎ ((first ≤ subject → subject - first < count → ⊥) × (new ≡ old))
-
--- each subject of the chunk that has a shared mark is one of these
-abbrev pub HasMarked : ℕ → ℕ → List (Option Mark) → List ℕ → Type 0
-HasMarked first count marks touched = (u : ℕ) → u < count → (Contains touched u → ⊥) → unwrap_or (slice_get marks (first + u)) None ≡ None
-
--- so is each that an item which shares touches by its own entries
-abbrev pub HasSharing : (ℕ → List ℕ) → List Bool → List ℕ → Type 0
-HasSharing own sharing touched = (i u : ℕ) → is_sharing sharing i ≡ true → Contains (own i) u → Contains touched u
+-- each subject of the chunk is in the state to which these entries take it, and it is marked as bad if they break it
+abbrev pub ArePassed : ℕ → ℕ → ℕ → List Entry → List ℕ → List ℕ → List ℕ → List ℕ → Type 0
+ArePassed first count width entries old new before after =
+    AllMoved (λ u s _. run (read_step mark_step (means (first + u))) (Go s) entries) 2 count width (0 ∷ []) old new before after
 
 -- the fault is that of the first subject of the chunk that some walk breaks
 pub record IsChunkFault (g : Layout) (entries : ℕ → List Entry) (first count : ℕ) (fault : PathFault) : Type 0 where

@@ -13,14 +13,22 @@ abbrev pub shared_from : ℕ → List (Option Mark) → List Entry
 shared_from n [] = []
 shared_from n (mark ∷ marks) = entry_if n mark ++ shared_from (n + 1) marks
 
--- all of them, if the item shares
+-- these entries, if the item shares
+abbrev pub if_sharing : List Entry → Bool → List Entry
+if_sharing shared true = shared
+if_sharing shared false = []
+
+-- those of all subjects that have a mark, if the item shares
 abbrev pub shared_if : List (Option Mark) → Bool → List Entry
-shared_if marks true = shared_from 0 marks
-shared_if marks false = []
+shared_if marks shares = if_sharing (shared_from 0 marks) shares
 
 -- the item's number is marked as one that shares
 abbrev pub is_sharing : List Bool → ℕ → Bool
 is_sharing sharing i = slice_index_or sharing i false
+
+-- the item's own entries, and behind them these if it shares
+abbrev pub entries_among : List (List Entry) → List Entry → List Bool → ℕ → List Entry
+entries_among own shared sharing i = list_at own i ++ if_sharing shared (is_sharing sharing i)
 
 -- the item's own entries, and behind them the shared ones if it shares
 abbrev pub entries_with : List (List Entry) → List (Option Mark) → List Bool → ℕ → List Entry

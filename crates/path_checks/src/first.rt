@@ -4,19 +4,16 @@ ghost use Rattle.std.specs.Prelude.{◌≡◌, ℕ, ◌+◌, ◌<◌, ◌≤◌,
 ghost use Rattle.sil_cfg.specs.declared.item.Item.{Item};
 ghost use Rattle.sil_cfg.specs.Layout.{item_count};
 ghost use Rattle.sil_cfg.specs.Build.{IsGraphOf};
-ghost use Rattle.item_lists.specs.Lists.{list_at};
-ghost use Rattle.path_patterns.specs.Reads.{AgreesWith, accesses_at};
+ghost use Rattle.path_patterns.specs.Reads.{AgreesWith};
 ghost use Rattle.path_checks.specs.declared.entry.Entry as entry;
 ghost use Rattle.path_checks.specs.Chunks.{IsFirstOfChunk};
-ghost use Rattle.path_checks.specs.Shared.{entries_with};
-ghost use Rattle.path_checks.specs.Order.{IsOrderOf};
+ghost use Rattle.path_checks.specs.Shared.{entries_among, entries_with};
 ghost use Rattle.path_checks.specs.First.{IsFirst};
 
+use crate::bound::subject_bound;
 use crate::chunk::Chunk;
 use crate::entry::{Entry, PathFault};
-use crate::order::ordered_entries;
-use crate::sharing::touched_by_sharing;
-use crate::touched::{subject_bound, touched_subjects};
+use crate::sharing::shared_entries;
 use item_lists::ItemLists;
 use path_patterns::Mark;
 use reach_engine::first_broken;
@@ -32,29 +29,22 @@ fn first_of_chunk(
     alloc: Global,
     g: &Graph,
     entries: &ItemLists<Entry>,
-    ordered: &[Vec<Entry>],
-    marks: &[Option<Mark>],
+    shared: &[Entry],
     sharing: &[bool],
     first: usize,
     count: usize,
 ) -> Result<Option<PathFault>, Exhausted>
     requires items { length entries.now ≡ item_count g.now }
-    requires order { (i : ℕ) → IsOrderOf (list_at entries.now i) (accesses_at ordered.now i) }
     requires few { count ≤ 1024 }
     requires fits { first + count ≤ 2 ^ 32 }
-    ensures { IfOk result (IsFirstOfChunk g.now (entries_with entries.now marks.now sharing.now) first count) }
+    ensures { IfOk result (IsFirstOfChunk g.now (entries_among entries.now shared.now sharing.now) first count) }
 {
-    let touched = touched_subjects(alloc, entries, first, count)?;
-    let together = touched_by_sharing(alloc, &touched, marks, sharing, first, count)?;
     let chunk = Chunk {
         entries,
-        ordered,
-        marks,
+        shared,
         sharing,
         first,
         count,
-        touched,
-        together,
     };
     match first_broken(alloc, g, &chunk)? {
         None => Ok(None),
@@ -84,14 +74,14 @@ pub fn first_fault(
     requires marks { length marks.now ≤ 2 ^ 32 }
     ensures { IfOk result (λ r. (table : Item → List entry.Entry) → AgreesWith g.now (entries_with entries.now marks.now sharing.now) table → IsFirst f.now table r) }
 {
-    let ordered = ordered_entries(alloc, entries)?;
+    let shared = shared_entries(alloc, marks)?;
     let subjects = subject_bound(entries, marks.len());
     let mut first = 0;
     while first < subjects {
         let count = CHUNK.min(subjects - first);
-        if let Some(fault) = first_of_chunk(
-            alloc, g, entries, &ordered, marks, sharing, first, count,
-        )? {
+        if let Some(fault) =
+            first_of_chunk(alloc, g, entries, shared.as_slice(), sharing, first, count)?
+        {
             return Ok(Some(fault));
         }
         first += count;

@@ -2,12 +2,11 @@
 //! It knows of no rule and no instruction.
 #![tactic(auto)]
 
+mod bound;
 mod chunk;
 mod entry;
 mod first;
-mod order;
 mod sharing;
-mod touched;
 
 pub use entry::{Entry, PathFault};
 pub use first::first_fault;

@@ -92,6 +92,33 @@ AllMoved_then f states subjects width xs ys old mid new before bad after size a 
   unblamed = λ v le. b.unblamed v le ∙ a.unblamed v le;
 }
 
+-- other items that take a subject to the same states move it in the same way
+pub Moved_as : (f g : ℕ → ℕ → Step) (states width u : ℕ) (xs ys old new : List ℕ) → ((s : ℕ) → s < states → run f (Go s) xs ≡ run g (Go s) ys) → Moved f states width u xs old new → Moved g states width u ys old new
+Moved_as f g states width u xs ys old new same h = record {
+  from = λ t lt x. let p = h.from t lt x in (p.0, p.1, p.2, sym (same p.0 p.1) ∙ p.3);
+  to = λ s t ls x y. h.to s t ls x (same s ls ∙ y);
+}
+
+pub Blamed_as : (f g : ℕ → ℕ → Step) (states width u : ℕ) (xs ys old before after : List ℕ) → ((s : ℕ) → s < states → run f (Go s) xs ≡ run g (Go s) ys) → Blamed f states width u xs old before after → Blamed g states width u ys old before after
+Blamed_as f g states width u xs ys old before after same h = record {
+  from = λ x. at (h.from x);
+  kept = h.kept;
+  to = λ s c ls x y. h.to s c ls x (same s ls ∙ y);
+}
+  where
+    at : (bit_in before u ≡ 1) ⊎ ((s : ℕ) × (code : ℕ) × (s < states) × Has old width s u × (run f (Go s) xs ≡ Bad code)) → (bit_in before u ≡ 1) ⊎ ((s : ℕ) × (code : ℕ) × (s < states) × Has old width s u × (run g (Go s) ys ≡ Bad code))
+    at (inl e) = inl e
+    at (inr p) = inr (p.0, p.1, p.2, p.3, sym (same p.0 p.2) ∙ p.4)
+
+pub AllMoved_as : (f g : ℕ → ℕ → ℕ → Step) (states subjects width : ℕ) (xs ys old new before after : List ℕ) → ((u s : ℕ) → u < subjects → s < states → run (f u) (Go s) xs ≡ run (g u) (Go s) ys) →
+    AllMoved f states subjects width xs old new before after → AllMoved g states subjects width ys old new before after
+AllMoved_as f g states subjects width xs ys old new before after same h = record {
+  moved = λ u lu. Moved_as (f u) (g u) states width u xs ys old new (λ s ls. same u s lu ls) (h.moved u lu);
+  blamed = λ u lu. Blamed_as (f u) (g u) states width u xs ys old before after (λ s ls. same u s lu ls) (h.blamed u lu);
+  unused = h.unused;
+  unblamed = h.unblamed;
+}
+
 pub AllMoved_none : (f : ℕ → ℕ → ℕ → Step) (states subjects width : ℕ) (old bad : List ℕ) → AllMoved f states subjects width [] old old bad bad
 AllMoved_none f states subjects width old bad = record {
   moved = λ u lu. record { from = λ t lt x. (t, lt, x, refl); to = λ s t ls x y. subst (λ k. Has old width k u) (same_Go s t y) x };

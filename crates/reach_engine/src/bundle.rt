@@ -1,12 +1,15 @@
 //! The rows of one block, while its items are passed: a bundle has a row for each state, with one bit for each subject.
 
-ghost use Rattle.std.specs.Prelude.{◌≡◌, ◌≢◌, ℕ, ◌+◌, ◌*◌, ◌<◌, ◌≤◌, ◌↔◌, ◌∷◌, [], length, All};
+ghost use Rattle.std.specs.Prelude.{◌≡◌, ◌≢◌, ℕ, ◌+◌, ◌*◌, ◌<◌, ◌≤◌, ◌↔◌, ◌∷◌, [], length, All, Contains};
+ghost use Rattle.std.specs.List.Sorted.{IsStrictlyIncreasing};
+ghost use Rattle.reach_engine.specs.declared.scan.Step.TheVariants.{Go};
 ghost use Rattle.reach_engine.specs.Bits.{bit_in};
 ghost use Rattle.reach_engine.specs.Columns.{cell, Has, Moved, Blamed, OthersStay, Put, AllMoved};
 
 use crate::bits::{clear_bit, has_bit, set_bit};
-use crate::family::Family;
-use crate::scan::Step;
+use crate::family::{Family, MoveAll};
+use crate::member::Member;
+use crate::scan::{Scan, Step};
 
 /// Takes a subject out of each row, and tells which rows had it: those whose bits are set.
 fn take_column(bundle: &mut [u64], width: usize, states: usize, subject: usize) -> [u64; 4]
@@ -30,8 +33,8 @@ fn take_column(bundle: &mut [u64], width: usize, states: usize, subject: usize) 
 }
 
 /// Takes the subject's step from one state.
-fn put<F: Family>(
-    family: &F,
+fn put<S: Scan>(
+    scan: &S,
     width: usize,
     subject: usize,
     item: usize,
@@ -39,58 +42,60 @@ fn put<F: Family>(
     bundle: &mut [u64],
     bad: &mut [u64],
 )
-    requires subject { subject < F.subject_count family.now }
-    requires fits { F.subject_count family.now ≤ 64 * width }
+    requires subject { subject < 64 * width }
     requires width { width ≤ 16 }
-    requires item { item < F.item_count family.now }
-    requires state { state < F.state_count family.now }
-    requires size { length bundle.old ≡ F.state_count family.now * width }
+    requires item { item < S.item_count scan.now }
+    requires state { state < S.state_count scan.now }
+    requires size { length bundle.old ≡ S.state_count scan.now * width }
     requires bad { length bad.old ≡ width }
-    ensures { Put (F.step_of family.now subject state item) width subject bundle.old bundle.new bad.old bad.new }
+    ensures { Put (S.step_of scan.now state item) width subject bundle.old bundle.new bad.old bad.new }
 {
-    match family.step(subject, state, item) {
+    match scan.step(state, item) {
         Step::Go(next) => set_bit(bundle, next as usize * (64 * width) + subject),
         Step::Bad(_) => set_bit(bad, subject),
     }
 }
 
-/// Moves one subject over an item.
-fn turn<F: Family>(
-    family: &F,
+/// Moves one subject, whose automaton is given, over an item.
+pub fn turn_subject<S: Scan>(
+    scan: &S,
     width: usize,
     subject: usize,
     item: usize,
     bundle: &mut [u64],
     bad: &mut [u64],
 )
-    requires subject { subject < F.subject_count family.now }
-    requires fits { F.subject_count family.now ≤ 64 * width }
+    requires subject { subject < 64 * width }
     requires width { width ≤ 16 }
-    requires item { item < F.item_count family.now }
-    requires size { length bundle.old ≡ F.state_count family.now * width }
+    requires item { item < S.item_count scan.now }
+    requires size { length bundle.old ≡ S.state_count scan.now * width }
     requires bad { length bad.old ≡ width }
-    ensures moved { Moved (F.step_of family.now subject) (F.state_count family.now) width subject (item ∷ []) bundle.old bundle.new }
-    ensures others { OthersStay (F.state_count family.now) width subject bundle.old bundle.new }
-    ensures blamed { Blamed (F.step_of family.now subject) (F.state_count family.now) width subject (item ∷ []) bundle.old bad.old bad.new }
+    ensures moved { Moved (S.step_of scan.now) (S.state_count scan.now) width subject (item ∷ []) bundle.old bundle.new }
+    ensures others { OthersStay (S.state_count scan.now) width subject bundle.old bundle.new }
+    ensures blamed { Blamed (S.step_of scan.now) (S.state_count scan.now) width subject (item ∷ []) bundle.old bad.old bad.new }
     ensures innocent { (v : ℕ) → v ≢ subject → bit_in bad.new v ≡ bit_in bad.old v }
 {
-    let states = family.states();
+    let states = scan.states();
     let taken = take_column(bundle, width, states as usize, subject);
     for state in 0..states {
         if has_bit(&taken, state as usize) {
-            put(family, width, subject, item, state, bundle, bad);
+            put(scan, width, subject, item, state, bundle, bad);
         }
     }
 }
 
-/// Moves each subject over an item.
-pub fn turn_all<F: Family>(
+/// Moves the touched subjects of a family over an item, at which all others stay in their states.
+pub fn turn_touched<F: Family>(
     family: &F,
+    touched: &[u32],
     width: usize,
     item: usize,
     bundle: &mut [u64],
     bad: &mut [u64],
 )
+    requires ascending { IsStrictlyIncreasing touched.now }
+    requires below { All (λ u. u < F.subject_count family.now) touched.now }
+    requires others { (u s : ℕ) → u < F.subject_count family.now → s < F.state_count family.now → (Contains touched.now u → ⊥) → F.step_of family.now u s item ≡ Go s }
     requires fits { F.subject_count family.now ≤ 64 * width }
     requires width { width ≤ 16 }
     requires item { item < F.item_count family.now }
@@ -98,14 +103,17 @@ pub fn turn_all<F: Family>(
     requires bad { length bad.old ≡ width }
     ensures { AllMoved (F.step_of family.now) (F.state_count family.now) (F.subject_count family.now) width (item ∷ []) bundle.old bundle.new bad.old bad.new }
 {
-    let touched = family.touched(item);
     for subject in touched {
-        turn(family, width, *subject as usize, item, bundle, bad);
+        let member = Member {
+            family,
+            subject: *subject as usize,
+        };
+        turn_subject(&member, width, *subject as usize, item, bundle, bad);
     }
 }
 
 /// Moves each subject over the items, one after another.
-pub fn pass_all<F: Family>(
+pub fn pass_all<F: MoveAll>(
     family: &F,
     width: usize,
     items: &[usize],
@@ -120,6 +128,6 @@ pub fn pass_all<F: Family>(
     ensures { AllMoved (F.step_of family.now) (F.state_count family.now) (F.subject_count family.now) width items.now bundle.old bundle.new bad.old bad.new }
 {
     for item in items {
-        turn_all(family, width, *item, bundle, bad);
+        family.move_all(width, *item, bundle, bad);
     }
 }

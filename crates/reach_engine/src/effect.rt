@@ -10,7 +10,7 @@ ghost use Rattle.reach_engine.specs.Effects.{effect_rows, IsEffect, AreKnown, Ef
 
 use crate::bits::{merge_masked, set_words};
 use crate::bundle::pass_all;
-use crate::family::Family;
+use crate::family::MoveAll;
 use sil_ast::{BlockId, Exhausted};
 use sil_cfg::Graph;
 use std::alloc::Global;
@@ -76,7 +76,7 @@ fn apply(
 }
 
 /// Passes the items from all subjects in one state: the bundle becomes the rows of the effect, and `bad` has those that break.
-fn pass_basis<F: Family>(
+fn pass_basis<F: MoveAll>(
     family: &F,
     width: usize,
     items: &[usize],
@@ -100,7 +100,7 @@ fn pass_basis<F: Family>(
 }
 
 /// Adds what the items make of the subjects in one state.
-fn add_effect<F: Family>(
+fn add_effect<F: MoveAll>(
     alloc: Global,
     family: &F,
     width: usize,
@@ -131,7 +131,7 @@ fn add_effect<F: Family>(
 }
 
 /// The effects of every block, or none where there are too many states for it.
-pub fn known_effects<F: Family>(
+pub fn known_effects<F: MoveAll>(
     alloc: Global,
     family: &F,
     g: &Graph,
@@ -155,7 +155,7 @@ pub fn known_effects<F: Family>(
 }
 
 /// The bundle behind the items, each of which is passed. What `rows` holds doesn't matter: the bundle is made there.
-fn pass_rows<F: Family>(
+fn pass_rows<F: MoveAll>(
     family: &F,
     width: usize,
     items: &[usize],
@@ -176,7 +176,7 @@ fn pass_rows<F: Family>(
 }
 
 /// The bundle behind the block's items, as the block's effects say. What `rows` holds doesn't matter: the bundle is made there.
-fn apply_rows<F: Family>(
+fn apply_rows<F: MoveAll>(
     family: &F,
     g: &Graph,
     width: usize,
@@ -204,7 +204,7 @@ fn apply_rows<F: Family>(
 
 /// The bundle behind the block's items: by the block's effects where they are known, and else item by item.
 /// What `rows` holds doesn't matter: the bundle is made there.
-pub fn move_rows<F: Family>(
+pub fn move_rows<F: MoveAll>(
     family: &F,
     g: &Graph,
     width: usize,

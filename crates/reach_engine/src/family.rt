@@ -1,18 +1,15 @@
 //! An automaton for each of many subjects.
 
-ghost use Rattle.std.specs.Prelude.{◌≡◌, ℕ, ◌<◌, List, All, Contains};
-ghost use Rattle.std.specs.List.Sorted.{IsStrictlyIncreasing};
+ghost use Rattle.std.specs.Prelude.{◌≡◌, ℕ, ◌*◌, ◌<◌, ◌≤◌, ◌∷◌, [], length};
 ghost use Rattle.reach_engine.specs.declared.scan.Step.{Step};
-ghost use Rattle.reach_engine.specs.declared.scan.Step.TheVariants.{Go};
 ghost use Rattle.reach_engine.specs.Run.{StaysBelow};
+ghost use Rattle.reach_engine.specs.Columns.{AllMoved};
 
 use crate::scan::Step;
 
 /// An automaton over items for each of many subjects. Each starts in state 0.
 pub trait Family {
     ghost step_of: { Self → ℕ → ℕ → ℕ → Step };
-
-    ghost touched_of: { Self → ℕ → List ℕ };
 
     ghost subject_count: { Self → ℕ };
 
@@ -39,12 +36,17 @@ pub trait Family {
         requires item { item < item_count self.now }
         ensures step { result ≡ step_of self.now subject state item }
         ensures stays { StaysBelow (state_count self.now) result };
+}
 
-    /// The subjects that the item can move: all others stay in their states.
-    fn touched(&self, item: usize) -> &[u32]
-        requires { item < item_count self.now }
-        ensures touched { result.now ≡ touched_of self.now item }
-        ensures ascending { IsStrictlyIncreasing result.now }
-        ensures below { All (λ u. u < subject_count self.now) result.now }
-        ensures others { (u s : ℕ) → u < subject_count self.now → s < state_count self.now → (Contains result.now u → ⊥) → step_of self.now u s item ≡ Go s };
+/// A family that moves all its subjects over an item at once.
+pub trait MoveAll: Family {
+    /// Moves each subject over the item: `bundle` has a row of `width` words for each state, with one bit for each subject,
+    /// and the subjects whose automata break are added to `bad`.
+    fn move_all(&self, width: usize, item: usize, bundle: &mut [u64], bad: &mut [u64])
+        requires fits { Self.subject_count self.now ≤ 64 * width }
+        requires width { width ≤ 16 }
+        requires item { item < Self.item_count self.now }
+        requires size { length bundle.old ≡ Self.state_count self.now * width }
+        requires bad { length bad.old ≡ width }
+        ensures { AllMoved (Self.step_of self.now) (Self.state_count self.now) (Self.subject_count self.now) width (item ∷ []) bundle.old bundle.new bad.old bad.new };
 }

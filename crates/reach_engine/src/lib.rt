@@ -14,7 +14,8 @@ mod scan;
 mod together;
 mod worklist;
 
-pub use family::Family;
+pub use bundle::{turn_subject, turn_touched};
+pub use family::{Family, MoveAll};
 pub use found::{Found, StateMap};
 pub use scan::{Scan, Step};
 pub use together::{Broken, FamilyMap, FoundAll, first_broken, search_all};

@@ -9,9 +9,8 @@ ghost use Rattle.reach_engine.specs.Effects.{AreKnown};
 ghost use Rattle.reach_engine.specs.Reached.{AreExact, AreBad, EdgeTaken, EdgesTaken, BlockTaken, MarksGains, IsSettled, DirtyTaken, Swept, IsClosed};
 
 use crate::bits::{merge, set_bit};
-use crate::bundle::turn_all;
 use crate::effect::{known_effects, move_rows};
-use crate::family::Family;
+use crate::family::MoveAll;
 use sil_ast::{BlockId, EdgeId, Exhausted};
 use sil_cfg::Graph;
 use std::alloc::Global;
@@ -27,7 +26,7 @@ pub struct Reached {
 }
 
 /// Moves a bundle along an edge, and tells whether a row gained a subject.
-fn take_edge<F: Family>(
+fn take_edge<F: MoveAll>(
     family: &F,
     g: &Graph,
     width: usize,
@@ -45,7 +44,7 @@ fn take_edge<F: Family>(
     requires bad { length bad.old ≡ width }
     ensures { EdgeTaken (numbered g.now) (F.step_of family.now) (F.state_count family.now) (F.subject_count family.now) width edge bundle.old rows.old rows.new bad.old bad.new result }
 {
-    turn_all(family, width, g.edge_item(edge), bundle, bad);
+    family.move_all(width, g.edge_item(edge), bundle, bad);
     let row = family.states() as usize * width;
     let offset = g.edge_to(edge).0 as usize * row;
     merge(rows, offset, bundle)
@@ -53,7 +52,7 @@ fn take_edge<F: Family>(
 
 /// Moves the rows of one block over its items and along its edges, marks the blocks that gain a subject, and tells whether there are any.
 /// What `bundle` and `copy` hold doesn't matter: they are memory for the block's rows, and for what an edge makes of them.
-fn take_block<F: Family>(
+fn take_block<F: MoveAll>(
     family: &F,
     g: &Graph,
     width: usize,
@@ -86,7 +85,7 @@ fn take_block<F: Family>(
 }
 
 /// Moves a bundle along each edge of the block. What `copy` holds doesn't matter.
-fn take_edges<F: Family>(
+fn take_edges<F: MoveAll>(
     family: &F,
     g: &Graph,
     width: usize,
@@ -123,7 +122,7 @@ fn take_edges<F: Family>(
 }
 
 /// Takes the block if it is dirty, and tells whether it was.
-fn take_dirty<F: Family>(
+fn take_dirty<F: MoveAll>(
     family: &F,
     g: &Graph,
     width: usize,
@@ -157,7 +156,7 @@ fn take_dirty<F: Family>(
 }
 
 /// Takes each dirty block once, counts these visits, and tells whether there was one.
-fn sweep<F: Family>(
+fn sweep<F: MoveAll>(
     family: &F,
     g: &Graph,
     width: usize,
@@ -200,7 +199,7 @@ fn sweep<F: Family>(
 }
 
 /// Goes on until no block is dirty, with the effects of the blocks.
-fn settle_by<F: Family>(
+fn settle_by<F: MoveAll>(
     family: &F,
     g: &Graph,
     width: usize,
@@ -239,7 +238,7 @@ fn settle_by<F: Family>(
 }
 
 /// Goes on until no block is dirty. Where blocks are visited often, their effects are found, and used from then on.
-fn settle<F: Family>(
+fn settle<F: MoveAll>(
     alloc: Global,
     family: &F,
     g: &Graph,
@@ -306,7 +305,7 @@ fn seed(rows: &mut [u64], subjects: usize)
 }
 
 /// Moves whole rows along edges until none is new, beginning at the entry.
-fn fill<F: Family>(
+fn fill<F: MoveAll>(
     alloc: Global,
     family: &F,
     g: &Graph,
@@ -346,7 +345,7 @@ fn fill<F: Family>(
 }
 
 /// The rows that walks reach, and the subjects that some walk brings to a bad item.
-pub fn reach_rows<F: Family>(
+pub fn reach_rows<F: MoveAll>(
     alloc: Global,
     family: &F,
     g: &Graph,

@@ -12,7 +12,7 @@ ghost use Rattle.reach_engine.specs.Together.{IfClean, IfFault};
 ghost use Rattle.reach_engine.specs.Searched.{IfAllClean, IfSomeBreaks};
 
 use crate::bits::has_bit;
-use crate::family::Family;
+use crate::family::MoveAll;
 use crate::found::Searched;
 use crate::member::Member;
 use crate::rows::reach_rows;
@@ -104,7 +104,7 @@ enum SearchedAll {
 
 /// Searches all walks for all subjects: `Clean` where none breaks an automaton. Else the least subject that some walk breaks,
 /// then the least code that some walk reaches first for it, and a walk of fewest edges among those that reach it first.
-pub fn search_all<F: Family>(alloc: Global, g: &Graph, family: &F) -> Result<FoundAll, Exhausted>
+pub fn search_all<F: MoveAll>(alloc: Global, g: &Graph, family: &F) -> Result<FoundAll, Exhausted>
     requires items { F.item_count family.now ≡ item_count g.now }
     requires states { 0 < F.state_count family.now }
     requires subjects { F.subject_count family.now ≤ 1024 }
@@ -138,7 +138,7 @@ pub fn search_all<F: Family>(alloc: Global, g: &Graph, family: &F) -> Result<Fou
 
 /// The least subject that some walk breaks, the least code that some walk reaches first for it, a walk of fewest edges among those that reach it first,
 /// and the walk's last item; none where no walk breaks an automaton.
-pub fn first_broken<F: Family>(
+pub fn first_broken<F: MoveAll>(
     alloc: Global,
     g: &Graph,
     family: &F,
@@ -161,7 +161,7 @@ pub fn first_broken<F: Family>(
 }
 
 /// The same search as `search_all`, which names the item that breaks in place of its point.
-fn search_subjects<F: Family>(
+fn search_subjects<F: MoveAll>(
     alloc: Global,
     g: &Graph,
     family: &F,

@@ -12,8 +12,8 @@ use crate::layout::{BlockFlow, EdgeFlow};
 use sil_ast::{Block, BlockId, EdgeId, Exhausted, Function, PointId};
 use std::alloc::Global;
 
-/// Room for the items of most functions: an item for each instruction, and four more for each block.
-fn most_items(f: &Function) -> usize {
+/// Room for the items of most functions: one for each instruction, and four more for each block.
+fn room_for_items(f: &Function) -> usize {
     let mut count: usize = 0;
     for block in f.blocks.as_slice() {
         count = count.saturating_add(block.insts.len()).saturating_add(4);
@@ -27,7 +27,7 @@ pub fn build_blocks(alloc: Global, f: &Function) -> Result<(Vec<BlockFlow>, Vec<
     ensures graph { IfOk result (λ r. IsGraphOf (layout_of r.0.items r.1.items) f.now) }
     ensures sound { IfOk result (λ r. IsSound (layout_of r.0.items r.1.items)) }
 {
-    let mut kinds = Vec::with_capacity(alloc, most_items(f))?;
+    let mut kinds = Vec::with_capacity(alloc, room_for_items(f))?;
     let mut blocks = Vec::with_capacity(alloc, f.blocks.len())?;
     for (b, block) in f.blocks.as_slice().iter().enumerate() {
         let laid = lay_block(alloc, &mut kinds, BlockId(b as u32), block)?;
@@ -137,7 +137,7 @@ fn lay_edges(
     ensures adds { OnOk result (Adds b.0 block.now kinds.old.items kinds.new.items) }
     ensures edges { IfOk result (λ flows. AreEdgesLaid kinds.new.items b.0 block.now.terminator.edges flows.items) }
 {
-    let mut flows = Vec::with_capacity(alloc, block.terminator.edges.len())?;
+    let mut flows = Vec::new(alloc);
     for (index, edge) in block.terminator.edges.as_slice().iter().enumerate() {
         flows.push(EdgeFlow {
             target: edge.block.0,

@@ -7,3 +7,4 @@ pub mod StackTops
 pub mod NestedSlots
 pub mod SlotsTouched
 pub mod NeverOut
+pub mod Rising

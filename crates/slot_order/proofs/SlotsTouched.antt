@@ -11,7 +11,7 @@ use Rattle.sil_ast.specs.declared.place.ValueId.{ValueId}
 use Rattle.reach_engine.specs.declared.scan.Step.TheVariants.{Go}
 use Rattle.reach_engine.specs.Run.{run}
 use Rattle.path_patterns.specs.Reads.{read_step, step_in}
-use Rattle.path_checks.proofs.Touching.{contains_sorted}
+use Rattle.slot_order.proofs.Rising.{contains_sorted}
 use Rattle.memory_accesses.specs.declared.access.Access.{Access}
 use Rattle.memory_accesses.specs.declared.access.Access.TheVariants.{Ends, Begins, Allocates, Deallocates, Given, Does, Mentions}
 use Rattle.slot_order.specs.Order.{order_step}

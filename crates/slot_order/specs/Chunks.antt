@@ -5,7 +5,7 @@ use Rattle.std.specs.declared.alloc.Global.{Global}
 use Rattle.std.specs.declared.vec.Vec.{Vec}
 use Rattle.sil_ast.specs.declared.place.ValueId.{ValueId}
 use Rattle.path_patterns.specs.Reads.{accesses_at}
-use Rattle.path_checks.specs.Chunks.{IsRising}
+use Rattle.slot_order.specs.Touched.{IsRising}
 use Rattle.memory_accesses.specs.declared.access.Access.{Access}
 use Rattle.slot_order.specs.Touched.{HasTouched}
 use Rattle.slot_order.specs.declared.chunk.Chunk.{Chunk}

@@ -1,6 +1,7 @@
 -- Which slots an item touches.
 use Rattle.std.specs.Prelude.{◌≡◌, ◌≢◌, ℕ, ◌<◌, ◌==◌, ◌⊎◌, ◌++◌, ◌∷◌, [], List, length, get_or, All, Contains, Bool, false, Option, Some, None}
 use Rattle.std.specs.List.{list_any}
+use Rattle.std.specs.List.Sorted.{IsStrictlyIncreasing}
 use Rattle.sil_ast.specs.declared.place.ValueId.{ValueId}
 use Rattle.memory_accesses.specs.declared.access.Access.{Access}
 use Rattle.memory_accesses.specs.declared.access.Access.TheVariants.{Ends, Begins, Allocates, Deallocates, Given, Does, Mentions}
@@ -36,3 +37,8 @@ IsPlaceOf slots value (Some place) = (place < length slots) × ((k : ℕ) (d : V
 -- a slot whose place isn't one of these is in none of the accesses
 abbrev pub HasTouched : List ValueId → List Access → List ℕ → Type 0
 HasTouched slots accesses places = (u : ℕ) (d : ValueId) → u < length slots → (Contains places u → ⊥) → All (λ x. slot_in x ≢ Some (get_or slots u d).0) accesses
+
+-- numbers below the count, each below the next
+pub record IsRising (count : ℕ) (places : List ℕ) : Type 0 where
+  pub ascending : IsStrictlyIncreasing places
+  pub below : All (λ u. u < count) places

@@ -2,7 +2,7 @@
 
 ghost use Rattle.std.specs.Prelude.{◌≡◌, ◌≢◌, ◌≤◌, ◌<◌, ℕ, IfOk, All, AllPairs, Contains, length};
 ghost use Rattle.path_patterns.specs.Reads.{accesses_at};
-ghost use Rattle.path_checks.specs.Chunks.{IsRising};
+ghost use Rattle.slot_order.specs.Touched.{IsRising};
 ghost use Rattle.slot_order.specs.Touched as touched;
 ghost use Rattle.slot_order.specs.Touched.{HasTouched, IsPut};
 

@@ -1,13 +1,12 @@
 //! Switches over functions of which some values are marks: the item that names `%on0` turns subject 0 on.
 
 ghost use Rattle.std.specs.Prelude.{◌≡◌, ℕ, ◌<◌, ◌==◌, length, slice_get, cond, IfOk};
-ghost use Rattle.std.specs.Prelude.{[], ◌∷◌};
 ghost use Rattle.sil_cfg.specs.Layout.{item_count};
 ghost use Rattle.path_patterns.specs.Switch.{mark_step};
 ghost use Rattle.path_patterns.specs.Reads.{step_in};
 
 use path_patterns::{Mark, turn};
-use reach_engine::{Family, Scan, Step};
+use reach_engine::{Family, MoveAll, Scan, Step, turn_touched};
 use sil_ast::{Exhausted, Function, ValueId};
 use sil_cfg::{Graph, Item};
 use std::alloc::Global;
@@ -123,8 +122,6 @@ pub struct Switches {
 impl Family for Switches {
     ghost step_of = { λ s u state item. step_in mark_step state (slice_get (cond (u == 0) s.first.marks.items (cond (u == 1) s.second.marks.items s.third.marks.items)) item) };
 
-    ghost touched_of = { λ _ _. 0 ∷ (1 ∷ (2 ∷ [])) };
-
     ghost subject_count = { λ _. 3 };
 
     ghost state_count = { λ _. 2 };
@@ -150,9 +147,10 @@ impl Family for Switches {
             _ => self.third.step(state, item),
         }
     }
+}
 
-    fn touched(&self, item: usize) -> &[u32] {
-        let _ = item;
-        &[0, 1, 2]
+impl MoveAll for Switches {
+    fn move_all(&self, width: usize, item: usize, bundle: &mut [u64], bad: &mut [u64]) {
+        turn_touched(self, &[0, 1, 2], width, item, bundle, bad);
     }
 }

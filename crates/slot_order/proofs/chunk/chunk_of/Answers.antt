@@ -1,7 +1,7 @@
 use Rattle.std.proofs.Common.{◌≡◌, ◌≤◌, ◌<◌, ℕ, List, length, sym, subst}
 use Rattle.std.specs.Prelude.{Contains}
 use Rattle.path_patterns.specs.Reads.{accesses_at}
-use Rattle.path_checks.specs.Chunks.{IsRising}
+use Rattle.slot_order.specs.Touched.{IsRising}
 use Rattle.sil_ast.specs.declared.place.ValueId.{ValueId}
 use Rattle.slot_order.specs.Touched.{HasTouched}
 use Rattle.slot_order.proofs.chunk.chunk_of.Goals as goal

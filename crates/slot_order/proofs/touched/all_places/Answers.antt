@@ -3,7 +3,7 @@ use Rattle.std.proofs.Math.ListN.{get_or-append}
 use Rattle.std.proofs.Math.Seq.{get_or-append_seam}
 use Rattle.std.proofs.lemmas.Bool.{cases_lt}
 use Rattle.sil_cfg.proofs.Gets.{length_push}
-use Rattle.path_checks.specs.Chunks.{IsRising}
+use Rattle.slot_order.specs.Touched.{IsRising}
 use Rattle.slot_order.proofs.touched.all_places.Goals as goal
 
 one_more : (xs new : List ℕ) (x n : ℕ) → new ≡ xs ++ x ∷ [] → x ≡ n → length xs ≡ n → ((k d : ℕ) → k < n → get_or xs k d ≡ k) → (k d : ℕ) → k < n + 1 → get_or new k d ≡ k

@@ -2,7 +2,7 @@ use Rattle.std.proofs.Common.{◌≡◌, List, length, subst, take, arith}
 use Rattle.std.proofs.lemmas.List.{take_all}
 use Rattle.std.specs.Prelude.{eqb}
 use Rattle.std.proofs.lemmas.List.Filters.{dedup_is}
-use Rattle.path_checks.proofs.Touching.{rising_sorted}
+use Rattle.slot_order.proofs.Rising.{rising_sorted}
 use Rattle.memory_accesses.specs.declared.access.Access.{Access}
 use Rattle.slot_order.specs.Touched.{HasTouched}
 use Rattle.slot_order.proofs.SlotsTouched.{touched_put, below_put, touched_sorted}

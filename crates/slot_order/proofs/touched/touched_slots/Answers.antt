@@ -4,9 +4,9 @@ use Rattle.std.specs.declared.alloc.Global.{Global}
 use Rattle.std.proofs.lemmas.Bool.{cases_eq, cases_lt}
 use Rattle.sil_cfg.proofs.Gets.{length_push}
 use Rattle.path_patterns.specs.Reads.{accesses_at}
-use Rattle.path_checks.specs.Chunks.{IsRising}
+use Rattle.slot_order.specs.Touched.{IsRising}
 use Rattle.path_checks.proofs.Accesses.{accesses_there, accesses_past, accesses_kept, accesses_last, accesses_more, accesses_each}
-use Rattle.path_checks.proofs.Touching.{rising_none}
+use Rattle.slot_order.proofs.Rising.{rising_none}
 use Rattle.memory_accesses.specs.declared.access.Access.{Access}
 use Rattle.slot_order.specs.Touched.{HasTouched}
 use Rattle.slot_order.proofs.SlotsTouched.{touched_none}

@@ -1,6 +1,6 @@
 use Rattle.std.proofs.Common.{◌≡◌, ℕ, ◌<◌, length}
 use Rattle.path_patterns.specs.Reads.{accesses_at}
-use Rattle.path_checks.specs.Chunks.{IsRising}
+use Rattle.slot_order.specs.Touched.{IsRising}
 use Rattle.slot_order.specs.Touched.{HasTouched}
 use Rattle.slot_order.proofs.touched.touched_slots.Given as goal
 
