@@ -1,11 +1,11 @@
 -- Subjects that entries move.
-use Rattle.std.proofs.Common.{◌≡◌, ◌≢◌, ℕ, zero, suc, ◌+◌, ◌-◌, ◌*◌, ◌<◌, ◌≤◌, List, [], ◌∷◌, ◌++◌, length, get_or, refl, sym, ap, ◌∙◌, subst, Some, arith}
+use Rattle.std.proofs.Common.{◌≡◌, ◌≢◌, ℕ, zero, suc, ◌+◌, ◌*◌, ◌<◌, ◌≤◌, List, [], ◌∷◌, ◌++◌, length, get_or, refl, sym, ap, ◌∙◌, arith}
 use Rattle.std.specs.Prelude.{Contains}
 use Rattle.std.specs.List.Sorted.{IsStrictlyIncreasing}
 use Rattle.reach_engine.specs.Bits.{bit_in}
 use Rattle.reach_engine.specs.declared.scan.Step.{Step}
 use Rattle.reach_engine.specs.declared.scan.Step.TheVariants.{Go, Bad}
-use Rattle.reach_engine.specs.Columns.{AllMoved, Blamed, Moved, OthersStay}
+use Rattle.reach_engine.specs.Columns.{Blamed, Moved, OthersStay}
 use Rattle.reach_engine.specs.Run.{after, run}
 use Rattle.reach_engine.proofs.Runs.{run-append, run_bad}
 use Rattle.reach_engine.proofs.SubjectsMoved.{AllMoved_as, AllMoved_none, AllMoved_then, Blamed_as, Moved_as, turned_all, turned_more, turned_none}
@@ -16,7 +16,7 @@ use Rattle.path_checks.specs.Chunks.{ArePassed}
 use Rattle.path_checks.specs.Entries.{means}
 use Rattle.path_checks.proofs.OtherSubjects.{no_mark, own_mark}
 
-passes : ℕ → List Entry → ℕ → ℕ → ℕ → Step
+abbrev passes : ℕ → List Entry → ℕ → ℕ → ℕ → Step
 passes first entries u s k = run (read_step mark_step (means (first + u))) (Go s) entries
 
 module _ (first count width : ℕ) where

@@ -1,7 +1,7 @@
 -- The entries that items share.
-use Rattle.std.proofs.Common.{◌≡◌, ℕ, ◌+◌, ◌<◌, ◌≤◌, List, [], ◌∷◌, ◌++◌, length, refl, ap, ◌∙◌, Bool, true, false, Option, Some, None, All, arith}
+use Rattle.std.proofs.Common.{◌≡◌, ℕ, ◌+◌, ◌<◌, ◌≤◌, List, [], ◌∷◌, ◌++◌, length, get_or, take, refl, sym, ap, ◌∙◌, Bool, true, false, Option, Some, None, All, arith}
 use Rattle.std.proofs.lemmas.List.Elements.{All-nil, All-cons, All-append}
-use Rattle.std.proofs.lemmas.List.{append-assoc}
+use Rattle.std.proofs.lemmas.List.{append_assoc, take_more, length-take-le}
 use Rattle.item_lists.specs.Lists.{list_at}
 use Rattle.path_patterns.specs.declared.mark.Mark.{Mark}
 use Rattle.path_checks.specs.declared.entry.Entry.{Entry}
@@ -17,7 +17,13 @@ shared_more n [] mark = at mark
 shared_more n (m ∷ marks) mark =
     let same : (n + 1) + length marks ≡ n + length (m ∷ marks) = omega arith in
     ap (λ v. entry_if n m ++ v) (shared_more (n + 1) marks mark ∙ ap (λ k. shared_from (n + 1) marks ++ entry_if k mark) same)
-    ∙ append-assoc (entry_if n m) (shared_from (n + 1) marks) (entry_if (n + length (m ∷ marks)) mark)
+    ∙ sym (append_assoc (entry_if n m) (shared_from (n + 1) marks) (entry_if (n + length (m ∷ marks)) mark))
+
+pub shared_pushed : (marks : List (Option Mark)) (k : ℕ) (d : Option Mark) (old new : List Entry) → k < length marks → new ≡ old ++ entry_if k (get_or marks k d) → old ≡ shared_from 0 (take k marks) → new ≡ shared_from 0 (take (k + 1) marks)
+shared_pushed marks k d old new lt pushed before =
+    let size : 0 + length (take k marks) ≡ k = omega (arith, length-take-le k marks (omega arith)) in
+    pushed ∙ ap (λ v. v ++ entry_if k (get_or marks k d)) before
+    ∙ sym (ap (shared_from 0) (take_more marks k d lt) ∙ shared_more 0 (take k marks) (get_or marks k d) ∙ ap (λ n. shared_from 0 (take k marks) ++ entry_if n (get_or marks k d)) size)
 
 shared_below : (bound n : ℕ) (marks : List (Option Mark)) → n + length marks ≤ bound → All (λ (e : Entry). e.subject < bound) (shared_from n marks)
 shared_below bound n [] le = All-nil (λ (e : Entry). e.subject < bound)

@@ -104,7 +104,14 @@ fn pass_entry(
     }
     let distance = subject - first;
     if distance < count {
-        turn_subject(&OneMark { mark: entry.mark }, width, distance, 0, bundle, bad);
+        turn_subject(
+            &OneMark { mark: entry.mark },
+            width,
+            distance,
+            0,
+            bundle,
+            bad,
+        );
     }
 }
 

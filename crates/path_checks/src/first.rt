@@ -79,9 +79,15 @@ pub fn first_fault(
     let mut first = 0;
     while first < subjects {
         let count = CHUNK.min(subjects - first);
-        if let Some(fault) =
-            first_of_chunk(alloc, g, entries, shared.as_slice(), sharing, first, count)?
-        {
+        if let Some(fault) = first_of_chunk(
+            alloc,
+            g,
+            entries,
+            shared.as_slice(),
+            sharing,
+            first,
+            count,
+        )? {
             return Ok(Some(fault));
         }
         first += count;

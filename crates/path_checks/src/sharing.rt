@@ -1,8 +1,8 @@
 //! The entries that items share.
 
-ghost use Rattle.std.specs.Prelude.{◌≡◌, ◌≤◌, ◌^◌, length, IfOk};
-ghost use Rattle.path_checks.specs.Shared as shared;
-ghost use Rattle.path_checks.specs.Shared.{if_sharing, shared_from};
+ghost use Rattle.std.specs.Prelude.{◌≡◌, ◌≤◌, ◌^◌, ◌++◌, length, IfOk, OnOk};
+ghost use Rattle.path_checks.specs.Shared as shares;
+ghost use Rattle.path_checks.specs.Shared.{entry_if, if_sharing, shared_from};
 
 use crate::entry::Entry;
 use path_patterns::Mark;
@@ -11,7 +11,7 @@ use std::alloc::Global;
 
 /// Whether the item shares.
 fn is_sharing(sharing: &[bool], item: usize) -> bool
-    ensures { result ≡ shared.is_sharing sharing.now item }
+    ensures { result ≡ shares.is_sharing sharing.now item }
 {
     match sharing.get(item) {
         None => false,
@@ -21,13 +21,24 @@ fn is_sharing(sharing: &[bool], item: usize) -> bool
 
 /// The shared entries, if the item shares.
 pub fn shared_at<'a>(shared: &'a [Entry], sharing: &[bool], item: usize) -> &'a [Entry]
-    ensures { result.now ≡ if_sharing shared.now (shared.is_sharing sharing.now item) }
+    ensures { result.now ≡ if_sharing shared.now (shares.is_sharing sharing.now item) }
 {
     if is_sharing(sharing, item) {
         shared
     } else {
         &[]
     }
+}
+
+/// Adds the entry of a subject, if it has a mark.
+fn push_shared(shared: &mut Vec<Entry>, subject: u32, mark: Option<Mark>) -> Result<(), Exhausted>
+    ensures { OnOk result (shared.new.items ≡ shared.old.items ++ entry_if subject mark) }
+{
+    if let Some(mark) = mark {
+        shared.push(Entry { subject, mark })?;
+        return Ok(());
+    }
+    Ok(())
 }
 
 /// The entries of the subjects that have a mark, which each item that shares has.
@@ -37,12 +48,7 @@ pub fn shared_entries(alloc: Global, marks: &[Option<Mark>]) -> Result<Vec<Entry
 {
     let mut shared = Vec::with_capacity(alloc, marks.len())?;
     for (subject, mark) in marks.iter().enumerate() {
-        if let Some(mark) = *mark {
-            shared.push(Entry {
-                subject: subject as u32,
-                mark,
-            })?;
-        }
+        push_shared(&mut shared, subject as u32, *mark)?;
     }
     Ok(shared)
 }

@@ -1,4 +1,4 @@
-use Rattle.std.proofs.Common.{◌≡◌, ◌+◌, ◌-◌, ◌<◌, ◌≤◌, ℕ, List, subst, ◌⊎◌, inl, inr, Option, None, arith}
+use Rattle.std.proofs.Common.{◌≡◌, ◌+◌, ◌-◌, ◌<◌, ◌≤◌, ℕ, List, subst, ◌∙◌, ◌⊎◌, inl, inr, Option, None, arith}
 use Rattle.std.proofs.lemmas.Bool.{cases_lt}
 use Rattle.std.proofs.lemmas.List.Elements.{All-weaker}
 use Rattle.sil_cfg.specs.declared.item.Item.{Item}
@@ -9,7 +9,7 @@ use Rattle.path_checks.specs.declared.entry.Entry.{Entry}
 use Rattle.path_checks.specs.declared.entry.PathFault.{PathFault}
 use Rattle.path_checks.specs.Entries.{subject_step}
 use Rattle.path_checks.specs.Chunks.{IsFirstOfChunk}
-use Rattle.path_checks.specs.Shared.{entries_with}
+use Rattle.path_checks.specs.Shared.{entries_among, entries_with, shared_from}
 use Rattle.path_checks.proofs.FirstShown.{absent_clean, nothing_shown, chunk_fault_first}
 use Rattle.path_checks.proofs.SharedMarks.{all_below}
 use Rattle.path_checks.proofs.first.first_fault.Goals as goal
@@ -20,15 +20,19 @@ loop-first-preserved c = record { within = omega arith; clean = λ v lt. at v lt
     at : (v : ℕ) → v < c.loop-first.first + c.min-count.result → (v < c.loop-first.first) ⊎ (c.loop-first.first ≤ v) → IsClean (numbered c.args.g.now) (subject_step (entries_with c.args.entries.now c.args.marks.now c.args.sharing.now) v)
     at v lt (inl l) = c.loop-first.invariant.clean v l
     at v lt (inr le) =
+        let shared : c.as_slice.result.now ≡ shared_from 0 c.args.marks.now = c.as_slice.ensures.value ∙ c.in_ok-shared.ensures in
+        let R : List Entry → Type 0 = λ v. IsFirstOfChunk c.args.g.now (entries_among c.args.entries.now v c.args.sharing.now) c.loop-first.first c.min-count.result c.in_ok-fault.field-0 in
         let Q : Option PathFault → Type 0 = λ o. IsFirstOfChunk c.args.g.now (entries_with c.args.entries.now c.args.marks.now c.args.sharing.now) c.loop-first.first c.min-count.result o in
-        let chunk : IsFirstOfChunk c.args.g.now (entries_with c.args.entries.now c.args.marks.now c.args.sharing.now) c.loop-first.first c.min-count.result None = subst Q c.in_default.is c.in_ok-fault.ensures in
+        let chunk : IsFirstOfChunk c.args.g.now (entries_with c.args.entries.now c.args.marks.now c.args.sharing.now) c.loop-first.first c.min-count.result None = subst Q c.in_default.is (subst R shared c.in_ok-fault.ensures) in
         let place : c.loop-first.first + (v - c.loop-first.first) ≡ v = omega arith in
         subst (λ x. IsClean (numbered c.args.g.now) (subject_step (entries_with c.args.entries.now c.args.marks.now c.args.sharing.now) x)) place (chunk (v - c.loop-first.first) (omega arith))
 
 pub returns-in-Some : goal.returns-in-Some
 returns-in-Some c = λ table agrees.
+    let shared : c.as_slice.result.now ≡ shared_from 0 c.args.marks.now = c.as_slice.ensures.value ∙ c.in_ok-shared.ensures in
+    let R : List Entry → Type 0 = λ v. IsFirstOfChunk c.args.g.now (entries_among c.args.entries.now v c.args.sharing.now) c.loop-first.first c.min-count.result c.in_ok-fault.field-0 in
     let Q : Option PathFault → Type 0 = λ o. IsFirstOfChunk c.args.g.now (entries_with c.args.entries.now c.args.marks.now c.args.sharing.now) c.loop-first.first c.min-count.result o in
-    chunk_fault_first c.args.g.now c.args.f.now c.requires.graph (entries_with c.args.entries.now c.args.marks.now c.args.sharing.now) table agrees c.loop-first.first c.min-count.result c.in-Some.fault c.loop-first.invariant.clean (subst Q c.in-Some.is c.in_ok-fault.ensures)
+    chunk_fault_first c.args.g.now c.args.f.now c.requires.graph (entries_with c.args.entries.now c.args.marks.now c.args.sharing.now) table agrees c.loop-first.first c.min-count.result c.in-Some.fault c.loop-first.invariant.clean (subst Q c.in-Some.is (subst R shared c.in_ok-fault.ensures))
 
 pub returns : goal.returns
 returns c = λ table agrees. nothing_shown c.args.g.now c.args.f.now c.requires.graph (entries_with c.args.entries.now c.args.marks.now c.args.sharing.now) table agrees (λ subject. at table agrees subject (cases_lt subject c.loop-first.first))
