@@ -5,12 +5,12 @@ use Rattle.std.proofs.Common.{ℕ, zero, suc, ◌<◌, map, arith}
 use Rattle.std.proofs.lemmas.Bool.Decides.{leb_tells}
 use Rattle.std.specs.List.{list_any}
 use Rattle.sil_ast.specs.declared.module.Module.{Module}
-use Rattle.sil_ast.specs.declared.type_name.TypeName.TheVariants.{Named}
+use Rattle.sil_ast.specs.declared.type_name.TypeName.TheVariants.{Int, Named}
 use Rattle.numbered_form.specs.Names.{Name}
 use Rattle.type_definitions.specs.Declarations.{Declarations, all_names, at_place, declarations_of, place_of}
-use Rattle.type_definitions.specs.Measures.{measure_at, measure_of, measures_of, unmeasured}
+use Rattle.type_definitions.specs.Measures.{measure_at, measure_of, measured, measures_of, unmeasured}
 use Rattle.type_definitions.specs.declared.measure.Measure.{Measure}
-use Rattle.type_measures.proofs.Agreement.{measure-Named}
+use Rattle.type_measures.proofs.Agreement.{measure-Int, measure-Named}
 use Rattle.type_measures.specs.Gathered.{capped}
 use Rattle.type_rules.specs.Faults.{is_wrong_type}
 use Rattle.type_rules.proofs.NoFaults.{any_of_two, first_of_none, second_of_none}
@@ -59,6 +59,15 @@ unmeasured_within : (what : Limit) → is_past what unmeasured ≡ false
 unmeasured_within Depth = refl
 unmeasured_within Leaves = refl
 unmeasured_within Either = refl
+
+-- an integer has one leaf
+pub integer_within : (what : Limit) (d : Declarations) (width : ℕ) → is_past what (measure_of d (Int width)) ≡ false
+integer_within what d width = ap (is_past what) (measure-Int (measure_at (all_names d) (measures_of d)) width) ∙ one_leaf what
+  where
+    one_leaf : (what : Limit) → is_past what (measured true 1 1) ≡ false
+    one_leaf Depth = refl
+    one_leaf Leaves = refl
+    one_leaf Either = refl
 
 none_past : (what : Limit) (ms : List Measure) → list_any (is_past what) (map capped ms) ≡ false → (k : ℕ) → is_past what (unwrap_or (slice_get ms k) unmeasured) ≡ false
 none_past what [] none k = unmeasured_within what

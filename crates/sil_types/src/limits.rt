@@ -87,8 +87,10 @@ impl<'a> PastLimit<'a> {
 impl MentionTest for PastLimit<'_> {
     ghost holds = { λ test. exceeds test.what test.table.now };
 
+    #[tactic(auto, using(crate::proofs::PastLimits::integer_within))]
     fn of_written(&self, _: Standing, ty: &TypeName) -> bool {
         match ty {
+            TypeName::Int(_) => false,
             TypeName::Named(name) => self.is_name_past(name),
             _ => is_past(self.what, self.table.measure(ty)),
         }

@@ -20,7 +20,13 @@ use type_mentions::any_member_in_function;
 pub fn is_wrong_type(table: &DeclarationTable, standing: Standing, ty: &TypeName) -> bool
     ensures { result ≡ faults.is_wrong_type table.now (mention standing ty.now) }
 {
-    is_unknown(table, standing, ty) || is_misplaced(table, standing, ty)
+    match (standing, ty) {
+        (Standing::Object | Standing::Slot | Standing::Value, TypeName::Int(_)) => false,
+        (Standing::Object | Standing::Slot | Standing::Value, TypeName::Named(name)) => {
+            !table.is_name(name)
+        }
+        _ => is_unknown(table, standing, ty) || is_misplaced(table, standing, ty),
+    }
 }
 
 /// Whether an instruction of the functions names a member that its type doesn't have.
