@@ -1,6 +1,6 @@
 //! Names in order, each once, and the place of each.
 
-ghost use Rattle.std.specs.Prelude.{◌≡◌, ℕ, List, [], ◌∷◌, ◌++◌, ◌<◌, ◌^◌, length, Contains, OnOk};
+ghost use Rattle.std.specs.Prelude.{◌≡◌, ℕ, List, [], ◌∷◌, ◌++◌, ◌<◌, ◌^◌, length, Contains, IfSome, OnOk};
 ghost use Rattle.type_definitions.specs.Declarations.{place_of};
 
 use indexmap::IndexSet;
@@ -24,6 +24,16 @@ impl Model for NameIndex {
     ghost invariant = { λ index. length index.names.keys < 2 ^ 32 };
 }
 
+/// How many names are compared one after another.
+const FEW: usize = 8;
+
+fn place_among(names: &[Text], name: &Text) -> Option<usize>
+    ensures place { result ≡ place_of names.now name.now }
+    ensures within { IfSome result (λ place. place < length names.now) }
+{
+    names.iter().position(|own| *name == *own)
+}
+
 impl NameIndex {
     pub(crate) fn new(alloc: Global) -> NameIndex
         ensures { result ≡ [] }
@@ -45,10 +55,14 @@ impl NameIndex {
         Ok(())
     }
 
-    /// The place of a name, from 0.
+    /// The place of a name, from 0. Few names are gone through, which is faster than a hash.
     pub(crate) fn place(&self, name: &Text) -> Option<usize>
-        ensures { result ≡ place_of self.now name.now }
+        ensures place { result ≡ place_of self.now name.now }
+        ensures small { IfSome result (λ place. place < 2 ^ 32) }
     {
+        if self.names.len() <= FEW {
+            return place_among(self.names.as_slice(), name);
+        }
         self.names.get_index_of(name)
     }
 
@@ -56,7 +70,7 @@ impl NameIndex {
     pub(crate) fn number(&self, name: &Text) -> Option<u32>
         ensures { result ≡ place_of self.now name.now }
     {
-        match self.names.get_index_of(name) {
+        match self.place(name) {
             Some(place) => Some(place as u32),
             None => None,
         }

@@ -1,22 +1,21 @@
 //! How many edges of a function go to each of its blocks.
 
-ghost use Rattle.std.specs.Prelude.{◌≡◌, ℕ, ◌+◌, ◌<◌, ◌≤◌, ◌==◌, cond, min, length, slice_index, IfOk};
+ghost use Rattle.std.specs.Prelude.{◌≡◌, ℕ, ◌+◌, ◌<◌, ◌≤◌, ◌==◌, cond, min, length, slice_index, OnOk};
 ghost use Rattle.std.specs.List.{count_by, flat_map};
 ghost use Rattle.sil_types.specs.Typing.SwitchRules.{edges_of_block, is_to};
 ghost use Rattle.form_rules.specs.Incoming.{AreIncoming};
 
 use sil_ast::{Block, Edge, Exhausted, Function};
-use std::alloc::Global;
 
-/// For each block how many edges of the function go to it: none, one, or 2 for more than one. Its one error is that memory runs
-/// out.
-pub fn incoming_counts(alloc: Global, f: &Function) -> Result<Vec<u8>, Exhausted>
-    ensures { IfOk result (λ counts. AreIncoming f.now counts.items) }
+/// Makes of a list, in its memory, for each block how many edges of the function go to it: none, one, or 2 for more than one.
+/// Its one error is that memory runs out.
+pub fn count_incoming(counts: &mut Vec<u8>, f: &Function) -> Result<(), Exhausted>
+    ensures { OnOk result (AreIncoming f.now counts.new.items) }
 {
-    let mut counts = Vec::new(alloc);
+    counts.clear();
     counts.resize(f.blocks.len(), 0)?;
     count_blocks(counts.as_mut_slice(), f.blocks.as_slice());
-    Ok(counts)
+    Ok(())
 }
 
 /// Counts the edges of these blocks too, up to 2 for each block.

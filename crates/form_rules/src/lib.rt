@@ -12,6 +12,6 @@ mod switch_cases;
 mod switches;
 
 pub use forms::{first_form, is_of_other_form, mixes_forms};
-pub use incoming::incoming_counts;
+pub use incoming::count_incoming;
 pub use qualifiers::has_wrong_qualifier;
 pub use switches::has_wrong_cases;

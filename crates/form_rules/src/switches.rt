@@ -16,7 +16,7 @@ use sil_ast::{Edge, Function, Inst, TypeName};
 use sil_types::TypeTable;
 
 /// Whether a `switch_enum` repeats a case, names one of another enum, or leaves one out without a default; or a block that it
-/// goes to has another edge to it, or arguments that aren't the case's payload. `counts` is what `incoming_counts` gives.
+/// goes to has another edge to it, or arguments that aren't the case's payload. `counts` is what `count_incoming` makes.
 pub fn has_wrong_cases(table: &TypeTable, f: &Function, counts: &[u8], inst: &Inst) -> bool
     requires members { Each IsDeclInLimits table.now.decls }
     requires counted { AreIncoming f.now counts.now }

@@ -1,22 +1,24 @@
 //! The functions that values stand for: the result of a `function_ref` for the function that it names.
 
-ghost use Rattle.std.specs.Prelude.{◌≡◌, ◌++◌, length, map, replicate, IfOk, OnOk};
+ghost use Rattle.std.specs.Prelude.{◌≡◌, ◌++◌, length, map, replicate, OnOk};
 ghost use Rattle.std.specs.List.{flat_map};
 ghost use Rattle.sil_types.specs.Typing.Values as values;
 
 use sil_ast::{Block, BlockArg, Boxed, Exhausted, FuncId, Function, Inst, ValueId};
-use std::alloc::Global;
 
-/// The functions that a function's values stand for, by the numbers of the values. Most values stand for none.
-/// It takes memory for one entry a value.
-pub fn value_functions(alloc: Global, f: &Function) -> Result<Vec<Option<FuncId>>, Exhausted>
-    ensures { IfOk result (λ functions. functions.items ≡ values.value_functions f.now) }
+/// Makes of a list, in its memory, the functions that a function's values stand for, by the numbers of the values. Most values
+/// stand for none.
+pub fn find_value_functions(
+    functions: &mut Vec<Option<FuncId>>,
+    f: &Function,
+) -> Result<(), Exhausted>
+    ensures { OnOk result (functions.new.items ≡ values.value_functions f.now) }
 {
-    let mut functions = Vec::new(alloc);
+    functions.clear();
     for block in f.blocks.as_slice() {
-        add_block(&mut functions, block)?;
+        add_block(functions, block)?;
     }
-    Ok(functions)
+    Ok(())
 }
 
 fn add_block(functions: &mut Vec<Option<FuncId>>, block: &Block) -> Result<(), Exhausted>

@@ -20,5 +20,5 @@ pub use callees::calls_no_function;
 pub use deinitialisers::has_wrong_deinitialiser;
 pub use edges::{goes_to_entry, has_wrong_edge_arguments};
 pub use external::is_no_output_call;
-pub use functions::value_functions;
+pub use functions::find_value_functions;
 pub use signatures::{differs_from_signature, has_wrong_signature};

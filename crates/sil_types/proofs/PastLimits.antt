@@ -1,44 +1,47 @@
 -- A module mentions a type past either limit where it mentions one past the limit on depth, or one past the limit on leaves.
-use Rattle.std.proofs.Common.{◌≡◌, List, [], ◌∷◌, refl, sym, ap, ◌∙◌, Bool, true, false, true≢false}
+use Rattle.std.proofs.Common.{◌≡◌, List, [], ◌∷◌, refl, sym, ap, ◌∙◌, Bool, true, false}
 use Rattle.std.specs.Prelude.{◌||◌, Option, Some, None, not, nat_le, min, slice_get, unwrap_or}
 use Rattle.std.proofs.Common.{ℕ, zero, suc, ◌<◌, map, arith}
 use Rattle.std.proofs.lemmas.Bool.Decides.{leb_tells}
 use Rattle.std.specs.List.{list_any}
 use Rattle.sil_ast.specs.declared.module.Module.{Module}
-use Rattle.sil_ast.specs.declared.type_name.TypeName.TheVariants.{Named}
+use Rattle.sil_ast.specs.declared.type_name.TypeName.TheVariants.{Int, Named}
 use Rattle.numbered_form.specs.Names.{Name}
 use Rattle.type_definitions.specs.Declarations.{Declarations, all_names, at_place, declarations_of, place_of}
-use Rattle.type_definitions.specs.Measures.{measure_at, measure_of, measures_of, unmeasured}
+use Rattle.type_definitions.specs.Measures.{measure_at, measure_of, measured, measures_of, unmeasured}
 use Rattle.type_definitions.specs.declared.measure.Measure.{Measure}
-use Rattle.type_measures.proofs.Agreement.{measure-Named}
+use Rattle.type_measures.proofs.Agreement.{measure-Int, measure-Named}
 use Rattle.type_measures.specs.Gathered.{capped}
+use Rattle.type_rules.specs.Faults.{is_wrong_type}
+use Rattle.type_rules.proofs.NoFaults.{any_of_two, first_of_none, second_of_none}
 use Rattle.type_definitions.specs.Mentions.{mentions_of}
-use Rattle.type_definitions.specs.Rules.{exceeds_depth, exceeds_leaves, has_too_many_leaves, is_too_deep}
+use Rattle.type_definitions.specs.Rules.{InLimits, exceeds_depth, exceeds_leaves, has_too_many_leaves, is_too_deep}
 use Rattle.sil_types.specs.Limits.{exceeds, is_past}
 use Rattle.sil_types.specs.declared.limits.Limit.{Limit}
 use Rattle.sil_types.specs.declared.limits.Limit.TheVariants.{Depth, Leaves, Either}
 
-swapped : (a b c d : Bool) → ((a || b) || (c || d)) ≡ ((a || c) || (b || d))
-swapped true b c d = refl
-swapped false true true d = refl
-swapped false true false d = refl
-swapped false false c d = refl
-
--- a test of two things finds what one of the two finds
-any_of_two : {X : Type 0} (p q : X → Bool) → (xs : List X) → list_any (λ x. p x || q x) xs ≡ (list_any p xs || list_any q xs)
-any_of_two p q [] = refl
-any_of_two p q (x ∷ xs) = ap (λ b. (p x || q x) || b) (any_of_two p q xs) ∙ swapped (p x) (q x) (list_any p xs) (list_any q xs)
-
 pub exceeds_either : (m : Module) → list_any (exceeds Either (declarations_of m)) (mentions_of m) ≡ (exceeds_depth m || exceeds_leaves m)
 exceeds_either m = any_of_two (is_too_deep (declarations_of m)) (has_too_many_leaves (declarations_of m)) (mentions_of m)
 
-pub first_of_none : (a b : Bool) → (a || b) ≡ false → a ≡ false
-first_of_none false b h = refl
-first_of_none true b h = h
+-- where no type is past one of the two, all are within both
+pub within_limits : (m : Module) → list_any (exceeds Either (declarations_of m)) (mentions_of m) ≡ false → InLimits m
+within_limits m h =
+    let none : (exceeds_depth m || exceeds_leaves m) ≡ false = sym (exceeds_either m) ∙ h in
+    record {
+      depth = first_of_none (exceeds_depth m) (exceeds_leaves m) none;
+      leaves = second_of_none (exceeds_depth m) (exceeds_leaves m) none;
+    }
 
-pub second_of_none : (a b : Bool) → (a || b) ≡ false → b ≡ false
-second_of_none false b h = h
-second_of_none true b h = absurd (true≢false h)
+-- where no type is wrong, none is past a limit, and none breaks a rule
+pub none_past_limit : (m : Module) → list_any (λ t. is_wrong_type (declarations_of m) t || exceeds Either (declarations_of m) t) (mentions_of m) ≡ false → InLimits m
+none_past_limit m h =
+    let d = declarations_of m in
+    within_limits m (second_of_none (list_any (is_wrong_type d) (mentions_of m)) (list_any (exceeds Either d) (mentions_of m)) (sym (any_of_two (is_wrong_type d) (exceeds Either d) (mentions_of m)) ∙ h))
+
+pub no_wrong_type : (m : Module) → list_any (λ t. is_wrong_type (declarations_of m) t || exceeds Either (declarations_of m) t) (mentions_of m) ≡ false → list_any (is_wrong_type (declarations_of m)) (mentions_of m) ≡ false
+no_wrong_type m h =
+    let d = declarations_of m in
+    first_of_none (list_any (is_wrong_type d) (mentions_of m)) (list_any (exceeds Either d) (mentions_of m)) (sym (any_of_two (is_wrong_type d) (exceeds Either d) (mentions_of m)) ∙ h)
 
 pub second_of_one : (a b : Bool) → (a || b) ≡ true → a ≡ false → b ≡ true
 second_of_one a b h none = sym (ap (λ t. t || b) none) ∙ h
@@ -56,6 +59,15 @@ unmeasured_within : (what : Limit) → is_past what unmeasured ≡ false
 unmeasured_within Depth = refl
 unmeasured_within Leaves = refl
 unmeasured_within Either = refl
+
+-- an integer has one leaf
+pub integer_within : (what : Limit) (d : Declarations) (width : ℕ) → is_past what (measure_of d (Int width)) ≡ false
+integer_within what d width = ap (is_past what) (measure-Int (measure_at (all_names d) (measures_of d)) width) ∙ one_leaf what
+  where
+    one_leaf : (what : Limit) → is_past what (measured true 1 1) ≡ false
+    one_leaf Depth = refl
+    one_leaf Leaves = refl
+    one_leaf Either = refl
 
 none_past : (what : Limit) (ms : List Measure) → list_any (is_past what) (map capped ms) ≡ false → (k : ℕ) → is_past what (unwrap_or (slice_get ms k) unmeasured) ≡ false
 none_past what [] none k = unmeasured_within what

@@ -1,6 +1,6 @@
 //! Makes a module's type table, or says why it has none.
 
-ghost use Rattle.std.specs.Prelude.{◌≡◌, ◌||◌, ℕ, OnOk, IfOk, IfErr, true};
+ghost use Rattle.std.specs.Prelude.{◌≡◌, ◌||◌, ◌+◌, ◌<◌, ◌^◌, ℕ, OnOk, IfOk, IfErr, length, true};
 ghost use Rattle.numbered_form.specs.NumberedForm.{IsNumbered};
 ghost use Rattle.type_definitions.specs.Declarations.{declarations_of};
 ghost use Rattle.type_definitions.specs.Rules.{AreDeclarationsOf, HoldsItself, InLimits, exceeds_depth, exceeds_leaves};
@@ -13,6 +13,7 @@ use crate::limits::{Limit, any_past};
 use crate::refusal::TypeRefusal;
 use crate::ring::order_of;
 use crate::table::TypeTable;
+use crate::wrong::any_wrong;
 use declaration_table::DeclarationTable;
 use sil_ast::Module;
 use sil_rules::LimitWord;
@@ -28,16 +29,32 @@ impl TypeTable {
         ensures err { IfErr result (IsRefusal m.now) }
     {
         let declarations = DeclarationTable::build(alloc, m)?;
-        check_items(&declarations, m)?;
         let order = order_of(alloc, &declarations, m)?;
         let measures = measures(alloc, &declarations, order.as_slice())?;
         let table = TypeTable {
             declarations,
             measures,
         };
-        check_limits(&table, m)?;
+        check_items_and_limits(&table, m)?;
         Ok(table)
     }
+}
+
+/// Refuses a module with an item that breaks one of 101, 103 and 104, or with a type past a limit. Which of these is first, is
+/// asked only where something is wrong.
+fn check_items_and_limits(table: &TypeTable, m: &Module) -> Result<(), TypeRefusal>
+    requires table { table.now ≡ declarations_of m.now }
+    requires size { length m.now.decls + length m.now.functions < 2 ^ 63 }
+    requires finite { (n : ℕ) → HoldsItself (declarations_of m.now) n → ⊥ }
+    ensures items { OnOk result ((f : ItemFault) → BreaksIn (declarations_of m.now) m.now f → ⊥) }
+    ensures limits { OnOk result (InLimits m.now) }
+    ensures err { IfErr result (IsRefusal m.now) }
+{
+    if !any_wrong(table, m) {
+        return Ok(());
+    }
+    check_items(table.declarations(), m)?;
+    check_limits(table, m)
 }
 
 /// Refuses a module that mentions a type past a limit.

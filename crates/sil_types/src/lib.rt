@@ -10,6 +10,7 @@ mod refusal;
 mod ring;
 mod same;
 mod table;
+mod wrong;
 
 pub use declaration_table::{FieldRef, PayloadRef};
 pub use refusal::TypeRefusal;

@@ -57,15 +57,26 @@ fn any_declared_past(what: Limit, table: &TypeTable) -> bool
 
 /// Finds types that exceed a limit.
 #[derive(Drop)]
-struct PastLimit<'a> {
-    table: &'a TypeTable,
-    what: Limit,
+pub(crate) struct PastLimit<'a> {
+    pub table: &'a TypeTable,
+    pub what: Limit,
     /// Whether a declared type does. Where none does, no name by itself is looked up.
     declared: bool,
     ghost names: { declared ≡ false → (name : Name) → limits.is_past what (measure_of table.now (type_of.Named name)) ≡ false },
 }
 
-impl PastLimit<'_> {
+impl<'a> PastLimit<'a> {
+    pub(crate) fn new(what: Limit, table: &'a TypeTable) -> PastLimit<'a>
+        ensures limit { result.what ≡ what }
+        ensures types { result.table.now ≡ table.now }
+    {
+        PastLimit {
+            table,
+            what,
+            declared: any_declared_past(what, table),
+        }
+    }
+
     fn is_name_past(&self, name: &Text) -> bool
         ensures { result ≡ limits.is_past self.now.what (measure_of self.now.table.now (type_of.Named name.now)) }
     {
@@ -76,8 +87,10 @@ impl PastLimit<'_> {
 impl MentionTest for PastLimit<'_> {
     ghost holds = { λ test. exceeds test.what test.table.now };
 
+    #[tactic(auto, using(crate::proofs::PastLimits::integer_within))]
     fn of_written(&self, _: Standing, ty: &TypeName) -> bool {
         match ty {
+            TypeName::Int(_) => false,
             TypeName::Named(name) => self.is_name_past(name),
             _ => is_past(self.what, self.table.measure(ty)),
         }
@@ -100,10 +113,5 @@ impl MentionTest for PastLimit<'_> {
 pub(crate) fn any_past(what: Limit, table: &TypeTable, m: &Module) -> bool
     ensures { result ≡ list_any (exceeds what table.now) (mentions_of m.now) }
 {
-    let test = PastLimit {
-        table,
-        what,
-        declared: any_declared_past(what, table),
-    };
-    any_in_module(&test, m)
+    any_in_module(&PastLimit::new(what, table), m)
 }

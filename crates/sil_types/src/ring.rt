@@ -1,15 +1,13 @@
 //! The first declaration that holds itself, as a refusal, or an order of all.
 
-ghost use Rattle.std.specs.Prelude.{◌≡◌, ℕ, IfOk, OnOk, IfErr};
+ghost use Rattle.std.specs.Prelude.{◌≡◌, ◌+◌, ◌<◌, ◌^◌, ℕ, IfOk, OnOk, IfErr, length};
 ghost use Rattle.containment.specs.Order.{IsOrder};
 ghost use Rattle.type_definitions.specs.Contained as contained;
 ghost use Rattle.type_definitions.specs.Declarations.{declarations_of};
 ghost use Rattle.type_definitions.specs.Rules.{HoldsItself};
-ghost use Rattle.type_rules.specs.Faults.{BreaksIn};
-ghost use Rattle.type_rules.specs.declared.by_item.ItemFault.{ItemFault};
 ghost use Rattle.sil_types.specs.Refusals.{IsRefusal};
 
-use crate::items::refused;
+use crate::items::{check_items, refused};
 use crate::refusal::TypeRefusal;
 use containment::{Containment, order_or_ring};
 use declaration_table::DeclarationTable;
@@ -18,14 +16,15 @@ use sil_rules::Rule;
 use std::alloc::Global;
 use type_measures::containment;
 
-/// An order of all declarations in which parts stand before wholes. A module in which one holds itself is refused.
+/// An order of all declarations in which parts stand before wholes. A module in which one holds itself is refused, for that or
+/// for an item that breaks another rule.
 pub(crate) fn order_of(
     alloc: Global,
     table: &DeclarationTable,
     m: &Module,
 ) -> Result<Vec<usize>, TypeRefusal>
     requires table { table.now ≡ declarations_of m.now }
-    requires items { (f : ItemFault) → BreaksIn (declarations_of m.now) m.now f → ⊥ }
+    requires size { length m.now.decls + length m.now.functions < 2 ^ 63 }
     ensures order { IfOk result (λ order. IsOrder (contained.containment table.now) order.items) }
     ensures finite { OnOk result ((n : ℕ) → HoldsItself (declarations_of m.now) n → ⊥) }
     ensures err { IfErr result (IsRefusal m.now) }
@@ -34,6 +33,7 @@ pub(crate) fn order_of(
     match order_or_ring(alloc, graph.as_slice())? {
         Containment::Order(order) => Ok(order),
         Containment::Ring(place) => {
+            check_items(table, m)?;
             let item = place.saturating_sub(table.imported());
             Err(refused(Rule::InfiniteType, item))
         }

@@ -39,6 +39,13 @@ impl Model for TypeTable {
 }
 
 impl TypeTable {
+    /// What the module declares.
+    pub(crate) fn declarations(&self) -> &DeclarationTable
+        ensures { result.now ≡ self.now }
+    {
+        &self.declarations
+    }
+
     /// Of each declaration, in order. Leaves and depth are counted just past their limits.
     pub(crate) fn declared_measures(&self) -> &[Measure]
         ensures { result.now ≡ map capped (measures_of self.now) }

@@ -1,14 +1,14 @@
 //! What is known of the values and blocks of one function.
 
-ghost use Rattle.std.specs.Prelude.{IfOk};
+ghost use Rattle.std.specs.Prelude.{OnOk};
 ghost use Rattle.type_check.specs.Facts.{AreFactsOf};
 
-use form_rules::incoming_counts;
-use signature_rules::value_functions;
+use form_rules::count_incoming;
+use signature_rules::find_value_functions;
 use sil_ast::{Exhausted, FuncId, Function};
 use sil_types::TypeTable;
 use std::alloc::Global;
-use value_types::{GivenTypes, value_types};
+use value_types::{GivenTypes, find_value_types};
 
 /// What the rows give: by value its type, by instruction how many results. By value the function that it stands for, and by block
 /// how many edges go to it, 2 for more than one.
@@ -19,20 +19,26 @@ pub(crate) struct FunctionFacts<'a> {
     pub incoming: Vec<u8>,
 }
 
-/// The facts of a function, in one pass for each.
-pub(crate) fn facts_of<'a>(
-    alloc: Global,
+impl<'a> FunctionFacts<'a> {
+    /// Those of no function.
+    pub(crate) fn new(alloc: Global) -> FunctionFacts<'a> {
+        FunctionFacts {
+            given: GivenTypes::new(alloc),
+            functions: Vec::new(alloc),
+            incoming: Vec::new(alloc),
+        }
+    }
+}
+
+/// Makes of `facts`, in their memory, those of a function, in one pass for each.
+pub(crate) fn find_facts<'a>(
+    facts: &mut FunctionFacts<'a>,
     table: &'a TypeTable,
     f: &'a Function,
-) -> Result<FunctionFacts<'a>, Exhausted>
-    ensures { IfOk result (AreFactsOf table.now f.now) }
+) -> Result<(), Exhausted>
+    ensures { OnOk result (AreFactsOf table.now f.now facts.new) }
 {
-    let given = value_types(alloc, table, f)?;
-    let functions = value_functions(alloc, f)?;
-    let incoming = incoming_counts(alloc, f)?;
-    Ok(FunctionFacts {
-        given,
-        functions,
-        incoming,
-    })
+    find_value_types(&mut facts.given, table, f)?;
+    find_value_functions(&mut facts.functions, f)?;
+    count_incoming(&mut facts.incoming, f)
 }

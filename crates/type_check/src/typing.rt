@@ -15,7 +15,7 @@ ghost use Rattle.type_definitions.specs.Rules.{AreDeclarationsOf};
 
 use crate::body::Body;
 use crate::fault::TypingFault;
-use crate::function_facts::facts_of;
+use crate::function_facts::{FunctionFacts, find_facts};
 use crate::points::first_in_body;
 use crate::refusal::CheckRefusal;
 use crate::rules::{rule_at_function, rule_at_vtable};
@@ -69,9 +69,10 @@ fn first_in_functions(
     ensures { IfOk result (λ fault. fault ≡ first_from (fault_of_function m.now) 0 m.now.functions) }
 {
     let first = first_form(m);
+    let mut facts = FunctionFacts::new(alloc);
     let mut number = 0;
     for function in m.functions.as_slice() {
-        if let Some(fault) = first_in_function(alloc, m, table, first, number, function)? {
+        if let Some(fault) = first_in_function(&mut facts, m, table, first, number, function)? {
             return Ok(Some(fault));
         }
         number += 1;
@@ -79,8 +80,9 @@ fn first_in_functions(
     Ok(None)
 }
 
+/// `facts` is what the facts of the function are made of.
 fn first_in_function<'a>(
-    alloc: Global,
+    facts: &mut FunctionFacts<'a>,
     m: &'a Module,
     table: &'a TypeTable,
     first: Option<Form>,
@@ -101,13 +103,13 @@ fn first_in_function<'a>(
             vtable: None,
         }));
     }
-    let facts = facts_of(alloc, table, function)?;
+    find_facts(facts, table, function)?;
     let body = Body {
         table,
         module: m,
         function,
         number,
-        facts: &facts,
+        facts,
     };
     Ok(first_in_body(&body))
 }

@@ -6,7 +6,7 @@ use Rattle.std.proofs.lemmas.Bool.{cases_lt}
 use Rattle.std.proofs.lemmas.List.{length-map}
 use Rattle.std.proofs.Common.{length-append}
 use Rattle.sil_ast.specs.declared.module.Module.{Module}
-use Rattle.sil_rules.specs.Order.{NotAfter, IsFirst, IsLeast, stage_of}
+use Rattle.sil_rules.specs.Order.{NotAfter, IsFirst, stage_of}
 use Rattle.sil_rules.specs.Rules.{number_of, group_of}
 use Rattle.sil_rules.specs.declared.rule.Rule.{Rule}
 use Rattle.sil_rules.specs.declared.rule.Rule.TheVariants as rule

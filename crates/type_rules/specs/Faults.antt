@@ -1,12 +1,12 @@
 -- Which of 101, 103 and 104 an item breaks, and the first item that breaks one.
-use Rattle.std.specs.Prelude.{◌≡◌, ℕ, ◌+◌, List, [], ◌∷◌, Bool, true, Option, Some, None, IsSomeAnd, slice_get, if◌then◌else◌}
+use Rattle.std.specs.Prelude.{◌≡◌, ℕ, ◌+◌, ◌||◌, List, [], ◌∷◌, Bool, true, Option, Some, None, IsSomeAnd, slice_get, if◌then◌else◌}
 use Rattle.sil_ast.specs.declared.module.Module.{Module}
 use Rattle.sil_rules.specs.Order.{item_key}
 use Rattle.sil_rules.specs.declared.rule.Rule.{Rule}
 use Rattle.sil_rules.specs.declared.rule.Rule.TheVariants as rule
 use Rattle.type_definitions.specs.Declarations.{Declarations}
-use Rattle.type_definitions.specs.Mentions.{Item, items_of}
-use Rattle.type_definitions.specs.Rules.{has_unknown_type, has_bad_member, has_misplaced_storage}
+use Rattle.type_definitions.specs.Mentions.{Item, Mention, items_of}
+use Rattle.type_definitions.specs.Rules.{has_unknown_type, has_bad_member, has_misplaced_storage, is_misplaced, is_unknown}
 use Rattle.type_rules.specs.declared.by_item.ItemFault.{ItemFault}
 
 -- the item breaks the rule, which is one of the three
@@ -22,6 +22,10 @@ BreaksIn d m f = IsSomeAnd (slice_get (items_of m) f.item) (λ i. Breaks d i f.r
 -- by item and then by rule
 abbrev pub fault_key : ItemFault → List ℕ
 fault_key f = item_key f.item f.rule
+
+-- a name in the type isn't declared, or weak or unowned storage is misplaced in it
+abbrev pub is_wrong_type : Declarations → Mention → Bool
+is_wrong_type d t = is_unknown d t || is_misplaced d t
 
 -- the first of the three that the item breaks
 abbrev pub broken_by : Declarations → Item → Option Rule

@@ -77,7 +77,11 @@ fn first_of_functions(
     None
 }
 
-fn first_of_vtables(table: &DeclarationTable, vtables: &[Vtable], from: usize) -> Option<ItemFault>
+pub(crate) fn first_of_vtables(
+    table: &DeclarationTable,
+    vtables: &[Vtable],
+    from: usize,
+) -> Option<ItemFault>
     requires { from + length vtables.now < 2 ^ 64 }
     ensures { result ≡ fault_from table.now from (map item.vtable vtables.now) }
 {

@@ -6,5 +6,7 @@ mod by_item;
 mod items;
 mod storage;
 mod types;
+mod wrong;
 
 pub use by_item::{ItemFault, first_fault};
+pub use wrong::{any_bad_member, any_wrong_vtable, is_wrong_type};

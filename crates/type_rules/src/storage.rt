@@ -74,6 +74,20 @@ fn is_misplaced_value(table: &DeclarationTable, ty: &TypeName) -> bool
     }
 }
 
+/// Whether weak or unowned storage is misplaced in a type that stands there.
+pub(crate) fn is_misplaced(table: &DeclarationTable, standing: Standing, ty: &TypeName) -> bool
+    ensures { result ≡ rules.is_misplaced_at table.now standing ty.now }
+{
+    match standing {
+        Standing::Object => has_storage(ty),
+        Standing::WeakField => !is_optional_class(table, ty),
+        Standing::UnownedField => !is_class_type(table, ty),
+        Standing::Slot => is_misplaced_in_storage(table, ty),
+        Standing::Value => is_misplaced_value(table, ty),
+        Standing::Unwritten => false,
+    }
+}
+
 /// Finds weak and unowned storage that is misplaced.
 #[derive(Drop)]
 pub(crate) struct MisplacedStorage<'a> {
@@ -84,14 +98,7 @@ impl MentionTest for MisplacedStorage<'_> {
     ghost holds = { λ test. rules.is_misplaced test.table.now };
 
     fn of_written(&self, standing: Standing, ty: &TypeName) -> bool {
-        match standing {
-            Standing::Object => has_storage(ty),
-            Standing::WeakField => !is_optional_class(self.table, ty),
-            Standing::UnownedField => !is_class_type(self.table, ty),
-            Standing::Slot => is_misplaced_in_storage(self.table, ty),
-            Standing::Value => is_misplaced_value(self.table, ty),
-            Standing::Unwritten => false,
-        }
+        is_misplaced(self.table, standing, ty)
     }
 
     fn of_declared(&self, _: &Text) -> bool {

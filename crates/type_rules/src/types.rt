@@ -2,7 +2,8 @@
 
 ghost use Rattle.std.specs.Prelude.{◌≡◌, map, not};
 ghost use Rattle.std.specs.List.{list_all};
-ghost use Rattle.type_definitions.specs.Rules.{has_unknown_owner, is_no_member, is_unknown};
+ghost use Rattle.type_definitions.specs.Mentions.{mention};
+ghost use Rattle.type_definitions.specs.Rules.{has_unknown_owner, is_no_member};
 ghost use Rattle.type_definitions.specs.Rules as rules;
 
 use declaration_table::DeclarationTable;
@@ -38,6 +39,16 @@ fn are_declared(table: &DeclarationTable, elements: &[TypeName]) -> bool
     true
 }
 
+/// Whether the text writes a type there, with a name that isn't declared.
+pub(crate) fn is_unknown(table: &DeclarationTable, standing: Standing, ty: &TypeName) -> bool
+    ensures { result ≡ rules.is_unknown table.now (mention standing ty.now) }
+{
+    match standing {
+        Standing::Unwritten => false,
+        _ => !is_declared(table, ty),
+    }
+}
+
 /// Finds types with a name that isn't declared.
 #[derive(Drop)]
 pub(crate) struct UnknownTypes<'a> {
@@ -45,13 +56,10 @@ pub(crate) struct UnknownTypes<'a> {
 }
 
 impl MentionTest for UnknownTypes<'_> {
-    ghost holds = { λ test. is_unknown test.table.now };
+    ghost holds = { λ test. rules.is_unknown test.table.now };
 
     fn of_written(&self, standing: Standing, ty: &TypeName) -> bool {
-        match standing {
-            Standing::Unwritten => false,
-            _ => !is_declared(self.table, ty),
-        }
+        is_unknown(self.table, standing, ty)
     }
 
     fn of_declared(&self, _: &Text) -> bool {

@@ -1,6 +1,6 @@
 //! The types of a function's values, by their numbers, and how many results the row of each instruction gives.
 
-ghost use Rattle.std.specs.Prelude.{◌≡◌, ◌++◌, IfOk, OnOk, [], ◌∷◌, length, map, option_map, slice_get, unwrap_or};
+ghost use Rattle.std.specs.Prelude.{◌≡◌, ◌++◌, OnOk, [], ◌∷◌, length, map, option_map, slice_get, unwrap_or};
 ghost use Rattle.std.specs.List.{flat_map, range_with_len};
 ghost use Rattle.numbered_form.specs.Insts.{insts_in, insts_of};
 ghost use Rattle.row_types.specs.Views.{made_told, view_told};
@@ -111,21 +111,30 @@ fn add_block<'a>(
     add_results(given, table, &block.terminator)
 }
 
-/// The types of a function's values, by their numbers, and how many results each instruction's row gives: each row is asked once.
-pub fn value_types<'a>(
-    alloc: Global,
+impl<'a> GivenTypes<'a> {
+    /// Those of no function.
+    pub fn new(alloc: Global) -> GivenTypes<'a> {
+        GivenTypes {
+            types: Vec::new(alloc),
+            counts: Vec::new(alloc),
+        }
+    }
+}
+
+/// Makes of `given`, in its memory, what the rows of a function's instructions give: the types of the function's values, by their
+/// numbers, and how many results each instruction's row gives. Each row is asked once.
+pub fn find_value_types<'a>(
+    given: &mut GivenTypes<'a>,
     table: &'a TypeTable,
     f: &'a Function,
-) -> Result<GivenTypes<'a>, Exhausted>
-    ensures types { IfOk result (λ given. types_told given.types.items ≡ values.value_types table.now f.now) }
-    ensures counts { IfOk result (λ given. given.counts.items ≡ map (given_count table.now) (insts_in f.now.blocks)) }
+) -> Result<(), Exhausted>
+    ensures types { OnOk result (types_told given.new.types.items ≡ values.value_types table.now f.now) }
+    ensures counts { OnOk result (given.new.counts.items ≡ map (given_count table.now) (insts_in f.now.blocks)) }
 {
-    let mut given = GivenTypes {
-        types: Vec::new(alloc),
-        counts: Vec::new(alloc),
-    };
+    given.types.clear();
+    given.counts.clear();
     for block in f.blocks.as_slice() {
-        add_block(&mut given, table, block)?;
+        add_block(given, table, block)?;
     }
-    Ok(given)
+    Ok(())
 }

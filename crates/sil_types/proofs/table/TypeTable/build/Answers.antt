@@ -4,6 +4,6 @@ use Rattle.sil_types.proofs.table.TypeTable.build.Goals as goal
 pub returns-clause-ok : goal.returns-clause-ok
 returns-clause-ok c = record {
   copied = c.in_ok-declarations.ensures;
-  declared = all_declared c.args.m.now c.in_ok-check_items.ensures.ok c.in_ok-order.ensures.finite;
-  limits = c.in_ok-check_limits.ensures.ok;
+  declared = all_declared c.args.m.now c.in_ok-check_items_and_limits.ensures.items c.in_ok-order.ensures.finite;
+  limits = c.in_ok-check_items_and_limits.ensures.limits;
 }

@@ -4,7 +4,7 @@ use Rattle.numbered_form.specs.Insts.{insts_in}
 use Rattle.sil_types.specs.Typing.Values.{block_types}
 use Rattle.value_types.specs.Given.{given_count}
 use Rattle.value_types.specs.Told.{types_told}
-use Rattle.value_types.proofs.values.value_types.Given as goal
+use Rattle.value_types.proofs.values.find_value_types.Given as goal
 
 abbrev pub invariant-loop-block : goal.invariant-loop-block
 invariant-loop-block l =
