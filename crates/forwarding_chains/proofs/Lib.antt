@@ -4,5 +4,5 @@ mod Depths
 mod Settled
 mod Chaining
 pub mod FactLemmas
-mod RingLemmas
+pub mod RingLemmas
 mod Enough

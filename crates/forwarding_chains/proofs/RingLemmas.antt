@@ -1,6 +1,6 @@
 -- Values with facts are on no ring; where each of some values has an operand among them, one is on a ring.
 use Rattle.std.proofs.Common.{◌≡◌, ℕ, zero, suc, ◌<◌, ◌≤◌, List, [], ◌∷◌, length, get_or, set, replicate, refl, sym, ap, ◌∙◌, subst, arith, Bool, true, false, not, ◌⊎◌, inl, inr, Option, Some, None}
-use Rattle.std.specs.Prelude.{Contains, count_by, map, slice_get, unwrap_or, ◌&&◌, is_some, IsSomeAnd, IfNone}
+use Rattle.std.specs.Prelude.{All, Contains, count_by, map, slice_get, unwrap_or, ◌&&◌, is_some, IsSomeAnd, IfNone}
 use Rattle.std.specs.List.{list_all}
 use Rattle.std.proofs.lemmas.Bool.{cases_lt}
 use Rattle.std.proofs.lemmas.Option.{none-some}
@@ -178,3 +178,22 @@ module _ (defs : List Definition) (ranks : List ℕ) (ranked : NeverFall defs ra
       let a : rank ranks v < rank ranks u = All-contains (λ x. rank ranks v < rank ranks x) (operands_at defs v) u rises c in
       let b : rank ranks u ≤ rank ranks v = never_lower u v h in
       omega arith
+
+-- where each value has its operands before it, a chain only leads back, and to no ring
+module _ (defs : List Definition) (ordered : (v : ValueId) → v.0 < length defs → All (λ w. w.0 < v.0) (operands_at defs v)) where
+  operand_before : (v w : ValueId) → Contains (operands_at defs v) w → w.0 < v.0
+  operand_before v w c = at (cases_lt v.0 (length defs))
+    where
+      at : (v.0 < length defs) ⊎ (length defs ≤ v.0) → w.0 < v.0
+      at (inl lt) = All-contains (λ x. x.0 < v.0) (operands_at defs v) w (ordered v lt) c
+      at (inr le) = absurd (no_chain defs v w (no_operands defs v le) (one v w c))
+
+  leads_back : (v w : ValueId) → Chain defs v w → w.0 < v.0
+  leads_back v w (one _ _ c) = operand_before v w c
+  leads_back v w (more _ u _ c h) =
+      let a : u.0 < v.0 = operand_before v u c in
+      let b : w.0 < u.0 = leads_back u w h in
+      omega arith
+
+  pub ordered_off : HasNoRing defs
+  ordered_off v h = let lt : v.0 < v.0 = leads_back v v h in omega arith

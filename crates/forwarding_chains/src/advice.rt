@@ -1,7 +1,7 @@
 //! A good order to look at the values in, and good ranks. Nothing rests on either but the time that is taken.
 
 use crate::definition::Definition;
-use sil_ast::{Exhausted, ValueId};
+use sil_ast::Exhausted;
 use std::alloc::Global;
 
 /// How many turns a walk from each value along all operands takes at most.
@@ -37,29 +37,9 @@ fn enter(
     Ok(())
 }
 
-/// Whether all values have lesser numbers than this one.
-fn are_before(values: &[ValueId], number: usize) -> bool {
-    values.iter().all(|value| (value.0 as usize) < number)
-}
-
-/// Whether each value has its operands before it, as where no block hands one of them back to a block before it: then
-/// the order of the numbers is as good as any, and no value is on a ring.
-fn are_in_order(defs: &[Definition]) -> bool {
-    for number in 0..defs.len() {
-        if !are_before(defs[number].operands.as_slice(), number) {
-            return false;
-        }
-    }
-    true
-}
-
 /// All values as a walk in depth leaves them: operands before what is made from them, wherever no ring is in the way.
-/// None where they stand in order: then a sweep over them needs no advice.
 pub(crate) fn operands_first(alloc: Global, defs: &[Definition]) -> Result<Vec<usize>, Exhausted> {
     let mut order = Vec::new(alloc);
-    if are_in_order(defs) {
-        return Ok(order);
-    }
     let mut stack = Vec::new(alloc);
     let mut met = vec![in alloc; false; defs.len()]?;
     for root in 0..defs.len() {
@@ -118,15 +98,6 @@ fn rank_from(
     Ok(())
 }
 
-/// Ranks that fall from number to number.
-fn falling_ranks(alloc: Global, count: usize) -> Result<Vec<usize>, Exhausted> {
-    let mut ranks = Vec::with_capacity(alloc, count)?;
-    for number in 0..count {
-        ranks.push(count - number)?;
-    }
-    Ok(ranks)
-}
-
 /// Ranks that are equal along a ring and rise from a value to its operands elsewhere.
 /// Those that lead to each other have been found once the users are followed from the last that `order` placed.
 pub(crate) fn ranks_along(
@@ -134,9 +105,6 @@ pub(crate) fn ranks_along(
     defs: &[Definition],
     order: &[usize],
 ) -> Result<Vec<usize>, Exhausted> {
-    if are_in_order(defs) {
-        return falling_ranks(alloc, defs.len());
-    }
     let users = users_of(alloc, defs)?;
     let turns = turns(defs);
     let mut ranks = vec![in alloc; 0; defs.len()]?;

@@ -8,6 +8,7 @@ mod definition;
 mod derive;
 mod facts;
 mod laws;
+mod order;
 mod outcome;
 mod ranks;
 mod rings;

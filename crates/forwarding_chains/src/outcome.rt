@@ -8,6 +8,7 @@ ghost use Rattle.forwarding_chains.specs.Outcome.{AreAll, KnowsAllButRings, IsEx
 use crate::advice::operands_first;
 use crate::definition::Definition;
 use crate::facts::Facts;
+use crate::order::are_in_order;
 use crate::rings::first_along;
 use crate::settle::all_facts;
 use sil_ast::{Exhausted, List, ValueId};
@@ -34,6 +35,13 @@ pub fn kinds_of(alloc: Global, defs: &[Definition]) -> Result<Outcome, Exhausted
     ensures acyclic { IfOk result (λ o. IfNone o.cyclic (HasNoRing defs.now)) }
     ensures all { IfOk result (λ o. IfNone o.cyclic (AreAll defs.now o.table)) }
 {
+    if are_in_order(defs) {
+        let table = all_facts(alloc, defs, &[])?;
+        return Ok(Outcome {
+            table: List::from_vec(table),
+            cyclic: None,
+        });
+    }
     let order = operands_first(alloc, defs)?;
     let table = all_facts(alloc, defs, order.as_slice())?;
     let cyclic = first_along(alloc, defs, order.as_slice())?;

@@ -7,6 +7,7 @@ ghost use Rattle.forwarding_chains.specs.Ranks.{NeverFall};
 
 use crate::advice::{operands_first, ranks_along};
 use crate::definition::Definition;
+use crate::order::are_in_order;
 use crate::ranks::{never_fall, rises};
 use crate::search::is_cyclic;
 use sil_ast::{Exhausted, ValueId};
@@ -75,6 +76,9 @@ pub fn first_cyclic(alloc: Global, defs: &[Definition]) -> Result<Option<ValueId
     ensures some { IfOk result (λ o. IfSome o (IsFirstCyclic defs.now)) }
     ensures none { IfOk result (λ o. IfNone o (HasNoRing defs.now)) }
 {
+    if are_in_order(defs) {
+        return Ok(None);
+    }
     let order = operands_first(alloc, defs)?;
     first_along(alloc, defs, order.as_slice())
 }

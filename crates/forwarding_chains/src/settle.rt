@@ -107,7 +107,7 @@ pub(crate) fn all_facts(
     ensures exact { IfOk result (λ table. IsExact defs.now (told_at table.items)) }
     ensures stuck { IfOk result (λ table. AreStuck defs.now (told_at table.items) (length defs.now)) }
 {
-    let mut table = Vec::new(alloc);
+    let mut table = Vec::with_capacity(alloc, defs.len())?;
     for _ in 0..defs.len() {
         table.push(None)?;
     }

@@ -9,6 +9,7 @@ ghost use Rattle.ownership_kinds.specs.Statics.{block_borrows, borrows_by, resul
 use instruction_table::{Op, ResultKind, result_kind_of};
 use sil_ast::{Block, Boxed, Exhausted, Function, Inst, ValueId};
 use std::alloc::Global;
+use value_origins::room_for_values;
 
 /// Whether an instruction's result is a borrow.
 fn borrows(op: Op) -> bool
@@ -61,7 +62,7 @@ fn add_block(answers: &mut Vec<bool>, block: &Block) -> Result<(), Exhausted>
 pub fn borrows_of(alloc: Global, f: &Function) -> Result<Vec<bool>, Exhausted>
     ensures { IfOk result (λ answers. answers.items ≡ statics.borrows_of f.now) }
 {
-    let mut answers = Vec::new(alloc);
+    let mut answers = Vec::with_capacity(alloc, room_for_values(f))?;
     for block in f.blocks.as_slice() {
         add_block(&mut answers, block)?;
     }

@@ -1,4 +1,4 @@
-//! The kinds of a function whose values' definitions and renamings are known, or the first broken rule on kinds.
+//! The kinds of a function whose values' definitions and first ring of renamings are known, or the first broken rule on kinds.
 
 ghost use Rattle.std.specs.Prelude.{◌≡◌, ◌<◌, ◌^◌, All, IfErr, IfNone, IfOk, IfSome, OnOk, length};
 ghost use Rattle.numbered_form.specs.Numbering.{AreCountedFrom, values_of};
@@ -6,6 +6,7 @@ ghost use Rattle.forwarding_chains.specs.Chains.{HasNoRing, IsFirstCyclic, IsInR
 ghost use Rattle.forwarding_chains.specs.Facts.{told_at};
 ghost use Rattle.value_origins.specs.Origins.{definitions_of};
 ghost use Rattle.value_origins.specs.Renamings.{renamings_of};
+ghost use Rattle.value_origins.specs.Tables.{AreSwitches};
 ghost use Rattle.ownership_marks.specs.Known.{AreKindsBy};
 ghost use Rattle.ownership_kinds.specs.Facts.{facts_in};
 ghost use Rattle.ownership_kinds.specs.Known as known;
@@ -15,13 +16,13 @@ ghost use Rattle.ownership_kinds.specs.Statics.{HasKinds, IsFirstBroken};
 use crate::borrows::borrows_of;
 use crate::fault::StaticFault;
 use crate::statics::{Known, first_broken};
-use forwarding_chains::{Definition, Facts, Outcome, first_cyclic, kinds_of};
+use forwarding_chains::{Definition, Facts, Outcome, kinds_of};
 use ownership_marks::Kinds;
 use sil_ast::{Exhausted, Function, ValueId};
 use sil_cfg::Graph;
 use sil_types::TypeTable;
 use std::alloc::Global;
-use value_origins::switches;
+use value_origins::Switched;
 
 /// Of two values the one with the lesser number.
 fn first_of(one: Option<ValueId>, other: Option<ValueId>) -> Option<ValueId>
@@ -39,23 +40,24 @@ fn broken_by(
     alloc: Global,
     types: &TypeTable,
     f: &Function,
+    switches: &[Option<Switched>],
     facts: &[Option<Facts>],
     ring: Option<ValueId>,
 ) -> Result<Option<StaticFault>, Exhausted>
     requires counted { AreCountedFrom 0 (values_of f.now.blocks) }
     requires blocks { length f.now.blocks < 2 ^ 32 }
     requires short { All (λ b. length b.insts < 2 ^ 32) f.now.blocks }
+    requires switches { AreSwitches f.now switches.now }
     requires facts { (v : ValueId) → told_at facts.now v ≡ facts_in types.now f.now v }
     requires ring { IsRingOf types.now f.now ring }
     ensures some { IfOk result (λ r. IfSome r (λ x. IsFirstBroken types.now f.now x.rule x.subject x.point.block.0 x.point.index)) }
     ensures none { IfOk result (λ r. IfNone r (HasKinds types.now f.now)) }
 {
-    let switches = switches(alloc, f)?;
     let borrows = borrows_of(alloc, f)?;
     let known = Known {
         facts,
         borrows: borrows.as_slice(),
-        switches: switches.as_slice(),
+        switches,
         ring,
     };
     let broken = first_broken(alloc, &known, types, f)?;
@@ -68,26 +70,27 @@ pub(crate) fn decide(
     types: &TypeTable,
     f: &Function,
     g: &Graph,
+    switches: &[Option<Switched>],
     definitions: &[Definition],
-    renamings: &[Definition],
+    renamed: Option<ValueId>,
 ) -> Result<Result<Kinds, StaticFault>, Exhausted>
     requires counted { AreCountedFrom 0 (values_of f.now.blocks) }
     requires blocks { length f.now.blocks < 2 ^ 32 }
     requires short { All (λ b. length b.insts < 2 ^ 32) f.now.blocks }
+    requires switches { AreSwitches f.now switches.now }
     requires definitions { definitions.now ≡ definitions_of types.now f.now }
-    requires renamings { renamings.now ≡ renamings_of f.now }
     requires defined_in_range { IsInRange definitions.now }
-    requires renamed_in_range { IsInRange renamings.now }
     requires defined_each { length definitions.now ≡ length (values_of f.now.blocks) }
-    requires renamed_each { length renamings.now ≡ length (values_of f.now.blocks) }
+    requires renamed_each { length (renamings_of f.now) ≡ length (values_of f.now.blocks) }
+    requires first_renamed { IfSome renamed (IsFirstCyclic (renamings_of f.now)) }
+    requires none_renamed { IfNone renamed (HasNoRing (renamings_of f.now)) }
     ensures kinds { IfOk result (λ r. IfOk r (AreKindsBy (length (values_of f.now.blocks)) (facts_in types.now f.now) f.now g.now)) }
     ensures keeps { IfOk result (λ r. OnOk r (HasKinds types.now f.now)) }
     ensures broken { IfOk result (λ r. IfErr r (λ x. IsFirstBroken types.now f.now x.rule x.subject x.point.block.0 x.point.index)) }
 {
-    let renamed = first_cyclic(alloc, renamings)?;
     let Outcome { table, cyclic } = kinds_of(alloc, definitions)?;
     let ring = first_of(cyclic, renamed);
-    match broken_by(alloc, types, f, table.as_slice(), ring)? {
+    match broken_by(alloc, types, f, switches, table.as_slice(), ring)? {
         Some(fault) => Ok(Err(fault)),
         None => {
             let kinds = Kinds::with(alloc, table, f, g)?;

@@ -1,8 +1,11 @@
 //! The kinds of a function, or why it has none.
 
-ghost use Rattle.std.specs.Prelude.{◌≡◌, IfErr, IfOk, OnOk, length};
+ghost use Rattle.std.specs.Prelude.{◌≡◌, IfErr, IfNone, IfOk, IfSome, OnOk, length};
 ghost use Rattle.numbered_form.specs.Numbering.{values_of};
 ghost use Rattle.sil_cfg.specs.Build.{HasGraph};
+ghost use Rattle.forwarding_chains.specs.Chains.{HasNoRing, IsFirstCyclic, IsInRange};
+ghost use Rattle.value_origins.specs.Renamings.{renamings_of};
+ghost use Rattle.value_origins.specs.Tables.{AreSwitches};
 ghost use Rattle.ownership_marks.specs.Known.{AreKindsBy};
 ghost use Rattle.ownership_kinds.specs.Ends.{IsEndOn, IsFaultOf, IsOfNumberedModule};
 ghost use Rattle.ownership_kinds.specs.Facts.{facts_in};
@@ -10,12 +13,31 @@ ghost use Rattle.ownership_kinds.specs.Statics.{HasKinds, IsFirstBroken};
 
 use crate::decide::decide;
 use crate::fault::StaticFault;
+use forwarding_chains::first_cyclic;
 use ownership_marks::Kinds;
-use sil_ast::{Exhausted, Function, List};
+use sil_ast::{Exhausted, Function, List, ValueId};
 use sil_cfg::{Graph, RuleEnd, RuleFault};
 use sil_types::TypeTable;
 use std::alloc::Global;
-use value_origins::{definitions, renamings};
+use value_origins::{Switched, are_renamed_in_order, definitions, renamings, switches};
+
+/// The first value on a ring of renamings. Most functions have no renaming of a value behind it, and are asked for no more.
+fn first_renamed(
+    alloc: Global,
+    f: &Function,
+    switches: &[Option<Switched>],
+) -> Result<Option<ValueId>, Exhausted>
+    requires range { IsInRange (renamings_of f.now) }
+    requires switches { AreSwitches f.now switches.now }
+    ensures some { IfOk result (λ o. IfSome o (IsFirstCyclic (renamings_of f.now))) }
+    ensures none { IfOk result (λ o. IfNone o (HasNoRing (renamings_of f.now))) }
+{
+    if are_renamed_in_order(f, switches) {
+        return Ok(None);
+    }
+    let renamings = renamings(alloc, f, switches)?;
+    first_cyclic(alloc, renamings.as_slice())
+}
 
 /// The kinds of the function's values and the marks of its items, or else the first broken rule on kinds.
 fn find(
@@ -30,15 +52,17 @@ fn find(
     ensures keeps { IfOk result (λ r. OnOk r (HasKinds types.now f.now)) }
     ensures broken { IfOk result (λ r. IfErr r (λ x. IsFirstBroken types.now f.now x.rule x.subject x.point.block.0 x.point.index)) }
 {
-    let definitions = definitions(alloc, types, f)?;
-    let renamings = renamings(alloc, f)?;
+    let switches = switches(alloc, f)?;
+    let definitions = definitions(alloc, types, f, switches.as_slice())?;
+    let renamed = first_renamed(alloc, f, switches.as_slice())?;
     decide(
         alloc,
         types,
         f,
         g,
+        switches.as_slice(),
         definitions.as_slice(),
-        renamings.as_slice(),
+        renamed,
     )
 }
 

@@ -1,5 +1,5 @@
 -- The roles of operands, one by one.
-use Rattle.std.proofs.Common.{◌≡◌, ℕ, zero, suc, ◌+◌, ◌<◌, List, [], ◌∷◌, ◌++◌, length, get_or, take, refl, sym, ap, ap₂, ◌∙◌, arith, add-one, Some, map}
+use Rattle.std.proofs.Common.{◌≡◌, ℕ, zero, suc, ◌+◌, ◌<◌, List, [], ◌∷◌, ◌++◌, length, replicate, get_or, take, refl, sym, ap, ap₂, ◌∙◌, arith, add-one, Some, map}
 use Rattle.std.specs.List.{slice_get}
 use Rattle.std.specs.Option.{option_to_list}
 use Rattle.instruction_table.specs.declared.entries.Role.{Role}
@@ -42,3 +42,8 @@ next_operand (x ∷ os) (r ∷ rs) (suc i) o lt e = ap (λ v. taken_as x r ∷ v
 pub taken_each_more : (os : List Operand) (rs : List Role) (i : ℕ) (o : Operand) → i < length os → o ≡ get_or os i o →
     taken_each (take (i + 1) os) rs ≡ taken_each (take i os) rs ++ map (taken_as o) (option_to_list (slice_get rs i))
 taken_each_more os rs i o lt e = ap (λ n. taken_each (take n os) rs) (add-one i) ∙ next_operand os rs i o lt e
+
+-- where all have one role
+pub taken_alike : (os : List Operand) (r : Role) → map (λ o. taken_as o r) os ≡ taken_each os (replicate (length os) r)
+taken_alike [] r = refl
+taken_alike (o ∷ os) r = ap (λ v. taken_as o r ∷ v) (taken_alike os r)

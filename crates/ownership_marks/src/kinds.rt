@@ -86,16 +86,8 @@ impl Kinds {
         ensures { IfOk result (λ v. v.items ≡ marks.marks_of (told_at self.now.table) f.now item) }
     {
         let mut taken = Vec::new(alloc);
-        let mut defined = Vec::new(alloc);
         let mut marks = Vec::new(alloc);
-        make_marks(
-            &mut marks,
-            self.table.as_slice(),
-            f,
-            item,
-            &mut taken,
-            &mut defined,
-        )?;
+        make_marks(&mut marks, self.table.as_slice(), f, item, &mut taken)?;
         Ok(marks)
     }
 }

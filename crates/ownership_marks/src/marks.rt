@@ -8,15 +8,15 @@ ghost use Rattle.sil_cfg.specs.Layout.{item_count};
 ghost use Rattle.forwarding_chains.specs.Facts.{told_at};
 ghost use Rattle.ownership_marks.specs.Known.{AreMarksOf, marks_in};
 ghost use Rattle.ownership_marks.specs.Marks as marks;
-ghost use Rattle.ownership_marks.specs.Marks.{begun, end_of, ended, ended_by, marks_of, use_of, used};
+ghost use Rattle.ownership_marks.specs.Marks.{arg_value, begun, end_of, ended, ended_by, item_defined, marks_of, use_of, used};
 
 use crate::mark::{Mark, MarkSort};
-use crate::passed::{add_item_defined, add_item_taken};
+use crate::passed::{add_item_taken, args_along, args_of, results_of};
 use crate::taken::Taken;
 use forwarding_chains::Facts;
 use instruction_table::Role;
 use item_lists::ItemLists;
-use sil_ast::{Exhausted, Function, ValueId};
+use sil_ast::{BlockArg, BlockId, Exhausted, Function, ValueId};
 use sil_cfg::{Graph, Item};
 use std::alloc::Global;
 use type_definitions::Kind;
@@ -192,38 +192,65 @@ fn add_begin(
 fn add_begins(
     marks: &mut Vec<Mark>,
     table: &[Option<Facts>],
-    defined: &[ValueId],
+    values: &[ValueId],
 ) -> Result<(), Exhausted>
-    ensures { OnOk result (marks.new.items ≡ marks.old.items ++ flat_map (begun (told_at table.now)) defined.now) }
+    ensures { OnOk result (marks.new.items ≡ marks.old.items ++ flat_map (begun (told_at table.now)) values.now) }
 {
-    for value in defined {
+    for value in values {
         add_begin(marks, table, *value)?;
     }
     Ok(())
 }
 
-/// Makes `marks` those of an item: ends in the order of its operands, then uses, then beginnings. What `taken` and `defined` hold doesn't matter: they are memory for the operands and the values that it defines.
+fn add_begins_of_args(
+    marks: &mut Vec<Mark>,
+    table: &[Option<Facts>],
+    args: &[BlockArg],
+) -> Result<(), Exhausted>
+    ensures { OnOk result (marks.new.items ≡ marks.old.items ++ flat_map (begun (told_at table.now)) (map arg_value args.now)) }
+{
+    for arg in args {
+        add_begin(marks, table, arg.value)?;
+    }
+    Ok(())
+}
+
+/// The beginnings of the values that an item defines.
+fn add_item_begins(
+    marks: &mut Vec<Mark>,
+    table: &[Option<Facts>],
+    f: &Function,
+    item: Item,
+) -> Result<(), Exhausted>
+    ensures { OnOk result (marks.new.items ≡ marks.old.items ++ flat_map (begun (told_at table.now)) (item_defined f.now item)) }
+{
+    match item {
+        Item::Entry => add_begins_of_args(marks, table, args_of(f, BlockId(0))),
+        Item::Inst(p) => add_begins(marks, table, results_of(f, p)),
+        Item::Edge(e) => add_begins_of_args(marks, table, args_along(f, e)),
+        Item::Exit(_) => Ok(()),
+    }
+}
+
+/// Makes `marks` those of an item: ends in the order of its operands, then uses, then beginnings. What `taken` holds doesn't matter: it is memory for the operands.
 pub(crate) fn make_marks(
     marks: &mut Vec<Mark>,
     table: &[Option<Facts>],
     f: &Function,
     item: Item,
     taken: &mut Vec<Taken>,
-    defined: &mut Vec<ValueId>,
 ) -> Result<(), Exhausted>
     ensures { OnOk result (marks.new.items ≡ marks_of (told_at table.now) f.now item) }
 {
     taken.clear();
     add_item_taken(taken, f, item)?;
-    defined.clear();
-    add_item_defined(defined, f, item)?;
     marks.clear();
     add_ends(marks, table, taken.as_slice())?;
     add_uses(marks, table, taken.as_slice())?;
-    add_begins(marks, table, defined.as_slice())
+    add_item_begins(marks, table, f, item)
 }
 
-/// The marks of an item, as those behind the items before. `own`, `taken` and `defined` are room for them.
+/// The marks of an item, as those behind the items before. `own` and `taken` are room for them.
 fn push_item(
     all: &mut ItemLists<Mark>,
     own: &mut Vec<Mark>,
@@ -231,11 +258,10 @@ fn push_item(
     f: &Function,
     item: Item,
     taken: &mut Vec<Taken>,
-    defined: &mut Vec<ValueId>,
 ) -> Result<(), Exhausted>
     ensures { OnOk result (all.new ≡ all.old ++ marks_of (told_at table.now) f.now item ∷ []) }
 {
-    make_marks(own, table, f, item, taken, defined)?;
+    make_marks(own, table, f, item, taken)?;
     all.push(own.as_slice())
 }
 
@@ -251,19 +277,10 @@ pub(crate) fn all_marks(
     ensures marks { IfOk result (λ v. AreMarksOf (told_at table.now) f.now g.now (marks_in v)) }
 {
     let mut taken = Vec::new(alloc);
-    let mut defined = Vec::new(alloc);
     let mut own = Vec::new(alloc);
     let mut all = ItemLists::with_capacity(alloc, g.items())?;
     for i in 0..g.items() {
-        push_item(
-            &mut all,
-            &mut own,
-            table,
-            f,
-            g.item(i),
-            &mut taken,
-            &mut defined,
-        )?;
+        push_item(&mut all, &mut own, table, f, g.item(i), &mut taken)?;
     }
     Ok(all)
 }

@@ -3,7 +3,7 @@
 ghost use Rattle.std.specs.Prelude.{◌≡◌, ◌++◌, map, slice_get, OnOk};
 ghost use Rattle.std.specs.Option.{option_copied};
 ghost use Rattle.ownership_marks.specs.Marks as marks;
-ghost use Rattle.ownership_marks.specs.Marks.{arg_value, edge_in, inst_in, item_defined, item_taken, results_at, taken_along_at, taken_at, terminator_in};
+ghost use Rattle.ownership_marks.specs.Marks.{arg_value, defined_along, edge_in, inst_in, item_defined, item_taken, results_at, taken_along_at, taken_at, terminator_in};
 
 use crate::taken::{Taken, add_taken_along, add_taken_by};
 use sil_ast::{BlockArg, BlockId, Edge, EdgeId, Exhausted, Function, Inst, PointId, ValueId};
@@ -39,7 +39,7 @@ fn edge_at(f: &Function, e: EdgeId) -> Option<&Edge>
 }
 
 /// The arguments of a block, and none where there is no such block.
-fn args_of(f: &Function, b: BlockId) -> &[BlockArg]
+pub(crate) fn args_of(f: &Function, b: BlockId) -> &[BlockArg]
     ensures { map arg_value result.now ≡ marks.args_of f.now b.0 }
 {
     match f.blocks.get(b.0 as usize) {
@@ -48,8 +48,18 @@ fn args_of(f: &Function, b: BlockId) -> &[BlockArg]
     }
 }
 
+/// The arguments of the block to which an edge goes, and none where there is no such edge.
+pub(crate) fn args_along(f: &Function, e: EdgeId) -> &[BlockArg]
+    ensures { map arg_value result.now ≡ defined_along f.now (edge_in (terminator_in (slice_get f.now.blocks e.block.0)) e.index) }
+{
+    match edge_at(f, e) {
+        None => &[],
+        Some(edge) => args_of(f, edge.block),
+    }
+}
+
 /// The results of the instruction at a point, and none at a terminator.
-fn results_of(f: &Function, p: PointId) -> &[ValueId]
+pub(crate) fn results_of(f: &Function, p: PointId) -> &[ValueId]
     ensures { result.now ≡ results_at (inst_in (slice_get f.now.blocks p.block.0) p.index) }
 {
     match inst_at(f, p) {
@@ -120,10 +130,7 @@ pub fn add_item_defined(
     match item {
         Item::Entry => add_args(defined, args_of(f, BlockId(0))),
         Item::Inst(p) => add_results(defined, results_of(f, p)),
-        Item::Edge(e) => match edge_at(f, e) {
-            None => Ok(()),
-            Some(edge) => add_args(defined, args_of(f, edge.block)),
-        },
+        Item::Edge(e) => add_args(defined, args_along(f, e)),
         Item::Exit(_) => Ok(()),
     }
 }

@@ -1,8 +1,10 @@
 //! What an instruction does to its operands.
 
-ghost use Rattle.std.specs.Prelude.{◌≡◌, ◌++◌, ◌<◌, ℕ, length, map, slice_get, OnOk};
+ghost use Rattle.std.specs.Prelude.{◌≡◌, ◌++◌, ◌<◌, ℕ, IfSome, List, length, map, replicate, slice_get, OnOk};
+ghost use Rattle.std.specs.Bool.{OnTrue};
+ghost use Rattle.sil_ast.specs.declared.signature.Param.{Param};
 ghost use Rattle.ownership_marks.specs.Roles as roles;
-ghost use Rattle.ownership_marks.specs.Roles.{last_roles, params_in, roles_for, taken_along, taken_by, taken_each};
+ghost use Rattle.ownership_marks.specs.Roles.{last_roles, params_in, roles_for, taken_along, taken_as, taken_by, taken_each};
 
 use instruction_table::{Role, roles_of};
 use sil_ast::{Edge, Exhausted, Inst, Operand, Param, Passing, ValueId};
@@ -94,28 +96,61 @@ fn add_operands(
     Ok(())
 }
 
+/// Whether a last role of a row is that of each operand that it is for, whatever the parameters are.
+fn is_alike(role: Role) -> bool
+    ensures { OnTrue result ((params : List Param) (n : ℕ) → last_roles role params n ≡ replicate n role) }
+{
+    match role {
+        Role::ByParameter => false,
+        Role::Consumed
+        | Role::Used
+        | Role::Lent
+        | Role::Forwarded
+        | Role::AddressRole
+        | Role::AnyRole
+        | Role::ScopeRole
+        | Role::Counted => true,
+    }
+}
+
+/// The role of all operands, where a row has one for all.
+fn role_of_all(row: &[Role]) -> Option<Role>
+    ensures { IfSome result (λ role. (params : List Param) (n : ℕ) → roles_for row.now params n ≡ replicate n role) }
+{
+    match row {
+        [role] if is_alike(*role) => Some(*role),
+        _ => None,
+    }
+}
+
+/// Adds operands of this role.
+fn add_alike(taken: &mut Vec<Taken>, operands: &[Operand], role: Role) -> Result<(), Exhausted>
+    ensures { OnOk result (taken.new.items ≡ taken.old.items ++ map (λ o. taken_as o role) operands.now) }
+{
+    for operand in operands {
+        taken.push(Taken {
+            value: operand.value,
+            role,
+        })?;
+    }
+    Ok(())
+}
+
 /// Adds the operands of an instruction, each with what is done to it, in order.
 /// Those that it hands over along its edges are not among them.
 pub fn add_taken_by(taken: &mut Vec<Taken>, inst: &Inst) -> Result<(), Exhausted>
     ensures { OnOk result (taken.new.items ≡ taken.old.items ++ taken_by inst.now) }
 {
-    add_operands(
-        taken,
-        inst.operands.as_slice(),
-        roles_of(inst.op),
-        params_of(inst),
-    )
+    let row = roles_of(inst.op);
+    match role_of_all(row) {
+        Some(role) => add_alike(taken, inst.operands.as_slice(), role),
+        None => add_operands(taken, inst.operands.as_slice(), row, params_of(inst)),
+    }
 }
 
 /// Adds what an edge hands over, which it consumes.
 pub fn add_taken_along(taken: &mut Vec<Taken>, edge: &Edge) -> Result<(), Exhausted>
     ensures { OnOk result (taken.new.items ≡ taken.old.items ++ taken_along edge.now) }
 {
-    for operand in edge.args.as_slice() {
-        taken.push(Taken {
-            value: operand.value,
-            role: Role::Consumed,
-        })?;
-    }
-    Ok(())
+    add_alike(taken, edge.args.as_slice(), Role::Consumed)
 }

@@ -4,3 +4,4 @@ mod BlockByBlock
 mod TrivialTuples
 pub mod Counts
 pub mod Ranges
+mod Ordered

@@ -72,7 +72,7 @@ some_map : {A B : Type 0} (f : A → B) (P : A → Type 0) (Q : B → Type 0) �
 some_map f P Q e None h = tt
 some_map f P Q e (Some x) h = e x h
 
-all_from_each : {A : Type 0} (P : A → Type 0) (xs : List A) → Each P xs → All P xs
+pub all_from_each : {A : Type 0} (P : A → Type 0) (xs : List A) → Each P xs → All P xs
 all_from_each P [] h = All-nil P
 all_from_each P (x ∷ xs) h = All-cons P x xs h.0 (all_from_each P xs h.1)
 

@@ -8,8 +8,9 @@ ghost use Rattle.value_origins.specs.Tables.{AreSwitches};
 
 use crate::args::add_args;
 use crate::results::{add_all_results, add_results};
+use crate::room::room_for_values;
 use crate::switched::Switched;
-use crate::switching::{switch_of, switches};
+use crate::switching::switch_of;
 use forwarding_chains::Definition;
 use sil_ast::{Block, Exhausted, Function, List};
 use sil_types::TypeTable;
@@ -38,18 +39,20 @@ fn add_block(
     add_results(alloc, table, &block.terminator, defs)
 }
 
-/// How each value of the function comes by its kind and its bases, by the values' numbers. Fails where memory runs out.
+/// How each value of the function comes by its kind and its bases, by the values' numbers. `switches` has for each block
+/// the switch that goes to it. Fails where memory runs out.
 pub fn definitions(
     alloc: Global,
     table: &TypeTable,
     f: &Function,
+    switches: &[Option<Switched>],
 ) -> Result<List<Definition>, Exhausted>
+    requires { AreSwitches f.now switches.now }
     ensures { IfOk result (λ defs. defs ≡ definitions_of table.now f.now) }
 {
-    let switches = switches(alloc, f)?;
-    let mut defs = List::new(alloc);
+    let mut defs = List::with_capacity(alloc, room_for_values(f))?;
     for (number, block) in f.blocks.as_slice().iter().enumerate() {
-        let switched = switch_of(switches.as_slice(), number);
+        let switched = switch_of(switches, number);
         add_block(alloc, table, number, switched, block, &mut defs)?;
     }
     Ok(defs)

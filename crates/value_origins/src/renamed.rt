@@ -12,14 +12,14 @@ ghost use Rattle.value_origins.specs.Tables.{AreSwitches};
 use crate::operands::{one_or_none, operand_values};
 use crate::renaming::RENAMINGS;
 use crate::switched::Switched;
-use crate::switching::{switch_of, switches};
+use crate::switching::switch_of;
 use forwarding_chains::{Definition, Origin};
 use instruction_table::Op;
 use sil_ast::{Block, BlockArg, Boxed, Exhausted, Function, Inst, List, ShortList, ValueId};
 use std::alloc::Global;
 
 /// Whether the result is lowered to another name for the operand.
-fn renames(op: Op) -> bool
+pub(crate) fn renames(op: Op) -> bool
     ensures { result ≡ spec.renames op }
 {
     RENAMINGS[op as usize]
@@ -63,7 +63,7 @@ fn add_all_results(
 }
 
 /// The operand of the switch that goes to a block by its default.
-fn operand_by_default(switched: Option<Switched>) -> Option<ValueId>
+pub(crate) fn operand_by_default(switched: Option<Switched>) -> Option<ValueId>
     ensures { option_to_list result ≡ default_operand switched }
 {
     match switched {
@@ -116,14 +116,18 @@ fn add_block(
 }
 
 /// The values that each value of the function is another name of, by the values' numbers: as operands of definitions
-/// whose origins say nothing. Fails where memory runs out.
-pub fn renamings(alloc: Global, f: &Function) -> Result<List<Definition>, Exhausted>
+/// whose origins say nothing. `switches` has for each block the switch that goes to it. Fails where memory runs out.
+pub fn renamings(
+    alloc: Global,
+    f: &Function,
+    switches: &[Option<Switched>],
+) -> Result<List<Definition>, Exhausted>
+    requires { AreSwitches f.now switches.now }
     ensures { IfOk result (λ defs. defs ≡ renamings_of f.now) }
 {
-    let switches = switches(alloc, f)?;
     let mut defs = List::new(alloc);
     for (number, block) in f.blocks.as_slice().iter().enumerate() {
-        let switched = switch_of(switches.as_slice(), number);
+        let switched = switch_of(switches, number);
         add_block(alloc, switched, block, &mut defs)?;
     }
     Ok(defs)

@@ -5,4 +5,4 @@ use Rattle.ownership_marks.specs.Marks.{begun}
 use Rattle.ownership_marks.proofs.marks.add_begins.Given as goal
 
 abbrev pub invariant-loop-value : goal.invariant-loop-value
-invariant-loop-value l = l.marks.items ≡ l.initial.marks.items ++ flat_map (begun (told_at l.table)) (take l.value-index l.defined)
+invariant-loop-value l = l.marks.items ≡ l.initial.marks.items ++ flat_map (begun (told_at l.table)) (take l.value-index l.values)

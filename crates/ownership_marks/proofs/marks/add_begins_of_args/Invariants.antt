@@ -1,0 +1,8 @@
+use Rattle.std.proofs.Common.{◌≡◌, ◌++◌, map, take}
+use Rattle.std.specs.List.{flat_map}
+use Rattle.forwarding_chains.specs.Facts.{told_at}
+use Rattle.ownership_marks.specs.Marks.{arg_value, begun}
+use Rattle.ownership_marks.proofs.marks.add_begins_of_args.Given as goal
+
+abbrev pub invariant-loop-arg : goal.invariant-loop-arg
+invariant-loop-arg l = l.marks.items ≡ l.initial.marks.items ++ flat_map (begun (told_at l.table)) (map arg_value (take l.arg-index l.args))
