@@ -145,7 +145,7 @@ pub(crate) fn whole_block(
     let block = WrittenBlock {
         label,
         args: args.into_list(),
-        insts: insts.into_list(),
+        insts: insts.into_roomy_list(),
         terminator: terminator.into_inner(),
     };
     let value = Value::Block(Boxed::new(alloc, block)?);
@@ -200,6 +200,9 @@ pub(crate) fn block_arg(alloc: Global, values: &mut Prepended<Value>) -> Result<
     put_value(Value::Arg(arg), values)
 }
 
+/// Few blocks have more instructions. There is room for so many at once.
+const USUAL_COUNT: usize = 24;
+
 /// Puts an instruction, and the code behind it.
 #[inline(never)]
 #[tactic(auto, unfolding(crate::specs::Replay::reduced, crate::specs::Meaning::meaning, sil_shape::specs::Grammar::body))]
@@ -209,7 +212,7 @@ pub(crate) fn more_code(alloc: Global, values: &mut Prepended<Value>) -> Result<
 {
     let inst = values.pop_front().into_inst(alloc)?;
     let (mut insts, terminator) = values.pop_front().into_code(alloc)?;
-    insts.push_front(inst)?;
+    insts.push_front_of(USUAL_COUNT, inst)?;
     put_value(Value::Code(insts, terminator), values)
 }
 
