@@ -13,7 +13,7 @@ use crate::nothing::{discard, skip};
 use crate::prepended::Prepended;
 use crate::put::{put, put_value};
 use crate::value::{Reduced, Value};
-use sil_ast::{ArgKind, Boxed, Exhausted, List, TypeName};
+use sil_ast::{ArgKind, Boxed, Exhausted, ShortList, TypeName};
 use sil_rules::{LimitWord, limits};
 use sil_shape::grammar::Production;
 use std::alloc::Global;
@@ -145,7 +145,7 @@ pub(crate) fn whole_block(
     let block = WrittenBlock {
         label,
         args: args.into_list(),
-        insts: insts.into_list(),
+        insts: insts.into_roomy_list(),
         terminator: terminator.into_inner(),
     };
     let value = Value::Block(Boxed::new(alloc, block)?);
@@ -200,6 +200,9 @@ pub(crate) fn block_arg(alloc: Global, values: &mut Prepended<Value>) -> Result<
     put_value(Value::Arg(arg), values)
 }
 
+/// Few blocks have more instructions. There is room for so many at once.
+const USUAL_COUNT: usize = 24;
+
 /// Puts an instruction, and the code behind it.
 #[inline(never)]
 #[tactic(auto, unfolding(crate::specs::Replay::reduced, crate::specs::Meaning::meaning, sil_shape::specs::Grammar::body))]
@@ -209,7 +212,7 @@ pub(crate) fn more_code(alloc: Global, values: &mut Prepended<Value>) -> Result<
 {
     let inst = values.pop_front().into_inst(alloc)?;
     let (mut insts, terminator) = values.pop_front().into_code(alloc)?;
-    insts.push_front(inst)?;
+    insts.push_front_of(USUAL_COUNT, inst)?;
     put_value(Value::Code(insts, terminator), values)
 }
 
@@ -225,7 +228,7 @@ pub(crate) fn last_code(alloc: Global, values: &mut Prepended<Value>) -> Result<
 }
 
 /// An instruction with these names before its `=`.
-fn named(inst: InstBox, results: List<WrittenToken>) -> Value
+fn named(inst: InstBox, results: ShortList<WrittenToken, 1>) -> Value
     ensures { result ≡ v.Inst (record inst { results = results }) }
 {
     let mut inst = inst;
@@ -241,7 +244,7 @@ pub(crate) fn one_name(alloc: Global, values: &mut Prepended<Value>) -> Result<(
     ensures values { OnOk result (values.new ≡ reduced Production.InstOneName values.old) }
 {
     let name = values.pop_front().into_token();
-    let mut results = List::with_capacity(alloc, 1)?;
+    let mut results = ShortList::new(alloc);
     results.push(name)?;
     skip(values);
     let inst = values.pop_front().into_inst(alloc)?;
@@ -265,6 +268,6 @@ pub(crate) fn names(
     skip(values);
     let fault = too_many(LimitWord::Arguments, &results, limits::ARGUMENTS);
     let inst = values.pop_front().into_inst(alloc)?;
-    let value = named(inst, results.into_list());
+    let value = named(inst, ShortList::from_vec(results.into_list().into_vec()));
     put(Reduced { value, fault }, values)
 }

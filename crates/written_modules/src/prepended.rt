@@ -7,6 +7,9 @@ use sil_ast::{Exhausted, List};
 use std::alloc::Global;
 use std::marker::Model;
 
+/// For how many elements a list may have room that it doesn't need: to give it back takes longer than to build most lists.
+const MOST_UNUSED: usize = 4;
+
 /// A list that grows at its front. To a contract it is the list of its elements, front first.
 #[derive(Drop)]
 pub(crate) struct Prepended<T> {
@@ -69,12 +72,22 @@ impl<T> Prepended<T> {
         self.backwards.pop().unwrap()
     }
 
-    /// The elements in order, in as much memory as they need.
+    /// The elements in order. Room for more than a few others is given back.
     pub(crate) fn into_list(self) -> List<T>
         ensures { result ≡ self }
     {
+        let mut whole = self;
+        if whole.backwards.capacity() > whole.backwards.len() + MOST_UNUSED {
+            whole.backwards.shrink_to_fit();
+        }
+        whole.into_roomy_list()
+    }
+
+    /// The elements in order, with the room that is left.
+    pub(crate) fn into_roomy_list(self) -> List<T>
+        ensures { result ≡ self }
+    {
         let Prepended { mut backwards } = self;
-        backwards.shrink_to_fit();
         backwards.reverse();
         List::from_vec(backwards)
     }
@@ -87,6 +100,16 @@ impl<T: Drop> Prepended<T> {
     {
         self.backwards.push(item)?;
         Ok(())
+    }
+
+    /// Puts `item` before the others. Where it is the first, there is room for `count` at once.
+    pub(crate) fn push_front_of(&mut self, count: usize, item: T) -> Result<(), Exhausted>
+        ensures { OnOk result (self.new ≡ item ∷ self.old) }
+    {
+        if self.backwards.is_empty() {
+            self.backwards.reserve_exact(count)?;
+        }
+        self.push_front(item)
     }
 
     /// Puts `item` behind the others, which are moved.
