@@ -1,5 +1,5 @@
 -- What the item with a number does, by the marks that are kept for it.
-use Rattle.std.proofs.Common.{◌≡◌, ℕ, ◌<◌, List, [], ap, sym, ◌∙◌, Option, Some, None}
+use Rattle.std.proofs.Common.{◌≡◌, ℕ, ◌<◌, List, ap, sym, ◌∙◌, Option, Some}
 use Rattle.std.specs.declared.alloc.Global.{Global}
 use Rattle.std.specs.declared.vec.Vec.{Vec}
 use Rattle.std.proofs.lemmas.Option.{slice_get_within}
@@ -8,19 +8,15 @@ use Rattle.sil_ast.specs.declared.place.ValueId.{ValueId}
 use Rattle.sil_cfg.specs.Layout.{Layout, item_at, item_count}
 use Rattle.sil_cfg.specs.declared.item.Item.{Item}
 use Rattle.path_patterns.specs.Reads.{accesses_at, AgreesWith}
+use Rattle.forwarding_chains.specs.Facts.{told_at}
 use Rattle.forwarding_chains.specs.declared.facts.Facts.{Facts}
+use Rattle.ownership_marks.proofs.MarkTables.{same_marks}
 use Rattle.ownership_marks.specs.Known.{AreKindsBy, Known, marks_at}
 use Rattle.ownership_marks.specs.declared.mark.Mark.{Mark}
 use Rattle.memory_accesses.specs.declared.access.Access.{Access}
 use Rattle.memory_accesses.specs.declared.source.Source.{Source}
 use Rattle.memory_accesses.specs.Accesses.{accesses_of, accesses_with}
-
-abbrev pub done_by : List Source → Function → List Mark → Option Item → List Access
-done_by sources f marks None = []
-done_by sources f marks (Some item) = accesses_with sources marks f item
-
-abbrev pub told_at_item : List Source → Function → Layout → Known → ℕ → List Access
-told_at_item sources f g k n = done_by sources f (marks_at k n) (item_at g n)
+use Rattle.memory_accesses.specs.Done.{done_by, told_at_item}
 
 -- what was made of an item with its number's marks
 pub told_of_item : (sources : List Source) (f : Function) (g : Layout) (k : Known) (n : ℕ) (item : Item) (marks : List Mark) (made : List Access) →
@@ -28,9 +24,18 @@ pub told_of_item : (sources : List Source) (f : Function) (g : Layout) (k : Know
 told_of_item sources f g k n item marks made is kept e =
     is ∙ ap (λ these. accesses_with sources these f item) kept ∙ sym (ap (done_by sources f (marks_at k n)) e)
 
+-- what is told of an item's number is what the item does
+pub told_agrees : (sources : List Source) (f : Function) (g : Layout) (k : Known) (count : ℕ) (facts : ValueId → Option Facts) → AreKindsBy count facts f g k →
+    (n : ℕ) (item : Item) → item_at g n ≡ Some item → told_at_item sources f g k n ≡ accesses_of sources facts f item
+told_agrees sources f g k count facts by n item e = ap (done_by sources f (marks_at k n)) e ∙ ap (λ marks. accesses_with sources marks f item) (by.marks_are n item e)
+
 -- what is told of every number agrees with what the items do
 pub all_agree : (sources : List Source) (f : Function) (g : Layout) (k : Known) (all : List (Vec Access Global)) →
     ((n : ℕ) → n < item_count g → accesses_at all n ≡ told_at_item sources f g k n) →
     (count : ℕ) (facts : ValueId → Option Facts) → AreKindsBy count facts f g k → AgreesWith g (accesses_at all) (accesses_of sources facts f)
-all_agree sources f g k all told count facts by n item e =
-    told n (slice_get_within g.kinds n item e) ∙ ap (done_by sources f (marks_at k n)) e ∙ ap (λ marks. accesses_with sources marks f item) (by.marks_are n item e)
+all_agree sources f g k all told count facts by n item e = told n (slice_get_within g.kinds n item e) ∙ told_agrees sources f g k count facts by n item e
+
+-- what is made anew of an item is what it does, whichever facts the kinds are by
+pub anew_agrees : (sources : List Source) (f : Function) (g : Layout) (k : Known) (count : ℕ) (facts : ValueId → Option Facts) → AreKindsBy count facts f g k →
+    (item : Item) → accesses_of sources (told_at k.table) f item ≡ accesses_of sources facts f item
+anew_agrees sources f g k count facts by item = ap (λ marks. accesses_with sources marks f item) (same_marks (told_at k.table) facts by.facts_are f item)

@@ -2,3 +2,4 @@ pub mod ByItem
 pub mod Following
 pub mod Gathered
 pub mod Idle
+pub mod Operating

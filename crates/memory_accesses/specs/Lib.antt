@@ -4,3 +4,4 @@ pub mod Kept
 pub mod Operations
 pub mod Rows
 pub mod Accesses
+pub mod Done

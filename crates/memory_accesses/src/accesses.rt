@@ -1,9 +1,10 @@
 //! What each item of a function does to memory and to the values that are lent.
 
-ghost use Rattle.std.specs.Prelude.{◌≡◌, ℕ, Option, IfOk, length};
+ghost use Rattle.std.specs.Prelude.{◌≡◌, ℕ, Option, IfOk, OnOk, length};
 ghost use Rattle.sil_ast.specs.declared.place.ValueId.{ValueId};
 ghost use Rattle.sil_cfg.specs.Layout.{item_count};
 ghost use Rattle.path_patterns.specs.Reads.{accesses_at, AgreesWith};
+ghost use Rattle.forwarding_chains.specs.Facts.{told_at};
 ghost use Rattle.forwarding_chains.specs.declared.facts.Facts.{Facts};
 ghost use Rattle.ownership_marks.specs.Known.{AreKindsBy};
 ghost use Rattle.memory_accesses.specs.Accesses.{accesses_of, accesses_with};
@@ -18,7 +19,33 @@ use sil_ast::{Exhausted, Function, ValueId};
 use sil_cfg::{Graph, Item};
 use std::alloc::Global;
 
-/// What an item with these marks does. What `taken` and `defined` hold doesn't matter: they are memory for the operands and the values that it defines.
+/// Makes `accesses` what an item with these marks does. What it holds before doesn't matter, nor what `taken` and `defined` hold: they are memory for the operands and the values that the item defines.
+pub fn make_accesses(
+    accesses: &mut Vec<Access>,
+    f: &Function,
+    item: Item,
+    marks: &[Mark],
+    m: &Memory,
+    taken: &mut Vec<Taken>,
+    defined: &mut Vec<ValueId>,
+) -> Result<(), Exhausted>
+    ensures { OnOk result (accesses.new.items ≡ accesses_with m.now marks.now f.now item) }
+{
+    taken.clear();
+    add_item_taken(taken, f, item)?;
+    defined.clear();
+    add_item_defined(defined, f, item)?;
+    let inst = inst_of(f, item);
+    accesses.clear();
+    add_ends(accesses, marks)?;
+    add_mentions(accesses, inst, taken.as_slice())?;
+    add_does(accesses, inst, taken.as_slice())?;
+    add_deallocations(accesses, m, inst)?;
+    add_made(accesses, m, defined.as_slice())?;
+    add_begins(accesses, marks)
+}
+
+/// The same as a list of its own.
 fn accesses_of_item(
     alloc: Global,
     f: &Function,
@@ -30,19 +57,26 @@ fn accesses_of_item(
 ) -> Result<Vec<Access>, Exhausted>
     ensures { IfOk result (λ v. v.items ≡ accesses_with m.now marks.now f.now item) }
 {
-    taken.clear();
-    add_item_taken(taken, f, item)?;
-    defined.clear();
-    add_item_defined(defined, f, item)?;
-    let inst = inst_of(f, item);
     let mut accesses = Vec::new(alloc);
-    add_ends(&mut accesses, marks)?;
-    add_mentions(&mut accesses, inst, taken.as_slice())?;
-    add_does(&mut accesses, inst)?;
-    add_deallocations(&mut accesses, m, inst)?;
-    add_made(&mut accesses, m, defined.as_slice())?;
-    add_begins(&mut accesses, marks)?;
+    make_accesses(&mut accesses, f, item, marks, m, taken, defined)?;
     Ok(accesses)
+}
+
+/// What an item of `f` does to memory and to the values that are lent, made anew: for a caller that knows no number of it.
+/// `k` has the kinds of `f`, and `m` what its values are to memory.
+pub fn accesses_anew(
+    alloc: Global,
+    f: &Function,
+    k: &Kinds,
+    m: &Memory,
+    item: Item,
+) -> Result<Vec<Access>, Exhausted>
+    ensures { IfOk result (λ v. v.items ≡ accesses_of m.now (told_at k.now.table) f.now item) }
+{
+    let marks = k.marks_of(alloc, f, item)?;
+    let mut taken = Vec::new(alloc);
+    let mut defined = Vec::new(alloc);
+    accesses_of_item(alloc, f, item, &marks, m, &mut taken, &mut defined)
 }
 
 /// What each item of the function's graph does to memory and to the values that are lent, by the item's number.

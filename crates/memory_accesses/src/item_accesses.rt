@@ -1,15 +1,15 @@
 //! What one item does, step by step.
 
-ghost use Rattle.std.specs.Prelude.{◌≡◌, ◌++◌, OnOk, map};
+ghost use Rattle.std.specs.Prelude.{◌≡◌, ◌++◌, OnOk, Some, map};
 ghost use Rattle.std.specs.List.{flat_map};
 ghost use Rattle.std.specs.Option.{option_copied, option_to_list};
 ghost use Rattle.memory_accesses.specs.Accesses as spec;
-ghost use Rattle.memory_accesses.specs.declared.access.Access.TheVariants.{Does};
+ghost use Rattle.memory_accesses.specs.Done.{does_among, done_at};
 
-use crate::access::{Access, Operated};
+use crate::access::{Access, Operated, Operation};
 use crate::columns::{Allowance, allowance_of};
 use crate::memory::Memory;
-use crate::operations::{add_addresses, add_operations, deallocates};
+use crate::operations::{add_addresses, deallocates, is_address_role, operation_of};
 use crate::source::Source;
 use ownership_marks::{Mark, MarkSort, Taken, inst_at, terminator_of};
 use sil_ast::{Exhausted, Function, Inst, ValueId};
@@ -82,25 +82,40 @@ pub(crate) fn add_mentions(
     add_mentioned(accesses, allowance_of(inst.op), taken)
 }
 
-fn add_each_operated(accesses: &mut Vec<Access>, operations: &[Operated]) -> Result<(), Exhausted>
-    ensures { OnOk result (accesses.new.items ≡ accesses.old.items ++ map Does operations.now) }
+/// Adds the operation at each of the operands that are addresses.
+fn add_operated(
+    accesses: &mut Vec<Access>,
+    operation: Operation,
+    taken: &[Taken],
+) -> Result<(), Exhausted>
+    ensures { OnOk result (accesses.new.items ≡ accesses.old.items ++ flat_map (done_at (Some operation)) taken.now) }
 {
-    for operated in operations {
-        accesses.push(Access::Does(*operated))?;
+    for one in taken {
+        if is_address_role(one.role) {
+            accesses.push(Access::Does(Operated {
+                address: one.value,
+                operation,
+            }))?;
+        }
     }
     Ok(())
 }
 
-pub(crate) fn add_does(accesses: &mut Vec<Access>, inst: Option<&Inst>) -> Result<(), Exhausted>
-    ensures { OnOk result (accesses.new.items ≡ accesses.old.items ++ spec.does_of (option_copied inst.entry)) }
+/// Adds what an item's instruction does to locations, if these are the item's operands.
+pub(crate) fn add_does(
+    accesses: &mut Vec<Access>,
+    inst: Option<&Inst>,
+    taken: &[Taken],
+) -> Result<(), Exhausted>
+    ensures { OnOk result (accesses.new.items ≡ accesses.old.items ++ does_among (option_copied inst.entry) taken.now) }
 {
     let Some(inst) = inst else {
         return Ok(());
     };
-    let mut operations = Vec::new(*accesses.allocator());
-    add_operations(&mut operations, inst)?;
-    add_each_operated(accesses, operations.as_slice())?;
-    Ok(())
+    let Some(operation) = operation_of(inst) else {
+        return Ok(());
+    };
+    add_operated(accesses, operation, taken)
 }
 
 /// Adds the deallocations of those addresses that are slots.

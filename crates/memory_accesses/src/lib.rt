@@ -15,7 +15,7 @@ mod source;
 mod sources;
 
 pub use access::{Access, Operated, Operation};
-pub use accesses::accesses_by_item;
+pub use accesses::{accesses_anew, accesses_by_item, make_accesses};
 pub use columns::{AccessKind, Allowance, access_kind_of, allowance_of};
 pub use location::{Cell, Location, overlap};
 pub use memory::Memory;

@@ -2,6 +2,7 @@
 
 ghost use Rattle.std.specs.Prelude.{◌≡◌, ◌++◌, OnOk, Some};
 ghost use Rattle.std.specs.List.{flat_map};
+ghost use Rattle.memory_accesses.specs.Done.{operated_by};
 ghost use Rattle.memory_accesses.specs.Operations as spec;
 
 use crate::access::{Operated, Operation};
@@ -56,7 +57,7 @@ fn operation_by(kind: AccessKind, qualifier: Qualifier) -> Option<Operation>
     }
 }
 
-fn is_address_role(role: Role) -> bool
+pub(crate) fn is_address_role(role: Role) -> bool
     ensures { result ≡ spec.is_address_role role }
 {
     match role {
@@ -93,18 +94,27 @@ pub fn add_addresses(addresses: &mut Vec<ValueId>, inst: &Inst) -> Result<(), Ex
     Ok(())
 }
 
+/// What an instruction does to the location at each of its addresses, if it does anything.
+pub(crate) fn operation_of(inst: &Inst) -> Option<Operation>
+    ensures { result ≡ spec.operation_by (spec.access_kind_of inst.now.op) inst.now.qualifier }
+{
+    operation_by(access_kind_of(inst.op), inst.qualifier)
+}
+
 fn add_operated(
     operations: &mut Vec<Operated>,
     operation: Operation,
-    addresses: &[ValueId],
+    taken: &[Taken],
 ) -> Result<(), Exhausted>
-    ensures { OnOk result (operations.new.items ≡ operations.old.items ++ flat_map (spec.operated_at (Some operation)) addresses.now) }
+    ensures { OnOk result (operations.new.items ≡ operations.old.items ++ flat_map (operated_by (Some operation)) taken.now) }
 {
-    for address in addresses {
-        operations.push(Operated {
-            address: *address,
-            operation,
-        })?;
+    for one in taken {
+        if is_address_role(one.role) {
+            operations.push(Operated {
+                address: one.value,
+                operation,
+            })?;
+        }
     }
     Ok(())
 }
@@ -113,13 +123,12 @@ fn add_operated(
 pub fn add_operations(operations: &mut Vec<Operated>, inst: &Inst) -> Result<(), Exhausted>
     ensures { OnOk result (operations.new.items ≡ operations.old.items ++ spec.operations_of inst.now) }
 {
-    let Some(operation) = operation_by(access_kind_of(inst.op), inst.qualifier) else {
+    let Some(operation) = operation_of(inst) else {
         return Ok(());
     };
-    let mut addresses = Vec::new(*operations.allocator());
-    add_addresses(&mut addresses, inst)?;
-    add_operated(operations, operation, addresses.as_slice())?;
-    Ok(())
+    let mut taken = Vec::new(*operations.allocator());
+    add_taken_by(&mut taken, inst)?;
+    add_operated(operations, operation, taken.as_slice())
 }
 
 /// Whether an instruction deallocates a slot.

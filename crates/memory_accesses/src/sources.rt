@@ -207,6 +207,17 @@ fn add_block(
     add_results(sources, table, &block.terminator)
 }
 
+/// About how many values there are: one for each argument and instruction.
+fn value_estimate(f: &Function) -> usize {
+    let mut count: usize = 0;
+    for block in f.blocks.as_slice() {
+        count = count
+            .saturating_add(block.args.len())
+            .saturating_add(block.insts.len());
+    }
+    count
+}
+
 /// What each value of the function is to memory, by the values' numbers.
 pub(crate) fn sources_of(
     alloc: Global,
@@ -215,7 +226,7 @@ pub(crate) fn sources_of(
 ) -> Result<List<Source>, Exhausted>
     ensures { IfOk result (λ sources. sources ≡ spec.sources_of table.now f.now) }
 {
-    let mut sources = List::new(alloc);
+    let mut sources = List::with_capacity(alloc, value_estimate(f))?;
     for (number, block) in f.blocks.as_slice().iter().enumerate() {
         add_block(&mut sources, table, number, block)?;
     }

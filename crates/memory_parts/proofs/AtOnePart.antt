@@ -10,9 +10,6 @@ use Rattle.sil_ast.specs.declared.function.Function.{Function}
 use Rattle.sil_ast.specs.declared.place.EdgeId.{EdgeId}
 use Rattle.sil_ast.specs.declared.place.PointId.{PointId}
 use Rattle.sil_ast.specs.declared.place.ValueId.{ValueId}
-use Rattle.sil_cfg.proofs.GraphTrails.{trail_back}
-use Rattle.sil_cfg.specs.Build.{AreItems, IsGraphOf}
-use Rattle.sil_cfg.specs.Layout.{Layout, item_at}
 use Rattle.sil_cfg.specs.Returns.{is_return}
 use Rattle.sil_cfg.specs.declared.item.Item.{Item}
 use Rattle.sil_rules.specs.Order as rules
@@ -169,14 +166,3 @@ first_alone sources facts f p fault v o first subject_is other_is = at fault.sub
       first = behind e;
     }
     at (suc n) e = absurd (past_unshown sources facts f (p ∷ []) (suc n) refl fault.code fault.walk fault.point fault.item (subst Here e first.0))
-
-last_item : (kinds : List Item) (numbers : List ℕ) (before : List Item) (item : Item) → AreItems kinds numbers (before ++ item ∷ []) → (i : ℕ) × (slice_get kinds i ≡ Some item)
-last_item kinds [] [] item h = absurd h
-last_item kinds [] (x ∷ before) item h = absurd h
-last_item kinds (i ∷ numbers) [] item h = (i, h.0)
-last_item kinds (i ∷ numbers) (x ∷ before) item h = last_item kinds numbers before item h.1
-
--- an item at which something is shown is one of the graph's
-pub item_there : (g : Layout) (f : Function) → IsGraphOf g f → (table : Item → List Entry) (n code : ℕ) (walk : List EdgeId) (point : PointId) (item : Item) → paths.IsShownAt f table n code walk point item → (i : ℕ) × (item_at g i ≡ Some item)
-item_there g f is table n code walk point item h =
-    let r = trail_back g f is walk (h.shows.before ++ item ∷ []) h.shows.trail in last_item g.kinds r.0 h.shows.before item r.1

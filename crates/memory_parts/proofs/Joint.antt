@@ -3,8 +3,6 @@ use Rattle.std.proofs.Common.{◌≡◌, ℕ, ◌+◌, ◌<◌, List, [], ◌∷
 use Rattle.std.proofs.lemmas.List.{length-map, length-take-le, map-append, take_more}
 use Rattle.std.specs.Prelude.{not, ◌&&◌, ◌||◌}
 use Rattle.std.specs.List.{flat_map, range_with_len}
-use Rattle.std.specs.declared.alloc.Global.{Global}
-use Rattle.std.specs.declared.vec.Vec.{Vec}
 use Rattle.std.proofs.lemmas.Option.{slice_get_within}
 use Rattle.sil_ast.specs.declared.function.Function.{Function}
 use Rattle.sil_ast.specs.declared.place.ValueId.{ValueId}
@@ -16,14 +14,16 @@ use Rattle.ownership_marks.specs.Known.{AreKindsBy, Known, facts_of}
 use Rattle.path_checks.specs.Shared.{entries_with, entry_if, shared_from, shared_if}
 use Rattle.path_checks.specs.declared.entry.Entry.{Entry}
 use Rattle.item_lists.specs.Lists.{list_at}
-use Rattle.path_patterns.specs.Reads.{accesses_at, AgreesWith}
+use Rattle.path_patterns.specs.Reads.{AgreesWith}
 use Rattle.path_patterns.specs.declared.mark.Mark.{Mark}
+use Rattle.memory_accesses.proofs.ByItem.{told_agrees}
 use Rattle.memory_accesses.specs.Accesses.{accesses_of}
+use Rattle.memory_accesses.specs.Done.{told_at_item}
 use Rattle.memory_accesses.specs.Sources.{source_at}
 use Rattle.memory_accesses.specs.declared.access.Access.{Access}
 use Rattle.memory_accesses.specs.declared.access.Access.TheVariants.{Ends, Begins, Allocates, Deallocates, Given, Does, Mentions}
 use Rattle.memory_accesses.specs.declared.source.Source.{Source}
-use Rattle.memory_parts.specs.Batches.{AreAccesses, AreReturns, batch_table, joint}
+use Rattle.memory_parts.specs.Batches.{AreReturns, batch_table, joint}
 use Rattle.memory_parts.specs.Building.{builds, building_mark, goes_by_borrow, takes_borrow, takes_object}
 use Rattle.memory_parts.specs.Parts.{at_return, means, parts_at, parts_by, parts_of}
 use Rattle.memory_parts.specs.Switches.{is_same, mark, when}
@@ -64,13 +64,12 @@ module _ (sources : List Source) (facts other : ValueId → Facts) (same : (v : 
   parts_same = flat_map_same (parts_at sources facts) (parts_at sources other) (λ n. ap (λ f. parts_by sources f (value_of n) (source_at sources (value_of n))) (same (value_of n))) (range_with_len 0 (length sources))
 
 -- the entries by number, and the shared ones, are the parts' table
-pub batch_agrees : (sources : List Source) (f : Function) (g : Layout) (k : Known) (accesses : List (Vec Access Global)) (returns : List Bool) (parts : List Part) (own : List (List Entry)) (marks : List (Option Mark)) →
-    AreAccesses sources f g k accesses → AreReturns f g returns →
-    ((n : ℕ) → n < item_count g → list_at own n ≡ flat_map (joint sources (facts_of k) parts) (accesses_at accesses n)) → marks ≡ map at_return parts →
+pub batch_agrees : (sources : List Source) (f : Function) (g : Layout) (k : Known) (returns : List Bool) (parts : List Part) (own : List (List Entry)) (marks : List (Option Mark)) → AreReturns f g returns →
+    ((n : ℕ) → n < item_count g → list_at own n ≡ flat_map (joint sources (facts_of k) parts) (told_at_item sources f g k n)) → marks ≡ map at_return parts →
     (count : ℕ) (facts : ValueId → Option Facts) → AreKindsBy count facts f g k → AgreesWith g (entries_with own marks returns) (batch_table sources facts f parts)
-batch_agrees sources f g k accesses returns parts own marks accesses_are returns_are own_are marks_are count facts by n item e =
+batch_agrees sources f g k returns parts own marks returns_are own_are marks_are count facts by n item e =
     ap₂ (λ x y. x ++ y)
-    (own_are n (slice_get_within g.kinds n item e) ∙ ap (flat_map (joint sources (facts_of k) parts)) (accesses_are count facts by n item e) ∙ joint_same sources (facts_of k) (known_or facts) by.facts_are parts (accesses_of sources facts f item))
+    (own_are n (slice_get_within g.kinds n item e) ∙ ap (flat_map (joint sources (facts_of k) parts)) (told_agrees sources f g k count facts by n item e) ∙ joint_same sources (facts_of k) (known_or facts) by.facts_are parts (accesses_of sources facts f item))
     (ap₂ (λ m b. shared_if m b) marks_are (returns_are n item e))
 
 -- one part more

@@ -5,5 +5,6 @@ pub mod Ordered
 pub mod FirstAmong
 pub mod CleanFront
 pub mod Reached
+pub mod Unconcerned
 pub mod Listed
 pub mod Rows

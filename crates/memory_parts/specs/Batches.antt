@@ -1,8 +1,6 @@
 -- Parts that are searched together: each by its number among them.
 use Rattle.std.specs.Prelude.{◌≡◌, ◌≤◌, ℕ, List, [], ◌∷◌, ◌++◌, All, Bool, false, map, nat_lt, slice_get, slice_index_or, Option, Some, None}
 use Rattle.std.specs.List.{flat_map}
-use Rattle.std.specs.declared.alloc.Global.{Global}
-use Rattle.std.specs.declared.vec.Vec.{Vec}
 use Rattle.sil_ast.specs.declared.function.Function.{Function}
 use Rattle.sil_ast.specs.declared.place.ValueId.{ValueId}
 use Rattle.sil_cfg.specs.Layout.{Layout, item_at}
@@ -16,7 +14,6 @@ use Rattle.path_checks.specs.First as paths
 use Rattle.path_checks.specs.Shared.{entry_if, shared_from, shared_if}
 use Rattle.path_checks.specs.declared.entry.Entry.{Entry}
 use Rattle.path_checks.specs.declared.entry.PathFault.{PathFault}
-use Rattle.path_patterns.specs.Reads.{accesses_at, AgreesWith}
 use Rattle.path_patterns.specs.declared.mark.Mark.{Mark}
 use Rattle.memory_accesses.specs.Accesses.{accesses_of}
 use Rattle.memory_accesses.specs.declared.access.Access.{Access}
@@ -42,10 +39,6 @@ entry_at sources facts parts a n = entry_if n (means_at sources facts a (slice_g
 abbrev pub batch_table : List Source → (ValueId → Option Facts) → Function → List Part → Item → List Entry
 batch_table sources facts f parts item = flat_map (joint sources (known_or facts) parts) (accesses_of sources facts f item) ++ shared_if (map at_return parts) (is_return f item)
 
--- an item's number has the item's accesses, whichever facts the kinds are by
-abbrev pub AreAccesses : List Source → Function → Layout → Known → List (Vec Access Global) → Type 0
-AreAccesses sources f g k accesses = (count : ℕ) (facts : ValueId → Option Facts) → AreKindsBy count facts f g k → AgreesWith g (accesses_at accesses) (accesses_of sources facts f)
-
 abbrev pub AreReturns : Function → Layout → List Bool → Type 0
 AreReturns f g returns = (i : ℕ) (item : Item) → item_at g i ≡ Some item → slice_index_or returns i false ≡ is_return f item
 
@@ -56,10 +49,6 @@ IsFirstNumber sources f g k parts fault = (count : ℕ) (facts : ValueId → Opt
 -- the first of what is shown at these parts
 abbrev pub IsFirstAmong : List Source → Function → Layout → Known → List Part → Option PartFault → Type 0
 IsFirstAmong sources f g k parts found = (count : ℕ) (facts : ValueId → Option Facts) → AreKindsBy count facts f g k → IsFirst fault_key (IsShown sources facts f parts) found
-
--- these are the accesses of an item of the graph, by one of its numbers
-abbrev pub HasAccesses : Layout → List (Vec Access Global) → Item → List Access → Type 0
-HasAccesses g accesses item found = (i : ℕ) → item_at g i ≡ Some item → (n : ℕ) × (item_at g n ≡ Some item) × (found ≡ accesses_at accesses n)
 
 -- none has a lesser subject than one before it
 abbrev pub AreRising : List Part → Type 0

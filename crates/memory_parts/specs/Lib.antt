@@ -7,5 +7,6 @@ pub mod Addresses
 pub mod Parts
 pub mod Keys
 pub mod Index
+pub mod Concerned
 pub mod Shown
 pub mod Batches

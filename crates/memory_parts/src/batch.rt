@@ -2,12 +2,11 @@
 
 ghost use Rattle.std.specs.Prelude.{◌≡◌, ◌≤◌, IfOk, length};
 ghost use Rattle.sil_cfg.specs.Build.{IsGraphOf};
-ghost use Rattle.sil_cfg.specs.Layout.{item_count};
-ghost use Rattle.memory_parts.specs.Batches.{AreAccesses, AreReturns, IsFirstNumber};
+ghost use Rattle.memory_parts.specs.Batches.{AreReturns, IsFirstNumber};
 
 use crate::entries::{entries_by_item, marks_at_returns};
 use crate::part::Part;
-use memory_accesses::{Access, Memory};
+use memory_accesses::Memory;
 use ownership_marks::Kinds;
 use path_checks::{PathFault, first_fault};
 use sil_ast::{Exhausted, Function};
@@ -21,18 +20,15 @@ pub(crate) fn first_number(
     g: &Graph,
     k: &Kinds,
     m: &Memory,
-    accesses: &[Vec<Access>],
     returns: &[bool],
     batch: &[Part],
 ) -> Result<Option<PathFault>, Exhausted>
     requires graph { IsGraphOf g.now f.now }
-    requires items { length accesses.now ≡ item_count g.now }
-    requires accesses { AreAccesses m.now f.now g.now k.now accesses.now }
     requires returns { AreReturns f.now g.now returns.now }
     requires few { length batch.now ≤ 1024 }
     ensures { IfOk result (IsFirstNumber m.now f.now g.now k.now batch.now) }
 {
-    let entries = entries_by_item(alloc, m, k, batch, accesses)?;
+    let entries = entries_by_item(alloc, f, g, k, m, batch)?;
     let marks = marks_at_returns(alloc, batch)?;
     first_fault(alloc, f, g, &entries, &marks, returns)
 }

@@ -4,23 +4,27 @@ ghost use Rattle.std.specs.Prelude.{◌≡◌, [], ◌∷◌, ◌++◌, ◌<◌,
 ghost use Rattle.std.specs.List.{flat_map};
 ghost use Rattle.path_checks.specs.Shared.{entry_if};
 ghost use Rattle.item_lists.specs.Lists.{list_at};
-ghost use Rattle.path_patterns.specs.Reads.{accesses_at};
+ghost use Rattle.sil_cfg.specs.Layout.{item_count};
+ghost use Rattle.memory_accesses.specs.Done.{told_at_item};
 ghost use Rattle.ownership_marks.specs.Known.{facts_of};
 ghost use Rattle.memory_parts.specs.Batches as batches;
 ghost use Rattle.memory_parts.specs.Batches.{entry_at, joint};
+ghost use Rattle.memory_parts.specs.Concerned.{AreConcerned};
 ghost use Rattle.memory_parts.specs.Index.{IsIndexOf};
 ghost use Rattle.memory_parts.specs.Parts as parts;
 
-use crate::index::{index_of, numbers_at};
+use crate::concerned::{add_parts, may_mean};
+use crate::index::{ROWS, index_of, numbers_at};
 use crate::key::add_keys_of_access;
 use crate::meaning::{at_return, means};
 use crate::part::Part;
 use item_lists::ItemLists;
-use memory_accesses::{Access, Memory};
+use memory_accesses::{Access, Memory, make_accesses};
 use ownership_marks::Kinds;
 use path_checks::Entry;
 use path_patterns::Mark;
-use sil_ast::Exhausted;
+use sil_ast::{Exhausted, Function};
+use sil_cfg::Graph;
 use std::alloc::Global;
 
 /// Of at most this many parts each is asked for every access: to find some of them would take as long.
@@ -34,7 +38,7 @@ pub(crate) fn marks_at_returns(
     ensures marks { IfOk result (λ v. v.items ≡ map parts.at_return batch.now) }
     ensures size { IfOk result (λ v. length v.items ≡ length batch.now) }
 {
-    let mut marks = Vec::new(alloc);
+    let mut marks = Vec::with_capacity(alloc, batch.len())?;
     for part in batch {
         marks.push(at_return(*part))?;
     }
@@ -132,19 +136,24 @@ fn index_of_many(
     Ok(Some(index_of(alloc, m, batch)?))
 }
 
-/// What an access means to the parts, each by its number: where there is an index, it tells which are asked.
+/// What an access means to the parts, each by its number: nothing where it has to do with no value that concerns them. Where there is an index, it tells which are asked.
 fn add_entries(
     entries: &mut Vec<Entry>,
     m: &Memory,
     k: &Kinds,
     batch: &[Part],
+    concerned: &[bool],
     index: &Option<Vec<Vec<u32>>>,
     access: Access,
 ) -> Result<(), Exhausted>
     requires few { length batch.now ≤ 1024 }
+    requires concerned { AreConcerned m.now batch.now concerned.now }
     requires index { IfSome index.now (λ rows. IsIndexOf m.now batch.now rows.items) }
     ensures { OnOk result (entries.new.items ≡ entries.old.items ++ joint m.now (facts_of k.now) batch.now access) }
 {
+    if !may_mean(concerned, m, k, access) {
+        return Ok(());
+    }
     match index {
         None => add_of_all(entries, m, k, batch, access),
         Some(rows) => add_by_index(entries, m, k, batch, rows.as_slice(), access),
@@ -157,15 +166,17 @@ fn add_of_accesses(
     m: &Memory,
     k: &Kinds,
     batch: &[Part],
+    concerned: &[bool],
     index: &Option<Vec<Vec<u32>>>,
     accesses: &[Access],
 ) -> Result<(), Exhausted>
     requires few { length batch.now ≤ 1024 }
+    requires concerned { AreConcerned m.now batch.now concerned.now }
     requires index { IfSome index.now (λ rows. IsIndexOf m.now batch.now rows.items) }
     ensures { OnOk result (entries.new.items ≡ entries.old.items ++ flat_map (joint m.now (facts_of k.now) batch.now) accesses.now) }
 {
     for access in accesses {
-        add_entries(entries, m, k, batch, index, *access)?;
+        add_entries(entries, m, k, batch, concerned, index, *access)?;
     }
     Ok(())
 }
@@ -177,52 +188,81 @@ fn push_item(
     m: &Memory,
     k: &Kinds,
     batch: &[Part],
+    concerned: &[bool],
     index: &Option<Vec<Vec<u32>>>,
     accesses: &[Access],
 ) -> Result<(), Exhausted>
     requires few { length batch.now ≤ 1024 }
+    requires concerned { AreConcerned m.now batch.now concerned.now }
     requires index { IfSome index.now (λ rows. IsIndexOf m.now batch.now rows.items) }
     ensures { OnOk result (all.new ≡ all.old ++ flat_map (joint m.now (facts_of k.now) batch.now) accesses.now ∷ []) }
 {
     own.clear();
-    add_of_accesses(own, m, k, batch, index, accesses)?;
+    add_of_accesses(own, m, k, batch, concerned, index, accesses)?;
     all.push(own.as_slice())
 }
 
-/// The entries of every item, by the item's number, where `index` is one of the parts, or there is none.
+/// The entries of every item, by the item's number, where `concerned` has the values that concern the parts, and `index` is one of them, or there is none.
 fn entries_of_each(
     alloc: Global,
-    m: &Memory,
+    f: &Function,
+    g: &Graph,
     k: &Kinds,
+    m: &Memory,
     batch: &[Part],
+    concerned: &[bool],
     index: &Option<Vec<Vec<u32>>>,
-    accesses: &[Vec<Access>],
 ) -> Result<ItemLists<Entry>, Exhausted>
     requires few { length batch.now ≤ 1024 }
+    requires concerned { AreConcerned m.now batch.now concerned.now }
     requires index { IfSome index.now (λ rows. IsIndexOf m.now batch.now rows.items) }
-    ensures size { IfOk result (λ v. length v ≡ length accesses.now) }
-    ensures entries { IfOk result (λ v. (n : ℕ) → n < length accesses.now → list_at v n ≡ flat_map (joint m.now (facts_of k.now) batch.now) (accesses_at accesses.now n)) }
+    ensures size { IfOk result (λ v. length v ≡ item_count g.now) }
+    ensures entries { IfOk result (λ v. (n : ℕ) → n < item_count g.now → list_at v n ≡ flat_map (joint m.now (facts_of k.now) batch.now) (told_at_item m.now f.now g.now k.now n)) }
 {
-    let mut all = ItemLists::with_capacity(alloc, accesses.len())?;
+    let mut all = ItemLists::with_capacity(alloc, g.items())?;
     let mut own = Vec::new(alloc);
-    for item in accesses {
-        push_item(&mut all, &mut own, m, k, batch, index, item.as_slice())?;
+    let mut accesses = Vec::new(alloc);
+    let mut taken = Vec::new(alloc);
+    let mut defined = Vec::new(alloc);
+    for i in 0..g.items() {
+        make_accesses(
+            &mut accesses,
+            f,
+            g.item(i),
+            k.marks(i),
+            m,
+            &mut taken,
+            &mut defined,
+        )?;
+        push_item(
+            &mut all,
+            &mut own,
+            m,
+            k,
+            batch,
+            concerned,
+            index,
+            accesses.as_slice(),
+        )?;
     }
     Ok(all)
 }
 
-/// The entries of every item, by the item's number, if `accesses` has what each item does.
+/// The entries of every item, by the item's number.
 pub(crate) fn entries_by_item(
     alloc: Global,
-    m: &Memory,
+    f: &Function,
+    g: &Graph,
     k: &Kinds,
+    m: &Memory,
     batch: &[Part],
-    accesses: &[Vec<Access>],
 ) -> Result<ItemLists<Entry>, Exhausted>
     requires { length batch.now ≤ 1024 }
-    ensures size { IfOk result (λ v. length v ≡ length accesses.now) }
-    ensures entries { IfOk result (λ v. (n : ℕ) → n < length accesses.now → list_at v n ≡ flat_map (joint m.now (facts_of k.now) batch.now) (accesses_at accesses.now n)) }
+    ensures size { IfOk result (λ v. length v ≡ item_count g.now) }
+    ensures entries { IfOk result (λ v. (n : ℕ) → n < item_count g.now → list_at v n ≡ flat_map (joint m.now (facts_of k.now) batch.now) (told_at_item m.now f.now g.now k.now n)) }
 {
+    let mut concerned = [false; ROWS];
+    add_parts(&mut concerned, m, batch);
     let index = index_of_many(alloc, m, batch)?;
-    entries_of_each(alloc, m, k, batch, &index, accesses)
+    entries_of_each(alloc, f, g, k, m, batch, &concerned, &index)
 }

@@ -2,9 +2,8 @@
 
 ghost use Rattle.std.specs.Prelude.{◌≡◌, ◌≤◌, IfOk, None, length, take};
 ghost use Rattle.sil_cfg.specs.Build.{IsGraphOf};
-ghost use Rattle.sil_cfg.specs.Layout.{item_count};
 ghost use Rattle.memory_parts.specs.Batches as batches;
-ghost use Rattle.memory_parts.specs.Batches.{AreAccesses, AreReturns, AreRising, IsFirstAmong};
+ghost use Rattle.memory_parts.specs.Batches.{AreReturns, AreRising, IsFirstAmong};
 ghost use Rattle.memory_parts.specs.Shown.{IsFirstFinding};
 
 use crate::batch::first_number;
@@ -14,7 +13,7 @@ use crate::meaning::subject_of;
 use crate::part::Part;
 use crate::parts::parts_of;
 use crate::single::first_of_part;
-use memory_accesses::{Access, Memory};
+use memory_accesses::Memory;
 use ownership_marks::Kinds;
 use sil_ast::{Exhausted, Function, ValueId};
 use sil_cfg::{Graph, returns_by_item};
@@ -30,13 +29,10 @@ fn count_clean(
     g: &Graph,
     k: &Kinds,
     m: &Memory,
-    accesses: &[Vec<Access>],
     returns: &[bool],
     parts: &[Part],
 ) -> Result<usize, Exhausted>
     requires graph { IsGraphOf g.now f.now }
-    requires items { length accesses.now ≡ item_count g.now }
-    requires accesses { AreAccesses m.now f.now g.now k.now accesses.now }
     requires returns { AreReturns f.now g.now returns.now }
     ensures within { IfOk result (λ n. n ≤ length parts.now) }
     ensures clean { IfOk result (λ n. IsFirstAmong m.now f.now g.now k.now (take n parts.now) None) }
@@ -45,7 +41,7 @@ fn count_clean(
     while first < parts.len() {
         let count = BATCH.min(parts.len() - first);
         let batch = &parts[first..first + count];
-        if let Some(fault) = first_number(alloc, f, g, k, m, accesses, returns, batch)? {
+        if let Some(fault) = first_number(alloc, f, g, k, m, returns, batch)? {
             return Ok(first + count.min(fault.subject as usize));
         }
         first += count;
@@ -70,14 +66,11 @@ fn first_from(
     g: &Graph,
     k: &Kinds,
     m: &Memory,
-    accesses: &[Vec<Access>],
     returns: &[bool],
     parts: &[Part],
     start: usize,
 ) -> Result<Option<PartFault>, Exhausted>
     requires graph { IsGraphOf g.now f.now }
-    requires items { length accesses.now ≡ item_count g.now }
-    requires accesses { AreAccesses m.now f.now g.now k.now accesses.now }
     requires returns { AreReturns f.now g.now returns.now }
     requires rising { AreRising parts.now }
     requires within { start ≤ length parts.now }
@@ -90,7 +83,7 @@ fn first_from(
         if is_behind(&best, subject_of(part)) {
             return Ok(best);
         }
-        let next = first_of_part(alloc, f, g, k, m, accesses, returns, part)?;
+        let next = first_of_part(alloc, f, g, k, m, returns, part)?;
         best = earlier(best, next);
     }
     Ok(best)
@@ -98,22 +91,19 @@ fn first_from(
 
 /// The first fault that some walk of the function shows of memory, by rules 601 to 610 without the order of two slots:
 /// that of the least value, with its first rule and a walk of fewest edges; none where nothing is shown.
-/// `g` is the graph of `f`, `k` has its kinds, `m` what its values are to memory, and `accesses` what each of the graph's items does, by their numbers.
+/// `g` is the graph of `f`, `k` has its kinds and marks, and `m` what its values are to memory.
 pub fn first_fault(
     alloc: Global,
     f: &Function,
     g: &Graph,
     k: &Kinds,
     m: &Memory,
-    accesses: &[Vec<Access>],
 ) -> Result<Option<PartFault>, Exhausted>
     requires graph { IsGraphOf g.now f.now }
-    requires items { length accesses.now ≡ item_count g.now }
-    requires accesses { AreAccesses m.now f.now g.now k.now accesses.now }
     ensures { IfOk result (IsFirstFinding m.now f.now g.now k.now) }
 {
     let parts = parts_of(alloc, m, k)?;
     let returns = returns_by_item(alloc, f, g)?;
-    let start = count_clean(alloc, f, g, k, m, accesses, &returns, &parts)?;
-    first_from(alloc, f, g, k, m, accesses, &returns, &parts, start)
+    let start = count_clean(alloc, f, g, k, m, &returns, &parts)?;
+    first_from(alloc, f, g, k, m, &returns, &parts, start)
 }

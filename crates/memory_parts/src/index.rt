@@ -13,12 +13,12 @@ use sil_ast::{Exhausted, ValueId};
 use std::alloc::Global;
 
 /// How many rows there are at most for each kind of key.
-const ROWS: usize = 1024;
+pub(crate) const ROWS: usize = 1024;
 
 /// How many kinds of keys there are. The rows of one value stand beside each other, so that there are no more than values need.
 const KINDS: usize = 4;
 
-fn value_row(value: ValueId) -> usize
+pub(crate) fn value_row(value: ValueId) -> usize
     ensures { result ≡ index.value_row value }
 {
     value.0 as usize % ROWS

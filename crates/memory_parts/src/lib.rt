@@ -6,6 +6,7 @@ mod addresses;
 mod allocations;
 mod batch;
 mod building;
+mod concerned;
 mod contents;
 mod earlier;
 mod entries;

@@ -166,7 +166,7 @@ fn add_parts(found: &mut Vec<Part>, m: &Memory, k: &Kinds, value: ValueId) -> Re
 pub(crate) fn parts_of(alloc: Global, m: &Memory, k: &Kinds) -> Result<Vec<Part>, Exhausted>
     ensures { IfOk result (λ v. v.items ≡ parts.parts_of m.now (facts_of k.now)) }
 {
-    let mut found = Vec::new(alloc);
+    let mut found = Vec::with_capacity(alloc, m.values())?;
     for n in 0..m.values() {
         add_parts(&mut found, m, k, ValueId(n as u32))?;
     }

@@ -1,5 +1,8 @@
 -- The first of each kind of what walks show, by the order of all that is broken.
-use Rattle.std.proofs.Common.{◌+◌, List, refl, sym, subst, Option, Some, None}
+use Rattle.std.proofs.Common.{◌≡◌, ℕ, zero, suc, ◌+◌, List, [], ◌∷◌, Bool, true, false, refl, sym, subst, Option, Some, None}
+use Rattle.std.specs.Prelude.{slice_get, unwrap_or}
+use Rattle.std.specs.List.{list_any}
+use Rattle.std.proofs.lemmas.Bool.{or_parts}
 use Rattle.sil_ast.specs.declared.function.Function.{Function}
 use Rattle.sil_ast.specs.declared.place.ValueId.{ValueId}
 use Rattle.sil_cfg.specs.Layout.{Layout}
@@ -10,16 +13,30 @@ use Rattle.forwarding_chains.specs.Facts.{known_or}
 use Rattle.forwarding_chains.specs.declared.facts.Facts.{Facts}
 use Rattle.ownership_marks.specs.Known.{Known}
 use Rattle.memory_accesses.specs.declared.source.Source.{Source}
+use Rattle.memory_accesses.specs.declared.source.Source.TheVariants as source
 use Rattle.memory_parts.specs.Parts.{parts_of}
 use Rattle.memory_parts.specs.Shown.{IsFirstFinding, IsShown, fault_key}
 use Rattle.memory_parts.specs.declared.fault.PartFault.{PartFault}
-use Rattle.slot_order.specs.Pairs.{IsCrossing, IsFirstCrossing, crossing_key}
+use Rattle.slot_order.specs.Pairs.{IsCrossing, IsFirstCrossing, crossing_key, is_slot_source}
 use Rattle.slot_order.specs.declared.crossing.Crossing.{Crossing}
 use Rattle.memory_rules.specs.Broken.{IsPartRule, MemoryBreak, break_key}
 use Rattle.memory_rules.specs.Ends.{IsReportOf}
 use Rattle.memory_rules.specs.Reports.{IsFirstReported, IsOrderBreak, IsPartBreak, IsPartReport, IsRuleOf, order_break, part_break}
 use Rattle.memory_rules.proofs.BreakKeys.{moved, order_key, order_moved, part_key, walk_key}
 use Rattle.memory_rules.proofs.PartCodes.{HasPartRule, part_code}
+
+both : (b : Bool) → b ≡ true → b ≡ false → ⊥
+both true t f = cc
+both false t f = cc
+
+-- where there is no slot, no two of them cross
+no_slot : (sources : List Source) → list_any is_slot_source sources ≡ false → (n : ℕ) → is_slot_source (unwrap_or (slice_get sources n) source.Other) ≡ true → ⊥
+no_slot [] none n is = cc
+no_slot (s ∷ sources) none zero is = both (is_slot_source s) is (or_parts (is_slot_source s) (list_any is_slot_source sources) none).0
+no_slot (s ∷ sources) none (suc n) is = no_slot sources (or_parts (is_slot_source s) (list_any is_slot_source sources) none).1 n is
+
+pub no_crossing : (sources : List Source) (f : Function) (g : Layout) (k : Known) → list_any is_slot_source sources ≡ false → IsFirstCrossing sources f g k None
+no_crossing sources f g k none count facts by c s = no_slot sources none c.first.0 s.is_first
 
 module _ (sources : List Source) (f : Function) where
   module _ (facts : ValueId → Option Facts) where

@@ -9,7 +9,7 @@ ghost use Rattle.memory_rules.specs.Reports.{IsMemoryFound};
 use crate::earlier::earlier;
 use crate::statics::first_static;
 use crate::walks::first_on_walks;
-use memory_accesses::{Memory, accesses_by_item};
+use memory_accesses::Memory;
 use ownership_marks::Kinds;
 use sil_ast::{Exhausted, Function};
 use sil_cfg::{Graph, RuleEnd, RuleFault};
@@ -29,8 +29,7 @@ fn first_broken(
     ensures { IfOk result (IsMemoryFound table.now f.now g.now k.now) }
 {
     let memory = Memory::of(alloc, table, f)?;
-    let accesses = accesses_by_item(alloc, f, g, k, &memory)?;
-    let walk_fault = first_on_walks(alloc, f, g, k, &memory, &accesses)?;
+    let walk_fault = first_on_walks(alloc, f, g, k, &memory)?;
     let static_fault = first_static(alloc, &memory, f)?;
     Ok(earlier(walk_fault, static_fault))
 }

@@ -1,4 +1,4 @@
-use Rattle.std.proofs.Common.{◌∙◌, List, arith}
+use Rattle.std.proofs.Common.{◌∙◌, List}
 use Rattle.std.proofs.lemmas.Result.{IfOk-weaker}
 use Rattle.sil_cfg.specs.declared.item.Item.{Item}
 use Rattle.path_patterns.specs.Reads.{AgreesWith}
@@ -17,8 +17,8 @@ returns c =
     (IsFirstNumber c.args.m.now c.args.f.now c.args.g.now c.args.k.now c.args.batch.now)
     (λ r h count facts by.
     h (batch_table c.args.m.now facts c.args.f.now c.args.batch.now)
-    (batch_agrees c.args.m.now c.args.f.now c.args.g.now c.args.k.now c.args.accesses.now c.args.returns.now c.args.batch.now own c.deref.result.now c.requires.accesses c.requires.returns
-    (λ n lt. c.in_ok-entries.ensures.entries n (let size = c.requires.items in omega arith))
+    (batch_agrees c.args.m.now c.args.f.now c.args.g.now c.args.k.now c.args.returns.now c.args.batch.now own c.deref.result.now c.requires.returns
+    c.in_ok-entries.ensures.entries
     (c.deref.ensures.value ∙ c.in_ok-marks.ensures.marks)
     count facts by))
     c.first_fault.ensures

@@ -1,10 +1,5 @@
-use Rattle.std.proofs.Common.{sym, subst}
-use Rattle.memory_parts.specs.Batches.{AreAccesses}
 use Rattle.memory_rules.proofs.FirstOfAll.{memory_found}
 use Rattle.memory_rules.proofs.rules.first_broken.Goals as goal
-
-pub first_on_walks-requires-clause-accesses : goal.first_on_walks-requires-clause-accesses
-first_on_walks-requires-clause-accesses c = subst (AreAccesses c.in_ok-memory.memory c.args.f.now c.args.g.now c.args.k.now) (sym c.deref.ensures.value) c.in_ok-accesses.ensures.accesses
 
 pub returns : goal.returns
 returns c =

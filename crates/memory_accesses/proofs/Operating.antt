@@ -1,0 +1,68 @@
+-- What is done at an item's operands is what its instruction does.
+use Rattle.std.proofs.Common.{◌≡◌, List, [], ◌∷◌, ◌++◌, map, refl, sym, ap, ap₂, ◌∙◌, Option, Some, None, append-nil, append_assoc}
+use Rattle.std.specs.Prelude.{slice_get}
+use Rattle.std.specs.List.{flat_map}
+use Rattle.std.proofs.lemmas.Grind.{flat_map-append}
+use Rattle.std.proofs.lemmas.List.{map-append}
+use Rattle.sil_ast.specs.declared.function.Function.{Function}
+use Rattle.sil_ast.specs.declared.inst.Edge as edge
+use Rattle.sil_ast.specs.declared.inst.Inst as inst
+use Rattle.sil_ast.specs.declared.operands.Operand.{Operand}
+use Rattle.sil_cfg.specs.declared.item.Item as item
+use Rattle.sil_cfg.specs.declared.item.Item.TheVariants.{Entry, Inst, Edge, Exit}
+use Rattle.ownership_marks.specs.Marks.{edge_in, inst_in, item_taken, taken_along_at, taken_at, terminator_in}
+use Rattle.ownership_marks.specs.Roles.{consumed, taken_by}
+use Rattle.ownership_marks.specs.declared.taken.Taken.{Taken}
+use Rattle.memory_accesses.specs.declared.access.Access.{Access}
+use Rattle.memory_accesses.specs.declared.access.Access.TheVariants.{Does}
+use Rattle.memory_accesses.specs.declared.access.Operated.{Operated}
+use Rattle.memory_accesses.specs.declared.access.Operation.{Operation}
+use Rattle.memory_accesses.specs.Accesses.{does_of, item_inst}
+use Rattle.memory_accesses.specs.Operations.{access_kind_of, address_of, addresses_of, operated_at, operation_by}
+use Rattle.memory_accesses.specs.Done.{does_among, done_at, operated_by}
+
+-- by the operands, and by the addresses among them
+pub operated_each : (o : Option Operation) (taken : List Taken) → flat_map (operated_by o) taken ≡ flat_map (operated_at o) (flat_map address_of taken)
+operated_each o [] = refl
+operated_each o (t ∷ taken) = ap (λ v. operated_by o t ++ v) (operated_each o taken) ∙ sym (flat_map-append (operated_at o) (address_of t) (flat_map address_of taken))
+
+done_each : (o : Option Operation) (taken : List Taken) → flat_map (done_at o) taken ≡ map Does (flat_map (operated_by o) taken)
+done_each o [] = refl
+done_each o (t ∷ taken) = ap (λ v. done_at o t ++ v) (done_each o taken) ∙ sym (map-append Does (operated_by o t) (flat_map (operated_by o) taken))
+
+-- what is handed over along an edge is no address
+none_along : (operands : List Operand) → flat_map address_of (map consumed operands) ≡ []
+none_along [] = refl
+none_along (o ∷ operands) = none_along operands
+
+none_along_at : (e : Option edge.Edge) → flat_map address_of (taken_along_at e) ≡ []
+none_along_at None = refl
+none_along_at (Some e) = none_along e.args
+
+does_at : (i : inst.Inst) (along : List Taken) → flat_map address_of along ≡ [] → does_among (Some i) (taken_by i ++ along) ≡ does_of (Some i)
+does_at i along none =
+    let o : Option Operation = operation_by (access_kind_of i.op) i.qualifier in
+    done_each o (taken_by i ++ along)
+    ∙ ap (map Does) (operated_each o (taken_by i ++ along) ∙ ap (flat_map (operated_at o)) (flat_map-append address_of (taken_by i) along ∙ ap (λ v. addresses_of i ++ v) none ∙ append-nil (addresses_of i)))
+
+does_by : (o : Option inst.Inst) → does_among o (taken_at o) ≡ does_of o
+does_by None = refl
+does_by (Some i) = ap (does_among (Some i)) (sym (append-nil (taken_by i))) ∙ does_at i [] refl
+
+does_along : (o : Option inst.Inst) (along : List Taken) → flat_map address_of along ≡ [] → does_among o (taken_at o ++ along) ≡ does_of o
+does_along None along none = refl
+does_along (Some i) along none = does_at i along none
+
+pub item_does : (f : Function) (n : item.Item) → does_among (item_inst f n) (item_taken f n) ≡ does_of (item_inst f n)
+item_does f Entry = refl
+item_does f (Inst p) = does_by (inst_in (slice_get f.blocks p.block.0) p.index)
+item_does f (Edge e) =
+    let o : Option inst.Inst = terminator_in (slice_get f.blocks e.block.0) in
+    does_along o (taken_along_at (edge_in o e.index)) (none_along_at (edge_in o e.index))
+item_does f (Exit p) = does_by (terminator_in (slice_get f.blocks p.block.0))
+
+-- all steps of an item, one behind the other
+pub all_steps : (a b c d e g r1 r2 r3 r4 r5 : List Access) → r1 ≡ a → r2 ≡ r1 ++ b → r3 ≡ r2 ++ c → r4 ≡ r3 ++ d → r5 ≡ r4 ++ e → r5 ++ g ≡ a ++ (b ++ (c ++ (d ++ (e ++ g))))
+all_steps a b c d e g r1 r2 r3 r4 r5 e1 e2 e3 e4 e5 =
+    ap (λ v. v ++ g) e5 ∙ append_assoc r4 e g ∙ ap (λ v. v ++ (e ++ g)) e4 ∙ append_assoc r3 d (e ++ g) ∙ ap (λ v. v ++ (d ++ (e ++ g))) e3 ∙ append_assoc r2 c (d ++ (e ++ g))
+    ∙ ap (λ v. v ++ (c ++ (d ++ (e ++ g)))) e2 ∙ append_assoc r1 b (c ++ (d ++ (e ++ g))) ∙ ap (λ v. v ++ (b ++ (c ++ (d ++ (e ++ g))))) e1

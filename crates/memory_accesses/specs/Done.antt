@@ -1,0 +1,36 @@
+-- What is done at an item's operands, and what the item with a number does.
+use Rattle.std.specs.Prelude.{ℕ, List, [], map, Option, Some, None}
+use Rattle.std.specs.List.{flat_map}
+use Rattle.sil_ast.specs.declared.function.Function.{Function}
+use Rattle.sil_ast.specs.declared.inst.Inst.{Inst}
+use Rattle.sil_cfg.specs.Layout.{Layout, item_at}
+use Rattle.sil_cfg.specs.declared.item.Item.{Item}
+use Rattle.ownership_marks.specs.Known.{Known, marks_at}
+use Rattle.ownership_marks.specs.declared.mark.Mark.{Mark}
+use Rattle.ownership_marks.specs.declared.taken.Taken.{Taken}
+use Rattle.memory_accesses.specs.declared.access.Access.{Access}
+use Rattle.memory_accesses.specs.declared.access.Access.TheVariants.{Does}
+use Rattle.memory_accesses.specs.declared.access.Operated.{Operated}
+use Rattle.memory_accesses.specs.declared.access.Operation.{Operation}
+use Rattle.memory_accesses.specs.declared.source.Source.{Source}
+use Rattle.memory_accesses.specs.Accesses.{accesses_with}
+use Rattle.memory_accesses.specs.Operations.{access_kind_of, address_of, operated_at, operation_by}
+
+-- what is done at an operand, if it is an address
+abbrev pub operated_by : Option Operation → Taken → List Operated
+operated_by o t = flat_map (operated_at o) (address_of t)
+
+abbrev pub done_at : Option Operation → Taken → List Access
+done_at o t = map Does (operated_by o t)
+
+abbrev pub does_among : Option Inst → List Taken → List Access
+does_among None taken = []
+does_among (Some i) taken = flat_map (done_at (operation_by (access_kind_of i.op) i.qualifier)) taken
+
+abbrev pub done_by : List Source → Function → List Mark → Option Item → List Access
+done_by sources f marks None = []
+done_by sources f marks (Some item) = accesses_with sources marks f item
+
+-- what the item with a number does, by the marks that are kept for it
+abbrev pub told_at_item : List Source → Function → Layout → Known → ℕ → List Access
+told_at_item sources f g k n = done_by sources f (marks_at k n) (item_at g n)
