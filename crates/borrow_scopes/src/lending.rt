@@ -8,7 +8,7 @@ ghost use Rattle.borrow_scopes.specs.Lending.{block_loans, inst_loans};
 use instruction_table::Op;
 use sil_ast::{Block, Boxed, Exhausted, Function, Inst, ValueId};
 use std::alloc::Global;
-use value_origins::first_value;
+use value_origins::{first_value, room_for_values};
 
 fn lends(op: Op) -> bool
     ensures { result ≡ lending.lends op }
@@ -67,7 +67,7 @@ fn add_block(loans: &mut Vec<Option<ValueId>>, block: &Block) -> Result<(), Exha
 pub(crate) fn loans_of(alloc: Global, f: &Function) -> Result<Vec<Option<ValueId>>, Exhausted>
     ensures { IfOk result (λ loans. loans.items ≡ lending.loans_of f.now) }
 {
-    let mut loans = Vec::new(alloc);
+    let mut loans = Vec::with_capacity(alloc, room_for_values(f))?;
     for block in f.blocks.as_slice() {
         add_block(&mut loans, block)?;
     }
