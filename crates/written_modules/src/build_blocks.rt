@@ -13,7 +13,7 @@ use crate::nothing::{discard, skip};
 use crate::prepended::Prepended;
 use crate::put::{put, put_value};
 use crate::value::{Reduced, Value};
-use sil_ast::{ArgKind, Boxed, Exhausted, ShortList, TypeName};
+use sil_ast::{ArgKind, Boxed, Exhausted, List, TypeName};
 use sil_rules::{LimitWord, limits};
 use sil_shape::grammar::Production;
 use std::alloc::Global;
@@ -228,7 +228,7 @@ pub(crate) fn last_code(alloc: Global, values: &mut Prepended<Value>) -> Result<
 }
 
 /// An instruction with these names before its `=`.
-fn named(inst: InstBox, results: ShortList<WrittenToken, 1>) -> Value
+fn named(inst: InstBox, results: List<WrittenToken>) -> Value
     ensures { result ≡ v.Inst (record inst { results = results }) }
 {
     let mut inst = inst;
@@ -244,7 +244,7 @@ pub(crate) fn one_name(alloc: Global, values: &mut Prepended<Value>) -> Result<(
     ensures values { OnOk result (values.new ≡ reduced Production.InstOneName values.old) }
 {
     let name = values.pop_front().into_token();
-    let mut results = ShortList::new(alloc);
+    let mut results = List::with_capacity(alloc, 1)?;
     results.push(name)?;
     skip(values);
     let inst = values.pop_front().into_inst(alloc)?;
@@ -268,6 +268,6 @@ pub(crate) fn names(
     skip(values);
     let fault = too_many(LimitWord::Arguments, &results, limits::ARGUMENTS);
     let inst = values.pop_front().into_inst(alloc)?;
-    let value = named(inst, ShortList::from_vec(results.into_list().into_vec()));
+    let value = named(inst, results.into_list());
     put(Reduced { value, fault }, values)
 }

@@ -8,7 +8,7 @@ use crate::prepended::Prepended;
 use crate::value::Value;
 use crate::written_types::{GivenList, ParamList, TypeList, WrittenType};
 use instruction_table::Op;
-use sil_ast::{Boxed, Debug, Exhausted, List, Place, Qualifier, ShortList, TypeName};
+use sil_ast::{Boxed, Debug, Exhausted, List, Place, Qualifier, TypeName};
 use std::alloc::Global;
 use written_tree::{Spelling, WrittenInst, WrittenQualifier, WrittenToken};
 
@@ -118,7 +118,7 @@ pub(crate) fn bare_inst(alloc: Global, op: Op, mnemonic: Place) -> WrittenInst
         var_decl: false,
         qualifier: no_qualifier(),
         mnemonic,
-        results: ShortList::new(alloc),
+        results: List::new(alloc),
         operands: List::new(alloc),
         ty: None,
         signature: None,

@@ -4,7 +4,7 @@ ghost use Rattle.std.specs.Prelude.{◌≡◌, IfOk};
 
 use crate::written_declarations::WrittenToken;
 use crate::written_instructions::WrittenInst;
-use sil_ast::{Exhausted, ShortList};
+use sil_ast::{Exhausted, List};
 use std::alloc::Global;
 use std::marker::Model;
 
@@ -49,7 +49,7 @@ impl InstBox {
     }
 
     /// Gives it these names before the `=`.
-    pub fn set_results(&mut self, results: ShortList<WrittenToken, 1>)
+    pub fn set_results(&mut self, results: List<WrittenToken>)
         ensures { self.new ≡ record self.old { results = results } }
     {
         self.inner.results = results;

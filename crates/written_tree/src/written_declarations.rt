@@ -14,20 +14,6 @@ pub struct WrittenToken {
     pub place: Place,
 }
 
-/// No bytes, at the beginning of a text.
-impl Default for WrittenToken {
-    fn default() -> WrittenToken {
-        WrittenToken {
-            text: Spelling::none(),
-            place: Place {
-                offset: 0,
-                line: 1,
-                column: 1,
-            },
-        }
-    }
-}
-
 impl WrittenToken {
     /// Whether it is the word `ossa`, as an attribute.
     pub fn is_ossa(&self) -> bool

@@ -2,7 +2,7 @@
 
 use crate::written_declarations::WrittenToken;
 use instruction_table::Op;
-use sil_ast::{Boxed, Debug, List, Member, Place, Qualifier, ShortList, Signature, Text, TypeName};
+use sil_ast::{Boxed, Debug, List, Member, Place, Qualifier, Signature, Text, TypeName};
 
 /// `%2 = load [copy] %1 : $*T`: the parts of an instruction of a module, with names where that has numbers.
 #[derive(Drop)]
@@ -13,8 +13,8 @@ pub struct WrittenInst {
     pub qualifier: WrittenQualifier,
     /// Where its mnemonic stands.
     pub mnemonic: Place,
-    /// The names before the `=`; none where there is no `=`. One takes no memory of its own.
-    pub results: ShortList<WrittenToken, 1>,
+    /// The names before the `=`; none where there is no `=`.
+    pub results: List<WrittenToken>,
     pub operands: List<WrittenOperand>,
     pub ty: Option<TypeName>,
     pub signature: Option<Boxed<Signature>>,
