@@ -7,8 +7,8 @@ use Rattle.std.specs.declared.vec.Vec.{Vec}
 use Rattle.std.proofs.lemmas.Option.{slice_get_within}
 use Rattle.path_checks.proofs.PickedMarks.{shared_picked}
 use Rattle.path_checks.specs.declared.entry.Entry.{Entry}
-use Rattle.path_checks.specs.Shared.{entries_with, is_sharing, shared_if}
-use Rattle.item_lists.specs.Lists.{list_at}
+use Rattle.path_checks.specs.inner.Shared.{entries_with, is_sharing, shared_if}
+use Rattle.path_lists.specs.inner.Lists.{list_at}
 use Rattle.path_patterns.specs.Reads.{AgreesWith}
 use Rattle.path_patterns.specs.declared.mark.Mark as pattern
 use Rattle.sil_ast.specs.declared.function.Function.{Function}
@@ -16,8 +16,8 @@ use Rattle.sil_ast.specs.declared.place.ValueId.{ValueId}
 use Rattle.sil_cfg.specs.Layout.{Layout, item_at, item_count}
 use Rattle.sil_cfg.specs.Returns.{is_return}
 use Rattle.sil_cfg.specs.declared.item.Item.{Item}
-use Rattle.forwarding_chains.specs.Facts.{has, is_guaranteed, known_or, value_of}
-use Rattle.forwarding_chains.specs.declared.facts.Facts.{Facts}
+use Rattle.ownership_chains.specs.Facts.{has, is_guaranteed, known_or, value_of}
+use Rattle.ownership_chains.specs.declared.facts.Facts.{Facts}
 use Rattle.ownership_kinds.specs.Statics.{borrows_of, is_borrow}
 use Rattle.ownership_marks.proofs.MarkTables.{flat_map_same}
 use Rattle.ownership_marks.specs.Known.{AreKindsBy, Known, facts_of, marks_at}
@@ -26,7 +26,7 @@ use Rattle.ownership_marks.specs.declared.mark.MarkSort.{MarkSort}
 use Rattle.ownership_marks.specs.declared.mark.MarkSort.TheVariants.{End, Use, Begin}
 use Rattle.borrow_scopes.specs.Lending.{lent_by, loans_of}
 use Rattle.borrow_scopes.specs.Scopes.{bases_in, entry_of, is_scope, leaves, left_at_return, lent_bases, lost_at_end, lost_from, lost_with, mark_entries, returned, scope_entries, scopes_of}
-use Rattle.borrow_scopes.specs.Tables.{borrowers_at, borrowers_of, left_mark, lost_at, mark_entries_in}
+use Rattle.borrow_scopes.specs.inner.Tables.{borrowers_at, borrowers_of, left_mark, lost_at, mark_entries_in}
 
 pub same_bases : (a b : ValueId → Facts) → ((v : ValueId) → a v ≡ b v) → (o : Option ValueId) → bases_in a o ≡ bases_in b o
 same_bases a b same None = refl

@@ -4,9 +4,9 @@ use Rattle.sil_ast.specs.declared.function.Function.{Function}
 use Rattle.sil_cfg.specs.Layout.{Layout}
 use Rattle.sil_cfg.specs.declared.fault.RuleFault.{RuleFault}
 use Rattle.path_checks.specs.declared.entry.PathFault.{PathFault}
-use Rattle.forwarding_chains.specs.Facts.{told_at}
+use Rattle.ownership_chains.specs.Facts.{told_at}
 use Rattle.ownership_marks.specs.Known.{Known}
-use Rattle.borrow_scopes.specs.Borrows.{IsFaultOf, IsFirstBrokenScope, IsFirstScope}
+use Rattle.borrow_scopes.specs.inner.Borrows.{IsFaultOf, IsFirstBrokenScope, IsFirstScope}
 use Rattle.borrow_scopes.proofs.SameOthers.{same_other}
 
 pub reported : (f : Function) (g : Layout) (k : Known) (x : PathFault) (y : RuleFault) → IsFaultOf f k x y → IsFirstScope f g k (Some x) → IsFirstBrokenScope f g k y

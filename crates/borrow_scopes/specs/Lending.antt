@@ -9,7 +9,7 @@ use Rattle.instruction_table.specs.declared.op.Op.{Op}
 use Rattle.instruction_table.specs.declared.op.Op.TheVariants as op
 use Rattle.sil_ast.specs.declared.place.ValueId.{ValueId}
 use Rattle.numbered_form.specs.Insts.{insts_of}
-use Rattle.value_origins.specs.Switched.{first_value}
+use Rattle.ownership_origins.specs.Switched.{first_value}
 
 abbrev pub lends : Op → Bool
 lends o = number_of o == number_of op.BeginBorrow

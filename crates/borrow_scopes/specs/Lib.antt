@@ -1,5 +1,4 @@
 pub mod Lending
 pub mod Scopes
 pub mod Others
-pub mod Borrows
-pub mod Tables
+pub mod inner

@@ -3,8 +3,8 @@ use Rattle.std.specs.Prelude.{ℕ, List, Bool, true, false, ◌&&◌, ◌==◌, 
 use Rattle.sil_ast.specs.declared.function.Function.{Function}
 use Rattle.sil_ast.specs.declared.place.ValueId.{ValueId}
 use Rattle.sil_cfg.specs.declared.item.Item.{Item}
-use Rattle.forwarding_chains.specs.Facts.{has, is_guaranteed, known_or}
-use Rattle.forwarding_chains.specs.declared.facts.Facts.{Facts}
+use Rattle.ownership_chains.specs.Facts.{has, is_guaranteed, known_or}
+use Rattle.ownership_chains.specs.declared.facts.Facts.{Facts}
 use Rattle.ownership_marks.specs.Marks.{item_taken, marks_of}
 use Rattle.ownership_marks.specs.declared.mark.Mark.{Mark}
 use Rattle.ownership_marks.specs.declared.mark.MarkSort.{MarkSort}

@@ -7,8 +7,8 @@ use Rattle.sil_cfg.specs.Returns.{is_return}
 use Rattle.sil_cfg.specs.declared.item.Item.{Item}
 use Rattle.path_checks.specs.declared.entry.Entry as entry
 use Rattle.path_patterns.specs.declared.mark.Mark as pattern
-use Rattle.forwarding_chains.specs.Facts.{has, is_guaranteed, known_or, value_of}
-use Rattle.forwarding_chains.specs.declared.facts.Facts.{Facts}
+use Rattle.ownership_chains.specs.Facts.{has, is_guaranteed, known_or, value_of}
+use Rattle.ownership_chains.specs.declared.facts.Facts.{Facts}
 use Rattle.ownership_kinds.specs.Statics.{is_borrow}
 use Rattle.ownership_marks.specs.Marks.{marks_of}
 use Rattle.ownership_marks.specs.declared.mark.Mark as mark

@@ -2,22 +2,22 @@
 
 ghost use Rattle.std.specs.Prelude.{◌≡◌, ◌<◌, ℕ, IfErr, IfOk, MatchOption, OnOk, length};
 ghost use Rattle.std.specs.List.{flat_map};
-ghost use Rattle.item_lists.specs.Lists.{list_at};
+ghost use Rattle.path_lists.specs.inner.Lists.{list_at};
 ghost use Rattle.sil_cfg.specs.Build.{IsGraphOf};
 ghost use Rattle.sil_cfg.specs.Layout.{item_count};
 ghost use Rattle.ownership_kinds.specs.Statics as statics;
 ghost use Rattle.ownership_marks.specs.Known.{facts_of, marks_at};
-ghost use Rattle.borrow_scopes.specs.Borrows.{AreScopesKept, IsFaultOf, IsFirstBrokenScope, IsFirstScope, IsScopeBroken};
+ghost use Rattle.borrow_scopes.specs.inner.Borrows.{AreScopesKept, IsFaultOf, IsFirstBrokenScope, IsFirstScope, IsScopeBroken};
 ghost use Rattle.borrow_scopes.specs.Scopes.{mark_entries};
 
 use crate::borrowers::borrowers_of;
 use crate::lending::loans_of;
 use crate::others::other_of;
 use crate::scopes::{entries_by_item, marks_at_returns};
-use item_lists::ItemLists;
 use ownership_kinds::borrows_of;
 use ownership_marks::Kinds;
 use path_checks::{Entry, PathFault, first_fault};
+use path_lists::ItemLists;
 use sil_ast::{Exhausted, Function, ValueId};
 use sil_cfg::{Graph, RuleEnd, RuleFault, returns_by_item};
 use std::alloc::Global;

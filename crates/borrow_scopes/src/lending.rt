@@ -6,9 +6,9 @@ ghost use Rattle.borrow_scopes.specs.Lending as lending;
 ghost use Rattle.borrow_scopes.specs.Lending.{block_loans, inst_loans};
 
 use instruction_table::Op;
+use ownership_origins::{first_value, room_for_values};
 use sil_ast::{Block, Boxed, Exhausted, Function, Inst, ValueId};
 use std::alloc::Global;
-use value_origins::{first_value, room_for_values};
 
 fn lends(op: Op) -> bool
     ensures { result ≡ lending.lends op }

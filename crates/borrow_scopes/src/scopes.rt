@@ -3,18 +3,18 @@
 ghost use Rattle.std.specs.Prelude.{◌≡◌, [], ◌∷◌, ◌++◌, ◌<◌, ◌≤◌, ◌^◌, ℕ, length, map, IfOk, OnOk};
 ghost use Rattle.std.specs.List.{flat_map, range_with_len};
 ghost use Rattle.sil_cfg.specs.Layout.{item_count};
-ghost use Rattle.item_lists.specs.Lists.{list_at};
-ghost use Rattle.forwarding_chains.specs.Facts as facts;
+ghost use Rattle.path_lists.specs.inner.Lists.{list_at};
+ghost use Rattle.ownership_chains.specs.Facts as facts;
 ghost use Rattle.ownership_marks.specs.Known.{facts_of, marks_at};
 ghost use Rattle.borrow_scopes.specs.Scopes as scopes;
 ghost use Rattle.borrow_scopes.specs.Scopes.{lost_at_end};
-ghost use Rattle.borrow_scopes.specs.Tables as tables;
-ghost use Rattle.borrow_scopes.specs.Tables.{borrowers_at, lost_at, mark_entries_in, scope_entries_in};
+ghost use Rattle.borrow_scopes.specs.inner.Tables as tables;
+ghost use Rattle.borrow_scopes.specs.inner.Tables.{borrowers_at, lost_at, mark_entries_in, scope_entries_in};
 
-use item_lists::ItemLists;
 use ownership_kinds::is_borrow;
 use ownership_marks::{Kinds, Mark, MarkSort};
 use path_checks::Entry;
+use path_lists::ItemLists;
 use sil_ast::{Exhausted, ValueId};
 use sil_cfg::Graph;
 use std::alloc::Global;

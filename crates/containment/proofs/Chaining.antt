@@ -8,7 +8,7 @@ use Rattle.std.proofs.lemmas.List.Elements.{All-more, All-push, All-weaker, All-
 use Rattle.containment.specs.Chains.{Graph}
 use Rattle.containment.specs.Chains.{parts_of}
 use Rattle.containment.specs.Chains.{Chain, one, more}
-use Rattle.containment.specs.Search.{IsMarked, AreReached, Visits, Searches}
+use Rattle.containment.specs.inner.Search.{IsMarked, AreReached, Visits, Searches}
 
 pub count_set : (marks : List Bool) (i : ℕ) → i < length marks → get_or marks i false ≡ false → suc (count_by not (set marks i true)) ≡ count_by not marks
 count_set marks i lt h =

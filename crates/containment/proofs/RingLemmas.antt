@@ -6,10 +6,10 @@ use Rattle.std.proofs.lemmas.Bool.{cases_lt}
 use Rattle.std.proofs.lemmas.List.{length-set, length-replicate, get_or-replicate}
 use Rattle.std.proofs.lemmas.List.Elements.{All-contains, All-weaker, Contains-append_right}
 use Rattle.containment.specs.Chains.{Graph, parts_of, Chain, one, more, IsCyclic, IsInRange}
-use Rattle.containment.specs.Order.{ArePartsBefore, IsOrder}
-use Rattle.containment.specs.Ranks.{NeverFall, Rises}
-use Rattle.containment.specs.Search.{IsMarked}
-use Rattle.containment.specs.Settling.{Settles, IsStuck, is_marked}
+use Rattle.containment.specs.inner.Order.{ArePartsBefore, IsOrder}
+use Rattle.containment.specs.inner.Ranks.{NeverFall, Rises}
+use Rattle.containment.specs.inner.Search.{IsMarked}
+use Rattle.containment.specs.inner.Settling.{Settles, IsStuck, is_marked}
 use Rattle.containment.proofs.Chaining.{count_set, set_only, chain_push, marked_lt}
 
 abbrev Ring : Graph → Type 0

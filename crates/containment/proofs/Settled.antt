@@ -7,9 +7,9 @@ use Rattle.std.proofs.lemmas.Bool.{cases_lt}
 use Rattle.std.proofs.lemmas.List.Sums.{AllPass-from_list_all}
 use Rattle.std.proofs.lemmas.List.Elements.{All-push, All-weaker, Contains-append_left, Contains-push}
 use Rattle.containment.specs.Chains.{Graph, parts_of}
-use Rattle.containment.specs.Order.{ArePartsBefore}
-use Rattle.containment.specs.Search.{IsMarked}
-use Rattle.containment.specs.Settling.{Settles, IsStuck, Sweeps, Places, is_marked}
+use Rattle.containment.specs.inner.Order.{ArePartsBefore}
+use Rattle.containment.specs.inner.Search.{IsMarked}
+use Rattle.containment.specs.inner.Settling.{Settles, IsStuck, Sweeps, Places, is_marked}
 use Rattle.containment.proofs.Chaining.{count_set, set_keeps, set_only, marked_lt}
 
 -- a number whose parts are placed goes behind them

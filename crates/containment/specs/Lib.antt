@@ -1,6 +1,2 @@
 pub mod Chains
-pub mod Order
-pub mod Search
-pub mod Settling
-pub mod Ranks
-pub mod Outcome
+pub mod inner

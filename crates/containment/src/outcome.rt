@@ -2,7 +2,7 @@
 
 ghost use Rattle.std.specs.Prelude.{◌≡◌, ℕ, ◌<◌, IfOk, length};
 ghost use Rattle.containment.specs.Chains.{IsInRange};
-ghost use Rattle.containment.specs.Outcome.{IsFound};
+ghost use Rattle.containment.specs.inner.Outcome.{IsFound};
 
 use crate::advice::{parts_first, ranks_along};
 use crate::rings::first_on_ring;

@@ -2,7 +2,7 @@
 
 ghost use Rattle.std.specs.Prelude.{◌≡◌, ℕ, ◌<◌, ◌≤◌, length, slice_index, All};
 ghost use Rattle.std.specs.Bool.{OnTrue};
-ghost use Rattle.containment.specs.Ranks.{NeverFall, Rises};
+ghost use Rattle.containment.specs.inner.Ranks.{NeverFall, Rises};
 
 use sil_ast::List;
 

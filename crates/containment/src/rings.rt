@@ -3,7 +3,7 @@
 ghost use Rattle.std.specs.Prelude.{◌≡◌, ℕ, ◌<◌, ◌↔◌, IsTrue, IfOk, IfSome, IfNone, length};
 ghost use Rattle.std.specs.Bool.{OnTrue};
 ghost use Rattle.containment.specs.Chains.{IsCyclic, IsFirstCyclic, IsInRange};
-ghost use Rattle.containment.specs.Ranks.{NeverFall};
+ghost use Rattle.containment.specs.inner.Ranks.{NeverFall};
 
 use crate::ranks::{never_fall, rises};
 use crate::search::is_cyclic;

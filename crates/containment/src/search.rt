@@ -2,7 +2,7 @@
 
 ghost use Rattle.std.specs.Prelude.{◌≡◌, ℕ, ◌<◌, ◌↔◌, IfOk, IsTrue, All, length, get_or, Bool, false};
 ghost use Rattle.containment.specs.Chains.{parts_of, IsInRange, IsCyclic};
-ghost use Rattle.containment.specs.Search.{AreReached, Visits};
+ghost use Rattle.containment.specs.inner.Search.{AreReached, Visits};
 
 use sil_ast::{Exhausted, List};
 use std::alloc::Global;

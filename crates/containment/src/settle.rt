@@ -2,8 +2,8 @@
 
 ghost use Rattle.std.specs.Prelude.{◌≡◌, ℕ, ◌<◌, IfOk, length};
 ghost use Rattle.std.specs.List.{list_all};
-ghost use Rattle.containment.specs.Settling as settling;
-ghost use Rattle.containment.specs.Settling.{IsStuck, Places, Settles, Sweeps};
+ghost use Rattle.containment.specs.inner.Settling as settling;
+ghost use Rattle.containment.specs.inner.Settling.{IsStuck, Places, Settles, Sweeps};
 
 use sil_ast::{Exhausted, List};
 

@@ -2,7 +2,7 @@
 
 ghost use Rattle.std.specs.Prelude.{IfErr, IfOk, OnOk};
 ghost use Rattle.sil_cfg.specs.Build.{IsGraphOf};
-ghost use Rattle.lifetime_worklist.specs.Lifetimes.{AreLivesKept, IsFirstLife, IsLifeBroken};
+ghost use Rattle.lifetime_worklist.specs.inner.Lifetimes.{AreLivesKept, IsFirstLife, IsLifeBroken};
 
 use crate::lives::{entries_by_item, marks_at_returns};
 use ownership_marks::Kinds;

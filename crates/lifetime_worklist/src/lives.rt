@@ -3,15 +3,15 @@
 ghost use Rattle.std.specs.Prelude.{◌≡◌, [], ◌∷◌, ◌++◌, ◌<◌, ◌≤◌, ◌^◌, ℕ, length, map, IfOk, OnOk};
 ghost use Rattle.std.specs.List.{flat_map, range_with_len};
 ghost use Rattle.sil_cfg.specs.Layout.{item_count};
-ghost use Rattle.item_lists.specs.Lists.{list_at};
-ghost use Rattle.forwarding_chains.specs.Facts as facts;
+ghost use Rattle.path_lists.specs.inner.Lists.{list_at};
+ghost use Rattle.ownership_chains.specs.Facts as facts;
 ghost use Rattle.ownership_marks.specs.Known.{facts_of, marks_at};
 ghost use Rattle.lifetime_worklist.specs.Lives as lives;
 ghost use Rattle.lifetime_worklist.specs.Lives.{lives_by};
 
-use item_lists::ItemLists;
 use ownership_marks::{Kinds, Mark, MarkSort};
 use path_checks::Entry;
+use path_lists::ItemLists;
 use sil_ast::{Exhausted, ValueId};
 use sil_cfg::Graph;
 use std::alloc::Global;

@@ -8,15 +8,15 @@ use Rattle.sil_ast.specs.declared.place.ValueId.{ValueId}
 use Rattle.sil_cfg.specs.Layout.{Layout, item_at, item_count}
 use Rattle.sil_cfg.specs.declared.item.Item.{Item}
 use Rattle.path_patterns.specs.Reads.{accesses_at, AgreesWith}
-use Rattle.forwarding_chains.specs.Facts.{told_at}
-use Rattle.forwarding_chains.specs.declared.facts.Facts.{Facts}
+use Rattle.ownership_chains.specs.Facts.{told_at}
+use Rattle.ownership_chains.specs.declared.facts.Facts.{Facts}
 use Rattle.ownership_marks.proofs.MarkTables.{same_marks}
 use Rattle.ownership_marks.specs.Known.{AreKindsBy, Known, marks_at}
 use Rattle.ownership_marks.specs.declared.mark.Mark.{Mark}
 use Rattle.memory_accesses.specs.declared.access.Access.{Access}
 use Rattle.memory_accesses.specs.declared.source.Source.{Source}
 use Rattle.memory_accesses.specs.Accesses.{accesses_of, accesses_with}
-use Rattle.memory_accesses.specs.Done.{done_by, told_at_item}
+use Rattle.memory_accesses.specs.inner.Done.{done_by, told_at_item}
 
 -- what was made of an item with its number's marks
 pub told_of_item : (sources : List Source) (f : Function) (g : Layout) (k : Known) (n : ℕ) (item : Item) (marks : List Mark) (made : List Access) →

@@ -6,12 +6,12 @@ use Rattle.std.proofs.lemmas.List.{reverse-append}
 use Rattle.std.proofs.lemmas.List.FromFn.{get_or-map-range_with_len, length-map-range_with_len}
 use Rattle.std.proofs.lemmas.Option.{slice_get_past, unwrap_or-slice_get}
 use Rattle.std.proofs.lemmas.Bool.{cases_lt}
-use Rattle.forwarding_chains.specs.Facts.{value_of}
+use Rattle.ownership_chains.specs.Facts.{value_of}
 use Rattle.sil_ast.specs.declared.place.ValueId.{ValueId}
 use Rattle.memory_accesses.specs.declared.location.Location.{Location}
 use Rattle.memory_accesses.specs.declared.source.Source.{Source}
 use Rattle.memory_accesses.specs.declared.source.Source.TheVariants.{Slot, Inout, Object, Borrow, Loan, Field, Part, Other}
-use Rattle.memory_accesses.specs.Kept.{behind, location_at, locations_of}
+use Rattle.memory_accesses.specs.inner.Kept.{behind, location_at, locations_of}
 use Rattle.memory_accesses.specs.Locations.{extended, locate, located_by, location_of, whole}
 use Rattle.memory_accesses.specs.Sources.{source_at}
 

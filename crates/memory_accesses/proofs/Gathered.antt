@@ -7,7 +7,7 @@ use Rattle.sil_ast.specs.declared.inst.Inst.{Inst}
 use Rattle.numbered_form.specs.Insts.{insts_of}
 use Rattle.numbered_form.specs.Numbering.{value_of, results_of, defined_in, values_of}
 use Rattle.type_definitions.specs.Declarations.{Declarations}
-use Rattle.value_origins.specs.Origins.{is_zero}
+use Rattle.ownership_origins.specs.Origins.{is_zero}
 use Rattle.memory_accesses.specs.declared.source.Source.{Source}
 use Rattle.memory_accesses.specs.Sources.{arg_source, block_sources, result_source, result_sources, sources_from}
 

@@ -7,7 +7,7 @@ use Rattle.ownership_marks.specs.declared.taken.Taken.{Taken}
 use Rattle.memory_accesses.specs.declared.access.Access.{Access}
 use Rattle.memory_accesses.specs.declared.access.Access.TheVariants.{Does}
 use Rattle.memory_accesses.specs.declared.access.Operated.{Operated}
-use Rattle.memory_accesses.specs.Done.{does_among, done_at}
+use Rattle.memory_accesses.specs.inner.Done.{does_among, done_at}
 use Rattle.memory_accesses.specs.Operations.{access_kind_of, address_of, addresses_of, operated_at, operation_by, operations_of}
 
 none_operated : (vs : List ValueId) → flat_map (operated_at None) vs ≡ []

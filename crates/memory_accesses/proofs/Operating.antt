@@ -19,7 +19,7 @@ use Rattle.memory_accesses.specs.declared.access.Operated.{Operated}
 use Rattle.memory_accesses.specs.declared.access.Operation.{Operation}
 use Rattle.memory_accesses.specs.Accesses.{does_of, item_inst}
 use Rattle.memory_accesses.specs.Operations.{access_kind_of, address_of, addresses_of, operated_at, operation_by}
-use Rattle.memory_accesses.specs.Done.{does_among, done_at, operated_by}
+use Rattle.memory_accesses.specs.inner.Done.{does_among, done_at, operated_by}
 
 -- by the operands, and by the addresses among them
 pub operated_each : (o : Option Operation) (taken : List Taken) → flat_map (operated_by o) taken ≡ flat_map (operated_at o) (flat_map address_of taken)

@@ -8,7 +8,7 @@ use Rattle.instruction_table.specs.declared.op.Op.{Op}
 use Rattle.sil_ast.specs.declared.place.ValueId.{ValueId}
 use Rattle.sil_cfg.specs.declared.item.Item.{Item}
 use Rattle.sil_cfg.specs.declared.item.Item.TheVariants.{Entry, Inst, Edge, Exit}
-use Rattle.forwarding_chains.specs.declared.facts.Facts.{Facts}
+use Rattle.ownership_chains.specs.declared.facts.Facts.{Facts}
 use Rattle.ownership_marks.specs.Marks.{inst_in, item_defined, item_taken, marks_of, terminator_in}
 use Rattle.ownership_marks.specs.declared.mark.Mark.{Mark}
 use Rattle.ownership_marks.specs.declared.mark.MarkSort.{MarkSort}

@@ -13,8 +13,8 @@ use Rattle.numbered_form.specs.Insts.{insts_of}
 use Rattle.type_definitions.specs.Declarations.{Declarations}
 use Rattle.type_definitions.specs.Lookups.{field_of, fields_of}
 use Rattle.sil_types.specs.Typing.Shapes.{is_address, is_trivial_object}
-use Rattle.value_origins.specs.Origins.{is_zero}
-use Rattle.value_origins.specs.Switched.{first_value}
+use Rattle.ownership_origins.specs.Origins.{is_zero}
+use Rattle.ownership_origins.specs.Switched.{first_value}
 use Rattle.memory_accesses.specs.declared.columns.AccessKind.{AccessKind}
 use Rattle.memory_accesses.specs.declared.columns.AccessKind.TheVariants.{NoAccess, AllocatesSlot, AllocatesObject, DeallocatesSlot, LendsValue, LendsLocation, NamesField, NamesMember, NamesElement, Loads, Stores, Destroys, Passes}
 use Rattle.memory_accesses.specs.declared.source.Source.{Source}

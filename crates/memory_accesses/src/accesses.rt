@@ -4,8 +4,8 @@ ghost use Rattle.std.specs.Prelude.{◌≡◌, ℕ, Option, IfOk, OnOk, length};
 ghost use Rattle.sil_ast.specs.declared.place.ValueId.{ValueId};
 ghost use Rattle.sil_cfg.specs.Layout.{item_count};
 ghost use Rattle.path_patterns.specs.Reads.{accesses_at, AgreesWith};
-ghost use Rattle.forwarding_chains.specs.Facts.{told_at};
-ghost use Rattle.forwarding_chains.specs.declared.facts.Facts.{Facts};
+ghost use Rattle.ownership_chains.specs.Facts.{told_at};
+ghost use Rattle.ownership_chains.specs.declared.facts.Facts.{Facts};
 ghost use Rattle.ownership_marks.specs.Known.{AreKindsBy};
 ghost use Rattle.memory_accesses.specs.Accesses.{accesses_of, accesses_with};
 

@@ -4,7 +4,7 @@ ghost use Rattle.std.specs.Prelude.{◌≡◌, ◌++◌, OnOk, Some, map};
 ghost use Rattle.std.specs.List.{flat_map};
 ghost use Rattle.std.specs.Option.{option_copied, option_to_list};
 ghost use Rattle.memory_accesses.specs.Accesses as spec;
-ghost use Rattle.memory_accesses.specs.Done.{does_among, done_at};
+ghost use Rattle.memory_accesses.specs.inner.Done.{does_among, done_at};
 
 use crate::access::{Access, Operated, Operation};
 use crate::columns::{Allowance, allowance_of};

@@ -2,7 +2,7 @@
 
 ghost use Rattle.std.specs.Prelude.{◌≡◌, ◌≤◌, ◌^◌, IfOk, length};
 ghost use Rattle.std.specs.Option.{option_copied};
-ghost use Rattle.memory_accesses.specs.Kept as kept;
+ghost use Rattle.memory_accesses.specs.inner.Kept as kept;
 ghost use Rattle.memory_accesses.specs.Locations as spec;
 ghost use Rattle.memory_accesses.specs.Sources as told;
 

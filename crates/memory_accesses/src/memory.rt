@@ -27,7 +27,7 @@ pub struct Memory {
 
 impl Model for Memory {
     ghost use Rattle.std.specs.Prelude.{◌≡◌, ◌≤◌, ◌^◌, List, length};
-    ghost use Rattle.memory_accesses.specs.Kept.{locations_of};
+    ghost use Rattle.memory_accesses.specs.inner.Kept.{locations_of};
     ghost use Rattle.memory_accesses.specs.declared.source.Source.{Source};
 
     ghost Value = { List Source };

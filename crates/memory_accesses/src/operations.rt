@@ -2,7 +2,7 @@
 
 ghost use Rattle.std.specs.Prelude.{◌≡◌, ◌++◌, OnOk, Some};
 ghost use Rattle.std.specs.List.{flat_map};
-ghost use Rattle.memory_accesses.specs.Done.{operated_by};
+ghost use Rattle.memory_accesses.specs.inner.Done.{operated_by};
 ghost use Rattle.memory_accesses.specs.Operations as spec;
 
 use crate::access::{Operated, Operation};

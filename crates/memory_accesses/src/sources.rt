@@ -4,19 +4,19 @@ ghost use Rattle.std.specs.Prelude.{◌≡◌, ◌++◌, IfOk, OnOk, map};
 ghost use Rattle.std.specs.List.{flat_map};
 ghost use Rattle.sil_ast.specs.declared.type_name.TypeName.{out-TypeName};
 ghost use Rattle.type_definitions.specs.Lookups as lookups;
-ghost use Rattle.value_origins.specs.Origins.{is_zero};
+ghost use Rattle.ownership_origins.specs.Origins.{is_zero};
 ghost use Rattle.memory_accesses.specs.Sources as spec;
 ghost use Rattle.memory_accesses.specs.Sources.{block_sources, result_sources};
 
 use crate::columns::{AccessKind, access_kind_of};
 use crate::source::Source;
-use row_types::shapes::{is_trivial_object, target};
+use ownership_origins::first_value;
 use sil_ast::{
     Block, BlockArg, Boxed, Decl, Exhausted, Field, Function, Inst, List, Text, TypeName, ValueId,
 };
 use sil_types::TypeTable;
 use std::alloc::Global;
-use value_origins::first_value;
+use typing_rows::shapes::{is_trivial_object, target};
 
 fn slot_source(table: &TypeTable, inst: &Inst) -> Source
     ensures { result ≡ spec.slot_source table.now inst.now.ty }

@@ -13,12 +13,12 @@ use Rattle.sil_ast.specs.declared.place.ValueId.{ValueId}
 use Rattle.sil_cfg.specs.Returns.{is_return}
 use Rattle.sil_cfg.specs.declared.item.Item.{Item}
 use Rattle.sil_rules.specs.Order as rules
-use Rattle.forwarding_chains.specs.Facts.{known_or}
-use Rattle.forwarding_chains.specs.declared.facts.Facts.{Facts}
+use Rattle.ownership_chains.specs.Facts.{known_or}
+use Rattle.ownership_chains.specs.declared.facts.Facts.{Facts}
 use Rattle.path_checks.proofs.OneSubject.{marks_shared, same_shown_at}
 use Rattle.path_checks.specs.Entries as entries
 use Rattle.path_checks.specs.First as paths
-use Rattle.path_checks.specs.Shared.{shared_if}
+use Rattle.path_checks.specs.inner.Shared.{shared_if}
 use Rattle.path_checks.specs.declared.entry.Entry.{Entry}
 use Rattle.path_checks.specs.declared.entry.PathFault.{PathFault}
 use Rattle.path_patterns.specs.Reads.{marks_in, one_or_none}
@@ -26,7 +26,7 @@ use Rattle.path_patterns.specs.declared.mark.Mark.{Mark}
 use Rattle.memory_accesses.specs.Accesses.{accesses_of}
 use Rattle.memory_accesses.specs.declared.access.Access.{Access}
 use Rattle.memory_accesses.specs.declared.source.Source.{Source}
-use Rattle.memory_parts.specs.Batches.{batch_table, joint}
+use Rattle.memory_parts.specs.inner.Batches.{batch_table, joint}
 use Rattle.memory_parts.specs.Parts.{at_return, means, subject_of}
 use Rattle.memory_parts.specs.Shown.{entry_of, fault_key, IsShown, marks_of_access, other_of, part_marks, part_table}
 use Rattle.memory_parts.specs.declared.fault.PartFault.{PartFault}

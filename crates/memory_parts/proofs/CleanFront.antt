@@ -7,11 +7,11 @@ use Rattle.std.proofs.lemmas.Option.{slice_get_past}
 use Rattle.sil_ast.specs.declared.function.Function.{Function}
 use Rattle.sil_ast.specs.declared.place.ValueId.{ValueId}
 use Rattle.sil_rules.specs.Order.{IsFirst}
-use Rattle.forwarding_chains.specs.declared.facts.Facts.{Facts}
+use Rattle.ownership_chains.specs.declared.facts.Facts.{Facts}
 use Rattle.path_checks.specs.First as paths
 use Rattle.path_checks.specs.declared.entry.PathFault.{PathFault}
 use Rattle.memory_accesses.specs.declared.source.Source.{Source}
-use Rattle.memory_parts.specs.Batches.{batch_table}
+use Rattle.memory_parts.specs.inner.Batches.{batch_table}
 use Rattle.memory_parts.specs.Shown.{fault_key, IsShown}
 use Rattle.memory_parts.specs.declared.part.Part.{Part}
 use Rattle.memory_parts.proofs.AtOnePart.{none_among, none_before, past_unshown}

@@ -7,9 +7,9 @@ use Rattle.sil_ast.specs.declared.function.Function.{Function}
 use Rattle.sil_ast.specs.declared.place.ValueId.{ValueId}
 use Rattle.sil_rules.proofs.Firsts.{first_earlier, first_some}
 use Rattle.sil_rules.specs.Order.{Either, IsEarlier, IsFirst}
-use Rattle.forwarding_chains.specs.declared.facts.Facts.{Facts}
+use Rattle.ownership_chains.specs.declared.facts.Facts.{Facts}
 use Rattle.memory_accesses.specs.declared.source.Source.{Source}
-use Rattle.memory_parts.specs.Batches.{AreRising, is_behind}
+use Rattle.memory_parts.specs.inner.Batches.{AreRising, is_behind}
 use Rattle.memory_parts.specs.Parts.{subject_of}
 use Rattle.memory_parts.specs.Shown.{fault_key, IsShown}
 use Rattle.memory_parts.specs.declared.fault.PartFault.{PartFault}

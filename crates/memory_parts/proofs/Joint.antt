@@ -7,23 +7,23 @@ use Rattle.std.proofs.lemmas.Option.{slice_get_within}
 use Rattle.sil_ast.specs.declared.function.Function.{Function}
 use Rattle.sil_ast.specs.declared.place.ValueId.{ValueId}
 use Rattle.sil_cfg.specs.Layout.{Layout, item_count}
-use Rattle.forwarding_chains.specs.Facts.{known_or, value_of}
-use Rattle.forwarding_chains.specs.declared.facts.Facts.{Facts}
+use Rattle.ownership_chains.specs.Facts.{known_or, value_of}
+use Rattle.ownership_chains.specs.declared.facts.Facts.{Facts}
 use Rattle.ownership_marks.proofs.MarkTables.{flat_map_same}
 use Rattle.ownership_marks.specs.Known.{AreKindsBy, Known, facts_of}
-use Rattle.path_checks.specs.Shared.{entries_with, entry_if, shared_from, shared_if}
+use Rattle.path_checks.specs.inner.Shared.{entries_with, entry_if, shared_from, shared_if}
 use Rattle.path_checks.specs.declared.entry.Entry.{Entry}
-use Rattle.item_lists.specs.Lists.{list_at}
+use Rattle.path_lists.specs.inner.Lists.{list_at}
 use Rattle.path_patterns.specs.Reads.{AgreesWith}
 use Rattle.path_patterns.specs.declared.mark.Mark.{Mark}
 use Rattle.memory_accesses.proofs.ByItem.{told_agrees}
 use Rattle.memory_accesses.specs.Accesses.{accesses_of}
-use Rattle.memory_accesses.specs.Done.{told_at_item}
+use Rattle.memory_accesses.specs.inner.Done.{told_at_item}
 use Rattle.memory_accesses.specs.Sources.{source_at}
 use Rattle.memory_accesses.specs.declared.access.Access.{Access}
 use Rattle.memory_accesses.specs.declared.access.Access.TheVariants.{Ends, Begins, Allocates, Deallocates, Given, Does, Mentions}
 use Rattle.memory_accesses.specs.declared.source.Source.{Source}
-use Rattle.memory_parts.specs.Batches.{AreReturns, batch_table, joint}
+use Rattle.memory_parts.specs.inner.Batches.{AreReturns, batch_table, joint}
 use Rattle.memory_parts.specs.Building.{builds, building_mark, goes_by_borrow, takes_borrow, takes_object}
 use Rattle.memory_parts.specs.Parts.{at_return, means, parts_at, parts_by, parts_of}
 use Rattle.memory_parts.specs.Switches.{is_same, mark, when}

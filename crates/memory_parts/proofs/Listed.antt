@@ -12,15 +12,15 @@ use Rattle.std.proofs.lemmas.List.Elements.{All-contains, All-head, All-tail}
 use Rattle.std.proofs.lemmas.List.Kept.{AllPairs-from_increasing}
 use Rattle.std.proofs.lemmas.Option.{slice_get-map}
 use Rattle.sil_ast.specs.declared.place.ValueId.{ValueId}
-use Rattle.forwarding_chains.specs.declared.facts.Facts.{Facts}
-use Rattle.path_checks.specs.Shared.{entry_if, shared_from}
+use Rattle.ownership_chains.specs.declared.facts.Facts.{Facts}
+use Rattle.path_checks.specs.inner.Shared.{entry_if, shared_from}
 use Rattle.path_checks.specs.declared.entry.Entry.{Entry}
 use Rattle.path_patterns.specs.declared.mark.Mark.{Mark}
 use Rattle.memory_accesses.specs.declared.access.Access.{Access}
 use Rattle.memory_accesses.specs.declared.source.Source.{Source}
-use Rattle.memory_parts.specs.Batches.{entry_at, joint, means_at}
-use Rattle.memory_parts.specs.Index.{HasAll, IsIndexOf, row_at}
-use Rattle.memory_parts.specs.Keys.{keys_of_access, keys_of_part}
+use Rattle.memory_parts.specs.inner.Batches.{entry_at, joint, means_at}
+use Rattle.memory_parts.specs.inner.Index.{HasAll, IsIndexOf, row_at}
+use Rattle.memory_parts.specs.inner.Keys.{keys_of_access, keys_of_part}
 use Rattle.memory_parts.specs.Parts.{means}
 use Rattle.memory_parts.specs.declared.part.Part.{Part}
 use Rattle.memory_parts.proofs.Reached.{unreached}

@@ -4,14 +4,14 @@ use Rattle.std.specs.Prelude.{cond}
 use Rattle.std.specs.List.{flat_map, range_with_len}
 use Rattle.std.proofs.lemmas.List.Elements.{All-nil, All-cons, All-head, All-tail, All-append, All-weaker}
 use Rattle.sil_ast.specs.declared.place.ValueId.{ValueId}
-use Rattle.forwarding_chains.specs.Facts.{value_of}
-use Rattle.forwarding_chains.specs.declared.facts.Facts.{Facts}
+use Rattle.ownership_chains.specs.Facts.{value_of}
+use Rattle.ownership_chains.specs.declared.facts.Facts.{Facts}
 use Rattle.memory_accesses.specs.Locations.{location_of}
 use Rattle.memory_accesses.specs.Sources.{source_at}
 use Rattle.memory_accesses.specs.declared.location.Location.{Location}
 use Rattle.memory_accesses.specs.declared.source.Source.{Source}
 use Rattle.memory_accesses.specs.declared.source.Source.TheVariants as source
-use Rattle.memory_parts.specs.Batches.{AreRising}
+use Rattle.memory_parts.specs.inner.Batches.{AreRising}
 use Rattle.memory_parts.specs.Parts.{address_parts, field_parts, is_scope, parts_at, parts_by, parts_of, scope_part, scope_parts, slot_part, slot_part_at, subject_of, whole_cell}
 use Rattle.memory_parts.specs.declared.part.Part.{Part}
 use Rattle.memory_parts.specs.declared.part.Part.TheVariants.{Contents, Allocation, Lent, Building, InScope, InSlot}

@@ -5,8 +5,8 @@ use Rattle.std.specs.List.{flat_map, list_any}
 use Rattle.std.proofs.lemmas.Bool.{and_left, and_parts, and_right, eqb-true, false_from_ne_true, or_from}
 use Rattle.std.proofs.lemmas.List.Elements.{Contains-append_left, Contains-append_right}
 use Rattle.sil_ast.specs.declared.place.ValueId.{ValueId}
-use Rattle.forwarding_chains.specs.Facts.{is_guaranteed, value_of}
-use Rattle.forwarding_chains.specs.declared.facts.Facts.{Facts}
+use Rattle.ownership_chains.specs.Facts.{is_guaranteed, value_of}
+use Rattle.ownership_chains.specs.declared.facts.Facts.{Facts}
 use Rattle.memory_accesses.specs.declared.access.Access.{Access}
 use Rattle.memory_accesses.specs.declared.access.Access.TheVariants.{Ends, Begins, Allocates, Deallocates, Given, Does, Mentions}
 use Rattle.memory_accesses.specs.declared.access.Operation.{Operation}
@@ -20,7 +20,7 @@ use Rattle.memory_accesses.specs.Rows.{counted, has_operation, is_part}
 use Rattle.path_patterns.specs.declared.mark.Mark.{Mark}
 use Rattle.memory_parts.specs.Building.{builds, fills, goes_by_borrow, is_first_write, is_forbidden, is_object_of, takes_borrow, takes_object}
 use Rattle.memory_parts.specs.Contents.{at_location, same_cell, same_field}
-use Rattle.memory_parts.specs.Keys.{built_key, keys_at, keys_of_access, keys_of_part, object_key, root_key}
+use Rattle.memory_parts.specs.inner.Keys.{built_key, keys_at, keys_of_access, keys_of_part, object_key, root_key}
 use Rattle.memory_parts.specs.Loans.{counted_loan, disturbed_mark, is_at_root, writes, writes_into}
 use Rattle.memory_parts.specs.Parts.{means}
 use Rattle.memory_parts.specs.Switches.{is_same, when}

@@ -18,8 +18,8 @@ use Rattle.sil_cfg.proofs.Gets.{length_push}
 use Rattle.path_checks.proofs.Accesses.{accesses_kept, accesses_last, accesses_past, accesses_there}
 use Rattle.path_patterns.specs.Reads.{accesses_at}
 use Rattle.memory_accesses.specs.declared.source.Source.{Source}
-use Rattle.memory_parts.specs.Index.{HasAll, HasRows, row_at, row_of}
-use Rattle.memory_parts.specs.Keys.{keys_of_part}
+use Rattle.memory_parts.specs.inner.Index.{HasAll, HasRows, row_at, row_of}
+use Rattle.memory_parts.specs.inner.Keys.{keys_of_part}
 use Rattle.memory_parts.specs.declared.key.Key.{Key}
 use Rattle.memory_parts.specs.declared.part.Part.{Part}
 

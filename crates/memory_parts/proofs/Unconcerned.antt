@@ -4,16 +4,16 @@ use Rattle.std.specs.List.{flat_map, list_any}
 use Rattle.std.proofs.lemmas.Bool.{or_parts}
 use Rattle.std.proofs.lemmas.List.Elements.{All-append, All-cons, All-contains, All-head, All-nil, All-tail, All-weaker}
 use Rattle.sil_ast.specs.declared.place.ValueId.{ValueId}
-use Rattle.forwarding_chains.specs.declared.facts.Facts.{Facts}
-use Rattle.path_checks.specs.Shared.{entry_if, shared_from}
+use Rattle.ownership_chains.specs.declared.facts.Facts.{Facts}
+use Rattle.path_checks.specs.inner.Shared.{entry_if, shared_from}
 use Rattle.path_checks.specs.declared.entry.Entry.{Entry}
 use Rattle.memory_accesses.specs.declared.access.Access.{Access}
 use Rattle.memory_accesses.specs.declared.access.Access.TheVariants.{Ends, Begins, Allocates, Deallocates, Given, Does, Mentions}
 use Rattle.memory_accesses.specs.declared.source.Source.{Source}
 use Rattle.memory_accesses.specs.Locations.{object_built}
-use Rattle.memory_parts.specs.Batches.{joint}
-use Rattle.memory_parts.specs.Concerned.{AreConcerned, IsConcerned, Keeps, has_key, has_object, is_built, is_concerned, may_mean, value_in}
-use Rattle.memory_parts.specs.Keys.{built_key, keys_of_access, keys_of_part, object_key}
+use Rattle.memory_parts.specs.inner.Batches.{joint}
+use Rattle.memory_parts.specs.inner.Concerned.{AreConcerned, IsConcerned, Keeps, has_key, has_object, is_built, is_concerned, may_mean, value_in}
+use Rattle.memory_parts.specs.inner.Keys.{built_key, keys_of_access, keys_of_part, object_key}
 use Rattle.memory_parts.specs.Parts.{means}
 use Rattle.memory_parts.specs.declared.key.Key.{Key}
 use Rattle.memory_parts.specs.declared.key.Key.TheVariants.{Turned, Named, Operated, Written}

@@ -5,8 +5,5 @@ pub mod Loans
 pub mod Building
 pub mod Addresses
 pub mod Parts
-pub mod Keys
-pub mod Index
-pub mod Concerned
 pub mod Shown
-pub mod Batches
+pub mod inner

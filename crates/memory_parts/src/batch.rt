@@ -2,7 +2,7 @@
 
 ghost use Rattle.std.specs.Prelude.{◌≡◌, ◌≤◌, IfOk, length};
 ghost use Rattle.sil_cfg.specs.Build.{IsGraphOf};
-ghost use Rattle.memory_parts.specs.Batches.{AreReturns, IsFirstNumber};
+ghost use Rattle.memory_parts.specs.inner.Batches.{AreReturns, IsFirstNumber};
 
 use crate::entries::{entries_by_item, marks_at_returns};
 use crate::part::Part;

@@ -4,9 +4,9 @@ ghost use Rattle.std.specs.Prelude.{◌≡◌, All, true, length};
 ghost use Rattle.std.specs.List.{list_any};
 ghost use Rattle.std.specs.Option.{option_copied};
 ghost use Rattle.ownership_marks.specs.Known.{facts_of};
-ghost use Rattle.memory_parts.specs.Concerned as values;
-ghost use Rattle.memory_parts.specs.Concerned.{AreConcerned, IsConcerned, Keeps};
-ghost use Rattle.memory_parts.specs.Keys.{root_key};
+ghost use Rattle.memory_parts.specs.inner.Concerned as values;
+ghost use Rattle.memory_parts.specs.inner.Concerned.{AreConcerned, IsConcerned, Keeps};
+ghost use Rattle.memory_parts.specs.inner.Keys.{root_key};
 ghost use Rattle.memory_parts.specs.declared.key.Key.{Key};
 
 use crate::index::value_row;

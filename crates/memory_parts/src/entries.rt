@@ -2,15 +2,15 @@
 
 ghost use Rattle.std.specs.Prelude.{◌≡◌, [], ◌∷◌, ◌++◌, ◌<◌, ◌≤◌, ℕ, length, map, slice_get, IfOk, IfSome, OnOk};
 ghost use Rattle.std.specs.List.{flat_map};
-ghost use Rattle.path_checks.specs.Shared.{entry_if};
-ghost use Rattle.item_lists.specs.Lists.{list_at};
+ghost use Rattle.path_checks.specs.inner.Shared.{entry_if};
+ghost use Rattle.path_lists.specs.inner.Lists.{list_at};
 ghost use Rattle.sil_cfg.specs.Layout.{item_count};
-ghost use Rattle.memory_accesses.specs.Done.{told_at_item};
+ghost use Rattle.memory_accesses.specs.inner.Done.{told_at_item};
 ghost use Rattle.ownership_marks.specs.Known.{facts_of};
-ghost use Rattle.memory_parts.specs.Batches as batches;
-ghost use Rattle.memory_parts.specs.Batches.{entry_at, joint};
-ghost use Rattle.memory_parts.specs.Concerned.{AreConcerned};
-ghost use Rattle.memory_parts.specs.Index.{IsIndexOf};
+ghost use Rattle.memory_parts.specs.inner.Batches as batches;
+ghost use Rattle.memory_parts.specs.inner.Batches.{entry_at, joint};
+ghost use Rattle.memory_parts.specs.inner.Concerned.{AreConcerned};
+ghost use Rattle.memory_parts.specs.inner.Index.{IsIndexOf};
 ghost use Rattle.memory_parts.specs.Parts as parts;
 
 use crate::concerned::{add_parts, may_mean};
@@ -18,10 +18,10 @@ use crate::index::{ROWS, index_of, numbers_at};
 use crate::key::add_keys_of_access;
 use crate::meaning::{at_return, means};
 use crate::part::Part;
-use item_lists::ItemLists;
 use memory_accesses::{Access, Memory, make_accesses};
 use ownership_marks::Kinds;
 use path_checks::Entry;
+use path_lists::ItemLists;
 use path_patterns::Mark;
 use sil_ast::{Exhausted, Function};
 use sil_cfg::Graph;

@@ -2,8 +2,8 @@
 
 ghost use Rattle.std.specs.Prelude.{◌≡◌, ◌≤◌, IfOk, None, length, take};
 ghost use Rattle.sil_cfg.specs.Build.{IsGraphOf};
-ghost use Rattle.memory_parts.specs.Batches as batches;
-ghost use Rattle.memory_parts.specs.Batches.{AreReturns, AreRising, IsFirstAmong};
+ghost use Rattle.memory_parts.specs.inner.Batches as batches;
+ghost use Rattle.memory_parts.specs.inner.Batches.{AreReturns, AreRising, IsFirstAmong};
 ghost use Rattle.memory_parts.specs.Shown.{IsFirstFinding};
 
 use crate::batch::first_number;

@@ -3,8 +3,8 @@
 ghost use Rattle.std.specs.Prelude.{◌≡◌, [], ◌∷◌, ◌++◌, ◌==◌, ◌<◌, ◌≤◌, ℕ, IfOk, OnOk, cond, length};
 ghost use Rattle.std.specs.List.Sorted.{IsStrictlyIncreasing};
 ghost use Rattle.path_patterns.specs.Reads.{accesses_at};
-ghost use Rattle.memory_parts.specs.Index as index;
-ghost use Rattle.memory_parts.specs.Index.{HasRows, IsIndexOf};
+ghost use Rattle.memory_parts.specs.inner.Index as index;
+ghost use Rattle.memory_parts.specs.inner.Index.{HasRows, IsIndexOf};
 
 use crate::key::{Key, add_keys_of_part};
 use crate::part::Part;

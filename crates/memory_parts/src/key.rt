@@ -4,7 +4,7 @@ ghost use Rattle.std.specs.Prelude.{◌≡◌, ◌++◌, OnOk};
 ghost use Rattle.std.specs.List.{flat_map};
 ghost use Rattle.std.specs.Option.{option_copied};
 ghost use Rattle.ownership_marks.specs.Known.{facts_of};
-ghost use Rattle.memory_parts.specs.Keys as keys;
+ghost use Rattle.memory_parts.specs.inner.Keys as keys;
 
 use crate::loans::writes;
 use crate::part::Part;

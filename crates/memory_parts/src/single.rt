@@ -2,7 +2,7 @@
 
 ghost use Rattle.std.specs.Prelude.{[], ◌∷◌, IfOk};
 ghost use Rattle.sil_cfg.specs.Build.{IsGraphOf};
-ghost use Rattle.memory_parts.specs.Batches.{AreReturns, IsFirstAmong};
+ghost use Rattle.memory_parts.specs.inner.Batches.{AreReturns, IsFirstAmong};
 
 use crate::batch::first_number;
 use crate::fault::PartFault;

@@ -10,14 +10,14 @@ use Rattle.sil_ast.specs.declared.place.ValueId.{ValueId}
 use Rattle.numbered_form.specs.Insts.{insts_of}
 use Rattle.sil_rules.specs.declared.rule.Rule.{Rule}
 use Rattle.sil_rules.specs.declared.rule.Rule.TheVariants as rule
-use Rattle.ownership_kinds.specs.Faults.{fault_at}
+use Rattle.ownership_kinds.specs.inner.Faults.{fault_at}
 use Rattle.ownership_kinds.specs.Statics.{IsAt}
 use Rattle.ownership_kinds.specs.declared.fault.StaticFault.{StaticFault}
 use Rattle.ownership_kinds.proofs.Among.{Among, IsNumberedAt, among_contained, among_either, among_flat, among_left, among_map, among_numbered, among_right, among_where, contained_among, flat_among, numbered_among, where_among}
 use Rattle.memory_accesses.specs.declared.access.Operated.{Operated}
 use Rattle.memory_accesses.specs.declared.source.Source.{Source}
 use Rattle.memory_accesses.specs.Operations.{addresses_of, deallocates, operations_of}
-use Rattle.memory_rules.specs.StaticFaults.{block_statics, deallocation_faults, lacking_faults, no_slot_faults, operated_faults, other_by, overlap_faults, pair_faults, statics_at, statics_of}
+use Rattle.memory_rules.specs.inner.StaticFaults.{block_statics, deallocation_faults, lacking_faults, no_slot_faults, operated_faults, other_by, overlap_faults, pair_faults, statics_at, statics_of}
 use Rattle.memory_rules.specs.Statics.{IsBrokenAt, OperandPair, address_in, crossed_with, crosses, do_overlap, is_no_slot, lacking_at, lacks, pairs_of, passed_of, second_of}
 use Rattle.memory_rules.specs.Statics.IsBrokenAt.{overlapping, lacking}
 

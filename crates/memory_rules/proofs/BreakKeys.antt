@@ -11,8 +11,8 @@ use Rattle.sil_rules.specs.declared.rule.Rule.{Rule}
 use Rattle.sil_rules.specs.declared.rule.Rule.TheVariants as rule
 use Rattle.memory_rules.specs.Broken.{IsPartRule, MemoryBreak, break_key, last_key}
 use Rattle.memory_rules.specs.Broken.IsPartRule.{uninitialised, initialised, left_full, out_of_order, left_allocated, borrowed, unbuilt, left_empty, outside}
-use Rattle.memory_rules.specs.Ends.{IsReportOf}
-use Rattle.memory_rules.specs.Reports.{report_key}
+use Rattle.memory_rules.specs.inner.Ends.{IsReportOf}
+use Rattle.memory_rules.specs.inner.Reports.{report_key}
 use Rattle.memory_rules.specs.Statics.{is_static}
 
 abbrev pub walk_key : ValueId → ℕ → List EdgeId → List ℕ

@@ -7,7 +7,7 @@ use Rattle.std.proofs.lemmas.List.{at_drop_more, take_all}
 use Rattle.std.proofs.lemmas.List.Concat.{flat_map-append}
 use Rattle.std.proofs.lemmas.List.Folds.{flat_map-map, find-append}
 use Rattle.sil_ast.specs.declared.place.ValueId.{ValueId}
-use Rattle.ownership_kinds.specs.Faults.{least}
+use Rattle.ownership_kinds.specs.inner.Faults.{least}
 use Rattle.ownership_kinds.specs.declared.fault.StaticFault.{StaticFault}
 use Rattle.ownership_kinds.proofs.Least.{least-append}
 use Rattle.memory_accesses.specs.declared.source.Source.{Source}

@@ -7,14 +7,14 @@ use Rattle.sil_cfg.specs.declared.fault.RuleFault.{RuleFault}
 use Rattle.sil_rules.specs.Order.{Either, IsEarlier, IsFirst, NotAfter}
 use Rattle.sil_rules.proofs.Firsts.{first_earlier, first_none, first_some}
 use Rattle.type_definitions.specs.Declarations.{Declarations}
-use Rattle.forwarding_chains.specs.declared.facts.Facts.{Facts}
+use Rattle.ownership_chains.specs.declared.facts.Facts.{Facts}
 use Rattle.ownership_marks.specs.Known.{AreKindsBy, Known}
 use Rattle.memory_accesses.specs.Sources.{sources_of}
 use Rattle.memory_accesses.specs.declared.source.Source.{Source}
 use Rattle.memory_rules.specs.Broken.{IsBroken, IsStaticBreak, MemoryBreak, break_key}
 use Rattle.memory_rules.specs.Broken.IsBroken.{at_part, crossing, static}
-use Rattle.memory_rules.specs.Ends.{IsStaticFound}
-use Rattle.memory_rules.specs.Reports.{IsFirstReported, IsMemoryFound, IsPartBreak, IsWalkBreak, report_key}
+use Rattle.memory_rules.specs.inner.Ends.{IsStaticFound}
+use Rattle.memory_rules.specs.inner.Reports.{IsFirstReported, IsMemoryFound, IsPartBreak, IsWalkBreak, report_key}
 use Rattle.memory_rules.specs.Statics.{is_static}
 use Rattle.memory_rules.proofs.BreakKeys.{AreOnWalks, by_reports, part_walks, static_alike}
 

@@ -9,19 +9,19 @@ use Rattle.sil_cfg.specs.Layout.{Layout}
 use Rattle.sil_cfg.specs.declared.fault.RuleFault.{RuleFault}
 use Rattle.sil_rules.specs.Order.{IsLeast, NotAfter}
 use Rattle.sil_rules.specs.declared.rule.Rule.{Rule}
-use Rattle.forwarding_chains.specs.Facts.{known_or}
-use Rattle.forwarding_chains.specs.declared.facts.Facts.{Facts}
+use Rattle.ownership_chains.specs.Facts.{known_or}
+use Rattle.ownership_chains.specs.declared.facts.Facts.{Facts}
 use Rattle.ownership_marks.specs.Known.{Known}
 use Rattle.memory_accesses.specs.declared.source.Source.{Source}
 use Rattle.memory_accesses.specs.declared.source.Source.TheVariants as source
 use Rattle.memory_parts.specs.Parts.{parts_of}
 use Rattle.memory_parts.specs.Shown.{IsFirstFinding, IsShown, fault_key}
 use Rattle.memory_parts.specs.declared.fault.PartFault.{PartFault}
-use Rattle.slot_order.specs.Pairs.{IsCrossing, IsFirstCrossing, crossing_key, is_slot_source}
-use Rattle.slot_order.specs.declared.crossing.Crossing.{Crossing}
+use Rattle.memory_slots.specs.Pairs.{IsCrossing, IsFirstCrossing, crossing_key, is_slot_source}
+use Rattle.memory_slots.specs.declared.crossing.Crossing.{Crossing}
 use Rattle.memory_rules.specs.Broken.{IsPartRule, MemoryBreak, break_key}
-use Rattle.memory_rules.specs.Ends.{IsReportOf}
-use Rattle.memory_rules.specs.Reports.{IsFirstReported, IsOrderBreak, IsPartBreak, IsPartReport, IsRuleOf, order_break, part_break}
+use Rattle.memory_rules.specs.inner.Ends.{IsReportOf}
+use Rattle.memory_rules.specs.inner.Reports.{IsFirstReported, IsOrderBreak, IsPartBreak, IsPartReport, IsRuleOf, order_break, part_break}
 use Rattle.memory_rules.proofs.BreakKeys.{moved, order_key, order_moved, part_key, walk_key}
 use Rattle.memory_rules.proofs.PartCodes.{HasPartRule, part_code}
 

@@ -7,14 +7,14 @@ use Rattle.sil_ast.specs.declared.place.ValueId.{ValueId}
 use Rattle.sil_rules.specs.Order.{NotAfter}
 use Rattle.sil_rules.specs.Rules.{number_of}
 use Rattle.sil_rules.specs.declared.rule.Rule.{Rule}
-use Rattle.ownership_kinds.specs.Faults.{fault_at, fault_key, least}
+use Rattle.ownership_kinds.specs.inner.Faults.{fault_at, fault_key, least}
 use Rattle.ownership_kinds.specs.Statics.{IsAt, static_key}
 use Rattle.ownership_kinds.specs.declared.fault.StaticFault.{StaticFault}
 use Rattle.ownership_kinds.proofs.Among.{Among}
 use Rattle.ownership_kinds.proofs.Order.{least_among, least_none}
 use Rattle.memory_accesses.specs.declared.source.Source.{Source}
 use Rattle.memory_rules.specs.Broken.{IsFirstStatic, IsStaticBreak, MemoryBreak, break_key}
-use Rattle.memory_rules.specs.StaticFaults.{broken_by, other_by, statics_of}
+use Rattle.memory_rules.specs.inner.StaticFaults.{broken_by, other_by, statics_of}
 use Rattle.memory_rules.specs.Statics.{IsBrokenAt, is_static}
 use Rattle.memory_rules.specs.Statics.IsBrokenAt.{overlapping, lacking}
 use Rattle.memory_rules.proofs.AmongStatics.{BreaksAt, broken_in_faults, faults_break}

@@ -7,7 +7,7 @@ use Rattle.sil_ast.specs.declared.place.ValueId.{ValueId}
 use Rattle.memory_accesses.specs.declared.columns.AccessKind.{AccessKind}
 use Rattle.memory_accesses.specs.declared.columns.AccessKind.TheVariants.{NoAccess, AllocatesSlot, AllocatesObject, DeallocatesSlot, LendsValue, LendsLocation, NamesField, NamesMember, NamesElement, Loads, Stores, Destroys, Passes}
 use Rattle.memory_accesses.specs.Operations.{access_kind_of, addresses_of, deallocates, deallocates_by, operated_at, operation_by, operations_of}
-use Rattle.memory_rules.specs.StaticFaults.{is_idle, is_idle_by}
+use Rattle.memory_rules.specs.inner.StaticFaults.{is_idle, is_idle_by}
 
 none_operated : (vs : List ValueId) → flat_map (operated_at None) vs ≡ []
 none_operated [] = refl

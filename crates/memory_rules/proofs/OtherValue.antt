@@ -8,7 +8,7 @@ use Rattle.sil_rules.specs.Rules.{number_of}
 use Rattle.sil_rules.specs.declared.rule.Rule.{Rule}
 use Rattle.sil_rules.specs.declared.rule.Rule.TheVariants as rule
 use Rattle.memory_accesses.specs.declared.source.Source.{Source}
-use Rattle.memory_rules.specs.StaticFaults.{is_overlap, other_by}
+use Rattle.memory_rules.specs.inner.StaticFaults.{is_overlap, other_by}
 use Rattle.memory_rules.specs.Statics.{crossed_with}
 
 same_number : (a b : ℕ) → a ≡ b → (a == b) ≡ true

@@ -11,8 +11,8 @@ use Rattle.sil_cfg.specs.Returns.{is_return}
 use Rattle.sil_cfg.specs.declared.item.Item.{Item}
 use Rattle.sil_rules.specs.declared.rule.Rule.{Rule}
 use Rattle.sil_rules.specs.declared.rule.Rule.TheVariants as rule
-use Rattle.forwarding_chains.specs.Facts.{known_or}
-use Rattle.forwarding_chains.specs.declared.facts.Facts.{Facts}
+use Rattle.ownership_chains.specs.Facts.{known_or}
+use Rattle.ownership_chains.specs.declared.facts.Facts.{Facts}
 use Rattle.path_checks.specs.Entries as entries
 use Rattle.path_checks.specs.First.{IsShownAt}
 use Rattle.path_checks.specs.declared.entry.Entry.{Entry}

@@ -5,8 +5,8 @@ use Rattle.sil_ast.specs.declared.function.Block.{Block}
 use Rattle.sil_ast.specs.declared.function.Function.{Function}
 use Rattle.numbered_form.specs.Insts.{insts_in, insts_of}
 use Rattle.numbered_form.specs.Limits.{IsFunctionInLimits}
-use Rattle.value_origins.proofs.Ranges.{each_at}
-use Rattle.ownership_kinds.specs.Ends.{IsOfNumberedModule}
+use Rattle.ownership_origins.proofs.Ranges.{each_at}
+use Rattle.ownership_kinds.specs.inner.Ends.{IsOfNumberedModule}
 
 block_among : (bs : List Block) (k : ℕ) (d : Block) → k < length bs → length (slice_index_or bs k d).insts ≤ length (insts_in bs)
 block_among [] k d lt = absurd (omega arith)

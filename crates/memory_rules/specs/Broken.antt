@@ -9,13 +9,13 @@ use Rattle.sil_rules.specs.Order.{IsFirst}
 use Rattle.sil_rules.specs.Rules.{number_of}
 use Rattle.sil_rules.specs.declared.rule.Rule.{Rule}
 use Rattle.sil_rules.specs.declared.rule.Rule.TheVariants as rule
-use Rattle.forwarding_chains.specs.Facts.{known_or}
-use Rattle.forwarding_chains.specs.declared.facts.Facts.{Facts}
+use Rattle.ownership_chains.specs.Facts.{known_or}
+use Rattle.ownership_chains.specs.declared.facts.Facts.{Facts}
 use Rattle.ownership_marks.specs.Known.{AreKindsBy, Known}
 use Rattle.memory_accesses.specs.declared.source.Source.{Source}
 use Rattle.memory_parts.specs.Parts.{parts_of}
 use Rattle.memory_parts.specs.Shown as parts
-use Rattle.slot_order.specs.Pairs.{IsCrossing}
+use Rattle.memory_slots.specs.Pairs.{IsCrossing}
 use Rattle.memory_rules.specs.Statics.{IsBrokenAt, is_static}
 
 -- a rule on memory that is broken: at which value, with which other one that takes part, on which walk and at which point

@@ -1,5 +1,3 @@
 pub mod Statics
 pub mod Broken
-pub mod StaticFaults
-pub mod Ends
-pub mod Reports
+pub mod inner

@@ -17,7 +17,7 @@ use Rattle.memory_accesses.specs.Locations.{location_of, overlap}
 use Rattle.memory_accesses.specs.Operations.{addresses_of, deallocates, operations_of}
 use Rattle.memory_accesses.specs.Rows.{has_operation}
 use Rattle.memory_accesses.specs.Sources.{source_at}
-use Rattle.slot_order.specs.Pairs.{is_slot_source}
+use Rattle.memory_slots.specs.Pairs.{is_slot_source}
 
 abbrev pub lacks_by : List Source → Option Location → Operation → Bool
 lacks_by sources None o = false

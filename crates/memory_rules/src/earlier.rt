@@ -2,7 +2,7 @@
 
 ghost use Rattle.std.specs.Prelude.{◌≡◌, true, false};
 ghost use Rattle.sil_rules.specs.Order.{IsEarlier, NotAfter};
-ghost use Rattle.memory_rules.specs.Reports.{report_key};
+ghost use Rattle.memory_rules.specs.inner.Reports.{report_key};
 
 use sil_cfg::RuleFault;
 

@@ -2,8 +2,8 @@
 
 ghost use Rattle.std.specs.Prelude.{◌≡◌};
 ghost use Rattle.std.specs.List.{flat_map};
-ghost use Rattle.ownership_kinds.specs.Faults.{least};
-ghost use Rattle.memory_rules.specs.StaticFaults.{no_slot_faults, operated_faults};
+ghost use Rattle.ownership_kinds.specs.inner.Faults.{least};
+ghost use Rattle.memory_rules.specs.inner.StaticFaults.{no_slot_faults, operated_faults};
 ghost use Rattle.memory_rules.specs.Statics as statics;
 
 use memory_accesses::{Memory, Operated, Source};

@@ -2,7 +2,7 @@
 
 ghost use Rattle.std.specs.Prelude.{◌≡◌, IfOk};
 ghost use Rattle.memory_accesses.specs.Operations as operations;
-ghost use Rattle.memory_rules.specs.StaticFaults as faults;
+ghost use Rattle.memory_rules.specs.inner.StaticFaults as faults;
 
 use memory_accesses::{AccessKind, Operated, access_kind_of, add_operations};
 use sil_ast::{Exhausted, Inst};

@@ -3,8 +3,8 @@
 ghost use Rattle.std.specs.Prelude.{◌≡◌, ◌==◌, IfOk, None, cond, find, option_map};
 ghost use Rattle.std.specs.List.{flat_map};
 ghost use Rattle.std.specs.Option.{option_to_list};
-ghost use Rattle.ownership_kinds.specs.Faults.{least};
-ghost use Rattle.memory_rules.specs.StaticFaults.{faults_with, pair_faults};
+ghost use Rattle.ownership_kinds.specs.inner.Faults.{least};
+ghost use Rattle.memory_rules.specs.inner.StaticFaults.{faults_with, pair_faults};
 ghost use Rattle.memory_rules.specs.Statics as statics;
 ghost use Rattle.memory_rules.specs.Statics.{crosses, pairs_of, second_of};
 

@@ -1,12 +1,12 @@
 //! What walks show of memory, as it is reported.
 
-ghost use Rattle.memory_rules.specs.Ends.{IsReportOf};
-ghost use Rattle.memory_rules.specs.Reports.{IsPartReport, IsRuleOf, order_break};
+ghost use Rattle.memory_rules.specs.inner.Ends.{IsReportOf};
+ghost use Rattle.memory_rules.specs.inner.Reports.{IsPartReport, IsRuleOf, order_break};
 
 use memory_parts::PartFault;
+use memory_slots::Crossing;
 use sil_cfg::RuleFault;
 use sil_rules::Rule;
-use slot_order::Crossing;
 
 /// The rule that the code of a part stands for.
 fn rule_of(code: u8) -> Rule

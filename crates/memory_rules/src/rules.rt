@@ -2,9 +2,9 @@
 
 ghost use Rattle.std.specs.Prelude.{IfErr, IfOk, OnOk};
 ghost use Rattle.sil_cfg.specs.Build.{IsGraphOf};
-ghost use Rattle.ownership_kinds.specs.Ends.{IsOfNumberedModule};
-ghost use Rattle.memory_rules.specs.Ends.{AreStaticsKept, IsMemoryEnd, IsMemoryKept, IsStaticEnd};
-ghost use Rattle.memory_rules.specs.Reports.{IsMemoryFound};
+ghost use Rattle.ownership_kinds.specs.inner.Ends.{IsOfNumberedModule};
+ghost use Rattle.memory_rules.specs.inner.Ends.{AreStaticsKept, IsMemoryEnd, IsMemoryKept, IsStaticEnd};
+ghost use Rattle.memory_rules.specs.inner.Reports.{IsMemoryFound};
 
 use crate::earlier::earlier;
 use crate::statics::first_static;

@@ -2,11 +2,11 @@
 
 ghost use Rattle.std.specs.Prelude.{◌≡◌, ◌<◌, ◌^◌, All, IfOk, None, Some, length};
 ghost use Rattle.std.specs.Option.{option_copied};
-ghost use Rattle.ownership_kinds.specs.Ends.{IsOfNumberedModule};
-ghost use Rattle.ownership_kinds.specs.Faults.{least, numbered};
+ghost use Rattle.ownership_kinds.specs.inner.Ends.{IsOfNumberedModule};
+ghost use Rattle.ownership_kinds.specs.inner.Faults.{least, numbered};
 ghost use Rattle.ownership_kinds.specs.Statics.{IsAt};
-ghost use Rattle.memory_rules.specs.Ends.{IsReportOf, IsStaticFound};
-ghost use Rattle.memory_rules.specs.StaticFaults.{block_statics, broken_by, deallocation_faults, other_by, statics_at, statics_of};
+ghost use Rattle.memory_rules.specs.inner.Ends.{IsReportOf, IsStaticFound};
+ghost use Rattle.memory_rules.specs.inner.StaticFaults.{block_statics, broken_by, deallocation_faults, other_by, statics_at, statics_of};
 
 use crate::lacking::{add_lacking, add_no_slots};
 use crate::operations::{is_idle, operations_of};

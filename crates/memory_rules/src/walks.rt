@@ -3,17 +3,17 @@
 ghost use Rattle.std.specs.Prelude.{◌≡◌, IfOk};
 ghost use Rattle.std.specs.List.{list_any};
 ghost use Rattle.sil_cfg.specs.Build.{IsGraphOf};
-ghost use Rattle.slot_order.specs.Pairs.{is_slot_source};
-ghost use Rattle.memory_rules.specs.Reports.{IsFirstReported, IsOrderBreak, IsPartBreak, IsWalkBreak};
+ghost use Rattle.memory_slots.specs.Pairs.{is_slot_source};
+ghost use Rattle.memory_rules.specs.inner.Reports.{IsFirstReported, IsOrderBreak, IsPartBreak, IsWalkBreak};
 
 use crate::earlier::earlier;
 use crate::reports::{crossing_report, part_report};
 use memory_accesses::{Memory, Source, accesses_by_item};
 use memory_parts::first_fault;
+use memory_slots::first_crossing;
 use ownership_marks::Kinds;
 use sil_ast::{Exhausted, Function};
 use sil_cfg::{Graph, RuleFault};
-use slot_order::first_crossing;
 use std::alloc::Global;
 
 /// The first that is shown at a part: each pattern but the order of two slots.

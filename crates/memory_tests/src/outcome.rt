@@ -1,7 +1,7 @@
 //! What the checks of memory answer, as a text.
 
 ghost use Rattle.numbered_form.specs.NumberedForm.{IsNumbered};
-ghost use Rattle.ownership_kinds.specs.Ends.{IsOfNumberedModule};
+ghost use Rattle.ownership_kinds.specs.inner.Ends.{IsOfNumberedModule};
 
 use memory_rules::{check, check_static};
 use ownership_kinds::kinds_in;

@@ -20,7 +20,7 @@ use Rattle.instruction_table.specs.declared.op.Op.{Op}
 use Rattle.written_tree.specs.Faults.{earlier, fault}
 use Rattle.name_resolution.specs.NameFaults.{twice_after, twice_or_unknown, unknown_in}
 use Rattle.name_resolution.specs.Names.{Name, arg_name, label_of, name_of, results_of, values_defined}
-use Rattle.name_resolution.specs.Symbols.{Definition, numbered, unnamed, unnumbered, Symbols, definitions_by, definitions_in, definitions_of, labels_in, names_in, numbered_by, reserved_only, twice_here, unknown_of, unnumbered_after, values_in, with_definition, with_definitions, with_entry, with_next}
+use Rattle.name_resolution.specs.inner.Symbols.{Definition, numbered, unnamed, unnumbered, Symbols, definitions_by, definitions_in, definitions_of, labels_in, names_in, numbered_by, reserved_only, twice_here, unknown_of, unnumbered_after, values_in, with_definition, with_definitions, with_entry, with_next}
 use Rattle.name_resolution.proofs.FaultOrder.{earlier_assoc, earlier_none}
 
 -- the same names are found among these as among those

@@ -19,10 +19,10 @@ use Rattle.written_tree.specs.Faults.{earlier, earliest}
 use Rattle.written_tree.specs.Places.{name_of_decl}
 use Rattle.name_resolution.specs.declared.first_faults.CodeFaults.{CodeFaults}
 use Rattle.name_resolution.specs.declared.first_faults.ItemFaults.{ItemFaults}
-use Rattle.name_resolution.specs.FirstFaults.{Known, body_fault, known_in, with_body, with_code, with_edges, with_faults}
+use Rattle.name_resolution.specs.inner.FirstFaults.{Known, body_fault, known_in, with_body, with_code, with_edges, with_faults}
 use Rattle.name_resolution.specs.NameFaults.{function_fault, members_fault, name_fault, twice_after, unknown_among}
 use Rattle.name_resolution.specs.Names.{Name, code_of, decls_of, edge_label, edge_values, function_name, functions_of, functions_used, insts_of, label_of, labels_used, reserved, used_by_item, values_defined, values_used, vtable_name, vtables_of}
-use Rattle.name_resolution.specs.Symbols.{Symbols, labels_in, names_in, numbered_by, unknown_of, values_in}
+use Rattle.name_resolution.specs.inner.Symbols.{Symbols, labels_in, names_in, numbered_by, unknown_of, values_in}
 use Rattle.name_resolution.proofs.DefinedNames.{fault_of_labels, fault_of_values, twice_of_numbered, unknown_of_numbered}
 use Rattle.name_resolution.proofs.FaultOrder.{earlier_assoc, earlier_none, earliest_append, unknown_more}
 

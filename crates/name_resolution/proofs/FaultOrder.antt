@@ -7,7 +7,7 @@ use Rattle.written_tree.specs.declared.written_declarations.WrittenToken.{Writte
 use Rattle.written_tree.specs.Faults.{comes_before, earlier, earliest, rank}
 use Rattle.name_resolution.specs.NameFaults.{unknown_in}
 use Rattle.name_resolution.specs.Names.{Name}
-use Rattle.name_resolution.specs.Symbols.{unknown_of}
+use Rattle.name_resolution.specs.inner.Symbols.{unknown_of}
 
 pub earlier_none : (a : Option Fault) → earlier a None ≡ a
 unfolding earlier

@@ -18,8 +18,8 @@ use Rattle.written_tree.specs.declared.written_functions.WrittenBlock.{WrittenBl
 use Rattle.written_tree.specs.declared.written_instructions.WrittenInst.{WrittenInst}
 use Rattle.name_resolution.specs.Names.{Name, arg_name, name_of}
 use Rattle.name_resolution.specs.Resolved.{defined_by, defined_by_arg, defined_by_inst, defined_in, has_name}
-use Rattle.name_resolution.specs.Symbols.{Definition, numbered, unnamed, unnumbered, Symbols, definitions_by, definitions_in, definitions_of, number_among, numbered_by, reserved_only, values_in, with_definition, with_definitions, with_entry}
-use Rattle.name_resolution.specs.Tables.{FindsNames, FindsValues}
+use Rattle.name_resolution.specs.inner.Symbols.{Definition, numbered, unnamed, unnumbered, Symbols, definitions_by, definitions_in, definitions_of, number_among, numbered_by, reserved_only, values_in, with_definition, with_definitions, with_entry}
+use Rattle.name_resolution.specs.inner.Tables.{FindsNames, FindsValues}
 
 -- what a look-up finds once a name has a value
 lookup_inserted : {X : Type 0} (entries : List (Name × X)) (name other : Name) (x : X) → lookup (bytes_eq other) (insert_entry bytes_eq entries name x) ≡ cond (bytes_eq other name) (Some x) (lookup (bytes_eq other) entries)

@@ -3,7 +3,7 @@ use Rattle.std.proofs.Common.{◌≡◌, ℕ, ◌+◌, ◌<◌, List, [], ◌∷
 use Rattle.std.specs.Prelude.{Option, None}
 use Rattle.std.specs.List.{flat_map}
 use Rattle.std.proofs.lemmas.List.{append-nil, length-take-le, map-append, take_more}
-use Rattle.name_resolution.specs.Items.{with_items}
+use Rattle.name_resolution.specs.inner.Items.{with_items}
 use Rattle.sil_ast.specs.declared.module.Module.{Module}
 use Rattle.written_tree.specs.declared.written_module.WrittenItem.{WrittenItem}
 use Rattle.sil_ast.specs.declared.place.ValueId.{ValueId}

@@ -12,7 +12,7 @@ use Rattle.written_tree.specs.declared.written_declarations.WrittenToken.{Writte
 use Rattle.written_tree.specs.Faults.{earlier, fault}
 use Rattle.name_resolution.specs.NameFaults.{is_among}
 use Rattle.name_resolution.specs.Names.{Name}
-use Rattle.name_resolution.specs.Symbols.{Symbols, names_in, with_kept, with_name}
+use Rattle.name_resolution.specs.inner.Symbols.{Symbols, names_in, with_kept, with_name}
 use Rattle.name_resolution.proofs.FaultOrder.{earlier_none}
 
 pub among_names : (t : Symbols) (token : WrittenToken) → is_among (names_in t) token ≡ is_some (lookup (bytes_eq token.text) t.entries)

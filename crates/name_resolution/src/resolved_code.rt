@@ -5,12 +5,12 @@ ghost use Rattle.std.specs.Prelude.{◌≡◌, ◌+◌, [], ◌∷◌, ◌++◌,
 ghost use Rattle.std.specs.List.{flat_map};
 ghost use Rattle.std.specs.Option.{option_map, option_to_list};
 ghost use Rattle.written_tree.specs.Faults as said;
-ghost use Rattle.name_resolution.specs.FirstFaults.{known_in, with_code, with_edges};
+ghost use Rattle.name_resolution.specs.inner.FirstFaults.{known_in, with_code, with_edges};
 ghost use Rattle.name_resolution.specs.NameFaults.{unknown_in};
 ghost use Rattle.name_resolution.specs.Names.{code_of, operand_name};
 ghost use Rattle.name_resolution.specs.Resolved.{Scope, counted, defined_by_inst, defined_in, function_of, resolved_args, resolved_block, resolved_blocks, resolved_edge, resolved_inst, resolved_insts, resolved_operand};
-ghost use Rattle.name_resolution.specs.Symbols.{names_in, unknown_of};
-ghost use Rattle.name_resolution.specs.Tables.{FindsNames, FindsScope, FindsValues};
+ghost use Rattle.name_resolution.specs.inner.Symbols.{names_in, unknown_of};
+ghost use Rattle.name_resolution.specs.inner.Tables.{FindsNames, FindsScope, FindsValues};
 
 use crate::defining::count_of_results;
 use crate::first_faults::CodeFaults;

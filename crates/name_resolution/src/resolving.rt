@@ -4,12 +4,12 @@ ghost use Rattle.std.specs.Prelude.{◌≡◌, [], map, IfErr, IfOk, None, OnOk}
 ghost use Rattle.std.specs.List.{flat_map};
 ghost use Rattle.written_tree.specs.Faults as said;
 ghost use Rattle.written_tree.specs.Places.{name_of_decl};
-ghost use Rattle.name_resolution.specs.FirstFaults.{with_faults};
+ghost use Rattle.name_resolution.specs.inner.FirstFaults.{with_faults};
 ghost use Rattle.name_resolution.specs.NameFaults.{name_fault, twice_after};
 ghost use Rattle.name_resolution.specs.Names.{decls_of, function_name, functions_of, reserved, vtable_name, vtables_of};
-ghost use Rattle.name_resolution.specs.Refusals.{IsRefusalOf};
+ghost use Rattle.name_resolution.specs.inner.Refusals.{IsRefusalOf};
 ghost use Rattle.name_resolution.specs.Resolved.{resolved};
-ghost use Rattle.name_resolution.specs.Symbols.{names_in, numbered_by};
+ghost use Rattle.name_resolution.specs.inner.Symbols.{names_in, numbered_by};
 
 use crate::defining::{classes_of_vtables, declared, functions};
 use crate::first_faults::ItemFaults;

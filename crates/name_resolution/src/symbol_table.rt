@@ -21,7 +21,7 @@ pub(crate) struct SymbolTable {
 }
 
 impl Model for SymbolTable {
-    ghost use Rattle.name_resolution.specs.Symbols.{Symbols};
+    ghost use Rattle.name_resolution.specs.inner.Symbols.{Symbols};
 
     ghost Value = { Symbols };
 
@@ -29,7 +29,7 @@ impl Model for SymbolTable {
 }
 
 impl SymbolTable {
-    ghost use Rattle.name_resolution.specs.Symbols.{names_in, number_in, numbered, reserved_only, unnamed, unnumbered, with_definition, with_kept, with_name, with_reserved};
+    ghost use Rattle.name_resolution.specs.inner.Symbols.{names_in, number_in, numbered, reserved_only, unnamed, unnumbered, with_definition, with_kept, with_name, with_reserved};
 
     /// No names, with room for `count`.
     pub(crate) fn with_capacity(alloc: Global, count: usize) -> Result<SymbolTable, Exhausted>

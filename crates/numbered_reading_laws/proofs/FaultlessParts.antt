@@ -33,7 +33,7 @@ use Rattle.written_tree.specs.declared.written_module.WrittenModule.{WrittenModu
 use Rattle.written_tree.specs.declared.written_module.WrittenVtable.{WrittenVtable}
 use Rattle.written_modules.specs.Opened.{PartGivens, PartParams, PartType, PartTypes, PartValue, module_value}
 use Rattle.written_modules.specs.Types.{tailed}
-use Rattle.written_modules.specs.Parts.{part}
+use Rattle.written_modules.specs.inner.Parts.{part}
 use Rattle.written_tree.specs.Places.{attribute_places, decl_names, function_names, mnemonics_of, values_of_block}
 use Rattle.written_modules.specs.Values.{token_of, items_of, item_of, fields_of, field_of, field_before, cases_of, type_of, payload_of, types_of, tokens_of, params_of, param_before, givens_of, given_before, starred, signature_of, blocks_of, block_of, args_of, arg_of, insts_of, terminator_of, inst_of, operands_of, operand_of, edges_of, edge_of, member_of, qualifier_of, debug_of, entry_of, no_debug}
 use Rattle.name_resolution.specs.Resolved.{Scope, resolved_decl, resolved_edge, resolved_inst, resolved_operand}
@@ -45,7 +45,7 @@ use Rattle.numbered_form.specs.Names.{IsDeclSpelled, IsEdgeSpelled, IsInstSpelle
 use Rattle.instruction_table.specs.Forms.{is_terminator}
 use Rattle.numbered_form.specs.Parts.{HasItsParts, are_cases, is_branch, is_plain_or_init, is_plain_or_take, is_typed}
 use Rattle.numbered_form.specs.Types.{HasDeclTypes, HasEdgeTypes, HasGivenType, HasInstTypes, HasOperandType, HasParamType, HasSignatureTypes, IsPlacedType, IsPlainType, is_plain_type, same}
-use Rattle.numbered_reading_laws.specs.Leaves.{IsTextOf}
+use Rattle.numbered_reading_laws.specs.inner.Leaves.{IsTextOf}
 
 -- types
 

@@ -12,7 +12,7 @@ use Rattle.written_modules.specs.Opened.{module_value}
 use Rattle.name_resolution.specs.Names.{decls_of, functions_of, vtables_of}
 use Rattle.name_resolution.specs.Resolved.{resolved_decl}
 use Rattle.numbered_form.specs.Lists.{Each}
-use Rattle.numbered_reading_laws.specs.Laws.{IsWritten}
+use Rattle.numbered_reading_laws.specs.inner.Laws.{IsWritten}
 use Rattle.numbered_reading_laws.proofs.ListsAndFaults.{Each-flat_map}
 use Rattle.numbered_reading_laws.proofs.FaultlessParts.{IsGoodDecl, IsGoodFunction, IsGoodItem, IsGoodModule, IsGoodPart, IsGoodVtable}
 use Rattle.numbered_reading_laws.proofs.ReplayLemmas.{AreGood, good_replay}

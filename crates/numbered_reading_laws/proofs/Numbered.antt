@@ -1,5 +1,5 @@
 -- What is written without a fault is in numbered form.
-use Rattle.numbered_reading_laws.specs.Laws.{AreWrittenNumbered}
+use Rattle.numbered_reading_laws.specs.inner.Laws.{AreWrittenNumbered}
 use Rattle.numbered_reading_laws.proofs.FieldLemmas.{read_fields, read_functions, read_literals, read_names, read_parts, read_types}
 use Rattle.numbered_reading_laws.proofs.FaultlessParts.{IsGoodModule}
 use Rattle.numbered_reading_laws.proofs.LimitLemmas.{read_limits}

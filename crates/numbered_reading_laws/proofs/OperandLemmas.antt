@@ -17,9 +17,9 @@ use Rattle.written_tree.specs.declared.written_instructions.WrittenInst.{Written
 use Rattle.written_tree.specs.declared.written_instructions.WrittenOperand.{WrittenOperand}
 use Rattle.written_tree.specs.Places.{operand_place}
 use Rattle.written_modules.specs.Opened.{PartValue}
-use Rattle.written_modules.specs.PartFaults.{fault_of_part}
-use Rattle.written_modules.specs.Parts.{part}
-use Rattle.written_modules.specs.RowMeaning.{bare_operand, typed_by, with_part}
+use Rattle.written_modules.specs.inner.PartFaults.{fault_of_part}
+use Rattle.written_modules.specs.inner.Parts.{part}
+use Rattle.written_modules.specs.inner.RowMeaning.{bare_operand, typed_by, with_part}
 use Rattle.written_modules.specs.Values.{operands_of, token_of, tokens_of}
 use Rattle.name_resolution.specs.Resolved.{Scope, resolved_operand}
 use Rattle.numbered_form.specs.Lists.{Each, is_empty}

@@ -21,10 +21,10 @@ use Rattle.written_tree.specs.declared.written_instructions.WrittenEdge.{Written
 use Rattle.written_tree.specs.declared.written_instructions.WrittenOperand.{WrittenOperand}
 use Rattle.written_tree.specs.declared.written_module.WrittenModule.{WrittenModule}
 use Rattle.written_tree.specs.Faults.{earlier, passed}
-use Rattle.written_modules.specs.Meaning.{meaning}
-use Rattle.written_modules.specs.Parts.{part, place_at, text_at}
+use Rattle.written_modules.specs.inner.Meaning.{meaning}
+use Rattle.written_modules.specs.inner.Parts.{part, place_at, text_at}
 use Rattle.written_modules.specs.Opened.{PartGivens, PartParams, PartType, PartValue}
-use Rattle.written_modules.specs.PartFaults.{body_fault, function_fault, module_fault, part_fault}
+use Rattle.written_modules.specs.inner.PartFaults.{body_fault, function_fault, module_fault, part_fault}
 use Rattle.written_tree.specs.Places.{arg_place, attribute_places, case_place, decl_names, field_place, function_names, label_place, operand_place, token_place}
 use Rattle.written_modules.specs.Types.{in_parens, tailed, type_before}
 use Rattle.written_modules.specs.Values.{token_of, stage_of, imports_of, items_of, item_of, fields_of, field_of, field_before, cases_of, type_of, payload_of, types_of, questions_of, linkage_of, tokens_of, params_of, param_before, givens_of, given_before, signature_of, blocks_of, block_of, args_of, arg_of, starred, insts_of, terminator_of, inst_of, operands_of, operand_of, edges_of, edge_of, member_of, flags_of, qualifier_of, debug_of, entry_of}

@@ -22,9 +22,9 @@ use Rattle.written_tree.specs.Faults.{out_of_range}
 use Rattle.written_tree.specs.declared.written_instructions.WrittenEdge.{WrittenEdge}
 use Rattle.written_tree.specs.declared.written_instructions.WrittenInst.{WrittenInst}
 use Rattle.written_modules.specs.Opened.{PartValue}
-use Rattle.written_modules.specs.PartFaults.{fault_of_part}
-use Rattle.written_modules.specs.Parts.{part, place_at, text_at}
-use Rattle.written_modules.specs.RowMeaning.{edges_at, number_by, with_part}
+use Rattle.written_modules.specs.inner.PartFaults.{fault_of_part}
+use Rattle.written_modules.specs.inner.Parts.{part, place_at, text_at}
+use Rattle.written_modules.specs.inner.RowMeaning.{edges_at, number_by, with_part}
 use Rattle.written_modules.specs.Values.{edge_of, member_of, qualifier_of, type_of}
 use Rattle.name_resolution.specs.Resolved.{Scope, resolved_edge}
 use Rattle.numbered_form.specs.Lists.{Each}

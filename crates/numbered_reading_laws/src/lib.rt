@@ -2,7 +2,7 @@
 //! It has no code that runs: its call is a law about the definitions of the crates below.
 #![tactic(auto)]
 
-ghost use Rattle.numbered_reading_laws.specs.Laws.{AreWrittenNumbered};
+ghost use Rattle.numbered_reading_laws.specs.inner.Laws.{AreWrittenNumbered};
 
 /// Where tokens of some classes derive from the grammar, no part of what they write is at fault and each name is defined once,
 /// the module that they stand for is in numbered form.

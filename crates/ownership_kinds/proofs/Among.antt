@@ -3,7 +3,7 @@ use Rattle.std.proofs.Common.{◌≡◌, ℕ, zero, suc, ◌+◌, ◌<◌, List,
 use Rattle.std.specs.Prelude.{Contains, slice_get, slice_index_or, map}
 use Rattle.std.specs.List.{flat_map}
 use Rattle.std.specs.Option.{option_to_list}
-use Rattle.ownership_kinds.specs.Faults.{fault_where, numbered}
+use Rattle.ownership_kinds.specs.inner.Faults.{fault_where, numbered}
 use Rattle.ownership_kinds.specs.declared.fault.StaticFault.{StaticFault}
 
 abbrev pub Among : {A : Type 0} → A → List A → Type 0

@@ -19,11 +19,11 @@ use Rattle.sil_rules.specs.declared.rule.Rule.TheVariants as rule
 use Rattle.sil_rules.proofs.Keys.{compared, not_after_refl}
 use Rattle.type_definitions.specs.Declarations.{Declarations}
 use Rattle.type_definitions.specs.Measures.{is_trivial}
-use Rattle.value_origins.specs.Switched.{first_value, switch_to}
+use Rattle.ownership_origins.specs.Switched.{first_value, switch_to}
 use Rattle.ownership_marks.specs.declared.taken.Taken.{Taken}
 use Rattle.ownership_kinds.specs.Facts.{kind_in}
-use Rattle.ownership_kinds.specs.Faults.{annotation_faults, arg_faults, block_faults, fault_at, fault_key, faults_of, inst_faults, is_one, lacking_faults, mixed_faults, needy_faults, numbered, ring_faults, taken_faults}
-use Rattle.ownership_kinds.specs.Known.{IsFirstOnRing, IsRingOf}
+use Rattle.ownership_kinds.specs.inner.Faults.{annotation_faults, arg_faults, block_faults, fault_at, fault_key, faults_of, inst_faults, is_one, lacking_faults, mixed_faults, needy_faults, numbered, ring_faults, taken_faults}
+use Rattle.ownership_kinds.specs.inner.Known.{IsFirstOnRing, IsRingOf}
 use Rattle.ownership_kinds.specs.Statics.{IsAt, IsBroken, IsDefinedAt, IsOnRing, all_taken, borrows_of, is_annotated_well, is_borrow, is_mismatch, lacks_argument, mixed_operand, needs_argument, static_key}
 use Rattle.ownership_kinds.specs.Statics.IsBroken.{on_ring, mixed, mismatch, annotated, lacking}
 use Rattle.ownership_kinds.specs.Statics.IsDefinedAt.{result, argument}

@@ -10,8 +10,8 @@ use Rattle.sil_rules.proofs.Keys.{not_after_trans}
 use Rattle.type_definitions.specs.Declarations.{Declarations}
 use Rattle.type_definitions.specs.declared.kind.Kind.{Kind}
 use Rattle.ownership_kinds.specs.Facts.{kind_in, kind_of_facts}
-use Rattle.ownership_kinds.specs.Faults.{fault_key, faults_of, least}
-use Rattle.ownership_kinds.specs.Known.{IsKnown, IsRingOf, kind_told}
+use Rattle.ownership_kinds.specs.inner.Faults.{fault_key, faults_of, least}
+use Rattle.ownership_kinds.specs.inner.Known.{IsKnown, IsRingOf, kind_told}
 use Rattle.ownership_kinds.specs.Statics.{HasKinds, IsFirstBroken, borrows_of, static_key}
 use Rattle.ownership_kinds.specs.declared.fault.StaticFault.{StaticFault}
 use Rattle.ownership_kinds.specs.declared.statics.Known.{Known}

@@ -6,18 +6,18 @@ use Rattle.sil_ast.specs.declared.function.Function.{Function}
 use Rattle.sil_ast.specs.declared.place.ValueId.{ValueId}
 use Rattle.sil_cfg.specs.Layout.{Layout}
 use Rattle.numbered_form.specs.Numbering.{values_of}
-use Rattle.forwarding_chains.specs.Chains.{HasNoRing, IsFirstCyclic}
-use Rattle.forwarding_chains.specs.Facts.{told_at, told_in}
-use Rattle.forwarding_chains.specs.Outcome.{IsTold}
-use Rattle.forwarding_chains.specs.declared.definition.Definition.{Definition}
-use Rattle.forwarding_chains.specs.declared.facts.Facts.{Facts}
+use Rattle.ownership_chains.specs.Chains.{HasNoRing, IsFirstCyclic}
+use Rattle.ownership_chains.specs.Facts.{told_at, told_in}
+use Rattle.ownership_chains.specs.inner.Outcome.{IsTold}
+use Rattle.ownership_chains.specs.declared.definition.Definition.{Definition}
+use Rattle.ownership_chains.specs.declared.facts.Facts.{Facts}
 use Rattle.type_definitions.specs.Declarations.{Declarations}
-use Rattle.value_origins.specs.Origins.{definitions_of}
-use Rattle.value_origins.specs.Renamings.{renamings_of}
+use Rattle.ownership_origins.specs.Origins.{definitions_of}
+use Rattle.ownership_origins.specs.Renamings.{renamings_of}
 use Rattle.ownership_marks.specs.Known.{AreKindsBy}
 use Rattle.ownership_marks.specs.Known as marks
 use Rattle.ownership_kinds.specs.Facts.{facts_by, facts_in}
-use Rattle.ownership_kinds.specs.Known.{IsFirstOnRing, IsRingOf, first_of}
+use Rattle.ownership_kinds.specs.inner.Known.{IsFirstOnRing, IsRingOf, first_of}
 use Rattle.ownership_kinds.specs.Statics.{IsOnRing}
 
 beyond : (table : List (Option Facts)) (n : ℕ) → length table ≤ n → unwrap_or (slice_get table n) None ≡ None

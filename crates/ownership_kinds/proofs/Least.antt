@@ -3,7 +3,7 @@ use Rattle.std.proofs.Common.{◌≡◌, ℕ, ◌+◌, ◌<◌, ◌≤◌, List,
 use Rattle.std.specs.Prelude.{IfOk}
 use Rattle.std.specs.List.{flat_map}
 use Rattle.std.proofs.lemmas.List.{append_assoc, at_drop_more, at_drop_all}
-use Rattle.ownership_kinds.specs.Faults.{least, lesser, numbered}
+use Rattle.ownership_kinds.specs.inner.Faults.{least, lesser, numbered}
 use Rattle.ownership_kinds.specs.declared.fault.StaticFault.{StaticFault}
 
 pub least-append : (found : Option StaticFault) (xs ys : List StaticFault) → least found (xs ++ ys) ≡ least (least found xs) ys

@@ -4,7 +4,7 @@ use Rattle.std.specs.Prelude.{◌==◌, nat_lt, if◌then◌else◌}
 use Rattle.std.proofs.lemmas.Bool.Decides.{nat_tests}
 use Rattle.sil_rules.specs.Order.{NotAfter}
 use Rattle.sil_rules.proofs.Keys.{not_after_refl, not_after_trans}
-use Rattle.ownership_kinds.specs.Faults.{comes_before, fault_key, least, lesser}
+use Rattle.ownership_kinds.specs.inner.Faults.{comes_before, fault_key, least, lesser}
 use Rattle.ownership_kinds.specs.declared.fault.StaticFault.{StaticFault}
 use Rattle.ownership_kinds.proofs.Among.{Among}
 

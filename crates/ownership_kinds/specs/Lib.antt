@@ -1,5 +1,3 @@
 pub mod Facts
-pub mod Known
 pub mod Statics
-pub mod Faults
-pub mod Ends
+pub mod inner

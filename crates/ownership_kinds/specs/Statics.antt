@@ -17,7 +17,7 @@ use Rattle.sil_ast.specs.declared.inst.Edge.{Edge}
 use Rattle.sil_ast.specs.declared.inst.Inst.{Inst}
 use Rattle.sil_ast.specs.declared.place.ValueId.{ValueId}
 use Rattle.numbered_form.specs.Insts.{insts_of}
-use Rattle.forwarding_chains.specs.Chains.{IsCyclic}
+use Rattle.ownership_chains.specs.Chains.{IsCyclic}
 use Rattle.sil_rules.specs.Order.{NotAfter}
 use Rattle.sil_rules.specs.Rules.{number_of}
 use Rattle.sil_rules.specs.declared.rule.Rule.{Rule}
@@ -26,10 +26,10 @@ use Rattle.type_definitions.specs.Declarations.{Declarations}
 use Rattle.type_definitions.specs.Measures.{is_trivial}
 use Rattle.type_definitions.specs.declared.kind.Kind.{Kind}
 use Rattle.type_definitions.specs.declared.kind.Kind.TheVariants as kind
-use Rattle.value_origins.specs.Origins.{definitions_of}
-use Rattle.value_origins.specs.Renamings.{renamings_of}
-use Rattle.value_origins.specs.Switched.{first_value, switch_to, value_of}
-use Rattle.value_origins.specs.declared.switched.Switched.{Switched}
+use Rattle.ownership_origins.specs.Origins.{definitions_of}
+use Rattle.ownership_origins.specs.Renamings.{renamings_of}
+use Rattle.ownership_origins.specs.Switched.{first_value, switch_to, value_of}
+use Rattle.ownership_origins.specs.declared.switched.Switched.{Switched}
 use Rattle.ownership_kinds.specs.Facts.{kind_in}
 use Rattle.ownership_marks.specs.Roles.{taken_along, taken_by}
 use Rattle.ownership_marks.specs.declared.taken.Taken.{Taken}

@@ -1,17 +1,17 @@
 //! 305 at an argument: its annotation isn't the one that is due.
 
 ghost use Rattle.std.specs.Prelude.{◌≡◌};
-ghost use Rattle.ownership_kinds.specs.Faults.{annotation_faults, least};
-ghost use Rattle.ownership_kinds.specs.Known.{kind_told};
+ghost use Rattle.ownership_kinds.specs.inner.Faults.{annotation_faults, least};
+ghost use Rattle.ownership_kinds.specs.inner.Known.{kind_told};
 ghost use Rattle.ownership_kinds.specs.Statics as statics;
 
 use crate::fault::{StaticFault, lesser};
-use forwarding_chains::{Facts, kind_of};
+use ownership_chains::{Facts, kind_of};
+use ownership_origins::Switched;
 use sil_ast::{ArgKind, BlockArg, BlockId, PointId};
 use sil_rules::Rule;
 use sil_types::TypeTable;
 use type_definitions::Kind;
-use value_origins::Switched;
 
 fn is_plain(annotation: ArgKind) -> bool
     ensures { result ≡ statics.is_plain_annotation annotation }

@@ -7,9 +7,9 @@ ghost use Rattle.ownership_kinds.specs.Statics as statics;
 ghost use Rattle.ownership_kinds.specs.Statics.{block_borrows, borrows_by, result_borrows};
 
 use instruction_table::{Op, ResultKind, result_kind_of};
+use ownership_origins::room_for_values;
 use sil_ast::{Block, Boxed, Exhausted, Function, Inst, ValueId};
 use std::alloc::Global;
-use value_origins::room_for_values;
 
 /// Whether an instruction's result is a borrow.
 fn borrows(op: Op) -> bool

@@ -2,27 +2,27 @@
 
 ghost use Rattle.std.specs.Prelude.{◌≡◌, ◌<◌, ◌^◌, All, IfErr, IfNone, IfOk, IfSome, OnOk, length};
 ghost use Rattle.numbered_form.specs.Numbering.{AreCountedFrom, values_of};
-ghost use Rattle.forwarding_chains.specs.Chains.{HasNoRing, IsFirstCyclic, IsInRange};
-ghost use Rattle.forwarding_chains.specs.Facts.{told_at};
-ghost use Rattle.value_origins.specs.Origins.{definitions_of};
-ghost use Rattle.value_origins.specs.Renamings.{renamings_of};
-ghost use Rattle.value_origins.specs.Tables.{AreSwitches};
+ghost use Rattle.ownership_chains.specs.Chains.{HasNoRing, IsFirstCyclic, IsInRange};
+ghost use Rattle.ownership_chains.specs.Facts.{told_at};
+ghost use Rattle.ownership_origins.specs.Origins.{definitions_of};
+ghost use Rattle.ownership_origins.specs.Renamings.{renamings_of};
+ghost use Rattle.ownership_origins.specs.inner.Tables.{AreSwitches};
 ghost use Rattle.ownership_marks.specs.Known.{AreKindsBy};
 ghost use Rattle.ownership_kinds.specs.Facts.{facts_in};
-ghost use Rattle.ownership_kinds.specs.Known as known;
-ghost use Rattle.ownership_kinds.specs.Known.{IsRingOf};
+ghost use Rattle.ownership_kinds.specs.inner.Known as known;
+ghost use Rattle.ownership_kinds.specs.inner.Known.{IsRingOf};
 ghost use Rattle.ownership_kinds.specs.Statics.{HasKinds, IsFirstBroken};
 
 use crate::borrows::borrows_of;
 use crate::fault::StaticFault;
 use crate::statics::{Known, first_broken};
-use forwarding_chains::{Definition, Facts, Outcome, kinds_of};
+use ownership_chains::{Definition, Facts, Outcome, kinds_of};
 use ownership_marks::Kinds;
+use ownership_origins::Switched;
 use sil_ast::{Exhausted, Function, ValueId};
 use sil_cfg::Graph;
 use sil_types::TypeTable;
 use std::alloc::Global;
-use value_origins::Switched;
 
 /// Of two values the one with the lesser number.
 fn first_of(one: Option<ValueId>, other: Option<ValueId>) -> Option<ValueId>

@@ -2,14 +2,14 @@
 
 ghost use Rattle.std.specs.Prelude.{◌≡◌};
 ghost use Rattle.std.specs.List.{list_any};
-ghost use Rattle.ownership_kinds.specs.Faults.{lacking_faults, least};
-ghost use Rattle.ownership_kinds.specs.Known.{kind_told};
+ghost use Rattle.ownership_kinds.specs.inner.Faults.{lacking_faults, least};
+ghost use Rattle.ownership_kinds.specs.inner.Known.{kind_told};
 ghost use Rattle.ownership_kinds.specs.Statics as statics;
 
 use crate::fault::{StaticFault, lesser};
 use crate::kinds::{is_guaranteed, is_owned};
-use forwarding_chains::{Facts, kind_of};
 use instruction_table::{Ending, ending_of};
+use ownership_chains::{Facts, kind_of};
 use sil_ast::{Edge, Function, Inst, PointId};
 use sil_rules::Rule;
 use type_definitions::Kind;

@@ -1,8 +1,8 @@
 //! A broken rule that no walk is needed to show, and which of two comes first.
 
 ghost use Rattle.std.specs.Prelude.{◌≡◌, Some};
-ghost use Rattle.ownership_kinds.specs.Faults as faults;
-ghost use Rattle.ownership_kinds.specs.Faults.{comes_before, fault_key};
+ghost use Rattle.ownership_kinds.specs.inner.Faults as faults;
+ghost use Rattle.ownership_kinds.specs.inner.Faults.{comes_before, fault_key};
 
 use sil_ast::{PointId, ValueId};
 use sil_rules::Rule;

@@ -3,23 +3,23 @@
 ghost use Rattle.std.specs.Prelude.{◌≡◌, IfErr, IfNone, IfOk, IfSome, OnOk, length};
 ghost use Rattle.numbered_form.specs.Numbering.{values_of};
 ghost use Rattle.sil_cfg.specs.Build.{HasGraph};
-ghost use Rattle.forwarding_chains.specs.Chains.{HasNoRing, IsFirstCyclic, IsInRange};
-ghost use Rattle.value_origins.specs.Renamings.{renamings_of};
-ghost use Rattle.value_origins.specs.Tables.{AreSwitches};
+ghost use Rattle.ownership_chains.specs.Chains.{HasNoRing, IsFirstCyclic, IsInRange};
+ghost use Rattle.ownership_origins.specs.Renamings.{renamings_of};
+ghost use Rattle.ownership_origins.specs.inner.Tables.{AreSwitches};
 ghost use Rattle.ownership_marks.specs.Known.{AreKindsBy};
-ghost use Rattle.ownership_kinds.specs.Ends.{IsEndOn, IsFaultOf, IsOfNumberedModule};
+ghost use Rattle.ownership_kinds.specs.inner.Ends.{IsEndOn, IsFaultOf, IsOfNumberedModule};
 ghost use Rattle.ownership_kinds.specs.Facts.{facts_in};
 ghost use Rattle.ownership_kinds.specs.Statics.{HasKinds, IsFirstBroken};
 
 use crate::decide::decide;
 use crate::fault::StaticFault;
-use forwarding_chains::first_cyclic;
+use ownership_chains::first_cyclic;
 use ownership_marks::Kinds;
+use ownership_origins::{Switched, are_renamed_in_order, definitions, renamings, switches};
 use sil_ast::{Exhausted, Function, List, ValueId};
 use sil_cfg::{Graph, RuleEnd, RuleFault};
 use sil_types::TypeTable;
 use std::alloc::Global;
-use value_origins::{Switched, are_renamed_in_order, definitions, renamings, switches};
 
 /// The first value on a ring of renamings. Most functions have no renaming of a value behind it, and are asked for no more.
 fn first_renamed(

@@ -3,15 +3,15 @@
 ghost use Rattle.std.specs.Prelude.{◌≡◌, ◌++◌, OnOk};
 ghost use Rattle.std.specs.List.{flat_map};
 ghost use Rattle.ownership_marks.specs.Roles.{taken_along};
-ghost use Rattle.ownership_kinds.specs.Faults.{least, taken_faults};
-ghost use Rattle.ownership_kinds.specs.Known.{kind_told};
+ghost use Rattle.ownership_kinds.specs.inner.Faults.{least, taken_faults};
+ghost use Rattle.ownership_kinds.specs.inner.Known.{kind_told};
 ghost use Rattle.ownership_kinds.specs.Statics as statics;
 
 use crate::borrows::is_borrow;
 use crate::fault::{StaticFault, lesser};
 use crate::kinds::{is_guaranteed, is_owned};
-use forwarding_chains::{Facts, kind_of};
 use instruction_table::Role;
+use ownership_chains::{Facts, kind_of};
 use ownership_marks::{Taken, add_taken_along, add_taken_by};
 use sil_ast::{Edge, Exhausted, Inst, PointId};
 use sil_rules::Rule;

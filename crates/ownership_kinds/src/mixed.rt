@@ -3,15 +3,15 @@
 ghost use Rattle.std.specs.Prelude.{◌≡◌, ℕ, find, map};
 ghost use Rattle.std.specs.List.{list_any};
 ghost use Rattle.instruction_table.specs.Forms as form;
-ghost use Rattle.value_origins.specs.Switched.{value_of};
-ghost use Rattle.ownership_kinds.specs.Faults.{fault_at, least, mixed_faults};
-ghost use Rattle.ownership_kinds.specs.Known.{kind_told};
+ghost use Rattle.ownership_origins.specs.Switched.{value_of};
+ghost use Rattle.ownership_kinds.specs.inner.Faults.{fault_at, least, mixed_faults};
+ghost use Rattle.ownership_kinds.specs.inner.Known.{kind_told};
 ghost use Rattle.ownership_kinds.specs.Statics as statics;
 
 use crate::fault::{StaticFault, lesser};
 use crate::kinds::{is_guaranteed, is_owned};
-use forwarding_chains::{Facts, kind_of};
 use instruction_table::{Op, ResultKind, result_kind_of};
+use ownership_chains::{Facts, kind_of};
 use sil_ast::{Inst, Operand, PointId, ValueId};
 use sil_rules::Rule;
 

@@ -2,8 +2,8 @@
 
 ghost use Rattle.std.specs.Prelude.{◌≡◌};
 ghost use Rattle.std.specs.List.{flat_map};
-ghost use Rattle.ownership_kinds.specs.Faults as faults;
-ghost use Rattle.ownership_kinds.specs.Faults.{least, ring_faults};
+ghost use Rattle.ownership_kinds.specs.inner.Faults as faults;
+ghost use Rattle.ownership_kinds.specs.inner.Faults.{least, ring_faults};
 
 use crate::fault::{StaticFault, lesser};
 use sil_ast::{PointId, ValueId};

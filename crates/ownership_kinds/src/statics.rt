@@ -3,9 +3,9 @@
 ghost use Rattle.std.specs.Prelude.{◌≡◌, ◌<◌, ◌^◌, All, IfNone, IfOk, IfSome, length};
 ghost use Rattle.std.specs.List.{flat_map};
 ghost use Rattle.numbered_form.specs.Numbering.{AreCountedFrom, values_of};
-ghost use Rattle.value_origins.specs.Tables.{AreSwitches};
-ghost use Rattle.ownership_kinds.specs.Faults.{arg_faults, block_faults, faults_of, inst_faults, insts_faults, least};
-ghost use Rattle.ownership_kinds.specs.Known.{IsKnown, kind_told};
+ghost use Rattle.ownership_origins.specs.inner.Tables.{AreSwitches};
+ghost use Rattle.ownership_kinds.specs.inner.Faults.{arg_faults, block_faults, faults_of, inst_faults, insts_faults, least};
+ghost use Rattle.ownership_kinds.specs.inner.Known.{IsKnown, kind_told};
 ghost use Rattle.ownership_kinds.specs.Statics.{HasKinds, IsFirstBroken};
 
 use crate::annotations::add_annotation;
@@ -14,12 +14,12 @@ use crate::fault::StaticFault;
 use crate::mismatch::{add_mismatches, take_all};
 use crate::mixed::add_mixed;
 use crate::rings::{add_ring, add_rings};
-use forwarding_chains::Facts;
+use ownership_chains::Facts;
 use ownership_marks::Taken;
+use ownership_origins::{Switched, switch_of};
 use sil_ast::{Block, BlockArg, BlockId, Boxed, Exhausted, Function, Inst, PointId, ValueId};
 use sil_types::TypeTable;
 use std::alloc::Global;
-use value_origins::{Switched, switch_of};
 
 /// What the rules on kinds are decided by.
 #[derive(Drop)]

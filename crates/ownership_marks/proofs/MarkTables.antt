@@ -6,8 +6,8 @@ use Rattle.sil_ast.specs.declared.function.Function.{Function}
 use Rattle.sil_ast.specs.declared.place.ValueId.{ValueId}
 use Rattle.sil_cfg.specs.Layout.{Layout}
 use Rattle.sil_cfg.specs.declared.item.Item.{Item}
-use Rattle.forwarding_chains.specs.Facts.{facts_with, known_or}
-use Rattle.forwarding_chains.specs.declared.facts.Facts.{Facts}
+use Rattle.ownership_chains.specs.Facts.{facts_with, known_or}
+use Rattle.ownership_chains.specs.declared.facts.Facts.{Facts}
 use Rattle.type_definitions.specs.declared.kind.Kind.TheVariants as kind
 use Rattle.ownership_marks.specs.Known.{AreKindsBy, Known}
 use Rattle.ownership_marks.specs.Marks.{begun, begun_with, ended, ended_with, item_defined, item_taken, marks_of, used, used_with}

@@ -11,7 +11,7 @@ use Rattle.sil_ast.specs.declared.inst.Inst as inst
 use Rattle.sil_ast.specs.declared.place.ValueId.{ValueId}
 use Rattle.sil_cfg.specs.declared.item.Item.{Item}
 use Rattle.sil_cfg.specs.declared.item.Item.TheVariants.{Entry, Inst, Edge, Exit}
-use Rattle.forwarding_chains.specs.declared.facts.Facts.{Facts}
+use Rattle.ownership_chains.specs.declared.facts.Facts.{Facts}
 use Rattle.type_definitions.specs.declared.kind.Kind.{Kind}
 use Rattle.type_definitions.specs.declared.kind.Kind.TheVariants as kind
 use Rattle.ownership_marks.specs.Roles.{taken_along, taken_by}

@@ -1,14 +1,14 @@
 //! What a check on paths asks of kinds.
 
 ghost use Rattle.std.specs.Prelude.{◌≡◌, ◌≤◌, ◌^◌, length, IfOk};
-ghost use Rattle.forwarding_chains.specs.Facts.{told_at};
+ghost use Rattle.ownership_chains.specs.Facts.{told_at};
 ghost use Rattle.ownership_marks.specs.Known.{AreKindsBy, facts_of, marks_at};
 ghost use Rattle.ownership_marks.specs.Marks as marks;
 
 use crate::mark::Mark;
 use crate::marks::{all_marks, facts_at, make_marks};
-use forwarding_chains::{Facts, bases_of};
-use item_lists::ItemLists;
+use ownership_chains::{Facts, bases_of};
+use path_lists::ItemLists;
 use sil_ast::{Exhausted, Function, List, ValueId};
 use sil_cfg::{Graph, Item};
 use std::alloc::Global;

@@ -10,8 +10,8 @@ use Rattle.sil_cfg.specs.Layout.{Layout, item_at}
 use Rattle.sil_cfg.specs.Flow.{numbered, point_of}
 use Rattle.sil_cfg.specs.Items.{flow_of}
 use Rattle.sil_cfg.specs.Build.{IsGraphOf}
-use Rattle.reach_engine.specs.Reach.{ReachesFirst}
-use Rattle.reach_engine.specs.Search.{IsClean}
+use Rattle.reach_engine.specs.inner.Reach.{ReachesFirst}
+use Rattle.reach_engine.specs.inner.Search.{IsClean}
 use Rattle.reach_engine.proofs.Runs.{go-bad}
 use Rattle.path_patterns.specs.Reads.{AgreesWith, FitsRead, read_code, read_step}
 use Rattle.path_patterns.specs.Switch.{IsInPlace, code_of, mark_step}
@@ -21,7 +21,7 @@ use Rattle.path_patterns.proofs.GraphPatterns.{shown_there, shown_back}
 use Rattle.path_checks.specs.declared.entry.Entry as entry
 use Rattle.path_checks.specs.declared.entry.PathFault.{PathFault}
 use Rattle.path_checks.specs.Entries.{means, subject_step}
-use Rattle.path_checks.specs.Chunks.{IsChunkFault}
+use Rattle.path_checks.specs.inner.Chunks.{IsChunkFault}
 use Rattle.path_checks.specs.First.{IsShownAt, IsShown, NotAfter, IsFirst}
 use Rattle.path_checks.proofs.OtherSubjects.{quiet_run}
 

@@ -14,7 +14,7 @@ use Rattle.path_patterns.proofs.SwitchDecided.{switch_decides}
 use Rattle.path_checks.specs.declared.entry.Entry.{Entry}
 use Rattle.path_checks.specs.Entries.{means}
 use Rattle.path_checks.specs.First.{IsShownAt}
-use Rattle.path_checks.specs.Shared.{shared_from}
+use Rattle.path_checks.specs.inner.Shared.{shared_from}
 use Rattle.path_checks.proofs.OtherSubjects.{no_mark, own_mark}
 
 -- two tables with the same marks, one of a subject and one of another, show the same of these

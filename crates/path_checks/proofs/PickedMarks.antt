@@ -1,7 +1,7 @@
 -- The entries that items share, where a test tells which subjects have the one mark.
 use Rattle.std.proofs.Common.{◌≡◌, ℕ, zero, suc, ◌+◌, [], ◌∷◌, ◌++◌, map, refl, ap₂, Bool, true, false, cond, Some, None}
 use Rattle.std.specs.List.{flat_map, range_with_len}
-use Rattle.path_checks.specs.Shared.{entry_if, shared_from}
+use Rattle.path_checks.specs.inner.Shared.{entry_if, shared_from}
 use Rattle.path_patterns.specs.declared.mark.Mark.{Mark}
 
 picked_if : (n : ℕ) (m : Mark) (b : Bool) → entry_if n (cond b (Some m) None) ≡ cond b (record { subject = n; mark = m } ∷ []) []

@@ -2,10 +2,10 @@
 use Rattle.std.proofs.Common.{◌≡◌, ℕ, ◌+◌, ◌<◌, ◌≤◌, List, [], ◌∷◌, ◌++◌, length, get_or, take, refl, sym, ap, ◌∙◌, Bool, true, false, Option, Some, None, All, arith}
 use Rattle.std.proofs.lemmas.List.Elements.{All-nil, All-cons, All-append}
 use Rattle.std.proofs.lemmas.List.{append_assoc, take_more, length-take-le}
-use Rattle.item_lists.specs.Lists.{list_at}
+use Rattle.path_lists.specs.inner.Lists.{list_at}
 use Rattle.path_patterns.specs.declared.mark.Mark.{Mark}
 use Rattle.path_checks.specs.declared.entry.Entry.{Entry}
-use Rattle.path_checks.specs.Shared.{entries_with, entry_if, is_sharing, shared_from, shared_if}
+use Rattle.path_checks.specs.inner.Shared.{entries_with, entry_if, is_sharing, shared_from, shared_if}
 
 -- one subject more
 pub shared_more : (n : ℕ) (marks : List (Option Mark)) (mark : Option Mark) → shared_from n (marks ++ mark ∷ []) ≡ shared_from n marks ++ entry_if (n + length marks) mark

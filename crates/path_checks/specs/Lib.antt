@@ -1,4 +1,3 @@
 pub mod Entries
-pub mod Shared
-pub mod Chunks
 pub mod First
+pub mod inner

@@ -1,10 +1,10 @@
 //! A number above every subject.
 
 ghost use Rattle.std.specs.Prelude.{ℕ, ◌<◌, ◌≤◌, ◌^◌, All};
-ghost use Rattle.item_lists.specs.Lists.{list_at};
+ghost use Rattle.path_lists.specs.inner.Lists.{list_at};
 
 use crate::entry::Entry;
-use item_lists::ItemLists;
+use path_lists::ItemLists;
 
 /// A number above every subject, and not below `least`.
 pub fn subject_bound(entries: &ItemLists<Entry>, least: usize) -> usize

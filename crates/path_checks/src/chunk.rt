@@ -6,12 +6,12 @@ ghost use Rattle.reach_engine.specs.declared.scan.Step.TheVariants.{Go};
 ghost use Rattle.path_patterns.specs.Reads.{read_step};
 ghost use Rattle.path_patterns.specs.Switch.{mark_step};
 ghost use Rattle.path_checks.specs.Entries.{means, subject_step};
-ghost use Rattle.path_checks.specs.Shared.{entries_among};
-ghost use Rattle.path_checks.specs.Chunks.{ArePassed};
+ghost use Rattle.path_checks.specs.inner.Shared.{entries_among};
+ghost use Rattle.path_checks.specs.inner.Chunks.{ArePassed};
 
 use crate::entry::Entry;
 use crate::sharing::shared_at;
-use item_lists::ItemLists;
+use path_lists::ItemLists;
 use path_patterns::{Mark, turn};
 use reach_engine::{Family, MoveAll, Scan, Step, turn_subject};
 

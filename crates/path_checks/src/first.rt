@@ -6,15 +6,15 @@ ghost use Rattle.sil_cfg.specs.Layout.{item_count};
 ghost use Rattle.sil_cfg.specs.Build.{IsGraphOf};
 ghost use Rattle.path_patterns.specs.Reads.{AgreesWith};
 ghost use Rattle.path_checks.specs.declared.entry.Entry as entry;
-ghost use Rattle.path_checks.specs.Chunks.{IsFirstOfChunk};
-ghost use Rattle.path_checks.specs.Shared.{entries_among, entries_with};
+ghost use Rattle.path_checks.specs.inner.Chunks.{IsFirstOfChunk};
+ghost use Rattle.path_checks.specs.inner.Shared.{entries_among, entries_with};
 ghost use Rattle.path_checks.specs.First.{IsFirst};
 
 use crate::bound::subject_bound;
 use crate::chunk::Chunk;
 use crate::entry::{Entry, PathFault};
 use crate::sharing::shared_entries;
-use item_lists::ItemLists;
+use path_lists::ItemLists;
 use path_patterns::Mark;
 use reach_engine::first_broken;
 use sil_ast::{Exhausted, Function};

@@ -1,8 +1,8 @@
 //! The entries that items share.
 
 ghost use Rattle.std.specs.Prelude.{◌≡◌, ◌≤◌, ◌^◌, ◌++◌, length, IfOk, OnOk};
-ghost use Rattle.path_checks.specs.Shared as shares;
-ghost use Rattle.path_checks.specs.Shared.{entry_if, if_sharing, shared_from};
+ghost use Rattle.path_checks.specs.inner.Shared as shares;
+ghost use Rattle.path_checks.specs.inner.Shared.{entry_if, if_sharing, shared_from};
 
 use crate::entry::Entry;
 use path_patterns::Mark;

@@ -10,8 +10,8 @@ use Rattle.sil_cfg.proofs.Paths.{Trail-front, some_pushed}
 use Rattle.reach_engine.specs.declared.scan.Step.{Step}
 use Rattle.reach_engine.specs.declared.scan.Step.TheVariants.{Go, Bad}
 use Rattle.reach_engine.specs.Run.{run}
-use Rattle.reach_engine.specs.Reach.{ReachesFirst}
-use Rattle.reach_engine.specs.Search.{IsClean}
+use Rattle.reach_engine.specs.inner.Reach.{ReachesFirst}
+use Rattle.reach_engine.specs.inner.Search.{IsClean}
 use Rattle.reach_engine.proofs.Runs.{run-append, run_split, run_join, run_breaks, bad_at}
 use Rattle.path_patterns.specs.Lawful.{AreLawful, FirstBreak}
 use Rattle.path_patterns.specs.Along.{IsKept, Shows}

@@ -8,8 +8,8 @@ use Rattle.path_patterns.specs.Lawful.{AreLawful}
 use Rattle.path_patterns.specs.Switch.{IsInPlace, code_of, mark_step}
 use Rattle.path_patterns.proofs.PatternsDecided.{read_lawful, lawful_read}
 use Rattle.path_patterns.proofs.SwitchDecided.{switch_decides}
-use Rattle.path_patterns.specs.Runs as runs
-use Rattle.path_patterns.specs.Runs.{Sort, End, Use, Begin, held_mark, return_mark, AreRuns, ReadsRuns, ReadsEndedRuns}
+use Rattle.path_patterns.specs.inner.Runs as runs
+use Rattle.path_patterns.specs.inner.Runs.{Sort, End, Use, Begin, held_mark, return_mark, AreRuns, ReadsRuns, ReadsEndedRuns}
 
 -- what follows a begin in runs
 data AreRest : Bool → List Sort → Type 0 where

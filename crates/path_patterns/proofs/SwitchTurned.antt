@@ -7,7 +7,7 @@ use Rattle.reach_engine.specs.Run.{run}
 use Rattle.reach_engine.proofs.Runs.{run_split, same_Go}
 use Rattle.path_patterns.specs.declared.mark.Mark.{Mark}
 use Rattle.path_patterns.specs.Switch.{IsOn, turned, mark_step}
-use Rattle.path_patterns.specs.Turns.{later_of, last_turn, Leaves, LeavesAsTurned, EndsAsTurned, set_bit, clear_bit, TurnsByBits}
+use Rattle.path_patterns.specs.inner.Turns.{later_of, last_turn, Leaves, LeavesAsTurned, EndsAsTurned, set_bit, clear_bit, TurnsByBits}
 use Rattle.path_patterns.proofs.SwitchDecided.{push_on, push_off, push_none, pop_none, step_goes}
 
 turned_twice : (s : ℕ) (first next : Option Bool) → turned (turned s first) next ≡ turned s (later_of first next)

@@ -1,8 +1,8 @@
 //! The laws of patterns that a contract can state, each on a call that does nothing. The general ones, over any pattern, are lemmas in `proofs/`.
 
-ghost use Rattle.path_patterns.specs.Laws.{IsSwitchDecided, BreaksWithSwitch, BreaksOnFunction, KeepsWithoutBreak};
-ghost use Rattle.path_patterns.specs.Turns.{LeavesAsTurned, EndsAsTurned, TurnsByBits};
-ghost use Rattle.path_patterns.specs.Runs.{ReadsRuns, ReadsEndedRuns};
+ghost use Rattle.path_patterns.specs.inner.Laws.{IsSwitchDecided, BreaksWithSwitch, BreaksOnFunction, KeepsWithoutBreak};
+ghost use Rattle.path_patterns.specs.inner.Turns.{LeavesAsTurned, EndsAsTurned, TurnsByBits};
+ghost use Rattle.path_patterns.specs.inner.Runs.{ReadsRuns, ReadsEndedRuns};
 
 /// The automaton of two states decides the switch: it goes on at just the marks that are in place.
 pub fn switch_is_decided()

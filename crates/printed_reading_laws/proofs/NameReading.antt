@@ -11,9 +11,9 @@ use Rattle.sil_shape.specs.declared.grammar.Production.TheVariants as p
 use Rattle.sil_shape.specs.declared.grammar.Symbol.{Symbol}
 use Rattle.sil_shape.specs.declared.grammar.Symbol.TheVariants.{Read}
 use Rattle.sil_shape.specs.declared.grammar.Terminal.TheVariants as t
-use Rattle.written_modules.specs.Meaning.{kept_of, meaning}
+use Rattle.written_modules.specs.inner.Meaning.{kept_of, meaning}
 use Rattle.written_modules.specs.Opened.{PartValue}
-use Rattle.written_modules.specs.PartFaults.{part_fault}
+use Rattle.written_modules.specs.inner.PartFaults.{part_fault}
 use Rattle.written_modules.specs.Values.{token_of, tokens_of}
 use Rattle.numbered_form.specs.Lists.{Each}
 use Rattle.numbered_reading_laws.proofs.ListsAndFaults.{Each-weaker}

@@ -19,9 +19,9 @@ use Rattle.sil_shape.specs.declared.grammar.Production.TheVariants as p
 use Rattle.sil_shape.specs.declared.grammar.Symbol.TheVariants.{Part as NamedPart}
 use Rattle.token_classes.specs.Spelling.{punctuation_of, punctuation_spelling, signs}
 use Rattle.sil_rules.specs.declared.limit_word.LimitWord.TheVariants as limit
-use Rattle.written_modules.specs.Meaning.{kept_of, meaning}
-use Rattle.written_modules.specs.PartFaults.{part_fault}
-use Rattle.written_modules.specs.RowMeaning.{bare_operand, typed_by}
+use Rattle.written_modules.specs.inner.Meaning.{kept_of, meaning}
+use Rattle.written_modules.specs.inner.PartFaults.{part_fault}
+use Rattle.written_modules.specs.inner.RowMeaning.{bare_operand, typed_by}
 use Rattle.written_modules.specs.Values.{operands_of, token_of, tokens_of}
 use Rattle.written_tree.specs.Faults.{passed}
 use Rattle.written_tree.specs.Places.{operand_place}

@@ -1,6 +1,6 @@
 -- What is printed is spelled.
 use Rattle.sil_printer.specs.CanonicalModules.{canonical_text}
-use Rattle.printed_reading_laws.specs.Laws.{ArePrintedSpelled}
+use Rattle.printed_reading_laws.specs.inner.Laws.{ArePrintedSpelled}
 use Rattle.printed_reading_laws.proofs.ModuleReading.{module_reads}
 use Rattle.printed_reading_laws.proofs.Names.{no_name_fault, stands_for}
 use Rattle.printed_reading_laws.proofs.Whole.{spelled_whole}

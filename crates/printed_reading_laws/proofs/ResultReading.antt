@@ -11,8 +11,8 @@ use Rattle.sil_shape.specs.Grammar.{body, written}
 use Rattle.token_classes.specs.Spelling.{punctuation_of, punctuation_spelling, signs}
 use Rattle.sil_shape.specs.declared.grammar.Nonterminal.TheVariants as n
 use Rattle.sil_shape.specs.declared.grammar.Production.TheVariants as p
-use Rattle.written_modules.specs.Meaning.{kept_of, meaning}
-use Rattle.written_modules.specs.PartFaults.{part_fault}
+use Rattle.written_modules.specs.inner.Meaning.{kept_of, meaning}
+use Rattle.written_modules.specs.inner.PartFaults.{part_fault}
 use Rattle.written_tree.specs.Places.{token_place}
 use Rattle.written_modules.specs.Values.{inst_of, token_of, tokens_of}
 use Rattle.sil_rules.specs.declared.limit_word.LimitWord.TheVariants as limit

@@ -22,7 +22,7 @@ use Rattle.sil_shape.specs.declared.grammar.Terminal.TheVariants as t
 use Rattle.builtin_names.specs.BuiltinNames.{is_builtin_name}
 use Rattle.sil_shape.specs.Derivation.{Accepts}
 use Rattle.token_classes.specs.Spelling.{at_word_of, keyword_of, punctuation_of}
-use Rattle.written_modules.specs.Meaning.{leaf_of}
+use Rattle.written_modules.specs.inner.Meaning.{leaf_of}
 use Rattle.written_modules.specs.Opened.{PartValue}
 use Rattle.written_numbers.specs.Numbers.{next_number, number_of}
 use Rattle.numbered_form.specs.Names.{is_at_name, is_quotable, is_short, is_word}

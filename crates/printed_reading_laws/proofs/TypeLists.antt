@@ -14,9 +14,9 @@ use Rattle.sil_shape.specs.declared.grammar.Symbol.TheVariants.{Part}
 use Rattle.sil_shape.specs.Grammar.{body, written}
 use Rattle.token_classes.specs.Spelling.{punctuation_of, punctuation_spelling, signs}
 use Rattle.sil_rules.specs.declared.limit_word.LimitWord.TheVariants as limit
-use Rattle.written_modules.specs.Meaning.{meaning}
+use Rattle.written_modules.specs.inner.Meaning.{meaning}
 use Rattle.written_modules.specs.Opened.{PartType, PartTypes, PartValue}
-use Rattle.written_modules.specs.PartFaults.{part_fault, too_deep_among, tuple_fault}
+use Rattle.written_modules.specs.inner.PartFaults.{part_fault, too_deep_among, tuple_fault}
 use Rattle.written_modules.specs.Types.{between, type_before}
 use Rattle.written_modules.specs.Values.{questions_of, no_types, payload_of, type_of, types_of}
 use Rattle.numbered_form.specs.Lists.{Each}

@@ -16,8 +16,8 @@ use Rattle.sil_shape.specs.declared.grammar.Production.TheVariants as p
 use Rattle.sil_shape.specs.declared.grammar.Symbol.TheVariants.{Part}
 use Rattle.sil_shape.specs.Grammar.{body, written}
 use Rattle.token_classes.specs.Spelling.{punctuation_of, punctuation_spelling, signs}
-use Rattle.written_modules.specs.Meaning.{meaning}
-use Rattle.written_modules.specs.PartFaults.{part_fault}
+use Rattle.written_modules.specs.inner.Meaning.{meaning}
+use Rattle.written_modules.specs.inner.PartFaults.{part_fault}
 use Rattle.written_modules.specs.Opened.{PartValue}
 use Rattle.written_modules.specs.Values.{payload_of, starred, type_of}
 use Rattle.numbered_form.specs.Lists.{Each}

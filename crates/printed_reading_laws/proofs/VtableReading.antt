@@ -14,9 +14,9 @@ use Rattle.sil_shape.specs.declared.grammar.Production.TheVariants as p
 use Rattle.sil_shape.specs.Grammar.{body, written}
 use Rattle.token_classes.specs.Spelling.{punctuation_spelling, spelling}
 use Rattle.written_tree.specs.declared.written_module.WrittenItem.TheVariants as item
-use Rattle.written_modules.specs.Meaning.{kept_of, meaning}
+use Rattle.written_modules.specs.inner.Meaning.{kept_of, meaning}
 use Rattle.written_modules.specs.Opened.{PartValue}
-use Rattle.written_modules.specs.PartFaults.{part_fault}
+use Rattle.written_modules.specs.inner.PartFaults.{part_fault}
 use Rattle.written_modules.specs.Values.{entry_of, item_of, token_of}
 use Rattle.numbered_form.specs.Lists.{Each}
 use Rattle.numbered_form.specs.Names.{IsFunctionSpelled, IsVtableSpelled, IsWord}

@@ -24,9 +24,9 @@ use Rattle.written_tree.specs.declared.written_module.WrittenItem.TheVariants as
 use Rattle.written_tree.specs.declared.written_module.WrittenModule.{WrittenModule}
 use Rattle.written_tree.specs.declared.written_module.WrittenVtable.{WrittenVtable}
 use Rattle.written_tree.specs.Faults.{passed}
-use Rattle.written_modules.specs.Meaning.{kept_of, meaning, with_import}
+use Rattle.written_modules.specs.inner.Meaning.{kept_of, meaning, with_import}
 use Rattle.written_modules.specs.Opened.{PartValue, module_value}
-use Rattle.written_modules.specs.PartFaults.{module_fault, part_fault}
+use Rattle.written_modules.specs.inner.PartFaults.{module_fault, part_fault}
 use Rattle.written_tree.specs.Places.{decl_names, function_names, token_place}
 use Rattle.written_modules.specs.Values.{imports_of, items_of, stage_of, token_of}
 use Rattle.numbered_form.specs.Lists.{Each}

@@ -2,7 +2,7 @@
 //! It has no code that runs: its call is a law about the definitions of the crates below.
 #![tactic(auto)]
 
-ghost use Rattle.printed_reading_laws.specs.Laws.{ArePrintedSpelled};
+ghost use Rattle.printed_reading_laws.specs.inner.Laws.{ArePrintedSpelled};
 
 /// The canonical text of a module in numbered form spells the module.
 pub fn printed_modules_are_spelled()

@@ -6,10 +6,10 @@ use Rattle.sil_cfg.specs.Flow.{Flow, block_count}
 use Rattle.reach_engine.specs.declared.scan.Step.{Step}
 use Rattle.reach_engine.specs.declared.frontier.Visit.{Visit}
 use Rattle.reach_engine.specs.declared.frontier.Fault.{Fault}
-use Rattle.reach_engine.specs.Table.{Table, table}
-use Rattle.reach_engine.specs.Reach.{ReachesFirst}
-use Rattle.reach_engine.specs.Search.{IsClean, IsExact, IsLeastCode, IsShortest}
-use Rattle.reach_engine.specs.Frontier.{Noted, IsFault, IsFront, IsReached, ParentsFirst, IsWalkOf, edge_list}
+use Rattle.reach_engine.specs.inner.Table.{Table, table}
+use Rattle.reach_engine.specs.inner.Reach.{ReachesFirst}
+use Rattle.reach_engine.specs.inner.Search.{IsClean, IsExact, IsLeastCode, IsShortest}
+use Rattle.reach_engine.specs.inner.Frontier.{Noted, IsFault, IsFront, IsReached, ParentsFirst, IsWalkOf, edge_list}
 use Rattle.reach_engine.proofs.EveryWalk.{marked_entered, entered_marked, noted_walk, fault_walk}
 
 module _ (g : Flow ℕ) (f : ℕ → ℕ → Step) (states : ℕ) (q : List Visit) (seen : List Bool) (best : Option Fault) (next : ℕ) (front : IsFront g f states q seen best next) where

@@ -5,7 +5,7 @@ use Rattle.std.proofs.lemmas.List.Sums.{sum_by-set}
 use Rattle.std.proofs.lemmas.Nat.{le_or_l}
 use Rattle.std.proofs.lemmas.Nat.Bits.{bit_at_set_same, bit_at_set_other, bit_at_clear_same, bit_at_clear_other, bit_at_or}
 use Rattle.std.specs.Int.{bit_at}
-use Rattle.reach_engine.specs.Bits.{bit_in}
+use Rattle.reach_engine.specs.inner.Bits.{bit_in}
 
 pub word_in : (words : List ℕ) (k : ℕ) → k < 64 * length words → k / 64 < length words
 word_in words k h = omega arith

@@ -8,9 +8,9 @@ use Rattle.sil_ast.specs.declared.place.EdgeId.{EdgeId}
 use Rattle.sil_cfg.specs.Flow.{Flow, block_count, edge_to, edge_item}
 use Rattle.reach_engine.specs.declared.scan.Step.{Step}
 use Rattle.reach_engine.specs.declared.scan.Step.TheVariants.{Go}
-use Rattle.reach_engine.specs.Bits.{bit_in}
-use Rattle.reach_engine.specs.Columns.{Has}
-use Rattle.reach_engine.specs.Reached.{RowHas, EdgeTaken, BlockTaken, MarksGains, IsSoFar, IsBlockDone, IsSettled, IsClosed, is_dirty, work_left, cap_of, DirtyTaken, Swept}
+use Rattle.reach_engine.specs.inner.Bits.{bit_in}
+use Rattle.reach_engine.specs.inner.Columns.{Has}
+use Rattle.reach_engine.specs.inner.Reached.{RowHas, EdgeTaken, BlockTaken, MarksGains, IsSoFar, IsBlockDone, IsSettled, IsClosed, is_dirty, work_left, cap_of, DirtyTaken, Swept}
 use Rattle.reach_engine.proofs.RowsAreSound.{so_far_more}
 
 pub marks_none : (states subjects width : ℕ) (rows : List ℕ) (dirty : List Bool) → MarksGains states subjects width rows rows dirty dirty false

@@ -12,8 +12,8 @@ use Rattle.reach_engine.specs.declared.frontier.Visit.{Visit}
 use Rattle.reach_engine.specs.declared.frontier.Fault.{Fault}
 use Rattle.reach_engine.specs.declared.frontier.Frontier.{Frontier}
 use Rattle.reach_engine.specs.Run.{run, BreaksAt}
-use Rattle.reach_engine.specs.Table.{mark_at}
-use Rattle.reach_engine.specs.Frontier.{Noted, IsQueued, EdgeDone, VisitDone, IsNext, IsFault, IsFront, Grows}
+use Rattle.reach_engine.specs.inner.Table.{mark_at}
+use Rattle.reach_engine.specs.inner.Frontier.{Noted, IsQueued, EdgeDone, VisitDone, IsNext, IsFault, IsFront, Grows}
 use Rattle.reach_engine.proofs.Runs.{run_join, run_breaks_at, run_end_bad, go-bad, same_Go, same_Bad}
 use Rattle.reach_engine.proofs.FrontierKept.{front_push, front_start, last_get, kept_get, EdgeDone_more}
 

@@ -2,9 +2,9 @@
 use Rattle.std.proofs.Common.{◌≡◌, ◌≢◌, ℕ, zero, suc, ◌+◌, ◌*◌, ◌/◌, ◌%◌, ◌<◌, ◌≤◌, List, length, get_or, take, drop, min, max, refl, sym, ap, ap₂, ◌∙◌, subst, arith, ◌⊎◌, inl, inr}
 use Rattle.std.proofs.lemmas.Bool.{cases_eq, cases_lt}
 use Rattle.std.proofs.lemmas.Nat.Bits.{bit_at-lt}
-use Rattle.reach_engine.specs.Bits.{bit_in}
-use Rattle.reach_engine.specs.Columns.{cell, Has}
-use Rattle.reach_engine.specs.Effects.{effect_rows, RowAdded, BadAdded, Applied}
+use Rattle.reach_engine.specs.inner.Bits.{bit_in}
+use Rattle.reach_engine.specs.inner.Columns.{cell, Has}
+use Rattle.reach_engine.specs.inner.Effects.{effect_rows, RowAdded, BadAdded, Applied}
 use Rattle.reach_engine.proofs.RowsMoved.{bit_in_part}
 
 -- what is kept while the row is added to the rows of the states below i

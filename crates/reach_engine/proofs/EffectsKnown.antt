@@ -9,9 +9,9 @@ use Rattle.sil_cfg.specs.Flow.{Flow, block_count, items_at}
 use Rattle.reach_engine.specs.declared.scan.Step.{Step}
 use Rattle.reach_engine.specs.declared.scan.Step.TheVariants.{Go, Bad}
 use Rattle.reach_engine.specs.Run.{run}
-use Rattle.reach_engine.specs.Bits.{bit_in}
-use Rattle.reach_engine.specs.Columns.{cell, Has, AllMoved}
-use Rattle.reach_engine.specs.Effects.{effect_rows, IsEffect, AreEffects, AreKnown, EffectAdded, Applied}
+use Rattle.reach_engine.specs.inner.Bits.{bit_in}
+use Rattle.reach_engine.specs.inner.Columns.{cell, Has, AllMoved}
+use Rattle.reach_engine.specs.inner.Effects.{effect_rows, IsEffect, AreEffects, AreKnown, EffectAdded, Applied}
 use Rattle.reach_engine.proofs.SubjectsMoved.{has_below}
 
 -- bits of two lists one behind the other

@@ -10,9 +10,9 @@ use Rattle.reach_engine.specs.declared.scan.Step.TheVariants.{Go}
 use Rattle.reach_engine.specs.declared.frontier.Visit.{Visit}
 use Rattle.reach_engine.specs.declared.frontier.Fault.{Fault}
 use Rattle.reach_engine.specs.Run.{run}
-use Rattle.reach_engine.specs.Table.{mark_at}
-use Rattle.reach_engine.specs.Reach.{Enters, ReachesFirst}
-use Rattle.reach_engine.specs.Frontier.{Noted, IsQueued, VisitDone, IsNext, IsRoot, HasParent, IsReached, ReachesFrom, IsFault, IsFront, Climbs, edge_list}
+use Rattle.reach_engine.specs.inner.Table.{mark_at}
+use Rattle.reach_engine.specs.inner.Reach.{Enters, ReachesFirst}
+use Rattle.reach_engine.specs.inner.Frontier.{Noted, IsQueued, VisitDone, IsNext, IsRoot, HasParent, IsReached, ReachesFrom, IsFault, IsFront, Climbs, edge_list}
 use Rattle.reach_engine.proofs.Runs.{run_join}
 use Rattle.reach_engine.proofs.AlongWalks.{PairDone, in_along, known_along, edge_first}
 use Rattle.reach_engine.proofs.FrontierKept.{Noted_more, IsQueued_more}

@@ -12,8 +12,8 @@ use Rattle.sil_cfg.specs.Flow.{Flow, block_count, edge_to}
 use Rattle.reach_engine.specs.declared.scan.Step.{Step}
 use Rattle.reach_engine.specs.declared.frontier.Visit.{Visit}
 use Rattle.reach_engine.specs.declared.frontier.Fault.{Fault}
-use Rattle.reach_engine.specs.Table.{mark_at}
-use Rattle.reach_engine.specs.Frontier.{Noted, IsQueued, EdgeDone, VisitDone, IsNext, IsRoot, IsReached, IsFault, IsFront}
+use Rattle.reach_engine.specs.inner.Table.{mark_at}
+use Rattle.reach_engine.specs.inner.Frontier.{Noted, IsQueued, EdgeDone, VisitDone, IsNext, IsRoot, IsReached, IsFault, IsFront}
 
 -- elements of a list with one more
 pub kept_get : {A : Type 0} (q : List A) (more : List A) (k : ℕ) (v : A) → slice_get q k ≡ Some v → slice_get (q ++ more) k ≡ Some v

@@ -4,7 +4,7 @@ use Rattle.std.proofs.lemmas.Bool.{cases_eq}
 use Rattle.std.proofs.lemmas.List.{get_or-set_same, get_or-set_other, length-set}
 use Rattle.std.proofs.lemmas.Nat.Bits.{bit_at_or, bit_at_and, bit_at_ones}
 use Rattle.std.specs.Int.{bit_at}
-use Rattle.reach_engine.specs.Bits.{bit_in}
+use Rattle.reach_engine.specs.inner.Bits.{bit_in}
 
 -- the words from `offset` on are the new ones, up to the i-th, and the others stay
 pub record Writing (first words : List ℕ) (offset i : ℕ) (new_at : ℕ → ℕ) : Type 0 where

@@ -9,7 +9,7 @@ use Rattle.sil_cfg.specs.declared.item.Item.TheVariants.{Entry}
 use Rattle.sil_cfg.specs.Layout.{Layout, item_at, item_count}
 use Rattle.sil_cfg.specs.Flow.{numbered, point_of}
 use Rattle.reach_engine.specs.declared.scan.Step.{Step}
-use Rattle.reach_engine.specs.Reach.{ReachesFirst, ReachesPoint}
+use Rattle.reach_engine.specs.inner.Reach.{ReachesFirst, ReachesPoint}
 
 item_there : (g : Layout) (item : ℕ) → item < item_count g → (kind : Item) × (item_at g item ≡ Some kind)
 item_there g item within = (get_or g.kinds item Entry, slice_get-get_or g.kinds item Entry within)

@@ -7,12 +7,12 @@ use Rattle.sil_ast.specs.declared.place.EdgeId.{EdgeId}
 use Rattle.sil_cfg.specs.Flow.{Flow, block_count, IsEdge, edge_to}
 use Rattle.reach_engine.specs.declared.scan.Step.{Step}
 use Rattle.reach_engine.specs.declared.scan.Step.TheVariants.{Go}
-use Rattle.reach_engine.specs.Reach.{Enters}
+use Rattle.reach_engine.specs.inner.Reach.{Enters}
 use Rattle.reach_engine.proofs.AlongWalks.{PairDone, in_along, known_along}
 use Rattle.reach_engine.proofs.EveryWalk.{ReachesFrom_entry}
-use Rattle.reach_engine.specs.Bits.{bit_in}
-use Rattle.reach_engine.specs.Columns.{cell}
-use Rattle.reach_engine.specs.Reached.{RowHas, IsSoFar, IsClosed, AreExact, AreBad}
+use Rattle.reach_engine.specs.inner.Bits.{bit_in}
+use Rattle.reach_engine.specs.inner.Columns.{cell}
+use Rattle.reach_engine.specs.inner.Reached.{RowHas, IsSoFar, IsClosed, AreExact, AreBad}
 use Rattle.reach_engine.proofs.ColumnTaken.{bit_zero}
 
 -- words of zeros have no bit

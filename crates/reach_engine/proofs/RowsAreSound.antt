@@ -8,11 +8,11 @@ use Rattle.sil_cfg.specs.Walk.{passed}
 use Rattle.reach_engine.specs.declared.scan.Step.{Step}
 use Rattle.reach_engine.specs.declared.scan.Step.TheVariants.{Go, Bad}
 use Rattle.reach_engine.specs.Run.{run}
-use Rattle.reach_engine.specs.Reach.{Enters, ReachesFirst}
+use Rattle.reach_engine.specs.inner.Reach.{Enters, ReachesFirst}
 use Rattle.reach_engine.proofs.Runs.{run_join, bad_at}
 use Rattle.reach_engine.proofs.EveryWalk.{walk_push, end_push, passed_push}
-use Rattle.reach_engine.specs.Bits.{bit_in}
-use Rattle.reach_engine.specs.Reached.{RowHas, Gains, BreaksIn, BlockTaken, IsSoFar, IsBlockDone}
+use Rattle.reach_engine.specs.inner.Bits.{bit_in}
+use Rattle.reach_engine.specs.inner.Reached.{RowHas, Gains, BreaksIn, BlockTaken, IsSoFar, IsBlockDone}
 
 -- one edge more
 pub enters_edge : (g : Flow ℕ) (f : ℕ → ℕ → Step) (w : List EdgeId) (e : EdgeId) (b s t : ℕ) → Enters g f w b s → IsEdge g e → e.block.0 ≡ b → run f (Go s) (items_at g b ++ edge_item g e ∷ []) ≡ Go t → Enters g f (w ++ e ∷ []) (edge_to g e) t

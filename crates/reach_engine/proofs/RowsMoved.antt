@@ -10,9 +10,9 @@ use Rattle.reach_engine.specs.declared.scan.Step.{Step}
 use Rattle.reach_engine.specs.declared.scan.Step.TheVariants.{Go, Bad}
 use Rattle.reach_engine.specs.Run.{run}
 use Rattle.reach_engine.proofs.Runs.{run_split, run_join}
-use Rattle.reach_engine.specs.Bits.{bit_in}
-use Rattle.reach_engine.specs.Columns.{cell, Has, Blamed, AllMoved}
-use Rattle.reach_engine.specs.Reached.{RowHas, EdgeTaken, EdgesTaken, Gains, BreaksIn, BlockTaken}
+use Rattle.reach_engine.specs.inner.Bits.{bit_in}
+use Rattle.reach_engine.specs.inner.Columns.{cell, Has, Blamed, AllMoved}
+use Rattle.reach_engine.specs.inner.Reached.{RowHas, EdgeTaken, EdgesTaken, Gains, BreaksIn, BlockTaken}
 use Rattle.reach_engine.proofs.SubjectsMoved.{has_below}
 
 -- a cell of block c's rows, from the first of their words on

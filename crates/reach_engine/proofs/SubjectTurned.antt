@@ -4,8 +4,8 @@ use Rattle.reach_engine.specs.declared.scan.Step.{Step}
 use Rattle.reach_engine.specs.declared.scan.Step.TheVariants.{Go, Bad}
 use Rattle.reach_engine.specs.Run.{run}
 use Rattle.reach_engine.proofs.Runs.{go-bad, same_Go}
-use Rattle.reach_engine.specs.Bits.{bit_in}
-use Rattle.reach_engine.specs.Columns.{cell, Has, Moved, Blamed, OthersStay, Put}
+use Rattle.reach_engine.specs.inner.Bits.{bit_in}
+use Rattle.reach_engine.specs.inner.Columns.{cell, Has, Moved, Blamed, OthersStay, Put}
 use Rattle.reach_engine.proofs.ColumnTaken.{cell_apart}
 
 -- what is kept while a subject is put back, from the rows below i

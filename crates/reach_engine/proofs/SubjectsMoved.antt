@@ -9,8 +9,8 @@ use Rattle.reach_engine.specs.declared.scan.Step.{Step}
 use Rattle.reach_engine.specs.declared.scan.Step.TheVariants.{Go, Bad}
 use Rattle.reach_engine.specs.Run.{run}
 use Rattle.reach_engine.proofs.Runs.{run_split, run_join, run-append, go-bad, same_Go, run_end_bad}
-use Rattle.reach_engine.specs.Bits.{bit_in}
-use Rattle.reach_engine.specs.Columns.{cell, Has, Moved, Blamed, OthersStay, AllMoved}
+use Rattle.reach_engine.specs.inner.Bits.{bit_in}
+use Rattle.reach_engine.specs.inner.Columns.{cell, Has, Moved, Blamed, OthersStay, AllMoved}
 
 -- only rows of the array have a subject
 pub has_below : (states width u s : ℕ) (words : List ℕ) → length words ≡ states * width → Has words width s u → s < states

@@ -1,7 +1,7 @@
 //! Bits in words of 64.
 
 ghost use Rattle.std.specs.Prelude.{◌≡◌, ◌≢◌, ℕ, ◌+◌, ◌*◌, ◌<◌, ◌≤◌, ◌↔◌, IsTrue, IsFalse, min, max, sum, length};
-ghost use Rattle.reach_engine.specs.Bits.{bit_in};
+ghost use Rattle.reach_engine.specs.inner.Bits.{bit_in};
 
 /// Whether bit k is set.
 pub fn has_bit(words: &[u64], k: usize) -> bool

@@ -3,8 +3,8 @@
 ghost use Rattle.std.specs.Prelude.{◌≡◌, ◌≢◌, ℕ, ◌+◌, ◌*◌, ◌<◌, ◌≤◌, ◌↔◌, ◌∷◌, [], length, All, Contains};
 ghost use Rattle.std.specs.List.Sorted.{IsStrictlyIncreasing};
 ghost use Rattle.reach_engine.specs.declared.scan.Step.TheVariants.{Go};
-ghost use Rattle.reach_engine.specs.Bits.{bit_in};
-ghost use Rattle.reach_engine.specs.Columns.{cell, Has, Moved, Blamed, OthersStay, Put, AllMoved};
+ghost use Rattle.reach_engine.specs.inner.Bits.{bit_in};
+ghost use Rattle.reach_engine.specs.inner.Columns.{cell, Has, Moved, Blamed, OthersStay, Put, AllMoved};
 
 use crate::bits::{clear_bit, has_bit, set_bit};
 use crate::family::{Family, MoveAll};

@@ -4,9 +4,9 @@
 ghost use Rattle.std.specs.Prelude.{◌≡◌, ◌≢◌, ℕ, ◌+◌, ◌*◌, ◌<◌, ◌≤◌, ◌++◌, length, All, IfOk, OnOk};
 ghost use Rattle.sil_cfg.specs.Layout.{item_count};
 ghost use Rattle.sil_cfg.specs.Flow.{block_count, items_at, numbered};
-ghost use Rattle.reach_engine.specs.Bits.{bit_in};
-ghost use Rattle.reach_engine.specs.Columns.{cell, AllMoved};
-ghost use Rattle.reach_engine.specs.Effects.{effect_rows, IsEffect, AreKnown, EffectAdded, RowAdded, BadAdded, Applied};
+ghost use Rattle.reach_engine.specs.inner.Bits.{bit_in};
+ghost use Rattle.reach_engine.specs.inner.Columns.{cell, AllMoved};
+ghost use Rattle.reach_engine.specs.inner.Effects.{effect_rows, IsEffect, AreKnown, EffectAdded, RowAdded, BadAdded, Applied};
 
 use crate::bits::{merge_masked, set_words};
 use crate::bundle::pass_all;

@@ -3,7 +3,7 @@
 ghost use Rattle.std.specs.Prelude.{◌≡◌, ℕ, ◌*◌, ◌<◌, ◌≤◌, ◌∷◌, [], length};
 ghost use Rattle.reach_engine.specs.declared.scan.Step.{Step};
 ghost use Rattle.reach_engine.specs.Run.{StaysBelow};
-ghost use Rattle.reach_engine.specs.Columns.{AllMoved};
+ghost use Rattle.reach_engine.specs.inner.Columns.{AllMoved};
 
 use crate::scan::Step;
 

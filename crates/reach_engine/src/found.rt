@@ -15,7 +15,7 @@ pub struct StateMap {
 
 impl Model for StateMap {
     ghost use Rattle.std.specs.Prelude.{◌≡◌, ◌*◌, length};
-    ghost use Rattle.reach_engine.specs.Table.{Table};
+    ghost use Rattle.reach_engine.specs.inner.Table.{Table};
 
     ghost Value = { Table };
 
@@ -25,7 +25,7 @@ impl Model for StateMap {
 }
 
 impl StateMap {
-    ghost use Rattle.reach_engine.specs.Table.{holds, table};
+    ghost use Rattle.reach_engine.specs.inner.Table.{holds, table};
 
     /// The map of these marks, a row of states for each block.
     pub fn from_marks(blocks: usize, states: usize, seen: Vec<bool>) -> StateMap

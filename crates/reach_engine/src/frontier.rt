@@ -6,7 +6,7 @@ ghost use Rattle.sil_cfg.specs.Flow.{block_count, items_at, edge_item, IsEdge, n
 ghost use Rattle.reach_engine.specs.Run.{run};
 ghost use Rattle.reach_engine.specs.declared.scan.Step.TheVariants.{Go};
 ghost use Rattle.reach_engine.specs.declared.scan.Step.{Step};
-ghost use Rattle.reach_engine.specs.Frontier.{FrontOf, Noted, Climbs, ParentsFirst, EdgeDone, Grows, IsWalkOf};
+ghost use Rattle.reach_engine.specs.inner.Frontier.{FrontOf, Noted, Climbs, ParentsFirst, EdgeDone, Grows, IsWalkOf};
 
 use crate::scan::{Passed, Scan, Step, pass};
 use sil_ast::{BlockId, EdgeId, Exhausted};

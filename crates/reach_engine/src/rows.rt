@@ -4,9 +4,9 @@
 ghost use Rattle.std.specs.Prelude.{◌≡◌, ℕ, ◌+◌, ◌*◌, ◌<◌, ◌≤◌, IfOk, OnOk, length, slice_index_or, true, false};
 ghost use Rattle.sil_cfg.specs.Layout.{item_count};
 ghost use Rattle.sil_cfg.specs.Flow.{block_count, edge_count, IsEdge, numbered};
-ghost use Rattle.reach_engine.specs.Bits.{bit_in};
-ghost use Rattle.reach_engine.specs.Effects.{AreKnown};
-ghost use Rattle.reach_engine.specs.Reached.{AreExact, AreBad, EdgeTaken, EdgesTaken, BlockTaken, MarksGains, IsSettled, DirtyTaken, Swept, IsClosed};
+ghost use Rattle.reach_engine.specs.inner.Bits.{bit_in};
+ghost use Rattle.reach_engine.specs.inner.Effects.{AreKnown};
+ghost use Rattle.reach_engine.specs.inner.Reached.{AreExact, AreBad, EdgeTaken, EdgesTaken, BlockTaken, MarksGains, IsSettled, DirtyTaken, Swept, IsClosed};
 
 use crate::bits::{merge, set_bit};
 use crate::effect::{known_effects, move_rows};

@@ -3,13 +3,13 @@
 ghost use Rattle.std.specs.Prelude.{◌≡◌, ℕ, ◌+◌, ◌*◌, ◌<◌, ◌≤◌, ◌^◌, IfOk, IfNone, IfSome, IsSome, length};
 ghost use Rattle.sil_cfg.specs.Layout.{item_at, item_count};
 ghost use Rattle.sil_cfg.specs.Flow.{block_count, numbered};
-ghost use Rattle.reach_engine.specs.Reach.{ReachesFirst, ReachesPoint};
-ghost use Rattle.reach_engine.specs.Search.{IsClean, IsLeastCode, IsShortest};
-ghost use Rattle.reach_engine.specs.Reached.{AreExact};
-ghost use Rattle.reach_engine.specs.Bits.{bit_in};
-ghost use Rattle.reach_engine.specs.Columns.{cell};
-ghost use Rattle.reach_engine.specs.Together.{IfClean, IfFault};
-ghost use Rattle.reach_engine.specs.Searched.{IfAllClean, IfSomeBreaks};
+ghost use Rattle.reach_engine.specs.inner.Reach.{ReachesFirst, ReachesPoint};
+ghost use Rattle.reach_engine.specs.inner.Search.{IsClean, IsLeastCode, IsShortest};
+ghost use Rattle.reach_engine.specs.inner.Reached.{AreExact};
+ghost use Rattle.reach_engine.specs.inner.Bits.{bit_in};
+ghost use Rattle.reach_engine.specs.inner.Columns.{cell};
+ghost use Rattle.reach_engine.specs.inner.Together.{IfClean, IfFault};
+ghost use Rattle.reach_engine.specs.inner.Searched.{IfAllClean, IfSomeBreaks};
 
 use crate::bits::has_bit;
 use crate::family::MoveAll;
@@ -33,7 +33,7 @@ pub struct FamilyMap {
 
 impl Model for FamilyMap {
     ghost use Rattle.std.specs.Prelude.{◌≡◌, ◌*◌, ◌^◌, ◌<◌, ◌≤◌, length};
-    ghost use Rattle.reach_engine.specs.Grid.{Grid, grid};
+    ghost use Rattle.reach_engine.specs.inner.Grid.{Grid, grid};
 
     ghost Value = { Grid };
 
@@ -43,7 +43,7 @@ impl Model for FamilyMap {
 }
 
 impl FamilyMap {
-    ghost use Rattle.reach_engine.specs.Grid.{grid};
+    ghost use Rattle.reach_engine.specs.inner.Grid.{grid};
 
     fn from_words(blocks: usize, states: usize, width: usize, words: Vec<u64>) -> FamilyMap
         requires size { length words.items ≡ blocks * (states * width) }

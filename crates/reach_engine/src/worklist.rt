@@ -3,9 +3,9 @@
 ghost use Rattle.std.specs.Prelude.{◌≡◌, ℕ, ◌<◌, IfOk};
 ghost use Rattle.sil_cfg.specs.Layout.{item_count};
 ghost use Rattle.sil_cfg.specs.Flow.{numbered};
-ghost use Rattle.reach_engine.specs.Reach.{ReachesFirst, ReachesPoint};
-ghost use Rattle.reach_engine.specs.Search.{IfClean, IfFault, IsClean, IsExact, IsLeastCode, IsShortest};
-ghost use Rattle.reach_engine.specs.Searched as searched;
+ghost use Rattle.reach_engine.specs.inner.Reach.{ReachesFirst, ReachesPoint};
+ghost use Rattle.reach_engine.specs.inner.Search.{IfClean, IfFault, IsClean, IsExact, IsLeastCode, IsShortest};
+ghost use Rattle.reach_engine.specs.inner.Searched as searched;
 
 use crate::found::{Found, Searched, StateMap};
 use crate::frontier::{explore, start, walk_of};

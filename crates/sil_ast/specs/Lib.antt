@@ -1,3 +1,3 @@
-pub mod Text
 pub mod TypeName
 pub mod formers
+pub mod inner

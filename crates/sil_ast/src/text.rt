@@ -29,7 +29,7 @@ enum Bytes {
 
 impl Model for Text {
     ghost use Rattle.std.specs.Prelude.{List, ℕ};
-    ghost use Rattle.sil_ast.specs.Text.{bytes_of, IsInRoom};
+    ghost use Rattle.sil_ast.specs.inner.Text.{bytes_of, IsInRoom};
 
     ghost Value = { List ℕ };
 

@@ -13,7 +13,7 @@ use Rattle.sil_cfg.specs.declared.item.Item.{Item}
 use Rattle.sil_cfg.specs.declared.item.Item.TheVariants.{Entry, Inst, Edge, Exit}
 use Rattle.sil_cfg.specs.Flow.{Flow, items_at, edge_item}
 use Rattle.sil_cfg.specs.Items.{flow_of, items_in, own_items, insts_from, exit_of, point_at, ends_function}
-use Rattle.sil_cfg.specs.Splice.{same_item}
+use Rattle.sil_cfg.specs.inner.Splice.{same_item}
 
 -- in the entry block the entry item is first
 abbrev place_in : ℕ → ℕ → ℕ × ℕ

@@ -12,7 +12,7 @@ use Rattle.sil_cfg.specs.Flow.{Flow, edge_to}
 use Rattle.sil_ast.specs.declared.function.Function.{Function}
 use Rattle.sil_cfg.specs.Items.{flow_of}
 use Rattle.sil_cfg.specs.Walk.{IsTrail}
-use Rattle.sil_cfg.specs.Splice.{Stop, item, into, goes_into, is_at, Precedes, LastStandsBefore, Splices}
+use Rattle.sil_cfg.specs.inner.Splice.{Stop, item, into, goes_into, is_at, Precedes, LastStandsBefore, Splices}
 use Rattle.sil_cfg.proofs.Places.{place_of, IsPlaced, flow_placed, same_item-true}
 use Rattle.sil_cfg.proofs.Paths.{Spot, Moves, Path, Path-append, Path-split, entry, Path-from_trail, Trail-from_path, some_pushed}
 

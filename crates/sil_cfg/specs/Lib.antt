@@ -4,6 +4,4 @@ pub mod Walk
 pub mod Items
 pub mod Build
 pub mod Returns
-pub mod Splice
-pub mod Laying
-pub mod Laws
+pub mod inner

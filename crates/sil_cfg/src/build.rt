@@ -4,7 +4,7 @@ ghost use Rattle.std.specs.Prelude.{◌≡◌, ℕ, ◌+◌, ◌<◌, ◌≤◌,
 ghost use Rattle.sil_cfg.specs.Layout.{block_of, layout_of, IsSound};
 ghost use Rattle.sil_cfg.specs.Items.{entry_of, exit_of, insts_from, point_at, ends_function};
 ghost use Rattle.sil_cfg.specs.Build.{HasGraph, IsGraphOf};
-ghost use Rattle.sil_cfg.specs.Laying.{LaysMore, LaysBlock, HasLaid, Adds, AreEdgesLaid};
+ghost use Rattle.sil_cfg.specs.inner.Laying.{LaysMore, LaysBlock, HasLaid, Adds, AreEdgesLaid};
 
 use crate::exits::is_exit;
 use crate::item::Item;

@@ -2,8 +2,8 @@
 
 ghost use Rattle.std.specs.Prelude.{ℕ, List};
 ghost use Rattle.sil_ast.specs.declared.function.Function.{Function};
-ghost use Rattle.sil_cfg.specs.Laws.{HasTrails, HasItsTrails};
-ghost use Rattle.sil_cfg.specs.Splice.{Splices};
+ghost use Rattle.sil_cfg.specs.inner.Laws.{HasTrails, HasItsTrails};
+ghost use Rattle.sil_cfg.specs.inner.Splice.{Splices};
 
 /// Where on every walk to b an a stands before that b, and on every walk to c a b stands before that c,
 /// the last a before c stands before the last b before c. Each of the three is one item, or the items of all edges into one block.

@@ -2,7 +2,7 @@
 use Rattle.std.proofs.Common.{◌≡◌, ℕ, List, arith}
 use Rattle.sil_ast.specs.declared.module.Module.{Module}
 use Rattle.sil_grammar.specs.Spells.{AreSpelledNumbered, Spells}
-use Rattle.printed_reading_laws.specs.Laws.{ArePrintedSpelled}
+use Rattle.printed_reading_laws.specs.inner.Laws.{ArePrintedSpelled}
 use Rattle.sil_rules.specs.declared.status.Status.TheVariants.{Done}
 use Rattle.sil_rules.specs.Statuses.{code_of}
 use Rattle.sil_command.specs.declared.words.Mode.TheVariants.{Print}

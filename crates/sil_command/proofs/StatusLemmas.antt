@@ -11,7 +11,7 @@ use Rattle.sil_command.specs.declared.words.Mode.TheVariants.{Check, Print}
 use Rattle.sil_command.specs.Words.{AsksFor, word_of}
 use Rattle.sil_command.specs.Answers.{Answers, usage, in_mode, AnswersExactly, AnswersText, too_long, unread, spelled, AnswersModule, AnswersCheck, limit_passed, refused, accepted, AnswersPrint, printed, AreAcceptedExactly, ArePrintedExactly}
 use Rattle.sil_verifier.specs.Findings.{Accepted, limit as found_limit}
-use Rattle.sil_verifier.specs.Laws.{AreAcceptedWhereNothingIsFound}
+use Rattle.sil_verifier.specs.inner.Laws.{AreAcceptedWhereNothingIsFound}
 use Rattle.sil_command.proofs.Unread.{unread_none, unread_status}
 
 different_words : word_of Check ∷ [] ≡ word_of Print ∷ [] → ⊥

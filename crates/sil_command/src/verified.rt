@@ -4,7 +4,7 @@ ghost use Rattle.std.specs.Prelude.{◌≡◌, IfOk};
 ghost use Rattle.sil_ast.specs.declared.module.Module as any;
 ghost use Rattle.sil_rules.specs.declared.status.Status.TheVariants as status;
 ghost use Rattle.sil_rules.specs.Statuses.{code_of};
-ghost use Rattle.sil_verifier.specs.Ends.{IsVerifyEnd};
+ghost use Rattle.sil_verifier.specs.inner.Ends.{IsVerifyEnd};
 ghost use Rattle.sil_command.specs.Answers.{AnswersCheck};
 ghost use Rattle.sil_command.specs.RefusalTexts.{report_text};
 ghost use Rattle.sil_command.specs.Texts.{type_limit_text};

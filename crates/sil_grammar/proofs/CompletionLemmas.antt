@@ -8,7 +8,7 @@ use Rattle.sil_shape.specs.declared.grammar.Symbol.TheVariants.{Part}
 use Rattle.sil_shape.specs.declared.grammar.Production.{Production}
 use Rattle.sil_shape.specs.declared.steps.Step.{Step}
 use Rattle.sil_shape.specs.declared.steps.Step.TheVariants.{Take, Expand}
-use Rattle.sil_shape.specs.Choice.{choose}
+use Rattle.sil_shape.specs.inner.Choice.{choose}
 use Rattle.sil_shape.specs.Derivation.{Accepts, BeginsShape, Derives, token, rule}
 use Rattle.sil_shape.specs.Grammar.{written, body}
 use Rattle.sil_shape.specs.Shortest.{shortest_step, Shortens, written as nothing_left, step}

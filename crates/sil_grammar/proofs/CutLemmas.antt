@@ -6,7 +6,7 @@ use Rattle.sil_shape.specs.declared.grammar.Production.{Production}
 use Rattle.sil_shape.specs.declared.steps.Front.{Front}
 use Rattle.sil_shape.specs.declared.steps.Step.{Step}
 use Rattle.sil_shape.specs.declared.steps.Step.TheVariants.{Take, Expand}
-use Rattle.sil_shape.specs.Begun.{LeadsTo}
+use Rattle.sil_shape.specs.inner.Begun.{LeadsTo}
 use Rattle.sil_shape.specs.Derivation.{Derives, token, rule, start}
 use Rattle.sil_shape.specs.Grammar.{body}
 use Rattle.sil_shape.specs.Shortest.{Shortens}
@@ -14,7 +14,7 @@ use Rattle.sil_shape.specs.Values.{takes_of}
 use Rattle.sil_shape.proofs.Shortened.{shortened, Shortens-derives}
 use Rattle.sil_shape.proofs.ValuesLemmas.{takes_of-append, takes_of-derives}
 use Rattle.sil_grammar.specs.Completion.{Completes, IsShortestFrom, behind, taken, expanded}
-use Rattle.sil_grammar.specs.Left.{after, left_after, AreDecided, IsCut}
+use Rattle.sil_grammar.specs.inner.Left.{after, left_after, AreDecided, IsCut}
 
 -- what is left after some steps is what they go on with
 goes_on : (steps : List Step) {ss : List Symbol} (ks more : List Class) (rest : List Step) → takes_of steps ≡ length ks

@@ -5,14 +5,14 @@ use Rattle.std.proofs.lemmas.List.{length-map}
 use Rattle.sil_lexer.specs.Lexes.{Lexeme}
 use Rattle.sil_shape.specs.declared.steps.Step.{Step}
 use Rattle.sil_shape.specs.Derivation.{Derives, start}
-use Rattle.spelled_parts_laws.specs.Laws.{IsToldByReplay}
+use Rattle.spelled_parts_laws.specs.inner.Laws.{IsToldByReplay}
 use Rattle.spelled_parts_laws.specs.Reading.{IsFirstFault}
 use Rattle.spelled_parts_laws.proofs.Derived.{told_by_replay}
-use Rattle.written_modules.specs.Replay.{first_fault}
+use Rattle.written_modules.specs.inner.Replay.{first_fault}
 use Rattle.written_tree.specs.declared.fault.Fault.{Fault}
 use Rattle.sil_grammar.specs.Classes.{token_class}
 use Rattle.sil_grammar.specs.Completion.{IsShortestFrom}
-use Rattle.sil_grammar.specs.Front.{IsFound}
+use Rattle.sil_grammar.specs.inner.Front.{IsFound}
 use Rattle.sil_grammar.specs.Refusals.{IsFaultOf, IsFront}
 use Rattle.sil_grammar.proofs.CompletionLemmas.{Completes-derives}
 

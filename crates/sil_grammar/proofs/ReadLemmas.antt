@@ -9,12 +9,12 @@ use Rattle.sil_lexer.proofs.UniqueLemmas.{one_way}
 use Rattle.sil_shape.specs.declared.steps.Step.{Step}
 use Rattle.sil_shape.specs.declared.steps.Front.{Front}
 use Rattle.sil_shape.specs.Derivation.{Derives, start}
-use Rattle.sil_shape.specs.Begun.{LeadsTo}
+use Rattle.sil_shape.specs.inner.Begun.{LeadsTo}
 use Rattle.sil_shape.specs.Shortest.{Shortens}
 use Rattle.sil_shape.proofs.DerivedOnce.{steps_once}
 use Rattle.written_tree.specs.declared.fault.Fault.{Fault}
 use Rattle.written_tree.specs.declared.written_module.WrittenModule.{WrittenModule}
-use Rattle.written_modules.specs.Replay.{first_fault, Writes}
+use Rattle.written_modules.specs.inner.Replay.{first_fault, Writes}
 use Rattle.name_resolution.specs.NameFaults.{name_fault}
 use Rattle.name_resolution.specs.Resolved.{resolved}
 use Rattle.sil_grammar.specs.declared.first_bad.BadPlace.{BadPlace}
@@ -22,11 +22,11 @@ use Rattle.sil_grammar.specs.declared.refusal.ReadRefusal.{ReadRefusal}
 use Rattle.sil_grammar.specs.declared.refusal.ReadRefusal.TheVariants.{Memory}
 use Rattle.sil_grammar.specs.Classes.{token_class}
 use Rattle.sil_grammar.specs.FirstBad.{HasShape, IsFirstBadPlace}
-use Rattle.sil_grammar.specs.Front.{IsFound, IsFrontFault}
+use Rattle.sil_grammar.specs.inner.Front.{IsFound, IsFrontFault}
 use Rattle.sil_grammar.specs.Refusals.{IsFaulty, IsFront, IsRefusalOf, IsShapeless, SpellsNone, exhausted, in_front, in_whole}
-use Rattle.sil_grammar.specs.Shape.{IsBroken, IsWhole}
+use Rattle.sil_grammar.specs.inner.Shape.{IsBroken, IsWhole}
 use Rattle.sil_grammar.specs.Spells.{AreSpelledOnce, SpellsWritten}
-use Rattle.sil_grammar.specs.Left.{IsCut}
+use Rattle.sil_grammar.specs.inner.Left.{IsCut}
 use Rattle.sil_grammar.proofs.CutLemmas.{cut_completes}
 use Rattle.sil_grammar.proofs.FaultLemmas.{is_found, of_front, whole_found}
 use Rattle.sil_grammar.proofs.FirstBadLemmas.{no_bad_place}

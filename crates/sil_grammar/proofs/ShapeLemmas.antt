@@ -9,7 +9,7 @@ use Rattle.token_classes.specs.declared.classes.Class.{Class}
 use Rattle.sil_shape.specs.declared.steps.Step.{Step}
 use Rattle.sil_shape.specs.declared.steps.Front.{Front}
 use Rattle.sil_shape.specs.declared.grammar.Symbol.{Symbol}
-use Rattle.sil_shape.specs.Begun.{LeadsTo}
+use Rattle.sil_shape.specs.inner.Begun.{LeadsTo}
 use Rattle.sil_shape.specs.Derivation.{BeginsShape, Derives, nothing, start, IsDerivation, HasShape, IsFirstBad}
 use Rattle.sil_shape.specs.Values.{takes_of}
 use Rattle.sil_shape.proofs.DerivedOnce.{no_first_bad}
@@ -19,7 +19,7 @@ use Rattle.sil_grammar.specs.declared.first_bad.Shape.TheVariants.{Whole, Broken
 use Rattle.sil_grammar.specs.Classes.{token_class}
 use Rattle.sil_grammar.specs.FirstBad as text_shape
 use Rattle.sil_grammar.specs.FirstBad.{bad_stop, IsFirstBadPlace}
-use Rattle.sil_grammar.specs.Shape.{IsBroken, IsShapeOf, IsWhole}
+use Rattle.sil_grammar.specs.inner.Shape.{IsBroken, IsShapeOf, IsWhole}
 use Rattle.sil_grammar.proofs.FirstBadLemmas.{stop_first}
 
 length-classes : (text : List ℕ) (lexing : Lexing) → length (map token_class (lexemes_of text lexing)) ≡ length lexing.tokens

@@ -1,8 +1,6 @@
 pub mod Classes
 pub mod Completion
 pub mod FirstBad
-pub mod Front
-pub mod Left
 pub mod Refusals
-pub mod Shape
 pub mod Spells
+pub mod inner

@@ -10,7 +10,7 @@ ghost use Rattle.sil_grammar.specs.declared.first_bad.BadPlace.{BadPlace};
 ghost use Rattle.sil_grammar.specs.declared.first_bad.Shape.TheVariants.{Whole, Broken};
 ghost use Rattle.sil_grammar.specs.Classes.{token_class};
 ghost use Rattle.sil_grammar.specs.FirstBad.{bad_stop, token_place, HasShape, IsFirstBadPlace};
-ghost use Rattle.sil_grammar.specs.Shape.{IsShapeOf};
+ghost use Rattle.sil_grammar.specs.inner.Shape.{IsShapeOf};
 
 use crate::classes::classes_of;
 use sil_ast::{Exhausted, Place};

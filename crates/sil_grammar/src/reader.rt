@@ -5,12 +5,12 @@ ghost use Rattle.sil_ast.specs.declared.module.Module.{Module};
 ghost use Rattle.sil_lexer.specs.Lexing.{IsLexingOf, Lexing, lexemes_of};
 ghost use Rattle.sil_lexer.specs.Places.{IsInLimit};
 ghost use Rattle.sil_shape.specs.declared.steps.Front.{Front};
-ghost use Rattle.sil_shape.specs.Begun.{LeadsTo};
+ghost use Rattle.sil_shape.specs.inner.Begun.{LeadsTo};
 ghost use Rattle.numbered_form.specs.NumberedForm.{IsNumbered};
 ghost use Rattle.sil_grammar.specs.Classes.{token_class};
-ghost use Rattle.sil_grammar.specs.Front.{IsFrontFault};
+ghost use Rattle.sil_grammar.specs.inner.Front.{IsFrontFault};
 ghost use Rattle.sil_grammar.specs.Refusals.{IsRefusalOf};
-ghost use Rattle.sil_grammar.specs.Shape.{IsBroken, IsWhole};
+ghost use Rattle.sil_grammar.specs.inner.Shape.{IsBroken, IsWhole};
 ghost use Rattle.sil_grammar.specs.Spells.{Spells, SpellsWritten};
 
 use crate::cutting::cut_at_last_token;

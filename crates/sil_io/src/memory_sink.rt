@@ -3,7 +3,7 @@
 
 ghost use Rattle.std.specs.Prelude.{◌≡◌, ℕ, ◌↔◌, ◌<◌, ◌≤◌, [], ◌++◌, Some, IfOk, IsOk, IsErr, IsTrue, MatchResult, length, vec_len, take};
 ghost use Rattle.std.specs.Vec.{vec_capacity};
-ghost use Rattle.sil_io.specs.MemorySink.{SinkState, refuses_next, next_taken, after_taking, after_refusal};
+ghost use Rattle.sil_io.specs.inner.MemorySink.{SinkState, refuses_next, next_taken, after_taking, after_refusal};
 
 use crate::failed::Failed;
 use crate::sink::Sink;

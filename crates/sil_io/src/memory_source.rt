@@ -2,7 +2,7 @@
 //! It stands in for an input that nobody can foresee.
 
 ghost use Rattle.std.specs.Prelude.{◌≡◌, ℕ, ◌↔◌, ◌<◌, ◌≤◌, [], ◌++◌, Some, IfOk, OnErr, IsErr, IsTrue, MatchResult, length, vec_len, take, drop};
-ghost use Rattle.sil_io.specs.MemorySource.{SourceState, fails_next, next_given, after_giving, after_fault};
+ghost use Rattle.sil_io.specs.inner.MemorySource.{SourceState, fails_next, next_given, after_giving, after_fault};
 
 use crate::copying::copy_front;
 use crate::failed::Failed;

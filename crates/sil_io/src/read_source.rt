@@ -3,7 +3,7 @@
 
 ghost use Rattle.std.specs.Prelude.{◌≡◌, ℕ, ◌<◌, ◌≤◌, None, IfOk, OnOk, OnErr, MatchResult, length, take};
 ghost use Rattle.std.specs.Io.KnownBytes.{Consumes, IsAtEnd};
-ghost use Rattle.sil_io.specs.Calls.{ReadGave, ReadFailed};
+ghost use Rattle.sil_io.specs.inner.Calls.{ReadGave, ReadFailed};
 ghost use Rattle.sil_io.specs.Count.{Counted, next_count};
 
 use crate::failed::Failed;

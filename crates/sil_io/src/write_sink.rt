@@ -3,7 +3,7 @@
 
 ghost use Rattle.std.specs.Prelude.{◌≡◌, ℕ, ◌<◌, ◌≤◌, None, IfOk, OnOk, OnErr, length, take};
 ghost use Rattle.std.specs.Io.KnownBytes.{Appends};
-ghost use Rattle.sil_io.specs.Calls.{WritesAndFlushes, Breaks};
+ghost use Rattle.sil_io.specs.inner.Calls.{WritesAndFlushes, Breaks};
 ghost use Rattle.sil_io.specs.Count.{Counted, next_count};
 
 use crate::failed::Failed;

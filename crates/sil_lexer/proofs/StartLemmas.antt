@@ -8,7 +8,7 @@ use Rattle.sil_lexer.specs.declared.starts.Start.TheVariants.{Nothing, Letter, A
 use Rattle.sil_lexer.specs.declared.starts.TheConstants.{STARTS}
 use Rattle.sil_lexer.specs.Bytes.{is_word_start, is_punctuation}
 use Rattle.sil_lexer.specs.Spelling.{begins_with}
-use Rattle.sil_lexer.specs.Scan.{begins_longer}
+use Rattle.sil_lexer.specs.inner.Scan.{begins_longer}
 
 -- a byte is what the table says
 abbrev pub is_start : Start → ℕ → Bool

@@ -14,7 +14,7 @@ use Rattle.sil_lexer.specs.Bytes.{is_line_feed, is_word_start, is_name_byte, is_
 use Rattle.sil_lexer.specs.Places.{place_of, place_before, ahead_of, IsPlaceIn}
 use Rattle.sil_lexer.specs.Spelling.{Spells, word, at_name, percent, number, negative, quoted, punctuation, arrow, begins_with, name_length}
 use Rattle.sil_lexer.specs.Lexes.{Stops, bad_byte, bad_text_byte, unclosed_at_line_end, unclosed_at_end, name_too_long, begins_skipped}
-use Rattle.sil_lexer.specs.Scan.{is_sigil, begins_longer}
+use Rattle.sil_lexer.specs.inner.Scan.{is_sigil, begins_longer}
 use Rattle.sil_lexer.proofs.PlaceLemmas.{place_ahead}
 use Rattle.sil_lexer.proofs.RunLemmas.{run_passes, run_none, split_at}
 use Rattle.sil_lexer.proofs.SpellLemmas.{Takes, at_sigil, opened}

@@ -3,4 +3,4 @@ pub mod Spelling
 pub mod Places
 pub mod Lexes
 pub mod Lexing
-pub mod Scan
+pub mod inner

@@ -6,7 +6,7 @@ ghost use Rattle.sil_lexer.specs.Bytes.{is_word_start};
 ghost use Rattle.sil_lexer.specs.Spelling.{begins_with};
 ghost use Rattle.sil_lexer.specs.Places.{IsInLimit};
 ghost use Rattle.sil_lexer.specs.Lexes.{begins_skipped};
-ghost use Rattle.sil_lexer.specs.Scan.{is_sigil, HasRoom, IsScan};
+ghost use Rattle.sil_lexer.specs.inner.Scan.{is_sigil, HasRoom, IsScan};
 
 use crate::bytes::{digits_length, name_length, text_length};
 use crate::place::ahead;

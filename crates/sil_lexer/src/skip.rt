@@ -5,7 +5,7 @@ ghost use Rattle.sil_lexer.specs.Bytes as byte;
 ghost use Rattle.sil_lexer.specs.Spelling.{begins_with};
 ghost use Rattle.sil_lexer.specs.Places.{IsInLimit, IsPlaceIn};
 ghost use Rattle.sil_lexer.specs.Lexes.{begins_comment, Skips};
-ghost use Rattle.sil_lexer.specs.Scan.{SkipsOne, SkipsTo};
+ghost use Rattle.sil_lexer.specs.inner.Scan.{SkipsOne, SkipsTo};
 
 use crate::bytes::line_length;
 use crate::place::{ahead, next_place};

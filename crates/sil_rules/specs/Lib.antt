@@ -2,4 +2,4 @@ pub mod Rules
 pub mod LimitWords
 pub mod Statuses
 pub mod Order
-pub mod Laws
+pub mod inner

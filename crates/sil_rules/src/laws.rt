@@ -1,7 +1,7 @@
 //! The laws of the rules and of the order of refusals, on calls that do nothing.
 //! The lemmas for the checks above are in `proofs/`.
 
-ghost use Rattle.sil_rules.specs.Laws.{AreOrdered};
+ghost use Rattle.sil_rules.specs.inner.Laws.{AreOrdered};
 ghost use Rattle.sil_rules.specs.Rules.{AreFoundByNumber};
 ghost use Rattle.sil_rules.specs.declared.rule.TheConstants.{NUMBERS};
 ghost use Rattle.std.specs.List.Sorted.{IsStrictlyIncreasing};

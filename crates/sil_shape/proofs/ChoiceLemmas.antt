@@ -4,7 +4,7 @@ use Rattle.std.specs.Prelude.{Option, find}
 use Rattle.token_classes.specs.declared.classes.Class.{Class}
 use Rattle.sil_shape.specs.declared.grammar.Nonterminal.{Nonterminal}
 use Rattle.sil_shape.specs.declared.grammar.Nonterminal.TheVariants as n
-use Rattle.sil_shape.specs.Choice.{has, started, starts}
+use Rattle.sil_shape.specs.inner.Choice.{has, started, starts}
 use Rattle.sil_shape.specs.Grammar.{alternatives}
 
 pub started-else : (part : Nonterminal) (l : Option Class) → (part ≡ n.Row → ⊥) → (part ≡ n.Terminator → ⊥) → started part l ≡ find (λ p. has (starts p) l) (alternatives part)

@@ -14,13 +14,13 @@ use Rattle.sil_shape.specs.declared.grammar.Symbol.{Symbol}
 use Rattle.sil_shape.specs.declared.grammar.Symbol.TheVariants.{Read, Part}
 use Rattle.sil_shape.specs.declared.grammar.Production.{Production}
 use Rattle.sil_shape.specs.declared.grammar.Production.TheVariants as p
-use Rattle.sil_shape.specs.ClassNumbers.{keyword_number, at_number, punctuation_number, class_number, accepts}
+use Rattle.sil_shape.specs.inner.ClassNumbers.{keyword_number, at_number, punctuation_number, class_number, accepts}
 use Rattle.sil_shape.specs.Grammar.{written, body, alternatives}
 use Rattle.sil_shape.specs.Shortest.{shortest}
-use Rattle.sil_shape.specs.Choice.{starts, empty_choice, has_class, has, started, row_inside, row_at_end, or_empty, choose}
+use Rattle.sil_shape.specs.inner.Choice.{starts, empty_choice, has_class, has, started, row_inside, row_at_end, or_empty, choose}
 use Rattle.sil_shape.specs.Rows.{brings_comma, comma_behind, comma_between, edges_of, ends_block, member_of, operand_of, parts_row, qualifier_of, row_body, row_part, symbols_of, text_of}
 use Rattle.sil_shape.proofs.Sets.{first, follow, ends, nullable, weight, needed}
-use Rattle.sil_shape.specs.ParseTable.{part_number}
+use Rattle.sil_shape.specs.inner.ParseTable.{part_number}
 use Rattle.sil_shape.proofs.Numbered.{all_looks, fixed_looks, each_look, is_it, production_number}
 
 -- whether this may come after a text of the part

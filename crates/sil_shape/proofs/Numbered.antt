@@ -15,8 +15,8 @@ use Rattle.sil_shape.specs.declared.grammar.Nonterminal.{Nonterminal}
 use Rattle.sil_shape.specs.declared.grammar.Nonterminal.TheVariants as n
 use Rattle.sil_shape.specs.declared.grammar.Production.{Production}
 use Rattle.sil_shape.specs.declared.grammar.Production.TheVariants as p
-use Rattle.sil_shape.specs.ClassNumbers.{keyword_number, at_number, punctuation_number, class_number}
-use Rattle.sil_shape.specs.ParseTable.{look_number, part_number}
+use Rattle.sil_shape.specs.inner.ClassNumbers.{keyword_number, at_number, punctuation_number, class_number}
+use Rattle.sil_shape.specs.inner.ParseTable.{look_number, part_number}
 
 -- the end, and each class but the mnemonics
 unfoldable pub fixed_looks : List (Option Class)

@@ -11,9 +11,9 @@ use Rattle.token_classes.specs.declared.classes.Class.{Class}
 use Rattle.sil_shape.specs.declared.grammar.Nonterminal.{Nonterminal}
 use Rattle.sil_shape.specs.declared.grammar.Nonterminal.TheVariants as n
 use Rattle.sil_shape.specs.declared.grammar.Production.{Production}
-use Rattle.sil_shape.specs.Choice.{choose}
-use Rattle.sil_shape.specs.ClassNumbers.{keyword_number, at_number, punctuation_number, class_number}
-use Rattle.sil_shape.specs.ParseTable.{look_number, part_number, place, IsParseTable}
+use Rattle.sil_shape.specs.inner.Choice.{choose}
+use Rattle.sil_shape.specs.inner.ClassNumbers.{keyword_number, at_number, punctuation_number, class_number}
+use Rattle.sil_shape.specs.inner.ParseTable.{look_number, part_number, place, IsParseTable}
 use Rattle.sil_shape.proofs.Numbered.{all_looks, fixed_looks, all_looks-at, each_look, each_look-at, is_it, is_it_some, is_it-self, same_part}
 
 computed_part : (part : Nonterminal) → nat_lt (part_number part) 81 ≡ true

@@ -11,10 +11,10 @@ use Rattle.sil_shape.specs.declared.grammar.Production.{Production}
 use Rattle.sil_shape.specs.declared.steps.Step.{Step}
 use Rattle.sil_shape.specs.declared.steps.Step.TheVariants.{Take, Expand}
 use Rattle.sil_shape.specs.Grammar.{written, body}
-use Rattle.sil_shape.specs.Choice.{choose}
+use Rattle.sil_shape.specs.inner.Choice.{choose}
 use Rattle.sil_shape.specs.Derivation.{Accepts, Derives, nothing, token, rule, start, HasShape, BeginsShape, IsFirstBad, IsDerivation}
-use Rattle.sil_shape.specs.Begun.{LeadsTo}
-use Rattle.sil_shape.specs.Turns.{Turns, stay, turn, IsStuck, IsStuckAt, Takes, Refuses}
+use Rattle.sil_shape.specs.inner.Begun.{LeadsTo}
+use Rattle.sil_shape.specs.inner.Turns.{Turns, stay, turn, IsStuck, IsStuckAt, Takes, Refuses}
 use Rattle.sil_shape.proofs.Derived.{Derives-nothing}
 use Rattle.sil_shape.proofs.NextClasses.{look, Fits, Fits-expand, choose-way, Inner, Derives-inner, FitsOne, FitsOne-start}
 use Rattle.sil_shape.proofs.Shortened.{shortened, Shortens-derives}

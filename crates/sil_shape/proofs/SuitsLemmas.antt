@@ -5,8 +5,8 @@ use Rattle.token_classes.specs.declared.classes.Class.{Class}
 use Rattle.sil_shape.specs.declared.grammar.Terminal.{Terminal}
 use Rattle.sil_shape.specs.declared.grammar.Terminal.TheVariants as t
 use Rattle.sil_shape.specs.Accepts.{Suits}
-use Rattle.sil_shape.specs.ClassNumbers.{accepts, class_number}
-use Rattle.sil_shape.specs.ParseTable.{look_number}
+use Rattle.sil_shape.specs.inner.ClassNumbers.{accepts, class_number}
+use Rattle.sil_shape.specs.inner.ParseTable.{look_number}
 use Rattle.sil_shape.proofs.Numbered.{all_looks, all_looks-at}
 
 own_numbers : (a b : Class) → class_number a ≡ class_number b → a ≡ b

@@ -1,14 +1,9 @@
 pub mod Terminals
 pub mod Rows
 pub mod Accepts
-pub mod ClassNumbers
 pub mod Grammar
 pub mod Derivation
 pub mod Values
-pub mod Begun
-pub mod Refusal
-pub mod Choice
-pub mod Turns
-pub mod ParseTable
 pub mod Shortest
 pub mod Unsupported
+pub mod inner

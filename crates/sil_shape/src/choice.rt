@@ -2,9 +2,9 @@
 
 ghost use Rattle.std.specs.Prelude.{◌≡◌, ◌↔◌, find, IsTrue};
 ghost use Rattle.sil_shape.specs.Accepts.{is_type_word};
-ghost use Rattle.sil_shape.specs.ClassNumbers.{accepts};
+ghost use Rattle.sil_shape.specs.inner.ClassNumbers.{accepts};
 ghost use Rattle.sil_shape.specs.Derivation.{Accepts};
-ghost use Rattle.sil_shape.specs.Choice.{choose, has, has_class, row_at_end, row_inside, started, starts};
+ghost use Rattle.sil_shape.specs.inner.Choice.{choose, has, has_class, row_at_end, row_inside, started, starts};
 ghost use Rattle.sil_shape.specs.Grammar.{alternatives};
 
 use crate::alternatives::alternatives;

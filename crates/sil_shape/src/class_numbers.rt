@@ -3,7 +3,7 @@
 ghost use Rattle.std.specs.Prelude.{◌≡◌};
 ghost use Rattle.instruction_table.specs.declared.op.Op.{Op};
 ghost use Rattle.token_classes.specs.declared.classes.Keyword.TheVariants.{Mnemonic};
-ghost use Rattle.sil_shape.specs.ClassNumbers.{at_number, class_number, keyword_number, punctuation_number};
+ghost use Rattle.sil_shape.specs.inner.ClassNumbers.{at_number, class_number, keyword_number, punctuation_number};
 
 use token_classes::{AtWord, Class, Keyword, Punctuation};
 

@@ -1,8 +1,8 @@
 //! What comes next in a list of classes: a token or the end, with its number.
 
 ghost use Rattle.std.specs.Prelude.{◌≡◌, Some, None};
-ghost use Rattle.sil_shape.specs.ClassNumbers.{class_number};
-ghost use Rattle.sil_shape.specs.ParseTable.{look_number};
+ghost use Rattle.sil_shape.specs.inner.ClassNumbers.{class_number};
+ghost use Rattle.sil_shape.specs.inner.ParseTable.{look_number};
 
 use crate::class_numbers::class_number;
 use token_classes::Class;

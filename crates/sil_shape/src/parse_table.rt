@@ -1,8 +1,8 @@
 //! The parse table: the production of each part at each lookahead, found when it's first asked for.
 
 ghost use Rattle.std.specs.Prelude.{◌≡◌, ◌*◌, ◌<◌, length};
-ghost use Rattle.sil_shape.specs.Choice.{choose};
-ghost use Rattle.sil_shape.specs.ParseTable.{part_number, place, IsParseTable};
+ghost use Rattle.sil_shape.specs.inner.Choice.{choose};
+ghost use Rattle.sil_shape.specs.inner.ParseTable.{part_number, place, IsParseTable};
 ghost use Rattle.sil_shape.specs.declared.parse_table.TheConstants.{LOOKAHEADS, PARTS};
 
 use crate::choice::choose;

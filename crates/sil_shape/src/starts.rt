@@ -1,7 +1,7 @@
 //! The table by which the next token chooses a production. It follows from the grammar.
 
 ghost use Rattle.std.specs.Prelude.{◌≡◌};
-ghost use Rattle.sil_shape.specs.Choice.{starts, empty_choice};
+ghost use Rattle.sil_shape.specs.inner.Choice.{starts, empty_choice};
 
 use crate::grammar::{Nonterminal, Production, Terminal};
 use instruction_table::Op;

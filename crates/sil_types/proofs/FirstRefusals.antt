@@ -19,10 +19,10 @@ use Rattle.type_definitions.specs.Declarations.{Declarations, declarations_of, s
 use Rattle.type_definitions.specs.Mentions.{items_of}
 use Rattle.type_definitions.specs.Rules.{HoldsItself, IsWellNamed, Declared, exceeds_depth, exceeds_leaves}
 use Rattle.type_measures.proofs.Agreement.{names-Int}
-use Rattle.type_rules.specs.declared.by_item.ItemFault.{ItemFault}
-use Rattle.type_rules.specs.Faults.{Breaks, BreaksIn, fault_key}
-use Rattle.type_rules.specs.Faults.Breaks.{unknown_type, bad_member, misplaced_storage}
-use Rattle.type_rules.proofs.FirstFaults.{stage_at}
+use Rattle.type_item_rules.specs.declared.by_item.ItemFault.{ItemFault}
+use Rattle.type_item_rules.specs.Faults.{Breaks, BreaksIn, fault_key}
+use Rattle.type_item_rules.specs.Faults.Breaks.{unknown_type, bad_member, misplaced_storage}
+use Rattle.type_item_rules.proofs.FirstFaults.{stage_at}
 use Rattle.sil_types.specs.declared.refusal.TypeRefusal.{TypeRefusal}
 use Rattle.sil_types.specs.declared.refusal.TypeRefusal.TheVariants as refusal
 use Rattle.sil_types.specs.Refusals.{ShownIn, refusal_key, IsRefusal, IsRule}

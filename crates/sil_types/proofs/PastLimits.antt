@@ -11,12 +11,12 @@ use Rattle.type_definitions.specs.Declarations.{Declarations, all_names, at_plac
 use Rattle.type_definitions.specs.Measures.{measure_at, measure_of, measured, measures_of, unmeasured}
 use Rattle.type_definitions.specs.declared.measure.Measure.{Measure}
 use Rattle.type_measures.proofs.Agreement.{measure-Int, measure-Named}
-use Rattle.type_measures.specs.Gathered.{capped}
-use Rattle.type_rules.specs.Faults.{is_wrong_type}
-use Rattle.type_rules.proofs.NoFaults.{any_of_two, first_of_none, second_of_none}
+use Rattle.type_measures.specs.inner.Gathered.{capped}
+use Rattle.type_item_rules.specs.Faults.{is_wrong_type}
+use Rattle.type_item_rules.proofs.NoFaults.{any_of_two, first_of_none, second_of_none}
 use Rattle.type_definitions.specs.Mentions.{mentions_of}
 use Rattle.type_definitions.specs.Rules.{InLimits, exceeds_depth, exceeds_leaves, has_too_many_leaves, is_too_deep}
-use Rattle.sil_types.specs.Limits.{exceeds, is_past}
+use Rattle.sil_types.specs.inner.Limits.{exceeds, is_past}
 use Rattle.sil_types.specs.declared.limits.Limit.{Limit}
 use Rattle.sil_types.specs.declared.limits.Limit.TheVariants.{Depth, Leaves, Either}
 

@@ -1,3 +1,3 @@
 pub mod Refusals
-pub mod Limits
 pub mod Typing
+pub mod inner

@@ -4,8 +4,8 @@ ghost use Rattle.std.specs.Prelude.{◌≡◌, ◌||◌, ◌+◌, ◌<◌, ◌^�
 ghost use Rattle.numbered_form.specs.NumberedForm.{IsNumbered};
 ghost use Rattle.type_definitions.specs.Declarations.{declarations_of};
 ghost use Rattle.type_definitions.specs.Rules.{AreDeclarationsOf, HoldsItself, InLimits, exceeds_depth, exceeds_leaves};
-ghost use Rattle.type_rules.specs.Faults.{BreaksIn};
-ghost use Rattle.type_rules.specs.declared.by_item.ItemFault.{ItemFault};
+ghost use Rattle.type_item_rules.specs.Faults.{BreaksIn};
+ghost use Rattle.type_item_rules.specs.declared.by_item.ItemFault.{ItemFault};
 ghost use Rattle.sil_types.specs.Refusals.{IsRefusal};
 
 use crate::items::check_items;
@@ -14,10 +14,10 @@ use crate::refusal::TypeRefusal;
 use crate::ring::order_of;
 use crate::table::TypeTable;
 use crate::wrong::any_wrong;
-use declaration_table::DeclarationTable;
 use sil_ast::Module;
 use sil_rules::LimitWord;
 use std::alloc::Global;
+use type_declarations::DeclarationTable;
 use type_measures::measures;
 
 impl TypeTable {

@@ -2,15 +2,15 @@
 
 ghost use Rattle.std.specs.Prelude.{◌≡◌, ◌+◌, ◌<◌, ◌^◌, length, OnOk, IfErr};
 ghost use Rattle.type_definitions.specs.Declarations.{declarations_of};
-ghost use Rattle.type_rules.specs.Faults.{BreaksIn};
-ghost use Rattle.type_rules.specs.declared.by_item.ItemFault.{ItemFault};
+ghost use Rattle.type_item_rules.specs.Faults.{BreaksIn};
+ghost use Rattle.type_item_rules.specs.declared.by_item.ItemFault.{ItemFault};
 ghost use Rattle.sil_types.specs.Refusals.{IsRefusal, IsRule};
 
 use crate::refusal::TypeRefusal;
-use declaration_table::DeclarationTable;
 use sil_ast::Module;
 use sil_rules::Rule;
-use type_rules::first_fault;
+use type_declarations::DeclarationTable;
+use type_item_rules::first_fault;
 
 /// The refusal of an item, unless its number is more than one of a module can be: then memory counts as exhausted.
 pub(crate) fn refused(rule: Rule, item: usize) -> TypeRefusal

@@ -12,7 +12,7 @@ mod same;
 mod table;
 mod wrong;
 
-pub use declaration_table::{FieldRef, PayloadRef};
 pub use refusal::TypeRefusal;
 pub use same::{same_signature, same_type, same_types};
 pub use table::TypeTable;
+pub use type_declarations::{FieldRef, PayloadRef};

@@ -7,9 +7,9 @@ ghost use Rattle.sil_ast.specs.declared.type_name.TypeName.TheVariants as type_o
 ghost use Rattle.type_definitions.specs.Measures.{measure_of};
 ghost use Rattle.type_definitions.specs.Mentions.{mentions_of};
 ghost use Rattle.type_definitions.specs.declared.measure.Measure.{Measure};
-ghost use Rattle.type_measures.specs.Gathered.{capped};
-ghost use Rattle.sil_types.specs.Limits as limits;
-ghost use Rattle.sil_types.specs.Limits.{exceeds};
+ghost use Rattle.type_measures.specs.inner.Gathered.{capped};
+ghost use Rattle.sil_types.specs.inner.Limits as limits;
+ghost use Rattle.sil_types.specs.inner.Limits.{exceeds};
 
 use crate::table::TypeTable;
 use sil_ast::{Given, Module, Operand, Text, TypeName};

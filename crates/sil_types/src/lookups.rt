@@ -7,12 +7,12 @@ ghost use Rattle.type_definitions.specs.Lookups as lookups;
 ghost use Rattle.type_definitions.specs.Lookups.{class_place, field_of, payload_of};
 ghost use Rattle.type_definitions.specs.Measures as measures;
 ghost use Rattle.type_definitions.specs.Measures.{leaves_of};
-ghost use Rattle.declaration_table.specs.Found.{field_told, payload_told};
+ghost use Rattle.type_declarations.specs.inner.Found.{field_told, payload_told};
 
 use crate::table::TypeTable;
-use declaration_table::{FieldRef, PayloadRef};
 use sil_ast::{Decl, Field, FuncId, Text, TypeName};
 use sil_rules::limits::LEAVES;
+use type_declarations::{FieldRef, PayloadRef};
 
 impl TypeTable {
     /// Whether a type holds no reference. An address is taken as its target.

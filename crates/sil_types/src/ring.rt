@@ -1,7 +1,7 @@
 //! The first declaration that holds itself, as a refusal, or an order of all.
 
 ghost use Rattle.std.specs.Prelude.{◌≡◌, ◌+◌, ◌<◌, ◌^◌, ℕ, IfOk, OnOk, IfErr, length};
-ghost use Rattle.containment.specs.Order.{IsOrder};
+ghost use Rattle.containment.specs.inner.Order.{IsOrder};
 ghost use Rattle.type_definitions.specs.Contained as contained;
 ghost use Rattle.type_definitions.specs.Declarations.{declarations_of};
 ghost use Rattle.type_definitions.specs.Rules.{HoldsItself};
@@ -10,10 +10,10 @@ ghost use Rattle.sil_types.specs.Refusals.{IsRefusal};
 use crate::items::{check_items, refused};
 use crate::refusal::TypeRefusal;
 use containment::{Containment, order_or_ring};
-use declaration_table::DeclarationTable;
 use sil_ast::Module;
 use sil_rules::Rule;
 use std::alloc::Global;
+use type_declarations::DeclarationTable;
 use type_measures::containment;
 
 /// An order of all declarations in which parts stand before wholes. A module in which one holds itself is refused, for that or

@@ -5,11 +5,11 @@ ghost use Rattle.std.specs.List.{flat_map};
 ghost use Rattle.sil_ast.specs.declared.type_name.TypeName.TheVariants as type_of;
 ghost use Rattle.type_definitions.specs.Measures.{measure_of, measures_of};
 ghost use Rattle.type_definitions.specs.Mentions.{operand_types, result_type, together};
-ghost use Rattle.type_measures.specs.Gathered.{capped};
+ghost use Rattle.type_measures.specs.inner.Gathered.{capped};
 
-use declaration_table::DeclarationTable;
 use sil_ast::{Given, List, Operand, Text, TypeName};
 use std::marker::Model;
+use type_declarations::DeclarationTable;
 use type_definitions::Measure;
 use type_measures::{measure_name, measure_operands, measure_results, measure_type};
 
@@ -27,7 +27,7 @@ impl Model for TypeTable {
     ghost use Rattle.sil_ast.specs.contracts.type_name.TypeName as type_name;
     ghost use Rattle.type_definitions.specs.Declarations.{Declarations};
     ghost use Rattle.type_definitions.specs.Measures.{measures_of};
-    ghost use Rattle.type_measures.specs.Gathered.{capped};
+    ghost use Rattle.type_measures.specs.inner.Gathered.{capped};
 
     ghost Value = { Declarations };
 

@@ -18,8 +18,8 @@ use Rattle.path_checks.specs.declared.entry.Entry as entry
 use Rattle.path_patterns.specs.Reads.{FitsMark, code_in, marks_in}
 use Rattle.path_patterns.specs.Switch.{IsInPlace, code_of}
 use Rattle.path_patterns.specs.declared.mark.Mark.{Mark}
-use Rattle.forwarding_chains.specs.Facts.{is_owned, known_or, value_of}
-use Rattle.forwarding_chains.specs.declared.facts.Facts.{Facts}
+use Rattle.ownership_chains.specs.Facts.{is_owned, known_or, value_of}
+use Rattle.ownership_chains.specs.declared.facts.Facts.{Facts}
 use Rattle.ownership_marks.specs.Marks.{marks_of}
 use Rattle.ownership_marks.specs.declared.mark.Mark as mark
 use Rattle.ownership_marks.specs.declared.mark.MarkSort.{MarkSort}

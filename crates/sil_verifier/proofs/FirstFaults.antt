@@ -17,11 +17,11 @@ use Rattle.sil_types.specs.Typing.Typed.{BreaksAt, Site, at_function, at_point}
 use Rattle.sil_types.specs.Typing.Typed.BreaksAt.{function, point, vtable}
 use Rattle.type_check.proofs.FirstFaults.{stage_at_function, stage_at_point}
 use Rattle.type_check.proofs.Firsts.{first_of_places, first_same, at_zero, of_zero}
-use Rattle.type_check.specs.Firsts.{first_from, IsAtSome}
+use Rattle.type_check.specs.inner.Firsts.{first_from, IsAtSome}
 use Rattle.type_check.specs.Refusals.{fault_at, fault_key, IsBroken}
 use Rattle.type_check.specs.Refusals.IsBroken.{broken}
 use Rattle.type_check.specs.declared.fault.TypingFault.{TypingFault}
-use Rattle.sil_verifier.specs.Lowered.{first_lowered, is_before}
+use Rattle.sil_verifier.specs.inner.Lowered.{first_lowered, is_before}
 use Rattle.sil_verifier.specs.Refusals.{IsLowered}
 use Rattle.sil_verifier.specs.Refusals.IsLowered.{lowered}
 

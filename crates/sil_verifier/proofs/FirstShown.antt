@@ -14,18 +14,18 @@ use Rattle.sil_rules.specs.declared.rule.Rule.TheVariants as rule
 use Rattle.type_definitions.specs.Declarations.{Declarations}
 use Rattle.path_checks.specs.First as paths
 use Rattle.value_availability.specs.Accesses.{accesses_of}
-use Rattle.value_availability.specs.Availability.{IsAvailable, IsFirstUndefined, IsUndefined}
-use Rattle.ownership_kinds.specs.Ends.{IsEndOn, IsFaultOn}
+use Rattle.value_availability.specs.inner.Availability.{IsAvailable, IsFirstUndefined, IsUndefined}
+use Rattle.ownership_kinds.specs.inner.Ends.{IsEndOn, IsFaultOn}
 use Rattle.ownership_kinds.specs.Facts.{facts_in}
 use Rattle.ownership_kinds.specs.Statics.{HasKinds, IsBroken, static_key}
 use Rattle.ownership_kinds.specs.Statics.IsBroken.{on_ring, mixed, mismatch, annotated, lacking}
 use Rattle.ownership_marks.specs.Known.{AreKindsBy, Known}
-use Rattle.lifetime_worklist.specs.Lifetimes.{AreLivesKept, IsFirstBrokenLife, IsLifeBroken}
+use Rattle.lifetime_worklist.specs.inner.Lifetimes.{AreLivesKept, IsFirstBrokenLife, IsLifeBroken}
 use Rattle.borrow_scopes.specs.Others.{other_of}
-use Rattle.borrow_scopes.specs.Borrows.{AreScopesKept, IsFirstBrokenScope, IsScopeBroken}
+use Rattle.borrow_scopes.specs.inner.Borrows.{AreScopesKept, IsFirstBrokenScope, IsScopeBroken}
 use Rattle.memory_accesses.specs.Sources.{sources_of}
 use Rattle.memory_rules.specs.Broken as breaks
-use Rattle.memory_rules.specs.Ends.{IsFirstFault, IsMemoryEnd, IsMemoryKept}
+use Rattle.memory_rules.specs.inner.Ends.{IsFirstFault, IsMemoryEnd, IsMemoryKept}
 use Rattle.sil_verifier.proofs.MemoryGroup.{memory_group}
 use Rattle.sil_verifier.proofs.Codes.{HasRule, life_code, undefined_code}
 use Rattle.sil_verifier.proofs.ScopeCodes.{HasScopeRule, scope_code}

@@ -5,7 +5,7 @@ use Rattle.sil_ast.specs.declared.place.ValueId.{ValueId}
 use Rattle.sil_rules.specs.Rules.{group_of}
 use Rattle.sil_rules.specs.declared.group.Group.TheVariants as group
 use Rattle.sil_rules.specs.declared.rule.Rule.{Rule}
-use Rattle.forwarding_chains.specs.declared.facts.Facts.{Facts}
+use Rattle.ownership_chains.specs.declared.facts.Facts.{Facts}
 use Rattle.memory_accesses.specs.declared.source.Source.{Source}
 use Rattle.memory_rules.specs.Broken.{IsBroken, IsPartRule, MemoryBreak}
 use Rattle.memory_rules.specs.Broken.IsBroken.{at_part, crossing, static}

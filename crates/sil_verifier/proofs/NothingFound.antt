@@ -12,7 +12,7 @@ use Rattle.type_check.specs.Refusals.IsBroken.{broken}
 use Rattle.type_definitions.specs.Rules.{exceeds_depth, exceeds_leaves}
 use Rattle.sil_verifier.proofs.DeclaredTypes.{declared_not_refused, typed_not_wrong}
 use Rattle.sil_verifier.specs.Findings.{Accepted, Finding, item, limit, typing, value, IsFound}
-use Rattle.sil_verifier.specs.Laws.{AreAcceptedWhereNothingIsFound}
+use Rattle.sil_verifier.specs.inner.Laws.{AreAcceptedWhereNothingIsFound}
 use Rattle.sil_verifier.specs.Refusals.{HasTypes}
 
 module _ (m : Module) where

@@ -9,8 +9,8 @@ use Rattle.sil_cfg.specs.Returns.{is_return}
 use Rattle.sil_cfg.specs.declared.item.Item.{Item}
 use Rattle.path_checks.specs.First.{IsShown}
 use Rattle.path_checks.specs.declared.entry.Entry as entry
-use Rattle.forwarding_chains.specs.Facts.{has, known_or, value_of}
-use Rattle.forwarding_chains.specs.declared.facts.Facts.{Facts}
+use Rattle.ownership_chains.specs.Facts.{has, known_or, value_of}
+use Rattle.ownership_chains.specs.declared.facts.Facts.{Facts}
 use Rattle.ownership_marks.specs.Marks.{marks_of}
 use Rattle.ownership_marks.specs.declared.mark.Mark as mark
 use Rattle.ownership_marks.specs.declared.mark.MarkSort.{MarkSort}

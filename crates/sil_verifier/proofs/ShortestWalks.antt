@@ -9,7 +9,7 @@ use Rattle.type_definitions.specs.Declarations.{declarations_of}
 use Rattle.memory_rules.specs.Statics.{is_static}
 use Rattle.sil_verifier.proofs.FirstShown.{stage_told}
 use Rattle.sil_verifier.specs.Findings.{Refusal, value}
-use Rattle.sil_verifier.specs.Laws.{AreWalksShortest}
+use Rattle.sil_verifier.specs.inner.Laws.{AreWalksShortest}
 use Rattle.sil_verifier.specs.Shown.{Showing, has_walk, is_of_kinds, last_key}
 use Rattle.sil_verifier.specs.Values.{IsShown}
 

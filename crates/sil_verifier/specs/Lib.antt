@@ -1,9 +1,6 @@
 pub mod Refusals
-pub mod Lowered
 pub mod Shown
 pub mod Values
 pub mod Findings
 pub mod Reports
-pub mod Checked
-pub mod Ends
-pub mod Laws
+pub mod inner

@@ -6,7 +6,7 @@ ghost use Rattle.sil_ast.specs.declared.module.Module.{Module};
 ghost use Rattle.sil_rules.specs.Order.{IsEarlier, IsFirst};
 ghost use Rattle.type_check.specs.Refusals.{IsBroken, fault_key};
 ghost use Rattle.type_definitions.specs.Rules.{AreDeclarationsOf};
-ghost use Rattle.sil_verifier.specs.Lowered as lowering;
+ghost use Rattle.sil_verifier.specs.inner.Lowered as lowering;
 ghost use Rattle.sil_verifier.specs.Refusals.{IsLowered, IsWrong};
 
 use crate::lowered::first_lowered;

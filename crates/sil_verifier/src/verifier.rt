@@ -2,7 +2,7 @@
 
 ghost use Rattle.std.specs.Prelude.{◌≡◌, IfErr, IfOk, OnOk};
 ghost use Rattle.numbered_form.specs.NumberedForm.{IsNumbered};
-ghost use Rattle.sil_verifier.specs.Ends.{IsVerifyEnd};
+ghost use Rattle.sil_verifier.specs.inner.Ends.{IsVerifyEnd};
 ghost use Rattle.sil_verifier.specs.Findings.{Accepted};
 ghost use Rattle.sil_verifier.specs.Refusals as types;
 ghost use Rattle.sil_verifier.specs.Refusals.{HasTypes};

@@ -12,10 +12,10 @@ use Rattle.sil_shape.specs.declared.grammar.Production.TheVariants as p
 use Rattle.sil_shape.specs.declared.grammar.Symbol.TheVariants.{Part}
 use Rattle.sil_shape.specs.Grammar.{body, written}
 use Rattle.sil_shape.specs.Rows.{ends_block, parts_row, row_body, row_part}
-use Rattle.written_modules.specs.Meaning.{meaning}
+use Rattle.written_modules.specs.inner.Meaning.{meaning}
 use Rattle.written_modules.specs.Opened.{PartType, PartValue}
-use Rattle.written_modules.specs.PartFaults.{part_fault}
-use Rattle.written_modules.specs.RowMeaning.{row, with_parts}
+use Rattle.written_modules.specs.inner.PartFaults.{part_fault}
+use Rattle.written_modules.specs.inner.RowMeaning.{row, with_parts}
 use Rattle.written_modules.specs.Types.{in_parens, named_type, one_token, tailed, type_before, width_in_range}
 use Rattle.written_modules.specs.Values.{bare_inst, token_of, stage_of, imports_of, items_of, item_of, fields_of, field_of, field_before, cases_of, type_of, payload_of, types_of, questions_of, linkage_of, tokens_of, convention_of, params_of, param_before, givens_of, given_before, signature_of, blocks_of, block_of, args_of, arg_of, ownership_of, starred, insts_of, terminator_of, inst_of, operands_of, operand_of, edges_of, edge_of, member_of, flags_of, qualifier_of, debug_of, entry_of}
 use Rattle.written_modules.specs.Variants as v

@@ -23,8 +23,8 @@ use Rattle.sil_shape.specs.declared.grammar.Symbol.{Symbol}
 use Rattle.sil_shape.specs.Rows.{comma_behind, comma_between, edges_by, edges_of, member_by, member_of as member_part, operand_of as operand_part, parts_row, qualifier_of as qualifier_part, symbols_of, word_by}
 use Rattle.written_numbers.specs.Numbers.{literal_of}
 use Rattle.written_modules.specs.Opened.{PartValue}
-use Rattle.written_modules.specs.PartFaults.{fault_of_part}
-use Rattle.written_modules.specs.RowMeaning.{edges_at, number_by, typed_by, with_part}
+use Rattle.written_modules.specs.inner.PartFaults.{fault_of_part}
+use Rattle.written_modules.specs.inner.RowMeaning.{edges_at, number_by, typed_by, with_part}
 use Rattle.written_modules.specs.Values.{debug_of, edge_of, edges_of as stored_edges, flags_of, member_of, operand_of, operands_of, qualifier_of, signature_of, token_of, tokens_of, type_of}
 use Rattle.written_modules.specs.Variants as v
 use Rattle.written_tree.specs.declared.fault.Fault.{Fault}

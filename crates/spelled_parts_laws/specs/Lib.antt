@@ -4,4 +4,4 @@ pub mod Means
 pub mod Faults
 pub mod Reading
 pub mod Stands
-pub mod Laws
+pub mod inner

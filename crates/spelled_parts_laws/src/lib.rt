@@ -2,7 +2,7 @@
 //! production of the grammar. It has no code that runs: its calls are laws about the definitions of the crates below.
 #![tactic(auto)]
 
-ghost use Rattle.spelled_parts_laws.specs.Laws.{AreReplayed, AreToldByReplay};
+ghost use Rattle.spelled_parts_laws.specs.inner.Laws.{AreReplayed, AreToldByReplay};
 
 /// Tokens stand for values just where they derive from the symbols, nothing is at fault and the replay of the derivation's
 /// steps comes to the values.

@@ -5,7 +5,7 @@ use Rattle.instruction_table.specs.declared.op.Op.TheVariants as op
 use Rattle.token_classes.specs.declared.classes.Keyword.{Keyword}
 use Rattle.token_classes.specs.declared.classes.Keyword.TheVariants as k
 use Rattle.token_classes.specs.Spelling.{spelling, keywords, known_keyword}
-use Rattle.token_classes.specs.ByLetter.{keywords_at, looked_up, place_of}
+use Rattle.token_classes.specs.inner.ByLetter.{keywords_at, looked_up, place_of}
 use Rattle.token_classes.proofs.SpellingLemmas.{find_spelled}
 
 -- each keyword has its place in the table: computed for all of them

@@ -3,7 +3,7 @@ use Rattle.std.proofs.Common.{◌≡◌, refl, ap, sym, ◌∙◌, subst, ◌⊎
 use Rattle.std.specs.Prelude.{Option, Some, IfSome, unwrap_or}
 use Rattle.token_classes.specs.declared.classes.AtWord.TheVariants as a
 use Rattle.token_classes.specs.declared.classes.Keyword.TheVariants as k
-use Rattle.token_classes.specs.Laws.{AreAtWordsSpelled, AreKeywordsSpelled, ArePunctuationSpelled, HaveOwnSpellings}
+use Rattle.token_classes.specs.inner.Laws.{AreAtWordsSpelled, AreKeywordsSpelled, ArePunctuationSpelled, HaveOwnSpellings}
 use Rattle.token_classes.specs.Spelling.{at_spelling, at_word_of, keyword_of, known_at_word, known_keyword, punctuation_of, punctuation_spelling, signs, spelling}
 use Rattle.token_classes.proofs.SpellingLemmas.{at_word_each, at_word_known, at_word_of-at_spelling, find_spelled, keyword_each, keyword_known, keyword_of-spelling, punctuation_of-punctuation_spelling}
 

@@ -1,3 +1,2 @@
-pub mod ByLetter
-pub mod Laws
 pub mod Spelling
+pub mod inner

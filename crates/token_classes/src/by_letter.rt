@@ -1,7 +1,7 @@
 //! Keywords are looked up among those with the same first letter, which answers as a search through all of them does.
 
 ghost use Rattle.std.specs.Prelude.{◌≡◌};
-ghost use Rattle.token_classes.specs.ByLetter.{keywords_at, looked_up};
+ghost use Rattle.token_classes.specs.inner.ByLetter.{keywords_at, looked_up};
 
 use crate::classes::Keyword;
 use crate::classes::Keyword::Mnemonic;

@@ -1,6 +1,6 @@
 //! What spelling tells apart: a law about the definitions of this crate, which has no code that runs.
 
-ghost use Rattle.token_classes.specs.Laws.{AreAtWordsSpelled, AreKeywordsSpelled, ArePunctuationSpelled, HaveOwnSpellings};
+ghost use Rattle.token_classes.specs.inner.Laws.{AreAtWordsSpelled, AreKeywordsSpelled, ArePunctuationSpelled, HaveOwnSpellings};
 ghost use Rattle.token_classes.specs.Spelling.{at_spelling, punctuation_spelling, spelling};
 
 /// A word is a keyword just where it is spelled so, as a name with `@` and punctuation are; and no two of them are spelled alike.

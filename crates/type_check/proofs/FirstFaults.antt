@@ -21,8 +21,8 @@ use Rattle.sil_types.specs.Typing.Typed.BreaksAtFunction.{external, address_esca
 use Rattle.sil_types.specs.Typing.Typed.BreaksAtPoint.{operand_type, result_count, edge_arguments, callee, switch_cases, entry_has_predecessor, qualifier, signature as point_signature, mixed_forms as point_mixed}
 use Rattle.sil_types.specs.Typing.Typed.BreaksAtVtable.{deinit_signature}
 use Rattle.type_check.proofs.Firsts.{IsIn, AreAfter, AreInOrder, IsFirstRule, first_rule, first_of_places, first_same, at_zero, of_zero}
-use Rattle.type_check.specs.FirstFault.{judged_function, judged_point, judged_vtable, fault_of_inst, fault_of_block, fault_of_body, fault_of_function, fault_of_vtable, fault_of}
-use Rattle.type_check.specs.Firsts.{Judged, first_broken, first_from, IsAtSome}
+use Rattle.type_check.specs.inner.FirstFault.{judged_function, judged_point, judged_vtable, fault_of_inst, fault_of_block, fault_of_body, fault_of_function, fault_of_vtable, fault_of}
+use Rattle.type_check.specs.inner.Firsts.{Judged, first_broken, first_from, IsAtSome}
 use Rattle.type_check.specs.Refusals.{fault_at, fault_key, IsBroken}
 use Rattle.type_check.specs.Refusals.IsBroken.{broken}
 use Rattle.type_check.specs.declared.fault.TypingFault.{TypingFault}

@@ -11,7 +11,7 @@ use Rattle.numbered_form.specs.Lists.{Each}
 use Rattle.numbered_form.specs.NumberedForm.{IsNumbered}
 use Rattle.numbered_form.specs.Numbering.{IsEdgeInRange, IsFunctionNumbered, IsInstInRange, values_of}
 use Rattle.sil_rules.specs.declared.limits.TheConstants.{BLOCKS, INSTRUCTIONS}
-use Rattle.type_check.specs.Body.{AreEdgesInRange, HasBodyInRange, IsBlockInRange}
+use Rattle.type_check.specs.inner.Body.{AreEdgesInRange, HasBodyInRange, IsBlockInRange}
 
 each_of : {A : Type 0} (P Q : A → Type 0) → ((x : A) → P x → Q x) → (xs : List A) → Each P xs → Each Q xs
 each_of P Q to [] h = tt

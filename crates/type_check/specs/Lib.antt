@@ -1,5 +1,2 @@
 pub mod Refusals
-pub mod Firsts
-pub mod FirstFault
-pub mod Facts
-pub mod Body
+pub mod inner

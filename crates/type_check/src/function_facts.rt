@@ -1,14 +1,14 @@
 //! What is known of the values and blocks of one function.
 
 ghost use Rattle.std.specs.Prelude.{OnOk};
-ghost use Rattle.type_check.specs.Facts.{AreFactsOf};
+ghost use Rattle.type_check.specs.inner.Facts.{AreFactsOf};
 
-use form_rules::count_incoming;
-use signature_rules::find_value_functions;
 use sil_ast::{Exhausted, FuncId, Function};
 use sil_types::TypeTable;
 use std::alloc::Global;
-use value_types::{GivenTypes, find_value_types};
+use typing_forms::count_incoming;
+use typing_signatures::find_value_functions;
+use typing_values::{GivenTypes, find_value_types};
 
 /// What the rows give: by value its type, by instruction how many results. By value the function that it stands for, and by block
 /// how many edges go to it, 2 for more than one.

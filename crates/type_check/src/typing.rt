@@ -6,9 +6,9 @@ ghost use Rattle.numbered_form.specs.Lists.{Each};
 ghost use Rattle.numbered_form.specs.NumberedForm.{IsNumbered};
 ghost use Rattle.sil_types.specs.Typing.FormRules as forms;
 ghost use Rattle.sil_types.specs.Typing.Typed.{Typed};
-ghost use Rattle.type_check.specs.Body.{HasBodyInRange};
-ghost use Rattle.type_check.specs.FirstFault.{fault_of, fault_of_function, fault_of_vtable};
-ghost use Rattle.type_check.specs.Firsts.{first_from};
+ghost use Rattle.type_check.specs.inner.Body.{HasBodyInRange};
+ghost use Rattle.type_check.specs.inner.FirstFault.{fault_of, fault_of_function, fault_of_vtable};
+ghost use Rattle.type_check.specs.inner.Firsts.{first_from};
 ghost use Rattle.type_check.specs.Refusals.{IsRefusal};
 ghost use Rattle.type_definitions.specs.Declarations.{declarations_of};
 ghost use Rattle.type_definitions.specs.Rules.{AreDeclarationsOf};
@@ -19,10 +19,10 @@ use crate::function_facts::{FunctionFacts, find_facts};
 use crate::points::first_in_body;
 use crate::refusal::CheckRefusal;
 use crate::rules::{rule_at_function, rule_at_vtable};
-use form_rules::first_form;
 use sil_ast::{Exhausted, Form, FuncId, Function, Module, Vtable};
 use sil_types::TypeTable;
 use std::alloc::Global;
+use typing_forms::first_form;
 
 /// Decides whether a module is typed: whether it keeps 201 to 212. The refusal is the first of all that is wrong: by function,
 /// within it at the function before its points, the points in order, at one place by rule, and behind all functions 208 by vtable.

@@ -12,7 +12,7 @@ use Rattle.type_definitions.specs.Contained.{names_in, names_over, held_names, h
 use Rattle.type_definitions.specs.Measures.{measure_with, measure_over, measure_decl, of_members, of_payloads, of_storage, measured}
 use Rattle.type_definitions.specs.declared.measure.Measure.{Measure}
 use Rattle.type_definitions.specs.Mentions.{together, target_of, target_at}
-use Rattle.type_measures.specs.Gathered.{capped, gathered, as_members, as_payloads}
+use Rattle.type_measures.specs.inner.Gathered.{capped, gathered, as_members, as_payloads}
 use Rattle.type_measures.proofs.Gathering.{gathered_same, members_capped, payloads_capped, storage_capped}
 
 -- the names of a type, by its form

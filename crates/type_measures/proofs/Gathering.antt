@@ -10,7 +10,7 @@ use Rattle.sil_ast.specs.TypeName.{largest}
 use Rattle.type_definitions.specs.Measures.{all_trivial, all_leaves, most_leaves, most_depth, of_members, of_payloads, of_storage, leaves_in, depth_in, is_trivial_measure, measured}
 use Rattle.type_definitions.specs.declared.measure.Measure.{Measure}
 use Rattle.type_measures.specs.declared.gathered.Gathered.{Gathered}
-use Rattle.type_measures.specs.Gathered.{capped, gathered, with_member, as_members, as_payloads}
+use Rattle.type_measures.specs.inner.Gathered.{capped, gathered, with_member, as_members, as_payloads}
 
 all_leaves-push : (ms : List Measure) (m : Measure) → all_leaves (ms ++ m ∷ []) ≡ all_leaves ms + m.leaves
 all_leaves-push ms m = ap sum (map-append leaves_in ms (m ∷ [])) ∙ sum_by-append (λ n. n) (map leaves_in ms) (m.leaves ∷ []) ∙ omega arith

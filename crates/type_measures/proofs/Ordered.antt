@@ -8,7 +8,7 @@ use Rattle.std.proofs.lemmas.List.{length-map, length-set, get_or-map, get_or-ta
 use Rattle.std.proofs.lemmas.Option.{unwrap_or-slice_get}
 use Rattle.std.proofs.lemmas.List.Elements.{All-contains, Contains-append_left, Contains-append_right}
 use Rattle.containment.specs.Chains.{parts_of}
-use Rattle.containment.specs.Order.{ArePartsBefore, IsOrder}
+use Rattle.containment.specs.inner.Order.{ArePartsBefore, IsOrder}
 use Rattle.sil_ast.specs.declared.decl.Decl.{Decl}
 use Rattle.numbered_form.specs.Names.{Name}
 use Rattle.type_definitions.specs.Contained.{containment, held_names, held_places, place_list}
@@ -16,8 +16,8 @@ use Rattle.type_definitions.specs.Declarations.{Declarations, all_decls, all_nam
 use Rattle.type_definitions.specs.Measures.{measure_at, measure_decl, measure_of, measure_with, measures_of, measures_within, unmeasured}
 use Rattle.type_definitions.specs.declared.measure.Measure.{Measure}
 use Rattle.sil_ast.specs.declared.type_name.TypeName.{TypeName}
-use Rattle.type_measures.specs.Gathered.{capped, known_at}
-use Rattle.type_measures.specs.Ordered.{AreMeasuredUpTo}
+use Rattle.type_measures.specs.inner.Gathered.{capped, known_at}
+use Rattle.type_measures.specs.inner.Ordered.{AreMeasuredUpTo}
 use Rattle.type_measures.proofs.Agreement.{decl_agrees, type_agrees}
 use Rattle.type_measures.proofs.Gathering.{capped_twice}
 

@@ -13,7 +13,7 @@ use Rattle.std.specs.List.{flat_map}
 use Rattle.sil_ast.specs.declared.type_name.TypeName.{TypeName}
 use Rattle.numbered_form.specs.Names.{Name}
 use Rattle.type_definitions.specs.Contained.{names_in, place_list, itself, held_places, held_names}
-use Rattle.type_measures.specs.Places.{places_in}
+use Rattle.type_measures.specs.inner.Places.{places_in}
 use Rattle.type_measures.proofs.Agreement.{names-Tuple}
 use Rattle.sil_ast.specs.declared.type_name.TypeName.TheVariants.{Tuple}
 

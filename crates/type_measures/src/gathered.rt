@@ -2,7 +2,7 @@
 
 ghost use Rattle.std.specs.Prelude.{◌≡◌, ◌≤◌, [], ◌∷◌};
 ghost use Rattle.type_definitions.specs.Measures.{measured};
-ghost use Rattle.type_measures.specs.Gathered.{gathered, with_member, as_members, as_payloads};
+ghost use Rattle.type_measures.specs.inner.Gathered.{gathered, with_member, as_members, as_payloads};
 
 use sil_rules::limits::{DEPTH, LEAVES};
 use type_definitions::Measure;

@@ -7,11 +7,11 @@ ghost use Rattle.containment.specs.Chains.{IsInRange};
 ghost use Rattle.type_definitions.specs.Contained as contained;
 ghost use Rattle.type_definitions.specs.Contained.{field_type, held_places, names_in, payload_types, place_list};
 ghost use Rattle.type_definitions.specs.Declarations.{all_names};
-ghost use Rattle.type_measures.specs.Places.{places_in};
+ghost use Rattle.type_measures.specs.inner.Places.{places_in};
 
-use declaration_table::DeclarationTable;
 use sil_ast::{Case, Decl, Exhausted, Field, List, TypeName};
 use std::alloc::Global;
+use type_declarations::DeclarationTable;
 
 /// For each declaration the places of those that it holds, a name as often as it stands there.
 pub fn containment(alloc: Global, table: &DeclarationTable) -> Result<List<List<usize>>, Exhausted>

@@ -9,12 +9,12 @@ ghost use Rattle.type_definitions.specs.Measures as measures;
 ghost use Rattle.type_definitions.specs.Measures.{measure_at, measure_with, of_storage};
 ghost use Rattle.type_definitions.specs.Mentions.{operand_types, result_type, together};
 ghost use Rattle.type_definitions.specs.declared.measure.Measure.{Measure};
-ghost use Rattle.type_measures.specs.Gathered as spec;
-ghost use Rattle.type_measures.specs.Gathered.{capped, gathered};
+ghost use Rattle.type_measures.specs.inner.Gathered as spec;
+ghost use Rattle.type_measures.specs.inner.Gathered.{capped, gathered};
 
 use crate::gathered::{Gathered, MOST_DEPTH, MOST_LEAVES};
-use declaration_table::DeclarationTable;
 use sil_ast::{Case, Decl, Field, Given, Operand, Text, TypeName};
+use type_declarations::DeclarationTable;
 use type_definitions::Measure;
 
 /// Of the declaration at a place, where there is one.

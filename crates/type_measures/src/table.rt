@@ -1,15 +1,15 @@
 //! The measures of all declarations, each once, in an order in which parts stand before wholes.
 
 ghost use Rattle.std.specs.Prelude.{◌≡◌, map, IfOk};
-ghost use Rattle.containment.specs.Order.{IsOrder};
+ghost use Rattle.containment.specs.inner.Order.{IsOrder};
 ghost use Rattle.type_definitions.specs.Contained.{containment};
 ghost use Rattle.type_definitions.specs.Measures.{measures_of};
-ghost use Rattle.type_measures.specs.Gathered.{capped};
+ghost use Rattle.type_measures.specs.inner.Gathered.{capped};
 
 use crate::measure::measure_decl;
-use declaration_table::DeclarationTable;
 use sil_ast::{Exhausted, List};
 use std::alloc::Global;
+use type_declarations::DeclarationTable;
 use type_definitions::Measure;
 
 /// The measures of all declarations, by an order in which parts stand before wholes.

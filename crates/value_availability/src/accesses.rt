@@ -2,13 +2,13 @@
 
 ghost use Rattle.std.specs.Prelude.{◌≡◌, ℕ, ◌+◌, ◌<◌, [], ◌∷◌, ◌++◌, length, map, slice_get, IfOk, OnOk};
 ghost use Rattle.sil_cfg.specs.Layout.{item_count};
-ghost use Rattle.item_lists.specs.Lists.{list_at};
+ghost use Rattle.path_lists.specs.inner.Lists.{list_at};
 ghost use Rattle.path_patterns.specs.Reads.{AgreesWith};
 ghost use Rattle.value_availability.specs.Accesses.{used, defined, begun, of_args, of_inst, of_inst_at, of_edge, of_edge_at, of_exit, accesses_of};
 ghost use Rattle.std.specs.Prelude.{Some};
 
-use item_lists::ItemLists;
 use path_checks::Entry;
+use path_lists::ItemLists;
 use path_patterns::Mark;
 use sil_ast::{
     BlockArg, BlockId, Edge, EdgeId, Exhausted, Function, Inst, Operand, PointId, ValueId,

@@ -4,7 +4,7 @@ ghost use Rattle.std.specs.Prelude.{IfOk, OnOk, IfErr};
 ghost use Rattle.sil_cfg.specs.Build.{IsGraphOf};
 ghost use Rattle.path_checks.specs.First.{IsFirst};
 ghost use Rattle.value_availability.specs.Accesses.{accesses_of};
-ghost use Rattle.value_availability.specs.Availability.{IsAvailable, IsUndefined};
+ghost use Rattle.value_availability.specs.inner.Availability.{IsAvailable, IsUndefined};
 
 use crate::accesses::entries_by_item;
 use path_checks::{PathFault, first_fault};

@@ -8,7 +8,7 @@ use Rattle.written_modules.specs.declared.found.Found.{Found}
 use Rattle.written_modules.specs.declared.found.Found.TheVariants.{At, Past}
 use Rattle.written_tree.specs.declared.written_declarations.WrittenToken.{WrittenToken}
 use Rattle.written_tree.specs.declared.written_module.WrittenItem.{WrittenItem}
-use Rattle.written_modules.specs.Found.{Finds, decl_places, function_places, kept_places}
+use Rattle.written_modules.specs.inner.Found.{Finds, decl_places, function_places, kept_places}
 use Rattle.written_tree.specs.Places.{attribute_places, decl_names, function_names, is_kept, token_place}
 
 pub get-append_in : {A : Type 0} (xs ys : List A) (i : ℕ) (x : A) → slice_get xs i ≡ Some x → slice_get (xs ++ ys) i ≡ Some x

@@ -19,10 +19,10 @@ use Rattle.written_tree.specs.declared.fault.Fault.{Fault}
 use Rattle.written_tree.specs.Faults.{earlier}
 use Rattle.written_modules.specs.declared.value.Value.{Value}
 use Rattle.written_modules.specs.declared.value.Value.TheVariants as v
-use Rattle.written_modules.specs.Lacking.{lacking, lacking_within, waiting}
-use Rattle.written_modules.specs.Meaning.{meaning}
-use Rattle.written_modules.specs.PartFaults.{part_fault}
-use Rattle.written_modules.specs.Replay.{first_fault, parts_of, reduced, replay}
+use Rattle.written_modules.specs.inner.Lacking.{lacking, lacking_within, waiting}
+use Rattle.written_modules.specs.inner.Meaning.{meaning}
+use Rattle.written_modules.specs.inner.PartFaults.{part_fault}
+use Rattle.written_modules.specs.inner.Replay.{first_fault, parts_of, reduced, replay}
 use Rattle.written_modules.specs.Types.{tailed}
 use Rattle.written_modules.specs.Values.{no_token, token_of, stage_of, imports_of, items_of, item_of, fields_of, field_of, field_before, cases_of, type_of, payload_of, types_of, questions_of, linkage_of, tokens_of, convention_of, params_of, param_before, givens_of, given_before, signature_of, blocks_of, block_of, args_of, arg_of, ownership_of, starred, insts_of, terminator_of, inst_of, operands_of, operand_of, edges_of, edge_of, member_of, flags_of, qualifier_of, debug_of, entry_of}
 

@@ -9,7 +9,7 @@ use Rattle.sil_shape.specs.Grammar.{body}
 use Rattle.sil_shape.specs.Values.{values_left, IsEnough}
 use Rattle.sil_shape.proofs.ValuesLemmas.{IsEnough-drop}
 use Rattle.written_modules.specs.declared.value.Value.{Value}
-use Rattle.written_modules.specs.Replay.{reduced, replay}
+use Rattle.written_modules.specs.inner.Replay.{reduced, replay}
 
 length-reduced : (p : Production) (values : List Value) → length (reduced p values) ≡ length values - length (body p) + 1
 unfolding reduced

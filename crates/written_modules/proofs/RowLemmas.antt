@@ -14,12 +14,12 @@ use Rattle.sil_shape.specs.declared.grammar.Production.TheVariants.{Row}
 use Rattle.written_tree.specs.Faults.{earlier}
 use Rattle.written_tree.specs.declared.fault.Fault.{Fault}
 use Rattle.written_tree.specs.declared.written_instructions.WrittenInst.{WrittenInst}
-use Rattle.written_modules.specs.PartFaults.{fault_of_part, part_fault, parts_fault, row_fault}
-use Rattle.written_modules.specs.Replay.{reduced}
-use Rattle.written_modules.specs.Meaning.{meaning}
+use Rattle.written_modules.specs.inner.PartFaults.{fault_of_part, part_fault, parts_fault, row_fault}
+use Rattle.written_modules.specs.inner.Replay.{reduced}
+use Rattle.written_modules.specs.inner.Meaning.{meaning}
 use Rattle.written_modules.specs.Values.{bare_inst, token_of}
-use Rattle.written_modules.specs.Parts.{part}
-use Rattle.written_modules.specs.RowMeaning.{behind_part, edges_at, row, with_part, with_parts}
+use Rattle.written_modules.specs.inner.Parts.{part}
+use Rattle.written_modules.specs.inner.RowMeaning.{behind_part, edges_at, row, with_part, with_parts}
 use Rattle.written_modules.specs.declared.value.Value.{Value}
 use Rattle.written_modules.specs.declared.value.Value.TheVariants as v
 

@@ -10,7 +10,7 @@ use Rattle.sil_shape.specs.declared.grammar.Symbol.{Symbol}
 use Rattle.sil_shape.specs.declared.grammar.Symbol.TheVariants.{Part}
 use Rattle.sil_shape.specs.declared.steps.Step.{Step}
 use Rattle.sil_shape.specs.declared.steps.Step.TheVariants.{Expand}
-use Rattle.sil_shape.specs.Begun.{LeadsTo}
+use Rattle.sil_shape.specs.inner.Begun.{LeadsTo}
 use Rattle.sil_shape.specs.Derivation.{Accepts, Derives, nothing, rule, start, token}
 use Rattle.sil_shape.specs.Grammar.{written}
 use Rattle.sil_shape.specs.Rows.{ends_block, row_part}
@@ -21,8 +21,8 @@ use Rattle.sil_shape.proofs.ValuesLemmas.{takes_of-append, takes_of-derives, val
 use Rattle.written_modules.specs.declared.value.Value.{Value}
 use Rattle.written_modules.specs.declared.value.Value.TheVariants as v
 use Rattle.written_tree.specs.declared.written_module.WrittenModule.{WrittenModule}
-use Rattle.written_modules.specs.Meaning.{meaning}
-use Rattle.written_modules.specs.Replay.{reduced, replay}
+use Rattle.written_modules.specs.inner.Meaning.{meaning}
+use Rattle.written_modules.specs.inner.Replay.{reduced, replay}
 use Rattle.written_modules.proofs.ReplayLength.{length-replay}
 
 no_row : (ends : Bool) → (if ends then n.Terminator else n.Row) ≡ n.Module → ⊥

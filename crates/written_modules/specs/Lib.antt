@@ -1,13 +1,6 @@
 pub mod Leaves
-pub mod Parts
-pub mod RowMeaning
-pub mod Meaning
-pub mod PartFaults
-pub mod Replay
 pub mod Types
 pub mod Values
-pub mod Found
-pub mod Lacking
 pub mod Opened
 pub mod Variants
-pub mod Sections
+pub mod inner

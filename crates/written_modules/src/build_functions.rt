@@ -4,9 +4,9 @@ ghost use Rattle.std.specs.Prelude.{◌≡◌, [], ◌∷◌, ◌≤◌, List, l
 ghost use Rattle.sil_shape.specs.declared.grammar.Production.{Production};
 ghost use Rattle.written_modules.specs.declared.value.Value.{Value};
 ghost use Rattle.written_modules.specs.declared.value.Value.TheVariants as v;
-ghost use Rattle.written_modules.specs.Meaning.{param};
-ghost use Rattle.written_modules.specs.PartFaults.{part_fault};
-ghost use Rattle.written_modules.specs.Replay.{parts_of, reduced};
+ghost use Rattle.written_modules.specs.inner.Meaning.{param};
+ghost use Rattle.written_modules.specs.inner.PartFaults.{part_fault};
+ghost use Rattle.written_modules.specs.inner.Replay.{parts_of, reduced};
 ghost use Rattle.written_modules.specs.Values.{given_before, givens_of, no_givens, no_params, param_before, params_of};
 
 use crate::faults::{body_fault, too_many_arguments, too_many_attributes};

@@ -1,7 +1,7 @@
 //! Builds the numbers of instructions.
 
 ghost use Rattle.std.specs.Prelude.{◌≡◌, ◌≤◌};
-ghost use Rattle.written_modules.specs.RowMeaning.{element_of, number_by};
+ghost use Rattle.written_modules.specs.inner.RowMeaning.{element_of, number_by};
 ghost use Rattle.written_modules.specs.Types.{width_of};
 
 use instruction_table::Detail;

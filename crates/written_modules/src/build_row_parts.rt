@@ -3,8 +3,8 @@
 ghost use Rattle.std.specs.Prelude.{◌≡◌, ◌∷◌, ◌++◌, ◌≤◌, drop, length, map, IfOk, OnOk};
 ghost use Rattle.instruction_table.specs.Forms.{ending_of, may_lack_operand};
 ghost use Rattle.sil_shape.specs.Rows.{edges_by, symbols_of};
-ghost use Rattle.written_modules.specs.PartFaults.{fault_of_part};
-ghost use Rattle.written_modules.specs.RowMeaning.{bare_operand, edges_at, number_by, typed_by, with_part};
+ghost use Rattle.written_modules.specs.inner.PartFaults.{fault_of_part};
+ghost use Rattle.written_modules.specs.inner.RowMeaning.{bare_operand, edges_at, number_by, typed_by, with_part};
 
 use crate::build_numbers::number_by;
 use crate::faults::too_many_operands;

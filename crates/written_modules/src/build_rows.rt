@@ -5,8 +5,8 @@ ghost use Rattle.std.specs.Prelude.{◌≡◌, ◌∷◌, ◌≤◌, drop, lengt
 ghost use Rattle.sil_shape.specs.Grammar.{body};
 ghost use Rattle.sil_shape.specs.Rows.{brings_comma, comma_behind};
 ghost use Rattle.sil_shape.specs.declared.grammar.Production.TheVariants.{Row};
-ghost use Rattle.written_modules.specs.PartFaults.{part_fault};
-ghost use Rattle.written_modules.specs.Replay.{parts_of, reduced};
+ghost use Rattle.written_modules.specs.inner.PartFaults.{part_fault};
+ghost use Rattle.written_modules.specs.inner.Replay.{parts_of, reduced};
 ghost use Rattle.written_modules.specs.Values as none;
 
 use crate::build_row_parts::put_part;

@@ -4,10 +4,10 @@ ghost use Rattle.std.specs.Prelude.{◌≡◌, [], ◌∷◌, Some, ◌≤◌, L
 ghost use Rattle.sil_shape.specs.declared.grammar.Production.{Production};
 ghost use Rattle.written_modules.specs.declared.value.Value.{Value};
 ghost use Rattle.written_modules.specs.declared.value.Value.TheVariants as v;
-ghost use Rattle.written_modules.specs.Meaning as meant;
-ghost use Rattle.written_modules.specs.Meaning.{qualified};
-ghost use Rattle.written_modules.specs.PartFaults.{part_fault};
-ghost use Rattle.written_modules.specs.Replay.{parts_of, reduced};
+ghost use Rattle.written_modules.specs.inner.Meaning as meant;
+ghost use Rattle.written_modules.specs.inner.Meaning.{qualified};
+ghost use Rattle.written_modules.specs.inner.PartFaults.{part_fault};
+ghost use Rattle.written_modules.specs.inner.Replay.{parts_of, reduced};
 ghost use Rattle.written_modules.specs.Values.{debug_of, no_debug, no_qualifier};
 
 use crate::nothing::{no_debug, no_qualifier, skip};

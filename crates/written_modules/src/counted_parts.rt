@@ -2,7 +2,7 @@
 
 ghost use Rattle.std.specs.Prelude.{◌≡◌, ℕ, List, map};
 ghost use Rattle.std.specs.List.{flat_map};
-ghost use Rattle.written_modules.specs.Found.{Finds, decl_places, function_places, kept_places};
+ghost use Rattle.written_modules.specs.inner.Found.{Finds, decl_places, function_places, kept_places};
 ghost use Rattle.written_tree.specs.Places as placed;
 
 use crate::found::{Found, Holds, find_listed, find_one};

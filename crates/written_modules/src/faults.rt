@@ -5,7 +5,7 @@ ghost use Rattle.sil_rules.specs.declared.limits.TheConstants.{ARGUMENTS};
 ghost use Rattle.sil_rules.specs.declared.limit_word.LimitWord.TheVariants as limit;
 ghost use Rattle.written_tree.specs.Faults as faults;
 ghost use Rattle.written_tree.specs.Places as placed;
-ghost use Rattle.written_modules.specs.PartFaults as said;
+ghost use Rattle.written_modules.specs.inner.PartFaults as said;
 
 use crate::counted_parts::{Attributes, Declarations, Functions, Instructions, Values};
 use crate::found::{Placed, held_place, place_of};

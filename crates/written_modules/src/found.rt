@@ -3,7 +3,7 @@
 ghost use Rattle.std.specs.Prelude.{◌≡◌, ◌+◌, ℕ, List, [], ◌∷◌, length, map, slice_get};
 ghost use Rattle.std.specs.List.{flat_map};
 ghost use Rattle.sil_ast.specs.declared.place.Place.{Place};
-ghost use Rattle.written_modules.specs.Found.{Finds};
+ghost use Rattle.written_modules.specs.inner.Found.{Finds};
 ghost use Rattle.written_tree.specs.Places as placed;
 
 use crate::prepended::Prepended;

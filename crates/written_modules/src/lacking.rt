@@ -6,8 +6,8 @@ ghost use Rattle.sil_shape.specs.declared.grammar.Symbol.TheVariants.{Part};
 ghost use Rattle.sil_shape.specs.Shortest as said;
 ghost use Rattle.sil_shape.specs.Shortest.{Shortens};
 ghost use Rattle.sil_shape.specs.Values.{IsEnough};
-ghost use Rattle.written_modules.specs.Lacking.{lacking, Fills};
-ghost use Rattle.written_modules.specs.Replay.{replay};
+ghost use Rattle.written_modules.specs.inner.Lacking.{lacking, Fills};
+ghost use Rattle.written_modules.specs.inner.Replay.{replay};
 
 use crate::nothing::no_token;
 use crate::prepended::Prepended;

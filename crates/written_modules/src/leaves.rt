@@ -4,7 +4,7 @@ ghost use Rattle.std.specs.Prelude.{◌≡◌, ◌+◌, ◌<◌, ◌≤◌, All,
 ghost use Rattle.sil_lexer.specs.Lexing.{IsInside};
 ghost use Rattle.sil_lexer.specs.Spelling.{without_quotes, without_sigil};
 ghost use Rattle.written_modules.specs.Leaves as meant;
-ghost use Rattle.written_modules.specs.Replay.{IsKeptAt, IsLeafAt};
+ghost use Rattle.written_modules.specs.inner.Replay.{IsKeptAt, IsLeafAt};
 
 use crate::value::Value;
 use sil_ast::Exhausted;

@@ -5,9 +5,9 @@ ghost use Rattle.instruction_table.specs.declared.op.Op.{Op};
 ghost use Rattle.sil_shape.specs.Grammar.{body};
 ghost use Rattle.sil_shape.specs.declared.grammar.Production.TheVariants.{Row};
 ghost use Rattle.written_modules.specs.declared.sections.Section.TheVariants.{Blocks};
-ghost use Rattle.written_modules.specs.PartFaults.{part_fault};
-ghost use Rattle.written_modules.specs.Replay.{parts_of, reduced};
-ghost use Rattle.written_modules.specs.Sections.{section};
+ghost use Rattle.written_modules.specs.inner.PartFaults.{part_fault};
+ghost use Rattle.written_modules.specs.inner.Replay.{parts_of, reduced};
+ghost use Rattle.written_modules.specs.inner.Sections.{section};
 
 use crate::build_blocks;
 use crate::nothing::skip;

@@ -3,9 +3,9 @@
 ghost use Rattle.std.specs.Prelude.{◌≡◌, ◌≤◌, length, IfOk, OnOk};
 ghost use Rattle.sil_shape.specs.Grammar.{body};
 ghost use Rattle.written_modules.specs.declared.sections.Section.TheVariants.{Functions};
-ghost use Rattle.written_modules.specs.PartFaults.{part_fault};
-ghost use Rattle.written_modules.specs.Replay.{parts_of, reduced};
-ghost use Rattle.written_modules.specs.Sections.{section};
+ghost use Rattle.written_modules.specs.inner.PartFaults.{part_fault};
+ghost use Rattle.written_modules.specs.inner.Replay.{parts_of, reduced};
+ghost use Rattle.written_modules.specs.inner.Sections.{section};
 
 use crate::nothing::skip;
 use crate::prepended::Prepended;

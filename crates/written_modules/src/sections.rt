@@ -1,7 +1,7 @@
 //! The sections of the grammar, of which each has a table of builders.
 
 ghost use Rattle.std.specs.Prelude.{◌≡◌};
-ghost use Rattle.written_modules.specs.Sections.{section};
+ghost use Rattle.written_modules.specs.inner.Sections.{section};
 
 use sil_shape::grammar::Production;
 

@@ -8,7 +8,7 @@ use Rattle.std.proofs.lemmas.Fmt.{digits_decimal, digits_value-decimal, decimal_
 use Rattle.std.proofs.lemmas.Str.Parse.{IsNumeralModel, FoldsDigits, numerals_by_fold, tells_digits, digit_at}
 use Rattle.std.proofs.lemmas.Bool.Decides.{nat_tests}
 use Rattle.written_numbers.specs.Numbers.{next_number, number_of, value_of, literal_from, up_to}
-use Rattle.written_numbers.specs.Laws.{ReadsPrintedLiterals, ReadsPrintedNumbers}
+use Rattle.written_numbers.specs.inner.Laws.{ReadsPrintedLiterals, ReadsPrintedNumbers}
 use Rattle.written_numbers.proofs.Residues.{literal_by-small, mag_below, half_some, half_doubled, half_small}
 use lib.Signed.{mag}
 

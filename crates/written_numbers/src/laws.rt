@@ -1,6 +1,6 @@
 //! What follows from the definitions, on calls that do nothing.
 
-ghost use Rattle.written_numbers.specs.Laws.{AreLiteralsSigned, ReadsPrintedLiterals, ReadsPrintedNumbers};
+ghost use Rattle.written_numbers.specs.inner.Laws.{AreLiteralsSigned, ReadsPrintedLiterals, ReadsPrintedNumbers};
 
 /// What `literal` gives is a number of the signed range of the width.
 pub fn literals_are_signed()

@@ -22,7 +22,7 @@ impl Model for Spelling {
 
     ghost Value = { List ℕ };
 
-    ghost use Rattle.written_tree.specs.Spelled.{part_of, IsInside};
+    ghost use Rattle.written_tree.specs.inner.Spelled.{part_of, IsInside};
 
     ghost view = { λ s. part_of s.text s.from s.count };
 

@@ -1,6 +1,6 @@
 use Rattle.std.proofs.Common.{ap, ◌∙◌}
 use Rattle.std.specs.Prelude.{◌==◌}
-use Rattle.borrow_scopes.specs.Tables.{with_last_if}
+use Rattle.borrow_scopes.specs.inner.Tables.{with_last_if}
 use Rattle.borrow_scopes.proofs.Rows.{row_set}
 use Rattle.borrow_scopes.proofs.borrowers.add_borrower.Goals as goal
 

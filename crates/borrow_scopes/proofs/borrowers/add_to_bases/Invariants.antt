@@ -1,6 +1,6 @@
 use Rattle.std.proofs.Common.{◌≡◌, ℕ, take}
-use Rattle.forwarding_chains.specs.Facts.{has}
-use Rattle.borrow_scopes.specs.Tables.{borrowers_at, with_last_if}
+use Rattle.ownership_chains.specs.Facts.{has}
+use Rattle.borrow_scopes.specs.inner.Tables.{borrowers_at, with_last_if}
 use Rattle.borrow_scopes.proofs.borrowers.add_to_bases.Given as goal
 
 abbrev pub invariant-loop-base : goal.invariant-loop-base

@@ -1,6 +1,6 @@
 use Rattle.std.proofs.Common.{◌≡◌, ℕ}
 use Rattle.ownership_marks.specs.Known.{facts_of}
-use Rattle.borrow_scopes.specs.Tables.{borrowers_at, borrowers_of}
+use Rattle.borrow_scopes.specs.inner.Tables.{borrowers_at, borrowers_of}
 use Rattle.borrow_scopes.proofs.borrowers.borrowers_of.Given as goal
 
 abbrev pub invariant-loop-n : goal.invariant-loop-n

@@ -1,5 +1,5 @@
 use Rattle.std.proofs.Common.{ap, ◌∙◌}
-use Rattle.borrow_scopes.specs.Tables.{borrowers_at}
+use Rattle.borrow_scopes.specs.inner.Tables.{borrowers_at}
 use Rattle.borrow_scopes.proofs.Rows.{row_added}
 use Rattle.borrow_scopes.proofs.borrowers.grow.Goals as goal
 

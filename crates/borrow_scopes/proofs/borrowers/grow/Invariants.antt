@@ -1,5 +1,5 @@
 use Rattle.std.proofs.Common.{◌≡◌, ◌-◌, ◌+◌, ℕ, length}
-use Rattle.borrow_scopes.specs.Tables.{borrowers_at}
+use Rattle.borrow_scopes.specs.inner.Tables.{borrowers_at}
 use Rattle.borrow_scopes.proofs.borrowers.grow.Given as goal
 
 abbrev pub invariant-loop-alloc : goal.invariant-loop-alloc

@@ -1,6 +1,6 @@
 use Rattle.std.proofs.Common.{subst, Option}
 use Rattle.path_checks.specs.declared.entry.PathFault.{PathFault}
-use Rattle.borrow_scopes.specs.Borrows.{IsFirstScope}
+use Rattle.borrow_scopes.specs.inner.Borrows.{IsFirstScope}
 use Rattle.borrow_scopes.proofs.Reported.{reported}
 use Rattle.borrow_scopes.proofs.borrows.find.Goals as goal
 

@@ -5,12 +5,12 @@ use Rattle.std.proofs.lemmas.Result.{IfOk-weaker}
 use Rattle.sil_cfg.specs.declared.item.Item.{Item}
 use Rattle.path_patterns.specs.Reads.{AgreesWith}
 use Rattle.path_checks.specs.First.{IsFirst}
-use Rattle.path_checks.specs.Shared.{entries_with, is_sharing}
+use Rattle.path_checks.specs.inner.Shared.{entries_with, is_sharing}
 use Rattle.path_checks.specs.declared.entry.Entry.{Entry}
 use Rattle.ownership_marks.specs.Known.{facts_of}
-use Rattle.borrow_scopes.specs.Borrows.{IsFirstScope}
+use Rattle.borrow_scopes.specs.inner.Borrows.{IsFirstScope}
 use Rattle.borrow_scopes.specs.Scopes.{scopes_of}
-use Rattle.borrow_scopes.specs.Tables.{left_mark}
+use Rattle.borrow_scopes.specs.inner.Tables.{left_mark}
 use Rattle.borrow_scopes.proofs.Agreeing.{scopes_agree}
 use Rattle.borrow_scopes.proofs.borrows.first_broken.Goals as goal
 

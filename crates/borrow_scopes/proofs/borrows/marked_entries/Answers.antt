@@ -1,7 +1,7 @@
 use Rattle.std.proofs.Common.{ap, ◌∙◌, length}
 use Rattle.std.specs.List.{flat_map}
 use Rattle.ownership_marks.specs.Known.{facts_of, marks_at}
-use Rattle.borrow_scopes.specs.Tables.{borrowers_at, borrowers_of, mark_entries_in}
+use Rattle.borrow_scopes.specs.inner.Tables.{borrowers_at, borrowers_of, mark_entries_in}
 use Rattle.borrow_scopes.proofs.Agreeing.{marks_by_tables}
 use Rattle.borrow_scopes.proofs.borrows.marked_entries.Goals as goal
 

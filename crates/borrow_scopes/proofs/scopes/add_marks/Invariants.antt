@@ -1,7 +1,7 @@
 use Rattle.std.proofs.Common.{◌≡◌, ◌++◌, take}
 use Rattle.std.specs.List.{flat_map}
 use Rattle.ownership_marks.specs.Known.{facts_of}
-use Rattle.borrow_scopes.specs.Tables.{mark_entries_in}
+use Rattle.borrow_scopes.specs.inner.Tables.{mark_entries_in}
 use Rattle.borrow_scopes.proofs.scopes.add_marks.Given as goal
 
 abbrev pub invariant-loop-mark : goal.invariant-loop-mark

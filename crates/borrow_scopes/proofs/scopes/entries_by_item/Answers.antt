@@ -1,10 +1,10 @@
 use Rattle.std.proofs.Common.{◌≡◌, ◌+◌, ℕ, List, [], ◌∷◌, ◌++◌, length, refl, ap, ◌∙◌}
 use Rattle.std.specs.List.{flat_map}
-use Rattle.item_lists.specs.Lists.{list_at}
-use Rattle.item_lists.proofs.Items.{count_pushed, list_one_more}
+use Rattle.path_lists.specs.inner.Lists.{list_at}
+use Rattle.path_lists.proofs.Items.{count_pushed, list_one_more}
 use Rattle.path_checks.specs.declared.entry.Entry.{Entry}
 use Rattle.ownership_marks.specs.Known.{facts_of, marks_at}
-use Rattle.borrow_scopes.specs.Tables.{mark_entries_in}
+use Rattle.borrow_scopes.specs.inner.Tables.{mark_entries_in}
 use Rattle.borrow_scopes.proofs.scopes.entries_by_item.Goals as goal
 
 pub loop-i-preserved : goal.loop-i-preserved

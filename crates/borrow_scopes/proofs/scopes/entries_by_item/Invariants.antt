@@ -1,8 +1,8 @@
 use Rattle.std.proofs.Common.{◌≡◌, ℕ, ◌<◌, length}
 use Rattle.std.specs.List.{flat_map}
-use Rattle.item_lists.specs.Lists.{list_at}
+use Rattle.path_lists.specs.inner.Lists.{list_at}
 use Rattle.ownership_marks.specs.Known.{facts_of, marks_at}
-use Rattle.borrow_scopes.specs.Tables.{mark_entries_in}
+use Rattle.borrow_scopes.specs.inner.Tables.{mark_entries_in}
 use Rattle.borrow_scopes.proofs.scopes.entries_by_item.Given as goal
 
 abbrev pub invariant-loop-i : goal.invariant-loop-i

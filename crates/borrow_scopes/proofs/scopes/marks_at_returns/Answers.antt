@@ -2,7 +2,7 @@ use Rattle.std.proofs.Common.{◌≡◌, [], ◌∷◌, ◌++◌, length, map, s
 use Rattle.std.specs.List.{range_with_len}
 use Rattle.std.proofs.lemmas.List.FromFn.{map-range_with_len_more, length-map-range_with_len}
 use Rattle.ownership_marks.specs.Known.{facts_of}
-use Rattle.borrow_scopes.specs.Tables.{left_mark}
+use Rattle.borrow_scopes.specs.inner.Tables.{left_mark}
 use Rattle.borrow_scopes.proofs.scopes.marks_at_returns.Goals as goal
 
 pub loop-n-preserved : goal.loop-n-preserved

@@ -1,7 +1,7 @@
 use Rattle.std.proofs.Common.{◌≡◌, map}
 use Rattle.std.specs.List.{range_with_len}
 use Rattle.ownership_marks.specs.Known.{facts_of}
-use Rattle.borrow_scopes.specs.Tables.{left_mark}
+use Rattle.borrow_scopes.specs.inner.Tables.{left_mark}
 use Rattle.borrow_scopes.proofs.scopes.marks_at_returns.Given as goal
 
 abbrev pub invariant-loop-n : goal.invariant-loop-n

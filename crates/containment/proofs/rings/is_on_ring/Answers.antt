@@ -1,6 +1,6 @@
 use Rattle.std.proofs.Common.{subst}
 use Rattle.std.specs.Bool.{OnTrue}
-use Rattle.containment.specs.Ranks.{NeverFall}
+use Rattle.containment.specs.inner.Ranks.{NeverFall}
 use Rattle.containment.proofs.RingLemmas.{rising_off}
 use Rattle.containment.proofs.rings.is_on_ring.Goals as goal
 

@@ -1,5 +1,5 @@
 use Rattle.std.proofs.Common.{subst, sym, ◌∙◌}
-use Rattle.containment.specs.Search.{Visits}
+use Rattle.containment.specs.inner.Search.{Visits}
 use Rattle.containment.specs.Chains.{parts_of}
 use Rattle.containment.proofs.Chaining.{searches_begun, searches_more, searches_over, waiting_inside}
 use Rattle.containment.proofs.search.reach.Goals as goal

@@ -1,6 +1,6 @@
 use Rattle.std.proofs.Common.{◌+◌, length, not}
 use Rattle.std.specs.Prelude.{count_by}
-use Rattle.containment.specs.Search.{Searches}
+use Rattle.containment.specs.inner.Search.{Searches}
 use Rattle.containment.proofs.search.reach.Given as goal
 
 abbrev pub invariant-loop-value : goal.invariant-loop-value

@@ -1,6 +1,6 @@
 use Rattle.std.proofs.Common.{subst, ap, ◌∙◌, arith, length, get_or, take, ◌<◌, ◌≡◌, ◌+◌}
 use Rattle.std.proofs.lemmas.List.{take_all}
-use Rattle.containment.specs.Search.{Visits}
+use Rattle.containment.specs.inner.Search.{Visits}
 use Rattle.containment.proofs.Chaining.{visit_skip, visit_push, visits_same}
 use Rattle.containment.proofs.search.visit.Goals as goal
 use Rattle.containment.proofs.search.visit.Goals.{then-not-marks-part+in_ok-push, else-not-marks-part}

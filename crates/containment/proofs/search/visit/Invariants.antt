@@ -1,5 +1,5 @@
 use Rattle.std.proofs.Common.{take}
-use Rattle.containment.specs.Search.{Visits}
+use Rattle.containment.specs.inner.Search.{Visits}
 use Rattle.containment.proofs.search.visit.Given as goal
 
 abbrev pub invariant-loop-part : goal.invariant-loop-part

@@ -1,6 +1,6 @@
 use Rattle.std.proofs.Common.{subst, sym, ◌∙◌, length, ◌<◌, ℕ}
 use Rattle.std.specs.Prelude.{All}
-use Rattle.containment.specs.Search.{Visits}
+use Rattle.containment.specs.inner.Search.{Visits}
 use Rattle.containment.proofs.Chaining.{parts_are}
 use Rattle.containment.proofs.search.visit_parts.Goals as goal
 

@@ -1,6 +1,6 @@
 use Rattle.std.proofs.Common.{◌≡◌, take, true}
 use Rattle.std.specs.List.{list_all}
-use Rattle.containment.specs.Settling.{is_marked}
+use Rattle.containment.specs.inner.Settling.{is_marked}
 use Rattle.containment.proofs.settle.are_marked.Given as goal
 
 abbrev pub invariant-loop-part : goal.invariant-loop-part

@@ -1,6 +1,6 @@
 use Rattle.std.proofs.Common.{◌≡◌, ℕ, ◌+◌, ◌*◌, ◌<◌, length, false, cond, not}
 use Rattle.std.specs.Prelude.{count_by}
-use Rattle.containment.specs.Settling.{Settles, IsStuck}
+use Rattle.containment.specs.inner.Settling.{Settles, IsStuck}
 use Rattle.containment.proofs.settle.settle.Given as goal
 
 abbrev pub invariant-loop-moved : goal.invariant-loop-moved

@@ -1,4 +1,4 @@
-use Rattle.containment.specs.Settling.{Settles}
+use Rattle.containment.specs.inner.Settling.{Settles}
 use Rattle.containment.proofs.settle.settle_along.Given as goal
 
 abbrev pub invariant-loop-value : goal.invariant-loop-value

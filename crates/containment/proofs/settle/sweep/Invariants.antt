@@ -1,4 +1,4 @@
-use Rattle.containment.specs.Settling.{Settles, Sweeps}
+use Rattle.containment.specs.inner.Settling.{Settles, Sweeps}
 use Rattle.containment.proofs.settle.sweep.Given as goal
 
 abbrev pub invariant-loop-value : goal.invariant-loop-value

@@ -1,6 +1,6 @@
 use Rattle.std.proofs.Common.{refl, subst, Option, Some, None}
 use Rattle.path_checks.specs.declared.entry.PathFault.{PathFault}
-use Rattle.lifetime_worklist.specs.Lifetimes.{IsFirstLife}
+use Rattle.lifetime_worklist.specs.inner.Lifetimes.{IsFirstLife}
 use Rattle.lifetime_worklist.proofs.lifetimes.check.Goals as goal
 
 pub returns-in-Ok-None-clause-ok : goal.returns-in-Ok-None-clause-ok

@@ -4,9 +4,9 @@ use Rattle.std.proofs.lemmas.Result.{IfOk-weaker}
 use Rattle.sil_cfg.specs.declared.item.Item.{Item}
 use Rattle.path_patterns.specs.Reads.{AgreesWith}
 use Rattle.path_checks.specs.First.{IsFirst}
-use Rattle.path_checks.specs.Shared.{entries_with, is_sharing}
+use Rattle.path_checks.specs.inner.Shared.{entries_with, is_sharing}
 use Rattle.path_checks.specs.declared.entry.Entry.{Entry}
-use Rattle.lifetime_worklist.specs.Lifetimes.{IsFirstLife}
+use Rattle.lifetime_worklist.specs.inner.Lifetimes.{IsFirstLife}
 use Rattle.lifetime_worklist.specs.Lives.{lives_of}
 use Rattle.lifetime_worklist.proofs.Tables.{lives_agree}
 use Rattle.lifetime_worklist.proofs.lifetimes.first_broken.Goals as goal

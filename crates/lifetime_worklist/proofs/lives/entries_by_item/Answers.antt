@@ -1,7 +1,7 @@
 use Rattle.std.proofs.Common.{◌≡◌, ◌+◌, ℕ, List, [], ◌∷◌, ◌++◌, length, refl, ap, ◌∙◌}
 use Rattle.std.specs.List.{flat_map}
-use Rattle.item_lists.specs.Lists.{list_at}
-use Rattle.item_lists.proofs.Items.{count_pushed, list_one_more}
+use Rattle.path_lists.specs.inner.Lists.{list_at}
+use Rattle.path_lists.proofs.Items.{count_pushed, list_one_more}
 use Rattle.path_checks.specs.declared.entry.Entry.{Entry}
 use Rattle.ownership_marks.specs.Known.{facts_of, marks_at}
 use Rattle.lifetime_worklist.specs.Lives.{lives_by}

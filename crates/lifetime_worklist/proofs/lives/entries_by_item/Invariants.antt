@@ -1,6 +1,6 @@
 use Rattle.std.proofs.Common.{◌≡◌, ℕ, ◌<◌, length}
 use Rattle.std.specs.List.{flat_map}
-use Rattle.item_lists.specs.Lists.{list_at}
+use Rattle.path_lists.specs.inner.Lists.{list_at}
 use Rattle.ownership_marks.specs.Known.{facts_of, marks_at}
 use Rattle.lifetime_worklist.specs.Lives.{lives_by}
 use Rattle.lifetime_worklist.proofs.lives.entries_by_item.Given as goal

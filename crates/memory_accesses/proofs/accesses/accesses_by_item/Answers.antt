@@ -5,7 +5,7 @@ use Rattle.sil_cfg.proofs.Gets.{length_push}
 use Rattle.path_checks.proofs.Accesses.{accesses_one_more}
 use Rattle.path_patterns.specs.Reads.{accesses_at}
 use Rattle.memory_accesses.specs.declared.access.Access.{Access}
-use Rattle.memory_accesses.specs.Done.{told_at_item}
+use Rattle.memory_accesses.specs.inner.Done.{told_at_item}
 use Rattle.memory_accesses.proofs.ByItem.{all_agree, told_of_item}
 use Rattle.memory_accesses.proofs.accesses.accesses_by_item.Goals as goal
 

@@ -1,6 +1,6 @@
 use Rattle.std.proofs.Common.{◌≡◌, ℕ, ◌<◌, length}
 use Rattle.path_patterns.specs.Reads.{accesses_at}
-use Rattle.memory_accesses.specs.Done.{told_at_item}
+use Rattle.memory_accesses.specs.inner.Done.{told_at_item}
 use Rattle.memory_accesses.proofs.accesses.accesses_by_item.Given as goal
 
 abbrev pub invariant-loop-i : goal.invariant-loop-i

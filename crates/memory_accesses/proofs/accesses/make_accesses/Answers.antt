@@ -6,7 +6,7 @@ use Rattle.sil_ast.specs.declared.place.ValueId.{ValueId}
 use Rattle.ownership_marks.specs.Marks.{item_defined, item_taken}
 use Rattle.ownership_marks.specs.declared.taken.Taken.{Taken}
 use Rattle.memory_accesses.specs.Accesses.{begun, deallocations_of, does_of, ended, item_inst, made, mentions_of}
-use Rattle.memory_accesses.specs.Done.{does_among}
+use Rattle.memory_accesses.specs.inner.Done.{does_among}
 use Rattle.memory_accesses.specs.declared.access.Access.{Access}
 use Rattle.memory_accesses.proofs.Operating.{all_steps, item_does}
 use Rattle.memory_accesses.proofs.accesses.make_accesses.Goals as goal

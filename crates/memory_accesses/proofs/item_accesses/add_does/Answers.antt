@@ -1,7 +1,7 @@
 use Rattle.std.proofs.Common.{◌++◌, ◌∙◌, Option, ap, sym}
 use Rattle.std.specs.Option.{option_copied}
 use Rattle.sil_ast.specs.declared.inst.Inst.{Inst}
-use Rattle.memory_accesses.specs.Done.{does_among}
+use Rattle.memory_accesses.specs.inner.Done.{does_among}
 use Rattle.memory_accesses.proofs.Idle.{none_does}
 use Rattle.memory_accesses.proofs.item_accesses.add_does.Goals as goal
 

@@ -1,6 +1,6 @@
 use Rattle.std.proofs.Common.{◌≡◌, ◌++◌, Some, take}
 use Rattle.std.specs.List.{flat_map}
-use Rattle.memory_accesses.specs.Done.{done_at}
+use Rattle.memory_accesses.specs.inner.Done.{done_at}
 use Rattle.memory_accesses.proofs.item_accesses.add_operated.Given as goal
 
 abbrev pub invariant-loop-one : goal.invariant-loop-one

@@ -1,6 +1,6 @@
 use Rattle.std.proofs.Common.{◌≡◌, ◌-◌, length}
 use Rattle.std.specs.Prelude.{option_map}
-use Rattle.memory_accesses.specs.Kept.{behind}
+use Rattle.memory_accesses.specs.inner.Kept.{behind}
 use Rattle.memory_accesses.specs.Locations.{locate, location_of}
 use Rattle.memory_accesses.proofs.locating.location_of.Given as goal
 

@@ -1,6 +1,6 @@
 use Rattle.std.proofs.Common.{◌≡◌, ◌++◌, Some, take}
 use Rattle.std.specs.List.{flat_map}
-use Rattle.memory_accesses.specs.Done.{operated_by}
+use Rattle.memory_accesses.specs.inner.Done.{operated_by}
 use Rattle.memory_accesses.proofs.operations.add_operated.Given as goal
 
 abbrev pub invariant-loop-one : goal.invariant-loop-one

@@ -3,7 +3,7 @@ use Rattle.std.specs.Prelude.{OnOk}
 use Rattle.std.specs.List.{flat_map}
 use Rattle.ownership_marks.specs.Roles.{taken_by}
 use Rattle.memory_accesses.specs.Operations.{addresses_of, operated_at}
-use Rattle.memory_accesses.specs.Done.{operated_by}
+use Rattle.memory_accesses.specs.inner.Done.{operated_by}
 use Rattle.memory_accesses.specs.declared.access.Operated.{Operated}
 use Rattle.memory_accesses.proofs.Idle.{none_added}
 use Rattle.memory_accesses.proofs.Operating.{operated_each}

@@ -3,9 +3,9 @@ use Rattle.std.proofs.lemmas.Result.{IfOk-weaker}
 use Rattle.sil_cfg.specs.declared.item.Item.{Item}
 use Rattle.path_patterns.specs.Reads.{AgreesWith}
 use Rattle.path_checks.specs.First.{IsFirst}
-use Rattle.path_checks.specs.Shared.{entries_with}
+use Rattle.path_checks.specs.inner.Shared.{entries_with}
 use Rattle.path_checks.specs.declared.entry.Entry.{Entry}
-use Rattle.memory_parts.specs.Batches.{IsFirstNumber, batch_table}
+use Rattle.memory_parts.specs.inner.Batches.{IsFirstNumber, batch_table}
 use Rattle.memory_parts.proofs.Joint.{batch_agrees}
 use Rattle.memory_parts.proofs.batch.first_number.Goals as goal
 

@@ -1,7 +1,7 @@
 use Rattle.std.proofs.Common.{subst, take, List}
 use Rattle.std.proofs.lemmas.List.{take_all}
 use Rattle.std.proofs.lemmas.List.Elements.{All-more}
-use Rattle.memory_parts.specs.Concerned.{AreConcerned, IsConcerned}
+use Rattle.memory_parts.specs.inner.Concerned.{AreConcerned, IsConcerned}
 use Rattle.memory_parts.specs.declared.part.Part.{Part}
 use Rattle.memory_parts.proofs.Unconcerned.{parts_kept}
 use Rattle.memory_parts.proofs.concerned.add_parts.Goals as goal

@@ -1,5 +1,5 @@
 use Rattle.std.proofs.Common.{take}
-use Rattle.memory_parts.specs.Concerned.{AreConcerned}
+use Rattle.memory_parts.specs.inner.Concerned.{AreConcerned}
 use Rattle.memory_parts.proofs.concerned.add_parts.Given as goal
 
 abbrev pub invariant-loop-part : goal.invariant-loop-part

@@ -1,6 +1,6 @@
 use Rattle.std.proofs.Common.{◌≡◌, take, false}
 use Rattle.std.specs.List.{list_any}
-use Rattle.memory_parts.specs.Concerned.{is_built}
+use Rattle.memory_parts.specs.inner.Concerned.{is_built}
 use Rattle.memory_parts.proofs.concerned.any_built.Given as goal
 
 abbrev pub invariant-loop-base : goal.invariant-loop-base

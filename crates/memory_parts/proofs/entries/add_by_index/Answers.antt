@@ -3,9 +3,9 @@ use Rattle.std.specs.Prelude.{OnOk}
 use Rattle.std.specs.List.{flat_map}
 use Rattle.ownership_marks.specs.Known.{facts_of}
 use Rattle.path_checks.specs.declared.entry.Entry.{Entry}
-use Rattle.memory_parts.specs.Batches.{entry_at}
-use Rattle.memory_parts.specs.Index.{HasAll}
-use Rattle.memory_parts.specs.Keys.{keys_of_access}
+use Rattle.memory_parts.specs.inner.Batches.{entry_at}
+use Rattle.memory_parts.specs.inner.Index.{HasAll}
+use Rattle.memory_parts.specs.inner.Keys.{keys_of_access}
 use Rattle.memory_parts.specs.declared.key.Key.{Key}
 use Rattle.memory_parts.proofs.Listed.{by_index}
 use Rattle.memory_parts.proofs.entries.add_by_index.Goals as goal

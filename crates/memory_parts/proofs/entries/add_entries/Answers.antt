@@ -4,7 +4,7 @@ use Rattle.std.specs.declared.alloc.Global.{Global}
 use Rattle.std.specs.declared.vec.Vec.{Vec}
 use Rattle.std.specs.Prelude.{ℕ}
 use Rattle.ownership_marks.specs.Known.{facts_of}
-use Rattle.memory_parts.specs.Index.{IsIndexOf}
+use Rattle.memory_parts.specs.inner.Index.{IsIndexOf}
 use Rattle.memory_parts.proofs.Unconcerned.{nothing_added}
 use Rattle.memory_parts.proofs.entries.add_entries.Goals as goal
 

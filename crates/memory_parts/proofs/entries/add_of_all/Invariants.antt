@@ -1,6 +1,6 @@
 use Rattle.std.proofs.Common.{◌≡◌, ◌++◌, take}
 use Rattle.ownership_marks.specs.Known.{facts_of}
-use Rattle.memory_parts.specs.Batches.{joint}
+use Rattle.memory_parts.specs.inner.Batches.{joint}
 use Rattle.memory_parts.proofs.entries.add_of_all.Given as goal
 
 abbrev pub invariant-loop-number : goal.invariant-loop-number

@@ -1,7 +1,7 @@
 use Rattle.std.proofs.Common.{◌++◌, get_or, ap, ◌∙◌}
 use Rattle.ownership_marks.specs.Known.{facts_of}
-use Rattle.path_checks.specs.Shared.{entry_if}
-use Rattle.memory_parts.specs.Batches.{entry_at}
+use Rattle.path_checks.specs.inner.Shared.{entry_if}
+use Rattle.memory_parts.specs.inner.Batches.{entry_at}
 use Rattle.memory_parts.proofs.Listed.{each_more}
 use Rattle.memory_parts.proofs.entries.add_of_each.Goals as goal
 

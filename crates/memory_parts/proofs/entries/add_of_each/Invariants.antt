@@ -1,7 +1,7 @@
 use Rattle.std.proofs.Common.{◌≡◌, ◌++◌, take}
 use Rattle.std.specs.List.{flat_map}
 use Rattle.ownership_marks.specs.Known.{facts_of}
-use Rattle.memory_parts.specs.Batches.{entry_at}
+use Rattle.memory_parts.specs.inner.Batches.{entry_at}
 use Rattle.memory_parts.proofs.entries.add_of_each.Given as goal
 
 abbrev pub invariant-loop-number : goal.invariant-loop-number

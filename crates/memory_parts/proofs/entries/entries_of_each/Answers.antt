@@ -1,13 +1,13 @@
 use Rattle.std.proofs.Common.{◌≡◌, ◌+◌, ℕ, List, [], ◌∷◌, ◌++◌, length, ap, ◌∙◌, arith}
 use Rattle.std.specs.List.{flat_map}
-use Rattle.item_lists.specs.Lists.{list_at}
-use Rattle.item_lists.proofs.Items.{count_pushed, list_one_more}
+use Rattle.path_lists.specs.inner.Lists.{list_at}
+use Rattle.path_lists.proofs.Items.{count_pushed, list_one_more}
 use Rattle.path_checks.specs.declared.entry.Entry.{Entry}
 use Rattle.ownership_marks.specs.Known.{facts_of}
 use Rattle.memory_accesses.proofs.ByItem.{told_of_item}
-use Rattle.memory_accesses.specs.Done.{told_at_item}
+use Rattle.memory_accesses.specs.inner.Done.{told_at_item}
 use Rattle.memory_accesses.specs.declared.access.Access.{Access}
-use Rattle.memory_parts.specs.Batches.{joint}
+use Rattle.memory_parts.specs.inner.Batches.{joint}
 use Rattle.memory_parts.proofs.entries.entries_of_each.Goals as goal
 
 pub loop-i-preserved : goal.loop-i-preserved

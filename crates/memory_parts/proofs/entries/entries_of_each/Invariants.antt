@@ -1,9 +1,9 @@
 use Rattle.std.proofs.Common.{◌≡◌, ℕ, ◌<◌, length}
 use Rattle.std.specs.List.{flat_map}
-use Rattle.item_lists.specs.Lists.{list_at}
+use Rattle.path_lists.specs.inner.Lists.{list_at}
 use Rattle.ownership_marks.specs.Known.{facts_of}
-use Rattle.memory_accesses.specs.Done.{told_at_item}
-use Rattle.memory_parts.specs.Batches.{joint}
+use Rattle.memory_accesses.specs.inner.Done.{told_at_item}
+use Rattle.memory_parts.specs.inner.Batches.{joint}
 use Rattle.memory_parts.proofs.entries.entries_of_each.Given as goal
 
 abbrev pub invariant-loop-i : goal.invariant-loop-i

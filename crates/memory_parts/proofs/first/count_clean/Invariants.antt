@@ -1,5 +1,5 @@
 use Rattle.std.proofs.Common.{◌≤◌, ◌-◌, length, take, None}
-use Rattle.memory_parts.specs.Batches.{IsFirstAmong}
+use Rattle.memory_parts.specs.inner.Batches.{IsFirstAmong}
 use Rattle.memory_parts.proofs.first.count_clean.Given as goal
 
 abbrev pub invariant-loop-first : goal.invariant-loop-first

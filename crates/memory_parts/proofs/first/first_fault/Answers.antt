@@ -1,9 +1,9 @@
 use Rattle.std.proofs.Common.{List, take, None, sym, ◌∙◌, subst}
 use Rattle.std.proofs.lemmas.Result.{IfOk-weaker}
-use Rattle.forwarding_chains.specs.Facts.{known_or}
+use Rattle.ownership_chains.specs.Facts.{known_or}
 use Rattle.ownership_marks.specs.Known.{facts_of}
 use Rattle.sil_rules.specs.Order.{IsFirst}
-use Rattle.memory_parts.specs.Batches.{AreRising, IsFirstAmong}
+use Rattle.memory_parts.specs.inner.Batches.{AreRising, IsFirstAmong}
 use Rattle.memory_parts.specs.Shown.{fault_key, IsFirstFinding, IsShown}
 use Rattle.memory_parts.specs.declared.part.Part.{Part}
 use Rattle.memory_parts.proofs.Joint.{parts_same}

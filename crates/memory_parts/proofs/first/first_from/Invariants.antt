@@ -1,5 +1,5 @@
 use Rattle.std.proofs.Common.{take}
-use Rattle.memory_parts.specs.Batches.{IsFirstAmong}
+use Rattle.memory_parts.specs.inner.Batches.{IsFirstAmong}
 use Rattle.memory_parts.proofs.first.first_from.Given as goal
 
 abbrev pub invariant-loop-number : goal.invariant-loop-number

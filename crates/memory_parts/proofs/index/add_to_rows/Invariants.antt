@@ -1,5 +1,5 @@
 use Rattle.std.proofs.Common.{take}
-use Rattle.memory_parts.specs.Index.{HasRows}
+use Rattle.memory_parts.specs.inner.Index.{HasRows}
 use Rattle.memory_parts.proofs.index.add_to_rows.Given as goal
 
 abbrev pub invariant-loop-key : goal.invariant-loop-key

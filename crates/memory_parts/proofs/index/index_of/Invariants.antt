@@ -1,7 +1,7 @@
 use Rattle.std.proofs.Common.{◌≡◌, ℕ, ◌<◌, Some, All}
 use Rattle.std.specs.Prelude.{Contains, slice_get}
-use Rattle.memory_parts.specs.Index.{row_at}
-use Rattle.memory_parts.specs.Keys.{keys_of_part}
+use Rattle.memory_parts.specs.inner.Index.{row_at}
+use Rattle.memory_parts.specs.inner.Keys.{keys_of_part}
 use Rattle.memory_parts.specs.declared.part.Part.{Part}
 use Rattle.memory_parts.proofs.index.index_of.Given as goal
 

@@ -2,7 +2,7 @@ use Rattle.std.proofs.Common.{◌≡◌, ◌++◌, List, ap, ◌∙◌, subst, t
 use Rattle.std.specs.Prelude.{eqb}
 use Rattle.std.proofs.lemmas.List.{take_all}
 use Rattle.std.proofs.lemmas.List.Filters.{dedup_is}
-use Rattle.memory_parts.specs.Index.{HasAll}
+use Rattle.memory_parts.specs.inner.Index.{HasAll}
 use Rattle.memory_parts.specs.declared.key.Key.{Key}
 use Rattle.memory_parts.proofs.Rows.{all_more, all_sorted, rising_sorted}
 use Rattle.memory_parts.proofs.index.numbers_at.Goals as goal

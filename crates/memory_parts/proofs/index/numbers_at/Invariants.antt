@@ -1,5 +1,5 @@
 use Rattle.std.proofs.Common.{take}
-use Rattle.memory_parts.specs.Index.{HasAll}
+use Rattle.memory_parts.specs.inner.Index.{HasAll}
 use Rattle.memory_parts.proofs.index.numbers_at.Given as goal
 
 abbrev pub invariant-loop-key : goal.invariant-loop-key

@@ -1,6 +1,6 @@
 use Rattle.std.proofs.Common.{◌≡◌, ◌++◌, take}
 use Rattle.std.specs.List.{flat_map}
-use Rattle.memory_parts.specs.Keys.{built_key}
+use Rattle.memory_parts.specs.inner.Keys.{built_key}
 use Rattle.memory_parts.proofs.key.add_built.Given as goal
 
 abbrev pub invariant-loop-base : goal.invariant-loop-base

@@ -1,7 +1,7 @@
 use Rattle.std.proofs.Common.{◌≡◌, drop}
 use Rattle.std.specs.List.{flat_map}
-use Rattle.ownership_kinds.specs.Faults.{least}
-use Rattle.memory_rules.specs.StaticFaults.{operated_faults}
+use Rattle.ownership_kinds.specs.inner.Faults.{least}
+use Rattle.memory_rules.specs.inner.StaticFaults.{operated_faults}
 use Rattle.memory_rules.proofs.lacking.add_lacking.Given as goal
 
 abbrev pub invariant-loop-operated : goal.invariant-loop-operated

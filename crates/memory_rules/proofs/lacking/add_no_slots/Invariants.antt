@@ -1,7 +1,7 @@
 use Rattle.std.proofs.Common.{◌≡◌, drop}
 use Rattle.std.specs.List.{flat_map}
-use Rattle.ownership_kinds.specs.Faults.{least}
-use Rattle.memory_rules.specs.StaticFaults.{no_slot_faults}
+use Rattle.ownership_kinds.specs.inner.Faults.{least}
+use Rattle.memory_rules.specs.inner.StaticFaults.{no_slot_faults}
 use Rattle.memory_rules.proofs.lacking.add_no_slots.Given as goal
 
 abbrev pub invariant-loop-address : goal.invariant-loop-address

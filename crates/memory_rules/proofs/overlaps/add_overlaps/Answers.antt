@@ -1,7 +1,7 @@
 use Rattle.std.proofs.Common.{◌+◌, ◌-◌, drop, length, take, arith}
 use Rattle.std.specs.List.{flat_map}
-use Rattle.ownership_kinds.specs.Faults.{least}
-use Rattle.memory_rules.specs.StaticFaults.{pair_faults}
+use Rattle.ownership_kinds.specs.inner.Faults.{least}
+use Rattle.memory_rules.specs.inner.StaticFaults.{pair_faults}
 use Rattle.memory_rules.specs.Statics.{pairs_of}
 use Rattle.memory_rules.proofs.Crossed.{pairs_step, rest_from}
 use Rattle.memory_rules.proofs.overlaps.add_overlaps.Goals as goal

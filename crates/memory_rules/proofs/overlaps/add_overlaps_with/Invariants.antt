@@ -1,7 +1,7 @@
 use Rattle.std.proofs.Common.{◌≡◌, drop}
 use Rattle.std.specs.List.{flat_map}
-use Rattle.ownership_kinds.specs.Faults.{least}
-use Rattle.memory_rules.specs.StaticFaults.{faults_with}
+use Rattle.ownership_kinds.specs.inner.Faults.{least}
+use Rattle.memory_rules.specs.inner.StaticFaults.{faults_with}
 use Rattle.memory_rules.proofs.overlaps.add_overlaps_with.Given as goal
 
 abbrev pub invariant-loop-second : goal.invariant-loop-second

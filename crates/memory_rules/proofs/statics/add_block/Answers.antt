@@ -1,7 +1,7 @@
 use Rattle.std.proofs.Common.{◌≡◌, ap, ◌∙◌}
-use Rattle.ownership_kinds.specs.Faults.{least, numbered}
+use Rattle.ownership_kinds.specs.inner.Faults.{least, numbered}
 use Rattle.ownership_kinds.proofs.Least.{numbered_last, ok_along}
-use Rattle.memory_rules.specs.StaticFaults.{block_statics, statics_at}
+use Rattle.memory_rules.specs.inner.StaticFaults.{block_statics, statics_at}
 use Rattle.memory_rules.proofs.statics.add_block.Goals as goal
 
 pub returns : goal.returns

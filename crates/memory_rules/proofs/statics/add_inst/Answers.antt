@@ -1,10 +1,10 @@
 use Rattle.std.proofs.Common.{◌≡◌, [], ◌++◌, ap, false, sym, ◌∙◌}
 use Rattle.std.specs.Prelude.{cond}
 use Rattle.std.specs.List.{flat_map}
-use Rattle.ownership_kinds.specs.Faults.{least}
+use Rattle.ownership_kinds.specs.inner.Faults.{least}
 use Rattle.ownership_kinds.proofs.Least.{least_two, ok_along}
 use Rattle.memory_accesses.specs.Operations.{addresses_of, deallocates, operations_of}
-use Rattle.memory_rules.specs.StaticFaults.{deallocation_faults, no_slot_faults, operated_faults, pair_faults, statics_at}
+use Rattle.memory_rules.specs.inner.StaticFaults.{deallocation_faults, no_slot_faults, operated_faults, pair_faults, statics_at}
 use Rattle.memory_rules.specs.Statics.{pairs_of, passed, passed_of}
 use Rattle.memory_rules.proofs.Idle.{idle}
 use Rattle.memory_rules.proofs.statics.add_inst.Goals as goal

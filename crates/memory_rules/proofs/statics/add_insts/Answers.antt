@@ -1,7 +1,7 @@
 use Rattle.std.proofs.Common.{ap, ◌∙◌, arith}
-use Rattle.ownership_kinds.specs.Faults.{least, numbered}
+use Rattle.ownership_kinds.specs.inner.Faults.{least, numbered}
 use Rattle.ownership_kinds.proofs.Least.{numbered_item}
-use Rattle.memory_rules.specs.StaticFaults.{statics_at}
+use Rattle.memory_rules.specs.inner.StaticFaults.{statics_at}
 use Rattle.memory_rules.proofs.statics.add_insts.Goals as goal
 
 pub loop-inst-preserved : goal.loop-inst-preserved

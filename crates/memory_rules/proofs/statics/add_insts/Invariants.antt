@@ -1,6 +1,6 @@
 use Rattle.std.proofs.Common.{◌≡◌, drop}
-use Rattle.ownership_kinds.specs.Faults.{least, numbered}
-use Rattle.memory_rules.specs.StaticFaults.{statics_at}
+use Rattle.ownership_kinds.specs.inner.Faults.{least, numbered}
+use Rattle.memory_rules.specs.inner.StaticFaults.{statics_at}
 use Rattle.memory_rules.proofs.statics.add_insts.Given as goal
 
 abbrev pub invariant-loop-inst : goal.invariant-loop-inst

@@ -1,5 +1,5 @@
 use Rattle.std.proofs.Common.{sym, ◌∙◌}
-use Rattle.memory_rules.specs.StaticFaults.{broken_by}
+use Rattle.memory_rules.specs.inner.StaticFaults.{broken_by}
 use Rattle.memory_rules.proofs.FirstStatic.{first_none, found_first}
 use Rattle.memory_rules.proofs.Short.{are_short}
 use Rattle.memory_rules.proofs.statics.first_static.Goals as goal

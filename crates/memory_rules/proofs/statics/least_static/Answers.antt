@@ -1,7 +1,7 @@
 use Rattle.std.proofs.Common.{◌<◌, None, ap, get_or, length, subst, ◌∙◌}
-use Rattle.ownership_kinds.specs.Faults.{least}
+use Rattle.ownership_kinds.specs.inner.Faults.{least}
 use Rattle.ownership_kinds.proofs.Least.{numbered_item}
-use Rattle.memory_rules.specs.StaticFaults.{block_statics, statics_of}
+use Rattle.memory_rules.specs.inner.StaticFaults.{block_statics, statics_of}
 use Rattle.memory_rules.proofs.statics.least_static.Goals as goal
 
 pub loop-number-preserved : goal.loop-number-preserved

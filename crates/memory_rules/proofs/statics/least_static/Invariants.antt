@@ -1,6 +1,6 @@
 use Rattle.std.proofs.Common.{◌≡◌, drop, None}
-use Rattle.ownership_kinds.specs.Faults.{least, numbered}
-use Rattle.memory_rules.specs.StaticFaults.{block_statics, statics_of}
+use Rattle.ownership_kinds.specs.inner.Faults.{least, numbered}
+use Rattle.memory_rules.specs.inner.StaticFaults.{block_statics, statics_of}
 use Rattle.memory_rules.proofs.statics.least_static.Given as goal
 
 abbrev pub invariant-loop-number : goal.invariant-loop-number

@@ -4,7 +4,7 @@ use Rattle.path_patterns.specs.Reads.{AgreesWith, accesses_at}
 use Rattle.memory_accesses.specs.Accesses.{accesses_of}
 use Rattle.memory_accesses.specs.declared.access.Access.{Access}
 use Rattle.memory_accesses.specs.declared.source.Source.{Source}
-use Rattle.slot_order.specs.Pairs.{IsFirstCrossing, is_slot_source}
+use Rattle.memory_slots.specs.Pairs.{IsFirstCrossing, is_slot_source}
 use Rattle.memory_rules.proofs.FirstShown.{first_order, no_crossing, no_order}
 use Rattle.memory_rules.proofs.walks.first_of_slots.Goals as goal
 

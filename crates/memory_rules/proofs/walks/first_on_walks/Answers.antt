@@ -1,4 +1,4 @@
-use Rattle.memory_rules.specs.Reports.{IsOrderBreak, IsPartBreak}
+use Rattle.memory_rules.specs.inner.Reports.{IsOrderBreak, IsPartBreak}
 use Rattle.memory_rules.proofs.FirstOfAll.{earlier_reported, part_on_walks}
 use Rattle.memory_rules.proofs.walks.first_on_walks.Goals as goal
 

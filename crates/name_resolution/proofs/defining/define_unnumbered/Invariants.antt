@@ -1,5 +1,5 @@
 use Rattle.std.proofs.Common.{◌≡◌, take, map}
-use Rattle.name_resolution.specs.Symbols.{unnumbered, with_definitions}
+use Rattle.name_resolution.specs.inner.Symbols.{unnumbered, with_definitions}
 use Rattle.name_resolution.proofs.defining.define_unnumbered.Given as goal
 
 abbrev pub invariant-loop-token : goal.invariant-loop-token

@@ -1,7 +1,7 @@
 use Rattle.std.proofs.Common.{◌≡◌, take, map}
 use Rattle.std.specs.List.{flat_map}
 use Rattle.name_resolution.specs.Names.{function_name, functions_of}
-use Rattle.name_resolution.specs.Symbols.{numbered_by}
+use Rattle.name_resolution.specs.inner.Symbols.{numbered_by}
 use Rattle.name_resolution.proofs.defining.functions.Given as goal
 
 abbrev pub invariant-loop-item : goal.invariant-loop-item

@@ -1,6 +1,6 @@
 use Rattle.std.proofs.Common.{◌≡◌, take, map, []}
 use Rattle.name_resolution.specs.Names.{field_name}
-use Rattle.name_resolution.specs.Symbols.{unnumbered_after}
+use Rattle.name_resolution.specs.inner.Symbols.{unnumbered_after}
 use Rattle.name_resolution.proofs.defining.names_of_fields.Given as goal
 
 abbrev pub invariant-loop-field : goal.invariant-loop-field

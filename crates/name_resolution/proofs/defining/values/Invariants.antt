@@ -1,5 +1,5 @@
 use Rattle.std.proofs.Common.{◌≡◌, take}
-use Rattle.name_resolution.specs.Symbols.{values_in}
+use Rattle.name_resolution.specs.inner.Symbols.{values_in}
 use Rattle.name_resolution.proofs.defining.values.Given as goal
 
 abbrev pub invariant-loop-block : goal.invariant-loop-block

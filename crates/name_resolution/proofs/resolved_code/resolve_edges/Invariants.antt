@@ -1,6 +1,6 @@
 use Rattle.std.proofs.Common.{◌≡◌, ◌++◌, map}
 use Rattle.std.specs.Vec.Iter.{into_iter_items}
-use Rattle.name_resolution.specs.FirstFaults.{known_in, with_edges}
+use Rattle.name_resolution.specs.inner.FirstFaults.{known_in, with_edges}
 use Rattle.name_resolution.specs.Resolved.{resolved_edge}
 use Rattle.name_resolution.proofs.resolved_code.resolve_edges.Given as goal
 

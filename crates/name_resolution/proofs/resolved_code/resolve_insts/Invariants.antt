@@ -1,7 +1,7 @@
 use Rattle.std.proofs.Common.{◌≡◌, ◌+◌, ◌++◌, length}
 use Rattle.std.specs.List.{flat_map}
 use Rattle.std.specs.Vec.Iter.{into_iter_items}
-use Rattle.name_resolution.specs.FirstFaults.{known_in, with_code}
+use Rattle.name_resolution.specs.inner.FirstFaults.{known_in, with_code}
 use Rattle.name_resolution.specs.Resolved.{defined_by_inst, resolved_insts}
 use Rattle.name_resolution.proofs.resolved_code.resolve_insts.Given as goal
 

@@ -1,5 +1,5 @@
 use Rattle.std.proofs.Common.{[], ◌∷◌, ◌++◌, ap, ◌∙◌}
-use Rattle.name_resolution.specs.FirstFaults.{Known, known_in, with_code}
+use Rattle.name_resolution.specs.inner.FirstFaults.{Known, known_in, with_code}
 use Rattle.name_resolution.proofs.FaultLemmas.{code_more}
 use Rattle.name_resolution.proofs.resolved_code.resolve_parts.Goals as goal
 

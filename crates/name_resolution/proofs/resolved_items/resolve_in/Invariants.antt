@@ -1,4 +1,4 @@
-use Rattle.name_resolution.specs.Tables.{scope_in}
+use Rattle.name_resolution.specs.inner.Tables.{scope_in}
 use Rattle.name_resolution.proofs.resolved_items.resolve_in.Given as goal
 
 abbrev pub ghost-resolve_blocks : goal.ghost-resolve_blocks

@@ -1,6 +1,6 @@
 use Rattle.std.proofs.Common.{◌≡◌, drop}
 use Rattle.std.specs.List.{flat_map}
-use Rattle.ownership_kinds.specs.Faults.{least, ring_faults}
+use Rattle.ownership_kinds.specs.inner.Faults.{least, ring_faults}
 use Rattle.ownership_kinds.proofs.rings.add_rings.Given as goal
 
 abbrev pub invariant-loop-value : goal.invariant-loop-value

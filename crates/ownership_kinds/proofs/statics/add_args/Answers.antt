@@ -1,6 +1,6 @@
 use Rattle.std.specs.List.{flat_map}
-use Rattle.ownership_kinds.specs.Faults.{annotation_faults, arg_faults, least, ring_faults}
-use Rattle.ownership_kinds.specs.Known.{kind_told}
+use Rattle.ownership_kinds.specs.inner.Faults.{annotation_faults, arg_faults, least, ring_faults}
+use Rattle.ownership_kinds.specs.inner.Known.{kind_told}
 use Rattle.ownership_kinds.proofs.Least.{least_item, least_two}
 use Rattle.ownership_kinds.proofs.statics.add_args.Goals as goal
 

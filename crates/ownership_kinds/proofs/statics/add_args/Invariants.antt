@@ -1,7 +1,7 @@
 use Rattle.std.proofs.Common.{◌≡◌, drop}
 use Rattle.std.specs.List.{flat_map}
-use Rattle.ownership_kinds.specs.Faults.{arg_faults, least}
-use Rattle.ownership_kinds.specs.Known.{kind_told}
+use Rattle.ownership_kinds.specs.inner.Faults.{arg_faults, least}
+use Rattle.ownership_kinds.specs.inner.Known.{kind_told}
 use Rattle.ownership_kinds.proofs.statics.add_args.Given as goal
 
 abbrev pub invariant-loop-arg : goal.invariant-loop-arg

@@ -1,9 +1,9 @@
 use Rattle.std.proofs.Common.{◌≡◌, ap, ◌∙◌}
 use Rattle.std.specs.List.{flat_map}
 use Rattle.numbered_form.specs.Insts.{insts_of}
-use Rattle.value_origins.specs.Switched.{switch_to}
-use Rattle.ownership_kinds.specs.Faults.{arg_faults, block_faults, inst_faults, least, numbered}
-use Rattle.ownership_kinds.specs.Known.{kind_told}
+use Rattle.ownership_origins.specs.Switched.{switch_to}
+use Rattle.ownership_kinds.specs.inner.Faults.{arg_faults, block_faults, inst_faults, least, numbered}
+use Rattle.ownership_kinds.specs.inner.Known.{kind_told}
 use Rattle.ownership_kinds.proofs.Least.{least_two, numbered_last, ok_along}
 use Rattle.ownership_kinds.proofs.statics.add_block.Goals as goal
 

@@ -1,7 +1,7 @@
 use Rattle.std.proofs.Common.{ap, ◌∙◌}
 use Rattle.std.specs.List.{flat_map}
-use Rattle.ownership_kinds.specs.Faults.{lacking_faults, least, mixed_faults, ring_faults, taken_faults}
-use Rattle.ownership_kinds.specs.Known.{kind_told}
+use Rattle.ownership_kinds.specs.inner.Faults.{lacking_faults, least, mixed_faults, ring_faults, taken_faults}
+use Rattle.ownership_kinds.specs.inner.Known.{kind_told}
 use Rattle.ownership_kinds.specs.Statics.{all_taken}
 use Rattle.ownership_kinds.proofs.Least.{least_four}
 use Rattle.ownership_kinds.proofs.statics.add_inst.Goals as goal

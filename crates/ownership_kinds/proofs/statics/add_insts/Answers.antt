@@ -1,6 +1,6 @@
 use Rattle.std.proofs.Common.{ap, ◌∙◌, arith}
-use Rattle.ownership_kinds.specs.Faults.{inst_faults, insts_faults, least}
-use Rattle.ownership_kinds.specs.Known.{kind_told}
+use Rattle.ownership_kinds.specs.inner.Faults.{inst_faults, insts_faults, least}
+use Rattle.ownership_kinds.specs.inner.Known.{kind_told}
 use Rattle.ownership_kinds.proofs.Least.{numbered_item}
 use Rattle.ownership_kinds.proofs.statics.add_insts.Goals as goal
 

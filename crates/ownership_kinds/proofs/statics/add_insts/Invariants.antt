@@ -1,6 +1,6 @@
 use Rattle.std.proofs.Common.{◌≡◌, drop}
-use Rattle.ownership_kinds.specs.Faults.{insts_faults, least}
-use Rattle.ownership_kinds.specs.Known.{kind_told}
+use Rattle.ownership_kinds.specs.inner.Faults.{insts_faults, least}
+use Rattle.ownership_kinds.specs.inner.Known.{kind_told}
 use Rattle.ownership_kinds.proofs.statics.add_insts.Given as goal
 
 abbrev pub invariant-loop-inst : goal.invariant-loop-inst

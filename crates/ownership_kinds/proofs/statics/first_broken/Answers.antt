@@ -1,6 +1,6 @@
 use Rattle.std.proofs.Common.{◌≡◌, IfNone, IfSome, None, ap, ◌∙◌}
-use Rattle.ownership_kinds.specs.Faults.{faults_of, least}
-use Rattle.ownership_kinds.specs.Known.{kind_told}
+use Rattle.ownership_kinds.specs.inner.Faults.{faults_of, least}
+use Rattle.ownership_kinds.specs.inner.Known.{kind_told}
 use Rattle.ownership_kinds.specs.Statics.{HasKinds, IsFirstBroken}
 use Rattle.ownership_kinds.proofs.First.{first_none, first_some, known_faults}
 use Rattle.ownership_kinds.proofs.Least.{ok_along}

@@ -1,6 +1,6 @@
 use Rattle.std.proofs.Common.{◌<◌, None, ap, get_or, length, subst, ◌∙◌}
-use Rattle.ownership_kinds.specs.Faults.{block_faults, faults_of, least}
-use Rattle.ownership_kinds.specs.Known.{kind_told}
+use Rattle.ownership_kinds.specs.inner.Faults.{block_faults, faults_of, least}
+use Rattle.ownership_kinds.specs.inner.Known.{kind_told}
 use Rattle.ownership_kinds.proofs.Least.{numbered_item}
 use Rattle.ownership_kinds.proofs.statics.least_fault.Goals as goal
 

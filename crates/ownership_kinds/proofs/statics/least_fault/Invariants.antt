@@ -1,6 +1,6 @@
 use Rattle.std.proofs.Common.{◌≡◌, drop, None}
-use Rattle.ownership_kinds.specs.Faults.{blocks_faults, faults_of, least}
-use Rattle.ownership_kinds.specs.Known.{kind_told}
+use Rattle.ownership_kinds.specs.inner.Faults.{blocks_faults, faults_of, least}
+use Rattle.ownership_kinds.specs.inner.Known.{kind_told}
 use Rattle.ownership_kinds.proofs.statics.least_fault.Given as goal
 
 abbrev pub invariant-loop-number : goal.invariant-loop-number

@@ -1,6 +1,6 @@
 use Rattle.std.proofs.Common.{◌≡◌, ◌++◌, take}
 use Rattle.std.specs.List.{flat_map}
-use Rattle.forwarding_chains.specs.Facts.{told_at}
+use Rattle.ownership_chains.specs.Facts.{told_at}
 use Rattle.ownership_marks.specs.Marks.{ended}
 use Rattle.ownership_marks.proofs.marks.add_ends.Given as goal
 

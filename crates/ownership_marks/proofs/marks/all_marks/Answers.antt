@@ -3,8 +3,8 @@ use Rattle.std.proofs.lemmas.Bool.{cases_eq}
 use Rattle.std.proofs.lemmas.Option.{same_Some, slice_get_within}
 use Rattle.sil_cfg.specs.Layout.{Layout, item_at}
 use Rattle.sil_cfg.specs.declared.item.Item.{Item}
-use Rattle.item_lists.proofs.Items.{count_pushed, list_kept, list_last}
-use Rattle.forwarding_chains.specs.Facts.{told_at}
+use Rattle.path_lists.proofs.Items.{count_pushed, list_kept, list_last}
+use Rattle.ownership_chains.specs.Facts.{told_at}
 use Rattle.ownership_marks.specs.Known.{marks_in}
 use Rattle.ownership_marks.specs.Marks.{marks_of}
 use Rattle.ownership_marks.specs.declared.mark.Mark.{Mark}

@@ -1,7 +1,7 @@
 use Rattle.std.proofs.Common.{◌≡◌, ℕ, ◌<◌, length, Some}
 use Rattle.sil_cfg.specs.Layout.{item_at}
 use Rattle.sil_cfg.specs.declared.item.Item.{Item}
-use Rattle.forwarding_chains.specs.Facts.{told_at}
+use Rattle.ownership_chains.specs.Facts.{told_at}
 use Rattle.ownership_marks.specs.Known.{marks_in}
 use Rattle.ownership_marks.specs.Marks.{marks_of}
 use Rattle.ownership_marks.proofs.marks.all_marks.Given as goal

@@ -1,8 +1,8 @@
 use Rattle.std.proofs.Common.{◌≡◌, ◌≢◌, ◌+◌, ◌<◌, ◌≤◌, ℕ, List, length, sym, subst, All, ◌⊎◌, inl, inr, arith}
 use Rattle.std.proofs.lemmas.Bool.{cases_eq, cases_lt}
 use Rattle.std.proofs.lemmas.List.Elements.{All-weaker, All-nil}
-use Rattle.item_lists.specs.Lists.{list_at}
-use Rattle.item_lists.proofs.Items.{list_past}
+use Rattle.path_lists.specs.inner.Lists.{list_at}
+use Rattle.path_lists.proofs.Items.{list_past}
 use Rattle.path_checks.specs.declared.entry.Entry.{Entry}
 use Rattle.path_checks.proofs.bound.subject_bound.Goals as goal
 

@@ -1,5 +1,5 @@
 use Rattle.std.proofs.Common.{ℕ, ◌<◌, ◌≤◌, ◌^◌, All}
-use Rattle.item_lists.specs.Lists.{list_at}
+use Rattle.path_lists.specs.inner.Lists.{list_at}
 use Rattle.path_checks.proofs.bound.subject_bound.Given as goal
 
 abbrev pub invariant-loop-item : goal.invariant-loop-item

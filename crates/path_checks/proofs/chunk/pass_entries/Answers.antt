@@ -1,7 +1,7 @@
 use Rattle.std.proofs.Common.{List, take, sym, ◌∙◌, subst}
 use Rattle.std.proofs.lemmas.List.{take_more}
 use Rattle.path_checks.specs.declared.entry.Entry.{Entry}
-use Rattle.path_checks.specs.Chunks.{ArePassed}
+use Rattle.path_checks.specs.inner.Chunks.{ArePassed}
 use Rattle.path_checks.proofs.EntriesPassed.{passed_then}
 use Rattle.path_checks.proofs.chunk.pass_entries.Goals as goal
 

@@ -1,5 +1,5 @@
 use Rattle.std.proofs.Common.{◌≡◌, ◌*◌, length, take}
-use Rattle.path_checks.specs.Chunks.{ArePassed}
+use Rattle.path_checks.specs.inner.Chunks.{ArePassed}
 use Rattle.path_checks.proofs.chunk.pass_entries.Given as goal
 
 abbrev pub invariant-loop-entry : goal.invariant-loop-entry

@@ -3,13 +3,13 @@ use Rattle.std.proofs.lemmas.Bool.{cases_lt}
 use Rattle.std.proofs.lemmas.List.Elements.{All-weaker}
 use Rattle.sil_cfg.specs.declared.item.Item.{Item}
 use Rattle.sil_cfg.specs.Flow.{numbered}
-use Rattle.reach_engine.specs.Search.{IsClean}
+use Rattle.reach_engine.specs.inner.Search.{IsClean}
 use Rattle.path_patterns.specs.Reads.{AgreesWith}
 use Rattle.path_checks.specs.declared.entry.Entry.{Entry}
 use Rattle.path_checks.specs.declared.entry.PathFault.{PathFault}
 use Rattle.path_checks.specs.Entries.{subject_step}
-use Rattle.path_checks.specs.Chunks.{IsFirstOfChunk}
-use Rattle.path_checks.specs.Shared.{entries_among, entries_with, shared_from}
+use Rattle.path_checks.specs.inner.Chunks.{IsFirstOfChunk}
+use Rattle.path_checks.specs.inner.Shared.{entries_among, entries_with, shared_from}
 use Rattle.path_checks.proofs.FirstShown.{absent_clean, nothing_shown, chunk_fault_first}
 use Rattle.path_checks.proofs.SharedMarks.{all_below}
 use Rattle.path_checks.proofs.first.first_fault.Goals as goal

@@ -1,5 +1,5 @@
 use Rattle.std.proofs.Common.{◌≡◌, take}
-use Rattle.path_checks.specs.Shared.{shared_from}
+use Rattle.path_checks.specs.inner.Shared.{shared_from}
 use Rattle.path_checks.proofs.sharing.shared_entries.Given as goal
 
 abbrev pub invariant-loop-subject : goal.invariant-loop-subject

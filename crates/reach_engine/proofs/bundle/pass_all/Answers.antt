@@ -1,6 +1,6 @@
 use Rattle.std.proofs.Common.{List, ℕ, [], ◌∷◌, subst, sym, ◌∙◌, get_or, take}
 use Rattle.std.proofs.lemmas.List.{take_more}
-use Rattle.reach_engine.specs.Columns.{AllMoved}
+use Rattle.reach_engine.specs.inner.Columns.{AllMoved}
 use Rattle.reach_engine.proofs.SubjectsMoved.{AllMoved_then}
 use Rattle.reach_engine.proofs.bundle.pass_all.Goals as goal
 

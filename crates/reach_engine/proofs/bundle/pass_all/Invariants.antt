@@ -1,5 +1,5 @@
 use Rattle.std.proofs.Common.{◌≡◌, ◌*◌, length, take}
-use Rattle.reach_engine.specs.Columns.{AllMoved}
+use Rattle.reach_engine.specs.inner.Columns.{AllMoved}
 use Rattle.reach_engine.proofs.bundle.pass_all.Given as goal
 
 abbrev pub invariant-loop-item : goal.invariant-loop-item

@@ -1,5 +1,5 @@
 use Rattle.std.proofs.Common.{◌≡◌, ◌+◌, refl, sym, ap, ◌∙◌, subst, arith, true, false, replicate}
-use Rattle.reach_engine.specs.Bits.{bit_in}
+use Rattle.reach_engine.specs.inner.Bits.{bit_in}
 use Rattle.reach_engine.proofs.ColumnTaken.{Taking, take_yes, take_no, take_none}
 use Rattle.reach_engine.proofs.RowsAreExact.{zero_bits}
 use Rattle.reach_engine.proofs.bundle.take_column.Goals as goal

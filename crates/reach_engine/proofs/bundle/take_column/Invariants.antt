@@ -1,5 +1,5 @@
 use Rattle.std.proofs.Common.{◌≡◌, ℕ, ◌≤◌}
-use Rattle.reach_engine.specs.Bits.{bit_in}
+use Rattle.reach_engine.specs.inner.Bits.{bit_in}
 use Rattle.reach_engine.proofs.ColumnTaken.{Taking}
 use Rattle.reach_engine.proofs.bundle.take_column.Given as goal
 

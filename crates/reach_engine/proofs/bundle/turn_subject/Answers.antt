@@ -1,6 +1,6 @@
 use Rattle.std.proofs.Common.{◌≡◌, ◌+◌, ◌*◌, ◌<◌, ℕ, sym, subst, ◌∙◌, arith, true, false}
 use Rattle.reach_engine.specs.declared.scan.Step.{Step}
-use Rattle.reach_engine.specs.Columns.{Has}
+use Rattle.reach_engine.specs.inner.Columns.{Has}
 use Rattle.reach_engine.proofs.SubjectTurned.{Turning, turn_put, turn_skip}
 use Rattle.reach_engine.proofs.bundle.turn_subject.Goals as goal
 use Rattle.reach_engine.proofs.bundle.turn_subject.Goals.{then-has_bit, else-has_bit}

@@ -1,5 +1,5 @@
 use Rattle.std.proofs.Common.{◌≡◌, length}
-use Rattle.reach_engine.specs.Effects.{Applied}
+use Rattle.reach_engine.specs.inner.Effects.{Applied}
 use Rattle.reach_engine.proofs.effect.apply.Given as goal
 
 abbrev pub invariant-loop-state : goal.invariant-loop-state

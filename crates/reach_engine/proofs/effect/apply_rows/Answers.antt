@@ -1,6 +1,6 @@
 use Rattle.std.proofs.Common.{◌≡◌, ◌≤◌, ◌+◌, ◌*◌, ℕ, refl, ◌∙◌, length, arith, sym, ap}
 use Rattle.sil_cfg.specs.Flow.{numbered, block_count}
-use Rattle.reach_engine.specs.Effects.{effect_rows}
+use Rattle.reach_engine.specs.inner.Effects.{effect_rows}
 use Rattle.reach_engine.proofs.EffectsKnown.{applied_block, effects_within}
 use Rattle.reach_engine.proofs.effect.apply_rows.Goals as goal
 

@@ -1,6 +1,6 @@
 use Rattle.std.proofs.Common.{◌≡◌, ◌*◌, length}
 use Rattle.sil_cfg.specs.Flow.{numbered}
-use Rattle.reach_engine.specs.Effects.{effect_rows, AreEffects}
+use Rattle.reach_engine.specs.inner.Effects.{effect_rows, AreEffects}
 use Rattle.reach_engine.proofs.effect.known_effects.Given as goal
 
 abbrev pub invariant-loop-number : goal.invariant-loop-number

@@ -1,7 +1,7 @@
 use Rattle.std.proofs.Common.{◌≡◌, ℕ, ◌<◌, Some}
 use Rattle.std.specs.List.{slice_get}
 use Rattle.sil_cfg.specs.Flow.{numbered, edge_id}
-use Rattle.reach_engine.specs.Frontier.{FrontOf, EdgeDone}
+use Rattle.reach_engine.specs.inner.Frontier.{FrontOf, EdgeDone}
 use Rattle.reach_engine.proofs.frontier.explore.Given as goal
 
 abbrev pub invariant-loop-index : goal.invariant-loop-index

@@ -3,7 +3,7 @@ use Rattle.std.proofs.lemmas.List.{reverse-append}
 use Rattle.std.proofs.lemmas.Option.{slice_get-get_or}
 use Rattle.sil_ast.specs.declared.place.EdgeId.{EdgeId}
 use Rattle.reach_engine.specs.declared.frontier.Visit.{Visit}
-use Rattle.reach_engine.specs.Frontier.{Climbs, ParentsFirst}
+use Rattle.reach_engine.specs.inner.Frontier.{Climbs, ParentsFirst}
 use Rattle.reach_engine.proofs.frontier.walk_to.Goals as goal
 
 -- one edge further back

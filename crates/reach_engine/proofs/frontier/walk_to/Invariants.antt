@@ -1,5 +1,5 @@
 use Rattle.std.proofs.Common.{◌<◌, length, reverse}
-use Rattle.reach_engine.specs.Frontier.{Climbs}
+use Rattle.reach_engine.specs.inner.Frontier.{Climbs}
 use Rattle.reach_engine.proofs.frontier.walk_to.Given as goal
 
 abbrev pub invariant-loop-here : goal.invariant-loop-here

@@ -1,6 +1,6 @@
 use Rattle.std.proofs.Common.{◌≡◌, ℕ, List, ◌∙◌, subst, length}
 use Rattle.sil_cfg.specs.Flow.{numbered}
-use Rattle.reach_engine.specs.Reached.{AreExact, AreBad}
+use Rattle.reach_engine.specs.inner.Reached.{AreExact, AreBad}
 use Rattle.reach_engine.proofs.RowsAreExact.{closed_exact, closed_bad, whole_again}
 use Rattle.reach_engine.proofs.ItemsInRange.{edge_target}
 use Rattle.reach_engine.proofs.rows.reach_rows.Goals as goal

@@ -1,5 +1,5 @@
 use Rattle.std.proofs.Common.{◌≡◌, ℕ, ◌<◌, ◌≤◌, length}
-use Rattle.reach_engine.specs.Bits.{bit_in}
+use Rattle.reach_engine.specs.inner.Bits.{bit_in}
 use Rattle.reach_engine.proofs.rows.seed.Given as goal
 
 abbrev pub invariant-loop-k : goal.invariant-loop-k

@@ -1,6 +1,6 @@
 use Rattle.std.proofs.Common.{◌+◌, ◌<◌, ℕ, List, Bool, cond, subst, sym, arith}
 use Rattle.sil_cfg.specs.Flow.{numbered, block_count}
-use Rattle.reach_engine.specs.Reached.{Swept, work_left, cap_of}
+use Rattle.reach_engine.specs.inner.Reached.{Swept, work_left, cap_of}
 use Rattle.reach_engine.proofs.DirtyBlocks.{swept_closed, swept_less}
 use Rattle.reach_engine.proofs.rows.settle.Goals as goal
 

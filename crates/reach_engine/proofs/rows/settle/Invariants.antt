@@ -1,6 +1,6 @@
 use Rattle.std.proofs.Common.{◌≡◌, ◌+◌, false, cond}
 use Rattle.sil_cfg.specs.Flow.{numbered, block_count}
-use Rattle.reach_engine.specs.Reached.{IsSettled, IsClosed, work_left, cap_of}
+use Rattle.reach_engine.specs.inner.Reached.{IsSettled, IsClosed, work_left, cap_of}
 use Rattle.reach_engine.proofs.rows.settle.Given as goal
 
 abbrev pub invariant-loop-changed : goal.invariant-loop-changed

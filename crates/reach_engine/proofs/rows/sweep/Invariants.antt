@@ -1,5 +1,5 @@
 use Rattle.sil_cfg.specs.Flow.{numbered}
-use Rattle.reach_engine.specs.Reached.{Swept}
+use Rattle.reach_engine.specs.inner.Reached.{Swept}
 use Rattle.reach_engine.proofs.rows.sweep.Given as goal
 
 abbrev pub invariant-loop-block : goal.invariant-loop-block

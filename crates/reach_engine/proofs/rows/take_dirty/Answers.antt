@@ -1,7 +1,7 @@
 use Rattle.std.proofs.Common.{◌≡◌, ◌≤◌, ◌*◌, ◌^◌, length, set, sum, refl, ◌∙◌, subst, true, false, arith}
 use Rattle.std.proofs.lemmas.List.{length-set}
 use Rattle.sil_cfg.specs.Flow.{numbered, block_count}
-use Rattle.reach_engine.specs.Reached.{is_dirty, cap_of}
+use Rattle.reach_engine.specs.inner.Reached.{is_dirty, cap_of}
 use Rattle.reach_engine.proofs.RowsAreSound.{sum_words}
 use Rattle.reach_engine.proofs.DirtyBlocks.{dirty_taken}
 use Rattle.reach_engine.proofs.rows.take_dirty.Goals as goal

@@ -1,6 +1,6 @@
 use Rattle.std.proofs.Common.{◌≡◌, ◌<◌, length, set, ap, true, List, ℕ, subst, ◌∙◌, arith, inl, inr}
 use Rattle.sil_cfg.specs.Flow.{block_count, edge_to, edge_id, numbered}
-use Rattle.reach_engine.specs.Reached.{EdgeTaken}
+use Rattle.reach_engine.specs.inner.Reached.{EdgeTaken}
 use Rattle.reach_engine.proofs.RowsMoved.{edges_more}
 use Rattle.reach_engine.proofs.DirtyBlocks.{marks_more}
 use Rattle.reach_engine.proofs.rows.take_edges.Goals as goal

@@ -1,6 +1,6 @@
 use Rattle.std.proofs.Common.{◌≡◌, ◌*◌, length}
 use Rattle.sil_cfg.specs.Flow.{numbered, block_count}
-use Rattle.reach_engine.specs.Reached.{EdgesTaken, MarksGains}
+use Rattle.reach_engine.specs.inner.Reached.{EdgesTaken, MarksGains}
 use Rattle.reach_engine.proofs.rows.take_edges.Given as goal
 
 abbrev pub invariant-loop-index : goal.invariant-loop-index

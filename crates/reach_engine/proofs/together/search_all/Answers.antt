@@ -1,8 +1,8 @@
 use Rattle.std.proofs.Common.{◌<◌, subst}
 use Rattle.sil_cfg.specs.Layout.{item_count}
 use Rattle.sil_cfg.specs.Flow.{numbered}
-use Rattle.reach_engine.specs.Reach.{ReachesFirst}
-use Rattle.reach_engine.specs.Searched.{IfSomeBreaks}
+use Rattle.reach_engine.specs.inner.Reach.{ReachesFirst}
+use Rattle.reach_engine.specs.inner.Searched.{IfSomeBreaks}
 use Rattle.reach_engine.specs.declared.together.SearchedAll.{SearchedAll}
 use Rattle.reach_engine.proofs.PointsReached.{point_reached}
 use Rattle.reach_engine.proofs.together.search_all.Goals as goal

@@ -1,8 +1,8 @@
 use Rattle.std.proofs.Common.{◌≡◌, ◌≢◌, ◌+◌, ◌<◌, List, ℕ, sym, subst, ◌∙◌, arith, ◌⊎◌, inl, inr, true, false}
 use Rattle.std.proofs.lemmas.Bool.{cases_eq}
 use Rattle.sil_cfg.specs.Flow.{numbered}
-use Rattle.reach_engine.specs.Search.{IsClean}
-use Rattle.reach_engine.specs.Bits.{bit_in}
+use Rattle.reach_engine.specs.inner.Search.{IsClean}
+use Rattle.reach_engine.specs.inner.Bits.{bit_in}
 use Rattle.reach_engine.proofs.together.search_subjects.Goals as goal
 
 pub loop-subject-preserved : goal.loop-subject-preserved

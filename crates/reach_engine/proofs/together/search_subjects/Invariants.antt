@@ -1,6 +1,6 @@
 use Rattle.std.proofs.Common.{ℕ, ◌<◌}
 use Rattle.sil_cfg.specs.Flow.{numbered}
-use Rattle.reach_engine.specs.Search.{IsClean}
+use Rattle.reach_engine.specs.inner.Search.{IsClean}
 use Rattle.reach_engine.proofs.together.search_subjects.Given as goal
 
 abbrev pub invariant-loop-subject : goal.invariant-loop-subject

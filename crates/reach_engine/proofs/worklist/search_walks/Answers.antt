@@ -1,11 +1,11 @@
 use Rattle.std.proofs.Common.{ℕ, ◌<◌, ◌≤◌, List, length, sym, subst, arith}
 use Rattle.sil_cfg.specs.Flow.{numbered}
 use Rattle.sil_ast.specs.declared.place.EdgeId.{EdgeId}
-use Rattle.reach_engine.specs.Reach.{ReachesFirst}
-use Rattle.reach_engine.specs.Search.{IsShortest}
+use Rattle.reach_engine.specs.inner.Reach.{ReachesFirst}
+use Rattle.reach_engine.specs.inner.Search.{IsShortest}
 use Rattle.reach_engine.proofs.ItemsInRange.{last_below}
 use Rattle.reach_engine.specs.declared.frontier.Visit.{Visit}
-use Rattle.reach_engine.specs.Frontier.{ParentsFirst, IsFront, IsWalkOf}
+use Rattle.reach_engine.specs.inner.Frontier.{ParentsFirst, IsFront, IsWalkOf}
 use Rattle.reach_engine.proofs.AnswerIsExact.{parents_first, visit_within, end_clean, end_exact, end_fault, end_least, end_shortest}
 use Rattle.reach_engine.proofs.worklist.search_walks.Goals as goal
 

@@ -1,6 +1,6 @@
 use Rattle.std.proofs.Common.{◌-◌, ◌*◌}
 use Rattle.sil_cfg.specs.Flow.{numbered, block_count}
-use Rattle.reach_engine.specs.Frontier.{FrontOf}
+use Rattle.reach_engine.specs.inner.Frontier.{FrontOf}
 use Rattle.reach_engine.proofs.worklist.search_walks.Given as goal
 
 abbrev pub invariant-loop-at : goal.invariant-loop-at

@@ -1,7 +1,7 @@
 use Rattle.std.proofs.Common.{◌≡◌, ℕ, subst, sym, []}
 use Rattle.sil_cfg.specs.declared.item.Item.TheVariants.{Entry}
 use Rattle.sil_cfg.specs.Items.{entry_of}
-use Rattle.sil_cfg.specs.Laying.{LaysMore}
+use Rattle.sil_cfg.specs.inner.Laying.{LaysMore}
 use Rattle.sil_cfg.proofs.Numbers.{lays_none, lays_push}
 use Rattle.sil_cfg.proofs.build.add_entry.Goals as goal
 

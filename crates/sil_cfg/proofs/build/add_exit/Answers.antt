@@ -1,7 +1,7 @@
 use Rattle.std.proofs.Common.{◌≡◌, Bool, true, subst, sym, ◌∙◌, [], ◌∷◌, ◌++◌, ap, length, refl}
 use Rattle.sil_cfg.specs.declared.item.Item.TheVariants.{Exit}
 use Rattle.sil_cfg.specs.Items.{exit_of, point_at, ends_function}
-use Rattle.sil_cfg.specs.Laying.{LaysMore}
+use Rattle.sil_cfg.specs.inner.Laying.{LaysMore}
 use Rattle.sil_cfg.proofs.Numbers.{lays_none, lays_push}
 use Rattle.sil_cfg.proofs.build.add_exit.Goals as goal
 

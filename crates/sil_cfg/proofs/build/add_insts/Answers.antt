@@ -4,7 +4,7 @@ use Rattle.sil_ast.specs.declared.inst.Inst as inst
 use Rattle.sil_cfg.specs.declared.item.Item.{Item}
 use Rattle.sil_cfg.specs.declared.item.Item.TheVariants.{Inst}
 use Rattle.sil_cfg.specs.Items.{insts_from, point_at}
-use Rattle.sil_cfg.specs.Laying.{LaysMore}
+use Rattle.sil_cfg.specs.inner.Laying.{LaysMore}
 use Rattle.sil_cfg.proofs.Numbers.{lays_push, insts_from_more}
 use Rattle.sil_cfg.proofs.build.add_insts.Goals as goal
 

@@ -1,6 +1,6 @@
 use Rattle.std.proofs.Common.{take}
 use Rattle.sil_cfg.specs.Items.{insts_from}
-use Rattle.sil_cfg.specs.Laying.{LaysMore}
+use Rattle.sil_cfg.specs.inner.Laying.{LaysMore}
 use Rattle.sil_cfg.proofs.build.add_insts.Given as goal
 
 abbrev pub invariant-loop-k : goal.invariant-loop-k

@@ -1,6 +1,6 @@
 use Rattle.std.proofs.Common.{◌≡◌, map}
 use Rattle.sil_cfg.specs.Layout.{block_of}
-use Rattle.sil_cfg.specs.Laying.{AreLaid}
+use Rattle.sil_cfg.specs.inner.Laying.{AreLaid}
 use Rattle.sil_cfg.proofs.build.build_blocks.Given as goal
 
 abbrev pub invariant-loop-b : goal.invariant-loop-b

@@ -1,6 +1,6 @@
 use Rattle.std.proofs.Common.{ℕ, List, subst}
 use Rattle.sil_cfg.specs.Items.{entry_of}
-use Rattle.sil_cfg.specs.Laying.{LaysMore}
+use Rattle.sil_cfg.specs.inner.Laying.{LaysMore}
 use Rattle.sil_cfg.proofs.Numbers.{lays_block}
 use Rattle.sil_cfg.proofs.build.lay_block.Goals as goal
 

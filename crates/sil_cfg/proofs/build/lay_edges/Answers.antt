@@ -6,7 +6,7 @@ use Rattle.sil_cfg.specs.declared.item.Item.{Item}
 use Rattle.sil_cfg.specs.declared.item.Item.TheVariants.{Edge}
 use Rattle.sil_cfg.specs.declared.layout.EdgeFlow.{EdgeFlow}
 use Rattle.sil_cfg.specs.Flow.{edge_id}
-use Rattle.sil_cfg.specs.Laying.{Adds, AreEdgesLaid}
+use Rattle.sil_cfg.specs.inner.Laying.{Adds, AreEdgesLaid}
 use Rattle.sil_cfg.proofs.Gets.{length_push}
 use Rattle.sil_cfg.proofs.Numbers.{adds_push, edges_push}
 use Rattle.sil_cfg.proofs.build.lay_edges.Goals as goal

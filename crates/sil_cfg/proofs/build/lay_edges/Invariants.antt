@@ -1,5 +1,5 @@
 use Rattle.std.proofs.Common.{◌≡◌, take, length}
-use Rattle.sil_cfg.specs.Laying.{Adds, AreEdgesLaid}
+use Rattle.sil_cfg.specs.inner.Laying.{Adds, AreEdgesLaid}
 use Rattle.sil_cfg.proofs.build.lay_edges.Given as goal
 
 abbrev pub invariant-loop-index : goal.invariant-loop-index

@@ -1,6 +1,6 @@
 -- For `first_bad_of`: steps that derive all tokens of a text are its shape.
 use Rattle.std.proofs.Common.{subst}
-use Rattle.sil_grammar.specs.Shape.{IsBroken, IsShapeOf, IsWhole}
+use Rattle.sil_grammar.specs.inner.Shape.{IsBroken, IsShapeOf, IsWhole}
 use Rattle.sil_grammar.proofs.ShapeLemmas.{whole_shape}
 use Rattle.sil_grammar.proofs.first_bad.first_bad_of.Goals as goal
 

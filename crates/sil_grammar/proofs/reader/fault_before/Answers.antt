@@ -4,7 +4,7 @@ use Rattle.sil_lexer.specs.Lexing.{lexemes_of, IsLexingOf}
 use Rattle.token_classes.specs.declared.classes.Class.{Class}
 use Rattle.sil_shape.specs.declared.steps.Step.{Step}
 use Rattle.sil_shape.specs.Shortest.{Shortens}
-use Rattle.written_modules.specs.Replay.{first_fault}
+use Rattle.written_modules.specs.inner.Replay.{first_fault}
 use Rattle.sil_grammar.specs.Classes.{token_class}
 use Rattle.sil_grammar.proofs.CutLemmas.{cut_leads}
 use Rattle.sil_grammar.proofs.ShapeLemmas.{length-front}

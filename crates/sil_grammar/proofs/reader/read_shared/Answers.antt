@@ -1,7 +1,7 @@
 -- For `read_shared`: the text is read as far as it has shape.
 use Rattle.std.proofs.Common.{◌≡◌, subst}
 use Rattle.std.proofs.lemmas.Result.{IfOk-weaker}
-use Rattle.sil_grammar.specs.Shape.{IsBroken, IsShapeOf}
+use Rattle.sil_grammar.specs.inner.Shape.{IsBroken, IsShapeOf}
 use Rattle.sil_ast.specs.declared.module.Module.{Module}
 use Rattle.sil_grammar.specs.Spells.{Spells}
 use Rattle.numbered_form.specs.NumberedForm.{IsNumbered}

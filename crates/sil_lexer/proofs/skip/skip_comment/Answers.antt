@@ -1,7 +1,7 @@
 use Rattle.std.proofs.Common.{ap, sym, subst, arith}
 use Rattle.sil_ast.specs.declared.place.Place.{Place}
 use Rattle.sil_lexer.specs.Places.{IsPlaceIn}
-use Rattle.sil_lexer.specs.Scan.{SkipsOne}
+use Rattle.sil_lexer.specs.inner.Scan.{SkipsOne}
 use Rattle.sil_lexer.proofs.PlaceLemmas.{bounds}
 use Rattle.sil_lexer.proofs.SkipLemmas.{comment_place, comment_skipped, last_comment_skipped}
 use Rattle.sil_lexer.proofs.skip.skip_comment.Goals as goal

@@ -1,6 +1,6 @@
 use Rattle.std.proofs.Common.{◌∙◌, ap, reverse, sym}
 use Rattle.std.specs.Prelude.{Some, slice_get}
-use Rattle.sil_shape.specs.Turns.{stay}
+use Rattle.sil_shape.specs.inner.Turns.{stay}
 use Rattle.sil_shape.proofs.TurnLemmas.{turned, smaller}
 use Rattle.sil_shape.proofs.machine.settle.Goals as goal
 

@@ -1,5 +1,5 @@
 use Rattle.std.proofs.Common.{reverse}
-use Rattle.sil_shape.specs.Turns.{Turns}
+use Rattle.sil_shape.specs.inner.Turns.{Turns}
 use Rattle.sil_shape.proofs.Computed.{lead}
 use Rattle.sil_shape.proofs.machine.settle.Given as goal
 

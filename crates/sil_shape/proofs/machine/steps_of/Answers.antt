@@ -1,6 +1,6 @@
 use Rattle.std.proofs.Common.{subst, sym}
 use Rattle.std.proofs.lemmas.Bool.{MatchBool-at_true, MatchBool-at_false}
-use Rattle.sil_shape.specs.Refusal.{IsRefusal}
+use Rattle.sil_shape.specs.inner.Refusal.{IsRefusal}
 use Rattle.sil_shape.proofs.Reached.{Reached-start, Reached-next, Reached-all, first_bad_inside, first_bad_end}
 use Rattle.sil_shape.proofs.ValuesLemmas.{takes_of-derives, values_left-derives, IsEnough-derives}
 use Rattle.sil_shape.proofs.machine.steps_of.Goals as goal

@@ -1,7 +1,7 @@
 use Rattle.std.proofs.Common.{sym, ap, ◌∙◌}
 use Rattle.std.specs.List.{list_any}
 use Rattle.type_definitions.specs.Mentions.{mentions_of}
-use Rattle.sil_types.specs.Limits.{exceeds}
+use Rattle.sil_types.specs.inner.Limits.{exceeds}
 use Rattle.sil_types.specs.declared.limits.Limit.TheVariants.{Either}
 use Rattle.sil_types.proofs.PastLimits.{exceeds_either, within_limits}
 use Rattle.sil_types.proofs.build.check_limits.Goals as goal

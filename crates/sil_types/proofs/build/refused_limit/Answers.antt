@@ -2,7 +2,7 @@ use Rattle.std.proofs.Common.{◌≡◌, sym, ap, ◌∙◌, true, false}
 use Rattle.std.specs.List.{list_any}
 use Rattle.type_definitions.specs.Mentions.{mentions_of}
 use Rattle.type_definitions.specs.Rules.{exceeds_depth, exceeds_leaves}
-use Rattle.sil_types.specs.Limits.{exceeds}
+use Rattle.sil_types.specs.inner.Limits.{exceeds}
 use Rattle.sil_types.specs.declared.limits.Limit.TheVariants.{Depth}
 use Rattle.sil_types.proofs.FirstRefusals.{first_deep, first_wide}
 use Rattle.sil_types.proofs.PastLimits.{second_of_one}

@@ -1,6 +1,6 @@
 use Rattle.std.proofs.Common.{ap, sym, ◌∙◌}
 use Rattle.std.specs.List.{list_any}
-use Rattle.sil_types.specs.Limits.{is_past}
+use Rattle.sil_types.specs.inner.Limits.{is_past}
 use Rattle.sil_types.proofs.PastLimits.{no_name_past}
 use Rattle.sil_types.proofs.limits.any_declared_past.Goals as goal
 

@@ -1,6 +1,6 @@
 use Rattle.std.proofs.Common.{◌-◌, subst, ap, ◌∙◌, length}
 use Rattle.containment.specs.Chains.{IsFirstCyclic}
-use Rattle.containment.specs.Outcome.{IsFound}
+use Rattle.containment.specs.inner.Outcome.{IsFound}
 use Rattle.sil_rules.specs.declared.rule.Rule.TheVariants.{InfiniteType}
 use Rattle.type_definitions.specs.Contained.{containment}
 use Rattle.type_definitions.specs.Declarations.{swift_structs}

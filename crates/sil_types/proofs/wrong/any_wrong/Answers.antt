@@ -1,13 +1,13 @@
 use Rattle.std.proofs.Common.{sym, ap, ◌∙◌, map}
 use Rattle.std.specs.List.{flat_map, list_any}
 use Rattle.std.specs.Prelude.{◌||◌, is_some}
-use Rattle.sil_types.specs.Limits.{exceeds}
+use Rattle.sil_types.specs.inner.Limits.{exceeds}
 use Rattle.sil_types.specs.declared.limits.Limit.TheVariants.{Either}
 use Rattle.type_definitions.specs.Declarations.{declarations_of}
 use Rattle.type_definitions.specs.Mentions.{function_members, mentions_of, vtable}
 use Rattle.type_definitions.specs.Rules.{is_no_member}
-use Rattle.type_rules.specs.Faults.{fault_from, is_wrong_type}
-use Rattle.type_rules.proofs.NoFaults.{none_broken}
+use Rattle.type_item_rules.specs.Faults.{fault_from, is_wrong_type}
+use Rattle.type_item_rules.proofs.NoFaults.{none_broken}
 use Rattle.sil_types.proofs.PastLimits.{no_wrong_type, none_past_limit}
 use Rattle.sil_types.proofs.wrong.any_wrong.Goals as goal
 

@@ -1,6 +1,6 @@
 -- None of the functions so far is lowered.
 use Rattle.std.proofs.Common.{◌≡◌, drop}
-use Rattle.sil_verifier.specs.Lowered.{first_lowered}
+use Rattle.sil_verifier.specs.inner.Lowered.{first_lowered}
 use Rattle.sil_verifier.proofs.lowered.first_among.Given as goal
 
 abbrev pub invariant-loop-function : goal.invariant-loop-function

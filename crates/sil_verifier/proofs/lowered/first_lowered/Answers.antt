@@ -2,7 +2,7 @@ use Rattle.std.proofs.Common.{sym, ap, ◌∙◌, subst}
 use Rattle.sil_rules.specs.Order.{IsFirst}
 use Rattle.type_check.specs.Refusals.{fault_key}
 use Rattle.sil_verifier.proofs.FirstFaults.{first_function}
-use Rattle.sil_verifier.specs.Lowered as lowering
+use Rattle.sil_verifier.specs.inner.Lowered as lowering
 use Rattle.sil_verifier.specs.Refusals.{IsLowered}
 use Rattle.sil_verifier.proofs.lowered.first_lowered.Goals as goal
 

@@ -3,10 +3,10 @@ use Rattle.std.specs.Prelude.{ℕ, Option}
 use Rattle.sil_ast.specs.declared.function.Block.{Block}
 use Rattle.sil_ast.specs.declared.inst.Inst.{Inst}
 use Rattle.numbered_form.specs.Insts.{insts_in, insts_of}
-use Rattle.value_types.specs.Given.{given_count}
+use Rattle.typing_values.specs.inner.Given.{given_count}
 use Rattle.std.specs.Option.{option_or}
-use Rattle.type_check.specs.FirstFault.{fault_of_block}
-use Rattle.type_check.specs.Firsts.{first_from}
+use Rattle.type_check.specs.inner.FirstFault.{fault_of_block}
+use Rattle.type_check.specs.inner.Firsts.{first_from}
 use Rattle.type_check.specs.declared.fault.TypingFault.{TypingFault}
 use Rattle.type_check.proofs.Counts.{ahead, next_block, own_part, part_behind, room}
 use Rattle.type_check.proofs.points.first_in_blocks.Goals as goal

@@ -1,9 +1,9 @@
 -- None of the blocks so far has a fault, and the counts that are left are those of the blocks that are left.
 use Rattle.std.proofs.Common.{◌≡◌, drop, map}
 use Rattle.numbered_form.specs.Insts.{insts_in}
-use Rattle.type_check.specs.FirstFault.{fault_of_block}
-use Rattle.type_check.specs.Firsts.{first_from}
-use Rattle.value_types.specs.Given.{given_count}
+use Rattle.type_check.specs.inner.FirstFault.{fault_of_block}
+use Rattle.type_check.specs.inner.Firsts.{first_from}
+use Rattle.typing_values.specs.inner.Given.{given_count}
 use Rattle.type_check.proofs.points.first_in_blocks.Given as goal
 
 abbrev pub invariant-loop-block : goal.invariant-loop-block

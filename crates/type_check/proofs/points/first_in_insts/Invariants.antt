@@ -1,7 +1,7 @@
 -- None of the instructions so far has a fault.
 use Rattle.std.proofs.Common.{◌≡◌, drop}
-use Rattle.type_check.specs.FirstFault.{fault_of_inst}
-use Rattle.type_check.specs.Firsts.{first_from}
+use Rattle.type_check.specs.inner.FirstFault.{fault_of_inst}
+use Rattle.type_check.specs.inner.Firsts.{first_from}
 use Rattle.type_check.proofs.points.first_in_insts.Given as goal
 
 abbrev pub invariant-loop-inst : goal.invariant-loop-inst

@@ -2,7 +2,7 @@ use Rattle.std.proofs.Common.{◌≡◌, ap, ◌∙◌}
 use Rattle.type_definitions.specs.Declarations.{declarations_of}
 use Rattle.sil_types.specs.Typing.OperandTypes as operands
 use Rattle.sil_types.specs.Typing.Values.{value_types}
-use Rattle.value_types.specs.Told.{types_told}
+use Rattle.typing_values.specs.inner.Told.{types_told}
 use Rattle.type_check.proofs.rules.is_wrong_operand_type.Goals as goal
 
 pub returns : goal.returns

@@ -1,7 +1,7 @@
 -- None of the functions so far has a fault.
 use Rattle.std.proofs.Common.{◌≡◌, drop}
-use Rattle.type_check.specs.FirstFault.{fault_of_function}
-use Rattle.type_check.specs.Firsts.{first_from}
+use Rattle.type_check.specs.inner.FirstFault.{fault_of_function}
+use Rattle.type_check.specs.inner.Firsts.{first_from}
 use Rattle.type_check.proofs.typing.first_in_functions.Given as goal
 
 abbrev pub invariant-loop-function : goal.invariant-loop-function

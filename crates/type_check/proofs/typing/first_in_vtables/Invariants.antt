@@ -1,7 +1,7 @@
 -- None of the vtables so far has a fault.
 use Rattle.std.proofs.Common.{◌≡◌, drop}
-use Rattle.type_check.specs.FirstFault.{fault_of_vtable}
-use Rattle.type_check.specs.Firsts.{first_from}
+use Rattle.type_check.specs.inner.FirstFault.{fault_of_vtable}
+use Rattle.type_check.specs.inner.Firsts.{first_from}
 use Rattle.type_check.proofs.typing.first_in_vtables.Given as goal
 
 abbrev pub invariant-loop-number : goal.invariant-loop-number

@@ -2,7 +2,7 @@ use Rattle.std.proofs.Common.{sym, ap, ◌∙◌, ◌++◌}
 use Rattle.std.specs.List.{flat_map}
 use Rattle.type_definitions.specs.Contained.{payload_types}
 use Rattle.type_definitions.specs.Declarations.{all_names}
-use Rattle.type_measures.specs.Places.{places_in}
+use Rattle.type_measures.specs.inner.Places.{places_in}
 use Rattle.type_measures.proofs.Placing.{places_next}
 use Rattle.type_measures.proofs.graph.payload_places.Goals as goal
 

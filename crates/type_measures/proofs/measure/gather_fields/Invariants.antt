@@ -2,7 +2,7 @@ use Rattle.std.proofs.Common.{◌≡◌, take, map}
 use Rattle.type_definitions.specs.Contained.{field_type}
 use Rattle.type_definitions.specs.Declarations.{all_names}
 use Rattle.type_definitions.specs.Measures.{measure_at, measure_with}
-use Rattle.type_measures.specs.Gathered.{gathered}
+use Rattle.type_measures.specs.inner.Gathered.{gathered}
 use Rattle.type_measures.proofs.measure.gather_fields.Given as goal
 
 abbrev pub invariant-loop-field : goal.invariant-loop-field

@@ -3,7 +3,7 @@ use Rattle.std.specs.List.{flat_map}
 use Rattle.type_definitions.specs.Declarations.{all_names}
 use Rattle.type_definitions.specs.Measures.{measure_at, measure_with}
 use Rattle.type_definitions.specs.Mentions.{operand_types}
-use Rattle.type_measures.specs.Gathered.{gathered}
+use Rattle.type_measures.specs.inner.Gathered.{gathered}
 use Rattle.type_measures.proofs.Gathering.{gathered_flat}
 use Rattle.type_measures.proofs.measure.gather_operands.Goals as goal
 

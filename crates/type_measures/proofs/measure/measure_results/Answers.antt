@@ -3,7 +3,7 @@ use Rattle.std.proofs.lemmas.List.{length-map}
 use Rattle.type_definitions.specs.Declarations.{all_names}
 use Rattle.type_definitions.specs.Measures.{measure_at, measure_with}
 use Rattle.type_definitions.specs.Mentions.{result_type}
-use Rattle.type_measures.specs.Gathered.{capped, as_members}
+use Rattle.type_measures.specs.inner.Gathered.{capped, as_members}
 use Rattle.type_measures.proofs.Agreement.{measure-Tuple, together_many}
 use Rattle.type_measures.proofs.Gathering.{members_capped}
 use Rattle.type_measures.proofs.measure.measure_results.Goals as goal

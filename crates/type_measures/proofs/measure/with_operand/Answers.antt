@@ -4,7 +4,7 @@ use Rattle.std.proofs.lemmas.List.{append-nil}
 use Rattle.type_definitions.specs.Declarations.{all_names}
 use Rattle.type_definitions.specs.Measures.{measure_at, measure_with}
 use Rattle.type_definitions.specs.Mentions.{target_of}
-use Rattle.type_measures.specs.Gathered.{capped, gathered, with_member}
+use Rattle.type_measures.specs.inner.Gathered.{capped, gathered, with_member}
 use Rattle.type_measures.proofs.Agreement.{measure_target}
 use Rattle.type_measures.proofs.Gathering.{gathered_push}
 use Rattle.type_measures.proofs.measure.with_operand.Goals as goal

@@ -3,7 +3,7 @@ use Rattle.std.proofs.lemmas.List.{length-map, length-set}
 use Rattle.type_definitions.specs.Contained.{containment, held_places}
 use Rattle.type_definitions.specs.Declarations.{all_decls, all_names}
 use Rattle.type_definitions.specs.Measures.{measure_at, measure_decl}
-use Rattle.type_measures.specs.Gathered.{capped}
+use Rattle.type_measures.specs.inner.Gathered.{capped}
 use Rattle.type_measures.proofs.Ordered.{up_to_next, all_measured}
 use Rattle.type_measures.proofs.table.measures.Goals as goal
 

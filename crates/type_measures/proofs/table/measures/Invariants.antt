@@ -1,6 +1,6 @@
 use Rattle.std.proofs.Common.{◌≡◌, length}
 use Rattle.type_definitions.specs.Declarations.{all_decls}
-use Rattle.type_measures.specs.Ordered.{AreMeasuredUpTo}
+use Rattle.type_measures.specs.inner.Ordered.{AreMeasuredUpTo}
 use Rattle.type_measures.proofs.table.measures.Given as goal
 
 abbrev pub invariant-loop-place : goal.invariant-loop-place

@@ -4,8 +4,8 @@ use Rattle.std.proofs.lemmas.Option.{same_Some, slice_get_within}
 use Rattle.sil_ast.specs.declared.function.Function.{Function}
 use Rattle.sil_cfg.specs.declared.item.Item.{Item}
 use Rattle.sil_cfg.specs.Layout.{Layout, item_at}
-use Rattle.item_lists.specs.Lists.{list_at}
-use Rattle.item_lists.proofs.Items.{count_pushed, list_kept, list_last}
+use Rattle.path_lists.specs.inner.Lists.{list_at}
+use Rattle.path_lists.proofs.Items.{count_pushed, list_kept, list_last}
 use Rattle.path_checks.specs.declared.entry.Entry as entry
 use Rattle.value_availability.specs.Accesses.{accesses_of}
 use Rattle.value_availability.proofs.accesses.entries_by_item.Goals as goal

@@ -1,7 +1,7 @@
 use Rattle.std.proofs.Common.{◌≡◌, ℕ, ◌<◌, length, Some}
 use Rattle.sil_cfg.specs.declared.item.Item.{Item}
 use Rattle.sil_cfg.specs.Layout.{item_at}
-use Rattle.item_lists.specs.Lists.{list_at}
+use Rattle.path_lists.specs.inner.Lists.{list_at}
 use Rattle.value_availability.specs.Accesses.{accesses_of}
 use Rattle.value_availability.proofs.accesses.entries_by_item.Given as goal
 

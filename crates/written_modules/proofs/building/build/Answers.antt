@@ -9,8 +9,8 @@ use Rattle.sil_shape.specs.Values.{IsEnough}
 use Rattle.sil_shape.proofs.ValuesLemmas.{IsEnough-derives}
 use Rattle.written_modules.specs.declared.value.Value.{Value}
 use Rattle.written_modules.specs.declared.value.Value.TheVariants as v
-use Rattle.written_modules.specs.Lacking.{lacking}
-use Rattle.written_modules.specs.Replay.{first_fault, replay}
+use Rattle.written_modules.specs.inner.Lacking.{lacking}
+use Rattle.written_modules.specs.inner.Replay.{first_fault, replay}
 use Rattle.written_modules.proofs.LackingLemmas.{waiting-length}
 use Rattle.written_modules.proofs.WholeLemmas.{one_module}
 use Rattle.written_modules.proofs.building.build.Goals as goal

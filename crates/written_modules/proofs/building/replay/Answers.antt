@@ -5,9 +5,9 @@ use Rattle.std.proofs.lemmas.List.{length-reverse, length-take-le, take_all}
 use Rattle.sil_lexer.specs.Lexing.{lexemes_of, IsInside}
 use Rattle.sil_shape.specs.Grammar.{body}
 use Rattle.written_tree.specs.Faults.{earlier}
-use Rattle.written_modules.specs.Lacking.{lacking, waiting}
-use Rattle.written_modules.specs.PartFaults.{part_fault}
-use Rattle.written_modules.specs.Replay.{parts_of, reduced}
+use Rattle.written_modules.specs.inner.Lacking.{lacking, waiting}
+use Rattle.written_modules.specs.inner.PartFaults.{part_fault}
+use Rattle.written_modules.specs.inner.Replay.{parts_of, reduced}
 use Rattle.written_modules.proofs.BuildLemmas.{InReplay, all_faults, all_replayed, begun, enough_there, kept_all, kept_front, none_left, production_replayed, some_left, token_replayed}
 use Rattle.written_modules.proofs.LackingLemmas.{parts-waiting, reduced-waiting, waiting-length}
 use Rattle.written_modules.proofs.LeafLemmas.{some_token}

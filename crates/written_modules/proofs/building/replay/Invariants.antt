@@ -2,7 +2,7 @@
 use Rattle.std.proofs.Common.{◌++◌, ◌≤◌, length, reverse, take}
 use Rattle.std.specs.Prelude.{All}
 use Rattle.sil_lexer.specs.Lexing.{lexemes_of, IsInside}
-use Rattle.written_modules.specs.Lacking.{waiting}
+use Rattle.written_modules.specs.inner.Lacking.{waiting}
 use Rattle.written_modules.proofs.BuildLemmas.{InReplay}
 use Rattle.written_modules.proofs.building.replay.Given as goal
 

@@ -4,7 +4,7 @@ use Rattle.std.proofs.lemmas.Option.{slice_get-get_or}
 use Rattle.written_modules.specs.declared.found.Found.TheVariants.{At, Past}
 use Rattle.written_tree.specs.declared.written_instructions.WrittenInst.{WrittenInst}
 use Rattle.written_tree.specs.Places.{value_places_of}
-use Rattle.written_modules.specs.Found.{Finds}
+use Rattle.written_modules.specs.inner.Found.{Finds}
 use Rattle.written_modules.proofs.FoundLemmas.{finds_behind, finds_here, finds_none}
 use Rattle.written_modules.proofs.counted_parts.find_in_insts.Goals as goal
 

@@ -2,7 +2,7 @@
 use Rattle.std.proofs.Common.{drop}
 use Rattle.std.specs.List.{flat_map}
 use Rattle.written_modules.specs.declared.found.Found.{Found}
-use Rattle.written_modules.specs.Found.{Finds}
+use Rattle.written_modules.specs.inner.Found.{Finds}
 use Rattle.written_tree.specs.Places.{value_places_of}
 use Rattle.written_modules.proofs.counted_parts.find_in_insts.Given as goal
 

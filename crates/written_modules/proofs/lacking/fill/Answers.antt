@@ -1,6 +1,6 @@
 -- While there are too few values, symbols are left, and the first of them is the next value.
 use Rattle.std.proofs.Common.{◌∷◌, [], ◌∙◌, ap, arith, length, length-append, reverse, sym}
-use Rattle.written_modules.specs.Lacking.{waiting}
+use Rattle.written_modules.specs.inner.Lacking.{waiting}
 use Rattle.written_modules.proofs.LackingLemmas.{one_moved, some_left}
 use Rattle.written_modules.proofs.Popped.{first_popped, popped}
 use Rattle.written_modules.proofs.lacking.fill.Goals as goal

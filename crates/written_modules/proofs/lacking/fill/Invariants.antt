@@ -1,6 +1,6 @@
 -- The same values wait.
 use Rattle.std.proofs.Common.{◌≡◌, length, reverse}
-use Rattle.written_modules.specs.Lacking.{waiting}
+use Rattle.written_modules.specs.inner.Lacking.{waiting}
 use Rattle.written_modules.proofs.lacking.fill.Given as goal
 
 abbrev pub invariant-loop-alloc : goal.invariant-loop-alloc

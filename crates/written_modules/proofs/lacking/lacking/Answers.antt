@@ -1,6 +1,6 @@
 use Rattle.std.proofs.Common.{ap}
 use Rattle.written_modules.specs.declared.value.Value.TheVariants.{Token}
-use Rattle.written_modules.specs.Lacking.{lacking, lacking_within}
+use Rattle.written_modules.specs.inner.Lacking.{lacking, lacking_within}
 use Rattle.written_modules.proofs.lacking.lacking.Goals as goal
 
 pub returns-in-Read : goal.returns-in-Read

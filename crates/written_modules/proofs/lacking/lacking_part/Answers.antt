@@ -3,8 +3,8 @@ use Rattle.std.proofs.Common.{◌≡◌, [], ◌∷◌, ◌∙◌, ap, arith, le
 use Rattle.sil_shape.specs.declared.grammar.Symbol.TheVariants.{Part}
 use Rattle.sil_shape.specs.Grammar.{body}
 use Rattle.sil_shape.specs.Values.{IsEnough}
-use Rattle.written_modules.specs.Lacking.{lacking}
-use Rattle.written_modules.specs.Replay.{replay}
+use Rattle.written_modules.specs.inner.Lacking.{lacking}
+use Rattle.written_modules.specs.inner.Replay.{replay}
 use Rattle.written_modules.proofs.LackingLemmas.{enough_alone, one_part}
 use Rattle.written_modules.proofs.lacking.lacking_part.Goals as goal
 

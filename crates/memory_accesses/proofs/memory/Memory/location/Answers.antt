@@ -1,5 +1,5 @@
 use Rattle.std.proofs.Common.{ap, ◌∙◌}
-use Rattle.memory_accesses.specs.Kept.{location_at}
+use Rattle.memory_accesses.specs.inner.Kept.{location_at}
 use Rattle.memory_accesses.specs.Locations.{location_of}
 use Rattle.memory_accesses.proofs.Following.{location_kept}
 use Rattle.memory_accesses.proofs.memory.Memory.location.Goals as goal

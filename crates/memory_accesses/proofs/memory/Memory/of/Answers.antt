@@ -1,6 +1,6 @@
 use Rattle.std.proofs.Common.{◌≡◌, ap, ◌∙◌, length, arith}
 use Rattle.numbered_form.specs.Numbering.{values_of}
-use Rattle.memory_accesses.specs.Kept.{locations_of}
+use Rattle.memory_accesses.specs.inner.Kept.{locations_of}
 use Rattle.memory_accesses.proofs.Gathered.{sources_count}
 use Rattle.memory_accesses.proofs.memory.Memory.of.Goals as goal
 

@@ -1,5 +1,5 @@
 use Rattle.std.proofs.Common.{◌≡◌, OnOk, ap, subst, sym, ◌∙◌}
-use Rattle.name_resolution.specs.Symbols.{Symbols, with_kept, with_name}
+use Rattle.name_resolution.specs.inner.Symbols.{Symbols, with_kept, with_name}
 use Rattle.name_resolution.proofs.SymbolLemmas.{added, kept, with_entries}
 use Rattle.name_resolution.proofs.symbol_table.SymbolTable.add.Goals as goal
 

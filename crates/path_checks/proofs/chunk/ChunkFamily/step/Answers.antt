@@ -7,7 +7,7 @@ use Rattle.path_patterns.specs.Reads.{read_step}
 use Rattle.path_patterns.specs.Switch.{mark_step}
 use Rattle.path_checks.specs.declared.entry.Entry.{Entry}
 use Rattle.path_checks.specs.Entries.{means}
-use Rattle.path_checks.specs.Shared.{if_sharing, is_sharing}
+use Rattle.path_checks.specs.inner.Shared.{if_sharing, is_sharing}
 use Rattle.path_checks.proofs.chunk.ChunkFamily.step.Goals as goal
 
 pub returns-in-Go-clause-step : goal.returns-in-Go-clause-step

@@ -7,7 +7,7 @@ use Rattle.path_patterns.specs.Reads.{read_step}
 use Rattle.path_patterns.specs.Switch.{mark_step}
 use Rattle.path_checks.specs.declared.entry.Entry.{Entry}
 use Rattle.path_checks.specs.Entries.{means, subject_step}
-use Rattle.path_checks.specs.Shared.{entries_among}
+use Rattle.path_checks.specs.inner.Shared.{entries_among}
 use Rattle.path_checks.proofs.EntriesPassed.{passed_then}
 use Rattle.path_checks.proofs.chunk.ChunkMoveAll.move_all.Goals as goal
 

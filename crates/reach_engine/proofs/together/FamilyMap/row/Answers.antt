@@ -1,7 +1,7 @@
 use Rattle.std.proofs.Common.{◌≡◌, ◌+◌, ◌-◌, ◌*◌, ◌<◌, List, ℕ, take, drop, ap, subst, ◌∙◌, arith}
-use Rattle.reach_engine.specs.Bits.{bit_in}
-use Rattle.reach_engine.specs.Columns.{cell}
-use Rattle.reach_engine.specs.Grid.{Grid}
+use Rattle.reach_engine.specs.inner.Bits.{bit_in}
+use Rattle.reach_engine.specs.inner.Columns.{cell}
+use Rattle.reach_engine.specs.inner.Grid.{Grid}
 use Rattle.reach_engine.proofs.RowsMoved.{bit_in_part}
 use Rattle.reach_engine.proofs.together.FamilyMap.row.Goals as goal
 

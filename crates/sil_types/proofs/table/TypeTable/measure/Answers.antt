@@ -1,6 +1,6 @@
 use Rattle.std.proofs.Common.{ap, ◌∙◌}
 use Rattle.type_definitions.specs.Measures.{measure_of}
-use Rattle.type_measures.specs.Gathered.{capped}
+use Rattle.type_measures.specs.inner.Gathered.{capped}
 use Rattle.type_measures.proofs.Ordered.{kept_serves}
 use Rattle.sil_types.proofs.table.TypeTable.measure.Goals as goal
 

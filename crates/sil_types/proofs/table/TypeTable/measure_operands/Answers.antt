@@ -2,7 +2,7 @@ use Rattle.std.proofs.Common.{ap, ◌∙◌}
 use Rattle.std.specs.List.{flat_map}
 use Rattle.type_definitions.specs.Measures.{measure_of}
 use Rattle.type_definitions.specs.Mentions.{together, operand_types}
-use Rattle.type_measures.specs.Gathered.{capped}
+use Rattle.type_measures.specs.inner.Gathered.{capped}
 use Rattle.type_measures.proofs.Ordered.{kept_serves}
 use Rattle.sil_types.proofs.table.TypeTable.measure_operands.Goals as goal
 

@@ -1,7 +1,7 @@
 use Rattle.std.proofs.Common.{ap, ◌∙◌, map}
 use Rattle.type_definitions.specs.Measures.{measure_of}
 use Rattle.type_definitions.specs.Mentions.{together, result_type}
-use Rattle.type_measures.specs.Gathered.{capped}
+use Rattle.type_measures.specs.inner.Gathered.{capped}
 use Rattle.type_measures.proofs.Ordered.{kept_serves}
 use Rattle.sil_types.proofs.table.TypeTable.measure_results.Goals as goal
 

@@ -1,0 +1,2 @@
+pub mod Borrows
+pub mod Tables

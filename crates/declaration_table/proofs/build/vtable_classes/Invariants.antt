@@ -1,6 +1,0 @@
-use Rattle.std.proofs.Common.{◌≡◌, take, map}
-use Rattle.numbered_form.specs.Names.{class_name}
-use Rattle.declaration_table.proofs.build.vtable_classes.Given as goal
-
-abbrev pub invariant-loop-vtable : goal.invariant-loop-vtable
-invariant-loop-vtable l = l.names ≡ map class_name (take l.vtable-index l.vtables)

@@ -1,8 +1,0 @@
-pub mod Chains
-pub mod Facts
-pub mod Outcome
-pub mod Settling
-pub mod Union
-pub mod Search
-pub mod Ranks
-pub mod Laws

@@ -1,0 +1,3 @@
+pub mod StaticFaults
+pub mod Ends
+pub mod Reports

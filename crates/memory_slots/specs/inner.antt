@@ -1,0 +1,7 @@
+pub mod Laws
+pub mod Searches
+pub mod Trust
+pub mod Nesting
+pub mod Followed
+pub mod Touched
+pub mod Chunks

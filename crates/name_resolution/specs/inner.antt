@@ -1,0 +1,5 @@
+pub mod FirstFaults
+pub mod Items
+pub mod Refusals
+pub mod Symbols
+pub mod Tables

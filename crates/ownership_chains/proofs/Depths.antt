@@ -1,0 +1,180 @@
+-- Facts by depth: what is known at one depth is known at each greater one.
+use Rattle.std.proofs.Common.{◌≡◌, ℕ, zero, suc, ◌+◌, ◌<◌, List, [], ◌∷◌, length, take, refl, sym, ap, ap₂, ◌∙◌, subst, arith, Bool, true, false, cond, Option, Some, None}
+use Rattle.std.specs.Prelude.{All, is_some, unwrap_or, slice_get, ◌&&◌, ◌||◌}
+use Rattle.std.specs.List.{list_any, list_all}
+use Rattle.std.proofs.lemmas.Option.{none-some, same_Some}
+use Rattle.std.proofs.lemmas.List.Elements.{All-head, All-tail}
+use Rattle.ownership_chains.specs.declared.definition.Definition.{Definition}
+use Rattle.type_definitions.specs.declared.kind.Kind.{Kind}
+use Rattle.type_definitions.specs.declared.kind.Kind.TheVariants as kind
+use Rattle.ownership_chains.specs.declared.definition.Origin.{Origin}
+use Rattle.ownership_chains.specs.declared.definition.Origin.TheVariants.{Owned, Lender, Plain, Forward, Same, Lent, Address}
+use Rattle.ownership_chains.specs.declared.facts.Facts.{Facts}
+use Rattle.sil_ast.specs.declared.place.ValueId.{ValueId}
+use Rattle.ownership_chains.specs.Chains.{operands_at, IsInRange}
+use Rattle.ownership_chains.specs.Facts.{origin_at, facts_with, forwarded, bases_together, by_kind, by_operands, told_by, is_known, known_or, told_from, told_in, told_at, Has, is_owned, is_guaranteed, has, handed_on}
+use Rattle.ownership_chains.specs.inner.Outcome.{IsExact}
+use Rattle.ownership_chains.specs.inner.Settling.{IsBelow, IsSound, AreStuck, IsListed, AreListed}
+use Rattle.ownership_chains.proofs.Listed.{listed_same, listed_listed, alone_listed, none_listed}
+
+-- two tellings agree on the operands
+abbrev Agree : (ValueId → Facts) → (ValueId → Facts) → List ValueId → Type 0
+Agree at to [] = Unit {0}
+Agree at to (w ∷ ops) = (at w ≡ to w) × Agree at to ops
+
+any_agree : (test : Facts → Bool) (at to : ValueId → Facts) (ops : List ValueId) → Agree at to ops → list_any (λ w. test (at w)) ops ≡ list_any (λ w. test (to w)) ops
+any_agree test at to [] h = refl
+any_agree test at to (w ∷ ops) h = ap₂ (λ a b. a || b) (ap test h.0) (any_agree test at to ops h.1)
+
+together_agree : (count : ℕ) (only : Bool) (at to : ValueId → Facts) (ops : List ValueId) → Agree at to ops → bases_together count only at ops ≡ bases_together count only to ops
+together_agree count only at to ops h =
+    listed_same (λ b. list_any (λ w. has (handed_on only (at w)) b) ops) (λ b. list_any (λ w. has (handed_on only (to w)) b) ops) count (λ b _. any_agree (λ f. has (handed_on only f) b) at to ops h)
+
+forwarded_agree : (at to : ValueId → Facts) (ops : List ValueId) → Agree at to ops → forwarded at ops ≡ forwarded to ops
+forwarded_agree at to ops h =
+    ap₂ (λ a b. cond a kind.Owned (cond b kind.Guaranteed kind.Plain)) (any_agree (λ f. is_owned f.kind) at to ops h) (any_agree (λ f. is_guaranteed f.kind) at to ops h)
+
+by_kind_agree : (count : ℕ) (v : ValueId) (at to : ValueId → Facts) (ops : List ValueId) (k : Kind) → Agree at to ops → by_kind count v at ops k ≡ by_kind count v to ops k
+by_kind_agree count v at to ops kind.Owned h = refl
+by_kind_agree count v at to ops kind.Guaranteed h = ap (facts_with kind.Guaranteed) (together_agree count true at to ops h)
+by_kind_agree count v at to ops kind.Plain h = refl
+
+by_operands_agree : (count : ℕ) (v : ValueId) (at to : ValueId → Facts) (ops : List ValueId) → Agree at to ops → by_operands count v at ops ≡ by_operands count v to ops
+by_operands_agree count v at to ops h = by_kind_agree count v at to ops (forwarded at ops) h ∙ ap (by_kind count v to ops) (forwarded_agree at to ops h)
+
+first_agree : (at to : ValueId → Facts) (ops : List ValueId) → Agree at to ops → Agree at to (take 1 ops)
+first_agree at to [] h = tt
+first_agree at to (w ∷ ops) h = (h.0, tt)
+
+told_agree : (count : ℕ) (v : ValueId) (at to : ValueId → Facts) (ops : List ValueId) (o : Origin) → Agree at to ops → told_by count v at ops o ≡ told_by count v to ops o
+told_agree count v at to ops Owned h = refl
+told_agree count v at to ops Lender h = refl
+told_agree count v at to ops Plain h = refl
+told_agree count v at to ops Forward h = by_operands_agree count v at to ops h
+told_agree count v at to ops Same h = by_operands_agree count v at to (take 1 ops) (first_agree at to ops h)
+told_agree count v at to ops Lent h = ap (facts_with kind.Guaranteed) (together_agree count true at to ops h)
+told_agree count v at to ops Address h = ap (facts_with kind.Plain) (together_agree count false at to ops h)
+
+pub both_true : (a b : Bool) → (a && b) ≡ true → (a ≡ true) × (b ≡ true)
+both_true true b h = (refl, h)
+both_true false b h = absurd (cc)
+
+-- what is known of all operands, one that knows more knows too
+all_agree : (known more : ValueId → Option Facts) (ops : List ValueId) → IsBelow known more → list_all (is_known known) ops ≡ true →
+    (list_all (is_known more) ops ≡ true) × Agree (known_or known) (known_or more) ops
+all_agree known more [] below h = (refl, tt)
+all_agree known more (w ∷ ops) below h = at (known w) refl (all_agree known more ops below parts.1)
+  where
+    parts : (is_some (known w) ≡ true) × (list_all (is_known known) ops ≡ true)
+    parts = both_true (is_some (known w)) (list_all (is_known known) ops) h
+
+    at : (o : Option Facts) → known w ≡ o → (list_all (is_known more) ops ≡ true) × Agree (known_or known) (known_or more) ops → (list_all (is_known more) (w ∷ ops) ≡ true) × Agree (known_or known) (known_or more) (w ∷ ops)
+    at None e rest = absurd (let off : is_some (known w) ≡ false = ap is_some e in let on : is_some (known w) ≡ true = parts.0 in cc (off, on))
+    at (Some f) e rest =
+        let m : more w ≡ Some f = below w f e in
+        (ap₂ (λ a b. a && b) (ap is_some m) rest.0, (ap (λ o. unwrap_or o (facts_with kind.Plain [])) (e ∙ sym m), rest.1))
+
+-- the facts come from operands that are all known
+pub from_all : (defs : List Definition) (known : ValueId → Option Facts) (v : ValueId) (f : Facts) → told_from defs known v ≡ Some f →
+    (list_all (is_known known) (operands_at defs v) ≡ true) × (told_by (length defs) v (known_or known) (operands_at defs v) (origin_at defs v) ≡ f)
+from_all defs known v f h = at (list_all (is_known known) (operands_at defs v)) refl
+  where
+    it : Facts
+    it = told_by (length defs) v (known_or known) (operands_at defs v) (origin_at defs v)
+
+    at : (b : Bool) → list_all (is_known known) (operands_at defs v) ≡ b → (list_all (is_known known) (operands_at defs v) ≡ true) × (it ≡ f)
+    at true e = (e, same_Some it f (sym (ap (λ b. cond b (Some it) None) e) ∙ h))
+    at false e = absurd (none-some f (sym (ap (λ b. cond b (Some it) None) e) ∙ h))
+
+pub all_from : (defs : List Definition) (known : ValueId → Option Facts) (v : ValueId) → list_all (is_known known) (operands_at defs v) ≡ true →
+    told_from defs known v ≡ Some (told_by (length defs) v (known_or known) (operands_at defs v) (origin_at defs v))
+all_from defs known v h = ap (λ b. cond b (Some (told_by (length defs) v (known_or known) (operands_at defs v) (origin_at defs v))) None) h
+
+pub from_more : (defs : List Definition) (known more : ValueId → Option Facts) → IsBelow known more → IsBelow (told_from defs known) (told_from defs more)
+from_more defs known more below v f h =
+    let a = from_all defs known v f h in
+    let b = all_agree known more (operands_at defs v) below a.0 in
+    all_from defs more v b.0 ∙ ap Some (sym (told_agree (length defs) v (known_or known) (known_or more) (operands_at defs v) (origin_at defs v) b.1) ∙ a.1)
+
+pub deeper : (defs : List Definition) (n : ℕ) → IsBelow (told_in defs n) (told_in defs (suc n))
+deeper defs zero v f h = absurd (none-some f h)
+deeper defs (suc n) v f h = from_more defs (told_in defs n) (told_in defs (suc n)) (deeper defs n) v f h
+
+pub deeper_by : (defs : List Definition) (n k : ℕ) → IsBelow (told_in defs n) (told_in defs (n + k))
+deeper_by defs n zero v f h = let e : n ≡ n + 0 = omega arith in subst (λ m. told_in defs m v ≡ Some f) e h
+deeper_by defs n (suc k) v f h =
+    let e : suc (n + k) ≡ n + suc k = omega arith in
+    subst (λ m. told_in defs m v ≡ Some f) e (deeper defs (n + k) v f (deeper_by defs n k v f h))
+
+-- a value has one kind and one set of bases
+pub determined : (defs : List Definition) (v : ValueId) (f g : Facts) → Has defs v f → Has defs v g → f ≡ g
+determined defs v f g a b =
+    let one : told_in defs (a.0 + b.0) v ≡ Some f = deeper_by defs a.0 b.0 v f a.1 in
+    let e : b.0 + a.0 ≡ a.0 + b.0 = omega arith in
+    let two : told_in defs (a.0 + b.0) v ≡ Some g = subst (λ m. told_in defs m v ≡ Some g) e (deeper_by defs b.0 a.0 v g b.1) in
+    same_Some f g (sym one ∙ two)
+
+-- where nothing can be found of any value that isn't known, none of these has facts
+all_found : (defs : List Definition) (known : ValueId → Option Facts) (n : ℕ) (ops : List ValueId) → All (λ w. w.0 < length defs) ops →
+    ((w : ValueId) → w.0 < length defs → known w ≡ None → told_in defs n w ≡ None) → list_all (is_known (told_in defs n)) ops ≡ true → list_all (is_known known) ops ≡ true
+all_found defs known n [] range none h = refl
+all_found defs known n (w ∷ ops) range none h = at (known w) refl (all_found defs known n ops (All-tail (λ x. x.0 < length defs) w ops range) none parts.1)
+  where
+    parts : (is_some (told_in defs n w) ≡ true) × (list_all (is_known (told_in defs n)) ops ≡ true)
+    parts = both_true (is_some (told_in defs n w)) (list_all (is_known (told_in defs n)) ops) h
+
+    at : (o : Option Facts) → known w ≡ o → list_all (is_known known) ops ≡ true → list_all (is_known known) (w ∷ ops) ≡ true
+    at None e rest = absurd (let off : is_some (told_in defs n w) ≡ false = ap is_some (none w (All-head (λ x. x.0 < length defs) w ops range) e) in let on : is_some (told_in defs n w) ≡ true = parts.0 in cc (off, on))
+    at (Some f) e rest = ap₂ (λ a b. a && b) (ap is_some e) rest
+
+stuck_none : (defs : List Definition) (known : ValueId → Option Facts) → IsInRange defs → AreStuck defs known (length defs) →
+    (n : ℕ) (v : ValueId) → v.0 < length defs → known v ≡ None → told_in defs n v ≡ None
+stuck_none defs known range stuck zero v lt e = refl
+stuck_none defs known range stuck (suc n) v lt e = at (told_from defs (told_in defs n) v) refl (λ w less none. stuck_none defs known range stuck n w less none)
+  where
+    at : (o : Option Facts) → told_from defs (told_in defs n) v ≡ o → ((w : ValueId) → w.0 < length defs → known w ≡ None → told_in defs n w ≡ None) → told_from defs (told_in defs n) v ≡ None
+    at None h below = h
+    at (Some f) h below =
+        let a = from_all defs (told_in defs n) v f h in
+        let all = all_found defs known n (operands_at defs v) (range.inside v lt) below a.0 in
+        absurd (none-some _ (sym (stuck v lt e) ∙ all_from defs known v all))
+
+pub stuck_exact : (defs : List Definition) (known : ValueId → Option Facts) → IsInRange defs → IsSound defs known → AreStuck defs known (length defs) → IsExact defs known
+stuck_exact defs known range sound stuck v f lt = (λ e. (sound.0, sound.1 v f e), λ h. at h (known v) refl)
+  where
+    at : Has defs v f → (o : Option Facts) → known v ≡ o → known v ≡ Some f
+    at h None e = absurd (none-some f (sym (stuck_none defs known range stuck h.0 v lt e) ∙ h.1))
+    at h (Some g) e = e ∙ ap Some (determined defs v g f (sound.0, sound.1 v g e) h)
+
+-- bases are in ascending order
+by_kind_listed : (count : ℕ) (v : ValueId) (at : ValueId → Facts) (ops : List ValueId) (k : Kind) → v.0 < count → IsListed count (by_kind count v at ops k).bases
+by_kind_listed count v at ops kind.Owned lt = alone_listed v count lt
+by_kind_listed count v at ops kind.Guaranteed lt = listed_listed (λ b. list_any (λ w. has (handed_on true (at w)) b) ops) count
+by_kind_listed count v at ops kind.Plain lt = none_listed count (λ _. false) (λ _. refl)
+
+told_listed : (count : ℕ) (v : ValueId) (at : ValueId → Facts) (ops : List ValueId) (o : Origin) → v.0 < count → IsListed count (told_by count v at ops o).bases
+told_listed count v at ops Owned lt = alone_listed v count lt
+told_listed count v at ops Lender lt = alone_listed v count lt
+told_listed count v at ops Plain lt = none_listed count (λ _. false) (λ _. refl)
+told_listed count v at ops Forward lt = by_kind_listed count v at ops (forwarded at ops) lt
+told_listed count v at ops Same lt = by_kind_listed count v at (take 1 ops) (forwarded at (take 1 ops)) lt
+told_listed count v at ops Lent lt = listed_listed (λ b. list_any (λ w. has (handed_on true (at w)) b) ops) count
+told_listed count v at ops Address lt = listed_listed (λ b. list_any (λ w. has (handed_on false (at w)) b) ops) count
+
+in_listed : (defs : List Definition) (n : ℕ) (v : ValueId) (f : Facts) → v.0 < length defs → told_in defs n v ≡ Some f → IsListed (length defs) f.bases
+in_listed defs zero v f lt h = absurd (none-some f h)
+in_listed defs (suc n) v f lt h =
+    let a = from_all defs (told_in defs n) v f h in
+    subst (λ (g : Facts). IsListed (length defs) g.bases) a.1 (told_listed (length defs) v (known_or (told_in defs n)) (operands_at defs v) (origin_at defs v) lt)
+
+told_lt : (table : List (Option Facts)) (v : ValueId) (f : Facts) → told_at table v ≡ Some f → v.0 < length table
+told_lt table v f h = at table v.0 h
+  where
+    at : (table : List (Option Facts)) (n : ℕ) → unwrap_or (slice_get table n) None ≡ Some f → n < length table
+    at [] zero h = absurd (none-some f h)
+    at [] (suc n) h = absurd (none-some f h)
+    at (x ∷ table) zero h = omega arith
+    at (x ∷ table) (suc n) h = let lt : n < length table = at table n h in omega arith
+
+pub sound_listed : (defs : List Definition) (table : List (Option Facts)) → length table ≡ length defs → IsSound defs (told_at table) → AreListed (length defs) (told_at table)
+sound_listed defs table size sound v f h = in_listed defs sound.0 v f (let lt : v.0 < length table = told_lt table v f h in omega arith) (sound.1 v f h)

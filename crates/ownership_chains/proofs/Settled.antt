@@ -1,0 +1,93 @@
+-- What a look at one value, or at all, leaves of a table of facts.
+use Rattle.std.proofs.Common.{◌++◌, take, drop, ◌≡◌, ◌≢◌, ℕ, zero, suc, ◌+◌, ◌<◌, ◌≤◌, List, [], ◌∷◌, length, get_or, set, replicate, refl, sym, ap, ◌∙◌, subst, arith, Bool, true, false, cond, ◌⊎◌, inl, inr, Option, Some, None}
+use Rattle.std.specs.Prelude.{is_none, is_some, slice_get, unwrap_or}
+use Rattle.std.proofs.lemmas.Option.{none-some}
+use Rattle.std.proofs.lemmas.Bool.{cases_eq}
+use Rattle.std.proofs.Math.Seq.{drop-length}
+use Rattle.std.proofs.lemmas.List.{append-nil, take_all}
+use Rattle.std.proofs.lemmas.List.Sums.{sum_by-set}
+use Rattle.sil_ast.specs.declared.place.ValueId.{ValueId}
+use Rattle.ownership_chains.specs.declared.definition.Definition.{Definition}
+use Rattle.ownership_chains.specs.declared.facts.Facts.{Facts}
+use Rattle.ownership_chains.specs.Facts.{told_from, told_in, told_at, value_of}
+use Rattle.ownership_chains.specs.inner.Settling.{IsSound, IsStuck, Settles, Sweeps, unknown}
+use Rattle.ownership_chains.proofs.Depths.{from_more, deeper}
+
+abbrev entry : List (Option Facts) → ℕ → Option Facts
+entry table n = unwrap_or (slice_get table n) None
+
+set_same : (table : List (Option Facts)) (i : ℕ) (f : Facts) → i < length table → entry (set table i (Some f)) i ≡ Some f
+set_same [] i f lt = absurd (omega arith)
+set_same (x ∷ table) zero f lt = refl
+set_same (x ∷ table) (suc i) f lt = set_same table i f (omega arith)
+
+set_other : (table : List (Option Facts)) (i j : ℕ) (f : Facts) → j ≢ i → entry (set table i (Some f)) j ≡ entry table j
+set_other [] i j f n = refl
+set_other (x ∷ table) zero zero f n = absurd (n refl)
+set_other (x ∷ table) zero (suc j) f n = refl
+set_other (x ∷ table) (suc i) zero f n = refl
+set_other (x ∷ table) (suc i) (suc j) f n = set_other table i j f (λ e. n (ap suc e))
+
+none_at : (table : List (Option Facts)) (i : ℕ) → i < length table → entry table i ≡ None → get_or table i None ≡ None
+none_at [] i lt e = refl
+none_at (x ∷ table) zero lt e = e
+none_at (x ∷ table) (suc i) lt e = none_at table i (omega arith) e
+
+-- the facts of one value more
+module _ (defs : List Definition) (table : List (Option Facts)) (v : ValueId) (f : Facts) (inside : v.0 < length table) (none : told_at table v ≡ None) where
+  pub fewer : unknown (set table v.0 (Some f)) < unknown table
+  fewer =
+      let sum : unknown (set table v.0 (Some f)) + cond {A = ℕ} (is_none (get_or table v.0 None)) 1 0 ≡ unknown table + 0 = sum_by-set (λ (o : Option Facts). cond (is_none o) 1 0) table v.0 (Some f) None inside in
+      let one : cond {A = ℕ} (is_none (get_or table v.0 None)) 1 0 ≡ 1 = ap (λ (o : Option Facts). cond {A = ℕ} (is_none o) 1 0) (none_at table v.0 inside none) in
+      omega arith
+
+  pub stays_sound : told_from defs (told_at table) v ≡ Some f → IsSound defs (told_at table) → IsSound defs (told_at (set table v.0 (Some f)))
+  stays_sound from s = (suc s.0, λ w g h. at w g h (cases_eq w.0 v.0))
+    where
+      at : (w : ValueId) (g : Facts) → told_at (set table v.0 (Some f)) w ≡ Some g → (w.0 ≡ v.0) ⊎ (w.0 ≢ v.0) → told_in defs (suc s.0) w ≡ Some g
+      at w g h (inl e) =
+          let here : told_in defs (suc s.0) v ≡ Some f = from_more defs (told_at table) (told_in defs s.0) s.1 v f from in
+          let same : entry (set table v.0 (Some f)) v.0 ≡ Some g = ap (entry (set table v.0 (Some f))) (sym e) ∙ h in
+          ap (λ n. told_in defs (suc s.0) (value_of n)) e ∙ here ∙ sym (set_same table v.0 f inside) ∙ same
+      at w g h (inr n) = deeper defs s.0 w g (s.1 w g (sym (set_other table v.0 w.0 f n) ∙ h))
+
+-- one value more was looked at
+sweeps_yes : (defs : List Definition) (a b c : List (Option Facts)) (n : ℕ) (moved : Bool) → Sweeps defs a b n moved → unknown c < unknown b → unknown c < unknown a
+sweeps_yes defs a b c n true g h = let one : unknown b < unknown a = g in omega arith
+sweeps_yes defs a b c n false g h = subst (λ t. unknown c < unknown t) g.0 h
+
+sweeps_no : (defs : List Definition) (a b c : List (Option Facts)) (n : ℕ) (moved : Bool) → Sweeps defs a b n moved → Settles defs b c (value_of n) false → Sweeps defs a c (n + 1) moved
+sweeps_no defs a b c n true g h = subst (λ t. unknown t < unknown a) (sym h.0) g
+sweeps_no defs a b c n false g h = (h.0 ∙ g.0, λ v lt. at v lt (cases_eq v.0 n))
+  where
+    at : (v : ValueId) → v.0 < n + 1 → (v.0 ≡ n) ⊎ (v.0 ≢ n) → IsStuck defs (told_at a) v
+    at v lt (inl e) = subst (λ k. IsStuck defs (told_at a) (value_of k)) (sym e) (subst (λ t. IsStuck defs (told_at t) (value_of n)) g.0 h.1)
+    at v lt (inr m) = g.1 v (omega arith)
+
+pub sweeps_none : (defs : List Definition) (a : List (Option Facts)) → Sweeps defs a a 0 false
+sweeps_none defs a = (refl, λ v lt. absurd (omega arith))
+
+pub sweeps_more : (defs : List Definition) (a b c : List (Option Facts)) (n : ℕ) (moved now next : Bool) → Sweeps defs a b n moved → Settles defs b c (value_of n) now →
+    ((now ≡ true) × (next ≡ true)) ⊎ ((now ≡ false) × (next ≡ moved)) → Sweeps defs a c (n + 1) next
+sweeps_more defs a b c n moved now next g h (inl p) = subst (Sweeps defs a c (n + 1)) (sym p.1) (sweeps_yes defs a b c n moved g (subst (Settles defs b c (value_of n)) p.0 h))
+sweeps_more defs a b c n moved now next g h (inr p) = subst (Sweeps defs a c (n + 1)) (sym p.1) (sweeps_no defs a b c n moved g (subst (Settles defs b c (value_of n)) p.0 h))
+
+pub unknown_none : (o : Option Facts) → is_some o ≡ false → o ≡ None
+unknown_none None h = refl
+unknown_none (Some f) h = absurd (cc)
+
+pub nothing_at : (n k : ℕ) → entry (replicate n None) k ≡ None
+nothing_at zero zero = refl
+nothing_at zero (suc k) = refl
+nothing_at (suc n) zero = refl
+nothing_at (suc n) (suc k) = nothing_at n k
+
+pub nothing_sound : (defs : List Definition) (table : List (Option Facts)) → ((v : ValueId) → told_at table v ≡ None) → IsSound defs (told_at table)
+nothing_sound defs table none = (0, λ v f h. absurd (none-some f (sym (none v) ∙ h)))
+
+-- a slice written back over a whole list
+pub written_back : {A : Type 0} (len : ℕ) (new old : List A) → length new ≡ length old → len ≡ length old → take len (new ++ drop (length new) old) ≡ new
+written_back len new old same all =
+    let none : drop (length new) old ≡ [] = ap (λ n. drop n old) same ∙ drop-length old in
+    let le : length new ≤ len = omega arith in
+    ap (λ v. take len (new ++ v)) none ∙ ap (take len) (append-nil new) ∙ take_all len new le

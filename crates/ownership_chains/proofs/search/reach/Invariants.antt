@@ -1,0 +1,10 @@
+use Rattle.std.proofs.Common.{◌+◌, length, not}
+use Rattle.std.specs.Prelude.{count_by}
+use Rattle.ownership_chains.specs.inner.Search.{Searches}
+use Rattle.ownership_chains.proofs.search.reach.Given as goal
+
+abbrev pub invariant-loop-value : goal.invariant-loop-value
+invariant-loop-value l = Searches l.defs l.fn.from l.marks l.stack.items
+
+abbrev pub decreases-loop-value : goal.decreases-loop-value
+decreases-loop-value l = count_by not l.marks + length l.stack.items

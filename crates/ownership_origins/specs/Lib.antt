@@ -1,0 +1,4 @@
+pub mod Switched
+pub mod Origins
+pub mod Renamings
+pub mod inner

@@ -1,0 +1,45 @@
+-- Values that lowering makes another name of an operand: copies, moves, borrows, and the arguments of defaults.
+use Rattle.std.specs.Prelude.{ℕ, ◌+◌, List, [], ◌∷◌, ◌++◌, Bool, false, Option, Some, None, map, length, replicate, slice_index_or, cond}
+use Rattle.std.specs.List.{flat_map}
+use Rattle.instruction_table.specs.Forms.{number_of}
+use Rattle.sil_ast.specs.declared.function.Block.{Block}
+use Rattle.sil_ast.specs.declared.function.BlockArg.{BlockArg}
+use Rattle.sil_ast.specs.declared.function.Function.{Function}
+use Rattle.sil_ast.specs.declared.inst.Inst.{Inst}
+use Rattle.instruction_table.specs.declared.op.Op.{Op}
+use Rattle.sil_ast.specs.declared.place.ValueId.{ValueId}
+use Rattle.numbered_form.specs.Insts.{insts_of}
+use Rattle.ownership_chains.specs.declared.definition.Definition.{Definition}
+use Rattle.ownership_chains.specs.declared.definition.Origin.TheVariants as origin
+use Rattle.ownership_origins.specs.Origins.{defined}
+use Rattle.ownership_origins.specs.Switched.{switch_to, value_of}
+use Rattle.ownership_origins.specs.declared.renaming.TheConstants.{RENAMINGS}
+use Rattle.ownership_origins.specs.declared.switched.Switched.{Switched}
+
+-- its result is lowered to another name for its operand
+abbrev pub renames : Op → Bool
+renames o = slice_index_or RENAMINGS (number_of o) false
+
+abbrev pub renamed : List ValueId → Definition
+renamed operands = defined origin.Plain operands
+
+abbrev pub result_renamings : Inst → List Definition
+result_renamings i = replicate (length i.results) (renamed (cond (renames i.op) (map value_of i.operands) []))
+
+abbrev pub default_operand : Option Switched → List ValueId
+default_operand None = []
+default_operand (Some s) = cond s.is_default (s.operand ∷ []) []
+
+abbrev pub arg_renaming : Option Switched → BlockArg → Definition
+arg_renaming s a = renamed (default_operand s)
+
+abbrev pub block_renamings : Function → ℕ → Block → List Definition
+block_renamings f n b = map (arg_renaming (switch_to f n)) b.args ++ flat_map result_renamings (insts_of b)
+
+abbrev pub renamings_from : Function → ℕ → List Block → List Definition
+renamings_from f n [] = []
+renamings_from f n (b ∷ bs) = block_renamings f n b ++ renamings_from f (n + 1) bs
+
+-- the values that each value is another name of, by the values' numbers
+abbrev pub renamings_of : Function → List Definition
+renamings_of f = renamings_from f 0 f.blocks

@@ -1,0 +1,4 @@
+pub mod InOrder
+pub mod Tables
+pub mod Results
+pub mod Laws

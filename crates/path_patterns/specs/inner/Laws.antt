@@ -1,0 +1,31 @@
+-- The laws of the switch.
+use Rattle.std.specs.Prelude.{◌≡◌, ◌↔◌, ℕ, List, Some}
+use Rattle.sil_ast.specs.declared.place.EdgeId.{EdgeId}
+use Rattle.sil_ast.specs.declared.function.Function.{Function}
+use Rattle.sil_cfg.specs.declared.item.Item.{Item}
+use Rattle.sil_cfg.specs.Layout.{Layout, item_at}
+use Rattle.sil_cfg.specs.Flow.{Flow, numbered}
+use Rattle.sil_cfg.specs.Items.{flow_of}
+use Rattle.sil_cfg.specs.Build.{IsGraphOf}
+use Rattle.reach_engine.specs.inner.Reach.{ReachesFirst}
+use Rattle.path_patterns.specs.declared.mark.Mark.{Mark}
+use Rattle.path_patterns.specs.Along.{IsKept, Shows}
+use Rattle.path_patterns.specs.Decides.{Decides, item_step}
+use Rattle.path_patterns.specs.Reads.{AgreesWith}
+use Rattle.path_patterns.specs.Switch.{IsInPlace, code_of, mark_step}
+
+abbrev pub IsSwitchDecided : Type 0
+IsSwitchDecided = Decides mark_step IsInPlace code_of
+
+-- the automaton reaches its first break on a walk exactly where the walk shows the pattern's
+abbrev pub BreaksWithSwitch : Type 0
+BreaksWithSwitch = (g : Flow ℕ) (marks : ℕ → List Mark) (w : List EdgeId) (code item : ℕ) → ReachesFirst g (item_step mark_step marks) w code item ↔ Shows g marks IsInPlace code_of w code item
+
+-- nothing is shown exactly where each trail keeps the pattern
+abbrev pub KeepsWithoutBreak : Type 0
+KeepsWithoutBreak = (g : Flow ℕ) (marks : ℕ → List Mark) → ((w : List EdgeId) (code item : ℕ) → ¬ Shows g marks IsInPlace code_of w code item) ↔ IsKept g marks IsInPlace
+
+-- what is shown by numbers on the graph is shown by items on the function
+abbrev pub BreaksOnFunction : Type 0
+BreaksOnFunction = (g : Layout) (f : Function) → IsGraphOf g f → (numbers : ℕ → List Mark) (items : Item → List Mark) → AgreesWith g numbers items →
+    (w : List EdgeId) (code : ℕ) (item : Item) → ((i : ℕ) × (item_at g i ≡ Some item) × Shows (numbered g) numbers IsInPlace code_of w code i) ↔ Shows (flow_of f) items IsInPlace code_of w code item

@@ -1,0 +1,11 @@
+pub mod Reach
+pub mod Table
+pub mod Frontier
+pub mod Search
+pub mod Bits
+pub mod Columns
+pub mod Effects
+pub mod Reached
+pub mod Grid
+pub mod Together
+pub mod Searched

@@ -1,0 +1,3 @@
+pub mod Splice
+pub mod Laying
+pub mod Laws

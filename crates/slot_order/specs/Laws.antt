@@ -1,6 +1,0 @@
--- The law of the order of two slots.
-use Rattle.path_patterns.specs.Decides.{Decides}
-use Rattle.slot_order.specs.Order.{IsOrdered, code_of, order_step}
-
-abbrev pub IsOrderDecided : Type 0
-IsOrderDecided = Decides order_step IsOrdered code_of

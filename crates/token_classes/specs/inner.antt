@@ -1,0 +1,2 @@
+pub mod ByLetter
+pub mod Laws

@@ -1,0 +1,4 @@
+pub mod Firsts
+pub mod FirstFault
+pub mod Facts
+pub mod Body

@@ -1,0 +1,50 @@
+//! Whether anything is wrong with a type, a member or a vtable. Which rule that breaks is not said here.
+
+ghost use Rattle.std.specs.Prelude.{◌≡◌, ◌<◌, ◌^◌, is_some, length, map};
+ghost use Rattle.std.specs.List.{flat_map, list_any};
+ghost use Rattle.type_definitions.specs.Mentions.{function_members, mention};
+ghost use Rattle.type_definitions.specs.Mentions as item;
+ghost use Rattle.type_definitions.specs.Rules.{is_no_member};
+ghost use Rattle.type_item_rules.specs.Faults as faults;
+ghost use Rattle.type_item_rules.specs.Faults.{fault_from};
+
+use crate::by_item::first_of_vtables;
+use crate::storage::is_misplaced;
+use crate::types::{BadMembers, is_unknown};
+use sil_ast::{Function, TypeName, Vtable};
+use type_declarations::DeclarationTable;
+use type_definitions::Standing;
+use type_mentions::any_member_in_function;
+
+/// Whether a type that stands there has a name that isn't declared, or weak or unowned storage that is misplaced.
+pub fn is_wrong_type(table: &DeclarationTable, standing: Standing, ty: &TypeName) -> bool
+    ensures { result ≡ faults.is_wrong_type table.now (mention standing ty.now) }
+{
+    match (standing, ty) {
+        (Standing::Object | Standing::Slot | Standing::Value, TypeName::Int(_)) => false,
+        (Standing::Object | Standing::Slot | Standing::Value, TypeName::Named(name)) => {
+            !table.is_name(name)
+        }
+        _ => is_unknown(table, standing, ty) || is_misplaced(table, standing, ty),
+    }
+}
+
+/// Whether an instruction of the functions names a member that its type doesn't have.
+pub fn any_bad_member(table: &DeclarationTable, functions: &[Function]) -> bool
+    ensures { result ≡ list_any (is_no_member table.now) (flat_map function_members functions.now) }
+{
+    for function in functions {
+        if any_member_in_function(&BadMembers { table }, function) {
+            return true;
+        }
+    }
+    false
+}
+
+/// Whether a vtable is of no class, or has an entry of another one.
+pub fn any_wrong_vtable(table: &DeclarationTable, vtables: &[Vtable]) -> bool
+    requires { length vtables.now < 2 ^ 64 }
+    ensures { result ≡ is_some (fault_from table.now 0 (map item.vtable vtables.now)) }
+{
+    first_of_vtables(table, vtables, 0).is_some()
+}

@@ -1,0 +1,10 @@
+-- Measures that are worked out in an order in which parts stand before wholes.
+use Rattle.std.specs.Prelude.{◌≡◌, ℕ, ◌<◌, List, slice_index}
+use Rattle.type_definitions.specs.Declarations.{Declarations}
+use Rattle.type_definitions.specs.Measures.{measures_within}
+use Rattle.type_definitions.specs.declared.measure.Measure.{Measure}
+use Rattle.type_measures.specs.inner.Gathered.{capped, known_at}
+
+-- the first i declarations of the order have their measures, seen through any number of declarations that is enough for them
+abbrev pub AreMeasuredUpTo : Declarations → List ℕ → List Measure → ℕ → Type 0
+AreMeasuredUpTo d order ms i = (j : ℕ) → j < i → (k : ℕ) → j < k → known_at ms (slice_index order j) ≡ capped (known_at (measures_within d k) (slice_index order j))

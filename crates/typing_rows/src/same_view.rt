@@ -1,0 +1,133 @@
+//! Whether a type is the one that a view tells, without building it.
+
+ghost use Rattle.std.specs.Prelude.{◌≡◌, map};
+ghost use Rattle.sil_ast.specs.declared.type_name.TypeName.TheVariants as type;
+ghost use Rattle.type_definitions.specs.Mentions.{result_type, together};
+ghost use Rattle.sil_types.specs.Typing.RowTypes.{all_written};
+ghost use Rattle.sil_types.specs.Typing.Same.{are_same_types, is_same_type};
+ghost use Rattle.typing_rows.specs.inner.Views.{view_told};
+
+use crate::view::TypeView;
+use crate::written_types::{next_written, none_written};
+use sil_ast::{Given, Operand, TypeName};
+use sil_types::same_type;
+
+impl TypeView<'_> {
+    /// Whether a type is the one that this is put together to.
+    pub fn is(&self, ty: &TypeName) -> bool
+        ensures { result ≡ is_same_type ty.now (view_told self.now) }
+    {
+        match self {
+            TypeView::Written(own) => same_type(ty, own),
+            TypeView::AddressOf(own) => is_address(own, ty),
+            TypeView::WeakAddress(own) => is_weak_address(own, ty),
+            TypeView::UnownedAddress(own) => is_unowned_address(own, ty),
+            TypeView::TupleOf(operands) => is_tuple_of(operands, ty),
+            TypeView::GivenBy(results) => is_given_by(results, ty),
+        }
+    }
+}
+
+fn is_address(own: &TypeName, ty: &TypeName) -> bool
+    ensures { result ≡ is_same_type ty.now (type.Address own.now) }
+{
+    match ty {
+        TypeName::Address(inner) => same_type(inner.get(), own),
+        _ => false,
+    }
+}
+
+fn is_weak(own: &TypeName, ty: &TypeName) -> bool
+    ensures { result ≡ is_same_type ty.now (type.Weak own.now) }
+{
+    match ty {
+        TypeName::Weak(inner) => same_type(inner.get(), own),
+        _ => false,
+    }
+}
+
+fn is_unowned(own: &TypeName, ty: &TypeName) -> bool
+    ensures { result ≡ is_same_type ty.now (type.Unowned own.now) }
+{
+    match ty {
+        TypeName::Unowned(inner) => same_type(inner.get(), own),
+        _ => false,
+    }
+}
+
+fn is_weak_address(own: &TypeName, ty: &TypeName) -> bool
+    ensures { result ≡ is_same_type ty.now (type.Address (type.Weak own.now)) }
+{
+    match ty {
+        TypeName::Address(inner) => is_weak(own, inner.get()),
+        _ => false,
+    }
+}
+
+fn is_unowned_address(own: &TypeName, ty: &TypeName) -> bool
+    ensures { result ≡ is_same_type ty.now (type.Address (type.Unowned own.now)) }
+{
+    match ty {
+        TypeName::Address(inner) => is_unowned(own, inner.get()),
+        _ => false,
+    }
+}
+
+/// Whether these are the types that are written at the operands.
+fn are_written(parts: &[TypeName], operands: &[Operand]) -> bool
+    ensures { result ≡ are_same_types parts.now (all_written operands.now) }
+{
+    let mut rest = operands;
+    for part in parts {
+        let Some(next) = next_written(rest) else {
+            return false;
+        };
+        if !same_type(part, next.ty) {
+            return false;
+        }
+        rest = next.rest;
+    }
+    none_written(rest)
+}
+
+fn is_tuple_of(operands: &[Operand], ty: &TypeName) -> bool
+    ensures { result ≡ is_same_type ty.now (type.Tuple (all_written operands.now)) }
+{
+    match ty {
+        TypeName::Tuple(parts) => are_written(parts.get().as_slice(), operands),
+        _ => false,
+    }
+}
+
+/// Whether these are the types of the results.
+fn are_given(parts: &[TypeName], results: &[Given]) -> bool
+    ensures { result ≡ are_same_types parts.now (map result_type results.now) }
+{
+    if parts.len() != results.len() {
+        return false;
+    }
+    for i in 0..parts.len() {
+        if !same_type(&parts[i], &results[i].ty) {
+            return false;
+        }
+    }
+    true
+}
+
+fn is_given_by(results: &[Given], ty: &TypeName) -> bool
+    ensures { result ≡ is_same_type ty.now (together (map result_type results.now)) }
+{
+    if results.len() == 1 {
+        return same_type(ty, &results[0].ty);
+    }
+    is_tuple_given(results, ty)
+}
+
+fn is_tuple_given(results: &[Given], ty: &TypeName) -> bool
+    ensures { result ≡ is_same_type ty.now (type.Tuple (map result_type results.now)) }
+{
+    match ty {
+        TypeName::Tuple(parts) => are_given(parts.get().as_slice(), results),
+        _ => false,
+    }
+}

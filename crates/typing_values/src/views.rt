@@ -1,0 +1,92 @@
+//! Whether what a view tells is `Builtin.Int1`, or the address of a location that holds a type.
+
+ghost use Rattle.std.specs.Prelude.{◌≡◌, map};
+ghost use Rattle.typing_rows.specs.inner.Views.{view_told};
+ghost use Rattle.sil_ast.specs.declared.type_name.TypeName.TheVariants as type;
+ghost use Rattle.sil_types.specs.Typing.Builtins.{bit};
+ghost use Rattle.sil_types.specs.Typing.Same.{is_same_type};
+ghost use Rattle.type_definitions.specs.Mentions.{result_type, together};
+
+use sil_ast::{Given, TypeName};
+use sil_types::same_type;
+use typing_rows::TypeView;
+use typing_rows::shapes::is_bit;
+
+fn is_bit_type(ty: &TypeName) -> bool
+    ensures { result ≡ is_same_type bit ty.now }
+{
+    is_bit(ty)
+}
+
+fn is_bit_given(results: &[Given]) -> bool
+    ensures { result ≡ is_same_type bit (together (map result_type results.now)) }
+{
+    match results {
+        [given] => is_bit_type(&given.ty),
+        _ => false,
+    }
+}
+
+/// Whether it tells `Builtin.Int1`.
+pub(crate) fn is_bit_view(view: &TypeView<'_>) -> bool
+    ensures { result ≡ is_same_type bit (view_told view.now) }
+{
+    match view {
+        TypeView::Written(ty) => is_bit_type(ty),
+        TypeView::AddressOf(_) => false,
+        TypeView::WeakAddress(_) => false,
+        TypeView::UnownedAddress(_) => false,
+        TypeView::TupleOf(_) => false,
+        TypeView::GivenBy(results) => is_bit_given(results),
+    }
+}
+
+fn is_address(target: &TypeName, ty: &TypeName) -> bool
+    ensures { result ≡ is_same_type (type.Address target.now) ty.now }
+{
+    match ty {
+        TypeName::Address(inner) => same_type(target, inner.get()),
+        _ => false,
+    }
+}
+
+fn is_weak(ty: &TypeName, inner: &TypeName) -> bool
+    ensures { result ≡ is_same_type ty.now (type.Weak inner.now) }
+{
+    match ty {
+        TypeName::Weak(own) => same_type(own.get(), inner),
+        _ => false,
+    }
+}
+
+fn is_unowned(ty: &TypeName, inner: &TypeName) -> bool
+    ensures { result ≡ is_same_type ty.now (type.Unowned inner.now) }
+{
+    match ty {
+        TypeName::Unowned(own) => same_type(own.get(), inner),
+        _ => false,
+    }
+}
+
+fn is_address_given(target: &TypeName, results: &[Given]) -> bool
+    ensures { result ≡ is_same_type (type.Address target.now) (together (map result_type results.now)) }
+{
+    match results {
+        [given] => is_address(target, &given.ty),
+        _ => false,
+    }
+}
+
+/// Whether it tells the address of a location that holds this type.
+pub(crate) fn is_address_view(target: &TypeName, view: &TypeView<'_>) -> bool
+    ensures { result ≡ is_same_type (type.Address target.now) (view_told view.now) }
+{
+    match view {
+        TypeView::Written(ty) => is_address(target, ty),
+        TypeView::AddressOf(own) => same_type(target, own),
+        TypeView::WeakAddress(inner) => is_weak(target, inner),
+        TypeView::UnownedAddress(inner) => is_unowned(target, inner),
+        TypeView::TupleOf(_) => false,
+        TypeView::GivenBy(results) => is_address_given(target, results),
+    }
+}

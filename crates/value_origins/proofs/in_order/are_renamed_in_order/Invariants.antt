@@ -1,7 +1,0 @@
-use Rattle.std.proofs.Common.{take}
-use Rattle.value_origins.specs.InOrder.{LeadsOn}
-use Rattle.value_origins.specs.Renamings.{renamings_from}
-use Rattle.value_origins.proofs.in_order.are_renamed_in_order.Given as goal
-
-abbrev pub invariant-loop-number : goal.invariant-loop-number
-invariant-loop-number l = LeadsOn 0 (renamings_from l.f 0 (take l.number l.f.blocks)) l.next
