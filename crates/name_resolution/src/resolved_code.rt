@@ -185,7 +185,7 @@ fn add_inst(
 }
 
 // Takes the operands and the edges out of the instruction.
-#[tactic(auto, using(std::proofs::lemmas::Grind::common_steps, crate::proofs::FaultOrder::unknown_more), unfolding(crate::specs::FirstFaults::with_code, crate::specs::FirstFaults::with_edges))]
+#[tactic(auto, using(std::proofs::lemmas::Grind::common_steps, crate::proofs::FaultOrder::unknown_more), unfolding(crate::specs::inner::FirstFaults::with_code, crate::specs::inner::FirstFaults::with_edges))]
 fn resolve_names(
     alloc: Global,
     tables: Tables<'_>,
@@ -300,7 +300,7 @@ fn resolve_edges(
     Ok(resolved)
 }
 
-#[tactic(auto, using(std::proofs::lemmas::Grind::common_steps, crate::proofs::FaultOrder::earlier_none), unfolding(crate::specs::FirstFaults::with_edges))]
+#[tactic(auto, using(std::proofs::lemmas::Grind::common_steps, crate::proofs::FaultOrder::earlier_none), unfolding(crate::specs::inner::FirstFaults::with_edges))]
 fn resolve_edge(
     alloc: Global,
     tables: Tables<'_>,

@@ -25,7 +25,7 @@ fn is_type_word(word: Keyword) -> bool
 }
 
 /// Whether a token of this class may stand for the terminal.
-#[tactic(auto, unfolding(crate::specs::ClassNumbers::accepts))]
+#[tactic(auto, unfolding(crate::specs::inner::ClassNumbers::accepts))]
 pub(crate) fn accepts_terminal(terminal: Terminal, token: NumberedClass) -> bool
     ensures { result ≡ accepts terminal token.class }
 {
@@ -58,7 +58,7 @@ pub(crate) fn accepts_terminal(terminal: Terminal, token: NumberedClass) -> bool
     }
 }
 
-#[tactic(auto, unfolding(crate::specs::Choice::has_class))]
+#[tactic(auto, unfolding(crate::specs::inner::Choice::has_class))]
 fn has_class(terminals: &[Terminal], class: Class) -> bool
     ensures { result ≡ has_class terminals.now class }
 {
@@ -66,7 +66,7 @@ fn has_class(terminals: &[Terminal], class: Class) -> bool
     terminals.iter().any(|t| accepts_terminal(*t, token))
 }
 
-#[tactic(auto, unfolding(crate::specs::Choice::has))]
+#[tactic(auto, unfolding(crate::specs::inner::Choice::has))]
 fn has(terminals: &[Terminal], look: Option<Class>) -> bool
     ensures { result ≡ has terminals.now look }
 {
@@ -77,7 +77,7 @@ fn has(terminals: &[Terminal], look: Option<Class>) -> bool
 }
 
 /// The row that begins with a mnemonic inside a block.
-#[tactic(auto, unfolding(crate::specs::Choice::row_inside))]
+#[tactic(auto, unfolding(crate::specs::inner::Choice::row_inside))]
 fn row_inside(look: Option<Class>) -> Option<Production>
     ensures { result ≡ row_inside look }
 {
@@ -88,7 +88,7 @@ fn row_inside(look: Option<Class>) -> Option<Production>
 }
 
 /// The row that begins with a mnemonic at the end of a block.
-#[tactic(auto, unfolding(crate::specs::Choice::row_at_end))]
+#[tactic(auto, unfolding(crate::specs::inner::Choice::row_at_end))]
 fn row_at_end(look: Option<Class>) -> Option<Production>
     ensures { result ≡ row_at_end look }
 {
@@ -109,7 +109,7 @@ fn listed(part: Nonterminal, look: Option<Class>) -> Option<Production>
 }
 
 /// The production of a part whose text begins with the next token.
-#[tactic(auto, unfolding(crate::specs::Choice::started))]
+#[tactic(auto, unfolding(crate::specs::inner::Choice::started))]
 fn started(part: Nonterminal, look: Option<Class>) -> Option<Production>
     ensures { result ≡ started part look }
 {
@@ -121,7 +121,7 @@ fn started(part: Nonterminal, look: Option<Class>) -> Option<Production>
 }
 
 /// The production of a part that is taken at the next token, or at the end.
-#[tactic(auto, unfolding(crate::specs::Choice::choose, crate::specs::Choice::or_empty))]
+#[tactic(auto, unfolding(crate::specs::inner::Choice::choose, crate::specs::inner::Choice::or_empty))]
 pub fn choose(part: Nonterminal, look: Option<Class>) -> Option<Production>
     ensures { result ≡ choose part look }
 {

@@ -8,7 +8,7 @@ ghost use Rattle.sil_shape.specs.inner.ClassNumbers.{at_number, class_number, ke
 use token_classes::{AtWord, Class, Keyword, Punctuation};
 
 /// The number of a word that is no mnemonic, and that of the first mnemonic for all of them.
-#[tactic(auto, unfolding(crate::specs::ClassNumbers::keyword_number))]
+#[tactic(auto, unfolding(crate::specs::inner::ClassNumbers::keyword_number))]
 fn fixed_number(word: Keyword) -> u8
     ensures mnemonic { (o : Op) → word ≡ Mnemonic o → result ≡ 46 }
     ensures fixed { ((o : Op) → word ≡ Mnemonic o → ⊥) → result ≡ keyword_number word }
@@ -64,7 +64,7 @@ fn fixed_number(word: Keyword) -> u8
     }
 }
 
-#[tactic(auto, unfolding(crate::specs::ClassNumbers::keyword_number))]
+#[tactic(auto, unfolding(crate::specs::inner::ClassNumbers::keyword_number))]
 fn keyword_number(word: Keyword) -> u8
     ensures { result ≡ keyword_number word }
 {
@@ -75,14 +75,14 @@ fn keyword_number(word: Keyword) -> u8
     }
 }
 
-#[tactic(auto, unfolding(crate::specs::ClassNumbers::at_number))]
+#[tactic(auto, unfolding(crate::specs::inner::ClassNumbers::at_number))]
 fn at_number(word: AtWord) -> u8
     ensures { result ≡ at_number word }
 {
     word as u8
 }
 
-#[tactic(auto, unfolding(crate::specs::ClassNumbers::punctuation_number))]
+#[tactic(auto, unfolding(crate::specs::inner::ClassNumbers::punctuation_number))]
 fn punctuation_number(punctuation: Punctuation) -> u8
     ensures { result ≡ punctuation_number punctuation }
 {
@@ -90,7 +90,7 @@ fn punctuation_number(punctuation: Punctuation) -> u8
 }
 
 /// A number of its own for each class.
-#[tactic(auto, unfolding(crate::specs::ClassNumbers::class_number))]
+#[tactic(auto, unfolding(crate::specs::inner::ClassNumbers::class_number))]
 pub(crate) fn class_number(class: Class) -> u16
     ensures { result ≡ class_number class }
 {

@@ -36,7 +36,7 @@ pub(crate) struct Lookahead {
 
 impl Lookahead {
     /// A token of this class comes next.
-    #[tactic(auto, unfolding(crate::specs::ParseTable::look_number))]
+    #[tactic(auto, unfolding(crate::specs::inner::ParseTable::look_number))]
     pub fn token(token: NumberedClass) -> Lookahead
         ensures { result.class ≡ Some token.class }
     {
@@ -47,7 +47,7 @@ impl Lookahead {
     }
 
     /// The end comes next.
-    #[tactic(auto, unfolding(crate::specs::ParseTable::look_number))]
+    #[tactic(auto, unfolding(crate::specs::inner::ParseTable::look_number))]
     pub fn end() -> Lookahead
         ensures { result.class ≡ None }
     {

@@ -17,7 +17,7 @@ const PARTS: usize = 81;
 /// How many lookaheads there are: the end, and each class.
 const LOOKAHEADS: usize = 118;
 
-#[tactic(auto, unfolding(crate::specs::ParseTable::part_number))]
+#[tactic(auto, unfolding(crate::specs::inner::ParseTable::part_number))]
 fn part_number(part: Nonterminal) -> usize
     ensures { result ≡ part_number part }
 {
@@ -25,7 +25,7 @@ fn part_number(part: Nonterminal) -> usize
 }
 
 /// Where the production of a part stands: in the row of the lookahead, in the column of the part.
-#[tactic(auto, unfolding(crate::specs::ParseTable::place))]
+#[tactic(auto, unfolding(crate::specs::inner::ParseTable::place))]
 fn place(part: Nonterminal, look: Lookahead) -> usize
     ensures value { result ≡ place part look.class }
     ensures inside { result < LOOKAHEADS * PARTS }

@@ -32,7 +32,7 @@ macro_rules! punctuation {
 }
 
 /// What a text of a production begins with that is not empty. Rows are told by their mnemonics alone.
-#[tactic(auto, unfolding(crate::specs::Choice::starts))]
+#[tactic(auto, unfolding(crate::specs::inner::Choice::starts))]
 pub fn starts(production: Production) -> &'static [Terminal]
     ensures { result.now ≡ starts production }
 {
@@ -275,7 +275,7 @@ pub fn starts(production: Production) -> &'static [Terminal]
 }
 
 /// The production of a part by which it may be empty.
-#[tactic(auto, unfolding(crate::specs::Choice::empty_choice))]
+#[tactic(auto, unfolding(crate::specs::inner::Choice::empty_choice))]
 pub fn empty_choice(part: Nonterminal) -> Option<Production>
     ensures { result ≡ empty_choice part }
 {

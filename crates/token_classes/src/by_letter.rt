@@ -117,7 +117,7 @@ static BY_LETTER: [&[Keyword]; 24] = [
     &[Keyword::Weak], // w to z
 ];
 
-#[tactic(auto, unfolding(crate::specs::ByLetter::keywords_at))]
+#[tactic(auto, unfolding(crate::specs::inner::ByLetter::keywords_at))]
 fn keywords_at(place: usize) -> &'static [Keyword]
     ensures { result.now ≡ keywords_at place }
 {
@@ -129,7 +129,7 @@ fn keywords_at(place: usize) -> &'static [Keyword]
 }
 
 /// The keyword that is spelled so.
-#[tactic(auto, unfolding(crate::specs::ByLetter::looked_up))]
+#[tactic(auto, unfolding(crate::specs::inner::ByLetter::looked_up))]
 pub fn look_up(word: &[u8]) -> Option<Keyword>
     ensures { result ≡ looked_up word.now }
 {

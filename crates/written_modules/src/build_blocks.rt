@@ -32,7 +32,7 @@ fn blocks_before(alloc: Global, values: &mut Prepended<Value>) -> Result<Value, 
 
 /// Puts a block, and the blocks behind it.
 #[inline(never)]
-#[tactic(auto, unfolding(crate::specs::Replay::reduced, crate::specs::Meaning::meaning, sil_shape::specs::Grammar::body))]
+#[tactic(auto, unfolding(crate::specs::inner::Replay::reduced, crate::specs::inner::Meaning::meaning, sil_shape::specs::Grammar::body))]
 pub(crate) fn blocks(alloc: Global, values: &mut Prepended<Value>) -> Result<(), Exhausted>
     requires { 2 ≤ length values.old }
     ensures values { OnOk result (values.new ≡ reduced Production.BlocksMore values.old) }
@@ -43,7 +43,7 @@ pub(crate) fn blocks(alloc: Global, values: &mut Prepended<Value>) -> Result<(),
 
 /// Puts the blocks between the braces of a body.
 #[inline(never)]
-#[tactic(auto, unfolding(crate::specs::Replay::reduced, crate::specs::Meaning::meaning, sil_shape::specs::Grammar::body))]
+#[tactic(auto, unfolding(crate::specs::inner::Replay::reduced, crate::specs::inner::Meaning::meaning, sil_shape::specs::Grammar::body))]
 pub(crate) fn body(alloc: Global, values: &mut Prepended<Value>) -> Result<(), Exhausted>
     requires { 4 ≤ length values.old }
     ensures values { OnOk result (values.new ≡ reduced Production.BodySome values.old) }
@@ -75,7 +75,7 @@ fn args_before(alloc: Global, values: &mut Prepended<Value>) -> Result<Value, Ex
 
 /// Puts the arguments between the parentheses of a block.
 #[inline(never)]
-#[tactic(auto, unfolding(crate::specs::Replay::reduced, crate::specs::Meaning::meaning, sil_shape::specs::Grammar::body))]
+#[tactic(auto, unfolding(crate::specs::inner::Replay::reduced, crate::specs::inner::Meaning::meaning, sil_shape::specs::Grammar::body))]
 pub(crate) fn args(alloc: Global, values: &mut Prepended<Value>) -> Result<(), Exhausted>
     requires { 4 ≤ length values.old }
     ensures values { OnOk result (values.new ≡ reduced Production.BlockArgsSome values.old) }
@@ -88,7 +88,7 @@ pub(crate) fn args(alloc: Global, values: &mut Prepended<Value>) -> Result<(), E
 
 /// Puts an argument of a block behind its comma, and those behind it.
 #[inline(never)]
-#[tactic(auto, unfolding(crate::specs::Replay::reduced, crate::specs::Meaning::meaning, sil_shape::specs::Grammar::body))]
+#[tactic(auto, unfolding(crate::specs::inner::Replay::reduced, crate::specs::inner::Meaning::meaning, sil_shape::specs::Grammar::body))]
 pub(crate) fn more_args(alloc: Global, values: &mut Prepended<Value>) -> Result<(), Exhausted>
     requires { 3 ≤ length values.old }
     ensures values { OnOk result (values.new ≡ reduced Production.MoreBlockArgsMore values.old) }
@@ -128,7 +128,7 @@ pub(crate) fn no_names(alloc: Global, values: &mut Prepended<Value>) -> Result<(
 
 /// Puts a block of its label, its arguments and its instructions.
 #[inline(never)]
-#[tactic(auto, unfolding(crate::specs::Replay::reduced, crate::specs::Meaning::meaning, crate::specs::PartFaults::part_fault, sil_shape::specs::Grammar::body))]
+#[tactic(auto, unfolding(crate::specs::inner::Replay::reduced, crate::specs::inner::Meaning::meaning, crate::specs::inner::PartFaults::part_fault, sil_shape::specs::Grammar::body))]
 pub(crate) fn whole_block(
     alloc: Global,
     values: &mut Prepended<Value>,
@@ -184,7 +184,7 @@ pub(crate) fn ownership(kind: ArgKind, values: &mut Prepended<Value>) -> Result<
 
 /// Puts an argument of a block of its name, its annotation and its type.
 #[inline(never)]
-#[tactic(auto, unfolding(crate::specs::Replay::reduced, crate::specs::Meaning::meaning, sil_shape::specs::Grammar::body))]
+#[tactic(auto, unfolding(crate::specs::inner::Replay::reduced, crate::specs::inner::Meaning::meaning, sil_shape::specs::Grammar::body))]
 pub(crate) fn block_arg(alloc: Global, values: &mut Prepended<Value>) -> Result<(), Exhausted>
     requires { 6 ≤ length values.old }
     ensures values { OnOk result (values.new ≡ reduced Production.WholeBlockArg values.old) }
@@ -205,7 +205,7 @@ const USUAL_COUNT: usize = 24;
 
 /// Puts an instruction, and the code behind it.
 #[inline(never)]
-#[tactic(auto, unfolding(crate::specs::Replay::reduced, crate::specs::Meaning::meaning, sil_shape::specs::Grammar::body))]
+#[tactic(auto, unfolding(crate::specs::inner::Replay::reduced, crate::specs::inner::Meaning::meaning, sil_shape::specs::Grammar::body))]
 pub(crate) fn more_code(alloc: Global, values: &mut Prepended<Value>) -> Result<(), Exhausted>
     requires { 2 ≤ length values.old }
     ensures values { OnOk result (values.new ≡ reduced Production.CodeInst values.old) }
@@ -218,7 +218,7 @@ pub(crate) fn more_code(alloc: Global, values: &mut Prepended<Value>) -> Result<
 
 /// Puts the code that is a terminator alone.
 #[inline(never)]
-#[tactic(auto, unfolding(crate::specs::Replay::reduced, crate::specs::Meaning::meaning, sil_shape::specs::Grammar::body))]
+#[tactic(auto, unfolding(crate::specs::inner::Replay::reduced, crate::specs::inner::Meaning::meaning, sil_shape::specs::Grammar::body))]
 pub(crate) fn last_code(alloc: Global, values: &mut Prepended<Value>) -> Result<(), Exhausted>
     requires { 1 ≤ length values.old }
     ensures values { OnOk result (values.new ≡ reduced Production.CodeEnd values.old) }
@@ -238,7 +238,7 @@ fn named(inst: InstBox, results: List<WrittenToken>) -> Value
 
 /// Puts an instruction with one name before its `=`.
 #[inline(never)]
-#[tactic(auto, unfolding(crate::specs::Replay::reduced, crate::specs::Meaning::meaning, sil_shape::specs::Grammar::body))]
+#[tactic(auto, unfolding(crate::specs::inner::Replay::reduced, crate::specs::inner::Meaning::meaning, sil_shape::specs::Grammar::body))]
 pub(crate) fn one_name(alloc: Global, values: &mut Prepended<Value>) -> Result<(), Exhausted>
     requires { 3 ≤ length values.old }
     ensures values { OnOk result (values.new ≡ reduced Production.InstOneName values.old) }
@@ -253,7 +253,7 @@ pub(crate) fn one_name(alloc: Global, values: &mut Prepended<Value>) -> Result<(
 
 /// Puts an instruction with a list of names before its `=`.
 #[inline(never)]
-#[tactic(auto, unfolding(crate::specs::Replay::reduced, crate::specs::Meaning::meaning, crate::specs::PartFaults::part_fault, sil_shape::specs::Grammar::body))]
+#[tactic(auto, unfolding(crate::specs::inner::Replay::reduced, crate::specs::inner::Meaning::meaning, crate::specs::inner::PartFaults::part_fault, sil_shape::specs::Grammar::body))]
 pub(crate) fn names(
     alloc: Global,
     values: &mut Prepended<Value>,

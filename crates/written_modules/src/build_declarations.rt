@@ -38,7 +38,7 @@ fn put_declared(
 
 /// Puts a class that isn't final.
 #[inline(never)]
-#[tactic(auto, unfolding(crate::specs::Replay::reduced, crate::specs::Meaning::meaning, crate::specs::PartFaults::part_fault, sil_shape::specs::Grammar::body))]
+#[tactic(auto, unfolding(crate::specs::inner::Replay::reduced, crate::specs::inner::Meaning::meaning, crate::specs::inner::PartFaults::part_fault, sil_shape::specs::Grammar::body))]
 pub(crate) fn plain_class(
     alloc: Global,
     values: &mut Prepended<Value>,
@@ -59,7 +59,7 @@ pub(crate) fn plain_class(
 
 /// Puts a final class.
 #[inline(never)]
-#[tactic(auto, unfolding(crate::specs::Replay::reduced, crate::specs::Meaning::meaning, crate::specs::PartFaults::part_fault, sil_shape::specs::Grammar::body))]
+#[tactic(auto, unfolding(crate::specs::inner::Replay::reduced, crate::specs::inner::Meaning::meaning, crate::specs::inner::PartFaults::part_fault, sil_shape::specs::Grammar::body))]
 pub(crate) fn final_class(
     alloc: Global,
     values: &mut Prepended<Value>,
@@ -81,7 +81,7 @@ pub(crate) fn final_class(
 
 /// Puts a struct.
 #[inline(never)]
-#[tactic(auto, unfolding(crate::specs::Replay::reduced, crate::specs::Meaning::meaning, crate::specs::PartFaults::part_fault, sil_shape::specs::Grammar::body))]
+#[tactic(auto, unfolding(crate::specs::inner::Replay::reduced, crate::specs::inner::Meaning::meaning, crate::specs::inner::PartFaults::part_fault, sil_shape::specs::Grammar::body))]
 pub(crate) fn struct_item(
     alloc: Global,
     values: &mut Prepended<Value>,
@@ -102,7 +102,7 @@ pub(crate) fn struct_item(
 
 /// Puts an enum.
 #[inline(never)]
-#[tactic(auto, unfolding(crate::specs::Replay::reduced, crate::specs::Meaning::meaning, crate::specs::PartFaults::part_fault, sil_shape::specs::Grammar::body))]
+#[tactic(auto, unfolding(crate::specs::inner::Replay::reduced, crate::specs::inner::Meaning::meaning, crate::specs::inner::PartFaults::part_fault, sil_shape::specs::Grammar::body))]
 pub(crate) fn enum_item(
     alloc: Global,
     values: &mut Prepended<Value>,
@@ -199,7 +199,7 @@ pub(crate) fn binding(alloc: Global, values: &mut Prepended<Value>) -> Result<()
 
 /// Puts a case, and the cases behind it.
 #[inline(never)]
-#[tactic(auto, unfolding(crate::specs::Replay::reduced, crate::specs::Meaning::meaning, sil_shape::specs::Grammar::body))]
+#[tactic(auto, unfolding(crate::specs::inner::Replay::reduced, crate::specs::inner::Meaning::meaning, sil_shape::specs::Grammar::body))]
 pub(crate) fn more_cases(alloc: Global, values: &mut Prepended<Value>) -> Result<(), Exhausted>
     requires { 4 ≤ length values.old }
     ensures values { OnOk result (values.new ≡ reduced Production.CasesMore values.old) }

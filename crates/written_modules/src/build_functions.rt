@@ -22,7 +22,7 @@ use written_tree::{Fault, WrittenFunction, WrittenItem, earlier};
 
 /// Puts a function of its linkage, its words in brackets, its name, its signature and its blocks.
 #[inline(never)]
-#[tactic(auto, unfolding(crate::specs::Replay::reduced, crate::specs::Meaning::meaning, crate::specs::PartFaults::part_fault, sil_shape::specs::Grammar::body))]
+#[tactic(auto, unfolding(crate::specs::inner::Replay::reduced, crate::specs::inner::Meaning::meaning, crate::specs::inner::PartFaults::part_fault, sil_shape::specs::Grammar::body))]
 pub(crate) fn function(
     alloc: Global,
     values: &mut Prepended<Value>,
@@ -61,7 +61,7 @@ pub(crate) fn linkage(linkage: Linkage, values: &mut Prepended<Value>) -> Result
 
 /// Puts a word in brackets, and the words behind it.
 #[inline(never)]
-#[tactic(auto, unfolding(crate::specs::Replay::reduced, crate::specs::Meaning::meaning, sil_shape::specs::Grammar::body))]
+#[tactic(auto, unfolding(crate::specs::inner::Replay::reduced, crate::specs::inner::Meaning::meaning, sil_shape::specs::Grammar::body))]
 pub(crate) fn more_attributes(alloc: Global, values: &mut Prepended<Value>) -> Result<(), Exhausted>
     requires { 4 ≤ length values.old }
     ensures values { OnOk result (values.new ≡ reduced Production.AttributesMore values.old) }
@@ -95,7 +95,7 @@ pub(crate) fn convention(
 
 /// Puts a signature of its convention, its parameters and its results.
 #[inline(never)]
-#[tactic(auto, unfolding(crate::specs::Replay::reduced, crate::specs::Meaning::meaning, crate::specs::PartFaults::part_fault, sil_shape::specs::Grammar::body))]
+#[tactic(auto, unfolding(crate::specs::inner::Replay::reduced, crate::specs::inner::Meaning::meaning, crate::specs::inner::PartFaults::part_fault, sil_shape::specs::Grammar::body))]
 pub(crate) fn function_type(
     alloc: Global,
     values: &mut Prepended<Value>,
@@ -226,7 +226,7 @@ pub(crate) fn param(
 
 /// Puts a parameter of which no word says how it is passed.
 #[inline(never)]
-#[tactic(auto, unfolding(crate::specs::Replay::reduced, crate::specs::Meaning::meaning, sil_shape::specs::Grammar::body))]
+#[tactic(auto, unfolding(crate::specs::inner::Replay::reduced, crate::specs::inner::Meaning::meaning, sil_shape::specs::Grammar::body))]
 pub(crate) fn plain_param(alloc: Global, values: &mut Prepended<Value>) -> Result<(), Exhausted>
     requires { 1 ≤ length values.old }
     ensures values { OnOk result (values.new ≡ reduced Production.ParamPlain values.old) }
@@ -249,7 +249,7 @@ fn one_given(alloc: Global, given: Given, first: Place) -> Result<GivenList, Exh
 
 /// Puts the results between two parentheses.
 #[inline(never)]
-#[tactic(auto, unfolding(crate::specs::Replay::reduced, crate::specs::Meaning::meaning, sil_shape::specs::Grammar::body))]
+#[tactic(auto, unfolding(crate::specs::inner::Replay::reduced, crate::specs::inner::Meaning::meaning, sil_shape::specs::Grammar::body))]
 pub(crate) fn result_list(alloc: Global, values: &mut Prepended<Value>) -> Result<(), Exhausted>
     requires { 3 ≤ length values.old }
     ensures values { OnOk result (values.new ≡ reduced Production.ResultList values.old) }
@@ -262,7 +262,7 @@ pub(crate) fn result_list(alloc: Global, values: &mut Prepended<Value>) -> Resul
 
 /// Puts an owned result, alone in a list.
 #[inline(never)]
-#[tactic(auto, unfolding(crate::specs::Replay::reduced, crate::specs::Meaning::meaning, sil_shape::specs::Grammar::body))]
+#[tactic(auto, unfolding(crate::specs::inner::Replay::reduced, crate::specs::inner::Meaning::meaning, sil_shape::specs::Grammar::body))]
 pub(crate) fn owned_result(alloc: Global, values: &mut Prepended<Value>) -> Result<(), Exhausted>
     requires { 2 ≤ length values.old }
     ensures values { OnOk result (values.new ≡ reduced Production.ResultOwned values.old) }
@@ -275,7 +275,7 @@ pub(crate) fn owned_result(alloc: Global, values: &mut Prepended<Value>) -> Resu
 
 /// Puts a result that isn't owned, alone in a list.
 #[inline(never)]
-#[tactic(auto, unfolding(crate::specs::Replay::reduced, crate::specs::Meaning::meaning, sil_shape::specs::Grammar::body))]
+#[tactic(auto, unfolding(crate::specs::inner::Replay::reduced, crate::specs::inner::Meaning::meaning, sil_shape::specs::Grammar::body))]
 pub(crate) fn plain_result(alloc: Global, values: &mut Prepended<Value>) -> Result<(), Exhausted>
     requires { 1 ≤ length values.old }
     ensures values { OnOk result (values.new ≡ reduced Production.ResultPlain values.old) }
@@ -287,7 +287,7 @@ pub(crate) fn plain_result(alloc: Global, values: &mut Prepended<Value>) -> Resu
 
 /// Puts an owned result of several.
 #[inline(never)]
-#[tactic(auto, unfolding(crate::specs::Replay::reduced, crate::specs::Meaning::meaning, sil_shape::specs::Grammar::body))]
+#[tactic(auto, unfolding(crate::specs::inner::Replay::reduced, crate::specs::inner::Meaning::meaning, sil_shape::specs::Grammar::body))]
 pub(crate) fn owned_given(alloc: Global, values: &mut Prepended<Value>) -> Result<(), Exhausted>
     requires { 2 ≤ length values.old }
     ensures values { OnOk result (values.new ≡ reduced Production.GivenOwned values.old) }
@@ -299,7 +299,7 @@ pub(crate) fn owned_given(alloc: Global, values: &mut Prepended<Value>) -> Resul
 
 /// Puts a result of several that isn't owned.
 #[inline(never)]
-#[tactic(auto, unfolding(crate::specs::Replay::reduced, crate::specs::Meaning::meaning, sil_shape::specs::Grammar::body))]
+#[tactic(auto, unfolding(crate::specs::inner::Replay::reduced, crate::specs::inner::Meaning::meaning, sil_shape::specs::Grammar::body))]
 pub(crate) fn plain_given(alloc: Global, values: &mut Prepended<Value>) -> Result<(), Exhausted>
     requires { 1 ≤ length values.old }
     ensures values { OnOk result (values.new ≡ reduced Production.GivenPlain values.old) }

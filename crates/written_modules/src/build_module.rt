@@ -20,7 +20,7 @@ use written_tree::{Fault, WrittenEntry, WrittenItem, WrittenModule, WrittenVtabl
 
 /// Puts a module of its stage, its imports and its items.
 #[inline(never)]
-#[tactic(auto, unfolding(crate::specs::Replay::reduced, crate::specs::Meaning::meaning, crate::specs::PartFaults::part_fault, sil_shape::specs::Grammar::body))]
+#[tactic(auto, unfolding(crate::specs::inner::Replay::reduced, crate::specs::inner::Meaning::meaning, crate::specs::inner::PartFaults::part_fault, sil_shape::specs::Grammar::body))]
 pub(crate) fn whole_module(
     alloc: Global,
     values: &mut Prepended<Value>,
@@ -61,7 +61,7 @@ fn with_import(name: &[u8], imports: Imports) -> Imports
 
 /// Puts an import, and the imports behind it.
 #[inline(never)]
-#[tactic(auto, unfolding(crate::specs::Replay::reduced, crate::specs::Meaning::meaning, sil_shape::specs::Grammar::body))]
+#[tactic(auto, unfolding(crate::specs::inner::Replay::reduced, crate::specs::inner::Meaning::meaning, sil_shape::specs::Grammar::body))]
 pub(crate) fn more_imports(values: &mut Prepended<Value>) -> Result<(), Exhausted>
     requires { 3 ≤ length values.old }
     ensures values { OnOk result (values.new ≡ reduced Production.ImportsMore values.old) }
@@ -87,7 +87,7 @@ pub(crate) fn no_imports(values: &mut Prepended<Value>) -> Result<(), Exhausted>
 
 /// Puts an item, and the items behind it.
 #[inline(never)]
-#[tactic(auto, unfolding(crate::specs::Replay::reduced, crate::specs::Meaning::meaning, sil_shape::specs::Grammar::body))]
+#[tactic(auto, unfolding(crate::specs::inner::Replay::reduced, crate::specs::inner::Meaning::meaning, sil_shape::specs::Grammar::body))]
 pub(crate) fn more_items(alloc: Global, values: &mut Prepended<Value>) -> Result<(), Exhausted>
     requires { 2 ≤ length values.old }
     ensures values { OnOk result (values.new ≡ reduced Production.ItemsMore values.old) }
@@ -108,7 +108,7 @@ pub(crate) fn no_items(alloc: Global, values: &mut Prepended<Value>) -> Result<(
 
 /// Puts the table of a class of its name and its entry.
 #[inline(never)]
-#[tactic(auto, unfolding(crate::specs::Replay::reduced, crate::specs::Meaning::meaning, sil_shape::specs::Grammar::body))]
+#[tactic(auto, unfolding(crate::specs::inner::Replay::reduced, crate::specs::inner::Meaning::meaning, sil_shape::specs::Grammar::body))]
 pub(crate) fn vtable(alloc: Global, values: &mut Prepended<Value>) -> Result<(), Exhausted>
     requires { 5 ≤ length values.old }
     ensures values { OnOk result (values.new ≡ reduced Production.VtableItem values.old) }
@@ -125,7 +125,7 @@ pub(crate) fn vtable(alloc: Global, values: &mut Prepended<Value>) -> Result<(),
 
 /// Puts the entry of a table of its class and its function.
 #[inline(never)]
-#[tactic(auto, unfolding(crate::specs::Replay::reduced, crate::specs::Meaning::meaning, sil_shape::specs::Grammar::body))]
+#[tactic(auto, unfolding(crate::specs::inner::Replay::reduced, crate::specs::inner::Meaning::meaning, sil_shape::specs::Grammar::body))]
 pub(crate) fn entry(alloc: Global, values: &mut Prepended<Value>) -> Result<(), Exhausted>
     requires { 8 ≤ length values.old }
     ensures values { OnOk result (values.new ≡ reduced Production.EntrySome values.old) }

@@ -23,7 +23,7 @@ use written_tree::{Fault, WrittenEdge, WrittenOperand};
 
 /// Puts an operand of its name and its type.
 #[inline(never)]
-#[tactic(auto, unfolding(crate::specs::Replay::reduced, crate::specs::Meaning::meaning, sil_shape::specs::Grammar::body))]
+#[tactic(auto, unfolding(crate::specs::inner::Replay::reduced, crate::specs::inner::Meaning::meaning, sil_shape::specs::Grammar::body))]
 pub(crate) fn operand(alloc: Global, values: &mut Prepended<Value>) -> Result<(), Exhausted>
     requires { 5 ≤ length values.old }
     ensures values { OnOk result (values.new ≡ reduced Production.WholeOperand values.old) }
@@ -60,7 +60,7 @@ pub(crate) fn operands(alloc: Global, values: &mut Prepended<Value>) -> Result<(
 
 /// Puts the operands between the parentheses of an edge.
 #[inline(never)]
-#[tactic(auto, unfolding(crate::specs::Replay::reduced, crate::specs::Meaning::meaning, sil_shape::specs::Grammar::body))]
+#[tactic(auto, unfolding(crate::specs::inner::Replay::reduced, crate::specs::inner::Meaning::meaning, sil_shape::specs::Grammar::body))]
 pub(crate) fn edge_operands(alloc: Global, values: &mut Prepended<Value>) -> Result<(), Exhausted>
     requires { 4 ≤ length values.old }
     ensures values { OnOk result (values.new ≡ reduced Production.EdgeArgsSome values.old) }
@@ -81,7 +81,7 @@ pub(crate) fn no_operands(alloc: Global, values: &mut Prepended<Value>) -> Resul
 
 /// Puts an edge of its label and its operands.
 #[inline(never)]
-#[tactic(auto, unfolding(crate::specs::Replay::reduced, crate::specs::Meaning::meaning, crate::specs::PartFaults::part_fault, sil_shape::specs::Grammar::body))]
+#[tactic(auto, unfolding(crate::specs::inner::Replay::reduced, crate::specs::inner::Meaning::meaning, crate::specs::inner::PartFaults::part_fault, sil_shape::specs::Grammar::body))]
 pub(crate) fn edge(alloc: Global, values: &mut Prepended<Value>) -> Result<Option<Fault>, Exhausted>
     requires { 2 ≤ length values.old }
     ensures values { OnOk result (values.new ≡ reduced Production.WholeEdge values.old) }
@@ -101,7 +101,7 @@ pub(crate) fn edge(alloc: Global, values: &mut Prepended<Value>) -> Result<Optio
 
 /// Puts the edge of a case, and the edges behind it.
 #[inline(never)]
-#[tactic(auto, unfolding(crate::specs::Replay::reduced, crate::specs::Meaning::meaning, sil_shape::specs::Grammar::body))]
+#[tactic(auto, unfolding(crate::specs::inner::Replay::reduced, crate::specs::inner::Meaning::meaning, sil_shape::specs::Grammar::body))]
 pub(crate) fn switch_case(alloc: Global, values: &mut Prepended<Value>) -> Result<(), Exhausted>
     requires { 5 ≤ length values.old }
     ensures values { OnOk result (values.new ≡ reduced Production.SwitchCase values.old) }
@@ -121,7 +121,7 @@ pub(crate) fn switch_case(alloc: Global, values: &mut Prepended<Value>) -> Resul
 
 /// Puts the edge of a default, behind which there are no edges.
 #[inline(never)]
-#[tactic(auto, unfolding(crate::specs::Replay::reduced, crate::specs::Meaning::meaning, sil_shape::specs::Grammar::body))]
+#[tactic(auto, unfolding(crate::specs::inner::Replay::reduced, crate::specs::inner::Meaning::meaning, sil_shape::specs::Grammar::body))]
 pub(crate) fn switch_default(alloc: Global, values: &mut Prepended<Value>) -> Result<(), Exhausted>
     requires { 2 ≤ length values.old }
     ensures values { OnOk result (values.new ≡ reduced Production.SwitchDefault values.old) }
@@ -147,7 +147,7 @@ pub(crate) fn no_edges(alloc: Global, values: &mut Prepended<Value>) -> Result<(
 
 /// Puts the operand of a case, alone in a list.
 #[inline(never)]
-#[tactic(auto, unfolding(crate::specs::Replay::reduced, crate::specs::Meaning::meaning, sil_shape::specs::Grammar::body))]
+#[tactic(auto, unfolding(crate::specs::inner::Replay::reduced, crate::specs::inner::Meaning::meaning, sil_shape::specs::Grammar::body))]
 pub(crate) fn enum_operand(alloc: Global, values: &mut Prepended<Value>) -> Result<(), Exhausted>
     requires { 2 ≤ length values.old }
     ensures values { OnOk result (values.new ≡ reduced Production.EnumOperandSome values.old) }
@@ -172,7 +172,7 @@ fn member(alloc: Global, values: &mut Prepended<Value>) -> Result<Value, Exhaust
 
 /// Puts the name of a member.
 #[inline(never)]
-#[tactic(auto, unfolding(crate::specs::Replay::reduced, crate::specs::Meaning::meaning, sil_shape::specs::Grammar::body))]
+#[tactic(auto, unfolding(crate::specs::inner::Replay::reduced, crate::specs::inner::Meaning::meaning, sil_shape::specs::Grammar::body))]
 pub(crate) fn member_name(alloc: Global, values: &mut Prepended<Value>) -> Result<(), Exhausted>
     requires { 4 ≤ length values.old }
     ensures values { OnOk result (values.new ≡ reduced Production.WholeMemberName values.old) }
@@ -183,7 +183,7 @@ pub(crate) fn member_name(alloc: Global, values: &mut Prepended<Value>) -> Resul
 
 /// Puts the name of a case, of whose suffix nothing is kept.
 #[inline(never)]
-#[tactic(auto, unfolding(crate::specs::Replay::reduced, crate::specs::Meaning::meaning, sil_shape::specs::Grammar::body))]
+#[tactic(auto, unfolding(crate::specs::inner::Replay::reduced, crate::specs::inner::Meaning::meaning, sil_shape::specs::Grammar::body))]
 pub(crate) fn enum_element(alloc: Global, values: &mut Prepended<Value>) -> Result<(), Exhausted>
     requires { 7 ≤ length values.old }
     ensures values { OnOk result (values.new ≡ reduced Production.WholeEnumElement values.old) }

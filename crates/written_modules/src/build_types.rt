@@ -173,7 +173,7 @@ fn tailed(alloc: Global, token: WrittenToken, tail: Value) -> Result<WrittenType
 
 /// Puts the type between the parentheses of a case, a tuple where there are several.
 #[inline(never)]
-#[tactic(auto, unfolding(crate::specs::Replay::reduced, crate::specs::Meaning::meaning, crate::specs::PartFaults::part_fault, sil_shape::specs::Grammar::body))]
+#[tactic(auto, unfolding(crate::specs::inner::Replay::reduced, crate::specs::inner::Meaning::meaning, crate::specs::inner::PartFaults::part_fault, sil_shape::specs::Grammar::body))]
 pub(crate) fn payload(
     alloc: Global,
     values: &mut Prepended<Value>,
@@ -193,7 +193,7 @@ pub(crate) fn payload(
 }
 
 #[inline(never)]
-#[tactic(auto, unfolding(crate::specs::Replay::reduced, crate::specs::Meaning::meaning, crate::specs::PartFaults::part_fault, sil_shape::specs::Grammar::body))]
+#[tactic(auto, unfolding(crate::specs::inner::Replay::reduced, crate::specs::inner::Meaning::meaning, crate::specs::inner::PartFaults::part_fault, sil_shape::specs::Grammar::body))]
 pub(crate) fn paren_type(
     alloc: Global,
     values: &mut Prepended<Value>,
@@ -214,7 +214,7 @@ pub(crate) fn paren_type(
 }
 
 #[inline(never)]
-#[tactic(auto, unfolding(crate::specs::Replay::reduced, crate::specs::Meaning::meaning, crate::specs::PartFaults::part_fault, sil_shape::specs::Grammar::body))]
+#[tactic(auto, unfolding(crate::specs::inner::Replay::reduced, crate::specs::inner::Meaning::meaning, crate::specs::inner::PartFaults::part_fault, sil_shape::specs::Grammar::body))]
 pub(crate) fn base_type(
     alloc: Global,
     values: &mut Prepended<Value>,
@@ -231,7 +231,7 @@ pub(crate) fn base_type(
 }
 
 #[inline(never)]
-#[tactic(auto, unfolding(crate::specs::Replay::reduced, crate::specs::Meaning::meaning, crate::specs::PartFaults::part_fault, sil_shape::specs::Grammar::body))]
+#[tactic(auto, unfolding(crate::specs::inner::Replay::reduced, crate::specs::inner::Meaning::meaning, crate::specs::inner::PartFaults::part_fault, sil_shape::specs::Grammar::body))]
 pub(crate) fn weak_type(
     alloc: Global,
     values: &mut Prepended<Value>,
@@ -249,7 +249,7 @@ pub(crate) fn weak_type(
 }
 
 #[inline(never)]
-#[tactic(auto, unfolding(crate::specs::Replay::reduced, crate::specs::Meaning::meaning, crate::specs::PartFaults::part_fault, sil_shape::specs::Grammar::body))]
+#[tactic(auto, unfolding(crate::specs::inner::Replay::reduced, crate::specs::inner::Meaning::meaning, crate::specs::inner::PartFaults::part_fault, sil_shape::specs::Grammar::body))]
 pub(crate) fn unowned_type(
     alloc: Global,
     values: &mut Prepended<Value>,
@@ -278,7 +278,7 @@ pub(crate) fn tailed_base(alloc: Global, values: &mut Prepended<Value>) -> Resul
 }
 
 #[inline(never)]
-#[tactic(auto, unfolding(crate::specs::Replay::reduced, crate::specs::Meaning::meaning, sil_shape::specs::Grammar::body))]
+#[tactic(auto, unfolding(crate::specs::inner::Replay::reduced, crate::specs::inner::Meaning::meaning, sil_shape::specs::Grammar::body))]
 pub(crate) fn named_base(alloc: Global, values: &mut Prepended<Value>) -> Result<(), Exhausted>
     requires { 1 ≤ length values.old }
     ensures values { OnOk result (values.new ≡ reduced Production.NamedBase values.old) }
@@ -288,7 +288,7 @@ pub(crate) fn named_base(alloc: Global, values: &mut Prepended<Value>) -> Result
 }
 
 #[inline(never)]
-#[tactic(auto, unfolding(crate::specs::Replay::reduced, crate::specs::Meaning::meaning, crate::specs::PartFaults::part_fault, sil_shape::specs::Grammar::body))]
+#[tactic(auto, unfolding(crate::specs::inner::Replay::reduced, crate::specs::inner::Meaning::meaning, crate::specs::inner::PartFaults::part_fault, sil_shape::specs::Grammar::body))]
 pub(crate) fn optional_of(
     alloc: Global,
     values: &mut Prepended<Value>,
@@ -317,7 +317,7 @@ pub(crate) fn int_type(width: u8, values: &mut Prepended<Value>) -> Result<(), E
 }
 
 #[inline(never)]
-#[tactic(auto, unfolding(crate::specs::Replay::reduced, crate::specs::Meaning::meaning, sil_shape::specs::Grammar::body))]
+#[tactic(auto, unfolding(crate::specs::inner::Replay::reduced, crate::specs::inner::Meaning::meaning, sil_shape::specs::Grammar::body))]
 pub(crate) fn more_questions(alloc: Global, values: &mut Prepended<Value>) -> Result<(), Exhausted>
     requires { 2 ≤ length values.old }
     ensures values { OnOk result (values.new ≡ reduced Production.QuestionsMore values.old) }

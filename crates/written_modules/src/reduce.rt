@@ -23,7 +23,7 @@ use written_tree::Fault;
 
 /// Puts what a production stands for in the place of the values of its body, which are the first ones, and answers the
 /// first fault in it by itself.
-#[tactic(auto, unfolding(crate::specs::Replay::reduced))]
+#[tactic(auto, unfolding(crate::specs::inner::Replay::reduced))]
 pub(crate) fn reduce(
     alloc: Global,
     production: Production,

@@ -25,7 +25,7 @@ pub(crate) enum Section {
 }
 
 /// The section of a production.
-#[tactic(auto, unfolding(crate::specs::Sections::section, crate::specs::Sections::part_section, sil_shape::specs::Grammar::written))]
+#[tactic(auto, unfolding(crate::specs::inner::Sections::section, crate::specs::inner::Sections::part_section, sil_shape::specs::Grammar::written))]
 pub(crate) fn section_of(production: Production) -> Section
     ensures { result ≡ section production }
 {
