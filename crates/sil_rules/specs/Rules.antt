@@ -1,5 +1,5 @@
 -- The rules, with their numbers, names and groups, and the groups in order.
-use Rattle.std.specs.Prelude.{◌≡◌, ◌==◌, ℕ, List, [], Option, Some, find, slice_index_or}
+use Rattle.std.specs.Prelude.{ℕ, List, [], slice_index_or}
 use Rattle.sil_rules.specs.declared.group.Group.{Group}
 use Rattle.sil_rules.specs.declared.group.Group.TheVariants as group
 use Rattle.sil_rules.specs.declared.rule.Rule.{Rule}
@@ -50,17 +50,13 @@ index_of rule.InoutLeftUninitialised = 38
 index_of rule.AddressOutsideScope = 39
 index_of rule.PartialAccess = 40
 
+-- the rule at a place in the order
+abbrev pub rule_at : ℕ → Rule
+rule_at n = slice_index_or RULES n rule.UnknownType
+
 -- the number that a refusal prints
 abbrev pub number_of : Rule → ℕ
 number_of r = slice_index_or NUMBERS (index_of r) 0
-
--- the rule with this number, if there is one
-abbrev pub rule_numbered : ℕ → Option Rule
-rule_numbered n = find (λ r. number_of r == n) RULES
-
--- a rule is the one with its number
-abbrev pub AreFoundByNumber : Type 0
-AreFoundByNumber = (r : Rule) → rule_numbered (number_of r) ≡ Some r
 
 -- the name that a refusal prints
 abbrev pub name_of : Rule → List ℕ

@@ -1,8 +1,7 @@
 //! The laws of the rules and of the order of refusals, on calls that do nothing.
 //! The lemmas for the checks above are in `proofs/`.
 
-ghost use Rattle.sil_rules.specs.inner.Laws.{AreOrdered};
-ghost use Rattle.sil_rules.specs.Rules.{AreFoundByNumber};
+ghost use Rattle.sil_rules.specs.inner.Laws.{AreInPlace, AreOrdered};
 ghost use Rattle.sil_rules.specs.declared.rule.TheConstants.{NUMBERS};
 ghost use Rattle.std.specs.List.Sorted.{IsStrictlyIncreasing};
 
@@ -16,7 +15,7 @@ pub fn numbers_go_up()
     ensures { IsStrictlyIncreasing NUMBERS }
 {}
 
-/// Each rule is the one with its number.
-pub fn rules_are_found_by_number()
-    ensures { AreFoundByNumber }
+/// Each rule is the one at its index.
+pub fn rules_are_in_place()
+    ensures { AreInPlace }
 {}

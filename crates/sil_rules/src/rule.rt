@@ -1,7 +1,7 @@
 //! The rules that a module may break, in their order, with the numbers and names that a refusal prints.
 
-ghost use Rattle.std.specs.Prelude.{◌≡◌, ◌==◌, find};
-ghost use Rattle.sil_rules.specs.Rules.{group_of, name_of, number_of, rule_numbered};
+ghost use Rattle.std.specs.Prelude.{◌≡◌, ◌<◌};
+ghost use Rattle.sil_rules.specs.Rules.{group_of, index_of, name_of, number_of, rule_at};
 
 use crate::group::Group;
 
@@ -235,11 +235,19 @@ pub static RULES: [Rule; 41] = [
 ];
 
 impl Rule {
-    /// The rule with this number, if there is one.
-    pub fn of_number(number: u16) -> Option<Rule>
-        ensures { result ≡ rule_numbered number }
+    /// The place in the order, from 0.
+    pub fn index(self) -> u8
+        ensures { result ≡ index_of self }
     {
-        first_numbered(&RULES, number)
+        self as u8
+    }
+
+    /// The rule at a place in the order.
+    pub fn at(index: u8) -> Rule
+        requires { index < 41 }
+        ensures { result ≡ rule_at index }
+    {
+        RULES[index as usize]
     }
 
     /// The number that a refusal prints, from 101 to 611.
@@ -262,16 +270,4 @@ impl Rule {
     {
         GROUPS[self as usize]
     }
-}
-
-/// The first of these rules that has the number.
-fn first_numbered(rules: &[Rule], number: u16) -> Option<Rule>
-    ensures { result ≡ find (λ r. number_of r == number) rules.now }
-{
-    for rule in rules {
-        if rule.number() == number {
-            return Some(*rule);
-        }
-    }
-    None
 }

@@ -1,6 +1,8 @@
--- What the order of refusals keeps.
-use Rattle.std.specs.Prelude.{◌≡◌, ◌⊎◌, ℕ, List}
+-- What the order of rules and of refusals keeps.
+use Rattle.std.specs.Prelude.{◌≡◌, ◌⊎◌, ◌<◌, ℕ, List}
 use Rattle.sil_rules.specs.Order.{NotAfter}
+use Rattle.sil_rules.specs.Rules.{index_of, rule_at}
+use Rattle.sil_rules.specs.declared.rule.Rule.{Rule}
 
 -- lists of numbers are in one order
 pub record AreOrdered : Type 0 where
@@ -8,3 +10,7 @@ pub record AreOrdered : Type 0 where
   pub through : (xs ys zs : List ℕ) → NotAfter xs ys → NotAfter ys zs → NotAfter xs zs
   pub either : (xs ys : List ℕ) → NotAfter xs ys ⊎ NotAfter ys xs
   pub both : (xs ys : List ℕ) → NotAfter xs ys → NotAfter ys xs → xs ≡ ys
+
+-- each rule stands at its index
+abbrev pub AreInPlace : Type 0
+AreInPlace = (r : Rule) → (index_of r < 41) × (rule_at (index_of r) ≡ r)
