@@ -1,0 +1,4 @@
+pub mod Among
+pub mod FaultsOf
+pub mod Least
+pub mod Order

@@ -1,0 +1,13 @@
+use Rattle.std.proofs.Common.{◌<◌, None, ap, get_or, length, subst, ◌∙◌}
+use Rattle.point_checks.specs.inner.Faults.{block_faults, faults_of, least}
+use Rattle.point_checks.proofs.Least.{numbered_item}
+use Rattle.point_checks.proofs.pass.least_fault.Goals as goal
+
+pub loop-number-preserved : goal.loop-number-preserved
+loop-number-preserved g c =
+    let args = g.C.PointCheck.args_faults c.args.check.now c.args.f.now in
+    let insts = g.C.PointCheck.inst_faults c.args.check.now c.args.f.now in
+    let n = c.loop-number.number in
+    let all = c.as_slice-block-items.ensures in
+    numbered_item (block_faults args insts) c.args.f.now.blocks n n c.block-item.result c.loop-number.found c.in_ok-found.found (least None (faults_of args insts c.args.f.now))
+    (subst (λ bs. n < length bs) all c.loop-number-test.true) (c.block-item.is ∙ ap (λ bs. get_or bs n c.block-item.result) all) c.loop-number.invariant c.in_ok-found.ensures

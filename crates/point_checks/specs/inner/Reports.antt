@@ -1,0 +1,13 @@
+-- How a fault at a point is reported.
+use Rattle.std.specs.Prelude.{◌≡◌, [], Option}
+use Rattle.sil_ast.specs.declared.place.ValueId.{ValueId}
+use Rattle.rule_faults.specs.declared.fault.RuleFault.{RuleFault}
+use Rattle.point_checks.specs.declared.fault.PointFault.{PointFault}
+
+-- the fault, with the other value that takes part in it, is reported so: no walk shows it
+pub record IsReport (x : PointFault) (o : Option ValueId) (reported : RuleFault) : Type 0 where
+  pub rule : reported.rule ≡ x.rule
+  pub subject : reported.subject ≡ x.subject
+  pub other : reported.other ≡ o
+  pub point : reported.point ≡ x.point
+  pub walk : reported.walk ≡ []
