@@ -32,7 +32,8 @@ count_is start xs [] = refl
 count_is start xs (end ∷ ends) = ap suc (count_is end xs ends)
 
 -- a list stands between the end of the one before it and its own
-pub list_there : {A : Type 0} (start : ℕ) (xs : List A) (ends : List ℕ) (i : ℕ) → i < length ends → slice_get (lists_from start xs ends) i ≡ Some (slice_range xs (slice_index_or (start ∷ ends) i 0) (slice_index_or ends i 0))
+pub list_there : {A : Type 0} (start : ℕ) (xs : List A) (ends : List ℕ) (i : ℕ) → i < length ends
+    → slice_get (lists_from start xs ends) i ≡ Some (slice_range xs (slice_index_or (start ∷ ends) i 0) (slice_index_or ends i 0))
 list_there start xs [] i lt = absurd (let none : length {A = ℕ} [] ≡ 0 = refl in omega arith)
 list_there start xs (end ∷ ends) zero lt = refl
 list_there start xs (end ∷ ends) (suc i) lt = list_there end xs ends i (omega arith)

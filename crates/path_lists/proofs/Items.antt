@@ -25,7 +25,8 @@ pub count_pushed : {A : Type 0} (lists : List (List A)) (list : List A) → leng
 count_pushed lists list = omega (arith, length-append lists (list ∷ []))
 
 -- one item more has its list
-pub list_one_more : {A : Type 0} (at : ℕ → List A) (all : List (List A)) (x : List A) (n : ℕ) → length all ≡ n → x ≡ at n → ((k : ℕ) → k < n → list_at all k ≡ at k) → (k : ℕ) → k < n + 1 → list_at (all ++ x ∷ []) k ≡ at k
+pub list_one_more : {A : Type 0} (at : ℕ → List A) (all : List (List A)) (x : List A) (n : ℕ) → length all ≡ n → x ≡ at n → ((k : ℕ) → k < n → list_at all k ≡ at k) → (k : ℕ) → k < n + 1
+    → list_at (all ++ x ∷ []) k ≡ at k
 list_one_more {A} at all x n size here h k lt = by_case (cases_eq k n)
   where
     by_case : (k ≡ n) ⊎ (k ≢ n) → list_at (all ++ x ∷ []) k ≡ at k

@@ -53,7 +53,8 @@ module _ (g : Flow ℕ) (f : ℕ → ℕ → Step) (In : ℕ → ℕ → ℕ →
   pub known_along : (w : List EdgeId) (b s n code item : ℕ) → In b s n → ReachesFrom g f b s w code item → Known code (n + length w)
   known_along [] b s n code item there h =
       let bad : run f (Go s) (take h.count (items_at g b)) ≡ Bad code = ap (run f (Go s)) h.parts ∙ run_breaks f (Go s) h.before [] item h.state code h.clean h.breaks in
-      let whole : run f (Go s) (items_at g b) ≡ Bad code = ap (run f (Go s)) (sym (take-append-drop h.count (items_at g b))) ∙ run_end_bad f (Go s) (take h.count (items_at g b)) (drop h.count (items_at g b)) code bad in
+      let whole : run f (Go s) (items_at g b) ≡ Bad code =
+      ap (run f (Go s)) (sym (take-append-drop h.count (items_at g b))) ∙ run_end_bad f (Go s) (take h.count (items_at g b)) (drop h.count (items_at g b)) code bad in
       Known_more code n (n + 0) (omega arith) ((done b s n there).block code whole)
   known_along (e ∷ w) b s n code item there h =
       let behind : List ℕ = passed g w ++ take h.count (items_at g (end_from g (edge_to g e) w)) in

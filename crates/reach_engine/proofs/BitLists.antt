@@ -1,4 +1,5 @@
-use Rattle.std.proofs.Common.{◌≡◌, ◌≢◌, ℕ, ◌+◌, ◌-◌, ◌*◌, ◌/◌, ◌%◌, ◌^◌, ◌<◌, ◌≤◌, List, length, get_or, set, max, sum, bit_and, bit_or, refl, sym, ap, ap₂, ◌∙◌, arith, ◌⊎◌, inl, inr, w64, Bool, true, false}
+use Rattle.std.proofs.Common.{◌≡◌, ◌≢◌, ℕ, ◌+◌, ◌-◌, ◌*◌, ◌/◌, ◌%◌, ◌^◌, ◌<◌, ◌≤◌, List, length, get_or, set, max, sum}
+use Rattle.std.proofs.Common.{bit_and, bit_or, refl, sym, ap, ap₂, ◌∙◌, arith, ◌⊎◌, inl, inr, w64, Bool, true, false}
 use Rattle.std.proofs.lemmas.Bool.{cases_eq}
 use Rattle.std.proofs.lemmas.List.{get_or-set_same, get_or-set_other, length-set, set-get_or}
 use Rattle.std.proofs.lemmas.List.Sums.{sum_by-set}
@@ -22,7 +23,8 @@ bit_in_set_other words k j x h ne same = at (cases_eq (j / 64) (k / 64))
     at (inl e) =
         let apart : j % 64 ≢ k % 64 = omega arith in
         let small : j % 64 < 64 = omega arith in
-        ap (λ n. bit_at (get_or (set words (k / 64) x) n 0) (j % 64)) e ∙ ap (λ n. bit_at n (j % 64)) (get_or-set_same words (k / 64) x 0 (word_in words k h)) ∙ same (j % 64) small apart ∙ ap (λ n. bit_at (get_or words n 0) (j % 64)) (sym e)
+        ap (λ n. bit_at (get_or (set words (k / 64) x) n 0) (j % 64)) e ∙ ap (λ n. bit_at n (j % 64)) (get_or-set_same words (k / 64) x 0 (word_in words k h)) ∙ same (j % 64) small apart
+        ∙ ap (λ n. bit_at (get_or words n 0) (j % 64)) (sym e)
     at (inr n) = ap (λ y. bit_at y (j % 64)) (get_or-set_other words (k / 64) (j / 64) x 0 n)
 
 below_64 : (k : ℕ) → k % 64 < 64
@@ -37,7 +39,8 @@ bit_set_others words k j h ne = bit_in_set_other words k j _ h ne (λ i lt n. bi
 pub bit_clear_same : (words : List ℕ) (k : ℕ) → k < 64 * length words → bit_in (set words (k / 64) (bit_and (get_or words (k / 64) 0) (2 ^ 64 - 1 - 1 * 2 ^ (k % 64) % 2 ^ 64))) k ≡ 0
 bit_clear_same words k h = bit_in_set words k _ h ∙ bit_at_clear_same w64 (get_or words (k / 64) 0) (k % 64) (below_64 k)
 
-pub bit_clear_others : (words : List ℕ) (k j : ℕ) → k < 64 * length words → j ≢ k → bit_in (set words (k / 64) (bit_and (get_or words (k / 64) 0) (2 ^ 64 - 1 - 1 * 2 ^ (k % 64) % 2 ^ 64))) j ≡ bit_in words j
+pub bit_clear_others : (words : List ℕ) (k j : ℕ) → k < 64 * length words → j ≢ k
+    → bit_in (set words (k / 64) (bit_and (get_or words (k / 64) 0) (2 ^ 64 - 1 - 1 * 2 ^ (k % 64) % 2 ^ 64))) j ≡ bit_in words j
 bit_clear_others words k j h ne = bit_in_set_other words k j _ h ne (λ i lt n. bit_at_clear_other w64 (get_or words (k / 64) 0) (k % 64) (below_64 k) i lt n)
 
 -- what is kept while words are merged
@@ -67,7 +70,8 @@ merge_more first rows bundle offset i word b c h lt word_is branch = record {
 }
   where
     done_at : (j : ℕ) → j < i + 1 → (j ≡ i) ⊎ (j ≢ i) → get_or (set rows (offset + i) word) (offset + j) 0 ≡ bit_or (get_or first (offset + j) 0) (get_or bundle j 0)
-    done_at j l (inl e) = ap (λ k. get_or (set rows (offset + i) word) (offset + k) 0) e ∙ get_or-set_same rows (offset + i) word 0 lt ∙ word_is ∙ ap (λ x. bit_or x (get_or bundle i 0)) (h.above (offset + i) (omega arith)) ∙ ap (λ k. bit_or (get_or first (offset + k) 0) (get_or bundle k 0)) (sym e)
+    done_at j l (inl e) = ap (λ k. get_or (set rows (offset + i) word) (offset + k) 0) e ∙ get_or-set_same rows (offset + i) word 0 lt ∙ word_is
+        ∙ ap (λ x. bit_or x (get_or bundle i 0)) (h.above (offset + i) (omega arith)) ∙ ap (λ k. bit_or (get_or first (offset + k) 0) (get_or bundle k 0)) (sym e)
     done_at j l (inr n) = let m : offset + j ≢ offset + i = omega arith in get_or-set_other rows (offset + i) (offset + j) word 0 m ∙ h.done j (omega arith)
 
     none_at : c ≡ false → ((word ≢ get_or rows (offset + i) 0) × (c ≡ true)) ⊎ ((word ≡ get_or rows (offset + i) 0) × (c ≡ b)) → set rows (offset + i) word ≡ first

@@ -66,8 +66,10 @@ take_no states width u first bundle taken i li h none off = record {
 }
   where
     taken_at : (s : ℕ) → s < i + 1 → (s ≡ i) ⊎ (s ≢ i) → (bit_in taken s ≡ 1) ↔ Has first width s u
-    taken_at s l (inl e) =
-        (λ t. absurd (let f : bit_in taken s ≡ 0 = ap (bit_in taken) e ∙ off in omega (arith, f, t)), λ t. absurd (none (h.rest i li (omega arith) ∙ ap (λ x. bit_in first (cell width x u)) (sym e) ∙ t)))
+    taken_at s l (inl e) = (
+      λ t. absurd (let f : bit_in taken s ≡ 0 = ap (bit_in taken) e ∙ off in omega (arith, f, t)),
+      λ t. absurd (none (h.rest i li (omega arith) ∙ ap (λ x. bit_in first (cell width x u)) (sym e) ∙ t)),
+    )
     taken_at s l (inr n) = h.taken_is s (omega arith)
 
     clear_at : (s : ℕ) → s < i + 1 → (s ≡ i) ⊎ (s ≢ i) → bit_in bundle (cell width s u) ≡ 0

@@ -36,7 +36,8 @@ marks_more g f states subjects width e bundle old now new before bad first dirty
     was_clean : (c : ℕ) → is_dirty next c ≡ false → is_dirty dirty c ≡ false
     was_clean c m = sym (get_or-set_other dirty (edge_to g e) c true false (apart c m)) ∙ ap (λ d. get_or d c false) (sym p.2) ∙ m
 
-    stays_at : (c t u : ℕ) → t < states → u < subjects → is_dirty next c ≡ false → RowHas now states width c t u ⊎ ((c ≡ edge_to g e) × ((k : ℕ) × (k < states) × Has bundle width k u × (f u k (edge_item g e) ≡ Go t))) → RowHas now states width c t u
+    stays_at : (c t u : ℕ) → t < states → u < subjects → is_dirty next c ≡ false
+        → RowHas now states width c t u ⊎ ((c ≡ edge_to g e) × ((k : ℕ) × (k < states) × Has bundle width k u × (f u k (edge_item g e) ≡ Go t))) → RowHas now states width c t u
     stays_at c t u lt lu m (inl x) = x
     stays_at c t u lt lu m (inr x) = absurd (apart c m x.0)
 marks_more g f states subjects width e bundle old now new before bad first dirty next is_new here then within h taken (inr p) = record {
@@ -65,7 +66,8 @@ more_blocks : (d e n : ℕ) → d < e → d * suc n + suc n ≤ e * suc n
 more_blocks d e n lt = grind arith
 
 -- a block that was taken leaves less work
-pub less_work : (cap n : ℕ) (old new : List ℕ) (before cleaned after : List Bool) (b : ℕ) (is_new : Bool) → b < length before → length before ≡ n → is_dirty before b ≡ true → cleaned ≡ set before b false →
+pub less_work : (cap n : ℕ) (old new : List ℕ) (before cleaned after : List Bool) (b : ℕ) (is_new : Bool) → b < length before → length before ≡ n → is_dirty before b ≡ true →
+    cleaned ≡ set before b false →
     sum new ≤ cap → (is_new ≡ false → new ≡ old) → (is_new ≡ false → after ≡ cleaned) → (is_new ≡ true → sum old < sum new) → work_left cap n new after < work_left cap n old before
 less_work cap n old new before cleaned after b false within size was cleaned_is le rows_same same some =
     let fewer : count_by not cleaned ≡ suc (count_by not before) = ap (count_by not) cleaned_is ∙ count_cleaned before b within was in
@@ -82,7 +84,8 @@ less_work cap n old new before cleaned after b true within size was cleaned_is l
     omega arith
 
 -- a dirty block was taken
-pub dirty_taken : (g : Flow ℕ) (f : ℕ → ℕ → ℕ → Step) (states subjects width b : ℕ) (old new bad after : List ℕ) (dirty cleaned marked : List Bool) (is_new : Bool) → b < block_count g → subjects ≤ 64 * width →
+pub dirty_taken : (g : Flow ℕ) (f : ℕ → ℕ → ℕ → Step) (states subjects width b : ℕ) (old new bad after : List ℕ) (dirty cleaned marked : List Bool) (is_new : Bool) →
+    b < block_count g → subjects ≤ 64 * width →
     length new ≡ length old → length after ≡ length bad → length marked ≡ length dirty → sum new ≤ cap_of g states width →
     IsSettled g f states subjects width old bad dirty → is_dirty dirty b ≡ true → cleaned ≡ set dirty b false →
     BlockTaken g f states subjects width b old new bad after is_new → MarksGains states subjects width old new cleaned marked is_new →
@@ -104,7 +107,8 @@ dirty_taken g f states subjects width b old new bad after dirty cleaned marked i
 
     done_at : (c : ℕ) → c < block_count g → is_dirty marked c ≡ false → (c ≡ b) ⊎ (c ≢ b) → IsBlockDone g f states subjects width new new after c
     done_at c lc clean (inl e) =
-        let back : (s u : ℕ) → s < states → u < subjects → RowHas new states width b s u → RowHas old states width b s u = λ s u ls lu x. m.stays b s u ls lu (ap (is_dirty marked) (sym e) ∙ clean) x in
+        let back : (s u : ℕ) → s < states → u < subjects → RowHas new states width b s u → RowHas old states width b s u =
+        λ s u ls lu x. m.stays b s u ls lu (ap (is_dirty marked) (sym e) ∙ clean) x in
         let here : IsBlockDone g f states subjects width new new after b = record {
           block = λ s code u ls lu x r. taken_done.block s code u ls lu (back s u ls lu x) r;
           goes = λ d s v u is from ls lu x r. taken_done.goes d s v u is from ls lu (back s u ls lu x) r;
@@ -116,7 +120,8 @@ dirty_taken g f states subjects width b old new bad after dirty cleaned marked i
         stays_done g f states subjects width old new bad after c (λ s u ls lu x. m.stays c s u ls lu clean x) t.kept t.grows (h.done c lc old_clean)
 
 -- a block that isn't dirty is passed over
-pub dirty_passed : (g : Flow ℕ) (f : ℕ → ℕ → ℕ → Step) (states subjects width b : ℕ) (rows bad : List ℕ) (dirty : List Bool) → IsSettled g f states subjects width rows bad dirty → is_dirty dirty b ≡ false →
+pub dirty_passed : (g : Flow ℕ) (f : ℕ → ℕ → ℕ → Step) (states subjects width b : ℕ) (rows bad : List ℕ) (dirty : List Bool) → IsSettled g f states subjects width rows bad dirty →
+    is_dirty dirty b ≡ false →
     DirtyTaken g f states subjects width b rows rows bad dirty dirty false
 dirty_passed g f states subjects width b rows bad dirty h clean = record {
   settled = h;
@@ -126,7 +131,8 @@ dirty_passed g f states subjects width b rows bad dirty h clean = record {
   less = λ e. absurd (let x : false ≡ true = e in cc);
 }
 
-pub swept_none : (g : Flow ℕ) (f : ℕ → ℕ → ℕ → Step) (states subjects width : ℕ) (rows bad : List ℕ) (dirty : List Bool) → IsSettled g f states subjects width rows bad dirty → Swept g f states subjects width rows rows bad dirty dirty 0 false
+pub swept_none : (g : Flow ℕ) (f : ℕ → ℕ → ℕ → Step) (states subjects width : ℕ) (rows bad : List ℕ) (dirty : List Bool) → IsSettled g f states subjects width rows bad dirty
+    → Swept g f states subjects width rows rows bad dirty dirty 0 false
 swept_none g f states subjects width rows bad dirty h = record {
   settled = h;
   rows_same = λ e. refl;
@@ -179,14 +185,17 @@ swept_more g f states subjects width first old new bad after before dirty marked
     chain : (a b c : ℕ) → a < b → b ≤ c → a < c
     chain a b c p q = omega arith
 
-    less_at : then ≡ true → ((here ≡ true) × (then ≡ true)) ⊎ ((here ≡ false) × (then ≡ changed)) → work_left (cap_of g states width) (block_count g) new marked < work_left (cap_of g states width) (block_count g) first before
+    less_at : then ≡ true → ((here ≡ true) × (then ≡ true)) ⊎ ((here ≡ false) × (then ≡ changed))
+        → work_left (cap_of g states width) (block_count g) new marked < work_left (cap_of g states width) (block_count g) first before
     less_at e (inl p) = chain _ _ _ (t.less p.0) up
     less_at e (inr p) =
-        let same : work_left (cap_of g states width) (block_count g) new marked ≡ work_left (cap_of g states width) (block_count g) old dirty = ap (λ r. work_left (cap_of g states width) (block_count g) r marked) (t.rows_same p.0) ∙ ap (work_left (cap_of g states width) (block_count g) old) (t.dirty_same p.0) in
+        let same : work_left (cap_of g states width) (block_count g) new marked ≡ work_left (cap_of g states width) (block_count g) old dirty =
+        ap (λ r. work_left (cap_of g states width) (block_count g) r marked) (t.rows_same p.0) ∙ ap (work_left (cap_of g states width) (block_count g) old) (t.dirty_same p.0) in
         subst (λ n. n < work_left (cap_of g states width) (block_count g) first before) (sym same) (h.less (sym p.1 ∙ e))
 
 -- a sweep without a dirty block closes the rows
-pub swept_closed : (g : Flow ℕ) (f : ℕ → ℕ → ℕ → Step) (states subjects width : ℕ) (old new bad : List ℕ) (before after : List Bool) (i : ℕ) → block_count g ≤ i → Swept g f states subjects width old new bad before after i false →
+pub swept_closed : (g : Flow ℕ) (f : ℕ → ℕ → ℕ → Step) (states subjects width : ℕ) (old new bad : List ℕ) (before after : List Bool) (i : ℕ) → block_count g ≤ i →
+    Swept g f states subjects width old new bad before after i false →
     IsClosed g f states subjects width new bad
 swept_closed g f states subjects width old new bad before after i le h = record {
   so_far = h.settled.so_far;
@@ -194,18 +203,21 @@ swept_closed g f states subjects width old new bad before after i le h = record 
 }
 
 -- at the start every block is dirty
-pub all_dirty : (g : Flow ℕ) (f : ℕ → ℕ → ℕ → Step) (states subjects width : ℕ) (rows bad : List ℕ) (dirty : List Bool) → length dirty ≡ block_count g → ((b : ℕ) → b < block_count g → is_dirty dirty b ≡ true) →
+pub all_dirty : (g : Flow ℕ) (f : ℕ → ℕ → ℕ → Step) (states subjects width : ℕ) (rows bad : List ℕ) (dirty : List Bool) → length dirty ≡ block_count g →
+    ((b : ℕ) → b < block_count g → is_dirty dirty b ≡ true) →
     IsSoFar g f states subjects width rows bad → IsSettled g f states subjects width rows bad dirty
 all_dirty g f states subjects width rows bad dirty size all h = record { so_far = h; size = size; done = λ b lb clean. absurd (let was : is_dirty dirty b ≡ true = all b lb in cc) }
 
 -- a sweep leaves less work, or is the last one
-pub swept_less : (g : Flow ℕ) (f : ℕ → ℕ → ℕ → Step) (states subjects width : ℕ) (old new bad : List ℕ) (before after : List Bool) (i : ℕ) (changed : Bool) → Swept g f states subjects width old new bad before after i changed →
+pub swept_less : (g : Flow ℕ) (f : ℕ → ℕ → ℕ → Step) (states subjects width : ℕ) (old new bad : List ℕ) (before after : List Bool) (i : ℕ) (changed : Bool) →
+    Swept g f states subjects width old new bad before after i changed →
     work_left (cap_of g states width) (block_count g) new after + cond {A = ℕ} changed 1 0 < work_left (cap_of g states width) (block_count g) old before + cond {A = ℕ} true 1 0
 swept_less g f states subjects width old new bad before after i true h = more _ _ (h.less refl)
   where
     more : (a b : ℕ) → a < b → a + 1 < b + 1
     more a b lt = omega arith
-swept_less g f states subjects width old new bad before after i false h = same _ _ (ap (λ r. work_left (cap_of g states width) (block_count g) r after) (h.rows_same refl) ∙ ap (work_left (cap_of g states width) (block_count g) old) (h.dirty_same refl))
+swept_less g f states subjects width old new bad before after i false h =
+    same _ _ (ap (λ r. work_left (cap_of g states width) (block_count g) r after) (h.rows_same refl) ∙ ap (work_left (cap_of g states width) (block_count g) old) (h.dirty_same refl))
   where
     same : (a b : ℕ) → a ≡ b → a + 0 < b + 1
     same a b e = omega arith

@@ -1,4 +1,5 @@
-use Rattle.std.proofs.Common.{◌≡◌, ◌≢◌, ℕ, suc, ◌+◌, ◌*◌, ◌<◌, ◌≤◌, List, [], ◌∷◌, ◌++◌, length, get_or, set, replicate, take, refl, sym, ap, ap₂, ◌∙◌, subst, arith, ◌⊎◌, inl, inr, Option, Some, None, Bool, true, false}
+use Rattle.std.proofs.Common.{◌≡◌, ◌≢◌, ℕ, suc, ◌+◌, ◌*◌, ◌<◌, ◌≤◌, List, [], ◌∷◌, ◌++◌, length, get_or, set, replicate, take}
+use Rattle.std.proofs.Common.{refl, sym, ap, ap₂, ◌∙◌, subst, arith, ◌⊎◌, inl, inr, Option, Some, None, Bool, true, false}
 use Rattle.std.specs.Prelude.{IfSome}
 use Rattle.std.specs.List.{slice_get}
 use Rattle.std.proofs.lemmas.List.{append-nil, append_assoc, take_at, get_or_read}
@@ -82,13 +83,21 @@ module _ (g : Flow ℕ) (f : ℕ → ℕ → Step) (q : List Visit) (at : ℕ) (
     edge_seen states seen best block t place r front block_is goes lb lt place_is read is_true =
         let size : length seen ≡ block_count g * states = front.size in
         let within : place < length seen = omega (arith, mul-add-lt block states t (block_count g) lb lt) in
-        let mark : get_or seen (edge_to g e * states + t) false ≡ true = ap (λ k. get_or seen k false) (ap (λ b. b * states + t) (sym block_is) ∙ sym place_is) ∙ sym (get_or_read seen place r within read false) ∙ is_true in
+        let mark : get_or seen (edge_to g e * states + t) false ≡ true =
+        ap (λ k. get_or seen k false) (ap (λ b. b * states + t) (sym block_is) ∙ sym place_is) ∙ sym (get_or_read seen place r within read false) ∙ is_true in
         edge_marked states seen best t front goes (omega arith) lt mark
 
     pub edge_pushed : (best : Option Fault) (q2 : List Visit) (block t : ℕ) → block ≡ edge_to g e → f m (edge_item g e) ≡ Go t →
         q2 ≡ q ++ record { block = block; state = t; parent = at; edge = e; depth = v.depth + 1 } ∷ [] → EdgeDone g f q2 best v e
     edge_pushed best q2 block t block_is goes q2_is =
-        edge_goes best q2 t goes (record { at = length q; visit = record { block = block; state = t; parent = at; edge = e; depth = v.depth + 1 }; there = ap (λ z. slice_get z (length q)) q2_is ∙ last_get q _; block_is = block_is; state_is = refl; near = omega arith })
+        edge_goes best q2 t goes (record {
+          at = length q;
+          visit = record { block = block; state = t; parent = at; edge = e; depth = v.depth + 1 };
+          there = ap (λ z. slice_get z (length q)) q2_is ∙ last_get q _;
+          block_is = block_is;
+          state_is = refl;
+          near = omega arith;
+        })
 
     pub front_pushed : (states : ℕ) (seen : List Bool) (best : Option Fault) (q2 : List Visit) (block t place : ℕ) → IsFront g f states q seen best at →
         block ≡ edge_to g e → f m (edge_item g e) ≡ Go t → block < block_count g → t < states → place ≡ block * states + t → get_or seen place false ≡ false →
@@ -142,7 +151,8 @@ done_more g f old new v n grows before here j lt = at (cases_eq j n)
   where
     at : (j ≡ n) ⊎ (j ≢ n) → EdgeDone g f new.queue.items new.best v (edge_id v.block j)
     at (inl e) = subst (λ k. EdgeDone g f new.queue.items new.best v (edge_id v.block k)) (sym e) here
-    at (inr n) = subst (λ z. EdgeDone g f z new.best v (edge_id v.block j)) (sym grows.queue) (EdgeDone_more g f old.queue.items grows.more old.best new.best v (edge_id v.block j) grows.best (before j (omega arith)))
+    at (inr n) = subst (λ z. EdgeDone g f z new.best v (edge_id v.block j)) (sym grows.queue)
+        (EdgeDone_more g f old.queue.items grows.more old.best new.best v (edge_id v.block j) grows.best (before j (omega arith)))
 
 pub kept_there : (old new : Frontier) (at : ℕ) (v : Visit) → Grows old new → slice_get old.queue.items at ≡ Some v → slice_get new.queue.items at ≡ Some v
 kept_there old new at v grows there = ap (λ z. slice_get z at) grows.queue ∙ kept_get old.queue.items grows.more at v there

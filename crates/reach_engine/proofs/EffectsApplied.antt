@@ -19,7 +19,8 @@ add_none states width row words from first = record { size = refl; added = λ t 
 rows_apart : (s t width : ℕ) → s < t → s * width + width ≤ t * width
 rows_apart s t width lt = grind arith
 
-pub add_more : (states width : ℕ) (row words mask : List ℕ) (from : ℕ) (first rows next : List ℕ) (i start n : ℕ) → length row ≡ width → start ≡ from + i * width → width ≤ n → mask ≡ take n (drop start words) →
+pub add_more : (states width : ℕ) (row words mask : List ℕ) (from : ℕ) (first rows next : List ℕ) (i start n : ℕ) → length row ≡ width → start ≡ from + i * width → width ≤ n →
+    mask ≡ take n (drop start words) →
     Adding states width row words from first rows i → length next ≡ length rows →
     ((k : ℕ) → k < 64 * length row → bit_in next (64 * (i * width) + k) ≡ max (bit_in rows (64 * (i * width) + k)) (min (bit_in row k) (bit_in mask k))) →
     ((k : ℕ) → k < 64 * (i * width) → bit_in next k ≡ bit_in rows k) → ((k : ℕ) → 64 * (i * width + length row) ≤ k → bit_in next k ≡ bit_in rows k) →
@@ -48,17 +49,20 @@ add_more states width row words mask from first rows next i start n row_size sta
         ap (bit_in next) place ∙ inside v (omega (arith, row_size))
         ∙ ap₂ max (ap (bit_in rows) (sym place) ∙ h.rest i v (omega arith) lv) (ap (min (bit_in row v)) (mask_bit v lv))
 
-    added_at : (t v : ℕ) → t < i + 1 → v < 64 * width → (t ≡ i) ⊎ (t ≢ i) → bit_in next (cell width t v) ≡ max (bit_in first (cell width t v)) (min (bit_in row v) (bit_in words (64 * from + cell width t v)))
+    added_at : (t v : ℕ) → t < i + 1 → v < 64 * width → (t ≡ i) ⊎ (t ≢ i)
+        → bit_in next (cell width t v) ≡ max (bit_in first (cell width t v)) (min (bit_in row v) (bit_in words (64 * from + cell width t v)))
     added_at t v lt lv (inl e) = subst (λ k. bit_in next (cell width k v) ≡ max (bit_in first (cell width k v)) (min (bit_in row v) (bit_in words (64 * from + cell width k v)))) (sym e) (here v lv)
     added_at t v lt lv (inr ne) = other t v ne lv ∙ h.added t v (omega arith) lv
 
-pub bad_added : (states width : ℕ) (row words mask : List ℕ) (from : ℕ) (before after : List ℕ) (start n : ℕ) → length row ≡ width → start ≡ from + states * width → width ≤ n → mask ≡ take n (drop start words) →
+pub bad_added : (states width : ℕ) (row words mask : List ℕ) (from : ℕ) (before after : List ℕ) (start n : ℕ) → length row ≡ width → start ≡ from + states * width → width ≤ n →
+    mask ≡ take n (drop start words) →
     ((k : ℕ) → k < 64 * length row → bit_in after (64 * 0 + k) ≡ max (bit_in before (64 * 0 + k)) (min (bit_in row k) (bit_in mask k))) →
     BadAdded states width row words from before after
 bad_added states width row words mask from before after start n row_size start_is wide mask_is inside v lv =
     let place : 64 * start + v ≡ 64 * from + cell width states v = omega arith in
     let same : 64 * 0 + v ≡ v = omega arith in
-    ap (bit_in after) (sym same) ∙ inside v (omega (arith, row_size)) ∙ ap₂ max (ap (bit_in before) same) (ap (min (bit_in row v)) (ap (λ ws. bit_in ws v) mask_is ∙ bit_in_part words start n v (omega arith) ∙ ap (bit_in words) place))
+    ap (bit_in after) (sym same) ∙ inside v (omega (arith, row_size))
+    ∙ ap₂ max (ap (bit_in before) same) (ap (min (bit_in row v)) (ap (λ ws. bit_in ws v) mask_is ∙ bit_in_part words start n v (omega arith) ∙ ap (bit_in words) place))
 
 bit_below : (words : List ℕ) (k : ℕ) → bit_in words k < 2
 bit_below words k = bit_at-lt (get_or words (k / 64) 0) (k % 64)
@@ -94,12 +98,15 @@ apply_none states width words from old new before clear = record {
 -- one state more: its row of the bundle was added
 pub apply_more : (states width : ℕ) (words : List ℕ) (from : ℕ) (old row now new before bad after : List ℕ) (i place start n : ℕ) → i < states → place ≡ from + i * (effect_rows states * width) →
     start ≡ i * width → width ≤ n → row ≡ take n (drop start old) →
-    Applied states width words from old now before bad i → RowAdded width row words place states now new → BadAdded states width row words place bad after → ((v : ℕ) → 64 * width ≤ v → bit_in after v ≡ bit_in bad v) →
+    Applied states width words from old now before bad i → RowAdded width row words place states now new → BadAdded states width row words place bad after →
+    ((v : ℕ) → 64 * width ≤ v → bit_in after v ≡ bit_in bad v) →
     Applied states width words from old new before after (i + 1)
 apply_more states width words from old row now new before bad after i place start n li place_is start_is wide row_is h rows bads over = record {
-  goes_from = λ t v lt lv x. from_at t v lt lv (max_from (bit_in now (cell width t v)) (bit_in row v) (bit_in words (64 * place + cell width t v)) (bit_below now (cell width t v)) (bit_below row v) (bit_below words (64 * place + cell width t v)) (sym (rows t v lt lv) ∙ x));
+  goes_from = λ t v lt lv x. from_at t v lt lv (max_from (bit_in now (cell width t v)) (bit_in row v) (bit_in words (64 * place + cell width t v)) (bit_below now (cell width t v)) (bit_below row v)
+      (bit_below words (64 * place + cell width t v)) (sym (rows t v lt lv) ∙ x));
   goes_to = λ s t v ls lt lv x y. to_at s t v ls lt lv x y (cases_eq s i);
-  bad_from = λ v lv x. blame_at v lv (max_from (bit_in bad v) (bit_in row v) (bit_in words (64 * place + cell width states v)) (bit_below bad v) (bit_below row v) (bit_below words (64 * place + cell width states v)) (sym (bads v lv) ∙ x));
+  bad_from = λ v lv x. blame_at v lv (max_from (bit_in bad v) (bit_in row v) (bit_in words (64 * place + cell width states v)) (bit_below bad v) (bit_below row v)
+      (bit_below words (64 * place + cell width states v)) (sym (bads v lv) ∙ x));
   bad_kept = λ v lv x. bad_stays v lv (h.bad_kept v lv x);
   bad_to = λ s v ls lv x y. bad_at s v ls lv x y (cases_eq s i);
   above = λ v le. over v le ∙ h.above v le;
@@ -119,13 +126,15 @@ apply_more states width words from old row now new before bad after i place star
     from_at t v lt lv (inr x) = (i, (omega arith), sym (row_bit v lv) ∙ x.0, ap (bit_in words) (sym (word_at t v)) ∙ x.1)
 
     stays : (t v : ℕ) → t < states → v < 64 * width → Has now width t v → Has new width t v
-    stays t v lt lv x = rows t v lt lv ∙ max_kept (bit_in now (cell width t v)) (min (bit_in row v) (bit_in words (64 * place + cell width t v))) (bit_below now (cell width t v)) (min_below (bit_in row v) (bit_in words (64 * place + cell width t v)) (bit_below row v)) x
+    stays t v lt lv x = rows t v lt lv ∙ max_kept (bit_in now (cell width t v)) (min (bit_in row v) (bit_in words (64 * place + cell width t v))) (bit_below now (cell width t v))
+        (min_below (bit_in row v) (bit_in words (64 * place + cell width t v)) (bit_below row v)) x
 
     to_at : (s t v : ℕ) → s < i + 1 → t < states → v < 64 * width → Has old width s v → bit_in words (64 * from + cell width (s * effect_rows states + t) v) ≡ 1 → (s ≡ i) ⊎ (s ≢ i) → Has new width t v
     to_at s t v ls lt lv x y (inr ne) = stays t v lt lv (h.goes_to s t v (omega arith) lt lv x y)
     to_at s t v ls lt lv x y (inl e) =
         rows t v lt lv ∙ max_to (bit_in now (cell width t v)) (bit_in row v) (bit_in words (64 * place + cell width t v)) (bit_below now (cell width t v))
-        (row_bit v lv ∙ ap (λ k. bit_in old (cell width k v)) (sym e) ∙ x) (ap (bit_in words) (word_at t v) ∙ ap (λ k. bit_in words (64 * from + cell width (k * effect_rows states + t) v)) (sym e) ∙ y)
+        (row_bit v lv ∙ ap (λ k. bit_in old (cell width k v)) (sym e) ∙ x) (ap (bit_in words) (word_at t v)
+        ∙ ap (λ k. bit_in words (64 * from + cell width (k * effect_rows states + t) v)) (sym e) ∙ y)
 
     blame_at : (v : ℕ) → v < 64 * width → (bit_in bad v ≡ 1) ⊎ ((bit_in row v ≡ 1) × (bit_in words (64 * place + cell width states v) ≡ 1)) →
         (bit_in before v ≡ 1) ⊎ ((s : ℕ) × (s < i + 1) × Has old width s v × (bit_in words (64 * from + cell width (s * effect_rows states + states) v) ≡ 1))
@@ -138,10 +147,12 @@ apply_more states width words from old row now new before bad after i place star
         sooner (inr p) = inr (p.0, (let l : p.0 < i = p.1 in omega arith), p.2, p.3)
 
     bad_stays : (v : ℕ) → v < 64 * width → bit_in bad v ≡ 1 → bit_in after v ≡ 1
-    bad_stays v lv x = bads v lv ∙ max_kept (bit_in bad v) (min (bit_in row v) (bit_in words (64 * place + cell width states v))) (bit_below bad v) (min_below (bit_in row v) (bit_in words (64 * place + cell width states v)) (bit_below row v)) x
+    bad_stays v lv x = bads v lv ∙ max_kept (bit_in bad v) (min (bit_in row v) (bit_in words (64 * place + cell width states v))) (bit_below bad v)
+        (min_below (bit_in row v) (bit_in words (64 * place + cell width states v)) (bit_below row v)) x
 
     bad_at : (s v : ℕ) → s < i + 1 → v < 64 * width → Has old width s v → bit_in words (64 * from + cell width (s * effect_rows states + states) v) ≡ 1 → (s ≡ i) ⊎ (s ≢ i) → bit_in after v ≡ 1
     bad_at s v ls lv x y (inr ne) = bad_stays v lv (h.bad_to s v (omega arith) lv x y)
     bad_at s v ls lv x y (inl e) =
         bads v lv ∙ max_to (bit_in bad v) (bit_in row v) (bit_in words (64 * place + cell width states v)) (bit_below bad v)
-        (row_bit v lv ∙ ap (λ k. bit_in old (cell width k v)) (sym e) ∙ x) (ap (bit_in words) (word_at states v) ∙ ap (λ k. bit_in words (64 * from + cell width (k * effect_rows states + states) v)) (sym e) ∙ y)
+        (row_bit v lv ∙ ap (λ k. bit_in old (cell width k v)) (sym e) ∙ x) (ap (bit_in words) (word_at states v)
+        ∙ ap (λ k. bit_in words (64 * from + cell width (k * effect_rows states + states) v)) (sym e) ∙ y)

@@ -51,7 +51,8 @@ pub effects_none : (g : Flow ℕ) (f : ℕ → ℕ → ℕ → Step) (states sub
 effects_none g f states subjects width words j lt = absurd (omega arith)
 
 -- one effect more
-pub effects_more : (g : Flow ℕ) (f : ℕ → ℕ → ℕ → Step) (states subjects width : ℕ) (old new items : List ℕ) (i : ℕ) → subjects ≤ 64 * width → length old ≡ i * (effect_rows states * width) → items ≡ items_at g (i / states) →
+pub effects_more : (g : Flow ℕ) (f : ℕ → ℕ → ℕ → Step) (states subjects width : ℕ) (old new items : List ℕ) (i : ℕ) → subjects ≤ 64 * width → length old ≡ i * (effect_rows states * width) →
+    items ≡ items_at g (i / states) →
     AreEffects g f states subjects width old i → EffectAdded f states subjects width (i % states) items old new → AreEffects g f states subjects width new (i + 1)
 effects_more g f states subjects width old new items i fits size items_are h added j lt = at (cases_eq j i)
   where
@@ -66,7 +67,8 @@ effects_more g f states subjects width old new items i fits size items_are h add
         ap₂ bit_in added.parts place ∙ bit_right old added.words (cell width (0 + t) v)
 
     at : (j ≡ i) ⊎ (j ≢ i) → IsEffect f states subjects width (j % states) (items_at g (j / states)) new (j * effect_rows states)
-    at (inr ne) = effect_moved f states subjects width (j % states) (items_at g (j / states)) old new (j * effect_rows states) (j * effect_rows states) fits (λ t v lr lv. kept j t v (omega arith) lr lv) (h j (omega arith))
+    at (inr ne) = effect_moved f states subjects width (j % states) (items_at g (j / states)) old new (j * effect_rows states) (j * effect_rows states) fits
+        (λ t v lr lv. kept j t v (omega arith) lr lv) (h j (omega arith))
     at (inl e) =
         subst (λ k. IsEffect f states subjects width (k % states) (items_at g (k / states)) new (k * effect_rows states)) (sym e)
         (subst (λ xs. IsEffect f states subjects width (i % states) xs new (i * effect_rows states)) items_are
@@ -89,7 +91,8 @@ pub record IsBasis (states width s : ℕ) (bundle : List ℕ) : Type 0 where
   pub only : (t v : ℕ) → v < 64 * width → Has bundle width t v → t ≡ s
 
 pub basis_set : (states width s : ℕ) (old new : List ℕ) → ((k : ℕ) → bit_in old k ≡ 0) →
-    ((k : ℕ) → k < 64 * width → bit_in new (64 * (s * width) + k) ≡ 1) → ((k : ℕ) → k < 64 * (s * width) → bit_in new k ≡ bit_in old k) → ((k : ℕ) → 64 * (s * width + width) ≤ k → bit_in new k ≡ bit_in old k) →
+    ((k : ℕ) → k < 64 * width → bit_in new (64 * (s * width) + k) ≡ 1) → ((k : ℕ) → k < 64 * (s * width) → bit_in new k ≡ bit_in old k) →
+    ((k : ℕ) → 64 * (s * width + width) ≤ k → bit_in new k ≡ bit_in old k) →
     IsBasis states width s new
 basis_set states width s old new clear inside below above = record {
   here = λ v lv. let place : cell width s v ≡ 64 * (s * width) + v = omega arith in ap (bit_in new) place ∙ inside v lv;
@@ -108,10 +111,14 @@ basis_set states width s old new clear inside below above = record {
 pub basis_moved : (f : ℕ → ℕ → ℕ → Step) (states subjects width s : ℕ) (items basis bundle before bad : List ℕ) → subjects ≤ 64 * width → s < states → length bundle ≡ states * width →
     IsBasis states width s basis → ((k : ℕ) → bit_in before k ≡ 0) → AllMoved f states subjects width items basis bundle before bad → IsEffect f states subjects width s items (bundle ++ bad) 0
 basis_moved f states subjects width s items basis bundle before bad fits ls size basis_is clear all = record {
-  goes = λ t u lt lu. (λ x. goes_at u lu t ((all.moved u lu).from t lt (sym (left t u lt (omega arith)) ∙ x)), λ y. left t u lt (omega arith) ∙ (all.moved u lu).to s t ls (basis_is.here u (omega arith)) y);
+  goes = λ t u lt lu.
+      (λ x. goes_at u lu t ((all.moved u lu).from t lt (sym (left t u lt (omega arith)) ∙ x)), λ y. left t u lt (omega arith) ∙ (all.moved u lu).to s t ls (basis_is.here u (omega arith)) y);
   stays = λ t u lu y. has_below states width u t bundle size ((all.moved u lu).to s t ls (basis_is.here u (omega arith)) y);
   breaks = λ u lu. (λ x. breaks_at u lu ((all.blamed u lu).from (sym (right u) ∙ x)), λ p. right u ∙ (all.blamed u lu).to s p.0 ls (basis_is.here u (omega arith)) p.1);
-  unused = λ t v lt le lv. (λ x. basis_is.only t v lv (sym (all.unused t v lt le lv) ∙ sym (left t v lt lv) ∙ x), λ e. left t v lt lv ∙ all.unused t v lt le lv ∙ subst (λ k. Has basis width k v) (sym e) (basis_is.here v lv));
+  unused = λ t v lt le lv. (
+    λ x. basis_is.only t v lv (sym (all.unused t v lt le lv) ∙ sym (left t v lt lv) ∙ x),
+    λ e. left t v lt lv ∙ all.unused t v lt le lv ∙ subst (λ k. Has basis width k v) (sym e) (basis_is.here v lv),
+  );
   innocent = λ v le lv x. zero_one (sym (all.unblamed v le ∙ clear v) ∙ sym (right v) ∙ x);
 }
   where
@@ -130,12 +137,14 @@ basis_moved f states subjects width s items basis bundle before bad fits ls size
     goes_at : (u : ℕ) → u < subjects → (t : ℕ) → (k : ℕ) × (k < states) × Has basis width k u × (run (f u) (Go k) items ≡ Go t) → run (f u) (Go s) items ≡ Go t
     goes_at u lu t p = let e : p.0 ≡ s = basis_is.only p.0 u (omega arith) p.2 in subst (λ k. run (f u) (Go k) items ≡ Go t) e p.3
 
-    breaks_at : (u : ℕ) → u < subjects → (bit_in before u ≡ 1) ⊎ ((k : ℕ) × (code : ℕ) × (k < states) × Has basis width k u × (run (f u) (Go k) items ≡ Bad code)) → (code : ℕ) × (run (f u) (Go s) items ≡ Bad code)
+    breaks_at : (u : ℕ) → u < subjects → (bit_in before u ≡ 1) ⊎ ((k : ℕ) × (code : ℕ) × (k < states) × Has basis width k u × (run (f u) (Go k) items ≡ Bad code))
+        → (code : ℕ) × (run (f u) (Go s) items ≡ Bad code)
     breaks_at u lu (inl x) = absurd (zero_one (sym (clear u) ∙ x))
     breaks_at u lu (inr p) = let e : p.0 ≡ s = basis_is.only p.0 u (omega arith) p.3 in (p.1, subst (λ k. run (f u) (Go k) items ≡ Bad p.1) e p.4)
 
 -- two parts added are one
-pub effect_added : (f : ℕ → ℕ → ℕ → Step) (states subjects width s : ℕ) (items old bundle bad mid new : List ℕ) → length bundle ≡ states * width → length bad ≡ width → mid ≡ old ++ bundle → new ≡ mid ++ bad →
+pub effect_added : (f : ℕ → ℕ → ℕ → Step) (states subjects width s : ℕ) (items old bundle bad mid new : List ℕ) → length bundle ≡ states * width → length bad ≡ width →
+    mid ≡ old ++ bundle → new ≡ mid ++ bad →
     IsEffect f states subjects width s items (bundle ++ bad) 0 → EffectAdded f states subjects width s items old new
 effect_added f states subjects width s items old bundle bad mid new size bad_size mid_is new_is effect = record {
   words = bundle ++ bad;
@@ -177,7 +186,8 @@ applied_moved f states subjects width items words from first old new before afte
         let e : t ≡ p.0 = ((effects p.0 p.1).unused t v lt le lv).0 (ap (bit_in words) (sym (place p.0 t v)) ∙ p.3) in
         subst (λ k. Has old width k v) (sym e) p.2
 
-    innocent_at : (v : ℕ) → subjects ≤ v → v < 64 * width → (bit_in before v ≡ 1) ⊎ ((s : ℕ) × (s < states) × Has old width s v × (bit_in words (64 * from + cell width (s * effect_rows states + states) v) ≡ 1)) → bit_in before v ≡ 1
+    innocent_at : (v : ℕ) → subjects ≤ v → v < 64 * width
+        → (bit_in before v ≡ 1) ⊎ ((s : ℕ) × (s < states) × Has old width s v × (bit_in words (64 * from + cell width (s * effect_rows states + states) v) ≡ 1)) → bit_in before v ≡ 1
     innocent_at v le lv (inl x) = x
     innocent_at v le lv (inr p) = absurd ((effects p.0 p.1).innocent v le lv (ap (bit_in words) (sym (place p.0 states v)) ∙ p.3))
 
@@ -203,17 +213,20 @@ pub effects_within : (b c n : ℕ) → b < c → b * n + n ≤ c * n
 effects_within b c n lt = grind arith
 
 -- a bundle that was moved by the effects of its block
-pub applied_block : (g : Flow ℕ) (f : ℕ → ℕ → ℕ → Step) (states subjects width b : ℕ) (words : List ℕ) (from n : ℕ) (old new before after : List ℕ) → subjects ≤ 64 * width → b < block_count g → n ≡ states →
+pub applied_block : (g : Flow ℕ) (f : ℕ → ℕ → ℕ → Step) (states subjects width b : ℕ) (words : List ℕ) (from n : ℕ) (old new before after : List ℕ) → subjects ≤ 64 * width →
+    b < block_count g → n ≡ states →
     AreKnown g f states subjects width words → length words ≢ 0 → from ≡ b * (n * ((n + 1) * width)) →
     Applied n width words from old new before after n → AllMoved f states subjects width (items_at g b) old new before after
 applied_block g f states subjects width b words from n old new before after fits lb n_is known some =
     subst (λ k. from ≡ b * (k * ((k + 1) * width)) → Applied k width words from old new before after k → AllMoved f states subjects width (items_at g b) old new before after) (sym n_is)
-    (λ from_is h. applied_moved f states subjects width (items_at g b) words from (b * states * effect_rows states) old new before after fits (from_is ∙ place) (block_effects g f states subjects width b words lb (known.are some)) h)
+    (λ from_is h. applied_moved f states subjects width (items_at g b) words from (b * states * effect_rows states) old new before after fits (from_is ∙ place)
+    (block_effects g f states subjects width b words lb (known.are some)) h)
   where
     place : b * (states * ((states + 1) * width)) ≡ b * states * effect_rows states * width
     place = omega arith
 
-pub effects_size : (f : ℕ → ℕ → ℕ → Step) (states subjects width s i : ℕ) (items old new : List ℕ) → length old ≡ i * (effect_rows states * width) → EffectAdded f states subjects width s items old new → length new ≡ (i + 1) * (effect_rows states * width)
+pub effects_size : (f : ℕ → ℕ → ℕ → Step) (states subjects width s i : ℕ) (items old new : List ℕ) → length old ≡ i * (effect_rows states * width) → EffectAdded f states subjects width s items old new
+    → length new ≡ (i + 1) * (effect_rows states * width)
 effects_size f states subjects width s i items old new size added =
     let long : length (old ++ added.words) ≡ length old + length added.words = length-append old added.words in
     let more : length added.words ≡ effect_rows states * width = added.size in
@@ -221,7 +234,8 @@ effects_size f states subjects width s i items old new size added =
     ap length added.parts ∙ long ∙ ap₂ (λ a b. a + b) size more ∙ next
 
 -- the same, where the number of states was read
-pub effect_read : (g : Flow ℕ) (f : ℕ → ℕ → ℕ → Step) (states subjects width n i : ℕ) (items old new : List ℕ) → n ≡ states → items ≡ items_at g (i / n) → EffectAdded f states subjects width (i % n) items old new →
+pub effect_read : (g : Flow ℕ) (f : ℕ → ℕ → ℕ → Step) (states subjects width n i : ℕ) (items old new : List ℕ) → n ≡ states → items ≡ items_at g (i / n) →
+    EffectAdded f states subjects width (i % n) items old new →
     (items ≡ items_at g (i / states)) × EffectAdded f states subjects width (i % states) items old new
 effect_read g f states subjects width n i items old new e items_are added =
     (items_are ∙ ap (λ k. items_at g (i / k)) e, subst (λ k. EffectAdded f states subjects width (i % k) items old new) e added)

@@ -1,4 +1,5 @@
-use Rattle.std.proofs.Common.{◌≡◌, ℕ, zero, suc, ◌+◌, ◌<◌, ◌≤◌, List, [], ◌∷◌, ◌++◌, length, take, refl, sym, ap, ap₂, ◌∙◌, subst, arith, inl, inr, Option, Some, Bool, true, append_assoc, length-append}
+use Rattle.std.proofs.Common.{◌≡◌, ℕ, zero, suc, ◌+◌, ◌<◌, ◌≤◌, List, [], ◌∷◌, ◌++◌, length, take, refl, sym, ap, ap₂}
+use Rattle.std.proofs.Common.{◌∙◌, subst, arith, inl, inr, Option, Some, Bool, true, append_assoc, length-append}
 use Rattle.std.specs.List.{slice_get}
 use Rattle.std.proofs.lemmas.Option.{same_Some, slice_get_within}
 use Rattle.sil_ast.specs.declared.place.EdgeId.{EdgeId}
@@ -46,8 +47,10 @@ pairs_done g f q best all b s n h =
     let near : h.visit.depth ≤ n = h.near in
     record {
       block = λ code r. Noted_more best code h.visit.depth n (omega arith) (d.block code (ap₂ (λ x y. run f (Go y) (items_at g x)) h.block_is h.state_is ∙ r));
-      goes = λ e is from t r. IsQueued_more q (edge_to g e) t (suc h.visit.depth) (suc n) (omega arith) ((d.edges e is (from ∙ sym h.block_is)).goes t (ap₂ (λ x y. run f (Go y) (items_at g x ++ edge_item g e ∷ [])) h.block_is h.state_is ∙ r));
-      breaks = λ e is from m code r b. Noted_more best code (suc h.visit.depth) (suc n) (omega arith) ((d.edges e is (from ∙ sym h.block_is)).breaks m code (ap₂ (λ x y. run f (Go y) (items_at g x)) h.block_is h.state_is ∙ r) b);
+      goes = λ e is from t r. IsQueued_more q (edge_to g e) t (suc h.visit.depth) (suc n) (omega arith)
+          ((d.edges e is (from ∙ sym h.block_is)).goes t (ap₂ (λ x y. run f (Go y) (items_at g x ++ edge_item g e ∷ [])) h.block_is h.state_is ∙ r));
+      breaks = λ e is from m code r b. Noted_more best code (suc h.visit.depth) (suc n) (omega arith)
+          ((d.edges e is (from ∙ sym h.block_is)).breaks m code (ap₂ (λ x y. run f (Go y) (items_at g x)) h.block_is h.state_is ∙ r) b);
     }
 
 -- what reaches first behind a visit does so from the one before, by its edge
@@ -61,7 +64,9 @@ before_edge g f u v w code item next h =
       count = h.count;
       before = (items_at g u.block ++ edge_item g v.edge ∷ []) ++ h.before;
       state = h.state;
-      parts = append_assoc (items_at g v.edge.block.0) (edge_item g v.edge ∷ passed g w) _ ∙ ap (λ b. items_at g b ++ edge_item g v.edge ∷ behind) next.from ∙ ap (λ y. items_at g u.block ++ edge_item g v.edge ∷ y) same ∙ edge_first (items_at g u.block) (h.before ++ item ∷ []) (edge_item g v.edge) ∙ sym (append_assoc (items_at g u.block ++ edge_item g v.edge ∷ []) h.before (item ∷ []));
+      parts = append_assoc (items_at g v.edge.block.0) (edge_item g v.edge ∷ passed g w) _ ∙ ap (λ b. items_at g b ++ edge_item g v.edge ∷ behind) next.from
+          ∙ ap (λ y. items_at g u.block ++ edge_item g v.edge ∷ y) same ∙ edge_first (items_at g u.block) (h.before ++ item ∷ []) (edge_item g v.edge)
+          ∙ sym (append_assoc (items_at g u.block ++ edge_item g v.edge ∷ []) h.before (item ∷ []));
       clean = run_join f (Go u.state) (items_at g u.block ++ edge_item g v.edge ∷ []) h.before v.state (Go h.state) next.runs h.clean;
       breaks = h.breaks;
     }
@@ -103,7 +108,8 @@ enters_next : (g : Flow ℕ) (f : ℕ → ℕ → Step) (u v : Visit) (w : List 
 enters_next g f u v w next h = record {
   walk = walk_push g 0 w v.edge h.walk next.is_edge (next.from ∙ sym h.to);
   to = end_push g 0 w v.edge ∙ next.to;
-  runs = ap (run f (Go 0)) (passed_push g w v.edge ∙ ap (λ b. passed g w ++ (items_at g b ++ edge_item g v.edge ∷ [])) next.from) ∙ run_join f (Go 0) (passed g w) (items_at g u.block ++ edge_item g v.edge ∷ []) u.state (Go v.state) h.runs next.runs;
+  runs = ap (run f (Go 0)) (passed_push g w v.edge ∙ ap (λ b. passed g w ++ (items_at g b ++ edge_item g v.edge ∷ [])) next.from)
+      ∙ run_join f (Go 0) (passed g w) (items_at g u.block ++ edge_item g v.edge ∷ []) u.state (Go v.state) h.runs next.runs;
 }
 
 module _ (g : Flow ℕ) (f : ℕ → ℕ → Step) (q : List Visit) (reached : (k : ℕ) (v : Visit) → slice_get q k ≡ Some v → IsReached g f q k v) where
@@ -150,7 +156,8 @@ module _ (g : Flow ℕ) (f : ℕ → ℕ → Step) (states : ℕ) (q : List Visi
       let is = root_is root.0 root.1 in
       let walk : IsWalkFrom g root.0.block w = subst (λ x. IsWalkFrom g x w) (sym is.block) h.walk in
       let runs : run f (Go root.0.state) (passed g w) ≡ Go s = ap (λ x. run f (Go x) (passed g w)) is.state ∙ h.runs in
-      let r = in_along g f (IsQueued q) (Noted best) (IsQueued_more q) (Noted_more best) (pairs_done g f q best (all_done le)) w root.0.block root.0.state root.0.depth s (root_queued root.0 root.1) walk runs in
+      let r = in_along g f (IsQueued q) (Noted best) (IsQueued_more q) (Noted_more best) (pairs_done g f q best (all_done le)) w root.0.block root.0.state root.0.depth s
+      (root_queued root.0 root.1) walk runs in
       let block : r.visit.block ≡ b = r.block_is ∙ ap (λ x. end_from g x w) is.block ∙ h.to in
       ap₂ (λ x y. mark_at seen states x y) (sym block) (sym r.state_is) ∙ front.marked r.at r.visit r.there
 
@@ -162,7 +169,8 @@ module _ (g : Flow ℕ) (f : ℕ → ℕ → Step) (states : ℕ) (q : List Visi
       let from : ReachesFrom g f root.0.block root.0.state w code item =
       subst (λ x. ReachesFrom g f x root.0.state w code item) (sym is.block) (subst (λ x. ReachesFrom g f 0 x w code item) (sym is.state) (ReachesFrom_entry g f w code item h)) in
       let flat : root.0.depth ≡ 0 = is.depth in
-      Noted_more best code (root.0.depth + length w) (length w) (omega arith) (known_along g f (IsQueued q) (Noted best) (IsQueued_more q) (Noted_more best) (pairs_done g f q best (all_done le)) w root.0.block root.0.state root.0.depth code item (root_queued root.0 root.1) from)
+      Noted_more best code (root.0.depth + length w) (length w) (omega arith) (known_along g f (IsQueued q) (Noted best) (IsQueued_more q) (Noted_more best) (pairs_done g f q best (all_done le)) w
+      root.0.block root.0.state root.0.depth code item (root_queued root.0 root.1) from)
 
   -- the walk to the fault's visit, and then its edge
   pub fault_walk : (b : Fault) → IsFault g f q b → (w : List EdgeId) → Climbs q 0 w b.visit →
@@ -174,5 +182,8 @@ module _ (g : Flow ℕ) (f : ℕ → ℕ → Step) (states : ℕ) (q : List Visi
       let depth : h.visit.depth ≡ root.0.depth + length w = r.1 in
       let flat : root.0.depth ≡ 0 = is.depth in
       let long : b.length ≡ h.visit.depth + length (edge_list b.edge) = h.length_is in
-      let parts : length (w ++ edge_list b.edge) ≡ length w + length (edge_list b.edge) = length-append w (edge_list b.edge) in
-      (ReachesFirst_entry g f (w ++ edge_list b.edge) b.code b.item (subst (λ x. ReachesFrom g f x 0 (w ++ edge_list b.edge) b.code b.item) is.block (subst (λ x. ReachesFrom g f root.0.block x (w ++ edge_list b.edge) b.code b.item) is.state r.0)), omega arith)
+      let parts : length (w ++ edge_list b.edge) ≡ length w + length (edge_list b.edge) = length-append w (edge_list b.edge) in (
+        ReachesFirst_entry g f (w ++ edge_list b.edge) b.code b.item
+            (subst (λ x. ReachesFrom g f x 0 (w ++ edge_list b.edge) b.code b.item) is.block (subst (λ x. ReachesFrom g f root.0.block x (w ++ edge_list b.edge) b.code b.item) is.state r.0)),
+        omega arith,
+      )

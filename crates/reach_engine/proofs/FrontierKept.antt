@@ -1,4 +1,5 @@
-use Rattle.std.proofs.Common.{◌≡◌, ◌≢◌, ℕ, zero, suc, ◌+◌, ◌*◌, ◌<◌, ◌≤◌, List, [], ◌∷◌, ◌++◌, length, get_or, set, replicate, refl, sym, ap, ap₂, ◌∙◌, subst, arith, ◌⊎◌, inl, inr, Option, Some, None, Bool, true, false, not, cond}
+use Rattle.std.proofs.Common.{◌≡◌, ◌≢◌, ℕ, zero, suc, ◌+◌, ◌*◌, ◌<◌, ◌≤◌, List, [], ◌∷◌, ◌++◌, length, get_or, set, replicate, refl}
+use Rattle.std.proofs.Common.{sym, ap, ap₂, ◌∙◌, subst, arith, ◌⊎◌, inl, inr, Option, Some, None, Bool, true, false, not, cond}
 use Rattle.std.specs.Prelude.{IfSome, count_by}
 use Rattle.std.specs.List.{slice_get}
 use Rattle.std.proofs.lemmas.Option.{same_Some, none-some, slice_get_within}
@@ -128,7 +129,8 @@ front_push g f states q seen best at v new front there next parent block_in stat
       state_in = each_pushed (λ k w. w.state < states) q new front.state_in state_in;
       shallow = each_pushed (λ k w. w.depth ≤ k) q new front.shallow (omega arith);
       sorted = λ i j u w le a b. each_pushed (λ k x. (i : ℕ) (u : Visit) → i ≤ k → slice_get (q ++ new ∷ []) i ≡ Some u → u.depth ≤ x.depth) q new
-          (λ k x h i u le c0. each_pushed (λ i u. i ≤ k → u.depth ≤ x.depth) q new (λ i u c le. front.sorted i k u x le c h) (λ le. absurd (let lt : k < length q = slice_get_within q k x h in omega arith)) i u c0 le)
+          (λ k x h i u le c0. each_pushed (λ i u. i ≤ k → u.depth ≤ x.depth) q new (λ i u c le. front.sorted i k u x le c h)
+          (λ le. absurd (let lt : k < length q = slice_get_within q k x h in omega arith)) i u c0 le)
           (λ i u le c0. each_pushed (λ i u. u.depth ≤ new.depth) q new (λ i u c. let n : u.depth ≤ suc v.depth = front.near i u v there c in omega arith) (omega arith) i u c0)
           j w b i u le a;
       near = λ j u w a b.
@@ -216,9 +218,11 @@ pub front_start : (g : Flow ℕ) (f : ℕ → ℕ → Step) (states : ℕ) (root
 front_start g f states root some_block some_state block state depth =
     let length_is : length (replicate (block_count g * states) false) ≡ block_count g * states = length-replicate (block_count g * states) false in
     let place : 0 * states + 0 < length (replicate (block_count g * states) false) = omega (arith, mul-add-lt 0 states 0 (block_count g) some_block some_state) in
-    let same_length : length (set (replicate (block_count g * states) false) 0 true) ≡ length (replicate (block_count g * states) false) = length-set (replicate (block_count g * states) false) 0 true in
+    let same_length : length (set (replicate (block_count g * states) false) 0 true) ≡ length (replicate (block_count g * states) false) =
+    length-set (replicate (block_count g * states) false) 0 true in
     let clear : get_or (replicate (block_count g * states) false) 0 false ≡ false = get_or-replicate (block_count g * states) 0 false false (omega arith) in
-    let fewer : suc (count_by not (set (replicate (block_count g * states) false) 0 true)) ≡ count_by not (replicate (block_count g * states) false) = count_set (replicate (block_count g * states) false) 0 (omega arith) clear in
+    let fewer : suc (count_by not (set (replicate (block_count g * states) false) 0 true)) ≡ count_by not (replicate (block_count g * states) false) =
+    count_set (replicate (block_count g * states) false) 0 (omega arith) clear in
     let none : count_by not (replicate (block_count g * states) false) ≡ block_count g * states = count_none (block_count g * states) in
     record {
       reached = λ k v h. inl (at_root k v h);
@@ -244,12 +248,14 @@ front_start g f states root some_block some_state block state depth =
     zero_place = omega arith
 
     first_mark : 0 * states + 0 < length (replicate (block_count g * states) false) → mark_at (set (replicate (block_count g * states) false) 0 true) states 0 0 ≡ true
-    first_mark lt = ap (λ k. get_or (set (replicate (block_count g * states) false) 0 true) k false) zero_place ∙ get_or-set_same (replicate (block_count g * states) false) 0 true false (subst (λ k. k < length (replicate (block_count g * states) false)) zero_place lt)
+    first_mark lt = ap (λ k. get_or (set (replicate (block_count g * states) false) 0 true) k false) zero_place
+        ∙ get_or-set_same (replicate (block_count g * states) false) 0 true false (subst (λ k. k < length (replicate (block_count g * states) false)) zero_place lt)
 
     root_queued : (b s : ℕ) → (b ≡ 0) × (s ≡ 0) → (n : ℕ) × IsQueued (root ∷ []) b s n
     root_queued b s e = (root.depth, record { at = 0; visit = root; there = refl; block_is = block ∙ sym e.0; state_is = state ∙ sym e.1; near = omega arith })
 
-    first_or_none : (b s : ℕ) → s < states → mark_at (set (replicate (block_count g * states) false) 0 true) states b s ≡ true → (b * states + s ≡ 0) ⊎ (b * states + s ≢ 0) → (n : ℕ) × IsQueued (root ∷ []) b s n
+    first_or_none : (b s : ℕ) → s < states → mark_at (set (replicate (block_count g * states) false) 0 true) states b s ≡ true → (b * states + s ≡ 0) ⊎ (b * states + s ≢ 0)
+        → (n : ℕ) × IsQueued (root ∷ []) b s n
     first_or_none b s ls h (inl e) = root_queued b s (same_from_place b s 0 0 states ls some_state (e ∙ sym zero_place))
     first_or_none b s ls h (inr n) = absurd (no_mark (block_count g * states) (b * states + s) (sym (get_or-set_other (replicate (block_count g * states) false) 0 (b * states + s) true false n) ∙ h))
 

@@ -29,7 +29,8 @@ edge_is_sound g sound e is =
     let long : length (map (λ (x : EdgeFlow). x.target) edges) ≡ length edges = simp length-map in
     let within : e.index < length edges = omega arith in
     let there : slice_get edges e.index ≡ Some (get_or edges e.index no_edge) = slice_get-get_or edges e.index no_edge within in
-    subst (λ (o : Option EdgeFlow). IsEdgeSound g (unwrap_or o no_edge)) (sym there) (all_get (IsEdgeSound g) edges e.index (get_or edges e.index no_edge) (block_is_sound g sound e.block.0).edges there)
+    subst (λ (o : Option EdgeFlow). IsEdgeSound g (unwrap_or o no_edge)) (sym there)
+    (all_get (IsEdgeSound g) edges e.index (get_or edges e.index no_edge) (block_is_sound g sound e.block.0).edges there)
 
 -- an edge goes to a block of the graph
 pub edge_target : (g : Layout) → IsSound g → (e : EdgeId) → IsEdge (numbered g) e → edge_to (numbered g) e < block_count (numbered g)
@@ -38,7 +39,8 @@ edge_target g sound e is =
     let long : length (map (λ (x : EdgeFlow). x.target) edges) ≡ length edges = simp length-map in
     let within : e.index < length edges = omega arith in
     let there : slice_get edges e.index ≡ Some (get_or edges e.index no_edge) = slice_get-get_or edges e.index no_edge within in
-    let target : edge_to (numbered g) e ≡ (get_or edges e.index no_edge).target = ap (λ (o : Option ℕ). unwrap_or o 0) (slice_get-map (λ (x : EdgeFlow). x.target) edges e.index ∙ ap (option_map (λ (x : EdgeFlow). x.target)) there) in
+    let target : edge_to (numbered g) e ≡ (get_or edges e.index no_edge).target =
+    ap (λ (o : Option ℕ). unwrap_or o 0) (slice_get-map (λ (x : EdgeFlow). x.target) edges e.index ∙ ap (option_map (λ (x : EdgeFlow). x.target)) there) in
     let below = all_get (IsEdgeSound g) edges e.index (get_or edges e.index no_edge) (block_is_sound g sound e.block.0).edges there in
     subst (λ n. n < block_count (numbered g)) (sym target) below.0
 
@@ -53,7 +55,8 @@ passed_below g sound b (e ∷ w) h =
 
 pub trail_below : (g : Layout) → IsSound g → (w : List EdgeId) (trail : List ℕ) → IsTrail (numbered g) w trail → All (λ i. i < item_count g) trail
 trail_below g sound w trail h = subst (λ (v : List ℕ). All (λ i. i < item_count g) v) (sym h.items)
-    (All-append (λ i. i < item_count g) (passed (numbered g) w) _ (passed_below g sound 0 w h.walk) (All-take (λ i. i < item_count g) h.count (items_at (numbered g) (end_from (numbered g) 0 w)) (items_below g sound (end_from (numbered g) 0 w))))
+    (All-append (λ i. i < item_count g) (passed (numbered g) w) _ (passed_below g sound 0 w h.walk)
+    (All-take (λ i. i < item_count g) h.count (items_at (numbered g) (end_from (numbered g) 0 w)) (items_below g sound (end_from (numbered g) 0 w))))
 
 pub last_below : (g : Layout) → IsSound g → (w : List EdgeId) (before : List ℕ) (i : ℕ) → IsTrail (numbered g) w (before ++ i ∷ []) → i < item_count g
 last_below g sound w before i h = all_get (λ j. j < item_count g) (before ++ i ∷ []) (length before) i (trail_below g sound w (before ++ i ∷ []) h) (last_get before i)

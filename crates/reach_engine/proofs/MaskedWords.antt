@@ -16,7 +16,8 @@ pub record Writing (first words : List ℕ) (offset i : ℕ) (new_at : ℕ → �
 pub write_none : (first : List ℕ) (offset : ℕ) (new_at : ℕ → ℕ) → Writing first first offset 0 new_at
 write_none first offset new_at = record { size = refl; done = λ j l. absurd (omega arith); below = λ j l. refl; above = λ j l. refl }
 
-pub write_more : (first words : List ℕ) (offset i word : ℕ) (new_at : ℕ → ℕ) → Writing first words offset i new_at → offset + i < length words → word ≡ new_at i → Writing first (set words (offset + i) word) offset (i + 1) new_at
+pub write_more : (first words : List ℕ) (offset i word : ℕ) (new_at : ℕ → ℕ) → Writing first words offset i new_at → offset + i < length words → word ≡ new_at i
+    → Writing first (set words (offset + i) word) offset (i + 1) new_at
 write_more first words offset i word new_at h lt word_is = record {
   size = length-set words (offset + i) word ∙ h.size;
   done = λ j l. done_at j l (cases_eq j i);

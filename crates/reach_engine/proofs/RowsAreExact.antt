@@ -48,14 +48,16 @@ so_far_first g f states subjects width rows bad fits size bad_size set rest clea
     both_zero zero s e ls = (refl, omega arith)
     both_zero (suc b) s e ls = absurd (let big : states ≤ suc b * states = grind arith in omega arith)
 
-    at : (b s u : ℕ) → s < states → u < subjects → RowHas rows states width b s u → (cell width (b * states + s) u < subjects) ⊎ (subjects ≤ cell width (b * states + s) u) → (w : List EdgeId) × Enters g (f u) w b s
+    at : (b s u : ℕ) → s < states → u < subjects → RowHas rows states width b s u → (cell width (b * states + s) u < subjects) ⊎ (subjects ≤ cell width (b * states + s) u)
+        → (w : List EdgeId) × Enters g (f u) w b s
     at b s u ls lu x (inr le) = absurd (zero_one (sym (rest (cell width (b * states + s) u) le) ∙ x))
     at b s u ls lu x (inl lt) =
         let e : b * states + s ≡ 0 = row_zero (b * states + s) u lt in
         let zeros = both_zero b s e ls in
         ([], record { walk = tt; to = sym zeros.0; runs = ap Go (sym zeros.1) })
 
-module _ (g : Flow ℕ) (f : ℕ → ℕ → ℕ → Step) (states subjects width : ℕ) (rows bad : List ℕ) (some_block : 0 < block_count g) (target : (e : EdgeId) → IsEdge g e → edge_to g e < block_count g) (some_state : 0 < states) (fits : subjects ≤ 64 * width) (h : IsClosed g f states subjects width rows bad) where
+module _ (g : Flow ℕ) (f : ℕ → ℕ → ℕ → Step) (states subjects width : ℕ) (rows bad : List ℕ) (some_block : 0 < block_count g) (target : (e : EdgeId) → IsEdge g e → edge_to g e < block_count g)
+    (some_state : 0 < states) (fits : subjects ≤ 64 * width) (h : IsClosed g f states subjects width rows bad) where
   pairs : (u : ℕ) → u < subjects → (b s n : ℕ) → (b < block_count g) × (s < states) × RowHas rows states width b s u →
       PairDone g (f u) (λ b s n. (b < block_count g) × (s < states) × RowHas rows states width b s u) (λ code n. bit_in bad u ≡ 1) b s n
   pairs u lu b s n x = record {

@@ -15,11 +15,13 @@ use Rattle.reach_engine.specs.inner.Bits.{bit_in}
 use Rattle.reach_engine.specs.inner.Reached.{RowHas, Gains, BreaksIn, BlockTaken, IsSoFar, IsBlockDone}
 
 -- one edge more
-pub enters_edge : (g : Flow ℕ) (f : ℕ → ℕ → Step) (w : List EdgeId) (e : EdgeId) (b s t : ℕ) → Enters g f w b s → IsEdge g e → e.block.0 ≡ b → run f (Go s) (items_at g b ++ edge_item g e ∷ []) ≡ Go t → Enters g f (w ++ e ∷ []) (edge_to g e) t
+pub enters_edge : (g : Flow ℕ) (f : ℕ → ℕ → Step) (w : List EdgeId) (e : EdgeId) (b s t : ℕ) → Enters g f w b s → IsEdge g e → e.block.0 ≡ b → run f (Go s) (items_at g b ++ edge_item g e ∷ []) ≡ Go t
+    → Enters g f (w ++ e ∷ []) (edge_to g e) t
 enters_edge g f w e b s t h is from runs = record {
   walk = walk_push g 0 w e h.walk is (from ∙ sym h.to);
   to = end_push g 0 w e;
-  runs = ap (run f (Go 0)) (passed_push g w e ∙ ap (λ x. passed g w ++ (items_at g x ++ edge_item g e ∷ [])) from) ∙ run_join f (Go 0) (passed g w) (items_at g b ++ edge_item g e ∷ []) s (Go t) h.runs runs;
+  runs = ap (run f (Go 0)) (passed_push g w e ∙ ap (λ x. passed g w ++ (items_at g x ++ edge_item g e ∷ [])) from)
+      ∙ run_join f (Go 0) (passed g w) (items_at g b ++ edge_item g e ∷ []) s (Go t) h.runs runs;
 }
 
 -- a bad item in the block that the walk enters
@@ -34,7 +36,8 @@ reaches_block g f w b s code h bad =
           walk = h.walk;
           begun = some_pushed (passed g w ++ r.front) r.here;
           count = length (r.front ++ r.here ∷ []);
-          items = append_assoc (passed g w) r.front (r.here ∷ []) ∙ ap (λ v. passed g w ++ v) (sym (ap (λ x. take (length (r.front ++ r.here ∷ [])) (items_at g x)) h.to ∙ ap (take (length (r.front ++ r.here ∷ []))) (r.parts ∙ sym (append_assoc r.front (r.here ∷ []) r.rest)) ∙ take_at (r.front ++ r.here ∷ []) r.rest (length (r.front ++ r.here ∷ [])) refl));
+          items = append_assoc (passed g w) r.front (r.here ∷ []) ∙ ap (λ v. passed g w ++ v) (sym (ap (λ x. take (length (r.front ++ r.here ∷ [])) (items_at g x)) h.to ∙ ap
+              (take (length (r.front ++ r.here ∷ []))) (r.parts ∙ sym (append_assoc r.front (r.here ∷ []) r.rest)) ∙ take_at (r.front ++ r.here ∷ []) r.rest (length (r.front ++ r.here ∷ [])) refl));
         };
         clean = run_join f (Go 0) (passed g w) r.front s (Go r.state) h.runs r.clean;
         breaks = r.breaks;
@@ -42,7 +45,8 @@ reaches_block g f w b s code h bad =
     )
 
 -- a bad edge behind it
-pub reaches_edge : (g : Flow ℕ) (f : ℕ → ℕ → Step) (w : List EdgeId) (e : EdgeId) (b s m code : ℕ) → Enters g f w b s → IsEdge g e → e.block.0 ≡ b → run f (Go s) (items_at g b) ≡ Go m → f m (edge_item g e) ≡ Bad code →
+pub reaches_edge : (g : Flow ℕ) (f : ℕ → ℕ → Step) (w : List EdgeId) (e : EdgeId) (b s m code : ℕ) → Enters g f w b s → IsEdge g e → e.block.0 ≡ b → run f (Go s) (items_at g b) ≡ Go m →
+    f m (edge_item g e) ≡ Bad code →
     ReachesFirst g f (w ++ e ∷ []) code (edge_item g e)
 reaches_edge g f w e b s m code h is from runs bad = record {
   before = passed g w ++ items_at g b;
@@ -51,7 +55,8 @@ reaches_edge g f w e b s m code h is from runs bad = record {
     walk = walk_push g 0 w e h.walk is (from ∙ sym h.to);
     begun = some_pushed (passed g w ++ items_at g b) (edge_item g e);
     count = 0;
-    items = append_assoc (passed g w) (items_at g b) (edge_item g e ∷ []) ∙ ap (λ x. passed g w ++ (items_at g x ++ edge_item g e ∷ [])) (sym from) ∙ sym (passed_push g w e) ∙ sym (append-nil (passed g (w ++ e ∷ [])));
+    items = append_assoc (passed g w) (items_at g b) (edge_item g e ∷ []) ∙ ap (λ x. passed g w ++ (items_at g x ++ edge_item g e ∷ [])) (sym from) ∙ sym (passed_push g w e)
+        ∙ sym (append-nil (passed g (w ++ e ∷ [])));
   };
   clean = run_join f (Go 0) (passed g w) (items_at g b) s (Go m) h.runs runs;
   breaks = bad;
@@ -66,11 +71,13 @@ done_more g f states subjects width first old now new bad after b back up kept h
   breaks = λ e s m code u is from ls lu x r y. kept u lu (h.breaks e s m code u is from ls lu (back _ x) r y);
 }
 
-block_done : (g : Flow ℕ) (f : ℕ → ℕ → ℕ → Step) (states subjects width b : ℕ) (old new before after : List ℕ) (is_new : Bool) → BlockTaken g f states subjects width b old new before after is_new → IsBlockDone g f states subjects width old new after b
+block_done : (g : Flow ℕ) (f : ℕ → ℕ → ℕ → Step) (states subjects width b : ℕ) (old new before after : List ℕ) (is_new : Bool) → BlockTaken g f states subjects width b old new before after is_new
+    → IsBlockDone g f states subjects width old new after b
 block_done g f states subjects width b old new before after is_new h = record { block = h.block; goes = h.goes; breaks = h.breaks }
 
 -- what a block adds is so
-pub so_far_more : (g : Flow ℕ) (f : ℕ → ℕ → ℕ → Step) (states subjects width b : ℕ) (old new before after : List ℕ) (is_new : Bool) → subjects ≤ 64 * width → length new ≡ length old → length after ≡ length before →
+pub so_far_more : (g : Flow ℕ) (f : ℕ → ℕ → ℕ → Step) (states subjects width b : ℕ) (old new before after : List ℕ) (is_new : Bool) → subjects ≤ 64 * width → length new ≡ length old →
+    length after ≡ length before →
     IsSoFar g f states subjects width old before → BlockTaken g f states subjects width b old new before after is_new → IsSoFar g f states subjects width new after
 so_far_more g f states subjects width b old new before after is_new fits size bad_size h t = record {
   size = size ∙ h.size;
@@ -92,7 +99,8 @@ so_far_more g f states subjects width b old new before after is_new fits size ba
     unused_at c s v ls le lv (inl x) = h.unused c s v ls le lv x
     unused_at c s v ls le lv (inr x) = h.unused b s v ls le lv x
 
-    breaks_at : (u from code : ℕ) (w : List EdgeId) → Enters g (f u) w b from → (run (f u) (Go from) (items_at g b) ≡ Bad code) ⊎ ((e : EdgeId) × IsEdge g e × (e.block.0 ≡ b) × (m : ℕ) × (run (f u) (Go from) (items_at g b) ≡ Go m) × (f u m (edge_item g e) ≡ Bad code)) →
+    breaks_at : (u from code : ℕ) (w : List EdgeId) → Enters g (f u) w b from →
+        (run (f u) (Go from) (items_at g b) ≡ Bad code) ⊎ ((e : EdgeId) × IsEdge g e × (e.block.0 ≡ b) × (m : ℕ) × (run (f u) (Go from) (items_at g b) ≡ Go m) × (f u m (edge_item g e) ≡ Bad code)) →
         (v : List EdgeId) × (other : ℕ) × (item : ℕ) × ReachesFirst g (f u) v other item
     breaks_at u from code w e (inl x) = let r = reaches_block g (f u) w b from code e x in (w, code, r.0, r.1)
     breaks_at u from code w e (inr x) = (w ++ x.0 ∷ [], code, edge_item g x.0, reaches_edge g (f u) w x.0 b from x.3 code e x.1 x.2 x.4 x.5)

@@ -1,4 +1,5 @@
-use Rattle.std.proofs.Common.{◌≡◌, ◌≢◌, ℕ, zero, suc, ◌+◌, ◌-◌, ◌*◌, ◌/◌, ◌%◌, ◌<◌, ◌≤◌, List, [], ◌∷◌, length, get_or, take, drop, max, sum, refl, sym, ap, ap₂, ◌∙◌, subst, arith, ◌⊎◌, inl, inr, Bool, true, false}
+use Rattle.std.proofs.Common.{◌≡◌, ◌≢◌, ℕ, zero, suc, ◌+◌, ◌-◌, ◌*◌, ◌/◌, ◌%◌, ◌<◌, ◌≤◌, List, [], ◌∷◌, length, get_or, take}
+use Rattle.std.proofs.Common.{drop, max, sum, refl, sym, ap, ap₂, ◌∙◌, subst, arith, ◌⊎◌, inl, inr, Bool, true, false}
 use Rattle.std.specs.Int.{bit_at}
 use Rattle.std.proofs.lemmas.Bool.{cases_eq, cases_lt}
 use Rattle.std.proofs.lemmas.List.{get_or-take, get_or-drop}
@@ -61,14 +62,16 @@ module _ (states width d : ℕ) (old bundle new : List ℕ) (size : length bundl
 
       at : (c < d) ⊎ (d ≤ c) → bit_in new (cell width (c * states + t) u) ≡ bit_in old (cell width (c * states + t) u)
       at (inl l) = let up : c * (states * width) + states * width ≤ d * (states * width) = blocks_apart c d (states * width) l in h.below (cell width (c * states + t) u) (omega (arith, place, within))
-      at (inr l) = let up : d * (states * width) + states * width ≤ c * (states * width) = blocks_apart d c (states * width) (omega arith) in h.above (cell width (c * states + t) u) (omega (arith, place, within, size))
+      at (inr l) = let up : d * (states * width) + states * width ≤ c * (states * width) = blocks_apart d c (states * width) (omega arith) in
+          h.above (cell width (c * states + t) u) (omega (arith, place, within, size))
 
   merged_from : (c t u : ℕ) → t < states → u < 64 * width → RowHas new states width c t u → RowHas old states width c t u ⊎ ((c ≡ d) × Has bundle width t u)
   merged_from c t u lt lu x = at (cases_eq c d)
     where
       at : (c ≡ d) ⊎ (c ≢ d) → RowHas old states width c t u ⊎ ((c ≡ d) × Has bundle width t u)
       at (inr n) = inl (sym (merged_there c t u n lt lu) ∙ x)
-      at (inl e) = two (max_one (bit_in old (cell width (d * states + t) u)) (bit_in bundle (cell width t u)) (bit_below old (cell width (d * states + t) u)) (bit_below bundle (cell width t u)) (sym (merged_here t u lt lu) ∙ ap (λ k. bit_in new (cell width (k * states + t) u)) (sym e) ∙ x))
+      at (inl e) = two (max_one (bit_in old (cell width (d * states + t) u)) (bit_in bundle (cell width t u)) (bit_below old (cell width (d * states + t) u)) (bit_below bundle (cell width t u))
+          (sym (merged_here t u lt lu) ∙ ap (λ k. bit_in new (cell width (k * states + t) u)) (sym e) ∙ x))
         where
           two : (bit_in old (cell width (d * states + t) u) ≡ 1) ⊎ (bit_in bundle (cell width t u) ≡ 1) → RowHas old states width c t u ⊎ ((c ≡ d) × Has bundle width t u)
           two (inl y) = inl (ap (λ k. bit_in old (cell width (k * states + t) u)) e ∙ y)
@@ -84,7 +87,8 @@ module _ (states width d : ℕ) (old bundle new : List ℕ) (size : length bundl
   merged_grows : (k : ℕ) → bit_in old k ≡ 1 → bit_in new k ≡ 1
   merged_grows k x = at (cases_lt k (64 * (d * (states * width)))) (cases_lt k (64 * (d * (states * width) + length bundle)))
     where
-      at : (k < 64 * (d * (states * width))) ⊎ (64 * (d * (states * width)) ≤ k) → (k < 64 * (d * (states * width) + length bundle)) ⊎ (64 * (d * (states * width) + length bundle) ≤ k) → bit_in new k ≡ 1
+      at : (k < 64 * (d * (states * width))) ⊎ (64 * (d * (states * width)) ≤ k) → (k < 64 * (d * (states * width) + length bundle)) ⊎ (64 * (d * (states * width) + length bundle) ≤ k)
+          → bit_in new k ≡ 1
       at (inl l) c = h.below k l ∙ x
       at (inr l) (inr m) = h.above k m ∙ x
       at (inr l) (inl m) =
@@ -106,20 +110,25 @@ edge_taken g f states subjects width e bundle moved old new before after offset 
   grows = merged_grows states width (edge_to g e) old moved new size merged;
   sound = λ c t u lt lu x. sound_at c t u lt lu (merged_from states width (edge_to g e) old moved new size merged c t u lt (omega arith) x);
   unused = λ c t v lt le lv x. unused_at c t v lt le lv (merged_from states width (edge_to g e) old moved new size merged c t v lt lv x);
-  goes = λ m t u lm lu x y. let there = (all.moved u lu).to m t lm x (ap (f u m) item_is ∙ y) in (has_below states width u t moved size there, merged_to states width (edge_to g e) old moved new size merged t u (has_below states width u t moved size there) (omega arith) there);
+  goes = λ m t u lm lu x y. let there = (all.moved u lu).to m t lm x (ap (f u m) item_is ∙ y) in
+      (has_below states width u t moved size there, merged_to states width (edge_to g e) old moved new size merged t u (has_below states width u t moved size there) (omega arith) there);
   blamed = λ u lu. subst (λ i. Blamed (f u) states width u (i ∷ []) bundle before after) item_is (all.blamed u lu);
   none = none;
   some = some;
 }
   where
     merged : Merged (states * width) (edge_to g e) old moved new
-    merged = subst (λ o. ((k : ℕ) → k < 64 * length moved → bit_in new (64 * o + k) ≡ max (bit_in old (64 * o + k)) (bit_in moved k)) → ((k : ℕ) → k < 64 * o → bit_in new k ≡ bit_in old k) → ((k : ℕ) → 64 * (o + length moved) ≤ k → bit_in new k ≡ bit_in old k) → Merged (states * width) (edge_to g e) old moved new) (sym offset_is) (λ a b c. record { inside = a; below = b; above = c }) inside below above
+    merged = subst (λ o. ((k : ℕ) → k < 64 * length moved → bit_in new (64 * o + k) ≡ max (bit_in old (64 * o + k)) (bit_in moved k)) → ((k : ℕ) → k < 64 * o → bit_in new k ≡ bit_in old k)
+        → ((k : ℕ) → 64 * (o + length moved) ≤ k → bit_in new k ≡ bit_in old k) → Merged (states * width) (edge_to g e) old moved new) (sym offset_is)
+        (λ a b c. record { inside = a; below = b; above = c }) inside below above
 
-    sound_at : (c t u : ℕ) → t < states → u < subjects → RowHas old states width c t u ⊎ ((c ≡ edge_to g e) × Has moved width t u) → RowHas old states width c t u ⊎ ((c ≡ edge_to g e) × ((m : ℕ) × (m < states) × Has bundle width m u × (f u m (edge_item g e) ≡ Go t)))
+    sound_at : (c t u : ℕ) → t < states → u < subjects → RowHas old states width c t u ⊎ ((c ≡ edge_to g e) × Has moved width t u)
+        → RowHas old states width c t u ⊎ ((c ≡ edge_to g e) × ((m : ℕ) × (m < states) × Has bundle width m u × (f u m (edge_item g e) ≡ Go t)))
     sound_at c t u lt lu (inl x) = inl x
     sound_at c t u lt lu (inr x) = let p = (all.moved u lu).from t lt x.1 in inr (x.0, (p.0, p.1, p.2, ap (f u p.0) (sym item_is) ∙ p.3))
 
-    unused_at : (c t v : ℕ) → t < states → subjects ≤ v → v < 64 * width → RowHas old states width c t v ⊎ ((c ≡ edge_to g e) × Has moved width t v) → RowHas old states width c t v ⊎ Has bundle width t v
+    unused_at : (c t v : ℕ) → t < states → subjects ≤ v → v < 64 * width → RowHas old states width c t v ⊎ ((c ≡ edge_to g e) × Has moved width t v)
+        → RowHas old states width c t v ⊎ Has bundle width t v
     unused_at c t v lt le lv (inl x) = inl x
     unused_at c t v lt le lv (inr x) = inr (sym (all.unused t v lt le lv) ∙ x.1)
 
@@ -165,8 +174,10 @@ edges_more g f states subjects width b bundle old now new before bad after i is_
     unused_at c t v lt le lv (inl x) = h.unused c t v lt le lv x
     unused_at c t v lt le lv (inr x) = inr x
 
-    goes_at : (j m t u : ℕ) → j < i + 1 → m < states → u < subjects → Has bundle width m u → f u m (edge_item g (edge_id b j)) ≡ Go t → (j ≡ i) ⊎ (j ≢ i) → (t < states) × RowHas new states width (edge_to g (edge_id b j)) t u
-    goes_at j m t u lj lm lu x y (inl q) = subst (λ k. (t < states) × RowHas new states width (edge_to g (edge_id b k)) t u) (sym q) (e.goes m t u lm lu x (ap (λ k. f u m (edge_item g (edge_id b k))) (sym q) ∙ y))
+    goes_at : (j m t u : ℕ) → j < i + 1 → m < states → u < subjects → Has bundle width m u → f u m (edge_item g (edge_id b j)) ≡ Go t → (j ≡ i) ⊎ (j ≢ i)
+        → (t < states) × RowHas new states width (edge_to g (edge_id b j)) t u
+    goes_at j m t u lj lm lu x y (inl q) =
+        subst (λ k. (t < states) × RowHas new states width (edge_to g (edge_id b k)) t u) (sym q) (e.goes m t u lm lu x (ap (λ k. f u m (edge_item g (edge_id b k))) (sym q) ∙ y))
     goes_at j m t u lj lm lu x y (inr n) = let p = h.goes j m t u (omega arith) lm lu x y in (p.0, e.grows _ p.1)
 
     blamed_at : (u : ℕ) → u < subjects → (bit_in bad u ≡ 1) ⊎ ((s : ℕ) × (code : ℕ) × (s < states) × Has bundle width s u × (run (f u) (Go s) (edge_item g edge ∷ []) ≡ Bad code)) →
@@ -236,35 +247,49 @@ block_taken g f states subjects width b part bundle old new before bad after ite
     in_bundle : (s m u : ℕ) → s < states → u < subjects → RowHas old states width b s u → run (f u) (Go s) (items_at g b) ≡ Go m → Has bundle width m u
     in_bundle s m u ls lu x r = (all.moved u lu).to s m ls (in_part s u ls (omega arith) x) (ap (run (f u) (Go s)) items_are ∙ r)
 
-    sound_at : (c t u : ℕ) → t < states → u < subjects → RowHas old states width c t u ⊎ ((e : EdgeId) × (m : ℕ) × IsEdge g e × (e.block.0 ≡ b) × (edge_to g e ≡ c) × (m < states) × Has bundle width m u × (f u m (edge_item g e) ≡ Go t)) →
+    sound_at : (c t u : ℕ) → t < states → u < subjects →
+        RowHas old states width c t u ⊎ ((e : EdgeId) × (m : ℕ) × IsEdge g e × (e.block.0 ≡ b) × (edge_to g e ≡ c) × (m < states) × Has bundle width m u × (f u m (edge_item g e) ≡ Go t)) →
         RowHas old states width c t u ⊎ Gains g (f u) states width b u old c t
     sound_at c t u lt lu (inl x) = inl x
     sound_at c t u lt lu (inr x) =
         let p = (all.moved u lu).from x.1 x.5 x.6 in
-        inr (record { edge = x.0; from = p.0; is_edge = x.2; leaves = x.3; to = x.4; within = p.1; there = from_part p.0 u p.1 (omega arith) p.2; runs = run_join (f u) (Go p.0) (items_at g b) (edge_item g x.0 ∷ []) x.1 (Go t) (ap (run (f u) (Go p.0)) (sym items_are) ∙ p.3) x.7 })
+        inr (record {
+          edge = x.0;
+          from = p.0;
+          is_edge = x.2;
+          leaves = x.3;
+          to = x.4;
+          within = p.1;
+          there = from_part p.0 u p.1 (omega arith) p.2;
+          runs = run_join (f u) (Go p.0) (items_at g b) (edge_item g x.0 ∷ []) x.1 (Go t) (ap (run (f u) (Go p.0)) (sym items_are) ∙ p.3) x.7;
+        })
 
     unused_at : (c t v : ℕ) → t < states → subjects ≤ v → v < 64 * width → RowHas old states width c t v ⊎ Has bundle width t v → RowHas old states width c t v ⊎ RowHas old states width b t v
     unused_at c t v lt le lv (inl x) = inl x
     unused_at c t v lt le lv (inr x) = inr (from_part t v lt lv (sym (all.unused t v lt le lv) ∙ x))
 
-    item_blame : (u : ℕ) → u < subjects → (bit_in before u ≡ 1) ⊎ ((s : ℕ) × (code : ℕ) × (s < states) × Has part width s u × (run (f u) (Go s) items ≡ Bad code)) → (bit_in before u ≡ 1) ⊎ BreaksIn g (f u) states width b u old
+    item_blame : (u : ℕ) → u < subjects → (bit_in before u ≡ 1) ⊎ ((s : ℕ) × (code : ℕ) × (s < states) × Has part width s u × (run (f u) (Go s) items ≡ Bad code))
+        → (bit_in before u ≡ 1) ⊎ BreaksIn g (f u) states width b u old
     item_blame u lu (inl x) = inl x
     item_blame u lu (inr x) = inr (record { from = x.0; code = x.1; within = x.2; there = from_part x.0 u x.2 (omega arith) x.3; runs = inl (ap (run (f u) (Go x.0)) (sym items_are) ∙ x.4) })
 
-    blamed_at : (u : ℕ) → u < subjects → (bit_in bad u ≡ 1) ⊎ ((e : EdgeId) × (m : ℕ) × (code : ℕ) × IsEdge g e × (e.block.0 ≡ b) × (m < states) × Has bundle width m u × (f u m (edge_item g e) ≡ Bad code)) → (bit_in before u ≡ 1) ⊎ BreaksIn g (f u) states width b u old
+    blamed_at : (u : ℕ) → u < subjects → (bit_in bad u ≡ 1) ⊎ ((e : EdgeId) × (m : ℕ) × (code : ℕ) × IsEdge g e × (e.block.0 ≡ b) × (m < states) × Has bundle width m u
+        × (f u m (edge_item g e) ≡ Bad code)) → (bit_in before u ≡ 1) ⊎ BreaksIn g (f u) states width b u old
     blamed_at u lu (inl x) = item_blame u lu ((all.blamed u lu).from x)
     blamed_at u lu (inr x) =
         let p = (all.moved u lu).from x.1 x.5 x.6 in
         inr (record { from = p.0; code = x.2; within = p.1; there = from_part p.0 u p.1 (omega arith) p.2; runs = inr (x.0, x.3, x.4, x.1, ap (run (f u) (Go p.0)) (sym items_are) ∙ p.3, x.7) })
 
-    goes_at : (e : EdgeId) (s t u : ℕ) → IsEdge g e → e.block.0 ≡ b → s < states → u < subjects → RowHas old states width b s u → (m : ℕ) × (run (f u) (Go s) (items_at g b) ≡ Go m) × (run (f u) (Go m) (edge_item g e ∷ []) ≡ Go t) → (t < states) × RowHas new states width (edge_to g e) t u
+    goes_at : (e : EdgeId) (s t u : ℕ) → IsEdge g e → e.block.0 ≡ b → s < states → u < subjects → RowHas old states width b s u
+        → (m : ℕ) × (run (f u) (Go s) (items_at g b) ≡ Go m) × (run (f u) (Go m) (edge_item g e ∷ []) ≡ Go t) → (t < states) × RowHas new states width (edge_to g e) t u
     goes_at e s t u is from ls lu x p =
         let there = in_bundle s p.0 u ls lu x p.1 in
         let index : e.index < edge_count g b = subst (λ k. e.index < edge_count g k) from is in
         subst (λ d. (t < states) × RowHas new states width (edge_to g d) t u) (sym (edge_of e from))
         (taken.goes e.index p.0 t u index (has_below states width u p.0 bundle size there) lu there (ap (λ d. f u p.0 (edge_item g d)) (sym (edge_of e from)) ∙ p.2))
 
-    breaks_at : (e : EdgeId) (s m code u : ℕ) → IsEdge g e → e.block.0 ≡ b → s < states → u < subjects → RowHas old states width b s u → run (f u) (Go s) (items_at g b) ≡ Go m → f u m (edge_item g e) ≡ Bad code → bit_in after u ≡ 1
+    breaks_at : (e : EdgeId) (s m code u : ℕ) → IsEdge g e → e.block.0 ≡ b → s < states → u < subjects → RowHas old states width b s u → run (f u) (Go s) (items_at g b) ≡ Go m
+        → f u m (edge_item g e) ≡ Bad code → bit_in after u ≡ 1
     breaks_at e s m code u is from ls lu x r y =
         let there = in_bundle s m u ls lu x r in
         let index : e.index < edge_count g b = subst (λ k. e.index < edge_count g k) from is in

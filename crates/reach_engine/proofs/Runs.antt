@@ -66,7 +66,8 @@ bad_at f s [] c h = absurd (go-bad s c h)
 bad_at f s (x ∷ xs) c h = at (f s x) refl (λ t e. bad_at f t xs c (ap (λ y. run f y xs) (sym e) ∙ h))
   where
     at : (r : Step) → f s x ≡ r → ((t : ℕ) → f s x ≡ Go t → BadAt f t xs c) → BadAt f s (x ∷ xs) c
-    at (Go t) e more = let r = more t e in record { front = x ∷ r.front; here = r.here; rest = r.rest; state = r.state; parts = ap (λ v. x ∷ v) r.parts; clean = ap (λ y. run f y r.front) e ∙ r.clean; breaks = r.breaks }
+    at (Go t) e more = let r = more t e in
+        record { front = x ∷ r.front; here = r.here; rest = r.rest; state = r.state; parts = ap (λ v. x ∷ v) r.parts; clean = ap (λ y. run f y r.front) e ∙ r.clean; breaks = r.breaks }
     at (Bad d) e more =
         let same : d ≡ c = same_Bad d c (sym (run_bad f d xs) ∙ ap (λ y. run f y xs) (sym e) ∙ h) in
         record { front = []; here = x; rest = xs; state = s; parts = refl; clean = refl; breaks = e ∙ ap Bad same }

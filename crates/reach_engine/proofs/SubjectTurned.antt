@@ -40,7 +40,8 @@ module _ (f : ℕ → ℕ → Step) (states width u item : ℕ) (lu : u < 64 * w
       zero_one h = omega arith
 
   -- row i doesn't have the subject
-  pub turn_skip : (first bundle before bad : List ℕ) (i : ℕ) → Turning f states width u item first bundle before bad i → (Has first width i u → ⊥) → Turning f states width u item first bundle before bad (i + 1)
+  pub turn_skip : (first bundle before bad : List ℕ) (i : ℕ) → Turning f states width u item first bundle before bad i → (Has first width i u → ⊥)
+      → Turning f states width u item first bundle before bad (i + 1)
   turn_skip first bundle before bad i h none = record {
     size = h.size;
     bad_size = h.bad_size;
@@ -57,7 +58,8 @@ module _ (f : ℕ → ℕ → Step) (states width u item : ℕ) (lu : u < 64 * w
       to_at s t ls x y (inl e) = absurd (none (subst (λ k. Has first width k u) e x))
       to_at s t ls x y (inr n) = h.to s t (omega arith) x y
 
-      bad_more : (bit_in before u ≡ 1) ⊎ ((s : ℕ) × (code : ℕ) × (s < i) × Has first width s u × (f s item ≡ Bad code)) → (bit_in before u ≡ 1) ⊎ ((s : ℕ) × (code : ℕ) × (s < i + 1) × Has first width s u × (f s item ≡ Bad code))
+      bad_more : (bit_in before u ≡ 1) ⊎ ((s : ℕ) × (code : ℕ) × (s < i) × Has first width s u × (f s item ≡ Bad code))
+          → (bit_in before u ≡ 1) ⊎ ((s : ℕ) × (code : ℕ) × (s < i + 1) × Has first width s u × (f s item ≡ Bad code))
       bad_more (inl e) = inl e
       bad_more (inr p) = inr (p.0, p.1, (let l : p.0 < i = p.2 in omega arith), p.3, p.4)
 
@@ -92,7 +94,8 @@ module _ (f : ℕ → ℕ → Step) (states width u item : ℕ) (lu : u < 64 * w
           to_at s x ls y z (inl c) (inr n) = absurd (n (same_Go x t (sym z ∙ ap (λ k. f k item) c ∙ e)))
           to_at s x ls y z (inr c) (inr n) = p.1 (cell width x u) (cell_apart width x t u u lu lu (λ q _. n q)) ∙ h.to s x (omega arith) y z
 
-          bad_more : (bit_in before u ≡ 1) ⊎ ((s : ℕ) × (code : ℕ) × (s < i) × Has first width s u × (f s item ≡ Bad code)) → (bit_in before u ≡ 1) ⊎ ((s : ℕ) × (code : ℕ) × (s < i + 1) × Has first width s u × (f s item ≡ Bad code))
+          bad_more : (bit_in before u ≡ 1) ⊎ ((s : ℕ) × (code : ℕ) × (s < i) × Has first width s u × (f s item ≡ Bad code))
+              → (bit_in before u ≡ 1) ⊎ ((s : ℕ) × (code : ℕ) × (s < i + 1) × Has first width s u × (f s item ≡ Bad code))
           bad_more (inl q) = inl q
           bad_more (inr o) = inr (o.0, o.1, (let l : o.0 < i = o.2 in omega arith), o.3, o.4)
 
@@ -122,13 +125,15 @@ module _ (f : ℕ → ℕ → Step) (states width u item : ℕ) (lu : u < 64 * w
     to = λ s t ls x y. h.to s t (omega arith) x y;
   }
 
-  pub turned_blamed : (first bundle before bad : List ℕ) (i : ℕ) → Turning f states width u item first bundle before bad i → i ≤ states → states ≤ i → Blamed f states width u (item ∷ []) first before bad
+  pub turned_blamed : (first bundle before bad : List ℕ) (i : ℕ) → Turning f states width u item first bundle before bad i → i ≤ states → states ≤ i
+      → Blamed f states width u (item ∷ []) first before bad
   turned_blamed first bundle before bad i h le ge = record {
     from = λ x. at (h.bad_from x);
     kept = h.bad_kept;
     to = λ s c ls x y. h.bad_to s c (omega arith) x y;
   }
     where
-      at : (bit_in before u ≡ 1) ⊎ ((s : ℕ) × (code : ℕ) × (s < i) × Has first width s u × (f s item ≡ Bad code)) → (bit_in before u ≡ 1) ⊎ ((s : ℕ) × (code : ℕ) × (s < states) × Has first width s u × (run f (Go s) (item ∷ []) ≡ Bad code))
+      at : (bit_in before u ≡ 1) ⊎ ((s : ℕ) × (code : ℕ) × (s < i) × Has first width s u × (f s item ≡ Bad code))
+          → (bit_in before u ≡ 1) ⊎ ((s : ℕ) × (code : ℕ) × (s < states) × Has first width s u × (run f (Go s) (item ∷ []) ≡ Bad code))
       at (inl e) = inl e
       at (inr o) = inr (o.0, o.1, (let l : o.0 < i = o.2 in omega arith), o.3, o.4)

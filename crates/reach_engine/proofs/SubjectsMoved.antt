@@ -71,11 +71,13 @@ Blamed_then f states width u xs ys old mid before bad after size m a b = record 
     Kept : Type 0
     Kept = (bit_in before u ≡ 1) ⊎ ((s : ℕ) × (code : ℕ) × (s < states) × Has old width s u × (run f (Go s) (xs ++ ys) ≡ Bad code))
 
-    sooner : (bit_in before u ≡ 1) ⊎ ((s : ℕ) × (code : ℕ) × (s < states) × Has old width s u × (run f (Go s) xs ≡ Bad code)) → (bit_in before u ≡ 1) ⊎ ((s : ℕ) × (code : ℕ) × (s < states) × Has old width s u × (run f (Go s) (xs ++ ys) ≡ Bad code))
+    sooner : (bit_in before u ≡ 1) ⊎ ((s : ℕ) × (code : ℕ) × (s < states) × Has old width s u × (run f (Go s) xs ≡ Bad code))
+        → (bit_in before u ≡ 1) ⊎ ((s : ℕ) × (code : ℕ) × (s < states) × Has old width s u × (run f (Go s) (xs ++ ys) ≡ Bad code))
     sooner (inl e) = inl e
     sooner (inr p) = inr (p.0, p.1, p.2, p.3, run_end_bad f (Go p.0) xs ys p.1 p.4)
 
-    later : (bit_in bad u ≡ 1) ⊎ ((s : ℕ) × (code : ℕ) × (s < states) × Has mid width s u × (run f (Go s) ys ≡ Bad code)) → (bit_in before u ≡ 1) ⊎ ((s : ℕ) × (code : ℕ) × (s < states) × Has old width s u × (run f (Go s) (xs ++ ys) ≡ Bad code))
+    later : (bit_in bad u ≡ 1) ⊎ ((s : ℕ) × (code : ℕ) × (s < states) × Has mid width s u × (run f (Go s) ys ≡ Bad code))
+        → (bit_in before u ≡ 1) ⊎ ((s : ℕ) × (code : ℕ) × (s < states) × Has old width s u × (run f (Go s) (xs ++ ys) ≡ Bad code))
     later (inl e) = sooner (a.from e)
     later (inr p) = let q = m.from p.0 p.2 p.3 in inr (q.0, p.1, q.1, q.2, run_join f (Go q.0) xs ys p.0 (Bad p.1) q.3 p.4)
 
@@ -93,20 +95,23 @@ AllMoved_then f states subjects width xs ys old mid new before bad after size a 
 }
 
 -- other items that take a subject to the same states move it in the same way
-pub Moved_as : (f g : ℕ → ℕ → Step) (states width u : ℕ) (xs ys old new : List ℕ) → ((s : ℕ) → s < states → run f (Go s) xs ≡ run g (Go s) ys) → Moved f states width u xs old new → Moved g states width u ys old new
+pub Moved_as : (f g : ℕ → ℕ → Step) (states width u : ℕ) (xs ys old new : List ℕ) → ((s : ℕ) → s < states → run f (Go s) xs ≡ run g (Go s) ys) → Moved f states width u xs old new
+    → Moved g states width u ys old new
 Moved_as f g states width u xs ys old new same h = record {
   from = λ t lt x. let p = h.from t lt x in (p.0, p.1, p.2, sym (same p.0 p.1) ∙ p.3);
   to = λ s t ls x y. h.to s t ls x (same s ls ∙ y);
 }
 
-pub Blamed_as : (f g : ℕ → ℕ → Step) (states width u : ℕ) (xs ys old before after : List ℕ) → ((s : ℕ) → s < states → run f (Go s) xs ≡ run g (Go s) ys) → Blamed f states width u xs old before after → Blamed g states width u ys old before after
+pub Blamed_as : (f g : ℕ → ℕ → Step) (states width u : ℕ) (xs ys old before after : List ℕ) → ((s : ℕ) → s < states → run f (Go s) xs ≡ run g (Go s) ys) → Blamed f states width u xs old before after
+    → Blamed g states width u ys old before after
 Blamed_as f g states width u xs ys old before after same h = record {
   from = λ x. at (h.from x);
   kept = h.kept;
   to = λ s c ls x y. h.to s c ls x (same s ls ∙ y);
 }
   where
-    at : (bit_in before u ≡ 1) ⊎ ((s : ℕ) × (code : ℕ) × (s < states) × Has old width s u × (run f (Go s) xs ≡ Bad code)) → (bit_in before u ≡ 1) ⊎ ((s : ℕ) × (code : ℕ) × (s < states) × Has old width s u × (run g (Go s) ys ≡ Bad code))
+    at : (bit_in before u ≡ 1) ⊎ ((s : ℕ) × (code : ℕ) × (s < states) × Has old width s u × (run f (Go s) xs ≡ Bad code))
+        → (bit_in before u ≡ 1) ⊎ ((s : ℕ) × (code : ℕ) × (s < states) × Has old width s u × (run g (Go s) ys ≡ Bad code))
     at (inl e) = inl e
     at (inr p) = inr (p.0, p.1, p.2, p.3, sym (same p.0 p.2) ∙ p.4)
 
@@ -132,7 +137,8 @@ pub find_in : (ts : List ℕ) (j u : ℕ) → ((i : ℕ) × (i < j) × (get_or t
 find_in ts zero u = inr (λ i lt. absurd (omega arith))
 find_in ts (suc j) u = at (find_in ts j u) (cases_eq (get_or ts j 0) u)
   where
-    at : ((i : ℕ) × (i < j) × (get_or ts i 0 ≡ u)) ⊎ ((i : ℕ) → i < j → get_or ts i 0 ≢ u) → (get_or ts j 0 ≡ u) ⊎ (get_or ts j 0 ≢ u) → ((i : ℕ) × (i < suc j) × (get_or ts i 0 ≡ u)) ⊎ ((i : ℕ) → i < suc j → get_or ts i 0 ≢ u)
+    at : ((i : ℕ) × (i < j) × (get_or ts i 0 ≡ u)) ⊎ ((i : ℕ) → i < j → get_or ts i 0 ≢ u) → (get_or ts j 0 ≡ u) ⊎ (get_or ts j 0 ≢ u)
+        → ((i : ℕ) × (i < suc j) × (get_or ts i 0 ≡ u)) ⊎ ((i : ℕ) → i < suc j → get_or ts i 0 ≢ u)
     at (inl p) c = inl (p.0, (let l : p.0 < j = p.1 in omega arith), p.2)
     at (inr n) (inl e) = inl (j, (omega arith), e)
     at (inr n) (inr m) = inr (λ i lt. pick i lt (cases_eq i j))
@@ -199,7 +205,8 @@ turned_more f states width item ts first now next before bad after j u u_is up l
     moved_at i l (inl e) = subst (λ k. Moved (f k) states width k (item ∷ []) first next) (u_is ∙ ap (λ k. get_or ts k 0) (sym e)) here
     moved_at i l (inr n) =
         let li : i < j = omega arith in
-        Moved_same (f (get_or ts i 0)) states width (get_or ts i 0) (item ∷ []) first now first next (λ s ls. refl) (λ s ls. others s (get_or ts i 0) ls (below i (omega arith)) (fresh i li)) h.size (h.moved i li)
+        Moved_same (f (get_or ts i 0)) states width (get_or ts i 0) (item ∷ []) first now first next (λ s ls. refl) (λ s ls. others s (get_or ts i 0) ls (below i (omega arith)) (fresh i li))
+        h.size (h.moved i li)
 
     blamed_at : (i : ℕ) → i < j + 1 → (i ≡ j) ⊎ (i ≢ j) → Blamed (f (get_or ts i 0)) states width (get_or ts i 0) (item ∷ []) first before after
     blamed_at i l (inl e) = subst (λ k. Blamed (f k) states width k (item ∷ []) first before after) (u_is ∙ ap (λ k. get_or ts k 0) (sym e)) here_blamed

@@ -54,7 +54,8 @@ pub fn merge(rows: &mut [u64], offset: usize, bundle: &[u64]) -> bool
 pub fn merge_masked(words: &mut [u64], offset: usize, source: &[u64], mask: &[u64])
     requires fits { offset + length source.now ≤ length words.old }
     requires size { length mask.now ≡ length source.now }
-    ensures inside { (k : ℕ) → k < 64 * length source.now → bit_in words.new (64 * offset + k) ≡ max (bit_in words.old (64 * offset + k)) (min (bit_in source.now k) (bit_in mask.now k)) }
+    ensures inside { (k : ℕ) → k < 64 * length source.now
+        → bit_in words.new (64 * offset + k) ≡ max (bit_in words.old (64 * offset + k)) (min (bit_in source.now k) (bit_in mask.now k)) }
     ensures below { (k : ℕ) → k < 64 * offset → bit_in words.new k ≡ bit_in words.old k }
     ensures above { (k : ℕ) → 64 * (offset + length source.now) ≤ k → bit_in words.new k ≡ bit_in words.old k }
 {

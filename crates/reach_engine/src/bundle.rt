@@ -95,7 +95,8 @@ pub fn turn_touched<F: Family>(
 )
     requires ascending { IsStrictlyIncreasing touched.now }
     requires below { All (λ u. u < F.subject_count family.now) touched.now }
-    requires others { (u s : ℕ) → u < F.subject_count family.now → s < F.state_count family.now → (Contains touched.now u → ⊥) → F.step_of family.now u s item ≡ Go s }
+    requires others { (u s : ℕ) → u < F.subject_count family.now → s < F.state_count family.now → (Contains touched.now u → ⊥)
+        → F.step_of family.now u s item ≡ Go s }
     requires fits { F.subject_count family.now ≤ 64 * width }
     requires width { width ≤ 16 }
     requires item { item < F.item_count family.now }

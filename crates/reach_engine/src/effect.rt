@@ -112,7 +112,8 @@ fn add_effect<F: MoveAll>(
     requires width { width ≤ 16 }
     requires items { All (λ i. i < F.item_count family.now) items.now }
     requires state { state < F.state_count family.now }
-    ensures { OnOk result (EffectAdded (F.step_of family.now) (F.state_count family.now) (F.subject_count family.now) width state items.now effects.old.items effects.new.items) }
+    ensures { OnOk result (EffectAdded (F.step_of family.now) (F.state_count family.now) (F.subject_count family.now)
+        width state items.now effects.old.items effects.new.items) }
 {
     let row = family.states() as usize * width;
     let mut bundle = vec![in alloc; 0u64; row]?;
@@ -194,7 +195,8 @@ fn apply_rows<F: MoveAll>(
     requires bad { length bad.old ≡ width }
     requires some { length effects.now ≢ 0 }
     requires effects { AreKnown (numbered g.now) (F.step_of family.now) (F.state_count family.now) (F.subject_count family.now) width effects.now }
-    ensures { AllMoved (F.step_of family.now) (F.state_count family.now) (F.subject_count family.now) width (items_at (numbered g.now) block.0) bundle.now rows.new bad.old bad.new }
+    ensures { AllMoved (F.step_of family.now) (F.state_count family.now) (F.subject_count family.now) width (items_at (numbered g.now) block.0)
+        bundle.now rows.new bad.old bad.new }
 {
     let states = family.states() as usize;
     let from = block.0 as usize * (states * ((states + 1) * width));
@@ -222,7 +224,8 @@ pub fn move_rows<F: MoveAll>(
     requires rows { length rows.old ≡ F.state_count family.now * width }
     requires bad { length bad.old ≡ width }
     requires effects { AreKnown (numbered g.now) (F.step_of family.now) (F.state_count family.now) (F.subject_count family.now) width effects.now }
-    ensures { AllMoved (F.step_of family.now) (F.state_count family.now) (F.subject_count family.now) width (items_at (numbered g.now) block.0) bundle.now rows.new bad.old bad.new }
+    ensures { AllMoved (F.step_of family.now) (F.state_count family.now) (F.subject_count family.now) width (items_at (numbered g.now) block.0)
+        bundle.now rows.new bad.old bad.new }
 {
     if effects.is_empty() {
         pass_rows(family, width, g.items_of(block), bundle, rows, bad);

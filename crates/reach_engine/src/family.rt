@@ -48,5 +48,6 @@ pub trait MoveAll: Family {
         requires item { item < Self.item_count self.now }
         requires size { length bundle.old ≡ Self.state_count self.now * width }
         requires bad { length bad.old ≡ width }
-        ensures { AllMoved (Self.step_of self.now) (Self.state_count self.now) (Self.subject_count self.now) width (item ∷ []) bundle.old bundle.new bad.old bad.new };
+        ensures { AllMoved (Self.step_of self.now) (Self.state_count self.now) (Self.subject_count self.now) width (item ∷ [])
+            bundle.old bundle.new bad.old bad.new };
 }

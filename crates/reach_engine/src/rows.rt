@@ -42,7 +42,8 @@ fn take_edge<F: MoveAll>(
     requires bundle { length bundle.old ≡ F.state_count family.now * width }
     requires rows { length rows.old ≡ block_count (numbered g.now) * (F.state_count family.now * width) }
     requires bad { length bad.old ≡ width }
-    ensures { EdgeTaken (numbered g.now) (F.step_of family.now) (F.state_count family.now) (F.subject_count family.now) width edge bundle.old rows.old rows.new bad.old bad.new result }
+    ensures { EdgeTaken (numbered g.now) (F.step_of family.now) (F.state_count family.now) (F.subject_count family.now)
+        width edge bundle.old rows.old rows.new bad.old bad.new result }
 {
     family.move_all(width, g.edge_item(edge), bundle, bad);
     let row = family.states() as usize * width;
@@ -74,7 +75,8 @@ fn take_block<F: MoveAll>(
     requires rows { length rows.old ≡ block_count (numbered g.now) * (F.state_count family.now * width) }
     requires bad { length bad.old ≡ width }
     requires dirty { length dirty.old ≡ block_count (numbered g.now) }
-    ensures taken { BlockTaken (numbered g.now) (F.step_of family.now) (F.state_count family.now) (F.subject_count family.now) width block.0 rows.old rows.new bad.old bad.new result }
+    ensures taken { BlockTaken (numbered g.now) (F.step_of family.now) (F.state_count family.now) (F.subject_count family.now)
+        width block.0 rows.old rows.new bad.old bad.new result }
     ensures marks { MarksGains (F.state_count family.now) (F.subject_count family.now) width rows.old rows.new dirty.old dirty.new result }
 {
     let row = family.states() as usize * width;
@@ -105,7 +107,8 @@ fn take_edges<F: MoveAll>(
     requires rows { length rows.old ≡ block_count (numbered g.now) * (F.state_count family.now * width) }
     requires bad { length bad.old ≡ width }
     requires dirty { length dirty.old ≡ block_count (numbered g.now) }
-    ensures taken { EdgesTaken (numbered g.now) (F.step_of family.now) (F.state_count family.now) (F.subject_count family.now) width block.0 bundle.now rows.old rows.new bad.old bad.new (edge_count (numbered g.now) block.0) result }
+    ensures taken { EdgesTaken (numbered g.now) (F.step_of family.now) (F.state_count family.now) (F.subject_count family.now)
+        width block.0 bundle.now rows.old rows.new bad.old bad.new (edge_count (numbered g.now) block.0) result }
     ensures marks { MarksGains (F.state_count family.now) (F.subject_count family.now) width rows.old rows.new dirty.old dirty.new result }
 {
     let mut is_new = false;
@@ -141,8 +144,10 @@ fn take_dirty<F: MoveAll>(
     requires effects { AreKnown (numbered g.now) (F.step_of family.now) (F.state_count family.now) (F.subject_count family.now) width effects.now }
     requires bundle { length bundle.old ≡ F.state_count family.now * width }
     requires copy { length copy.old ≡ F.state_count family.now * width }
-    requires settled { IsSettled (numbered g.now) (F.step_of family.now) (F.state_count family.now) (F.subject_count family.now) width rows.old bad.old dirty.old }
-    ensures { DirtyTaken (numbered g.now) (F.step_of family.now) (F.state_count family.now) (F.subject_count family.now) width block.0 rows.old rows.new bad.new dirty.old dirty.new result }
+    requires settled { IsSettled (numbered g.now) (F.step_of family.now) (F.state_count family.now) (F.subject_count family.now)
+        width rows.old bad.old dirty.old }
+    ensures { DirtyTaken (numbered g.now) (F.step_of family.now) (F.state_count family.now) (F.subject_count family.now)
+        width block.0 rows.old rows.new bad.new dirty.old dirty.new result }
 {
     let at = block.0 as usize;
     if !dirty[at] {
@@ -174,8 +179,10 @@ fn sweep<F: MoveAll>(
     requires effects { AreKnown (numbered g.now) (F.step_of family.now) (F.state_count family.now) (F.subject_count family.now) width effects.now }
     requires bundle { length bundle.old ≡ F.state_count family.now * width }
     requires copy { length copy.old ≡ F.state_count family.now * width }
-    requires settled { IsSettled (numbered g.now) (F.step_of family.now) (F.state_count family.now) (F.subject_count family.now) width rows.old bad.old dirty.old }
-    ensures { Swept (numbered g.now) (F.step_of family.now) (F.state_count family.now) (F.subject_count family.now) width rows.old rows.new bad.new dirty.old dirty.new (block_count (numbered g.now)) result }
+    requires settled { IsSettled (numbered g.now) (F.step_of family.now) (F.state_count family.now) (F.subject_count family.now)
+        width rows.old bad.old dirty.old }
+    ensures { Swept (numbered g.now) (F.step_of family.now) (F.state_count family.now) (F.subject_count family.now)
+        width rows.old rows.new bad.new dirty.old dirty.new (block_count (numbered g.now)) result }
 {
     let mut changed = false;
     for block in 0..g.blocks() {
@@ -216,7 +223,8 @@ fn settle_by<F: MoveAll>(
     requires effects { AreKnown (numbered g.now) (F.step_of family.now) (F.state_count family.now) (F.subject_count family.now) width effects.now }
     requires bundle { length bundle.old ≡ F.state_count family.now * width }
     requires copy { length copy.old ≡ F.state_count family.now * width }
-    requires settled { IsSettled (numbered g.now) (F.step_of family.now) (F.state_count family.now) (F.subject_count family.now) width rows.old bad.old dirty.old }
+    requires settled { IsSettled (numbered g.now) (F.step_of family.now) (F.state_count family.now) (F.subject_count family.now)
+        width rows.old bad.old dirty.old }
     ensures { IsClosed (numbered g.now) (F.step_of family.now) (F.state_count family.now) (F.subject_count family.now) width rows.new bad.new }
 {
     let mut visits = 0;
@@ -254,7 +262,8 @@ fn settle<F: MoveAll>(
     requires width { width ≤ 16 }
     requires bundle { length bundle.old ≡ F.state_count family.now * width }
     requires copy { length copy.old ≡ F.state_count family.now * width }
-    requires settled { IsSettled (numbered g.now) (F.step_of family.now) (F.state_count family.now) (F.subject_count family.now) width rows.old bad.old dirty.old }
+    requires settled { IsSettled (numbered g.now) (F.step_of family.now) (F.state_count family.now) (F.subject_count family.now)
+        width rows.old bad.old dirty.old }
     ensures { OnOk result (IsClosed (numbered g.now) (F.step_of family.now) (F.state_count family.now) (F.subject_count family.now) width rows.new bad.new) }
 {
     let few = g.blocks() as usize * PLAIN_VISITS;
@@ -355,7 +364,8 @@ pub fn reach_rows<F: MoveAll>(
     requires states { 0 < F.state_count family.now }
     requires fits { F.subject_count family.now ≤ 64 * width }
     requires width { width ≤ 16 }
-    ensures rows { IfOk result (λ r. AreExact (numbered g.now) (F.step_of family.now) (F.state_count family.now) (F.subject_count family.now) width r.rows.items) }
+    ensures rows { IfOk result
+        (λ r. AreExact (numbered g.now) (F.step_of family.now) (F.state_count family.now) (F.subject_count family.now) width r.rows.items) }
     ensures bad { IfOk result (λ r. AreBad (numbered g.now) (F.step_of family.now) (F.subject_count family.now) width r.bad.items) }
 {
     let row = family.states() as usize * width;

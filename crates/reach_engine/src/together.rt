@@ -109,8 +109,10 @@ pub fn search_all<F: MoveAll>(alloc: Global, g: &Graph, family: &F) -> Result<Fo
     requires states { 0 < F.state_count family.now }
     requires subjects { F.subject_count family.now ≤ 1024 }
     ensures clean { IfOk result (λ r. IfClean r (λ _. (u : ℕ) → u < F.subject_count family.now → IsClean (numbered g.now) (F.step_of family.now u))) }
-    ensures map { IfOk result (λ r. IfClean r (λ m. AreExact (numbered g.now) (F.step_of family.now) (F.state_count family.now) (F.subject_count family.now) m.width m.words)) }
-    ensures shape { IfOk result (λ r. IfClean r (λ m. (m.blocks ≡ block_count (numbered g.now)) × (m.states ≡ F.state_count family.now) × (F.subject_count family.now ≤ 64 * m.width))) }
+    ensures map { IfOk result
+        (λ r. IfClean r (λ m. AreExact (numbered g.now) (F.step_of family.now) (F.state_count family.now) (F.subject_count family.now) m.width m.words)) }
+    ensures shape { IfOk result (λ r. IfClean r (λ m. (m.blocks ≡ block_count (numbered g.now)) × (m.states ≡ F.state_count family.now)
+        × (F.subject_count family.now ≤ 64 * m.width))) }
     ensures within { IfOk result (λ r. IfFault r (λ subject walk point code. subject < F.subject_count family.now)) }
     ensures first { IfOk result (λ r. IfFault r (λ subject walk point code. (u : ℕ) → u < subject → IsClean (numbered g.now) (F.step_of family.now u))) }
     ensures fault { IfOk result (λ r. IfFault r (λ subject walk point code. ReachesPoint g.now (F.step_of family.now subject) walk code point)) }
@@ -170,8 +172,10 @@ fn search_subjects<F: MoveAll>(
     requires states { 0 < F.state_count family.now }
     requires subjects { F.subject_count family.now ≤ 1024 }
     ensures clean { IfOk result (λ r. IfAllClean r (λ _. (u : ℕ) → u < F.subject_count family.now → IsClean (numbered g.now) (F.step_of family.now u))) }
-    ensures map { IfOk result (λ r. IfAllClean r (λ m. AreExact (numbered g.now) (F.step_of family.now) (F.state_count family.now) (F.subject_count family.now) m.width m.words)) }
-    ensures shape { IfOk result (λ r. IfAllClean r (λ m. (m.blocks ≡ block_count (numbered g.now)) × (m.states ≡ F.state_count family.now) × (F.subject_count family.now ≤ 64 * m.width))) }
+    ensures map { IfOk result
+        (λ r. IfAllClean r (λ m. AreExact (numbered g.now) (F.step_of family.now) (F.state_count family.now) (F.subject_count family.now) m.width m.words)) }
+    ensures shape { IfOk result (λ r. IfAllClean r (λ m. (m.blocks ≡ block_count (numbered g.now)) × (m.states ≡ F.state_count family.now)
+        × (F.subject_count family.now ≤ 64 * m.width))) }
     ensures within { IfOk result (λ r. IfSomeBreaks r (λ b. b.subject < F.subject_count family.now)) }
     ensures first { IfOk result (λ r. IfSomeBreaks r (λ b. (u : ℕ) → u < b.subject → IsClean (numbered g.now) (F.step_of family.now u))) }
     ensures breaks { IfOk result (λ r. IfSomeBreaks r (λ b. ReachesFirst (numbered g.now) (F.step_of family.now b.subject) b.walk b.code b.item)) }

@@ -1,5 +1,6 @@
 -- What the search keeps: its invariant, over plain lists.
-use Rattle.std.specs.Prelude.{◌≡◌, ◌⊎◌, ℕ, suc, ◌+◌, ◌*◌, ◌<◌, ◌≤◌, List, [], ◌∷◌, ◌++◌, length, take, Bool, true, not, Option, Some, None, slice_get, count_by, IfSome}
+use Rattle.std.specs.Prelude.{◌≡◌, ◌⊎◌, ℕ, suc, ◌+◌, ◌*◌, ◌<◌, ◌≤◌, List, [], ◌∷◌, ◌++◌, length, take}
+use Rattle.std.specs.Prelude.{Bool, true, not, Option, Some, None, slice_get, count_by, IfSome}
 use Rattle.sil_ast.specs.declared.place.EdgeId.{EdgeId}
 use Rattle.sil_cfg.specs.Flow.{Flow, block_count, items_at, IsEdge, edge_to, edge_item}
 use Rattle.sil_cfg.specs.Walk.{IsWalkFrom, end_from, passed}

@@ -16,4 +16,5 @@ pub returns-clause-inside : goal.returns-clause-inside
 returns-clause-inside c = λ k lt. masked_bit c.args.words.now c.loop-i.words c.args.source.now c.args.mask.now c.args.offset c.loop-i.i k c.loop-i.invariant (omega arith)
 
 pub returns-clause-above : goal.returns-clause-above
-returns-clause-above c = λ k le. bits_above c.args.words.now c.loop-i.words c.args.offset c.loop-i.i k (masked_at c.args.words.now c.args.offset c.args.source.now c.args.mask.now) c.loop-i.invariant (omega arith)
+returns-clause-above c =
+    λ k le. bits_above c.args.words.now c.loop-i.words c.args.offset c.loop-i.i k (masked_at c.args.words.now c.args.offset c.args.source.now c.args.mask.now) c.loop-i.invariant (omega arith)

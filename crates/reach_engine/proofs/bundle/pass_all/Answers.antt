@@ -9,8 +9,10 @@ loop-item-preserved g c = record {
   size = c.move_all.auto.bundle ∙ c.loop-item.invariant.size;
   bad_size = c.move_all.auto.bad ∙ c.loop-item.invariant.bad_size;
   moved =
-      let P : List ℕ → Type 0 = λ xs. AllMoved (g.F.Family.step_of c.args.family.now) (g.F.Family.state_count c.args.family.now) (g.F.Family.subject_count c.args.family.now) c.args.width xs c.args.bundle.now c.move_all.new.bundle c.args.bad.now c.move_all.new.bad in
+      let P : List ℕ → Type 0 = λ xs. AllMoved (g.F.Family.step_of c.args.family.now) (g.F.Family.state_count c.args.family.now) (g.F.Family.subject_count c.args.family.now) c.args.width xs
+      c.args.bundle.now c.move_all.new.bundle c.args.bad.now c.move_all.new.bad in
       subst P (sym (take_more c.args.items.now c.loop-item.item-index 0 c.loop-item-test.true))
-      (AllMoved_then (g.F.Family.step_of c.args.family.now) (g.F.Family.state_count c.args.family.now) (g.F.Family.subject_count c.args.family.now) c.args.width (take c.loop-item.item-index c.args.items.now) (get_or c.args.items.now c.loop-item.item-index 0 ∷ [])
+      (AllMoved_then (g.F.Family.step_of c.args.family.now) (g.F.Family.state_count c.args.family.now) (g.F.Family.subject_count c.args.family.now) c.args.width
+      (take c.loop-item.item-index c.args.items.now) (get_or c.args.items.now c.loop-item.item-index 0 ∷ [])
       c.args.bundle.now c.loop-item.bundle c.move_all.new.bundle c.args.bad.now c.loop-item.bad c.move_all.new.bad c.loop-item.invariant.size c.loop-item.invariant.moved c.move_all.ensures);
 }

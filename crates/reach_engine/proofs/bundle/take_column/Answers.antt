@@ -16,7 +16,8 @@ loop-state-preserved c = elim c.if-has_bit.branch [
   | then-has_bit w ↦ record {
     taking = subst (λ b. Taking c.args.states c.args.width c.args.subject c.args.bundle.now b c.if-has_bit.taken (c.loop-state.state + 1)) (sym w.bundle-is)
         (subst (λ t. Taking c.args.states c.args.width c.args.subject c.args.bundle.now w.clear_bit.new.words t (c.loop-state.state + 1)) (sym w.taken-is)
-        (take_yes c.args.states c.args.width c.args.subject c.args.bundle.now c.loop-state.bundle w.clear_bit.new.words c.loop-state.taken w.set_bit.new.words c.loop-state.state c.requires.subject c.loop-state-test.true c.loop-state.invariant.taking
+        (take_yes c.args.states c.args.width c.args.subject c.args.bundle.now c.loop-state.bundle w.clear_bit.new.words c.loop-state.taken w.set_bit.new.words c.loop-state.state c.requires.subject
+        c.loop-state-test.true c.loop-state.invariant.taking
         (c.has_bit.ensures.0 w.if-has_bit.true) w.clear_bit.auto.words w.clear_bit.ensures.same w.clear_bit.ensures.others w.set_bit.auto.words w.set_bit.ensures.same w.set_bit.ensures.others));
     off = λ s le. ap (λ t. bit_in t s) w.taken-is ∙ w.set_bit.ensures.others s (omega arith) ∙ c.loop-state.invariant.off s (omega arith);
   }

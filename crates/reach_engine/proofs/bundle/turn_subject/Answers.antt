@@ -20,7 +20,8 @@ loop-state-preserved g c =
           (subst (λ d. Turning f states c.args.width c.args.subject c.args.item c.args.bundle.now w.put.new.bundle c.args.bad.now d (c.loop-state.state + 1)) (sym w.bad-is) put)
       | else-has_bit w ↦
           let none : Has c.args.bundle.now c.args.width c.loop-state.state c.args.subject → ⊥ = λ h. false_true (sym w.if-has_bit.false ∙ c.has_bit.ensures.1 (taken.1 h)) in
-          let skip = turn_skip f states c.args.width c.args.subject c.args.item lu c.args.bundle.now c.loop-state.bundle c.args.bad.now c.loop-state.bad c.loop-state.state c.loop-state.invariant none in
+          let skip =
+          turn_skip f states c.args.width c.args.subject c.args.item lu c.args.bundle.now c.loop-state.bundle c.args.bad.now c.loop-state.bad c.loop-state.state c.loop-state.invariant none in
           subst (λ b. Turning f states c.args.width c.args.subject c.args.item c.args.bundle.now b c.args.bad.now c.if-has_bit.bad (c.loop-state.state + 1)) (sym w.bundle-is)
           (subst (λ d. Turning f states c.args.width c.args.subject c.args.item c.args.bundle.now c.loop-state.bundle c.args.bad.now d (c.loop-state.state + 1)) (sym w.bad-is) skip)
     ]

@@ -15,6 +15,7 @@ loop-state-preserved c =
     record {
       size = c.add_row.auto.rows ∙ c.loop-state.invariant.size;
       bad_size = c.add_bad.auto.bad ∙ c.loop-state.invariant.bad_size;
-      applied = apply_more c.args.states c.args.width c.args.effects.now c.args.from c.args.bundle.now _ c.loop-state.rows c.add_row.new.rows c.args.bad.now c.loop-state.bad c.add_bad.new.bad c.loop-state.state
+      applied = apply_more c.args.states c.args.width c.args.effects.now c.args.from c.args.bundle.now _ c.loop-state.rows c.add_row.new.rows c.args.bad.now c.loop-state.bad
+          c.add_bad.new.bad c.loop-state.state
           _ start (start + c.args.width - start) c.loop-state-test.true refl refl (omega arith) refl c.loop-state.invariant.applied c.add_row.ensures c.add_bad.ensures.inside c.add_bad.ensures.above;
     }

@@ -15,5 +15,6 @@ apply-requires-clause-within g c =
 
 pub returns : goal.returns
 returns g c =
-    applied_block (numbered c.args.g.now) (g.F.Family.step_of c.args.family.now) (g.F.Family.state_count c.args.family.now) (g.F.Family.subject_count c.args.family.now) c.args.width c.args.block.0 c.args.effects.now _ c.states-states.result c.args.bundle.now c.apply.new.rows c.args.bad.now c.apply.new.bad
+    applied_block (numbered c.args.g.now) (g.F.Family.step_of c.args.family.now) (g.F.Family.state_count c.args.family.now) (g.F.Family.subject_count c.args.family.now) c.args.width c.args.block.0
+    c.args.effects.now _ c.states-states.result c.args.bundle.now c.apply.new.rows c.args.bad.now c.apply.new.bad
     c.requires.fits c.requires.block c.states-states.ensures c.requires.effects c.requires.some refl c.apply.ensures

@@ -11,5 +11,6 @@ pub returns-in-Breaks-clause-fault : goal.returns-in-Breaks-clause-fault
 returns-in-Breaks-clause-fault g c =
     let P : SearchedAll → Type 0 = λ r. IfSomeBreaks r (λ b. ReachesFirst (numbered c.args.g.now) (g.F.Family.step_of c.args.family.now b.subject) b.walk b.code b.item) in
     let Q : SearchedAll → Type 0 = λ r. IfSomeBreaks r (λ b. b.item < item_count c.args.g.now) in
-    point_reached c.args.g.now (g.F.Family.step_of c.args.family.now c.in-Breaks.broken.subject) c.in-Breaks.broken.walk c.in-Breaks.broken.code c.in-Breaks.broken.item c.point.result (subst P c.in-Breaks.is c.in_ok-map.ensures.breaks) c.point.ensures
+    point_reached c.args.g.now (g.F.Family.step_of c.args.family.now c.in-Breaks.broken.subject) c.in-Breaks.broken.walk c.in-Breaks.broken.code c.in-Breaks.broken.item c.point.result
+    (subst P c.in-Breaks.is c.in_ok-map.ensures.breaks) c.point.ensures
     (subst Q c.in-Breaks.is c.in_ok-map.ensures.item)

@@ -17,22 +17,26 @@ loop-at-init g c =
 pub walk_of-requires-clause-at : goal.walk_of-requires-clause-at
 walk_of-requires-clause-at g c =
     let P : List Visit → Type 0 = λ q. c.in-Some.fault.visit < length q in
-    subst P (sym c.deref.ensures.value) (visit_within (numbered c.args.g.now) (g.S.Scan.step_of c.args.scan.now) (g.S.Scan.state_count c.args.scan.now) c.loop-at.front.queue.items c.loop-at.front.seen.items c.loop-at.front.best c.loop-at.at c.loop-at.invariant c.in-Some.fault c.in-Some.is)
+    subst P (sym c.deref.ensures.value) (visit_within (numbered c.args.g.now) (g.S.Scan.step_of c.args.scan.now) (g.S.Scan.state_count c.args.scan.now) c.loop-at.front.queue.items
+    c.loop-at.front.seen.items c.loop-at.front.best c.loop-at.at c.loop-at.invariant c.in-Some.fault c.in-Some.is)
 
 pub walk_of-requires-clause-parents : goal.walk_of-requires-clause-parents
 walk_of-requires-clause-parents g c =
     let P : List Visit → Type 0 = λ q. ParentsFirst q in
-    subst P (sym c.deref.ensures.value) (parents_first (numbered c.args.g.now) (g.S.Scan.step_of c.args.scan.now) (g.S.Scan.state_count c.args.scan.now) c.loop-at.front.queue.items c.loop-at.front.seen.items c.loop-at.front.best c.loop-at.at c.loop-at.invariant)
+    subst P (sym c.deref.ensures.value) (parents_first (numbered c.args.g.now) (g.S.Scan.step_of c.args.scan.now) (g.S.Scan.state_count c.args.scan.now) c.loop-at.front.queue.items
+    c.loop-at.front.seen.items c.loop-at.front.best c.loop-at.at c.loop-at.invariant)
 
 pub returns-in-None-clause-clean : goal.returns-in-None-clause-clean
 returns-in-None-clause-clean g c =
     let all : length c.loop-at.front.queue.items ≤ c.loop-at.at = omega (arith, c.loop-at.front.queue.ok.0, c.len.ensures, c.loop-at-test.false) in
-    end_clean (numbered c.args.g.now) (g.S.Scan.step_of c.args.scan.now) (g.S.Scan.state_count c.args.scan.now) c.loop-at.front.queue.items c.loop-at.front.seen.items c.loop-at.front.best c.loop-at.at c.loop-at.invariant all c.in-None.is
+    end_clean (numbered c.args.g.now) (g.S.Scan.step_of c.args.scan.now) (g.S.Scan.state_count c.args.scan.now) c.loop-at.front.queue.items c.loop-at.front.seen.items c.loop-at.front.best c.loop-at.at
+    c.loop-at.invariant all c.in-None.is
 
 pub returns-in-None-clause-map : goal.returns-in-None-clause-map
 returns-in-None-clause-map g c =
     let all : length c.loop-at.front.queue.items ≤ c.loop-at.at = omega (arith, c.loop-at.front.queue.ok.0, c.len.ensures, c.loop-at-test.false) in
-    end_exact (numbered c.args.g.now) (g.S.Scan.step_of c.args.scan.now) (g.S.Scan.state_count c.args.scan.now) c.loop-at.front.queue.items c.loop-at.front.seen.items c.loop-at.front.best c.loop-at.at c.loop-at.invariant all
+    end_exact (numbered c.args.g.now) (g.S.Scan.step_of c.args.scan.now) (g.S.Scan.state_count c.args.scan.now) c.loop-at.front.queue.items c.loop-at.front.seen.items c.loop-at.front.best
+    c.loop-at.at c.loop-at.invariant all
     c.blocks-blocks.result c.states-states.result c.from_marks.result c.from_marks.ensures c.blocks-blocks.ensures.count c.states-states.ensures
 
 pub returns-in_ok-walk-in-Some-clause-breaks : goal.returns-in_ok-walk-in-Some-clause-breaks
@@ -40,20 +44,23 @@ returns-in_ok-walk-in-Some-clause-breaks g c =
     let P : List Visit → Type 0 = λ q. IsWalkOf q c.in-Some.fault c.in_ok-walk-in-Some.walk.items in
     let Q : List EdgeId → Type 0 = λ w. ReachesFirst (numbered c.args.g.now) (g.S.Scan.step_of c.args.scan.now) w c.in-Some.fault.code c.in-Some.fault.item in
     subst Q (sym c.from_vec.ensures) (
-    end_fault (numbered c.args.g.now) (g.S.Scan.step_of c.args.scan.now) (g.S.Scan.state_count c.args.scan.now) c.loop-at.front.queue.items c.loop-at.front.seen.items c.loop-at.front.best c.loop-at.at c.loop-at.invariant
+    end_fault (numbered c.args.g.now) (g.S.Scan.step_of c.args.scan.now) (g.S.Scan.state_count c.args.scan.now) c.loop-at.front.queue.items c.loop-at.front.seen.items c.loop-at.front.best
+    c.loop-at.at c.loop-at.invariant
     c.in-Some.fault c.in-Some.is c.in_ok-walk-in-Some.walk.items (subst P c.deref.ensures.value c.in_ok-walk-in-Some.ensures))
 
 pub returns-in_ok-walk-in-Some-clause-within : goal.returns-in_ok-walk-in-Some-clause-within
 returns-in_ok-walk-in-Some-clause-within g c =
     let P : List Visit → Type 0 = λ q. IsWalkOf q c.in-Some.fault c.in_ok-walk-in-Some.walk.items in
-    let shown = end_fault (numbered c.args.g.now) (g.S.Scan.step_of c.args.scan.now) (g.S.Scan.state_count c.args.scan.now) c.loop-at.front.queue.items c.loop-at.front.seen.items c.loop-at.front.best c.loop-at.at c.loop-at.invariant
+    let shown = end_fault (numbered c.args.g.now) (g.S.Scan.step_of c.args.scan.now) (g.S.Scan.state_count c.args.scan.now) c.loop-at.front.queue.items c.loop-at.front.seen.items c.loop-at.front.best
+    c.loop-at.at c.loop-at.invariant
     c.in-Some.fault c.in-Some.is c.in_ok-walk-in-Some.walk.items (subst P c.deref.ensures.value c.in_ok-walk-in-Some.ensures) in
     last_below c.args.g.now c.blocks-blocks.ensures.sound c.in_ok-walk-in-Some.walk.items shown.before c.in-Some.fault.item shown.trail
 
 pub returns-in_ok-walk-in-Some-clause-least : goal.returns-in_ok-walk-in-Some-clause-least
 returns-in_ok-walk-in-Some-clause-least g c =
     let all : length c.loop-at.front.queue.items ≤ c.loop-at.at = omega (arith, c.loop-at.front.queue.ok.0, c.len.ensures, c.loop-at-test.false) in
-    end_least (numbered c.args.g.now) (g.S.Scan.step_of c.args.scan.now) (g.S.Scan.state_count c.args.scan.now) c.loop-at.front.queue.items c.loop-at.front.seen.items c.loop-at.front.best c.loop-at.at c.loop-at.invariant all c.in-Some.fault c.in-Some.is
+    end_least (numbered c.args.g.now) (g.S.Scan.step_of c.args.scan.now) (g.S.Scan.state_count c.args.scan.now) c.loop-at.front.queue.items c.loop-at.front.seen.items c.loop-at.front.best c.loop-at.at
+    c.loop-at.invariant all c.in-Some.fault c.in-Some.is
 
 pub returns-in_ok-walk-in-Some-clause-shortest : goal.returns-in_ok-walk-in-Some-clause-shortest
 returns-in_ok-walk-in-Some-clause-shortest g c =
@@ -61,5 +68,6 @@ returns-in_ok-walk-in-Some-clause-shortest g c =
     let P : List Visit → Type 0 = λ q. IsWalkOf q c.in-Some.fault c.in_ok-walk-in-Some.walk.items in
     let Q : List EdgeId → Type 0 = λ w. IsShortest (numbered c.args.g.now) (g.S.Scan.step_of c.args.scan.now) c.in-Some.fault.code w in
     subst Q (sym c.from_vec.ensures) (
-    end_shortest (numbered c.args.g.now) (g.S.Scan.step_of c.args.scan.now) (g.S.Scan.state_count c.args.scan.now) c.loop-at.front.queue.items c.loop-at.front.seen.items c.loop-at.front.best c.loop-at.at c.loop-at.invariant all
+    end_shortest (numbered c.args.g.now) (g.S.Scan.step_of c.args.scan.now) (g.S.Scan.state_count c.args.scan.now) c.loop-at.front.queue.items c.loop-at.front.seen.items c.loop-at.front.best
+    c.loop-at.at c.loop-at.invariant all
     c.in-Some.fault c.in-Some.is c.in_ok-walk-in-Some.walk.items (subst P c.deref.ensures.value c.in_ok-walk-in-Some.ensures))

@@ -8,7 +8,8 @@ invariant_of-self-in-Ok g c =
     let size = length-append c.self.inside.elements.items c.args.list.now in
     let added = ap length c.in_ok-append.ensures.ok in
     let whole : c.len.result ≡ length c.append.new.elements.items = omega arith in
-    rw c.in-Ok.ensures.items (subst (AreEnds 0 (c.self.inside.ends.items ++ c.len.result ∷ [])) whole (ends_pushed 0 c.self.inside.ends.items (length c.self.inside.elements.items) c.len.result c.self.invariant (omega (arith, size, added))))
+    rw c.in-Ok.ensures.items (subst (AreEnds 0 (c.self.inside.ends.items ++ c.len.result ∷ [])) whole
+    (ends_pushed 0 c.self.inside.ends.items (length c.self.inside.elements.items) c.len.result c.self.invariant (omega (arith, size, added))))
 
 pub returns-in-Ok-clause-ok : goal.returns-in-Ok-clause-ok
 returns-in-Ok-clause-ok g c =

@@ -14,7 +14,9 @@ row_bits words width r n u e lt =
 pub returns-clause-bits : goal.returns-clause-bits
 returns-clause-bits c =
     let P : Grid → Type 0 = λ m. (u : ℕ) → u < 64 * m.width →
-    bit_in (take ((c.args.b.0 * c.self.inside.states + c.args.state) * c.self.inside.width + c.self.inside.width - (c.args.b.0 * c.self.inside.states + c.args.state) * c.self.inside.width) (drop ((c.args.b.0 * c.self.inside.states + c.args.state) * c.self.inside.width) c.deref.result.now)) u ≡ bit_in m.words (cell m.width (c.args.b.0 * m.states + c.args.state) u) in
+    bit_in (take ((c.args.b.0 * c.self.inside.states + c.args.state) * c.self.inside.width + c.self.inside.width - (c.args.b.0 * c.self.inside.states + c.args.state) * c.self.inside.width)
+    (drop ((c.args.b.0 * c.self.inside.states + c.args.state) * c.self.inside.width) c.deref.result.now)) u ≡ bit_in m.words (cell m.width (c.args.b.0 * m.states + c.args.state) u) in
     subst P c.self.view_is (λ u lt.
-    ap (λ ws. bit_in (take ((c.args.b.0 * c.self.inside.states + c.args.state) * c.self.inside.width + c.self.inside.width - (c.args.b.0 * c.self.inside.states + c.args.state) * c.self.inside.width) (drop ((c.args.b.0 * c.self.inside.states + c.args.state) * c.self.inside.width) ws)) u) c.deref.ensures.value
+    ap (λ ws. bit_in (take ((c.args.b.0 * c.self.inside.states + c.args.state) * c.self.inside.width + c.self.inside.width - (c.args.b.0 * c.self.inside.states + c.args.state) * c.self.inside.width)
+    (drop ((c.args.b.0 * c.self.inside.states + c.args.state) * c.self.inside.width) ws)) u) c.deref.ensures.value
     ∙ row_bits c.self.inside.words.items c.self.inside.width (c.args.b.0 * c.self.inside.states + c.args.state) _ u (omega arith) lt)
