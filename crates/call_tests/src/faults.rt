@@ -5,7 +5,8 @@ use std::process::Abort;
 use std::test::Fail;
 
 const OBJECT: &[u8] =
-    b"sil_stage canonical\nimport Builtin\nimport Swift\nclass C {\n}\nsil [ossa] @main : $@convention(thin) () -> () {\nbb0:\n%0 = alloc_ref $C\ndestroy_value %0 : $C\n%t = tuple ()\nreturn %t : $()\n}\n";
+    b"sil_stage canonical\nimport Builtin\nimport Swift\nclass C {\n}\nsil [ossa] @main : $@convention(thin) () -> () {\nbb0:\n%0 = alloc_ref $C\n\
+      destroy_value %0 : $C\n%t = tuple ()\nreturn %t : $()\n}\n";
 
 /// How many calls of a source in pieces of 16 bytes read `OBJECT` to its end: one a piece, and one that finds the end.
 const READS: u64 = (OBJECT.len() as u64 + 15) / 16 + 1;

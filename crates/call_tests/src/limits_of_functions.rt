@@ -34,7 +34,9 @@ const BLOCKS_COUNTED: [Counted; 1] = [
 const INSTRUCTIONS_LIMITS: [Limited; 2] = [
     // of all blocks together
     (
-        "sil [ossa] @f : $@convention(thin) (@owned A) -> () {\n`b~(%~ : @owned $A):\ndebug_value %0 : $A\ndebug_value %0 : $A\ndebug_value %0 : $A\ndebug_value %0 : $A\ndebug_value %0 : $A\ndebug_value %0 : $A\ndebug_value %0 : $A\ndebug_value %0 : $A\ndebug_value %0 : $A\ndebug_value %0 : $A\ndebug_value %0 : $A\ndebug_value %0 : $A\ndebug_value %0 : $A\ndebug_value %0 : $A\ndebug_value %0 : $A\nunreachable\n`}\nclass A {}\n",
+        "sil [ossa] @f : $@convention(thin) (@owned A) -> () {\n`b~(%~ : @owned $A):\ndebug_value %0 : $A\ndebug_value %0 : $A\ndebug_value %0 : $A\n\
+         debug_value %0 : $A\ndebug_value %0 : $A\ndebug_value %0 : $A\ndebug_value %0 : $A\ndebug_value %0 : $A\ndebug_value %0 : $A\ndebug_value %0 : $A\n\
+         debug_value %0 : $A\ndebug_value %0 : $A\ndebug_value %0 : $A\ndebug_value %0 : $A\ndebug_value %0 : $A\nunreachable\n`}\nclass A {}\n",
         256,
         "accepted",
         "4355:1",
@@ -124,7 +126,8 @@ const VALUES_LIMITS_WITHOUT_VALUE: [Limited; 4] = [
 const VALUES_LIMITS: [Limited; 4] = [
     // arguments of blocks
     (
-        "sil [ossa] @f : $@convention(thin) (@owned A, @owned A, @owned A, @owned A) -> () {\n`b~(%a~ : @owned $A, %b~ : @owned $A, %c~ : @owned $A, %d~ : @owned $A):\nunreachable\n`}\nclass A {}\n",
+        "sil [ossa] @f : $@convention(thin) (@owned A, @owned A, @owned A, @owned A) -> () {\n\
+         `b~(%a~ : @owned $A, %b~ : @owned $A, %c~ : @owned $A, %d~ : @owned $A):\nunreachable\n`}\nclass A {}\n",
         256,
         "accepted",
         "514:6",
@@ -138,14 +141,16 @@ const VALUES_LIMITS: [Limited; 4] = [
     ),
     // store [assign]
     (
-        "sil [ossa] @f : $@convention(thin) (@inout A, @owned A) -> () {\nb(%0 : $*A, %1 : @owned $A):\n`store %1 to [assign] %0 : $*A\n`unreachable\n}\nclass A {}\n",
+        "sil [ossa] @f : $@convention(thin) (@inout A, @owned A) -> () {\nb(%0 : $*A, %1 : @owned $A):\n`store %1 to [assign] %0 : $*A\n\
+         `unreachable\n}\nclass A {}\n",
         1022,
         "refused 402 DoubleConsume @f bb0:1\nsubject %1\nwalk bb0",
         "1025:14",
     ),
     // two names
     (
-        "sil [ossa] @f : $@convention(thin) (@owned (A, A)) -> () {\nb(%0 : @owned $(A, A)):\n`(%a~, %b~) = destructure_tuple %0 : $(A, A)\n`unreachable\n}\nclass A {}\n",
+        "sil [ossa] @f : $@convention(thin) (@owned (A, A)) -> () {\nb(%0 : @owned $(A, A)):\n`(%a~, %b~) = destructure_tuple %0 : $(A, A)\n\
+         `unreachable\n}\nclass A {}\n",
         511,
         "refused 402 DoubleConsume @f bb0:1\nsubject %0\nwalk bb0",
         "514:9",
@@ -155,13 +160,16 @@ const VALUES_LIMITS: [Limited; 4] = [
 const VALUES_COUNTED: [Counted; 9] = [
     // other stores are none
     (
-        "sil [ossa] @f : $@convention(thin) (@inout A, @owned A, @inout Builtin.Int8, Builtin.Int8) -> () {\nb(%0 : $*A, %1 : @owned $A, %2 : $*Builtin.Int8, %3 : $Builtin.Int8):\n`store %1 to [init] %0 : $*A\nstore %3 to [trivial] %2 : $*Builtin.Int8\n`unreachable\n}\nclass A {}\n",
+        "sil [ossa] @f : $@convention(thin) (@inout A, @owned A, @inout Builtin.Int8, Builtin.Int8) -> () {\n\
+         b(%0 : $*A, %1 : @owned $A, %2 : $*Builtin.Int8, %3 : $Builtin.Int8):\n`store %1 to [init] %0 : $*A\nstore %3 to [trivial] %2 : $*Builtin.Int8\n\
+         `unreachable\n}\nclass A {}\n",
         1100,
         "refused 402 DoubleConsume @f bb0:2\nsubject %1\nwalk bb0",
     ),
     // are counted for each function
     (
-        "`sil [ossa] @f~ : $@convention(thin) (@owned A, @owned A, @owned A, @owned A) -> () { b(%0 : @owned $A, %1 : @owned $A, %2 : @owned $A, %3 : @owned $A): unreachable }\n`class A {}\n",
+        "`sil [ossa] @f~ : $@convention(thin) (@owned A, @owned A, @owned A, @owned A) -> () { \
+         b(%0 : @owned $A, %1 : @owned $A, %2 : @owned $A, %3 : @owned $A): unreachable }\n`class A {}\n",
         300,
         "accepted",
     ),
@@ -179,7 +187,8 @@ const VALUES_COUNTED: [Counted; 9] = [
     ),
     // rows with a list of results have none without names
     (
-        "sil [ossa] @f : $@convention(thin) (A, ()) -> () {\nb(%0 : $A, %1 : $()):\n`destructure_struct %0 : $A\n() = destructure_tuple %1 : $()\n`unreachable\n}\nstruct A {}\n",
+        "sil [ossa] @f : $@convention(thin) (A, ()) -> () {\nb(%0 : $A, %1 : $()):\n`destructure_struct %0 : $A\n() = destructure_tuple %1 : $()\n\
+         `unreachable\n}\nstruct A {}\n",
         1100,
         "accepted",
     ),

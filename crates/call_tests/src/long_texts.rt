@@ -9,11 +9,13 @@ use std::process::Abort;
 use std::test::Fail;
 
 const OBJECT: &str =
-    "sil_stage canonical\nimport Builtin\nimport Swift\nclass C {\n}\nsil [ossa] @main : $@convention(thin) () -> () {\nbb0:\n%0 = alloc_ref $C\ndestroy_value %0 : $C\n%t = tuple ()\nreturn %t : $()\n}\n";
+    "sil_stage canonical\nimport Builtin\nimport Swift\nclass C {\n}\nsil [ossa] @main : $@convention(thin) () -> () {\nbb0:\n%0 = alloc_ref $C\n\
+     destroy_value %0 : $C\n%t = tuple ()\nreturn %t : $()\n}\n";
 
 /// A literal that a byte can't hold, in the eighth line.
 const LITERAL: &str =
-    "sil_stage canonical\nimport Builtin\nimport Swift\nclass C {\n}\nsil [ossa] @main : $@convention(thin) () -> () {\nbb0:\n  %0 = integer_literal $Builtin.Int8, 256\n%t = tuple ()\nreturn %t : $()\n}\n";
+    "sil_stage canonical\nimport Builtin\nimport Swift\nclass C {\n}\nsil [ossa] @main : $@convention(thin) () -> () {\n\
+     bb0:\n  %0 = integer_literal $Builtin.Int8, 256\n%t = tuple ()\nreturn %t : $()\n}\n";
 
 fn assert_ended(rt: &impl Abort, ended: &Ended, written: &str, status: u8, text: &str) {
     assert_eq!(rt; ended.status, status, "{text}");
