@@ -1,2 +1,1 @@
 pub mod MarkTables
-pub mod Roling

@@ -6,12 +6,13 @@ use Rattle.sil_ast.specs.declared.function.Function.{Function}
 use Rattle.sil_ast.specs.declared.place.ValueId.{ValueId}
 use Rattle.sil_cfg.specs.Layout.{Layout}
 use Rattle.sil_cfg.specs.declared.item.Item.{Item}
+use Rattle.item_operands.specs.Items.{item_defined, item_taken}
+use Rattle.item_operands.specs.declared.taken.Taken.{Taken}
 use Rattle.ownership_chains.specs.Facts.{facts_with, known_or}
 use Rattle.ownership_chains.specs.declared.facts.Facts.{Facts}
 use Rattle.type_definitions.specs.declared.kind.Kind.TheVariants as kind
 use Rattle.ownership_marks.specs.Known.{AreKindsBy, Known}
-use Rattle.ownership_marks.specs.Marks.{begun, begun_with, ended, ended_with, item_defined, item_taken, marks_of, used, used_with}
-use Rattle.ownership_marks.specs.declared.taken.Taken.{Taken}
+use Rattle.ownership_marks.specs.Marks.{begun, begun_with, ended, ended_with, marks_of, used, used_with}
 
 pub flat_map_same : {X A : Type 0} (p q : X → List A) → ((x : X) → p x ≡ q x) → (xs : List X) → flat_map p xs ≡ flat_map q xs
 flat_map_same p q same [] = refl

@@ -1,23 +1,18 @@
 -- What an item does to the values that begin and end: ends in operand order, then uses, then begins.
-use Rattle.std.specs.Prelude.{ℕ, List, [], ◌∷◌, ◌++◌, Bool, true, false, ◌==◌, Option, Some, None, map, slice_get, cond}
+use Rattle.std.specs.Prelude.{List, [], ◌∷◌, ◌++◌, Bool, true, false, ◌==◌, Option, Some, None, map, cond}
 use Rattle.std.specs.List.{flat_map, list_any}
 use Rattle.instruction_table.specs.declared.entries.Role.{Role}
 use Rattle.instruction_table.specs.declared.entries.Role.TheVariants as role
-use Rattle.sil_ast.specs.declared.function.Block.{Block}
-use Rattle.sil_ast.specs.declared.function.BlockArg.{BlockArg}
 use Rattle.sil_ast.specs.declared.function.Function.{Function}
-use Rattle.sil_ast.specs.declared.inst.Edge as edge
-use Rattle.sil_ast.specs.declared.inst.Inst as inst
 use Rattle.sil_ast.specs.declared.place.ValueId.{ValueId}
 use Rattle.sil_cfg.specs.declared.item.Item.{Item}
-use Rattle.sil_cfg.specs.declared.item.Item.TheVariants.{Entry, Inst, Edge, Exit}
+use Rattle.item_operands.specs.Items.{item_defined, item_taken}
+use Rattle.item_operands.specs.declared.taken.Taken.{Taken}
 use Rattle.ownership_chains.specs.declared.facts.Facts.{Facts}
 use Rattle.type_definitions.specs.declared.kind.Kind.{Kind}
 use Rattle.type_definitions.specs.declared.kind.Kind.TheVariants as kind
-use Rattle.ownership_marks.specs.Roles.{taken_along, taken_by}
 use Rattle.ownership_marks.specs.declared.mark.Mark.{Mark}
 use Rattle.ownership_marks.specs.declared.mark.MarkSort.TheVariants.{End, Use, Begin}
-use Rattle.ownership_marks.specs.declared.taken.Taken.{Taken}
 
 abbrev pub end_of : ValueId → Mark
 end_of v = record { subject = v; sort = End }
@@ -97,59 +92,6 @@ module _ (facts : ValueId → Option Facts) where
   -- the marks of some operands and of the values that are defined behind them
   abbrev pub marks_with : List Taken → List ValueId → List Mark
   marks_with taken defined = flat_map ended taken ++ flat_map used taken ++ flat_map begun defined
-
-abbrev pub arg_value : BlockArg → ValueId
-arg_value a = a.value
-
-abbrev pub args_in : Option Block → List ValueId
-args_in None = []
-args_in (Some b) = map arg_value b.args
-
-abbrev pub args_of : Function → ℕ → List ValueId
-args_of f n = args_in (slice_get f.blocks n)
-
-abbrev pub inst_in : Option Block → ℕ → Option inst.Inst
-inst_in None k = None
-inst_in (Some b) k = slice_get b.insts k
-
-abbrev pub terminator_in : Option Block → Option inst.Inst
-terminator_in None = None
-terminator_in (Some b) = Some b.terminator
-
-abbrev pub taken_at : Option inst.Inst → List Taken
-taken_at None = []
-taken_at (Some i) = taken_by i
-
-abbrev pub results_at : Option inst.Inst → List ValueId
-results_at None = []
-results_at (Some i) = i.results
-
-abbrev pub edge_in : Option inst.Inst → ℕ → Option edge.Edge
-edge_in None k = None
-edge_in (Some i) k = slice_get i.edges k
-
-abbrev pub taken_along_at : Option edge.Edge → List Taken
-taken_along_at None = []
-taken_along_at (Some e) = taken_along e
-
-abbrev pub defined_along : Function → Option edge.Edge → List ValueId
-defined_along f None = []
-defined_along f (Some e) = args_of f e.block.0
-
--- the operands of an item
-abbrev pub item_taken : Function → Item → List Taken
-item_taken f Entry = []
-item_taken f (Inst p) = taken_at (inst_in (slice_get f.blocks p.block.0) p.index)
-item_taken f (Edge e) =
-    taken_at (terminator_in (slice_get f.blocks e.block.0)) ++ taken_along_at (edge_in (terminator_in (slice_get f.blocks e.block.0)) e.index)
-item_taken f (Exit p) = taken_at (terminator_in (slice_get f.blocks p.block.0))
-
--- the values that an item defines
-abbrev pub item_defined : Function → Item → List ValueId
-item_defined f Entry = args_of f 0
-item_defined f (Inst p) = results_at (inst_in (slice_get f.blocks p.block.0) p.index)
-item_defined f (Edge e) = defined_along f (edge_in (terminator_in (slice_get f.blocks e.block.0)) e.index)
-item_defined f (Exit p) = []
 
 -- the marks of an item
 abbrev pub marks_of : (ValueId → Option Facts) → Function → Item → List Mark

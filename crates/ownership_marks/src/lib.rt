@@ -5,10 +5,6 @@
 mod kinds;
 mod mark;
 mod marks;
-mod passed;
-mod taken;
 
 pub use kinds::Kinds;
 pub use mark::{Mark, MarkSort};
-pub use passed::{add_item_defined, add_item_taken, inst_at, terminator_of};
-pub use taken::{Taken, add_taken_along, add_taken_by};

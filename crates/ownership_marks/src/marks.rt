@@ -5,18 +5,18 @@ ghost use Rattle.std.specs.List.{flat_map};
 ghost use Rattle.std.specs.Option.{option_copied};
 ghost use Rattle.sil_ast.specs.declared.place.ValueId.{ValueId};
 ghost use Rattle.sil_cfg.specs.Layout.{item_count};
+ghost use Rattle.item_operands.specs.Items.{arg_value, item_defined};
 ghost use Rattle.ownership_chains.specs.Facts.{told_at};
 ghost use Rattle.ownership_marks.specs.Known.{AreMarksOf, marks_in};
 ghost use Rattle.ownership_marks.specs.Marks as marks;
-ghost use Rattle.ownership_marks.specs.Marks.{arg_value, begun, end_of, ended, ended_by, item_defined, marks_of, use_of, used};
+ghost use Rattle.ownership_marks.specs.Marks.{begun, end_of, ended, ended_by, marks_of, use_of, used};
 
 use crate::mark::{Mark, MarkSort};
-use crate::passed::{add_item_taken, args_along, args_of, results_of};
-use crate::taken::Taken;
 use instruction_table::Role;
+use item_operands::{Taken, add_item_taken, item_arguments, item_results};
 use ownership_chains::Facts;
 use path_lists::ItemLists;
-use sil_ast::{BlockArg, BlockId, Exhausted, Function, ValueId};
+use sil_ast::{BlockArg, Exhausted, Function, ValueId};
 use sil_cfg::{Graph, Item};
 use std::alloc::Global;
 use type_definitions::Kind;
@@ -224,12 +224,8 @@ fn add_item_begins(
 ) -> Result<(), Exhausted>
     ensures { OnOk result (marks.new.items ≡ marks.old.items ++ flat_map (begun (told_at table.now)) (item_defined f.now item)) }
 {
-    match item {
-        Item::Entry => add_begins_of_args(marks, table, args_of(f, BlockId(0))),
-        Item::Inst(p) => add_begins(marks, table, results_of(f, p)),
-        Item::Edge(e) => add_begins_of_args(marks, table, args_along(f, e)),
-        Item::Exit(_) => Ok(()),
-    }
+    add_begins(marks, table, item_results(f, item))?;
+    add_begins_of_args(marks, table, item_arguments(f, item))
 }
 
 /// Makes `marks` those of an item: ends in the order of its operands, then uses, then beginnings. What `taken` holds doesn't matter: it is memory for the operands.

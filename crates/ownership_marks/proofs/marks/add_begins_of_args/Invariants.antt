@@ -1,7 +1,8 @@
 use Rattle.std.proofs.Common.{◌≡◌, ◌++◌, map, take}
 use Rattle.std.specs.List.{flat_map}
 use Rattle.ownership_chains.specs.Facts.{told_at}
-use Rattle.ownership_marks.specs.Marks.{arg_value, begun}
+use Rattle.item_operands.specs.Items.{arg_value}
+use Rattle.ownership_marks.specs.Marks.{begun}
 use Rattle.ownership_marks.proofs.marks.add_begins_of_args.Given as goal
 
 abbrev pub invariant-loop-arg : goal.invariant-loop-arg

@@ -1,6 +1,0 @@
-use Rattle.std.proofs.Common.{◌≡◌, ◌++◌, take, length}
-use Rattle.ownership_marks.specs.Roles.{roles_for, taken_each}
-use Rattle.ownership_marks.proofs.taken.add_operands.Given as goal
-
-abbrev pub invariant-loop-i : goal.invariant-loop-i
-invariant-loop-i l = l.taken.items ≡ l.initial.taken.items ++ taken_each (take l.i l.operands) (roles_for l.row l.params (length l.operands))
