@@ -4,6 +4,10 @@ use Rattle.std.proofs.lemmas.Bool.{cases_eq}
 use Rattle.sil_ast.specs.declared.place.EdgeId.{EdgeId}
 use Rattle.sil_ast.specs.declared.place.PointId.{PointId}
 use Rattle.sil_ast.specs.declared.function.Function.{Function}
+use Rattle.sil_rules.specs.Order.{NotAfter}
+use Rattle.sil_rules.specs.Rules.{index_of, number_of}
+use Rattle.sil_rules.specs.declared.rule.Rule.{Rule}
+use Rattle.sil_rules.proofs.Numbers.{numbers_rise, same_rule}
 use Rattle.sil_cfg.specs.declared.item.Item.{Item}
 use Rattle.sil_cfg.specs.declared.item.Item.TheVariants.{Entry, Inst, Edge, Exit}
 use Rattle.sil_cfg.specs.Layout.{Layout, item_at}
@@ -19,10 +23,10 @@ use Rattle.path_patterns.proofs.SwitchDecided.{reading_decides}
 use Rattle.path_patterns.proofs.PatternsDecided.{reached_shown, shown_reached}
 use Rattle.path_patterns.proofs.GraphPatterns.{shown_there, shown_back}
 use Rattle.path_checks.specs.declared.entry.Entry as entry
-use Rattle.path_checks.specs.declared.entry.PathFault.{PathFault}
+use Rattle.path_checks.specs.declared.fault.PathFault.{PathFault}
 use Rattle.path_checks.specs.Entries.{means, subject_step}
 use Rattle.path_checks.specs.inner.Chunks.{IsChunkFault}
-use Rattle.path_checks.specs.First.{IsShownAt, IsShown, NotAfter, IsFirst}
+use Rattle.path_checks.specs.First.{IsShownAt, IsShown, IsFirst}
 use Rattle.path_checks.proofs.OtherSubjects.{quiet_run}
 
 point_same : (g : Layout) (f : Function) → IsGraphOf g f → (item : Item) → point_of (numbered g) item ≡ point_of (flow_of f) item
@@ -42,45 +46,64 @@ first_then x y xs ys le more = at (cases_eq x y)
 at_most : (x y : ℕ) → (y < x → ⊥) → x ≤ y
 at_most x y h = grind (arith, h)
 
+-- rules are in the order of their indices
+rules_then : (a b : Rule) (xs ys : List ℕ) → index_of a ≤ index_of b → (a ≡ b → NotAfter xs ys) → NotAfter (number_of a ∷ xs) (number_of b ∷ ys)
+rules_then a b xs ys le more = at (cases_eq (index_of a) (index_of b))
+  where
+    at : (index_of a ≡ index_of b) ⊎ (index_of a ≢ index_of b) → NotAfter (number_of a ∷ xs) (number_of b ∷ ys)
+    at (inl e) = let same : a ≡ b = same_rule a b e in inr (ap number_of same, more same)
+    at (inr n) = inl (numbers_rise a b (omega arith))
+
 module _ (g : Layout) (f : Function) (is : IsGraphOf g f) (entries : ℕ → List entry.Entry) (table : Item → List entry.Entry) (agrees : AgreesWith g entries table) where
   -- what is shown is reached
-  pub shown_is_reached : (subject code : ℕ) (walk : List EdgeId) (point : PointId) → IsShown f table subject code walk point → (i : ℕ) × ReachesFirst (numbered g) (subject_step entries subject) walk code i
-  shown_is_reached subject code walk point h =
-      let r = shown_back g f is entries table agrees (FitsRead IsInPlace (means subject)) (read_code code_of (means subject)) walk code h.item h.at.shows in
-      (r.0, shown_reached (read_step mark_step (means subject)) (FitsRead IsInPlace (means subject)) (read_code code_of (means subject)) (reading_decides (means subject)) entries (numbered g) walk code r.0 r.2)
+  pub shown_is_reached : (subject : ℕ) (rule : Rule) (walk : List EdgeId) (point : PointId) → IsShown f table subject rule walk point →
+      (i : ℕ) × ReachesFirst (numbered g) (subject_step entries subject) walk (index_of rule) i
+  shown_is_reached subject rule walk point h =
+      let r = shown_back g f is entries table agrees (FitsRead IsInPlace (means subject)) (read_code code_of (means subject)) walk (index_of rule) h.item h.at.shows in (
+        r.0,
+        shown_reached (read_step mark_step (means subject)) (FitsRead IsInPlace (means subject)) (read_code code_of (means subject))
+        (reading_decides (means subject)) entries (numbered g) walk (index_of rule) r.0 r.2,
+      )
 
   -- and what is reached is shown
-  pub reached_is_shown : (subject code : ℕ) (walk : List EdgeId) (point : PointId) (i : ℕ) (item : Item) → ReachesFirst (numbered g) (subject_step entries subject) walk code i → item_at g i ≡ Some item →
-      point ≡ point_of (numbered g) item → IsShownAt f table subject code walk point item
-  reached_is_shown subject code walk point i item h there point_is =
-      let shows = reached_shown (read_step mark_step (means subject)) (FitsRead IsInPlace (means subject)) (read_code code_of (means subject)) (reading_decides (means subject)) entries (numbered g) walk code i h in
+  pub reached_is_shown : (subject : ℕ) (rule : Rule) (walk : List EdgeId) (point : PointId) (i : ℕ) (item : Item) →
+      ReachesFirst (numbered g) (subject_step entries subject) walk (index_of rule) i → item_at g i ≡ Some item → point ≡ point_of (numbered g) item →
+      IsShownAt f table subject rule walk point item
+  reached_is_shown subject rule walk point i item h there point_is =
+      let shows = reached_shown (read_step mark_step (means subject)) (FitsRead IsInPlace (means subject)) (read_code code_of (means subject))
+      (reading_decides (means subject)) entries (numbered g) walk (index_of rule) i h in
       record {
         point_is = point_is ∙ point_same g f is item;
-        shows = shown_there g f is entries table agrees (FitsRead IsInPlace (means subject)) (read_code code_of (means subject)) walk code i item there shows;
+        shows = shown_there g f is entries table agrees (FitsRead IsInPlace (means subject)) (read_code code_of (means subject)) walk (index_of rule) i item there shows;
       }
 
   -- a subject without entries is clean
   pub absent_clean : (subject : ℕ) → ((i : ℕ) → All (λ e. e.subject ≡ subject → ⊥) (entries i)) → IsClean (numbered g) (subject_step entries subject)
   absent_clean subject none w code item h = go-bad h.state code (sym (quiet_run subject h.state (entries item) (none item)) ∙ h.breaks)
 
-  clean_unshown : (subject : ℕ) → IsClean (numbered g) (subject_step entries subject) → (code : ℕ) (walk : List EdgeId) (point : PointId) → IsShown f table subject code walk point → ⊥
-  clean_unshown subject clean code walk point h = let r = shown_is_reached subject code walk point h in clean walk code r.0 r.1
+  clean_unshown : (subject : ℕ) → IsClean (numbered g) (subject_step entries subject) → (rule : Rule) (walk : List EdgeId) (point : PointId) →
+      IsShown f table subject rule walk point → ⊥
+  clean_unshown subject clean rule walk point h = let r = shown_is_reached subject rule walk point h in clean walk (index_of rule) r.0 r.1
 
   -- where all subjects are clean nothing is shown
   pub nothing_shown : ((subject : ℕ) → IsClean (numbered g) (subject_step entries subject)) → IsFirst f table None
-  nothing_shown clean subject code walk point h = clean_unshown subject (clean subject) code walk point h
+  nothing_shown clean subject rule walk point h = clean_unshown subject (clean subject) rule walk point h
 
   -- where those before are clean, the chunk's fault is the first
-  pub chunk_fault_first : (first count : ℕ) (fault : PathFault) → ((v : ℕ) → v < first → IsClean (numbered g) (subject_step entries v)) → IsChunkFault g entries first count fault → IsFirst f table (Some fault)
+  pub chunk_fault_first : (first count : ℕ) (fault : PathFault) → ((v : ℕ) → v < first → IsClean (numbered g) (subject_step entries v)) →
+      IsChunkFault g entries first count fault → IsFirst f table (Some fault)
   chunk_fault_first first count fault before h = (
-    reached_is_shown fault.subject fault.code fault.walk fault.point h.item fault.item h.reaches h.there h.point,
-    λ subject code walk point s.
-        first_then fault.subject subject (fault.code ∷ (length fault.walk ∷ [])) (code ∷ (length walk ∷ [])) (at_most fault.subject subject (λ lt. clean_unshown subject (earlier subject lt) code walk point s))
+    reached_is_shown fault.subject fault.rule fault.walk fault.point h.item fault.item h.reaches h.there h.point,
+    λ subject rule walk point s.
+        first_then fault.subject subject (number_of fault.rule ∷ (length fault.walk ∷ [])) (number_of rule ∷ (length walk ∷ []))
+        (at_most fault.subject subject (λ lt. clean_unshown subject (earlier subject lt) rule walk point s))
         (λ same.
-        let r : (i : ℕ) × ReachesFirst (numbered g) (subject_step entries fault.subject) walk code i = subst (λ v. (i : ℕ) × ReachesFirst (numbered g) (subject_step entries v) walk code i) (sym same) (shown_is_reached subject code walk point s) in
-        first_then fault.code code (length fault.walk ∷ []) (length walk ∷ []) (h.least walk code r.0 r.1)
+        let r : (i : ℕ) × ReachesFirst (numbered g) (subject_step entries fault.subject) walk (index_of rule) i =
+        subst (λ v. (i : ℕ) × ReachesFirst (numbered g) (subject_step entries v) walk (index_of rule) i) (sym same) (shown_is_reached subject rule walk point s) in
+        rules_then fault.rule rule (length fault.walk ∷ []) (length walk ∷ []) (h.least walk (index_of rule) r.0 r.1)
         (λ again.
-        let t : ReachesFirst (numbered g) (subject_step entries fault.subject) walk fault.code r.0 = subst (λ c. ReachesFirst (numbered g) (subject_step entries fault.subject) walk c r.0) (sym again) r.1 in
+        let t : ReachesFirst (numbered g) (subject_step entries fault.subject) walk (index_of fault.rule) r.0 =
+        subst (λ (c : Rule). ReachesFirst (numbered g) (subject_step entries fault.subject) walk (index_of c) r.0) (sym again) r.1 in
         first_then (length fault.walk) (length walk) [] [] (h.shortest walk r.0 t) (λ _. tt))),
   )
     where

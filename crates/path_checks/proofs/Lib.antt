@@ -1,6 +1,8 @@
 pub mod Accesses
 pub mod EntriesPassed
 pub mod FirstShown
+pub mod RulesShown
+pub mod TablesMade
 pub mod OneSubject
 pub mod OtherSubjects
 pub mod PickedMarks

@@ -4,6 +4,8 @@ use Rattle.std.specs.Prelude.{slice_get, unwrap_or}
 use Rattle.sil_ast.specs.declared.function.Function.{Function}
 use Rattle.sil_ast.specs.declared.place.EdgeId.{EdgeId}
 use Rattle.sil_ast.specs.declared.place.PointId.{PointId}
+use Rattle.sil_rules.specs.Rules.{index_of}
+use Rattle.sil_rules.specs.declared.rule.Rule.{Rule}
 use Rattle.sil_cfg.specs.declared.item.Item.{Item}
 use Rattle.sil_cfg.specs.Items.{flow_of}
 use Rattle.path_patterns.specs.Reads.{marks_in, one_or_none}
@@ -18,11 +20,12 @@ use Rattle.path_checks.specs.inner.Shared.{shared_from}
 use Rattle.path_checks.proofs.OtherSubjects.{no_mark, own_mark}
 
 -- two tables with the same marks, one of a subject and one of another, show the same of these
-pub same_shown_at : (f : Function) (table table2 : Item → List Entry) (subject subject2 : ℕ) → ((item : Item) → marks_in (means subject) (table item) ≡ marks_in (means subject2) (table2 item)) →
-    (code : ℕ) (walk : List EdgeId) (point : PointId) (item : Item) → IsShownAt f table subject code walk point item → IsShownAt f table2 subject2 code walk point item
-same_shown_at f table table2 subject subject2 same code walk point item h = record {
+pub same_shown_at : (f : Function) (table table2 : Item → List Entry) (subject subject2 : ℕ) →
+    ((item : Item) → marks_in (means subject) (table item) ≡ marks_in (means subject2) (table2 item)) →
+    (rule : Rule) (walk : List EdgeId) (point : PointId) (item : Item) → IsShownAt f table subject rule walk point item → IsShownAt f table2 subject2 rule walk point item
+same_shown_at f table table2 subject subject2 same rule walk point item h = record {
   point_is = h.point_is;
-  shows = same_shown mark_step IsInPlace code_of switch_decides (means subject) (means subject2) (flow_of f) table table2 same walk code item h.shows;
+  shows = same_shown mark_step IsInPlace code_of switch_decides (means subject) (means subject2) (flow_of f) table table2 same walk (index_of rule) item h.shows;
 }
 
 none_later : (subject n : ℕ) (marks : List (Option Mark)) → subject < n → marks_in (means subject) (shared_from n marks) ≡ []

@@ -1,3 +1,4 @@
 pub mod Entries
 pub mod First
+pub mod Reported
 pub mod inner

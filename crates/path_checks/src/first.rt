@@ -12,13 +12,15 @@ ghost use Rattle.path_checks.specs.First.{IsFirst};
 
 use crate::bound::subject_bound;
 use crate::chunk::Chunk;
-use crate::entry::{Entry, PathFault};
+use crate::entry::Entry;
+use crate::fault::PathFault;
 use crate::sharing::shared_entries;
 use path_lists::ItemLists;
 use path_patterns::Mark;
 use reach_engine::first_broken;
 use sil_ast::{Exhausted, Function};
 use sil_cfg::Graph;
+use sil_rules::Rule;
 use std::alloc::Global;
 
 /// The most subjects that are searched together.
@@ -50,7 +52,7 @@ fn first_of_chunk(
         None => Ok(None),
         Some(broken) => Ok(Some(PathFault {
             subject: (first + broken.subject) as u32,
-            code: broken.code,
+            rule: Rule::at(broken.code),
             walk: broken.walk,
             point: g.point(broken.item),
             item: g.item(broken.item),
@@ -58,7 +60,7 @@ fn first_of_chunk(
     }
 }
 
-/// The first fault that some walk of the function shows: by subject, then by code, then with fewest edges; none where nothing is shown.
+/// The first fault that some walk of the function shows: by subject, then by rule, then with fewest edges; none where nothing is shown.
 /// `entries` has what each item of the function's graph does, by the item's number. `marks` has the entries that items share: for each subject, by its number, a mark or none.
 /// The items that have true in `sharing`, by their numbers, have these entries too, behind their own. All that has no place in `marks` or `sharing` has none of it.
 pub fn first_fault(

@@ -67,8 +67,8 @@ pub step_goes : (s : ℕ) (mark : Mark) (t : ℕ) → mark_step s mark ≡ Go t 
 step_goes s mark t e = at (fits s mark.needs) refl
   where
     at : (b : Bool) → fits s mark.needs ≡ b → t ≡ turned s mark.turns
-    at true f = sym (same_Go (turned s mark.turns) t (sym (ap (λ b. cond b (Go (turned s mark.turns)) (Bad mark.code)) f) ∙ e))
-    at false f = absurd (go-bad t mark.code (sym e ∙ ap (λ b. cond b (Go (turned s mark.turns)) (Bad mark.code)) f))
+    at true f = sym (same_Go (turned s mark.turns) t (sym (ap (λ b. cond b (Go (turned s mark.turns)) (Bad (code_of mark))) f) ∙ e))
+    at false f = absurd (go-bad t (code_of mark) (sym e ∙ ap (λ b. cond b (Go (turned s mark.turns)) (Bad (code_of mark))) f))
 
 -- the automaton's state tells whether the switch is on
 read_at : (before marks : List Mark) (s t : ℕ) → IsAt before s → run mark_step (Go s) marks ≡ Go t → IsAt (before ++ marks) t
@@ -78,7 +78,7 @@ read_at before (mark ∷ marks) s t h e =
     let here : IsAt (before ++ mark ∷ []) p.0 = subst (IsAt (before ++ mark ∷ [])) (sym (step_goes s mark p.0 p.1)) (push_at before mark s h mark.turns refl) in
     subst (λ v. IsAt v t) (append_assoc before (mark ∷ []) marks) (read_at (before ++ mark ∷ []) marks p.0 t here p.2)
 
-judged : (marks : List Mark) (mark : Mark) (s : ℕ) → IsAt marks s → (needs : Option Bool) → Judges (cond (fits s needs) (Go (turned s mark.turns)) (Bad mark.code)) (Finds needs marks) mark.code
+judged : (marks : List Mark) (mark : Mark) (s : ℕ) → IsAt marks s → (needs : Option Bool) → Judges (cond (fits s needs) (Go (turned s mark.turns)) (Bad (code_of mark))) (Finds needs marks) (code_of mark)
 judged marks mark s h None = tt
 judged marks mark _ (on h) (Some true) = h
 judged marks mark _ (on h) (Some false) = (λ p. p h, refl)

@@ -2,6 +2,7 @@
 use Rattle.std.specs.Prelude.{◌≡◌, ℕ, zero, suc, List, ◌∷◌, ◌++◌, All, Bool, true, false, cond, Option, Some, None}
 use Rattle.reach_engine.specs.declared.scan.Step.{Step}
 use Rattle.reach_engine.specs.declared.scan.Step.TheVariants.{Go, Bad}
+use Rattle.sil_rules.specs.Rules.{index_of}
 use Rattle.path_patterns.specs.declared.mark.Mark.{Mark}
 
 -- the last mark that turns the switch turned it on
@@ -22,8 +23,9 @@ Finds (Some false) before = IsOn before → ⊥
 abbrev pub IsInPlace : List Mark → Mark → Type 0
 IsInPlace before mark = Finds mark.needs before
 
+-- the code of its break
 abbrev pub code_of : Mark → ℕ
-code_of mark = mark.code
+code_of mark = index_of mark.rule
 
 -- the automaton: state 1 where the switch is on
 abbrev pub fits : ℕ → Option Bool → Bool
@@ -39,4 +41,4 @@ turned s (Some true) = 1
 turned s (Some false) = 0
 
 abbrev pub mark_step : ℕ → Mark → Step
-mark_step s mark = cond (fits s mark.needs) (Go (turned s mark.turns)) (Bad mark.code)
+mark_step s mark = cond (fits s mark.needs) (Go (turned s mark.turns)) (Bad (code_of mark))

@@ -1,5 +1,6 @@
 -- Some of the subjects, searched together.
 use Rattle.std.specs.Prelude.{◌≡◌, ℕ, ◌+◌, ◌<◌, List, [], ◌∷◌, Option, Some, None}
+use Rattle.sil_rules.specs.Rules.{index_of}
 use Rattle.sil_cfg.specs.Layout.{Layout, item_at}
 use Rattle.sil_cfg.specs.Flow.{numbered, point_of}
 use Rattle.reach_engine.specs.declared.scan.Step.TheVariants.{Go}
@@ -8,7 +9,7 @@ use Rattle.reach_engine.specs.inner.Reach.{ReachesFirst}
 use Rattle.reach_engine.specs.Run.{run}
 use Rattle.reach_engine.specs.inner.Search.{IsClean, IsLeastCode, IsShortest}
 use Rattle.path_checks.specs.declared.entry.Entry.{Entry}
-use Rattle.path_checks.specs.declared.entry.PathFault.{PathFault}
+use Rattle.path_checks.specs.declared.fault.PathFault.{PathFault}
 use Rattle.path_patterns.specs.Reads.{read_step}
 use Rattle.path_patterns.specs.Switch.{mark_step}
 use Rattle.path_checks.specs.Entries.{means, subject_step}
@@ -27,9 +28,9 @@ pub record IsChunkFault (g : Layout) (entries : ℕ → List Entry) (first count
   pub item : ℕ
   pub there : item_at g item ≡ Some fault.item
   pub point : fault.point ≡ point_of (numbered g) fault.item
-  pub reaches : ReachesFirst (numbered g) (subject_step entries fault.subject) fault.walk fault.code item
-  pub least : IsLeastCode (numbered g) (subject_step entries fault.subject) fault.code
-  pub shortest : IsShortest (numbered g) (subject_step entries fault.subject) fault.code fault.walk
+  pub reaches : ReachesFirst (numbered g) (subject_step entries fault.subject) fault.walk (index_of fault.rule) item
+  pub least : IsLeastCode (numbered g) (subject_step entries fault.subject) (index_of fault.rule)
+  pub shortest : IsShortest (numbered g) (subject_step entries fault.subject) (index_of fault.rule) fault.walk
 
 -- no walk breaks the automaton of a subject of the chunk; or the fault is that of the first such subject
 abbrev pub IsFirstOfChunk : Layout → (ℕ → List Entry) → ℕ → ℕ → Option PathFault → Type 0

@@ -1,7 +1,9 @@
 -- The marks of a value that is held from a begin to its end, as runs.
-use Rattle.std.specs.Prelude.{◌↔◌, ℕ, List, [], ◌∷◌, ◌++◌, map, replicate, Bool, true, false, Some, None}
+use Rattle.std.specs.Prelude.{◌↔◌, ℕ, List, [], ◌∷◌, ◌++◌, map, replicate, Bool, true, false}
+use Rattle.sil_rules.specs.declared.rule.Rule.{Rule}
 use Rattle.path_patterns.specs.declared.mark.Mark.{Mark}
 use Rattle.path_patterns.specs.Lawful.{AreLawful}
+use Rattle.path_patterns.specs.Marks.{needs_off, needs_off_turns_on, needs_on, needs_on_turns_off}
 use Rattle.path_patterns.specs.Switch.{IsInPlace}
 
 -- what an item does to the value
@@ -11,14 +13,10 @@ pub data Sort : Type 0 where
   Begin : Sort
 
 -- the switch is on while the value is held: a use and an end need it on, and a begin needs it off
-abbrev pub held_mark : Sort → Mark
-held_mark Use = record { needs = Some true; turns = None; code = 1 }
-held_mark End = record { needs = Some true; turns = Some false; code = 2 }
-held_mark Begin = record { needs = Some false; turns = Some true; code = 4 }
-
--- a `return` needs it off
-abbrev pub return_mark : Mark
-return_mark = record { needs = Some false; turns = None; code = 3 }
+abbrev pub held_mark : (Sort → Rule) → Sort → Mark
+held_mark rules Use = needs_on (rules Use)
+held_mark rules End = needs_on_turns_off (rules End)
+held_mark rules Begin = needs_off_turns_on (rules Begin)
 
 -- runs of a begin, any number of uses, and an end; the flag says whether the last run, too, has its end
 pub data AreRuns : Bool → List Sort → Type 0 where
@@ -28,8 +26,10 @@ pub data AreRuns : Bool → List Sort → Type 0 where
 
 -- the marks are lawful exactly where they are runs
 abbrev pub ReadsRuns : Type 0
-ReadsRuns = (sorts : List Sort) → AreLawful IsInPlace (map held_mark sorts) ↔ ((ended : Bool) × AreRuns ended sorts)
+ReadsRuns = (rules : Sort → Rule) (sorts : List Sort) →
+    AreLawful IsInPlace (map (held_mark rules) sorts) ↔ ((ended : Bool) × AreRuns ended sorts)
 
--- and with a `return` behind them, where each run has its end
+-- and with a `return` behind them, which needs the switch off, where each run has its end
 abbrev pub ReadsEndedRuns : Type 0
-ReadsEndedRuns = (sorts : List Sort) → AreLawful IsInPlace (map held_mark sorts ++ return_mark ∷ []) ↔ AreRuns true sorts
+ReadsEndedRuns = (rules : Sort → Rule) (left : Rule) (sorts : List Sort) →
+    AreLawful IsInPlace (map (held_mark rules) sorts ++ needs_off left ∷ []) ↔ AreRuns true sorts

@@ -6,7 +6,7 @@ use Rattle.sil_cfg.specs.Flow.{numbered}
 use Rattle.reach_engine.specs.inner.Search.{IsClean}
 use Rattle.path_patterns.specs.Reads.{AgreesWith}
 use Rattle.path_checks.specs.declared.entry.Entry.{Entry}
-use Rattle.path_checks.specs.declared.entry.PathFault.{PathFault}
+use Rattle.path_checks.specs.declared.fault.PathFault.{PathFault}
 use Rattle.path_checks.specs.Entries.{subject_step}
 use Rattle.path_checks.specs.inner.Chunks.{IsFirstOfChunk}
 use Rattle.path_checks.specs.inner.Shared.{entries_among, entries_with, shared_from}
