@@ -18,13 +18,12 @@ use Rattle.sil_cfg.specs.Returns.{is_return}
 use Rattle.sil_cfg.specs.declared.item.Item.{Item}
 use Rattle.ownership_chains.specs.Facts.{has, is_guaranteed, known_or, value_of}
 use Rattle.ownership_chains.specs.declared.facts.Facts.{Facts}
-use Rattle.ownership_kinds.specs.Statics.{borrows_of, is_borrow}
+use Rattle.value_tables.specs.Borrows.{borrows_of, is_borrow, lent_by}
 use Rattle.ownership_marks.proofs.MarkTables.{flat_map_same}
 use Rattle.ownership_marks.specs.Known.{AreKindsBy, Known, facts_of, marks_at}
 use Rattle.ownership_marks.specs.declared.mark.Mark.{Mark}
 use Rattle.ownership_marks.specs.declared.mark.MarkSort.{MarkSort}
 use Rattle.ownership_marks.specs.declared.mark.MarkSort.TheVariants.{End, Use, Begin}
-use Rattle.borrow_scopes.specs.Lending.{lent_by, loans_of}
 use Rattle.borrow_scopes.specs.Scopes.{bases_in, entry_of, is_scope, leaves, left_at_return, lent_bases, lost_at_end, lost_from, lost_with, mark_entries, returned, scope_entries, scopes_of}
 use Rattle.borrow_scopes.specs.inner.Tables.{borrowers_at, borrowers_of, left_mark, lost_at, mark_entries_in}
 
@@ -71,7 +70,7 @@ lost_picked : (p : ℕ → Bool) (ns : List ℕ) → map lost_at_end (filter p n
 lost_picked p [] = refl
 lost_picked p (n ∷ ns) = lost_either n (filter p ns) (flat_map (λ n. cond (p n) (lost_at_end n ∷ []) []) ns) (p n) (lost_picked p ns)
 
-module _ (f : Function) (facts : ValueId → Facts) (count : ℕ) (rows : List (Vec ℕ Global)) (all : (base : ℕ) → borrowers_at rows base ≡ borrowers_of facts (loans_of f) count base) where
+module _ (f : Function) (facts : ValueId → Facts) (count : ℕ) (rows : List (Vec ℕ Global)) (all : (base : ℕ) → borrowers_at rows base ≡ borrowers_of facts (borrows_of f) count base) where
   lost_of_rows : (v : ValueId) (sort : MarkSort) → lost_at (borrowers_at rows v.0) sort ≡ lost_with f facts count v sort
   lost_of_rows v End = ap (map lost_at_end) (all v.0) ∙ lost_picked (λ n. has (lent_bases f facts n) v.0) (range_with_len 0 count)
   lost_of_rows v Use = refl
@@ -83,15 +82,17 @@ module _ (f : Function) (facts : ValueId → Facts) (count : ℕ) (rows : List (
   pub marks_by_tables : (marks : List Mark) → flat_map (mark_entries_in (borrows_of f) facts rows) marks ≡ flat_map (mark_entries f facts count) marks
   marks_by_tables marks = flat_map_same (mark_entries_in (borrows_of f) facts rows) (mark_entries f facts count) mark_by_tables marks
 
--- what items do by their own marks and at a `return` is what they do to the scopes
-pub scopes_agree : (f : Function) (g : Layout) (k : Known) (own : List (List Entry)) (marks : List (Option pattern.Mark)) (sharing : List Bool) →
-    ((n : ℕ) → n < item_count g → list_at own n ≡ flat_map (mark_entries f (facts_of k) (length k.table)) (marks_at k n)) →
+-- what items do by their own marks, read by tables, and at a `return` is what they do to the scopes
+pub scopes_agree : (f : Function) (g : Layout) (k : Known) (rows : List (Vec ℕ Global)) (own : List (List Entry)) (marks : List (Option pattern.Mark)) (sharing : List Bool) →
+    ((base : ℕ) → borrowers_at rows base ≡ borrowers_of (facts_of k) (borrows_of f) (length k.table) base) →
+    ((n : ℕ) (item : Item) → item_at g n ≡ Some item → list_at own n ≡ flat_map (mark_entries_in (borrows_of f) (facts_of k) rows) (marks_at k n)) →
     marks ≡ map (left_mark (borrows_of f) (facts_of k)) (range_with_len 0 (length k.table)) →
     ((n : ℕ) (item : Item) → item_at g n ≡ Some item → is_sharing sharing n ≡ is_return f item) →
     (count : ℕ) (facts : ValueId → Option Facts) → AreKindsBy count facts f g k → AgreesWith g (entries_with own marks sharing) (scopes_of count facts f)
-scopes_agree f g k own marks sharing own_are marks_are sharing_are count facts by n item e =
+scopes_agree f g k rows own marks sharing rows_are own_are marks_are sharing_are count facts by n item e =
     ap₂ (λ x y. x ++ y)
-    (own_are n (slice_get_within g.kinds n item e) ∙ same_marked f (facts_of k) (known_or facts) by.facts_are (length k.table) (marks_at k n)
+    (own_are n item e ∙ marks_by_tables f (facts_of k) (length k.table) rows rows_are (marks_at k n)
+    ∙ same_marked f (facts_of k) (known_or facts) by.facts_are (length k.table) (marks_at k n)
     ∙ ap₂ (λ size marks. flat_map (mark_entries f (known_or facts) size) marks) by.size (by.marks_are n item e))
     (ap₂ (λ m b. shared_if m b) marks_are (sharing_are n item e) ∙ shared_returned f (facts_of k) (length k.table) (is_return f item)
     ∙ same_returned f (facts_of k) (known_or facts) by.facts_are (length k.table) (is_return f item)

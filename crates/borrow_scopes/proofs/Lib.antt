@@ -2,3 +2,4 @@ pub mod Rows
 pub mod Agreeing
 pub mod SameOthers
 pub mod Reported
+pub mod RulesOf

@@ -1,15 +1,16 @@
 -- The other value of a fault by facts that say the same.
 use Rattle.std.proofs.Common.{◌≡◌, ℕ, List, [], ◌∷◌, refl, ap, ap₂, Bool, cond, find, Option, Some, None}
-use Rattle.std.specs.Prelude.{◌==◌, option_map}
+use Rattle.std.specs.Prelude.{option_map}
 use Rattle.sil_ast.specs.declared.function.Function.{Function}
 use Rattle.sil_ast.specs.declared.place.ValueId.{ValueId}
 use Rattle.sil_cfg.specs.declared.item.Item.{Item}
 use Rattle.ownership_chains.specs.Facts.{known_or}
 use Rattle.ownership_chains.specs.declared.facts.Facts.{Facts}
 use Rattle.ownership_marks.proofs.MarkTables.{same_marks}
-use Rattle.ownership_marks.specs.Marks.{item_taken}
-use Rattle.borrow_scopes.specs.Lending.{lent_by}
-use Rattle.borrow_scopes.specs.Others.{ended_base, ends_one, lies_in, marked_value, other_of, taken_value, used_operand}
+use Rattle.item_operands.specs.Items.{item_taken}
+use Rattle.sil_rules.specs.declared.rule.Rule.{Rule}
+use Rattle.value_tables.specs.Borrows.{lent_by}
+use Rattle.borrow_scopes.specs.Others.{ended_base, ends_one, is_on_bases, is_on_uses, lies_in, marked_value, other_of, taken_value, used_operand}
 use Rattle.borrow_scopes.proofs.Agreeing.{same_bases}
 
 find_same : {X : Type 0} (p q : X → Bool) → ((x : X) → p x ≡ q x) → (xs : List X) → find p xs ≡ find q xs
@@ -24,5 +25,5 @@ module _ (a b : ValueId → Option Facts) (same : (v : ValueId) → known_or a v
   same_ended : (s : ValueId) (item : Item) → ended_base a f s item ≡ ended_base b f s item
   same_ended s item = ap₂ (λ bases marks. option_map marked_value (find (ends_one bases) marks)) (same_bases (known_or a) (known_or b) same (lent_by f s.0)) (same_marks a b same f item)
 
-  pub same_other : (code : ℕ) (s : ValueId) (item : Item) → other_of code a f s item ≡ other_of code b f s item
-  same_other code s item = ap₂ (λ used ended. cond (code == 1) used (cond (code == 4) ended None)) (same_used s item) (same_ended s item)
+  pub same_other : (r : Rule) (s : ValueId) (item : Item) → other_of r a f s item ≡ other_of r b f s item
+  same_other r s item = ap₂ (λ used ended. cond (is_on_uses r) used (cond (is_on_bases r) ended None)) (same_used s item) (same_ended s item)

@@ -1,4 +1,3 @@
-pub mod Lending
 pub mod Scopes
 pub mod Others
 pub mod inner

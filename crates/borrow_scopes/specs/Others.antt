@@ -1,15 +1,19 @@
 -- The other value of a fault: 501 has the operand that uses the scope, and 504 the base that ends.
-use Rattle.std.specs.Prelude.{ℕ, List, Bool, true, false, ◌&&◌, ◌==◌, Option, None, cond, find, option_map}
+use Rattle.std.specs.Prelude.{List, Bool, true, false, ◌&&◌, ◌==◌, Option, None, cond, find, option_map}
 use Rattle.sil_ast.specs.declared.function.Function.{Function}
 use Rattle.sil_ast.specs.declared.place.ValueId.{ValueId}
 use Rattle.sil_cfg.specs.declared.item.Item.{Item}
 use Rattle.ownership_chains.specs.Facts.{has, is_guaranteed, known_or}
 use Rattle.ownership_chains.specs.declared.facts.Facts.{Facts}
-use Rattle.ownership_marks.specs.Marks.{item_taken, marks_of}
+use Rattle.item_operands.specs.Items.{item_taken}
+use Rattle.item_operands.specs.declared.taken.Taken.{Taken}
+use Rattle.sil_rules.specs.Rules.{index_of}
+use Rattle.sil_rules.specs.declared.rule.Rule.{Rule}
+use Rattle.sil_rules.specs.declared.rule.Rule.TheVariants as rule
+use Rattle.ownership_marks.specs.Marks.{marks_of}
 use Rattle.ownership_marks.specs.declared.mark.Mark.{Mark}
 use Rattle.ownership_marks.specs.declared.mark.MarkSort.{MarkSort}
 use Rattle.ownership_marks.specs.declared.mark.MarkSort.TheVariants.{End, Use, Begin}
-use Rattle.ownership_marks.specs.declared.taken.Taken.{Taken}
 use Rattle.borrow_scopes.specs.Scopes.{lent_bases}
 
 -- the facts are of a Guaranteed value that has the scope among its bases
@@ -39,6 +43,12 @@ marked_value m = m.subject
 abbrev pub ended_base : (ValueId → Option Facts) → Function → ValueId → Item → Option ValueId
 ended_base facts f s item = option_map marked_value (find (ends_one (lent_bases f (known_or facts) s.0)) (marks_of facts f item))
 
--- the other value of a fault with this code, at this item
-abbrev pub other_of : ℕ → (ValueId → Option Facts) → Function → ValueId → Item → Option ValueId
-other_of code facts f s item = cond (code == 1) (used_operand facts f s item) (cond (code == 4) (ended_base facts f s item) None)
+abbrev pub is_on_uses : Rule → Bool
+is_on_uses r = index_of r == index_of rule.UseOutsideScope
+
+abbrev pub is_on_bases : Rule → Bool
+is_on_bases r = index_of r == index_of rule.ConsumedWhileBorrowed
+
+-- the other value of a fault by this rule, at this item
+abbrev pub other_of : Rule → (ValueId → Option Facts) → Function → ValueId → Item → Option ValueId
+other_of r facts f s item = cond (is_on_uses r) (used_operand facts f s item) (cond (is_on_bases r) (ended_base facts f s item) None)

@@ -1,4 +1,5 @@
--- What an item does to the scopes: they end, are used and begin, none is open where a value that it borrows from ends, and none is left at a `return`. A scope's switch is on while it is open.
+-- What an item does to the scopes: they end, are used and begin, none is open where a value that it borrows from ends,
+-- and none is left at a `return`. A scope's switch is on while it is open.
 use Rattle.std.specs.Prelude.{ℕ, List, [], ◌∷◌, ◌++◌, Bool, true, false, ◌&&◌, cond, Option, Some, None}
 use Rattle.std.specs.List.{flat_map, range_with_len}
 use Rattle.sil_ast.specs.declared.function.Function.{Function}
@@ -6,30 +7,32 @@ use Rattle.sil_ast.specs.declared.place.ValueId.{ValueId}
 use Rattle.sil_cfg.specs.Returns.{is_return}
 use Rattle.sil_cfg.specs.declared.item.Item.{Item}
 use Rattle.path_checks.specs.declared.entry.Entry as entry
+use Rattle.path_patterns.specs.Marks.{needs_off, needs_off_turns_on, needs_on, needs_on_turns_off}
 use Rattle.path_patterns.specs.declared.mark.Mark as pattern
+use Rattle.sil_rules.specs.declared.rule.Rule.TheVariants as rule
 use Rattle.ownership_chains.specs.Facts.{has, is_guaranteed, known_or, value_of}
 use Rattle.ownership_chains.specs.declared.facts.Facts.{Facts}
-use Rattle.ownership_kinds.specs.Statics.{is_borrow}
+use Rattle.value_tables.specs.Borrows.{is_borrow, lent_by}
 use Rattle.ownership_marks.specs.Marks.{marks_of}
 use Rattle.ownership_marks.specs.declared.mark.Mark as mark
 use Rattle.ownership_marks.specs.declared.mark.MarkSort.{MarkSort}
 use Rattle.ownership_marks.specs.declared.mark.MarkSort.TheVariants.{End, Use, Begin}
-use Rattle.borrow_scopes.specs.Lending.{lent_by}
 
--- a use needs the scope open: 501. An end does too, and closes it: 502. At a `return` it is not open: 503. Nor is it where a base of what it borrows ends: 504. A begin needs it not open, and opens it: 505
+-- a use needs the scope open. An end does too, and closes it. A begin needs it not open, and opens it.
+-- At a `return` it is not open, nor is it where a base of what it borrows ends
 abbrev pub turned_by : MarkSort → pattern.Mark
-turned_by Use = record { needs = Some true; turns = None; code = 1 }
-turned_by End = record { needs = Some true; turns = Some false; code = 2 }
-turned_by Begin = record { needs = Some false; turns = Some true; code = 5 }
+turned_by Use = needs_on rule.UseOutsideScope
+turned_by End = needs_on_turns_off rule.EndTwice
+turned_by Begin = needs_off_turns_on rule.ScopeOverwritten
 
 abbrev pub entry_of : mark.Mark → entry.Entry
 entry_of m = record { subject = m.subject.0; mark = turned_by m.sort }
 
 abbrev pub left_at_return : ℕ → entry.Entry
-left_at_return n = record { subject = n; mark = record { needs = Some false; turns = None; code = 3 } }
+left_at_return n = record { subject = n; mark = needs_off rule.ScopeLeft }
 
 abbrev pub lost_at_end : ℕ → entry.Entry
-lost_at_end n = record { subject = n; mark = record { needs = Some false; turns = None; code = 4 } }
+lost_at_end n = record { subject = n; mark = needs_off rule.ConsumedWhileBorrowed }
 
 -- the bases of a value, if there is one
 abbrev pub bases_in : (ValueId → Facts) → Option ValueId → List ValueId

@@ -1,2 +1,3 @@
 pub mod Borrows
 pub mod Tables
+pub mod Laws

@@ -3,32 +3,19 @@
 ghost use Rattle.std.specs.Prelude.{◌≡◌, ℕ, ◌<◌, ◌≤◌, ◌==◌, ◌^◌, IfOk, OnOk, length};
 ghost use Rattle.ownership_chains.specs.Facts.{has};
 ghost use Rattle.ownership_marks.specs.Known.{facts_of};
-ghost use Rattle.borrow_scopes.specs.Lending.{lent_in};
 ghost use Rattle.borrow_scopes.specs.inner.Tables as tables;
 ghost use Rattle.borrow_scopes.specs.inner.Tables.{borrowers_at, ends_with, lent_bases_in, with_last, with_last_if};
 
 use ownership_marks::Kinds;
 use sil_ast::{Exhausted, ValueId};
 use std::alloc::Global;
-
-fn lent_by(loans: &[Option<ValueId>], value: ValueId) -> Option<ValueId>
-    ensures { result ≡ lent_in loans.now value.0 }
-{
-    match loans.get(value.0 as usize) {
-        None => None,
-        Some(loan) => *loan,
-    }
-}
+use value_tables::{Borrow, lent_by};
 
 /// The bases of what the value lends, and none where it lends nothing.
-pub(crate) fn lent_bases<'a>(
-    k: &'a Kinds,
-    loans: &[Option<ValueId>],
-    value: ValueId,
-) -> &'a [ValueId]
-    ensures { result.now ≡ lent_bases_in (facts_of k.now) loans.now value.0 }
+pub(crate) fn lent_bases<'a>(k: &'a Kinds, borrows: &[Borrow], value: ValueId) -> &'a [ValueId]
+    ensures { result.now ≡ lent_bases_in (facts_of k.now) borrows.now value.0 }
 {
-    match lent_by(loans, value) {
+    match lent_by(borrows, value) {
         None => &[],
         Some(lent) => k.bases(lent),
     }
@@ -98,13 +85,13 @@ fn add_to_bases(
 pub(crate) fn borrowers_of(
     alloc: Global,
     k: &Kinds,
-    loans: &[Option<ValueId>],
+    borrows: &[Borrow],
 ) -> Result<Vec<Vec<u32>>, Exhausted>
-    ensures { IfOk result (λ v. (base : ℕ) → borrowers_at v.items base ≡ tables.borrowers_of (facts_of k.now) loans.now (length k.now.table) base) }
+    ensures { IfOk result (λ v. (base : ℕ) → borrowers_at v.items base ≡ tables.borrowers_of (facts_of k.now) borrows.now (length k.now.table) base) }
 {
     let mut rows = Vec::new(alloc);
     for n in 0..k.values() {
-        let bases = lent_bases(k, loans, ValueId(n as u32));
+        let bases = lent_bases(k, borrows, ValueId(n as u32));
         add_to_bases(alloc, &mut rows, bases, n as u32)?;
     }
     Ok(rows)

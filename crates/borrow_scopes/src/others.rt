@@ -3,16 +3,19 @@
 ghost use Rattle.std.specs.Prelude.{◌≡◌, find, option_map, IfOk};
 ghost use Rattle.ownership_chains.specs.Facts.{has, told_at};
 ghost use Rattle.ownership_marks.specs.Known.{facts_of};
+ghost use Rattle.value_tables.specs.Borrows as borrowing;
 ghost use Rattle.borrow_scopes.specs.Others as others;
 ghost use Rattle.borrow_scopes.specs.Others.{ends_one, marked_value, taken_value};
 
 use crate::borrowers::lent_bases;
-use crate::lending::loans_of;
 use crate::scopes::is_guaranteed;
-use ownership_marks::{Kinds, Mark, MarkSort, Taken, add_item_taken};
+use item_operands::{Taken, add_item_taken};
+use ownership_marks::{Kinds, Mark, MarkSort};
 use sil_ast::{Exhausted, Function, ValueId};
 use sil_cfg::Item;
+use sil_rules::Rule;
 use std::alloc::Global;
+use value_tables::Borrow;
 
 /// Whether the value is one of these.
 fn is_among(value: ValueId, values: &[ValueId]) -> bool
@@ -85,31 +88,50 @@ fn ended_base(
     alloc: Global,
     f: &Function,
     k: &Kinds,
+    borrows: &[Borrow],
     scope: ValueId,
     item: Item,
 ) -> Result<Option<ValueId>, Exhausted>
+    requires { borrows.now ≡ borrowing.borrows_of f.now }
     ensures { IfOk result (λ o. o ≡ others.ended_base (told_at k.now.table) f.now scope item) }
 {
-    let loans = loans_of(alloc, f)?;
     let marks = k.marks_of(alloc, f, item)?;
-    let bases = lent_bases(k, loans.as_slice(), scope);
+    let bases = lent_bases(k, borrows, scope);
     Ok(first_ended(bases, marks.as_slice()))
 }
 
-/// The other value of a fault of the scope with this code, at this item.
+/// Whether the rule is the one on uses.
+fn is_on_uses(rule: Rule) -> bool
+    ensures { result ≡ others.is_on_uses rule }
+{
+    matches!(rule, Rule::UseOutsideScope)
+}
+
+/// Whether the rule is the one on ends of what is borrowed.
+fn is_on_bases(rule: Rule) -> bool
+    ensures { result ≡ others.is_on_bases rule }
+{
+    matches!(rule, Rule::ConsumedWhileBorrowed)
+}
+
+/// The other value of a fault of the scope, by this rule, at this item.
 pub(crate) fn other_of(
     alloc: Global,
     f: &Function,
     k: &Kinds,
-    code: u8,
+    borrows: &[Borrow],
+    rule: Rule,
     scope: ValueId,
     item: Item,
 ) -> Result<Option<ValueId>, Exhausted>
-    ensures { IfOk result (λ o. o ≡ others.other_of code (told_at k.now.table) f.now scope item) }
+    requires { borrows.now ≡ borrowing.borrows_of f.now }
+    ensures { IfOk result (λ o. o ≡ others.other_of rule (told_at k.now.table) f.now scope item) }
 {
-    match code {
-        1 => used_operand(alloc, f, k, scope, item),
-        4 => ended_base(alloc, f, k, scope, item),
-        _ => Ok(None),
+    if is_on_uses(rule) {
+        used_operand(alloc, f, k, scope, item)
+    } else if is_on_bases(rule) {
+        ended_base(alloc, f, k, borrows, scope, item)
+    } else {
+        Ok(None)
     }
 }

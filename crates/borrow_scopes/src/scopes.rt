@@ -1,9 +1,7 @@
 //! The table of rules 501 to 505: what each item does to which scope.
 
-ghost use Rattle.std.specs.Prelude.{◌≡◌, [], ◌∷◌, ◌++◌, ◌<◌, ◌≤◌, ◌^◌, ℕ, length, map, IfOk, OnOk};
-ghost use Rattle.std.specs.List.{flat_map, range_with_len};
-ghost use Rattle.sil_cfg.specs.Layout.{item_count};
-ghost use Rattle.path_lists.specs.inner.Lists.{list_at};
+ghost use Rattle.std.specs.Prelude.{◌≡◌, ◌++◌, map, OnOk};
+ghost use Rattle.std.specs.List.{flat_map};
 ghost use Rattle.ownership_chains.specs.Facts as facts;
 ghost use Rattle.ownership_marks.specs.Known.{facts_of, marks_at};
 ghost use Rattle.borrow_scopes.specs.Scopes as scopes;
@@ -11,14 +9,13 @@ ghost use Rattle.borrow_scopes.specs.Scopes.{lost_at_end};
 ghost use Rattle.borrow_scopes.specs.inner.Tables as tables;
 ghost use Rattle.borrow_scopes.specs.inner.Tables.{borrowers_at, lost_at, mark_entries_in, scope_entries_in};
 
-use ownership_kinds::is_borrow;
 use ownership_marks::{Kinds, Mark, MarkSort};
-use path_checks::Entry;
-use path_lists::ItemLists;
+use path_checks::{Entry, ItemTable, SharedMarks};
 use sil_ast::{Exhausted, ValueId};
-use sil_cfg::Graph;
-use std::alloc::Global;
+use sil_cfg::Item;
+use sil_rules::Rule;
 use type_definitions::Kind;
+use value_tables::{Borrow, is_borrow};
 
 pub(crate) fn is_guaranteed(kind: Kind) -> bool
     ensures { result ≡ facts.is_guaranteed kind }
@@ -27,7 +24,7 @@ pub(crate) fn is_guaranteed(kind: Kind) -> bool
 }
 
 /// Whether the value is a scope: Guaranteed, and the result of a borrow itself.
-fn is_scope(k: &Kinds, borrows: &[bool], value: ValueId) -> bool
+fn is_scope(k: &Kinds, borrows: &[Borrow], value: ValueId) -> bool
     ensures { result ≡ tables.is_scope_in borrows.now (facts_of k.now) value }
 {
     is_guaranteed(k.kind(value)) && is_borrow(borrows, value)
@@ -38,21 +35,9 @@ fn turned_by(sort: MarkSort) -> path_patterns::Mark
     ensures { result ≡ scopes.turned_by sort }
 {
     match sort {
-        MarkSort::Use => path_patterns::Mark {
-            needs: Some(true),
-            turns: None,
-            code: 1,
-        },
-        MarkSort::End => path_patterns::Mark {
-            needs: Some(true),
-            turns: Some(false),
-            code: 2,
-        },
-        MarkSort::Begin => path_patterns::Mark {
-            needs: Some(false),
-            turns: Some(true),
-            code: 5,
-        },
+        MarkSort::Use => path_patterns::Mark::needs_on(Rule::UseOutsideScope),
+        MarkSort::End => path_patterns::Mark::needs_on_turns_off(Rule::EndTwice),
+        MarkSort::Begin => path_patterns::Mark::needs_off_turns_on(Rule::ScopeOverwritten),
     }
 }
 
@@ -60,7 +45,7 @@ fn turned_by(sort: MarkSort) -> path_patterns::Mark
 fn add_scope_entry(
     entries: &mut Vec<Entry>,
     k: &Kinds,
-    borrows: &[bool],
+    borrows: &[Borrow],
     mark: Mark,
 ) -> Result<(), Exhausted>
     ensures { OnOk result (entries.new.items ≡ entries.old.items ++ scope_entries_in borrows.now (facts_of k.now) mark) }
@@ -81,11 +66,7 @@ fn add_lost(entries: &mut Vec<Entry>, lost: &[u32]) -> Result<(), Exhausted>
     for scope in lost {
         entries.push(Entry {
             subject: *scope,
-            mark: path_patterns::Mark {
-                needs: Some(false),
-                turns: None,
-                code: 4,
-            },
+            mark: path_patterns::Mark::needs_off(Rule::ConsumedWhileBorrowed),
         })?;
     }
     Ok(())
@@ -115,7 +96,7 @@ fn add_lost_at(entries: &mut Vec<Entry>, rows: &[Vec<u32>], mark: Mark) -> Resul
 fn add_mark(
     entries: &mut Vec<Entry>,
     k: &Kinds,
-    borrows: &[bool],
+    borrows: &[Borrow],
     rows: &[Vec<u32>],
     mark: Mark,
 ) -> Result<(), Exhausted>
@@ -129,7 +110,7 @@ fn add_mark(
 fn add_marks(
     entries: &mut Vec<Entry>,
     k: &Kinds,
-    borrows: &[bool],
+    borrows: &[Borrow],
     rows: &[Vec<u32>],
     marks: &[Mark],
 ) -> Result<(), Exhausted>
@@ -141,69 +122,43 @@ fn add_marks(
     Ok(())
 }
 
-/// The entries of the marks of one item, as those behind the items before. `own` is room for them.
-fn push_item(
-    all: &mut ItemLists<Entry>,
-    own: &mut Vec<Entry>,
-    k: &Kinds,
-    borrows: &[bool],
-    rows: &[Vec<u32>],
-    number: usize,
-) -> Result<(), Exhausted>
-    ensures { OnOk result (all.new ≡ all.old ++ flat_map (mark_entries_in borrows.now (facts_of k.now) rows.now) (marks_at k.now number) ∷ []) }
-{
-    own.clear();
-    add_marks(own, k, borrows, rows, k.marks(number))?;
-    all.push(own.as_slice())
+/// What the items of a function do to its scopes, by the marks of each item. A `return` has for each scope the mark that it is not open.
+/// `borrows` tells what each value borrows, and `rows` has the scopes that borrow from each base.
+#[derive(Drop)]
+pub(crate) struct Scopes<'a> {
+    pub k: &'a Kinds,
+    pub borrows: &'a [Borrow],
+    pub rows: &'a [Vec<u32>],
 }
 
-/// The entries of the marks of every item of the function's graph, by the item's number.
-/// `borrows` tells of each value whether it is the result of a borrow, and `rows` has the scopes that borrow from each base.
-pub(crate) fn entries_by_item(
-    alloc: Global,
-    g: &Graph,
-    k: &Kinds,
-    borrows: &[bool],
-    rows: &[Vec<u32>],
-) -> Result<ItemLists<Entry>, Exhausted>
-    ensures size { IfOk result (λ v. length v ≡ item_count g.now) }
-    ensures entries { IfOk result (λ v. (n : ℕ) → n < item_count g.now → list_at v n ≡ flat_map (mark_entries_in borrows.now (facts_of k.now) rows.now) (marks_at k.now n)) }
-{
-    let mut all = ItemLists::with_capacity(alloc, g.items())?;
-    let mut own = Vec::new(alloc);
-    for i in 0..g.items() {
-        push_item(&mut all, &mut own, k, borrows, rows, i)?;
-    }
-    Ok(all)
-}
+impl ItemTable for Scopes<'_> {
+    ghost entries_at = { λ t n _. flat_map (mark_entries_in t.borrows.now (facts_of t.k.now) t.rows.now) (marks_at t.k.now n) };
 
-/// At a `return` the value is not open, if it is a scope.
-fn left_mark(k: &Kinds, borrows: &[bool], value: ValueId) -> Option<path_patterns::Mark>
-    ensures { result ≡ tables.left_mark borrows.now (facts_of k.now) value.0 }
-{
-    if is_scope(k, borrows, value) {
-        Some(path_patterns::Mark {
-            needs: Some(false),
-            turns: None,
-            code: 3,
-        })
-    } else {
-        None
+    fn add_entries(
+        &self,
+        entries: &mut Vec<Entry>,
+        number: usize,
+        item: Item,
+    ) -> Result<(), Exhausted> {
+        let _ = item;
+        add_marks(
+            entries,
+            self.k,
+            self.borrows,
+            self.rows,
+            self.k.marks(number),
+        )
     }
 }
 
-/// The mark that every `return` has for each value, by the value's number.
-pub(crate) fn marks_at_returns(
-    alloc: Global,
-    k: &Kinds,
-    borrows: &[bool],
-) -> Result<Vec<Option<path_patterns::Mark>>, Exhausted>
-    ensures marks { IfOk result (λ v. v.items ≡ map (tables.left_mark borrows.now (facts_of k.now)) (range_with_len 0 (length k.now.table))) }
-    ensures few { IfOk result (λ v. length v.items ≤ 2 ^ 32) }
-{
-    let mut marks = Vec::with_capacity(alloc, k.values())?;
-    for n in 0..k.values() {
-        marks.push(left_mark(k, borrows, ValueId(n as u32)))?;
+impl SharedMarks for Scopes<'_> {
+    ghost mark_of = { λ t n. tables.left_mark t.borrows.now (facts_of t.k.now) n };
+
+    fn shared_mark(&self, subject: u32) -> Option<path_patterns::Mark> {
+        if is_scope(self.k, self.borrows, ValueId(subject)) {
+            Some(path_patterns::Mark::needs_off(Rule::ScopeLeft))
+        } else {
+            None
+        }
     }
-    Ok(marks)
 }

@@ -42,13 +42,13 @@ module _ (facts : ValueId → Facts) where
 
 -- what items do by their own marks and at a `return` are their lives
 pub lives_agree : (f : Function) (g : Layout) (k : Known) (own : List (List Entry)) (marks : List (Option pattern.Mark)) (sharing : List Bool) →
-    ((n : ℕ) → n < item_count g → list_at own n ≡ flat_map (lives_by (facts_of k)) (marks_at k n)) →
+    ((n : ℕ) (item : Item) → item_at g n ≡ Some item → list_at own n ≡ flat_map (lives_by (facts_of k)) (marks_at k n)) →
     marks ≡ map (left_mark (facts_of k)) (range_with_len 0 (length k.table)) →
     ((n : ℕ) (item : Item) → item_at g n ≡ Some item → is_sharing sharing n ≡ is_return f item) →
     (count : ℕ) (facts : ValueId → Option Facts) → AreKindsBy count facts f g k → AgreesWith g (entries_with own marks sharing) (lives_of count facts f)
 lives_agree f g k own marks sharing own_are marks_are sharing_are count facts by n item e =
     ap₂ (λ x y. x ++ y)
-    (own_are n (slice_get_within g.kinds n item e) ∙ same_lives (facts_of k) (known_or facts) by.facts_are (marks_at k n) ∙ ap (flat_map (lives_by (known_or facts))) (by.marks_are n item e))
+    (own_are n item e ∙ same_lives (facts_of k) (known_or facts) by.facts_are (marks_at k n) ∙ ap (flat_map (lives_by (known_or facts))) (by.marks_are n item e))
     (ap₂ (λ m b. shared_if m b) marks_are (sharing_are n item e) ∙ shared_returned (facts_of k) (length k.table) (is_return f item)
     ∙ same_returned (facts_of k) (known_or facts) by.facts_are (length k.table) (is_return f item)
     ∙ ap (λ size. returned (known_or facts) size (is_return f item)) by.size)

@@ -1,4 +1,5 @@
--- What an item does to the Owned values: they end, are used and begin, and at a `return` none is left. A value's switch is on while it lives.
+-- What an item does to the Owned values: they end, are used and begin, and at a `return` none is left.
+-- A value's switch is on while it lives.
 use Rattle.std.specs.Prelude.{ℕ, List, [], ◌∷◌, ◌++◌, Bool, true, false, cond, Option, Some, None}
 use Rattle.std.specs.List.{flat_map, range_with_len}
 use Rattle.sil_ast.specs.declared.function.Function.{Function}
@@ -6,7 +7,9 @@ use Rattle.sil_ast.specs.declared.place.ValueId.{ValueId}
 use Rattle.sil_cfg.specs.declared.item.Item.{Item}
 use Rattle.sil_cfg.specs.Returns.{is_return}
 use Rattle.path_checks.specs.declared.entry.Entry as entry
+use Rattle.path_patterns.specs.Marks.{needs_off, needs_off_turns_on, needs_on, needs_on_turns_off}
 use Rattle.path_patterns.specs.declared.mark.Mark as pattern
+use Rattle.sil_rules.specs.declared.rule.Rule.TheVariants as rule
 use Rattle.ownership_chains.specs.Facts.{is_owned, known_or, value_of}
 use Rattle.ownership_chains.specs.declared.facts.Facts.{Facts}
 use Rattle.ownership_marks.specs.Marks.{marks_of}
@@ -14,17 +17,17 @@ use Rattle.ownership_marks.specs.declared.mark.Mark as mark
 use Rattle.ownership_marks.specs.declared.mark.MarkSort.{MarkSort}
 use Rattle.ownership_marks.specs.declared.mark.MarkSort.TheVariants.{End, Use, Begin}
 
--- a use needs the value alive: 401. An end does too, and ends it: 402. At a `return` it is not alive: 403. A begin needs it not alive, and begins it: 404
+-- a use needs the value alive. An end does too, and ends it. A begin needs it not alive, and begins it. At a `return` it is not alive
 abbrev pub turned_by : MarkSort → pattern.Mark
-turned_by Use = record { needs = Some true; turns = None; code = 1 }
-turned_by End = record { needs = Some true; turns = Some false; code = 2 }
-turned_by Begin = record { needs = Some false; turns = Some true; code = 4 }
+turned_by Use = needs_on rule.UseAfterConsume
+turned_by End = needs_on_turns_off rule.DoubleConsume
+turned_by Begin = needs_off_turns_on rule.Overwritten
 
 abbrev pub entry_of : mark.Mark → entry.Entry
 entry_of m = record { subject = m.subject.0; mark = turned_by m.sort }
 
 abbrev pub left_at_return : ℕ → entry.Entry
-left_at_return n = record { subject = n; mark = record { needs = Some false; turns = None; code = 3 } }
+left_at_return n = record { subject = n; mark = needs_off rule.Leak }
 
 module _ (facts : ValueId → Facts) where
   -- a mark of an Owned value

@@ -4,15 +4,13 @@ ghost use Rattle.std.specs.Prelude.{IfErr, IfOk, OnOk};
 ghost use Rattle.sil_cfg.specs.Build.{IsGraphOf};
 ghost use Rattle.lifetime_worklist.specs.inner.Lifetimes.{AreLivesKept, IsFirstLife, IsLifeBroken};
 
-use crate::lives::{entries_by_item, marks_at_returns};
+use crate::lives::Lives;
 use ownership_marks::Kinds;
-use path_checks::{PathFault, first_fault};
-use sil_ast::{Exhausted, Function, ValueId};
-use sil_cfg::{Graph, RuleEnd, RuleFault, returns_by_item};
+use path_checks::{PathFault, entries_by_item, first_fault, marks_by_subject};
+use rule_faults::RuleEnd;
+use sil_ast::{Exhausted, Function};
+use sil_cfg::{Graph, returns_by_item};
 use std::alloc::Global;
-
-/// The rule of code 1 is the one behind this.
-const BEFORE_FIRST: u16 = 400;
 
 /// The first Owned value whose life some walk breaks, with a walk of fewest edges that shows it.
 fn first_broken(
@@ -24,14 +22,15 @@ fn first_broken(
     requires { IsGraphOf g.now f.now }
     ensures { IfOk result (IsFirstLife f.now g.now k.now) }
 {
-    let entries = entries_by_item(alloc, g, k)?;
-    let marks = marks_at_returns(alloc, k)?;
+    let lives = Lives { k };
+    let entries = entries_by_item(alloc, &lives, g)?;
+    let marks = marks_by_subject(alloc, &lives, k.values())?;
     let returns = returns_by_item(alloc, f, g)?;
     first_fault(alloc, f, g, &entries, &marks, &returns)
 }
 
-/// Checks rules 401 to 404: on every walk each Owned value is used (401) and ended (402) only while it lives, is not alive at a `return` (403), and begins only while it is not alive (404).
-/// `g` is the graph of `f`, and `k` has its kinds and marks.
+/// Checks rules 401 to 404: on every walk each Owned value is used (401) and ended (402) only while it lives, is not alive at a `return` (403),
+/// and begins only while it is not alive (404). `g` is the graph of `f`, and `k` has its kinds and marks.
 /// The fault is that of the least value for which some walk shows one, of its first rule, and its walk has the fewest edges among those that show it.
 pub fn check(alloc: Global, f: &Function, g: &Graph, k: &Kinds) -> Result<(), RuleEnd>
     requires { IsGraphOf g.now f.now }
@@ -41,21 +40,6 @@ pub fn check(alloc: Global, f: &Function, g: &Graph, k: &Kinds) -> Result<(), Ru
     match first_broken(alloc, f, g, k) {
         Err(_) => Err(RuleEnd::Memory),
         Ok(None) => Ok(()),
-        Ok(Some(fault)) => {
-            let PathFault {
-                subject,
-                code,
-                walk,
-                point,
-                item: _,
-            } = fault;
-            Err(RuleEnd::Fault(RuleFault {
-                rule: BEFORE_FIRST + code as u16,
-                subject: ValueId(subject),
-                other: None,
-                point,
-                walk,
-            }))
-        }
+        Ok(Some(fault)) => Err(RuleEnd::Fault(fault.report(None))),
     }
 }

@@ -1,20 +1,17 @@
 //! The table of rules 401 to 404: what each item does to which Owned value.
 
-ghost use Rattle.std.specs.Prelude.{◌≡◌, [], ◌∷◌, ◌++◌, ◌<◌, ◌≤◌, ◌^◌, ℕ, length, map, IfOk, OnOk};
-ghost use Rattle.std.specs.List.{flat_map, range_with_len};
-ghost use Rattle.sil_cfg.specs.Layout.{item_count};
-ghost use Rattle.path_lists.specs.inner.Lists.{list_at};
+ghost use Rattle.std.specs.Prelude.{◌≡◌, ◌++◌, OnOk};
+ghost use Rattle.std.specs.List.{flat_map};
 ghost use Rattle.ownership_chains.specs.Facts as facts;
 ghost use Rattle.ownership_marks.specs.Known.{facts_of, marks_at};
 ghost use Rattle.lifetime_worklist.specs.Lives as lives;
 ghost use Rattle.lifetime_worklist.specs.Lives.{lives_by};
 
 use ownership_marks::{Kinds, Mark, MarkSort};
-use path_checks::Entry;
-use path_lists::ItemLists;
+use path_checks::{Entry, ItemTable, SharedMarks};
 use sil_ast::{Exhausted, ValueId};
-use sil_cfg::Graph;
-use std::alloc::Global;
+use sil_cfg::Item;
+use sil_rules::Rule;
 use type_definitions::Kind;
 
 fn is_owned(kind: Kind) -> bool
@@ -28,21 +25,9 @@ fn turned_by(sort: MarkSort) -> path_patterns::Mark
     ensures { result ≡ lives.turned_by sort }
 {
     match sort {
-        MarkSort::Use => path_patterns::Mark {
-            needs: Some(true),
-            turns: None,
-            code: 1,
-        },
-        MarkSort::End => path_patterns::Mark {
-            needs: Some(true),
-            turns: Some(false),
-            code: 2,
-        },
-        MarkSort::Begin => path_patterns::Mark {
-            needs: Some(false),
-            turns: Some(true),
-            code: 4,
-        },
+        MarkSort::Use => path_patterns::Mark::needs_on(Rule::UseAfterConsume),
+        MarkSort::End => path_patterns::Mark::needs_on_turns_off(Rule::DoubleConsume),
+        MarkSort::Begin => path_patterns::Mark::needs_off_turns_on(Rule::Overwritten),
     }
 }
 
@@ -61,63 +46,34 @@ fn add_marks(entries: &mut Vec<Entry>, k: &Kinds, marks: &[Mark]) -> Result<(), 
     Ok(())
 }
 
-/// At a `return` the value is not alive, if it is Owned.
-fn left_mark(k: &Kinds, value: ValueId) -> Option<path_patterns::Mark>
-    ensures { result ≡ lives.left_mark (facts_of k.now) value.0 }
-{
-    if is_owned(k.kind(value)) {
-        Some(path_patterns::Mark {
-            needs: Some(false),
-            turns: None,
-            code: 3,
-        })
-    } else {
-        None
+/// The lives of the Owned values, by the marks of each item. A `return` has for each of them the mark that it is not alive.
+#[derive(Drop)]
+pub(crate) struct Lives<'k> {
+    pub k: &'k Kinds,
+}
+
+impl ItemTable for Lives<'_> {
+    ghost entries_at = { λ t n _. flat_map (lives_by (facts_of t.k.now)) (marks_at t.k.now n) };
+
+    fn add_entries(
+        &self,
+        entries: &mut Vec<Entry>,
+        number: usize,
+        item: Item,
+    ) -> Result<(), Exhausted> {
+        let _ = item;
+        add_marks(entries, self.k, self.k.marks(number))
     }
 }
 
-/// The mark that every `return` has for each value, by the value's number.
-pub(crate) fn marks_at_returns(
-    alloc: Global,
-    k: &Kinds,
-) -> Result<Vec<Option<path_patterns::Mark>>, Exhausted>
-    ensures marks { IfOk result (λ v. v.items ≡ map (lives.left_mark (facts_of k.now)) (range_with_len 0 (length k.now.table))) }
-    ensures few { IfOk result (λ v. length v.items ≤ 2 ^ 32) }
-{
-    let mut marks = Vec::with_capacity(alloc, k.values())?;
-    for n in 0..k.values() {
-        marks.push(left_mark(k, ValueId(n as u32)))?;
-    }
-    Ok(marks)
-}
+impl SharedMarks for Lives<'_> {
+    ghost mark_of = { λ t n. lives.left_mark (facts_of t.k.now) n };
 
-/// The entries of the marks of one item, as those behind the items before. `own` is room for them.
-fn push_item(
-    all: &mut ItemLists<Entry>,
-    own: &mut Vec<Entry>,
-    k: &Kinds,
-    number: usize,
-) -> Result<(), Exhausted>
-    ensures { OnOk result (all.new ≡ all.old ++ flat_map (lives_by (facts_of k.now)) (marks_at k.now number) ∷ []) }
-{
-    own.clear();
-    add_marks(own, k, k.marks(number))?;
-    all.push(own.as_slice())
-}
-
-/// The entries of the marks of every item of the function's graph, by the item's number.
-pub(crate) fn entries_by_item(
-    alloc: Global,
-    g: &Graph,
-    k: &Kinds,
-) -> Result<ItemLists<Entry>, Exhausted>
-    ensures size { IfOk result (λ v. length v ≡ item_count g.now) }
-    ensures entries { IfOk result (λ v. (n : ℕ) → n < item_count g.now → list_at v n ≡ flat_map (lives_by (facts_of k.now)) (marks_at k.now n)) }
-{
-    let mut all = ItemLists::with_capacity(alloc, g.items())?;
-    let mut own = Vec::new(alloc);
-    for i in 0..g.items() {
-        push_item(&mut all, &mut own, k, i)?;
+    fn shared_mark(&self, subject: u32) -> Option<path_patterns::Mark> {
+        if is_owned(self.k.kind(ValueId(subject))) {
+            Some(path_patterns::Mark::needs_off(Rule::Leak))
+        } else {
+            None
+        }
     }
-    Ok(all)
 }

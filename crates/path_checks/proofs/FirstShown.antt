@@ -62,7 +62,7 @@ module _ (g : Layout) (f : Function) (is : IsGraphOf g f) (entries : ℕ → Lis
       let r = shown_back g f is entries table agrees (FitsRead IsInPlace (means subject)) (read_code code_of (means subject)) walk (index_of rule) h.item h.at.shows in (
         r.0,
         shown_reached (read_step mark_step (means subject)) (FitsRead IsInPlace (means subject)) (read_code code_of (means subject))
-        (reading_decides (means subject)) entries (numbered g) walk (index_of rule) r.0 r.2,
+            (reading_decides (means subject)) entries (numbered g) walk (index_of rule) r.0 r.2,
       )
 
   -- and what is reached is shown

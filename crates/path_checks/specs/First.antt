@@ -33,4 +33,4 @@ IsFirst f table None = (subject : ℕ) (rule : Rule) (walk : List EdgeId) (point
 IsFirst f table (Some fault) =
     IsShownAt f table fault.subject fault.rule fault.walk fault.point fault.item
     × ((subject : ℕ) (rule : Rule) (walk : List EdgeId) (point : PointId) → IsShown f table subject rule walk point
-      → NotAfter (key fault.subject fault.rule fault.walk) (key subject rule walk))
+    → NotAfter (key fault.subject fault.rule fault.walk) (key subject rule walk))

@@ -1,4 +1,5 @@
 pub mod Entries
 pub mod First
 pub mod Reported
+pub mod Groups
 pub mod inner

@@ -1,13 +1,12 @@
 -- The last mark that turns a switch says how a list of marks leaves it.
-use Rattle.std.proofs.Common.{◌≡◌, ℕ, zero, suc, ◌<◌, List, [], ◌∷◌, ◌++◌, refl, sym, ap, ◌∙◌, subst, Bool, true, false, Option, Some, None, append_assoc, arith}
-use Rattle.std.specs.Prelude.{◌↔◌, min, max, ◌-◌}
+use Rattle.std.proofs.Common.{◌≡◌, ℕ, zero, suc, List, [], ◌∷◌, ◌++◌, refl, sym, ap, ◌∙◌, subst, Bool, true, false, Option, Some, None, append_assoc, arith}
+use Rattle.std.specs.Prelude.{◌↔◌}
 use Rattle.std.proofs.lemmas.List.{append-nil}
-use Rattle.reach_engine.specs.declared.scan.Step.TheVariants.{Go, Bad}
-use Rattle.reach_engine.specs.Run.{run}
+use Rattle.reach_engine.specs.declared.scan.Step.TheVariants.{Go}
 use Rattle.reach_engine.proofs.Runs.{run_split, same_Go}
 use Rattle.path_patterns.specs.declared.mark.Mark.{Mark}
 use Rattle.path_patterns.specs.Switch.{IsOn, turned, mark_step}
-use Rattle.path_patterns.specs.inner.Turns.{later_of, last_turn, Leaves, LeavesAsTurned, EndsAsTurned, set_bit, clear_bit, TurnsByBits}
+use Rattle.path_patterns.specs.inner.Turns.{later_of, last_turn, Leaves, LeavesAsTurned, EndsAsTurned, TurnsByBits}
 use Rattle.path_patterns.proofs.SwitchDecided.{push_on, push_off, push_none, pop_none, step_goes}
 
 turned_twice : (s : ℕ) (first next : Option Bool) → turned (turned s first) next ≡ turned s (later_of first next)

@@ -6,20 +6,19 @@ ghost use Rattle.path_checks.specs.First.{IsFirst};
 ghost use Rattle.value_availability.specs.Accesses.{accesses_of};
 ghost use Rattle.value_availability.specs.inner.Availability.{IsAvailable, IsUndefined};
 
-use crate::accesses::entries_by_item;
-use path_checks::{PathFault, first_fault};
-use sil_ast::{Exhausted, Function, ValueId};
-use sil_cfg::{Graph, RuleEnd, RuleFault};
+use crate::accesses::Accesses;
+use path_checks::{PathFault, entries_by_item, first_fault};
+use rule_faults::RuleEnd;
+use sil_ast::{Exhausted, Function};
+use sil_cfg::Graph;
 use std::alloc::Global;
-
-const UNDEFINED: u16 = 301;
 
 /// The first value that some walk uses before its definition, with a walk of fewest edges that shows it.
 fn first_undefined(alloc: Global, f: &Function, g: &Graph) -> Result<Option<PathFault>, Exhausted>
     requires { IsGraphOf g.now f.now }
     ensures { IfOk result (IsFirst f.now (accesses_of f.now)) }
 {
-    let entries = entries_by_item(alloc, f, g)?;
+    let entries = entries_by_item(alloc, &Accesses { f }, g)?;
     first_fault(alloc, f, g, &entries, &[], &[])
 }
 
@@ -33,21 +32,6 @@ pub fn check(alloc: Global, f: &Function, g: &Graph) -> Result<(), RuleEnd>
     match first_undefined(alloc, f, g) {
         Err(_) => Err(RuleEnd::Memory),
         Ok(None) => Ok(()),
-        Ok(Some(fault)) => {
-            let PathFault {
-                subject,
-                code: _,
-                walk,
-                point,
-                item: _,
-            } = fault;
-            Err(RuleEnd::Fault(RuleFault {
-                rule: UNDEFINED,
-                subject: ValueId(subject),
-                other: None,
-                point,
-                walk,
-            }))
-        }
+        Ok(Some(fault)) => Err(RuleEnd::Fault(fault.report(None))),
     }
 }

@@ -1,15 +1,17 @@
 -- Rules 501 to 505.
-use Rattle.std.specs.Prelude.{◌≡◌, ◌+◌, ℕ, Option, Some, None}
+use Rattle.std.specs.Prelude.{◌≡◌, ℕ, ⊤, Option, Some, None}
 use Rattle.sil_ast.specs.declared.function.Function.{Function}
 use Rattle.sil_ast.specs.declared.place.ValueId.{ValueId}
 use Rattle.sil_cfg.specs.Layout.{Layout}
-use Rattle.sil_cfg.specs.declared.fault.RuleEnd.{RuleEnd}
-use Rattle.sil_cfg.specs.declared.fault.RuleEnd.TheVariants.{Fault, Memory}
-use Rattle.sil_cfg.specs.declared.fault.RuleFault.{RuleFault}
+use Rattle.rule_faults.specs.declared.fault.RuleEnd.{RuleEnd}
+use Rattle.rule_faults.specs.declared.fault.RuleEnd.TheVariants.{Fault, Memory}
+use Rattle.rule_faults.specs.declared.fault.RuleFault.{RuleFault}
+use Rattle.sil_rules.specs.declared.rule.Rule.{Rule}
 use Rattle.sil_cfg.specs.declared.item.Item.{Item}
 use Rattle.path_checks.specs.First.{IsFirst}
-use Rattle.path_checks.specs.declared.entry.PathFault.{PathFault}
-use Rattle.ownership_chains.specs.Facts.{told_at}
+use Rattle.path_checks.specs.Reported.{found_at}
+use Rattle.path_checks.specs.declared.fault.PathFault.{PathFault}
+use Rattle.ownership_chains.specs.Facts.{told_at, value_of}
 use Rattle.ownership_chains.specs.declared.facts.Facts.{Facts}
 use Rattle.ownership_marks.specs.Known.{AreKindsBy, Known}
 use Rattle.borrow_scopes.specs.Others.{other_of}
@@ -24,25 +26,20 @@ abbrev pub AreScopesKept : Function → Layout → Known → Type 0
 AreScopesKept f g k = IsFirstScope f g k None
 
 -- the other value of the fault is the one that takes part at the item, whichever facts the kinds are by
-abbrev pub IsOther : Function → Layout → Known → ℕ → ValueId → Item → Option ValueId → Type 0
-IsOther f g k code s item other = (count : ℕ) (facts : ValueId → Option Facts) → AreKindsBy count facts f g k → other ≡ other_of code facts f s item
+abbrev pub IsOther : Function → Layout → Known → Rule → ValueId → Item → Option ValueId → Type 0
+IsOther f g k r s item other = (count : ℕ) (facts : ValueId → Option Facts) → AreKindsBy count facts f g k → other ≡ other_of r facts f s item
 
 -- the walk breaks one at the point, and nothing that is shown comes before it: by value, then by rule, and then with fewer edges
 pub record IsFirstBrokenScope (f : Function) (g : Layout) (k : Known) (fault : RuleFault) : Type 0 where
-  pub code : ℕ
   pub item : Item
-  pub rule : fault.rule ≡ 500 + code
-  pub first : IsFirstScope f g k (Some (record { subject = fault.subject.0; code = code; walk = fault.walk; point = fault.point; item = item }))
-  pub other : IsOther f g k code fault.subject item fault.other
+  pub first : IsFirstScope f g k (Some (found_at fault item))
+  pub other : IsOther f g k fault.rule fault.subject item fault.other
 
 -- what the first fault of the table is reported as
 pub record IsFaultOf (f : Function) (k : Known) (x : PathFault) (y : RuleFault) : Type 0 where
-  pub rule : y.rule ≡ 500 + x.code
-  pub subject : y.subject.0 ≡ x.subject
-  pub point : y.point ≡ x.point
-  pub walk : y.walk ≡ x.walk
-  pub other : y.other ≡ other_of x.code (told_at k.table) f y.subject x.item
+  pub found : found_at y x.item ≡ x
+  pub other : y.other ≡ other_of x.rule (told_at k.table) f (value_of x.subject) x.item
 
 abbrev pub IsScopeBroken : Function → Layout → Known → RuleEnd → Type 0
 IsScopeBroken f g k (Fault fault) = IsFirstBrokenScope f g k fault
-IsScopeBroken f g k Memory = Unit {0}
+IsScopeBroken f g k Memory = ⊤

@@ -9,11 +9,11 @@ use Rattle.path_patterns.specs.Reads.{accesses_at}
 use Rattle.path_patterns.specs.declared.mark.Mark as pattern
 use Rattle.ownership_chains.specs.Facts.{has, is_guaranteed, value_of}
 use Rattle.ownership_chains.specs.declared.facts.Facts.{Facts}
-use Rattle.ownership_kinds.specs.Statics.{is_borrow_in}
+use Rattle.value_tables.specs.Borrows.{is_borrow_in, lent_in}
+use Rattle.value_tables.specs.declared.borrows.Borrow.{Borrow}
 use Rattle.ownership_marks.specs.declared.mark.Mark as mark
 use Rattle.ownership_marks.specs.declared.mark.MarkSort.{MarkSort}
 use Rattle.ownership_marks.specs.declared.mark.MarkSort.TheVariants.{End, Use, Begin}
-use Rattle.borrow_scopes.specs.Lending.{lent_in}
 use Rattle.borrow_scopes.specs.Scopes.{bases_in, entry_of, left_at_return, lost_at_end}
 
 -- the scopes that borrow from the base with this number
@@ -37,19 +37,19 @@ with_last_if true scopes n = with_last scopes n
 with_last_if false scopes n = scopes
 
 -- the bases of what the value with this number lends
-abbrev pub lent_bases_in : (ValueId → Facts) → List (Option ValueId) → ℕ → List ValueId
-lent_bases_in facts loans n = bases_in facts (lent_in loans n)
+abbrev pub lent_bases_in : (ValueId → Facts) → List Borrow → ℕ → List ValueId
+lent_bases_in facts borrows n = bases_in facts (lent_in borrows n)
 
 -- of the values below a count those that borrow from the base
-abbrev pub borrowers_of : (ValueId → Facts) → List (Option ValueId) → ℕ → ℕ → List ℕ
-borrowers_of facts loans count base = filter (λ n. has (lent_bases_in facts loans n) base) (range_with_len 0 count)
+abbrev pub borrowers_of : (ValueId → Facts) → List Borrow → ℕ → ℕ → List ℕ
+borrowers_of facts borrows count base = filter (λ n. has (lent_bases_in facts borrows n) base) (range_with_len 0 count)
 
 abbrev pub lost_at : List ℕ → MarkSort → List entry.Entry
 lost_at scopes End = map lost_at_end scopes
 lost_at scopes Use = []
 lost_at scopes Begin = []
 
-module _ (borrows : List Bool) (facts : ValueId → Facts) where
+module _ (borrows : List Borrow) (facts : ValueId → Facts) where
   abbrev pub is_scope_in : ValueId → Bool
   is_scope_in v = is_guaranteed (facts v).kind && is_borrow_in borrows v
 

@@ -1,14 +1,15 @@
 -- Rules 401 to 404.
-use Rattle.std.specs.Prelude.{◌≡◌, ◌+◌, ℕ, Option, Some, None}
+use Rattle.std.specs.Prelude.{◌≡◌, ℕ, ⊤, Option, Some, None}
 use Rattle.sil_ast.specs.declared.function.Function.{Function}
 use Rattle.sil_ast.specs.declared.place.ValueId.{ValueId}
 use Rattle.sil_cfg.specs.Layout.{Layout}
-use Rattle.sil_cfg.specs.declared.fault.RuleEnd.{RuleEnd}
-use Rattle.sil_cfg.specs.declared.fault.RuleEnd.TheVariants.{Fault, Memory}
-use Rattle.sil_cfg.specs.declared.fault.RuleFault.{RuleFault}
+use Rattle.rule_faults.specs.declared.fault.RuleEnd.{RuleEnd}
+use Rattle.rule_faults.specs.declared.fault.RuleEnd.TheVariants.{Fault, Memory}
+use Rattle.rule_faults.specs.declared.fault.RuleFault.{RuleFault}
 use Rattle.sil_cfg.specs.declared.item.Item.{Item}
 use Rattle.path_checks.specs.First.{IsFirst}
-use Rattle.path_checks.specs.declared.entry.PathFault.{PathFault}
+use Rattle.path_checks.specs.Reported.{found_at}
+use Rattle.path_checks.specs.declared.fault.PathFault.{PathFault}
 use Rattle.ownership_chains.specs.declared.facts.Facts.{Facts}
 use Rattle.ownership_marks.specs.Known.{AreKindsBy, Known}
 use Rattle.lifetime_worklist.specs.Lives.{lives_of}
@@ -23,12 +24,10 @@ AreLivesKept f g k = IsFirstLife f g k None
 
 -- the walk breaks one at the point, and nothing that is shown comes before it: by value, then by rule, and then with fewer edges
 pub record IsFirstBrokenLife (f : Function) (g : Layout) (k : Known) (fault : RuleFault) : Type 0 where
-  pub code : ℕ
   pub item : Item
-  pub rule : fault.rule ≡ 400 + code
+  pub first : IsFirstLife f g k (Some (found_at fault item))
   pub other : fault.other ≡ None
-  pub first : IsFirstLife f g k (Some (record { subject = fault.subject.0; code = code; walk = fault.walk; point = fault.point; item = item }))
 
 abbrev pub IsLifeBroken : Function → Layout → Known → RuleEnd → Type 0
 IsLifeBroken f g k (Fault fault) = IsFirstBrokenLife f g k fault
-IsLifeBroken f g k Memory = Unit {0}
+IsLifeBroken f g k Memory = ⊤

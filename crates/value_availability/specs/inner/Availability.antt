@@ -1,11 +1,12 @@
 -- Rule 301.
-use Rattle.std.specs.Prelude.{◌≡◌, ℕ, Some, None}
+use Rattle.std.specs.Prelude.{◌≡◌, ⊤, Some, None}
 use Rattle.sil_ast.specs.declared.function.Function.{Function}
-use Rattle.sil_cfg.specs.declared.fault.RuleFault.{RuleFault}
 use Rattle.sil_cfg.specs.declared.item.Item.{Item}
-use Rattle.sil_cfg.specs.declared.fault.RuleEnd.{RuleEnd}
-use Rattle.sil_cfg.specs.declared.fault.RuleEnd.TheVariants.{Fault, Memory}
+use Rattle.rule_faults.specs.declared.fault.RuleFault.{RuleFault}
+use Rattle.rule_faults.specs.declared.fault.RuleEnd.{RuleEnd}
+use Rattle.rule_faults.specs.declared.fault.RuleEnd.TheVariants.{Fault, Memory}
 use Rattle.path_checks.specs.First.{IsFirst}
+use Rattle.path_checks.specs.Reported.{found_at}
 use Rattle.value_availability.specs.Accesses.{accesses_of}
 
 -- no walk shows a value that is an operand before its definition
@@ -14,12 +15,10 @@ IsAvailable f = IsFirst f (accesses_of f) None
 
 -- the walk shows such a value at the point, and nothing that is shown comes before it: by value, and then with fewer edges
 pub record IsFirstUndefined (f : Function) (fault : RuleFault) : Type 0 where
-  pub rule : fault.rule ≡ 301
-  pub other : fault.other ≡ None
-  pub code : ℕ
   pub item : Item
-  pub first : IsFirst f (accesses_of f) (Some (record { subject = fault.subject.0; code = code; walk = fault.walk; point = fault.point; item = item }))
+  pub first : IsFirst f (accesses_of f) (Some (found_at fault item))
+  pub other : fault.other ≡ None
 
 abbrev pub IsUndefined : Function → RuleEnd → Type 0
 IsUndefined f (Fault fault) = IsFirstUndefined f fault
-IsUndefined f Memory = Unit {0}
+IsUndefined f Memory = ⊤
