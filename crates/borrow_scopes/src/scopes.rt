@@ -10,7 +10,7 @@ ghost use Rattle.borrow_scopes.specs.inner.Tables as tables;
 ghost use Rattle.borrow_scopes.specs.inner.Tables.{borrowers_at, lost_at, mark_entries_in, scope_entries_in};
 
 use ownership_marks::{Kinds, Mark, MarkSort};
-use path_checks::{Entry, ItemTable, SharedMarks};
+use path_checks::{Entry, ItemTable, SubjectMarks};
 use sil_ast::{Exhausted, ValueId};
 use sil_cfg::Item;
 use sil_rules::Rule;
@@ -151,7 +151,7 @@ impl ItemTable for Scopes<'_> {
     }
 }
 
-impl SharedMarks for Scopes<'_> {
+impl SubjectMarks for Scopes<'_> {
     ghost mark_of = { λ t n. tables.left_mark t.borrows.now (facts_of t.k.now) n };
 
     fn shared_mark(&self, subject: u32) -> Option<path_patterns::Mark> {

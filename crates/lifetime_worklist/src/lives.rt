@@ -8,7 +8,7 @@ ghost use Rattle.lifetime_worklist.specs.Lives as lives;
 ghost use Rattle.lifetime_worklist.specs.Lives.{lives_by};
 
 use ownership_marks::{Kinds, Mark, MarkSort};
-use path_checks::{Entry, ItemTable, SharedMarks};
+use path_checks::{Entry, ItemTable, SubjectMarks};
 use sil_ast::{Exhausted, ValueId};
 use sil_cfg::Item;
 use sil_rules::Rule;
@@ -66,7 +66,7 @@ impl ItemTable for Lives<'_> {
     }
 }
 
-impl SharedMarks for Lives<'_> {
+impl SubjectMarks for Lives<'_> {
     ghost mark_of = { λ t n. lives.left_mark (facts_of t.k.now) n };
 
     fn shared_mark(&self, subject: u32) -> Option<path_patterns::Mark> {

@@ -13,4 +13,4 @@ mod tables;
 pub use entry::Entry;
 pub use fault::PathFault;
 pub use first::first_fault;
-pub use tables::{ItemTable, SharedMarks, entries_by_item, marks_by_subject};
+pub use tables::{ItemTable, SubjectMarks, entries_by_item, marks_by_subject};

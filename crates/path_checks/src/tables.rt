@@ -30,7 +30,7 @@ pub trait ItemTable {
 }
 
 /// The mark that items share, of each subject.
-pub trait SharedMarks {
+pub trait SubjectMarks {
     ghost mark_of: { Self → ℕ → Option Mark };
 
     /// The mark of the subject with this number, if it has one.
@@ -71,7 +71,7 @@ pub fn entries_by_item<T: ItemTable>(
 }
 
 /// The mark that items share, of each of `count` subjects, by the subject's number.
-pub fn marks_by_subject<T: SharedMarks>(
+pub fn marks_by_subject<T: SubjectMarks>(
     alloc: Global,
     table: &T,
     count: usize,

@@ -6,7 +6,7 @@ use Rattle.path_checks.proofs.tables.marks_by_subject.Goals as goal
 
 pub loop-subject-preserved : goal.loop-subject-preserved
 loop-subject-preserved g c =
-    let of : ℕ → Option Mark = g.T.SharedMarks.mark_of c.args.table.now in
+    let of : ℕ → Option Mark = g.T.SubjectMarks.mark_of c.args.table.now in
     c.in_ok-push.ensures.items ∙ ap (λ v. v ++ c.shared_mark.result ∷ []) c.loop-subject.invariant
     ∙ ap (λ m. map of (range_with_len 0 c.loop-subject.subject) ++ m ∷ []) c.shared_mark.ensures
     ∙ sym (map-range_with_len_more of 0 c.loop-subject.subject c.loop-subject.subject (omega arith))
@@ -14,5 +14,5 @@ loop-subject-preserved g c =
 pub returns-clause-few : goal.returns-clause-few
 returns-clause-few g c =
     let long : length c.loop-subject.marks.items ≡ c.loop-subject.subject =
-    ap length c.loop-subject.invariant ∙ length-map-range_with_len (g.T.SharedMarks.mark_of c.args.table.now) 0 c.loop-subject.subject in
+    ap length c.loop-subject.invariant ∙ length-map-range_with_len (g.T.SubjectMarks.mark_of c.args.table.now) 0 c.loop-subject.subject in
     omega arith
