@@ -1,6 +1,6 @@
 mod Noting
 mod ResultByResult
-mod BlockByBlock
+mod ByTables
 mod TrivialTuples
 pub mod Counts
 pub mod Ranges

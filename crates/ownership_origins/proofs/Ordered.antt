@@ -14,7 +14,7 @@ use Rattle.ownership_chains.specs.declared.definition.Definition.{Definition}
 use Rattle.ownership_chains.proofs.RingLemmas.{ordered_off}
 use Rattle.ownership_origins.specs.inner.InOrder.{AreInOrder, LeadsOn}
 use Rattle.ownership_origins.specs.Renamings.{arg_renaming, default_operand}
-use Rattle.ownership_origins.specs.Switched.{value_of}
+use Rattle.value_tables.specs.FirstValue.{value_of}
 use Rattle.ownership_origins.specs.declared.switched.Switched.{Switched}
 use Rattle.ownership_origins.proofs.Ranges.{all_from_each}
 

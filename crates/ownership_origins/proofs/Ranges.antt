@@ -11,13 +11,12 @@ use Rattle.instruction_table.specs.declared.entries.ResultKind.{ResultKind}
 use Rattle.instruction_table.specs.declared.entries.ResultKind.TheVariants.{NoneResult, OwnedResult, ScopeResult, AddressResult, ForwardedResult, OperandResult}
 use Rattle.sil_ast.specs.declared.function.ArgKind.{ArgKind}
 use Rattle.sil_ast.specs.declared.function.ArgKind.TheVariants as annotation
-use Rattle.sil_ast.specs.declared.function.Block.{Block}
 use Rattle.sil_ast.specs.declared.function.Function.{Function}
 use Rattle.sil_ast.specs.declared.inst.Edge.{Edge}
 use Rattle.sil_ast.specs.declared.inst.Inst.{Inst}
 use Rattle.sil_ast.specs.declared.operands.Operand.{Operand}
 use Rattle.sil_ast.specs.declared.place.ValueId.{ValueId}
-use Rattle.numbered_form.specs.Insts.{insts_of, EachInBlock}
+use Rattle.numbered_form.specs.Insts.{EachInBlock}
 use Rattle.numbered_form.specs.Limits.{value_count, IsFunctionInLimits}
 use Rattle.numbered_form.specs.Lists.{Each}
 use Rattle.numbered_form.specs.Numbering.{values_of, IsValueBelow, IsInstInRange, IsFunctionNumbered}
@@ -25,15 +24,13 @@ use Rattle.type_definitions.specs.Declarations.{Declarations}
 use Rattle.ownership_chains.specs.Chains.{operands_at, IsInRange}
 use Rattle.ownership_chains.specs.declared.definition.Definition.{Definition}
 use Rattle.ownership_origins.specs.inner.Laws.{AreInRange}
-use Rattle.ownership_origins.specs.Origins.{arg_definition, arg_definition_by, chain_operands, result_definition, result_definitions, block_definitions, definitions_from, definitions_of, is_zero, switch_operand}
-use Rattle.ownership_origins.specs.Renamings.{arg_renaming, default_operand, renames, renamed, result_renamings, block_renamings, renamings_from, renamings_of}
-use Rattle.ownership_origins.specs.Switched.{edge_to, first_value, switched_by, switch_to, switches_by, switches_from, value_of}
+use Rattle.ownership_origins.specs.Origins.{arg_definition, arg_definition_by, chain_operands, result_definition, result_definitions, arg_definitions, definitions_of, is_zero, switch_operand}
+use Rattle.ownership_origins.specs.Renamings.{arg_renaming, default_operand, renames, renamed, result_renamings, arg_renamings, renamings_of}
+use Rattle.value_tables.proofs.Rows.{each_flat, each_row}
+use Rattle.value_tables.specs.FirstValue.{first_value, value_of}
+use Rattle.ownership_origins.specs.Switched.{edge_to, switched_by, switch_to, switches_by, switches_from}
 use Rattle.ownership_origins.specs.declared.switched.Switched.{Switched}
 use Rattle.ownership_origins.proofs.Counts.{are_of_values}
-
-each_append : {A : Type 0} (P : A → Type 0) (xs ys : List A) → Each P xs → Each P ys → Each P (xs ++ ys)
-each_append P [] ys g h = h
-each_append P (x ∷ xs) ys g h = (g.0, each_append P xs ys g.1 h)
 
 each_map : {A B : Type 0} (f : A → B) (P : A → Type 0) (Q : B → Type 0) → ((x : A) → P x → Q (f x)) → (xs : List A) → Each P xs → Each Q (map f xs)
 each_map f P Q e [] h = tt
@@ -43,10 +40,6 @@ each_map f P Q e (x ∷ xs) h = (e x h.0, each_map f P Q e xs h.1)
 all_map : {A B : Type 0} (f : A → B) (Q : B → Type 0) → ((x : A) → Q (f x)) → (xs : List A) → Each Q (map f xs)
 all_map f Q e [] = tt
 all_map f Q e (x ∷ xs) = (e x, all_map f Q e xs)
-
-each_flat : {A B : Type 0} (f : A → List B) (P : A → Type 0) (Q : B → Type 0) → ((x : A) → P x → Each Q (f x)) → (xs : List A) → Each P xs → Each Q (flat_map f xs)
-each_flat f P Q e [] h = tt
-each_flat f P Q e (x ∷ xs) h = each_append Q (f x) (flat_map f xs) (e x h.0) (each_flat f P Q e xs h.1)
 
 each_replicate : {A : Type 0} (P : A → Type 0) (n : ℕ) (x : A) → P x → Each P (replicate n x)
 each_replicate P zero x h = tt
@@ -143,18 +136,11 @@ module _ (values blocks functions : ℕ) where
   arg_within d true s annotation.Guaranteed trivial h = tt
   arg_within d false s annotation.Guaranteed trivial h = each_map switch_operand (IsSwitchWithin values) (IsBelow values) (λ x below. below) (option_to_list s) (of_one (IsSwitchWithin values) s h)
 
-  insts_used : (b : Block) → EachInBlock Used b → Each Used (insts_of b)
-  insts_used b used = each_append Used b.insts (b.terminator ∷ []) used.0 (used.1, tt)
-
-  block_within : (d : Declarations) (f : Function) (n : ℕ) (b : Block) → IfSome (switch_to f n) (IsSwitchWithin values) → EachInBlock Used b → Each (Within values) (block_definitions d f n b)
-  block_within d f n b s used =
-      each_append (Within values) (map (arg_definition d (is_zero n) (switch_to f n)) b.args) (flat_map (result_definitions d) (insts_of b))
-      (all_map (arg_definition d (is_zero n) (switch_to f n)) (Within values) (λ a. arg_within d (is_zero n) (switch_to f n) a.kind _ s) b.args)
-      (each_flat (result_definitions d) Used (Within values) (results_within d) (insts_of b) (insts_used b used))
-
-  blocks_within : (d : Declarations) (f : Function) → ((n : ℕ) → IfSome (switch_to f n) (IsSwitchWithin values)) → (n : ℕ) (bs : List Block) → Each (EachInBlock Used) bs → Each (Within values) (definitions_from d f n bs)
-  blocks_within d f s n [] used = tt
-  blocks_within d f s n (b ∷ bs) used = each_append (Within values) (block_definitions d f n b) (definitions_from d f (n + 1) bs) (block_within d f n b (s n) used.0) (blocks_within d f s (n + 1) bs used.1)
+  definitions_within : (d : Declarations) (f : Function) → ((n : ℕ) → IfSome (switch_to f n) (IsSwitchWithin values)) → Each (EachInBlock Used) f.blocks → Each (Within values) (definitions_of d f)
+  definitions_within d f s used =
+      each_row (arg_definitions d f) (result_definitions d) (Within values) Used
+      (λ n xs. all_map (arg_definition d (is_zero n) (switch_to f n)) (Within values) (λ a. arg_within d (is_zero n) (switch_to f n) a.kind _ (s n)) xs)
+      (results_within d) 0 f.blocks used
 
   -- renamings
   default_within : (s : Option Switched) → IfSome s (IsSwitchWithin values) → Each (IsBelow values) (default_operand s)
@@ -172,15 +158,11 @@ module _ (values blocks functions : ℕ) where
       at true = operands_within values i.operands used.operands
       at false = tt
 
-  renamed_block_within : (f : Function) (n : ℕ) (b : Block) → IfSome (switch_to f n) (IsSwitchWithin values) → EachInBlock Used b → Each (Within values) (block_renamings f n b)
-  renamed_block_within f n b s used =
-      each_append (Within values) (map (arg_renaming (switch_to f n)) b.args) (flat_map result_renamings (insts_of b))
-      (all_map (arg_renaming (switch_to f n)) (Within values) (λ a. default_within (switch_to f n) s) b.args)
-      (each_flat result_renamings Used (Within values) renamings_within (insts_of b) (insts_used b used))
-
-  renamed_within : (f : Function) → ((n : ℕ) → IfSome (switch_to f n) (IsSwitchWithin values)) → (n : ℕ) (bs : List Block) → Each (EachInBlock Used) bs → Each (Within values) (renamings_from f n bs)
-  renamed_within f s n [] used = tt
-  renamed_within f s n (b ∷ bs) used = each_append (Within values) (block_renamings f n b) (renamings_from f (n + 1) bs) (renamed_block_within f n b (s n) used.0) (renamed_within f s (n + 1) bs used.1)
+  all_renamed_within : (f : Function) → ((n : ℕ) → IfSome (switch_to f n) (IsSwitchWithin values)) → Each (EachInBlock Used) f.blocks → Each (Within values) (renamings_of f)
+  all_renamed_within f s used =
+      each_row (arg_renamings f) result_renamings (Within values) Used
+      (λ n xs. all_map (arg_renaming (switch_to f n)) (Within values) (λ a. default_within (switch_to f n) (s n)) xs)
+      renamings_within 0 f.blocks used
 
 -- operands that are all within are so wherever one looks
 at_within : (n : ℕ) (defs : List Definition) → Each (Within n) defs → (k : ℕ) → Each (IsBelow n) (unwrap_or (slice_get (map (λ (d : Definition). d.operands) defs) k) [])
@@ -206,6 +188,6 @@ are_in_range d m f numbered member =
     let most : value_count f.blocks ≤ 1024 = limits.values in
     let few : count ≤ 1024 = omega arith in
     let switch = λ (n : ℕ). switch_within count (length f.blocks) (length m.functions) f n one.used in (
-      in_range count (definitions_of d f) (are_of_values d f).0 few (blocks_within count (length f.blocks) (length m.functions) d f switch 0 f.blocks one.used),
-      in_range count (renamings_of f) (are_of_values d f).1 few (renamed_within count (length f.blocks) (length m.functions) f switch 0 f.blocks one.used),
+      in_range count (definitions_of d f) (are_of_values d f).0 few (definitions_within count (length f.blocks) (length m.functions) d f switch one.used),
+      in_range count (renamings_of f) (are_of_values d f).1 few (all_renamed_within count (length f.blocks) (length m.functions) f switch one.used),
     )

@@ -1,26 +1,26 @@
 -- How each value of a function comes by its kind and its bases: by the instruction that defines it, or by an argument's annotation.
-use Rattle.std.specs.Prelude.{ℕ, zero, suc, ◌+◌, List, [], ◌∷◌, ◌++◌, Bool, true, false, Option, Some, None, map, slice_get, length, cond}
-use Rattle.std.specs.List.{flat_map, range_with_len}
+use Rattle.std.specs.Prelude.{ℕ, zero, suc, List, [], Bool, true, false, Option, Some, None, map, slice_get, length, cond}
+use Rattle.std.specs.List.{range_with_len}
 use Rattle.std.specs.Option.{option_to_list}
 use Rattle.instruction_table.specs.Forms.{result_kind_of}
 use Rattle.instruction_table.specs.declared.entries.ResultKind.{ResultKind}
 use Rattle.instruction_table.specs.declared.entries.ResultKind.TheVariants.{NoneResult, OwnedResult, ScopeResult, AddressResult, ForwardedResult, OperandResult}
 use Rattle.sil_ast.specs.declared.function.ArgKind.{ArgKind}
 use Rattle.sil_ast.specs.declared.function.ArgKind.TheVariants as annotation
-use Rattle.sil_ast.specs.declared.function.Block.{Block}
 use Rattle.sil_ast.specs.declared.function.BlockArg.{BlockArg}
 use Rattle.sil_ast.specs.declared.function.Function.{Function}
 use Rattle.sil_ast.specs.declared.inst.Inst.{Inst}
 use Rattle.sil_ast.specs.declared.place.ValueId.{ValueId}
 use Rattle.sil_ast.specs.declared.type_name.TypeName.{TypeName}
-use Rattle.numbered_form.specs.Insts.{insts_of}
 use Rattle.ownership_chains.specs.declared.definition.Definition.{Definition}
 use Rattle.ownership_chains.specs.declared.definition.Origin.{Origin}
 use Rattle.ownership_chains.specs.declared.definition.Origin.TheVariants as origin
 use Rattle.type_definitions.specs.Declarations.{Declarations}
 use Rattle.type_definitions.specs.Measures.{is_trivial}
 use Rattle.sil_types.specs.Typing.RowTypes.{made_types}
-use Rattle.ownership_origins.specs.Switched.{switch_to, value_of}
+use Rattle.value_tables.specs.FirstValue.{value_of}
+use Rattle.value_tables.specs.ValueRows.{value_rows}
+use Rattle.ownership_origins.specs.Switched.{switch_to}
 use Rattle.ownership_origins.specs.declared.switched.Switched.{Switched}
 
 abbrev pub defined : Origin → List ValueId → Definition
@@ -82,13 +82,9 @@ abbrev pub is_zero : ℕ → Bool
 is_zero zero = true
 is_zero (suc n) = false
 
-abbrev pub block_definitions : Declarations → Function → ℕ → Block → List Definition
-block_definitions d f n b = map (arg_definition d (is_zero n) (switch_to f n)) b.args ++ flat_map (result_definitions d) (insts_of b)
-
-abbrev pub definitions_from : Declarations → Function → ℕ → List Block → List Definition
-definitions_from d f n [] = []
-definitions_from d f n (b ∷ bs) = block_definitions d f n b ++ definitions_from d f (n + 1) bs
+abbrev pub arg_definitions : Declarations → Function → ℕ → List BlockArg → List Definition
+arg_definitions d f n args = map (arg_definition d (is_zero n) (switch_to f n)) args
 
 -- how each value comes by its kind and bases, by the values' numbers
 abbrev pub definitions_of : Declarations → Function → List Definition
-definitions_of d f = definitions_from d f 0 f.blocks
+definitions_of d f = value_rows (arg_definitions d f) (result_definitions d) f

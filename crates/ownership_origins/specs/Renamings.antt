@@ -1,18 +1,17 @@
 -- Values that lowering makes another name of an operand: copies, moves, borrows, and the arguments of defaults.
-use Rattle.std.specs.Prelude.{ℕ, ◌+◌, List, [], ◌∷◌, ◌++◌, Bool, false, Option, Some, None, map, length, replicate, slice_index_or, cond}
-use Rattle.std.specs.List.{flat_map}
+use Rattle.std.specs.Prelude.{ℕ, List, [], ◌∷◌, Bool, false, Option, Some, None, map, length, replicate, slice_index_or, cond}
 use Rattle.instruction_table.specs.Forms.{number_of}
-use Rattle.sil_ast.specs.declared.function.Block.{Block}
 use Rattle.sil_ast.specs.declared.function.BlockArg.{BlockArg}
 use Rattle.sil_ast.specs.declared.function.Function.{Function}
 use Rattle.sil_ast.specs.declared.inst.Inst.{Inst}
 use Rattle.instruction_table.specs.declared.op.Op.{Op}
 use Rattle.sil_ast.specs.declared.place.ValueId.{ValueId}
-use Rattle.numbered_form.specs.Insts.{insts_of}
 use Rattle.ownership_chains.specs.declared.definition.Definition.{Definition}
 use Rattle.ownership_chains.specs.declared.definition.Origin.TheVariants as origin
 use Rattle.ownership_origins.specs.Origins.{defined}
-use Rattle.ownership_origins.specs.Switched.{switch_to, value_of}
+use Rattle.value_tables.specs.FirstValue.{value_of}
+use Rattle.value_tables.specs.ValueRows.{value_rows}
+use Rattle.ownership_origins.specs.Switched.{switch_to}
 use Rattle.ownership_origins.specs.declared.renaming.TheConstants.{RENAMINGS}
 use Rattle.ownership_origins.specs.declared.switched.Switched.{Switched}
 
@@ -33,13 +32,9 @@ default_operand (Some s) = cond s.is_default (s.operand ∷ []) []
 abbrev pub arg_renaming : Option Switched → BlockArg → Definition
 arg_renaming s a = renamed (default_operand s)
 
-abbrev pub block_renamings : Function → ℕ → Block → List Definition
-block_renamings f n b = map (arg_renaming (switch_to f n)) b.args ++ flat_map result_renamings (insts_of b)
-
-abbrev pub renamings_from : Function → ℕ → List Block → List Definition
-renamings_from f n [] = []
-renamings_from f n (b ∷ bs) = block_renamings f n b ++ renamings_from f (n + 1) bs
+abbrev pub arg_renamings : Function → ℕ → List BlockArg → List Definition
+arg_renamings f n args = map (arg_renaming (switch_to f n)) args
 
 -- the values that each value is another name of, by the values' numbers
 abbrev pub renamings_of : Function → List Definition
-renamings_of f = renamings_from f 0 f.blocks
+renamings_of f = value_rows (arg_renamings f) result_renamings f

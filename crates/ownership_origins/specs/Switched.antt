@@ -8,16 +8,9 @@ use Rattle.sil_ast.specs.declared.function.Block.{Block}
 use Rattle.sil_ast.specs.declared.function.Function.{Function}
 use Rattle.sil_ast.specs.declared.inst.Edge.{Edge}
 use Rattle.sil_ast.specs.declared.inst.Inst.{Inst}
-use Rattle.sil_ast.specs.declared.operands.Operand.{Operand}
 use Rattle.sil_ast.specs.declared.place.ValueId.{ValueId}
+use Rattle.value_tables.specs.FirstValue.{first_value}
 use Rattle.ownership_origins.specs.declared.switched.Switched.{Switched}
-
-abbrev pub value_of : Operand → ValueId
-value_of o = o.value
-
--- the values of some operands, in order
-abbrev pub first_value : Inst → Option ValueId
-first_value i = option_map value_of (slice_get i.operands 0)
 
 abbrev pub switched_by : Edge → ValueId → Switched
 switched_by e v = record { operand = v; is_default = is_none e.case_of }

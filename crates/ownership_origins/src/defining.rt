@@ -1,42 +1,51 @@
 //! How each value of a function comes by its kind and its bases.
 
-ghost use Rattle.std.specs.Prelude.{◌≡◌, ◌++◌, IfOk, OnOk, map, length};
-ghost use Rattle.std.specs.List.{flat_map};
-ghost use Rattle.numbered_form.specs.Insts.{insts_of};
-ghost use Rattle.ownership_origins.specs.Origins.{arg_definition, block_definitions, definitions_of, is_zero, result_definitions};
-ghost use Rattle.ownership_origins.specs.inner.Tables.{AreSwitches};
+ghost use Rattle.std.specs.Prelude.{◌≡◌, IfOk, map};
+ghost use Rattle.ownership_origins.specs.Origins.{arg_definition, definitions_of, is_zero, result_definitions};
+ghost use Rattle.ownership_origins.specs.inner.Tables.{AreSwitches, switch_at};
 
 use crate::args::add_args;
-use crate::results::{add_all_results, add_results};
-use crate::room::room_for_values;
+use crate::results::add_results;
 use crate::switched::Switched;
 use crate::switching::switch_of;
 use ownership_chains::Definition;
-use sil_ast::{Block, Exhausted, Function, List};
+use sil_ast::{BlockArg, Exhausted, Function, Inst, List};
 use sil_types::TypeTable;
 use std::alloc::Global;
+use value_tables::{ValueTable, add_values, room_for_values};
 
-/// Adds the definitions of the values of a block with this number, to which this switch goes.
-fn add_block(
+/// The table of definitions. `switches` has for each block the switch that goes to it.
+#[derive(Drop)]
+struct DefinitionTable<'a> {
     alloc: Global,
-    table: &TypeTable,
-    number: usize,
-    switched: Option<Switched>,
-    block: &Block,
-    defs: &mut List<Definition>,
-) -> Result<(), Exhausted>
-    ensures { OnOk result (defs.new ≡ defs.old ++ (map (arg_definition table.now (is_zero number) switched) block.now.args ++ flat_map (result_definitions table.now) (insts_of block.now))) }
-{
-    add_args(
-        alloc,
-        table,
-        number == 0,
-        switched,
-        block.args.as_slice(),
-        defs,
-    )?;
-    add_all_results(alloc, table, block.insts.as_slice(), defs)?;
-    add_results(alloc, table, &block.terminator, defs)
+    table: &'a TypeTable,
+    switches: &'a [Option<Switched>],
+}
+
+impl<'f> ValueTable<'f> for DefinitionTable<'_> {
+    type Table = List<Definition>;
+
+    type Row = Definition;
+
+    ghost rows = { λ defs. defs };
+
+    ghost arg_rows = { λ of n. map (arg_definition of.table.now (is_zero n) (switch_at of.switches.now n)) };
+
+    ghost result_rows = { λ of. result_definitions of.table.now };
+
+    fn add_args(
+        &self,
+        defs: &mut List<Definition>,
+        number: usize,
+        args: &'f [BlockArg],
+    ) -> Result<(), Exhausted> {
+        let switched = switch_of(self.switches, number);
+        add_args(self.alloc, self.table, number == 0, switched, args, defs)
+    }
+
+    fn add_results(&self, defs: &mut List<Definition>, inst: &'f Inst) -> Result<(), Exhausted> {
+        add_results(self.alloc, self.table, inst, defs)
+    }
 }
 
 /// How each value of the function comes by its kind and its bases, by the values' numbers. `switches` has for each block
@@ -51,9 +60,11 @@ pub fn definitions(
     ensures { IfOk result (λ defs. defs ≡ definitions_of table.now f.now) }
 {
     let mut defs = List::with_capacity(alloc, room_for_values(f))?;
-    for (number, block) in f.blocks.as_slice().iter().enumerate() {
-        let switched = switch_of(switches, number);
-        add_block(alloc, table, number, switched, block, &mut defs)?;
-    }
+    let of = DefinitionTable {
+        alloc,
+        table,
+        switches,
+    };
+    add_values(&of, &mut defs, f)?;
     Ok(defs)
 }

@@ -9,7 +9,7 @@ ghost use Rattle.ownership_chains.specs.Chains.{HasNoRing};
 ghost use Rattle.ownership_origins.specs.inner.InOrder.{LeadsOn};
 ghost use Rattle.ownership_origins.specs.Renamings as spec;
 ghost use Rattle.ownership_origins.specs.Renamings.{renamings_of, result_renamings};
-ghost use Rattle.ownership_origins.specs.Switched.{value_of};
+ghost use Rattle.value_tables.specs.FirstValue.{value_of};
 ghost use Rattle.ownership_origins.specs.inner.Tables.{AreSwitches};
 
 use crate::renamed::{operand_by_default, renames};

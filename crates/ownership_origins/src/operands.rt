@@ -2,7 +2,7 @@
 
 ghost use Rattle.std.specs.Prelude.{◌≡◌, IfOk, map};
 ghost use Rattle.std.specs.Option.{option_to_list};
-ghost use Rattle.ownership_origins.specs.Switched.{value_of};
+ghost use Rattle.value_tables.specs.FirstValue.{value_of};
 
 use sil_ast::{Exhausted, Operand, ShortList, ValueId};
 use std::alloc::Global;

@@ -1,13 +1,11 @@
 //! Which values are other names of others.
 
-ghost use Rattle.std.specs.Prelude.{◌≡◌, ◌++◌, [], IfOk, OnOk, map, cond, length};
-ghost use Rattle.std.specs.List.{flat_map};
+ghost use Rattle.std.specs.Prelude.{◌≡◌, ◌++◌, [], IfOk, OnOk, map, cond};
 ghost use Rattle.std.specs.Option.{option_to_list};
-ghost use Rattle.numbered_form.specs.Insts.{insts_of};
 ghost use Rattle.ownership_origins.specs.Renamings as spec;
 ghost use Rattle.ownership_origins.specs.Renamings.{default_operand, renamed, renamings_of, result_renamings};
-ghost use Rattle.ownership_origins.specs.Switched.{value_of};
-ghost use Rattle.ownership_origins.specs.inner.Tables.{AreSwitches};
+ghost use Rattle.value_tables.specs.FirstValue.{value_of};
+ghost use Rattle.ownership_origins.specs.inner.Tables.{AreSwitches, switch_at};
 
 use crate::operands::{one_or_none, operand_values};
 use crate::renaming::RENAMINGS;
@@ -15,8 +13,9 @@ use crate::switched::Switched;
 use crate::switching::switch_of;
 use instruction_table::Op;
 use ownership_chains::{Definition, Origin};
-use sil_ast::{Block, BlockArg, Boxed, Exhausted, Function, Inst, List, ShortList, ValueId};
+use sil_ast::{BlockArg, Exhausted, Function, Inst, List, ShortList, ValueId};
 use std::alloc::Global;
+use value_tables::{ValueTable, add_values, room_for_values};
 
 /// Whether the result is lowered to another name for the operand.
 pub(crate) fn renames(op: Op) -> bool
@@ -45,19 +44,6 @@ fn add_results(alloc: Global, inst: &Inst, defs: &mut List<Definition>) -> Resul
 {
     for _ in 0..inst.results.len() {
         defs.push(result_renaming(alloc, inst)?)?;
-    }
-    Ok(())
-}
-
-fn add_all_results(
-    alloc: Global,
-    insts: &[Boxed<Inst>],
-    defs: &mut List<Definition>,
-) -> Result<(), Exhausted>
-    ensures { OnOk result (defs.new ≡ defs.old ++ flat_map result_renamings insts.now) }
-{
-    for inst in insts {
-        add_results(alloc, inst.get(), defs)?;
     }
     Ok(())
 }
@@ -102,17 +88,36 @@ fn add_args(
     Ok(())
 }
 
-fn add_block(
+/// The table of renamings. `switches` has for each block the switch that goes to it.
+#[derive(Drop)]
+struct RenamingTable<'a> {
     alloc: Global,
-    switched: Option<Switched>,
-    block: &Block,
-    defs: &mut List<Definition>,
-) -> Result<(), Exhausted>
-    ensures { OnOk result (defs.new ≡ defs.old ++ (map (spec.arg_renaming switched) block.now.args ++ flat_map result_renamings (insts_of block.now))) }
-{
-    add_args(alloc, switched, block.args.as_slice(), defs)?;
-    add_all_results(alloc, block.insts.as_slice(), defs)?;
-    add_results(alloc, &block.terminator, defs)
+    switches: &'a [Option<Switched>],
+}
+
+impl<'f> ValueTable<'f> for RenamingTable<'_> {
+    type Table = List<Definition>;
+
+    type Row = Definition;
+
+    ghost rows = { λ defs. defs };
+
+    ghost arg_rows = { λ of n. map (spec.arg_renaming (switch_at of.switches.now n)) };
+
+    ghost result_rows = { λ of. result_renamings };
+
+    fn add_args(
+        &self,
+        defs: &mut List<Definition>,
+        number: usize,
+        args: &'f [BlockArg],
+    ) -> Result<(), Exhausted> {
+        add_args(self.alloc, switch_of(self.switches, number), args, defs)
+    }
+
+    fn add_results(&self, defs: &mut List<Definition>, inst: &'f Inst) -> Result<(), Exhausted> {
+        add_results(self.alloc, inst, defs)
+    }
 }
 
 /// The values that each value of the function is another name of, by the values' numbers: as operands of definitions
@@ -125,10 +130,7 @@ pub fn renamings(
     requires { AreSwitches f.now switches.now }
     ensures { IfOk result (λ defs. defs ≡ renamings_of f.now) }
 {
-    let mut defs = List::new(alloc);
-    for (number, block) in f.blocks.as_slice().iter().enumerate() {
-        let switched = switch_of(switches, number);
-        add_block(alloc, switched, block, &mut defs)?;
-    }
+    let mut defs = List::with_capacity(alloc, room_for_values(f))?;
+    add_values(&RenamingTable { alloc, switches }, &mut defs, f)?;
     Ok(defs)
 }

@@ -1,19 +1,19 @@
 //! How the results of instructions come by their kinds and bases.
 
 ghost use Rattle.std.specs.Prelude.{◌≡◌, ◌++◌, [], IfOk, OnOk, map, length, option_map, unwrap_or, true};
-ghost use Rattle.std.specs.List.{range_with_len, flat_map};
+ghost use Rattle.std.specs.List.{range_with_len};
 ghost use Rattle.sil_types.specs.Typing.RowTypes as rows;
 ghost use Rattle.typing_rows.specs.inner.Views.{made_told};
 ghost use Rattle.ownership_origins.specs.Origins as spec;
 ghost use Rattle.ownership_origins.specs.Origins.{result_definition_by, result_definitions};
-ghost use Rattle.ownership_origins.specs.Switched.{value_of};
+ghost use Rattle.value_tables.specs.FirstValue.{value_of};
 ghost use Rattle.ownership_origins.specs.inner.Results.{asks_type, definition_by_types};
 
 use crate::operands::operand_values;
 use crate::trivial::is_trivial_result;
 use instruction_table::{ResultKind, result_kind_of};
 use ownership_chains::{Definition, Origin};
-use sil_ast::{Boxed, Exhausted, Inst, List, Operand, ShortList, ValueId};
+use sil_ast::{Exhausted, Inst, List, Operand, ShortList, ValueId};
 use sil_types::TypeTable;
 use std::alloc::Global;
 use typing_rows::{Made, row_types};
@@ -103,7 +103,8 @@ fn add_made(
     made: Option<Made>,
     defs: &mut List<Definition>,
 ) -> Result<(), Exhausted>
-    ensures { OnOk result (defs.new ≡ defs.old ++ map (definition_by_types table.now inst.now (unwrap_or (option_map made_told made.entry) [])) (range_with_len 0 (length inst.now.results))) }
+    ensures { OnOk result (defs.new ≡ defs.old ++
+        map (definition_by_types table.now inst.now (unwrap_or (option_map made_told made.entry) [])) (range_with_len 0 (length inst.now.results))) }
 {
     let kind = result_kind_of(inst.op);
     for k in 0..inst.results.len() {
@@ -124,19 +125,4 @@ pub(crate) fn add_results(
 {
     let made = made_where_asked(table, inst, result_kind_of(inst.op));
     add_made(alloc, table, inst, made, defs)
-}
-
-/// Adds the definitions of the results of some instructions.
-pub(crate) fn add_all_results(
-    alloc: Global,
-    table: &TypeTable,
-    insts: &[Boxed<Inst>],
-    defs: &mut List<Definition>,
-) -> Result<(), Exhausted>
-    ensures { OnOk result (defs.new ≡ defs.old ++ flat_map (result_definitions table.now) insts.now) }
-{
-    for inst in insts {
-        add_results(alloc, table, inst.get(), defs)?;
-    }
-    Ok(())
 }

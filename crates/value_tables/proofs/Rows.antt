@@ -1,11 +1,12 @@
--- Rows by value, block by block: how they grow, how many there are, and when two lists of them are the same.
+-- Rows by value, block by block: how they grow, how many there are, what holds of each, and when two lists of them are the same.
 use Rattle.std.proofs.Common.{◌≡◌, ℕ, ◌+◌, ◌<◌, ◌≤◌, List, [], ◌∷◌, ◌++◌, length, map, get_or, take, refl, sym, ap, ap₂, ◌∙◌, arith, append_assoc, length-append}
 use Rattle.std.specs.List.{flat_map}
 use Rattle.std.proofs.lemmas.List.{append-nil, length-map, length-take-le, take_more}
 use Rattle.sil_ast.specs.declared.function.Block.{Block}
 use Rattle.sil_ast.specs.declared.function.BlockArg.{BlockArg}
 use Rattle.sil_ast.specs.declared.inst.Inst.{Inst}
-use Rattle.numbered_form.specs.Insts.{insts_of}
+use Rattle.numbered_form.specs.Insts.{EachInBlock, insts_of}
+use Rattle.numbered_form.specs.Lists.{Each}
 use Rattle.numbered_form.specs.Numbering.{defined_in, results_of, value_of, values_of}
 use Rattle.value_tables.specs.ValueRows.{block_rows, rows_from}
 
@@ -52,6 +53,23 @@ module _ {A : Type 0} (args : ℕ → List BlockArg → List A) (results : Inst 
         length-append (block_rows args results n b) (rows_from args results (n + 1) bs)
         ∙ ap₂ (λ a b. a + b) (block_count n b) (rows_count (n + 1) bs)
         ∙ sym (length-append (defined_in b) (values_of bs))
+
+-- P holds of each row, where it holds of those of each block's arguments and of the results of each instruction of which Q holds
+pub each_append : {A : Type 0} (P : A → Type 0) (xs ys : List A) → Each P xs → Each P ys → Each P (xs ++ ys)
+each_append P [] ys g h = h
+each_append P (x ∷ xs) ys g h = (g.0, each_append P xs ys g.1 h)
+
+pub each_flat : {A B : Type 0} (f : A → List B) (P : A → Type 0) (Q : B → Type 0) → ((x : A) → P x → Each Q (f x)) → (xs : List A) → Each P xs → Each Q (flat_map f xs)
+each_flat f P Q e [] h = tt
+each_flat f P Q e (x ∷ xs) h = each_append Q (f x) (flat_map f xs) (e x h.0) (each_flat f P Q e xs h.1)
+
+pub each_row : {A : Type 0} (args : ℕ → List BlockArg → List A) (results : Inst → List A) (P : A → Type 0) (Q : Inst → Type 0) →
+    ((n : ℕ) (xs : List BlockArg) → Each P (args n xs)) → ((i : Inst) → Q i → Each P (results i)) → (n : ℕ) (bs : List Block) → Each (EachInBlock Q) bs → Each P (rows_from args results n bs)
+each_row args results P Q of_args of_results n [] h = tt
+each_row args results P Q of_args of_results n (b ∷ bs) h =
+    each_append P (block_rows args results n b) (rows_from args results (n + 1) bs)
+    (each_append P (args n b.args) (flat_map results (insts_of b)) (of_args n b.args) (each_flat results Q P of_results (insts_of b) (each_append Q b.insts (b.terminator ∷ []) h.0.0 (h.0.1, tt))))
+    (each_row args results P Q of_args of_results (n + 1) bs h.1)
 
 -- what is told of arguments is the same where it is so of those of the blocks that there are
 pub same_args : {A : Type 0} (args others : ℕ → List BlockArg → List A) (results : Inst → List A) (n : ℕ) (bs : List Block) →

@@ -1,9 +1,13 @@
-use Rattle.ownership_origins.proofs.BlockByBlock.{definitions_more}
+use Rattle.std.proofs.Common.{◌++◌, ◌∙◌, ap, map}
+use Rattle.value_tables.specs.ValueRows.{value_rows}
+use Rattle.ownership_origins.specs.Origins.{arg_definition, is_zero, result_definitions}
+use Rattle.ownership_origins.specs.inner.Tables.{switch_at}
+use Rattle.ownership_origins.proofs.ByTables.{definitions_by}
 use Rattle.ownership_origins.proofs.defining.definitions.Goals as goal
 
-pub loop-number-preserved : goal.loop-number-preserved
-loop-number-preserved c =
-    definitions_more c.args.f.now c.as_slice-block-items.result.now c.args.switches.now c.loop-number.number c.block-item.result c.switch_of-switched.result
-    c.as_slice-block-items.ensures c.requires c.loop-number-test.true c.block-item.is
-    c.switch_of-switched.ensures
-    c.args.table.now c.loop-number.defs c.add_block.new.defs c.loop-number.invariant c.in_ok-add_block.ensures
+pub returns : goal.returns
+returns c =
+    let d = c.args.table.now in
+    c.in_ok-add_values.ensures
+    ∙ ap (λ xs. xs ++ value_rows (λ n. map (arg_definition d (is_zero n) (switch_at c.args.switches.now n))) (result_definitions d) c.args.f.now) c.in_ok-defs.ensures
+    ∙ definitions_by c.args.f.now c.args.switches.now c.requires d

@@ -1,6 +1,6 @@
 use Rattle.std.proofs.Common.{[], arith, cond, length, map}
 use Rattle.ownership_origins.specs.Renamings.{renamed, renames}
-use Rattle.ownership_origins.specs.Switched.{value_of}
+use Rattle.value_tables.specs.FirstValue.{value_of}
 use Rattle.ownership_origins.proofs.Ordered.{leads_times}
 use Rattle.ownership_origins.proofs.in_order.behind_results.Goals as goal
 

@@ -1,5 +1,5 @@
 use Rattle.std.proofs.Common.{◌≡◌, take, map}
-use Rattle.ownership_origins.specs.Switched.{value_of}
+use Rattle.value_tables.specs.FirstValue.{value_of}
 use Rattle.ownership_origins.proofs.operands.operand_values.Given as goal
 
 abbrev pub invariant-loop-operand : goal.invariant-loop-operand

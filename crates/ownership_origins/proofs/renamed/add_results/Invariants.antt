@@ -1,6 +1,6 @@
 use Rattle.std.proofs.Common.{◌≡◌, ◌++◌, [], map, cond, replicate}
 use Rattle.ownership_origins.specs.Renamings.{renamed, renames}
-use Rattle.ownership_origins.specs.Switched.{value_of}
+use Rattle.value_tables.specs.FirstValue.{value_of}
 use Rattle.ownership_origins.proofs.renamed.add_results.Given as goal
 
 abbrev pub invariant-loop : goal.invariant-loop
