@@ -20,7 +20,7 @@ use Rattle.path_checks.specs.Entries as entries
 use Rattle.path_checks.specs.First as paths
 use Rattle.path_checks.specs.inner.Shared.{shared_if}
 use Rattle.path_checks.specs.declared.entry.Entry.{Entry}
-use Rattle.path_checks.specs.declared.entry.PathFault.{PathFault}
+use Rattle.path_checks.specs.declared.fault.PathFault.{PathFault}
 use Rattle.path_patterns.specs.Reads.{marks_in, one_or_none}
 use Rattle.path_patterns.specs.declared.mark.Mark.{Mark}
 use Rattle.memory_accesses.specs.Accesses.{accesses_of}
@@ -28,8 +28,10 @@ use Rattle.memory_accesses.specs.declared.access.Access.{Access}
 use Rattle.memory_accesses.specs.declared.source.Source.{Source}
 use Rattle.memory_parts.specs.inner.Batches.{batch_table, joint}
 use Rattle.memory_parts.specs.Parts.{at_return, means, subject_of}
-use Rattle.memory_parts.specs.Shown.{entry_of, fault_key, IsShown, marks_of_access, other_of, part_marks, part_table}
-use Rattle.memory_parts.specs.declared.fault.PartFault.{PartFault}
+use Rattle.rule_faults.specs.Keys.{fault_key, key}
+use Rattle.sil_rules.specs.declared.rule.Rule.{Rule}
+use Rattle.memory_parts.specs.Shown.{entry_of, IsShown, marks_of_access, other_of, part_marks, part_table}
+use Rattle.rule_faults.specs.declared.fault.RuleFault.{RuleFault}
 use Rattle.memory_parts.specs.declared.part.Part.{Part}
 
 one_listed : (o : Option Mark) → one_or_none o ≡ option_to_list o
@@ -65,11 +67,11 @@ module _ (sources : List Source) (facts : ValueId → Option Facts) (f : Functio
         flat_map-append (λ e. one_or_none (entries.means n e)) (flat_map (joint sources (known_or facts) parts) (accesses_of sources facts f item)) (shared_if (map at_return parts) (is_return f item))
         ∙ ap₂ (λ u v. u ++ v) (at_accesses (accesses_of sources facts f item)) (at_returns (is_return f item)) ∙ sym (alone (part_marks sources facts f p item))
 
-    pub batch_part : (code : ℕ) (walk : List EdgeId) (point : PointId) (item : Item) → paths.IsShownAt f (batch_table sources facts f parts) n code walk point item → paths.IsShownAt f (part_table sources facts f p) 0 code walk point item
-    batch_part code walk point item h = same_shown_at f (batch_table sources facts f parts) (part_table sources facts f p) n 0 same_marks code walk point item h
+    pub batch_part : (rule : Rule) (walk : List EdgeId) (point : PointId) (item : Item) → paths.IsShownAt f (batch_table sources facts f parts) n rule walk point item → paths.IsShownAt f (part_table sources facts f p) 0 rule walk point item
+    batch_part rule walk point item h = same_shown_at f (batch_table sources facts f parts) (part_table sources facts f p) n 0 same_marks rule walk point item h
 
-    pub part_batch : (code : ℕ) (walk : List EdgeId) (point : PointId) (item : Item) → paths.IsShownAt f (part_table sources facts f p) 0 code walk point item → paths.IsShownAt f (batch_table sources facts f parts) n code walk point item
-    part_batch code walk point item h = same_shown_at f (part_table sources facts f p) (batch_table sources facts f parts) 0 n (λ i. sym (same_marks i)) code walk point item h
+    pub part_batch : (rule : Rule) (walk : List EdgeId) (point : PointId) (item : Item) → paths.IsShownAt f (part_table sources facts f p) 0 rule walk point item → paths.IsShownAt f (batch_table sources facts f parts) n rule walk point item
+    part_batch rule walk point item h = same_shown_at f (part_table sources facts f p) (batch_table sources facts f parts) 0 n (λ i. sym (same_marks i)) rule walk point item h
 
   -- a number that is no part's has no marks
   module _ (n : ℕ) (past : slice_get parts n ≡ None) where
@@ -92,24 +94,24 @@ module _ (sources : List Source) (facts : ValueId → Option Facts) (f : Functio
         flat_map-append (λ e. one_or_none (entries.means n e)) (flat_map (joint sources (known_or facts) parts) (accesses_of sources facts f item)) (shared_if (map at_return parts) (is_return f item))
         ∙ ap₂ (λ u v. u ++ v) (none_accesses (accesses_of sources facts f item)) (none_returns (is_return f item))
 
-    pub past_unshown : (code : ℕ) (walk : List EdgeId) (point : PointId) (item : Item) → paths.IsShownAt f (batch_table sources facts f parts) n code walk point item → ⊥
-    past_unshown code walk point item h =
-        let r = same_shown_at f (batch_table sources facts f parts) (λ _. []) n 0 none_marks code walk point item h in
+    pub past_unshown : (rule : Rule) (walk : List EdgeId) (point : PointId) (item : Item) → paths.IsShownAt f (batch_table sources facts f parts) n rule walk point item → ⊥
+    past_unshown rule walk point item h =
+        let r = same_shown_at f (batch_table sources facts f parts) (λ _. []) n 0 none_marks rule walk point item h in
         no_first r.shows.breaks.front r.shows.breaks.mark r.shows.breaks.rest r.shows.breaks.parts
 
   -- what is shown at a part is shown of its number
-  shown_number : (n : ℕ) (s : PartFault) (h : IsShown sources facts f parts s) → slice_get parts n ≡ Some h.part → paths.IsShown f (batch_table sources facts f parts) n s.code s.walk s.point
-  shown_number n s h there = record { item = h.item; at = part_batch n h.part there s.code s.walk s.point h.item h.shown }
+  shown_number : (n : ℕ) (s : RuleFault) (h : IsShown sources facts f parts s) → slice_get parts n ≡ Some h.part → paths.IsShown f (batch_table sources facts f parts) n s.rule s.walk s.point
+  shown_number n s h there = record { item = h.item; at = part_batch n h.part there s.rule s.walk s.point h.item h.shown }
 
-  place : (s : PartFault) (h : IsShown sources facts f parts s) → slice_get parts h.there.0 ≡ Some h.part
+  place : (s : RuleFault) (h : IsShown sources facts f parts s) → slice_get parts h.there.0 ≡ Some h.part
   place s h = slice_get_read parts (length parts) h.there.0 h.part refl h.there.1 (sym h.there.2)
 
   pub none_among : paths.IsFirst f (batch_table sources facts f parts) None → rules.IsFirst fault_key (IsShown sources facts f parts) None
-  none_among none s h = none h.there.0 s.code s.walk s.point (shown_number h.there.0 s h (place s h))
+  none_among none s h = none h.there.0 s.rule s.walk s.point (shown_number h.there.0 s h (place s h))
 
   -- nothing is shown at the parts before the first number
   pub none_before : (fault : PathFault) → paths.IsFirst f (batch_table sources facts f parts) (Some fault) → fault.subject ≤ length parts → rules.IsFirst fault_key (IsShown sources facts f (take fault.subject parts)) None
-  none_before fault first within s h = at (first.1 h.there.0 s.code s.walk s.point shown)
+  none_before fault first within s h = at (first.1 h.there.0 s.rule s.walk s.point shown)
     where
       lt : h.there.0 < fault.subject
       lt = let size : length (take fault.subject parts) ≡ fault.subject = length-take-le fault.subject parts within in let k = h.there.1 in omega arith
@@ -117,18 +119,12 @@ module _ (sources : List Source) (facts : ValueId → Option Facts) (f : Functio
       there : slice_get parts h.there.0 ≡ Some h.part
       there = slice_get_read parts (length parts) h.there.0 h.part refl (let less : h.there.0 < fault.subject = lt in omega arith) (sym h.there.2 ∙ get_or-take fault.subject parts h.there.0 h.part lt)
 
-      shown : paths.IsShown f (batch_table sources facts f parts) h.there.0 s.code s.walk s.point
-      shown = record { item = h.item; at = part_batch h.there.0 h.part there s.code s.walk s.point h.item h.shown }
+      shown : paths.IsShown f (batch_table sources facts f parts) h.there.0 s.rule s.walk s.point
+      shown = record { item = h.item; at = part_batch h.there.0 h.part there s.rule s.walk s.point h.item h.shown }
 
-      at : paths.NotAfter (paths.key fault.subject fault.code fault.walk) (paths.key h.there.0 s.code s.walk) → ⊥
+      at : rules.NotAfter (key fault.subject fault.rule fault.walk) (key h.there.0 s.rule s.walk) → ⊥
       at (inl less) = let before : h.there.0 < fault.subject = lt in omega arith
       at (inr same) = let before : h.there.0 < fault.subject = lt in let e : fault.subject ≡ h.there.0 = same.0 in omega arith
-
-same_order : (xs ys : List ℕ) → paths.NotAfter xs ys → rules.NotAfter xs ys
-same_order [] ys h = tt
-same_order (x ∷ xs) [] h = absurd h
-same_order (x ∷ xs) (y ∷ ys) (inl lt) = inl lt
-same_order (x ∷ xs) (y ∷ ys) (inr e) = inr (e.0, same_order xs ys e.1)
 
 one_part : (p q : Part) (k : ℕ) → k < 1 → get_or (p ∷ []) k q ≡ q → p ≡ q
 one_part p q zero lt e = e
@@ -137,21 +133,21 @@ one_part p q (suc k) lt e = absurd (omega arith)
 -- the first that the table of one part shows is the first that is shown at it
 pub first_alone : (sources : List Source) (facts : ValueId → Option Facts) (f : Function) (p : Part) (fault : PathFault) (v : ValueId) (o : Option ValueId) → paths.IsFirst f (batch_table sources facts f (p ∷ [])) (Some fault) →
     v ≡ subject_of p → o ≡ other_of sources facts f p fault.item →
-    rules.IsFirst fault_key (IsShown sources facts f (p ∷ [])) (Some (record { subject = v; code = fault.code; walk = fault.walk; point = fault.point; other = o }))
+    rules.IsFirst fault_key (IsShown sources facts f (p ∷ [])) (Some (record { subject = v; rule = fault.rule; walk = fault.walk; point = fault.point; other = o }))
 first_alone sources facts f p fault v o first subject_is other_is = at fault.subject refl
   where
     Here : ℕ → Type 0
-    Here n = paths.IsShownAt f (batch_table sources facts f (p ∷ [])) n fault.code fault.walk fault.point fault.item
+    Here n = paths.IsShownAt f (batch_table sources facts f (p ∷ [])) n fault.rule fault.walk fault.point fault.item
 
-    s : PartFault
-    s = record { subject = v; code = fault.code; walk = fault.walk; point = fault.point; other = o }
+    s : RuleFault
+    s = record { subject = v; rule = fault.rule; walk = fault.walk; point = fault.point; other = o }
 
-    behind : fault.subject ≡ 0 → (t : PartFault) → IsShown sources facts f (p ∷ []) t → rules.NotAfter (fault_key s) (fault_key t)
-    behind zero_is t h = by (first.1 h.there.0 t.code t.walk t.point (shown_number sources facts f (p ∷ []) h.there.0 t h (place sources facts f (p ∷ []) t h)))
+    behind : fault.subject ≡ 0 → (t : RuleFault) → IsShown sources facts f (p ∷ []) t → rules.NotAfter (fault_key s) (fault_key t)
+    behind zero_is t h = by (first.1 h.there.0 t.rule t.walk t.point (shown_number sources facts f (p ∷ []) h.there.0 t h (place sources facts f (p ∷ []) t h)))
       where
-        by : paths.NotAfter (paths.key fault.subject fault.code fault.walk) (paths.key h.there.0 t.code t.walk) → rules.NotAfter (fault_key s) (fault_key t)
+        by : rules.NotAfter (key fault.subject fault.rule fault.walk) (key h.there.0 t.rule t.walk) → rules.NotAfter (fault_key s) (fault_key t)
         by (inl less) = let k : h.there.0 < 1 = h.there.1 in absurd (omega arith)
-        by (inr same) = inr (ap (λ x. x.0) (subject_is ∙ ap subject_of (one_part p h.part h.there.0 h.there.1 h.there.2) ∙ h.subject), same_order (fault.code ∷ (length fault.walk ∷ [])) (t.code ∷ (length t.walk ∷ [])) same.1)
+        by (inr same) = inr (ap (λ x. x.0) (subject_is ∙ ap subject_of (one_part p h.part h.there.0 h.there.1 h.there.2) ∙ h.subject), same.1)
 
     at : (n : ℕ) → fault.subject ≡ n → rules.IsFirst fault_key (IsShown sources facts f (p ∷ [])) (Some s)
     at zero e = record {
@@ -160,9 +156,9 @@ first_alone sources facts f p fault v o first subject_is other_is = at fault.sub
         there = (0, omega arith, refl);
         subject = sym subject_is;
         item = fault.item;
-        shown = batch_part sources facts f (p ∷ []) 0 p refl fault.code fault.walk fault.point fault.item (subst Here e first.0);
+        shown = batch_part sources facts f (p ∷ []) 0 p refl fault.rule fault.walk fault.point fault.item (subst Here e first.0);
         other = other_is;
       };
       first = behind e;
     }
-    at (suc n) e = absurd (past_unshown sources facts f (p ∷ []) (suc n) refl fault.code fault.walk fault.point fault.item (subst Here e first.0))
+    at (suc n) e = absurd (past_unshown sources facts f (p ∷ []) (suc n) refl fault.rule fault.walk fault.point fault.item (subst Here e first.0))

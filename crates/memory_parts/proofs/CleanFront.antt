@@ -9,10 +9,11 @@ use Rattle.sil_ast.specs.declared.place.ValueId.{ValueId}
 use Rattle.sil_rules.specs.Order.{IsFirst}
 use Rattle.ownership_chains.specs.declared.facts.Facts.{Facts}
 use Rattle.path_checks.specs.First as paths
-use Rattle.path_checks.specs.declared.entry.PathFault.{PathFault}
+use Rattle.path_checks.specs.declared.fault.PathFault.{PathFault}
 use Rattle.memory_accesses.specs.declared.source.Source.{Source}
 use Rattle.memory_parts.specs.inner.Batches.{batch_table}
-use Rattle.memory_parts.specs.Shown.{fault_key, IsShown}
+use Rattle.rule_faults.specs.Keys.{fault_key}
+use Rattle.memory_parts.specs.Shown.{IsShown}
 use Rattle.memory_parts.specs.declared.part.Part.{Part}
 use Rattle.memory_parts.proofs.AtOnePart.{none_among, none_before, past_unshown}
 use Rattle.memory_parts.proofs.FirstAmong.{among_more}
@@ -35,7 +36,7 @@ module _ (sources : List Source) (facts : ValueId → Option Facts) (f : Functio
 
   within : (batch : List Part) (fault : PathFault) → paths.IsFirst f (batch_table sources facts f batch) (Some fault) → (fault.subject < length batch) ⊎ (length batch ≤ fault.subject) → fault.subject < length batch
   within batch fault h (inl lt) = lt
-  within batch fault h (inr le) = absurd (past_unshown sources facts f batch fault.subject (slice_get_past batch fault.subject le) fault.code fault.walk fault.point fault.item h.0)
+  within batch fault h (inr le) = absurd (past_unshown sources facts f batch fault.subject (slice_get_past batch fault.subject le) fault.rule fault.walk fault.point fault.item h.0)
 
   -- the part of a batch before its first fault
   pub clean_before : (first count n : ℕ) (batch : List Part) (fault : PathFault) → n ≡ first + min count fault.subject → batch ≡ take count (drop first parts) → IsClean (take first parts) →

@@ -11,8 +11,9 @@ use Rattle.ownership_chains.specs.declared.facts.Facts.{Facts}
 use Rattle.memory_accesses.specs.declared.source.Source.{Source}
 use Rattle.memory_parts.specs.inner.Batches.{AreRising, is_behind}
 use Rattle.memory_parts.specs.Parts.{subject_of}
-use Rattle.memory_parts.specs.Shown.{fault_key, IsShown}
-use Rattle.memory_parts.specs.declared.fault.PartFault.{PartFault}
+use Rattle.rule_faults.specs.Keys.{fault_key}
+use Rattle.memory_parts.specs.Shown.{IsShown}
+use Rattle.rule_faults.specs.declared.fault.RuleFault.{RuleFault}
 use Rattle.memory_parts.specs.declared.part.Part.{Part}
 use Rattle.memory_parts.proofs.Ordered.{rising_behind}
 
@@ -22,17 +23,17 @@ first_same key One Other None to back none = λ a h. none a (back a h)
 first_same key One Other (Some a) to back least = record { shown = to a least.shown; first = λ b h. least.first b (back b h) }
 
 module _ (sources : List Source) (facts : ValueId → Option Facts) (f : Function) (parts more : List Part) where
-  abbrev Shown : List Part → PartFault → Type 0
+  abbrev Shown : List Part → RuleFault → Type 0
   Shown ps s = IsShown sources facts f ps s
 
-  moved : (ps qs : List Part) (s : PartFault) → ((p : Part) → Contains ps p → Contains qs p) → Shown ps s → Shown qs s
+  moved : (ps qs : List Part) (s : RuleFault) → ((p : Part) → Contains ps p → Contains qs p) → Shown ps s → Shown qs s
   moved ps qs s to h = record { part = h.part; there = to h.part h.there; subject = h.subject; item = h.item; shown = h.shown; other = h.other }
 
-  together : (s : PartFault) → Either (Shown parts) (Shown more) s → Shown (parts ++ more) s
+  together : (s : RuleFault) → Either (Shown parts) (Shown more) s → Shown (parts ++ more) s
   together s (inl h) = moved parts (parts ++ more) s (Contains-append_left parts more) h
   together s (inr h) = moved more (parts ++ more) s (Contains-append_right parts more) h
 
-  apart : (s : PartFault) → Shown (parts ++ more) s → Either (Shown parts) (Shown more) s
+  apart : (s : RuleFault) → Shown (parts ++ more) s → Either (Shown parts) (Shown more) s
   apart s h = at (Contains-append_cases parts more h.part h.there)
     where
       at : Contains parts h.part ⊎ Contains more h.part → Either (Shown parts) (Shown more) s
@@ -40,25 +41,25 @@ module _ (sources : List Source) (facts : ValueId → Option Facts) (f : Functio
       at (inr c) = inr (record { part = h.part; there = c; subject = h.subject; item = h.item; shown = h.shown; other = h.other })
 
   -- the earlier of the two that come first
-  pub among_more : (a b r : Option PartFault) → IsFirst fault_key (Shown parts) a → IsFirst fault_key (Shown more) b → IsEarlier fault_key a b r → IsFirst fault_key (Shown (parts ++ more)) r
+  pub among_more : (a b r : Option RuleFault) → IsFirst fault_key (Shown parts) a → IsFirst fault_key (Shown more) b → IsEarlier fault_key a b r → IsFirst fault_key (Shown (parts ++ more)) r
   among_more a b r first second e = first_same fault_key (Either (Shown parts) (Shown more)) (Shown (parts ++ more)) r together apart (first_earlier fault_key (Shown parts) (Shown more) a b r first second e)
 
   -- nothing that is shown at parts of greater subjects comes before
-  pub among_behind : (s : PartFault) → IsFirst fault_key (Shown parts) (Some s) → All (λ q. s.subject.0 < (subject_of q).0) more → IsFirst fault_key (Shown (parts ++ more)) (Some s)
+  pub among_behind : (s : RuleFault) → IsFirst fault_key (Shown parts) (Some s) → All (λ q. s.subject.0 < (subject_of q).0) more → IsFirst fault_key (Shown (parts ++ more)) (Some s)
   among_behind s first behind =
       first_same fault_key (Either (Shown parts) (Shown more)) (Shown (parts ++ more)) (Some s) together apart
       (first_some fault_key (Shown parts) (Shown more) s first
       (λ t h. inl (subst (λ v. s.subject.0 < v.0) h.subject (All-contains (λ q. s.subject.0 < (subject_of q).0) more h.part behind h.there))))
 
 -- one part more
-pub among_one_more : (sources : List Source) (facts : ValueId → Option Facts) (f : Function) (parts : List Part) (n : ℕ) (d : Part) (best next r : Option PartFault) → n < length parts →
+pub among_one_more : (sources : List Source) (facts : ValueId → Option Facts) (f : Function) (parts : List Part) (n : ℕ) (d : Part) (best next r : Option RuleFault) → n < length parts →
     IsFirst fault_key (IsShown sources facts f (take n parts)) best → IsFirst fault_key (IsShown sources facts f (get_or parts n d ∷ [])) next → IsEarlier fault_key best next r → IsFirst fault_key (IsShown sources facts f (take (n + 1) parts)) r
 among_one_more sources facts f parts n d best next r lt before here e =
     let P : List Part → Type 0 = λ v. IsFirst fault_key (IsShown sources facts f v) r in
     subst P (sym (take_more parts n d lt)) (among_more sources facts f (take n parts) (get_or parts n d ∷ []) best next r before here e)
 
 -- a fault comes first of all, where all further parts have greater subjects
-pub behind_all : (sources : List Source) (facts : ValueId → Option Facts) (f : Function) (parts : List Part) (n : ℕ) (d : Part) (best : Option PartFault) (v : ValueId) → n < length parts → AreRising parts → v ≡ subject_of (get_or parts n d) →
+pub behind_all : (sources : List Source) (facts : ValueId → Option Facts) (f : Function) (parts : List Part) (n : ℕ) (d : Part) (best : Option RuleFault) (v : ValueId) → n < length parts → AreRising parts → v ≡ subject_of (get_or parts n d) →
     is_behind best v ≡ true → IsFirst fault_key (IsShown sources facts f (take n parts)) best → IsFirst fault_key (IsShown sources facts f parts) best
 behind_all sources facts f parts n d None v lt rising is e first = absurd (true≢false (sym e))
 behind_all sources facts f parts n d (Some s) v lt rising is e first =

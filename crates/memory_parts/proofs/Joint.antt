@@ -15,6 +15,8 @@ use Rattle.path_checks.specs.inner.Shared.{entries_with, entry_if, shared_from, 
 use Rattle.path_checks.specs.declared.entry.Entry.{Entry}
 use Rattle.path_lists.specs.inner.Lists.{list_at}
 use Rattle.path_patterns.specs.Reads.{AgreesWith}
+use Rattle.path_patterns.specs.Marks.{needs_off}
+use Rattle.sil_rules.specs.declared.rule.Rule.TheVariants as rule
 use Rattle.path_patterns.specs.declared.mark.Mark.{Mark}
 use Rattle.memory_accesses.proofs.ByItem.{told_agrees}
 use Rattle.memory_accesses.specs.Accesses.{accesses_of}
@@ -26,7 +28,7 @@ use Rattle.memory_accesses.specs.declared.source.Source.{Source}
 use Rattle.memory_parts.specs.inner.Batches.{AreReturns, batch_table, joint}
 use Rattle.memory_parts.specs.Building.{builds, building_mark, goes_by_borrow, takes_borrow, takes_object}
 use Rattle.memory_parts.specs.Parts.{at_return, means, parts_at, parts_by, parts_of}
-use Rattle.memory_parts.specs.Switches.{is_same, mark, when}
+use Rattle.memory_parts.specs.Switches.{is_same, when}
 use Rattle.memory_parts.specs.declared.part.Part.{Part}
 use Rattle.memory_parts.specs.declared.part.Part.TheVariants.{Contents, Allocation, Lent, Building, InScope, InSlot}
 
@@ -43,7 +45,7 @@ module _ (sources : List Source) (facts other : ValueId → Facts) (same : (v : 
   building_same object field (Given v) = refl
   building_same object field (Does x) = refl
   building_same object field (Mentions v w) =
-      ap (λ f. when ((is_same v object && not (takes_object w)) || (goes_by_borrow sources f object && not (builds sources object v && takes_borrow w))) (mark (Some false) None 7)) (same v)
+      ap (λ f. when ((is_same v object && not (takes_object w)) || (goes_by_borrow sources f object && not (builds sources object v && takes_borrow w))) (needs_off rule.FieldNotBuilt)) (same v)
 
   means_same : (p : Part) (a : Access) → means sources facts p a ≡ means sources other p a
   means_same (Contents cell emptied left_full) a = refl

@@ -8,3 +8,4 @@ pub mod Reached
 pub mod Unconcerned
 pub mod Listed
 pub mod Rows
+pub mod RulesOf

@@ -15,9 +15,11 @@ use Rattle.memory_accesses.specs.declared.location.Location.{Location}
 use Rattle.memory_accesses.specs.declared.source.Source.{Source}
 use Rattle.memory_accesses.specs.Locations.{cell_of, location_of, object_built}
 use Rattle.memory_accesses.specs.Rows.{is_part}
+use Rattle.path_patterns.specs.Marks.{needs_off, turns_off, turns_on}
+use Rattle.sil_rules.specs.declared.rule.Rule.TheVariants as rule
 use Rattle.path_patterns.specs.declared.mark.Mark.{Mark}
 use Rattle.memory_parts.specs.Contents.{same_cell}
-use Rattle.memory_parts.specs.Switches.{is_same, mark, turn_off, turn_on, when}
+use Rattle.memory_parts.specs.Switches.{is_same, when}
 
 abbrev pub is_first_write : Operation → Bool
 is_first_write FirstWrite = true
@@ -64,8 +66,8 @@ is_forbidden sources facts object v a =
 abbrev pub building_mark : List Source → (ValueId → Facts) → ValueId → ℕ → Access → Option Mark
 building_mark sources facts object field (Ends v) = None
 building_mark sources facts object field (Begins v) = None
-building_mark sources facts object field (Allocates v) = when (is_same v object) turn_on
+building_mark sources facts object field (Allocates v) = when (is_same v object) (turns_on rule.FieldNotBuilt)
 building_mark sources facts object field (Deallocates v) = None
 building_mark sources facts object field (Given v) = None
-building_mark sources facts object field (Does x) = when (fills sources (record { subject = object; field = Some field }) x.operation (location_of sources x.address)) turn_off
-building_mark sources facts object field (Mentions v a) = when (is_forbidden sources facts object v a) (mark (Some false) None 7)
+building_mark sources facts object field (Does x) = when (fills sources (record { subject = object; field = Some field }) x.operation (location_of sources x.address)) (turns_off rule.FieldNotBuilt)
+building_mark sources facts object field (Mentions v a) = when (is_forbidden sources facts object v a) (needs_off rule.FieldNotBuilt)

@@ -9,20 +9,22 @@ use Rattle.memory_accesses.specs.declared.location.Location.{Location}
 use Rattle.memory_accesses.specs.declared.source.Source.{Source}
 use Rattle.memory_accesses.specs.Locations.{cell_of, location_of}
 use Rattle.memory_accesses.specs.Rows.{counted, is_part}
+use Rattle.path_patterns.specs.Marks.{needs_off, needs_off_turns_on, needs_on, needs_on_turns_off, turns_off, turns_on}
+use Rattle.sil_rules.specs.declared.rule.Rule.TheVariants as rule
 use Rattle.path_patterns.specs.declared.mark.Mark.{Mark}
-use Rattle.memory_parts.specs.Switches.{is_same, mark, turn_off, turn_on, when}
+use Rattle.memory_parts.specs.Switches.{is_same, when}
 
 -- a first write needs the cell empty and fills it; a take needs it full and empties it; all else needs it full. A trivial store to
 -- the whole fills it, whatever it was
 abbrev pub operation_mark : Bool → Operation → Mark
-operation_mark part FirstWrite = mark (Some false) (Some true) 2
-operation_mark part Read = mark (Some true) None 1
-operation_mark part Lend = mark (Some true) None 1
-operation_mark part Write = mark (Some true) None 1
-operation_mark true TrivialStore = mark (Some true) None 1
-operation_mark false TrivialStore = turn_on
-operation_mark part InoutOperand = mark (Some true) None 1
-operation_mark part Take = mark (Some true) (Some false) 1
+operation_mark part FirstWrite = needs_off_turns_on rule.InitTwice
+operation_mark part Read = needs_on rule.LoadUninitialised
+operation_mark part Lend = needs_on rule.LoadUninitialised
+operation_mark part Write = needs_on rule.LoadUninitialised
+operation_mark true TrivialStore = needs_on rule.LoadUninitialised
+operation_mark false TrivialStore = turns_on rule.LoadUninitialised
+operation_mark part InoutOperand = needs_on rule.LoadUninitialised
+operation_mark part Take = needs_on_turns_off rule.LoadUninitialised
 
 abbrev pub same_field : Option ℕ → Option ℕ → Bool
 same_field None None = true
@@ -38,18 +40,18 @@ at_location sources cell o None = None
 at_location sources cell o (Some l) = when (same_cell (cell_of sources l.root) cell) (operation_mark (is_part (counted sources l o)) o)
 
 abbrev pub deallocation_mark : Bool → Mark
-deallocation_mark emptied = mark (cond emptied (Some false) None) (Some false) 3
+deallocation_mark emptied = cond emptied (needs_off rule.LeftInitialised) (turns_off rule.LeftInitialised)
 
 -- it is empty behind its allocation, and where it is deallocated; an inout is full when it is given
 abbrev pub contents_mark : List Source → Cell → Bool → Access → Option Mark
 contents_mark sources cell emptied (Ends v) = None
 contents_mark sources cell emptied (Begins v) = None
-contents_mark sources cell emptied (Allocates v) = when (is_same v cell.subject) turn_off
+contents_mark sources cell emptied (Allocates v) = when (is_same v cell.subject) (turns_off rule.LoadUninitialised)
 contents_mark sources cell emptied (Deallocates v) = when (is_same v cell.subject) (deallocation_mark emptied)
-contents_mark sources cell emptied (Given v) = when (is_same v cell.subject) turn_on
+contents_mark sources cell emptied (Given v) = when (is_same v cell.subject) (turns_on rule.LoadUninitialised)
 contents_mark sources cell emptied (Does x) = at_location sources cell x.operation (location_of sources x.address)
 contents_mark sources cell emptied (Mentions v a) = None
 
 -- at a `return` an inout is full
 abbrev pub left_full_mark : Bool → Option Mark
-left_full_mark left_full = when left_full (mark (Some true) None 9)
+left_full_mark left_full = when left_full (needs_on rule.InoutLeftUninitialised)

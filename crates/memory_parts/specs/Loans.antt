@@ -9,8 +9,10 @@ use Rattle.memory_accesses.specs.declared.location.Location.{Location}
 use Rattle.memory_accesses.specs.declared.source.Source.{Source}
 use Rattle.memory_accesses.specs.Locations.{cell_of, location_of, overlap}
 use Rattle.memory_accesses.specs.Rows.{counted, is_part}
+use Rattle.path_patterns.specs.Marks.{needs_off, turns_off, turns_on}
+use Rattle.sil_rules.specs.declared.rule.Rule.TheVariants as rule
 use Rattle.path_patterns.specs.declared.mark.Mark.{Mark}
-use Rattle.memory_parts.specs.Switches.{is_same, mark, turn_off, turn_on, when}
+use Rattle.memory_parts.specs.Switches.{is_same, when}
 
 -- a first write isn't a write here, nor is a trivial store to the whole, in which nothing can be lent
 abbrev pub writes : Bool → Operation → Bool
@@ -50,11 +52,11 @@ disturbs sources lent (Does x) = writes_into sources lent x.operation (location_
 disturbs sources lent (Mentions v a) = false
 
 abbrev pub disturbed_mark : Bool → Option Mark
-disturbed_mark test = when test (mark (Some false) None 6)
+disturbed_mark test = when test (needs_off rule.WriteWhileBorrowed)
 
 abbrev pub loan_mark : List Source → ValueId → ValueId → Access → Option Mark
-loan_mark sources scope address (Ends v) = when (is_same v scope) turn_off
-loan_mark sources scope address (Begins v) = when (is_same v scope) turn_on
+loan_mark sources scope address (Ends v) = when (is_same v scope) (turns_off rule.WriteWhileBorrowed)
+loan_mark sources scope address (Begins v) = when (is_same v scope) (turns_on rule.WriteWhileBorrowed)
 loan_mark sources scope address (Allocates v) = None
 loan_mark sources scope address (Deallocates v) = disturbed_mark (disturbs sources (lent_at sources address) (Deallocates v))
 loan_mark sources scope address (Given v) = None

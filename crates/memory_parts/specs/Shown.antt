@@ -17,7 +17,8 @@ use Rattle.path_patterns.specs.declared.mark.Mark.{Mark}
 use Rattle.memory_accesses.specs.declared.access.Access.{Access}
 use Rattle.memory_accesses.specs.declared.source.Source.{Source}
 use Rattle.memory_accesses.specs.Accesses.{accesses_of}
-use Rattle.memory_parts.specs.declared.fault.PartFault.{PartFault}
+use Rattle.rule_faults.specs.Keys.{fault_key}
+use Rattle.rule_faults.specs.declared.fault.RuleFault.{RuleFault}
 use Rattle.memory_parts.specs.Loans.{disturbs, lent_at, root_of}
 use Rattle.memory_parts.specs.Parts.{at_return, means, parts_of, subject_of}
 use Rattle.memory_parts.specs.declared.part.Part.{Part}
@@ -51,19 +52,15 @@ module _ (sources : List Source) (facts : ValueId → Option Facts) (f : Functio
   other_of p item = first_root sources p (accesses_of sources facts f item)
 
 -- a walk shows it at one of the parts, by itself
-pub record IsShown (sources : List Source) (facts : ValueId → Option Facts) (f : Function) (parts : List Part) (s : PartFault) : Type 0 where
+pub record IsShown (sources : List Source) (facts : ValueId → Option Facts) (f : Function) (parts : List Part) (s : RuleFault) : Type 0 where
   pub part : Part
   pub there : Contains parts part
   pub subject : subject_of part ≡ s.subject
   pub item : Item
-  pub shown : paths.IsShownAt f (part_table sources facts f part) 0 s.code s.walk s.point item
+  pub shown : paths.IsShownAt f (part_table sources facts f part) 0 s.rule s.walk s.point item
   pub other : s.other ≡ other_of sources facts f part item
 
--- by subject, then by code, then by the number of edges
-abbrev pub fault_key : PartFault → List ℕ
-fault_key s = s.subject.0 ∷ s.code ∷ length s.walk ∷ []
-
 -- this comes first of what is shown at any part, whichever facts the kinds are by
-abbrev pub IsFirstFinding : List Source → Function → Layout → Known → Option PartFault → Type 0
+abbrev pub IsFirstFinding : List Source → Function → Layout → Known → Option RuleFault → Type 0
 IsFirstFinding sources f g k found =
     (count : ℕ) (facts : ValueId → Option Facts) → AreKindsBy count facts f g k → IsFirst fault_key (IsShown sources facts f (parts_of sources (known_or facts))) found

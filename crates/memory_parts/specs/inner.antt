@@ -2,3 +2,4 @@ pub mod Keys
 pub mod Index
 pub mod Concerned
 pub mod Batches
+pub mod Laws

@@ -3,10 +3,11 @@
 ghost use Rattle.std.specs.Prelude.{◌≡◌};
 ghost use Rattle.memory_parts.specs.Allocations as allocations;
 
-use crate::switch::{is_same, need, need_and_turn, when};
+use crate::switch::{is_same, when};
 use memory_accesses::Access;
 use path_patterns::Mark;
 use sil_ast::ValueId;
+use sil_rules::Rule;
 
 /// What an access means to a slot.
 pub(crate) fn allocation_mark(slot: ValueId, access: Access) -> Option<Mark>
@@ -15,8 +16,11 @@ pub(crate) fn allocation_mark(slot: ValueId, access: Access) -> Option<Mark>
     match access {
         Access::Ends(_) | Access::Begins(_) | Access::Given(_) | Access::Does(_) => None,
         Access::Mentions { .. } => None,
-        Access::Allocates(v) => when(is_same(v, slot), need_and_turn(false, true, 4)),
-        Access::Deallocates(v) => when(is_same(v, slot), need_and_turn(true, false, 4)),
+        Access::Allocates(v) => when(is_same(v, slot), Mark::needs_off_turns_on(Rule::StackOrder)),
+        Access::Deallocates(v) => when(
+            is_same(v, slot),
+            Mark::needs_on_turns_off(Rule::StackOrder),
+        ),
     }
 }
 
@@ -24,5 +28,5 @@ pub(crate) fn allocation_mark(slot: ValueId, access: Access) -> Option<Mark>
 pub(crate) fn left_allocated_mark() -> Option<Mark>
     ensures { result ≡ allocations.left_allocated_mark }
 {
-    Some(need(false, 5))
+    Some(Mark::needs_off(Rule::StackLeft))
 }

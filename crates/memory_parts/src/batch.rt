@@ -13,7 +13,7 @@ use sil_ast::{Exhausted, Function};
 use sil_cfg::Graph;
 use std::alloc::Global;
 
-/// The first of the parts whose switch breaks on some walk, by its number among them, with its first code and a walk of fewest edges that shows it.
+/// The first of the parts whose switch breaks on some walk, by its number among them, with its first rule and a walk of fewest edges that shows it.
 pub(crate) fn first_number(
     alloc: Global,
     f: &Function,

@@ -7,11 +7,12 @@ ghost use Rattle.ownership_marks.specs.Known.{facts_of};
 ghost use Rattle.memory_parts.specs.Building as building;
 
 use crate::contents::same_cell;
-use crate::switch::{is_same, need, turn_off, turn_on, when};
+use crate::switch::{is_same, when};
 use memory_accesses::{Access, Allowance, Cell, Location, Memory, Operation};
 use ownership_marks::Kinds;
 use path_patterns::Mark;
 use sil_ast::ValueId;
+use sil_rules::Rule;
 use type_definitions::Kind;
 
 fn is_first_write(operation: Operation) -> bool
@@ -114,7 +115,7 @@ pub(crate) fn building_mark(
 {
     match access {
         Access::Ends(_) | Access::Begins(_) | Access::Deallocates(_) | Access::Given(_) => None,
-        Access::Allocates(v) => when(is_same(v, object), turn_on()),
+        Access::Allocates(v) => when(is_same(v, object), Mark::turns_on(Rule::FieldNotBuilt)),
         Access::Does(x) => {
             let cell = Cell {
                 subject: object,
@@ -122,12 +123,12 @@ pub(crate) fn building_mark(
             };
             when(
                 fills(m, cell, x.operation, m.location(x.address)),
-                turn_off(),
+                Mark::turns_off(Rule::FieldNotBuilt),
             )
         }
         Access::Mentions { value, allowance } => when(
             is_forbidden(m, k, object, value, allowance),
-            need(false, 7),
+            Mark::needs_off(Rule::FieldNotBuilt),
         ),
     }
 }

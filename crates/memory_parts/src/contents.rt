@@ -5,9 +5,10 @@ ghost use Rattle.std.specs.Option.{option_copied};
 ghost use Rattle.memory_accesses.specs.Rows.{counted, is_part};
 ghost use Rattle.memory_parts.specs.Contents as contents;
 
-use crate::switch::{is_same, need, need_and_turn, turn_off, turn_on, when};
+use crate::switch::{is_same, when};
 use memory_accesses::{Access, Cell, Location, Memory, Operation};
 use path_patterns::Mark;
+use sil_rules::Rule;
 
 /// Whether the operation is counted at a part of its root.
 pub(crate) fn is_counted_part(m: &Memory, location: &Location, operation: Operation) -> bool
@@ -38,11 +39,18 @@ fn operation_mark(part: bool, operation: Operation) -> Mark
     ensures { result ≡ contents.operation_mark part operation }
 {
     match operation {
-        Operation::FirstWrite => need_and_turn(false, true, 2),
-        Operation::Take => need_and_turn(true, false, 1),
-        Operation::TrivialStore => { if part { need(true, 1) } else { turn_on() } }
-        Operation::Read | Operation::Lend => need(true, 1),
-        Operation::Write | Operation::InoutOperand => need(true, 1),
+        Operation::FirstWrite => Mark::needs_off_turns_on(Rule::InitTwice),
+        Operation::Take => Mark::needs_on_turns_off(Rule::LoadUninitialised),
+        Operation::TrivialStore => {
+            if part {
+                Mark::needs_on(Rule::LoadUninitialised)
+            } else {
+                Mark::turns_on(Rule::LoadUninitialised)
+            }
+        }
+        Operation::Read | Operation::Lend => Mark::needs_on(Rule::LoadUninitialised),
+        Operation::Write => Mark::needs_on(Rule::LoadUninitialised),
+        Operation::InoutOperand => Mark::needs_on(Rule::LoadUninitialised),
     }
 }
 
@@ -68,10 +76,10 @@ fn at_location(
 fn deallocation_mark(emptied: bool) -> Mark
     ensures { result ≡ contents.deallocation_mark emptied }
 {
-    Mark {
-        needs: if emptied { Some(false) } else { None },
-        turns: Some(false),
-        code: 3,
+    if emptied {
+        Mark::needs_off(Rule::LeftInitialised)
+    } else {
+        Mark::turns_off(Rule::LeftInitialised)
     }
 }
 
@@ -82,9 +90,15 @@ pub(crate) fn contents_mark(m: &Memory, cell: Cell, emptied: bool, access: Acces
     match access {
         Access::Ends(_) | Access::Begins(_) => None,
         Access::Mentions { .. } => None,
-        Access::Allocates(v) => when(is_same(v, cell.subject), turn_off()),
+        Access::Allocates(v) => when(
+            is_same(v, cell.subject),
+            Mark::turns_off(Rule::LoadUninitialised),
+        ),
         Access::Deallocates(v) => when(is_same(v, cell.subject), deallocation_mark(emptied)),
-        Access::Given(v) => when(is_same(v, cell.subject), turn_on()),
+        Access::Given(v) => when(
+            is_same(v, cell.subject),
+            Mark::turns_on(Rule::LoadUninitialised),
+        ),
         Access::Does(x) => at_location(m, cell, x.operation, m.location(x.address)),
     }
 }
@@ -93,5 +107,5 @@ pub(crate) fn contents_mark(m: &Memory, cell: Cell, emptied: bool, access: Acces
 pub(crate) fn left_full_mark(left_full: bool) -> Option<Mark>
     ensures { result ≡ contents.left_full_mark left_full }
 {
-    when(left_full, need(true, 9))
+    when(left_full, Mark::needs_on(Rule::InoutLeftUninitialised))
 }

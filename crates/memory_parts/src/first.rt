@@ -7,14 +7,13 @@ ghost use Rattle.memory_parts.specs.inner.Batches.{AreReturns, AreRising, IsFirs
 ghost use Rattle.memory_parts.specs.Shown.{IsFirstFinding};
 
 use crate::batch::first_number;
-use crate::earlier::earlier;
-use crate::fault::PartFault;
 use crate::meaning::subject_of;
 use crate::part::Part;
 use crate::parts::parts_of;
 use crate::single::first_of_part;
 use memory_accesses::Memory;
 use ownership_marks::Kinds;
+use rule_faults::{RuleFault, earlier};
 use sil_ast::{Exhausted, Function, ValueId};
 use sil_cfg::{Graph, returns_by_item};
 use std::alloc::Global;
@@ -50,7 +49,7 @@ fn count_clean(
 }
 
 /// Whether there is a fault, and of a lesser subject.
-fn is_behind(best: &Option<PartFault>, subject: ValueId) -> bool
+fn is_behind(best: &Option<RuleFault>, subject: ValueId) -> bool
     ensures { result ≡ batches.is_behind best.now subject }
 {
     match best {
@@ -69,7 +68,7 @@ fn first_from(
     returns: &[bool],
     parts: &[Part],
     start: usize,
-) -> Result<Option<PartFault>, Exhausted>
+) -> Result<Option<RuleFault>, Exhausted>
     requires graph { IsGraphOf g.now f.now }
     requires returns { AreReturns f.now g.now returns.now }
     requires rising { AreRising parts.now }
@@ -98,7 +97,7 @@ pub fn first_fault(
     g: &Graph,
     k: &Kinds,
     m: &Memory,
-) -> Result<Option<PartFault>, Exhausted>
+) -> Result<Option<RuleFault>, Exhausted>
     requires graph { IsGraphOf g.now f.now }
     ensures { IfOk result (IsFirstFinding m.now f.now g.now k.now) }
 {

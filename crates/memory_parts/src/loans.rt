@@ -8,10 +8,11 @@ ghost use Rattle.memory_accesses.specs.declared.access.Operation.TheVariants.{Le
 ghost use Rattle.memory_parts.specs.Loans as loans;
 
 use crate::contents::is_counted_part;
-use crate::switch::{is_same, need, turn_off, turn_on, when};
+use crate::switch::{is_same, when};
 use memory_accesses::{Access, Location, Memory, Operation};
 use path_patterns::Mark;
 use sil_ast::ValueId;
+use sil_rules::Rule;
 
 /// Whether the operation, at a part of a root or at the whole, writes what may be lent.
 /// A first write doesn't, nor does a trivial store to the whole.
@@ -96,12 +97,15 @@ pub(crate) fn loan_mark(
     ensures { result ≡ loans.loan_mark m.now scope address access }
 {
     match access {
-        Access::Ends(v) => when(is_same(v, scope), turn_off()),
-        Access::Begins(v) => when(is_same(v, scope), turn_on()),
+        Access::Ends(v) => when(is_same(v, scope), Mark::turns_off(Rule::WriteWhileBorrowed)),
+        Access::Begins(v) => when(is_same(v, scope), Mark::turns_on(Rule::WriteWhileBorrowed)),
         Access::Allocates(_) | Access::Given(_) => None,
         Access::Mentions { .. } => None,
         Access::Deallocates(_) | Access::Does(_) => {
-            when(disturbs(m, address, access), need(false, 6))
+            when(
+                disturbs(m, address, access),
+                Mark::needs_off(Rule::WriteWhileBorrowed),
+            )
         }
     }
 }

@@ -5,12 +5,12 @@ ghost use Rattle.sil_cfg.specs.Build.{IsGraphOf};
 ghost use Rattle.memory_parts.specs.inner.Batches.{AreReturns, IsFirstAmong};
 
 use crate::batch::first_number;
-use crate::fault::PartFault;
 use crate::meaning::subject_of;
 use crate::others::other_of;
 use crate::part::Part;
 use memory_accesses::{Memory, accesses_anew};
 use ownership_marks::Kinds;
+use rule_faults::RuleFault;
 use sil_ast::{Exhausted, Function};
 use sil_cfg::Graph;
 use std::alloc::Global;
@@ -24,7 +24,7 @@ pub(crate) fn first_of_part(
     m: &Memory,
     returns: &[bool],
     part: Part,
-) -> Result<Option<PartFault>, Exhausted>
+) -> Result<Option<RuleFault>, Exhausted>
     requires graph { IsGraphOf g.now f.now }
     requires returns { AreReturns f.now g.now returns.now }
     ensures { IfOk result (IsFirstAmong m.now f.now g.now k.now (part ∷ [])) }
@@ -34,9 +34,9 @@ pub(crate) fn first_of_part(
         None => Ok(None),
         Some(fault) => {
             let does = accesses_anew(alloc, f, k, m, fault.item)?;
-            Ok(Some(PartFault {
+            Ok(Some(RuleFault {
                 subject: subject_of(part),
-                code: fault.code,
+                rule: fault.rule,
                 walk: fault.walk,
                 point: fault.point,
                 other: other_of(m, part, &does),

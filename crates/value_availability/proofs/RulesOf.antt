@@ -16,12 +16,12 @@ IsOn e = group_of e.mark.rule ≡ Definitions
 
 each_access : (f : Function) (item : Item) → AllByRecursion IsOn (accesses_of f item)
 each_access f item =
-    each_append IsOn (map used (item_operands f item)) (map used (item_handover f item) ++ map defined (item_results f item) ++ map begun (item_arguments f item))
-    (each_map IsOn used (item_operands f item) (λ o. refl))
-    (each_append IsOn (map used (item_handover f item)) (map defined (item_results f item) ++ map begun (item_arguments f item))
-    (each_map IsOn used (item_handover f item) (λ o. refl))
-    (each_append IsOn (map defined (item_results f item)) (map begun (item_arguments f item))
-    (each_map IsOn defined (item_results f item) (λ v. refl)) (each_map IsOn begun (item_arguments f item) (λ a. refl))))
+    each_append IsOn (map used (item_operands f item) ++ map used (item_handover f item) ++ map defined (item_results f item)) (map begun (item_arguments f item))
+    (each_append IsOn (map used (item_operands f item) ++ map used (item_handover f item)) (map defined (item_results f item))
+    (each_append IsOn (map used (item_operands f item)) (map used (item_handover f item))
+    (each_map IsOn used (item_operands f item) (λ o. refl)) (each_map IsOn used (item_handover f item) (λ o. refl)))
+    (each_map IsOn defined (item_results f item) (λ v. refl)))
+    (each_map IsOn begun (item_arguments f item) (λ a. refl))
 
 pub on_definitions : (f : Function) → ShowsOnly Definitions f (accesses_of f)
 on_definitions f = shown_rule (λ r. group_of r ≡ Definitions) f (accesses_of f) (each_access f)

@@ -13,14 +13,15 @@ use Rattle.ownership_marks.specs.Known.{AreKindsBy, Known}
 use Rattle.path_checks.specs.First as paths
 use Rattle.path_checks.specs.inner.Shared.{entry_if, shared_from, shared_if}
 use Rattle.path_checks.specs.declared.entry.Entry.{Entry}
-use Rattle.path_checks.specs.declared.entry.PathFault.{PathFault}
+use Rattle.path_checks.specs.declared.fault.PathFault.{PathFault}
 use Rattle.path_patterns.specs.declared.mark.Mark.{Mark}
 use Rattle.memory_accesses.specs.Accesses.{accesses_of}
 use Rattle.memory_accesses.specs.declared.access.Access.{Access}
 use Rattle.memory_accesses.specs.declared.source.Source.{Source}
 use Rattle.memory_parts.specs.Parts.{at_return, means, subject_of}
-use Rattle.memory_parts.specs.Shown.{IsShown, fault_key}
-use Rattle.memory_parts.specs.declared.fault.PartFault.{PartFault}
+use Rattle.rule_faults.specs.Keys.{fault_key}
+use Rattle.memory_parts.specs.Shown.{IsShown}
+use Rattle.rule_faults.specs.declared.fault.RuleFault.{RuleFault}
 use Rattle.memory_parts.specs.declared.part.Part.{Part}
 
 -- what an access means to each of the parts
@@ -47,7 +48,7 @@ abbrev pub IsFirstNumber : List Source → Function → Layout → Known → Lis
 IsFirstNumber sources f g k parts fault = (count : ℕ) (facts : ValueId → Option Facts) → AreKindsBy count facts f g k → paths.IsFirst f (batch_table sources facts f parts) fault
 
 -- the first of what is shown at these parts
-abbrev pub IsFirstAmong : List Source → Function → Layout → Known → List Part → Option PartFault → Type 0
+abbrev pub IsFirstAmong : List Source → Function → Layout → Known → List Part → Option RuleFault → Type 0
 IsFirstAmong sources f g k parts found = (count : ℕ) (facts : ValueId → Option Facts) → AreKindsBy count facts f g k → IsFirst fault_key (IsShown sources facts f parts) found
 
 -- none has a lesser subject than one before it
@@ -56,6 +57,6 @@ AreRising [] = Unit {0}
 AreRising (p ∷ parts) = All (λ q. (subject_of p).0 ≤ (subject_of q).0) parts × AreRising parts
 
 -- there is a fault, of a lesser subject
-abbrev pub is_behind : Option PartFault → ValueId → Bool
+abbrev pub is_behind : Option RuleFault → ValueId → Bool
 is_behind None subject = false
 is_behind (Some fault) subject = nat_lt fault.subject.0 subject.0

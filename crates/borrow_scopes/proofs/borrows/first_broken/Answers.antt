@@ -1,4 +1,4 @@
-use Rattle.std.proofs.Common.{ℕ, ap, ◌∙◌, List, length, map}
+use Rattle.std.proofs.Common.{ℕ, ap, ap₂, ◌∙◌, List, length, map}
 use Rattle.std.specs.List.{flat_map, range_with_len}
 use Rattle.std.specs.Prelude.{Bool}
 use Rattle.std.specs.declared.alloc.Global.{Global}
@@ -30,7 +30,8 @@ returns c =
     ∙ ap (λ b. borrowers_of (facts_of c.args.k.now) b (length c.args.k.now.table) base) c.requires.borrows)
     (λ n item e. c.in_ok-entries.ensures.entries n item e
     ∙ ap (λ b. flat_map (mark_entries_in b (facts_of c.args.k.now) rows) (marks_at c.args.k.now n)) c.requires.borrows)
-    (c.deref.ensures.value ∙ c.in_ok-marks.ensures.marks ∙ ap (λ b. map (left_mark b (facts_of c.args.k.now)) (range_with_len 0 (length c.args.k.now.table))) c.requires.borrows)
+    (c.deref.ensures.value ∙ c.in_ok-marks.ensures.marks
+    ∙ ap₂ (λ b n. map (left_mark b (facts_of c.args.k.now)) (range_with_len 0 n)) c.requires.borrows c.values.ensures.count)
     (λ n item e. ap (λ (v : List Bool). is_sharing v n) c.deref-2.ensures.value ∙ c.in_ok-returns.ensures n item e)
     count facts by))
     c.first_fault.ensures

@@ -1,4 +1,5 @@
-use Rattle.std.proofs.Common.{ap, ◌∙◌, List}
+use Rattle.std.proofs.Common.{ap, ◌∙◌, List, map}
+use Rattle.std.specs.List.{range_with_len}
 use Rattle.std.specs.Prelude.{Bool}
 use Rattle.std.proofs.lemmas.Result.{IfOk-weaker}
 use Rattle.sil_cfg.specs.declared.item.Item.{Item}
@@ -7,7 +8,8 @@ use Rattle.path_checks.specs.First.{IsFirst}
 use Rattle.path_checks.specs.inner.Shared.{entries_with, is_sharing}
 use Rattle.path_checks.specs.declared.entry.Entry.{Entry}
 use Rattle.lifetime_worklist.specs.inner.Lifetimes.{IsFirstLife}
-use Rattle.lifetime_worklist.specs.Lives.{lives_of}
+use Rattle.ownership_marks.specs.Known.{facts_of}
+use Rattle.lifetime_worklist.specs.Lives.{left_mark, lives_of}
 use Rattle.lifetime_worklist.proofs.Tables.{lives_agree}
 use Rattle.lifetime_worklist.proofs.lifetimes.first_broken.Goals as goal
 
@@ -21,7 +23,7 @@ returns c =
     h (lives_of count facts c.args.f.now)
     (lives_agree c.args.f.now c.args.g.now c.args.k.now own c.deref.result.now c.deref-2.result.now
     c.in_ok-entries.ensures.entries
-    (c.deref.ensures.value ∙ c.in_ok-marks.ensures.marks)
+    (c.deref.ensures.value ∙ c.in_ok-marks.ensures.marks ∙ ap (λ n. map (left_mark (facts_of c.args.k.now)) (range_with_len 0 n)) c.values.ensures.count)
     (λ n item e. ap (λ (v : List Bool). is_sharing v n) c.deref-2.ensures.value ∙ c.in_ok-returns.ensures n item e)
     count facts by))
     c.first_fault.ensures

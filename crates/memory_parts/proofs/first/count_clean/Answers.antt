@@ -1,6 +1,6 @@
 use Rattle.std.proofs.Common.{◌≡◌, take, drop, ℕ, ◌+◌, ◌-◌, List, refl, ap, subst, arith, Option}
 use Rattle.path_checks.specs.First.{IsFirst}
-use Rattle.path_checks.specs.declared.entry.PathFault.{PathFault}
+use Rattle.path_checks.specs.declared.fault.PathFault.{PathFault}
 use Rattle.memory_parts.specs.inner.Batches.{batch_table}
 use Rattle.memory_parts.specs.declared.part.Part.{Part}
 use Rattle.memory_parts.proofs.CleanFront.{clean_batch, clean_before}

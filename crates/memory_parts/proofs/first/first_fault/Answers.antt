@@ -4,7 +4,8 @@ use Rattle.ownership_chains.specs.Facts.{known_or}
 use Rattle.ownership_marks.specs.Known.{facts_of}
 use Rattle.sil_rules.specs.Order.{IsFirst}
 use Rattle.memory_parts.specs.inner.Batches.{AreRising, IsFirstAmong}
-use Rattle.memory_parts.specs.Shown.{fault_key, IsFirstFinding, IsShown}
+use Rattle.rule_faults.specs.Keys.{fault_key}
+use Rattle.memory_parts.specs.Shown.{IsFirstFinding, IsShown}
 use Rattle.memory_parts.specs.declared.part.Part.{Part}
 use Rattle.memory_parts.proofs.Joint.{parts_same}
 use Rattle.memory_parts.proofs.Ordered.{parts_rising}

@@ -1,7 +1,8 @@
 use Rattle.std.proofs.Common.{List, sym, ◌∙◌, subst}
 use Rattle.std.proofs.lemmas.List.{take_all}
 use Rattle.sil_rules.specs.Order.{IsFirst}
-use Rattle.memory_parts.specs.Shown.{fault_key, IsShown}
+use Rattle.rule_faults.specs.Keys.{fault_key}
+use Rattle.memory_parts.specs.Shown.{IsShown}
 use Rattle.memory_parts.specs.declared.part.Part.{Part}
 use Rattle.memory_parts.proofs.FirstAmong.{among_one_more, behind_all}
 use Rattle.memory_parts.proofs.first.first_from.Goals as goal

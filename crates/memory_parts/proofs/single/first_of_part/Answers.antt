@@ -1,6 +1,6 @@
 use Rattle.std.proofs.Common.{[], ◌∷◌, subst, ap, ◌∙◌, Option, Some}
 use Rattle.path_checks.specs.First.{IsFirst}
-use Rattle.path_checks.specs.declared.entry.PathFault.{PathFault}
+use Rattle.path_checks.specs.declared.fault.PathFault.{PathFault}
 use Rattle.memory_accesses.proofs.ByItem.{anew_agrees}
 use Rattle.memory_parts.specs.inner.Batches.{batch_table}
 use Rattle.memory_parts.specs.Shown.{first_root}

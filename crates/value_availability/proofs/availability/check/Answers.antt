@@ -1,0 +1,11 @@
+use Rattle.std.proofs.Common.{sym, subst, Option, Some}
+use Rattle.path_checks.specs.First.{IsFirst}
+use Rattle.path_checks.specs.declared.fault.PathFault.{PathFault}
+use Rattle.value_availability.specs.Accesses.{accesses_of}
+use Rattle.value_availability.proofs.availability.check.Goals as goal
+
+pub returns-in-Ok-Some-clause-fault : goal.returns-in-Ok-Some-clause-fault
+returns-in-Ok-Some-clause-fault c =
+    let P : Option PathFault → Type 0 = λ o. IsFirst c.args.f.now (accesses_of c.args.f.now) o in
+    let found : P (Some c.in-Ok-Some.fault) = subst P c.in-Ok-Some.field-0-is c.in-Ok-Some.ensures in
+    record { item = c.in-Ok-Some.fault.item; first = subst (λ (z : PathFault). P (Some z)) (sym c.report.ensures.fault) found; other = c.report.ensures.other }
