@@ -1,9 +1,10 @@
 -- The faults of a function are those that are broken, of the values on rings the first alone.
-use Rattle.std.proofs.Common.{◌≡◌, ◌≢◌, ℕ, ◌+◌, ◌<◌, ◌≤◌, List, [], ◌∷◌, ◌++◌, length, refl, sym, ap, ◌∙◌, subst, arith, ◌⊎◌, inl, inr, Bool, true, false, not, ◌&&◌, Option, Some, None}
+use Rattle.std.proofs.Common.{◌≡◌, ◌≢◌, ℕ, ◌+◌, ◌<◌, ◌≤◌, List, [], ◌∷◌, ◌++◌, length, refl, sym, ap, ◌∙◌, subst, arith}
+use Rattle.std.proofs.Common.{◌⊎◌, inl, inr, Bool, true, false, not, ◌&&◌, Option, Some, None}
 use Rattle.std.specs.Prelude.{Contains, slice_get, map, nat_lt}
 use Rattle.std.specs.List.{flat_map}
 use Rattle.std.specs.Option.{option_to_list}
-use Rattle.std.proofs.lemmas.Bool.{cases_eq}
+use Rattle.std.proofs.lemmas.Bool.{and_from, and_parts, cases_eq, not_from_false}
 use Rattle.std.proofs.lemmas.Bool.Decides.{nat_tests}
 use Rattle.sil_ast.specs.declared.function.Block.{Block}
 use Rattle.sil_ast.specs.declared.function.BlockArg.{BlockArg}
@@ -17,34 +18,30 @@ use Rattle.sil_rules.specs.Order.{NotAfter}
 use Rattle.sil_rules.specs.declared.rule.Rule.{Rule}
 use Rattle.sil_rules.specs.declared.rule.Rule.TheVariants as rule
 use Rattle.sil_rules.proofs.Keys.{compared, not_after_refl}
+use Rattle.item_operands.specs.declared.taken.Taken.{Taken}
+use Rattle.value_tables.specs.FirstValue.{first_value}
+use Rattle.value_tables.specs.Borrows.{borrows_of, is_borrow}
+use Rattle.point_checks.specs.Points.{IsAt, key_at}
+use Rattle.point_checks.specs.inner.Faults.{fault_at, key_of}
+use Rattle.point_checks.specs.declared.fault.PointFault.{PointFault}
+use Rattle.point_checks.proofs.Among.{Among, among_contained, among_either, among_flat, among_left, among_map, among_option, among_right, among_where}
+use Rattle.point_checks.proofs.Among.{contained_among, flat_among, map_among, option_among, place_among, where_among}
+use Rattle.point_checks.proofs.FaultsOf.{IsFound, args_in_faults, found, inst_in_faults}
+use Rattle.point_checks.proofs.FaultsOf.IsFound.{at_args, at_inst}
 use Rattle.type_definitions.specs.Declarations.{Declarations}
 use Rattle.type_definitions.specs.Measures.{is_trivial}
-use Rattle.ownership_origins.specs.Switched.{first_value, switch_to}
-use Rattle.ownership_marks.specs.declared.taken.Taken.{Taken}
+use Rattle.ownership_origins.specs.Switched.{switch_to}
 use Rattle.ownership_kinds.specs.Facts.{kind_in}
-use Rattle.ownership_kinds.specs.inner.Faults.{annotation_faults, arg_faults, block_faults, fault_at, fault_key, faults_of, inst_faults, is_one, lacking_faults, mixed_faults, needy_faults, numbered, ring_faults, taken_faults}
+use Rattle.ownership_kinds.specs.inner.Faults.{annotation_faults, arg_faults, args_faults, faults_of, inst_faults, is_one}
+use Rattle.ownership_kinds.specs.inner.Faults.{lacking_faults, mixed_faults, needy_faults, ring_faults, taken_faults}
 use Rattle.ownership_kinds.specs.inner.Known.{IsFirstOnRing, IsRingOf}
-use Rattle.ownership_kinds.specs.Statics.{IsAt, IsBroken, IsDefinedAt, IsOnRing, all_taken, borrows_of, is_annotated_well, is_borrow, is_mismatch, lacks_argument, mixed_operand, needs_argument, static_key}
+use Rattle.ownership_kinds.specs.Statics.{IsBroken, IsDefinedAt, IsOnRing, all_taken, is_annotated_well, is_mismatch, lacks_argument, mixed_operand, needs_argument}
 use Rattle.ownership_kinds.specs.Statics.IsBroken.{on_ring, mixed, mismatch, annotated, lacking}
 use Rattle.ownership_kinds.specs.Statics.IsDefinedAt.{result, argument}
-use Rattle.ownership_kinds.specs.declared.fault.StaticFault.{StaticFault}
-use Rattle.ownership_kinds.proofs.Among.{Among, IsNumberedAt, among_contained, among_either, among_flat, among_left, among_map, among_numbered, among_option, among_right, among_where, contained_among, flat_among, numbered_among, option_among, place_among, where_among}
-
-both_true : (a b : Bool) → (a && b) ≡ true → (a ≡ true) × (b ≡ true)
-both_true true b h = (refl, h)
-both_true false b h = absurd cc
-
-all_true : (a b : Bool) → a ≡ true → b ≡ true → (a && b) ≡ true
-all_true true b e h = h
-all_true false b e h = absurd cc
 
 not_true : (a : Bool) → not a ≡ true → a ≡ false
 not_true true h = absurd cc
 not_true false h = refl
-
-true_not : (a : Bool) → a ≡ false → not a ≡ true
-true_not true h = absurd cc
-true_not false h = refl
 
 is_that : (ring : Option ValueId) (v : ValueId) → is_one ring v ≡ true → ring ≡ Some v
 is_that None v h = absurd cc
@@ -53,16 +50,8 @@ is_that (Some r) v h = let same : r.0 ≡ v.0 = grind (arith, nat_tests) in ap (
 that_is : (r v : ValueId) → r.0 ≡ v.0 → is_one (Some r) v ≡ true
 that_is r v e = grind (arith, nat_tests)
 
-unmapped : {A B : Type 0} (g : A → B) (y : B) (xs : List A) → Among y (map g xs) → (x : A) × Among x xs × (y ≡ g x)
-unmapped g y [] h = absurd h
-unmapped g y (x ∷ xs) (inl e) = (x, inl refl, e)
-unmapped {A} g y (x ∷ xs) (inr h) = further (unmapped g y xs h)
-  where
-    further : (z : A) × Among z xs × (y ≡ g z) → (z : A) × Among z (x ∷ xs) × (y ≡ g z)
-    further r = (r.0, inr r.1, r.2)
-
 module _ (d : Declarations) (f : Function) (ring : Option ValueId) where
-  abbrev Breaks : StaticFault → Type 0
+  abbrev Breaks : PointFault → Type 0
   Breaks y = IsBroken d f y.rule y.subject y.point.block.0 y.point.index
 
   abbrev on_rings : IsRingOf d f ring → (v : ValueId) → ring ≡ Some v → IsOnRing d f v
@@ -70,142 +59,126 @@ module _ (d : Declarations) (f : Function) (ring : Option ValueId) where
 
   -- what is among the faults is broken
 
-  ring_breaks : IsRingOf d f ring → (v : ValueId) (n k : ℕ) (y : StaticFault) → IsDefinedAt f v n k → Among y (ring_faults ring n k v) → Breaks y
+  ring_breaks : IsRingOf d f ring → (v : ValueId) (n k : ℕ) (y : PointFault) → IsDefinedAt f v n k → Among y (ring_faults ring n k v) → Breaks y
   ring_breaks is v n k y at h =
       let w : (is_one ring v ≡ true) × (y ≡ fault_at n k rule.CyclicForwarding v) = where_among (is_one ring v) (fault_at n k rule.CyclicForwarding v) y h in
       subst Breaks (sym w.1) (on_ring v n k (on_rings is v (is_that ring v w.0)) at)
 
-  results_break : IsRingOf d f ring → (n k : ℕ) (b : Block) (i : Inst) (y : StaticFault) → slice_get f.blocks n ≡ Some b → slice_get (insts_of b) k ≡ Some i → Among y (flat_map (ring_faults ring n k) i.results) → Breaks y
-  results_break is n k b i y at in_block h =
+  results_break : IsRingOf d f ring → (n k : ℕ) (i : Inst) (y : PointFault) → IsAt f n k i → Among y (flat_map (ring_faults ring n k) i.results) → Breaks y
+  results_break is n k i y at h =
       let r : (v : ValueId) × Among v i.results × Among y (ring_faults ring n k v) = flat_among (ring_faults ring n k) y i.results h in
-      ring_breaks is r.0 n k y (result n k b i at in_block (contained_among r.0 i.results r.1)) r.2
+      ring_breaks is r.0 n k y (result n k i at (contained_among r.0 i.results r.1)) r.2
 
-  mixed_breaks : (n k : ℕ) (i : Inst) (y : StaticFault) → IsAt f n k i → Among y (mixed_faults (kind_in d f) n k i) → Breaks y
+  mixed_breaks : (n k : ℕ) (i : Inst) (y : PointFault) → IsAt f n k i → Among y (mixed_faults (kind_in d f) n k i) → Breaks y
   mixed_breaks n k i y at h =
-      let r : (v : ValueId) × Among v (option_to_list (mixed_operand (kind_in d f) i)) × (y ≡ fault_at n k rule.MixedForwarding v) = unmapped (fault_at n k rule.MixedForwarding) y (option_to_list (mixed_operand (kind_in d f) i)) h in
+      let r : (v : ValueId) × Among v (option_to_list (mixed_operand (kind_in d f) i)) × (y ≡ fault_at n k rule.MixedForwarding v) =
+      map_among (fault_at n k rule.MixedForwarding) y (option_to_list (mixed_operand (kind_in d f) i)) h in
       subst Breaks (sym r.2) (mixed r.0 n k i at (option_among (mixed_operand (kind_in d f) i) r.0 r.1))
 
-  taken_breaks : (n k : ℕ) (i : Inst) (y : StaticFault) → IsAt f n k i → Among y (flat_map (taken_faults (kind_in d f) (borrows_of f) n k) (all_taken i)) → Breaks y
+  taken_breaks : (n k : ℕ) (i : Inst) (y : PointFault) → IsAt f n k i → Among y (flat_map (taken_faults (kind_in d f) (borrows_of f) n k) (all_taken i)) → Breaks y
   taken_breaks n k i y at h =
       let r : (t : Taken) × Among t (all_taken i) × Among y (taken_faults (kind_in d f) (borrows_of f) n k t) = flat_among (taken_faults (kind_in d f) (borrows_of f) n k) y (all_taken i) h in
       let w : (is_mismatch (is_borrow f r.0.value) r.0.role (kind_in d f r.0.value) ≡ true) × (y ≡ fault_at n k rule.KindMismatch r.0.value) =
       where_among (is_mismatch (is_borrow f r.0.value) r.0.role (kind_in d f r.0.value)) (fault_at n k rule.KindMismatch r.0.value) y r.2 in
       subst Breaks (sym w.1) (mismatch n k i r.0 at (contained_among r.0 (all_taken i) r.1) w.0)
 
-  lacking_breaks : (n k : ℕ) (i : Inst) (y : StaticFault) → IsAt f n k i → Among y (lacking_faults (kind_in d f) f n k i) → Breaks y
+  lacking_breaks : (n k : ℕ) (i : Inst) (y : PointFault) → IsAt f n k i → Among y (lacking_faults (kind_in d f) f n k i) → Breaks y
   lacking_breaks n k i y at h =
       let r : (v : ValueId) × Among v (option_to_list (first_value i)) × Among y (needy_faults (kind_in d f) (lacks_argument f i) n k v) =
       flat_among (needy_faults (kind_in d f) (lacks_argument f i) n k) y (option_to_list (first_value i)) h in
       let w : ((lacks_argument f i && needs_argument (kind_in d f r.0)) ≡ true) × (y ≡ fault_at n k rule.ArgumentKind r.0) =
       where_among (lacks_argument f i && needs_argument (kind_in d f r.0)) (fault_at n k rule.ArgumentKind r.0) y r.2 in
-      let both : (lacks_argument f i ≡ true) × (needs_argument (kind_in d f r.0) ≡ true) = both_true (lacks_argument f i) (needs_argument (kind_in d f r.0)) w.0 in
+      let both : (lacks_argument f i ≡ true) × (needs_argument (kind_in d f r.0) ≡ true) = and_parts (lacks_argument f i) (needs_argument (kind_in d f r.0)) w.0 in
       subst Breaks (sym w.1) (lacking n k i r.0 at both.0 (option_among (first_value i) r.0 r.1) both.1)
 
-  abbrev results_part : ℕ → ℕ → Inst → List StaticFault
+  abbrev results_part : ℕ → ℕ → Inst → List PointFault
   results_part n k i = flat_map (ring_faults ring n k) i.results
 
-  abbrev mixed_part : ℕ → ℕ → Inst → List StaticFault
+  abbrev mixed_part : ℕ → ℕ → Inst → List PointFault
   mixed_part n k i = mixed_faults (kind_in d f) n k i
 
-  abbrev taken_part : ℕ → ℕ → Inst → List StaticFault
+  abbrev taken_part : ℕ → ℕ → Inst → List PointFault
   taken_part n k i = flat_map (taken_faults (kind_in d f) (borrows_of f) n k) (all_taken i)
 
-  abbrev lacking_part : ℕ → ℕ → Inst → List StaticFault
+  abbrev lacking_part : ℕ → ℕ → Inst → List PointFault
   lacking_part n k i = lacking_faults (kind_in d f) f n k i
 
-  abbrev of_inst : ℕ → ℕ → Inst → List StaticFault
-  of_inst n k i = inst_faults (kind_in d f) (borrows_of f) ring f n k i
+  abbrev of_inst : ℕ → ℕ → Inst → List PointFault
+  of_inst = inst_faults (kind_in d f) ring (borrows_of f) f
 
-  abbrev of_arg : ℕ → BlockArg → List StaticFault
-  of_arg n a = arg_faults (kind_in d f) (borrows_of f) ring d (switch_to f n) n a
+  abbrev of_arg : ℕ → BlockArg → List PointFault
+  of_arg n a = arg_faults (kind_in d f) ring d (switch_to f n) n a
 
-  abbrev of_block : ℕ → Block → List StaticFault
-  of_block n b = block_faults (kind_in d f) (borrows_of f) ring d f n b
+  abbrev of_args : ℕ → Block → List PointFault
+  of_args = args_faults (kind_in d f) ring d f
 
-  abbrev pub all_faults : List StaticFault
-  all_faults = faults_of (kind_in d f) (borrows_of f) ring d f
+  abbrev pub all_faults : List PointFault
+  all_faults = faults_of (kind_in d f) ring (borrows_of f) d f
 
-  inst_breaks : IsRingOf d f ring → (n k : ℕ) (b : Block) (i : Inst) (y : StaticFault) → slice_get f.blocks n ≡ Some b → slice_get (insts_of b) k ≡ Some i → Among y (of_inst n k i) → Breaks y
-  inst_breaks is n k b i y at in_block h = first (among_either y (results_part n k i) (mixed_part n k i ++ (taken_part n k i ++ lacking_part n k i)) h)
+  inst_breaks : IsRingOf d f ring → (n k : ℕ) (i : Inst) (y : PointFault) → IsAt f n k i → Among y (of_inst n k i) → Breaks y
+  inst_breaks is n k i y at h = first (among_either y (results_part n k i) (mixed_part n k i ++ (taken_part n k i ++ lacking_part n k i)) h)
     where
-      here : IsAt f n k i
-      here = record { within = b; is_block = at; is_inst = in_block }
-
       third : Among y (taken_part n k i) ⊎ Among y (lacking_part n k i) → Breaks y
-      third (inl a) = taken_breaks n k i y here a
-      third (inr a) = lacking_breaks n k i y here a
+      third (inl a) = taken_breaks n k i y at a
+      third (inr a) = lacking_breaks n k i y at a
 
       second : Among y (mixed_part n k i) ⊎ Among y (taken_part n k i ++ lacking_part n k i) → Breaks y
-      second (inl a) = mixed_breaks n k i y here a
+      second (inl a) = mixed_breaks n k i y at a
       second (inr a) = third (among_either y (taken_part n k i) (lacking_part n k i) a)
 
       first : Among y (results_part n k i) ⊎ Among y (mixed_part n k i ++ (taken_part n k i ++ lacking_part n k i)) → Breaks y
-      first (inl a) = results_break is n k b i y at in_block a
+      first (inl a) = results_break is n k i y at a
       first (inr a) = second (among_either y (mixed_part n k i) (taken_part n k i ++ lacking_part n k i) a)
 
   above_zero : (n : ℕ) → nat_lt 0 n ≡ true → 0 < n
   above_zero n h = grind (arith, nat_tests)
 
-  annotation_breaks : (n : ℕ) (b : Block) (a : BlockArg) (y : StaticFault) → slice_get f.blocks n ≡ Some b → Among a b.args → Among y (annotation_faults (kind_in d f) d (switch_to f n) n a) → Breaks y
+  annotation_breaks : (n : ℕ) (b : Block) (a : BlockArg) (y : PointFault) → slice_get f.blocks n ≡ Some b → Among a b.args → Among y (annotation_faults (kind_in d f) d (switch_to f n) n a) → Breaks y
   annotation_breaks n b a y at in_block h =
       let well : Bool = is_annotated_well (kind_in d f) (switch_to f n) (is_trivial d a.ty) a.kind in
       let w : ((nat_lt 0 n && not (is_annotated_well (kind_in d f) (switch_to f n) (is_trivial d a.ty) a.kind)) ≡ true) × (y ≡ fault_at n 0 rule.ArgumentKind a.value) =
       where_among (nat_lt 0 n && not (is_annotated_well (kind_in d f) (switch_to f n) (is_trivial d a.ty) a.kind)) (fault_at n 0 rule.ArgumentKind a.value) y h in
       let both : (nat_lt 0 n ≡ true) × (not (is_annotated_well (kind_in d f) (switch_to f n) (is_trivial d a.ty) a.kind) ≡ true) =
-      both_true (nat_lt 0 n) (not (is_annotated_well (kind_in d f) (switch_to f n) (is_trivial d a.ty) a.kind)) w.0 in
+      and_parts (nat_lt 0 n) (not (is_annotated_well (kind_in d f) (switch_to f n) (is_trivial d a.ty) a.kind)) w.0 in
       subst Breaks (sym w.1)
       (annotated n b a (above_zero n both.0) at (contained_among a b.args in_block) (not_true (is_annotated_well (kind_in d f) (switch_to f n) (is_trivial d a.ty) a.kind) both.1))
 
-  arg_breaks : IsRingOf d f ring → (n : ℕ) (b : Block) (a : BlockArg) (y : StaticFault) → slice_get f.blocks n ≡ Some b → Among a b.args → Among y (of_arg n a) → Breaks y
+  arg_breaks : IsRingOf d f ring → (n : ℕ) (b : Block) (a : BlockArg) (y : PointFault) → slice_get f.blocks n ≡ Some b → Among a b.args → Among y (of_arg n a) → Breaks y
   arg_breaks is n b a y at in_block h = by (among_either y (ring_faults ring n 0 a.value) (annotation_faults (kind_in d f) d (switch_to f n) n a) h)
     where
       by : Among y (ring_faults ring n 0 a.value) ⊎ Among y (annotation_faults (kind_in d f) d (switch_to f n) n a) → Breaks y
       by (inl r) = ring_breaks is a.value n 0 y (argument n b a at (contained_among a b.args in_block) refl) r
       by (inr r) = annotation_breaks n b a y at in_block r
 
-  block_breaks : IsRingOf d f ring → (n : ℕ) (b : Block) (y : StaticFault) → slice_get f.blocks n ≡ Some b → Among y (of_block n b) → Breaks y
-  block_breaks is n b y at h = by (among_either y (flat_map (of_arg n) b.args) (numbered (of_inst n) 0 (insts_of b)) h)
+  pub faults_break : IsRingOf d f ring → (y : PointFault) → Among y all_faults → Breaks y
+  faults_break is y h = by (found f of_args of_inst y h)
     where
-      args : (a : BlockArg) × Among a b.args × Among y (of_arg n a) → Breaks y
-      args r = arg_breaks is n b r.0 y at r.1 r.2
+      args : (n : ℕ) (b : Block) → slice_get f.blocks n ≡ Some b → (a : BlockArg) × Among a b.args × Among y (of_arg n a) → Breaks y
+      args n b at r = arg_breaks is n b r.0 y at r.1 r.2
 
-      insts : IsNumberedAt (of_inst n) y (insts_of b) 0 → Breaks y
-      insts r = let same : r.place ≡ r.number = (let e : r.number ≡ 0 + r.place = r.counts in omega arith) in
-          inst_breaks is n r.number b r.element y at (subst (λ k. slice_get (insts_of b) k ≡ Some r.element) same r.at) r.among
-
-      by : Among y (flat_map (of_arg n) b.args) ⊎ Among y (numbered (of_inst n) 0 (insts_of b)) → Breaks y
-      by (inl a) = args (flat_among (of_arg n) y b.args a)
-      by (inr a) = insts (numbered_among (of_inst n) y (insts_of b) 0 a)
-
-  pub faults_break : IsRingOf d f ring → (y : StaticFault) → Among y all_faults → Breaks y
-  faults_break is y h = at (numbered_among of_block y f.blocks 0 h)
-    where
-      at : IsNumberedAt of_block y f.blocks 0 → Breaks y
-      at r = let same : r.place ≡ r.number = (let e : r.number ≡ 0 + r.place = r.counts in omega arith) in
-          block_breaks is r.number r.element y (subst (λ k. slice_get f.blocks k ≡ Some r.element) same r.at) r.among
+      by : IsFound f of_args of_inst y → Breaks y
+      by (at_args n b at a) = args n b at (flat_among (of_arg n) y b.args a)
+      by (at_inst n k i at a) = inst_breaks is n k i y at a
 
   -- what is broken is among the faults
 
-  in_faults : (n : ℕ) (b : Block) (y : StaticFault) → slice_get f.blocks n ≡ Some b → Among y (of_block n b) → Among y all_faults
-  in_faults n b y at a = among_numbered of_block y f.blocks 0 n n b at (omega arith) a
+  arg_in_faults : (n : ℕ) (b : Block) (a : BlockArg) (y : PointFault) → slice_get f.blocks n ≡ Some b → Among a b.args → Among y (of_arg n a) → Among y all_faults
+  arg_in_faults n b a y at in_block h = args_in_faults f of_args of_inst y n b at (among_flat (of_arg n) y a b.args in_block h)
 
-  inst_in_faults : (n k : ℕ) (b : Block) (i : Inst) (y : StaticFault) → slice_get f.blocks n ≡ Some b → slice_get (insts_of b) k ≡ Some i → Among y (of_inst n k i) → Among y all_faults
-  inst_in_faults n k b i y at in_block a =
-      in_faults n b y at (among_right y (flat_map (of_arg n) b.args) (numbered (of_inst n) 0 (insts_of b)) (among_numbered (of_inst n) y (insts_of b) 0 k k i in_block (omega arith) a))
-
-  arg_in_faults : (n : ℕ) (b : Block) (a : BlockArg) (y : StaticFault) → slice_get f.blocks n ≡ Some b → Among a b.args → Among y (of_arg n a) → Among y all_faults
-  arg_in_faults n b a y at in_block h =
-      in_faults n b y at (among_left y (flat_map (of_arg n) b.args) (numbered (of_inst n) 0 (insts_of b)) (among_flat (of_arg n) y a b.args in_block h))
+  in_faults : (n k : ℕ) (i : Inst) (y : PointFault) → IsAt f n k i → Among y (of_inst n k i) → Among y all_faults
+  in_faults n k i y at a = inst_in_faults f of_args of_inst y n k i at a
 
   ring_in_faults : (v : ValueId) (n k : ℕ) → is_one ring v ≡ true → IsDefinedAt f v n k → Among (fault_at n k rule.CyclicForwarding v) all_faults
-  ring_in_faults v n k that (result _ _ b i at in_block c) =
-      inst_in_faults n k b i (fault_at n k rule.CyclicForwarding v) at in_block
+  ring_in_faults v n k that (result _ _ i at c) =
+      in_faults n k i (fault_at n k rule.CyclicForwarding v) at
       (among_left (fault_at n k rule.CyclicForwarding v) (results_part n k i) (mixed_part n k i ++ (taken_part n k i ++ lacking_part n k i))
-      (among_flat (ring_faults ring n k) (fault_at n k rule.CyclicForwarding v) v i.results (among_contained v i.results c) (among_where (is_one ring v) (fault_at n k rule.CyclicForwarding v) that)))
+      (among_flat (ring_faults ring n k) (fault_at n k rule.CyclicForwarding v) v i.results (among_contained v i.results c)
+      (among_where (is_one ring v) (fault_at n k rule.CyclicForwarding v) that)))
   ring_in_faults v n k that (argument _ b a at c e) =
       arg_in_faults n b a (fault_at n 0 rule.CyclicForwarding v) at (among_contained a b.args c)
       (among_left (fault_at n 0 rule.CyclicForwarding v) (ring_faults ring n 0 a.value) (annotation_faults (kind_in d f) d (switch_to f n) n a)
-      (subst (λ w. Among (fault_at n 0 rule.CyclicForwarding v) (ring_faults ring n 0 w)) (sym e) (among_where (is_one ring v) (fault_at n 0 rule.CyclicForwarding v) that)))
+      (subst (λ w. Among (fault_at n 0 rule.CyclicForwarding v) (ring_faults ring n 0 w)) (sym e)
+      (among_where (is_one ring v) (fault_at n 0 rule.CyclicForwarding v) that)))
 
   -- the value with a number below the count is defined somewhere
 
@@ -227,13 +200,13 @@ module _ (d : Declarations) (f : Function) (ring : Option ValueId) where
       args r = (n, 0, argument n b r.0 at (contained_among r.0 b.args r.1) (sym r.2))
 
       at_place : (i : Inst) → Among v i.results → (k : ℕ) × (slice_get (insts_of b) k ≡ Some i) → Defined v
-      at_place i among p = (n, p.0, result n p.0 b i at p.1 (contained_among v i.results among))
+      at_place i among p = (n, p.0, result n p.0 i (record { within = b; is_block = at; is_inst = p.1 }) (contained_among v i.results among))
 
       insts : (i : Inst) × Among i (insts_of b) × Among v (results_of i) → Defined v
       insts r = at_place r.0 r.2 (place_among r.0 (insts_of b) r.1)
 
       by : Among v (map numbering.value_of b.args) ⊎ Among v (flat_map results_of (insts_of b)) → Defined v
-      by (inl a) = args (unmapped numbering.value_of v b.args a)
+      by (inl a) = args (map_among numbering.value_of v b.args a)
       by (inr a) = insts (flat_among results_of v (insts_of b) a)
 
   defined_somewhere : (v : ValueId) → AreCountedFrom 0 (values_of f.blocks) → v.0 < length (values_of f.blocks) → Defined v
@@ -246,12 +219,13 @@ module _ (d : Declarations) (f : Function) (ring : Option ValueId) where
       in_block r = at_place r.0 r.2 (place_among r.0 f.blocks r.1)
 
   abbrev Answered : Rule → ValueId → ℕ → ℕ → Type 0
-  Answered r v n k = (y : StaticFault) × Among y all_faults × NotAfter (fault_key y) (static_key r v n k)
+  Answered r v n k = (y : PointFault) × Among y all_faults × NotAfter (key_of y) (key_at r v n k)
 
   itself : (r : Rule) (v : ValueId) (n k : ℕ) → Among (fault_at n k r v) all_faults → Answered r v n k
-  itself r v n k a = (fault_at n k r v, a, not_after_refl (static_key r v n k))
+  itself r v n k a = (fault_at n k r v, a, not_after_refl (key_at r v n k))
 
-  ring_answered : AreCountedFrom 0 (values_of f.blocks) → (v : ValueId) (n k : ℕ) → IsOnRing d f v → IsDefinedAt f v n k → (o : Option ValueId) → ring ≡ o → IsRingOf d f o → Answered rule.CyclicForwarding v n k
+  ring_answered : AreCountedFrom 0 (values_of f.blocks) → (v : ValueId) (n k : ℕ) → IsOnRing d f v → IsDefinedAt f v n k → (o : Option ValueId) →
+      ring ≡ o → IsRingOf d f o → Answered rule.CyclicForwarding v n k
   ring_answered counted v n k on at None e is = absurd (is v on)
   ring_answered counted v n k on at (Some r) e is = by (compared v.0 r.0)
     where
@@ -266,18 +240,19 @@ module _ (d : Declarations) (f : Function) (ring : Option ValueId) where
       by (inl (inr lt)) = earlier lt (defined_somewhere r counted is.inside)
       by (inr same) = itself rule.CyclicForwarding v n k (ring_in_faults v n k (that v (sym same)) at)
 
-  annotation_answered : (n : ℕ) (b : Block) (a : BlockArg) → 0 < n → slice_get f.blocks n ≡ Some b → Contains b.args a → is_annotated_well (kind_in d f) (switch_to f n) (is_trivial d a.ty) a.kind ≡ false →
-      Among (fault_at n 0 rule.ArgumentKind a.value) all_faults
+  annotation_answered : (n : ℕ) (b : Block) (a : BlockArg) → 0 < n → slice_get f.blocks n ≡ Some b → Contains b.args a →
+      is_annotated_well (kind_in d f) (switch_to f n) (is_trivial d a.ty) a.kind ≡ false → Among (fault_at n 0 rule.ArgumentKind a.value) all_faults
   annotation_answered n b a lt at c e =
       let above : nat_lt 0 n ≡ true = grind (arith, nat_tests) in
       arg_in_faults n b a (fault_at n 0 rule.ArgumentKind a.value) at (among_contained a b.args c)
       (among_right (fault_at n 0 rule.ArgumentKind a.value) (ring_faults ring n 0 a.value) (annotation_faults (kind_in d f) d (switch_to f n) n a)
       (among_where (nat_lt 0 n && not (is_annotated_well (kind_in d f) (switch_to f n) (is_trivial d a.ty) a.kind)) (fault_at n 0 rule.ArgumentKind a.value)
-      (all_true (nat_lt 0 n) (not (is_annotated_well (kind_in d f) (switch_to f n) (is_trivial d a.ty) a.kind)) above (true_not (is_annotated_well (kind_in d f) (switch_to f n) (is_trivial d a.ty) a.kind) e))))
+      (and_from (nat_lt 0 n) (not (is_annotated_well (kind_in d f) (switch_to f n) (is_trivial d a.ty) a.kind)) above
+      (not_from_false (is_annotated_well (kind_in d f) (switch_to f n) (is_trivial d a.ty) a.kind) e))))
 
   mixed_answered : (v : ValueId) (n k : ℕ) (i : Inst) → IsAt f n k i → mixed_operand (kind_in d f) i ≡ Some v → Among (fault_at n k rule.MixedForwarding v) all_faults
   mixed_answered v n k i at e =
-      inst_in_faults n k at.within i (fault_at n k rule.MixedForwarding v) at.is_block at.is_inst
+      in_faults n k i (fault_at n k rule.MixedForwarding v) at
       (among_right (fault_at n k rule.MixedForwarding v) (results_part n k i) (mixed_part n k i ++ (taken_part n k i ++ lacking_part n k i))
       (among_left (fault_at n k rule.MixedForwarding v) (mixed_part n k i) (taken_part n k i ++ lacking_part n k i)
       (among_map (fault_at n k rule.MixedForwarding) v (option_to_list (mixed_operand (kind_in d f) i)) (among_option (mixed_operand (kind_in d f) i) v e))))
@@ -285,21 +260,22 @@ module _ (d : Declarations) (f : Function) (ring : Option ValueId) where
   mismatch_answered : (n k : ℕ) (i : Inst) (t : Taken) → IsAt f n k i → Contains (all_taken i) t → is_mismatch (is_borrow f t.value) t.role (kind_in d f t.value) ≡ true →
       Among (fault_at n k rule.KindMismatch t.value) all_faults
   mismatch_answered n k i t at c e =
-      inst_in_faults n k at.within i (fault_at n k rule.KindMismatch t.value) at.is_block at.is_inst
+      in_faults n k i (fault_at n k rule.KindMismatch t.value) at
       (among_right (fault_at n k rule.KindMismatch t.value) (results_part n k i) (mixed_part n k i ++ (taken_part n k i ++ lacking_part n k i))
       (among_right (fault_at n k rule.KindMismatch t.value) (mixed_part n k i) (taken_part n k i ++ lacking_part n k i)
       (among_left (fault_at n k rule.KindMismatch t.value) (taken_part n k i) (lacking_part n k i)
       (among_flat (taken_faults (kind_in d f) (borrows_of f) n k) (fault_at n k rule.KindMismatch t.value) t (all_taken i) (among_contained t (all_taken i) c)
       (among_where (is_mismatch (is_borrow f t.value) t.role (kind_in d f t.value)) (fault_at n k rule.KindMismatch t.value) e)))))
 
-  lacking_answered : (n k : ℕ) (i : Inst) (v : ValueId) → IsAt f n k i → lacks_argument f i ≡ true → first_value i ≡ Some v → needs_argument (kind_in d f v) ≡ true → Among (fault_at n k rule.ArgumentKind v) all_faults
+  lacking_answered : (n k : ℕ) (i : Inst) (v : ValueId) → IsAt f n k i → lacks_argument f i ≡ true → first_value i ≡ Some v →
+      needs_argument (kind_in d f v) ≡ true → Among (fault_at n k rule.ArgumentKind v) all_faults
   lacking_answered n k i v at lacks e needs =
-      inst_in_faults n k at.within i (fault_at n k rule.ArgumentKind v) at.is_block at.is_inst
+      in_faults n k i (fault_at n k rule.ArgumentKind v) at
       (among_right (fault_at n k rule.ArgumentKind v) (results_part n k i) (mixed_part n k i ++ (taken_part n k i ++ lacking_part n k i))
       (among_right (fault_at n k rule.ArgumentKind v) (mixed_part n k i) (taken_part n k i ++ lacking_part n k i)
       (among_right (fault_at n k rule.ArgumentKind v) (taken_part n k i) (lacking_part n k i)
       (among_flat (needy_faults (kind_in d f) (lacks_argument f i) n k) (fault_at n k rule.ArgumentKind v) v (option_to_list (first_value i)) (among_option (first_value i) v e)
-      (among_where (lacks_argument f i && needs_argument (kind_in d f v)) (fault_at n k rule.ArgumentKind v) (all_true (lacks_argument f i) (needs_argument (kind_in d f v)) lacks needs))))))
+      (among_where (lacks_argument f i && needs_argument (kind_in d f v)) (fault_at n k rule.ArgumentKind v) (and_from (lacks_argument f i) (needs_argument (kind_in d f v)) lacks needs))))))
 
   -- whatever is broken, a fault is among those of the function that doesn't come behind it
   pub answered : AreCountedFrom 0 (values_of f.blocks) → IsRingOf d f ring → (r : Rule) (v : ValueId) (n k : ℕ) → IsBroken d f r v n k → Answered r v n k

@@ -37,7 +37,8 @@ told_everywhere defs table size told v = by (nat_lt v.0 (length defs)) refl
         let le : length table ≤ v.0 = grind (arith, nat_tests) in
         subst (λ b. told_at table v ≡ (if b then told_in defs (length defs) v else None)) (sym e) (beyond table v.0 le)
 
-pub kinds_by : (count : ℕ) (one other : ValueId → Option Facts) (f : Function) (g : Layout) (k : marks.Known) → ((v : ValueId) → one v ≡ other v) → AreKindsBy count one f g k → AreKindsBy count other f g k
+pub kinds_by : (count : ℕ) (one other : ValueId → Option Facts) (f : Function) (g : Layout) (k : marks.Known) →
+    ((v : ValueId) → one v ≡ other v) → AreKindsBy count one f g k → AreKindsBy count other f g k
 kinds_by count one other f g k e h = subst (λ facts. AreKindsBy count facts f g k) (λ i v. e v i) h
 
 module _ (d : Declarations) (f : Function) (defined_each : length (definitions_of d f) ≡ length (values_of f.blocks)) (renamed_each : length (renamings_of f) ≡ length (values_of f.blocks)) where
@@ -80,7 +81,8 @@ module _ (d : Declarations) (f : Function) (defined_each : length (definitions_o
       by false e = subst (λ t. IsRingOf d f (if t then Some w else Some v)) (sym e) (later (let le : v.0 ≤ w.0 = grind (arith, nat_tests) in le))
 
 -- what is known by a table of what is told is known by the function
-pub kinds_told : (d : Declarations) (f : Function) (g : Layout) (k : marks.Known) (defs : List Definition) (table : List (Option Facts)) → defs ≡ definitions_of d f → length defs ≡ length (values_of f.blocks) →
+pub kinds_told : (d : Declarations) (f : Function) (g : Layout) (k : marks.Known) (defs : List Definition) (table : List (Option Facts)) →
+    defs ≡ definitions_of d f → length defs ≡ length (values_of f.blocks) →
     length table ≡ length defs → IsTold defs (told_at table) → AreKindsBy (length table) (told_at table) f g k → AreKindsBy (length (values_of f.blocks)) (facts_in d f) f g k
 kinds_told d f g k defs table is each size told known =
     subst (λ n. AreKindsBy n (facts_in d f) f g k) (size ∙ each)

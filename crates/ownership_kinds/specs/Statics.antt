@@ -1,5 +1,6 @@
 -- 302 to 305: what holds of kinds, whether a walk goes there or not.
-use Rattle.std.specs.Prelude.{◌≡◌, ◌⊎◌, ℕ, ◌<◌, List, [], ◌∷◌, ◌++◌, Bool, true, false, not, ◌&&◌, ◌||◌, ◌==◌, Option, Some, None, is_none, Contains, find, map, slice_get, length, replicate, unwrap_or}
+use Rattle.std.specs.Prelude.{◌≡◌, ◌⊎◌, ℕ, ◌<◌, List, ◌++◌, Bool, true, false, not, ◌&&◌, ◌||◌, ◌==◌, Option, Some, None}
+use Rattle.std.specs.Prelude.{is_none, Contains, find, map, slice_get, length}
 use Rattle.std.specs.List.{flat_map, list_any}
 use Rattle.instruction_table.specs.Forms.{ending_of, result_kind_of}
 use Rattle.instruction_table.specs.declared.entries.Ending.{Ending}
@@ -16,10 +17,13 @@ use Rattle.sil_ast.specs.declared.function.Function.{Function}
 use Rattle.sil_ast.specs.declared.inst.Edge.{Edge}
 use Rattle.sil_ast.specs.declared.inst.Inst.{Inst}
 use Rattle.sil_ast.specs.declared.place.ValueId.{ValueId}
-use Rattle.numbered_form.specs.Insts.{insts_of}
+use Rattle.item_operands.specs.Roles.{taken_along, taken_by}
+use Rattle.item_operands.specs.declared.taken.Taken.{Taken}
+use Rattle.point_checks.specs.Points.{IsAt, key_at}
+use Rattle.value_tables.specs.Borrows.{is_borrow}
+use Rattle.value_tables.specs.FirstValue.{first_value, value_of}
 use Rattle.ownership_chains.specs.Chains.{IsCyclic}
 use Rattle.sil_rules.specs.Order.{NotAfter}
-use Rattle.sil_rules.specs.Rules.{number_of}
 use Rattle.sil_rules.specs.declared.rule.Rule.{Rule}
 use Rattle.sil_rules.specs.declared.rule.Rule.TheVariants as rule
 use Rattle.type_definitions.specs.Declarations.{Declarations}
@@ -28,11 +32,9 @@ use Rattle.type_definitions.specs.declared.kind.Kind.{Kind}
 use Rattle.type_definitions.specs.declared.kind.Kind.TheVariants as kind
 use Rattle.ownership_origins.specs.Origins.{definitions_of}
 use Rattle.ownership_origins.specs.Renamings.{renamings_of}
-use Rattle.ownership_origins.specs.Switched.{first_value, switch_to, value_of}
+use Rattle.ownership_origins.specs.Switched.{switch_to}
 use Rattle.ownership_origins.specs.declared.switched.Switched.{Switched}
 use Rattle.ownership_kinds.specs.Facts.{kind_in}
-use Rattle.ownership_marks.specs.Roles.{taken_along, taken_by}
-use Rattle.ownership_marks.specs.declared.taken.Taken.{Taken}
 
 abbrev pub is_owned : Option Kind → Bool
 is_owned None = false
@@ -48,7 +50,7 @@ is_guaranteed (Some kind.Plain) = false
 
 -- where a value is defined: a result at its instruction, an argument at the first point of its block
 pub data IsDefinedAt (f : Function) (v : ValueId) : ℕ → ℕ → Type 0 where
-  result : (n k : ℕ) (b : Block) (i : Inst) → slice_get f.blocks n ≡ Some b → slice_get (insts_of b) k ≡ Some i → Contains i.results v → IsDefinedAt f v n k
+  result : (n k : ℕ) (i : Inst) → IsAt f n k i → Contains i.results v → IsDefinedAt f v n k
   argument : (n : ℕ) (b : Block) (a : BlockArg) → slice_get f.blocks n ≡ Some b → Contains b.args a → a.value ≡ v → IsDefinedAt f v n 0
 
 -- 302: a chain of one of the two kinds returns to the value at which it began
@@ -147,32 +149,6 @@ is_annotated_well kinds (Some s) trivial a = fits_switch s.is_default trivial (k
 abbrev pub needs_argument : Option Kind → Bool
 needs_argument k = is_owned k || is_guaranteed k
 
--- whether a value is the result of a borrow itself
-
-abbrev pub borrows_by : ResultKind → Bool
-borrows_by NoneResult = false
-borrows_by OwnedResult = false
-borrows_by ScopeResult = true
-borrows_by AddressResult = false
-borrows_by ForwardedResult = false
-borrows_by OperandResult = false
-
-abbrev pub result_borrows : Inst → List Bool
-result_borrows i = replicate (length i.results) (borrows_by (result_kind_of i.op))
-
-abbrev pub block_borrows : Block → List Bool
-block_borrows b = replicate (length b.args) false ++ flat_map result_borrows (insts_of b)
-
--- which values are results of borrows, by their numbers
-abbrev pub borrows_of : Function → List Bool
-borrows_of f = flat_map block_borrows f.blocks
-
-abbrev pub is_borrow_in : List Bool → ValueId → Bool
-is_borrow_in borrows v = unwrap_or (slice_get borrows v.0) false
-
-abbrev pub is_borrow : Function → ValueId → Bool
-is_borrow f v = is_borrow_in (borrows_of f) v
-
 -- what an instruction takes: its operands, and what its edges hand over
 abbrev pub all_taken : Inst → List Taken
 all_taken i = taken_by i ++ flat_map taken_along i.edges
@@ -196,32 +172,22 @@ lacks_by ending.Unreachable f i = false
 abbrev pub lacks_argument : Function → Inst → Bool
 lacks_argument f i = lacks_by (ending_of i.op) f i
 
--- the instruction at a point, its terminator last
-pub record IsAt (f : Function) (block index : ℕ) (i : Inst) : Type 0 where
-  pub within : Block
-  pub is_block : slice_get f.blocks block ≡ Some within
-  pub is_inst : slice_get (insts_of within) index ≡ Some i
-
 -- a rule on kinds that is broken, at which value and where
 pub data IsBroken (d : Declarations) (f : Function) : Rule → ValueId → ℕ → ℕ → Type 0 where
   on_ring : (v : ValueId) (n k : ℕ) → IsOnRing d f v → IsDefinedAt f v n k → IsBroken d f rule.CyclicForwarding v n k
   mixed : (v : ValueId) (n k : ℕ) (i : Inst) → IsAt f n k i → mixed_operand (kind_in d f) i ≡ Some v → IsBroken d f rule.MixedForwarding v n k
-  mismatch : (n k : ℕ) (i : Inst) (t : Taken) → IsAt f n k i → Contains (all_taken i) t → is_mismatch (is_borrow f t.value) t.role (kind_in d f t.value) ≡ true →
-      IsBroken d f rule.KindMismatch t.value n k
+  mismatch : (n k : ℕ) (i : Inst) (t : Taken) → IsAt f n k i → Contains (all_taken i) t →
+      is_mismatch (is_borrow f t.value) t.role (kind_in d f t.value) ≡ true → IsBroken d f rule.KindMismatch t.value n k
   annotated : (n : ℕ) (b : Block) (a : BlockArg) → 0 < n → slice_get f.blocks n ≡ Some b → Contains b.args a →
       is_annotated_well (kind_in d f) (switch_to f n) (is_trivial d a.ty) a.kind ≡ false → IsBroken d f rule.ArgumentKind a.value n 0
-  lacking : (n k : ℕ) (i : Inst) (v : ValueId) → IsAt f n k i → lacks_argument f i ≡ true → first_value i ≡ Some v → needs_argument (kind_in d f v) ≡ true →
-      IsBroken d f rule.ArgumentKind v n k
+  lacking : (n k : ℕ) (i : Inst) (v : ValueId) → IsAt f n k i → lacks_argument f i ≡ true → first_value i ≡ Some v →
+      needs_argument (kind_in d f v) ≡ true → IsBroken d f rule.ArgumentKind v n k
 
 -- no rule on kinds is broken
 abbrev pub HasKinds : Declarations → Function → Type 0
 HasKinds d f = (r : Rule) (v : ValueId) (n k : ℕ) → IsBroken d f r v n k → ⊥
 
--- by value, then by rule, then by point
-abbrev pub static_key : Rule → ValueId → ℕ → ℕ → List ℕ
-static_key r v n k = v.0 ∷ number_of r ∷ n ∷ k ∷ []
-
 -- the rule is the first that is broken on kinds: by value, then by rule; the point is the first at which it is
 pub record IsFirstBroken (d : Declarations) (f : Function) (r : Rule) (v : ValueId) (n k : ℕ) : Type 0 where
   pub broken : IsBroken d f r v n k
-  pub first : (s : Rule) (w : ValueId) (m l : ℕ) → IsBroken d f s w m l → NotAfter (static_key r v n k) (static_key s w m l)
+  pub first : (s : Rule) (w : ValueId) (m l : ℕ) → IsBroken d f s w m l → NotAfter (key_at r v n k) (key_at s w m l)

@@ -1,13 +1,14 @@
 //! 305 at an argument: its annotation isn't the one that is due.
 
 ghost use Rattle.std.specs.Prelude.{◌≡◌};
-ghost use Rattle.ownership_kinds.specs.inner.Faults.{annotation_faults, least};
+ghost use Rattle.point_checks.specs.inner.Faults.{least};
+ghost use Rattle.ownership_kinds.specs.inner.Faults.{annotation_faults};
 ghost use Rattle.ownership_kinds.specs.inner.Known.{kind_told};
 ghost use Rattle.ownership_kinds.specs.Statics as statics;
 
-use crate::fault::{StaticFault, lesser};
 use ownership_chains::{Facts, kind_of};
 use ownership_origins::Switched;
+use point_checks::{PointFault, lesser};
 use sil_ast::{ArgKind, BlockArg, BlockId, PointId};
 use sil_rules::Rule;
 use sil_types::TypeTable;
@@ -109,14 +110,14 @@ pub(crate) fn add_annotation(
     switched: Option<Switched>,
     block: BlockId,
     arg: &BlockArg,
-    found: Option<StaticFault>,
-) -> Option<StaticFault>
+    found: Option<PointFault>,
+) -> Option<PointFault>
     ensures { result ≡ least found (annotation_faults (kind_told facts.now) types.now switched block.0 arg.now) }
 {
     if 0 < block.0 && !is_annotated_well(facts, switched, types.is_trivial(&arg.ty), arg.kind) {
         return lesser(
             found,
-            StaticFault {
+            PointFault {
                 rule: Rule::ArgumentKind,
                 subject: arg.value,
                 point: PointId { block, index: 0 },

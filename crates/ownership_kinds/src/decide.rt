@@ -7,22 +7,24 @@ ghost use Rattle.ownership_chains.specs.Facts.{told_at};
 ghost use Rattle.ownership_origins.specs.Origins.{definitions_of};
 ghost use Rattle.ownership_origins.specs.Renamings.{renamings_of};
 ghost use Rattle.ownership_origins.specs.inner.Tables.{AreSwitches};
-ghost use Rattle.ownership_marks.specs.Known.{AreKindsBy};
+ghost use Rattle.value_tables.specs.Borrows as borrowing;
 ghost use Rattle.ownership_kinds.specs.Facts.{facts_in};
 ghost use Rattle.ownership_kinds.specs.inner.Known as known;
 ghost use Rattle.ownership_kinds.specs.inner.Known.{IsRingOf};
-ghost use Rattle.ownership_kinds.specs.Statics.{HasKinds, IsFirstBroken};
+ghost use Rattle.ownership_kinds.specs.inner.Ends.{AreKindsOf, IsFirstFault};
+ghost use Rattle.ownership_kinds.specs.Statics.{HasKinds};
 
-use crate::borrows::borrows_of;
-use crate::fault::StaticFault;
-use crate::statics::{Known, first_broken};
+use crate::check::{KindCheck, first_broken};
+use crate::find::FunctionKinds;
 use ownership_chains::{Definition, Facts, Outcome, kinds_of};
 use ownership_marks::Kinds;
 use ownership_origins::Switched;
+use point_checks::PointFault;
 use sil_ast::{Exhausted, Function, ValueId};
 use sil_cfg::Graph;
 use sil_types::TypeTable;
 use std::alloc::Global;
+use value_tables::Borrow;
 
 /// Of two values the one with the lesser number.
 fn first_of(one: Option<ValueId>, other: Option<ValueId>) -> Option<ValueId>
@@ -42,29 +44,31 @@ fn broken_by(
     f: &Function,
     switches: &[Option<Switched>],
     facts: &[Option<Facts>],
+    borrows: &[Borrow],
     ring: Option<ValueId>,
-) -> Result<Option<StaticFault>, Exhausted>
+) -> Result<Option<PointFault>, Exhausted>
     requires counted { AreCountedFrom 0 (values_of f.now.blocks) }
     requires blocks { length f.now.blocks < 2 ^ 32 }
     requires short { All (λ b. length b.insts < 2 ^ 32) f.now.blocks }
     requires switches { AreSwitches f.now switches.now }
+    requires borrows { borrows.now ≡ borrowing.borrows_of f.now }
     requires facts { (v : ValueId) → told_at facts.now v ≡ facts_in types.now f.now v }
     requires ring { IsRingOf types.now f.now ring }
-    ensures some { IfOk result (λ r. IfSome r (λ x. IsFirstBroken types.now f.now x.rule x.subject x.point.block.0 x.point.index)) }
+    ensures some { IfOk result (λ r. IfSome r (IsFirstFault types.now f.now)) }
     ensures none { IfOk result (λ r. IfNone r (HasKinds types.now f.now)) }
 {
-    let borrows = borrows_of(alloc, f)?;
-    let known = Known {
+    let check = KindCheck {
+        types,
         facts,
-        borrows: borrows.as_slice(),
+        borrows,
         switches,
         ring,
     };
-    let broken = first_broken(alloc, &known, types, f)?;
+    let broken = first_broken(alloc, &check, f)?;
     Ok(broken)
 }
 
-/// The kinds of the function's values and the marks of its items, or else the first broken rule on kinds.
+/// The kinds of the function's values and the marks of its items, with what its values borrow, or else the first broken rule on kinds.
 pub(crate) fn decide(
     alloc: Global,
     types: &TypeTable,
@@ -72,29 +76,39 @@ pub(crate) fn decide(
     g: &Graph,
     switches: &[Option<Switched>],
     definitions: &[Definition],
+    borrows: Vec<Borrow>,
     renamed: Option<ValueId>,
-) -> Result<Result<Kinds, StaticFault>, Exhausted>
+) -> Result<Result<FunctionKinds, PointFault>, Exhausted>
     requires counted { AreCountedFrom 0 (values_of f.now.blocks) }
     requires blocks { length f.now.blocks < 2 ^ 32 }
     requires short { All (λ b. length b.insts < 2 ^ 32) f.now.blocks }
     requires switches { AreSwitches f.now switches.now }
     requires definitions { definitions.now ≡ definitions_of types.now f.now }
+    requires borrows { borrows.items ≡ borrowing.borrows_of f.now }
     requires defined_in_range { IsInRange definitions.now }
     requires defined_each { length definitions.now ≡ length (values_of f.now.blocks) }
     requires renamed_each { length (renamings_of f.now) ≡ length (values_of f.now.blocks) }
     requires first_renamed { IfSome renamed (IsFirstCyclic (renamings_of f.now)) }
     requires none_renamed { IfNone renamed (HasNoRing (renamings_of f.now)) }
-    ensures kinds { IfOk result (λ r. IfOk r (AreKindsBy (length (values_of f.now.blocks)) (facts_in types.now f.now) f.now g.now)) }
+    ensures kinds { IfOk result (λ r. IfOk r (AreKindsOf types.now f.now g.now)) }
     ensures keeps { IfOk result (λ r. OnOk r (HasKinds types.now f.now)) }
-    ensures broken { IfOk result (λ r. IfErr r (λ x. IsFirstBroken types.now f.now x.rule x.subject x.point.block.0 x.point.index)) }
+    ensures broken { IfOk result (λ r. IfErr r (IsFirstFault types.now f.now)) }
 {
     let Outcome { table, cyclic } = kinds_of(alloc, definitions)?;
     let ring = first_of(cyclic, renamed);
-    match broken_by(alloc, types, f, switches, table.as_slice(), ring)? {
+    match broken_by(
+        alloc,
+        types,
+        f,
+        switches,
+        table.as_slice(),
+        borrows.as_slice(),
+        ring,
+    )? {
         Some(fault) => Ok(Err(fault)),
         None => {
             let kinds = Kinds::with(alloc, table, f, g)?;
-            Ok(Ok(kinds))
+            Ok(Ok(FunctionKinds { kinds, borrows }))
         }
     }
 }

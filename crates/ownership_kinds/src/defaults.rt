@@ -2,14 +2,15 @@
 
 ghost use Rattle.std.specs.Prelude.{◌≡◌};
 ghost use Rattle.std.specs.List.{list_any};
-ghost use Rattle.ownership_kinds.specs.inner.Faults.{lacking_faults, least};
+ghost use Rattle.point_checks.specs.inner.Faults.{least};
+ghost use Rattle.ownership_kinds.specs.inner.Faults.{lacking_faults};
 ghost use Rattle.ownership_kinds.specs.inner.Known.{kind_told};
 ghost use Rattle.ownership_kinds.specs.Statics as statics;
 
-use crate::fault::{StaticFault, lesser};
 use crate::kinds::{is_guaranteed, is_owned};
 use instruction_table::{Ending, ending_of};
 use ownership_chains::{Facts, kind_of};
+use point_checks::{PointFault, lesser};
 use sil_ast::{Edge, Function, Inst, PointId};
 use sil_rules::Rule;
 use type_definitions::Kind;
@@ -63,8 +64,8 @@ pub(crate) fn add_lacking(
     f: &Function,
     point: PointId,
     inst: &Inst,
-    found: Option<StaticFault>,
-) -> Option<StaticFault>
+    found: Option<PointFault>,
+) -> Option<PointFault>
     ensures { result ≡ least found (lacking_faults (kind_told facts.now) f.now point.block.0 point.index inst.now) }
 {
     let Some(operand) = inst.operands.get(0) else {
@@ -73,7 +74,7 @@ pub(crate) fn add_lacking(
     if lacks_argument(f, inst) && needs_argument(kind_of(facts, operand.value)) {
         return lesser(
             found,
-            StaticFault {
+            PointFault {
                 rule: Rule::ArgumentKind,
                 subject: operand.value,
                 point,

@@ -1,25 +1,33 @@
 //! The kinds of a function, or why it has none.
 
-ghost use Rattle.std.specs.Prelude.{◌≡◌, IfErr, IfNone, IfOk, IfSome, OnOk, length};
-ghost use Rattle.numbered_form.specs.Numbering.{values_of};
+ghost use Rattle.std.specs.Prelude.{◌≡◌, IfErr, IfNone, IfOk, IfSome, OnOk};
 ghost use Rattle.sil_cfg.specs.Build.{HasGraph};
 ghost use Rattle.ownership_chains.specs.Chains.{HasNoRing, IsFirstCyclic, IsInRange};
 ghost use Rattle.ownership_origins.specs.Renamings.{renamings_of};
 ghost use Rattle.ownership_origins.specs.inner.Tables.{AreSwitches};
-ghost use Rattle.ownership_marks.specs.Known.{AreKindsBy};
-ghost use Rattle.ownership_kinds.specs.inner.Ends.{IsEndOn, IsFaultOf, IsOfNumberedModule};
-ghost use Rattle.ownership_kinds.specs.Facts.{facts_in};
-ghost use Rattle.ownership_kinds.specs.Statics.{HasKinds, IsFirstBroken};
+ghost use Rattle.ownership_kinds.specs.inner.Ends.{AreKindsOf, IsEndOn, IsFirstFault, IsOfNumberedModule};
+ghost use Rattle.ownership_kinds.specs.Statics.{HasKinds};
 
 use crate::decide::decide;
-use crate::fault::StaticFault;
 use ownership_chains::first_cyclic;
 use ownership_marks::Kinds;
 use ownership_origins::{Switched, are_renamed_in_order, definitions, renamings, switches};
-use sil_ast::{Exhausted, Function, List, ValueId};
-use sil_cfg::{Graph, RuleEnd, RuleFault};
+use point_checks::{PointFault, rule_fault};
+use rule_faults::RuleEnd;
+use sil_ast::{Exhausted, Function, ValueId};
+use sil_cfg::Graph;
 use sil_types::TypeTable;
 use std::alloc::Global;
+use value_tables::{Borrow, borrows_of};
+
+/// What the checks on walks ask of a function's values.
+#[derive(Drop)]
+pub struct FunctionKinds {
+    /// The kinds and bases of the values, and the marks of the items.
+    pub kinds: Kinds,
+    /// By value what it borrows.
+    pub borrows: Vec<Borrow>,
+}
 
 /// The first value on a ring of renamings. Most functions have no renaming of a value behind it, and are asked for no more.
 fn first_renamed(
@@ -39,22 +47,23 @@ fn first_renamed(
     first_cyclic(alloc, renamings.as_slice())
 }
 
-/// The kinds of the function's values and the marks of its items, or else the first broken rule on kinds.
+/// The kinds of the function's values and the marks of its items, with what its values borrow, or else the first broken rule on kinds.
 fn find(
     alloc: Global,
     types: &TypeTable,
     f: &Function,
     g: &Graph,
-) -> Result<Result<Kinds, StaticFault>, Exhausted>
+) -> Result<Result<FunctionKinds, PointFault>, Exhausted>
     requires of_module { IsOfNumberedModule f.now }
     requires graph { HasGraph f.now }
-    ensures kinds { IfOk result (λ r. IfOk r (AreKindsBy (length (values_of f.now.blocks)) (facts_in types.now f.now) f.now g.now)) }
+    ensures kinds { IfOk result (λ r. IfOk r (AreKindsOf types.now f.now g.now)) }
     ensures keeps { IfOk result (λ r. OnOk r (HasKinds types.now f.now)) }
-    ensures broken { IfOk result (λ r. IfErr r (λ x. IsFirstBroken types.now f.now x.rule x.subject x.point.block.0 x.point.index)) }
+    ensures broken { IfOk result (λ r. IfErr r (IsFirstFault types.now f.now)) }
 {
     let switches = switches(alloc, f)?;
     let definitions = definitions(alloc, types, f, switches.as_slice())?;
     let renamed = first_renamed(alloc, f, switches.as_slice())?;
+    let borrows = borrows_of(alloc, f)?;
     decide(
         alloc,
         types,
@@ -62,35 +71,29 @@ fn find(
         g,
         switches.as_slice(),
         definitions.as_slice(),
+        borrows,
         renamed,
     )
 }
 
-/// What a static fault is reported as: no walk shows it, and no other value takes part.
-fn rule_fault(alloc: Global, fault: StaticFault) -> RuleFault
-    ensures { IsFaultOf fault result }
-{
-    RuleFault {
-        rule: fault.rule.number(),
-        subject: fault.subject,
-        other: None,
-        point: fault.point,
-        walk: List::new(alloc),
-    }
-}
-
-/// The kinds and bases of a function's values and the marks of its items, where the function keeps the rules on kinds, 302 to 305.
+/// The kinds and bases of a function's values, the marks of its items and what its values borrow, where the function keeps the
+/// rules on kinds, 302 to 305.
 /// Else the fault is the first that is broken, by value, then by rule, then by point. It has no walk and no other value.
-pub fn kinds_in(alloc: Global, f: &Function, g: &Graph, types: &TypeTable) -> Result<Kinds, RuleEnd>
+pub fn kinds_in(
+    alloc: Global,
+    f: &Function,
+    g: &Graph,
+    types: &TypeTable,
+) -> Result<FunctionKinds, RuleEnd>
     requires of_module { IsOfNumberedModule f.now }
     requires graph { HasGraph f.now }
-    ensures kinds { IfOk result (AreKindsBy (length (values_of f.now.blocks)) (facts_in types.now f.now) f.now g.now) }
+    ensures kinds { IfOk result (AreKindsOf types.now f.now g.now) }
     ensures keeps { OnOk result (HasKinds types.now f.now) }
     ensures end { IfErr result (IsEndOn types.now f.now) }
 {
     match find(alloc, types, f, g) {
         Err(_) => Err(RuleEnd::Memory),
         Ok(Ok(kinds)) => Ok(kinds),
-        Ok(Err(fault)) => Err(RuleEnd::Fault(rule_fault(alloc, fault))),
+        Ok(Err(fault)) => Err(RuleEnd::Fault(rule_fault(alloc, fault, None))),
     }
 }

@@ -3,18 +3,14 @@
 #![tactic(auto)]
 
 mod annotations;
-mod borrows;
+mod check;
 mod decide;
 mod defaults;
-mod fault;
 mod find;
 mod kinds;
 mod mismatch;
 mod mixed;
 mod rings;
-mod statics;
 
-pub use borrows::{borrows_of, is_borrow};
-pub use fault::{StaticFault, lesser};
-pub use find::kinds_in;
+pub use find::{FunctionKinds, kinds_in};
 pub use ownership_marks::Kinds;

@@ -2,20 +2,21 @@
 
 ghost use Rattle.std.specs.Prelude.{◌≡◌, ◌++◌, OnOk};
 ghost use Rattle.std.specs.List.{flat_map};
-ghost use Rattle.ownership_marks.specs.Roles.{taken_along};
-ghost use Rattle.ownership_kinds.specs.inner.Faults.{least, taken_faults};
+ghost use Rattle.item_operands.specs.Roles.{taken_along};
+ghost use Rattle.point_checks.specs.inner.Faults.{least};
+ghost use Rattle.ownership_kinds.specs.inner.Faults.{taken_faults};
 ghost use Rattle.ownership_kinds.specs.inner.Known.{kind_told};
 ghost use Rattle.ownership_kinds.specs.Statics as statics;
 
-use crate::borrows::is_borrow;
-use crate::fault::{StaticFault, lesser};
 use crate::kinds::{is_guaranteed, is_owned};
 use instruction_table::Role;
+use item_operands::{Taken, add_taken_along, add_taken_by};
 use ownership_chains::{Facts, kind_of};
-use ownership_marks::{Taken, add_taken_along, add_taken_by};
+use point_checks::{PointFault, lesser};
 use sil_ast::{Edge, Exhausted, Inst, PointId};
 use sil_rules::Rule;
 use type_definitions::Kind;
+use value_tables::{Borrow, is_borrow};
 
 fn add_all_along(taken: &mut Vec<Taken>, edges: &[Edge]) -> Result<(), Exhausted>
     ensures { OnOk result (taken.new.items ≡ taken.old.items ++ flat_map taken_along edges.now) }
@@ -54,18 +55,18 @@ fn is_mismatch(is_borrow: bool, role: Role, kind: Option<Kind>) -> bool
 
 fn add_mismatch(
     facts: &[Option<Facts>],
-    borrows: &[bool],
+    borrows: &[Borrow],
     point: PointId,
     taken: Taken,
-    found: Option<StaticFault>,
-) -> Option<StaticFault>
+    found: Option<PointFault>,
+) -> Option<PointFault>
     ensures { result ≡ least found (taken_faults (kind_told facts.now) borrows.now point.block.0 point.index taken) }
 {
     let kind = kind_of(facts, taken.value);
     if is_mismatch(is_borrow(borrows, taken.value), taken.role, kind) {
         return lesser(
             found,
-            StaticFault {
+            PointFault {
                 rule: Rule::KindMismatch,
                 subject: taken.value,
                 point,
@@ -78,11 +79,11 @@ fn add_mismatch(
 /// The first of what was found and of these faults of what the instruction at the point takes.
 pub(crate) fn add_mismatches(
     facts: &[Option<Facts>],
-    borrows: &[bool],
+    borrows: &[Borrow],
     point: PointId,
     taken: &[Taken],
-    mut found: Option<StaticFault>,
-) -> Option<StaticFault>
+    mut found: Option<PointFault>,
+) -> Option<PointFault>
     ensures { result ≡ least found (flat_map (taken_faults (kind_told facts.now) borrows.now point.block.0 point.index) taken.now) }
 {
     for one in taken {

@@ -3,15 +3,16 @@
 ghost use Rattle.std.specs.Prelude.{◌≡◌, ℕ, find, map};
 ghost use Rattle.std.specs.List.{list_any};
 ghost use Rattle.instruction_table.specs.Forms as form;
-ghost use Rattle.ownership_origins.specs.Switched.{value_of};
-ghost use Rattle.ownership_kinds.specs.inner.Faults.{fault_at, least, mixed_faults};
+ghost use Rattle.value_tables.specs.FirstValue.{value_of};
+ghost use Rattle.point_checks.specs.inner.Faults.{fault_at, least};
+ghost use Rattle.ownership_kinds.specs.inner.Faults.{mixed_faults};
 ghost use Rattle.ownership_kinds.specs.inner.Known.{kind_told};
 ghost use Rattle.ownership_kinds.specs.Statics as statics;
 
-use crate::fault::{StaticFault, lesser};
 use crate::kinds::{is_guaranteed, is_owned};
 use instruction_table::{Op, ResultKind, result_kind_of};
 use ownership_chains::{Facts, kind_of};
+use point_checks::{PointFault, lesser};
 use sil_ast::{Inst, Operand, PointId, ValueId};
 use sil_rules::Rule;
 
@@ -67,15 +68,15 @@ pub(crate) fn add_mixed(
     facts: &[Option<Facts>],
     point: PointId,
     inst: &Inst,
-    found: Option<StaticFault>,
-) -> Option<StaticFault>
+    found: Option<PointFault>,
+) -> Option<PointFault>
     ensures { result ≡ least found (mixed_faults (kind_told facts.now) point.block.0 point.index inst.now) }
 {
     match mixed_operand(facts, inst) {
         None => found,
         Some(subject) => lesser(
             found,
-            StaticFault {
+            PointFault {
                 rule: Rule::MixedForwarding,
                 subject,
                 point,

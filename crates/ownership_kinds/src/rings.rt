@@ -3,9 +3,10 @@
 ghost use Rattle.std.specs.Prelude.{◌≡◌};
 ghost use Rattle.std.specs.List.{flat_map};
 ghost use Rattle.ownership_kinds.specs.inner.Faults as faults;
-ghost use Rattle.ownership_kinds.specs.inner.Faults.{least, ring_faults};
+ghost use Rattle.point_checks.specs.inner.Faults.{least};
+ghost use Rattle.ownership_kinds.specs.inner.Faults.{ring_faults};
 
-use crate::fault::{StaticFault, lesser};
+use point_checks::{PointFault, lesser};
 use sil_ast::{PointId, ValueId};
 use sil_rules::Rule;
 
@@ -23,14 +24,14 @@ pub(crate) fn add_ring(
     ring: Option<ValueId>,
     point: PointId,
     value: ValueId,
-    found: Option<StaticFault>,
-) -> Option<StaticFault>
+    found: Option<PointFault>,
+) -> Option<PointFault>
     ensures { result ≡ least found (ring_faults ring point.block.0 point.index value) }
 {
     if is_one(ring, value) {
         return lesser(
             found,
-            StaticFault {
+            PointFault {
                 rule: Rule::CyclicForwarding,
                 subject: value,
                 point,
@@ -45,8 +46,8 @@ pub(crate) fn add_rings(
     ring: Option<ValueId>,
     point: PointId,
     values: &[ValueId],
-    mut found: Option<StaticFault>,
-) -> Option<StaticFault>
+    mut found: Option<PointFault>,
+) -> Option<PointFault>
     ensures { result ≡ least found (flat_map (ring_faults ring point.block.0 point.index) values.now) }
 {
     for value in values {

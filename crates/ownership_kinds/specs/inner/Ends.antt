@@ -1,34 +1,37 @@
--- How a search for the kinds of a function ends without them.
-use Rattle.std.specs.Prelude.{◌≡◌, [], None, Contains, ⊤}
+-- How a search for the kinds of a function ends, with them or without.
+use Rattle.std.specs.Prelude.{◌≡◌, None, Contains, length, ⊤}
 use Rattle.sil_ast.specs.declared.function.Function.{Function}
 use Rattle.sil_ast.specs.declared.module.Module.{Module}
-use Rattle.sil_cfg.specs.declared.fault.RuleEnd.{RuleEnd}
-use Rattle.sil_cfg.specs.declared.fault.RuleEnd.TheVariants.{Fault, Memory}
-use Rattle.sil_cfg.specs.declared.fault.RuleFault.{RuleFault}
+use Rattle.sil_cfg.specs.Layout.{Layout}
+use Rattle.rule_faults.specs.declared.fault.RuleEnd.{RuleEnd}
+use Rattle.rule_faults.specs.declared.fault.RuleEnd.TheVariants.{Fault, Memory}
+use Rattle.rule_faults.specs.declared.fault.RuleFault.{RuleFault}
 use Rattle.numbered_form.specs.NumberedForm.{IsNumbered}
-use Rattle.sil_rules.specs.Rules.{number_of}
+use Rattle.numbered_form.specs.Numbering.{values_of}
+use Rattle.point_checks.specs.inner.Reports.{IsReport}
+use Rattle.point_checks.specs.declared.fault.PointFault.{PointFault}
 use Rattle.type_definitions.specs.Declarations.{Declarations}
+use Rattle.value_tables.specs.Borrows.{borrows_of}
+use Rattle.ownership_marks.specs.Known.{AreKindsBy}
+use Rattle.ownership_kinds.specs.Facts.{facts_in}
 use Rattle.ownership_kinds.specs.Statics.{IsFirstBroken}
-use Rattle.ownership_kinds.specs.declared.fault.StaticFault.{StaticFault}
+use Rattle.ownership_kinds.specs.declared.find.FunctionKinds.{FunctionKinds}
 
 -- the function is one of a module in numbered form
 abbrev pub IsOfNumberedModule : Function → Type 0
 IsOfNumberedModule f = (m : Module) × IsNumbered m × Contains m.functions f
 
--- what a static fault is reported as
-pub record IsFaultOf (x : StaticFault) (y : RuleFault) : Type 0 where
-  pub rule : y.rule ≡ number_of x.rule
-  pub subject : y.subject ≡ x.subject
-  pub point : y.point ≡ x.point
-  pub other : y.other ≡ None
-  pub walk : y.walk ≡ []
+-- what is handed out is so of the function's values
+pub record AreKindsOf (d : Declarations) (f : Function) (g : Layout) (found : FunctionKinds) : Type 0 where
+  pub kinds : AreKindsBy (length (values_of f.blocks)) (facts_in d f) f g found.kinds
+  pub borrows : found.borrows.items ≡ borrows_of f
 
-abbrev pub IsFirst : Declarations → Function → StaticFault → Type 0
-IsFirst d f x = IsFirstBroken d f x.rule x.subject x.point.block.0 x.point.index
+abbrev pub IsFirstFault : Declarations → Function → PointFault → Type 0
+IsFirstFault d f x = IsFirstBroken d f x.rule x.subject x.point.block.0 x.point.index
 
 -- the fault is that of the first broken rule on kinds
 abbrev pub IsFaultOn : Declarations → Function → RuleFault → Type 0
-IsFaultOn d f y = (x : StaticFault) × IsFirst d f x × IsFaultOf x y
+IsFaultOn d f y = (x : PointFault) × IsFirstFault d f x × IsReport x None y
 
 abbrev pub IsEndOn : Declarations → Function → RuleEnd → Type 0
 IsEndOn d f (Fault x) = IsFaultOn d f x

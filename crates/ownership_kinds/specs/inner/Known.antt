@@ -9,8 +9,9 @@ use Rattle.type_definitions.specs.Declarations.{Declarations}
 use Rattle.type_definitions.specs.declared.kind.Kind.{Kind}
 use Rattle.ownership_origins.specs.inner.Tables.{AreSwitches}
 use Rattle.ownership_kinds.specs.Facts.{facts_in, kind_of_facts}
-use Rattle.ownership_kinds.specs.Statics.{IsOnRing, borrows_of}
-use Rattle.ownership_kinds.specs.declared.statics.Known.{Known}
+use Rattle.value_tables.specs.Borrows.{borrows_of}
+use Rattle.ownership_kinds.specs.Statics.{IsOnRing}
+use Rattle.ownership_kinds.specs.declared.check.KindCheck.{KindCheck}
 
 -- the kind that a table tells
 abbrev pub kind_told : List (Option Facts) → ValueId → Option Kind
@@ -34,7 +35,7 @@ first_of (Some a) None = Some a
 first_of (Some a) (Some b) = if nat_lt b.0 a.0 then Some b else Some a
 
 -- all is known as it is in the function
-pub record IsKnown (d : Declarations) (f : Function) (k : Known) : Type 0 where
+pub record IsKnown (d : Declarations) (f : Function) (k : KindCheck) : Type 0 where
   pub facts : (v : ValueId) → told_at k.facts.now v ≡ facts_in d f v
   pub borrows : k.borrows.now ≡ borrows_of f
   pub switches : AreSwitches f k.switches.now

@@ -1,6 +1,6 @@
 use Rattle.std.proofs.Common.{◌≡◌, ◌++◌, take}
 use Rattle.std.specs.List.{flat_map}
-use Rattle.ownership_marks.specs.Roles.{taken_along}
+use Rattle.item_operands.specs.Roles.{taken_along}
 use Rattle.ownership_kinds.proofs.mismatch.add_all_along.Given as goal
 
 abbrev pub invariant-loop-edge : goal.invariant-loop-edge
