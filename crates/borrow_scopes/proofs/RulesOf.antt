@@ -1,5 +1,5 @@
 -- The rules of the table are those on scopes.
-use Rattle.std.proofs.Common.{◌≡◌, ℕ, List, refl, Bool, true, false, Option}
+use Rattle.std.proofs.Common.{◌≡◌, ℕ, refl, Bool, true, false, Option}
 use Rattle.std.specs.List.{AllByRecursion, flat_map, range_with_len}
 use Rattle.sil_ast.specs.declared.function.Function.{Function}
 use Rattle.sil_ast.specs.declared.place.ValueId.{ValueId}
