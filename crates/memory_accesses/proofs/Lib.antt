@@ -1,5 +1,5 @@
 pub mod ByItem
 pub mod Following
-pub mod Gathered
+pub mod SourceCount
 pub mod Idle
 pub mod Operating

@@ -1,19 +1,20 @@
 -- What an item does to memory and to the values that are lent, step by step.
-use Rattle.std.specs.Prelude.{List, [], ◌∷◌, ◌++◌, cond, map, slice_get, slice_index_or, Option, Some, None}
+use Rattle.std.specs.Prelude.{List, [], ◌∷◌, ◌++◌, cond, map, slice_index_or, Option, Some, None}
 use Rattle.std.specs.List.{flat_map}
 use Rattle.instruction_table.specs.Forms.{number_of}
 use Rattle.sil_ast.specs.declared.function.Function.{Function}
-use Rattle.sil_ast.specs.declared.inst.Inst as inst
+use Rattle.sil_ast.specs.declared.inst.Inst.{Inst}
 use Rattle.instruction_table.specs.declared.op.Op.{Op}
 use Rattle.sil_ast.specs.declared.place.ValueId.{ValueId}
 use Rattle.sil_cfg.specs.declared.item.Item.{Item}
-use Rattle.sil_cfg.specs.declared.item.Item.TheVariants.{Entry, Inst, Edge, Exit}
+use Rattle.item_operands.specs.Items.{item_defined, item_taken}
+use Rattle.item_operands.specs.Parts.{item_inst}
+use Rattle.item_operands.specs.declared.taken.Taken.{Taken}
 use Rattle.ownership_chains.specs.declared.facts.Facts.{Facts}
-use Rattle.ownership_marks.specs.Marks.{inst_in, item_defined, item_taken, marks_of, terminator_in}
+use Rattle.ownership_marks.specs.Marks.{marks_of}
 use Rattle.ownership_marks.specs.declared.mark.Mark.{Mark}
 use Rattle.ownership_marks.specs.declared.mark.MarkSort.{MarkSort}
 use Rattle.ownership_marks.specs.declared.mark.MarkSort.TheVariants as sort
-use Rattle.ownership_marks.specs.declared.taken.Taken.{Taken}
 use Rattle.memory_accesses.specs.declared.access.Access.{Access}
 use Rattle.memory_accesses.specs.declared.access.Access.TheVariants.{Ends, Begins, Allocates, Deallocates, Given, Does, Mentions}
 use Rattle.memory_accesses.specs.declared.columns.Allowance.{Allowance}
@@ -27,13 +28,6 @@ use Rattle.memory_accesses.specs.Sources.{source_at}
 -- which unfinished objects an instruction takes, by its row
 abbrev pub allowance_of : Op → Allowance
 allowance_of o = slice_index_or ALLOWANCES (number_of o) NeitherOfThem
-
--- the instruction of an item: a terminator for its edges and its exit
-abbrev pub item_inst : Function → Item → Option inst.Inst
-item_inst f Entry = None
-item_inst f (Inst p) = inst_in (slice_get f.blocks p.block.0) p.index
-item_inst f (Edge e) = terminator_in (slice_get f.blocks e.block.0)
-item_inst f (Exit p) = terminator_in (slice_get f.blocks p.block.0)
 
 abbrev pub ends_by : ValueId → MarkSort → List Access
 ends_by v sort.End = Ends v ∷ []
@@ -55,11 +49,11 @@ abbrev pub mentioned : Allowance → Taken → Access
 mentioned a t = Mentions t.value a
 
 -- the operand of a `dealloc_stack` isn't mentioned
-abbrev pub mentions_of : Option inst.Inst → List Taken → List Access
+abbrev pub mentions_of : Option Inst → List Taken → List Access
 mentions_of None taken = []
 mentions_of (Some i) taken = cond (deallocates i) [] (map (mentioned (allowance_of i.op)) taken)
 
-abbrev pub does_of : Option inst.Inst → List Access
+abbrev pub does_of : Option Inst → List Access
 does_of None = []
 does_of (Some i) = map Does (operations_of i)
 
@@ -77,7 +71,7 @@ deallocated_by v source.Other = []
 abbrev pub deallocated : List Source → ValueId → List Access
 deallocated sources v = deallocated_by v (source_at sources v)
 
-abbrev pub deallocations_of : List Source → Option inst.Inst → List Access
+abbrev pub deallocations_of : List Source → Option Inst → List Access
 deallocations_of sources None = []
 deallocations_of sources (Some i) = cond (deallocates i) (flat_map (deallocated sources) (addresses_of i)) []
 

@@ -9,18 +9,18 @@ use Rattle.sil_ast.specs.declared.inst.Qualifier.{Qualifier}
 use Rattle.sil_ast.specs.declared.inst.Qualifier.TheVariants as word
 use Rattle.instruction_table.specs.declared.op.Op.{Op}
 use Rattle.sil_ast.specs.declared.place.ValueId.{ValueId}
-use Rattle.ownership_marks.specs.Roles.{taken_by}
-use Rattle.ownership_marks.specs.declared.taken.Taken.{Taken}
+use Rattle.item_operands.specs.Roles.{taken_by}
+use Rattle.item_operands.specs.declared.taken.Taken.{Taken}
 use Rattle.memory_accesses.specs.declared.access.Operated.{Operated}
 use Rattle.memory_accesses.specs.declared.access.Operation.{Operation}
 use Rattle.memory_accesses.specs.declared.access.Operation.TheVariants.{FirstWrite, Read, Lend, Write, TrivialStore, InoutOperand, Take}
 use Rattle.memory_accesses.specs.declared.columns.AccessKind.{AccessKind}
-use Rattle.memory_accesses.specs.declared.columns.AccessKind.TheVariants.{NoAccess, AllocatesSlot, AllocatesObject, DeallocatesSlot, LendsValue, LendsLocation, NamesField, NamesMember, NamesElement, Loads, Stores, Destroys, Passes}
+use Rattle.memory_accesses.specs.declared.columns.AccessKind.TheVariants as access
 use Rattle.memory_accesses.specs.declared.columns.TheConstants.{ACCESSES}
 
 -- what an instruction does to memory, by its row
 abbrev pub access_kind_of : Op → AccessKind
-access_kind_of o = slice_index_or ACCESSES (number_of o) NoAccess
+access_kind_of o = slice_index_or ACCESSES (number_of o) access.NoAccess
 
 abbrev pub load_operation : Qualifier → Operation
 load_operation word.Plain = Read
@@ -40,19 +40,19 @@ store_operation word.Assign = Write
 
 -- what is done to a location, by the row and the word in brackets
 abbrev pub operation_by : AccessKind → Qualifier → Option Operation
-operation_by NoAccess q = None
-operation_by AllocatesSlot q = None
-operation_by AllocatesObject q = None
-operation_by DeallocatesSlot q = None
-operation_by LendsValue q = None
-operation_by LendsLocation q = Some Lend
-operation_by NamesField q = None
-operation_by NamesMember q = None
-operation_by NamesElement q = None
-operation_by Loads q = Some (load_operation q)
-operation_by Stores q = Some (store_operation q)
-operation_by Destroys q = Some Take
-operation_by Passes q = Some InoutOperand
+operation_by access.NoAccess q = None
+operation_by access.AllocatesSlot q = None
+operation_by access.AllocatesObject q = None
+operation_by access.DeallocatesSlot q = None
+operation_by access.LendsValue q = None
+operation_by access.LendsLocation q = Some Lend
+operation_by access.NamesField q = None
+operation_by access.NamesMember q = None
+operation_by access.NamesElement q = None
+operation_by access.Loads q = Some (load_operation q)
+operation_by access.Stores q = Some (store_operation q)
+operation_by access.Destroys q = Some Take
+operation_by access.Passes q = Some InoutOperand
 
 abbrev pub is_address_role : Role → Bool
 is_address_role role.Consumed = false
@@ -81,19 +81,19 @@ abbrev pub operations_of : Inst → List Operated
 operations_of i = flat_map (operated_at (operation_by (access_kind_of i.op) i.qualifier)) (addresses_of i)
 
 abbrev pub deallocates_by : AccessKind → Bool
-deallocates_by NoAccess = false
-deallocates_by AllocatesSlot = false
-deallocates_by AllocatesObject = false
-deallocates_by DeallocatesSlot = true
-deallocates_by LendsValue = false
-deallocates_by LendsLocation = false
-deallocates_by NamesField = false
-deallocates_by NamesMember = false
-deallocates_by NamesElement = false
-deallocates_by Loads = false
-deallocates_by Stores = false
-deallocates_by Destroys = false
-deallocates_by Passes = false
+deallocates_by access.NoAccess = false
+deallocates_by access.AllocatesSlot = false
+deallocates_by access.AllocatesObject = false
+deallocates_by access.DeallocatesSlot = true
+deallocates_by access.LendsValue = false
+deallocates_by access.LendsLocation = false
+deallocates_by access.NamesField = false
+deallocates_by access.NamesMember = false
+deallocates_by access.NamesElement = false
+deallocates_by access.Loads = false
+deallocates_by access.Stores = false
+deallocates_by access.Destroys = false
+deallocates_by access.Passes = false
 
 -- the instruction deallocates a slot
 abbrev pub deallocates : Inst → Bool

@@ -1,7 +1,5 @@
 -- What each value of a function is to memory.
-use Rattle.std.specs.Prelude.{ℕ, ◌+◌, ℤ, pos, negsuc, List, [], ◌∷◌, ◌++◌, Bool, true, false, not, cond, map, replicate, length, slice_get, unwrap_or, option_map, Option, Some, None}
-use Rattle.std.specs.List.{flat_map}
-use Rattle.sil_ast.specs.declared.function.Block.{Block}
+use Rattle.std.specs.Prelude.{ℕ, zero, suc, ℤ, pos, negsuc, List, not, cond, map, replicate, length, slice_get, unwrap_or, option_map, Option, Some, None}
 use Rattle.sil_ast.specs.declared.function.BlockArg.{BlockArg}
 use Rattle.sil_ast.specs.declared.function.Function.{Function}
 use Rattle.sil_ast.specs.declared.inst.Inst.{Inst}
@@ -9,14 +7,13 @@ use Rattle.sil_ast.specs.declared.member.Member.{Member}
 use Rattle.sil_ast.specs.declared.place.ValueId.{ValueId}
 use Rattle.sil_ast.specs.declared.type_name.TypeName.{TypeName, out-TypeName}
 use Rattle.sil_ast.specs.declared.type_name.TypeName.TheOpen.{TypeName-F, Int, Named, Optional, Tuple, Weak, Unowned, Address}
-use Rattle.numbered_form.specs.Insts.{insts_of}
 use Rattle.type_definitions.specs.Declarations.{Declarations}
 use Rattle.type_definitions.specs.Lookups.{field_of, fields_of}
 use Rattle.sil_types.specs.Typing.Shapes.{is_address, is_trivial_object}
-use Rattle.ownership_origins.specs.Origins.{is_zero}
-use Rattle.ownership_origins.specs.Switched.{first_value}
+use Rattle.value_tables.specs.FirstValue.{first_value}
+use Rattle.value_tables.specs.ValueRows.{value_rows}
 use Rattle.memory_accesses.specs.declared.columns.AccessKind.{AccessKind}
-use Rattle.memory_accesses.specs.declared.columns.AccessKind.TheVariants.{NoAccess, AllocatesSlot, AllocatesObject, DeallocatesSlot, LendsValue, LendsLocation, NamesField, NamesMember, NamesElement, Loads, Stores, Destroys, Passes}
+use Rattle.memory_accesses.specs.declared.columns.AccessKind.TheVariants as access
 use Rattle.memory_accesses.specs.declared.source.Source.{Source}
 use Rattle.memory_accesses.specs.declared.source.Source.TheVariants as source
 use Rattle.memory_accesses.specs.Operations.{access_kind_of}
@@ -68,19 +65,19 @@ part_source (Some v) None = source.Other
 part_source (Some v) (Some k) = source.Part v k
 
 abbrev pub source_by : AccessKind → Declarations → Inst → Source
-source_by NoAccess d i = source.Other
-source_by AllocatesSlot d i = slot_source d i.ty
-source_by AllocatesObject d i = object_source d i.ty
-source_by DeallocatesSlot d i = source.Other
-source_by LendsValue d i = borrow_source (first_value i)
-source_by LendsLocation d i = loan_source (first_value i)
-source_by NamesField d i = field_source (first_value i) (member_place d i.member)
-source_by NamesMember d i = part_source (first_value i) (member_place d i.member)
-source_by NamesElement d i = part_source (first_value i) (element_place i.number)
-source_by Loads d i = source.Other
-source_by Stores d i = source.Other
-source_by Destroys d i = source.Other
-source_by Passes d i = source.Other
+source_by access.NoAccess d i = source.Other
+source_by access.AllocatesSlot d i = slot_source d i.ty
+source_by access.AllocatesObject d i = object_source d i.ty
+source_by access.DeallocatesSlot d i = source.Other
+source_by access.LendsValue d i = borrow_source (first_value i)
+source_by access.LendsLocation d i = loan_source (first_value i)
+source_by access.NamesField d i = field_source (first_value i) (member_place d i.member)
+source_by access.NamesMember d i = part_source (first_value i) (member_place d i.member)
+source_by access.NamesElement d i = part_source (first_value i) (element_place i.number)
+source_by access.Loads d i = source.Other
+source_by access.Stores d i = source.Other
+source_by access.Destroys d i = source.Other
+source_by access.Passes d i = source.Other
 
 -- what a result of the instruction is to memory
 abbrev pub result_source : Declarations → Inst → Source
@@ -89,21 +86,17 @@ result_source d i = source_by (access_kind_of i.op) d i
 abbrev pub result_sources : Declarations → Inst → List Source
 result_sources d i = replicate (length i.results) (result_source d i)
 
+abbrev pub given_source : BlockArg → Source
+given_source a = cond (is_address a.ty) source.Inout source.Other
+
 -- an address among the entry's arguments is one that is passed for an `@inout` parameter
-abbrev pub arg_source : Bool → BlockArg → Source
-arg_source true a = cond (is_address a.ty) source.Inout source.Other
-arg_source false a = source.Other
-
-abbrev pub block_sources : Declarations → ℕ → Block → List Source
-block_sources d n b = map (arg_source (is_zero n)) b.args ++ flat_map (result_sources d) (insts_of b)
-
-abbrev pub sources_from : Declarations → ℕ → List Block → List Source
-sources_from d n [] = []
-sources_from d n (b ∷ bs) = block_sources d n b ++ sources_from d (n + 1) bs
+abbrev pub arg_sources : ℕ → List BlockArg → List Source
+arg_sources zero args = map given_source args
+arg_sources (suc n) args = replicate (length args) source.Other
 
 -- what each value is to memory, by the values' numbers
 abbrev pub sources_of : Declarations → Function → List Source
-sources_of d f = sources_from d 0 f.blocks
+sources_of d f = value_rows arg_sources (result_sources d) f
 
 abbrev pub source_at : List Source → ValueId → Source
 source_at sources v = unwrap_or (slice_get sources v.0) source.Other

@@ -11,15 +11,17 @@ ghost use Rattle.memory_accesses.specs.Accesses.{accesses_of, accesses_with};
 
 use crate::access::Access;
 use crate::item_accesses::{
-    add_begins, add_deallocations, add_does, add_ends, add_made, add_mentions, inst_of,
+    add_begins, add_deallocations, add_does, add_ends, add_made, add_mentions,
 };
 use crate::memory::Memory;
-use ownership_marks::{Kinds, Mark, Taken, add_item_defined, add_item_taken};
+use item_operands::{Taken, add_item_defined, add_item_taken, item_inst};
+use ownership_marks::{Kinds, Mark};
 use sil_ast::{Exhausted, Function, ValueId};
 use sil_cfg::{Graph, Item};
 use std::alloc::Global;
 
-/// Makes `accesses` what an item with these marks does. What it holds before doesn't matter, nor what `taken` and `defined` hold: they are memory for the operands and the values that the item defines.
+/// Makes `accesses` what an item with these marks does. What it holds before doesn't matter, nor what `taken` and `defined` hold:
+/// they are memory for the operands and the values that the item defines.
 pub fn make_accesses(
     accesses: &mut Vec<Access>,
     f: &Function,
@@ -35,7 +37,7 @@ pub fn make_accesses(
     add_item_taken(taken, f, item)?;
     defined.clear();
     add_item_defined(defined, f, item)?;
-    let inst = inst_of(f, item);
+    let inst = item_inst(f, item);
     accesses.clear();
     add_ends(accesses, marks)?;
     add_mentions(accesses, inst, taken.as_slice())?;

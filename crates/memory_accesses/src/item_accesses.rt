@@ -11,21 +11,9 @@ use crate::columns::{Allowance, allowance_of};
 use crate::memory::Memory;
 use crate::operations::{add_addresses, deallocates, is_address_role, operation_of};
 use crate::source::Source;
-use ownership_marks::{Mark, MarkSort, Taken, inst_at, terminator_of};
-use sil_ast::{Exhausted, Function, Inst, ValueId};
-use sil_cfg::Item;
-
-/// The instruction of an item: a terminator for its edges and its exit.
-pub(crate) fn inst_of(f: &Function, item: Item) -> Option<&Inst>
-    ensures { option_copied result ≡ spec.item_inst f.now item }
-{
-    match item {
-        Item::Entry => None,
-        Item::Inst(p) => inst_at(f, p),
-        Item::Edge(e) => terminator_of(f, e.block),
-        Item::Exit(p) => terminator_of(f, p.block),
-    }
-}
+use item_operands::Taken;
+use ownership_marks::{Mark, MarkSort};
+use sil_ast::{Exhausted, Inst, ValueId};
 
 pub(crate) fn add_ends(accesses: &mut Vec<Access>, marks: &[Mark]) -> Result<(), Exhausted>
     ensures { OnOk result (accesses.new.items ≡ accesses.old.items ++ flat_map spec.ended marks.now) }

@@ -8,7 +8,7 @@ ghost use Rattle.memory_accesses.specs.Operations as spec;
 use crate::access::{Operated, Operation};
 use crate::columns::{AccessKind, access_kind_of};
 use instruction_table::Role;
-use ownership_marks::{Taken, add_taken_by};
+use item_operands::{Taken, add_taken_by};
 use sil_ast::{Exhausted, Inst, Qualifier, ValueId};
 
 fn load_operation(qualifier: Qualifier) -> Operation

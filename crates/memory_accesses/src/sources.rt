@@ -1,22 +1,18 @@
 //! What each value of a function is to memory, in one pass over it.
 
 ghost use Rattle.std.specs.Prelude.{◌≡◌, ◌++◌, IfOk, OnOk, map};
-ghost use Rattle.std.specs.List.{flat_map};
 ghost use Rattle.sil_ast.specs.declared.type_name.TypeName.{out-TypeName};
 ghost use Rattle.type_definitions.specs.Lookups as lookups;
-ghost use Rattle.ownership_origins.specs.Origins.{is_zero};
 ghost use Rattle.memory_accesses.specs.Sources as spec;
-ghost use Rattle.memory_accesses.specs.Sources.{block_sources, result_sources};
+ghost use Rattle.memory_accesses.specs.Sources.{arg_sources, result_sources};
 
 use crate::columns::{AccessKind, access_kind_of};
 use crate::source::Source;
-use ownership_origins::first_value;
-use sil_ast::{
-    Block, BlockArg, Boxed, Decl, Exhausted, Field, Function, Inst, List, Text, TypeName, ValueId,
-};
+use sil_ast::{BlockArg, Decl, Exhausted, Field, Function, Inst, List, Text, TypeName, ValueId};
 use sil_types::TypeTable;
 use std::alloc::Global;
 use typing_rows::shapes::{is_trivial_object, target};
+use value_tables::{ValueTable, add_values, first_value, push_times, room_for_values};
 
 fn slot_source(table: &TypeTable, inst: &Inst) -> Source
     ensures { result ≡ spec.slot_source table.now inst.now.ty }
@@ -150,85 +146,80 @@ fn source_by(table: &TypeTable, kind: AccessKind, inst: &Inst) -> Source
     }
 }
 
-/// Adds what the results of an instruction are.
-fn add_results(sources: &mut List<Source>, table: &TypeTable, inst: &Inst) -> Result<(), Exhausted>
-    ensures { OnOk result (sources.new ≡ sources.old ++ result_sources table.now inst.now) }
+fn given_source(arg: &BlockArg) -> Source
+    ensures { result ≡ spec.given_source arg.now }
 {
-    let source = source_by(table, access_kind_of(inst.op), inst);
-    for _ in 0..inst.results.len() {
-        sources.push(source)?;
-    }
-    Ok(())
-}
-
-fn add_insts(
-    sources: &mut List<Source>,
-    table: &TypeTable,
-    insts: &[Boxed<Inst>],
-) -> Result<(), Exhausted>
-    ensures { OnOk result (sources.new ≡ sources.old ++ flat_map (result_sources table.now) insts.now) }
-{
-    for inst in insts {
-        add_results(sources, table, inst.get())?;
-    }
-    Ok(())
-}
-
-fn arg_source(entry: bool, arg: &BlockArg) -> Source
-    ensures { result ≡ spec.arg_source entry arg.now }
-{
-    if entry && target(&arg.ty).is_some() {
+    if target(&arg.ty).is_some() {
         Source::Inout
     } else {
         Source::Other
     }
 }
 
-fn add_args(sources: &mut List<Source>, entry: bool, args: &[BlockArg]) -> Result<(), Exhausted>
-    ensures { OnOk result (sources.new ≡ sources.old ++ map (spec.arg_source entry) args.now) }
+/// Adds what the arguments of the entry are.
+fn add_given(sources: &mut Vec<Source>, args: &[BlockArg]) -> Result<(), Exhausted>
+    ensures { OnOk result (sources.new.items ≡ sources.old.items ++ map spec.given_source args.now) }
 {
     for arg in args {
-        sources.push(arg_source(entry, arg))?;
+        sources.push(given_source(arg))?;
     }
     Ok(())
 }
 
-/// Adds what the values of the block with this number are.
-fn add_block(
-    sources: &mut List<Source>,
-    table: &TypeTable,
+fn add_arg_sources(
+    sources: &mut Vec<Source>,
     number: usize,
-    block: &Block,
+    args: &[BlockArg],
 ) -> Result<(), Exhausted>
-    ensures { OnOk result (sources.new ≡ sources.old ++ block_sources table.now number block.now) }
+    ensures { OnOk result (sources.new.items ≡ sources.old.items ++ arg_sources number args.now) }
 {
-    add_args(sources, number == 0, block.args.as_slice())?;
-    add_insts(sources, table, block.insts.as_slice())?;
-    add_results(sources, table, &block.terminator)
+    match number {
+        0 => add_given(sources, args),
+        _ => push_times(sources, args.len(), Source::Other),
+    }
 }
 
-/// About how many values there are: one for each argument and instruction.
-fn value_estimate(f: &Function) -> usize {
-    let mut count: usize = 0;
-    for block in f.blocks.as_slice() {
-        count = count
-            .saturating_add(block.args.len())
-            .saturating_add(block.insts.len());
+/// The sources of values, by the types of a module.
+#[derive(Drop)]
+struct Sources<'t> {
+    types: &'t TypeTable,
+}
+
+impl<'f> ValueTable<'f> for Sources<'_> {
+    type Table = Vec<Source>;
+
+    type Row = Source;
+
+    ghost rows = { λ table. table.items };
+
+    ghost arg_rows = { λ of. arg_sources };
+
+    ghost result_rows = { λ of. result_sources of.types.now };
+
+    fn add_args(
+        &self,
+        table: &mut Vec<Source>,
+        number: usize,
+        args: &'f [BlockArg],
+    ) -> Result<(), Exhausted> {
+        add_arg_sources(table, number, args)
     }
-    count
+
+    fn add_results(&self, table: &mut Vec<Source>, inst: &'f Inst) -> Result<(), Exhausted> {
+        let source = source_by(self.types, access_kind_of(inst.op), inst);
+        push_times(table, inst.results.len(), source)
+    }
 }
 
 /// What each value of the function is to memory, by the values' numbers.
 pub(crate) fn sources_of(
     alloc: Global,
-    table: &TypeTable,
+    types: &TypeTable,
     f: &Function,
 ) -> Result<List<Source>, Exhausted>
-    ensures { IfOk result (λ sources. sources ≡ spec.sources_of table.now f.now) }
+    ensures { IfOk result (λ sources. sources ≡ spec.sources_of types.now f.now) }
 {
-    let mut sources = List::with_capacity(alloc, value_estimate(f))?;
-    for (number, block) in f.blocks.as_slice().iter().enumerate() {
-        add_block(&mut sources, table, number, block)?;
-    }
-    Ok(sources)
+    let mut sources = Vec::with_capacity(alloc, room_for_values(f))?;
+    add_values(&Sources { types }, &mut sources, f)?;
+    Ok(List::from_vec(sources))
 }

@@ -7,7 +7,7 @@ use Rattle.sil_cfg.specs.Layout.{Layout, item_at}
 use Rattle.sil_cfg.specs.declared.item.Item.{Item}
 use Rattle.ownership_marks.specs.Known.{Known, marks_at}
 use Rattle.ownership_marks.specs.declared.mark.Mark.{Mark}
-use Rattle.ownership_marks.specs.declared.taken.Taken.{Taken}
+use Rattle.item_operands.specs.declared.taken.Taken.{Taken}
 use Rattle.memory_accesses.specs.declared.access.Access.{Access}
 use Rattle.memory_accesses.specs.declared.access.Access.TheVariants.{Does}
 use Rattle.memory_accesses.specs.declared.access.Operated.{Operated}

@@ -3,9 +3,10 @@ use Rattle.std.specs.Prelude.{OnOk}
 use Rattle.std.specs.List.{flat_map}
 use Rattle.sil_ast.specs.declared.inst.Inst.{Inst}
 use Rattle.sil_ast.specs.declared.place.ValueId.{ValueId}
-use Rattle.ownership_marks.specs.Marks.{item_defined, item_taken}
-use Rattle.ownership_marks.specs.declared.taken.Taken.{Taken}
-use Rattle.memory_accesses.specs.Accesses.{begun, deallocations_of, does_of, ended, item_inst, made, mentions_of}
+use Rattle.item_operands.specs.Items.{item_defined, item_taken}
+use Rattle.item_operands.specs.Parts.{item_inst}
+use Rattle.item_operands.specs.declared.taken.Taken.{Taken}
+use Rattle.memory_accesses.specs.Accesses.{begun, deallocations_of, does_of, ended, made, mentions_of}
 use Rattle.memory_accesses.specs.inner.Done.{does_among}
 use Rattle.memory_accesses.specs.declared.access.Access.{Access}
 use Rattle.memory_accesses.proofs.Operating.{all_steps, item_does}
@@ -16,7 +17,7 @@ returns c =
     let f = c.args.f.now in
     let item = c.args.item in
     let marks = c.args.marks.now in
-    let inst = c.inst_of-inst.ensures in
+    let inst = c.item_inst-inst.ensures in
     let taken : c.add_item_taken.new.taken.items ≡ item_taken f item = c.in_ok-add_item_taken.ensures ∙ ap (λ (v : List Taken). v ++ item_taken f item) c.clear.ensures.items in
     let defined : c.add_item_defined.new.defined.items ≡ item_defined f item = c.in_ok-add_item_defined.ensures ∙ ap (λ (v : List ValueId). v ++ item_defined f item) c.clear-2.ensures.items in
     let P : List Access → Type 0 = λ v. OnOk c.add_begins.result (c.add_begins.new.accesses.items ≡ v) in

@@ -1,7 +1,7 @@
 use Rattle.std.proofs.Common.{◌≡◌, ◌∙◌, List, ◌++◌, Some, ap, subst, sym}
 use Rattle.std.specs.Prelude.{OnOk}
 use Rattle.std.specs.List.{flat_map}
-use Rattle.ownership_marks.specs.Roles.{taken_by}
+use Rattle.item_operands.specs.Roles.{taken_by}
 use Rattle.memory_accesses.specs.Operations.{addresses_of, operated_at}
 use Rattle.memory_accesses.specs.inner.Done.{operated_by}
 use Rattle.memory_accesses.specs.declared.access.Operated.{Operated}
