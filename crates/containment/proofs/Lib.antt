@@ -1,3 +1,3 @@
 mod Chaining
 mod Settled
-mod RingLemmas
+pub mod RingLemmas

@@ -1,31 +1,32 @@
 -- Where each of some numbers has a part among them, one is on a ring; numbers in an order and numbers whose parts rise are on none.
-use Rattle.std.proofs.Common.{◌≡◌, ℕ, zero, suc, ◌+◌, ◌<◌, ◌≤◌, List, [], ◌∷◌, length, get_or, set, take, replicate, refl, sym, ap, ◌∙◌, subst, arith, Bool, true, false, not, ◌⊎◌, inl, inr}
-use Rattle.std.specs.Prelude.{All, Contains, count_by, ◌&&◌}
+use Rattle.std.proofs.Common.{◌≡◌, ℕ, zero, suc, ◌+◌, ◌<◌, ◌≤◌, List, [], ◌∷◌, length, get_or, set, replicate, refl, sym, ap, ◌∙◌, subst, arith, Bool, true, false, not, ◌⊎◌, inl, inr}
+use Rattle.std.specs.Prelude.{Contains, count_by, ◌&&◌}
 use Rattle.std.specs.List.{list_all}
 use Rattle.std.proofs.lemmas.Bool.{cases_lt}
 use Rattle.std.proofs.lemmas.List.{length-set, length-replicate, get_or-replicate}
 use Rattle.std.proofs.lemmas.List.Elements.{All-contains, All-weaker, Contains-append_right}
-use Rattle.containment.specs.Chains.{Graph, parts_of, Chain, one, more, IsCyclic, IsInRange}
-use Rattle.containment.specs.inner.Order.{ArePartsBefore, IsOrder}
+use Rattle.containment.specs.Chains.{Graph, parts_of, Chain, one, more, HasNoRing, IsCyclic, IsInRange}
+use Rattle.containment.specs.inner.Order.{IsOrder}
 use Rattle.containment.specs.inner.Ranks.{NeverFall, Rises}
 use Rattle.containment.specs.inner.Search.{IsMarked}
 use Rattle.containment.specs.inner.Settling.{Settles, IsStuck, is_marked}
 use Rattle.containment.proofs.Chaining.{count_set, set_only, chain_push, marked_lt}
 
-abbrev Ring : Graph → Type 0
-Ring graph = (v : ℕ) × (v < length graph) × IsCyclic graph v
+-- a number on a ring, of which P holds
+abbrev pub Ring : Graph → (ℕ → Type 0) → Type 0
+Ring graph P = (v : ℕ) × (v < length graph) × IsCyclic graph v × P v
 
 module _ (graph : Graph) (P : ℕ → Type 0) (next : (v : ℕ) → P v → (w : ℕ) × Contains (parts_of graph v) w × (w < length graph) × P w) where
   -- the next number was passed before, or it wasn't
-  turn : (marks : List Bool) (v : ℕ) (p : P v) → ((x : ℕ) → IsMarked marks x → (x ≡ v) ⊎ Chain graph x v) → (get_or marks (next v p).0 false ≡ false → Ring graph) → Ring graph
+  turn : (marks : List Bool) (v : ℕ) (p : P v) → ((x : ℕ) → IsMarked marks x → (x ≡ v) ⊎ Chain graph x v) → (get_or marks (next v p).0 false ≡ false → Ring graph P) → Ring graph P
   turn marks v p reach other = at (get_or marks (next v p).0 false) refl
     where
       ring : ((next v p).0 ≡ v) ⊎ Chain graph (next v p).0 v → IsCyclic graph (next v p).0
       ring (inl e) = subst (λ x. Chain graph x (next v p).0) (sym e) (one v (next v p).0 (next v p).1)
       ring (inr h) = chain_push graph v (next v p).0 v (next v p).0 h (next v p).1
 
-      at : (b : Bool) → get_or marks (next v p).0 false ≡ b → Ring graph
-      at true e = ((next v p).0, (next v p).2, ring (reach (next v p).0 e))
+      at : (b : Bool) → get_or marks (next v p).0 false ≡ b → Ring graph P
+      at true e = ((next v p).0, (next v p).2, ring (reach (next v p).0 e), (next v p).3)
       at false e = other e
 
   reach_next : (marks : List Bool) (v : ℕ) (p : P v) → ((x : ℕ) → IsMarked marks x → (x ≡ v) ⊎ Chain graph x v) →
@@ -42,7 +43,7 @@ module _ (graph : Graph) (P : ℕ → Type 0) (next : (v : ℕ) → P v → (w :
 
   -- a walk that marks where it was comes to a mark
   ring_from : (fuel : ℕ) (marks : List Bool) (v : ℕ) (p : P v) → length marks ≡ length graph → count_by not marks ≤ fuel →
-      ((x : ℕ) → IsMarked marks x → (x ≡ v) ⊎ Chain graph x v) → Ring graph
+      ((x : ℕ) → IsMarked marks x → (x ≡ v) ⊎ Chain graph x v) → Ring graph P
   ring_from zero marks v p size few reach =
       turn marks v p reach (λ off.
       let w = (next v p).0 in
@@ -55,7 +56,7 @@ module _ (graph : Graph) (P : ℕ → Type 0) (next : (v : ℕ) → P v → (w :
       let fewer : suc (count_by not (set marks (next v p).0 true)) ≡ count_by not marks = count_set marks (next v p).0 (omega arith) off in
       ring_from fuel (set marks (next v p).0 true) (next v p).0 (next v p).3 (length-set marks (next v p).0 true ∙ size) (omega arith) (reach_next marks v p reach))
 
-  some_ring : (v : ℕ) → P v → Ring graph
+  pub some_ring : (v : ℕ) → P v → Ring graph P
   some_ring v p =
       let none = replicate (length graph) false in
       ring_from (count_by not none) none v p (length-replicate (length graph) false) (omega arith) (λ x h. absurd (let lt : x < length graph = marked_lt_all x h in let off : get_or none x false ≡ false = get_or-replicate (length graph) x false false lt in cc (off, h)))
@@ -83,12 +84,12 @@ stuck_next graph marks range stuck v p =
     (u.0, u.1, lt, (lt, u.2))
 
 -- without a ring each number is marked, once nothing more can be placed
-all_marked : (graph : Graph) (marks : List Bool) → IsInRange graph → ((v : ℕ) → v < length graph → IsStuck graph marks v) → ((v : ℕ) → v < length graph → IsCyclic graph v → ⊥) → (v : ℕ) → v < length graph → IsMarked marks v
+all_marked : (graph : Graph) (marks : List Bool) → IsInRange graph → ((v : ℕ) → v < length graph → IsStuck graph marks v) → HasNoRing graph → (v : ℕ) → v < length graph → IsMarked marks v
 all_marked graph marks range stuck none v lt = at (is_marked marks v) refl
   where
     at : (b : Bool) → is_marked marks v ≡ b → IsMarked marks v
     at true e = e
-    at false e = let r = some_ring graph (IsLeft graph marks) (stuck_next graph marks range stuck) v (lt, e) in absurd (none r.0 r.1 r.2)
+    at false e = let r = some_ring graph (IsLeft graph marks) (stuck_next graph marks range stuck) v (lt, e) in absurd (none r.0 r.2)
 
 -- beyond the graph nothing has parts
 no_parts : (graph : Graph) (v : ℕ) → length graph ≤ v → parts_of graph v ≡ []
@@ -100,7 +101,7 @@ no_chain : (graph : Graph) (v w : ℕ) → parts_of graph v ≡ [] → Chain gra
 no_chain graph v w e (one _ _ c) = let c' : Contains [] w = subst (λ xs. Contains xs w) e c in let lt : c'.0 < 0 = c'.1 in omega arith
 no_chain graph v w e (more _ u _ c h) = let c' : Contains [] u = subst (λ xs. Contains xs u) e c in let lt : c'.0 < 0 = c'.1 in omega arith
 
-cyclic_inside : (graph : Graph) → ((v : ℕ) → v < length graph → IsCyclic graph v → ⊥) → (v : ℕ) → IsCyclic graph v → ⊥
+pub cyclic_inside : (graph : Graph) → ((v : ℕ) → v < length graph → IsCyclic graph v → ⊥) → HasNoRing graph
 cyclic_inside graph none v h = at (cases_lt v (length graph))
   where
     at : (v < length graph) ⊎ (length graph ≤ v) → ⊥
@@ -108,16 +109,14 @@ cyclic_inside graph none v h = at (cases_lt v (length graph))
     at (inr le) = no_chain graph v v (no_parts graph v le) h
 
 -- where nothing more can be placed and there is no ring, all numbers are in order
-pub in_order : (graph : Graph) (marks : List Bool) (order : List ℕ) → IsInRange graph → Settles graph marks order → ((v : ℕ) → v < length graph → IsStuck graph marks v) → ((v : ℕ) → v < length graph → IsCyclic graph v → ⊥) → IsOrder graph order × ((v : ℕ) → IsCyclic graph v → ⊥)
-in_order graph marks order range s stuck none = (
-  record {
-    all = λ v lt. s.placed v (all_marked graph marks range stuck none v lt);
-    inside = All-weaker (IsMarked marks) (λ v. v < length graph) (λ v h. let lt : v < length marks = marked_lt marks v h in let size : length marks ≡ length graph = s.size in omega arith) order s.marked;
-    parts = s.parts;
-    once = let count : count_by not marks + length order ≡ length graph = s.count in omega arith;
-  },
-  cyclic_inside graph none,
-)
+pub in_order : (graph : Graph) (marks : List Bool) (order : List ℕ) → IsInRange graph → Settles graph marks order → ((v : ℕ) → v < length graph → IsStuck graph marks v) → HasNoRing graph →
+    IsOrder graph order
+in_order graph marks order range s stuck none = record {
+  all = λ v lt. s.placed v (all_marked graph marks range stuck none v lt);
+  inside = All-weaker (IsMarked marks) (λ v. v < length graph) (λ v h. let lt : v < length marks = marked_lt marks v h in let size : length marks ≡ length graph = s.size in omega arith) order s.marked;
+  parts = s.parts;
+  once = let count : count_by not marks + length order ≡ length graph = s.count in omega arith;
+}
 
 -- where ranks never fall, a chain never leads to a lower one
 module _ (graph : Graph) (ranks : List ℕ) (ranked : NeverFall graph ranks) where

@@ -1,16 +1,16 @@
 -- What a look at one number or at all leaves of an order and its marks.
-use Rattle.std.proofs.Common.{◌≡◌, ℕ, zero, suc, ◌+◌, ◌<◌, ◌≤◌, List, [], ◌∷◌, ◌++◌, length, get_or, set, take, refl, sym, ap, ◌∙◌, subst, arith, Bool, true, false, not, ◌⊎◌, inl, inr, get_or-set_same, replicate, below_more}
+use Rattle.std.proofs.Common.{◌≡◌, ℕ, suc, ◌+◌, ◌<◌, ◌≤◌, List, [], ◌∷◌, ◌++◌, length, get_or, set, take, sym, ◌∙◌, subst, arith, Bool, true, false, not, ◌⊎◌, inl, inr, get_or-set_same}
 use Rattle.std.specs.Prelude.{All, Contains, count_by}
 use Rattle.std.specs.List.{list_all}
-use Rattle.std.proofs.lemmas.List.{length-set, length_push, length-replicate, get_or-replicate, take-append-le, take_all, get_or_push, get_or_append_left}
+use Rattle.std.proofs.lemmas.List.{length-set, length_push, take-append-le, take_all, get_or_push, get_or_append_left}
 use Rattle.std.proofs.lemmas.Bool.{cases_lt}
 use Rattle.std.proofs.lemmas.List.Sums.{AllPass-from_list_all}
 use Rattle.std.proofs.lemmas.List.Elements.{All-push, All-weaker, Contains-append_left, Contains-push}
 use Rattle.containment.specs.Chains.{Graph, parts_of}
 use Rattle.containment.specs.inner.Order.{ArePartsBefore}
 use Rattle.containment.specs.inner.Search.{IsMarked}
-use Rattle.containment.specs.inner.Settling.{Settles, IsStuck, Sweeps, Places, is_marked}
-use Rattle.containment.proofs.Chaining.{count_set, set_keeps, set_only, marked_lt}
+use Rattle.containment.specs.inner.Settling.{Settles, is_marked}
+use Rattle.containment.proofs.Chaining.{count_set, set_keeps, set_only}
 
 -- a number whose parts are placed goes behind them
 module _ (graph : Graph) (marks : List Bool) (order : List ℕ) (v : ℕ) (inside : v < length graph) (s : Settles graph marks order) (off : get_or marks v false ≡ false) (parts : list_all (is_marked marks) (parts_of graph v) ≡ true) where

@@ -1,5 +1,5 @@
 -- Chains of containment, and rings of them. A graph has, for each number, the numbers of its parts.
-use Rattle.std.specs.Prelude.{◌≡◌, ℕ, ◌<◌, List, [], length, slice_index_or, All, Contains}
+use Rattle.std.specs.Prelude.{ℕ, ◌<◌, List, [], length, slice_index_or, All, Contains}
 
 abbrev pub Graph : Type 0
 Graph = List (List ℕ)
@@ -16,6 +16,10 @@ pub data Chain (graph : Graph) : ℕ → ℕ → Type 0 where
 -- a chain returns to the number at which it began
 abbrev pub IsCyclic : Graph → ℕ → Type 0
 IsCyclic graph v = Chain graph v v
+
+-- no number is on a ring
+abbrev pub HasNoRing : Graph → Type 0
+HasNoRing graph = (v : ℕ) → IsCyclic graph v → ⊥
 
 -- each part is a number of the graph
 abbrev pub IsInRange : Graph → Type 0

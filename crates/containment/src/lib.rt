@@ -10,3 +10,4 @@ mod search;
 mod settle;
 
 pub use outcome::{Containment, order_or_ring};
+pub use rings::{Rings, rings_of};

@@ -1,11 +1,11 @@
 //! An order of all numbers, or the first on a ring.
 
-ghost use Rattle.std.specs.Prelude.{◌≡◌, ℕ, ◌<◌, IfOk, length};
-ghost use Rattle.containment.specs.Chains.{IsInRange};
+ghost use Rattle.std.specs.Prelude.{IfOk};
+ghost use Rattle.containment.specs.Chains.{HasNoRing, IsInRange};
+ghost use Rattle.containment.specs.inner.Order.{IsOrder};
 ghost use Rattle.containment.specs.inner.Outcome.{IsFound};
 
-use crate::advice::{parts_first, ranks_along};
-use crate::rings::first_on_ring;
+use crate::rings::rings_of;
 use crate::settle::settle;
 use sil_ast::{Exhausted, List};
 use std::alloc::Global;
@@ -19,19 +19,27 @@ pub enum Containment {
     Ring(usize),
 }
 
+/// All numbers, each behind its parts.
+fn order_of(alloc: Global, graph: &[List<usize>], advice: &[usize]) -> Result<Vec<usize>, Exhausted>
+    requires range { IsInRange graph.now }
+    requires none { HasNoRing graph.now }
+    ensures { IfOk result (λ order. IsOrder graph.now order.items) }
+{
+    let mut marks = vec![in alloc; false; graph.len()]?;
+    let mut order = Vec::new(alloc);
+    settle(graph, marks.as_mut_slice(), &mut order, advice)?;
+    Ok(order)
+}
+
 /// An order of all numbers in which parts stand before wholes, or the first number that holds itself.
 /// The time goes with the number of parts, whether there is a ring or not.
 pub fn order_or_ring(alloc: Global, graph: &[List<usize>]) -> Result<Containment, Exhausted>
     requires { IsInRange graph.now }
     ensures { IfOk result (IsFound graph.now) }
 {
-    let advice = parts_first(alloc, graph)?;
-    let ranks = ranks_along(alloc, graph, advice.as_slice())?;
-    let mut marks = vec![in alloc; false; graph.len()]?;
-    let mut order = Vec::new(alloc);
-    settle(graph, marks.as_mut_slice(), &mut order, advice.as_slice())?;
-    match first_on_ring(alloc, graph, ranks.as_slice())? {
+    let rings = rings_of(alloc, graph)?;
+    match rings.first {
         Some(value) => Ok(Containment::Ring(value)),
-        None => Ok(Containment::Order(order)),
+        None => Ok(Containment::Order(order_of(alloc, graph, rings.order.as_slice())?)),
     }
 }

@@ -1,10 +1,11 @@
-//! The first number on a ring.
+//! The first number on a ring, with the order that was found on the way.
 
-ghost use Rattle.std.specs.Prelude.{◌≡◌, ℕ, ◌<◌, ◌↔◌, IsTrue, IfOk, IfSome, IfNone, length};
+ghost use Rattle.std.specs.Prelude.{◌≡◌, ◌<◌, ◌↔◌, IsTrue, IfOk, IfSome, IfNone, length};
 ghost use Rattle.std.specs.Bool.{OnTrue};
-ghost use Rattle.containment.specs.Chains.{IsCyclic, IsFirstCyclic, IsInRange};
+ghost use Rattle.containment.specs.Chains.{HasNoRing, IsCyclic, IsFirstCyclic, IsInRange};
 ghost use Rattle.containment.specs.inner.Ranks.{NeverFall};
 
+use crate::advice::{parts_first, ranks_along};
 use crate::ranks::{never_fall, rises};
 use crate::search::is_cyclic;
 use sil_ast::{Exhausted, List};
@@ -32,14 +33,14 @@ fn is_on_ring(
 }
 
 /// The first number on a ring, if there is one. With good ranks one search is made.
-pub(crate) fn first_on_ring(
+fn first_on_ring(
     alloc: Global,
     graph: &[List<usize>],
     ranks: &[usize],
 ) -> Result<Option<usize>, Exhausted>
     requires { IsInRange graph.now }
     ensures some { IfOk result (λ o. IfSome o (IsFirstCyclic graph.now)) }
-    ensures none { IfOk result (λ o. IfNone o ((v : ℕ) → v < length graph.now → IsCyclic graph.now v → ⊥)) }
+    ensures none { IfOk result (λ o. IfNone o (HasNoRing graph.now)) }
 {
     let are_ranked = never_fall(graph, ranks);
     let mut marks = vec![in alloc; false; graph.len()]?;
@@ -49,4 +50,24 @@ pub(crate) fn first_on_ring(
         }
     }
     Ok(None)
+}
+
+/// An order of all numbers, and the first on a ring.
+#[derive(Drop)]
+pub struct Rings {
+    /// Parts stand before wholes wherever no ring is in the way. It is advice: nothing is promised of it.
+    pub order: Vec<usize>,
+    pub first: Option<usize>,
+}
+
+/// An order of all numbers, and the first that holds itself. The time goes with the number of parts, whether there is a ring or not.
+pub fn rings_of(alloc: Global, graph: &[List<usize>]) -> Result<Rings, Exhausted>
+    requires { IsInRange graph.now }
+    ensures some { IfOk result (λ r. IfSome r.first (IsFirstCyclic graph.now)) }
+    ensures none { IfOk result (λ r. IfNone r.first (HasNoRing graph.now)) }
+{
+    let order = parts_first(alloc, graph)?;
+    let ranks = ranks_along(alloc, graph, order.as_slice())?;
+    let first = first_on_ring(alloc, graph, ranks.as_slice())?;
+    Ok(Rings { order, first })
 }

@@ -2,7 +2,7 @@ mod Listed
 mod Together
 mod Depths
 mod Settled
-mod Chaining
+mod NumberLemmas
 pub mod FactLemmas
 pub mod RingLemmas
 mod Enough

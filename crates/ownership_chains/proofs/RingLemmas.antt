@@ -1,75 +1,24 @@
--- Values with facts are on no ring; where each of some values has an operand among them, one is on a ring.
-use Rattle.std.proofs.Common.{◌≡◌, ℕ, zero, suc, ◌<◌, ◌≤◌, List, [], ◌∷◌, length, get_or, set, replicate, refl, sym, ap, ◌∙◌, subst, arith, Bool, true, false, not, ◌⊎◌, inl, inr, Option, Some, None}
-use Rattle.std.specs.Prelude.{All, Contains, count_by, map, slice_get, unwrap_or, ◌&&◌, is_some, IsSomeAnd, IfNone}
+-- Values with facts are on no ring, and from the others chains lead into one.
+use Rattle.std.proofs.Common.{◌≡◌, ℕ, zero, suc, ◌<◌, ◌≤◌, List, [], ◌∷◌, length, refl, sym, ap, ◌∙◌, subst, arith, Bool, true, false, ◌⊎◌, inl, inr, Option, Some, None}
+use Rattle.std.specs.Prelude.{All, Contains, map, slice_get, unwrap_or, ◌&&◌, is_some, IsSomeAnd, IfNone}
 use Rattle.std.specs.List.{list_all}
 use Rattle.std.proofs.lemmas.Bool.{cases_lt}
 use Rattle.std.proofs.lemmas.Option.{none-some}
-use Rattle.std.proofs.lemmas.List.{length-set, length-replicate, get_or-replicate}
+use Rattle.std.proofs.lemmas.List.{length-map}
 use Rattle.std.proofs.lemmas.List.Elements.{All-contains, Contains-append_right}
+use Rattle.containment.specs.Chains.{parts_of}
+use Rattle.containment.proofs.RingLemmas.{Ring, some_ring}
 use Rattle.sil_ast.specs.declared.place.ValueId.{ValueId}
 use Rattle.ownership_chains.specs.declared.definition.Definition.{Definition}
 use Rattle.ownership_chains.specs.declared.facts.Facts.{Facts}
 use Rattle.ownership_chains.specs.Chains.{operands_at, Chain, one, more, IsCyclic, IsInRange, HasNoRing, LeadsIntoRing}
-use Rattle.ownership_chains.specs.Facts.{is_known, told_in, told_at}
+use Rattle.ownership_chains.specs.Facts.{is_known, told_in, told_at, value_of}
 use Rattle.ownership_chains.specs.inner.Outcome.{IsExact, AreAll, KnowsAllButRings}
-use Rattle.ownership_chains.specs.inner.Ranks.{rank, NeverFall, Rises}
-use Rattle.ownership_chains.specs.inner.Search.{IsMarked}
+use Rattle.ownership_chains.specs.inner.Numbers.{numbers_of, operand_numbers}
 use Rattle.ownership_chains.specs.inner.Settling.{AreStuck}
 use Rattle.ownership_chains.proofs.Depths.{all_from}
 use Rattle.ownership_chains.proofs.FactLemmas.{end_at_rings}
-use Rattle.ownership_chains.proofs.Chaining.{count_set, set_only, chain_push, marked_lt}
-
--- a value on a ring, of which P holds
-abbrev Ring : List Definition → (ValueId → Type 0) → Type 0
-Ring defs P = (v : ValueId) × (v.0 < length defs) × IsCyclic defs v × P v
-
-module _ (defs : List Definition) (P : ValueId → Type 0) (next : (v : ValueId) → P v → (w : ValueId) × Contains (operands_at defs v) w × (w.0 < length defs) × P w) where
-  -- the next value was passed before, or it wasn't
-  turn : (marks : List Bool) (v : ValueId) (p : P v) → ((x : ValueId) → IsMarked marks x → (x ≡ v) ⊎ Chain defs x v) → (get_or marks (next v p).0.0 false ≡ false → Ring defs P) → Ring defs P
-  turn marks v p reach other = at (get_or marks (next v p).0.0 false) refl
-    where
-      ring : ((next v p).0 ≡ v) ⊎ Chain defs (next v p).0 v → IsCyclic defs (next v p).0
-      ring (inl e) = subst (λ x. Chain defs x (next v p).0) (sym e) (one v (next v p).0 (next v p).1)
-      ring (inr h) = chain_push defs v (next v p).0 v (next v p).0 h (next v p).1
-
-      at : (b : Bool) → get_or marks (next v p).0.0 false ≡ b → Ring defs P
-      at true e = ((next v p).0, (next v p).2, ring (reach (next v p).0 e), (next v p).3)
-      at false e = other e
-
-  reach_next : (marks : List Bool) (v : ValueId) (p : P v) → ((x : ValueId) → IsMarked marks x → (x ≡ v) ⊎ Chain defs x v) →
-      (x : ValueId) → IsMarked (set marks (next v p).0.0 true) x → (x ≡ (next v p).0) ⊎ Chain defs x (next v p).0
-  reach_next marks v p reach x h = at (set_only marks (next v p).0 x h)
-    where
-      old : (x ≡ v) ⊎ Chain defs x v → (x ≡ (next v p).0) ⊎ Chain defs x (next v p).0
-      old (inl e) = inr (subst (λ y. Chain defs y (next v p).0) (sym e) (one v (next v p).0 (next v p).1))
-      old (inr c) = inr (chain_push defs v x v (next v p).0 c (next v p).1)
-
-      at : IsMarked marks x ⊎ (x ≡ (next v p).0) → (x ≡ (next v p).0) ⊎ Chain defs x (next v p).0
-      at (inl m) = old (reach x m)
-      at (inr e) = inl e
-
-  -- a walk that marks where it was comes to a mark
-  ring_from : (fuel : ℕ) (marks : List Bool) (v : ValueId) (p : P v) → length marks ≡ length defs → count_by not marks ≤ fuel →
-      ((x : ValueId) → IsMarked marks x → (x ≡ v) ⊎ Chain defs x v) → Ring defs P
-  ring_from zero marks v p size few reach =
-      turn marks v p reach (λ off.
-      let w = (next v p).0 in
-      let lt : w.0 < length defs = (next v p).2 in
-      let fewer : suc (count_by not (set marks w.0 true)) ≡ count_by not marks = count_set marks w.0 (omega arith) off in
-      absurd (omega arith))
-  ring_from (suc fuel) marks v p size few reach =
-      turn marks v p reach (λ off.
-      let lt : (next v p).0.0 < length defs = (next v p).2 in
-      let fewer : suc (count_by not (set marks (next v p).0.0 true)) ≡ count_by not marks = count_set marks (next v p).0.0 (omega arith) off in
-      ring_from fuel (set marks (next v p).0.0 true) (next v p).0 (next v p).3 (length-set marks (next v p).0.0 true ∙ size) (omega arith) (reach_next marks v p reach))
-
-  some_ring : (v : ValueId) → P v → Ring defs P
-  some_ring v p =
-      let none = replicate (length defs) false in
-      ring_from (count_by not none) none v p (length-replicate (length defs) false) (omega arith) (λ x h. absurd (let lt : x.0 < length defs = marked_lt_all x h in let off : get_or none x.0 false ≡ false = get_or-replicate (length defs) x.0 false false lt in cc (off, h)))
-    where
-      marked_lt_all : (x : ValueId) → IsMarked (replicate (length defs) false) x → x.0 < length defs
-      marked_lt_all x h = let lt : x.0 < length (replicate (length defs) false) = marked_lt (replicate (length defs) false) x h in let long : length (replicate (length defs) false) ≡ length defs = length-replicate (length defs) false in omega arith
+use Rattle.ownership_chains.proofs.NumberLemmas.{chain_push, chain_value, part_of}
 
 -- an operand of which nothing is known
 some_unknown : (known : ValueId → Option Facts) (ops : List ValueId) → list_all (is_known known) ops ≡ false → (w : ValueId) × Contains ops w × (known w ≡ None)
@@ -86,7 +35,7 @@ IsLeft defs known first v = (v.0 < length defs) × (known v ≡ None) × ((first
 
 leads_on : (defs : List Definition) (first v w : ValueId) → (first ≡ v) ⊎ Chain defs first v → Contains (operands_at defs v) w → (first ≡ w) ⊎ Chain defs first w
 leads_on defs first v w (inl e) c = inr (subst (λ x. Chain defs x w) (sym e) (one v w c))
-leads_on defs first v w (inr h) c = inr (chain_push defs first first v w h c)
+leads_on defs first v w (inr h) c = inr (chain_push defs first v w h c)
 
 stuck_next : (defs : List Definition) (known : ValueId → Option Facts) (first : ValueId) → IsInRange defs → AreStuck defs known (length defs) →
     (v : ValueId) → IsLeft defs known first v → (w : ValueId) × Contains (operands_at defs v) w × (w.0 < length defs) × IsLeft defs known first w
@@ -103,13 +52,26 @@ stuck_next defs known first range stuck v p = at (list_all (is_known known) (ope
 
 -- from an unknown value a chain leads into a ring
 unknown_leads : (defs : List Definition) (table : List (Option Facts)) → IsInRange defs → AreStuck defs (told_at table) (length defs) → (v : ValueId) → v.0 < length defs → told_at table v ≡ None → LeadsIntoRing defs v
-unknown_leads defs table range stuck v lt none = found (some_ring defs (IsLeft defs (told_at table) v) (stuck_next defs (told_at table) v range stuck) v (lt, none, inl refl))
+unknown_leads defs table range stuck v lt none = found (some_ring (numbers_of defs) Left next v.0 (lt, none, inl refl))
   where
-    found : Ring defs (IsLeft defs (told_at table) v) → LeadsIntoRing defs v
-    found r = (r.0, at r.3.2, r.2)
+    Left : ℕ → Type 0
+    Left n = IsLeft defs (told_at table) v (value_of n)
+
+    next : (n : ℕ) → IsLeft defs (told_at table) v (value_of n) → (m : ℕ) × Contains (parts_of (numbers_of defs) n) m × (m < length (numbers_of defs)) × IsLeft defs (told_at table) v (value_of m)
+    next n left =
+        let w = stuck_next defs (told_at table) v range stuck (value_of n) left in
+        let long : length (numbers_of defs) ≡ length defs = length-map defs operand_numbers in
+        let inside : w.0.0 < length defs = w.2 in
+        (w.0.0, part_of defs (value_of n) w.0 w.1, omega arith, w.3)
+
+    found : Ring (numbers_of defs) (λ n. IsLeft defs (told_at table) v (value_of n)) → LeadsIntoRing defs v
+    found r = (value_of r.0, at r.3.2, ring)
       where
-        at : (v ≡ r.0) ⊎ Chain defs v r.0 → Chain defs v r.0
-        at (inl e) = subst (λ x. Chain defs x r.0) (sym e) r.2
+        ring : IsCyclic defs (value_of r.0)
+        ring = chain_value defs r.0 r.0 r.2
+
+        at : (v ≡ value_of r.0) ⊎ Chain defs v (value_of r.0) → Chain defs v (value_of r.0)
+        at (inl e) = subst (λ x. Chain defs x (value_of r.0)) (sym e) (chain_value defs r.0 r.0 r.2)
         at (inr h) = h
 
 -- without a ring each value has facts
@@ -145,39 +107,6 @@ no_operands defs v le = at defs v.0 le
 no_chain : (defs : List Definition) (v w : ValueId) → operands_at defs v ≡ [] → Chain defs v w → ⊥
 no_chain defs v w e (one _ _ c) = let c' : Contains [] w = subst (λ xs. Contains xs w) e c in let lt : c'.0 < 0 = c'.1 in omega arith
 no_chain defs v w e (more _ u _ c h) = let c' : Contains [] u = subst (λ xs. Contains xs u) e c in let lt : c'.0 < 0 = c'.1 in omega arith
-
-pub no_ring : (defs : List Definition) (n : ℕ) → length defs ≤ n → ((v : ValueId) → v.0 < n → IsCyclic defs v → ⊥) → HasNoRing defs
-no_ring defs n long none v h = at (cases_lt v.0 n)
-  where
-    at : (v.0 < n) ⊎ (n ≤ v.0) → ⊥
-    at (inl lt) = none v lt h
-    at (inr le) = no_chain defs v v (no_operands defs v (omega arith)) h
-
--- where ranks never fall, a chain never leads to a lower one
-module _ (defs : List Definition) (ranks : List ℕ) (ranked : NeverFall defs ranks) where
-  operand_not_lower : (v w : ValueId) → Contains (operands_at defs v) w → rank ranks v ≤ rank ranks w
-  operand_not_lower v w c = at (cases_lt v.0 (length defs))
-    where
-      at : (v.0 < length defs) ⊎ (length defs ≤ v.0) → rank ranks v ≤ rank ranks w
-      at (inl lt) = All-contains (λ x. rank ranks v ≤ rank ranks x) (operands_at defs v) w (ranked v lt) c
-      at (inr le) = absurd (no_chain defs v w (no_operands defs v le) (one v w c))
-
-  never_lower : (v w : ValueId) → Chain defs v w → rank ranks v ≤ rank ranks w
-  never_lower v w (one _ _ c) = operand_not_lower v w c
-  never_lower v w (more _ u _ c h) =
-      let a : rank ranks v ≤ rank ranks u = operand_not_lower v u c in
-      let b : rank ranks u ≤ rank ranks w = never_lower u w h in
-      omega arith
-
-  -- and a number whose operands all rise is on no ring
-  pub rising_off : (v : ValueId) → Rises defs ranks v → IsCyclic defs v → ⊥
-  rising_off v rises (one _ _ c) =
-      let a : rank ranks v < rank ranks v = All-contains (λ x. rank ranks v < rank ranks x) (operands_at defs v) v rises c in
-      omega arith
-  rising_off v rises (more _ u _ c h) =
-      let a : rank ranks v < rank ranks u = All-contains (λ x. rank ranks v < rank ranks x) (operands_at defs v) u rises c in
-      let b : rank ranks u ≤ rank ranks v = never_lower u v h in
-      omega arith
 
 -- where each value has its operands before it, a chain only leads back, and to no ring
 module _ (defs : List Definition) (ordered : (v : ValueId) → v.0 < length defs → All (λ w. w.0 < v.0) (operands_at defs v)) where

@@ -2,17 +2,15 @@
 //! It knows of no instruction and no module: a value is its origin and the values that it is made from.
 #![tactic(auto)]
 
-mod advice;
 mod bases;
 mod definition;
 mod derive;
 mod facts;
 mod laws;
+mod numbers;
 mod order;
 mod outcome;
-mod ranks;
 mod rings;
-mod search;
 mod settle;
 
 pub use definition::{Definition, Origin};

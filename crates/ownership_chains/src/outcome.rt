@@ -5,11 +5,10 @@ ghost use Rattle.ownership_chains.specs.Chains.{HasNoRing, IsFirstCyclic, IsInRa
 ghost use Rattle.ownership_chains.specs.Facts.{told_at};
 ghost use Rattle.ownership_chains.specs.inner.Outcome.{AreAll, KnowsAllButRings, IsExact, IsTold};
 
-use crate::advice::operands_first;
 use crate::definition::Definition;
 use crate::facts::Facts;
 use crate::order::are_in_order;
-use crate::rings::first_along;
+use crate::rings::order_and_ring;
 use crate::settle::all_facts;
 use sil_ast::{Exhausted, List, ValueId};
 use std::alloc::Global;
@@ -42,11 +41,10 @@ pub fn kinds_of(alloc: Global, defs: &[Definition]) -> Result<Outcome, Exhausted
             cyclic: None,
         });
     }
-    let order = operands_first(alloc, defs)?;
-    let table = all_facts(alloc, defs, order.as_slice())?;
-    let cyclic = first_along(alloc, defs, order.as_slice())?;
+    let rings = order_and_ring(alloc, defs)?;
+    let table = all_facts(alloc, defs, rings.order.as_slice())?;
     Ok(Outcome {
         table: List::from_vec(table),
-        cyclic,
+        cyclic: rings.first,
     })
 }

@@ -1,72 +1,47 @@
-//! The first value on a ring.
+//! The first value on a ring, with the order of the values that was found on the way.
 
-ghost use Rattle.std.specs.Prelude.{◌≡◌, ℕ, ◌<◌, ◌↔◌, IsTrue, IfOk, IfSome, IfNone, length};
-ghost use Rattle.std.specs.Bool.{OnTrue};
-ghost use Rattle.ownership_chains.specs.Chains.{HasNoRing, IsCyclic, IsFirstCyclic, IsInRange};
-ghost use Rattle.ownership_chains.specs.inner.Ranks.{NeverFall};
+ghost use Rattle.std.specs.Prelude.{◌≡◌, ◌<◌, ◌^◌, IfNone, IfOk, IfSome, option_map};
+ghost use Rattle.ownership_chains.specs.Chains.{HasNoRing, IsFirstCyclic, IsInRange};
+ghost use Rattle.ownership_chains.specs.Facts.{value_of};
 
-use crate::advice::{operands_first, ranks_along};
 use crate::definition::Definition;
+use crate::numbers::numbers_of;
 use crate::order::are_in_order;
-use crate::ranks::{never_fall, rises};
-use crate::search::is_cyclic;
+use containment::rings_of;
 use sil_ast::{Exhausted, ValueId};
 use std::alloc::Global;
 
-/// Whether the value is on a ring. Where ranks never fall, one whose operands all rise isn't, and no search is made.
-fn is_on_ring(
-    alloc: Global,
-    defs: &[Definition],
-    ranks: &[usize],
-    are_ranked: bool,
-    marks: &mut [bool],
-    value: ValueId,
-) -> Result<bool, Exhausted>
-    requires inside { value.0 < length defs.now }
-    requires range { IsInRange defs.now }
-    requires size { length marks.old ≡ length defs.now }
-    requires ranked { OnTrue are_ranked (NeverFall defs.now ranks.now) }
-    ensures { IfOk result (λ cyclic. IsTrue cyclic ↔ IsCyclic defs.now value) }
-{
-    if are_ranked && rises(defs, ranks, value) {
-        return Ok(false);
-    }
-    is_cyclic(alloc, defs, marks, value)
+/// An order of all values, and the first on a ring.
+#[derive(Drop)]
+pub(crate) struct Rings {
+    /// Operands stand before what is made from them, wherever no ring is in the way. It is advice: nothing is promised of it.
+    pub order: Vec<usize>,
+    pub first: Option<ValueId>,
 }
 
-/// The first value on a ring, by these ranks. With good ones at most one search is made.
-fn first_by_ranks(
-    alloc: Global,
-    defs: &[Definition],
-    ranks: &[usize],
-) -> Result<Option<ValueId>, Exhausted>
-    requires { IsInRange defs.now }
-    ensures some { IfOk result (λ o. IfSome o (IsFirstCyclic defs.now)) }
-    ensures none { IfOk result (λ o. IfNone o (HasNoRing defs.now)) }
+/// The value with the number, if there is one.
+fn value_at(number: Option<usize>) -> Option<ValueId>
+    requires { IfSome number (λ n. n < 2 ^ 32) }
+    ensures { result ≡ option_map value_of number }
 {
-    let are_ranked = never_fall(defs, ranks);
-    let mut marks = vec![in alloc; false; defs.len()]?;
-    for number in 0..defs.len() {
-        let value = ValueId(number as u32);
-        if is_on_ring(alloc, defs, ranks, are_ranked, marks.as_mut_slice(), value)? {
-            return Ok(Some(value));
-        }
+    match number {
+        Some(number) => Some(ValueId(number as u32)),
+        None => None,
     }
-    Ok(None)
 }
 
-/// The first value on a ring, by ranks along this order of the values.
-pub(crate) fn first_along(
-    alloc: Global,
-    defs: &[Definition],
-    order: &[usize],
-) -> Result<Option<ValueId>, Exhausted>
+/// An order of all values, and the first from which a chain returns to itself. The time goes with the number of operands.
+pub(crate) fn order_and_ring(alloc: Global, defs: &[Definition]) -> Result<Rings, Exhausted>
     requires { IsInRange defs.now }
-    ensures some { IfOk result (λ o. IfSome o (IsFirstCyclic defs.now)) }
-    ensures none { IfOk result (λ o. IfNone o (HasNoRing defs.now)) }
+    ensures some { IfOk result (λ r. IfSome r.first (IsFirstCyclic defs.now)) }
+    ensures none { IfOk result (λ r. IfNone r.first (HasNoRing defs.now)) }
 {
-    let ranks = ranks_along(alloc, defs, order)?;
-    first_by_ranks(alloc, defs, ranks.as_slice())
+    let graph = numbers_of(alloc, defs)?;
+    let rings = rings_of(alloc, graph.as_slice())?;
+    Ok(Rings {
+        order: rings.order,
+        first: value_at(rings.first),
+    })
 }
 
 /// The first value from which a chain returns to itself, if there is one.
@@ -79,6 +54,6 @@ pub fn first_cyclic(alloc: Global, defs: &[Definition]) -> Result<Option<ValueId
     if are_in_order(defs) {
         return Ok(None);
     }
-    let order = operands_first(alloc, defs)?;
-    first_along(alloc, defs, order.as_slice())
+    let rings = order_and_ring(alloc, defs)?;
+    Ok(rings.first)
 }

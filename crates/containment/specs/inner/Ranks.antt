@@ -1,5 +1,5 @@
 -- Ranks of numbers, by which many can be seen to be on no ring.
-use Rattle.std.specs.Prelude.{◌≡◌, ℕ, ◌<◌, ◌≤◌, List, length, slice_index, All}
+use Rattle.std.specs.Prelude.{ℕ, ◌<◌, ◌≤◌, List, length, slice_index, All}
 use Rattle.containment.specs.Chains.{Graph, parts_of}
 
 -- no part has a lower rank than its whole

@@ -1,5 +1,5 @@
 -- How an order grows: a number is placed once all of its parts are.
-use Rattle.std.specs.Prelude.{◌≡◌, ◌↔◌, ℕ, ◌+◌, ◌<◌, List, length, get_or, All, Contains, Bool, true, false, not, count_by}
+use Rattle.std.specs.Prelude.{◌≡◌, ℕ, ◌+◌, ◌<◌, List, length, get_or, All, Contains, Bool, true, false, not, count_by}
 use Rattle.std.specs.List.{list_all}
 use Rattle.containment.specs.Chains.{Graph, parts_of}
 use Rattle.containment.specs.inner.Order.{ArePartsBefore}

@@ -1,5 +1,4 @@
 use Rattle.std.proofs.Common.{◌≡◌, ℕ, ◌<◌, length}
-use Rattle.std.specs.Prelude.{vec_len}
 use Rattle.containment.specs.Chains.{IsCyclic}
 use Rattle.containment.proofs.rings.first_on_ring.Given as goal
 

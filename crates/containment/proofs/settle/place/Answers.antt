@@ -3,7 +3,7 @@ use Rattle.std.specs.List.{list_all}
 use Rattle.containment.specs.Chains.{parts_of}
 use Rattle.containment.specs.inner.Settling.{Settles, is_marked}
 use Rattle.containment.proofs.Chaining.{parts_are}
-use Rattle.containment.proofs.Settled.{settles_push, fewer_left}
+use Rattle.containment.proofs.Settled.{settles_push}
 use Rattle.containment.proofs.settle.place.Goals as goal
 
 pub returns-clause-settles : goal.returns-clause-settles

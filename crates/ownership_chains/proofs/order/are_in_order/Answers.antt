@@ -3,7 +3,7 @@ use Rattle.std.specs.Prelude.{All}
 use Rattle.std.proofs.lemmas.Bool.{cases_eq}
 use Rattle.ownership_chains.specs.Chains.{operands_at}
 use Rattle.ownership_chains.specs.Facts.{value_of}
-use Rattle.ownership_chains.proofs.Chaining.{operands_are}
+use Rattle.ownership_chains.proofs.NumberLemmas.{operands_are}
 use Rattle.ownership_chains.proofs.RingLemmas.{ordered_off}
 use Rattle.ownership_chains.proofs.order.are_in_order.Goals as goal
 

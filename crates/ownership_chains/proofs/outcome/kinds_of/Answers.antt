@@ -23,8 +23,8 @@ returns-then-are_in_order-clause-told c =
 -- where they aren't
 pub returns-clause-all : goal.returns-clause-all
 returns-clause-all c =
-    subst (λ t. IfNone c.in_ok-cyclic.cyclic (AreAll c.args.defs.now t)) (sym c.from_vec-2.ensures)
-    (all_unless c.args.defs.now c.in_ok-table-2.table.items c.in_ok-cyclic.cyclic c.requires c.in_ok-table-2.ensures.exact c.in_ok-table-2.ensures.stuck c.in_ok-cyclic.ensures.none)
+    subst (λ t. IfNone c.in_ok-rings.rings.first (AreAll c.args.defs.now t)) (sym c.from_vec-2.ensures)
+    (all_unless c.args.defs.now c.in_ok-table-2.table.items c.in_ok-rings.rings.first c.requires c.in_ok-table-2.ensures.exact c.in_ok-table-2.ensures.stuck c.in_ok-rings.ensures.none)
 
 pub returns-clause-unknown : goal.returns-clause-unknown
 returns-clause-unknown c =
