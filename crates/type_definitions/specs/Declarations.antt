@@ -1,5 +1,6 @@
 -- What a module declares, and what a name finds there.
-use Rattle.std.specs.Prelude.{ℕ, List, [], ◌∷◌, ◌++◌, Bool, true, false, ◌&&◌, Option, Some, None, map, position, slice_get, is_some, option_map, codes, if◌then◌else◌}
+use Rattle.std.specs.Prelude.{ℕ, List, [], ◌∷◌, ◌++◌, Bool, true, false, ◌&&◌, Option, Some, None, map}
+use Rattle.std.specs.Prelude.{position, slice_get, is_some, option_map, codes, if◌then◌else◌}
 use Rattle.std.specs.Str.{bytes_eq}
 use Rattle.sil_ast.specs.declared.decl.Case.{Case}
 use Rattle.sil_ast.specs.declared.decl.Decl.{Decl}

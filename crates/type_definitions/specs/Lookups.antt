@@ -1,5 +1,6 @@
 -- What look-ups give: fields, payloads, deinitialisers, and classes by their places.
-use Rattle.std.specs.Prelude.{ℕ, ◌-◌, List, [], ◌∷◌, Bool, true, false, Option, Some, None, map, slice_get, codes, option_map, cond, if◌then◌else◌, ◌==◌, length}
+use Rattle.std.specs.Prelude.{ℕ, ◌-◌, List, [], ◌∷◌, Bool, true, false, Option, Some, None, map}
+use Rattle.std.specs.Prelude.{slice_get, codes, option_map, cond, if◌then◌else◌, ◌==◌, length}
 use Rattle.std.specs.Str.{bytes_eq}
 use Rattle.sil_ast.specs.declared.decl.Case.{Case}
 use Rattle.sil_ast.specs.declared.decl.Decl.{Decl}
