@@ -1,13 +1,15 @@
 //! What the rules on kinds ask at each point of a function, and the first that is broken.
 
-ghost use Rattle.std.specs.Prelude.{◌≡◌, ◌<◌, ◌^◌, All, IfNone, IfOk, IfSome, length};
+ghost use Rattle.std.specs.Prelude.{◌≡◌, IfNone, IfOk, IfSome};
 ghost use Rattle.std.specs.List.{flat_map};
 ghost use Rattle.numbered_form.specs.Numbering.{AreCountedFrom, values_of};
 ghost use Rattle.point_checks.specs.inner.Faults.{least};
+ghost use Rattle.point_checks.specs.inner.Numbered.{IsOfNumberedModule};
 ghost use Rattle.ownership_origins.specs.inner.Tables.{AreSwitches};
 ghost use Rattle.ownership_kinds.specs.inner.Faults.{arg_faults, args_faults, inst_faults};
 ghost use Rattle.ownership_kinds.specs.inner.Known.{IsKnown, kind_told};
-ghost use Rattle.ownership_kinds.specs.Statics.{HasKinds, IsFirstBroken};
+ghost use Rattle.ownership_kinds.specs.inner.Ends.{IsFirstFault};
+ghost use Rattle.ownership_kinds.specs.Statics.{HasKinds};
 
 use crate::annotations::add_annotation;
 use crate::defaults::add_lacking;
@@ -98,10 +100,9 @@ pub(crate) fn first_broken(
     f: &Function,
 ) -> Result<Option<PointFault>, Exhausted>
     requires counted { AreCountedFrom 0 (values_of f.now.blocks) }
-    requires blocks { length f.now.blocks < 2 ^ 32 }
-    requires short { All (λ b. length b.insts < 2 ^ 32) f.now.blocks }
+    requires of_module { IsOfNumberedModule f.now }
     requires known { IsKnown check.now.types.now f.now check.now }
-    ensures some { IfOk result (λ r. IfSome r (λ x. IsFirstBroken check.now.types.now f.now x.rule x.subject x.point.block.0 x.point.index)) }
+    ensures some { IfOk result (λ r. IfSome r (IsFirstFault check.now.types.now f.now)) }
     ensures none { IfOk result (λ r. IfNone r (HasKinds check.now.types.now f.now)) }
 {
     let mut taken = Vec::new(alloc);

@@ -1,7 +1,8 @@
 //! The kinds of a function whose values' definitions and first ring of renamings are known, or the first broken rule on kinds.
 
-ghost use Rattle.std.specs.Prelude.{◌≡◌, ◌<◌, ◌^◌, All, IfErr, IfNone, IfOk, IfSome, OnOk, length};
+ghost use Rattle.std.specs.Prelude.{◌≡◌, IfErr, IfNone, IfOk, IfSome, OnOk, length};
 ghost use Rattle.numbered_form.specs.Numbering.{AreCountedFrom, values_of};
+ghost use Rattle.point_checks.specs.inner.Numbered.{IsOfNumberedModule};
 ghost use Rattle.ownership_chains.specs.Chains.{HasNoRing, IsFirstCyclic, IsInRange};
 ghost use Rattle.ownership_chains.specs.Facts.{told_at};
 ghost use Rattle.ownership_origins.specs.Origins.{definitions_of};
@@ -48,8 +49,7 @@ fn broken_by(
     ring: Option<ValueId>,
 ) -> Result<Option<PointFault>, Exhausted>
     requires counted { AreCountedFrom 0 (values_of f.now.blocks) }
-    requires blocks { length f.now.blocks < 2 ^ 32 }
-    requires short { All (λ b. length b.insts < 2 ^ 32) f.now.blocks }
+    requires of_module { IsOfNumberedModule f.now }
     requires switches { AreSwitches f.now switches.now }
     requires borrows { borrows.now ≡ borrowing.borrows_of f.now }
     requires facts { (v : ValueId) → told_at facts.now v ≡ facts_in types.now f.now v }
@@ -80,8 +80,7 @@ pub(crate) fn decide(
     renamed: Option<ValueId>,
 ) -> Result<Result<FunctionKinds, PointFault>, Exhausted>
     requires counted { AreCountedFrom 0 (values_of f.now.blocks) }
-    requires blocks { length f.now.blocks < 2 ^ 32 }
-    requires short { All (λ b. length b.insts < 2 ^ 32) f.now.blocks }
+    requires of_module { IsOfNumberedModule f.now }
     requires switches { AreSwitches f.now switches.now }
     requires definitions { definitions.now ≡ definitions_of types.now f.now }
     requires borrows { borrows.items ≡ borrowing.borrows_of f.now }

@@ -2,10 +2,11 @@
 
 ghost use Rattle.std.specs.Prelude.{◌≡◌, IfErr, IfNone, IfOk, IfSome, OnOk};
 ghost use Rattle.sil_cfg.specs.Build.{HasGraph};
+ghost use Rattle.point_checks.specs.inner.Numbered.{IsOfNumberedModule};
 ghost use Rattle.ownership_chains.specs.Chains.{HasNoRing, IsFirstCyclic, IsInRange};
 ghost use Rattle.ownership_origins.specs.Renamings.{renamings_of};
 ghost use Rattle.ownership_origins.specs.inner.Tables.{AreSwitches};
-ghost use Rattle.ownership_kinds.specs.inner.Ends.{AreKindsOf, IsEndOn, IsFirstFault, IsOfNumberedModule};
+ghost use Rattle.ownership_kinds.specs.inner.Ends.{AreKindsOf, IsEndOn, IsFirstFault};
 ghost use Rattle.ownership_kinds.specs.Statics.{HasKinds};
 
 use crate::decide::decide;

@@ -1,7 +1,8 @@
 //! The first fault of a function, by one pass over its points.
 
-ghost use Rattle.std.specs.Prelude.{◌≡◌, ◌<◌, ◌^◌, All, IfOk, None, Some, length, slice_get};
+ghost use Rattle.std.specs.Prelude.{◌≡◌, ◌<◌, ◌^◌, IfOk, None, Some, length, slice_get};
 ghost use Rattle.point_checks.specs.inner.Faults.{block_faults, faults_of, least, numbered};
+ghost use Rattle.point_checks.specs.inner.Numbered.{IsOfNumberedModule};
 
 use crate::check::PointCheck;
 use crate::fault::PointFault;
@@ -58,8 +59,7 @@ pub fn least_fault<C: PointCheck>(
     f: &Function,
 ) -> Result<Option<PointFault>, Exhausted>
     requires fits { C.fits check.now f.now }
-    requires blocks { length f.now.blocks < 2 ^ 32 }
-    requires short { All (λ b. length b.insts < 2 ^ 32) f.now.blocks }
+    requires of_module { IsOfNumberedModule f.now }
     ensures { IfOk result (λ r. r ≡ least None (faults_of (C.args_faults check.now f.now) (C.inst_faults check.now f.now) f.now)) }
 {
     let mut found = None;

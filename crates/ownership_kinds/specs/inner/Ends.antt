@@ -1,12 +1,10 @@
 -- How a search for the kinds of a function ends, with them or without.
-use Rattle.std.specs.Prelude.{◌≡◌, None, Contains, length, ⊤}
+use Rattle.std.specs.Prelude.{◌≡◌, None, length, ⊤}
 use Rattle.sil_ast.specs.declared.function.Function.{Function}
-use Rattle.sil_ast.specs.declared.module.Module.{Module}
 use Rattle.sil_cfg.specs.Layout.{Layout}
 use Rattle.rule_faults.specs.declared.fault.RuleEnd.{RuleEnd}
 use Rattle.rule_faults.specs.declared.fault.RuleEnd.TheVariants.{Fault, Memory}
 use Rattle.rule_faults.specs.declared.fault.RuleFault.{RuleFault}
-use Rattle.numbered_form.specs.NumberedForm.{IsNumbered}
 use Rattle.numbered_form.specs.Numbering.{values_of}
 use Rattle.point_checks.specs.inner.Reports.{IsReport}
 use Rattle.point_checks.specs.declared.fault.PointFault.{PointFault}
@@ -16,10 +14,6 @@ use Rattle.ownership_marks.specs.Known.{AreKindsBy}
 use Rattle.ownership_kinds.specs.Facts.{facts_in}
 use Rattle.ownership_kinds.specs.Statics.{IsFirstBroken}
 use Rattle.ownership_kinds.specs.declared.find.FunctionKinds.{FunctionKinds}
-
--- the function is one of a module in numbered form
-abbrev pub IsOfNumberedModule : Function → Type 0
-IsOfNumberedModule f = (m : Module) × IsNumbered m × Contains m.functions f
 
 -- what is handed out is so of the function's values
 pub record AreKindsOf (d : Declarations) (f : Function) (g : Layout) (found : FunctionKinds) : Type 0 where

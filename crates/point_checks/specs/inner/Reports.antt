@@ -4,7 +4,11 @@ use Rattle.sil_ast.specs.declared.place.ValueId.{ValueId}
 use Rattle.rule_faults.specs.declared.fault.RuleFault.{RuleFault}
 use Rattle.point_checks.specs.declared.fault.PointFault.{PointFault}
 
--- the fault, with the other value that takes part in it, is reported so: no walk shows it
+-- what is reported: no walk shows it
+abbrev pub report_of : PointFault → Option ValueId → RuleFault
+report_of x o = record { rule = x.rule; subject = x.subject; other = o; point = x.point; walk = [] }
+
+-- the fault, with the other value that takes part in it, is reported so
 pub record IsReport (x : PointFault) (o : Option ValueId) (reported : RuleFault) : Type 0 where
   pub rule : reported.rule ≡ x.rule
   pub subject : reported.subject ≡ x.subject

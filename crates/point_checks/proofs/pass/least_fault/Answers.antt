@@ -1,6 +1,7 @@
-use Rattle.std.proofs.Common.{◌<◌, None, ap, get_or, length, subst, ◌∙◌}
+use Rattle.std.proofs.Common.{◌<◌, ◌^◌, None, ap, get_or, length, subst, sym, ◌∙◌}
 use Rattle.point_checks.specs.inner.Faults.{block_faults, faults_of, least}
 use Rattle.point_checks.proofs.Least.{numbered_item}
+use Rattle.point_checks.proofs.Short.{are_short}
 use Rattle.point_checks.proofs.pass.least_fault.Goals as goal
 
 pub loop-number-preserved : goal.loop-number-preserved
@@ -11,3 +12,11 @@ loop-number-preserved g c =
     let all = c.as_slice-block-items.ensures in
     numbered_item (block_faults args insts) c.args.f.now.blocks n n c.block-item.result c.loop-number.found c.in_ok-found.found (least None (faults_of args insts c.args.f.now))
     (subst (λ bs. n < length bs) all c.loop-number-test.true) (c.block-item.is ∙ ap (λ bs. get_or bs n c.block-item.result) all) c.loop-number.invariant c.in_ok-found.ensures
+
+pub add_block-requires-clause-short : goal.add_block-requires-clause-short
+add_block-requires-clause-short g c =
+    let n = c.loop-number.number in
+    let x = c.block-item.result in
+    let all = c.as_slice-block-items.ensures in
+    subst (λ b. length b.insts < 2 ^ 32) (sym (c.block-item.is ∙ ap (λ bs. get_or bs n x) all))
+    (are_short c.args.f.now c.requires.of_module n x (subst (λ bs. n < length bs) all c.loop-number-test.true))
