@@ -25,7 +25,8 @@ IsFirstRule d i (Some r) = Breaks d i r × ((other : Rule) → Breaks d i other 
 first_rule : (d : Declarations) (i : Item) → IsFirstRule d i (broken_by d i)
 first_rule d i = by (has_unknown_type d i) (has_bad_member d i) (has_misplaced_storage d i) refl refl refl
   where
-    by : (a b c : Bool) → has_unknown_type d i ≡ a → has_bad_member d i ≡ b → has_misplaced_storage d i ≡ c → IsFirstRule d i (if a then Some rule.UnknownType else if b then Some rule.BadMember else if c then Some rule.WeakOrUnownedOutsideStorage else None)
+    by : (a b c : Bool) → has_unknown_type d i ≡ a → has_bad_member d i ≡ b → has_misplaced_storage d i ≡ c
+        → IsFirstRule d i (if a then Some rule.UnknownType else if b then Some rule.BadMember else if c then Some rule.WeakOrUnownedOutsideStorage else None)
     by true b c ea eb ec = (unknown_type ea, least)
       where
         least : (other : Rule) → Breaks d i other → number_of rule.UnknownType ≤ number_of other
@@ -125,7 +126,8 @@ module _ (d : Declarations) (m : Module) where
       here : BreaksIn d m f
       here = subst (λ k. IsSomeAnd (slice_get (items_of m) k) (λ i. Breaks d i f.rule)) (omega (arith, first.0.1)) first.0.2
 
-  fault_more : (n : ℕ) (r : Option Rule) (xs ys : List Item) (size : ℕ) → fault_from d (n + 1) (xs ++ ys) ≡ option_or (fault_from d (n + 1) xs) (fault_from d size ys) → fault_or n r (fault_from d (n + 1) (xs ++ ys)) ≡ option_or (fault_or n r (fault_from d (n + 1) xs)) (fault_from d size ys)
+  fault_more : (n : ℕ) (r : Option Rule) (xs ys : List Item) (size : ℕ) → fault_from d (n + 1) (xs ++ ys) ≡ option_or (fault_from d (n + 1) xs) (fault_from d size ys)
+      → fault_or n r (fault_from d (n + 1) (xs ++ ys)) ≡ option_or (fault_or n r (fault_from d (n + 1) xs)) (fault_from d size ys)
   fault_more n None xs ys size h = h
   fault_more n (Some r) xs ys size h = refl
 
@@ -135,7 +137,8 @@ module _ (d : Declarations) (m : Module) where
       let same : n + 1 + length xs ≡ n + length (x ∷ xs) = omega arith in
       fault_more n (broken_by d x) xs ys (n + length (x ∷ xs)) (fault_append (n + 1) xs ys ∙ ap (λ k. option_or (fault_from d (n + 1) xs) (fault_from d k ys)) same)
 
-  fault_in_parts : option_or (option_or (fault_from d 0 (map decl m.decls)) (fault_from d (length m.decls) (map function m.functions))) (fault_from d (length m.decls + length m.functions) (map vtable m.vtables)) ≡ fault_from d 0 (items_of m)
+  fault_in_parts : option_or (option_or (fault_from d 0 (map decl m.decls)) (fault_from d (length m.decls) (map function m.functions)))
+      (fault_from d (length m.decls + length m.functions) (map vtable m.vtables)) ≡ fault_from d 0 (items_of m)
   fault_in_parts =
       let ds = map decl m.decls in
       let fs = map function m.functions in
@@ -150,6 +153,7 @@ module _ (d : Declarations) (m : Module) where
       ∙ ap (λ k. option_or (option_or (fault_from d 0 ds) (fault_from d (length m.decls) fs)) (fault_from d k (map vtable m.vtables))) second)
 
   -- from the first faults of declarations, functions and vtables
-  pub first_of_parts : (r : Option ItemFault) → r ≡ option_or (option_or (fault_from d 0 (map decl m.decls)) (fault_from d (length m.decls) (map function m.functions))) (fault_from d (length m.decls + length m.functions) (map vtable m.vtables)) →
+  pub first_of_parts : (r : Option ItemFault) → r ≡ option_or (option_or (fault_from d 0 (map decl m.decls)) (fault_from d (length m.decls) (map function m.functions)))
+      (fault_from d (length m.decls + length m.functions) (map vtable m.vtables)) →
       IsFirst fault_key (BreaksIn d m) r
   first_of_parts r e = subst (IsFirst fault_key (BreaksIn d m)) (sym (e ∙ fault_in_parts)) (first_in (fault_from d 0 (items_of m)) (first_at d 0 (items_of m)))

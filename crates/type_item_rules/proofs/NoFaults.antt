@@ -42,7 +42,8 @@ owner_known : (name : Name) (members : Option (List Name)) → not (has_name nam
 owner_known name None h = h
 owner_known name (Some names) h = refl
 
-no_rule : (a b c : Bool) → a ≡ false → b ≡ false → c ≡ false → (if a then Some rule.UnknownType else if b then Some rule.BadMember else if c then Some rule.WeakOrUnownedOutsideStorage else None) ≡ None
+no_rule : (a b c : Bool) → a ≡ false → b ≡ false → c ≡ false
+    → (if a then Some rule.UnknownType else if b then Some rule.BadMember else if c then Some rule.WeakOrUnownedOutsideStorage else None) ≡ None
 no_rule true b c ea eb ec = absurd (true≢false ea)
 no_rule false true c ea eb ec = absurd (true≢false eb)
 no_rule false false true ea eb ec = absurd (true≢false ec)
@@ -85,7 +86,8 @@ module _ (d : Declarations) where
       ap (λ r. fault_or n r (fault_from d (n + 1) (map decl xs))) (decl_clean x (first_of_none own rest both))
       ∙ decls_clean (n + 1) xs (second_of_none own rest both)
 
-  functions_clean : (n : ℕ) (fs : List Function) → list_any (is_wrong_type d) (flat_map in_function fs) ≡ false → list_any (is_no_member d) (flat_map function_members fs) ≡ false → fault_from d n (map function fs) ≡ None
+  functions_clean : (n : ℕ) (fs : List Function) → list_any (is_wrong_type d) (flat_map in_function fs) ≡ false → list_any (is_no_member d) (flat_map function_members fs) ≡ false
+      → fault_from d n (map function fs) ≡ None
   functions_clean n [] types members = refl
   functions_clean n (f ∷ fs) types members =
       let own = list_any (is_wrong_type d) (in_function f) in
@@ -102,11 +104,13 @@ module _ (d : Declarations) where
   none_from n k [] h = refl
   none_from n k (i ∷ items) h = by (broken_by d i) (none_from (n + 1) (k + 1) items) h
     where
-      by : (r : Option Rule) → (is_some (fault_from d (n + 1) items) ≡ false → fault_from d (k + 1) items ≡ None) → is_some (fault_or n r (fault_from d (n + 1) items)) ≡ false → fault_or k r (fault_from d (k + 1) items) ≡ None
+      by : (r : Option Rule) → (is_some (fault_from d (n + 1) items) ≡ false → fault_from d (k + 1) items ≡ None) → is_some (fault_or n r (fault_from d (n + 1) items)) ≡ false
+          → fault_or k r (fault_from d (k + 1) items) ≡ None
       by None rest h = rest h
       by (Some r) rest h = absurd (true≢false h)
 
-  pub none_broken : (m : Module) → list_any (is_wrong_type d) (mentions_of m) ≡ false → list_any (is_no_member d) (flat_map function_members m.functions) ≡ false → is_some (fault_from d 0 (map vtable m.vtables)) ≡ false →
+  pub none_broken : (m : Module) → list_any (is_wrong_type d) (mentions_of m) ≡ false → list_any (is_no_member d) (flat_map function_members m.functions) ≡ false →
+      is_some (fault_from d 0 (map vtable m.vtables)) ≡ false →
       (f : ItemFault) → BreaksIn d m f → ⊥
   none_broken m types members vtables =
       let declared = list_any (is_wrong_type d) (flat_map in_decl m.decls) in
