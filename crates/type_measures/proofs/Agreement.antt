@@ -6,7 +6,8 @@ use Rattle.std.proofs.lemmas.List.Elements.{Contains-append_left, Contains-appen
 use Rattle.sil_ast.specs.declared.decl.Decl.{Decl}
 use Rattle.sil_ast.specs.declared.decl.Decl.TheVariants as decl
 use Rattle.sil_ast.specs.declared.type_name.TypeName.{TypeName, TypeName-F, fold-roll-TypeName, ind-TypeName, roll-TypeName, map-TypeName, out-TypeName, fold_out-TypeName}
-use Rattle.sil_ast.specs.declared.type_name.TypeName.TheVariants.{Int, Named, Optional, Tuple, Weak, Unowned, Address, rolls-Int, rolls-Named, rolls-Optional, rolls-Tuple, rolls-Weak, rolls-Unowned, rolls-Address}
+use Rattle.sil_ast.specs.declared.type_name.TypeName.TheVariants.{Int, Named, Optional, Tuple, Weak, Unowned, Address, rolls-Int, rolls-Named}
+use Rattle.sil_ast.specs.declared.type_name.TypeName.TheVariants.{rolls-Optional, rolls-Tuple, rolls-Weak, rolls-Unowned, rolls-Address}
 use Rattle.numbered_form.specs.Names.{Name}
 use Rattle.type_definitions.specs.Contained.{names_in, names_over, held_names, held_types, itself}
 use Rattle.type_definitions.specs.Measures.{measure_with, measure_over, measure_decl, of_members, of_payloads, of_storage, measured}
@@ -138,8 +139,10 @@ module _ (a b : Name → Measure) where
 
   -- of a declared type
   pub decl_agrees : (d : Decl) → Agree (held_names d) → capped (measure_decl a d) ≡ capped (measure_decl b d)
-  decl_agrees (decl.Struct name fields) agree = members_same (map (measure_with a) (held_types (decl.Struct name fields))) (map (measure_with b) (held_types (decl.Struct name fields))) (all_agree (held_types (decl.Struct name fields)) agree)
-  decl_agrees (decl.Enum name cases) agree = payloads_same (map (measure_with a) (held_types (decl.Enum name cases))) (map (measure_with b) (held_types (decl.Enum name cases))) (all_agree (held_types (decl.Enum name cases)) agree)
+  decl_agrees (decl.Struct name fields) agree =
+      members_same (map (measure_with a) (held_types (decl.Struct name fields))) (map (measure_with b) (held_types (decl.Struct name fields))) (all_agree (held_types (decl.Struct name fields)) agree)
+  decl_agrees (decl.Enum name cases) agree =
+      payloads_same (map (measure_with a) (held_types (decl.Enum name cases))) (map (measure_with b) (held_types (decl.Enum name cases))) (all_agree (held_types (decl.Enum name cases)) agree)
   decl_agrees (decl.Class name fields) agree = refl
 
 -- no type or several are a tuple

@@ -84,7 +84,8 @@ map_next : {X : Type 0} (F : X → Measure) (xs : List X) (i : ℕ) (x : X) → 
 map_next F xs i x lt is = ap (map F) (take_more xs i x lt) ∙ map-append F (take i xs) (get_or xs i x ∷ []) ∙ ap (λ y. map F (take i xs) ++ F y ∷ []) (sym is)
 
 -- the next of some measures
-pub gathered_next : {X : Type 0} (F : X → Measure) (xs : List X) (i : ℕ) (x : X) (new old : Gathered) (m : Measure) → i < length xs → x ≡ get_or xs i x → old ≡ gathered (map F (take i xs)) → m ≡ capped (F x) → new ≡ with_member old m → new ≡ gathered (map F (take (i + 1) xs))
+pub gathered_next : {X : Type 0} (F : X → Measure) (xs : List X) (i : ℕ) (x : X) (new old : Gathered) (m : Measure) → i < length xs → x ≡ get_or xs i x → old ≡ gathered (map F (take i xs))
+    → m ≡ capped (F x) → new ≡ with_member old m → new ≡ gathered (map F (take (i + 1) xs))
 gathered_next F xs i x new old m lt is so_far this more =
     more ∙ ap (λ g. with_member g m) so_far ∙ ap (with_member (gathered (map F (take i xs)))) this ∙ gathered_push (map F (take i xs)) (F x) ∙ ap gathered (sym (map_next F xs i x lt is))
 
@@ -92,12 +93,15 @@ map_twice : {X Y : Type 0} (F : X → Measure) (f : Y → X) (ys : List Y) → m
 map_twice F f [] = refl
 map_twice F f (y ∷ ys) = ap (λ r. F (f y) ∷ r) (map_twice F f ys)
 
-pub gathered_next_of : {X Y : Type 0} (F : X → Measure) (f : Y → X) (ys : List Y) (i : ℕ) (y : Y) (new old : Gathered) (m : Measure) → i < length ys → y ≡ get_or ys i y → old ≡ gathered (map F (map f (take i ys))) → m ≡ capped (F (f y)) → new ≡ with_member old m → new ≡ gathered (map F (map f (take (i + 1) ys)))
+pub gathered_next_of : {X Y : Type 0} (F : X → Measure) (f : Y → X) (ys : List Y) (i : ℕ) (y : Y) (new old : Gathered) (m : Measure) → i < length ys → y ≡ get_or ys i y
+    → old ≡ gathered (map F (map f (take i ys))) → m ≡ capped (F (f y)) → new ≡ with_member old m → new ≡ gathered (map F (map f (take (i + 1) ys)))
 gathered_next_of F f ys i y new old m lt is so_far this more =
     gathered_next (λ z. F (f z)) ys i y new old m lt is (so_far ∙ ap gathered (map_twice F f (take i ys))) this more ∙ ap gathered (sym (map_twice F f (take (i + 1) ys)))
 
 -- of one part more, which has some types
-pub gathered_flat : {X Y : Type 0} (F : X → Measure) (f : Y → List X) (ys : List Y) (i : ℕ) (y : Y) → i < length ys → y ≡ get_or ys i y → map F (flat_map f (take (i + 1) ys)) ≡ map F (flat_map f (take i ys)) ++ map F (f y)
+pub gathered_flat : {X Y : Type 0} (F : X → Measure) (f : Y → List X) (ys : List Y) (i : ℕ) (y : Y) → i < length ys → y ≡ get_or ys i y
+    → map F (flat_map f (take (i + 1) ys)) ≡ map F (flat_map f (take i ys)) ++ map F (f y)
 gathered_flat F f ys i y lt is =
-    ap (map F) (ap (flat_map f) (take_more ys i y lt) ∙ flat_map-append f (take i ys) (get_or ys i y ∷ []) ∙ ap (λ z. flat_map f (take i ys) ++ (f z ++ [])) (sym is) ∙ ap (λ r. flat_map f (take i ys) ++ r) (append-nil (f y)))
+    ap (map F) (ap (flat_map f) (take_more ys i y lt) ∙ flat_map-append f (take i ys) (get_or ys i y ∷ []) ∙ ap (λ z. flat_map f (take i ys) ++ (f z ++ [])) (sym is)
+    ∙ ap (λ r. flat_map f (take i ys) ++ r) (append-nil (f y)))
     ∙ map-append F (flat_map f (take i ys)) (f y)

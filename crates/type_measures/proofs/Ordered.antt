@@ -1,5 +1,6 @@
 -- In an order in which parts stand before wholes, each declaration gets its measure from those before it.
-use Rattle.std.proofs.Common.{◌≡◌, ℕ, zero, suc, ◌+◌, ◌<◌, ◌≤◌, List, [], ◌∷◌, ◌++◌, length, get_or, set, map, take, Contains, refl, sym, ap, ◌∙◌, subst, arith, inl, inr, get_or-set_same, get_or-set_other}
+use Rattle.std.proofs.Common.{◌≡◌, ℕ, zero, suc, ◌+◌, ◌<◌, ◌≤◌, List, [], ◌∷◌, ◌++◌, length, get_or, set, map, take, Contains}
+use Rattle.std.proofs.Common.{refl, sym, ap, ◌∙◌, subst, arith, inl, inr, get_or-set_same, get_or-set_other}
 use Rattle.std.specs.Prelude.{◌⊎◌, ◌≢◌, All, Option, Some, None, unwrap_or, slice_get}
 use Rattle.std.specs.List.{flat_map}
 use Rattle.std.specs.Option.{option_to_list}
@@ -37,7 +38,8 @@ take_short (suc i) (x ∷ xs) = omega (arith, take_short i xs)
 -- a name that a declaration holds, by its place
 held_at : (names ns : List Name) (n : Name) (w : ℕ) → place_of names n ≡ Some w → Contains ns n → Contains (flat_map (place_list names) ns) w
 held_at names [] n w e (k, lt, is) = absurd (omega arith)
-held_at names (x ∷ ns) n w e (zero, lt, is) = Contains-append_left (place_list names x) (flat_map (place_list names) ns) w (subst (λ o. Contains (option_to_list o) w) (sym (ap (place_of names) is ∙ e)) (0, omega arith, refl))
+held_at names (x ∷ ns) n w e (zero, lt, is) =
+    Contains-append_left (place_list names x) (flat_map (place_list names) ns) w (subst (λ o. Contains (option_to_list o) w) (sym (ap (place_of names) is ∙ e)) (0, omega arith, refl))
 held_at names (x ∷ ns) n w e (suc k, lt, is) = Contains-append_right (place_list names x) (flat_map (place_list names) ns) w (held_at names ns n w e (k, omega arith, is))
 
 parts_are : (names : List Name) (decls : List Decl) (v : ℕ) (x : Decl) → v < length decls → x ≡ get_or decls v x → parts_of (map (held_places names) decls) v ≡ held_places names x
@@ -45,16 +47,19 @@ parts_are names decls v x lt is = get_or-map (held_places names) decls v x [] lt
 
 module _ (d : Declarations) (order : List ℕ) (parts : ArePartsBefore (containment d) order) where
   -- what is known of the names that a declaration holds is right, where the declarations before it are measured
-  module _ (ms : List Measure) (i : ℕ) (here : i < length order) (up_to : AreMeasuredUpTo d order ms i) (x : Decl) (inside : get_or order i 0 < length (all_decls d)) (is : x ≡ get_or (all_decls d) (get_or order i 0) x) (k : ℕ) (far : i ≤ k) where
+  module _ (ms : List Measure) (i : ℕ) (here : i < length order) (up_to : AreMeasuredUpTo d order ms i) (x : Decl) (inside : get_or order i 0 < length (all_decls d))
+      (is : x ≡ get_or (all_decls d) (get_or order i 0) x) (k : ℕ) (far : i ≤ k) where
     known_part : (w : ℕ) → Contains (held_places (all_names d) x) w → capped (known_at ms w) ≡ capped (known_at (measures_within d k) w)
-    known_part w c = at (All-contains (Contains (take i order)) (parts_of (containment d) (get_or order i 0)) w (parts i here) (subst (λ ps. Contains ps w) (sym (parts_are (all_names d) (all_decls d) (get_or order i 0) x inside is)) c))
+    known_part w c = at (All-contains (Contains (take i order)) (parts_of (containment d) (get_or order i 0)) w (parts i here)
+        (subst (λ ps. Contains ps w) (sym (parts_are (all_names d) (all_decls d) (get_or order i 0) x inside is)) c))
       where
         at : Contains (take i order) w → capped (known_at ms w) ≡ capped (known_at (measures_within d k) w)
         at (j, lt, e) =
             let short : length (take i order) ≤ i = take_short i order in
             let before : j < i = omega arith in
             let same : get_or order j 0 ≡ w = other_default order j 0 w (omega arith) ∙ sym (get_or-take i order j w before) ∙ e in
-            subst (λ v. capped (known_at ms v) ≡ capped (known_at (measures_within d k) v)) same (ap capped (up_to j before k (omega arith)) ∙ capped_twice (known_at (measures_within d k) (get_or order j 0)))
+            subst (λ v. capped (known_at ms v) ≡ capped (known_at (measures_within d k) v)) same
+            (ap capped (up_to j before k (omega arith)) ∙ capped_twice (known_at (measures_within d k) (get_or order j 0)))
 
     agree : (n : Name) → Contains (held_names x) n → capped (measure_at (all_names d) ms n) ≡ capped (measure_at (all_names d) (measures_within d k) n)
     agree n c = at (place_of (all_names d) n) refl
@@ -73,17 +78,21 @@ module _ (d : Declarations) (order : List ℕ) (parts : ArePartsBefore (containm
     right_next = decl_agrees (measure_at (all_names d) ms) (measure_at (all_names d) (measures_within d k)) x agree ∙ sym (ap capped within_next)
 
   -- one declaration more
-  module _ (ms : List Measure) (i : ℕ) (here : i < length order) (up_to : AreMeasuredUpTo d order ms i) (size : length ms ≡ length (all_decls d)) (x : Decl) (inside : get_or order i 0 < length (all_decls d)) (is : x ≡ get_or (all_decls d) (get_or order i 0) x) (m : Measure) (right : m ≡ capped (measure_decl (measure_at (all_names d) ms) x)) where
-    at_place_of : (j : ℕ) → j < i + 1 → get_or order j 0 ≡ get_or order i 0 → (k : ℕ) → j < k → known_at (set ms (get_or order i 0) m) (get_or order j 0) ≡ capped (known_at (measures_within d k) (get_or order j 0))
+  module _ (ms : List Measure) (i : ℕ) (here : i < length order) (up_to : AreMeasuredUpTo d order ms i) (size : length ms ≡ length (all_decls d)) (x : Decl)
+      (inside : get_or order i 0 < length (all_decls d)) (is : x ≡ get_or (all_decls d) (get_or order i 0) x) (m : Measure) (right : m ≡ capped (measure_decl (measure_at (all_names d) ms) x)) where
+    at_place_of : (j : ℕ) → j < i + 1 → get_or order j 0 ≡ get_or order i 0 → (k : ℕ) → j < k
+        → known_at (set ms (get_or order i 0) m) (get_or order j 0) ≡ capped (known_at (measures_within d k) (get_or order j 0))
     at_place_of j lt same zero far = absurd (omega arith)
     at_place_of j lt same (suc k) far =
         ap (known_at (set ms (get_or order i 0) m)) same
         ∙ known_is (set ms (get_or order i 0) m) (get_or order i 0)
         ∙ get_or-set_same ms (get_or order i 0) m unmeasured (omega arith)
         ∙ right
-        ∙ right_next ms j (omega arith) (λ p h. up_to p (omega arith)) x (subst (λ v. v < length (all_decls d)) (sym same) inside) (subst (λ v. x ≡ get_or (all_decls d) v x) (sym same) is) k (omega arith)
+        ∙ right_next ms j (omega arith) (λ p h. up_to p (omega arith)) x (subst (λ v. v < length (all_decls d)) (sym same) inside)
+        (subst (λ v. x ≡ get_or (all_decls d) v x) (sym same) is) k (omega arith)
 
-    elsewhere : (j : ℕ) → j < i + 1 → (get_or order j 0 ≡ get_or order i 0 → ⊥) → (k : ℕ) → j < k → known_at (set ms (get_or order i 0) m) (get_or order j 0) ≡ capped (known_at (measures_within d k) (get_or order j 0))
+    elsewhere : (j : ℕ) → j < i + 1 → (get_or order j 0 ≡ get_or order i 0 → ⊥) → (k : ℕ) → j < k
+        → known_at (set ms (get_or order i 0) m) (get_or order j 0) ≡ capped (known_at (measures_within d k) (get_or order j 0))
     elsewhere j lt other k far = at (cases_lt j i)
       where
         at : (j < i) ⊎ (i ≤ j) → known_at (set ms (get_or order i 0) m) (get_or order j 0) ≡ capped (known_at (measures_within d k) (get_or order j 0))
@@ -97,7 +106,8 @@ module _ (d : Declarations) (order : List ℕ) (parts : ArePartsBefore (containm
     pub up_to_next : AreMeasuredUpTo d order (set ms (get_or order i 0) m) (i + 1)
     up_to_next j lt k far = at (cases_eq (get_or order j 0) (get_or order i 0))
       where
-        at : (get_or order j 0 ≡ get_or order i 0) ⊎ (get_or order j 0 ≡ get_or order i 0 → ⊥) → known_at (set ms (get_or order i 0) m) (get_or order j 0) ≡ capped (known_at (measures_within d k) (get_or order j 0))
+        at : (get_or order j 0 ≡ get_or order i 0) ⊎ (get_or order j 0 ≡ get_or order i 0 → ⊥)
+            → known_at (set ms (get_or order i 0) m) (get_or order j 0) ≡ capped (known_at (measures_within d k) (get_or order j 0))
         at (inl same) = at_place_of j lt same k far
         at (inr other) = elsewhere j lt other k far
 
@@ -113,11 +123,13 @@ length_of d = at (length (all_decls d)) refl
     at (suc n) e = length_within d (suc n) (omega arith)
 
 -- once all are measured
-pub all_measured : (d : Declarations) (order : List ℕ) (ms : List Measure) → IsOrder (containment d) order → length ms ≡ length (all_decls d) → AreMeasuredUpTo d order ms (length order) → ms ≡ map capped (measures_of d)
+pub all_measured : (d : Declarations) (order : List ℕ) (ms : List Measure) → IsOrder (containment d) order → length ms ≡ length (all_decls d) → AreMeasuredUpTo d order ms (length order)
+    → ms ≡ map capped (measures_of d)
 all_measured d order ms o size up_to =
     let long : length (map capped (measures_of d)) ≡ length (measures_of d) = length-map (measures_of d) capped in
     let all : length (measures_of d) ≡ length (all_decls d) = length_of d in
-    ext_get_or unmeasured ms (map capped (measures_of d)) (omega arith) (λ v lt. sym (known_is ms v) ∙ each v lt ∙ ap capped (known_is (measures_of d) v) ∙ sym (get_or-map capped (measures_of d) v unmeasured unmeasured (omega arith)))
+    ext_get_or unmeasured ms (map capped (measures_of d)) (omega arith) (λ v lt. sym (known_is ms v) ∙ each v lt ∙ ap capped (known_is (measures_of d) v)
+    ∙ sym (get_or-map capped (measures_of d) v unmeasured unmeasured (omega arith)))
   where
     each : (v : ℕ) → v < length ms → known_at ms v ≡ capped (known_at (measures_of d) v)
     each v lt = at (o.all v (let many : length (containment d) ≡ length (all_decls d) = length-map (all_decls d) (held_places (all_names d)) in omega arith))

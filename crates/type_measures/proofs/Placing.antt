@@ -37,9 +37,11 @@ pub ruleset by_form = (places-Tuple)
 
 -- the places of the types so far, and of those of one part more
 pub places_next : {X : Type 0} (types : X → List TypeName) (names : List Name) (xs : List X) (i : ℕ) (x : X) → i < length xs → x ≡ get_or xs i x →
-    flat_map (place_list names) (flat_map names_in (flat_map types (take (i + 1) xs))) ≡ flat_map (place_list names) (flat_map names_in (flat_map types (take i xs))) ++ flat_map (places_in names) (types x)
+    flat_map (place_list names) (flat_map names_in (flat_map types (take (i + 1) xs)))
+    ≡ flat_map (place_list names) (flat_map names_in (flat_map types (take i xs))) ++ flat_map (places_in names) (types x)
 places_next types names xs i x lt is =
-    ap (λ ts. flat_map (place_list names) (flat_map names_in ts)) (ap (flat_map types) (take_more xs i x lt) ∙ flat_map-append types (take i xs) (get_or xs i x ∷ []) ∙ ap (λ y. flat_map types (take i xs) ++ (types y ++ [])) (sym is))
+    ap (λ ts. flat_map (place_list names) (flat_map names_in ts)) (ap (flat_map types) (take_more xs i x lt) ∙ flat_map-append types (take i xs) (get_or xs i x ∷ [])
+    ∙ ap (λ y. flat_map types (take i xs) ++ (types y ++ [])) (sym is))
     ∙ ap (flat_map (place_list names)) (flat_map-append names_in (flat_map types (take i xs)) (types x ++ []))
     ∙ flat_map-append (place_list names) (flat_map names_in (flat_map types (take i xs))) (flat_map names_in (types x ++ []))
     ∙ ap (λ r. flat_map (place_list names) (flat_map names_in (flat_map types (take i xs))) ++ r) (places_of_all names (types x ++ []) ∙ ap (flat_map (places_in names)) (append-nil (types x)))
@@ -49,9 +51,11 @@ flat_alone f [] = refl
 flat_alone f (x ∷ xs) = ap (λ r. f x ∷ r) (flat_alone f xs)
 
 pub places_next_by : {X : Type 0} (type_of : X → TypeName) (names : List Name) (xs : List X) (i : ℕ) (x : X) (new old : List ℕ) → i < length xs → x ≡ get_or xs i x →
-    old ≡ flat_map (place_list names) (flat_map names_in (map type_of (take i xs))) → new ≡ old ++ places_in names (type_of x) → new ≡ flat_map (place_list names) (flat_map names_in (map type_of (take (i + 1) xs)))
+    old ≡ flat_map (place_list names) (flat_map names_in (map type_of (take i xs))) → new ≡ old ++ places_in names (type_of x)
+    → new ≡ flat_map (place_list names) (flat_map names_in (map type_of (take (i + 1) xs)))
 places_next_by type_of names xs i x new old lt is so_far more =
-    let whole : (ys : List _) → flat_map (place_list names) (flat_map names_in (flat_map (λ y. type_of y ∷ []) ys)) ≡ flat_map (place_list names) (flat_map names_in (map type_of ys)) = λ ys. ap (λ ts. flat_map (place_list names) (flat_map names_in ts)) (flat_alone type_of ys) in
+    let whole : (ys : List _) → flat_map (place_list names) (flat_map names_in (flat_map (λ y. type_of y ∷ []) ys)) ≡ flat_map (place_list names) (flat_map names_in (map type_of ys)) =
+    λ ys. ap (λ ts. flat_map (place_list names) (flat_map names_in ts)) (flat_alone type_of ys) in
     more ∙ ap (λ ps. ps ++ places_in names (type_of x)) (so_far ∙ sym (whole (take i xs)))
     ∙ ap (λ r. flat_map (place_list names) (flat_map names_in (flat_map (λ y. type_of y ∷ []) (take i xs))) ++ r) (sym (append-nil (places_in names (type_of x))))
     ∙ sym (places_next (λ y. type_of y ∷ []) names xs i x lt is) ∙ whole (take (i + 1) xs)

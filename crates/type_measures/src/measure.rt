@@ -123,7 +123,8 @@ fn with_payload(
     all: Gathered,
     payload: &Option<TypeName>,
 ) -> Gathered
-    ensures { (ms : List Measure) → all ≡ gathered ms → result ≡ gathered (ms ++ map (measure_with (measure_at (all_names table.now) known.now)) (option_to_list payload.now)) }
+    ensures { (ms : List Measure) → all ≡ gathered ms
+        → result ≡ gathered (ms ++ map (measure_with (measure_at (all_names table.now) known.now)) (option_to_list payload.now)) }
 {
     match payload {
         Some(payload) => all.and(measure_type(table, known, payload)),
@@ -183,7 +184,8 @@ fn with_operand(
     all: Gathered,
     operand: &Operand,
 ) -> Gathered
-    ensures { (ms : List Measure) → all ≡ gathered ms → result ≡ gathered (ms ++ map (measure_with (measure_at (all_names table.now) known.now)) (operand_types operand.now)) }
+    ensures { (ms : List Measure) → all ≡ gathered ms
+        → result ≡ gathered (ms ++ map (measure_with (measure_at (all_names table.now) known.now)) (operand_types operand.now)) }
 {
     match &operand.ty {
         Some(ty) => all.and(measure_type(table, known, ty)),

@@ -7,4 +7,5 @@ use Rattle.type_measures.specs.inner.Gathered.{capped, known_at}
 
 -- the first i declarations of the order have their measures, seen through any number of declarations that is enough for them
 abbrev pub AreMeasuredUpTo : Declarations → List ℕ → List Measure → ℕ → Type 0
-AreMeasuredUpTo d order ms i = (j : ℕ) → j < i → (k : ℕ) → j < k → known_at ms (slice_index order j) ≡ capped (known_at (measures_within d k) (slice_index order j))
+AreMeasuredUpTo d order ms i = (j : ℕ) → j < i → (k : ℕ) → j < k
+    → known_at ms (slice_index order j) ≡ capped (known_at (measures_within d k) (slice_index order j))

@@ -6,4 +6,5 @@ use Rattle.type_measures.proofs.measure.gather_fields.Goals as goal
 
 pub loop-field-preserved : goal.loop-field-preserved
 loop-field-preserved c =
-    gathered_next_of (measure_with (measure_at (all_names c.args.table.now) c.args.known.now)) field_type c.args.fields.now c.loop-field.field-index c.field-item.result c.and-all.result c.loop-field.all c.measure_type.result c.loop-field-test.true c.field-item.is c.loop-field.invariant c.measure_type.ensures c.and-all.ensures
+    gathered_next_of (measure_with (measure_at (all_names c.args.table.now) c.args.known.now)) field_type c.args.fields.now c.loop-field.field-index c.field-item.result c.and-all.result
+    c.loop-field.all c.measure_type.result c.loop-field-test.true c.field-item.is c.loop-field.invariant c.measure_type.ensures c.and-all.ensures
