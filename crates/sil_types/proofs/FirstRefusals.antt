@@ -29,7 +29,8 @@ use Rattle.sil_types.specs.Refusals.{ShownIn, refusal_key, IsRefusal, IsRule}
 use Rattle.sil_types.specs.Refusals.ShownIn.{item, infinite, too_deep, too_wide}
 
 pub refused_rule : (m : Module) (r : Rule) (n : ℕ) (e : TypeRefusal) → IsRule r n e → IsLeast refusal_key (ShownIn m) (refusal.Rule r n) → IsRefusal m e
-refused_rule m r n (refusal.Rule s k) (es, ek) least = subst (λ s. IsLeast refusal_key (ShownIn m) (refusal.Rule s k)) (sym es) (subst (λ k. IsLeast refusal_key (ShownIn m) (refusal.Rule r k)) (sym ek) least)
+refused_rule m r n (refusal.Rule s k) (es, ek) least =
+    subst (λ s. IsLeast refusal_key (ShownIn m) (refusal.Rule s k)) (sym es) (subst (λ k. IsLeast refusal_key (ShownIn m) (refusal.Rule r k)) (sym ek) least)
 refused_rule m r n (refusal.Limit what) h least = absurd h
 refused_rule m r n refusal.Memory h least = tt
 

@@ -36,9 +36,11 @@ within_limits m h =
 pub none_past_limit : (m : Module) → list_any (λ t. is_wrong_type (declarations_of m) t || exceeds Either (declarations_of m) t) (mentions_of m) ≡ false → InLimits m
 none_past_limit m h =
     let d = declarations_of m in
-    within_limits m (second_of_none (list_any (is_wrong_type d) (mentions_of m)) (list_any (exceeds Either d) (mentions_of m)) (sym (any_of_two (is_wrong_type d) (exceeds Either d) (mentions_of m)) ∙ h))
+    within_limits m (second_of_none (list_any (is_wrong_type d) (mentions_of m)) (list_any (exceeds Either d) (mentions_of m))
+    (sym (any_of_two (is_wrong_type d) (exceeds Either d) (mentions_of m)) ∙ h))
 
-pub no_wrong_type : (m : Module) → list_any (λ t. is_wrong_type (declarations_of m) t || exceeds Either (declarations_of m) t) (mentions_of m) ≡ false → list_any (is_wrong_type (declarations_of m)) (mentions_of m) ≡ false
+pub no_wrong_type : (m : Module) → list_any (λ t. is_wrong_type (declarations_of m) t || exceeds Either (declarations_of m) t) (mentions_of m) ≡ false
+    → list_any (is_wrong_type (declarations_of m)) (mentions_of m) ≡ false
 no_wrong_type m h =
     let d = declarations_of m in
     first_of_none (list_any (is_wrong_type d) (mentions_of m)) (list_any (exceeds Either d) (mentions_of m)) (sym (any_of_two (is_wrong_type d) (exceeds Either d) (mentions_of m)) ∙ h)
@@ -53,7 +55,8 @@ le_counted n most limit h = grind (arith, leb_tells)
 past_counted : (what : Limit) (m : Measure) → is_past what (capped m) ≡ is_past what m
 past_counted Depth m = ap not (le_counted m.depth 33 32 (omega arith))
 past_counted Leaves m = ap not (le_counted m.leaves 65 64 (omega arith))
-past_counted Either m = ap (λ b. not b || not (nat_le (min m.leaves 65) 64)) (le_counted m.depth 33 32 (omega arith)) ∙ ap (λ b. not (nat_le m.depth 32) || not b) (le_counted m.leaves 65 64 (omega arith))
+past_counted Either m = ap (λ b. not b || not (nat_le (min m.leaves 65) 64)) (le_counted m.depth 33 32 (omega arith))
+    ∙ ap (λ b. not (nat_le m.depth 32) || not b) (le_counted m.leaves 65 64 (omega arith))
 
 unmeasured_within : (what : Limit) → is_past what unmeasured ≡ false
 unmeasured_within Depth = refl

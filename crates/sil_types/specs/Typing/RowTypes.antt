@@ -1,5 +1,6 @@
 -- What each instruction asks of the types that are written in it, and the types of its results.
-use Rattle.std.specs.Prelude.{ℕ, List, [], ◌∷◌, Bool, false, not, ◌&&◌, ◌||◌, ◌==◌, Option, Some, None, option_map, option_and_then, slice_get, map, length, is_some, unwrap_or, if◌then◌else◌}
+use Rattle.std.specs.Prelude.{ℕ, List, [], ◌∷◌, Bool, false, not, ◌&&◌, ◌||◌, ◌==◌, Option, Some, None, option_map}
+use Rattle.std.specs.Prelude.{option_and_then, slice_get, map, length, is_some, unwrap_or, if◌then◌else◌}
 use Rattle.std.specs.List.{flat_map, list_all}
 use Rattle.std.specs.Option.{option_to_list}
 use Rattle.sil_ast.specs.declared.decl.Field.{Field}
@@ -16,7 +17,8 @@ use Rattle.type_definitions.specs.Mentions.{given_type}
 use Rattle.type_definitions.specs.Rules.{is_class_type}
 use Rattle.sil_types.specs.Typing.Builtins.{Builtin, builtin_named, builtin_operands, builtin_result}
 use Rattle.sil_types.specs.Typing.Same.{is_same_type, are_same_types}
-use Rattle.sil_types.specs.Typing.Shapes.{where_it, is_object, is_nontrivial, is_storage, is_integer, is_bit, target, object_at, weak_at, unowned_at, elements, element_of, fields_of_struct, field_type, field_address, struct_field, class_field, is_enum, case_in}
+use Rattle.sil_types.specs.Typing.Shapes.{where_it, is_object, is_nontrivial, is_storage, is_integer, is_bit, target, object_at, weak_at, unowned_at, elements}
+use Rattle.sil_types.specs.Typing.Shapes.{element_of, fields_of_struct, field_type, field_address, struct_field, class_field, is_enum, case_in}
 
 abbrev pub type_of : Operand → Option TypeName
 type_of o = o.ty

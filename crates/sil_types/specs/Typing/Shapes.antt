@@ -1,5 +1,6 @@
 -- What a type is: an object's, an address, storage, a bit, an enum; and what stands behind or within it.
-use Rattle.std.specs.Prelude.{ℕ, ℤ, pos, negsuc, List, Bool, true, false, not, ◌&&◌, ◌==◌, Option, Some, None, is_some, option_map, option_and_then, slice_get, length, if◌then◌else◌, codes}
+use Rattle.std.specs.Prelude.{ℕ, ℤ, pos, negsuc, List, Bool, true, false, not, ◌&&◌, ◌==◌, Option, Some, None}
+use Rattle.std.specs.Prelude.{is_some, option_map, option_and_then, slice_get, length, if◌then◌else◌, codes}
 use Rattle.std.specs.Str.{bytes_eq}
 use Rattle.sil_ast.specs.declared.decl.Decl.{Decl}
 use Rattle.sil_ast.specs.declared.decl.Decl.TheVariants.{Struct, Enum, Class}

@@ -1,5 +1,6 @@
 -- 209: the cases of a `switch_enum`, and the blocks that they go to.
-use Rattle.std.specs.Prelude.{ℕ, List, [], ◌∷◌, Bool, true, false, not, ◌&&◌, ◌||◌, ◌==◌, Option, Some, None, is_some, is_none, option_and_then, option_map, map, unwrap_or, count_by}
+use Rattle.std.specs.Prelude.{ℕ, List, [], ◌∷◌, Bool, true, false, not, ◌&&◌, ◌||◌, ◌==◌, Option, Some, None}
+use Rattle.std.specs.Prelude.{is_some, is_none, option_and_then, option_map, map, unwrap_or, count_by}
 use Rattle.std.specs.List.{flat_map, list_all, list_any, filter_map, range_with_len}
 use Rattle.std.specs.Option.{option_to_list}
 use Rattle.instruction_table.specs.Forms.{ending_of}

@@ -15,4 +15,5 @@ returns-clause-err c =
     let graph = c.as_slice.ensures ∙ c.in_ok-graph.ensures.graph ∙ ap containment c.requires.table in
     let first = subst (λ g. IsFirstCyclic g place) graph (subst (IsFound c.as_slice.result.now) c.in-Ring.is c.in_ok-order.ensures) in
     let number = c.saturating_sub-item.ensures ∙ ap (λ n. place - n) (c.imported.ensures ∙ ap (λ d. length (swift_structs d.swift)) c.requires.table) in
-    refused_rule m InfiniteType (place - length (swift_structs m.imports.swift)) c.refused.result (subst (λ n. IsRule InfiniteType n c.refused.result) number c.refused.ensures) (first_ring m c.in_ok-check_items-in-Ring.ensures.ok place first)
+    refused_rule m InfiniteType (place - length (swift_structs m.imports.swift)) c.refused.result (subst (λ n. IsRule InfiniteType n c.refused.result) number c.refused.ensures)
+    (first_ring m c.in_ok-check_items-in-Ring.ensures.ok place first)

@@ -12,4 +12,5 @@ returns c =
     let d = c.self.inside.declarations in
     let ms = c.as_slice.result.now in
     let t = Named c.args.name.now in
-    c.measure_name.ensures ∙ ap capped (sym (measure-Named (measure_at (all_names d) ms) c.args.name.now)) ∙ kept_serves d ms t (c.as_slice.ensures ∙ c.self.invariant) ∙ ap (λ e. capped (measure_of e t)) c.self.view_is
+    c.measure_name.ensures ∙ ap capped (sym (measure-Named (measure_at (all_names d) ms) c.args.name.now)) ∙ kept_serves d ms t (c.as_slice.ensures ∙ c.self.invariant)
+    ∙ ap (λ e. capped (measure_of e t)) c.self.view_is
