@@ -71,7 +71,8 @@ avoids e test same = let hit : is_to_entry e ≡ true = subst (λ n. (n == 0) �
 
 -- ---- both: the edges fit
 
-pub fitting_edges : (f : Function) (b : Block) → are_edges_by (ending_of b.terminator.op) b.terminator.edges ≡ true → (has_wrong_edge_arguments f b.terminator ≡ true → ⊥) → (goes_to_entry b.terminator ≡ true → ⊥) → HasFittingEdges f b
+pub fitting_edges : (f : Function) (b : Block) → are_edges_by (ending_of b.terminator.op) b.terminator.edges ≡ true → (has_wrong_edge_arguments f b.terminator ≡ true → ⊥)
+    → (goes_to_entry b.terminator ≡ true → ⊥) → HasFittingEdges f b
 unfolding has_wrong_edge_arguments goes_to_entry
 fitting_edges f b edges same entry =
     let i = b.terminator in
@@ -82,7 +83,8 @@ fitting_edges f b edges same entry =
 
 -- ---- how many
 
-few_in_switch : (d : Declarations) (f : Function) → Each IsDeclInLimits d.decls → (es : List Edge) → are_cases es ≡ true → (o : Option TypeName) → passes (switches_well d f es) o ≡ true → length es < 2 ^ 32
+few_in_switch : (d : Declarations) (f : Function) → Each IsDeclInLimits d.decls → (es : List Edge) → are_cases es ≡ true → (o : Option TypeName)
+    → passes (switches_well d f es) o ≡ true → length es < 2 ^ 32
 few_in_switch d f members es cases None e = cc
 few_in_switch d f members es cases (Some t) e =
     let of_enum = list_all (is_of_enum d t) es in
@@ -101,5 +103,6 @@ few_by ending.Cases d f i members edges cases = few_in_switch d f members i.edge
 few_by ending.Return d f i members edges cases = let none = none_left i.edges edges in omega arith
 few_by ending.Unreachable d f i members edges cases = let none = none_left i.edges edges in omega arith
 
-pub few_edges_at : (d : Declarations) (f : Function) (i : Inst) → Each IsDeclInLimits d.decls → are_edges_by (ending_of i.op) i.edges ≡ true → (has_wrong_cases d f i ≡ true → ⊥) → length i.edges < 2 ^ 32
+pub few_edges_at : (d : Declarations) (f : Function) (i : Inst) → Each IsDeclInLimits d.decls → are_edges_by (ending_of i.op) i.edges ≡ true → (has_wrong_cases d f i ≡ true → ⊥)
+    → length i.edges < 2 ^ 32
 few_edges_at d f i members edges wrong = few_by (ending_of i.op) d f i members edges (never_fails (has_switch_cases_by (ending_of i.op) d f i) wrong)
