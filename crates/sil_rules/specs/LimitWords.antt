@@ -1,7 +1,8 @@
 -- The words for the quantities that have a limit.
 use Rattle.std.specs.Prelude.{ℕ, List, codes}
 use Rattle.sil_rules.specs.declared.limit_word.LimitWord.{LimitWord}
-use Rattle.sil_rules.specs.declared.limit_word.LimitWord.TheVariants.{Text, Name, Declarations, Members, Arguments, Functions, Blocks, Instructions, Values, Depth, Leaves}
+use Rattle.sil_rules.specs.declared.limit_word.LimitWord.TheVariants.{Text, Name, Declarations, Members, Arguments, Functions}
+use Rattle.sil_rules.specs.declared.limit_word.LimitWord.TheVariants.{Blocks, Instructions, Values, Depth, Leaves}
 
 -- the word that an answer prints
 abbrev pub word_of : LimitWord → List ℕ
