@@ -14,5 +14,6 @@ block_there blocks b x lt e = slice_get-map block_of blocks b ∙ ap (option_map
 pub block_read : (blocks : List BlockFlow) (kinds : List Item) (b : ℕ) (x : BlockFlow) → b < length blocks → get_or blocks b x ≡ x → block_at (layout_of blocks kinds) b ≡ block_of x
 block_read blocks kinds b x lt e = ap (λ (o : Option BlockLayout). unwrap_or o no_block) (block_there blocks b x lt e)
 
-pub block_sound : (blocks : List BlockFlow) (kinds : List Item) (b : ℕ) (x : BlockFlow) → b < length blocks → get_or blocks b x ≡ x → IsSound (layout_of blocks kinds) → IsBlockSound (layout_of blocks kinds) (block_of x)
+pub block_sound : (blocks : List BlockFlow) (kinds : List Item) (b : ℕ) (x : BlockFlow) → b < length blocks → get_or blocks b x ≡ x → IsSound (layout_of blocks kinds)
+    → IsBlockSound (layout_of blocks kinds) (block_of x)
 block_sound blocks kinds b x lt e h = all_get (IsBlockSound (layout_of blocks kinds)) (map block_of blocks) b (block_of x) h.blocks (block_there blocks b x lt e)

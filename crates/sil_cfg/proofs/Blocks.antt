@@ -146,7 +146,8 @@ laid_graph f kinds blocks n h all = record {
         ∙ r.2.laid.edges.items e.index (get_or r.2.layout.edges e.index no_edge) there
 
 -- and its numbers are in range
-pub laid_sound : (f : Function) (kinds : List Item) (blocks : List BlockLayout) (n : ℕ) → HasGraph f → AreLaid f kinds blocks n → n ≡ length f.blocks → IsSound (record { blocks = blocks; kinds = kinds })
+pub laid_sound : (f : Function) (kinds : List Item) (blocks : List BlockLayout) (n : ℕ) → HasGraph f → AreLaid f kinds blocks n → n ≡ length f.blocks
+    → IsSound (record { blocks = blocks; kinds = kinds })
 laid_sound f kinds blocks n has h all = record {
   some_block = let s : length blocks ≡ n = h.size in let b : 0 < length f.blocks = has.body in omega arith;
   few_blocks = let s : length blocks ≡ n = h.size in let b : length f.blocks < 2 ^ 32 = has.few_blocks in omega arith;
@@ -169,9 +170,11 @@ laid_sound f kinds blocks n has h all = record {
         subst P same (record {
           items = all_from_gets _ r.2.layout.items (λ k i q. AreItems-below kinds r.2.layout.items _ r.2.laid.items k i q);
           edges = all_from_gets (IsEdgeSound (record { blocks = blocks; kinds = kinds })) r.2.layout.edges (λ j y q.
-              let target : slice_get (map (λ (z : EdgeFlow). z.target) r.2.layout.edges) j ≡ Some y.target = slice_get-map (λ (z : EdgeFlow). z.target) r.2.layout.edges j ∙ ap (option_map (λ (z : EdgeFlow). z.target)) q in
+              let target : slice_get (map (λ (z : EdgeFlow). z.target) r.2.layout.edges) j ≡ Some y.target =
+              slice_get-map (λ (z : EdgeFlow). z.target) r.2.layout.edges j ∙ ap (option_map (λ (z : EdgeFlow). z.target)) q in
               let goes : slice_get (targets_in (Some r.0)) j ≡ Some y.target = ap (λ v. slice_get v j) (sym r.2.laid.edges.targets) ∙ target in
-              let within : y.target < length f.blocks = all_get (λ t. t < length f.blocks) (targets_in (Some r.0)) j y.target (All-map (λ t. t < length f.blocks) (λ (z : edge.Edge). z.block.0) r.0.terminator.edges linked.targets) goes in
+              let within : y.target < length f.blocks =
+              all_get (λ t. t < length f.blocks) (targets_in (Some r.0)) j y.target (All-map (λ t. t < length f.blocks) (λ (z : edge.Edge). z.block.0) r.0.terminator.edges linked.targets) goes in
               (subst (λ m. y.target < m) (sym size) within, slice_get_within kinds y.item (Edge (edge_id b j)) (r.2.laid.edges.items j y q)));
           few_edges = omega arith;
           last = omega arith;

@@ -62,14 +62,17 @@ insts_from_more b j (x ∷ insts) (suc k) lt =
     ap (λ v. Inst (point_at b j) ∷ v) (insts_from_more b (suc j) insts k (omega arith) ∙ ap (λ n. insts_from b (suc j) (take k insts) ++ Inst (point_at b n) ∷ []) e)
 
 -- one edge more
-pub edges_push : (kinds : List Item) (b i : ℕ) (edges : List edge.Edge) (e : edge.Edge) (flows : List EdgeFlow) → AreEdgesLaid kinds b (take i edges) flows → slice_get edges i ≡ Some e → length flows ≡ i →
+pub edges_push : (kinds : List Item) (b i : ℕ) (edges : List edge.Edge) (e : edge.Edge) (flows : List EdgeFlow) → AreEdgesLaid kinds b (take i edges) flows →
+    slice_get edges i ≡ Some e → length flows ≡ i →
     AreEdgesLaid (kinds ++ Edge (edge_id b i) ∷ []) b (take (suc i) edges) (flows ++ record { target = e.block.0; item = length kinds } ∷ [])
 edges_push kinds b i edges e flows h there size = record {
-  targets = map-append (λ (x : EdgeFlow). x.target) flows _ ∙ ap (λ v. v ++ e.block.0 ∷ []) h.targets ∙ sym (ap (map (λ (x : edge.Edge). x.block.0)) (take_one_more edges i e there) ∙ map-append (λ (x : edge.Edge). x.block.0) (take i edges) (e ∷ []));
+  targets = map-append (λ (x : EdgeFlow). x.target) flows _ ∙ ap (λ v. v ++ e.block.0 ∷ []) h.targets
+      ∙ sym (ap (map (λ (x : edge.Edge). x.block.0)) (take_one_more edges i e there) ∙ map-append (λ (x : edge.Edge). x.block.0) (take i edges) (e ∷ []));
   items = λ j x g. at j x (pushed_get flows (record { target = e.block.0; item = length kinds }) j x g);
 }
   where
-    at : (j : ℕ) (x : EdgeFlow) → (slice_get flows j ≡ Some x) ⊎ ((j ≡ length flows) × (record { target = e.block.0; item = length kinds } ≡ x)) → slice_get (kinds ++ Edge (edge_id b i) ∷ []) x.item ≡ Some (Edge (edge_id b j))
+    at : (j : ℕ) (x : EdgeFlow) → (slice_get flows j ≡ Some x) ⊎ ((j ≡ length flows) × (record { target = e.block.0; item = length kinds } ≡ x))
+        → slice_get (kinds ++ Edge (edge_id b i) ∷ []) x.item ≡ Some (Edge (edge_id b j))
     at j x (inl g) = kept_get kinds (Edge (edge_id b i) ∷ []) x.item (Edge (edge_id b j)) (h.items j x g)
     at j x (inr g) =
         let same : length kinds ≡ x.item = ap (λ (y : EdgeFlow). y.item) g.1 in
@@ -92,7 +95,8 @@ pub lays_block : (b : ℕ) (block : Block) (first entered passed left last : Lis
 lays_block b block first entered passed left last one two three flows index h k m adds edges same =
     let start : HasLaid b block first first [] [] = record { adds = adds_none b block first; stands = tt } in
     let own = m first _ (k first _ (h first [] start)) in
-    let whole : AreItems left three (own_items b block) = subst (AreItems left three) (append_assoc (entry_of b) (insts_from b 0 block.insts) (exit_of (point_at b (length block.insts)) (ends_function block.terminator.op))) own.stands in
+    let whole : AreItems left three (own_items b block) =
+    subst (AreItems left three) (append_assoc (entry_of b) (insts_from b 0 block.insts) (exit_of (point_at b (length block.insts)) (ends_function block.terminator.op))) own.stands in
     record {
       adds = Adds-trans b block first left last own.adds adds;
       laid = record {

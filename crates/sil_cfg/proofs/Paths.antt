@@ -57,23 +57,36 @@ inner g b pre (x ∷ mid) post e =
     let e2 : items_at g b ≡ (pre ++ x ∷ []) ++ (mid ++ post) = e ∙ sym (append_assoc pre (x ∷ []) (mid ++ post)) in
     let more = inner g b (pre ++ x ∷ []) mid post e2 in
     let one : length (pre ++ x ∷ []) ≡ suc (length pre) = omega (arith, length-append pre (x ∷ [])) in
-    let from : Path g (record { block = b; done = suc (length pre) }) mid (record { block = b; done = length (pre ++ x ∷ []) + length mid }) = subst (λ n. Path g (record { block = b; done = n }) mid (record { block = b; done = length (pre ++ x ∷ []) + length mid })) one more in
-    let total : length (pre ++ x ∷ []) + length mid ≡ length pre + suc (length mid) = omega arith in
-    (record { block = b; done = suc (length pre) }, inl (record { next = there; to = refl }), subst (λ n. Path g (record { block = b; done = suc (length pre) }) mid (record { block = b; done = n })) total from)
+    let from : Path g (record { block = b; done = suc (length pre) }) mid (record { block = b; done = length (pre ++ x ∷ []) + length mid }) =
+    subst (λ n. Path g (record { block = b; done = n }) mid (record { block = b; done = length (pre ++ x ∷ []) + length mid })) one more in
+    let total : length (pre ++ x ∷ []) + length mid ≡ length pre + suc (length mid) = omega arith in (
+      record { block = b; done = suc (length pre) },
+      inl (record { next = there; to = refl }),
+      subst (λ n. Path g (record { block = b; done = suc (length pre) }) mid (record { block = b; done = n })) total from,
+    )
 
 -- a walk and a part of its last block lead somewhere in that block
 pub Path-from_walk : {A : Type 0} (g : Flow A) (b : ℕ) (w : List EdgeId) (k : ℕ) → IsWalkFrom g b w →
     (n : ℕ) × Path g (record { block = b; done = 0 }) (passed g w ++ take k (items_at g (end_from g b w))) (record { block = end_from g b w; done = n })
-Path-from_walk g b [] k h = (length (take k (items_at g b)), subst (λ n. Path g (record { block = b; done = 0 }) (take k (items_at g b)) (record { block = b; done = n })) (omega arith) (inner g b [] (take k (items_at g b)) _ (sym (take-append-drop k (items_at g b)))))
+Path-from_walk g b [] k h = (
+  length (take k (items_at g b)),
+  subst (λ n. Path g (record { block = b; done = 0 }) (take k (items_at g b)) (record { block = b; done = n })) (omega arith)
+      (inner g b [] (take k (items_at g b)) _ (sym (take-append-drop k (items_at g b)))),
+)
 Path-from_walk {A} g b (e ∷ w) k h =
     let ih = Path-from_walk g (edge_to g e) w k h.2 in
     let own : List A = items_at g e.block.0 in
     let rest : List A = passed g w ++ take k (items_at g (end_from g (edge_to g e) w)) in
     let whole = inner g e.block.0 [] own [] (sym (append-nil own)) in
-    let atb : Path g (record { block = e.block.0; done = 0 }) own (record { block = e.block.0; done = length own }) = subst (λ n. Path g (record { block = e.block.0; done = 0 }) own (record { block = e.block.0; done = n })) (omega arith) whole in
-    let step : Path g (record { block = e.block.0; done = length own }) (edge_item g e ∷ rest) (record { block = end_from g (edge_to g e) w; done = ih.0 }) = (record { block = edge_to g e; done = 0 }, inr (record { edge = e; from = refl; is_edge = h.1; all_done = refl; next = refl; to = refl }), ih.1) in
-    let all = Path-append g own (edge_item g e ∷ rest) _ _ _ atb step in
-    (ih.0, subst (λ x. Path g (record { block = x; done = 0 }) (passed g (e ∷ w) ++ take k (items_at g (end_from g b (e ∷ w)))) (record { block = end_from g b (e ∷ w); done = ih.0 })) h.0 (rw append_assoc all))
+    let atb : Path g (record { block = e.block.0; done = 0 }) own (record { block = e.block.0; done = length own }) =
+    subst (λ n. Path g (record { block = e.block.0; done = 0 }) own (record { block = e.block.0; done = n })) (omega arith) whole in
+    let step : Path g (record { block = e.block.0; done = length own }) (edge_item g e ∷ rest) (record { block = end_from g (edge_to g e) w; done = ih.0 }) =
+    (record { block = edge_to g e; done = 0 }, inr (record { edge = e; from = refl; is_edge = h.1; all_done = refl; next = refl; to = refl }), ih.1) in
+    let all = Path-append g own (edge_item g e ∷ rest) _ _ _ atb step in (
+      ih.0,
+      subst (λ x. Path g (record { block = x; done = 0 }) (passed g (e ∷ w) ++ take k (items_at g (end_from g b (e ∷ w)))) (record { block = end_from g b (e ∷ w); done = ih.0 }))
+          h.0 (rw append_assoc all),
+    )
 
 take_next : {A : Type 0} (xs : List A) (k : ℕ) (x : A) → slice_get xs k ≡ Some x → take (suc k) xs ≡ take k xs ++ x ∷ []
 take_next [] k x e = cc
@@ -89,7 +102,8 @@ after_own g t b k i s r =
     let a : (take k (items_at g b) ++ i ∷ []) ++ t ≡ take k (items_at g b) ++ (i ∷ t) = append_assoc (take k (items_at g b)) (i ∷ []) t in
     (r.0, r.1, r.2, sym a ∙ ap (λ v. v ++ t) (sym e) ∙ r.3)
 
-after_edge : {A : Type 0} (g : Flow A) (t : List A) (b k : ℕ) (i : A) (e : EdgeId) → e.block.0 ≡ b → IsEdge g e → k ≡ length (items_at g b) → i ≡ edge_item g e → HasWalk g (edge_to g e) 0 t → HasWalk g b k (i ∷ t)
+after_edge : {A : Type 0} (g : Flow A) (t : List A) (b k : ℕ) (i : A) (e : EdgeId) → e.block.0 ≡ b → IsEdge g e → k ≡ length (items_at g b) → i ≡ edge_item g e
+    → HasWalk g (edge_to g e) 0 t → HasWalk g b k (i ∷ t)
 after_edge g t b k i e from is_edge done next r =
     let whole : take k (items_at g b) ≡ items_at g e.block.0 = take_all k (items_at g b) (omega arith) ∙ ap (items_at g) (sym from) in
     let at : take k (items_at g b) ++ (i ∷ t) ≡ items_at g e.block.0 ++ edge_item g e ∷ (passed g r.0 ++ take r.1 (items_at g (end_from g (edge_to g e) r.0))) =

@@ -32,7 +32,8 @@ pub record IsPlaced (g : Flow Item) : Type 0 where
   pub edge : (e : EdgeId) → edge_item g e ≡ Edge e
 
 -- the instructions and the exit item stand at their indices
-place_behind : (b j : ℕ) (insts : List inst.Inst) (ends : Bool) (k : ℕ) (i : Item) → slice_get (insts_from b j insts ++ exit_of (point_at b (j + length insts)) ends) k ≡ Some i → place_of i ≡ Some (place_in b (j + k))
+place_behind : (b j : ℕ) (insts : List inst.Inst) (ends : Bool) (k : ℕ) (i : Item) → slice_get (insts_from b j insts ++ exit_of (point_at b (j + length insts)) ends) k ≡ Some i
+    → place_of i ≡ Some (place_in b (j + k))
 place_behind b j [] true zero i h = subst (λ v. place_of v ≡ Some (place_in b (j + 0))) (same_Some _ i h) refl
 place_behind b j [] true (suc k) i h = absurd (none-some i h)
 place_behind b j [] false k i h = absurd (none-some i h)
@@ -47,11 +48,13 @@ place_own zero block zero i h = subst (λ v. place_of v ≡ Some (0, 0)) (same_S
 place_own zero block (suc k) i h =
     let e : 0 + length block.insts ≡ length block.insts = omega arith in
     let d : 0 + k ≡ k = omega arith in
-    place_behind 0 0 block.insts (ends_function block.terminator.op) k i (ap (λ n. slice_get (insts_from 0 0 block.insts ++ exit_of (point_at 0 n) (ends_function block.terminator.op)) k) e ∙ h) ∙ ap (λ n. Some (place_in 0 n)) d
+    place_behind 0 0 block.insts (ends_function block.terminator.op) k i (ap (λ n. slice_get (insts_from 0 0 block.insts ++ exit_of (point_at 0 n) (ends_function block.terminator.op)) k) e ∙ h)
+    ∙ ap (λ n. Some (place_in 0 n)) d
 place_own (suc b) block k i h =
     let e : 0 + length block.insts ≡ length block.insts = omega arith in
     let d : 0 + k ≡ k = omega arith in
-    place_behind (suc b) 0 block.insts (ends_function block.terminator.op) k i (ap (λ n. slice_get (insts_from (suc b) 0 block.insts ++ exit_of (point_at (suc b) n) (ends_function block.terminator.op)) k) e ∙ h) ∙ ap (λ n. Some (place_in (suc b) n)) d
+    place_behind (suc b) 0 block.insts (ends_function block.terminator.op) k i
+    (ap (λ n. slice_get (insts_from (suc b) 0 block.insts ++ exit_of (point_at (suc b) n) (ends_function block.terminator.op)) k) e ∙ h) ∙ ap (λ n. Some (place_in (suc b) n)) d
 
 place_at : (b : ℕ) (o : Option Block) (k : ℕ) (i : Item) → slice_get (items_in b o) k ≡ Some i → place_of i ≡ Some (b, k)
 place_at b None k i h = absurd (none-some i h)

@@ -160,21 +160,26 @@ module _ (g : Flow Item) (sound : IsPlaced g) (a b c : Stop) (ab : Precedes g a 
       let whole_b : before ++ i ∷ [] ≡ (early_b.front ++ early_b.here ∷ []) ++ (early_b.rest ++ i ∷ []) = end_at before early_b.front early_b.rest early_b.here i early_b.parts in
       let trail_b = prefix_trail g (before ++ i ∷ []) (early_b.front ++ early_b.here ∷ []) (early_b.rest ++ i ∷ []) q (some_pushed early_b.front early_b.here) path whole_b in
       let early_a = first_of_any (is_at g a) early_b.front (ab trail_b.0 early_b.front early_b.here trail_b.1 early_b.passes) in
-      let early : before ++ i ∷ [] ≡ early_a.front ++ early_a.here ∷ (early_a.rest ++ (early_b.here ∷ (early_b.rest ++ i ∷ []))) = cut_at before early_b.front early_b.rest early_a.front early_a.rest early_b.here early_a.here i early_b.parts early_a.parts in
+      let early : before ++ i ∷ [] ≡ early_a.front ++ early_a.here ∷ (early_a.rest ++ (early_b.here ∷ (early_b.rest ++ i ∷ []))) =
+      cut_at before early_b.front early_b.rest early_a.front early_a.rest early_b.here early_a.here i early_b.parts early_a.parts in
       let first_pass = pass_at g _ early_a.front _ early_a.here q path early in
       let later : before ++ i ∷ [] ≡ (u ++ late.front) ++ late.here ∷ (late.rest ++ i ∷ []) = cut_behind before u z late.front late.rest j late.here i parts late.parts in
       let last_pass = pass_at g _ (u ++ late.front) _ late.here q path later in
-      let same : last_pass.to ≡ first_pass.to = Moves_same g sound a last_pass.from first_pass.from late.here early_a.here last_pass.to first_pass.to last_pass.moves first_pass.moves late.passes early_a.passes in
+      let same : last_pass.to ≡ first_pass.to =
+      Moves_same g sound a last_pass.from first_pass.from late.here early_a.here last_pass.to first_pass.to last_pass.moves first_pass.moves late.passes early_a.passes in
       let onward : Path g first_pass.to (late.rest ++ i ∷ []) q = (let P : Spot → Type 0 = λ s. Path g s (late.rest ++ i ∷ []) q in subst P same last_pass.leads) in
-      let spliced : Path g entry (early_a.front ++ early_a.here ∷ (late.rest ++ i ∷ [])) q = Path-append g early_a.front _ entry first_pass.from q first_pass.reaches (first_pass.to, first_pass.moves, onward) in
-      let joined : early_a.front ++ early_a.here ∷ (late.rest ++ i ∷ []) ≡ (early_a.front ++ early_a.here ∷ late.rest) ++ i ∷ [] = sym (append_assoc early_a.front (early_a.here ∷ late.rest) (i ∷ [])) in
+      let spliced : Path g entry (early_a.front ++ early_a.here ∷ (late.rest ++ i ∷ [])) q =
+      Path-append g early_a.front _ entry first_pass.from q first_pass.reaches (first_pass.to, first_pass.moves, onward) in
+      let joined : early_a.front ++ early_a.here ∷ (late.rest ++ i ∷ []) ≡ (early_a.front ++ early_a.here ∷ late.rest) ++ i ∷ [] =
+      sym (append_assoc early_a.front (early_a.here ∷ late.rest) (i ∷ [])) in
       let trail = Trail-from_path g _ q (some_pushed (early_a.front ++ early_a.here ∷ late.rest) i) (let P : List Item → Type 0 = λ t. Path g entry t q in subst P joined spliced) in
       let some_b : list_any (is_at g b) (early_a.front ++ early_a.here ∷ late.rest) ≡ true = bc trail.0 _ i trail.1 ci in
       let none_early : list_any (is_at g b) (early_a.front ++ early_a.here ∷ early_a.rest) ≡ false = subst (λ v. list_any (is_at g b) v ≡ false) early_a.parts early_b.none_before in
       let none_front : list_any (is_at g b) early_a.front ≡ false = none_left (is_at g b) early_a.front (early_a.here ∷ early_a.rest) none_early in
       let none_rest : list_any (is_at g b) (early_a.here ∷ early_a.rest) ≡ false = none_right (is_at g b) early_a.front (early_a.here ∷ early_a.rest) none_early in
       let none_here : list_any (is_at g b) (early_a.here ∷ []) ≡ false = none_left (is_at g b) (early_a.here ∷ []) early_a.rest none_rest in
-      let none : list_any (is_at g b) (early_a.front ++ early_a.here ∷ late.rest) ≡ false = none_append (is_at g b) early_a.front (early_a.here ∷ late.rest) none_front (none_append (is_at g b) (early_a.here ∷ []) late.rest none_here none_z) in
+      let none : list_any (is_at g b) (early_a.front ++ early_a.here ∷ late.rest) ≡ false =
+      none_append (is_at g b) early_a.front (early_a.here ∷ late.rest) none_front (none_append (is_at g b) (early_a.here ∷ []) late.rest none_here none_z) in
       absurd (cc (none, some_b))
 
   spliced_at : (w : List EdgeId) (before : List Item) (i : Item) → IsTrail g w (before ++ i ∷ []) → is_at g c i ≡ true → LastStandsBefore (is_at g a) (is_at g b) before

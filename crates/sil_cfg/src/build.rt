@@ -113,7 +113,8 @@ fn add_exit(
     block: &Block,
 ) -> Result<(), Exhausted>
     requires { length block.now.insts < 2 ^ 32 }
-    ensures { OnOk result (LaysMore b.0 block.now kinds.old.items kinds.new.items items.old.items items.new.items (exit_of (point_at b.0 (length block.now.insts)) (ends_function block.now.terminator.op))) }
+    ensures { OnOk result (LaysMore b.0 block.now kinds.old.items kinds.new.items items.old.items items.new.items
+        (exit_of (point_at b.0 (length block.now.insts)) (ends_function block.now.terminator.op))) }
 {
     if is_exit(block.terminator.op) {
         let point = PointId {

@@ -17,16 +17,20 @@ block_linked : (f : Function) (items : List Block) (b : ℕ) (block : Block) →
 block_linked f items b block has same within is = all_get (IsBlockLinked f) f.blocks b block has.blocks (block_there f items b block same within is)
 
 pub lay_block-requires-clause-insts : goal.lay_block-requires-clause-insts
-lay_block-requires-clause-insts c = (block_linked c.args.f.now c.as_slice-block-items.result.now c.loop-b.b c.block-item.result c.requires c.loop-b.invariant.same c.loop-b-test.true c.block-item.is).short
+lay_block-requires-clause-insts c =
+    (block_linked c.args.f.now c.as_slice-block-items.result.now c.loop-b.b c.block-item.result c.requires c.loop-b.invariant.same c.loop-b-test.true c.block-item.is).short
 
 pub lay_block-requires-clause-edges : goal.lay_block-requires-clause-edges
-lay_block-requires-clause-edges c = (block_linked c.args.f.now c.as_slice-block-items.result.now c.loop-b.b c.block-item.result c.requires c.loop-b.invariant.same c.loop-b-test.true c.block-item.is).few_edges
+lay_block-requires-clause-edges c =
+    (block_linked c.args.f.now c.as_slice-block-items.result.now c.loop-b.b c.block-item.result c.requires c.loop-b.invariant.same c.loop-b-test.true c.block-item.is).few_edges
 
 pub loop-b-preserved : goal.loop-b-preserved
 loop-b-preserved c =
     let there = block_there c.args.f.now c.as_slice-block-items.result.now c.loop-b.b c.block-item.result c.loop-b.invariant.same c.loop-b-test.true c.block-item.is in
-    let laid = laid_more c.args.f.now c.loop-b.kinds.items c.lay_block.new.kinds.items (map block_of c.loop-b.blocks.items) c.loop-b.b c.block-item.result (block_of c.in_ok-laid.laid) c.loop-b.invariant.laid there c.in_ok-laid.ensures in
-    let blocks : map block_of c.push.new.self.items ≡ map block_of c.loop-b.blocks.items ++ block_of c.in_ok-laid.laid ∷ [] = ap (map block_of) c.in_ok-push.ensures.items ∙ map-append block_of c.loop-b.blocks.items (c.in_ok-laid.laid ∷ []) in
+    let laid = laid_more c.args.f.now c.loop-b.kinds.items c.lay_block.new.kinds.items (map block_of c.loop-b.blocks.items) c.loop-b.b c.block-item.result (block_of c.in_ok-laid.laid)
+    c.loop-b.invariant.laid there c.in_ok-laid.ensures in
+    let blocks : map block_of c.push.new.self.items ≡ map block_of c.loop-b.blocks.items ++ block_of c.in_ok-laid.laid ∷ [] =
+    ap (map block_of) c.in_ok-push.ensures.items ∙ map-append block_of c.loop-b.blocks.items (c.in_ok-laid.laid ∷ []) in
     let P : List BlockLayout → Type 0 = λ v. AreLaid c.args.f.now c.lay_block.new.kinds.items v (c.loop-b.b + 1) in
     record { laid = subst P (sym blocks) laid; same = c.loop-b.invariant.same }
 

@@ -24,12 +24,14 @@ loop-index-preserved c =
     let laid = edges_push kinds c.args.b.0 i edges c.edge-item.result c.loop-index.flows.items c.loop-index.invariant.edges there size in
     let new_kinds : c.push-in-loop-index.new.self.items ≡ kinds ++ Edge (edge_id c.args.b.0 i) ∷ [] = c.in_ok-push-2.ensures.items in
     let counted : c.len.result ≡ length kinds = omega arith in
-    let new_flows : c.push.new.self.items ≡ c.loop-index.flows.items ++ record { target = c.edge-item.result.block.0; item = length kinds } ∷ [] = c.in_ok-push.ensures.items ∙ ap (λ n. c.loop-index.flows.items ++ record { target = c.edge-item.result.block.0; item = n } ∷ []) counted in
+    let new_flows : c.push.new.self.items ≡ c.loop-index.flows.items ++ record { target = c.edge-item.result.block.0; item = length kinds } ∷ [] =
+    c.in_ok-push.ensures.items ∙ ap (λ n. c.loop-index.flows.items ++ record { target = c.edge-item.result.block.0; item = n } ∷ []) counted in
     let one : suc i ≡ i + 1 = omega arith in
     let P : List Item → Type 0 = λ v. Adds c.args.b.0 c.args.block.now c.args.kinds.now.items v in
     let Q : List Item → Type 0 = λ v. AreEdgesLaid v c.args.b.0 (take (i + 1) edges) c.push.new.self.items in
     let R : List EdgeFlow → Type 0 = λ v. AreEdgesLaid (kinds ++ Edge (edge_id c.args.b.0 i) ∷ []) c.args.b.0 (take (i + 1) edges) v in
-    let S : ℕ → Type 0 = λ n. AreEdgesLaid (kinds ++ Edge (edge_id c.args.b.0 i) ∷ []) c.args.b.0 (take n edges) (c.loop-index.flows.items ++ record { target = c.edge-item.result.block.0; item = length kinds } ∷ []) in
+    let S : ℕ → Type 0 = λ n. AreEdgesLaid (kinds ++ Edge (edge_id c.args.b.0 i) ∷ []) c.args.b.0 (take n edges)
+    (c.loop-index.flows.items ++ record { target = c.edge-item.result.block.0; item = length kinds } ∷ []) in
     record {
       adds = subst P (sym new_kinds) (adds_push c.args.b.0 c.args.block.now c.args.kinds.now.items kinds (Edge (edge_id c.args.b.0 i)) c.loop-index.invariant.adds (refl, few));
       edges = subst Q (sym new_kinds) (subst R (sym new_flows) (subst S one laid));

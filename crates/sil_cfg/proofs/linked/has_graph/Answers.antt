@@ -13,7 +13,8 @@ some_there (suc n) e = omega arith
 pub loop-block-preserved : goal.loop-block-preserved
 loop-block-preserved c =
     let here : IsBlockLinked c.args.f.now c.block-item.result = c.is_linked.ensures.0 c.if-not-is_linked.false in
-    All-more (IsBlockLinked c.args.f.now) c.as_slice-blocks.result.now c.loop-block.block-index c.block-item.result c.loop-block-test.true c.loop-block.invariant (subst (IsBlockLinked c.args.f.now) c.block-item.is here)
+    All-more (IsBlockLinked c.args.f.now) c.as_slice-blocks.result.now c.loop-block.block-index c.block-item.result c.loop-block-test.true c.loop-block.invariant
+    (subst (IsBlockLinked c.args.f.now) c.block-item.is here)
 
 pub returns : goal.returns
 returns c = (

@@ -17,7 +17,8 @@ last : (flags : List Bool) (x : Bool) (k : ℕ) → k ≡ length flags → slice
 last flags x k e = sym (unwrap_or-slice_get (flags ++ x ∷ []) k false) ∙ ap (λ o. unwrap_or o false) (ap (slice_get (flags ++ x ∷ [])) e ∙ last_get flags x)
 
 one_more : (g : Layout) (f : Function) (flags : List Bool) (x : Bool) (n : ℕ) (here : Item) → length flags ≡ n → item_at g n ≡ Some here → x ≡ is_return f here →
-    ((k : ℕ) (item : Item) → k < n → item_at g k ≡ Some item → slice_index_or flags k false ≡ is_return f item) → (k : ℕ) (item : Item) → k < n + 1 → item_at g k ≡ Some item → slice_index_or (flags ++ x ∷ []) k false ≡ is_return f item
+    ((k : ℕ) (item : Item) → k < n → item_at g k ≡ Some item → slice_index_or flags k false ≡ is_return f item) → (k : ℕ) (item : Item) → k < n + 1 → item_at g k ≡ Some item
+    → slice_index_or (flags ++ x ∷ []) k false ≡ is_return f item
 one_more g f flags x n here size is this h k item lt e = at (cases_eq k n)
   where
     at : (k ≡ n) ⊎ (k ≢ n) → slice_index_or (flags ++ x ∷ []) k false ≡ is_return f item
@@ -30,7 +31,8 @@ loop-i-preserved c =
     record {
       size = ap length new ∙ length_push c.loop-i.returns.items c.is_return.result ∙ ap (λ n. n + 1) c.loop-i.invariant.size;
       returns = λ n item lt e. ap (λ (v : List Bool). slice_index_or v n false) new ∙
-          one_more c.args.g.now c.args.f.now c.loop-i.returns.items c.is_return.result c.loop-i.i c.item.result c.loop-i.invariant.size c.item.ensures c.is_return.ensures c.loop-i.invariant.returns n item lt e;
+          one_more c.args.g.now c.args.f.now c.loop-i.returns.items c.is_return.result c.loop-i.i c.item.result c.loop-i.invariant.size c.item.ensures c.is_return.ensures
+          c.loop-i.invariant.returns n item lt e;
     }
 
 pub returns : goal.returns
