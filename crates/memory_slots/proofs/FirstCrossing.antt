@@ -33,7 +33,7 @@ use Rattle.memory_accesses.specs.declared.access.Access.{Access}
 use Rattle.memory_accesses.specs.declared.access.Access.TheVariants.{Ends, Begins, Allocates, Deallocates, Given, Does, Mentions}
 use Rattle.memory_accesses.specs.declared.source.Source.{Source}
 use Rattle.memory_accesses.specs.Accesses.{accesses_of}
-use Rattle.memory_slots.specs.Order.{IsAfter, IsOrdered, code_of, order_step}
+use Rattle.memory_slots.specs.Order.{IsAfter, IsOrdered, code_of, order_step, crossing_code}
 use Rattle.memory_slots.specs.Marks.{pair_mark, pair_step}
 use Rattle.memory_slots.specs.Pairs.{IsSlot, IsCrossing, IsFirstCrossing, crossing_key}
 use Rattle.memory_slots.specs.inner.Searches.{AreSlots, IsUncrossed, IsFar, IsNearestCrossing, IsNearest}
@@ -179,8 +179,8 @@ module _ (g : Layout) (f : Function) (is : IsGraphOf g f) (accesses : ℕ → Li
     nearest_shown facts agrees c there h =
         let items = accesses_of sources facts f in
         let r = h.reaches in
-        let shows = shown_pair items agrees c.first c.other c.walk 4 r.item r.point_is.kind r.point_is.there r.reaches in
-        let l = late c.first c.other (flat_map items shows.before) (items r.point_is.kind) 4 shows.breaks in
+        let shows = shown_pair items agrees c.first c.other c.walk crossing_code r.item r.point_is.kind r.point_is.there r.reaches in
+        let l = late c.first c.other (flat_map items shows.before) (items r.point_is.kind) crossing_code shows.breaks in
         record {
           is_first = is_slot c.first there;
           second = c.other;
@@ -191,20 +191,20 @@ module _ (g : Layout) (f : Function) (is : IsGraphOf g f) (accesses : ℕ → Li
           point = r.point_is.point_is ∙ point_same g f is r.point_is.kind;
           is_other = is_slot c.other h.other;
           later = l.1;
-          least = λ b lt slot after. no_lesser items agrees c.first c.other b c.walk 4 r.point_is.kind shows
+          least = λ b lt slot after. no_lesser items agrees c.first c.other b c.walk crossing_code r.point_is.kind shows
               (All-contains (λ b. b.0 < c.other.0 → IsFar g accesses c.first (length c.walk + 1) b) slots b h.farther (is_listed b slot) lt) after;
         }
 
     -- what is shown is a walk that breaks the order of two of the slots
     crossing_reached : (facts : ValueId → Option Facts) → AgreesWith g accesses (accesses_of sources facts f) → (c : Crossing) → (s : IsCrossing sources facts f c) →
-        (i : ℕ) × ReachesFirst (numbered g) (pair_step accesses c.first s.second) c.walk 4 i
-    crossing_reached facts agrees c s = reached_pair (accesses_of sources facts f) agrees c.first s.second c.walk 4 s.item s.shows
+        (i : ℕ) × ReachesFirst (numbered g) (pair_step accesses c.first s.second) c.walk crossing_code i
+    crossing_reached facts agrees c s = reached_pair (accesses_of sources facts f) agrees c.first s.second c.walk crossing_code s.item s.shows
 
     module _ (k : Known) (agree : (count : ℕ) (facts : ValueId → Option Facts) → AreKindsBy count facts f g k → AgreesWith g accesses (accesses_of sources facts f)) where
       pub none_first : All (λ a. All (IsUncrossed g accesses a) slots) slots → IsFirstCrossing sources f g k None
       none_first clean count facts by c s =
           let r = crossing_reached facts (agree count facts by) c s in
-          All-contains (IsUncrossed g accesses c.first) slots s.second (All-contains (λ a. All (IsUncrossed g accesses a) slots) slots c.first clean (is_listed c.first s.is_first)) (is_listed s.second s.is_second) c.walk 4 r.0 r.1
+          All-contains (IsUncrossed g accesses c.first) slots s.second (All-contains (λ a. All (IsUncrossed g accesses a) slots) slots c.first clean (is_listed c.first s.is_first)) (is_listed s.second s.is_second) c.walk crossing_code r.0 r.1
 
       pub nearest_first : (first : ValueId) (c : Crossing) → Contains slots first → IsNearestCrossing g accesses first slots c → ((a : ValueId) → Contains slots a → a.0 < first.0 → All (IsUncrossed g accesses a) slots) →
           IsFirstCrossing sources f g k (Some c)
@@ -221,12 +221,12 @@ module _ (g : Layout) (f : Function) (is : IsGraphOf g f) (accesses : ℕ → Li
               (λ e.
               let is_first : other.first ≡ first = same_value other.first first (sym e ∙ same) in
               let far : IsFar g accesses first (length c.walk) s.second = All-contains (IsFar g accesses first (length c.walk)) slots s.second h.far (is_listed s.second s.is_second) in
-              first_then (length c.walk) (length other.walk) [] [] (far other.walk 4 r.0 (subst (λ a. ReachesFirst (numbered g) (pair_step accesses a s.second) other.walk 4 r.0) is_first r.1)) (λ _. tt))
+              first_then (length c.walk) (length other.walk) [] [] (far other.walk crossing_code r.0 (subst (λ a. ReachesFirst (numbered g) (pair_step accesses a s.second) other.walk crossing_code r.0) is_first r.1)) (λ _. tt))
             where
               at : (other.first.0 < first.0) ⊎ (first.0 ≤ other.first.0) → c.first.0 ≤ other.first.0
               at (inl lt) =
                   let r = crossing_reached facts (agree count facts by) other s in
-                  absurd (All-contains (IsUncrossed g accesses other.first) slots s.second (clean other.first (is_listed other.first s.is_first) lt) (is_listed s.second s.is_second) other.walk 4 r.0 r.1)
+                  absurd (All-contains (IsUncrossed g accesses other.first) slots s.second (clean other.first (is_listed other.first s.is_first) lt) (is_listed s.second s.is_second) other.walk crossing_code r.0 r.1)
               at (inr le) = let same : c.first.0 ≡ first.0 = ap (λ v. v.0) h.first_is in omega arith
 
       -- behind slots that nothing crosses, one slot more

@@ -15,7 +15,7 @@ use Rattle.reach_engine.specs.inner.Search.{IsShortest}
 use Rattle.reach_engine.proofs.Runs.{bad_at, go-bad, same_Bad}
 use Rattle.path_patterns.specs.Reads.{read_step, step_in}
 use Rattle.memory_accesses.specs.declared.access.Access.{Access}
-use Rattle.memory_slots.specs.Order.{order_step}
+use Rattle.memory_slots.specs.Order.{order_step, crossing_code}
 use Rattle.memory_slots.specs.Marks.{pair_mark, pair_step}
 use Rattle.memory_slots.specs.inner.Searches.{IsUncrossed, IsFar, IsPairCrossing, IsPairSearched, IsNearest, IsNearer}
 use Rattle.memory_slots.specs.declared.crossing.Crossing.{Crossing}
@@ -23,42 +23,42 @@ use Rattle.memory_slots.specs.declared.mark.SlotMark.{SlotMark}
 use Rattle.memory_slots.specs.declared.mark.SlotMark.TheVariants.{FirstIn, FirstOut, SecondIn, SecondOut}
 
 -- the automaton's one code
-order_code : (s : ℕ) (mark : SlotMark) (c : ℕ) → order_step s mark ≡ Bad c → c ≡ 4
-order_code zero FirstIn c e = absurd (go-bad _ c e)
-order_code zero FirstOut c e = absurd (go-bad _ c e)
-order_code zero SecondIn c e = absurd (go-bad _ c e)
-order_code zero SecondOut c e = absurd (go-bad _ c e)
-order_code (suc zero) FirstIn c e = absurd (go-bad _ c e)
-order_code (suc zero) FirstOut c e = absurd (go-bad _ c e)
-order_code (suc zero) SecondIn c e = absurd (go-bad _ c e)
-order_code (suc zero) SecondOut c e = absurd (go-bad _ c e)
-order_code (suc (suc zero)) FirstIn c e = absurd (go-bad _ c e)
-order_code (suc (suc zero)) FirstOut c e = absurd (go-bad _ c e)
-order_code (suc (suc zero)) SecondIn c e = absurd (go-bad _ c e)
-order_code (suc (suc zero)) SecondOut c e = absurd (go-bad _ c e)
-order_code (suc (suc (suc zero))) FirstIn c e = absurd (go-bad _ c e)
-order_code (suc (suc (suc zero))) FirstOut c e = sym (same_Bad 4 c e)
-order_code (suc (suc (suc zero))) SecondIn c e = absurd (go-bad _ c e)
-order_code (suc (suc (suc zero))) SecondOut c e = absurd (go-bad _ c e)
-order_code (suc (suc (suc (suc s)))) FirstIn c e = absurd (go-bad _ c e)
-order_code (suc (suc (suc (suc s)))) FirstOut c e = absurd (go-bad _ c e)
-order_code (suc (suc (suc (suc s)))) SecondIn c e = absurd (go-bad _ c e)
-order_code (suc (suc (suc (suc s)))) SecondOut c e = absurd (go-bad _ c e)
+one_code : (s : ℕ) (mark : SlotMark) (c : ℕ) → order_step s mark ≡ Bad c → c ≡ crossing_code
+one_code zero FirstIn c e = absurd (go-bad _ c e)
+one_code zero FirstOut c e = absurd (go-bad _ c e)
+one_code zero SecondIn c e = absurd (go-bad _ c e)
+one_code zero SecondOut c e = absurd (go-bad _ c e)
+one_code (suc zero) FirstIn c e = absurd (go-bad _ c e)
+one_code (suc zero) FirstOut c e = absurd (go-bad _ c e)
+one_code (suc zero) SecondIn c e = absurd (go-bad _ c e)
+one_code (suc zero) SecondOut c e = absurd (go-bad _ c e)
+one_code (suc (suc zero)) FirstIn c e = absurd (go-bad _ c e)
+one_code (suc (suc zero)) FirstOut c e = absurd (go-bad _ c e)
+one_code (suc (suc zero)) SecondIn c e = absurd (go-bad _ c e)
+one_code (suc (suc zero)) SecondOut c e = absurd (go-bad _ c e)
+one_code (suc (suc (suc zero))) FirstIn c e = absurd (go-bad _ c e)
+one_code (suc (suc (suc zero))) FirstOut c e = sym (same_Bad crossing_code c e)
+one_code (suc (suc (suc zero))) SecondIn c e = absurd (go-bad _ c e)
+one_code (suc (suc (suc zero))) SecondOut c e = absurd (go-bad _ c e)
+one_code (suc (suc (suc (suc s)))) FirstIn c e = absurd (go-bad _ c e)
+one_code (suc (suc (suc (suc s)))) FirstOut c e = absurd (go-bad _ c e)
+one_code (suc (suc (suc (suc s)))) SecondIn c e = absurd (go-bad _ c e)
+one_code (suc (suc (suc (suc s)))) SecondOut c e = absurd (go-bad _ c e)
 
 module _ (g : Layout) (accesses : ℕ → List Access) (first : ValueId) where
-  pub pair_code : (second : ValueId) (w : List EdgeId) (code item : ℕ) → ReachesFirst (numbered g) (pair_step accesses first second) w code item → code ≡ 4
+  pub pair_code : (second : ValueId) (w : List EdgeId) (code item : ℕ) → ReachesFirst (numbered g) (pair_step accesses first second) w code item → code ≡ crossing_code
   pair_code second w code item h =
       let b = bad_at (read_step order_step (pair_mark first second)) h.state (accesses item) code h.breaks in
       at (pair_mark first second b.here) b.state b.breaks
     where
-      at : (o : Option SlotMark) (s : ℕ) → step_in order_step s o ≡ Bad code → code ≡ 4
+      at : (o : Option SlotMark) (s : ℕ) → step_in order_step s o ≡ Bad code → code ≡ crossing_code
       at None s e = absurd (go-bad s code e)
-      at (Some mark) s e = order_code s mark code e
+      at (Some mark) s e = one_code s mark code e
 
   pub pair_found : (second : ValueId) (walk : List EdgeId) (point : PointId) (code : ℕ) → ReachesPoint g (pair_step accesses first second) walk code point → IsShortest (numbered g) (pair_step accesses first second) code walk →
       IsPairCrossing g accesses first second (record { first = first; walk = walk; point = point; other = second })
   pair_found second walk point code h shortest =
-      let four : code ≡ 4 = pair_code second walk code h.item h.reaches in
+      let four : code ≡ crossing_code = pair_code second walk code h.item h.reaches in
       record {
         first_is = refl;
         other_is = refl;
@@ -73,7 +73,7 @@ module _ (g : Layout) (accesses : ℕ → List Access) (first : ValueId) where
   nearest_push seen s below None (Some c) result h n e = subst (IsNearest g accesses first (seen ++ s ∷ [])) (sym e) (record {
     first_is = n.first_is;
     other = subst (Contains (seen ++ s ∷ [])) (sym n.other_is) (Contains-push seen s);
-    reaches = subst (λ v. ReachesPoint g (pair_step accesses first v) c.walk 4 c.point) (sym n.other_is) n.reaches;
+    reaches = subst (λ v. ReachesPoint g (pair_step accesses first v) c.walk crossing_code c.point) (sym n.other_is) n.reaches;
     far = All-push (IsFar g accesses first (length c.walk)) seen s (All-weaker (IsUncrossed g accesses first) (IsFar g accesses first (length c.walk)) (λ b u w code item r. absurd (u w code item r)) seen h) n.far;
     farther = All-push (λ b. b.0 < c.other.0 → IsFar g accesses first (length c.walk + 1) b) seen s
         (All-weaker (IsUncrossed g accesses first) (λ b. b.0 < c.other.0 → IsFar g accesses first (length c.walk + 1) b) (λ b u lt w code item r. absurd (u w code item r)) seen h)
@@ -89,7 +89,7 @@ module _ (g : Layout) (accesses : ℕ → List Access) (first : ValueId) where
   nearest_push seen s below (Some best) (Some c) result h n (inl p) = subst (IsNearest g accesses first (seen ++ s ∷ [])) (sym p.1) (record {
     first_is = n.first_is;
     other = subst (Contains (seen ++ s ∷ [])) (sym n.other_is) (Contains-push seen s);
-    reaches = subst (λ v. ReachesPoint g (pair_step accesses first v) c.walk 4 c.point) (sym n.other_is) n.reaches;
+    reaches = subst (λ v. ReachesPoint g (pair_step accesses first v) c.walk crossing_code c.point) (sym n.other_is) n.reaches;
     far = All-push (IsFar g accesses first (length c.walk)) seen s
         (All-weaker (IsFar g accesses first (length best.walk)) (IsFar g accesses first (length c.walk)) (λ b u w code item r. let le : length best.walk ≤ length w = u w code item r in let lt : length c.walk < length best.walk = p.0 in omega arith) seen h.far) n.far;
     farther = All-push (λ b. b.0 < c.other.0 → IsFar g accesses first (length c.walk + 1) b) seen s

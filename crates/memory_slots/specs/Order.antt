@@ -1,5 +1,7 @@
 -- The pattern of two slots: the first isn't deallocated while the second, allocated after it, still is allocated.
 use Rattle.std.specs.Prelude.{◌≡◌, ◌≢◌, ℕ, zero, suc, List, ◌∷◌, ◌++◌, All}
+use Rattle.sil_rules.specs.Rules.{index_of}
+use Rattle.sil_rules.specs.declared.rule.Rule.TheVariants as rule
 use Rattle.reach_engine.specs.declared.scan.Step.{Step}
 use Rattle.reach_engine.specs.declared.scan.Step.TheVariants.{Go, Bad}
 use Rattle.memory_slots.specs.declared.mark.SlotMark.{SlotMark}
@@ -29,8 +31,12 @@ IsOrdered before FirstOut = IsAfter before → ⊥
 IsOrdered before SecondIn = Unit {0}
 IsOrdered before SecondOut = Unit {0}
 
+-- the code of a break
+abbrev pub crossing_code : ℕ
+crossing_code = index_of rule.StackOrder
+
 abbrev pub code_of : SlotMark → ℕ
-code_of mark = 4
+code_of mark = crossing_code
 
 -- the automaton: neither is allocated, the first, the second, both with the second after the first, both with the first after the second
 abbrev pub order_step : ℕ → SlotMark → Step
@@ -47,7 +53,7 @@ order_step (suc (suc zero)) FirstOut = Go 2
 order_step (suc (suc zero)) SecondIn = Go 2
 order_step (suc (suc zero)) SecondOut = Go 0
 order_step (suc (suc (suc zero))) FirstIn = Go 3
-order_step (suc (suc (suc zero))) FirstOut = Bad 4
+order_step (suc (suc (suc zero))) FirstOut = Bad crossing_code
 order_step (suc (suc (suc zero))) SecondIn = Go 3
 order_step (suc (suc (suc zero))) SecondOut = Go 1
 order_step (suc (suc (suc (suc s)))) FirstIn = Go 4

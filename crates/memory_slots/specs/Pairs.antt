@@ -19,7 +19,7 @@ use Rattle.memory_accesses.specs.declared.source.Source.TheVariants as source
 use Rattle.memory_accesses.specs.Accesses.{accesses_of}
 use Rattle.memory_accesses.specs.Sources.{source_at}
 use Rattle.memory_slots.specs.Marks.{pair_mark}
-use Rattle.memory_slots.specs.Order.{IsAfter, IsOrdered, code_of}
+use Rattle.memory_slots.specs.Order.{IsAfter, IsOrdered, code_of, crossing_code}
 use Rattle.memory_slots.specs.declared.crossing.Crossing.{Crossing}
 
 abbrev pub is_slot_source : Source → Bool
@@ -40,7 +40,7 @@ module _ (sources : List Source) (facts : ValueId → Option Facts) (f : Functio
   -- some trail along the walk keeps the order of the two up to the item, and breaks it there
   abbrev pub ShowsPair : ValueId → ValueId → List EdgeId → Item → Type 0
   ShowsPair first second walk item =
-      Shows (flow_of f) (accesses_of sources facts f) (FitsRead IsOrdered (pair_mark first second)) (read_code code_of (pair_mark first second)) walk 4 item
+      Shows (flow_of f) (accesses_of sources facts f) (FitsRead IsOrdered (pair_mark first second)) (read_code code_of (pair_mark first second)) walk crossing_code item
 
   -- behind these accesses the second slot was allocated after the first, and both still are
   abbrev pub IsLaterBehind : List Access → ValueId → ValueId → Type 0

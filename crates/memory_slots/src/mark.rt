@@ -9,6 +9,7 @@ ghost use Rattle.memory_slots.specs.Marks.{pair_mark};
 use memory_accesses::Access;
 use reach_engine::Step;
 use sil_ast::ValueId;
+use sil_rules::Rule;
 
 /// One of two slots is allocated or deallocated.
 #[derive(Clone, Copy, Debug, PartialEq, Eq)]
@@ -58,7 +59,8 @@ pub fn mark_of(first: ValueId, second: ValueId, access: &Access) -> Option<SlotM
     }
 }
 
-/// One mark, in state 0 where neither slot is allocated, 1 where the first is, 2 where the second is, and where both are 3 if the second is the later one and else 4.
+/// One mark, in state 0 where neither slot is allocated, 1 where the first is, 2 where the second is, and where both are 3 if the second is
+/// the later one and else 4. A break has the index of the rule on the order of slots.
 pub fn step(state: u8, mark: SlotMark) -> Step
     requires { state < 5 }
     ensures step { result ≡ order_step state mark }
@@ -69,7 +71,7 @@ pub fn step(state: u8, mark: SlotMark) -> Step
         (SlotMark::FirstIn, 3) => Step::Go(3),
         (SlotMark::FirstIn, _) => Step::Go(4),
         (SlotMark::FirstOut, 0 | 1) => Step::Go(0),
-        (SlotMark::FirstOut, 3) => Step::Bad(4),
+        (SlotMark::FirstOut, 3) => Step::Bad(Rule::StackOrder.index()),
         (SlotMark::FirstOut, _) => Step::Go(2),
         (SlotMark::SecondIn, 0 | 2) => Step::Go(2),
         (SlotMark::SecondIn, 1 | 3) => Step::Go(3),

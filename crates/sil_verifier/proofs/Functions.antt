@@ -5,12 +5,12 @@ use Rattle.std.proofs.lemmas.Bool.{cases_eq}
 use Rattle.std.proofs.lemmas.Option.{slice_get_read, slice_get_within}
 use Rattle.sil_ast.specs.declared.function.Function.{Function}
 use Rattle.sil_ast.specs.declared.module.Module.{Module}
-use Rattle.sil_cfg.specs.declared.fault.RuleFault.{RuleFault}
+use Rattle.rule_faults.specs.declared.fault.RuleFault.{RuleFault}
 use Rattle.sil_rules.specs.Order.{NotAfter}
 use Rattle.sil_rules.proofs.Keys.{compared}
 use Rattle.type_definitions.specs.Declarations.{declarations_of}
 use Rattle.typed_graph_laws.specs.Laws.{HasBlocks}
-use Rattle.sil_verifier.proofs.FirstShown.{stage_told}
+use Rattle.sil_verifier.proofs.Groups.{stage_told}
 use Rattle.sil_verifier.specs.Shown.{IsShownIn, inner_key}
 use Rattle.sil_verifier.specs.Values.{IsCleanIn, IsFirstIn, IsFirstOf, IsRefusalIn, IsShown, IsValueRefusal, ModuleShowing, showing_key}
 use Rattle.sil_verifier.specs.declared.values.ValueRefusal.{ValueRefusal}

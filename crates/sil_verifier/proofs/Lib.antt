@@ -1,8 +1,6 @@
 pub mod FirstFaults
 pub mod DeclaredTypes
-mod Codes
-mod ScopeCodes
-mod MemoryGroup
+mod Groups
 mod FirstShown
 mod Functions
 mod Stages

@@ -7,7 +7,7 @@ use Rattle.sil_rules.specs.declared.group.Group.{Group}
 use Rattle.sil_rules.specs.declared.group.Group.TheVariants as group
 use Rattle.type_definitions.specs.Declarations.{declarations_of}
 use Rattle.memory_rules.specs.Statics.{is_static}
-use Rattle.sil_verifier.proofs.FirstShown.{stage_told}
+use Rattle.sil_verifier.proofs.Groups.{stage_told}
 use Rattle.sil_verifier.specs.Findings.{Refusal, value}
 use Rattle.sil_verifier.specs.inner.Laws.{AreWalksShortest}
 use Rattle.sil_verifier.specs.Shown.{Showing, has_walk, is_of_kinds, last_key}

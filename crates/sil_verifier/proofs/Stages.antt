@@ -19,7 +19,7 @@ use Rattle.type_definitions.specs.Declarations.{declarations_of}
 use Rattle.type_definitions.specs.Mentions.{items_of}
 use Rattle.type_item_rules.proofs.FirstFaults.{stage_at}
 use Rattle.sil_verifier.proofs.DeclaredTypes.{declared_not_refused, typed_not_wrong}
-use Rattle.sil_verifier.proofs.FirstShown.{stage_told}
+use Rattle.sil_verifier.proofs.Groups.{stage_told}
 use Rattle.sil_verifier.specs.Findings.{Finding, item, limit, typing, value, IsFound, Refusal, finding_key}
 use Rattle.sil_verifier.specs.Refusals.{HasDeclaredTypes, HasTypes, IsWrong}
 use Rattle.sil_verifier.specs.Refusals.IsLowered.{lowered}

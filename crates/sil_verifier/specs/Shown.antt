@@ -11,7 +11,6 @@ use Rattle.sil_rules.specs.Rules.{group_of}
 use Rattle.sil_rules.specs.declared.group.Group.{Group}
 use Rattle.sil_rules.specs.declared.group.Group.TheVariants as group
 use Rattle.sil_rules.specs.declared.rule.Rule.{Rule}
-use Rattle.sil_rules.specs.declared.rule.Rule.TheVariants as rule
 use Rattle.type_definitions.specs.Declarations.{Declarations}
 use Rattle.path_checks.specs.First as paths
 use Rattle.path_checks.specs.declared.entry.Entry.{Entry}
@@ -60,29 +59,14 @@ is_of_kinds group.Memory = false
 abbrev pub has_walk : Rule → Bool
 has_walk r = not (is_of_kinds (group_of r) || is_static r)
 
--- the rule that the code of a life stands for
-pub data IsLifeRule : Rule → ℕ → Type 0 where
-  used : IsLifeRule rule.UseAfterConsume 1
-  ended : IsLifeRule rule.DoubleConsume 2
-  left : IsLifeRule rule.Leak 3
-  begun : IsLifeRule rule.Overwritten 4
-
--- and the one that the code of a scope stands for
-pub data IsScopeRule : Rule → ℕ → Type 0 where
-  used : IsScopeRule rule.UseOutsideScope 1
-  ended : IsScopeRule rule.EndTwice 2
-  left : IsScopeRule rule.ScopeLeft 3
-  lost : IsScopeRule rule.ConsumedWhileBorrowed 4
-  begun : IsScopeRule rule.ScopeOverwritten 5
-
 -- in the function a rule on its values is broken: 301 on a walk; 302 to 305 at a point, with no walk; 401 to 404 on a walk; 501 to 505 on a
 -- walk, with the other value that takes part at the item that breaks it; and 601 to 611, of which 608 and 611 are at a point, with no walk
 pub data IsShownIn (d : Declarations) (f : Function) (s : Showing) : Type 0 where
-  undefined : s.other ≡ None → s.rule ≡ rule.Undefined → paths.IsShown f (accesses_of f) s.subject.0 1 s.walk s.point → IsShownIn d f s
+  undefined : s.other ≡ None → paths.IsShown f (accesses_of f) s.subject.0 s.rule s.walk s.point → IsShownIn d f s
   kind : s.other ≡ None → s.walk ≡ [] → kinds.IsBroken d f s.rule s.subject s.point.block.0 s.point.index → IsShownIn d f s
-  life : s.other ≡ None → (code : ℕ) → IsLifeRule s.rule code → paths.IsShown f (lives_in d f) s.subject.0 code s.walk s.point → IsShownIn d f s
-  scope : (code : ℕ) (item : Item) → s.other ≡ other_of code (facts_in d f) f s.subject item → IsScopeRule s.rule code
-      → paths.IsShownAt f (scopes_in d f) s.subject.0 code s.walk s.point item → IsShownIn d f s
+  life : s.other ≡ None → paths.IsShown f (lives_in d f) s.subject.0 s.rule s.walk s.point → IsShownIn d f s
+  scope : (item : Item) → s.other ≡ other_of s.rule (facts_in d f) f s.subject item
+      → paths.IsShownAt f (scopes_in d f) s.subject.0 s.rule s.walk s.point item → IsShownIn d f s
   memory : breaks.IsBroken (sources_of d f) (facts_in d f) f (break_of s) → IsShownIn d f s
 
 -- of one value and rule: one on kinds by its point, as are 608 and 611, and one on walks by the number of edges

@@ -2,11 +2,11 @@
 use Rattle.std.specs.Prelude.{◌≡◌, ℕ, List, ◌++◌, Some, slice_get, ⊤}
 use Rattle.sil_ast.specs.declared.function.Function.{Function}
 use Rattle.sil_ast.specs.declared.module.Module.{Module}
-use Rattle.sil_cfg.specs.declared.fault.RuleEnd.{RuleEnd}
-use Rattle.sil_cfg.specs.declared.fault.RuleEnd.TheVariants as end
-use Rattle.sil_cfg.specs.declared.fault.RuleFault.{RuleFault}
+use Rattle.rule_faults.specs.declared.fault.RuleEnd.{RuleEnd}
+use Rattle.rule_faults.specs.declared.fault.RuleEnd.TheVariants as end
+use Rattle.rule_faults.specs.declared.fault.RuleFault.{RuleFault}
 use Rattle.sil_rules.specs.Order.{IsLeast, subject_key}
-use Rattle.sil_rules.specs.Rules.{group_of, number_of}
+use Rattle.sil_rules.specs.Rules.{group_of}
 use Rattle.type_definitions.specs.Declarations.{Declarations, declarations_of}
 use Rattle.typed_graph_laws.specs.Laws.{HasBlocks}
 use Rattle.sil_verifier.specs.Shown.{IsShownIn, Showing, inner_key, last_key}
@@ -39,7 +39,7 @@ AcceptedValues m = (p : ModuleShowing) → IsShown m p → ⊥
 
 -- what is shown is reported so
 pub record IsReportOf (s : Showing) (x : RuleFault) : Type 0 where
-  pub rule : x.rule ≡ number_of s.rule
+  pub rule : x.rule ≡ s.rule
   pub subject : x.subject ≡ s.subject
   pub other : x.other ≡ s.other
   pub point : x.point ≡ s.point

@@ -8,8 +8,8 @@ ghost use Rattle.sil_verifier.specs.Shown.{Showing};
 ghost use Rattle.sil_verifier.specs.Values.{IsReportOf};
 
 use crate::refusal::Refusal;
+use rule_faults::RuleFault;
 use sil_ast::{FuncId, List, Module};
-use sil_cfg::RuleFault;
 use sil_rules::Rule;
 use std::alloc::Global;
 use type_check::TypingFault;
@@ -63,26 +63,15 @@ pub(crate) fn typing_refusal(alloc: Global, m: &Module, fault: TypingFault) -> O
 
 /// What is said of a rule on values that is broken in the function.
 pub(crate) fn value_refusal(function: FuncId, fault: RuleFault) -> Refusal
-    requires { (s : Showing) × IsReportOf s fault }
     ensures { (m : any.Module) (s : Showing) → IsReportOf s fault → Reported m (finding.value function.0 s) result }
 {
-    let RuleFault {
-        rule,
-        subject,
-        other,
-        point,
-        walk,
-    } = fault;
-    let Some(rule) = Rule::of_number(rule) else {
-        unreachable!()
-    };
     Refusal {
-        rule,
+        rule: fault.rule,
         item: None,
         function: Some(function),
-        point: Some(point),
-        subject: Some(subject),
-        other,
-        walk,
+        point: Some(fault.point),
+        subject: Some(fault.subject),
+        other: fault.other,
+        walk: fault.walk,
     }
 }

@@ -10,8 +10,9 @@ ghost use Rattle.sil_verifier.specs.Refusals.{HasTypes};
 ghost use Rattle.sil_verifier.specs.Values.{AcceptedValues, IsCleanIn, IsEndIn, IsRefusalIn, IsValueRefusal};
 
 use ownership_kinds::kinds_in;
+use rule_faults::{RuleEnd, RuleFault};
 use sil_ast::{FuncId, Function, Module};
-use sil_cfg::{Graph, RuleEnd, RuleFault};
+use sil_cfg::Graph;
 use sil_types::TypeTable;
 use std::alloc::Global;
 
@@ -36,10 +37,10 @@ fn check_function(alloc: Global, f: &Function, table: &TypeTable) -> Result<(), 
         Err(_) => return Err(RuleEnd::Memory),
     };
     value_availability::check(alloc, f, &graph)?;
-    let kinds = kinds_in(alloc, f, &graph, table)?;
-    lifetime_worklist::check(alloc, f, &graph, &kinds)?;
-    borrow_scopes::check(alloc, f, &graph, &kinds)?;
-    memory_rules::check(alloc, f, &graph, &kinds, table)
+    let found = kinds_in(alloc, f, &graph, table)?;
+    lifetime_worklist::check(alloc, f, &graph, &found.kinds)?;
+    borrow_scopes::check(alloc, f, &graph, &found.kinds, &found.borrows)?;
+    memory_rules::check(alloc, f, &graph, &found.kinds, table)
 }
 
 /// The checks of the function with this number, where it has a body.

@@ -11,6 +11,7 @@ use Rattle.memory_accesses.specs.declared.source.Source.{Source}
 use Rattle.memory_slots.specs.Marks.{pair_step}
 use Rattle.memory_slots.specs.Pairs.{IsSlot}
 use Rattle.memory_slots.specs.declared.crossing.Crossing.{Crossing}
+use Rattle.memory_slots.specs.Order.{crossing_code}
 
 -- the slots among the values with numbers below n, in ascending order
 pub record AreSlots (sources : List Source) (n : ℕ) (slots : List ValueId) : Type 0 where
@@ -31,7 +32,7 @@ IsFar g accesses first n second = (w : List EdgeId) (code item : ℕ) → Reache
 pub record IsPairCrossing (g : Layout) (accesses : ℕ → List Access) (first second : ValueId) (c : Crossing) : Type 0 where
   pub first_is : c.first ≡ first
   pub other_is : c.other ≡ second
-  pub reaches : ReachesPoint g (pair_step accesses first second) c.walk 4 c.point
+  pub reaches : ReachesPoint g (pair_step accesses first second) c.walk crossing_code c.point
   pub far : IsFar g accesses first (length c.walk) second
 
 abbrev pub IsPairSearched : Layout → (ℕ → List Access) → ValueId → ValueId → Option Crossing → Type 0
@@ -42,7 +43,7 @@ IsPairSearched g accesses first second (Some c) = IsPairCrossing g accesses firs
 pub record IsNearestCrossing (g : Layout) (accesses : ℕ → List Access) (first : ValueId) (slots : List ValueId) (c : Crossing) : Type 0 where
   pub first_is : c.first ≡ first
   pub other : Contains slots c.other
-  pub reaches : ReachesPoint g (pair_step accesses first c.other) c.walk 4 c.point
+  pub reaches : ReachesPoint g (pair_step accesses first c.other) c.walk crossing_code c.point
   pub far : All (IsFar g accesses first (length c.walk)) slots
   pub farther : All (λ b. b.0 < c.other.0 → IsFar g accesses first (length c.walk + 1) b) slots
 
