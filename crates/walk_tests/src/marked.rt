@@ -9,6 +9,7 @@ use path_patterns::{Mark, turn};
 use reach_engine::{Family, MoveAll, Scan, Step, turn_touched};
 use sil_ast::{Exhausted, Function, ValueId};
 use sil_cfg::{Graph, Item};
+use sil_rules::Rule;
 use std::alloc::Global;
 
 /// The values that are marks stand first in the entry block: behind `%c` four for each of three subjects.
@@ -18,30 +19,17 @@ pub const MARKS: &str =
 const NO_MARK: Mark = Mark {
     needs: None,
     turns: None,
-    code: 0,
+    rule: Rule::UnknownType,
 };
 
-/// `on` and `off` turn the switch; `need` breaks with code 2 where it is off, and `free` with code 1 where it is on.
+/// `on` and `off` turn the switch; `need` breaks with code 2 where it is off, and `free` with code 1 where it is on:
+/// the rules are any two with these indices.
 fn mark_of(kind: u32) -> Mark {
     match kind {
-        0 => Mark {
-            turns: Some(true),
-            ..NO_MARK
-        },
-        1 => Mark {
-            turns: Some(false),
-            ..NO_MARK
-        },
-        2 => Mark {
-            needs: Some(true),
-            turns: None,
-            code: 2,
-        },
-        _ => Mark {
-            needs: Some(false),
-            turns: None,
-            code: 1,
-        },
+        0 => Mark::turns_on(Rule::UnknownType),
+        1 => Mark::turns_off(Rule::UnknownType),
+        2 => Mark::needs_on(Rule::BadMember),
+        _ => Mark::needs_off(Rule::InfiniteType),
     }
 }
 

@@ -1,7 +1,8 @@
 //! What the check of rule 301 answers, as a text.
 
+use rule_faults::{RuleEnd, RuleFault};
 use sil_ast::Function;
-use sil_cfg::{Graph, RuleEnd, RuleFault, has_graph};
+use sil_cfg::{Graph, has_graph};
 use sil_grammar::{ReadRefusal, read};
 use std::alloc::{AllocError, Global};
 use std::process::Abort;
@@ -38,7 +39,10 @@ fn answer(rt: &impl Abort, alloc: Global, f: &Function) -> Result<String, Fail> 
 fn told(alloc: Global, fault: &RuleFault) -> Result<String, Fail> {
     let mut text = format!(in alloc;
         "{} %{} bb{}:{}",
-        fault.rule, fault.subject.0, fault.point.block.0, fault.point.index
+        fault.rule.number(),
+        fault.subject.0,
+        fault.point.block.0,
+        fault.point.index
     )?;
     for edge in fault.walk.as_slice() {
         let step = format!(in alloc; " {}.{}", edge.block.0, edge.index)?;
