@@ -19,7 +19,6 @@ use Rattle.path_checks.proofs.OneSubject.{marks_shared, same_shown_at}
 use Rattle.path_checks.specs.Entries as entries
 use Rattle.path_checks.specs.First as paths
 use Rattle.path_checks.specs.inner.Shared.{shared_if}
-use Rattle.path_checks.specs.declared.entry.Entry.{Entry}
 use Rattle.path_checks.specs.declared.fault.PathFault.{PathFault}
 use Rattle.path_patterns.specs.Reads.{marks_in, one_or_none}
 use Rattle.path_patterns.specs.declared.mark.Mark.{Mark}

@@ -1,5 +1,5 @@
 -- The table of several parts, by facts that are the same, and by an item's own entries and the shared ones of a `return`.
-use Rattle.std.proofs.Common.{◌≡◌, ℕ, ◌+◌, ◌<◌, List, [], ◌∷◌, ◌++◌, length, map, refl, sym, ap, ap₂, ◌∙◌, Bool, false, Option, Some, None, append-nil, append_assoc, arith, get_or, take}
+use Rattle.std.proofs.Common.{◌≡◌, ℕ, ◌+◌, ◌<◌, List, [], ◌∷◌, ◌++◌, length, map, refl, sym, ap, ap₂, ◌∙◌, Bool, Option, append-nil, append_assoc, arith, get_or, take}
 use Rattle.std.proofs.lemmas.List.{length-map, length-take-le, map-append, take_more}
 use Rattle.std.specs.Prelude.{not, ◌&&◌, ◌||◌}
 use Rattle.std.specs.List.{flat_map, range_with_len}

@@ -8,9 +8,8 @@ use Rattle.sil_cfg.specs.Returns.{is_return}
 use Rattle.sil_cfg.specs.declared.item.Item.{Item}
 use Rattle.sil_rules.specs.Rules.{group_of}
 use Rattle.sil_rules.specs.declared.group.Group.TheVariants as group
-use Rattle.rule_faults.specs.declared.fault.RuleFault.{RuleFault}
 use Rattle.path_checks.specs.declared.entry.Entry.{Entry}
-use Rattle.path_checks.proofs.RulesShown.{each_append, each_flat, shown_rule}
+use Rattle.path_checks.proofs.RulesShown.{shown_rule}
 use Rattle.path_patterns.specs.declared.mark.Mark.{Mark}
 use Rattle.ownership_chains.specs.Facts.{known_or}
 use Rattle.ownership_chains.specs.declared.facts.Facts.{Facts}
@@ -134,9 +133,9 @@ joined : (xs ys : List Mark) → AllByRecursion IsOn xs → AllByRecursion IsOn 
 joined [] ys h k = k
 joined (x ∷ xs) ys h k = (h.0, joined xs ys h.1 k)
 
-each_told : (g : Access → List Mark) (as : List Access) → ((a : Access) → AllByRecursion IsOn (g a)) → AllByRecursion IsOn (flat_map g as)
+each_told : (g : Access → List Mark) (accesses : List Access) → ((a : Access) → AllByRecursion IsOn (g a)) → AllByRecursion IsOn (flat_map g accesses)
 each_told g [] h = tt
-each_told g (a ∷ as) h = joined (g a) (flat_map g as) (h a) (each_told g as h)
+each_told g (a ∷ accesses) h = joined (g a) (flat_map g accesses) (h a) (each_told g accesses h)
 
 each_returned : (b : Bool) (p : Part) → AllByRecursion IsOn (cond b (option_to_list (at_return p)) [])
 each_returned true p = each_listed (at_return p) (left_on p)

@@ -16,7 +16,7 @@ use Rattle.memory_parts.specs.inner.Concerned.{AreConcerned, IsConcerned, Keeps,
 use Rattle.memory_parts.specs.inner.Keys.{built_key, keys_of_access, keys_of_part, object_key}
 use Rattle.memory_parts.specs.Parts.{means}
 use Rattle.memory_parts.specs.declared.key.Key.{Key}
-use Rattle.memory_parts.specs.declared.key.Key.TheVariants.{Turned, Named, Operated, Written}
+use Rattle.memory_parts.specs.declared.key.Key.TheVariants.{Turned, Named, Written}
 use Rattle.memory_parts.specs.declared.part.Part.{Part}
 use Rattle.memory_parts.proofs.Reached.{AreApart, unreached}
 
