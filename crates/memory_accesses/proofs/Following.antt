@@ -31,15 +31,19 @@ behind_one k steps (Some l) = ap (λ v. Some v) (one_behind k steps l)
 pub start : (sources : List Source) (address : ValueId) (steps : List ℕ) → steps ≡ [] → location_of sources address ≡ option_map (behind steps) (locate sources (length sources - 0) address)
 start sources address steps none =
     let same : length sources ≡ length sources - 0 = omega arith in
-    behind_no_step (location_of sources address) ∙ ap (λ n. option_map (behind []) (locate sources n address)) same ∙ ap (λ s. option_map (behind s) (locate sources (length sources - 0) address)) (sym none)
+    behind_no_step (location_of sources address)
+    ∙ ap (λ n. option_map (behind []) (locate sources n address)) same
+    ∙ ap (λ s. option_map (behind s) (locate sources (length sources - 0) address)) (sym none)
 
 -- as many steps as there are values led to no root
-pub at_end : (sources : List Source) (address at : ValueId) (i : ℕ) (steps : List ℕ) → length sources ≤ i → location_of sources address ≡ option_map (behind steps) (locate sources (length sources - i) at) → None ≡ location_of sources address
+pub at_end : (sources : List Source) (address at : ValueId) (i : ℕ) (steps : List ℕ) → length sources ≤ i →
+    location_of sources address ≡ option_map (behind steps) (locate sources (length sources - i) at) → None ≡ location_of sources address
 at_end sources address at i steps le so_far =
     let none : length sources - i ≡ 0 = omega arith in
     sym (so_far ∙ ap (λ n. option_map (behind steps) (locate sources n at)) none)
 
-module _ (sources : List Source) (address at : ValueId) (i : ℕ) (steps : List ℕ) (lt : i < length sources) (so_far : location_of sources address ≡ option_map (behind steps) (locate sources (length sources - i) at)) where
+module _ (sources : List Source) (address at : ValueId) (i : ℕ) (steps : List ℕ) (lt : i < length sources)
+    (so_far : location_of sources address ≡ option_map (behind steps) (locate sources (length sources - i) at)) where
   left : length sources - i ≡ suc (length sources - (i + 1))
   left = omega arith
 
@@ -51,7 +55,8 @@ module _ (sources : List Source) (address at : ValueId) (i : ℕ) (steps : List 
   at_source source e = here ∙ ap (λ s. option_map (behind steps) (located_by (locate sources (length sources - (i + 1))) at s)) (sym e)
 
   -- one step nearer to the root
-  pub nearer : (of : ValueId) (k : ℕ) (new : List ℕ) → Part of k ≡ source_at sources at → new ≡ steps ++ k ∷ [] → location_of sources address ≡ option_map (behind new) (locate sources (length sources - (i + 1)) of)
+  pub nearer : (of : ValueId) (k : ℕ) (new : List ℕ) → Part of k ≡ source_at sources at → new ≡ steps ++ k ∷ [] →
+      location_of sources address ≡ option_map (behind new) (locate sources (length sources - (i + 1)) of)
   nearer of k new e pushed =
       at_source (Part of k) e ∙ behind_one k steps (locate sources (length sources - (i + 1)) of)
       ∙ ap (λ s. option_map (behind s) (locate sources (length sources - (i + 1)) of)) (sym pushed)

@@ -41,7 +41,9 @@ does_at : (i : Inst) (along : List Taken) → flat_map address_of along ≡ [] �
 does_at i along none =
     let o : Option Operation = operation_by (access_kind_of i.op) i.qualifier in
     done_each o (taken_by i ++ along)
-    ∙ ap (map Does) (operated_each o (taken_by i ++ along) ∙ ap (flat_map (operated_at o)) (flat_map-append address_of (taken_by i) along ∙ ap (λ v. addresses_of i ++ v) none ∙ append-nil (addresses_of i)))
+    ∙ ap (map Does)
+    (operated_each o (taken_by i ++ along)
+    ∙ ap (flat_map (operated_at o)) (flat_map-append address_of (taken_by i) along ∙ ap (λ v. addresses_of i ++ v) none ∙ append-nil (addresses_of i)))
 
 does_along : (o : Option Inst) (along : List Taken) → flat_map address_of along ≡ [] → does_among o (taken_in o ++ along) ≡ does_of o
 does_along None along none = refl

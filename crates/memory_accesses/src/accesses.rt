@@ -91,7 +91,8 @@ pub fn accesses_by_item(
     m: &Memory,
 ) -> Result<Vec<Vec<Access>>, Exhausted>
     ensures size { IfOk result (λ v. length v.items ≡ item_count g.now) }
-    ensures accesses { IfOk result (λ v. (count : ℕ) (facts : ValueId → Option Facts) → AreKindsBy count facts f.now g.now k.now → AgreesWith g.now (accesses_at v.items) (accesses_of m.now facts f.now)) }
+    ensures accesses { IfOk result (λ v. (count : ℕ) (facts : ValueId → Option Facts) → AreKindsBy count facts f.now g.now k.now →
+        AgreesWith g.now (accesses_at v.items) (accesses_of m.now facts f.now)) }
 {
     let mut taken = Vec::new(alloc);
     let mut defined = Vec::new(alloc);

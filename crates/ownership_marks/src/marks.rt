@@ -228,7 +228,8 @@ fn add_item_begins(
     add_begins_of_args(marks, table, item_arguments(f, item))
 }
 
-/// Makes `marks` those of an item: ends in the order of its operands, then uses, then beginnings. What `taken` holds doesn't matter: it is memory for the operands.
+/// Makes `marks` those of an item: ends in the order of its operands, then uses, then beginnings.
+/// What `taken` holds doesn't matter: it is memory for the operands.
 pub(crate) fn make_marks(
     marks: &mut Vec<Mark>,
     table: &[Option<Facts>],

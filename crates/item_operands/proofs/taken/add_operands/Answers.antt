@@ -20,6 +20,8 @@ loop-i-preserved c =
     next c.args.taken.now.items c.loop-i.taken.items c.match-role_at.taken.items c.args.operands.now (roles_for c.args.row.now c.args.params.now (length c.args.operands.now)) c.loop-i.i
     c.index-operands-i.result c.role_at.result c.loop-i-test.true c.index-operands-i.is (c.role_at.ensures (length c.args.operands.now) c.loop-i-test.true) c.loop-i.invariant
     (elim c.match-role_at.branch [
-      | in-Some+in_ok-push w ↦ ap (λ v. v.items) w.taken-is ∙ w.in_ok-push.ensures.items ∙ ap (λ o. c.loop-i.taken.items ++ map (taken_as c.index-operands-i.result) (option_to_list o)) (sym w.in-Some.is)
-      | in_default w ↦ ap (λ v. v.items) w.taken-is ∙ sym (append-nil c.loop-i.taken.items) ∙ ap (λ o. c.loop-i.taken.items ++ map (taken_as c.index-operands-i.result) (option_to_list o)) (sym w.in_default.is)
+      | in-Some+in_ok-push w ↦ ap (λ v. v.items) w.taken-is ∙ w.in_ok-push.ensures.items
+          ∙ ap (λ o. c.loop-i.taken.items ++ map (taken_as c.index-operands-i.result) (option_to_list o)) (sym w.in-Some.is)
+      | in_default w ↦ ap (λ v. v.items) w.taken-is ∙ sym (append-nil c.loop-i.taken.items)
+          ∙ ap (λ o. c.loop-i.taken.items ++ map (taken_as c.index-operands-i.result) (option_to_list o)) (sym w.in_default.is)
     ])

@@ -16,7 +16,8 @@ loop-i-preserved c =
       size = ap length new ∙ length_push c.loop-i.all.items c.in_ok-accesses.accesses ∙ ap (λ n. n + 1) c.loop-i.invariant.size;
       accesses = λ n lt. ap (λ (v : List (Vec Access Global)). accesses_at v n) new ∙
           accesses_one_more (told_at_item c.args.m.now c.args.f.now c.args.g.now c.args.k.now) c.loop-i.all.items c.in_ok-accesses.accesses c.loop-i.i c.loop-i.invariant.size
-          (told_of_item c.args.m.now c.args.f.now c.args.g.now c.args.k.now c.loop-i.i c.item.result c.marks.result.now c.in_ok-accesses.accesses.items c.in_ok-accesses.ensures c.marks.ensures c.item.ensures)
+          (told_of_item c.args.m.now c.args.f.now c.args.g.now c.args.k.now c.loop-i.i c.item.result c.marks.result.now
+          c.in_ok-accesses.accesses.items c.in_ok-accesses.ensures c.marks.ensures c.item.ensures)
           c.loop-i.invariant.accesses n lt;
     }
 
