@@ -28,7 +28,8 @@ width_spelling w.Int32 = codes "32"
 width_spelling w.Int64 = codes "64"
 
 abbrev pub operations : List Operation
-operations = o.AddWithOverflow ∷ o.SubWithOverflow ∷ o.MulWithOverflow ∷ o.Equal ∷ o.NotEqual ∷ o.Less ∷ o.LessOrEqual ∷ o.Greater ∷ o.GreaterOrEqual ∷ o.And ∷ o.Or ∷ o.Xor ∷ []
+operations = o.AddWithOverflow ∷ o.SubWithOverflow ∷ o.MulWithOverflow ∷ o.Equal ∷ o.NotEqual ∷ o.Less ∷ o.LessOrEqual ∷ o.Greater ∷ o.GreaterOrEqual
+    ∷ o.And ∷ o.Or ∷ o.Xor ∷ []
 
 abbrev pub widths : List Width
 widths = w.Int1 ∷ w.Int8 ∷ w.Int16 ∷ w.Int32 ∷ w.Int64 ∷ []

@@ -20,7 +20,8 @@ use Rattle.instruction_table.specs.declared.op.Op.{Op}
 use Rattle.written_tree.specs.Faults.{earlier, fault}
 use Rattle.name_resolution.specs.NameFaults.{twice_after, twice_or_unknown, unknown_in}
 use Rattle.name_resolution.specs.Names.{Name, arg_name, label_of, name_of, results_of, values_defined}
-use Rattle.name_resolution.specs.inner.Symbols.{Definition, numbered, unnamed, unnumbered, Symbols, definitions_by, definitions_in, definitions_of, labels_in, names_in, numbered_by, reserved_only, twice_here, unknown_of, unnumbered_after, values_in, with_definition, with_definitions, with_entry, with_next}
+use Rattle.name_resolution.specs.inner.Symbols.{Definition, numbered, unnamed, unnumbered, Symbols, definitions_by, definitions_in, definitions_of, labels_in, names_in, numbered_by}
+use Rattle.name_resolution.specs.inner.Symbols.{reserved_only, twice_here, unknown_of, unnumbered_after, values_in, with_definition, with_definitions, with_entry, with_next}
 use Rattle.name_resolution.proofs.FaultOrder.{earlier_assoc, earlier_none}
 
 -- the same names are found among these as among those
@@ -97,7 +98,8 @@ unknown_same a b (t ∷ ts) same =
     ap (λ found. earlier (if found then None else Some (fault UnknownName t.place)) (unknown_of a ts)) (same t.text)
     ∙ ap (earlier (unknown_in b t)) (unknown_same a b ts same)
 
-unknown_after : (ds : List Definition) (tokens used : List WrittenToken) → flat_map tokens_by ds ≡ tokens → unknown_of (names_in (with_definitions (reserved_only []) ds)) used ≡ unknown_of (map name_of tokens) used
+unknown_after : (ds : List Definition) (tokens used : List WrittenToken) → flat_map tokens_by ds ≡ tokens
+    → unknown_of (names_in (with_definitions (reserved_only []) ds)) used ≡ unknown_of (map name_of tokens) used
 unknown_after ds tokens used is = unknown_same _ _ used (names_after (reserved_only []) [] ds (λ name. refl)) ∙ ap (λ l. unknown_of (map name_of l) used) is
 
 numbered_tokens : (tokens : List WrittenToken) → flat_map tokens_by (map numbered tokens) ≡ tokens
@@ -123,7 +125,8 @@ tokens_of_insts (i ∷ insts) =
     ∙ ap (λ l. l ++ flat_map tokens_by (flat_map definitions_by insts)) (tokens_of_results i.op i.results)
     ∙ ap (λ l. i.results ++ l) (tokens_of_insts insts)
 
-tokens_of_code : (insts : List WrittenInst) (terminator : WrittenInst) → flat_map tokens_by (flat_map definitions_by insts ++ map unnumbered terminator.results) ≡ flat_map results_of (insts ++ terminator ∷ [])
+tokens_of_code : (insts : List WrittenInst) (terminator : WrittenInst)
+    → flat_map tokens_by (flat_map definitions_by insts ++ map unnumbered terminator.results) ≡ flat_map results_of (insts ++ terminator ∷ [])
 tokens_of_code insts terminator =
     flat_map-append tokens_by (flat_map definitions_by insts) (map unnumbered terminator.results)
     ∙ ap (λ l. l ++ flat_map tokens_by (map unnumbered terminator.results)) (tokens_of_insts insts)
@@ -155,9 +158,14 @@ twice_of_numbered tokens = twice_of [] (map numbered tokens) tokens (numbered_to
 pub unknown_of_numbered : (tokens used : List WrittenToken) → unknown_of (names_in (numbered_by tokens)) used ≡ unknown_of (map name_of tokens) used
 unknown_of_numbered tokens used = unknown_after (map numbered tokens) tokens used (numbered_tokens tokens)
 
-pub fault_of_labels : (blocks : List WrittenBlock) (used : List WrittenToken) → earlier (labels_in blocks).twice (unknown_of (names_in (labels_in blocks)) used) ≡ twice_or_unknown (map label_of blocks) used
+pub fault_of_labels : (blocks : List WrittenBlock) (used : List WrittenToken)
+    → earlier (labels_in blocks).twice (unknown_of (names_in (labels_in blocks)) used) ≡ twice_or_unknown (map label_of blocks) used
 fault_of_labels blocks used = rw (twice_of_numbered (map label_of blocks), unknown_of_numbered (map label_of blocks) used) refl
 
-pub fault_of_values : (blocks : List WrittenBlock) (used : List WrittenToken) → earlier (values_in blocks).twice (unknown_of (names_in (values_in blocks)) used) ≡ twice_or_unknown (flat_map values_defined blocks) used
+pub fault_of_values : (blocks : List WrittenBlock) (used : List WrittenToken)
+    → earlier (values_in blocks).twice (unknown_of (names_in (values_in blocks)) used) ≡ twice_or_unknown (flat_map values_defined blocks) used
 fault_of_values blocks used =
-    rw (twice_of [] (flat_map definitions_in blocks) (flat_map values_defined blocks) (tokens_of_blocks blocks), unknown_after (flat_map definitions_in blocks) (flat_map values_defined blocks) used (tokens_of_blocks blocks)) refl
+    rw (
+      twice_of [] (flat_map definitions_in blocks) (flat_map values_defined blocks) (tokens_of_blocks blocks),
+      unknown_after (flat_map definitions_in blocks) (flat_map values_defined blocks) used (tokens_of_blocks blocks),
+    ) refl

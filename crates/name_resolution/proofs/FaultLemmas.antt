@@ -21,7 +21,8 @@ use Rattle.name_resolution.specs.declared.first_faults.CodeFaults.{CodeFaults}
 use Rattle.name_resolution.specs.declared.first_faults.ItemFaults.{ItemFaults}
 use Rattle.name_resolution.specs.inner.FirstFaults.{Known, body_fault, known_in, with_body, with_code, with_edges, with_faults}
 use Rattle.name_resolution.specs.NameFaults.{function_fault, members_fault, name_fault, twice_after, unknown_among}
-use Rattle.name_resolution.specs.Names.{Name, code_of, decls_of, edge_label, edge_values, function_name, functions_of, functions_used, insts_of, label_of, labels_used, reserved, used_by_item, values_defined, values_used, vtable_name, vtables_of}
+use Rattle.name_resolution.specs.Names.{Name, code_of, decls_of, edge_label, edge_values, function_name, functions_of, functions_used, insts_of, label_of}
+use Rattle.name_resolution.specs.Names.{labels_used, reserved, used_by_item, values_defined, values_used, vtable_name, vtables_of}
 use Rattle.name_resolution.specs.inner.Symbols.{Symbols, labels_in, names_in, numbered_by, unknown_of, values_in}
 use Rattle.name_resolution.proofs.DefinedNames.{fault_of_labels, fault_of_values, twice_of_numbered, unknown_of_numbered}
 use Rattle.name_resolution.proofs.FaultOrder.{earlier_assoc, earlier_none, earliest_append, unknown_more}
@@ -51,7 +52,8 @@ code_done k c = rw (earlier_none c.functions, earlier_none c.labels, earlier_non
 pub insts_more : (k : Known) (c : CodeFaults) (x : WrittenInst) (rest : List WrittenInst) → with_code k (with_code k c (x ∷ [])) rest ≡ with_code k c (x ∷ rest)
 insts_more k c x rest = code_more k c (x ∷ []) rest
 
-pub blocks_more : (k : Known) (c : CodeFaults) (x : WrittenBlock) (rest : List WrittenBlock) → with_code k (with_code k c (code_of x)) (flat_map code_of rest) ≡ with_code k c (flat_map code_of (x ∷ rest))
+pub blocks_more : (k : Known) (c : CodeFaults) (x : WrittenBlock) (rest : List WrittenBlock)
+    → with_code k (with_code k c (code_of x)) (flat_map code_of rest) ≡ with_code k c (flat_map code_of (x ∷ rest))
 blocks_more k c x rest = code_more k c (code_of x) (flat_map code_of rest)
 
 pub edges_more : (k : Known) (c : CodeFaults) (x : WrittenEdge) (rest : List WrittenEdge) → with_edges k (with_edges k c (x ∷ [])) rest ≡ with_edges k c (x ∷ rest)
@@ -74,7 +76,8 @@ item_faults_done names i = rw (earlier_none i.functions, earlier_none i.members,
 
 -- the faults of a function's code begin with the labels and values that are defined twice
 pub body_done : (functions : Symbols) (blocks : List WrittenBlock) (i : ItemFaults) (code : CodeFaults)
-    → code ≡ with_code (known_in functions (labels_in blocks) (values_in blocks)) (record { functions = i.functions; labels = (labels_in blocks).twice; values = (values_in blocks).twice }) (flat_map code_of blocks)
+    → code ≡ with_code (known_in functions (labels_in blocks) (values_in blocks))
+    (record { functions = i.functions; labels = (labels_in blocks).twice; values = (values_in blocks).twice }) (flat_map code_of blocks)
     → record { functions = code.functions; members = i.members; bodies = earlier i.bodies (earlier code.labels code.values) } ≡ with_body (names_in functions) i blocks
 unfolding with_code
 body_done functions blocks i code is =
@@ -99,10 +102,12 @@ function_faults names i f =
     let used : List WrittenToken = flat_map functions_used (insts_of f) in
     ap (λ l. record { functions = earlier i.functions (unknown_of names l); members = i.members; bodies = earlier i.bodies (body_fault f.blocks) }) (sym (append-nil used))
     ∙ ap (λ members. record { functions = earlier i.functions (unknown_of names (used ++ [])); members = members; bodies = earlier i.bodies (body_fault f.blocks) }) (sym (earlier_none i.members))
-    ∙ ap (λ fault. record { functions = earlier i.functions (unknown_of names (used ++ [])); members = earlier i.members None; bodies = earlier i.bodies fault }) (fault_of_body f ∙ sym (earlier_none (function_fault f)))
+    ∙ ap (λ fault. record { functions = earlier i.functions (unknown_of names (used ++ [])); members = earlier i.members None; bodies = earlier i.bodies fault }) (fault_of_body f
+    ∙ sym (earlier_none (function_fault f)))
 
 -- so is a declaration
-pub decl_faults : (names : List Name) (i : ItemFaults) (d : WrittenDecl) → record { functions = i.functions; members = earlier i.members (members_fault d); bodies = i.bodies } ≡ with_faults names i (item.Decl d ∷ [])
+pub decl_faults : (names : List Name) (i : ItemFaults) (d : WrittenDecl)
+    → record { functions = i.functions; members = earlier i.members (members_fault d); bodies = i.bodies } ≡ with_faults names i (item.Decl d ∷ [])
 unfolding with_faults
 decl_faults names i d =
     ap (λ functions. record { functions = functions; members = earlier i.members (members_fault d); bodies = i.bodies }) (sym (earlier_none i.functions))
@@ -110,7 +115,8 @@ decl_faults names i d =
     ∙ ap (λ bodies. record { functions = earlier i.functions None; members = earlier i.members (earlier (members_fault d) None); bodies = bodies }) (sym (earlier_none i.bodies))
 
 -- and a vtable
-pub vtable_faults : (names : List Name) (i : ItemFaults) (t : WrittenVtable) → record { functions = earlier i.functions (unknown_of names (used_by_item (item.Vtable t))); members = i.members; bodies = i.bodies } ≡ with_faults names i (item.Vtable t ∷ [])
+pub vtable_faults : (names : List Name) (i : ItemFaults) (t : WrittenVtable)
+    → record { functions = earlier i.functions (unknown_of names (used_by_item (item.Vtable t))); members = i.members; bodies = i.bodies } ≡ with_faults names i (item.Vtable t ∷ [])
 unfolding with_faults
 vtable_faults names i t =
     let used : List WrittenToken = used_by_item (item.Vtable t) in
@@ -135,8 +141,11 @@ fault_of_parts w functions same faults is =
     let bodies : Option Fault = earliest (map function_fault (flat_map functions_of w.items)) in
     ap (λ (i : ItemFaults). earlier (earlier decls (earlier (numbered_by functions).twice vtables)) (earlier i.functions (earlier i.members i.bodies))) is
     ∙ ap (λ fs. earlier (earlier decls (earlier (numbered_by fs).twice vtables)) (earlier (unknown_of (names_in (numbered_by fs)) (flat_map used_by_item w.items)) (earlier members bodies))) same
-    ∙ ap (λ fault. earlier (earlier decls (earlier fault vtables)) (earlier (unknown_of (names_in (numbered_by (map function_name (flat_map functions_of w.items)))) (flat_map used_by_item w.items)) (earlier members bodies))) (twice_of_numbered (map function_name (flat_map functions_of w.items)))
-    ∙ ap (λ fault. earlier (earlier decls (earlier twice vtables)) (earlier fault (earlier members bodies))) (unknown_of_numbered (map function_name (flat_map functions_of w.items)) (flat_map used_by_item w.items))
+    ∙ ap (λ fault. earlier (earlier decls (earlier fault vtables)) (earlier
+    (unknown_of (names_in (numbered_by (map function_name (flat_map functions_of w.items)))) (flat_map used_by_item w.items)) (earlier members bodies)))
+    (twice_of_numbered (map function_name (flat_map functions_of w.items)))
+    ∙ ap (λ fault. earlier (earlier decls (earlier twice vtables)) (earlier fault (earlier members bodies)))
+    (unknown_of_numbered (map function_name (flat_map functions_of w.items)) (flat_map used_by_item w.items))
     ∙ earlier_assoc decls (earlier twice vtables) (earlier unknown (earlier members bodies))
     ∙ ap (earlier decls) (earlier_assoc twice vtables (earlier unknown (earlier members bodies)))
     ∙ ap (λ last. earlier decls (earlier twice (earlier vtables (earlier unknown (earlier members last))))) (sym (earlier_none bodies))

@@ -55,5 +55,6 @@ unknown_of_append names [] ys = refl
 unknown_of_append names (x ∷ xs) ys = ap (earlier (unknown_in names x)) (unknown_of_append names xs ys) ∙ sym (earlier_assoc (unknown_in names x) (unknown_of names xs) (unknown_of names ys))
 
 -- with more that is used behind
-pub unknown_more : (names : List Name) (first : Option Fault) (xs ys : List WrittenToken) → earlier (earlier first (unknown_of names xs)) (unknown_of names ys) ≡ earlier first (unknown_of names (xs ++ ys))
+pub unknown_more : (names : List Name) (first : Option Fault) (xs ys : List WrittenToken)
+    → earlier (earlier first (unknown_of names xs)) (unknown_of names ys) ≡ earlier first (unknown_of names (xs ++ ys))
 unknown_more names first xs ys = earlier_assoc first (unknown_of names xs) (unknown_of names ys) ∙ ap (earlier first) (sym (unknown_of_append names xs ys))

@@ -18,11 +18,13 @@ use Rattle.written_tree.specs.declared.written_functions.WrittenBlock.{WrittenBl
 use Rattle.written_tree.specs.declared.written_instructions.WrittenInst.{WrittenInst}
 use Rattle.name_resolution.specs.Names.{Name, arg_name, name_of}
 use Rattle.name_resolution.specs.Resolved.{defined_by, defined_by_arg, defined_by_inst, defined_in, has_name}
-use Rattle.name_resolution.specs.inner.Symbols.{Definition, numbered, unnamed, unnumbered, Symbols, definitions_by, definitions_in, definitions_of, number_among, numbered_by, reserved_only, values_in, with_definition, with_definitions, with_entry}
+use Rattle.name_resolution.specs.inner.Symbols.{Definition, numbered, unnamed, unnumbered, Symbols, definitions_by, definitions_in, definitions_of}
+use Rattle.name_resolution.specs.inner.Symbols.{number_among, numbered_by, reserved_only, values_in, with_definition, with_definitions, with_entry}
 use Rattle.name_resolution.specs.inner.Tables.{FindsNames, FindsValues}
 
 -- what a look-up finds once a name has a value
-lookup_inserted : {X : Type 0} (entries : List (Name × X)) (name other : Name) (x : X) → lookup (bytes_eq other) (insert_entry bytes_eq entries name x) ≡ cond (bytes_eq other name) (Some x) (lookup (bytes_eq other) entries)
+lookup_inserted : {X : Type 0} (entries : List (Name × X)) (name other : Name) (x : X)
+    → lookup (bytes_eq other) (insert_entry bytes_eq entries name x) ≡ cond (bytes_eq other name) (Some x) (lookup (bytes_eq other) entries)
 lookup_inserted [] name other x = refl
 lookup_inserted {X} (e ∷ es) name other x = by (bytes_eq name e.0) refl (lookup_inserted es name other x)
   where
@@ -150,7 +152,8 @@ values_of_blocks (b ∷ blocks) =
 pub finds_values : (blocks : List WrittenBlock) → FindsValues (values_in blocks) (flat_map defined_in blocks)
 finds_values blocks = finds_defined (flat_map definitions_in blocks) (flat_map defined_in blocks) (values_of_blocks blocks)
 
-position_of_named : (name : Name) (from : ℕ) (tokens : List WrittenToken) → position_from (has_name name) from (flat_map values_by (map numbered tokens)) ≡ position_from (bytes_eq name) from (map name_of tokens)
+position_of_named : (name : Name) (from : ℕ) (tokens : List WrittenToken)
+    → position_from (has_name name) from (flat_map values_by (map numbered tokens)) ≡ position_from (bytes_eq name) from (map name_of tokens)
 position_of_named name from [] = refl
 position_of_named name from (t ∷ ts) = ap (cond (bytes_eq name t.text) (Some from)) (position_of_named name (from + 1) ts)
 

@@ -32,7 +32,8 @@ counted_more first i values inside =
     ∙ ap (λ n. counted first (take i values) ++ record { 0 = first + n } ∷ []) (length-take-le i values (omega arith))
 
 -- as many of each kind, one by one
-pub mapped_more : {X Y Z : Type 0} (h : Y → Z) (f : X → List Y) (built : List Z) (x : X) (rest : List X) → (built ++ map h (flat_map f (x ∷ []))) ++ map h (flat_map f rest) ≡ built ++ map h (flat_map f (x ∷ rest))
+pub mapped_more : {X Y Z : Type 0} (h : Y → Z) (f : X → List Y) (built : List Z) (x : X) (rest : List X)
+    → (built ++ map h (flat_map f (x ∷ []))) ++ map h (flat_map f rest) ≡ built ++ map h (flat_map f (x ∷ rest))
 mapped_more h f built x rest =
     append_assoc built (map h (f x ++ [])) (map h (flat_map f rest))
     ∙ ap (λ l. built ++ (map h l ++ map h (flat_map f rest))) (append-nil (f x))

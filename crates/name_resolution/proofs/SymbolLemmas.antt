@@ -26,8 +26,13 @@ with_entries t entries = record { entries = entries; count = t.count; twice = t.
 pub added : (t : Symbols) (token : WrittenToken) (number : Option ℕ) → lookup (bytes_eq token.text) t.entries ≡ None
     → with_entries t (insert_entry bytes_eq t.entries token.text number) ≡ with_name t token number
 added t token number absent = sym (
-    ap (λ found. record { entries = insert_entry bytes_eq t.entries token.text (option_or (unwrap_or found None) number); count = t.count; twice = earlier t.twice (if is_among (names_in t) token then Some (fault Twice token.place) else None) }) absent
-    ∙ ap (λ among. record { entries = insert_entry bytes_eq t.entries token.text number; count = t.count; twice = earlier t.twice (if among then Some (fault Twice token.place) else None) }) (among_names t token ∙ ap is_some absent)
+    ap (λ found. record {
+      entries = insert_entry bytes_eq t.entries token.text (option_or (unwrap_or found None) number);
+      count = t.count;
+      twice = earlier t.twice (if is_among (names_in t) token then Some (fault Twice token.place) else None);
+    }) absent
+    ∙ ap (λ among. record { entries = insert_entry bytes_eq t.entries token.text number; count = t.count; twice = earlier t.twice (if among then Some (fault Twice token.place) else None) })
+    (among_names t token ∙ ap is_some absent)
     ∙ ap (λ twice. record { entries = insert_entry bytes_eq t.entries token.text number; count = t.count; twice = twice }) (earlier_none t.twice))
 
 insert_again : (entries : List (Name × Option ℕ)) (name : Name) (a b : Option ℕ) → insert_entry bytes_eq (insert_entry bytes_eq entries name a) name b ≡ insert_entry bytes_eq entries name b
@@ -51,12 +56,25 @@ pub kept : (t : Symbols) (token : WrittenToken) (number before : Option ℕ) →
     → with_kept (with_entries t (insert_entry bytes_eq t.entries token.text number)) token before ≡ with_name t token number
 kept t token number before there = by before there ∙ sym twice
   where
-    twice : with_name t token number ≡ record { entries = insert_entry bytes_eq t.entries token.text (option_or before number); count = t.count; twice = earlier t.twice (Some (fault Twice token.place)) }
+    twice : with_name t token number ≡ record {
+      entries = insert_entry bytes_eq t.entries token.text (option_or before number);
+      count = t.count;
+      twice = earlier t.twice (Some (fault Twice token.place));
+    }
     twice =
-        ap (λ found. record { entries = insert_entry bytes_eq t.entries token.text (option_or (unwrap_or found None) number); count = t.count; twice = earlier t.twice (if is_among (names_in t) token then Some (fault Twice token.place) else None) }) there
-        ∙ ap (λ among. record { entries = insert_entry bytes_eq t.entries token.text (option_or before number); count = t.count; twice = earlier t.twice (if among then Some (fault Twice token.place) else None) }) (among_names t token ∙ ap is_some there)
+        ap (λ found. record {
+          entries = insert_entry bytes_eq t.entries token.text (option_or (unwrap_or found None) number);
+          count = t.count;
+          twice = earlier t.twice (if is_among (names_in t) token then Some (fault Twice token.place) else None);
+        }) there
+        ∙ ap (λ among. record {
+          entries = insert_entry bytes_eq t.entries token.text (option_or before number);
+          count = t.count;
+          twice = earlier t.twice (if among then Some (fault Twice token.place) else None);
+        }) (among_names t token ∙ ap is_some there)
 
     by : (before : Option ℕ) → lookup (bytes_eq token.text) t.entries ≡ Some before
-        → with_kept (with_entries t (insert_entry bytes_eq t.entries token.text number)) token before ≡ record { entries = insert_entry bytes_eq t.entries token.text (option_or before number); count = t.count; twice = earlier t.twice (Some (fault Twice token.place)) }
+        → with_kept (with_entries t (insert_entry bytes_eq t.entries token.text number)) token before
+        ≡ record { entries = insert_entry bytes_eq t.entries token.text (option_or before number); count = t.count; twice = earlier t.twice (Some (fault Twice token.place)) }
     by None h = refl
     by (Some n) h = ap (λ entries. record { entries = entries; count = t.count; twice = earlier t.twice (Some (fault Twice token.place)) }) (insert_again t.entries token.text number (Some n))

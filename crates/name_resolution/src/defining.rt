@@ -3,9 +3,11 @@
 ghost use Rattle.std.specs.Prelude.{◌≡◌, [], length, map, IfOk, OnOk};
 ghost use Rattle.std.specs.List.{flat_map};
 ghost use Rattle.written_tree.specs.Places.{name_of_decl};
-ghost use Rattle.name_resolution.specs.Names.{arg_name, case_name, decls_of, field_name, function_name, functions_of, member_names, reserved, vtable_name, vtables_of};
+ghost use Rattle.name_resolution.specs.Names.{arg_name, case_name, decls_of, field_name, function_name, functions_of};
+ghost use Rattle.name_resolution.specs.Names.{member_names, reserved, vtable_name, vtables_of};
 ghost use Rattle.name_resolution.specs.Resolved.{defined_by_inst};
-ghost use Rattle.name_resolution.specs.inner.Symbols.{definitions_by, definitions_in, labels_in, numbered, numbered_by, unnumbered, unnumbered_after, values_in, with_definitions};
+ghost use Rattle.name_resolution.specs.inner.Symbols.{definitions_by, definitions_in, labels_in, numbered, numbered_by};
+ghost use Rattle.name_resolution.specs.inner.Symbols.{unnumbered, unnumbered_after, values_in, with_definitions};
 
 use crate::symbol_table::SymbolTable;
 use instruction_table::has_one_result;

@@ -8,7 +8,8 @@ ghost use Rattle.written_tree.specs.Faults as said;
 ghost use Rattle.name_resolution.specs.inner.FirstFaults.{known_in, with_code, with_edges};
 ghost use Rattle.name_resolution.specs.NameFaults.{unknown_in};
 ghost use Rattle.name_resolution.specs.Names.{code_of, operand_name};
-ghost use Rattle.name_resolution.specs.Resolved.{Scope, counted, defined_by_inst, defined_in, function_of, resolved_args, resolved_block, resolved_blocks, resolved_edge, resolved_inst, resolved_insts, resolved_operand};
+ghost use Rattle.name_resolution.specs.Resolved.{Scope, counted, defined_by_inst, defined_in, function_of, resolved_args, resolved_block};
+ghost use Rattle.name_resolution.specs.Resolved.{resolved_blocks, resolved_edge, resolved_inst, resolved_insts, resolved_operand};
 ghost use Rattle.name_resolution.specs.inner.Symbols.{names_in, unknown_of};
 ghost use Rattle.name_resolution.specs.inner.Tables.{FindsNames, FindsScope, FindsValues};
 
@@ -61,7 +62,8 @@ pub(crate) fn resolve_blocks(
     ghost s: { Scope }
     requires { FindsScope tables.functions.now tables.blocks.now tables.values.now s }
     ensures blocks { IfOk result (λ resolved. resolved ≡ resolved_blocks s 0 blocks) }
-    ensures faults { OnOk result (faults.new ≡ with_code (known_in tables.entry.functions.now tables.entry.blocks.now tables.entry.values.now) faults.old (flat_map code_of blocks)) }
+    ensures faults { OnOk result (faults.new ≡ with_code
+        (known_in tables.entry.functions.now tables.entry.blocks.now tables.entry.values.now) faults.old (flat_map code_of blocks)) }
 {
     let mut next = 0;
     let mut resolved = List::with_capacity(alloc, blocks.len())?;
@@ -84,7 +86,8 @@ fn add_block(
     requires { FindsScope tables.functions.now tables.blocks.now tables.values.now s }
     ensures block { OnOk result (resolved.new ≡ resolved.old ++ resolved_block s next.old block ∷ []) }
     ensures next { OnOk result (next.new ≡ next.old + length (defined_in block)) }
-    ensures faults { OnOk result (faults.new ≡ with_code (known_in tables.entry.functions.now tables.entry.blocks.now tables.entry.values.now) faults.old (code_of block)) }
+    ensures faults { OnOk result (faults.new ≡ with_code
+        (known_in tables.entry.functions.now tables.entry.blocks.now tables.entry.values.now) faults.old (code_of block)) }
 {
     let parts = resolve_parts(alloc, tables, faults, next, &mut block)?;
     resolved.push(Block {
@@ -104,9 +107,32 @@ fn resolve_parts(
 ) -> Result<Parts, Exhausted>
     ghost s: { Scope }
     requires { FindsScope tables.functions.now tables.blocks.now tables.values.now s }
-    ensures block { IfOk result (λ parts. resolved_block s next.old block.old ≡ record { args = parts.args; insts = parts.insts; terminator = record { op = block.new.terminator.op; results = parts.names.results; operands = parts.names.operands; ty = block.new.terminator.ty; signature = block.new.terminator.signature; function = parts.names.function; member = block.new.terminator.member; number = block.new.terminator.number; text = block.new.terminator.text; qualifier = block.new.terminator.qualifier.word; lexical = block.new.terminator.lexical; var_decl = block.new.terminator.var_decl; debug = block.new.terminator.debug; edges = parts.names.edges } }) }
+    ensures block { IfOk result (λ parts. resolved_block s next.old block.old ≡ record {
+      args = parts.args;
+      insts = parts.insts;
+      terminator = record {
+        op = block.new.terminator.op;
+        results = parts.names.results;
+        operands = parts.names.operands;
+        ty = block.new.terminator.ty;
+        signature = block.new.terminator.signature;
+        function = parts.names.function;
+        member =
+            block.new.terminator.member;
+        number = block.new.terminator.number;
+        text = block.new.terminator.text;
+        qualifier =
+            block.new.terminator.qualifier.word;
+        lexical = block.new.terminator.lexical;
+        var_decl =
+            block.new.terminator.var_decl;
+        debug = block.new.terminator.debug;
+        edges = parts.names.edges;
+      };
+    }) }
     ensures next { OnOk result (next.new ≡ next.old + length (defined_in block.old)) }
-    ensures faults { OnOk result (faults.new ≡ with_code (known_in tables.entry.functions.now tables.entry.blocks.now tables.entry.values.now) faults.old (code_of block.old)) }
+    ensures faults { OnOk result (faults.new ≡ with_code
+        (known_in tables.entry.functions.now tables.entry.blocks.now tables.entry.values.now) faults.old (code_of block.old)) }
 {
     let args = mem::replace(&mut block.args, List::new(alloc));
     let args = resolve_args(alloc, next, args)?;
@@ -178,7 +204,8 @@ fn add_inst(
     requires { FindsScope tables.functions.now tables.blocks.now tables.values.now s }
     ensures inst { OnOk result (resolved.new ≡ resolved.old ++ resolved_inst s next.old inst ∷ []) }
     ensures next { OnOk result (next.new ≡ next.old + length (defined_by_inst inst)) }
-    ensures faults { OnOk result (faults.new ≡ with_code (known_in tables.entry.functions.now tables.entry.blocks.now tables.entry.values.now) faults.old (inst ∷ [])) }
+    ensures faults { OnOk result (faults.new ≡ with_code
+        (known_in tables.entry.functions.now tables.entry.blocks.now tables.entry.values.now) faults.old (inst ∷ [])) }
 {
     let names = resolve_names(alloc, tables, faults, next, &mut inst)?;
     resolved.push(Boxed::new(alloc, with_names(inst, names))?)
@@ -195,9 +222,27 @@ fn resolve_names(
 ) -> Result<Names, Exhausted>
     ghost s: { Scope }
     requires { FindsScope tables.functions.now tables.blocks.now tables.values.now s }
-    ensures inst { IfOk result (λ names. resolved_inst s next.old inst.old ≡ record { op = inst.new.op; results = names.results; operands = names.operands; ty = inst.new.ty; signature = inst.new.signature; function = names.function; member = inst.new.member; number = inst.new.number; text = inst.new.text; qualifier = inst.new.qualifier.word; lexical = inst.new.lexical; var_decl = inst.new.var_decl; debug = inst.new.debug; edges = names.edges }) }
+    ensures inst { IfOk result (λ names. resolved_inst s next.old inst.old ≡ record {
+      op = inst.new.op;
+      results = names.results;
+      operands = names.operands;
+      ty = inst.new.ty;
+      signature = inst.new.signature;
+      function = names.function;
+      member = inst.new.member;
+      number = inst.new.number;
+      text =
+          inst.new.text;
+      qualifier = inst.new.qualifier.word;
+      lexical =
+          inst.new.lexical;
+      var_decl = inst.new.var_decl;
+      debug = inst.new.debug;
+      edges = names.edges;
+    }) }
     ensures next { OnOk result (next.new ≡ next.old + length (defined_by_inst inst.old)) }
-    ensures faults { OnOk result (faults.new ≡ with_code (known_in tables.entry.functions.now tables.entry.blocks.now tables.entry.values.now) faults.old (inst.old ∷ [])) }
+    ensures faults { OnOk result (faults.new ≡ with_code
+        (known_in tables.entry.functions.now tables.entry.blocks.now tables.entry.values.now) faults.old (inst.old ∷ [])) }
 {
     let function = resolve_callee(tables.functions, &mut faults.functions, &inst.function);
     let results = resolve_results(alloc, next, inst)?;
@@ -214,7 +259,23 @@ fn resolve_names(
 }
 
 fn with_names(inst: WrittenInst, names: Names) -> Inst
-    ensures { result ≡ record { op = inst.op; results = names.results; operands = names.operands; ty = inst.ty; signature = inst.signature; function = names.function; member = inst.member; number = inst.number; text = inst.text; qualifier = inst.qualifier.word; lexical = inst.lexical; var_decl = inst.var_decl; debug = inst.debug; edges = names.edges } }
+    ensures { result ≡ record {
+      op = inst.op;
+      results = names.results;
+      operands = names.operands;
+      ty = inst.ty;
+      signature = inst.signature;
+      function = names.function;
+      member = inst.member;
+      number = inst.number;
+      text = inst.text;
+      qualifier =
+          inst.qualifier.word;
+      lexical = inst.lexical;
+      var_decl = inst.var_decl;
+      debug = inst.debug;
+      edges = names.edges;
+    } }
 {
     Inst {
         op: inst.op,
@@ -310,7 +371,8 @@ fn resolve_edge(
     ghost s: { Scope }
     requires { FindsScope tables.functions.now tables.blocks.now tables.values.now s }
     ensures edge { IfOk result (λ resolved. resolved ≡ resolved_edge s edge) }
-    ensures faults { OnOk result (faults.new ≡ with_edges (known_in tables.entry.functions.now tables.entry.blocks.now tables.entry.values.now) faults.old (edge ∷ [])) }
+    ensures faults { OnOk result (faults.new ≡ with_edges
+        (known_in tables.entry.functions.now tables.entry.blocks.now tables.entry.values.now) faults.old (edge ∷ [])) }
 {
     Ok(Edge {
         block: BlockId(tables.blocks.number_of(&edge.label, &mut faults.labels)),

@@ -10,7 +10,8 @@ ghost use Rattle.name_resolution.specs.inner.FirstFaults.{with_body, with_faults
 ghost use Rattle.name_resolution.specs.inner.Items.{with_items};
 ghost use Rattle.name_resolution.specs.NameFaults.{members_fault, unknown_in};
 ghost use Rattle.name_resolution.specs.Names.{Name, name_of, used_by_item};
-ghost use Rattle.name_resolution.specs.Resolved.{form_of, resolved_blocks, resolved_case, resolved_decl, resolved_entry, resolved_field, resolved_function, resolved_vtable};
+ghost use Rattle.name_resolution.specs.Resolved.{form_of, resolved_blocks, resolved_case, resolved_decl, resolved_entry};
+ghost use Rattle.name_resolution.specs.Resolved.{resolved_field, resolved_function, resolved_vtable};
 ghost use Rattle.name_resolution.specs.inner.Symbols.{labels_in, names_in, unknown_of, values_in};
 ghost use Rattle.name_resolution.specs.inner.Tables.{FindsNames, scope_in};
 
@@ -182,7 +183,15 @@ fn resolve_parts(
 ) -> Result<Parts, Exhausted>
     ghost names: { List Name }
     requires { FindsNames functions.now names }
-    ensures function { IfOk result (λ parts. resolved_function names f.old ≡ record { name = parts.name; form = parts.form; linkage = f.new.linkage; attributes = parts.attributes; signature = f.new.signature; blocks = parts.blocks }) }
+    ensures function { IfOk result (λ parts. resolved_function names f.old
+        ≡ record {
+          name = parts.name;
+          form = parts.form;
+          linkage = f.new.linkage;
+          attributes = parts.attributes;
+          signature = f.new.signature;
+          blocks = parts.blocks;
+        }) }
     ensures faults { OnOk result (faults.new ≡ with_body (names_in functions.now) faults.old f.old.blocks) }
 {
     let form = form_of(f.attributes.as_slice(), f.blocks.as_slice());

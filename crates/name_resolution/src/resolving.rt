@@ -59,7 +59,8 @@ fn twice_fault(
     items: &[WrittenItem],
     functions: Option<Fault>,
 ) -> Result<Option<Fault>, Exhausted>
-    ensures { IfOk result (λ fault. fault ≡ said.earlier (twice_after (reserved imports) (map name_of_decl (flat_map decls_of items.now))) (said.earlier functions (twice_after [] (map vtable_name (flat_map vtables_of items.now))))) }
+    ensures { IfOk result (λ fault. fault ≡ said.earlier (twice_after (reserved imports) (map name_of_decl (flat_map decls_of items.now)))
+        (said.earlier functions (twice_after [] (map vtable_name (flat_map vtables_of items.now))))) }
 {
     let declarations = declared(alloc, imports, items)?.twice();
     let vtables = classes_of_vtables(alloc, items)?.twice();

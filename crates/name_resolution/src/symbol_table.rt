@@ -29,7 +29,8 @@ impl Model for SymbolTable {
 }
 
 impl SymbolTable {
-    ghost use Rattle.name_resolution.specs.inner.Symbols.{names_in, number_in, numbered, reserved_only, unnamed, unnumbered, with_definition, with_kept, with_name, with_reserved};
+    ghost use Rattle.name_resolution.specs.inner.Symbols.{names_in, number_in, numbered, reserved_only, unnamed, unnumbered};
+    ghost use Rattle.name_resolution.specs.inner.Symbols.{with_definition, with_kept, with_name, with_reserved};
 
     /// No names, with room for `count`.
     pub(crate) fn with_capacity(alloc: Global, count: usize) -> Result<SymbolTable, Exhausted>

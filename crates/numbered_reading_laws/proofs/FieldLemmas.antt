@@ -31,7 +31,8 @@ use Rattle.numbered_reading_laws.proofs.FaultlessParts.{IsGoodBlock, IsGoodEntry
 use Rattle.numbered_reading_laws.proofs.ModuleLemmas.{WritesGoodDecl, good_decls, good_functions, good_vtables}
 
 -- what holds of each good function holds of each function of the module
-pub in_functions : (Q : Function → Type 0) → ((names : List Name) (f : WrittenFunction) → IsGoodFunction f → Q (resolved_function names f)) → (w : WrittenModule) → IsGoodModule w → Each Q (resolved w).functions
+pub in_functions : (Q : Function → Type 0) → ((names : List Name) (f : WrittenFunction) → IsGoodFunction f → Q (resolved_function names f))
+    → (w : WrittenModule) → IsGoodModule w → Each Q (resolved w).functions
 unfolding resolved
 in_functions Q h w g = Each-map (resolved_function _) IsGoodFunction Q (h _) (flat_map functions_of w.items) (good_functions w.items g.items)
 
@@ -54,7 +55,8 @@ read_fields w g = in_decls HasStrongFields (λ d k. k.strong) w g
 pub read_types : (w : WrittenModule) → IsGoodModule w → AreTypesWritten (resolved w)
 read_types w g = record {
   declarations = in_decls HasDeclTypes (λ d k. k.types) w g;
-  functions = in_functions HasFunctionTypes (λ names f k. record { signature = k.signature.types; blocks = Each-blocks (scope_of names f) IsGoodBlock HasBlockTypes (block_types (scope_of names f)) 0 f.blocks k.blocks }) w g;
+  functions = in_functions HasFunctionTypes (λ names f k.
+      record { signature = k.signature.types; blocks = Each-blocks (scope_of names f) IsGoodBlock HasBlockTypes (block_types (scope_of names f)) 0 f.blocks k.blocks }) w g;
 }
 
 -- attributes
@@ -65,11 +67,13 @@ ossa_is text e = ap (λ t. bytes_eq t (codes "ossa")) e
 no_ossa : (token : WrittenToken) → is_kept token ≡ true → IsAttribute token.text
 no_ossa token e f = true≢false (sym e ∙ ap not (ossa_is token.text f))
 
-kept_one : (P : List ℕ → Type 0) (kept : Bool) (token : WrittenToken) (rest : List WrittenToken) → (kept ≡ true → P token.text) → Each P (map name_of rest) → Each P (map name_of (cond kept (token ∷ rest) rest))
+kept_one : (P : List ℕ → Type 0) (kept : Bool) (token : WrittenToken) (rest : List WrittenToken)
+    → (kept ≡ true → P token.text) → Each P (map name_of rest) → Each P (map name_of (cond kept (token ∷ rest) rest))
 kept_one P true token rest h g = (h refl, g)
 kept_one P false token rest h g = g
 
-kept_attributes : (P : List ℕ → Type 0) → ((token : WrittenToken) → IsWordToken token → is_kept token ≡ true → P token.text) → (tokens : List WrittenToken) → Each IsWordToken tokens → Each P (map name_of (filter is_kept tokens))
+kept_attributes : (P : List ℕ → Type 0) → ((token : WrittenToken) → IsWordToken token → is_kept token ≡ true → P token.text)
+    → (tokens : List WrittenToken) → Each IsWordToken tokens → Each P (map name_of (filter is_kept tokens))
 kept_attributes P h [] g = tt
 kept_attributes P h (token ∷ tokens) g = kept_one P (is_kept token) token (filter is_kept tokens) (h token g.0) (kept_attributes P h tokens g.1)
 
@@ -100,7 +104,8 @@ entry_spelled names (Some entry) g = g
 
 vtables_spelled : (w : WrittenModule) → IsGoodModule w → Each IsVtableSpelled (resolved w).vtables
 unfolding resolved
-vtables_spelled w g = Each-map (resolved_vtable _) IsGoodVtable IsVtableSpelled (λ t k. record { name = k.name; owner = entry_spelled _ t.entry k.entry }) (flat_map vtables_of w.items) (good_vtables w.items g.items)
+vtables_spelled w g = Each-map (resolved_vtable _) IsGoodVtable IsVtableSpelled
+    (λ t k. record { name = k.name; owner = entry_spelled _ t.entry k.entry }) (flat_map vtables_of w.items) (good_vtables w.items g.items)
 
 pub read_names : (w : WrittenModule) → IsGoodModule w → AreNamesSpelled (resolved w)
 read_names w g = record {

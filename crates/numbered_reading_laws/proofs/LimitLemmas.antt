@@ -1,5 +1,6 @@
 -- A good module, once it is resolved, is within the limits.
-use Rattle.std.proofs.Common.{◌≡◌, ℕ, ◌+◌, ◌≤◌, suc, List, [], ◌∷◌, ◌++◌, length, map, filter, Option, Some, None, Bool, true, false, cond, not, if◌then◌else◌, ap, sym, refl, ◌∙◌, arith, flat_map, count_by, length-append, ap₂, true≢false}
+use Rattle.std.proofs.Common.{◌≡◌, ℕ, ◌+◌, ◌≤◌, suc, List, [], ◌∷◌, ◌++◌, length, map, filter, Option, Some, None, Bool, true, false, cond, not}
+use Rattle.std.proofs.Common.{if◌then◌else◌, ap, sym, refl, ◌∙◌, arith, flat_map, count_by, length-append, ap₂, true≢false}
 use Rattle.std.proofs.lemmas.List.{length-map}
 use Rattle.std.proofs.lemmas.List.Sums.{sum_by-append, sum_by-cons}
 use Rattle.sil_ast.specs.declared.function.Block.{Block}
@@ -17,9 +18,11 @@ use Rattle.written_tree.specs.declared.written_instructions.WrittenInst.{Written
 use Rattle.written_tree.specs.declared.written_module.WrittenItem.{WrittenItem}
 use Rattle.written_tree.specs.declared.written_module.WrittenItem.TheVariants as item
 use Rattle.written_tree.specs.declared.written_module.WrittenModule.{WrittenModule}
-use Rattle.written_tree.specs.Places.{arg_place, attribute_places, decl_names, extra_places, extra_places_by, function_names, is_kept, mnemonic_place, mnemonics_of, result_places, token_place, value_places_of, values_of_block}
+use Rattle.written_tree.specs.Places.{arg_place, attribute_places, decl_names, extra_places, extra_places_by, function_names, is_kept}
+use Rattle.written_tree.specs.Places.{mnemonic_place, mnemonics_of, result_places, token_place, value_places_of, values_of_block}
 use Rattle.name_resolution.specs.Names.{Name, decls_of, functions_of, name_of}
-use Rattle.name_resolution.specs.Resolved.{Scope, counted, defined_by, defined_by_inst, defined_in, resolved, resolved_block, resolved_blocks, resolved_decl, resolved_function, resolved_inst, resolved_insts, scope_of}
+use Rattle.name_resolution.specs.Resolved.{Scope, counted, defined_by, defined_by_inst, defined_in, resolved, resolved_block, resolved_blocks}
+use Rattle.name_resolution.specs.Resolved.{resolved_decl, resolved_function, resolved_inst, resolved_insts, scope_of}
 use Rattle.numbered_form.specs.Lists.{Each}
 use Rattle.numbered_form.specs.Insts.{insts_in, insts_of}
 use Rattle.numbered_form.specs.Limits.{AreLimitsKept, IsBlockInLimits, IsDeclInLimits, IsFunctionInLimits, inst_takes_value, takes_value, takes_value_by, value_count}
@@ -118,12 +121,14 @@ end_values s first w g =
     let takes : takes_value w.op w.qualifier.word ≡ false = ends_take_none w.op w.qualifier.word g.ends in
     rw (none, takes) refl
 
-block_values : (s : Scope) (first : ℕ) (b : WrittenBlock) → IsGoodBlock b → length (numbering.defined_in (resolved_block s first b)) + count_by inst_takes_value (insts_of (resolved_block s first b)) ≡ length (values_of_block b)
+block_values : (s : Scope) (first : ℕ) (b : WrittenBlock) → IsGoodBlock b
+    → length (numbering.defined_in (resolved_block s first b)) + count_by inst_takes_value (insts_of (resolved_block s first b)) ≡ length (values_of_block b)
 unfolding values_with
 block_values s first b g =
     let r : Block = resolved_block s first b in
     let args : length (map value_of r.args) ≡ length (map arg_place b.args) = length-map r.args value_of ∙ length-args first b.args ∙ sym (length-map b.args arg_place) in
-    let insts : values_with (insts_of r) ≡ length (flat_map value_places_of b.insts) = insts_values s (first + length b.args) r.terminator b.insts (end_values s (first + length (defined_in b)) b.terminator g.terminator) in
+    let insts : values_with (insts_of r) ≡ length (flat_map value_places_of b.insts) =
+    insts_values s (first + length b.args) r.terminator b.insts (end_values s (first + length (defined_in b)) b.terminator g.terminator) in
     let whole : length (numbering.defined_in r) ≡ length (map value_of r.args) + length (flat_map results_of (insts_of r)) = length-append (map value_of r.args) (flat_map results_of (insts_of r)) in
     let places : length (values_of_block b) ≡ length (map arg_place b.args) + length (flat_map value_places_of b.insts) = length-append (map arg_place b.args) (flat_map value_places_of b.insts) in
     omega arith
@@ -137,14 +142,16 @@ value_count_is s first (b ∷ bs) g =
     let one : length (numbering.defined_in r) + count_by inst_takes_value (insts_of r) ≡ length (values_of_block b) = block_values s first b g.0 in
     let rest : length (values_of rs) + count_by inst_takes_value (insts_in rs) ≡ length (flat_map values_of_block bs) = value_count_is s next bs g.1 in
     let values : length (values_of (r ∷ rs)) ≡ length (numbering.defined_in r) + length (values_of rs) = length-append (numbering.defined_in r) (values_of rs) in
-    let taken : count_by inst_takes_value (insts_of r ++ insts_in rs) ≡ count_by inst_takes_value (insts_of r) + count_by inst_takes_value (insts_in rs) = sum_by-append (λ i. cond (inst_takes_value i) 1 0) (insts_of r) (insts_in rs) in
+    let taken : count_by inst_takes_value (insts_of r ++ insts_in rs) ≡ count_by inst_takes_value (insts_of r) + count_by inst_takes_value (insts_in rs) =
+    sum_by-append (λ i. cond (inst_takes_value i) 1 0) (insts_of r) (insts_in rs) in
     let places : length (flat_map values_of_block (b ∷ bs)) ≡ length (values_of_block b) + length (flat_map values_of_block bs) = length-append (values_of_block b) (flat_map values_of_block bs) in
     omega arith
 
 function_limits : (names : List Name) (f : WrittenFunction) → IsGoodFunction f → IsFunctionInLimits (resolved_function names f)
 function_limits names f g =
     let s : Scope = scope_of names f in
-    let kept : length (map name_of (filter is_kept f.attributes)) ≡ length (attribute_places f.attributes) = length-map (filter is_kept f.attributes) name_of ∙ sym (length-map (filter is_kept f.attributes) token_place) in
+    let kept : length (map name_of (filter is_kept f.attributes)) ≡ length (attribute_places f.attributes) = length-map (filter is_kept f.attributes) name_of
+    ∙ sym (length-map (filter is_kept f.attributes) token_place) in
     record {
       attributes = rw kept g.attribute_count;
       signature = g.signature.limits;

@@ -1,5 +1,6 @@
 -- Numbers that have a value in their range.
-use Rattle.std.proofs.Common.{◌≡◌, ℕ, ◌^◌, ◌-◌, ◌<◌, ◌≤◌, if◌then◌else◌, refl, arith, ℤ, pos, negsuc, neg_ℤ, ◌≤ℤ◌, ◌<ℤ◌, Some, None, Bool, true, false, List, is_some, IfSome, IsTrue, subst, nat_le, leb-true}
+use Rattle.std.proofs.Common.{◌≡◌, ℕ, ◌^◌, ◌-◌, ◌<◌, ◌≤◌, if◌then◌else◌, refl, arith, ℤ, pos, negsuc, neg_ℤ, ◌≤ℤ◌, ◌<ℤ◌, Some}
+use Rattle.std.proofs.Common.{None, Bool, true, false, List, is_some, IfSome, IsTrue, subst, nat_le, leb-true}
 use Rattle.std.specs.Prelude.{Option, int_lt, int_le}
 use Rattle.std.specs.Option.{option_map}
 use Rattle.std.proofs.lemmas.Int.{ints}
@@ -38,13 +39,15 @@ pub record IsGoodLiteral (t : TypeName) (number : Option ℤ) : Type 0 where
   pub there : is_some number ≡ true
   pub residue : IfSome number (λ n. IsTrue (is_residue (literal_width (Some t)) n))
 
-literal_cases : (t : TypeName) (spelling : List ℕ) (place : Place) (number : Option ℤ) → is_plain_type t ≡ true → literal_of (width_of t) spelling ≡ number → out_of_range number place ≡ None → IsGoodLiteral t number
+literal_cases : (t : TypeName) (spelling : List ℕ) (place : Place) (number : Option ℤ) → is_plain_type t ≡ true
+    → literal_of (width_of t) spelling ≡ number → out_of_range number place ≡ None → IsGoodLiteral t number
 literal_cases t spelling place None plain is e = absurd (cc)
 literal_cases t spelling place (Some n) plain is e =
     let w = literal_width_is t plain in
     record { there = refl; residue = subst (λ (width : ℕ). is_residue width n ≡ true) w.0 (residue (width_of t) spelling n w.1 is) }
 
-pub good_literal : (t : TypeName) (spelling : List ℕ) (place : Place) → is_plain_type t ≡ true → out_of_range (literal_of (width_of t) spelling) place ≡ None → IsGoodLiteral t (literal_of (width_of t) spelling)
+pub good_literal : (t : TypeName) (spelling : List ℕ) (place : Place) → is_plain_type t ≡ true
+    → out_of_range (literal_of (width_of t) spelling) place ≡ None → IsGoodLiteral t (literal_of (width_of t) spelling)
 good_literal t spelling place plain e = literal_cases t spelling place (literal_of (width_of t) spelling) plain refl e
 
 pub record IsGoodElement (number : Option ℤ) : Type 0 where
@@ -69,7 +72,11 @@ good_small largest spelling = small_cases largest (value_of spelling) (small_of 
 
 element_cases : (value : ℤ) (place : Place) (small : Option ℕ) → up_to 63 value ≡ small → out_of_range (option_map pos small) place ≡ None → IsGoodElement (option_map pos small)
 element_cases value place None is e = absurd (cc)
-element_cases value place (Some n) is e = record { there = refl; small = both (int_le (pos 0) (pos n)) (int_le (pos n) (pos 63)) (le_true (pos 0) (pos n) (omega (arith, ints))) (le_true (pos n) (pos 63) (let h : n ≤ 63 = up_to_is 63 value n is in omega (arith, ints))) }
+element_cases value place (Some n) is e = record {
+  there = refl;
+  small = both (int_le (pos 0) (pos n)) (int_le (pos n) (pos 63))
+      (le_true (pos 0) (pos n) (omega (arith, ints))) (le_true (pos n) (pos 63) (let h : n ≤ 63 = up_to_is 63 value n is in omega (arith, ints)));
+}
 
 pub good_element : (spelling : List ℕ) (place : Place) → out_of_range (element_of spelling) place ≡ None → IsGoodElement (element_of spelling)
 good_element spelling place e = element_cases (value_of spelling) place (small_of 63 spelling) refl e

@@ -45,7 +45,8 @@ insts_counted : (s : Scope) (n : ℕ) (ws : List WrittenInst) → AreCountedFrom
 insts_counted s n [] = tt
 insts_counted s n (w ∷ ws) =
     let k : ℕ = length (defined_by_inst w) in
-    counted_on n k (counted n (defined_by_inst w)) (flat_map numbering.results_of (resolved_insts s (n + k) ws)) (length-counted n (defined_by_inst w)) (counted_from n (defined_by_inst w)) (insts_counted s (n + k) ws)
+    counted_on n k (counted n (defined_by_inst w)) (flat_map numbering.results_of (resolved_insts s (n + k) ws))
+    (length-counted n (defined_by_inst w)) (counted_from n (defined_by_inst w)) (insts_counted s (n + k) ws)
 
 -- the results of a block are those of its instructions, since a terminator has none
 pub with_end : (is : List Inst) (last : Inst) → last.results ≡ [] → flat_map numbering.results_of (is ++ last ∷ []) ≡ flat_map numbering.results_of is
@@ -72,14 +73,16 @@ block_length s n b g =
 block_counted : (s : Scope) (n : ℕ) (b : WrittenBlock) → IsGoodBlock b → AreCountedFrom n (numbering.defined_in (resolved_block s n b))
 block_counted s n b g =
     let c : AreCountedFrom n (map numbering.value_of (resolved_args n b.args) ++ flat_map numbering.results_of (resolved_insts s (n + length b.args) b.insts)) =
-    counted_on n (length b.args) (map numbering.value_of (resolved_args n b.args)) (flat_map numbering.results_of (resolved_insts s (n + length b.args) b.insts)) (args_length n b.args) (args_counted n b.args) (insts_counted s (n + length b.args) b.insts) in
+    counted_on n (length b.args) (map numbering.value_of (resolved_args n b.args)) (flat_map numbering.results_of (resolved_insts s (n + length b.args) b.insts))
+    (args_length n b.args) (args_counted n b.args) (insts_counted s (n + length b.args) b.insts) in
     subst (AreCountedFrom n) (sym (block_is s n b g)) c
 
 pub blocks_counted : (s : Scope) (n : ℕ) (bs : List WrittenBlock) → Each IsGoodBlock bs → AreCountedFrom n (numbering.values_of (resolved_blocks s n bs))
 blocks_counted s n [] g = tt
 blocks_counted s n (b ∷ bs) g =
     let k : ℕ = length (defined_in b) in
-    counted_on n k (numbering.defined_in (resolved_block s n b)) (numbering.values_of (resolved_blocks s (n + k) bs)) (block_length s n b g.0) (block_counted s n b g.0) (blocks_counted s (n + k) bs g.1)
+    counted_on n k (numbering.defined_in (resolved_block s n b)) (numbering.values_of (resolved_blocks s (n + k) bs))
+    (block_length s n b g.0) (block_counted s n b g.0) (blocks_counted s (n + k) bs g.1)
 
 pub blocks_length : (s : Scope) (n : ℕ) (bs : List WrittenBlock) → Each IsGoodBlock bs → length (numbering.values_of (resolved_blocks s n bs)) ≡ length (flat_map defined_in bs)
 blocks_length s n [] g = refl

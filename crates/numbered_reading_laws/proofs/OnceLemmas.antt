@@ -1,5 +1,6 @@
 -- No name of a module that is read is given twice.
-use Rattle.std.proofs.Common.{◌≡◌, List, [], ◌∷◌, ◌++◌, map, Some, None, Bool, true, false, if◌then◌else◌, ◌||◌, Contains, ap, sym, refl, subst, ◌∙◌, codes, flat_map, append_assoc, append-nil, true≢false, ⊎_elim, ap₂}
+use Rattle.std.proofs.Common.{◌≡◌, List, [], ◌∷◌, ◌++◌, map, Some, None, Bool, true, false, if◌then◌else◌, ◌||◌, Contains, ap, sym}
+use Rattle.std.proofs.Common.{refl, subst, ◌∙◌, codes, flat_map, append_assoc, append-nil, true≢false, ⊎_elim, ap₂}
 use Rattle.std.specs.List.{list_any}
 use Rattle.std.specs.Str.{bytes_eq}
 use Rattle.std.proofs.lemmas.List.Elements.{Contains-push_cases}
@@ -44,7 +45,8 @@ not_contained names name e found =
 once_push : (names : List Name) (name : Name) → AreOnce names → list_any (bytes_eq name) names ≡ false → AreOnce (names ++ name ∷ [])
 once_push [] name once e = (not_contained [] name refl, tt)
 once_push (x ∷ names) name once e = (
-  λ found. ⊎_elim once.0 (λ (same : name ≡ x). true≢false (sym (ap (bytes_eq name) (sym same) ∙ same_name name) ∙ first_false (bytes_eq name x) (list_any (bytes_eq name) names) e)) (Contains-push_cases names name x found),
+  λ found. ⊎_elim once.0 (λ (same : name ≡ x). true≢false (sym (ap (bytes_eq name) (sym same) ∙ same_name name) ∙ first_false (bytes_eq name x) (list_any (bytes_eq name) names) e))
+      (Contains-push_cases names name x found),
   once_push names name once.1 (second_false (bytes_eq name x) (list_any (bytes_eq name) names) e),
 )
 
@@ -61,7 +63,10 @@ once_after names (token ∷ tokens) once e =
     rw append_assoc at rest
 
 once_reserved : (imports : Imports) (swift : Bool) → imports.swift ≡ swift → AreOnce (codes "Builtin" ∷ swift_names swift)
-once_reserved imports true e = (not_contained (swift_names true) _ refl, (not_contained (codes "Bool" ∷ codes "Optional" ∷ []) _ refl, (not_contained (codes "Optional" ∷ []) _ refl, (not_contained [] _ refl, tt))))
+once_reserved imports true e = (
+  not_contained (swift_names true) _ refl,
+  (not_contained (codes "Bool" ∷ codes "Optional" ∷ []) _ refl, (not_contained (codes "Optional" ∷ []) _ refl, (not_contained [] _ refl, tt))),
+)
 once_reserved imports false e = (not_contained (swift_names false) _ refl, tt)
 
 -- names are kept
@@ -85,7 +90,8 @@ members_once [] e = tt
 members_once (d ∷ decls) e =
     (subst AreOnce (members_kept d) (once_after [] (written.member_names d) tt (no_first _ _ e)), members_once decls (no_second _ _ e))
 
-once_kept : {A B : Type 0} (f : A → B) (name : B → Name) (token : A → WrittenToken) → ((x : A) → name (f x) ≡ (token x).text) → (front : List Name) (xs : List A) → AreOnce front → twice_after front (map token xs) ≡ None → AreOnce (front ++ map name (map f xs))
+once_kept : {A B : Type 0} (f : A → B) (name : B → Name) (token : A → WrittenToken) → ((x : A) → name (f x) ≡ (token x).text)
+    → (front : List Name) (xs : List A) → AreOnce front → twice_after front (map token xs) ≡ None → AreOnce (front ++ map name (map f xs))
 once_kept f name token e front xs once none = subst (λ (names : List Name). AreOnce (front ++ names)) (names_kept f name token e xs) (once_after front (map token xs) once none)
 
 pub read_once : (w : WrittenModule) → name_fault w ≡ None → AreNamesOnce (resolved w)

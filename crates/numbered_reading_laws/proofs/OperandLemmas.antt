@@ -1,5 +1,6 @@
 -- The operands of a row: those that were written so far, and what may follow them.
-use Rattle.std.proofs.Common.{◌≡◌, ℕ, ◌+◌, ◌≤◌, List, [], ◌∷◌, ◌++◌, length, map, None, Bool, true, false, if◌then◌else◌, ◌&&◌, ◌||◌, ◌==◌, not, refl, sym, subst, ◌∙◌, arith, append_assoc, append-nil, length-append, ap, true≢false}
+use Rattle.std.proofs.Common.{◌≡◌, ℕ, ◌+◌, ◌≤◌, List, [], ◌∷◌, ◌++◌, length, map, None, Bool, true, false, if◌then◌else◌, ◌&&◌, ◌||◌, ◌==◌}
+use Rattle.std.proofs.Common.{not, refl, sym, subst, ◌∙◌, arith, append_assoc, append-nil, length-append, ap, true≢false}
 use Rattle.std.specs.List.{list_all}
 use Rattle.std.proofs.lemmas.Bool.{eqb-true}
 use Rattle.std.proofs.lemmas.List.{map-append}
@@ -66,7 +67,8 @@ more_operands : (o : Op) (rest others : List Operand → Bool) (left left_then :
     → ((s : Scope) → Each HasOperandType (map (resolved_operand s) new)) → length (os ++ new) + left_then ≤ 64 → AreOperandsOf o others left_then (os ++ new)
 more_operands o rest others left left_then os new g follows types few = record {
   whole = λ s more e. subst (λ all. has_operands o all ≡ true) (sym (resolved_behind s os new more)) (g.whole s (map (resolved_operand s) new ++ more) (follows s more e));
-  types = λ s. subst (Each HasOperandType) (sym (map-append (resolved_operand s) os new)) (Each-append HasOperandType (map (resolved_operand s) os) (map (resolved_operand s) new) (g.types s) (types s));
+  types = λ s. subst (Each HasOperandType) (sym (map-append (resolved_operand s) os new))
+      (Each-append HasOperandType (map (resolved_operand s) os) (map (resolved_operand s) new) (g.types s) (types s));
   few = few;
 }
 
@@ -122,7 +124,8 @@ left_out_typed true x e = refl
 left_out_typed false x e = absurd (cc)
 
 typed_follow : (o : Op) (ps : List Part) (os : List WrittenOperand) → (os ≡ [] → may_lack_operand o ≡ true) → (not (may_lack_operand o) || operand_parts ps == 0) ≡ true → AreEnumOperands os
-    → (s : Scope) (more : List Operand) → may_follow o (λ more. are_of_parts ps more) more ≡ true → may_follow o (λ more. are_of_parts (part.Typed ∷ ps) more) (map (resolved_operand s) os ++ more) ≡ true
+    → (s : Scope) (more : List Operand) → may_follow o (λ more. are_of_parts ps more) more ≡ true
+    → may_follow o (λ more. are_of_parts (part.Typed ∷ ps) more) (map (resolved_operand s) os ++ more) ≡ true
 typed_follow o ps [] lacks stands g s more e =
     let last : (operand_parts ps == 0) ≡ true = implied (may_lack_operand o) (operand_parts ps == 0) (lacks refl) stands in
     left_out (may_lack_operand o) (are_of_parts (part.Typed ∷ ps) more) (is_empty more) (lacks refl)

@@ -27,19 +27,25 @@ use Rattle.written_modules.specs.Opened.{PartGivens, PartParams, PartType, PartV
 use Rattle.written_modules.specs.inner.PartFaults.{body_fault, function_fault, module_fault, part_fault}
 use Rattle.written_tree.specs.Places.{arg_place, attribute_places, case_place, decl_names, field_place, function_names, label_place, operand_place, token_place}
 use Rattle.written_modules.specs.Types.{in_parens, tailed, type_before}
-use Rattle.written_modules.specs.Values.{token_of, stage_of, imports_of, items_of, item_of, fields_of, field_of, field_before, cases_of, type_of, payload_of, types_of, questions_of, linkage_of, tokens_of, params_of, param_before, givens_of, given_before, signature_of, blocks_of, block_of, args_of, arg_of, starred, insts_of, terminator_of, inst_of, operands_of, operand_of, edges_of, edge_of, member_of, flags_of, qualifier_of, debug_of, entry_of}
+use Rattle.written_modules.specs.Values.{args_of, blocks_of, cases_of, edges_of, field_of, fields_of, givens_of, imports_of}
+use Rattle.written_modules.specs.Values.{inst_of, items_of, linkage_of, member_of, operands_of, params_of, questions_of}
+use Rattle.written_modules.specs.Values.{signature_of, stage_of, token_of, tokens_of, type_of, types_of}
+use Rattle.written_modules.proofs.Unfolded.{value_parts}
 use Rattle.name_resolution.specs.Resolved.{Scope, resolved_case, resolved_decl, resolved_field, resolved_operand}
 use Rattle.numbered_form.specs.Lists.{Each}
 use Rattle.numbered_form.specs.Fields.{IsStrong}
 use Rattle.numbered_form.specs.Names.{IsMemberSpelled, IsWord, case_name, field_name, is_at_name}
 use Rattle.numbered_form.specs.Types.{HasFieldType, HasPayloadType, IsPlainType}
 use Rattle.numbered_reading_laws.proofs.ListsAndFaults.{Each-map, no_first, no_second, not_passed, not_passed-map}
-use Rattle.numbered_reading_laws.proofs.FaultlessParts.{AreGoodCases, AreGoodFrom, AreGoodGivens, AreGoodOperands, AreGoodParams, AreGoodSwitch, IsGoodBlock, IsGoodBranch, IsGoodCase, IsGoodDecl, IsGoodField, IsGoodFunction, IsGoodItem, IsGoodModule, IsGoodPart, IsGoodSignature, IsGoodToken, IsGoodType, IsStrongField, IsWordToken, nothing_shown}
+use Rattle.numbered_reading_laws.proofs.FaultlessParts.{AreGoodCases, AreGoodFrom, AreGoodGivens, AreGoodOperands, AreGoodParams, AreGoodSwitch, IsGoodBlock}
+use Rattle.numbered_reading_laws.proofs.FaultlessParts.{IsGoodBranch, IsGoodCase, IsGoodDecl, IsGoodField, IsGoodFunction, IsGoodItem, IsGoodModule, IsGoodPart}
+use Rattle.numbered_reading_laws.proofs.FaultlessParts.{IsGoodSignature, IsGoodToken, IsGoodType, IsStrongField, IsWordToken, nothing_shown}
 use Rattle.numbered_reading_laws.proofs.NumberLemmas.{good_small}
 use Rattle.numbered_reading_laws.proofs.ResultLemmas.{renamed}
 use Rattle.numbered_reading_laws.proofs.OperandLemmas.{operands_have_types, operands_typed}
 use Rattle.numbered_reading_laws.proofs.WholeRows.{good_row}
-use Rattle.numbered_reading_laws.proofs.TypeLemmas.{good_questions, good_name, good_optional, good_parens, good_unowned, good_weak, good_width, more_good_types, no_good_types, placed_address, placed_plain, plain_type, room}
+use Rattle.numbered_reading_laws.proofs.TypeLemmas.{good_questions, good_name, good_optional, good_parens, good_unowned, good_weak, good_width}
+use Rattle.numbered_reading_laws.proofs.TypeLemmas.{more_good_types, no_good_types, placed_address, placed_plain, plain_type, room}
 
 -- a type that begins elsewhere
 other_first : {t : PartType} → (first : Place) → IsGoodType t → IsGoodType (record t { first = first })
@@ -121,13 +127,15 @@ good_signature convention params givens g k h =
 no_params_good : AreGoodParams (record { params = []; firsts = [] })
 no_params_good = record { types = tt; counted = refl }
 
-one_more_param : (param : Param) (first : Place) (others : PartParams) → IsPlainType param.ty → AreGoodParams others → AreGoodParams (record { params = param ∷ others.params; firsts = first ∷ others.firsts })
+one_more_param : (param : Param) (first : Place) (others : PartParams) → IsPlainType param.ty
+    → AreGoodParams others → AreGoodParams (record { params = param ∷ others.params; firsts = first ∷ others.firsts })
 one_more_param param first others plain g = record { types = (plain, g.types); counted = ap suc g.counted }
 
 no_givens_good : AreGoodGivens (record { givens = []; firsts = [] })
 no_givens_good = record { types = tt; counted = refl }
 
-one_more_given : (given : Given) (first : Place) (others : PartGivens) → IsPlainType given.ty → AreGoodGivens others → AreGoodGivens (record { givens = given ∷ others.givens; firsts = first ∷ others.firsts })
+one_more_given : (given : Given) (first : Place) (others : PartGivens) → IsPlainType given.ty
+    → AreGoodGivens others → AreGoodGivens (record { givens = given ∷ others.givens; firsts = first ∷ others.firsts })
 one_more_given given first others plain g = record { types = (plain, g.types); counted = ap suc g.counted }
 
 -- modules
@@ -163,14 +171,16 @@ good_default label = record {
 }
 
 pub good_part : (q : Production) (parts : List PartValue) → AreGoodFrom 0 (body q) parts → part_fault q parts ≡ None → IsGoodPart (written q) (meaning q parts)
-unfolding body written meaning part_fault tailed IsGoodPart IsGoodToken token_of stage_of imports_of items_of item_of fields_of field_of field_before cases_of type_of payload_of types_of questions_of tokens_of params_of param_before givens_of given_before signature_of blocks_of block_of args_of arg_of starred insts_of terminator_of inst_of operands_of operand_of edges_of edge_of member_of flags_of qualifier_of debug_of entry_of
-good_part p.WholeModule parts g h = λ w e. let whole : WrittenModule = record { stage = stage_of (part 0 parts); imports = imports_of (part 1 parts); items = items_of (part 2 parts) } in let same : whole ≡ w = (cc) in subst IsGoodModule same (good_items whole g.1.1.0 h)
+unfolding body written meaning part_fault tailed IsGoodPart IsGoodToken value_parts
+good_part p.WholeModule parts g h = λ w e. let whole : WrittenModule = record { stage = stage_of (part 0 parts); imports = imports_of (part 1 parts); items = items_of (part 2 parts) } in
+    let same : whole ≡ w = (cc) in subst IsGoodModule same (good_items whole g.1.1.0 h)
 good_part p.ItemsMore parts g h = (g.0, g.1.0)
 good_part p.FinalClass parts g h = good_class (token_of (part 2 parts)) (fields_of (part 4 parts)) g.1.1.0 g.1.1.1.1.0 h
 good_part p.PlainClass parts g h = good_class (token_of (part 1 parts)) (fields_of (part 3 parts)) g.1.0 g.1.1.1.0 h
 good_part p.StructItem parts g h = good_struct (token_of (part 1 parts)) (fields_of (part 3 parts)) g.1.0 g.1.1.1.0.0 g.1.1.1.0.1 h
 good_part p.EnumItem parts g h = good_enum (token_of (part 1 parts)) (cases_of (part 3 parts)) g.1.0 g.1.1.1.0 h
-good_part p.FunctionItem parts g h = good_function (token_of (part 3 parts)) (linkage_of (part 1 parts)) (tokens_of (part 2 parts)) (signature_of (part 6 parts)) (blocks_of (part 7 parts)) g.1.1.1.0 g.1.1.0 g.1.1.1.1.1.1.0 g.1.1.1.1.1.1.1.0 h
+good_part p.FunctionItem parts g h = good_function (token_of (part 3 parts)) (linkage_of (part 1 parts)) (tokens_of (part 2 parts))
+    (signature_of (part 6 parts)) (blocks_of (part 7 parts)) g.1.1.1.0 g.1.1.0 g.1.1.1.1.1.1.0 g.1.1.1.1.1.1.1.0 h
 good_part p.VtableItem parts g h = record { name = g.1.0; entry = g.1.1.1.0 }
 good_part p.MembersMore parts g h = g.0 (fields_of (part 1 parts)) g.1.0
 good_part p.StoredMember parts g h = g.1.0
@@ -184,19 +194,26 @@ good_part p.ModifiedVariable parts g h = g.0
 good_part p.WeakVariable parts g h = λ others k. (record { name = g.1.0.0.name; ty = g.1.0.0.ty }, k)
 good_part p.UnownedVariable parts g h = λ others k. (record { name = g.1.0.0.name; ty = g.1.0.0.ty }, k)
 good_part p.StrongVariable parts g h = g.0.1
-good_part p.VarBinding parts g h = let f : IsGoodField (field_of (meaning p.VarBinding parts)) = record { name = g.1.0; ty = (plain_type (type_of (part 3 parts)) g.1.1.1.0) } in (f, λ others k. (f, k), λ others k. (refl, k))
-good_part p.LetBinding parts g h = let f : IsGoodField (field_of (meaning p.LetBinding parts)) = record { name = g.1.0; ty = (plain_type (type_of (part 3 parts)) g.1.1.1.0) } in (f, λ others k. (f, k), λ others k. (refl, k))
+good_part p.VarBinding parts g h = let f : IsGoodField (field_of (meaning p.VarBinding parts)) = record { name = g.1.0; ty = (plain_type (type_of (part 3 parts)) g.1.1.1.0) } in
+    (f, λ others k. (f, k), λ others k. (refl, k))
+good_part p.LetBinding parts g h = let f : IsGoodField (field_of (meaning p.LetBinding parts)) = record { name = g.1.0; ty = (plain_type (type_of (part 3 parts)) g.1.1.1.0) } in
+    (f, λ others k. (f, k), λ others k. (refl, k))
 good_part p.FieldsMore parts g h = (g.0.0 (fields_of (part 1 parts)) g.1.0.0, g.0.1 (fields_of (part 1 parts)) g.1.0.1)
 good_part p.FieldsEnd parts g h = (tt, tt)
 good_part p.StoredField parts g h = g.1.0
 good_part p.PlainField parts g h = (g.0.1, g.0.2)
 good_part p.CasesMore parts g h = (record { name = g.1.0; payload = g.1.1.0 }, g.1.1.1.0)
-good_part p.PayloadSome parts g h = plain_type (in_parens (place_at 0 parts) (type_before (type_of (part 1 parts)) (types_of (part 2 parts))) (place_at 3 parts)) (good_parens (place_at 0 parts) (type_before (type_of (part 1 parts)) (types_of (part 2 parts))) (place_at 3 parts) (more_good_types (type_of (part 1 parts)) (types_of (part 2 parts)) g.1.0 g.1.1.0) h)
+good_part p.PayloadSome parts g h = plain_type (in_parens (place_at 0 parts) (type_before (type_of (part 1 parts)) (types_of (part 2 parts))) (place_at 3 parts))
+    (good_parens (place_at 0 parts) (type_before (type_of (part 1 parts)) (types_of (part 2 parts)))
+    (place_at 3 parts) (more_good_types (type_of (part 1 parts)) (types_of (part 2 parts)) g.1.0 g.1.1.0) h)
 good_part p.BareType parts g h = g.0
-good_part p.ParenType parts g h = good_questions (in_parens (place_at 0 parts) (types_of (part 1 parts)) (place_at 2 parts)) (questions_of (part 3 parts)) (good_parens (place_at 0 parts) (types_of (part 1 parts)) (place_at 2 parts) g.1.0 (no_first _ _ h)) (no_second _ _ h)
+good_part p.ParenType parts g h = good_questions (in_parens (place_at 0 parts) (types_of (part 1 parts)) (place_at 2 parts))
+    (questions_of (part 3 parts)) (good_parens (place_at 0 parts) (types_of (part 1 parts)) (place_at 2 parts) g.1.0 (no_first _ _ h)) (no_second _ _ h)
 good_part p.BaseOpen parts g h = good_questions (type_of (part 0 parts)) (questions_of (part 1 parts)) g.0 h
-good_part p.WeakOpen parts g h = good_weak (type_of (part 1 parts)) (place_at 0 parts) (type_of (part 1 parts)).last g.1.0 (room (type_of (part 1 parts)).depth (type_of (part 1 parts)).last g.1.0.limit h)
-good_part p.UnownedOpen parts g h = good_unowned (type_of (part 1 parts)) (place_at 0 parts) (type_of (part 1 parts)).last g.1.0 (room (type_of (part 1 parts)).depth (type_of (part 1 parts)).last g.1.0.limit h)
+good_part p.WeakOpen parts g h = good_weak (type_of (part 1 parts)) (place_at 0 parts) (type_of (part 1 parts)).last
+    g.1.0 (room (type_of (part 1 parts)).depth (type_of (part 1 parts)).last g.1.0.limit h)
+good_part p.UnownedOpen parts g h = good_unowned (type_of (part 1 parts)) (place_at 0 parts)
+    (type_of (part 1 parts)).last g.1.0 (room (type_of (part 1 parts)).depth (type_of (part 1 parts)).last g.1.0.limit h)
 good_part p.BuiltinBase parts g h = g.1.0 (token_of (part 0 parts)) g.0
 good_part p.OptionalBase parts g h = g.1.0 (token_of (part 0 parts)) g.0
 good_part p.NamedBase parts g h = good_name (token_of (part 0 parts)) g.0
@@ -243,7 +260,11 @@ good_part p.StarNone parts g h = placed_plain
 good_part p.CodeInst parts g h = ((g.0, g.1.0.0), g.1.0.1)
 good_part p.CodeEnd parts g h = (tt, g.0)
 good_part p.InstOneName parts g h = record { goes_on = g.1.1.0.goes_on; good = λ s first. renamed s first (inst_of (part 2 parts)) (token_of (part 0 parts) ∷ []) (omega arith) (g.1.1.0.good s first) }
-good_part p.InstNames parts g h = record { goes_on = g.1.1.1.1.0.goes_on; good = λ s first. renamed s first (inst_of (part 4 parts)) (tokens_of (part 1 parts)) (not_passed-map token_place limit.Arguments 64 (tokens_of (part 1 parts)) h) (g.1.1.1.1.0.good s first) }
+good_part p.InstNames parts g h = record {
+  goes_on = g.1.1.1.1.0.goes_on;
+  good = λ s first. renamed s first (inst_of (part 4 parts)) (tokens_of (part 1 parts))
+      (not_passed-map token_place limit.Arguments 64 (tokens_of (part 1 parts)) h) (g.1.1.1.1.0.good s first);
+}
 good_part p.InstUnnamed parts g h = record { goes_on = g.0.goes_on; good = g.0.good }
 good_part (p.Row o) parts g h = good_row o parts (meaning (p.Row o) parts) refl g h
 good_part p.WholeOperand parts g h = λ s. record { typed = refl; ty = g.1.1.1.0 (type_of (part 4 parts)).ty (plain_type (type_of (part 4 parts)) g.1.1.1.1.0) }

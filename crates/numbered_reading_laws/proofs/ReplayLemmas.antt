@@ -63,7 +63,8 @@ good_leaf t.EndWord class l e g = tt
 good_leaf (t.Just wanted) class l same g = subst (λ (k : Class). IsTextOf k (kept_of l.kind l.spelling)) (sym same) g
 good_leaf _ _ l e g = absurd (true≢false (sym e))
 
-pub good_replay : {ss : List Symbol} {ks : List Class} {steps : List Step} → Derives ss ks steps → (lexemes : List Lexeme) → AreOfClasses ks lexemes → first_fault steps lexemes ≡ None → AreGood ss (replay steps lexemes)
+pub good_replay : {ss : List Symbol} {ks : List Class} {steps : List Step} → Derives ss ks steps → (lexemes : List Lexeme)
+    → AreOfClasses ks lexemes → first_fault steps lexemes ≡ None → AreGood ss (replay steps lexemes)
 unfolding reduced
 good_replay nothing lexemes leaves e = tt
 good_replay (token {s = s} accepted rest) [] leaves e = absurd leaves

@@ -68,7 +68,8 @@ with_last : (d : Detail) (t : Option TypeName) (typed : Bool) (number : Option �
 with_last d t typed None last there fine = absurd (true≢false (sym there))
 with_last d t typed (Some n) last there fine = record { there = refl; fine = record { in_range = fine; last = last } }
 
-read_number : (d : Detail) (t : Option TypeName) (typed : Bool) (spelling : List ℕ) (place : Place) → typed ≡ false → IfSome t IsPlainType → out_of_range (number_by d t spelling) place ≡ None → IsRead d t typed (number_by d t spelling)
+read_number : (d : Detail) (t : Option TypeName) (typed : Bool) (spelling : List ℕ) (place : Place) → typed ≡ false
+    → IfSome t IsPlainType → out_of_range (number_by d t spelling) place ≡ None → IsRead d t typed (number_by d t spelling)
 read_number detail.Literal (Some t) typed spelling place last plain e =
     let l : IsGoodLiteral t _ = good_literal t spelling place plain.written e in
     with_last detail.Literal (Some t) typed _ last l.there l.residue
@@ -78,7 +79,8 @@ read_number detail.Element t typed spelling place last plain e =
     with_last detail.Element t typed _ last l.there l.small
 read_number _ t typed spelling place last plain e = absurd (cc)
 
-put_number : (o : Op) (coming typed : Bool) (t : Option TypeName) (number : Option ℤ) → row_has is_number o ≡ true → IsRead (detail_of o) t typed number → HasField is_number o coming (IsNumberFor (detail_of o) t typed) number
+put_number : (o : Op) (coming typed : Bool) (t : Option TypeName) (number : Option ℤ) → row_has is_number o ≡ true
+    → IsRead (detail_of o) t typed number → HasField is_number o coming (IsNumberFor (detail_of o) t typed) number
 put_number o coming typed t number e r = record { there = ap (λ b. b || coming) r.there ∙ sym e; fine = r.fine }
 
 no_number : (d : Detail) (t new : Option TypeName) (typed : Bool) (number : Option ℤ) → IfSome number (IsNumberFor d t true) → IfSome number (IsNumberFor d new typed)
@@ -134,11 +136,13 @@ module _ (o : Op) (others : List Part) (at : ℕ) (parts : List PartValue) (i : 
       → HasField is_type o (list_any is_type (here ∷ others)) IsPlainType i.ty → HasField is_type o (list_any is_type others) IsPlainType (with_part o here at parts i).ty
   unfolding symbols_of IsGoodPart
   type_kept part.TypeWord own good g = put is_type o (list_any is_type others) IsPlainType (type_of (part (at + 1) parts)).ty (own is_type refl) (plain_type (type_of (part (at + 1) parts)) good.1.0)
-  type_kept part.ResultType own good g = put is_type o (list_any is_type others) IsPlainType (type_of (part (at + 2) parts)).ty (own is_type refl) (plain_type (type_of (part (at + 2) parts)) (third n.Type at parts good.1.1.0))
+  type_kept part.ResultType own good g = put is_type o (list_any is_type others) IsPlainType (type_of (part (at + 2) parts)).ty
+      (own is_type refl) (plain_type (type_of (part (at + 2) parts)) (third n.Type at parts good.1.1.0))
   type_kept _ own good g = g
 
   pub signature_kept : (here : Part) → IsOfRow o here → AreGoodFrom at (symbols_of o here) parts
-      → HasField is_signature o (list_any is_signature (here ∷ others)) IsGoodSignature i.signature → HasField is_signature o (list_any is_signature others) IsGoodSignature (with_part o here at parts i).signature
+      → HasField is_signature o (list_any is_signature (here ∷ others)) IsGoodSignature i.signature
+      → HasField is_signature o (list_any is_signature others) IsGoodSignature (with_part o here at parts i).signature
   unfolding symbols_of IsGoodPart
   signature_kept part.SignatureWord own good g = put is_signature o (list_any is_signature others) IsGoodSignature _ (own is_signature refl) (third n.FunctionType at parts good.1.1.0)
   signature_kept _ own good g = g
@@ -151,11 +155,13 @@ module _ (o : Op) (others : List Part) (at : ℕ) (parts : List PartValue) (i : 
   pub member_kept : (here : Part) → IsOfRow o here → AreGoodFrom at (symbols_of o here) parts
       → HasField is_member o (list_any is_member (here ∷ others)) IsMemberSpelled i.member → HasField is_member o (list_any is_member others) IsMemberSpelled (with_part o here at parts i).member
   unfolding symbols_of rows.member_of
-  member_kept part.Member own good g = put is_member o (list_any is_member others) IsMemberSpelled (member_of (part at parts)) (own is_member refl) (spelled_member (detail_of o) (part at parts) good.0)
+  member_kept part.Member own good g = put is_member o (list_any is_member others) IsMemberSpelled
+      (member_of (part at parts)) (own is_member refl) (spelled_member (detail_of o) (part at parts) good.0)
   member_kept _ own good g = g
 
   pub text_kept : (here : Part) → IsOfRow o here → AreGoodFrom at (symbols_of o here) parts
-      → HasField is_text o (list_any is_text (here ∷ others)) (IsTextFor (detail_of o)) i.text → HasField is_text o (list_any is_text others) (IsTextFor (detail_of o)) (with_part o here at parts i).text
+      → HasField is_text o (list_any is_text (here ∷ others)) (IsTextFor (detail_of o)) i.text
+      → HasField is_text o (list_any is_text others) (IsTextFor (detail_of o)) (with_part o here at parts i).text
   unfolding symbols_of rows.text_of
   text_kept part.Text own good g = put is_text o (list_any is_text others) (IsTextFor (detail_of o)) (text_at at parts) (own is_text refl) (text_for (detail_of o) (text_at at parts) good.0)
   text_kept _ own good g = g
@@ -170,7 +176,8 @@ module _ (o : Op) (others : List Part) (at : ℕ) (parts : List PartValue) (i : 
   number_kept part.ResultType stands own plain h g = record { there = g.there; fine = no_number (detail_of o) i.ty _ (list_any is_type others) i.number g.fine }
   number_kept _ stands own plain h g = g
 
-  pub qualifier_kept : (here : Part) → may_stand o here others ≡ true → AreGoodFrom at (symbols_of o here) parts → IsTrue (may_have o i.qualifier.word) → IsTrue (may_have o (with_part o here at parts i).qualifier.word)
+  pub qualifier_kept : (here : Part) → may_stand o here others ≡ true → AreGoodFrom at (symbols_of o here) parts
+      → IsTrue (may_have o i.qualifier.word) → IsTrue (may_have o (with_part o here at parts i).qualifier.word)
   unfolding symbols_of rows.qualifier_of
   qualifier_kept part.Qualifier stands good g = word_among (words_of o) (part at parts) stands good.0
   qualifier_kept _ stands good g = g
@@ -181,12 +188,14 @@ module _ (o : Op) (others : List Part) (at : ℕ) (parts : List PartValue) (i : 
   flags_kept _ own g = g
 
   pub debug_kept : (here : Part) → IsOfRow o here → AreGoodFrom at (symbols_of o here) parts
-      → IsTrue (row_has is_debug o || is_silent i.debug) × IsGoodDebug i.debug → IsTrue (row_has is_debug o || is_silent (with_part o here at parts i).debug) × IsGoodDebug (with_part o here at parts i).debug
+      → IsTrue (row_has is_debug o || is_silent i.debug) × IsGoodDebug i.debug
+      → IsTrue (row_has is_debug o || is_silent (with_part o here at parts i).debug) × IsGoodDebug (with_part o here at parts i).debug
   unfolding symbols_of IsGoodPart
   debug_kept part.Debug own good g = (either_first _ _ (own is_debug refl), good.0)
   debug_kept _ own good g = g
 
-  pub edges_kept : (here : Part) → AreGoodFrom at (symbols_of o here) parts → HasItsEdges o (list_any is_edges (here ∷ others)) i.edges → HasItsEdges o (list_any is_edges others) (with_part o here at parts i).edges
+  pub edges_kept : (here : Part) → AreGoodFrom at (symbols_of o here) parts → HasItsEdges o (list_any is_edges (here ∷ others)) i.edges
+      → HasItsEdges o (list_any is_edges others) (with_part o here at parts i).edges
   unfolding symbols_of rows.edges_of
   edges_kept part.Edges good g =
       let w : AreEdgesOf (ending_of o) (edges_at (ending_of o) at parts) = written_edges (ending_of o) at parts good in

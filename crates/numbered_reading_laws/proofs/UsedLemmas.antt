@@ -1,5 +1,6 @@
 -- What a module uses is there, since every name that is used is defined.
-use Rattle.std.proofs.Common.{◌≡◌, ℕ, ◌+◌, ◌<◌, ◌≤◌, suc, List, [], ◌∷◌, ◌++◌, length, map, position, unwrap_or, Option, Some, None, Bool, true, false, cond, if◌then◌else◌, nat_lt, IfSome, sym, refl, subst, ◌∙◌, arith, flat_map, length-append, append-nil, true≢false, ltb-true}
+use Rattle.std.proofs.Common.{◌≡◌, ℕ, ◌+◌, ◌<◌, ◌≤◌, suc, List, [], ◌∷◌, ◌++◌, length, map, position, unwrap_or, Option, Some, None, Bool, true, false, cond}
+use Rattle.std.proofs.Common.{if◌then◌else◌, nat_lt, IfSome, sym, refl, subst, ◌∙◌, arith, flat_map, length-append, append-nil, true≢false, ltb-true}
 use Rattle.std.specs.List.{list_any, position_or_len}
 use Rattle.std.specs.Option.{option_map, option_to_list}
 use Rattle.std.specs.Str.{bytes_eq}
@@ -20,9 +21,11 @@ use Rattle.written_tree.specs.declared.written_module.WrittenVtable.{WrittenVtab
 use Rattle.written_tree.specs.declared.written_module.WrittenModule.{WrittenModule}
 use Rattle.written_tree.specs.Faults.{earliest, fault}
 use Rattle.name_resolution.specs.NameFaults.{function_fault, is_among, name_fault, unknown_among, unknown_in}
-use Rattle.name_resolution.specs.Names.{Name, code_of, edge_label, edge_values, entry_function, function_name, functions_of, vtables_of, functions_used, label_of, labels_used, name_of, operand_name, results_of, used_by_item, values_defined, values_used}
+use Rattle.name_resolution.specs.Names.{Name, code_of, edge_label, edge_values, entry_function, function_name, functions_of, vtables_of, functions_used}
+use Rattle.name_resolution.specs.Names.{label_of, labels_used, name_of, operand_name, results_of, used_by_item, values_defined, values_used}
 use Rattle.name_resolution.specs.Names as written
-use Rattle.name_resolution.specs.Resolved.{Scope, defined_by, defined_by_arg, defined_by_inst, defined_in, function_of, place_among, resolved, resolved_block, resolved_blocks, resolved_edge, resolved_function, resolved_inst, resolved_operand, scope_of, value_of, values_of, resolved_entry, resolved_vtable}
+use Rattle.name_resolution.specs.Resolved.{Scope, defined_by, defined_by_arg, defined_by_inst, defined_in, function_of, place_among, resolved, resolved_block, resolved_blocks}
+use Rattle.name_resolution.specs.Resolved.{resolved_edge, resolved_function, resolved_inst, resolved_operand, scope_of, value_of, values_of, resolved_entry, resolved_vtable}
 use Rattle.numbered_form.specs.Lists.{Each}
 use Rattle.numbered_form.specs.Insts.{EachInBlock}
 use Rattle.numbered_form.specs.Numbering.{AreCountedFrom, AreNumbered, IsEdgeInRange, IsFunctionNumbered, IsInstInRange, IsValueBelow, IsVtableInRange}
@@ -99,15 +102,18 @@ names_of_code [] last e = rw (append-nil, e) (omega arith)
 names_of_code (w ∷ ws) last e =
     let one : length w.results ≤ length (defined_by_inst w) = names_of_inst w.op w.results in
     let rest : length (flat_map results_of (ws ++ last ∷ [])) ≤ length (flat_map defined_by_inst ws) = names_of_code ws last e in
-    let named : length (flat_map results_of (w ∷ ws ++ last ∷ [])) ≡ length w.results + length (flat_map results_of (ws ++ last ∷ [])) = length-append w.results (flat_map results_of (ws ++ last ∷ [])) in
+    let named : length (flat_map results_of (w ∷ ws ++ last ∷ [])) ≡ length w.results + length (flat_map results_of (ws ++ last ∷ [])) =
+    length-append w.results (flat_map results_of (ws ++ last ∷ [])) in
     let defined : length (flat_map defined_by_inst (w ∷ ws)) ≡ length (defined_by_inst w) + length (flat_map defined_by_inst ws) = length-append (defined_by_inst w) (flat_map defined_by_inst ws) in
     omega arith
 
 names_of_block : (b : WrittenBlock) → IsGoodBlock b → length (values_defined b) ≤ length (defined_in b)
 names_of_block b g =
     let code : length (flat_map results_of (code_of b)) ≤ length (flat_map defined_by_inst b.insts) = names_of_code b.insts b.terminator g.terminator.no_results in
-    let named : length (values_defined b) ≡ length (map written.arg_name b.args) + length (flat_map results_of (code_of b)) = length-append (map written.arg_name b.args) (flat_map results_of (code_of b)) in
-    let defined : length (defined_in b) ≡ length (map defined_by_arg b.args) + length (flat_map defined_by_inst b.insts) = length-append (map defined_by_arg b.args) (flat_map defined_by_inst b.insts) in
+    let named : length (values_defined b) ≡ length (map written.arg_name b.args) + length (flat_map results_of (code_of b)) =
+    length-append (map written.arg_name b.args) (flat_map results_of (code_of b)) in
+    let defined : length (defined_in b) ≡ length (map defined_by_arg b.args) + length (flat_map defined_by_inst b.insts) =
+    length-append (map defined_by_arg b.args) (flat_map defined_by_inst b.insts) in
     let args : length (map written.arg_name b.args) ≡ length (map defined_by_arg b.args) = length-map b.args written.arg_name ∙ sym (length-map b.args defined_by_arg) in
     omega arith
 
@@ -149,11 +155,13 @@ edges_below s values blocks (e ∷ es) v b g h =
     let parts = Each-split (HasSome values) (edge_values e) (flat_map edge_values es) g in
     (record { block = place_below s.blocks blocks e.label b h.0; args = operands_below s values e.args v parts.0 }, edges_below s values blocks es v b parts.1 h.1)
 
-callee_below : (s : Scope) (functions : ℕ) (callee : Option WrittenToken) → functions ≡ length s.functions → Each (HasSome functions) (option_to_list callee) → IfSome (option_map (function_of s) callee) (λ f. f.0 < functions)
+callee_below : (s : Scope) (functions : ℕ) (callee : Option WrittenToken) → functions ≡ length s.functions
+    → Each (HasSome functions) (option_to_list callee) → IfSome (option_map (function_of s) callee) (λ f. f.0 < functions)
 callee_below s functions None e g = tt
 callee_below s functions (Some token) e g = place_below s.functions functions token e g.0
 
-inst_in_range : (s : Scope) (values blocks functions : ℕ) → HasCounts s values blocks functions → (first : ℕ) (w : WrittenInst) → UsesThere values blocks functions w → IsInstInRange values blocks functions (resolved_inst s first w)
+inst_in_range : (s : Scope) (values blocks functions : ℕ) → HasCounts s values blocks functions → (first : ℕ) (w : WrittenInst)
+    → UsesThere values blocks functions w → IsInstInRange values blocks functions (resolved_inst s first w)
 inst_in_range s values blocks functions c first w u =
     let parts = Each-split (HasSome values) (map operand_name w.operands) (flat_map edge_values w.edges) u.used_values in
     record {
@@ -162,7 +170,8 @@ inst_in_range s values blocks functions c first w u =
       function = callee_below s functions w.function c.functions_are u.used_functions;
     }
 
-block_in_range : (s : Scope) (values blocks functions : ℕ) → HasCounts s values blocks functions → (first : ℕ) (b : WrittenBlock) → Each (UsesThere values blocks functions) (code_of b) → EachInBlock (IsInstInRange values blocks functions) (resolved_block s first b)
+block_in_range : (s : Scope) (values blocks functions : ℕ) → HasCounts s values blocks functions → (first : ℕ) (b : WrittenBlock)
+    → Each (UsesThere values blocks functions) (code_of b) → EachInBlock (IsInstInRange values blocks functions) (resolved_block s first b)
 block_in_range s values blocks functions c first b g =
     let uses : WrittenInst → Type 0 = UsesThere values blocks functions in
     let parts = Each-split uses b.insts (b.terminator ∷ []) g in (
@@ -172,7 +181,8 @@ block_in_range s values blocks functions c first b g =
 
 -- functions
 
-each_use : (values blocks functions : ℕ) (ws : List WrittenInst) → Each (HasSome values) (flat_map values_used ws) → Each (HasSome blocks) (flat_map labels_used ws) → Each (HasSome functions) (flat_map functions_used ws)
+each_use : (values blocks functions : ℕ) (ws : List WrittenInst) → Each (HasSome values) (flat_map values_used ws)
+    → Each (HasSome blocks) (flat_map labels_used ws) → Each (HasSome functions) (flat_map functions_used ws)
     → Each (UsesThere values blocks functions) ws
 each_use values blocks functions [] v b f = tt
 each_use values blocks functions (w ∷ ws) v b f =
@@ -181,7 +191,8 @@ each_use values blocks functions (w ∷ ws) v b f =
     let fs = Each-split (HasSome functions) (functions_used w) (flat_map functions_used ws) f in
     (record { used_values = vs.0; used_labels = bs.0; used_functions = fs.0 }, each_use values blocks functions ws vs.1 bs.1 fs.1)
 
-function_numbered : (names : List Name) (f : WrittenFunction) → IsGoodFunction f → function_fault f ≡ None → Each (HasSome (length names)) (flat_map functions_used (written.insts_of f)) → IsFunctionNumbered (length names) (resolved_function names f)
+function_numbered : (names : List Name) (f : WrittenFunction) → IsGoodFunction f → function_fault f ≡ None
+    → Each (HasSome (length names)) (flat_map functions_used (written.insts_of f)) → IsFunctionNumbered (length names) (resolved_function names f)
 function_numbered names f g e calls =
     let s : Scope = scope_of names f in
     let rs : List Block = resolved_blocks s 0 f.blocks in
@@ -194,14 +205,17 @@ function_numbered names f g e calls =
     let blocks_is : blocks ≡ length f.blocks = length-blocks s 0 f.blocks in
     let names_is : length s.blocks ≡ length f.blocks = length-map f.blocks _ in
     let labels : Each (HasSome (length f.blocks)) (flat_map labels_used (written.insts_of f)) = used_there label_of f.blocks _ (no_first _ _ behind_labels) in
-    let named : Each (HasSome (length (flat_map values_defined f.blocks))) (flat_map values_used (written.insts_of f)) = values_there (flat_map values_defined f.blocks) _ (no_first _ _ behind_values) in
+    let named : Each (HasSome (length (flat_map values_defined f.blocks))) (flat_map values_used (written.insts_of f)) =
+    values_there (flat_map values_defined f.blocks) _ (no_first _ _ behind_values) in
     let fewer : length (flat_map values_defined f.blocks) ≤ values = (let h : length (flat_map values_defined f.blocks) ≤ length (values_of f) = names_of_blocks f.blocks g.blocks in rw values_is h) in
     let there : Each (HasSome values) (flat_map values_used (written.insts_of f)) = more_there _ values fewer _ named in
     let counts : HasCounts s values blocks (length names) = record { values_are = values_is; blocks_are = blocks_is ∙ sym names_is; functions_are = refl } in
-    let uses : Each (UsesThere values blocks (length names)) (written.insts_of f) = each_use values blocks (length names) (written.insts_of f) there (subst (λ (n : ℕ). Each (HasSome n) (flat_map labels_used (written.insts_of f))) (sym blocks_is) labels) calls in
+    let uses : Each (UsesThere values blocks (length names)) (written.insts_of f) =
+    each_use values blocks (length names) (written.insts_of f) there (subst (λ (n : ℕ). Each (HasSome n) (flat_map labels_used (written.insts_of f))) (sym blocks_is) labels) calls in
     record {
       values = blocks_counted s 0 f.blocks g.blocks;
-      used = Each-blocks s (λ b. Each (UsesThere values blocks (length names)) (code_of b)) (EachInBlock (IsInstInRange values blocks (length names))) (block_in_range s values blocks (length names) counts) 0 f.blocks (Each-unflat code_of (UsesThere values blocks (length names)) f.blocks uses);
+      used = Each-blocks s (λ b. Each (UsesThere values blocks (length names)) (code_of b)) (EachInBlock (IsInstInRange values blocks (length names)))
+          (block_in_range s values blocks (length names) counts) 0 f.blocks (Each-unflat code_of (UsesThere values blocks (length names)) f.blocks uses);
     }
 
 -- modules
@@ -222,11 +236,13 @@ item_entries functions (item.Decl d) g = tt
 item_entries functions (item.Function f) g = tt
 item_entries functions (item.Vtable t) g = (g, tt)
 
-functions_numbered : (names : List Name) (fs : List WrittenFunction) → Each IsGoodFunction fs → earliest (map function_fault fs) ≡ None → Each (CallsThere (length names)) fs → Each (IsFunctionNumbered (length names)) (map (resolved_function names) fs)
+functions_numbered : (names : List Name) (fs : List WrittenFunction) → Each IsGoodFunction fs → earliest (map function_fault fs) ≡ None
+    → Each (CallsThere (length names)) fs → Each (IsFunctionNumbered (length names)) (map (resolved_function names) fs)
 functions_numbered names [] g e calls = tt
 functions_numbered names (f ∷ fs) g e calls = (function_numbered names f g.0 (no_first _ _ e) calls.0, functions_numbered names fs g.1 (no_second _ _ e) calls.1)
 
-entry_in_range : (names : List Name) (entry : Option WrittenEntry) → Each (HasSome (length names)) (map entry_function (option_to_list entry)) → IfSome (option_map (resolved_entry names) entry) (λ e. e.function.0 < length names)
+entry_in_range : (names : List Name) (entry : Option WrittenEntry) → Each (HasSome (length names)) (map entry_function (option_to_list entry))
+    → IfSome (option_map (resolved_entry names) entry) (λ e. e.function.0 < length names)
 entry_in_range names None g = tt
 entry_in_range names (Some entry) g = place_below names (length names) entry.function refl g.0
 
@@ -242,10 +258,14 @@ read_numbering w g e =
     let used : Each (HasSome (length functions)) (flat_map used_by_item w.items) = used_there function_name functions _ (no_first _ _ behind_vtables) in
     let there : Each (HasSome (length names)) (flat_map used_by_item w.items) = subst (λ (n : ℕ). Each (HasSome n) (flat_map used_by_item w.items)) (sym names_is) used in
     let by_item = Each-unflat used_by_item (HasSome (length names)) w.items there in
-    let calls : Each (CallsThere (length names)) functions = Each-flat_map functions_of (λ i. Each (HasSome (length names)) (used_by_item i)) (CallsThere (length names)) (item_calls (length names)) w.items by_item in
-    let entries : Each (EntryThere (length names)) (flat_map vtables_of w.items) = Each-flat_map vtables_of (λ i. Each (HasSome (length names)) (used_by_item i)) (EntryThere (length names)) (item_entries (length names)) w.items by_item in
-    let numbered : Each (IsFunctionNumbered (length names)) (map (resolved_function names) functions) = functions_numbered names functions (good_functions w.items g.items) (no_first _ _ behind_members) calls in
-    let in_range : Each (IsVtableInRange (length names)) (map (resolved_vtable names) (flat_map vtables_of w.items)) = Each-map (resolved_vtable names) (EntryThere (length names)) (IsVtableInRange (length names)) (λ t h. entry_in_range names t.entry h) (flat_map vtables_of w.items) entries in
+    let calls : Each (CallsThere (length names)) functions =
+    Each-flat_map functions_of (λ i. Each (HasSome (length names)) (used_by_item i)) (CallsThere (length names)) (item_calls (length names)) w.items by_item in
+    let entries : Each (EntryThere (length names)) (flat_map vtables_of w.items) =
+    Each-flat_map vtables_of (λ i. Each (HasSome (length names)) (used_by_item i)) (EntryThere (length names)) (item_entries (length names)) w.items by_item in
+    let numbered : Each (IsFunctionNumbered (length names)) (map (resolved_function names) functions) =
+    functions_numbered names functions (good_functions w.items g.items) (no_first _ _ behind_members) calls in
+    let in_range : Each (IsVtableInRange (length names)) (map (resolved_vtable names) (flat_map vtables_of w.items)) =
+    Each-map (resolved_vtable names) (EntryThere (length names)) (IsVtableInRange (length names)) (λ t h. entry_in_range names t.entry h) (flat_map vtables_of w.items) entries in
     record {
       functions = subst (λ (n : ℕ). Each (IsFunctionNumbered n) (map (resolved_function names) functions)) count_is numbered;
       vtables = subst (λ (n : ℕ). Each (IsVtableInRange n) (map (resolved_vtable names) (flat_map vtables_of w.items))) count_is in_range;

@@ -1,5 +1,6 @@
 -- A row writes a good instruction: what holds before a part holds behind it, down to the last part.
-use Rattle.std.proofs.Common.{◌≡◌, ℕ, ◌+◌, ◌≤◌, List, [], ◌∷◌, ◌++◌, length, map, Option, Some, None, Bool, true, false, if◌then◌else◌, ◌||◌, not, is_some, IfSome, IsTrue, ap, refl, sym, subst, ◌∙◌, arith, append-nil, leb-true, length-append}
+use Rattle.std.proofs.Common.{◌≡◌, ℕ, ◌+◌, ◌≤◌, List, [], ◌∷◌, ◌++◌, length, map, Option, Some, None, Bool, true, false, if◌then◌else◌, ◌||◌, not}
+use Rattle.std.proofs.Common.{is_some, IfSome, IsTrue, ap, refl, sym, subst, ◌∙◌, arith, append-nil, leb-true, length-append}
 use Rattle.std.specs.List.{list_any}
 use Rattle.std.specs.Option.{option_map}
 use Rattle.std.proofs.lemmas.List.{length-map}
@@ -29,7 +30,8 @@ use Rattle.numbered_form.specs.Types.{HasEdgeTypes, HasSignatureTypes, IsPlainTy
 use Rattle.numbered_reading_laws.proofs.ListsAndFaults.{Each-weaker, either_first, either_second, first_of_both, no_first, no_second, second_of_both}
 use Rattle.numbered_reading_laws.proofs.FaultlessParts.{AreGoodFrom, IsGoodAnywhere, IsGoodDebug, IsGoodEdge, IsGoodPart, IsGoodSignature, nothing_shown}
 use Rattle.numbered_reading_laws.proofs.OperandLemmas.{AreOperandsBefore, operands_kept}
-use Rattle.numbered_reading_laws.proofs.RowFields.{HasField, HasItsEdges, IsNumberFor, IsOfRow, IsTextFor, debug_kept, edges_kept, flags_kept, function_kept, member_kept, number_kept, qualifier_kept, same_op, same_results, signature_kept, text_kept, type_kept}
+use Rattle.numbered_reading_laws.proofs.RowFields.{HasField, HasItsEdges, IsNumberFor, IsOfRow, IsTextFor, debug_kept, edges_kept, flags_kept, function_kept}
+use Rattle.numbered_reading_laws.proofs.RowFields.{member_kept, number_kept, qualifier_kept, same_op, same_results, signature_kept, text_kept, type_kept}
 use Rattle.numbered_reading_laws.proofs.ResultLemmas.{results_few, results_there}
 use Rattle.numbered_reading_laws.proofs.RowRules.{edges_stand, few_operand_parts, is_edges, may_all_stand, may_stand, operand_parts, parts_stand}
 
@@ -89,7 +91,8 @@ unfolding parts_row
 here_good o here others at parts g =
     front_parts at (symbols_of o here) (comma_behind o here others) parts (front_parts at (symbols_of o here ++ comma_behind o here others) (parts_row o others) parts g)
 
-others_behind : (o : Op) (here : Part) (others : List Part) (at : ℕ) (parts : List PartValue) → AreGoodFrom at (parts_row o (here ∷ others)) parts → AreGoodFrom (behind_part o here others at) (parts_row o others) parts
+others_behind : (o : Op) (here : Part) (others : List Part) (at : ℕ) (parts : List PartValue)
+    → AreGoodFrom at (parts_row o (here ∷ others)) parts → AreGoodFrom (behind_part o here others at) (parts_row o others) parts
 unfolding parts_row
 others_behind o here others at parts g =
     subst (λ (k : ℕ). AreGoodFrom k (parts_row o others) parts) (ap (λ n. at + n) (length-append (symbols_of o here) (comma_behind o here others)))
@@ -101,7 +104,8 @@ none_found o [] at parts i found h = h
 none_found o (here ∷ others) at parts i found h =
     no_first found (fault_of_part o here at parts i) (none_found o others (behind_part o here others at) parts (with_part o here at parts i) (earlier found (fault_of_part o here at parts i)) h)
 
-no_fault_here : (o : Op) (here : Part) (others : List Part) (at : ℕ) (parts : List PartValue) (i : WrittenInst) (found : Option Fault) → parts_fault o (here ∷ others) at parts i found ≡ None → fault_of_part o here at parts i ≡ None
+no_fault_here : (o : Op) (here : Part) (others : List Part) (at : ℕ) (parts : List PartValue) (i : WrittenInst) (found : Option Fault)
+    → parts_fault o (here ∷ others) at parts i found ≡ None → fault_of_part o here at parts i ≡ None
 no_fault_here o here others at parts i found h =
     no_second found (fault_of_part o here at parts i) (none_found o others (behind_part o here others at) parts (with_part o here at parts i) (earlier found (fault_of_part o here at parts i)) h)
 
@@ -113,7 +117,8 @@ all_parts o (here ∷ others) at parts i found stand good h g =
     (second_of_both (may_stand o here others) (may_all_stand o others) stand)
     (others_behind o here others at parts good)
     h
-    (one_more_part o here others at parts i (first_of_both (may_stand o here others) (may_all_stand o others) stand) (here_good o here others at parts good) (no_fault_here o here others at parts i found h) g)
+    (one_more_part o here others at parts i (first_of_both (may_stand o here others) (may_all_stand o others) stand)
+    (here_good o here others at parts good) (no_fault_here o here others at parts i found h) g)
 
 -- before the first part
 

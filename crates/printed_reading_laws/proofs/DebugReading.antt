@@ -127,10 +127,12 @@ module _ (text : List ℕ) (after : List ℕ) (ends : Ends after) where
   said None name argno deref quotable few = without_binding (name_rest name argno deref quotable few)
   said (Some Let) name argno deref quotable few =
       let rest = after_binding (name_rest name argno deref quotable few) in
-      goes_on (stands_by p.DebugLet _ (word_token (codes "let") refl refl (ends_rest ends (name_rest name argno deref quotable few)) rest.reads) refl (λ j. record (rest.stands j) { binding = Some Let }))
+      goes_on (stands_by p.DebugLet _ (word_token (codes "let") refl refl (ends_rest ends (name_rest name argno deref quotable few)) rest.reads)
+      refl (λ j. record (rest.stands j) { binding = Some Let }))
   said (Some Var) name argno deref quotable few =
       let rest = after_binding (name_rest name argno deref quotable few) in
-      goes_on (stands_by p.DebugVar _ (word_token (codes "var") refl refl (ends_rest ends (name_rest name argno deref quotable few)) rest.reads) refl (λ j. record (rest.stands j) { binding = Some Var }))
+      goes_on (stands_by p.DebugVar _ (word_token (codes "var") refl refl (ends_rest ends (name_rest name argno deref quotable few)) rest.reads)
+      refl (λ j. record (rest.stands j) { binding = Some Var }))
 
   debug_said : (d : Debug) → IfSome d.name (λ text. IsTrue (is_quotable text)) → IfSome d.argno (λ n. n ≤ 65535) → ReadsRest text n.DebugPart d after (debug_text d ++ after)
   debug_said d quotable few =

@@ -78,7 +78,11 @@ module _ (o : Op) (last : default_word (ending_of o) ≡ codes "default ") where
       let rest = other_edges_text es ++ after in
       let name = case_reads text m (58 ∷ 32 ∷ 98 ∷ 98 ∷ decimal block.0 ++ rest) spelled refl in
       let behind_hash = ((m.owner ++ 46 ∷ []) ++ m.name) ++ codes "!enumelt" in
-      rw (append-nil ((behind_hash ++ 58 ∷ 32 ∷ []) ++ block_name block.0), append_assoc (behind_hash ++ 58 ∷ 32 ∷ []) (block_name block.0) rest, append_assoc behind_hash (58 ∷ 32 ∷ []) (block_name block.0 ++ rest))
+      rw (
+        append-nil ((behind_hash ++ 58 ∷ 32 ∷ []) ++ block_name block.0),
+        append_assoc (behind_hash ++ 58 ∷ 32 ∷ []) (block_name block.0) rest,
+        append_assoc behind_hash (58 ∷ 32 ∷ []) (block_name block.0 ++ rest),
+      )
       (stands_by p.SwitchCase _
       (word_token (codes "case") refl refl refl (reads.blank 32 refl (behind name.reads (punctuation_token 58 refl refl (reads.blank 32 refl
       (label_token block.0 small (ends_edges es after ends) more.reads))))))

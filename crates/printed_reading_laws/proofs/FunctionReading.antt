@@ -130,7 +130,8 @@ body_reads text functions (b ∷ blocks) after few printable =
     let first = block_reads text functions 0 b (blocks_behind functions 1 blocks ++ (125 ∷ 10 ∷ after)) (omega arith) printable.0 in
     rw (blocks_ahead (block_text functions 0 b) (blocks_behind functions 1 blocks) after)
     (stands_by p.BodySome (AreBlockValues functions (b ∷ blocks))
-    (reads.blank 32 refl (punctuation_here m.LeftBrace 123 refl refl (reads.blank 10 refl (part_here first (part_here others (punctuation_here m.RightBrace 125 refl refl (reads.blank 10 refl reads.nothing))))))) refl
+    (reads.blank 32 refl (punctuation_here m.LeftBrace 123 refl refl
+    (reads.blank 10 refl (part_here first (part_here others (punctuation_here m.RightBrace 125 refl refl (reads.blank 10 refl reads.nothing))))))) refl
     (first.stands, others.stands))
 
 -- no limit is passed
@@ -183,6 +184,7 @@ function_reads text functions f after printable =
     (any_at f.name printable.spelled.name refl (reads.blank 32 refl (punctuation_here m.Colon 58 refl refl (reads.blank 32 refl (punctuation_here m.Dollar 36 refl refl
     (part_here signature (part_here inside reads.nothing)))))))))))
     (neither (passed limit.Arguments 64 (attribute_places (tokens_of attributes.value))) (body_fault (blocks_of inside.value))
-    (not_passed limit.Arguments 64 (attribute_places (tokens_of attributes.value)) (omega (arith, attribute_count (tokens_of attributes.value) f.attributes f.form printable.attributes attributes.stands, printable.limits.attributes)))
+    (not_passed limit.Arguments 64 (attribute_places (tokens_of attributes.value))
+    (omega (arith, attribute_count (tokens_of attributes.value) f.attributes f.form printable.attributes attributes.stands, printable.limits.attributes)))
     (body_is_good functions f (blocks_of inside.value) printable inside.stands))
     (record { item = _; is_item = refl; stands = record { name = refl; linkage = kind.stands; attributes = attributes.stands; signature = signature.stands; blocks = inside.stands } }))

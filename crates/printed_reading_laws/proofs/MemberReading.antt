@@ -21,14 +21,19 @@ pub field_reads : (text : List ℕ) (m : Member) (after : List ℕ) → IsMember
 unfolding body written meaning part_fault member_of token_of kept_of punctuation_of punctuation_spelling signs
 field_reads text m after spelled ends =
     rw (append_assoc (m.owner ++ 46 ∷ []) m.name after, append_assoc m.owner (46 ∷ []) (m.name ++ after))
-    (stands_by p.WholeMemberName _ (punctuation_token 35 refl refl (word_token m.owner spelled.owner refl refl (punctuation_token 46 refl refl (word_token m.name spelled.name refl ends reads.nothing)))) refl refl)
+    (stands_by p.WholeMemberName _ (punctuation_token 35 refl refl
+    (word_token m.owner spelled.owner refl refl (punctuation_token 46 refl refl (word_token m.name spelled.name refl ends reads.nothing)))) refl refl)
 
 -- `#E.c!enumelt`
 pub case_reads : (text : List ℕ) (m : Member) (after : List ℕ) → IsMemberSpelled m → Ends after
     → Stands text n.EnumElement (λ x. member_of x ≡ m) (case_name m ++ after) after
 unfolding body written meaning part_fault member_of token_of kept_of punctuation_of punctuation_spelling signs keyword_of known_keyword keywords spelling
 case_reads text m after spelled ends =
-    rw (append_assoc ((m.owner ++ 46 ∷ []) ++ m.name) (codes "!enumelt") after, append_assoc (m.owner ++ 46 ∷ []) m.name (codes "!enumelt" ++ after), append_assoc m.owner (46 ∷ []) (m.name ++ (codes "!enumelt" ++ after)))
+    rw (
+      append_assoc ((m.owner ++ 46 ∷ []) ++ m.name) (codes "!enumelt") after,
+      append_assoc (m.owner ++ 46 ∷ []) m.name (codes "!enumelt" ++ after),
+      append_assoc m.owner (46 ∷ []) (m.name ++ (codes "!enumelt" ++ after)),
+    )
     (stands_by p.WholeEnumElement _
     (punctuation_token 35 refl refl (word_token m.owner spelled.owner refl refl (punctuation_token 46 refl refl (word_token m.name spelled.name refl refl
     (punctuation_token 33 refl refl (word_token (codes "enumelt") refl refl ends (reads.rule p.SuffixNone reads.nothing refl reads.nothing)))))))

@@ -63,7 +63,8 @@ has_name_from : (text : Name) (n : ℕ) (names : List Name) → position_from (h
 has_name_from text n [] = refl
 has_name_from text n (name ∷ names) = ap (cond (bytes_eq text name) (Some n)) (has_name_from text (n + 1) names)
 
-pub value_placed : {count : ℕ} {name : ℕ → Name} {names : List Name} → IsNaming count name names → (v : ValueId) (token : WrittenToken) → v.0 < count → token.text ≡ name v.0 → value_of (map (λ name. Some name) names) token ≡ v
+pub value_placed : {count : ℕ} {name : ℕ → Name} {names : List Name} → IsNaming count name names
+    → (v : ValueId) (token : WrittenToken) → v.0 < count → token.text ≡ name v.0 → value_of (map (λ name. Some name) names) token ≡ v
 value_placed {names = names} n v token h e =
     let same : 0 + v.0 ≡ v.0 = omega arith in
     let c : _ ≡ length names = n.counted in

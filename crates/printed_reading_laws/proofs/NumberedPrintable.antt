@@ -87,7 +87,8 @@ block_printable functions values blocks b placed parts literals spelled types li
     let split = Each-split IsSmallValue (map value_of b.args) (flat_map results_of (insts_of b)) defined in
     let given = Each-split (λ i. Each IsSmallValue i.results) b.insts (b.terminator ∷ []) (Each-inside results_of IsSmallValue (insts_of b) split.1) in
     let fit = insts_fit functions values blocks b.insts literals.0 spelled.0 types.insts.0 limits.insts.0 range.0 given.0 in
-    let end : IsInstFit functions values blocks b.terminator = record { literals = literals.1; spelled = spelled.1; types = types.insts.1; limits = limits.insts.1; range = range.1; results = given.1.0 } in
+    let end : IsInstFit functions values blocks b.terminator =
+    record { literals = literals.1; spelled = spelled.1; types = types.insts.1; limits = limits.insts.1; range = range.1; results = given.1.0 } in
     record {
       args = args_printable b.args split.0 types.args;
       few = limits.args;
@@ -95,8 +96,10 @@ block_printable functions values blocks b placed parts literals spelled types li
       terminator = record { printable = inst_printable functions values blocks b.terminator placed parts.terminator.parts end; ends = parts.terminator.ends; unnamed = parts.terminator.no_results };
     }
 
-blocks_printable : (functions : List Function) (values blocks : ℕ) (bs : List Block) → IsPlaced functions values blocks → Each BlockHasParts bs → Each (EachInBlock HasLiterals) bs → Each (EachInBlock IsInstSpelled) bs
-    → Each HasBlockTypes bs → Each IsBlockInLimits bs → Each (EachInBlock (IsInstInRange values blocks (length functions))) bs → Each (λ b. Each IsSmallValue (defined_in b)) bs → Each (IsBlockPrintable functions) bs
+blocks_printable : (functions : List Function) (values blocks : ℕ) (bs : List Block) → IsPlaced functions values blocks
+    → Each BlockHasParts bs → Each (EachInBlock HasLiterals) bs → Each (EachInBlock IsInstSpelled) bs
+    → Each HasBlockTypes bs → Each IsBlockInLimits bs → Each (EachInBlock (IsInstInRange values blocks (length functions))) bs
+    → Each (λ b. Each IsSmallValue (defined_in b)) bs → Each (IsBlockPrintable functions) bs
 blocks_printable functions values blocks [] placed parts literals spelled types limits range defined = tt
 blocks_printable functions values blocks (b ∷ bs) placed parts literals spelled types limits range defined = (
   block_printable functions values blocks b placed parts.0 literals.0 spelled.0 types.0 limits.0 range.0 defined.0,
@@ -105,7 +108,8 @@ blocks_printable functions values blocks (b ∷ bs) placed parts literals spelle
 
 -- functions
 
-function_printable : (functions : List Function) (f : Function) → Each IsFunctionSpelled functions → IsFunctionSpelled f → IsFormed f → FunctionHasParts f → EachInFunction HasLiterals f → EachInFunction IsInstSpelled f
+function_printable : (functions : List Function) (f : Function) → Each IsFunctionSpelled functions
+    → IsFunctionSpelled f → IsFormed f → FunctionHasParts f → EachInFunction HasLiterals f → EachInFunction IsInstSpelled f
     → HasFunctionTypes f → IsFunctionInLimits f → IsFunctionNumbered (length functions) f → IsFunctionPrintable functions f
 function_printable functions f names named formed parts literals spelled types limits numbered =
     let few : length (values_of f.blocks) ≤ 1024 = omega (arith, limits.values) in
@@ -119,7 +123,8 @@ function_printable functions f names named formed parts literals spelled types l
           parts literals spelled types.blocks limits.each numbered.used defined;
     }
 
-functions_printable : (all functions : List Function) → Each IsFunctionSpelled all → Each IsFunctionSpelled functions → Each IsFormed functions → Each FunctionHasParts functions → Each (EachInFunction HasLiterals) functions
+functions_printable : (all functions : List Function) → Each IsFunctionSpelled all → Each IsFunctionSpelled functions
+    → Each IsFormed functions → Each FunctionHasParts functions → Each (EachInFunction HasLiterals) functions
     → Each (EachInFunction IsInstSpelled) functions → Each HasFunctionTypes functions → Each IsFunctionInLimits functions → Each (IsFunctionNumbered (length all)) functions
     → Each (IsFunctionPrintable all) functions
 functions_printable all [] names named formed parts literals spelled types limits numbered = tt
@@ -146,7 +151,8 @@ vtables_printable functions (v ∷ vtables) names spelled range =
 pub module_printable : (m : Module) → IsNumbered m → IsModulePrintable m
 module_printable m numbered = record {
   decls = decls_printable m.decls numbered.names.declarations numbered.types.declarations numbered.fields numbered.limits.members;
-  functions = functions_printable m.functions m.functions numbered.names.functions numbered.names.functions numbered.functions numbered.parts numbered.literals numbered.names.insts numbered.types.functions
+  functions = functions_printable m.functions m.functions numbered.names.functions numbered.names.functions
+      numbered.functions numbered.parts numbered.literals numbered.names.insts numbered.types.functions
       numbered.limits.each numbered.numbering.functions;
   vtables = vtables_printable m.functions m.vtables numbered.names.functions numbered.names.vtables numbered.numbering.vtables;
   few_decls = numbered.limits.declarations;

@@ -78,8 +78,11 @@ module _ (text : List ℕ) (functions : List Function) (i : Inst) (done : List P
       led (typed_text x) refl never record {
         values = operand.value ∷ [];
         reads = subst (λ lack. Reads text (NamedPart (if lack then n.EnumOperand else n.Operand) ∷ []) (typed_text x ++ rest) (operand.value ∷ []) rest) (sym never) operand.reads;
-        stands = λ others w is.
-            (more_written (x ∷ []) w (typed_by (may_lack_operand i.op) operand.value) is (subst (λ lack. AllZip IsOperandWritten (x ∷ []) (typed_by lack operand.value)) (sym never) (operand.stands, tt)), refl);
+        stands = λ others w is. (
+          more_written (x ∷ []) w (typed_by (may_lack_operand i.op) operand.value) is
+              (subst (λ lack. AllZip IsOperandWritten (x ∷ []) (typed_by lack operand.value)) (sym never) (operand.stands, tt)),
+          refl,
+        );
       }
 
   -- `, %1 : $T`, or nothing
@@ -91,7 +94,8 @@ module _ (text : List ℕ) (functions : List Function) (i : Inst) (done : List P
       let operand = operand_reads text x rest (first_of_both (is_typed x) true typed) small.0 types.0 ends in
       stands_by p.EnumOperandSome _ (punctuation_token 44 refl refl (reads.blank 32 refl operand.reads)) refl (operand.stands, tt)
 
-  typed_or_none : Ends rest → IsTrue (may_lack_operand i.op) → IsTrue (is_behind_item done) → (os : List Operand) → IsTrue (list_all is_typed (take 1 os)) → Each IsSmallOperand os → Each HasOperandType os
+  typed_or_none : Ends rest → IsTrue (may_lack_operand i.op) → IsTrue (is_behind_item done)
+      → (os : List Operand) → IsTrue (list_all is_typed (take 1 os)) → Each IsSmallOperand os → Each HasOperandType os
       → Takes form.Typed os (take 1 os)
   unfolding symbols_of rows.operand_of brings_comma
   typed_or_none ends may item os typed small types =
@@ -99,9 +103,13 @@ module _ (text : List ℕ) (functions : List Function) (i : Inst) (done : List P
       rw (comma_gap done item)
       (unled (own_comma i.op done form.Typed may) record {
         values = operand.value ∷ [];
-        reads = subst (λ lack. Reads text (NamedPart (if lack then n.EnumOperand else n.Operand) ∷ []) (if_there (codes ", ") typed_text (slice_get os 0) ++ rest) (operand.value ∷ []) rest) (sym may) operand.reads;
-        stands = λ others w is.
-            (more_written (take 1 os) w (typed_by (may_lack_operand i.op) operand.value) is (subst (λ lack. AllZip IsOperandWritten (take 1 os) (typed_by lack operand.value)) (sym may) operand.stands), refl);
+        reads = subst (λ lack. Reads text (NamedPart (if lack then n.EnumOperand else n.Operand) ∷ []) (if_there (codes ", ") typed_text (slice_get os 0) ++ rest) (operand.value ∷ []) rest)
+            (sym may) operand.reads;
+        stands = λ others w is. (
+          more_written (take 1 os) w (typed_by (may_lack_operand i.op) operand.value) is
+              (subst (λ lack. AllZip IsOperandWritten (take 1 os) (typed_by lack operand.value)) (sym may) operand.stands),
+          refl,
+        );
       })
 
   -- one that is there has a type

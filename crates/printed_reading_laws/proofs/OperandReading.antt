@@ -36,7 +36,9 @@ unfolding body written meaning part_fault kept_of token_of operand_of punctuatio
 operand_with text v None after typed small placed ends = absurd (true≢false (sym typed))
 operand_with text v (Some t) after typed small placed ends =
     let ty = placed_reads text t after placed ends in
-    rw (append_assoc (decimal v.0) (32 ∷ 58 ∷ 32 ∷ 36 ∷ type_text t) after) (stands_by p.WholeOperand _ (value_token v.0 small refl (reads.blank 32 refl (punctuation_token 58 refl refl (reads.blank 32 refl (punctuation_token 36 refl refl ty.reads))))) refl record { name = refl; ty = ap Some ty.stands })
+    rw (append_assoc (decimal v.0) (32 ∷ 58 ∷ 32 ∷ 36 ∷ type_text t) after) (stands_by p.WholeOperand _
+    (value_token v.0 small refl (reads.blank 32 refl (punctuation_token 58 refl refl (reads.blank 32 refl (punctuation_token 36 refl refl ty.reads)))))
+    refl record { name = refl; ty = ap Some ty.stands })
 
 pub operand_reads : (text : List ℕ) (o : Operand) (after : List ℕ) → IsTrue (is_typed o) → IsSmallOperand o → HasOperandType o → Ends after
     → Stands text n.Operand (λ x. IsOperandWritten o (operand_of x)) (typed_text o ++ after) after

@@ -84,7 +84,8 @@ pub record ReadsNumber (text : List ℕ) (said : Detail) (known : Option TypeNam
   pub reads : Reads text (Read (t.Just c.Number) ∷ []) (signed_decimal z ++ rest) (value ∷ []) rest
   pub stands : number_by said known (token_of value).text ≡ Some z
 
-literal_read : (text : List ℕ) (ty : TypeName) (z : ℤ) (rest : List ℕ) → IsPlainType ty → IsTrue (is_number_by detail.Literal (Some ty) z) → Ends rest → ReadsNumber text detail.Literal (Some ty) z rest
+literal_read : (text : List ℕ) (ty : TypeName) (z : ℤ) (rest : List ℕ) → IsPlainType ty
+    → IsTrue (is_number_by detail.Literal (Some ty) z) → Ends rest → ReadsNumber text detail.Literal (Some ty) z rest
 unfolding token_of kept_of
 literal_read text ty z rest plain h ends = let literal = literal_reads ty z plain h in record { value = _; reads = number_token z rest literal.small ends reads.nothing; stands = literal.reads }
 

@@ -57,15 +57,20 @@ pub qualifier_reads : (text : List ℕ) (q : Qualifier) → ReadsQualifier text 
 unfolding body written meaning part_fault qualifier_of punctuation_of punctuation_spelling signs keyword_of known_keyword keywords spelling
 qualifier_reads text q.Plain rest = stands_by p.QualifierNone _ reads.nothing refl refl
 qualifier_reads text q.Copy rest =
-    stands_by p.QualifierSome _ (reads.blank 32 refl (punctuation_token 91 refl refl (reads.rule p.QualifierCopy (word_token (codes "copy") refl refl refl reads.nothing) refl (punctuation_token 93 refl refl reads.nothing)))) refl refl
+    stands_by p.QualifierSome _ (reads.blank 32 refl (punctuation_token 91 refl refl
+    (reads.rule p.QualifierCopy (word_token (codes "copy") refl refl refl reads.nothing) refl (punctuation_token 93 refl refl reads.nothing)))) refl refl
 qualifier_reads text q.Take rest =
-    stands_by p.QualifierSome _ (reads.blank 32 refl (punctuation_token 91 refl refl (reads.rule p.QualifierTake (word_token (codes "take") refl refl refl reads.nothing) refl (punctuation_token 93 refl refl reads.nothing)))) refl refl
+    stands_by p.QualifierSome _ (reads.blank 32 refl (punctuation_token 91 refl refl
+    (reads.rule p.QualifierTake (word_token (codes "take") refl refl refl reads.nothing) refl (punctuation_token 93 refl refl reads.nothing)))) refl refl
 qualifier_reads text q.Trivial rest =
-    stands_by p.QualifierSome _ (reads.blank 32 refl (punctuation_token 91 refl refl (reads.rule p.QualifierTrivial (word_token (codes "trivial") refl refl refl reads.nothing) refl (punctuation_token 93 refl refl reads.nothing)))) refl refl
+    stands_by p.QualifierSome _ (reads.blank 32 refl (punctuation_token 91 refl refl
+    (reads.rule p.QualifierTrivial (word_token (codes "trivial") refl refl refl reads.nothing) refl (punctuation_token 93 refl refl reads.nothing)))) refl refl
 qualifier_reads text q.Init rest =
-    stands_by p.QualifierSome _ (reads.blank 32 refl (punctuation_token 91 refl refl (reads.rule p.QualifierInit (word_token (codes "init") refl refl refl reads.nothing) refl (punctuation_token 93 refl refl reads.nothing)))) refl refl
+    stands_by p.QualifierSome _ (reads.blank 32 refl (punctuation_token 91 refl refl
+    (reads.rule p.QualifierInit (word_token (codes "init") refl refl refl reads.nothing) refl (punctuation_token 93 refl refl reads.nothing)))) refl refl
 qualifier_reads text q.Assign rest =
-    stands_by p.QualifierSome _ (reads.blank 32 refl (punctuation_token 91 refl refl (reads.rule p.QualifierAssign (word_token (codes "assign") refl refl refl reads.nothing) refl (punctuation_token 93 refl refl reads.nothing)))) refl refl
+    stands_by p.QualifierSome _ (reads.blank 32 refl (punctuation_token 91 refl refl
+    (reads.rule p.QualifierAssign (word_token (codes "assign") refl refl refl reads.nothing) refl (punctuation_token 93 refl refl reads.nothing)))) refl refl
 
 -- only `[take]`
 pub take_reads : (text : List ℕ) (q : Qualifier) → IsTrue (is_plain_or_take q) → ReadsQualifier text n.TakeFlag q
@@ -80,5 +85,6 @@ pub init_reads : (text : List ℕ) (q : Qualifier) → IsTrue (is_plain_or_init 
 unfolding body written meaning part_fault qualifier_of punctuation_of punctuation_spelling signs keyword_of known_keyword keywords spelling
 init_reads text q.Plain may rest = stands_by p.InitFlagNone _ reads.nothing refl refl
 init_reads text q.Init may rest =
-    stands_by p.InitFlagSome _ (reads.blank 32 refl (punctuation_token 91 refl refl (reads.rule p.InitShort (word_token (codes "init") refl refl refl reads.nothing) refl (punctuation_token 93 refl refl reads.nothing)))) refl refl
+    stands_by p.InitFlagSome _ (reads.blank 32 refl (punctuation_token 91 refl refl
+    (reads.rule p.InitShort (word_token (codes "init") refl refl refl reads.nothing) refl (punctuation_token 93 refl refl reads.nothing)))) refl refl
 init_reads text _ may rest = absurd (true≢false (sym may))

@@ -29,7 +29,8 @@ args_are first (a ∷ args) (w ∷ ws) z count =
     let arg : a ≡ record { value = record { 0 = first }; kind = w.kind; ty = w.ty } = (λ k. record { value = value k; kind = sym z.0.kind k; ty = sym z.0.ty k }) in
     ap₂ (λ a rest. a ∷ rest) arg (args_are (first + 1) args ws z.1 count.1)
 
-insts_are : (c : Counts) (names : Names) → AreNamesOf c names → (first : ℕ) (is : List Inst) (ws : List WrittenInst) → AllZip (IsInstRead c) is ws → AreCountedFrom first (flat_map numbering.results_of is)
+insts_are : (c : Counts) (names : Names) → AreNamesOf c names → (first : ℕ) (is : List Inst) (ws : List WrittenInst)
+    → AllZip (IsInstRead c) is ws → AreCountedFrom first (flat_map numbering.results_of is)
     → is ≡ resolved_insts (scope_with names) first ws
 insts_are c names n first [] [] z count = refl
 insts_are c names n first [] (w ∷ ws) z count = absurd z
@@ -37,7 +38,8 @@ insts_are c names n first (i ∷ is) [] z count = absurd z
 insts_are c names n first (i ∷ is) (w ∷ ws) z count =
     let parts = counted_split first i.results (flat_map numbering.results_of is) count in
     let long : length (defined_by_inst w) ≡ length i.results = AllZip-long IsDefinedAs i.results (defined_by_inst w) (inst_defined c i w z.0) in
-    let rest : AreCountedFrom (first + length (defined_by_inst w)) (flat_map numbering.results_of is) = subst (λ (k : ℕ). AreCountedFrom (first + k) (flat_map numbering.results_of is)) (sym long) parts.1 in
+    let rest : AreCountedFrom (first + length (defined_by_inst w)) (flat_map numbering.results_of is) =
+    subst (λ (k : ℕ). AreCountedFrom (first + k) (flat_map numbering.results_of is)) (sym long) parts.1 in
     ap₂ (λ a rest. a ∷ rest) (inst_is c names n first i w z.0 parts.0) (insts_are c names n (first + length (defined_by_inst w)) is ws z.1 rest)
 
 block_is : (c : Counts) (names : Names) → AreNamesOf c names → (first : ℕ) (b : Block) (w : WrittenBlock) → IsBlockRead c b w → AreCountedFrom first (numbering.defined_in b)
@@ -51,10 +53,12 @@ block_is c names n first b w r count =
     let args : b.args ≡ resolved_args first w.args = args_are first b.args w.args r.args parts.0 in
     let insts : b.insts ≡ resolved_insts (scope_with names) (first + length w.args) w.insts = insts_are c names n (first + length w.args) b.insts w.insts r.insts behind in
     let last : ℕ = first + length (defined_in w) in
-    let terminator : b.terminator ≡ resolved_inst (scope_with names) last w.terminator = inst_is c names n last b.terminator w.terminator r.terminator (subst (AreCountedFrom last) (sym r.no_results) tt) in
+    let terminator : b.terminator ≡ resolved_inst (scope_with names) last w.terminator =
+    inst_is c names n last b.terminator w.terminator r.terminator (subst (AreCountedFrom last) (sym r.no_results) tt) in
     λ k. record { args = args k; insts = insts k; terminator = terminator k }
 
-pub blocks_are : (c : Counts) (names : Names) → AreNamesOf c names → (first : ℕ) (bs : List Block) (ws : List WrittenBlock) → AllZip (IsBlockRead c) bs ws → AreCountedFrom first (numbering.values_of bs)
+pub blocks_are : (c : Counts) (names : Names) → AreNamesOf c names → (first : ℕ) (bs : List Block) (ws : List WrittenBlock)
+    → AllZip (IsBlockRead c) bs ws → AreCountedFrom first (numbering.values_of bs)
     → bs ≡ resolved_blocks (scope_with names) first ws
 blocks_are c names n first [] [] z count = refl
 blocks_are c names n first [] (w ∷ ws) z count = absurd z

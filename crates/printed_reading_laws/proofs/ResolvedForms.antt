@@ -50,7 +50,8 @@ no_form_kept Ossa = refl
 no_form_kept Lowered = refl
 no_form_kept External = refl
 
-pub attributes_are : (attributes : List Name) (form : Form) (words : List WrittenToken) → Each IsAttribute attributes → map name_of words ≡ attributes ++ form_words form → attributes ≡ map name_of (filter is_kept words)
+pub attributes_are : (attributes : List Name) (form : Form) (words : List WrittenToken) → Each IsAttribute attributes
+    → map name_of words ≡ attributes ++ form_words form → attributes ≡ map name_of (filter is_kept words)
 attributes_are attributes form words each e =
     let kept : filter is_attribute (attributes ++ form_words form) ≡ attributes =
     filter-append is_attribute attributes (form_words form) ∙ ap₂ (λ a b. a ++ b) (all_kept attributes each) (no_form_kept form) ∙ append-nil attributes in

@@ -77,7 +77,8 @@ function_names functions names f w r =
     let values : map name_of (flat_map values_defined w.blocks) ≡ names_from decimal 0 vs = values_named functions names f w r ∙ counted_names 0 vs r.sound.numbered.values in
     record {
       values = subst (IsNaming (length vs) decimal) (sym values) (numbered_names decimal tells_values vs (omega arith));
-      blocks = subst (IsNaming (length f.blocks) block_name) (sym (blocks_named functions f w r.is_written)) (numbered_names block_name tells_blocks f.blocks (let h = r.sound.limits.blocks in omega arith));
+      blocks = subst (IsNaming (length f.blocks) block_name) (sym (blocks_named functions f w r.is_written))
+          (numbered_names block_name tells_blocks f.blocks (let h = r.sound.limits.blocks in omega arith));
       functions = r.named;
     }
 
@@ -96,7 +97,8 @@ used_known : (functions : List Function) (names : List Name) (f : Function) (w :
 used_known functions names f w r = code_uses (counts_of functions f) (names_of names w) (function_names functions names f w r) f.blocks w.blocks (read_blocks functions names f w r)
 
 -- the functions that the function names are known
-pub calls_known : (functions : List Function) (names : List Name) (f : Function) (w : WrittenFunction) → IsFunctionRead functions names f w → Each (IsKnown names) (flat_map functions_used (insts_of w))
+pub calls_known : (functions : List Function) (names : List Name) (f : Function) (w : WrittenFunction)
+    → IsFunctionRead functions names f w → Each (IsKnown names) (flat_map functions_used (insts_of w))
 calls_known functions names f w r =
     all_used names functions_used (insts_of w)
     (Each-weaker (UsesKnown (names_of names w)) (λ i. Each (IsKnown names) (functions_used i)) (λ i u. u.functions) (insts_of w) (used_known functions names f w r))
@@ -109,9 +111,11 @@ no_function_fault functions names f w r =
     let labels : List WrittenToken = map label_of w.blocks in
     let values : List WrittenToken = flat_map values_defined w.blocks in
     neither _ _ (never_twice [] labels n.blocks.once)
-    (neither _ _ (never_unknown labels (flat_map labels_used (insts_of w)) (all_used own.blocks labels_used (insts_of w) (Each-weaker (UsesKnown own) (λ i. Each (IsKnown own.blocks) (labels_used i)) (λ i u. u.labels) (insts_of w) uses)))
+    (neither _ _ (never_unknown labels (flat_map labels_used (insts_of w))
+    (all_used own.blocks labels_used (insts_of w) (Each-weaker (UsesKnown own) (λ i. Each (IsKnown own.blocks) (labels_used i)) (λ i u. u.labels) (insts_of w) uses)))
     (neither _ _ (never_twice [] values n.values.once)
-    (neither _ _ (never_unknown values (flat_map values_used (insts_of w)) (all_used own.values values_used (insts_of w) (Each-weaker (UsesKnown own) (λ i. Each (IsKnown own.values) (values_used i)) (λ i u. u.values) (insts_of w) uses)))
+    (neither _ _ (never_unknown values (flat_map values_used (insts_of w))
+    (all_used own.values values_used (insts_of w) (Each-weaker (UsesKnown own) (λ i. Each (IsKnown own.values) (values_used i)) (λ i u. u.values) (insts_of w) uses)))
     refl)))
 
 -- the function itself

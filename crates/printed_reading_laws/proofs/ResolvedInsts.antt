@@ -78,7 +78,8 @@ callee_is functions s n (Some f) (Some token) below e =
 
 -- instructions
 
-pub inst_is : (c : Counts) (names : Names) → AreNamesOf c names → (first : ℕ) (i : Inst) (w : WrittenInst) → IsInstRead c i w → AreCountedFrom first i.results → i ≡ resolved_inst (scope_with names) first w
+pub inst_is : (c : Counts) (names : Names) → AreNamesOf c names → (first : ℕ) (i : Inst) (w : WrittenInst)
+    → IsInstRead c i w → AreCountedFrom first i.results → i ≡ resolved_inst (scope_with names) first w
 inst_is c names n first i w r count =
     let is = r.is_written in
     let results : i.results ≡ counted first (defined_by_inst w) = counted_is first i.results (defined_by_inst w) (inst_defined c i w r) count in

@@ -103,7 +103,8 @@ entry_is functions names n None (Some w) below both = absurd both
 entry_is functions names n (Some e) None below both = absurd both
 entry_is functions names n (Some e) (Some w) below both = λ k. Some (record { owner = sym both.owner k; function = record { 0 = sym (placed n e.function.0 w.function below both.function) k } })
 
-vtables_beside : (m : Module) (w : WrittenModule) → IsNumbered m → (r : IsModuleWritten m w) → AllZip (λ t u. IsVtableInRange (length m.functions) t × IsVtableWritten m.functions t u) m.vtables r.vtables
+vtables_beside : (m : Module) (w : WrittenModule) → IsNumbered m → (r : IsModuleWritten m w)
+    → AllZip (λ t u. IsVtableInRange (length m.functions) t × IsVtableWritten m.functions t u) m.vtables r.vtables
 vtables_beside m w n r = with_each (IsVtableInRange (length m.functions)) (IsVtableWritten m.functions) m.vtables r.vtables n.numbering.vtables r.vtables_written
 
 pub vtables_read : (m : Module) (w : WrittenModule) → IsNumbered m → (r : IsModuleWritten m w) → m.vtables ≡ map (resolved_vtable (names_written m w r)) r.vtables
@@ -111,7 +112,8 @@ vtables_read m w n r =
     let names : List Name = names_written m w r in
     zip_read (resolved_vtable names) m.vtables r.vtables
     (zip_weaker (λ t u. IsVtableInRange (length m.functions) t × IsVtableWritten m.functions t u) (λ t u. t ≡ resolved_vtable names u)
-    (λ t u h. let entry = entry_is m.functions names (functions_named m w n r) t.entry u.entry h.0 h.1.entry in λ k. record { class_name = sym h.1.name k; entry = entry k }) m.vtables r.vtables (vtables_beside m w n r))
+    (λ t u h. let entry = entry_is m.functions names (functions_named m w n r) t.entry u.entry h.0 h.1.entry in
+    λ k. record { class_name = sym h.1.name k; entry = entry k }) m.vtables r.vtables (vtables_beside m w n r))
 
 -- the functions that items use
 

@@ -19,7 +19,8 @@ no_result : (one : Bool) → not (one && true) ≡ true → one ≡ false
 no_result true h = absurd (true≢false (sym h))
 no_result false h = refl
 
-pub results_defined : (o : Op) (results : List ValueId) (tokens : List WrittenToken) → has_results o results ≡ true → AllZip IsValueNamed results tokens → AllZip IsDefinedAs results (defined_by o tokens)
+pub results_defined : (o : Op) (results : List ValueId) (tokens : List WrittenToken) → has_results o results ≡ true
+    → AllZip IsValueNamed results tokens → AllZip IsDefinedAs results (defined_by o tokens)
 results_defined o [] [] h z =
     subst (λ (one : Bool). AllZip IsDefinedAs [] (if one then None ∷ [] else [])) (sym (no_result (has_one_result o) h)) tt
 results_defined o [] (token ∷ tokens) h z = absurd z

@@ -51,7 +51,8 @@ module _ (text : List ℕ) (functions : List Function) (after : List ℕ) (i : I
       (with_results functions (record i { results = [] }) (inst_of row.value) (v ∷ []) (_ ∷ []) row.stands (refl, tt)))
 
   one_as : (list : Bool) (v : ValueId) → Each IsSmallValue (v ∷ [])
-      → Stands text n.Inst (λ x. IsInstWritten functions (record i { results = v ∷ [] }) (inst_of x)) (((if list then in_parens value_text (v ∷ []) else value_text v) ++ codes " = ") ++ (row_text functions i ++ after)) after
+      → Stands text n.Inst (λ x. IsInstWritten functions (record i { results = v ∷ [] }) (inst_of x))
+      (((if list then in_parens value_text (v ∷ []) else value_text v) ++ codes " = ") ++ (row_text functions i ++ after)) after
   one_as true v small = listed_results (v ∷ []) small (omega arith)
   one_as false v small = one_result v small.0
 

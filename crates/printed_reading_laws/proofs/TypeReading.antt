@@ -1,5 +1,6 @@
 -- A printed type reads as itself.
-use Rattle.std.proofs.Common.{◌≡◌, ℕ, zero, suc, ◌+◌, ◌≤◌, List, [], ◌∷◌, ◌++◌, length, map, Some, Bool, true, false, not, ◌&&◌, ◌==◌, nat_le, codes, if◌then◌else◌, IsTrue, IsFalse, refl, ap, sym, subst, ◌∙◌, arith, true≢false}
+use Rattle.std.proofs.Common.{◌≡◌, ℕ, zero, suc, ◌+◌, ◌≤◌, List, [], ◌∷◌, ◌++◌, length, map, Some, Bool, true, false, not, ◌&&◌, ◌==◌}
+use Rattle.std.proofs.Common.{nat_le, codes, if◌then◌else◌, IsTrue, IsFalse, refl, ap, sym, subst, ◌∙◌, arith, true≢false}
 use Rattle.std.specs.List.{list_all}
 use Rattle.std.proofs.lemmas.List.{append-nil, length-map}
 use Rattle.std.proofs.lemmas.Bool.Decides.{nat_tests}

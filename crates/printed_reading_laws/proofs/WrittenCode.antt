@@ -40,7 +40,8 @@ pub record IsBlockRead (c : Counts) (b : Block) (w : WrittenBlock) : Type 0 wher
   pub terminator : IsInstRead c b.terminator w.terminator
   pub no_results : b.terminator.results ≡ []
 
-insts_read : (c : Counts) (is : List Inst) (ws : List WrittenInst) → Each IsInside is → Each (IsInstInRange c.values c.blocks (length c.functions)) is → AllZip (IsInstWritten c.functions) is ws → AllZip (IsInstRead c) is ws
+insts_read : (c : Counts) (is : List Inst) (ws : List WrittenInst) → Each IsInside is
+    → Each (IsInstInRange c.values c.blocks (length c.functions)) is → AllZip (IsInstWritten c.functions) is ws → AllZip (IsInstRead c) is ws
 insts_read c [] [] p u z = tt
 insts_read c [] (w ∷ ws) p u z = absurd z
 insts_read c (i ∷ is) [] p u z = absurd z

@@ -120,7 +120,8 @@ with_signature functions i w s u h same = record {
   edges = h.edges;
 }
 
-pub with_function : (functions : List Function) (i : Inst) (w : WrittenInst) (f : Option FuncId) (token : WrittenToken) → IsInstWritten functions i w → Some token.text ≡ option_map (name_in functions) f
+pub with_function : (functions : List Function) (i : Inst) (w : WrittenInst) (f : Option FuncId) (token : WrittenToken)
+    → IsInstWritten functions i w → Some token.text ≡ option_map (name_in functions) f
     → IsInstWritten functions (record i { function = f }) (record w { function = Some token })
 with_function functions i w f token h same = record {
   op = h.op;

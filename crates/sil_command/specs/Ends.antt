@@ -28,7 +28,8 @@ Gains held took old new text = Appends (held old) (held new) text × Puts took t
 
 -- the sink has gained the first bytes of this text, and then a put of the others failed
 abbrev pub GainsFront : {K : Type 0} → (K → Option (List ℕ)) → (K → List ℕ → ℕ → K → Type 0) → (K → List ℕ → K → Type 0) → K → K → List ℕ → Type 0
-GainsFront held took refused old new text = (n : ℕ) × (n < length text) × Appends (held old) (held new) (take n text) × PutsUntilRefused took refused old text n new
+GainsFront held took refused old new text = (n : ℕ) × (n < length text)
+    × Appends (held old) (held new) (take n text) × PutsUntilRefused took refused old text n new
 
 -- an allowed answer to the words and to the text that the source had, which it was taken from it where the words are a command line
 pub record IsAnswer (words : List (List ℕ)) (left : Option (List ℕ)) (Takes : List ℕ → Type 0) (answer : List ℕ) (status : ℕ) : Type 0 where

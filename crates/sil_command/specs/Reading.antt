@@ -13,7 +13,8 @@ use Rattle.sil_command.specs.Texts.{not_a_module_text, passed_limit_text}
 -- want of memory has no answer
 pub data AnswersRefusal : ReadRefusal → List ℕ → ℕ → Type 0 where
   bad_byte : (place : Place) → AnswersRefusal (refusal.Lex (stop.BadByte place)) (not_a_module_text (codes "bad byte") place) (code_of NotAModule)
-  unclosed_text : (place : Place) → AnswersRefusal (refusal.Lex (stop.UnclosedText place)) (not_a_module_text (codes "unclosed text") place) (code_of NotAModule)
+  unclosed_text : (place : Place) → AnswersRefusal (refusal.Lex (stop.UnclosedText place))
+      (not_a_module_text (codes "unclosed text") place) (code_of NotAModule)
   long_name : (place : Place) → AnswersRefusal (refusal.Lex (stop.NameTooLong place)) (passed_limit_text Name place) (code_of Limit)
   unexpected : (place : Place) → AnswersRefusal (refusal.Unexpected place) (not_a_module_text (codes "unexpected") place) (code_of NotAModule)
   unsupported : (place : Place) → AnswersRefusal (refusal.Unsupported place) (not_a_module_text (codes "unsupported") place) (code_of NotAModule)

@@ -8,7 +8,8 @@ ghost use Rattle.sil_rules.specs.declared.status.Status.TheVariants.{ReadFault, 
 ghost use Rattle.sil_rules.specs.Statuses.{code_of};
 ghost use Rattle.sil_command.specs.Words.{IsCommandLine};
 ghost use Rattle.sil_command.specs.Texts.{read_fault_text};
-ghost use Rattle.sil_command.specs.Ends.{TakesText, Gains, GainsFront, WritesAnswer, Exhausts, WritesWhole, WritesFrontOfAnswer, IsStatus, FinishesText, call_between, Ends};
+ghost use Rattle.sil_command.specs.Ends.{TakesText, Gains, GainsFront, WritesAnswer, Exhausts, WritesWhole};
+ghost use Rattle.sil_command.specs.Ends.{WritesFrontOfAnswer, IsStatus, FinishesText, call_between, Ends};
 
 use crate::answer::answer_to;
 use crate::texts;
@@ -34,7 +35,8 @@ pub fn command<'a, S: Source, K: Sink>(
 ) -> u8
     // Without faults, an allowed answer is written whole, or memory ran out.
     ensures answers { ¬ MayFail (S.faults source.old) (S.faults source.new) → ¬ MayFail (K.faults out.old) (K.faults out.new) →
-        WritesAnswer (map (λ w. w.now) words.entry.now) (S.left source.old) (TakesText S.gave source.old source.new) (Gains K.held K.took out.old out.new) result
+        WritesAnswer (map (λ w. w.now) words.entry.now) (S.left source.old)
+        (TakesText S.gave source.old source.new) (Gains K.held K.took out.old out.new) result
         ⊎ Exhausts (out.new ≡ out.old) result }
     // Words that are no command line need no source. Others take it to its end, or to the first byte past the limit, and no further.
     ensures source_untouched { ¬ IsCommandLine (map (λ w. w.now) words.entry.now) → source.new ≡ source.old }
@@ -47,14 +49,16 @@ pub fn command<'a, S: Source, K: Sink>(
     ensures write_fault_cause { result ≡ code_of WriteFault → MayFail (K.faults out.old) (K.faults out.new) }
     ensures write_fault { K.faults out.old < K.faults out.new → result ≡ code_of WriteFault }
     ensures written_front { result ≡ code_of WriteFault →
-        WritesFrontOfAnswer (map (λ w. w.now) words.entry.now) (S.left source.old) (TakesText S.gave source.old source.new) (GainsFront K.held K.took K.refused out.old out.new)
+        WritesFrontOfAnswer (map (λ w. w.now) words.entry.now) (S.left source.old)
+        (TakesText S.gave source.old source.new) (GainsFront K.held K.took K.refused out.old out.new)
         ⊎ (MayFail (S.faults source.old) (S.faults source.new) × GainsFront K.held K.took K.refused out.old out.new read_fault_text) }
 
     ensures exhausted { result ≡ code_of OutOfMemory → out.new ≡ out.old }
     ensures statuses { IsStatus result }
 
     // The clauses above, but for those on the source alone, as one relation.
-    ensures ends { Ends (call_between (map (λ w. w.now) words.entry.now) S.left S.gave S.faults source.old source.new K.held K.took K.refused K.faults out.old out.new) result }
+    ensures ends { Ends (call_between (map (λ w. w.now) words.entry.now) S.left S.gave S.faults
+        source.old source.new K.held K.took K.refused K.faults out.old out.new) result }
 {
     run(alloc, words, source, out)
 }
@@ -66,7 +70,8 @@ fn run<'a, S: Source, K: Sink>(
     source: &mut S,
     out: &mut K,
 ) -> u8
-    ensures ends { Ends (call_between (map (λ w. w.now) words.entry.now) S.left S.gave S.faults source.old source.new K.held K.took K.refused K.faults out.old out.new) result }
+    ensures ends { Ends (call_between (map (λ w. w.now) words.entry.now) S.left S.gave S.faults
+        source.old source.new K.held K.took K.refused K.faults out.old out.new) result }
     ensures source_untouched { ¬ IsCommandLine (map (λ w. w.now) words.entry.now) → source.new ≡ source.old }
     ensures takes { TakesWithin S.gave S.missed TEXT_BYTES source.old source.new }
 {
@@ -86,7 +91,8 @@ fn run<'a, S: Source, K: Sink>(
 
 /// Writes a whole text and answers its status, or that of a failed write.
 fn finish<K: Sink>(out: &mut K, text: &[u8], status: Status) -> u8
-    ensures { FinishesText (Gains K.held K.took out.old out.new) (GainsFront K.held K.took K.refused out.old out.new) (K.faults out.old) (K.faults out.new) text.now (code_of status) result }
+    ensures { FinishesText (Gains K.held K.took out.old out.new) (GainsFront K.held K.took K.refused out.old out.new)
+        (K.faults out.old) (K.faults out.new) text.now (code_of status) result }
 {
     match write_all(out, text) {
         Ok(()) => status.code(),

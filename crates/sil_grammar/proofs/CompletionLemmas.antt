@@ -1,6 +1,7 @@
 -- Classes begin one shortest module at most.
 use Rattle.std.proofs.Common.{◌≡◌, List, [], ◌∷◌, ◌++◌, refl, ap, sym, subst, ◌∙◌}
 use Rattle.std.specs.Prelude.{Some}
+use Rattle.std.proofs.lemmas.Option.{same_Some}
 use Rattle.token_classes.specs.declared.classes.Class.{Class}
 use Rattle.sil_shape.specs.declared.grammar.Nonterminal.{Nonterminal}
 use Rattle.sil_shape.specs.declared.grammar.Symbol.{Symbol}
@@ -59,9 +60,6 @@ inner _ after (expanded {steps = steps} p c) =
     let this : p ≡ here.production = cc here.steps_are in
     record { production = p; rest = steps; choice = here.choice ∙ ap Some (sym this); completes = c; steps_are = refl }
 
-pub some_same : {A : Type 0} {a b : A} → Some a ≡ Some b → a ≡ b
-some_same h = cc
-
 completed_once : {ss : List Symbol} {ks : List Class} {steps others : List Step} → Fits ss → Completes ss ks steps → Completes ss ks others → others ≡ steps
 completed_once fits (behind h) o = Shortens-once h (only_shortest o)
 completed_once fits (taken {s = s} a c) o =
@@ -70,7 +68,7 @@ completed_once fits (taken {s = s} a c) o =
 completed_once fits (expanded {k = k} {ss = ss} {ks = ks} {steps = steps} p c) o =
     let here = inner (written p) fits.0 (expanded {k = k} {ss = ss} {ks = ks} {steps = steps} p c) in
     let there = inner (written p) fits.0 o in
-    let same : there.production ≡ here.production = some_same (sym there.choice ∙ here.choice) in
+    let same : there.production ≡ here.production = same_Some _ _ (sym there.choice ∙ here.choice) in
     let this : p ≡ here.production = cc here.steps_are in
     let inside = subst (λ q. Completes (body q ++ ss) (k ∷ ks) there.rest) (same ∙ sym this) there.completes in
     let rest : there.rest ≡ steps = completed_once (Fits-expand p ss fits) c inside in

@@ -87,7 +87,15 @@ module _ (classes : List Class) (front cut : Front) (leads : LeadsTo classes fro
         more = behind.0;
         rest = is.behind ++ way.0;
         derives = derives;
-        taken = omega (arith, takes_of-derives derives, takes_of-derives behind.1, takes_of-append cut.steps.items (is.behind ++ way.0), takes_of-append is.behind way.0, is.none_behind, length-append classes behind.0);
+        taken = omega (
+          arith,
+          takes_of-derives derives,
+          takes_of-derives behind.1,
+          takes_of-append cut.steps.items (is.behind ++ way.0),
+          takes_of-append is.behind way.0,
+          is.none_behind,
+          length-append classes behind.0,
+        );
       }
 
   pub cut_leads : LeadsTo classes cut.steps.items (reverse cut.left.items)

@@ -2,6 +2,7 @@
 use Rattle.std.proofs.Common.{◌≡◌, ℕ, ◌+◌, ◌≤◌, List, [], ◌∷◌, ◌++◌, length, refl, sym, subst, ◌∙◌, arith, true}
 use Rattle.std.specs.Prelude.{◌==◌, nat_lt}
 use Rattle.std.proofs.lemmas.Bool.{eqb-true, ltb-true}
+use Rattle.std.proofs.lemmas.Option.{same_Some}
 use Rattle.instruction_table.specs.declared.op.Op.{Op}
 use Rattle.instruction_table.specs.declared.op.Op.TheVariants as op
 use Rattle.token_classes.specs.declared.classes.Class.{Class}
@@ -14,12 +15,13 @@ use Rattle.sil_shape.specs.declared.grammar.Production.TheVariants as p
 use Rattle.sil_shape.specs.declared.steps.Step.{Step}
 use Rattle.sil_shape.specs.Derivation.{Accepts, Derives, nothing, token, rule}
 use Rattle.sil_shape.specs.Grammar.{written, body}
-use Rattle.sil_shape.specs.Rows.{brings_comma, comma_behind, comma_between, edges_of, ends_block, member_of, operand_of, parts_row, qualifier_of, row_body, row_part, symbols_of, text_of}
+use Rattle.sil_shape.specs.Rows.{row_body, row_part}
 use Rattle.sil_shape.specs.Shortest.{shortest, Shortens, written as nothing_left, step}
 use Rattle.sil_shape.specs.Values.{takes_of}
+use Rattle.sil_shape.proofs.Unfolded.{rows}
 use Rattle.sil_shape.proofs.NextClasses.{Derives-inner, Fits, Fits-expand, FitsOne-start}
 use Rattle.sil_grammar.specs.Completion.{Completes, HaveFewestTokens, behind, taken, expanded}
-use Rattle.sil_grammar.proofs.CompletionLemmas.{inner, some_same}
+use Rattle.sil_grammar.proofs.CompletionLemmas.{inner}
 
 -- how many tokens the shortest text of a part has
 unfoldable least : Nonterminal → ℕ
@@ -68,13 +70,13 @@ least_all [] = 0
 least_all (s ∷ ss) = least_one s + least_all ss
 
 computed_shortest : (part : Nonterminal) → (least_all (body (shortest part)) == least part) ≡ true
-unfolding body row_body parts_row symbols_of comma_behind comma_between brings_comma operand_of member_of qualifier_of text_of edges_of shortest least least_one least_all
+unfolding body rows shortest least least_one least_all
 computed_shortest n.Module = refl
 computed_shortest _ = refl
 
 -- the row of each instruction
 computed_row : (o : Op) → nat_lt (least (row_part o)) (least_all (row_body o) + 1) ≡ true
-unfolding row_part ends_block row_body parts_row symbols_of comma_behind comma_between brings_comma operand_of member_of qualifier_of text_of edges_of least least_one least_all
+unfolding rows least least_one least_all
 computed_row op.IntegerLiteral = refl
 computed_row _ = refl
 
@@ -126,7 +128,7 @@ fewest more others fits (taken {s = s} a c) d =
 fewest more others fits (expanded {k = k} {ss = ss} {ks = ks} {steps = steps} p c) d =
     let here = inner (written p) fits.0 (expanded {k = k} {ss = ss} {ks = ks} {steps = steps} p c) in
     let there = Derives-inner (written p) fits.0 d in
-    let same : there.production ≡ here.production = some_same (sym there.choice ∙ here.choice) in
+    let same : there.production ≡ here.production = same_Some _ _ (sym there.choice ∙ here.choice) in
     let this : p ≡ here.production = cc here.steps_are in
     let inside = subst (λ q. Derives (body q ++ ss) (k ∷ (ks ++ more)) there.rest) (same ∙ sym this) there.derives in
     fewest more there.rest (Fits-expand p ss fits) c inside

@@ -6,6 +6,7 @@ use Rattle.std.proofs.Math.Nat.{eq-or-lt_of_le}
 use Rattle.std.proofs.lemmas.List.{length-map}
 use Rattle.std.proofs.lemmas.List.Elements.{All-nil, All-cons, All-get_or}
 use Rattle.std.proofs.lemmas.Option.{slice_get-get_or}
+use Rattle.std.proofs.lemmas.Option.{same_Some}
 use Rattle.sil_ast.specs.declared.place.Place.{Place}
 use Rattle.sil_lexer.specs.declared.token.LexRefusal.{LexRefusal}
 use Rattle.sil_lexer.specs.declared.token.LexRefusal.TheVariants as stop
@@ -74,9 +75,6 @@ rank-bad_stop (stop.BadByte at) = refl
 rank-bad_stop (stop.UnclosedText at) = refl
 rank-bad_stop (stop.NameTooLong at) = refl
 
-some_same : {A : Type 0} {a b : A} → Some a ≡ Some b → a ≡ b
-some_same h = cc
-
 -- what another cut of the text says of a bad token is so of this one
 record IsBadHere (text : List ℕ) (lexing : Lexing) (others : List Lexeme) (i : ℕ) : Type 0 where
   pub tokens : others ≡ lexemes_of text lexing
@@ -113,7 +111,7 @@ module _ (text : List ℕ) (lexing : Lexing) (is : IsLexingOf text lexing) where
 
       least : (other : BadPlace) → IsBadPlace text other → IsNoLater (bad_stop refusal) other
       least _ (lexical others other l) =
-          let same : other ≡ refusal = some_same ((same_lexing others (Some other) l).1 ∙ stops) in
+          let same : other ≡ refusal = same_Some _ _ ((same_lexing others (Some other) l).1 ∙ stops) in
           subst (λ r. IsNoLater (bad_stop refusal) (bad_stop r)) (sym same) (inr (refl, omega arith))
       least _ (unsupported others i bad u) = absurd (no_bad_token others i bad)
       least _ (unexpected others i bad) = absurd (no_bad_token others i bad)
@@ -185,7 +183,7 @@ no_bad_place text shape _ (unexpected others i bad) = shaped_good text shape oth
 -- bad places of one place and rank are one
 one_kind : (text : List ℕ) (a b : BadPlace) → IsBadPlace text a → IsBadPlace text b → rank a.kind ≡ rank b.kind → a.kind ≡ b.kind
 one_kind text _ _ (lexical others refusal l) (lexical others' refusal' l') same =
-    ap (λ r. (bad_stop r).kind) (some_same (one_way text text others others' (Some refusal) (Some refusal') l l').1)
+    ap (λ r. (bad_stop r).kind) (same_Some _ _ (one_way text text others others' (Some refusal) (Some refusal') l l').1)
 one_kind text _ _ (lexical others refusal l) (unsupported others' i bad u) same = absurd (omega (arith, same, rank-bad_stop refusal))
 one_kind text _ _ (lexical others refusal l) (unexpected others' i bad) same = absurd (omega (arith, same, rank-bad_stop refusal))
 one_kind text _ _ (unsupported others i bad u) (lexical others' refusal l) same = absurd (omega (arith, same, rank-bad_stop refusal))
@@ -218,5 +216,5 @@ exact text None shape =
     ((λ _. shape, λ _. refl), λ bad. (λ e. absurd (cc), λ first. absurd (no_bad_place text shape bad first.is_bad)))
 exact text (Some b) first = (
   (λ none. absurd (cc), λ shape. absurd (no_bad_place text shape b first.is_bad)),
-  λ bad. (λ e. subst (IsFirstBadPlace text) (some_same e) first, λ other. ap Some (once text b bad first other)),
+  λ bad. (λ e. subst (IsFirstBadPlace text) (same_Some _ _ e) first, λ other. ap Some (once text b bad first other)),
 )

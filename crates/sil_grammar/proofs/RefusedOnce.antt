@@ -2,6 +2,7 @@
 use Rattle.std.proofs.Common.{◌≡◌, ℕ, ◌+◌, ◌<◌, ◌≤◌, List, length, map, take, Option, Some, None, refl, ap, sym, subst, ◌∙◌, arith, inl, inr}
 use Rattle.std.proofs.lemmas.Bool.{cases_order}
 use Rattle.std.proofs.lemmas.List.{take-map, take-take}
+use Rattle.std.proofs.lemmas.Option.{same_Some}
 use Rattle.sil_lexer.specs.Lexes.{Lexeme, Lexes}
 use Rattle.sil_lexer.proofs.UniqueLemmas.{one_way}
 use Rattle.sil_shape.specs.declared.steps.Step.{Step}
@@ -22,9 +23,6 @@ use Rattle.sil_grammar.proofs.FaultLemmas.{fault_of, of_front, whole_found}
 use Rattle.sil_grammar.proofs.FirstBadLemmas.{no_bad_place, once}
 use Rattle.sil_grammar.proofs.ReadLemmas.{written_once}
 use Rattle.sil_grammar.proofs.ReplayedSpelling.{replayed}
-
-some_same : {A : Type 0} {a b : A} → Some a ≡ Some b → a ≡ b
-some_same h = cc
 
 some_or_none : {A : Type 0} {a : A} {o : Option A} → o ≡ Some a → o ≡ None → ⊥
 some_or_none e f = cc
@@ -98,13 +96,13 @@ no_fault_before text place fault s (in_front other front first_bad first before)
 -- a text has one first fault
 faulty_once : (text : List ℕ) (a b : Fault) → IsFaulty text a → IsFaulty text b → b ≡ a
 faulty_once text a b (in_whole lexemes steps lexed derived first) (in_whole others other l d f) =
-    some_same (sym ((whole_found others other b d).0 f) ∙ sym (whole_once text lexemes others steps other lexed derived l d) ∙ (whole_found lexemes steps a derived).0 first)
+    same_Some _ _ (sym ((whole_found others other b d).0 f) ∙ sym (whole_once text lexemes others steps other lexed derived l d) ∙ (whole_found lexemes steps a derived).0 first)
 faulty_once text a b (in_whole lexemes steps lexed derived first) (in_front place front first_bad f before) =
     absurd (no_bad_place text (shape_of text lexemes steps lexed derived) place first_bad.is_bad)
 faulty_once text a b (in_front place front first_bad f before) (in_whole lexemes steps lexed derived first) =
     absurd (no_bad_place text (shape_of text lexemes steps lexed derived) place first_bad.is_bad)
 faulty_once text a b (in_front place front first_bad first before) (in_front other others bad f behind) =
-    some_same (sym ((of_front others b).0 f) ∙ front_once text others front ∙ (of_front front a).0 first)
+    same_Some _ _ (sym ((of_front others b).0 f) ∙ front_once text others front ∙ (of_front front a).0 first)
 
 -- a text that writes a module without a fault has neither
 misnamed_shaped : (text : List ℕ) (place : BadPlace) (fault : Fault) → IsShapeless text place → IsMisnamed text fault → ⊥
@@ -118,7 +116,7 @@ misnamed_faultless text a b (in_front place front first_bad first before) m = no
 
 misnamed_once : (text : List ℕ) (a b : Fault) → IsMisnamed text a → IsMisnamed text b → b ≡ a
 misnamed_once text a b m n =
-    some_same (sym n.first ∙ ap name_fault (written_once text m.written n.written m.spells n.spells) ∙ m.first)
+    same_Some _ _ (sym n.first ∙ ap name_fault (written_once text m.written n.written m.spells n.spells) ∙ m.first)
 
 same_bad : (a b : BadPlace) → a ≡ b → refusal_of_bad b.kind b.place ≡ refusal_of_bad a.kind a.place
 same_bad a b e = ap (λ (p : BadPlace). refusal_of_bad p.kind p.place) (sym e)

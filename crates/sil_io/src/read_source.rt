@@ -51,7 +51,8 @@ impl<R: Reader> Source for ReadSource<R> {
         ensures read { IfOk result (λ n. Consumes (R.left self.old.inner) (R.left self.new.inner) (take n buf.new)) }
         ensures end { IfOk result (λ n. n ≡ 0 → IsAtEnd (R.left self.new.inner)) }
         // One read has the whole buffer, and the answer is its answer.
-        ensures one_read { MatchResult result (λ n. R.reads self.old.inner buf.old buf.new n self.new.inner) (λ _. R.failed self.old.inner buf.old buf.new self.new.inner) }
+        ensures one_read { MatchResult result (λ n. R.reads self.old.inner buf.old buf.new n self.new.inner)
+            (λ _. R.failed self.old.inner buf.old buf.new self.new.inner) }
         ensures no_fault { OnOk result (self.new.faults ≡ self.old.faults) }
         ensures fault { OnErr result (self.new.faults ≡ next_count self.old.faults) }
         ensures never_falls { self.old.faults ≤ self.new.faults }

@@ -1,5 +1,6 @@
 -- A text has one list of tokens and one stop.
-use Rattle.std.proofs.Common.{◌≡◌, ℕ, ◌<◌, ◌≤◌, Bool, true, false, cond, eqb, not, List, [], ◌∷◌, ◌++◌, length, drop, refl, sym, ap, ◌∙◌, subst, arith, append_assoc, drop_at, length-append, ⊎_elim, inl, inr}
+use Rattle.std.proofs.Common.{◌≡◌, ℕ, ◌<◌, ◌≤◌, Bool, true, false, cond, eqb, not, List, [], ◌∷◌, ◌++◌, length, drop, refl, sym}
+use Rattle.std.proofs.Common.{ap, ◌∙◌, subst, arith, append_assoc, drop_at, length-append, ⊎_elim, inl, inr}
 use Rattle.std.proofs.lemmas.List.{append-nil}
 use Rattle.std.specs.Prelude.{◌≢◌, ◌⊎◌, ◌==◌, Option, Some}
 use Rattle.std.specs.List.{prefix_len, list_all, list_any}
@@ -11,7 +12,8 @@ use Rattle.sil_lexer.specs.declared.token.LexRefusal.TheVariants.{BadByte, Unclo
 use Rattle.sil_lexer.specs.Bytes.{is_line_feed, is_in_line, is_blank, is_word_start, is_text_byte, is_punctuation}
 use Rattle.sil_lexer.specs.Places.{place_before}
 use Rattle.sil_lexer.specs.Spelling.{Spells, word, at_name, percent, number, negative, quoted, punctuation, arrow, IsSpelled, begins_with, name_length}
-use Rattle.sil_lexer.specs.Lexes.{Lexeme, Skips, nothing, blank, comment, last_comment, begins_comment, begins_skipped, BeginsNothing, Stops, bad_byte, bad_text_byte, unclosed_at_line_end, unclosed_at_end, name_too_long, Lexes, end, token, stop}
+use Rattle.sil_lexer.specs.Lexes.{Lexeme, Skips, nothing, blank, comment, last_comment, begins_comment, begins_skipped, BeginsNothing, Stops, bad_byte}
+use Rattle.sil_lexer.specs.Lexes.{bad_text_byte, unclosed_at_line_end, unclosed_at_end, name_too_long, Lexes, end, token, stop}
 use Rattle.sil_lexer.specs.Lexing.{IsLexedOneWay}
 use Rattle.sil_lexer.proofs.FrontLemmas.{one_spelling, run_goes_on, ended_run}
 use Rattle.sil_lexer.proofs.SpellLemmas.{spelling_some}
@@ -236,7 +238,8 @@ lexes_same text left other lexemes lexemes' stop' stop'' same (end _ skips) (sto
 lexes_same text left other lexemes lexemes' stop' stop'' same (token _ spelling after kind _ _ skips spelled _ _) (end _ skips') =
     absurd (spelling_not_empty kind spelling after spelled.spelled (one_rest left other (spelling ++ after) [] same skips skips' (spelling_not_skipped kind spelling after spelled.spelled) refl))
 lexes_same text left other lexemes lexemes' stop' stop'' same (token _ spelling after kind more _ skips spelled _ next) (token _ spelling' after' kind' more' _ skips' spelled' _ next') =
-    let rest = one_rest left other (spelling ++ after) (spelling' ++ after') same skips skips' (spelling_not_skipped kind spelling after spelled.spelled) (spelling_not_skipped kind' spelling' after' spelled'.spelled) in
+    let rest = one_rest left other (spelling ++ after) (spelling' ++ after') same skips skips'
+    (spelling_not_skipped kind spelling after spelled.spelled) (spelling_not_skipped kind' spelling' after' spelled'.spelled) in
     let one = one_spelling kind' kind spelling' after' spelling after spelled' spelled rest in
     let later = lexes_same text after after' more more' stop' stop'' one.2 next next' in
     ((λ i. record { kind = one.0 i; place = place_before text (rest i); spelling = one.1 i } ∷ later.0 i), later.1)

@@ -1,7 +1,8 @@
 -- The texts of types, one equation for each form.
 use Rattle.std.proofs.Common.{◌≡◌, ℕ, List, ◌++◌, codes, decimal, ap, sym, ◌∙◌}
 use Rattle.sil_ast.specs.declared.type_name.TypeName.{TypeName, TypeName-F, fold-roll-TypeName}
-use Rattle.sil_ast.specs.declared.type_name.TypeName.TheVariants.{Int, Named, Optional, Tuple, Weak, Unowned, Address, rolls-Int, rolls-Named, rolls-Optional, rolls-Tuple, rolls-Weak, rolls-Unowned, rolls-Address}
+use Rattle.sil_ast.specs.declared.type_name.TypeName.TheVariants.{Int, Named, Optional, Tuple, Weak, Unowned, Address, rolls-Int, rolls-Named}
+use Rattle.sil_ast.specs.declared.type_name.TypeName.TheVariants.{rolls-Optional, rolls-Tuple, rolls-Weak, rolls-Unowned, rolls-Address}
 use Rattle.sil_printer.specs.Words.{in_parens}
 use Rattle.sil_printer.specs.CanonicalTypes.{type_text, type_over}
 use Rattle.sil_printer.proofs.Joined.{join_by_map}

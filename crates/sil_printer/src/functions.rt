@@ -3,7 +3,8 @@
 ghost use Rattle.std.specs.Prelude.{◌≡◌, ◌++◌, OnOk, codes};
 ghost use Rattle.sil_printer.specs.Words.{line, indented, parens_if_any, each_behind, line_feed};
 ghost use Rattle.sil_printer.specs.CanonicalInsts.{block_name, inst_text};
-ghost use Rattle.sil_printer.specs.CanonicalFunctions.{kind_text, arg_text, block_text, blocks_text, linkage_text, form_text, attribute_text, words_text, head_text, body_text, function_text};
+ghost use Rattle.sil_printer.specs.CanonicalFunctions.{kind_text, arg_text, block_text, blocks_text, linkage_text, form_text};
+ghost use Rattle.sil_printer.specs.CanonicalFunctions.{attribute_text, words_text, head_text, body_text, function_text};
 
 use crate::edges::push_block_name;
 use crate::insts::push_inst;

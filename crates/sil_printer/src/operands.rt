@@ -3,7 +3,8 @@
 ghost use Rattle.std.specs.Prelude.{◌≡◌, ◌++◌, OnOk, slice_get};
 ghost use Rattle.std.specs.Fmt.{signed_decimal};
 ghost use Rattle.sil_printer.specs.Words.{if_there, in_parens};
-ghost use Rattle.sil_printer.specs.CanonicalInsts.{value_text, typed_text, bare_text, type_word, signature_word, quoted, function_name, field_name, case_name, member_text};
+ghost use Rattle.sil_printer.specs.CanonicalInsts.{value_text, typed_text, bare_text, type_word, signature_word, quoted};
+ghost use Rattle.sil_printer.specs.CanonicalInsts.{function_name, field_name, case_name, member_text};
 
 use crate::pieces::{
     Canonical, push_bytes, push_decimal, push_in_parens, push_separator, push_signed,

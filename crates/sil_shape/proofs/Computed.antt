@@ -1,6 +1,6 @@
 -- What is computed of the grammar, production by production: its sets are closed, and the next token chooses.
 use Rattle.std.proofs.Common.{◌≡◌, ℕ, ◌+◌, List, [], ◌∷◌, refl, Bool, true, false}
-use Rattle.std.specs.Prelude.{Option, Some, None, ◌&&◌, ◌||◌, ◌==◌, nat_lt}
+use Rattle.std.specs.Prelude.{⊤, Option, Some, None, ◌&&◌, ◌||◌, ◌==◌, nat_lt}
 use Rattle.instruction_table.specs.declared.op.Op.TheVariants as op
 use Rattle.token_classes.specs.declared.classes.Keyword.TheVariants as k
 use Rattle.token_classes.specs.declared.classes.AtWord.TheVariants as a
@@ -18,8 +18,8 @@ use Rattle.sil_shape.specs.inner.ClassNumbers.{keyword_number, at_number, punctu
 use Rattle.sil_shape.specs.Grammar.{written, body, alternatives}
 use Rattle.sil_shape.specs.Shortest.{shortest}
 use Rattle.sil_shape.specs.inner.Choice.{starts, empty_choice, has_class, has, started, row_inside, row_at_end, or_empty, choose}
-use Rattle.sil_shape.specs.Rows.{brings_comma, comma_behind, comma_between, edges_of, ends_block, member_of, operand_of, parts_row, qualifier_of, row_body, row_part, symbols_of, text_of}
 use Rattle.sil_shape.proofs.Sets.{first, follow, ends, nullable, weight, needed}
+use Rattle.sil_shape.proofs.Unfolded.{rows}
 use Rattle.sil_shape.specs.inner.ParseTable.{part_number}
 use Rattle.sil_shape.proofs.Numbered.{all_looks, fixed_looks, each_look, is_it, production_number}
 
@@ -99,22 +99,39 @@ example t.RowWord = c.Word (k.Mnemonic op.IntegerLiteral)
 example t.EndWord = c.Word (k.Mnemonic op.Br)
 example (t.Just wanted) = wanted
 
+-- what is unfolded where the grammar is computed with: its sets, the tokens that are looked at, and both
+unfoldable sets : ⊤
+unfolding written body first follow ends follows nullable has has_class begins_one begins vanishes_one vanishes rows
+sets = tt
+
+unfoldable looks : ⊤
+unfolding accepts keyword_number at_number punctuation_number class_number implies comes each_look all_looks fixed_looks
+looks = tt
+
+unfoldable grammar : ⊤
+unfolding sets looks
+grammar = tt
+
+unfoldable choices : ⊤
+unfolding choose started row_inside row_at_end or_empty alternatives starts empty_choice
+choices = tt
+
 pub computed_first : (p : Production) → each_look (λ l. implies (begins (body p) l) (has (first (written p)) l)) ≡ true
-unfolding written body first follow ends follows nullable has has_class accepts keyword_number at_number punctuation_number class_number begins_one begins vanishes_one vanishes implies comes each_look all_looks fixed_looks row_body row_part ends_block parts_row symbols_of comma_behind comma_between brings_comma operand_of member_of qualifier_of text_of edges_of
+unfolding grammar
 computed_first p.WholeModule = refl
 computed_first (p.Row op.IntegerLiteral) = refl
 computed_first (p.Row _) = refl
 computed_first _ = refl
 
 pub computed_nullable : (p : Production) → implies (vanishes (body p)) (nullable (written p)) ≡ true
-unfolding written body first follow ends follows nullable has has_class accepts keyword_number at_number punctuation_number class_number begins_one begins vanishes_one vanishes implies comes each_look all_looks fixed_looks row_body row_part ends_block parts_row symbols_of comma_behind comma_between brings_comma operand_of member_of qualifier_of text_of edges_of
+unfolding grammar
 computed_nullable p.WholeModule = refl
 computed_nullable (p.Row op.IntegerLiteral) = refl
 computed_nullable (p.Row _) = refl
 computed_nullable _ = refl
 
 pub computed_follow : (p : Production) → fits (written p) (body p) ≡ true
-unfolding written body first follow ends follows nullable has has_class accepts keyword_number at_number punctuation_number class_number begins_one begins vanishes_one vanishes implies comes each_look all_looks fixed_looks fits fits_one row_body row_part ends_block parts_row symbols_of comma_behind comma_between brings_comma operand_of member_of qualifier_of text_of edges_of
+unfolding grammar fits fits_one
 computed_follow p.WholeModule = refl
 computed_follow (p.Row op.IntegerLiteral) = refl
 computed_follow (p.Row _) = refl
@@ -122,31 +139,31 @@ computed_follow _ = refl
 
 -- the next token chooses each production: no two begin alike
 pub computed_choice : (p : Production) → each_look (λ l. implies (comes (written p) (body p) l) (is_it (choose (written p) l) p)) ≡ true
-unfolding written body first follow ends follows nullable has has_class accepts keyword_number at_number punctuation_number class_number begins_one begins vanishes_one vanishes implies comes each_look all_looks fixed_looks choose started row_inside row_at_end or_empty alternatives starts empty_choice is_it production_number row_body row_part ends_block parts_row symbols_of comma_behind comma_between brings_comma operand_of member_of qualifier_of text_of edges_of
+unfolding grammar choices is_it production_number
 computed_choice p.WholeModule = refl
 computed_choice (p.Row op.IntegerLiteral) = refl
 computed_choice (p.Row _) = refl
 computed_choice _ = refl
 
 pub computed_way : (part : Nonterminal) → each_look (λ l. is_way (choose part l) part) ≡ true
-unfolding written body first follow ends follows nullable has has_class accepts keyword_number at_number punctuation_number class_number begins_one begins vanishes_one vanishes implies comes each_look all_looks fixed_looks choose started row_inside row_at_end or_empty alternatives starts empty_choice is_way part_number row_body row_part ends_block parts_row symbols_of comma_behind comma_between brings_comma operand_of member_of qualifier_of text_of edges_of
+unfolding grammar choices is_way part_number
 computed_way n.Module = refl
 computed_way _ = refl
 
 pub computed_weight : (p : Production) → nat_lt (lead (body p)) (weight (written p)) ≡ true
-unfolding written body first follow ends follows nullable has has_class accepts keyword_number at_number punctuation_number class_number begins_one begins vanishes_one vanishes implies comes each_look all_looks fixed_looks lead weight_one if_vanishes weight row_body row_part ends_block parts_row symbols_of comma_behind comma_between brings_comma operand_of member_of qualifier_of text_of edges_of
+unfolding grammar lead weight_one if_vanishes weight
 computed_weight p.WholeModule = refl
 computed_weight (p.Row op.IntegerLiteral) = refl
 computed_weight (p.Row _) = refl
 computed_weight _ = refl
 
 pub computed_needed : (part : Nonterminal) → (needed_all (body (shortest part)) + 1 == needed part) ≡ true
-unfolding body shortest needed needed_one needed_all row_body row_part ends_block parts_row symbols_of comma_behind comma_between brings_comma operand_of member_of qualifier_of text_of edges_of
+unfolding body shortest needed needed_one needed_all rows
 computed_needed n.Module = refl
 computed_needed _ = refl
 
 pub shortest-way : (part : Nonterminal) → written (shortest part) ≡ part
-unfolding shortest written row_body row_part ends_block parts_row symbols_of comma_behind comma_between brings_comma operand_of member_of qualifier_of text_of edges_of
+unfolding shortest written rows
 shortest-way n.Module = refl
 shortest-way _ = refl
 

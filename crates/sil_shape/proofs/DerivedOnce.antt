@@ -4,6 +4,7 @@ use Rattle.std.specs.Prelude.{Some}
 use Rattle.std.proofs.Math.Nat.{eq-or-lt_of_le}
 use Rattle.std.proofs.lemmas.Bool.{cases_order}
 use Rattle.std.proofs.lemmas.List.{take-append-drop, take-take}
+use Rattle.std.proofs.lemmas.Option.{same_Some}
 use Rattle.token_classes.specs.declared.classes.Class.{Class}
 use Rattle.sil_shape.specs.declared.grammar.Symbol.{Symbol}
 use Rattle.sil_shape.specs.declared.steps.Step.{Step}
@@ -23,9 +24,6 @@ taken : (s : Symbol) {k : Class} {ss : List Symbol} {ks : List Class} {steps : L
 taken s a (token {steps = steps} b d) = record { rest = steps; derives = d; steps_are = refl }
 taken _ a (rule p d) = absurd a
 
-some_same : {A : Type 0} {a b : A} → Some a ≡ Some b → a ≡ b
-some_same h = cc
-
 derived_once : {ss : List Symbol} {ks : List Class} {steps others : List Step} → Fits ss → Derives ss ks steps → Derives ss ks others → others ≡ steps
 derived_once fits nothing e = Derives-nothing e
 derived_once fits (token {s = s} a d) e =
@@ -34,7 +32,7 @@ derived_once fits (token {s = s} a d) e =
 derived_once fits (rule {ss = ss} {ks = ks} {steps = steps} p d) e =
     let here = Derives-inner (written p) fits.0 (rule {ss = ss} {ks = ks} {steps = steps} p d) in
     let there = Derives-inner (written p) fits.0 e in
-    let same : there.production ≡ here.production = some_same (sym there.choice ∙ here.choice) in
+    let same : there.production ≡ here.production = same_Some _ _ (sym there.choice ∙ here.choice) in
     let this : p ≡ here.production = cc here.steps_are in
     let inside = subst (λ q. Derives (body q ++ ss) ks there.rest) (same ∙ sym this) there.derives in
     let rest : there.rest ≡ steps = derived_once (Fits-expand p ss fits) d inside in

@@ -16,7 +16,8 @@ use Rattle.sil_shape.specs.Derivation.{Accepts, Derives, nothing, token, rule}
 use Rattle.sil_shape.proofs.Sets.{first, nullable}
 use Rattle.sil_shape.proofs.SuitsLemmas.{accepts-suits}
 use Rattle.sil_shape.proofs.Numbered.{each_look-at, is_it, is_it_some, same_part}
-use Rattle.sil_shape.proofs.Computed.{follows, begins_one, begins, vanishes_one, vanishes, implies, comes, fits_one, fits, is_way, computed_first, computed_nullable, computed_follow, computed_choice, computed_way, follows-start}
+use Rattle.sil_shape.proofs.Computed.{follows, begins_one, begins, vanishes_one, vanishes, implies, comes, fits_one, fits, is_way}
+use Rattle.sil_shape.proofs.Computed.{computed_first, computed_nullable, computed_follow, computed_choice, computed_way, follows-start}
 
 -- the class that comes next, if any does
 abbrev pub look : List Class → Option Class

@@ -20,7 +20,21 @@ use Rattle.sil_shape.specs.inner.ParseTable.{look_number, part_number}
 
 -- the end, and each class but the mnemonics
 unfoldable pub fixed_looks : List (Option Class)
-fixed_looks = None ∷ Some c.Percent ∷ Some c.Number ∷ Some c.BuiltinText ∷ Some c.OtherText ∷ Some (c.At a.Other) ∷ Some (c.At a.HasStorage) ∷ Some (c.At a.SilWeak) ∷ Some (c.At a.SilUnowned) ∷ Some (c.At a.Convention) ∷ Some (c.At a.Owned) ∷ Some (c.At a.Guaranteed) ∷ Some (c.At a.Inout) ∷ Some (c.Punctuation m.LeftBrace) ∷ Some (c.Punctuation m.RightBrace) ∷ Some (c.Punctuation m.LeftParen) ∷ Some (c.Punctuation m.RightParen) ∷ Some (c.Punctuation m.LeftBracket) ∷ Some (c.Punctuation m.RightBracket) ∷ Some (c.Punctuation m.Less) ∷ Some (c.Punctuation m.Greater) ∷ Some (c.Punctuation m.Comma) ∷ Some (c.Punctuation m.Colon) ∷ Some (c.Punctuation m.Dot) ∷ Some (c.Punctuation m.Question) ∷ Some (c.Punctuation m.Star) ∷ Some (c.Punctuation m.Equals) ∷ Some (c.Punctuation m.Bang) ∷ Some (c.Punctuation m.Dollar) ∷ Some (c.Punctuation m.Hash) ∷ Some (c.Punctuation m.Arrow) ∷ Some (c.Word k.Other) ∷ Some (c.Word k.SilStage) ∷ Some (c.Word k.Raw) ∷ Some (c.Word k.Canonical) ∷ Some (c.Word k.Import) ∷ Some (c.Word k.Final) ∷ Some (c.Word k.Class) ∷ Some (c.Word k.Sil) ∷ Some (c.Word k.SilVtable) ∷ Some (c.Word k.Deinit) ∷ Some (c.Word k.Init) ∷ Some (c.Word k.Weak) ∷ Some (c.Word k.Unowned) ∷ Some (c.Word k.Var) ∷ Some (c.Word k.Let) ∷ Some (c.Word k.Get) ∷ Some (c.Word k.Set) ∷ Some (c.Word k.Case) ∷ Some (c.Word k.Builtin) ∷ Some (c.Word k.Optional) ∷ Some (c.Word k.Int1) ∷ Some (c.Word k.Int8) ∷ Some (c.Word k.Int16) ∷ Some (c.Word k.Int32) ∷ Some (c.Word k.Int64) ∷ Some (c.Word k.Hidden) ∷ Some (c.Word k.Private) ∷ Some (c.Word k.Shared) ∷ Some (c.Word k.Public) ∷ Some (c.Word k.Thin) ∷ Some (c.Word k.Method) ∷ Some (c.Word k.To) ∷ Some (c.Word k.Default) ∷ Some (c.Word k.Enumelt) ∷ Some (c.Word k.Lexical) ∷ Some (c.Word k.VarDecl) ∷ Some (c.Word k.Copy) ∷ Some (c.Word k.Take) ∷ Some (c.Word k.Trivial) ∷ Some (c.Word k.Assign) ∷ Some (c.Word k.Initialization) ∷ Some (c.Word k.Name) ∷ Some (c.Word k.Argno) ∷ Some (c.Word k.Expr) ∷ Some (c.Word k.OpDeref) ∷ Some (c.Word k.Destroyer) ∷ []
+fixed_looks = None ∷ Some c.Percent ∷ Some c.Number ∷ Some c.BuiltinText ∷ Some c.OtherText ∷ Some (c.At a.Other) ∷ Some (c.At a.HasStorage)
+    ∷ Some (c.At a.SilWeak) ∷ Some (c.At a.SilUnowned) ∷ Some (c.At a.Convention) ∷ Some (c.At a.Owned) ∷ Some (c.At a.Guaranteed)
+    ∷ Some (c.At a.Inout) ∷ Some (c.Punctuation m.LeftBrace) ∷ Some (c.Punctuation m.RightBrace) ∷ Some (c.Punctuation m.LeftParen)
+    ∷ Some (c.Punctuation m.RightParen) ∷ Some (c.Punctuation m.LeftBracket) ∷ Some (c.Punctuation m.RightBracket) ∷ Some (c.Punctuation m.Less)
+    ∷ Some (c.Punctuation m.Greater) ∷ Some (c.Punctuation m.Comma) ∷ Some (c.Punctuation m.Colon) ∷ Some (c.Punctuation m.Dot)
+    ∷ Some (c.Punctuation m.Question) ∷ Some (c.Punctuation m.Star) ∷ Some (c.Punctuation m.Equals) ∷ Some (c.Punctuation m.Bang)
+    ∷ Some (c.Punctuation m.Dollar) ∷ Some (c.Punctuation m.Hash) ∷ Some (c.Punctuation m.Arrow) ∷ Some (c.Word k.Other) ∷ Some (c.Word k.SilStage)
+    ∷ Some (c.Word k.Raw) ∷ Some (c.Word k.Canonical) ∷ Some (c.Word k.Import) ∷ Some (c.Word k.Final) ∷ Some (c.Word k.Class) ∷ Some (c.Word k.Sil)
+    ∷ Some (c.Word k.SilVtable) ∷ Some (c.Word k.Deinit) ∷ Some (c.Word k.Init) ∷ Some (c.Word k.Weak) ∷ Some (c.Word k.Unowned) ∷ Some (c.Word k.Var)
+    ∷ Some (c.Word k.Let) ∷ Some (c.Word k.Get) ∷ Some (c.Word k.Set) ∷ Some (c.Word k.Case) ∷ Some (c.Word k.Builtin) ∷ Some (c.Word k.Optional)
+    ∷ Some (c.Word k.Int1) ∷ Some (c.Word k.Int8) ∷ Some (c.Word k.Int16) ∷ Some (c.Word k.Int32) ∷ Some (c.Word k.Int64) ∷ Some (c.Word k.Hidden)
+    ∷ Some (c.Word k.Private) ∷ Some (c.Word k.Shared) ∷ Some (c.Word k.Public) ∷ Some (c.Word k.Thin) ∷ Some (c.Word k.Method) ∷ Some (c.Word k.To)
+    ∷ Some (c.Word k.Default) ∷ Some (c.Word k.Enumelt) ∷ Some (c.Word k.Lexical) ∷ Some (c.Word k.VarDecl) ∷ Some (c.Word k.Copy)
+    ∷ Some (c.Word k.Take) ∷ Some (c.Word k.Trivial) ∷ Some (c.Word k.Assign) ∷ Some (c.Word k.Initialization) ∷ Some (c.Word k.Name)
+    ∷ Some (c.Word k.Argno) ∷ Some (c.Word k.Expr) ∷ Some (c.Word k.OpDeref) ∷ Some (c.Word k.Destroyer) ∷ []
 
 -- the end, and each class
 unfoldable pub all_looks : List (Option Class)
@@ -212,10 +226,38 @@ all_productions : List Production
 all_productions = fixed_productions ++ map p.Row OPS
   where
     fixed_productions : List Production
-    fixed_productions = p.WholeModule ∷ p.StageSome ∷ p.StageNone ∷ p.Raw ∷ p.Canonical ∷ p.ImportsMore ∷ p.ImportsEnd ∷ p.ItemsMore ∷ p.ItemsEnd ∷ p.FinalClass ∷ p.PlainClass ∷ p.StructItem ∷ p.EnumItem ∷ p.FunctionItem ∷ p.VtableItem ∷ p.MembersMore ∷ p.MembersEnd ∷ p.StoredMember ∷ p.FinalMember ∷ p.PlainMember ∷ p.DeinitMember ∷ p.InitMember ∷ p.ModifiedStored ∷ p.ModifiedFinal ∷ p.ModifiedVariable ∷ p.WeakVariable ∷ p.UnownedVariable ∷ p.StrongVariable ∷ p.VarBinding ∷ p.LetBinding ∷ p.FieldsMore ∷ p.FieldsEnd ∷ p.StoredField ∷ p.PlainField ∷ p.AccessorsSome ∷ p.AccessorsNone ∷ p.SetterSome ∷ p.SetterNone ∷ p.CasesMore ∷ p.CasesEnd ∷ p.PayloadSome ∷ p.PayloadNone ∷ p.BareType ∷ p.ParenType ∷ p.BaseOpen ∷ p.WeakOpen ∷ p.UnownedOpen ∷ p.BuiltinBase ∷ p.OptionalBase ∷ p.NamedBase ∷ p.BuiltinInt ∷ p.BuiltinName ∷ p.OptionalOf ∷ p.OptionalName ∷ p.Width1 ∷ p.Width8 ∷ p.Width16 ∷ p.Width32 ∷ p.Width64 ∷ p.QuestionsMore ∷ p.QuestionsEnd ∷ p.TypesSome ∷ p.TypesNone ∷ p.MoreTypesMore ∷ p.MoreTypesEnd ∷ p.LinkageHidden ∷ p.LinkagePrivate ∷ p.LinkageShared ∷ p.LinkagePublic ∷ p.LinkagePlain ∷ p.AttributesMore ∷ p.AttributesEnd ∷ p.BodySome ∷ p.BodyNone ∷ p.WholeFunctionType ∷ p.Thin ∷ p.Method ∷ p.ParamsSome ∷ p.ParamsNone ∷ p.MoreParamsMore ∷ p.MoreParamsEnd ∷ p.ParamOwned ∷ p.ParamGuaranteed ∷ p.ParamInout ∷ p.ParamPlain ∷ p.ResultList ∷ p.ResultOwned ∷ p.ResultPlain ∷ p.InsideSome ∷ p.InsideNone ∷ p.MoreGivensMore ∷ p.MoreGivensEnd ∷ p.GivenOwned ∷ p.GivenPlain ∷ p.WholeBlock ∷ p.BlocksMore ∷ p.BlocksEnd ∷ p.BlockArgsSome ∷ p.BlockArgsNone ∷ p.MoreBlockArgsMore ∷ p.MoreBlockArgsEnd ∷ p.WholeBlockArg ∷ p.OwnershipOwned ∷ p.OwnershipGuaranteed ∷ p.OwnershipNone ∷ p.StarSome ∷ p.StarNone ∷ p.CodeInst ∷ p.CodeEnd ∷ p.InstOneName ∷ p.InstNames ∷ p.InstUnnamed ∷ p.NamesSome ∷ p.NamesNone ∷ p.MoreNamesMore ∷ p.MoreNamesEnd ∷ p.WholeOperand ∷ p.OperandsSome ∷ p.OperandsNone ∷ p.MoreOperandsMore ∷ p.MoreOperandsEnd ∷ p.BareNamesSome ∷ p.BareNamesNone ∷ p.WholeEdge ∷ p.EdgeArgsSome ∷ p.EdgeArgsNone ∷ p.SwitchCase ∷ p.SwitchDefault ∷ p.SwitchMoreSome ∷ p.SwitchMoreEnd ∷ p.WholeEnumElement ∷ p.SuffixSome ∷ p.SuffixNone ∷ p.EnumOperandSome ∷ p.EnumOperandNone ∷ p.WholeMemberName ∷ p.FlagsSome ∷ p.FlagsNone ∷ p.LexicalFirst ∷ p.VarDeclFirst ∷ p.VarDeclAfterSome ∷ p.VarDeclAfterNone ∷ p.LexicalAfterSome ∷ p.LexicalAfterNone ∷ p.QualifierSome ∷ p.QualifierNone ∷ p.QualifierCopy ∷ p.QualifierTake ∷ p.QualifierTrivial ∷ p.QualifierInit ∷ p.QualifierAssign ∷ p.TakeFlagSome ∷ p.TakeFlagNone ∷ p.InitFlagSome ∷ p.InitFlagNone ∷ p.InitShort ∷ p.InitLong ∷ p.DebugSome ∷ p.DebugNone ∷ p.DebugLet ∷ p.DebugVar ∷ p.DebugRest ∷ p.DebugAfterBindingSome ∷ p.DebugAfterBindingNone ∷ p.DebugName ∷ p.DebugNoName ∷ p.DebugAfterNameSome ∷ p.DebugAfterNameNone ∷ p.DebugNumber ∷ p.DebugNoNumber ∷ p.DebugAfterNumberSome ∷ p.DebugAfterNumberNone ∷ p.DebugDeref ∷ p.EntrySome ∷ p.EntryNone ∷ []
+    fixed_productions = p.WholeModule ∷ p.StageSome ∷ p.StageNone ∷ p.Raw ∷ p.Canonical ∷ p.ImportsMore ∷ p.ImportsEnd ∷ p.ItemsMore ∷ p.ItemsEnd
+        ∷ p.FinalClass ∷ p.PlainClass ∷ p.StructItem ∷ p.EnumItem ∷ p.FunctionItem ∷ p.VtableItem ∷ p.MembersMore ∷ p.MembersEnd ∷ p.StoredMember
+        ∷ p.FinalMember ∷ p.PlainMember ∷ p.DeinitMember ∷ p.InitMember ∷ p.ModifiedStored ∷ p.ModifiedFinal ∷ p.ModifiedVariable ∷ p.WeakVariable
+        ∷ p.UnownedVariable ∷ p.StrongVariable ∷ p.VarBinding ∷ p.LetBinding ∷ p.FieldsMore ∷ p.FieldsEnd ∷ p.StoredField ∷ p.PlainField
+        ∷ p.AccessorsSome ∷ p.AccessorsNone ∷ p.SetterSome ∷ p.SetterNone ∷ p.CasesMore ∷ p.CasesEnd ∷ p.PayloadSome ∷ p.PayloadNone ∷ p.BareType
+        ∷ p.ParenType ∷ p.BaseOpen ∷ p.WeakOpen ∷ p.UnownedOpen ∷ p.BuiltinBase ∷ p.OptionalBase ∷ p.NamedBase ∷ p.BuiltinInt ∷ p.BuiltinName
+        ∷ p.OptionalOf ∷ p.OptionalName ∷ p.Width1 ∷ p.Width8 ∷ p.Width16 ∷ p.Width32 ∷ p.Width64 ∷ p.QuestionsMore ∷ p.QuestionsEnd ∷ p.TypesSome
+        ∷ p.TypesNone ∷ p.MoreTypesMore ∷ p.MoreTypesEnd ∷ p.LinkageHidden ∷ p.LinkagePrivate ∷ p.LinkageShared ∷ p.LinkagePublic ∷ p.LinkagePlain
+        ∷ p.AttributesMore ∷ p.AttributesEnd ∷ p.BodySome ∷ p.BodyNone ∷ p.WholeFunctionType ∷ p.Thin ∷ p.Method ∷ p.ParamsSome ∷ p.ParamsNone
+        ∷ p.MoreParamsMore ∷ p.MoreParamsEnd ∷ p.ParamOwned ∷ p.ParamGuaranteed ∷ p.ParamInout ∷ p.ParamPlain ∷ p.ResultList ∷ p.ResultOwned
+        ∷ p.ResultPlain ∷ p.InsideSome ∷ p.InsideNone ∷ p.MoreGivensMore ∷ p.MoreGivensEnd ∷ p.GivenOwned ∷ p.GivenPlain ∷ p.WholeBlock ∷ p.BlocksMore
+        ∷ p.BlocksEnd ∷ p.BlockArgsSome ∷ p.BlockArgsNone ∷ p.MoreBlockArgsMore ∷ p.MoreBlockArgsEnd ∷ p.WholeBlockArg ∷ p.OwnershipOwned
+        ∷ p.OwnershipGuaranteed ∷ p.OwnershipNone ∷ p.StarSome ∷ p.StarNone ∷ p.CodeInst ∷ p.CodeEnd ∷ p.InstOneName ∷ p.InstNames ∷ p.InstUnnamed
+        ∷ p.NamesSome ∷ p.NamesNone ∷ p.MoreNamesMore ∷ p.MoreNamesEnd ∷ p.WholeOperand ∷ p.OperandsSome ∷ p.OperandsNone ∷ p.MoreOperandsMore
+        ∷ p.MoreOperandsEnd ∷ p.BareNamesSome ∷ p.BareNamesNone ∷ p.WholeEdge ∷ p.EdgeArgsSome ∷ p.EdgeArgsNone ∷ p.SwitchCase ∷ p.SwitchDefault
+        ∷ p.SwitchMoreSome ∷ p.SwitchMoreEnd ∷ p.WholeEnumElement ∷ p.SuffixSome ∷ p.SuffixNone ∷ p.EnumOperandSome ∷ p.EnumOperandNone
+        ∷ p.WholeMemberName ∷ p.FlagsSome ∷ p.FlagsNone ∷ p.LexicalFirst ∷ p.VarDeclFirst ∷ p.VarDeclAfterSome ∷ p.VarDeclAfterNone
+        ∷ p.LexicalAfterSome ∷ p.LexicalAfterNone ∷ p.QualifierSome ∷ p.QualifierNone ∷ p.QualifierCopy ∷ p.QualifierTake ∷ p.QualifierTrivial
+        ∷ p.QualifierInit ∷ p.QualifierAssign ∷ p.TakeFlagSome ∷ p.TakeFlagNone ∷ p.InitFlagSome ∷ p.InitFlagNone ∷ p.InitShort ∷ p.InitLong
+        ∷ p.DebugSome ∷ p.DebugNone ∷ p.DebugLet ∷ p.DebugVar ∷ p.DebugRest ∷ p.DebugAfterBindingSome ∷ p.DebugAfterBindingNone ∷ p.DebugName
+        ∷ p.DebugNoName ∷ p.DebugAfterNameSome ∷ p.DebugAfterNameNone ∷ p.DebugNumber ∷ p.DebugNoNumber ∷ p.DebugAfterNumberSome
+        ∷ p.DebugAfterNumberNone ∷ p.DebugDeref ∷ p.EntrySome ∷ p.EntryNone ∷ []
 
 all_parts : List Nonterminal
-all_parts = n.Module ∷ n.Stage ∷ n.StageWord ∷ n.Imports ∷ n.Items ∷ n.Item ∷ n.Members ∷ n.Member ∷ n.Modified ∷ n.Variable ∷ n.Binding ∷ n.Fields ∷ n.Field ∷ n.Accessors ∷ n.Setter ∷ n.Cases ∷ n.Payload ∷ n.Type ∷ n.OpenType ∷ n.Base ∷ n.BuiltinTail ∷ n.OptionalTail ∷ n.Width ∷ n.Questions ∷ n.Types ∷ n.MoreTypes ∷ n.Linkage ∷ n.Attributes ∷ n.Body ∷ n.FunctionType ∷ n.Convention ∷ n.Params ∷ n.MoreParams ∷ n.Param ∷ n.Results ∷ n.ResultsInside ∷ n.MoreGivens ∷ n.Given ∷ n.Block ∷ n.Blocks ∷ n.BlockArgs ∷ n.MoreBlockArgs ∷ n.BlockArg ∷ n.Ownership ∷ n.Star ∷ n.Code ∷ n.Inst ∷ n.Names ∷ n.MoreNames ∷ n.Row ∷ n.Terminator ∷ n.Operand ∷ n.Operands ∷ n.MoreOperands ∷ n.BareNames ∷ n.Edge ∷ n.EdgeArgs ∷ n.SwitchPart ∷ n.SwitchMore ∷ n.EnumElement ∷ n.ElementSuffix ∷ n.EnumOperand ∷ n.MemberName ∷ n.Flags ∷ n.FirstFlag ∷ n.VarDeclAfter ∷ n.LexicalAfter ∷ n.Qualifier ∷ n.QualifierWord ∷ n.TakeFlag ∷ n.InitFlag ∷ n.InitWord ∷ n.Debug ∷ n.DebugPart ∷ n.DebugAfterBinding ∷ n.DebugNamePart ∷ n.DebugAfterName ∷ n.DebugNumberPart ∷ n.DebugAfterNumber ∷ n.DebugDerefPart ∷ n.VtableEntry ∷ []
+all_parts = n.Module ∷ n.Stage ∷ n.StageWord ∷ n.Imports ∷ n.Items ∷ n.Item ∷ n.Members ∷ n.Member ∷ n.Modified ∷ n.Variable ∷ n.Binding ∷ n.Fields
+    ∷ n.Field ∷ n.Accessors ∷ n.Setter ∷ n.Cases ∷ n.Payload ∷ n.Type ∷ n.OpenType ∷ n.Base ∷ n.BuiltinTail ∷ n.OptionalTail ∷ n.Width ∷ n.Questions
+    ∷ n.Types ∷ n.MoreTypes ∷ n.Linkage ∷ n.Attributes ∷ n.Body ∷ n.FunctionType ∷ n.Convention ∷ n.Params ∷ n.MoreParams ∷ n.Param ∷ n.Results
+    ∷ n.ResultsInside ∷ n.MoreGivens ∷ n.Given ∷ n.Block ∷ n.Blocks ∷ n.BlockArgs ∷ n.MoreBlockArgs ∷ n.BlockArg ∷ n.Ownership ∷ n.Star ∷ n.Code
+    ∷ n.Inst ∷ n.Names ∷ n.MoreNames ∷ n.Row ∷ n.Terminator ∷ n.Operand ∷ n.Operands ∷ n.MoreOperands ∷ n.BareNames ∷ n.Edge ∷ n.EdgeArgs
+    ∷ n.SwitchPart ∷ n.SwitchMore ∷ n.EnumElement ∷ n.ElementSuffix ∷ n.EnumOperand ∷ n.MemberName ∷ n.Flags ∷ n.FirstFlag ∷ n.VarDeclAfter
+    ∷ n.LexicalAfter ∷ n.Qualifier ∷ n.QualifierWord ∷ n.TakeFlag ∷ n.InitFlag ∷ n.InitWord ∷ n.Debug ∷ n.DebugPart ∷ n.DebugAfterBinding
+    ∷ n.DebugNamePart ∷ n.DebugAfterName ∷ n.DebugNumberPart ∷ n.DebugAfterNumber ∷ n.DebugDerefPart ∷ n.VtableEntry ∷ []
 
 -- each stands in the list of all, at its number
 pub all_looks-at : (l : Option Class) → slice_index_or all_looks (look_number l) None ≡ l

@@ -56,7 +56,8 @@ empty_table known e = ∣ (λ part l p h.
     cc) ∣₁
 
 -- a production is put in
-pub filled_table : (known : List (Option Production)) {size : ℕ} (i : ℕ) (c : Option Production) (part : Nonterminal) (l : Option Class) → i ≡ place part l → c ≡ choose part l → i < size → length known ≡ size
+pub filled_table : (known : List (Option Production)) {size : ℕ} (i : ℕ) (c : Option Production) (part : Nonterminal) (l : Option Class)
+    → i ≡ place part l → c ≡ choose part l → i < size → length known ≡ size
     → ∥ IsParseTable known ∥₁ → ∥ IsParseTable (slice_set known i c) ∥₁
 filled_table known i c part l at chosen below sized right = let inside : i < length known = omega (arith, below, sized) in ∥∥₁_elim right ∥∥₁_prop (λ before. ∣ (λ other m p h.
     elim (eqb_tells (place other m) i) [
@@ -68,7 +69,8 @@ filled_table known i c part l at chosen below sized right = let inside : i < len
     ]) ∣₁)
 
 -- what is known is chosen
-pub known_chosen : (known : List (Option Production)) {size : ℕ} (i : ℕ) (read : Option Production) (part : Nonterminal) (l : Option Class) (p : Production) → i ≡ place part l → i < size → length known ≡ size
+pub known_chosen : (known : List (Option Production)) {size : ℕ} (i : ℕ) (read : Option Production) (part : Nonterminal) (l : Option Class) (p : Production)
+    → i ≡ place part l → i < size → length known ≡ size
     → read ≡ slice_index_or known i read → read ≡ Some p → ∥ IsParseTable known ∥₁ → choose part l ≡ Some p
 known_chosen known i read part l p at below sized e is right =
     let inside : i < length known = omega (arith, below, sized) in

@@ -3,6 +3,7 @@ use Rattle.std.proofs.Common.{◌≡◌, ℕ, ◌+◌, ◌<◌, ◌≤◌, List,
 use Rattle.std.specs.Prelude.{Option, Some, None}
 use Rattle.std.proofs.lemmas.List.{append-nil, take_more, take_all}
 use Rattle.std.proofs.Math.Seq.{take-length}
+use Rattle.std.proofs.lemmas.Option.{same_Some}
 use Rattle.token_classes.specs.declared.classes.Class.{Class}
 use Rattle.sil_shape.specs.declared.grammar.Nonterminal.{Nonterminal}
 use Rattle.sil_shape.specs.declared.grammar.Symbol.{Symbol}
@@ -38,16 +39,14 @@ Reached-see l r = record { fits = r.fits; onward = r.onward; back = λ ks all h 
 fits_expand : (part : Nonterminal) (p : Production) (ss : List Symbol) → written p ≡ part → Fits (Part part ∷ ss) → Fits (body p ++ ss)
 fits_expand part p ss e h = Fits-expand p ss (subst (λ x. Fits (Part x ∷ ss)) (sym e) h)
 
-expand_at : (part : Nonterminal) (p : Production) {ss : List Symbol} {ks : List Class} {more : List Step} → written p ≡ part → Derives (body p ++ ss) ks more → Derives (Part part ∷ ss) ks (Expand p ∷ more)
+expand_at : (part : Nonterminal) (p : Production) {ss : List Symbol} {ks : List Class} {more : List Step}
+    → written p ≡ part → Derives (body p ++ ss) ks more → Derives (Part part ∷ ss) ks (Expand p ∷ more)
 expand_at part p {ss = ss} {ks = ks} {more = more} e d = subst (λ x. Derives (Part x ∷ ss) ks (Expand p ∷ more)) e (rule p d)
-
-some_same : {A : Type 0} {a b : A} → Some a ≡ Some b → a ≡ b
-some_same h = cc
 
 inner_by : (part : Nonterminal) (p : Production) {ss : List Symbol} {ks : List Class} {all : List Step} (l : Option Class)
     → choose part l ≡ Some p → look ks ≡ l → Inner part ss ks all → (more : List Step) × Derives (body p ++ ss) ks more × (all ≡ Expand p ∷ more)
 inner_by part p {ss = ss} {ks = ks} {all = all} l choice ahead i =
-    let same : i.production ≡ p = some_same (sym i.choice ∙ ap (choose part) ahead ∙ choice) in
+    let same : i.production ≡ p = same_Some _ _ (sym i.choice ∙ ap (choose part) ahead ∙ choice) in
     (i.rest, subst (λ q. Derives (body q ++ ss) ks i.rest) same i.derives, i.steps_are ∙ ap (λ q. Expand q ∷ i.rest) same)
 
 -- a step more
@@ -67,7 +66,8 @@ Reached-expand {front = front} {ss = ss} {steps = steps} part p l choice r =
           (inner.0, inner.1, step_more steps (Expand p) before.0 all before.2 inner.2);
     }
 
-take_back : (s : Symbol) (k : Class) {ss : List Symbol} {ks : List Class} {all : List Step} → Accepts s k → Derives (s ∷ ss) (k ∷ ks) all → (more : List Step) × Derives ss ks more × (all ≡ Take ∷ more)
+take_back : (s : Symbol) (k : Class) {ss : List Symbol} {ks : List Class} {all : List Step} → Accepts s k
+    → Derives (s ∷ ss) (k ∷ ks) all → (more : List Step) × Derives ss ks more × (all ≡ Take ∷ more)
 take_back s k a (token {steps = steps} b d) = (steps, d, refl)
 take_back _ k a (rule p d) = absurd a
 
@@ -102,7 +102,7 @@ no_choice part l none ahead i =
 token_stuck : (l : Option Class) (s : Symbol) (k : Class) → IsStuckAt l s → Accepts s k → Some k ≡ l → ⊥
 token_stuck l (Part part) k h a e = absurd a
 token_stuck None s k h a e = cc
-token_stuck (Some wanted) (Read terminal) k h a e = h (subst (λ x. Accepts (Read terminal) x) (some_same e) a)
+token_stuck (Some wanted) (Read terminal) k h a e = h (subst (λ x. Accepts (Read terminal) x) (same_Some _ _ e) a)
 
 symbol_stuck : (l : Option Class) (s : Symbol) {ss : List Symbol} {ks : List Class} {all : List Step} → IsStuckAt l s → FitsOne s ss → look ks ≡ l → Derives (s ∷ ss) ks all → ⊥
 symbol_stuck l s h f e (token {k = k} a d) = token_stuck l s k h a e

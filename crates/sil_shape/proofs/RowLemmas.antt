@@ -10,7 +10,8 @@ use Rattle.instruction_table.specs.Forms.{parts_of}
 use Rattle.token_classes.specs.declared.classes.Keyword.TheVariants as k
 use Rattle.sil_shape.specs.declared.grammar.Symbol.{Symbol}
 use Rattle.sil_shape.specs.declared.grammar.Symbol.TheVariants.{Read}
-use Rattle.sil_shape.specs.Rows.{brings_comma, comma_behind, comma_between, edges_of, member_of, operand_of, parts_row, qualifier_of, row_body, symbols_of, text_of}
+use Rattle.sil_shape.specs.Rows.{comma_behind, parts_row, row_body, symbols_of}
+use Rattle.sil_shape.proofs.Unfolded.{rows}
 use Rattle.sil_shape.specs.Terminals.{word}
 
 -- a slice up to the end
@@ -19,7 +20,8 @@ rest_of xs i = take_all (length xs - i) (drop i xs) (omega (arith, length-drop i
 
 module _ (o : Op) (parts : List Part) (i : ℕ) (d : Part) (inside : i < length parts) where
   -- the part at a place writes its symbols, a comma or none, and then what the parts behind it write
-  parts_row-at : parts_row o (drop i parts) ≡ symbols_of o (get_or parts i d) ++ comma_behind o (get_or parts i d) (take (length parts - (i + 1)) (drop (i + 1) parts)) ++ parts_row o (drop (i + 1) parts)
+  parts_row-at : parts_row o (drop i parts) ≡ symbols_of o (get_or parts i d)
+      ++ comma_behind o (get_or parts i d) (take (length parts - (i + 1)) (drop (i + 1) parts)) ++ parts_row o (drop (i + 1) parts)
   unfolding parts_row
   parts_row-at =
       ap (parts_row o) (drop_more parts i d inside)
@@ -61,7 +63,7 @@ pushed_row o stack first parts_are before new_is =
     ap reverse new_is ∙ reverse-append stack (mnemonic ∷ []) ∙ ap (λ l. mnemonic ∷ l) (before ∙ ap (λ l. parts_row o l ++ first) parts_are)
 
 computed_short : (o : Op) → nat_lt (length (row_body o)) 16 ≡ true
-unfolding row_body parts_row symbols_of comma_behind comma_between brings_comma operand_of member_of qualifier_of text_of edges_of
+unfolding rows
 computed_short op.IntegerLiteral = refl
 computed_short _ = refl
 

@@ -114,13 +114,20 @@ follow n.Accessors = word k.Final ∷ word k.Deinit ∷ word k.Init ∷ word k.W
 follow n.Setter = punctuation m.RightBrace ∷ []
 follow n.Cases = punctuation m.RightBrace ∷ []
 follow n.Payload = word k.Case ∷ punctuation m.RightBrace ∷ []
-follow n.Type = t.AnyWord ∷ at a.HasStorage ∷ t.Just c.Percent ∷ punctuation m.LeftBrace ∷ punctuation m.RightBrace ∷ punctuation m.LeftParen ∷ punctuation m.RightParen ∷ punctuation m.Greater ∷ punctuation m.Comma ∷ []
-follow n.OpenType = t.AnyWord ∷ at a.HasStorage ∷ t.Just c.Percent ∷ punctuation m.LeftBrace ∷ punctuation m.RightBrace ∷ punctuation m.LeftParen ∷ punctuation m.RightParen ∷ punctuation m.Greater ∷ punctuation m.Comma ∷ []
-follow n.Base = t.AnyWord ∷ at a.HasStorage ∷ t.Just c.Percent ∷ punctuation m.LeftBrace ∷ punctuation m.RightBrace ∷ punctuation m.LeftParen ∷ punctuation m.RightParen ∷ punctuation m.Greater ∷ punctuation m.Comma ∷ punctuation m.Question ∷ []
-follow n.BuiltinTail = t.AnyWord ∷ at a.HasStorage ∷ t.Just c.Percent ∷ punctuation m.LeftBrace ∷ punctuation m.RightBrace ∷ punctuation m.LeftParen ∷ punctuation m.RightParen ∷ punctuation m.Greater ∷ punctuation m.Comma ∷ punctuation m.Question ∷ []
-follow n.OptionalTail = t.AnyWord ∷ at a.HasStorage ∷ t.Just c.Percent ∷ punctuation m.LeftBrace ∷ punctuation m.RightBrace ∷ punctuation m.LeftParen ∷ punctuation m.RightParen ∷ punctuation m.Greater ∷ punctuation m.Comma ∷ punctuation m.Question ∷ []
-follow n.Width = t.AnyWord ∷ at a.HasStorage ∷ t.Just c.Percent ∷ punctuation m.LeftBrace ∷ punctuation m.RightBrace ∷ punctuation m.LeftParen ∷ punctuation m.RightParen ∷ punctuation m.Greater ∷ punctuation m.Comma ∷ punctuation m.Question ∷ []
-follow n.Questions = t.AnyWord ∷ at a.HasStorage ∷ t.Just c.Percent ∷ punctuation m.LeftBrace ∷ punctuation m.RightBrace ∷ punctuation m.LeftParen ∷ punctuation m.RightParen ∷ punctuation m.Greater ∷ punctuation m.Comma ∷ []
+follow n.Type = t.AnyWord ∷ at a.HasStorage ∷ t.Just c.Percent ∷ punctuation m.LeftBrace ∷ punctuation m.RightBrace
+    ∷ punctuation m.LeftParen ∷ punctuation m.RightParen ∷ punctuation m.Greater ∷ punctuation m.Comma ∷ []
+follow n.OpenType = t.AnyWord ∷ at a.HasStorage ∷ t.Just c.Percent ∷ punctuation m.LeftBrace ∷ punctuation m.RightBrace
+    ∷ punctuation m.LeftParen ∷ punctuation m.RightParen ∷ punctuation m.Greater ∷ punctuation m.Comma ∷ []
+follow n.Base = t.AnyWord ∷ at a.HasStorage ∷ t.Just c.Percent ∷ punctuation m.LeftBrace ∷ punctuation m.RightBrace
+    ∷ punctuation m.LeftParen ∷ punctuation m.RightParen ∷ punctuation m.Greater ∷ punctuation m.Comma ∷ punctuation m.Question ∷ []
+follow n.BuiltinTail = t.AnyWord ∷ at a.HasStorage ∷ t.Just c.Percent ∷ punctuation m.LeftBrace ∷ punctuation m.RightBrace
+    ∷ punctuation m.LeftParen ∷ punctuation m.RightParen ∷ punctuation m.Greater ∷ punctuation m.Comma ∷ punctuation m.Question ∷ []
+follow n.OptionalTail = t.AnyWord ∷ at a.HasStorage ∷ t.Just c.Percent ∷ punctuation m.LeftBrace ∷ punctuation m.RightBrace
+    ∷ punctuation m.LeftParen ∷ punctuation m.RightParen ∷ punctuation m.Greater ∷ punctuation m.Comma ∷ punctuation m.Question ∷ []
+follow n.Width = t.AnyWord ∷ at a.HasStorage ∷ t.Just c.Percent ∷ punctuation m.LeftBrace ∷ punctuation m.RightBrace
+    ∷ punctuation m.LeftParen ∷ punctuation m.RightParen ∷ punctuation m.Greater ∷ punctuation m.Comma ∷ punctuation m.Question ∷ []
+follow n.Questions = t.AnyWord ∷ at a.HasStorage ∷ t.Just c.Percent ∷ punctuation m.LeftBrace ∷ punctuation m.RightBrace
+    ∷ punctuation m.LeftParen ∷ punctuation m.RightParen ∷ punctuation m.Greater ∷ punctuation m.Comma ∷ []
 follow n.Types = punctuation m.RightParen ∷ []
 follow n.MoreTypes = punctuation m.RightParen ∷ []
 follow n.Linkage = t.AnyAt ∷ punctuation m.LeftBracket ∷ []

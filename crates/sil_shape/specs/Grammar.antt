@@ -205,11 +205,13 @@ body p.ImportsMore = Read (word k.Import) ∷ Read t.AnyWord ∷ Part n.Imports 
 body p.ImportsEnd = []
 body p.ItemsMore = Part n.Item ∷ Part n.Items ∷ []
 body p.ItemsEnd = []
-body p.FinalClass = Read (word k.Final) ∷ Read (word k.Class) ∷ Read t.AnyWord ∷ Read (punctuation m.LeftBrace) ∷ Part n.Members ∷ Read (punctuation m.RightBrace) ∷ []
+body p.FinalClass = Read (word k.Final) ∷ Read (word k.Class) ∷ Read t.AnyWord
+    ∷ Read (punctuation m.LeftBrace) ∷ Part n.Members ∷ Read (punctuation m.RightBrace) ∷ []
 body p.PlainClass = Read (word k.Class) ∷ Read t.AnyWord ∷ Read (punctuation m.LeftBrace) ∷ Part n.Members ∷ Read (punctuation m.RightBrace) ∷ []
 body p.StructItem = Read (word (k.Mnemonic op.Struct)) ∷ Read t.AnyWord ∷ Read (punctuation m.LeftBrace) ∷ Part n.Fields ∷ Read (punctuation m.RightBrace) ∷ []
 body p.EnumItem = Read (word (k.Mnemonic op.Enum)) ∷ Read t.AnyWord ∷ Read (punctuation m.LeftBrace) ∷ Part n.Cases ∷ Read (punctuation m.RightBrace) ∷ []
-body p.FunctionItem = Read (word k.Sil) ∷ Part n.Linkage ∷ Part n.Attributes ∷ Read t.AnyAt ∷ Read (punctuation m.Colon) ∷ Read (punctuation m.Dollar) ∷ Part n.FunctionType ∷ Part n.Body ∷ []
+body p.FunctionItem = Read (word k.Sil) ∷ Part n.Linkage ∷ Part n.Attributes ∷ Read t.AnyAt
+    ∷ Read (punctuation m.Colon) ∷ Read (punctuation m.Dollar) ∷ Part n.FunctionType ∷ Part n.Body ∷ []
 body p.VtableItem = Read (word k.SilVtable) ∷ Read t.AnyWord ∷ Read (punctuation m.LeftBrace) ∷ Part n.VtableEntry ∷ Read (punctuation m.RightBrace) ∷ []
 body p.MembersMore = Part n.Member ∷ Part n.Members ∷ []
 body p.MembersEnd = []
@@ -270,7 +272,8 @@ body p.AttributesMore = Read (punctuation m.LeftBracket) ∷ Read t.AnyWord ∷ 
 body p.AttributesEnd = []
 body p.BodySome = Read (punctuation m.LeftBrace) ∷ Part n.Block ∷ Part n.Blocks ∷ Read (punctuation m.RightBrace) ∷ []
 body p.BodyNone = []
-body p.WholeFunctionType = Read (at a.Convention) ∷ Read (punctuation m.LeftParen) ∷ Part n.Convention ∷ Read (punctuation m.RightParen) ∷ Read (punctuation m.LeftParen) ∷ Part n.Params ∷ Read (punctuation m.RightParen) ∷ Read (punctuation m.Arrow) ∷ Part n.Results ∷ []
+body p.WholeFunctionType = Read (at a.Convention) ∷ Read (punctuation m.LeftParen) ∷ Part n.Convention ∷ Read (punctuation m.RightParen)
+    ∷ Read (punctuation m.LeftParen) ∷ Part n.Params ∷ Read (punctuation m.RightParen) ∷ Read (punctuation m.Arrow) ∷ Part n.Results ∷ []
 body p.Thin = Read (word k.Thin) ∷ []
 body p.Method = Read (word k.Method) ∷ []
 body p.ParamsSome = Part n.Param ∷ Part n.MoreParams ∷ []
@@ -327,7 +330,8 @@ body p.SwitchCase = Read (word k.Case) ∷ Part n.EnumElement ∷ Read (punctuat
 body p.SwitchDefault = Read (word k.Default) ∷ Read t.AnyWord ∷ []
 body p.SwitchMoreSome = Read (punctuation m.Comma) ∷ Part n.SwitchPart ∷ []
 body p.SwitchMoreEnd = []
-body p.WholeEnumElement = Read (punctuation m.Hash) ∷ Read t.AnyWord ∷ Read (punctuation m.Dot) ∷ Read t.AnyWord ∷ Read (punctuation m.Bang) ∷ Read (word k.Enumelt) ∷ Part n.ElementSuffix ∷ []
+body p.WholeEnumElement = Read (punctuation m.Hash) ∷ Read t.AnyWord ∷ Read (punctuation m.Dot)
+    ∷ Read t.AnyWord ∷ Read (punctuation m.Bang) ∷ Read (word k.Enumelt) ∷ Part n.ElementSuffix ∷ []
 body p.SuffixSome = Read (punctuation m.Dot) ∷ Read (t.Just c.Number) ∷ []
 body p.SuffixNone = []
 body p.EnumOperandSome = Read (punctuation m.Comma) ∷ Part n.Operand ∷ []
@@ -370,7 +374,8 @@ body p.DebugNoNumber = Part n.DebugDerefPart ∷ []
 body p.DebugAfterNumberSome = Read (punctuation m.Comma) ∷ Part n.DebugDerefPart ∷ []
 body p.DebugAfterNumberNone = []
 body p.DebugDeref = Read (word k.Expr) ∷ Read (word k.OpDeref) ∷ []
-body p.EntrySome = Read (punctuation m.Hash) ∷ Read t.AnyWord ∷ Read (punctuation m.Dot) ∷ Read (word k.Deinit) ∷ Read (punctuation m.Bang) ∷ Read (word k.Destroyer) ∷ Read (punctuation m.Colon) ∷ Read t.AnyAt ∷ []
+body p.EntrySome = Read (punctuation m.Hash) ∷ Read t.AnyWord ∷ Read (punctuation m.Dot) ∷ Read (word k.Deinit)
+    ∷ Read (punctuation m.Bang) ∷ Read (word k.Destroyer) ∷ Read (punctuation m.Colon) ∷ Read t.AnyAt ∷ []
 body p.EntryNone = []
 
 -- the productions of a part; those of rows are told by their mnemonics alone

@@ -10,7 +10,7 @@ pub mod grammar;
 mod lookahead;
 pub mod machine;
 mod parse_table;
-mod rows;
+pub mod rows;
 pub mod shortest;
 pub mod shortest_steps;
 mod starts;

@@ -1,8 +1,10 @@
 //! The rows of the grammar: what an instruction writes there, by the table of instructions.
 
-ghost use Rattle.std.specs.Prelude.{◌≡◌, ◌++◌, ◌∷◌, [], length, reverse, OnOk};
+ghost use Rattle.std.specs.Prelude.{◌≡◌, ◌++◌, ◌∷◌, [], if◌then◌else◌, length, reverse, OnOk};
 ghost use Rattle.sil_shape.specs.Rows.{brings_comma, comma_behind, edges_of, ends_block, member_of, operand_of, qualifier_of, row_body, symbols_of, text_of};
+ghost use Rattle.sil_shape.specs.Terminals.{punctuation};
 ghost use Rattle.sil_shape.specs.declared.grammar.Symbol.TheVariants as s;
+ghost use Rattle.token_classes.specs.declared.classes.Punctuation.TheVariants.{Comma};
 
 use crate::grammar::{Nonterminal, Symbol, Terminal};
 use instruction_table::{
@@ -140,20 +142,25 @@ fn brings_comma(op: Op, part: Part) -> bool
     }
 }
 
-/// The comma behind a part, where others follow.
+/// Whether a comma stands behind a part, where others follow.
 #[tactic(auto, unfolding(crate::specs::Rows::comma_behind, crate::specs::Rows::comma_between))]
+pub fn has_comma_behind(op: Op, here: Part, others: &[Part]) -> bool
+    ensures { comma_behind op here others.now ≡ (if result then s.Read (punctuation Comma) ∷ [] else []) }
+{
+    match others {
+        [next, ..] => here.is_item() && next.is_item() && !brings_comma(op, *next),
+        [] => false,
+    }
+}
+
+/// The comma behind a part, where others follow.
 fn comma_behind(op: Op, here: Part, others: &[Part]) -> &'static [Symbol]
     ensures { result.now ≡ comma_behind op here others.now }
 {
-    match others {
-        [next, ..] => {
-            if here.is_item() && next.is_item() && !brings_comma(op, *next) {
-                &[punctuation!(Comma)]
-            } else {
-                &[]
-            }
-        }
-        [] => &[],
+    if has_comma_behind(op, here, others) {
+        &[punctuation!(Comma)]
+    } else {
+        &[]
     }
 }
 

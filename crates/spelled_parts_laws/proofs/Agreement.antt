@@ -17,8 +17,10 @@ use Rattle.written_modules.specs.Opened.{PartType, PartValue}
 use Rattle.written_modules.specs.inner.PartFaults.{part_fault}
 use Rattle.written_modules.specs.inner.RowMeaning.{row, with_parts}
 use Rattle.written_modules.specs.Types.{in_parens, named_type, one_token, tailed, type_before, width_in_range}
-use Rattle.written_modules.specs.Values.{bare_inst, token_of, stage_of, imports_of, items_of, item_of, fields_of, field_of, field_before, cases_of, type_of, payload_of, types_of, questions_of, linkage_of, tokens_of, convention_of, params_of, param_before, givens_of, given_before, signature_of, blocks_of, block_of, args_of, arg_of, ownership_of, starred, insts_of, terminator_of, inst_of, operands_of, operand_of, edges_of, edge_of, member_of, flags_of, qualifier_of, debug_of, entry_of}
+use Rattle.written_modules.specs.Values.{args_of, bare_inst, blocks_of, cases_of, fields_of, givens_of, items_of, operands_of}
+use Rattle.written_modules.specs.Values.{params_of, questions_of, token_of, tokens_of, type_of, types_of}
 use Rattle.written_modules.specs.Variants as v
+use Rattle.written_modules.proofs.Unfolded.{value_parts}
 use Rattle.written_tree.specs.declared.fault.Fault.{Fault}
 use Rattle.written_tree.specs.Faults.{earlier}
 use Rattle.written_tree.specs.declared.written_declarations.WrittenCase.{WrittenCase}
@@ -31,7 +33,8 @@ use Rattle.spelled_parts_laws.specs.Means.{Means}
 use Rattle.spelled_parts_laws.proofs.FaultLists.{first-append, first-four, first-option, first-two, first_of}
 use Rattle.spelled_parts_laws.proofs.RowAgreement.{RowAgrees, all_fit, rows}
 use Rattle.spelled_parts_laws.proofs.RowPlaces.{faults_from, row_faults_moved, row_from, row_moved}
-use Rattle.spelled_parts_laws.proofs.TypeAgreement.{int_bits, kept_before, level_found, level_kept, named_bits, none_kept, optional_bits, parens_found, parens_kept, questions_found, questions_kept, unowned_bits, weak_bits}
+use Rattle.spelled_parts_laws.proofs.TypeAgreement.{int_bits, kept_before, level_found, level_kept, named_bits, none_kept, optional_bits}
+use Rattle.spelled_parts_laws.proofs.TypeAgreement.{parens_found, parens_kept, questions_found, questions_kept, unowned_bits, weak_bits}
 use Rattle.spelled_parts_laws.proofs.ValueKinds.{AreOf, Contents, IsKept, IsOf, KeptType, contents_of, kind_of_part, optional, star, values_of}
 
 -- what the production stands for
@@ -64,41 +67,41 @@ other_first first kept = record { limit = kept.limit; bits = kept.bits }
 -- productions with a part that may stand for nothing
 
 builtin_base : (word : WrittenToken) (t : Option KeptType) → MeansSo p.BuiltinBase (v.Token word ∷ optional (λ x. v.Type x.0) t ∷ [])
-unfolding body written meaning part_fault tailed Means kind_of_part token_of stage_of imports_of items_of item_of fields_of field_of field_before cases_of type_of payload_of types_of questions_of linkage_of tokens_of convention_of params_of param_before givens_of given_before signature_of blocks_of block_of args_of arg_of ownership_of starred insts_of terminator_of inst_of operands_of operand_of edges_of edge_of member_of flags_of qualifier_of debug_of entry_of
+unfolding body written meaning part_fault tailed Means kind_of_part value_parts
 builtin_base word (Some t) = record { kind = ((_, other_first word.place t.1), refl); stands = refl; back = λ value m. m }
 builtin_base word None = record { kind = ((_, name_kept word), refl); stands = refl; back = λ value m. m }
 
 optional_base : (word : WrittenToken) (t : Option KeptType) → MeansSo p.OptionalBase (v.Token word ∷ optional (λ x. v.Type x.0) t ∷ [])
-unfolding body written meaning part_fault tailed Means kind_of_part token_of stage_of imports_of items_of item_of fields_of field_of field_before cases_of type_of payload_of types_of questions_of linkage_of tokens_of convention_of params_of param_before givens_of given_before signature_of blocks_of block_of args_of arg_of ownership_of starred insts_of terminator_of inst_of operands_of operand_of edges_of edge_of member_of flags_of qualifier_of debug_of entry_of
+unfolding body written meaning part_fault tailed Means kind_of_part value_parts
 optional_base word (Some t) = record { kind = ((_, other_first word.place t.1), refl); stands = refl; back = λ value m. m }
 optional_base word None = record { kind = ((_, name_kept word), refl); stands = refl; back = λ value m. m }
 
 vtable_item : (word name left : WrittenToken) (entry : Option WrittenEntry) (right : WrittenToken)
     → MeansSo p.VtableItem (v.Token word ∷ v.Token name ∷ v.Token left ∷ optional (λ x. v.Entry x) entry ∷ v.Token right ∷ [])
-unfolding body written meaning part_fault tailed Means kind_of_part token_of stage_of imports_of items_of item_of fields_of field_of field_before cases_of type_of payload_of types_of questions_of linkage_of tokens_of convention_of params_of param_before givens_of given_before signature_of blocks_of block_of args_of arg_of ownership_of starred insts_of terminator_of inst_of operands_of operand_of edges_of edge_of member_of flags_of qualifier_of debug_of entry_of
+unfolding body written meaning part_fault tailed Means kind_of_part value_parts
 vtable_item word name left (Some e) right = record { kind = (_, refl); stands = refl; back = λ value m. m }
 vtable_item word name left None right = record { kind = (_, refl); stands = refl; back = λ value m. m }
 
 members_more : (member : Option WrittenField) (others : List WrittenField) → MeansSo p.MembersMore (optional (λ x. v.Field x) member ∷ v.Fields others ∷ [])
-unfolding body written meaning part_fault tailed Means kind_of_part token_of stage_of imports_of items_of item_of fields_of field_of field_before cases_of type_of payload_of types_of questions_of linkage_of tokens_of convention_of params_of param_before givens_of given_before signature_of blocks_of block_of args_of arg_of ownership_of starred insts_of terminator_of inst_of operands_of operand_of edges_of edge_of member_of flags_of qualifier_of debug_of entry_of
+unfolding body written meaning part_fault tailed Means kind_of_part value_parts
 members_more (Some f) others = record { kind = (_, refl); stands = refl; back = λ value m. m }
 members_more None others = record { kind = (_, refl); stands = refl; back = λ value m. m }
 
 cases_more : (word name : WrittenToken) (payload : Option KeptType) (others : List WrittenCase)
     → MeansSo p.CasesMore (v.Token word ∷ v.Token name ∷ optional (λ x. v.Type x.0) payload ∷ v.Cases others ∷ [])
-unfolding body written meaning part_fault tailed Means kind_of_part token_of stage_of imports_of items_of item_of fields_of field_of field_before cases_of type_of payload_of types_of questions_of linkage_of tokens_of convention_of params_of param_before givens_of given_before signature_of blocks_of block_of args_of arg_of ownership_of starred insts_of terminator_of inst_of operands_of operand_of edges_of edge_of member_of flags_of qualifier_of debug_of entry_of
+unfolding body written meaning part_fault tailed Means kind_of_part value_parts
 cases_more word name (Some t) others = record { kind = (_, refl); stands = refl; back = λ value m. m }
 cases_more word name None others = record { kind = (_, refl); stands = refl; back = λ value m. m }
 
 block_arg : (name colon : WrittenToken) (k : ArgKind) (dollar : WrittenToken) (starred_type : Bool) (t : KeptType)
     → MeansSo p.WholeBlockArg (v.Token name ∷ v.Token colon ∷ v.Ownership k ∷ v.Token dollar ∷ star starred_type ∷ v.Type t.0 ∷ [])
-unfolding body written meaning part_fault tailed Means kind_of_part token_of stage_of imports_of items_of item_of fields_of field_of field_before cases_of type_of payload_of types_of questions_of linkage_of tokens_of convention_of params_of param_before givens_of given_before signature_of blocks_of block_of args_of arg_of ownership_of starred insts_of terminator_of inst_of operands_of operand_of edges_of edge_of member_of flags_of qualifier_of debug_of entry_of
+unfolding body written meaning part_fault tailed Means kind_of_part value_parts
 block_arg name colon k dollar true t = record { kind = (_, refl); stands = refl; back = λ value m. m }
 block_arg name colon k dollar false t = record { kind = (_, refl); stands = refl; back = λ value m. m }
 
 operand : (name colon dollar : WrittenToken) (starred_type : Bool) (t : KeptType)
     → MeansSo p.WholeOperand (v.Token name ∷ v.Token colon ∷ v.Token dollar ∷ star starred_type ∷ v.Type t.0 ∷ [])
-unfolding body written meaning part_fault tailed Means kind_of_part token_of stage_of imports_of items_of item_of fields_of field_of field_before cases_of type_of payload_of types_of questions_of linkage_of tokens_of convention_of params_of param_before givens_of given_before signature_of blocks_of block_of args_of arg_of ownership_of starred insts_of terminator_of inst_of operands_of operand_of edges_of edge_of member_of flags_of qualifier_of debug_of entry_of
+unfolding body written meaning part_fault tailed Means kind_of_part value_parts
 operand name colon dollar true t = record { kind = (_, refl); stands = refl; back = λ value m. m }
 operand name colon dollar false t = record { kind = (_, refl); stands = refl; back = λ value m. m }
 
@@ -142,15 +145,31 @@ row_faults_are o xs =
     }
 
 means_by : (q : Production) (xs : Contents (body q)) → MeansSo q (values_of (body q) xs)
-unfolding body written meaning part_fault tailed Means kind_of_part token_of stage_of imports_of items_of item_of fields_of field_of field_before cases_of type_of payload_of types_of questions_of linkage_of tokens_of convention_of params_of param_before givens_of given_before signature_of blocks_of block_of args_of arg_of ownership_of starred insts_of terminator_of inst_of operands_of operand_of edges_of edge_of member_of flags_of qualifier_of debug_of entry_of
+unfolding body written meaning part_fault tailed Means kind_of_part value_parts
 means_by (p.Row o) xs = row_means o xs
 means_by p.PayloadSome xs =
-    record { kind = (Some (_, parens_kept xs.0.place (type_before xs.1.0.0 xs.1.1.0.0) xs.1.1.1.0.place (kept_before xs.1.0.0 xs.1.1.0.0 xs.1.0.1 xs.1.1.0.1)), refl); stands = refl; back = λ value m. m }
+    record {
+      kind = (Some (_, parens_kept xs.0.place (type_before xs.1.0.0 xs.1.1.0.0) xs.1.1.1.0.place (kept_before xs.1.0.0 xs.1.1.0.0 xs.1.0.1 xs.1.1.0.1)), refl);
+      stands = refl;
+      back = λ value m. m;
+    }
 means_by p.ParenType xs =
-    record { kind = ((_, questions_kept (in_parens xs.0.place xs.1.0.0 xs.1.1.0.place) xs.1.1.1.0 (parens_kept xs.0.place xs.1.0.0 xs.1.1.0.place xs.1.0.1)), refl); stands = refl; back = λ value m. m }
+    record {
+      kind = ((_, questions_kept (in_parens xs.0.place xs.1.0.0 xs.1.1.0.place) xs.1.1.1.0 (parens_kept xs.0.place xs.1.0.0 xs.1.1.0.place xs.1.0.1)), refl);
+      stands = refl;
+      back = λ value m. m;
+    }
 means_by p.BaseOpen xs = record { kind = ((_, questions_kept xs.0.0 xs.1.0 xs.0.1), refl); stands = refl; back = λ value m. m }
-means_by p.WeakOpen xs = record { kind = ((_, level_kept xs.1.0.0.depth (ty.Weak xs.1.0.0.ty) xs.0.place xs.1.0.0.last xs.1.0.1.limit (weak_bits xs.1.0.0.ty)), refl); stands = refl; back = λ value m. m }
-means_by p.UnownedOpen xs = record { kind = ((_, level_kept xs.1.0.0.depth (ty.Unowned xs.1.0.0.ty) xs.0.place xs.1.0.0.last xs.1.0.1.limit (unowned_bits xs.1.0.0.ty)), refl); stands = refl; back = λ value m. m }
+means_by p.WeakOpen xs = record {
+  kind = ((_, level_kept xs.1.0.0.depth (ty.Weak xs.1.0.0.ty) xs.0.place xs.1.0.0.last xs.1.0.1.limit (weak_bits xs.1.0.0.ty)), refl);
+  stands = refl;
+  back = λ value m. m;
+}
+means_by p.UnownedOpen xs = record {
+  kind = ((_, level_kept xs.1.0.0.depth (ty.Unowned xs.1.0.0.ty) xs.0.place xs.1.0.0.last xs.1.0.1.limit (unowned_bits xs.1.0.0.ty)), refl);
+  stands = refl;
+  back = λ value m. m;
+}
 means_by p.OptionalOf xs =
     record { kind = (Some (_, level_kept xs.1.0.0.depth (ty.Optional xs.1.0.0.ty) xs.0.place xs.1.1.0.place xs.1.0.1.limit (optional_bits xs.1.0.0.ty)), refl); stands = refl; back = λ value m. m }
 means_by p.BareType xs = record { kind = (xs.0, refl); stands = refl; back = λ value m. m }

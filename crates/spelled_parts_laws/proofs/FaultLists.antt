@@ -3,6 +3,7 @@ use Rattle.std.proofs.Common.{◌≡◌, ℕ, List, [], ◌∷◌, ◌++◌, Opt
 use Rattle.std.specs.List.{AllByRecursion}
 use Rattle.std.specs.Option.{option_to_list}
 use Rattle.std.proofs.lemmas.Bool.Decides.{nat_tests}
+use Rattle.std.proofs.lemmas.Option.{same_Some}
 use Rattle.written_tree.specs.declared.fault.Fault.{Fault}
 use Rattle.written_tree.specs.Faults.{comes_before, earlier, rank}
 use Rattle.spelled_parts_laws.specs.Reading.{IsFirstOf}
@@ -97,17 +98,14 @@ none_before f g e (here {others = others} _ all) = (e, others_behind f g e other
 none_before f g e (later h less more) =
     (before_and_not g.place.offset (rank g.kind) h.place.offset (rank h.kind) f.place.offset (rank f.kind) less e, none_before f g e more)
 
-some_same : {A : Type 0} {a b : A} → Some a ≡ Some b → a ≡ b
-some_same e = cc e
-
 chosen_same : (t : Bool) (f g r : Fault) (fs : List Fault) → comes_before g f ≡ t → (if t then Some g else Some f) ≡ Some r → IsFirstOf fs g → IsFirstOf (f ∷ fs) r
-chosen_same true f g r fs e is first = subst (IsFirstOf (f ∷ fs)) (some_same is) (later f e first)
-chosen_same false f g r fs e is first = subst (IsFirstOf (f ∷ fs)) (some_same is) (here f (none_before f g e first))
+chosen_same true f g r fs e is first = subst (IsFirstOf (f ∷ fs)) (same_Some _ _ is) (later f e first)
+chosen_same false f g r fs e is first = subst (IsFirstOf (f ∷ fs)) (same_Some _ _ is) (here f (none_before f g e first))
 
 first_by : (g : Fault) (fs : List Fault) (f : Fault) (rest : Option Fault) → first_of fs ≡ rest → earlier (Some g) rest ≡ Some f
     → ((h : Fault) → first_of fs ≡ Some h → IsFirstOf fs h) → IsFirstOf (g ∷ fs) f
 unfolding earlier
-first_by g fs f None none e more = subst (λ (hs : List Fault). IsFirstOf (g ∷ hs) f) (sym (none_first fs none)) (subst (IsFirstOf (g ∷ [])) (some_same e) (here g tt))
+first_by g fs f None none e more = subst (λ (hs : List Fault). IsFirstOf (g ∷ hs) f) (sym (none_first fs none)) (subst (IsFirstOf (g ∷ [])) (same_Some _ _ e) (here g tt))
 first_by g fs f (Some h) some e more = chosen_same (comes_before h g) g h f fs refl e (more h some)
 
 pub is_first : (fs : List Fault) (f : Fault) → first_of fs ≡ Some f → IsFirstOf fs f

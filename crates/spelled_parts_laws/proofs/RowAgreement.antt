@@ -1,6 +1,6 @@
 -- Rows: what their parts stand for is what the replay makes of them, by induction over the parts and not by instruction.
 use Rattle.std.proofs.Common.{◌≡◌, ℕ, suc, ◌+◌, List, [], ◌∷◌, ◌++◌, length, drop, Option, Some, None, Bool, true, false, ◌&&◌, IfSome, if◌then◌else◌, ap, ap₂, sym, refl, subst, ◌∙◌, append_assoc}
-use Rattle.std.specs.Prelude.{ℤ}
+use Rattle.std.specs.Prelude.{⊤, ℤ}
 use Rattle.std.specs.List.{list_all}
 use Rattle.std.specs.Option.{option_to_list}
 use Rattle.std.proofs.lemmas.List.{length-append}
@@ -20,13 +20,15 @@ use Rattle.sil_ast.specs.declared.member.Member.{Member}
 use Rattle.sil_ast.specs.declared.type_name.TypeName.{TypeName}
 use Rattle.sil_shape.specs.declared.grammar.Nonterminal.TheVariants as n
 use Rattle.sil_shape.specs.declared.grammar.Symbol.{Symbol}
-use Rattle.sil_shape.specs.Rows.{comma_behind, comma_between, edges_by, edges_of, member_by, member_of as member_part, operand_of as operand_part, parts_row, qualifier_of as qualifier_part, symbols_of, word_by}
+use Rattle.sil_shape.specs.Rows.{comma_behind, comma_between, edges_by, edges_of, member_by, member_of as member_part}
+use Rattle.sil_shape.specs.Rows.{operand_of as operand_part, parts_row, qualifier_of as qualifier_part, symbols_of, word_by}
 use Rattle.written_numbers.specs.Numbers.{literal_of}
 use Rattle.written_modules.specs.Opened.{PartValue}
 use Rattle.written_modules.specs.inner.PartFaults.{fault_of_part}
 use Rattle.written_modules.specs.inner.RowMeaning.{edges_at, number_by, typed_by, with_part}
-use Rattle.written_modules.specs.Values.{debug_of, edge_of, edges_of as stored_edges, flags_of, member_of, operand_of, operands_of, qualifier_of, signature_of, token_of, tokens_of, type_of}
+use Rattle.written_modules.specs.Values.{edge_of, type_of, edges_of as stored_edges}
 use Rattle.written_modules.specs.Variants as v
+use Rattle.written_modules.proofs.Unfolded.{value_parts}
 use Rattle.written_tree.specs.declared.fault.Fault.{Fault}
 use Rattle.written_tree.specs.declared.written_declarations.WrittenToken.{WrittenToken}
 use Rattle.written_tree.specs.declared.written_instructions.WrittenEdge.{WrittenEdge}
@@ -74,9 +76,15 @@ unfolding kind_of_part
 member_is detail.Case x = (x, refl)
 member_is _ x = (x, refl)
 
-typed_steps : (o : Op) (others : List Part) (lacks : Bool) → may_lack_operand o ≡ lacks → (x : (kind_of_part (if lacks then n.EnumOperand else n.Operand)).Content) (left rest : List PartValue) (i : WrittenInst)
+-- what is unfolded of a part of a row
+unfoldable row_parts : ⊤
+unfolding symbols_of IsRow kind_of_part operand_part qualifier_part member_part edges_of value_parts
+row_parts = tt
+
+typed_steps : (o : Op) (others : List Part) (lacks : Bool) → may_lack_operand o ≡ lacks
+    → (x : (kind_of_part (if lacks then n.EnumOperand else n.Operand)).Content) (left rest : List PartValue) (i : WrittenInst)
     → past_comma o form.Typed others left ≡ rest → Steps o form.Typed others ((kind_of_part (if lacks then n.EnumOperand else n.Operand)).value x ∷ left) rest i
-unfolding symbols_of IsRow kind_of_part operand_part qualifier_part member_part edges_of flags_of debug_of edge_of member_of operand_of operands_of qualifier_of signature_of stored_edges token_of tokens_of type_of
+unfolding row_parts
 typed_steps o others true e x left rest i past =
     simple form.Typed (v.Operands x ∷ left) i past (ap (λ (lacks : Bool). record i { operands = i.operands ++ typed_by lacks (v.Operands x) }) (sym e)) refl (λ result faults. refl)
 typed_steps o others false e x left rest i past =
@@ -92,7 +100,7 @@ number_is _ _ text bits = refl
 
 number_steps : (o : Op) (others : List Part) (spelling : WrittenToken) (left rest : List PartValue) (i : WrittenInst)
     → past_comma o form.Number others left ≡ rest → IfSome i.ty HasBits → Steps o form.Number others (v.Token spelling ∷ left) rest i
-unfolding symbols_of IsRow kind_of_part operand_part qualifier_part member_part edges_of flags_of debug_of edge_of member_of operand_of operands_of qualifier_of signature_of stored_edges token_of tokens_of type_of
+unfolding row_parts
 number_steps o others spelling left rest i past bits =
     let e = number_is (detail_of o) i.ty spelling.text bits in
     record {
@@ -152,11 +160,12 @@ all_fit _ = refl
 steps : (o : Op) (here : Part) (others : List Part) (own : Contents (symbols_of o here)) (comma rest : List PartValue) (i : WrittenInst)
     → (is_item here ≡ false → comma ++ rest ≡ rest) → past_comma o here others (comma ++ rest) ≡ rest → fits_in o here ≡ true → IfSome i.ty HasBits
     → Steps o here others ((values_of (symbols_of o here) own ++ comma) ++ rest) rest i
-unfolding symbols_of IsRow kind_of_part operand_part qualifier_part member_part edges_of flags_of debug_of edge_of member_of operand_of operands_of qualifier_of signature_of stored_edges token_of tokens_of type_of fits_in
+unfolding row_parts fits_in
 steps o form.Flags others own comma rest i clear past fits bits = simple form.Flags _ i (clear refl) refl refl (λ result faults. refl)
 steps o form.Qualifier others own comma rest i clear past fits bits =
     let q = qualifier_by (words_of o) own.0 in
-    subst (λ (x : PartValue). Steps o form.Qualifier others (x ∷ (comma ++ rest)) rest i) (sym q.1) (simple form.Qualifier (v.Qualifier q.0 ∷ (comma ++ rest)) i (clear refl) refl refl (λ result faults. refl))
+    subst (λ (x : PartValue). Steps o form.Qualifier others (x ∷ (comma ++ rest)) rest i) (sym q.1)
+    (simple form.Qualifier (v.Qualifier q.0 ∷ (comma ++ rest)) i (clear refl) refl refl (λ result faults. refl))
 steps o form.Typed others own comma rest i clear past fits bits = typed_steps o others (may_lack_operand o) refl own.0 (comma ++ rest) rest i past
 steps o form.Bare others own comma rest i clear past fits bits = simple form.Bare _ i past refl refl (λ result faults. refl)
 steps o form.To others own comma rest i clear past fits bits = simple form.To _ i (clear refl) refl refl (λ result faults. refl)

@@ -56,7 +56,8 @@ derive {class_of} (production {own = own} {parts = parts} {ss = ss} {behind = be
     let rest = derive more tail last others d in
     let whole = derive inside (ss ++ tail) (behind ++ last) (values ++ others) rest in
     let taken : parts_of q (replay whole.steps (own ++ (behind ++ last))) ≡ parts = ap (parts_of q) whole.same ∙ take_parts q parts (values ++ others) (lengths inside) in
-    let left : drop (length (body q)) (replay whole.steps (own ++ (behind ++ last))) ≡ values ++ others = ap (drop (length (body q))) whole.same ∙ drop_parts q parts (values ++ others) (lengths inside) in
+    let left : drop (length (body q)) (replay whole.steps (own ++ (behind ++ last))) ≡ values ++ others = ap (drop (length (body q))) whole.same
+    ∙ drop_parts q parts (values ++ others) (lengths inside) in
     subst (λ ls. Derived class_of (Part (written q) ∷ (ss ++ tail)) ls (meaning q parts ∷ (values ++ others))) (sym (append_assoc own behind last)) (record {
       steps = Expand q ∷ whole.steps;
       derived = derived_rule q whole.derived;

@@ -14,7 +14,8 @@ use Rattle.written_modules.specs.Types.{deeper, in_parens, type_before}
 use Rattle.written_modules.specs.Values.{bare_inst}
 use Rattle.written_modules.specs.Variants as v
 use Rattle.written_numbers.specs.Numbers.{small_of}
-use Rattle.written_tree.specs.Places.{arg_place, attribute_places, case_place, decl_names, field_place, function_names, label_place, mnemonics_of, operand_place, token_place, values_of_block}
+use Rattle.written_tree.specs.Places.{arg_place, attribute_places, case_place, decl_names, field_place, function_names}
+use Rattle.written_tree.specs.Places.{label_place, mnemonics_of, operand_place, token_place, values_of_block}
 use Rattle.written_tree.specs.declared.fault.Fault.{Fault}
 use Rattle.written_tree.specs.declared.written_instructions.WrittenInst.{WrittenInst}
 use Rattle.spelled_parts_laws.specs.Limits.{no_number, past, too_deep}
@@ -36,7 +37,8 @@ parens_faults list last = past limit.Arguments ARGUMENTS list.firsts ++ level_fa
 unfoldable pub AreFaultsOf : Production → List PartValue → List Fault → Type 0
 -- declarations and functions of a module
 AreFaultsOf p.WholeModule (_ ∷ _ ∷ v.Items items ∷ []) faults =
-    faults ≡ past limit.Declarations DECLARATIONS (map token_place (flat_map decl_names items)) ++ past limit.Functions FUNCTIONS (map token_place (flat_map function_names items))
+    faults ≡ past limit.Declarations DECLARATIONS (map token_place (flat_map decl_names items))
+    ++ past limit.Functions FUNCTIONS (map token_place (flat_map function_names items))
 -- members of a declaration
 AreFaultsOf p.FinalClass (_ ∷ _ ∷ _ ∷ _ ∷ v.Fields fields ∷ _ ∷ []) faults = faults ≡ past limit.Members MEMBERS (map field_place fields)
 AreFaultsOf p.PlainClass (_ ∷ _ ∷ _ ∷ v.Fields fields ∷ _ ∷ []) faults = faults ≡ past limit.Members MEMBERS (map field_place fields)

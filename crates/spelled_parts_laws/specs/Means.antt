@@ -85,7 +85,8 @@ Means p.PlainField (v.Field f ∷ []) value = value ≡ v.Field f
 Means p.CasesMore (_ ∷ v.Token name ∷ v.Type t ∷ v.Cases others ∷ []) value = value ≡ v.Cases (record { name = name; payload = Some t.ty } ∷ others)
 Means p.CasesMore (_ ∷ v.Token name ∷ v.Nothing ∷ v.Cases others ∷ []) value = value ≡ v.Cases (record { name = name; payload = None } ∷ others)
 Means p.CasesEnd [] value = value ≡ v.Cases []
-Means p.PayloadSome (v.Token left ∷ v.Type t ∷ v.Types others ∷ v.Token right ∷ []) value = value ≡ v.Type (in_parens left.place (type_before t others) right.place)
+Means p.PayloadSome (v.Token left ∷ v.Type t ∷ v.Types others ∷ v.Token right ∷ []) value =
+    value ≡ v.Type (in_parens left.place (type_before t others) right.place)
 Means p.PayloadNone [] value = value ≡ v.Nothing
 -- types: one type in parentheses is that type, and `T?` is `Optional<T>`
 Means p.BareType (v.Type t ∷ []) value = value ≡ v.Type t
@@ -129,7 +130,8 @@ Means p.Thin (_ ∷ []) value = value ≡ v.Convention convention.Thin
 Means p.Method (_ ∷ []) value = value ≡ v.Convention convention.Method
 Means p.ParamsSome (v.Param x first ∷ v.Params others ∷ []) value = value ≡ v.Params (record { params = x ∷ others.params; firsts = first ∷ others.firsts })
 Means p.ParamsNone [] value = value ≡ v.Params no_params
-Means p.MoreParamsMore (_ ∷ v.Param x first ∷ v.Params others ∷ []) value = value ≡ v.Params (record { params = x ∷ others.params; firsts = first ∷ others.firsts })
+Means p.MoreParamsMore (_ ∷ v.Param x first ∷ v.Params others ∷ []) value =
+    value ≡ v.Params (record { params = x ∷ others.params; firsts = first ∷ others.firsts })
 Means p.MoreParamsEnd [] value = value ≡ v.Params no_params
 Means p.ParamOwned (v.Token word ∷ v.Type t ∷ []) value = value ≡ v.Param (record { passing = passing.Owned; ty = t.ty }) word.place
 Means p.ParamGuaranteed (v.Token word ∷ v.Type t ∷ []) value = value ≡ v.Param (record { passing = passing.Guaranteed; ty = t.ty }) word.place
@@ -137,11 +139,13 @@ Means p.ParamInout (v.Token word ∷ v.Type t ∷ []) value = value ≡ v.Param 
 Means p.ParamPlain (v.Type t ∷ []) value = value ≡ v.Param (record { passing = passing.Plain; ty = t.ty }) t.first
 -- results: a list in parentheses, or one alone
 Means p.ResultList (_ ∷ v.Givens results ∷ _ ∷ []) value = value ≡ v.Givens results
-Means p.ResultOwned (v.Token word ∷ v.Type t ∷ []) value = value ≡ v.Givens (record { givens = record { owned = true; ty = t.ty } ∷ []; firsts = word.place ∷ [] })
+Means p.ResultOwned (v.Token word ∷ v.Type t ∷ []) value =
+    value ≡ v.Givens (record { givens = record { owned = true; ty = t.ty } ∷ []; firsts = word.place ∷ [] })
 Means p.ResultPlain (v.Type t ∷ []) value = value ≡ v.Givens (record { givens = record { owned = false; ty = t.ty } ∷ []; firsts = t.first ∷ [] })
 Means p.InsideSome (v.Given x first ∷ v.Givens others ∷ []) value = value ≡ v.Givens (record { givens = x ∷ others.givens; firsts = first ∷ others.firsts })
 Means p.InsideNone [] value = value ≡ v.Givens no_givens
-Means p.MoreGivensMore (_ ∷ v.Given x first ∷ v.Givens others ∷ []) value = value ≡ v.Givens (record { givens = x ∷ others.givens; firsts = first ∷ others.firsts })
+Means p.MoreGivensMore (_ ∷ v.Given x first ∷ v.Givens others ∷ []) value =
+    value ≡ v.Givens (record { givens = x ∷ others.givens; firsts = first ∷ others.firsts })
 Means p.MoreGivensEnd [] value = value ≡ v.Givens no_givens
 Means p.GivenOwned (v.Token word ∷ v.Type t ∷ []) value = value ≡ v.Given (record { owned = true; ty = t.ty }) word.place
 Means p.GivenPlain (v.Type t ∷ []) value = value ≡ v.Given (record { owned = false; ty = t.ty }) t.first
@@ -157,7 +161,8 @@ Means p.BlockArgsNone [] value = value ≡ v.Args []
 Means p.MoreBlockArgsMore (_ ∷ v.Arg a ∷ v.Args others ∷ []) value = value ≡ v.Args (a ∷ others)
 Means p.MoreBlockArgsEnd [] value = value ≡ v.Args []
 -- behind `*` a type is that of an address
-Means p.WholeBlockArg (v.Token name ∷ _ ∷ v.Ownership k ∷ _ ∷ v.Star ∷ v.Type t ∷ []) value = value ≡ v.Arg (record { name = name; kind = k; ty = ty.Address t.ty })
+Means p.WholeBlockArg (v.Token name ∷ _ ∷ v.Ownership k ∷ _ ∷ v.Star ∷ v.Type t ∷ []) value =
+    value ≡ v.Arg (record { name = name; kind = k; ty = ty.Address t.ty })
 Means p.WholeBlockArg (v.Token name ∷ _ ∷ v.Ownership k ∷ _ ∷ v.Nothing ∷ v.Type t ∷ []) value = value ≡ v.Arg (record { name = name; kind = k; ty = t.ty })
 Means p.OwnershipOwned (_ ∷ []) value = value ≡ v.Ownership kind.Owned
 Means p.OwnershipGuaranteed (_ ∷ []) value = value ≡ v.Ownership kind.Guaranteed
@@ -192,7 +197,8 @@ Means p.EnumOperandNone [] value = value ≡ v.Operands []
 Means p.WholeEdge (v.Token label ∷ v.Operands args ∷ []) value = value ≡ v.Edge (record { label = label; args = args; case_of = None })
 Means p.EdgeArgsSome (_ ∷ v.Operand o ∷ v.Operands others ∷ _ ∷ []) value = value ≡ v.Operands (o ∷ others)
 Means p.EdgeArgsNone [] value = value ≡ v.Operands []
-Means p.SwitchCase (_ ∷ v.Member m ∷ _ ∷ v.Token label ∷ v.Edges others ∷ []) value = value ≡ v.Edges (record { label = label; args = []; case_of = Some m } ∷ others)
+Means p.SwitchCase (_ ∷ v.Member m ∷ _ ∷ v.Token label ∷ v.Edges others ∷ []) value =
+    value ≡ v.Edges (record { label = label; args = []; case_of = Some m } ∷ others)
 Means p.SwitchDefault (_ ∷ v.Token label ∷ []) value = value ≡ v.Edges (record { label = label; args = []; case_of = None } ∷ [])
 Means p.SwitchMoreSome (_ ∷ v.Edges others ∷ []) value = value ≡ v.Edges others
 Means p.SwitchMoreEnd [] value = value ≡ v.Edges []

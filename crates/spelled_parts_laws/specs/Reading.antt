@@ -26,14 +26,16 @@ pub data Reads : List Step → List Lexeme → List PartValue → Type 0 where
   lacking : {steps : List Step} {values : List PartValue} → Reads steps [] values → Reads (Take ∷ steps) [] (v.Token no_token ∷ values)
   -- a production stands for what it means by the parts of its body
   production : {steps : List Step} {lexemes : List Lexeme} {value : PartValue} {values : List PartValue}
-      → (p : Production) (parts : List PartValue) → Reads steps lexemes (parts ++ values) → length parts ≡ length (body p) → Means p parts value → Reads (Expand p ∷ steps) lexemes (value ∷ values)
+      → (p : Production) (parts : List PartValue) → Reads steps lexemes (parts ++ values)
+      → length parts ≡ length (body p) → Means p parts value → Reads (Expand p ∷ steps) lexemes (value ∷ values)
 
 -- all that is at fault in them: what is at fault in a production by itself, and what is behind it
 pub data HasFaults : List Step → List Lexeme → List Fault → Type 0 where
   nothing : HasFaults [] [] []
   token : {steps : List Step} {lexemes : List Lexeme} {faults : List Fault} → HasFaults steps (drop 1 lexemes) faults → HasFaults (Take ∷ steps) lexemes faults
   production : {steps : List Step} {lexemes : List Lexeme}
-      → (p : Production) (parts values : List PartValue) (own others : List Fault) → Reads steps lexemes (parts ++ values) → length parts ≡ length (body p) → AreFaultsOf p parts own
+      → (p : Production) (parts values : List PartValue) (own others : List Fault)
+      → Reads steps lexemes (parts ++ values) → length parts ≡ length (body p) → AreFaultsOf p parts own
       → HasFaults steps lexemes others → HasFaults (Expand p ∷ steps) lexemes (own ++ others)
 
 -- of some faults the first by its place, and then by its rank: none comes before it. Of those at one place and of one rank it's

@@ -40,18 +40,24 @@ unfoldable pub IsRow : Op → List Part → List PartValue → WrittenInst → W
 IsRow o [] [] i inst faults = (inst ≡ i) × (faults ≡ [])
 IsRow o (form.Flags ∷ others) (v.Flags f ∷ values) i inst faults = IsRow o others values (record i { lexical = f.lexical; var_decl = f.var_decl }) inst faults
 IsRow o (form.Qualifier ∷ others) (v.Qualifier q ∷ values) i inst faults = IsRow o others values (record i { qualifier = q }) inst faults
-IsRow o (form.Typed ∷ others) (v.Operand operand ∷ values) i inst faults = IsRow o others (past_comma o form.Typed others values) (record i { operands = i.operands ++ operand ∷ [] }) inst faults
+IsRow o (form.Typed ∷ others) (v.Operand operand ∷ values) i inst faults =
+    IsRow o others (past_comma o form.Typed others values) (record i { operands = i.operands ++ operand ∷ [] }) inst faults
 -- the operand of `enum` may be left out
-IsRow o (form.Typed ∷ others) (v.Operands operands ∷ values) i inst faults = IsRow o others (past_comma o form.Typed others values) (record i { operands = i.operands ++ operands }) inst faults
-IsRow o (form.Bare ∷ others) (v.Token name ∷ values) i inst faults = IsRow o others (past_comma o form.Bare others values) (record i { operands = i.operands ++ bare name ∷ [] }) inst faults
+IsRow o (form.Typed ∷ others) (v.Operands operands ∷ values) i inst faults =
+    IsRow o others (past_comma o form.Typed others values) (record i { operands = i.operands ++ operands }) inst faults
+IsRow o (form.Bare ∷ others) (v.Token name ∷ values) i inst faults =
+    IsRow o others (past_comma o form.Bare others values) (record i { operands = i.operands ++ bare name ∷ [] }) inst faults
 IsRow o (form.To ∷ others) (_ ∷ values) i inst faults = IsRow o others values i inst faults
-IsRow o (form.TypeWord ∷ others) (_ ∷ v.Type t ∷ values) i inst faults = IsRow o others (past_comma o form.TypeWord others values) (record i { ty = Some t.ty }) inst faults
-IsRow o (form.Member ∷ others) (v.Member m ∷ values) i inst faults = IsRow o others (past_comma o form.Member others values) (record i { member = Some m }) inst faults
+IsRow o (form.TypeWord ∷ others) (_ ∷ v.Type t ∷ values) i inst faults =
+    IsRow o others (past_comma o form.TypeWord others values) (record i { ty = Some t.ty }) inst faults
+IsRow o (form.Member ∷ others) (v.Member m ∷ values) i inst faults =
+    IsRow o others (past_comma o form.Member others values) (record i { member = Some m }) inst faults
 IsRow o (form.Number ∷ others) (v.Token spelling ∷ values) i inst faults =
     let number : Option ℤ = number_of (detail_of o) i.ty spelling.text in
     (more : List Fault) × IsRow o others (past_comma o form.Number others values) (record i { number = number }) inst more
     × (faults ≡ no_number number spelling.place ++ more)
-IsRow o (form.Text ∷ others) (v.Token text ∷ values) i inst faults = IsRow o others (past_comma o form.Text others values) (record i { text = Some text.text }) inst faults
+IsRow o (form.Text ∷ others) (v.Token text ∷ values) i inst faults =
+    IsRow o others (past_comma o form.Text others values) (record i { text = Some text.text }) inst faults
 IsRow o (form.Callee ∷ others) (v.Token name ∷ values) i inst faults = IsRow o others values (record i { function = Some name }) inst faults
 IsRow o (form.BareArgs ∷ others) (_ ∷ v.Tokens names ∷ _ ∷ values) i inst faults =
     let operands : List WrittenOperand = i.operands ++ map bare names in

@@ -5,7 +5,8 @@ use Rattle.token_classes.specs.declared.classes.AtWord.TheVariants as a
 use Rattle.token_classes.specs.declared.classes.Keyword.TheVariants as k
 use Rattle.token_classes.specs.inner.Laws.{AreAtWordsSpelled, AreKeywordsSpelled, ArePunctuationSpelled, HaveOwnSpellings}
 use Rattle.token_classes.specs.Spelling.{at_spelling, at_word_of, keyword_of, known_at_word, known_keyword, punctuation_of, punctuation_spelling, signs, spelling}
-use Rattle.token_classes.proofs.SpellingLemmas.{at_word_each, at_word_known, at_word_of-at_spelling, find_spelled, keyword_each, keyword_known, keyword_of-spelling, punctuation_of-punctuation_spelling}
+use Rattle.token_classes.proofs.SpellingLemmas.{at_word_each, at_word_known, at_word_of-at_spelling, find_spelled, keyword_each}
+use Rattle.token_classes.proofs.SpellingLemmas.{keyword_known, keyword_of-spelling, punctuation_of-punctuation_spelling}
 
 -- what was found and isn't another word is spelled so
 spelled_unless : {X : Type 0} (f : X → List ℕ) (word : List ℕ) (other outcome x : X) → (x ≡ other → ⊥) → outcome ≡ x → (outcome ≡ other) ⊎ (f outcome ≡ word) → f x ≡ word
@@ -17,15 +18,25 @@ some_spelled f word o x e h = subst (λ p. IfSome p (λ y. f y ≡ word)) e h
 
 pub keywords_spelled : AreKeywordsSpelled
 unfolding keyword_of
-keywords_spelled word w named = (λ e. spelled_unless spelling word k.Other (keyword_of word) w named e (keyword_known word (known_keyword word) (keyword_of word) refl refl), λ e. keyword_each word (known_keyword word) (keyword_of word) w refl refl e)
+keywords_spelled word w named = (
+  λ e. spelled_unless spelling word k.Other (keyword_of word) w named e (keyword_known word (known_keyword word) (keyword_of word) refl refl),
+  λ e. keyword_each word (known_keyword word) (keyword_of word) w refl refl e,
+)
 
 pub at_words_spelled : AreAtWordsSpelled
 unfolding at_word_of
-at_words_spelled name w named = (λ e. spelled_unless at_spelling name a.Other (at_word_of name) w named e (at_word_known name (known_at_word name) (at_word_of name) refl refl), λ e. at_word_each name (known_at_word name) (at_word_of name) w refl refl e)
+at_words_spelled name w named = (
+  λ e. spelled_unless at_spelling name a.Other (at_word_of name) w named e (at_word_known name (known_at_word name) (at_word_of name) refl refl),
+  λ e. at_word_each name (known_at_word name) (at_word_of name) w refl refl e,
+)
 
 pub punctuation_spelled : ArePunctuationSpelled
 unfolding punctuation_of
-punctuation_spelled bytes p = (λ e. some_spelled punctuation_spelling bytes (punctuation_of bytes) p e (find_spelled punctuation_spelling bytes signs), λ e. ap punctuation_of (sym e) ∙ punctuation_of-punctuation_spelling p)
+punctuation_spelled bytes p = (
+  λ e. some_spelled punctuation_spelling bytes (punctuation_of bytes) p e (find_spelled punctuation_spelling bytes signs),
+  λ e. ap punctuation_of (sym e)
+      ∙ punctuation_of-punctuation_spelling p,
+)
 
 -- what is read as itself has its own spelling
 own_by : {X : Type 0} (spelled : X → List ℕ) (of : List ℕ → X) → ((x : X) → of (spelled x) ≡ x) → HaveOwnSpellings spelled

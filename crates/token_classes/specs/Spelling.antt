@@ -61,7 +61,10 @@ spelling (k.Mnemonic o) = mnemonic_of o
 
 -- every keyword
 unfoldable pub keywords : List Keyword
-keywords = k.SilStage ∷ k.Raw ∷ k.Canonical ∷ k.Import ∷ k.Final ∷ k.Class ∷ k.Sil ∷ k.SilVtable ∷ k.Deinit ∷ k.Init ∷ k.Weak ∷ k.Unowned ∷ k.Var ∷ k.Let ∷ k.Get ∷ k.Set ∷ k.Case ∷ k.Builtin ∷ k.Optional ∷ k.Int1 ∷ k.Int8 ∷ k.Int16 ∷ k.Int32 ∷ k.Int64 ∷ k.Hidden ∷ k.Private ∷ k.Shared ∷ k.Public ∷ k.Thin ∷ k.Method ∷ k.To ∷ k.Default ∷ k.Enumelt ∷ k.Lexical ∷ k.VarDecl ∷ k.Copy ∷ k.Take ∷ k.Trivial ∷ k.Assign ∷ k.Initialization ∷ k.Name ∷ k.Argno ∷ k.Expr ∷ k.OpDeref ∷ k.Destroyer ∷ map k.Mnemonic OPS
+keywords = k.SilStage ∷ k.Raw ∷ k.Canonical ∷ k.Import ∷ k.Final ∷ k.Class ∷ k.Sil ∷ k.SilVtable ∷ k.Deinit ∷ k.Init ∷ k.Weak ∷ k.Unowned ∷ k.Var
+    ∷ k.Let ∷ k.Get ∷ k.Set ∷ k.Case ∷ k.Builtin ∷ k.Optional ∷ k.Int1 ∷ k.Int8 ∷ k.Int16 ∷ k.Int32 ∷ k.Int64 ∷ k.Hidden ∷ k.Private ∷ k.Shared
+    ∷ k.Public ∷ k.Thin ∷ k.Method ∷ k.To ∷ k.Default ∷ k.Enumelt ∷ k.Lexical ∷ k.VarDecl ∷ k.Copy ∷ k.Take ∷ k.Trivial ∷ k.Assign ∷ k.Initialization
+    ∷ k.Name ∷ k.Argno ∷ k.Expr ∷ k.OpDeref ∷ k.Destroyer ∷ map k.Mnemonic OPS
 
 -- the keyword that is spelled so
 unfoldable pub known_keyword : List ℕ → Option Keyword
@@ -117,7 +120,8 @@ punctuation_spelling m.Arrow = codes "->"
 
 -- every piece of punctuation
 unfoldable pub signs : List Punctuation
-signs = m.LeftBrace ∷ m.RightBrace ∷ m.LeftParen ∷ m.RightParen ∷ m.LeftBracket ∷ m.RightBracket ∷ m.Less ∷ m.Greater ∷ m.Comma ∷ m.Colon ∷ m.Dot ∷ m.Question ∷ m.Star ∷ m.Equals ∷ m.Bang ∷ m.Dollar ∷ m.Hash ∷ m.Arrow ∷ []
+signs = m.LeftBrace ∷ m.RightBrace ∷ m.LeftParen ∷ m.RightParen ∷ m.LeftBracket ∷ m.RightBracket ∷ m.Less ∷ m.Greater ∷ m.Comma ∷ m.Colon ∷ m.Dot
+    ∷ m.Question ∷ m.Star ∷ m.Equals ∷ m.Bang ∷ m.Dollar ∷ m.Hash ∷ m.Arrow ∷ []
 
 -- the punctuation that these bytes spell
 unfoldable pub punctuation_of : List ℕ → Option Punctuation

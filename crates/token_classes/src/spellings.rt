@@ -4,7 +4,8 @@ ghost use Rattle.std.specs.Prelude.{◌≡◌, ◌∷◌, [], ◌⊎◌, IfSome}
 ghost use Rattle.token_classes.specs.declared.classes.Keyword.{Keyword};
 ghost use Rattle.token_classes.specs.declared.classes.AtWord.{AtWord};
 ghost use Rattle.token_classes.specs.declared.classes.Punctuation.{Punctuation};
-ghost use Rattle.token_classes.specs.Spelling.{spelling, keyword_of, at_spelling, at_words, known_at_word, at_word_of, punctuation_spelling, signs, punctuation_of};
+ghost use Rattle.token_classes.specs.Spelling.{spelling, keyword_of, at_spelling, at_words, known_at_word};
+ghost use Rattle.token_classes.specs.Spelling.{at_word_of, punctuation_spelling, signs, punctuation_of};
 
 use crate::by_letter::look_up;
 use crate::classes::{AtWord, Keyword, Punctuation};

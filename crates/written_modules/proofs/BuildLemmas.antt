@@ -51,7 +51,8 @@ begun text steps rest tokens left inside taken way = record {
   fault_is = sym (fault_lacking way);
 }
 
-module _ {all : List Step} {lexemes : List Lexeme} {text : List ℕ} {old : List Step} {tokens : List Token} {values : List Value} {fault : Option Fault} (at : InReplay all lexemes text old tokens values fault) where
+module _ {all : List Step} {lexemes : List Lexeme} {text : List ℕ} {old : List Step} {tokens : List Token}
+    {values : List Value} {fault : Option Fault} (at : InReplay all lexemes text old tokens values fault) where
   -- where a step takes a token, one is left
   pub some_left : (steps : List Step) → old ≡ steps ++ Take ∷ [] → 0 < length tokens
   some_left steps last = omega (arith, at.taken, ap takes_of last, takes_of-append steps (Take ∷ []))
@@ -104,7 +105,8 @@ no_tokens text [] h = refl
 no_tokens text (t ∷ ts) h = absurd (omega (arith, h))
 
 -- where no step is left, all are replayed
-module _ {all : List Step} {lexemes : List Lexeme} {text : List ℕ} {steps : List Step} {tokens : List Token} {values : List Value} {fault : Option Fault} (at : InReplay all lexemes text steps tokens values fault) (none : steps ≡ []) where
+module _ {all : List Step} {lexemes : List Lexeme} {text : List ℕ} {steps : List Step} {tokens : List Token}
+    {values : List Value} {fault : Option Fault} (at : InReplay all lexemes text steps tokens values fault) (none : steps ≡ []) where
   all_done : at.done ≡ all
   all_done = ap (λ s. s ++ at.done) (sym none) ∙ at.steps_are
 

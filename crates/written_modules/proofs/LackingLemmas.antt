@@ -24,15 +24,16 @@ use Rattle.written_modules.specs.inner.Meaning.{meaning}
 use Rattle.written_modules.specs.inner.PartFaults.{part_fault}
 use Rattle.written_modules.specs.inner.Replay.{first_fault, parts_of, reduced, replay}
 use Rattle.written_modules.specs.Types.{tailed}
-use Rattle.written_modules.specs.Values.{no_token, token_of, stage_of, imports_of, items_of, item_of, fields_of, field_of, field_before, cases_of, type_of, payload_of, types_of, questions_of, linkage_of, tokens_of, convention_of, params_of, param_before, givens_of, given_before, signature_of, blocks_of, block_of, args_of, arg_of, ownership_of, starred, insts_of, terminator_of, inst_of, operands_of, operand_of, edges_of, edge_of, member_of, flags_of, qualifier_of, debug_of, entry_of}
+use Rattle.written_modules.specs.Values.{no_token}
+use Rattle.written_modules.proofs.Unfolded.{value_parts}
 
 lacking-part : (part : Nonterminal) → lacking (Part part) ≡ meaning (shortest part) (map lacking (body (shortest part)))
-unfolding lacking lacking_within shortest body row_body parts_row symbols_of comma_behind meaning tailed token_of stage_of imports_of items_of item_of fields_of field_of field_before cases_of type_of payload_of types_of questions_of linkage_of tokens_of convention_of params_of param_before givens_of given_before signature_of blocks_of block_of args_of arg_of ownership_of starred insts_of terminator_of inst_of operands_of operand_of edges_of edge_of member_of flags_of qualifier_of debug_of entry_of
+unfolding lacking lacking_within shortest body row_body parts_row symbols_of comma_behind meaning tailed value_parts
 lacking-part n.Module = refl
 lacking-part _ = refl
 
 fault-part : (part : Nonterminal) → part_fault (shortest part) (map lacking (body (shortest part))) ≡ None
-unfolding part_fault earlier lacking lacking_within shortest body row_body parts_row symbols_of comma_behind meaning tailed token_of stage_of imports_of items_of item_of fields_of field_of field_before cases_of type_of payload_of types_of questions_of linkage_of tokens_of convention_of params_of param_before givens_of given_before signature_of blocks_of block_of args_of arg_of ownership_of starred insts_of terminator_of inst_of operands_of operand_of edges_of edge_of member_of flags_of qualifier_of debug_of entry_of
+unfolding part_fault earlier lacking lacking_within shortest body row_body parts_row symbols_of comma_behind meaning tailed value_parts
 fault-part n.Module = refl
 fault-part _ = refl
 
@@ -92,7 +93,8 @@ empty_part : (part : Nonterminal) (p : Production) (value : Value) (new : List V
     → reduced p [] ≡ value ∷ new → value ≡ lacking (Part part)
 unfolding reduced
 empty_part part p value new is none reduced_is =
-    let first : meaning p [] ≡ value = subst (λ (symbols : List Symbol). meaning p (take (length symbols) []) ∷ drop (length symbols) [] ≡ value ∷ new → meaning p [] ≡ value) (sym none) (λ e. cc e) reduced_is in
+    let first : meaning p [] ≡ value = subst (λ (symbols : List Symbol). meaning p (take (length symbols) []) ∷ drop (length symbols) [] ≡ value ∷ new
+    → meaning p [] ≡ value) (sym none) (λ e. cc e) reduced_is in
     let here : meaning p [] ≡ meaning p (map lacking (body p)) = ap (λ symbols. meaning p (map lacking symbols)) (sym none) in
     sym first ∙ here ∙ subst (λ q. meaning q (map lacking (body q)) ≡ lacking (Part part)) (sym is) (sym (lacking-part part))
 

@@ -1,18 +1,12 @@
 -- What is popped off a list stands first of the list turned round.
 use Rattle.std.proofs.Common.{◌≡◌, ℕ, ◌-◌, ◌<◌, ◌≤◌, List, [], ◌∷◌, ◌++◌, length, take, get_or, ap, arith, refl, subst, ◌∙◌, reverse, Some}
-use Rattle.std.specs.Prelude.{MatchOption, Option, None, suc}
+use Rattle.std.specs.Prelude.{Option, suc}
 use Rattle.std.specs.Option.{option_to_list}
 use Rattle.std.proofs.Math.Seq.{take-suc}
 use Rattle.std.proofs.lemmas.List.{reverse-append}
 
 pub popped : {X : Type 0} (old new : List X) (x : X) (r : Option X) → old ≡ new ++ option_to_list r → r ≡ Some x → old ≡ new ++ x ∷ []
 popped old new x r is some = is ∙ ap (λ o. new ++ option_to_list o) some
-
-pub none_popped : {X : Type 0} (A : Type 0) (B : X → Type 0) (count : ℕ) (old : List X) (r : Option X)
-    → MatchOption r ((count ≡ 0) × A) B → ((x : X) → r ≡ Some x → ⊥) → count ≡ length old → old ≡ []
-none_popped A B count [] r h none e = refl
-none_popped A B count (x ∷ xs) None h none e = absurd (omega (arith, h.0, e))
-none_popped A B count (x ∷ xs) (Some y) h none e = absurd (none y refl)
 
 pub first_popped : {X : Type 0} (old new : List X) (x : X) → old ≡ new ++ x ∷ [] → reverse old ≡ x ∷ reverse new
 first_popped old new x is = ap reverse is ∙ reverse-append new (x ∷ [])

@@ -22,7 +22,8 @@ use written_tree::{Fault, InstBox, WrittenArg, WrittenBlock, WrittenToken};
 /// A block, and the blocks behind it.
 fn blocks_before(alloc: Global, values: &mut Prepended<Value>) -> Result<Value, Exhausted>
     requires { 2 ≤ length values.old }
-    ensures { IfOk result (λ value. (first others : Value) × (values.old ≡ first ∷ others ∷ values.new) × (value ≡ v.Blocks (block_of first ∷ blocks_of others))) }
+    ensures { IfOk result (λ value. (first others : Value) × (values.old ≡ first ∷ others ∷ values.new)
+        × (value ≡ v.Blocks (block_of first ∷ blocks_of others))) }
 {
     let block = values.pop_front().into_block(alloc);
     let mut others = values.pop_front().into_blocks(alloc);
@@ -110,7 +111,8 @@ pub(crate) fn no_args(alloc: Global, values: &mut Prepended<Value>) -> Result<()
 #[inline(never)]
 pub(crate) fn name_list(alloc: Global, values: &mut Prepended<Value>) -> Result<(), Exhausted>
     requires { 2 ≤ length values.old }
-    ensures values { OnOk result ((first others : Value) × (rest : List Value) × (values.old ≡ first ∷ others ∷ rest) × (values.new ≡ v.Tokens (token_of first ∷ tokens_of others) ∷ rest)) }
+    ensures values { OnOk result ((first others : Value) × (rest : List Value) × (values.old ≡ first ∷ others ∷ rest)
+        × (values.new ≡ v.Tokens (token_of first ∷ tokens_of others) ∷ rest)) }
 {
     let name = values.pop_front().into_token();
     let mut others = values.pop_front().into_tokens(alloc);
@@ -128,7 +130,7 @@ pub(crate) fn no_names(alloc: Global, values: &mut Prepended<Value>) -> Result<(
 
 /// Puts a block of its label, its arguments and its instructions.
 #[inline(never)]
-#[tactic(auto, unfolding(crate::specs::inner::Replay::reduced, crate::specs::inner::Meaning::meaning, crate::specs::inner::PartFaults::part_fault, sil_shape::specs::Grammar::body))]
+#[tactic(auto, unfolding(crate::specs::inner::Replay::reducing))]
 pub(crate) fn whole_block(
     alloc: Global,
     values: &mut Prepended<Value>,
@@ -253,7 +255,7 @@ pub(crate) fn one_name(alloc: Global, values: &mut Prepended<Value>) -> Result<(
 
 /// Puts an instruction with a list of names before its `=`.
 #[inline(never)]
-#[tactic(auto, unfolding(crate::specs::inner::Replay::reduced, crate::specs::inner::Meaning::meaning, crate::specs::inner::PartFaults::part_fault, sil_shape::specs::Grammar::body))]
+#[tactic(auto, unfolding(crate::specs::inner::Replay::reducing))]
 pub(crate) fn names(
     alloc: Global,
     values: &mut Prepended<Value>,

@@ -38,7 +38,7 @@ fn put_declared(
 
 /// Puts a class that isn't final.
 #[inline(never)]
-#[tactic(auto, unfolding(crate::specs::inner::Replay::reduced, crate::specs::inner::Meaning::meaning, crate::specs::inner::PartFaults::part_fault, sil_shape::specs::Grammar::body))]
+#[tactic(auto, unfolding(crate::specs::inner::Replay::reducing))]
 pub(crate) fn plain_class(
     alloc: Global,
     values: &mut Prepended<Value>,
@@ -59,7 +59,7 @@ pub(crate) fn plain_class(
 
 /// Puts a final class.
 #[inline(never)]
-#[tactic(auto, unfolding(crate::specs::inner::Replay::reduced, crate::specs::inner::Meaning::meaning, crate::specs::inner::PartFaults::part_fault, sil_shape::specs::Grammar::body))]
+#[tactic(auto, unfolding(crate::specs::inner::Replay::reducing))]
 pub(crate) fn final_class(
     alloc: Global,
     values: &mut Prepended<Value>,
@@ -81,7 +81,7 @@ pub(crate) fn final_class(
 
 /// Puts a struct.
 #[inline(never)]
-#[tactic(auto, unfolding(crate::specs::inner::Replay::reduced, crate::specs::inner::Meaning::meaning, crate::specs::inner::PartFaults::part_fault, sil_shape::specs::Grammar::body))]
+#[tactic(auto, unfolding(crate::specs::inner::Replay::reducing))]
 pub(crate) fn struct_item(
     alloc: Global,
     values: &mut Prepended<Value>,
@@ -102,7 +102,7 @@ pub(crate) fn struct_item(
 
 /// Puts an enum.
 #[inline(never)]
-#[tactic(auto, unfolding(crate::specs::inner::Replay::reduced, crate::specs::inner::Meaning::meaning, crate::specs::inner::PartFaults::part_fault, sil_shape::specs::Grammar::body))]
+#[tactic(auto, unfolding(crate::specs::inner::Replay::reducing))]
 pub(crate) fn enum_item(
     alloc: Global,
     values: &mut Prepended<Value>,
@@ -140,7 +140,8 @@ fn field_before(
 #[inline(never)]
 pub(crate) fn fields(alloc: Global, values: &mut Prepended<Value>) -> Result<(), Exhausted>
     requires { 2 ≤ length values.old }
-    ensures values { OnOk result ((first others : Value) × (rest : List Value) × (values.old ≡ first ∷ others ∷ rest) × (values.new ≡ v.Fields (field_before first (fields_of others)) ∷ rest)) }
+    ensures values { OnOk result ((first others : Value) × (rest : List Value) × (values.old ≡ first ∷ others ∷ rest)
+        × (values.new ≡ v.Fields (field_before first (fields_of others)) ∷ rest)) }
 {
     let member = values.pop_front();
     let others = values.pop_front().into_fields(alloc);
@@ -164,7 +165,8 @@ pub(crate) fn variable(
     values: &mut Prepended<Value>,
 ) -> Result<(), Exhausted>
     requires { 2 ≤ length values.old }
-    ensures values { OnOk result ((word field : Value) × (rest : List Value) × (values.old ≡ word ∷ field ∷ rest) × (values.new ≡ v.Field (record (field_of field) { storage = storage }) ∷ rest)) }
+    ensures values { OnOk result ((word field : Value) × (rest : List Value) × (values.old ≡ word ∷ field ∷ rest)
+        × (values.new ≡ v.Field (record (field_of field) { storage = storage }) ∷ rest)) }
 {
     skip(values);
     let field = values.pop_front().into_field();
@@ -181,7 +183,8 @@ pub(crate) fn variable(
 #[inline(never)]
 pub(crate) fn binding(alloc: Global, values: &mut Prepended<Value>) -> Result<(), Exhausted>
     requires { 5 ≤ length values.old }
-    ensures values { OnOk result ((a b c d e : Value) × (rest : List Value) × (values.old ≡ a ∷ b ∷ c ∷ d ∷ e ∷ rest) × (values.new ≡ meant.binding (a ∷ b ∷ c ∷ d ∷ e ∷ []) ∷ rest)) }
+    ensures values { OnOk result ((a b c d e : Value) × (rest : List Value) × (values.old ≡ a ∷ b ∷ c ∷ d ∷ e ∷ rest)
+        × (values.new ≡ meant.binding (a ∷ b ∷ c ∷ d ∷ e ∷ []) ∷ rest)) }
 {
     skip(values);
     let name = values.pop_front().into_token();

@@ -22,7 +22,7 @@ use written_tree::{Fault, WrittenFunction, WrittenItem, earlier};
 
 /// Puts a function of its linkage, its words in brackets, its name, its signature and its blocks.
 #[inline(never)]
-#[tactic(auto, unfolding(crate::specs::inner::Replay::reduced, crate::specs::inner::Meaning::meaning, crate::specs::inner::PartFaults::part_fault, sil_shape::specs::Grammar::body))]
+#[tactic(auto, unfolding(crate::specs::inner::Replay::reducing))]
 pub(crate) fn function(
     alloc: Global,
     values: &mut Prepended<Value>,
@@ -95,7 +95,7 @@ pub(crate) fn convention(
 
 /// Puts a signature of its convention, its parameters and its results.
 #[inline(never)]
-#[tactic(auto, unfolding(crate::specs::inner::Replay::reduced, crate::specs::inner::Meaning::meaning, crate::specs::inner::PartFaults::part_fault, sil_shape::specs::Grammar::body))]
+#[tactic(auto, unfolding(crate::specs::inner::Replay::reducing))]
 pub(crate) fn function_type(
     alloc: Global,
     values: &mut Prepended<Value>,
@@ -173,7 +173,8 @@ fn given_before(value: Value, others: GivenList) -> Result<GivenList, Exhausted>
 #[inline(never)]
 pub(crate) fn params(alloc: Global, values: &mut Prepended<Value>) -> Result<(), Exhausted>
     requires { 2 ≤ length values.old }
-    ensures values { OnOk result ((first others : Value) × (rest : List Value) × (values.old ≡ first ∷ others ∷ rest) × (values.new ≡ v.Params (param_before first (params_of others)) ∷ rest)) }
+    ensures values { OnOk result ((first others : Value) × (rest : List Value) × (values.old ≡ first ∷ others ∷ rest)
+        × (values.new ≡ v.Params (param_before first (params_of others)) ∷ rest)) }
 {
     let first = values.pop_front();
     let others = values.pop_front().into_params(alloc);
@@ -193,7 +194,8 @@ pub(crate) fn no_more_params(alloc: Global, values: &mut Prepended<Value>) -> Re
 #[inline(never)]
 pub(crate) fn givens(alloc: Global, values: &mut Prepended<Value>) -> Result<(), Exhausted>
     requires { 2 ≤ length values.old }
-    ensures values { OnOk result ((first others : Value) × (rest : List Value) × (values.old ≡ first ∷ others ∷ rest) × (values.new ≡ v.Givens (given_before first (givens_of others)) ∷ rest)) }
+    ensures values { OnOk result ((first others : Value) × (rest : List Value) × (values.old ≡ first ∷ others ∷ rest)
+        × (values.new ≡ v.Givens (given_before first (givens_of others)) ∷ rest)) }
 {
     let first = values.pop_front();
     let others = values.pop_front().into_givens(alloc);

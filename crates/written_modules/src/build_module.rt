@@ -20,7 +20,7 @@ use written_tree::{Fault, WrittenEntry, WrittenItem, WrittenModule, WrittenVtabl
 
 /// Puts a module of its stage, its imports and its items.
 #[inline(never)]
-#[tactic(auto, unfolding(crate::specs::inner::Replay::reduced, crate::specs::inner::Meaning::meaning, crate::specs::inner::PartFaults::part_fault, sil_shape::specs::Grammar::body))]
+#[tactic(auto, unfolding(crate::specs::inner::Replay::reducing))]
 pub(crate) fn whole_module(
     alloc: Global,
     values: &mut Prepended<Value>,

@@ -40,7 +40,8 @@ pub(crate) fn operand(alloc: Global, values: &mut Prepended<Value>) -> Result<()
 /// An operand, and the operands behind it.
 fn operands_before(alloc: Global, values: &mut Prepended<Value>) -> Result<Value, Exhausted>
     requires { 2 ≤ length values.old }
-    ensures { IfOk result (λ value. (first others : Value) × (values.old ≡ first ∷ others ∷ values.new) × (value ≡ v.Operands (operand_of first ∷ operands_of others))) }
+    ensures { IfOk result (λ value. (first others : Value) × (values.old ≡ first ∷ others ∷ values.new)
+        × (value ≡ v.Operands (operand_of first ∷ operands_of others))) }
 {
     let operand = values.pop_front().into_operand();
     let mut others = values.pop_front().into_operands(alloc);
@@ -52,7 +53,8 @@ fn operands_before(alloc: Global, values: &mut Prepended<Value>) -> Result<Value
 #[inline(never)]
 pub(crate) fn operands(alloc: Global, values: &mut Prepended<Value>) -> Result<(), Exhausted>
     requires { 2 ≤ length values.old }
-    ensures values { OnOk result ((first others : Value) × (rest : List Value) × (values.old ≡ first ∷ others ∷ rest) × (values.new ≡ v.Operands (operand_of first ∷ operands_of others) ∷ rest)) }
+    ensures values { OnOk result ((first others : Value) × (rest : List Value) × (values.old ≡ first ∷ others ∷ rest)
+        × (values.new ≡ v.Operands (operand_of first ∷ operands_of others) ∷ rest)) }
 {
     let operands = operands_before(alloc, values)?;
     put_value(operands, values)
@@ -81,7 +83,7 @@ pub(crate) fn no_operands(alloc: Global, values: &mut Prepended<Value>) -> Resul
 
 /// Puts an edge of its label and its operands.
 #[inline(never)]
-#[tactic(auto, unfolding(crate::specs::inner::Replay::reduced, crate::specs::inner::Meaning::meaning, crate::specs::inner::PartFaults::part_fault, sil_shape::specs::Grammar::body))]
+#[tactic(auto, unfolding(crate::specs::inner::Replay::reducing))]
 pub(crate) fn edge(alloc: Global, values: &mut Prepended<Value>) -> Result<Option<Fault>, Exhausted>
     requires { 2 ≤ length values.old }
     ensures values { OnOk result (values.new ≡ reduced Production.WholeEdge values.old) }

@@ -3,7 +3,7 @@
 
 ghost use Rattle.std.specs.Prelude.{◌≡◌, ◌∷◌, ◌≤◌, drop, length, IfOk, OnOk};
 ghost use Rattle.sil_shape.specs.Grammar.{body};
-ghost use Rattle.sil_shape.specs.Rows.{brings_comma, comma_behind};
+ghost use Rattle.sil_shape.specs.Rows.{comma_behind};
 ghost use Rattle.sil_shape.specs.declared.grammar.Production.TheVariants.{Row};
 ghost use Rattle.written_modules.specs.inner.PartFaults.{part_fault};
 ghost use Rattle.written_modules.specs.inner.Replay.{parts_of, reduced};
@@ -14,32 +14,19 @@ use crate::nothing::{bare_inst, skip};
 use crate::prepended::Prepended;
 use crate::put::put;
 use crate::value::{Reduced, Value};
-use instruction_table::{Op, Part, may_lack_operand, row_of};
+use instruction_table::{Op, Part, row_of};
 use sil_ast::{Exhausted, List, Place};
+use sil_shape::rows::has_comma_behind;
 use std::alloc::Global;
 use written_tree::{Fault, InstBox, WrittenInst, earlier};
 
-/// Whether a part brings its own comma.
-#[tactic(auto, unfolding(sil_shape::specs::Rows::brings_comma))]
-fn brings_comma(op: Op, part: Part) -> bool
-    ensures { result ≡ brings_comma op part }
-{
-    match part {
-        Part::Typed => may_lack_operand(op),
-        _ => false,
-    }
-}
-
 /// Takes the comma behind a part away, where the parts that follow want one.
-#[tactic(auto, unfolding(sil_shape::specs::Rows::comma_behind, sil_shape::specs::Rows::comma_between))]
 fn skip_comma(op: Op, here: Part, others: &[Part], values: &mut Prepended<Value>)
     requires { length (comma_behind op here others.now) ≤ length values.old }
     ensures { values.new ≡ drop (length (comma_behind op here others.now)) values.old }
 {
-    if let [next, ..] = others {
-        if here.is_item() && next.is_item() && !brings_comma(op, *next) {
-            skip(values);
-        }
+    if has_comma_behind(op, here, others) {
+        skip(values);
     }
 }
 

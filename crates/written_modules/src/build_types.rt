@@ -173,7 +173,7 @@ fn tailed(alloc: Global, token: WrittenToken, tail: Value) -> Result<WrittenType
 
 /// Puts the type between the parentheses of a case, a tuple where there are several.
 #[inline(never)]
-#[tactic(auto, unfolding(crate::specs::inner::Replay::reduced, crate::specs::inner::Meaning::meaning, crate::specs::inner::PartFaults::part_fault, sil_shape::specs::Grammar::body))]
+#[tactic(auto, unfolding(crate::specs::inner::Replay::reducing))]
 pub(crate) fn payload(
     alloc: Global,
     values: &mut Prepended<Value>,
@@ -193,7 +193,7 @@ pub(crate) fn payload(
 }
 
 #[inline(never)]
-#[tactic(auto, unfolding(crate::specs::inner::Replay::reduced, crate::specs::inner::Meaning::meaning, crate::specs::inner::PartFaults::part_fault, sil_shape::specs::Grammar::body))]
+#[tactic(auto, unfolding(crate::specs::inner::Replay::reducing))]
 pub(crate) fn paren_type(
     alloc: Global,
     values: &mut Prepended<Value>,
@@ -214,7 +214,7 @@ pub(crate) fn paren_type(
 }
 
 #[inline(never)]
-#[tactic(auto, unfolding(crate::specs::inner::Replay::reduced, crate::specs::inner::Meaning::meaning, crate::specs::inner::PartFaults::part_fault, sil_shape::specs::Grammar::body))]
+#[tactic(auto, unfolding(crate::specs::inner::Replay::reducing))]
 pub(crate) fn base_type(
     alloc: Global,
     values: &mut Prepended<Value>,
@@ -231,7 +231,7 @@ pub(crate) fn base_type(
 }
 
 #[inline(never)]
-#[tactic(auto, unfolding(crate::specs::inner::Replay::reduced, crate::specs::inner::Meaning::meaning, crate::specs::inner::PartFaults::part_fault, sil_shape::specs::Grammar::body))]
+#[tactic(auto, unfolding(crate::specs::inner::Replay::reducing))]
 pub(crate) fn weak_type(
     alloc: Global,
     values: &mut Prepended<Value>,
@@ -249,7 +249,7 @@ pub(crate) fn weak_type(
 }
 
 #[inline(never)]
-#[tactic(auto, unfolding(crate::specs::inner::Replay::reduced, crate::specs::inner::Meaning::meaning, crate::specs::inner::PartFaults::part_fault, sil_shape::specs::Grammar::body))]
+#[tactic(auto, unfolding(crate::specs::inner::Replay::reducing))]
 pub(crate) fn unowned_type(
     alloc: Global,
     values: &mut Prepended<Value>,
@@ -270,7 +270,8 @@ pub(crate) fn unowned_type(
 #[inline(never)]
 pub(crate) fn tailed_base(alloc: Global, values: &mut Prepended<Value>) -> Result<(), Exhausted>
     requires { 2 ≤ length values.old }
-    ensures values { OnOk result ((word tail : Value) × (rest : List Value) × (values.old ≡ word ∷ tail ∷ rest) × (values.new ≡ v.Type (tailed (token_of word) tail) ∷ rest)) }
+    ensures values { OnOk result ((word tail : Value) × (rest : List Value)
+        × (values.old ≡ word ∷ tail ∷ rest) × (values.new ≡ v.Type (tailed (token_of word) tail) ∷ rest)) }
 {
     let word = values.pop_front().into_token();
     let ty = tailed(alloc, word, values.pop_front())?;
@@ -288,7 +289,7 @@ pub(crate) fn named_base(alloc: Global, values: &mut Prepended<Value>) -> Result
 }
 
 #[inline(never)]
-#[tactic(auto, unfolding(crate::specs::inner::Replay::reduced, crate::specs::inner::Meaning::meaning, crate::specs::inner::PartFaults::part_fault, sil_shape::specs::Grammar::body))]
+#[tactic(auto, unfolding(crate::specs::inner::Replay::reducing))]
 pub(crate) fn optional_of(
     alloc: Global,
     values: &mut Prepended<Value>,
@@ -310,7 +311,8 @@ pub(crate) fn optional_of(
 #[inline(never)]
 pub(crate) fn int_type(width: u8, values: &mut Prepended<Value>) -> Result<(), Exhausted>
     requires { 1 ≤ length values.old }
-    ensures values { OnOk result ((word : Value) × (rest : List Value) × (values.old ≡ word ∷ rest) × (values.new ≡ v.Type (one_token (ty.Int width) (token_of word).place) ∷ rest)) }
+    ensures values { OnOk result ((word : Value) × (rest : List Value) × (values.old ≡ word ∷ rest)
+        × (values.new ≡ v.Type (one_token (ty.Int width) (token_of word).place) ∷ rest)) }
 {
     let place = values.pop_front().into_token().place;
     put_value(Value::Type(one_token(TypeName::Int(width), place)), values)
@@ -340,7 +342,8 @@ pub(crate) fn no_questions(alloc: Global, values: &mut Prepended<Value>) -> Resu
 #[inline(never)]
 pub(crate) fn types_before(alloc: Global, values: &mut Prepended<Value>) -> Result<(), Exhausted>
     requires { 2 ≤ length values.old }
-    ensures values { OnOk result ((first others : Value) × (rest : List Value) × (values.old ≡ first ∷ others ∷ rest) × (values.new ≡ v.Types (type_before (type_of first) (types_of others)) ∷ rest)) }
+    ensures values { OnOk result ((first others : Value) × (rest : List Value) × (values.old ≡ first ∷ others ∷ rest)
+        × (values.new ≡ v.Types (type_before (type_of first) (types_of others)) ∷ rest)) }
 {
     let ty = values.pop_front().into_type();
     let others = values.pop_front().into_types(alloc);

@@ -107,7 +107,8 @@ pub(crate) fn debug_binding(
     values: &mut Prepended<Value>,
 ) -> Result<(), Exhausted>
     requires { 2 ≤ length values.old }
-    ensures values { OnOk result ((word others : Value) × (rest : List Value) × (values.old ≡ word ∷ others ∷ rest) × (values.new ≡ v.Debug (record (debug_of others) { binding = Some binding }) ∷ rest)) }
+    ensures values { OnOk result ((word others : Value) × (rest : List Value) × (values.old ≡ word ∷ others ∷ rest)
+        × (values.new ≡ v.Debug (record (debug_of others) { binding = Some binding }) ∷ rest)) }
 {
     skip(values);
     let mut debug = values.pop_front().into_debug();
@@ -131,7 +132,7 @@ pub(crate) fn debug_name(alloc: Global, values: &mut Prepended<Value>) -> Result
 
 /// Puts the number of an argument, and what a debugger is told behind it.
 #[inline(never)]
-#[tactic(auto, unfolding(crate::specs::inner::Replay::reduced, crate::specs::inner::Meaning::meaning, crate::specs::inner::PartFaults::part_fault, sil_shape::specs::Grammar::body))]
+#[tactic(auto, unfolding(crate::specs::inner::Replay::reducing))]
 pub(crate) fn debug_number(values: &mut Prepended<Value>) -> Result<Option<Fault>, Exhausted>
     requires { 3 ≤ length values.old }
     ensures values { OnOk result (values.new ≡ reduced Production.DebugNumber values.old) }

@@ -84,7 +84,8 @@ fn replay(
     requires taken { takes_of steps.items ≡ length tokens.tokens }
     requires shortest { Shortens (reverse left.items) rest }
     requires enough { IsEnough (steps.items ++ rest) }
-    ensures values { IfOk result (λ replayed. waiting replayed.values (reverse replayed.left.items) ≡ replay (steps.items ++ rest) (lexemes_of text.now.value.items tokens)) }
+    ensures values { IfOk result (λ replayed. waiting replayed.values (reverse replayed.left.items)
+        ≡ replay (steps.items ++ rest) (lexemes_of text.now.value.items tokens)) }
     ensures fault { IfOk result (λ replayed. replayed.fault ≡ first_fault (steps.items ++ rest) (lexemes_of text.now.value.items tokens)) }
 {
     let mut values = Prepended::new(alloc);

@@ -17,7 +17,7 @@ use std::alloc::Global;
 use written_tree::Fault;
 
 /// Puts what a production of base types stands for in the place of the values of its body.
-#[tactic(auto, unfolding(crate::specs::inner::Replay::reduced, crate::specs::inner::Meaning::meaning, crate::specs::inner::PartFaults::part_fault, crate::specs::inner::Sections::section, crate::specs::inner::Sections::part_section, sil_shape::specs::Grammar::body, sil_shape::specs::Grammar::written))]
+#[tactic(auto, unfolding(crate::specs::inner::Replay::reducing, crate::specs::inner::Sections::telling))]
 pub(crate) fn reduce_base_type(
     alloc: Global,
     production: Production,

@@ -1,7 +1,8 @@
 //! Takes out of a value of a block or an instruction what stands in it.
 
 ghost use Rattle.std.specs.Prelude.{◌≡◌, IfOk};
-ghost use Rattle.written_modules.specs.Values.{blocks_of, block_of, args_of, arg_of, ownership_of, inst_of, operands_of, operand_of, edges_of, edge_of, member_of, flags_of, qualifier_of, debug_of, entry_of, insts_of, terminator_of};
+ghost use Rattle.written_modules.specs.Values.{blocks_of, block_of, args_of, arg_of, ownership_of, inst_of, operands_of, operand_of, edges_of};
+ghost use Rattle.written_modules.specs.Values.{edge_of, member_of, flags_of, qualifier_of, debug_of, entry_of, insts_of, terminator_of};
 
 use crate::nothing::{discard, no_debug, no_inst, no_qualifier, no_token};
 use crate::prepended::Prepended;

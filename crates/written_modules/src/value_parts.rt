@@ -3,7 +3,8 @@
 ghost use Rattle.std.specs.Prelude.{◌≡◌, IfOk};
 ghost use Rattle.written_modules.specs.declared.value.Value.TheVariants as v;
 ghost use Rattle.written_tree.specs.declared.written_module.WrittenModule.{WrittenModule};
-ghost use Rattle.written_modules.specs.Values.{token_of, stage_of, imports_of, items_of, item_of, fields_of, field_of, cases_of, type_of, payload_of, types_of, questions_of, linkage_of, tokens_of, convention_of, params_of, givens_of, signature_of};
+ghost use Rattle.written_modules.specs.Values.{token_of, stage_of, imports_of, items_of, item_of, fields_of, field_of, cases_of, type_of, payload_of};
+ghost use Rattle.written_modules.specs.Values.{types_of, questions_of, linkage_of, tokens_of, convention_of, params_of, givens_of, signature_of};
 
 use crate::nothing::{discard, no_givens, no_params, no_token, no_type, no_types};
 use crate::prepended::Prepended;

@@ -1,5 +1,6 @@
 -- The numbers that spellings write. A spelling is an optional `-` and decimal digits; what is said of other bytes has no meaning.
-use Rattle.std.specs.Prelude.{ℕ, ◌+◌, ◌-◌, ◌*◌, ◌^◌, List, Bool, ◌&&◌, Option, Some, None, ℤ, pos, negsuc, neg_ℤ, ◌-ℤ◌, int_le, int_lt, nat_le, fold, drop, if◌then◌else◌}
+use Rattle.std.specs.Prelude.{ℕ, ◌+◌, ◌-◌, ◌*◌, ◌^◌, List, Bool, ◌&&◌, Option, Some, None, ℤ, pos, negsuc}
+use Rattle.std.specs.Prelude.{neg_ℤ, ◌-ℤ◌, int_le, int_lt, nat_le, fold, drop, if◌then◌else◌}
 use Rattle.std.specs.Int.{int_rem_euclid}
 use Rattle.std.specs.Str.Parse.{starts_with_minus}
 

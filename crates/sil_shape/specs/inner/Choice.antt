@@ -20,7 +20,8 @@ use Rattle.sil_shape.specs.declared.grammar.Production.TheVariants as p
 
 -- what a text of a production begins with that is not empty; rows are told by their mnemonics alone
 unfoldable pub starts : Production → List Terminal
-starts p.WholeModule = word k.SilStage ∷ word k.Import ∷ word k.Final ∷ word k.Class ∷ word (k.Mnemonic op.Struct) ∷ word (k.Mnemonic op.Enum) ∷ word k.Sil ∷ word k.SilVtable ∷ []
+starts p.WholeModule = word k.SilStage ∷ word k.Import ∷ word k.Final ∷ word k.Class
+    ∷ word (k.Mnemonic op.Struct) ∷ word (k.Mnemonic op.Enum) ∷ word k.Sil ∷ word k.SilVtable ∷ []
 starts p.StageSome = word k.SilStage ∷ []
 starts p.StageNone = []
 starts p.Raw = word k.Raw ∷ []

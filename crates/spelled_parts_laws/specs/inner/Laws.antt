@@ -29,5 +29,6 @@ pub record IsToldByReplay (steps : List Step) (lexemes : List Lexeme) : Type 0 w
   pub first : (fault : Fault) → IsFirstFault steps lexemes fault ↔ (first_fault steps lexemes ≡ Some fault)
 
 abbrev pub AreToldByReplay : Type 0
-AreToldByReplay = (ss : List Symbol) (classes : List Class) (steps : List Step) (lexemes : List Lexeme) → Derives ss classes steps → length lexemes ≤ length classes
+AreToldByReplay = (ss : List Symbol) (classes : List Class) (steps : List Step) (lexemes : List Lexeme)
+    → Derives ss classes steps → length lexemes ≤ length classes
     → IsToldByReplay steps lexemes

@@ -22,7 +22,11 @@ unfoldable pub use Rattle.written_modules.specs.Leaves.{kept_of, leaf_of, with_i
 use Rattle.written_modules.specs.inner.Parts.{part, place_at, text_at}
 use Rattle.written_modules.specs.inner.RowMeaning.{row}
 use Rattle.written_modules.specs.Types.{in_parens, with_questions, named_type, one_deeper, one_token, tailed, type_before}
-use Rattle.written_modules.specs.Values.{token_of, stage_of, imports_of, items_of, item_of, fields_of, field_of, field_before, cases_of, type_of, payload_of, types_of, questions_of, linkage_of, tokens_of, convention_of, params_of, param_before, givens_of, given_before, signature_of, blocks_of, block_of, args_of, arg_of, ownership_of, starred, insts_of, terminator_of, inst_of, operands_of, operand_of, edges_of, member_of, flags_of, debug_of, entry_of, no_debug, no_givens, no_params, no_qualifier, no_types}
+use Rattle.written_modules.specs.Values.{token_of, stage_of, imports_of, items_of, item_of, fields_of, field_of, field_before, cases_of, type_of}
+use Rattle.written_modules.specs.Values.{payload_of, types_of, questions_of, linkage_of, tokens_of, convention_of, params_of, param_before}
+use Rattle.written_modules.specs.Values.{givens_of, given_before, signature_of, blocks_of, block_of, args_of, arg_of, ownership_of, starred}
+use Rattle.written_modules.specs.Values.{insts_of, terminator_of, inst_of, operands_of, operand_of, edges_of, member_of, flags_of, debug_of}
+use Rattle.written_modules.specs.Values.{entry_of, no_debug, no_givens, no_params, no_qualifier, no_types}
 
 -- `var f: T`
 abbrev pub binding : List Value → Value
@@ -88,8 +92,10 @@ meaning p.PayloadSome parts = v.Type (in_parens (place_at 0 parts) (type_before 
 meaning p.BareType parts = part 0 parts
 meaning p.ParenType parts = v.Type (with_questions (in_parens (place_at 0 parts) (types_of (part 1 parts)) (place_at 2 parts)) (questions_of (part 3 parts)))
 meaning p.BaseOpen parts = v.Type (with_questions (type_of (part 0 parts)) (questions_of (part 1 parts)))
-meaning p.WeakOpen parts = v.Type (one_deeper (type_of (part 1 parts)).depth (ty.Weak (type_of (part 1 parts)).ty) (place_at 0 parts) (type_of (part 1 parts)).last)
-meaning p.UnownedOpen parts = v.Type (one_deeper (type_of (part 1 parts)).depth (ty.Unowned (type_of (part 1 parts)).ty) (place_at 0 parts) (type_of (part 1 parts)).last)
+meaning p.WeakOpen parts = v.Type (one_deeper (type_of (part 1 parts)).depth
+    (ty.Weak (type_of (part 1 parts)).ty) (place_at 0 parts) (type_of (part 1 parts)).last)
+meaning p.UnownedOpen parts = v.Type (one_deeper (type_of (part 1 parts)).depth
+    (ty.Unowned (type_of (part 1 parts)).ty) (place_at 0 parts) (type_of (part 1 parts)).last)
 meaning p.BuiltinBase parts = v.Type (tailed (token_of (part 0 parts)) (part 1 parts))
 meaning p.OptionalBase parts = v.Type (tailed (token_of (part 0 parts)) (part 1 parts))
 meaning p.NamedBase parts = v.Type (named_type (token_of (part 0 parts)))
@@ -116,7 +122,8 @@ meaning p.AttributesMore parts = v.Tokens (token_of (part 1 parts) ∷ tokens_of
 meaning p.AttributesEnd parts = v.Tokens []
 meaning p.BodySome parts = v.Blocks (block_of (part 1 parts) ∷ blocks_of (part 2 parts))
 meaning p.BodyNone parts = v.Blocks []
-meaning p.WholeFunctionType parts = v.Signature (record { convention = convention_of (part 2 parts); params = (params_of (part 5 parts)).params; results = (givens_of (part 8 parts)).givens })
+meaning p.WholeFunctionType parts = v.Signature
+    (record { convention = convention_of (part 2 parts); params = (params_of (part 5 parts)).params; results = (givens_of (part 8 parts)).givens })
 meaning p.Thin parts = v.Convention convention.Thin
 meaning p.Method parts = v.Convention convention.Method
 meaning p.ParamsSome parts = v.Params (param_before (part 0 parts) (params_of (part 1 parts)))
@@ -129,7 +136,8 @@ meaning p.ParamInout parts = param passing.Inout parts
 meaning p.ParamPlain parts = v.Param (record { passing = passing.Plain; ty = (type_of (part 0 parts)).ty }) (type_of (part 0 parts)).first
 meaning p.ResultList parts = v.Givens (givens_of (part 1 parts))
 meaning p.ResultOwned parts = v.Givens (record { givens = record { owned = true; ty = (type_of (part 1 parts)).ty } ∷ []; firsts = place_at 0 parts ∷ [] })
-meaning p.ResultPlain parts = v.Givens (record { givens = record { owned = false; ty = (type_of (part 0 parts)).ty } ∷ []; firsts = (type_of (part 0 parts)).first ∷ [] })
+meaning p.ResultPlain parts = v.Givens (record
+    { givens = record { owned = false; ty = (type_of (part 0 parts)).ty } ∷ []; firsts = (type_of (part 0 parts)).first ∷ [] })
 meaning p.InsideSome parts = v.Givens (given_before (part 0 parts) (givens_of (part 1 parts)))
 meaning p.InsideNone parts = v.Givens no_givens
 meaning p.MoreGivensMore parts = v.Givens (given_before (part 1 parts) (givens_of (part 2 parts)))
@@ -149,7 +157,8 @@ meaning p.BlockArgsSome parts = v.Args (arg_of (part 1 parts) ∷ args_of (part 
 meaning p.BlockArgsNone parts = v.Args []
 meaning p.MoreBlockArgsMore parts = v.Args (arg_of (part 1 parts) ∷ args_of (part 2 parts))
 meaning p.MoreBlockArgsEnd parts = v.Args []
-meaning p.WholeBlockArg parts = v.Arg (record { name = token_of (part 0 parts); kind = ownership_of (part 2 parts); ty = starred (part 4 parts) (type_of (part 5 parts)).ty })
+meaning p.WholeBlockArg parts = v.Arg (record
+    { name = token_of (part 0 parts); kind = ownership_of (part 2 parts); ty = starred (part 4 parts) (type_of (part 5 parts)).ty })
 meaning p.OwnershipOwned parts = v.Ownership kind.Owned
 meaning p.OwnershipGuaranteed parts = v.Ownership kind.Guaranteed
 meaning p.OwnershipNone parts = v.Ownership kind.Plain
@@ -177,7 +186,8 @@ meaning p.BareNamesNone parts = v.Tokens []
 meaning p.WholeEdge parts = v.Edge (record { label = token_of (part 0 parts); args = operands_of (part 1 parts); case_of = None })
 meaning p.EdgeArgsSome parts = v.Operands (operand_of (part 1 parts) ∷ operands_of (part 2 parts))
 meaning p.EdgeArgsNone parts = v.Operands []
-meaning p.SwitchCase parts = v.Edges (record { label = token_of (part 3 parts); args = []; case_of = Some (member_of (part 1 parts)) } ∷ edges_of (part 4 parts))
+meaning p.SwitchCase parts = v.Edges (record { label = token_of (part 3 parts); args = []; case_of = Some (member_of (part 1 parts)) }
+    ∷ edges_of (part 4 parts))
 meaning p.SwitchDefault parts = v.Edges (record { label = token_of (part 1 parts); args = []; case_of = None } ∷ [])
 meaning p.SwitchMoreSome parts = part 1 parts
 meaning p.SwitchMoreEnd parts = v.Edges []

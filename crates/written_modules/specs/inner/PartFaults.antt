@@ -23,9 +23,11 @@ use Rattle.instruction_table.specs.declared.op.Op.{Op}
 use Rattle.written_tree.specs.declared.written_instructions.WrittenInst.{WrittenInst}
 use Rattle.written_modules.specs.inner.Parts.{part, place_at, text_at}
 use Rattle.written_modules.specs.inner.RowMeaning.{begun, behind_part, number_by, with_part}
-use Rattle.written_tree.specs.Places.{arg_place, attribute_places, case_place, decl_names, field_place, function_names, label_place, mnemonics_of, operand_place, token_place, values_of_block}
+use Rattle.written_tree.specs.Places.{arg_place, attribute_places, case_place, decl_names, field_place, function_names}
+use Rattle.written_tree.specs.Places.{label_place, mnemonics_of, operand_place, token_place, values_of_block}
 use Rattle.written_modules.specs.Types.{in_parens, type_before}
-use Rattle.written_modules.specs.Values.{args_of, blocks_of, cases_of, fields_of, givens_of, items_of, questions_of, operands_of, params_of, tokens_of, type_of, types_of}
+use Rattle.written_modules.specs.Values.{args_of, blocks_of, cases_of, fields_of, givens_of, items_of, questions_of}
+use Rattle.written_modules.specs.Values.{operands_of, params_of, tokens_of, type_of, types_of}
 
 -- a type that is one level deeper than one at the limit
 abbrev pub too_deep : ℕ → Place → Option Fault

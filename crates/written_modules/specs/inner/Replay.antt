@@ -1,6 +1,6 @@
 -- What the steps of a derivation and the tokens that they take stand for, and the first fault in it, from the last step
 -- to the first.
-use Rattle.std.specs.Prelude.{◌≡◌, ◌≤◌, ◌++◌, ℕ, List, [], ◌∷◌, length, take, drop, Option, None}
+use Rattle.std.specs.Prelude.{⊤, ◌≡◌, ◌≤◌, ◌++◌, ℕ, List, [], ◌∷◌, length, take, drop, Option, None}
 use Rattle.std.specs.List.{HoldsAt}
 use Rattle.sil_lexer.specs.Lexes.{Lexeme}
 use Rattle.sil_lexer.specs.Lexing.{Lexing, lexeme_of}
@@ -25,6 +25,11 @@ parts_of p values = take (length (body p)) values
 -- the values of a body give way to what the production stands for
 unfoldable pub reduced : Production → List Value → List Value
 reduced p values = meaning p (parts_of p values) ∷ drop (length (body p)) values
+
+-- what a check unfolds where a production is reduced
+unfoldable pub reducing : ⊤
+unfolding reduced meaning part_fault body
+reducing = tt
 
 -- where more tokens are taken than there are, those that are lacking are empty, and stand behind every token
 abbrev pub replay : List Step → List Lexeme → List Value

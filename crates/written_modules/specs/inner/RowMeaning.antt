@@ -15,7 +15,8 @@ use Rattle.sil_rules.specs.declared.limits.TheConstants.{ARGUMENTS}
 use Rattle.written_numbers.specs.Numbers.{literal_of, small_of}
 use Rattle.written_modules.specs.inner.Parts.{part, place_at, text_at}
 use Rattle.written_modules.specs.Types.{width_of}
-use Rattle.written_modules.specs.Values.{bare_inst, debug_of, edge_of, edges_of, flags_of, member_of, operand_of, operands_of, qualifier_of, signature_of, token_of, tokens_of, type_of}
+use Rattle.written_modules.specs.Values.{bare_inst, debug_of, edge_of, edges_of, flags_of, member_of, operand_of}
+use Rattle.written_modules.specs.Values.{operands_of, qualifier_of, signature_of, token_of, tokens_of, type_of}
 use Rattle.written_modules.specs.declared.value.Value.{Value}
 use Rattle.written_tree.specs.declared.written_declarations.WrittenToken.{WrittenToken}
 use Rattle.written_tree.specs.declared.written_instructions.WrittenEdge.{WrittenEdge}

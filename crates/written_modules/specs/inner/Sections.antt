@@ -1,4 +1,5 @@
 -- The sections of the grammar, of which each has a table of builders.
+use Rattle.std.specs.Prelude.{⊤}
 use Rattle.sil_shape.specs.Grammar.{written}
 use Rattle.sil_shape.specs.declared.grammar.Nonterminal.{Nonterminal}
 use Rattle.sil_shape.specs.declared.grammar.Nonterminal.TheVariants as n
@@ -95,3 +96,8 @@ part_section n.DebugDerefPart = Words
 unfoldable pub section : Production → Section
 section (p.Row o) = Blocks
 section production = part_section (written production)
+
+-- what a check unfolds where a section is told
+unfoldable pub telling : ⊤
+unfolding section part_section written
+telling = tt

@@ -12,5 +12,6 @@ ghost-add_block g a = g.s
 abbrev pub invariant-loop-block : goal.invariant-loop-block
 invariant-loop-block g l = record {
   resolved : resolved_blocks g.s 0 l.fn.blocks ≡ l.resolved ++ resolved_blocks g.s l.next (into_iter_items l.block-iterator);
-  faults : with_code (known_in l.tables.functions.now l.tables.blocks.now l.tables.values.now) l.initial.faults (flat_map code_of l.fn.blocks) ≡ with_code (known_in l.tables.functions.now l.tables.blocks.now l.tables.values.now) l.faults (flat_map code_of (into_iter_items l.block-iterator));
+  faults : with_code (known_in l.tables.functions.now l.tables.blocks.now l.tables.values.now) l.initial.faults (flat_map code_of l.fn.blocks)
+      ≡ with_code (known_in l.tables.functions.now l.tables.blocks.now l.tables.values.now) l.faults (flat_map code_of (into_iter_items l.block-iterator));
 }

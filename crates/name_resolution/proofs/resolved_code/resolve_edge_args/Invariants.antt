@@ -12,5 +12,6 @@ ghost-resolve_operand g a = g.s
 abbrev pub invariant-loop-operand : goal.invariant-loop-operand
 invariant-loop-operand g l = record {
   resolved : map (resolved_operand g.s) l.fn.operands ≡ l.resolved ++ map (resolved_operand g.s) (into_iter_items l.operand-iterator);
-  unknown : earlier l.initial.unknown (unknown_of (names_in l.values) (map operand_name l.fn.operands)) ≡ earlier l.unknown (unknown_of (names_in l.values) (map operand_name (into_iter_items l.operand-iterator)));
+  unknown : earlier l.initial.unknown (unknown_of (names_in l.values) (map operand_name l.fn.operands))
+      ≡ earlier l.unknown (unknown_of (names_in l.values) (map operand_name (into_iter_items l.operand-iterator)));
 }

@@ -10,5 +10,6 @@ ghost-resolve_edge g a = g.s
 abbrev pub invariant-loop-edge : goal.invariant-loop-edge
 invariant-loop-edge g l = record {
   resolved : map (resolved_edge g.s) l.fn.edges ≡ l.resolved ++ map (resolved_edge g.s) (into_iter_items l.edge-iterator);
-  faults : with_edges (known_in l.tables.functions.now l.tables.blocks.now l.tables.values.now) l.initial.faults l.fn.edges ≡ with_edges (known_in l.tables.functions.now l.tables.blocks.now l.tables.values.now) l.faults (into_iter_items l.edge-iterator);
+  faults : with_edges (known_in l.tables.functions.now l.tables.blocks.now l.tables.values.now) l.initial.faults l.fn.edges
+      ≡ with_edges (known_in l.tables.functions.now l.tables.blocks.now l.tables.values.now) l.faults (into_iter_items l.edge-iterator);
 }

@@ -12,5 +12,6 @@ abbrev pub invariant-loop-inst : goal.invariant-loop-inst
 invariant-loop-inst g l = record {
   resolved : resolved_insts g.s l.initial.next l.fn.insts ≡ l.resolved ++ resolved_insts g.s l.next (into_iter_items l.inst-iterator);
   next : l.initial.next + length (flat_map defined_by_inst l.fn.insts) ≡ l.next + length (flat_map defined_by_inst (into_iter_items l.inst-iterator));
-  faults : with_code (known_in l.tables.functions.now l.tables.blocks.now l.tables.values.now) l.initial.faults l.fn.insts ≡ with_code (known_in l.tables.functions.now l.tables.blocks.now l.tables.values.now) l.faults (into_iter_items l.inst-iterator);
+  faults : with_code (known_in l.tables.functions.now l.tables.blocks.now l.tables.values.now) l.initial.faults l.fn.insts
+      ≡ with_code (known_in l.tables.functions.now l.tables.blocks.now l.tables.values.now) l.faults (into_iter_items l.inst-iterator);
 }

@@ -35,7 +35,8 @@ others_from parts i = take_all _ _ (omega (arith, length-drop (i + 1) parts))
 
 here : (o : Op) (all : List Value) (parts : List Part) (i : ℕ) (values : List Value) (inst : WrittenInst) (found : Option Fault) → i < length parts
     → Put o all (drop i parts) values inst found → Put o all (get_or parts i Flags ∷ take (length parts - (i + 1)) (drop (i + 1) parts)) values inst found
-here o all parts i values inst found inside = subst (λ left. Put o all left values inst found) (drop_more parts i Flags inside ∙ ap (λ others. get_or parts i Flags ∷ others) (sym (others_from parts i)))
+here o all parts i values inst found inside = subst (λ left. Put o all left values inst found) (drop_more parts i Flags inside
+    ∙ ap (λ others. get_or parts i Flags ∷ others) (sym (others_from parts i)))
 
 pub put_part-requires : goal.put_part-requires
 unfolding body
@@ -54,7 +55,8 @@ loop-i-preserved c =
     let now = here _ _ _ c.loop-i.i _ _ _ c.loop-i-test.true c.loop-i.invariant in
     let next = put_next _ _ _ _ now c.in_ok-found.ensures.inst c.in_ok-found.ensures.fault c.in_ok-found.ensures.rest c.skip_comma.ensures in
     subst (λ found. Put c.args.op c.args.values.now (drop (c.loop-i.i + 1) c.row_of.result.parts.now) c.skip_comma.new.values c.put_part.new.inst found) (sym c.earlier-fault.ensures)
-    (subst (λ left. Put c.args.op c.args.values.now left c.skip_comma.new.values c.put_part.new.inst (earlier c.loop-i.fault c.in_ok-found.found)) (others_from c.row_of.result.parts.now c.loop-i.i) next)
+    (subst (λ left. Put c.args.op c.args.values.now left c.skip_comma.new.values c.put_part.new.inst (earlier c.loop-i.fault c.in_ok-found.found))
+    (others_from c.row_of.result.parts.now c.loop-i.i) next)
 
 -- no part is left
 done : (o : Op) (all : List Value) (parts : List Part) (i : ℕ) (values : List Value) (inst : WrittenInst) (found : Option Fault) → length parts ≤ i

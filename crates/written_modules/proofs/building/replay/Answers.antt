@@ -36,7 +36,8 @@ loop-i-init g c =
 
 pub overflow_sub-token : goal.overflow_sub-token
 overflow_sub-token g c =
-    let last = front_with_last c.loop-i.i c.loop-i.steps.items c.index.result.now c.loop-i-test.true c.loop-i.invariant.steps ∙ ap (λ step. take (c.loop-i.i - 1) c.loop-i.steps.items ++ step ∷ []) (sym c.index.ensures ∙ c.in-Take.is) in
+    let last = front_with_last c.loop-i.i c.loop-i.steps.items c.index.result.now c.loop-i-test.true c.loop-i.invariant.steps
+    ∙ ap (λ step. take (c.loop-i.i - 1) c.loop-i.steps.items ++ step ∷ []) (sym c.index.ensures ∙ c.in-Take.is) in
     omega (arith, some_left c.loop-i.invariant.at (take (c.loop-i.i - 1) c.loop-i.steps.items) last, length-take-le c.loop-i.token c.loop-i.tokens.tokens c.loop-i.invariant.tokens)
 
 pub leaf_at-requires-clause-inside : goal.leaf_at-requires-clause-inside
@@ -44,14 +45,21 @@ leaf_at-requires-clause-inside g c = c.loop-i.invariant.inside
 
 pub leaf_at-requires-clause-in_range : goal.leaf_at-requires-clause-in_range
 leaf_at-requires-clause-in_range g c =
-    let last = front_with_last c.loop-i.i c.loop-i.steps.items c.index.result.now c.loop-i-test.true c.loop-i.invariant.steps ∙ ap (λ step. take (c.loop-i.i - 1) c.loop-i.steps.items ++ step ∷ []) (sym c.index.ensures ∙ c.in-Take.is) in
-    omega (arith, some_left c.loop-i.invariant.at (take (c.loop-i.i - 1) c.loop-i.steps.items) last, length-take-le c.loop-i.token c.loop-i.tokens.tokens c.loop-i.invariant.tokens, c.loop-i.invariant.tokens)
+    let last = front_with_last c.loop-i.i c.loop-i.steps.items c.index.result.now c.loop-i-test.true c.loop-i.invariant.steps
+    ∙ ap (λ step. take (c.loop-i.i - 1) c.loop-i.steps.items ++ step ∷ []) (sym c.index.ensures ∙ c.in-Take.is) in
+    omega (
+      arith,
+      some_left c.loop-i.invariant.at (take (c.loop-i.i - 1) c.loop-i.steps.items) last,
+      length-take-le c.loop-i.token c.loop-i.tokens.tokens c.loop-i.invariant.tokens,
+      c.loop-i.invariant.tokens,
+    )
 
 pub loop-i-preserved-in-Take : goal.loop-i-preserved-in-Take
 loop-i-preserved-in-Take g c =
     let steps = c.loop-i.steps.items in
     let tokens = c.loop-i.tokens.tokens in
-    let last = front_with_last c.loop-i.i steps c.index.result.now c.loop-i-test.true c.loop-i.invariant.steps ∙ ap (λ step. take (c.loop-i.i - 1) steps ++ step ∷ []) (sym c.index.ensures ∙ c.in-Take.is) in
+    let last = front_with_last c.loop-i.i steps c.index.result.now c.loop-i-test.true c.loop-i.invariant.steps
+    ∙ ap (λ step. take (c.loop-i.i - 1) steps ++ step ∷ []) (sym c.index.ensures ∙ c.in-Take.is) in
     let some : 0 < c.loop-i.token = omega (arith, some_left c.loop-i.invariant.at (take (c.loop-i.i - 1) steps) last, length-take-le c.loop-i.token tokens c.loop-i.invariant.tokens) in
     let last_token = front_with_last c.loop-i.token tokens some_token some c.loop-i.invariant.tokens in
     let value = c.in_ok-leaf_at-in-Take.field-0 in
@@ -66,7 +74,8 @@ loop-i-preserved-in-Take g c =
     let at_steps = subst (λ s. InReplay all lexemes text s (take (c.loop-i.token - 1) tokens) (value ∷ waiting c.loop-i.values left) c.loop-i.fault) (sym same_steps) at in
     let at_tokens = subst (λ ts. InReplay all lexemes text (take (c.loop-i.i - 1) c.let_go.new.steps.items) ts (value ∷ waiting c.loop-i.values left) c.loop-i.fault) (sym same_tokens) at_steps in
     record {
-      at = subst (λ values. InReplay all lexemes text (take (c.loop-i.i - 1) c.let_go.new.steps.items) (take (c.loop-i.token - 1) c.let_go.new.tokens.tokens) (waiting values left) c.loop-i.fault) (sym c.in_ok-push_front-in-Take.ensures) at_tokens;
+      at = subst (λ values. InReplay all lexemes text (take (c.loop-i.i - 1) c.let_go.new.steps.items)
+          (take (c.loop-i.token - 1) c.let_go.new.tokens.tokens) (waiting values left) c.loop-i.fault) (sym c.in_ok-push_front-in-Take.ensures) at_tokens;
       steps = c.let_go.ensures.steps.2;
       tokens = c.let_go.ensures.tokens.2;
       inside = kept_all (c.loop-i.token - 1) tokens c.let_go.new.tokens.tokens c.let_go.ensures.tokens (IsInside text) c.loop-i.invariant.inside;
@@ -75,7 +84,8 @@ loop-i-preserved-in-Take g c =
 pub fill_body-requires : goal.fill_body-requires
 fill_body-requires g c =
     let steps = c.loop-i.steps.items in
-    let last = front_with_last c.loop-i.i steps c.index.result.now c.loop-i-test.true c.loop-i.invariant.steps ∙ ap (λ step. take (c.loop-i.i - 1) steps ++ step ∷ []) (sym c.index.ensures ∙ c.in-Expand.is) in
+    let last = front_with_last c.loop-i.i steps c.index.result.now c.loop-i-test.true c.loop-i.invariant.steps
+    ∙ ap (λ step. take (c.loop-i.i - 1) steps ++ step ∷ []) (sym c.index.ensures ∙ c.in-Expand.is) in
     let long = enough_there c.loop-i.invariant.at (take (c.loop-i.i - 1) steps) c.in-Expand.production last c.requires.1.1.1 in
     omega (arith, long, waiting-length c.loop-i.values (reverse c.loop-i.left.items), length-reverse c.loop-i.left.items)
 
@@ -85,7 +95,8 @@ reduce-requires g c = omega (arith, c.in_ok-fill_body-in-Expand.ensures.enough)
 pub loop-i-preserved : goal.loop-i-preserved
 loop-i-preserved g c =
     let steps = c.loop-i.steps.items in
-    let last = front_with_last c.loop-i.i steps c.index.result.now c.loop-i-test.true c.loop-i.invariant.steps ∙ ap (λ step. take (c.loop-i.i - 1) steps ++ step ∷ []) (sym c.index.ensures ∙ c.in-Expand.is) in
+    let last = front_with_last c.loop-i.i steps c.index.result.now c.loop-i-test.true c.loop-i.invariant.steps
+    ∙ ap (λ step. take (c.loop-i.i - 1) steps ++ step ∷ []) (sym c.index.ensures ∙ c.in-Expand.is) in
     let p = c.in-Expand.production in
     let built = c.fill_body.new.values in
     let left = map lacking (reverse c.fill_body.new.left.items) in
