@@ -18,11 +18,11 @@ use Rattle.written_tree.specs.declared.written_instructions.WrittenInst.{Written
 use Rattle.instruction_table.specs.Forms.{has_one_result}
 use Rattle.instruction_table.specs.declared.op.Op.{Op}
 use Rattle.written_tree.specs.Faults.{earlier, fault}
+use Rattle.written_tree.proofs.FaultOrder.{earlier-assoc, earlier-none}
 use Rattle.name_resolution.specs.NameFaults.{twice_after, twice_or_unknown, unknown_in}
 use Rattle.name_resolution.specs.Names.{Name, arg_name, label_of, name_of, results_of, values_defined}
 use Rattle.name_resolution.specs.inner.Symbols.{Definition, numbered, unnamed, unnumbered, Symbols, definitions_by, definitions_in, definitions_of, labels_in, names_in, numbered_by}
 use Rattle.name_resolution.specs.inner.Symbols.{reserved_only, twice_here, unknown_of, unnumbered_after, values_in, with_definition, with_definitions, with_entry, with_next}
-use Rattle.name_resolution.proofs.FaultOrder.{earlier_assoc, earlier_none}
 
 -- the same names are found among these as among those
 abbrev pub AreSame : List Name → List Name → Type 0
@@ -71,11 +71,11 @@ names_after t names (unnumbered token ∷ ds) same = λ name.
 twice_on : (t : Symbols) (names : List Name) (token : WrittenToken) (rest : Option Fault) → AreSame (names_in t) names
     → earlier (earlier t.twice (twice_here (names_in t) token)) rest ≡ earlier t.twice (earlier (twice_here names token) rest)
 twice_on t names token rest same =
-    earlier_assoc t.twice (twice_here (names_in t) token) rest
+    earlier-assoc t.twice (twice_here (names_in t) token) rest
     ∙ ap (λ b. earlier t.twice (earlier (if b then Some (fault Twice token.place) else None) rest)) (same token.text)
 
 pub twice_from : (t : Symbols) (names : List Name) (ds : List Definition) → AreSame (names_in t) names → (with_definitions t ds).twice ≡ earlier t.twice (twice_after names (flat_map tokens_by ds))
-twice_from t names [] same = sym (earlier_none t.twice)
+twice_from t names [] same = sym (earlier-none t.twice)
 twice_from t names (unnamed ∷ ds) same = twice_from (with_next t) names ds same
 twice_from t names (numbered token ∷ ds) same =
     twice_from (with_definition t (numbered token)) (names ++ token.text ∷ []) ds (AreSame-entry t names token.text (Some t.count) same)

@@ -17,15 +17,17 @@ use Rattle.written_tree.specs.declared.written_module.WrittenVtable.{WrittenVtab
 use Rattle.written_tree.specs.declared.written_module.WrittenModule.{WrittenModule}
 use Rattle.written_tree.specs.Faults.{earlier, earliest}
 use Rattle.written_tree.specs.Places.{name_of_decl}
+use Rattle.written_tree.proofs.FaultOrder.{earlier-assoc, earlier-none}
 use Rattle.name_resolution.specs.declared.first_faults.CodeFaults.{CodeFaults}
 use Rattle.name_resolution.specs.declared.first_faults.ItemFaults.{ItemFaults}
 use Rattle.name_resolution.specs.inner.FirstFaults.{Known, body_fault, known_in, with_body, with_code, with_edges, with_faults}
 use Rattle.name_resolution.specs.NameFaults.{function_fault, members_fault, name_fault, twice_after, unknown_among}
 use Rattle.name_resolution.specs.Names.{Name, code_of, decls_of, edge_label, edge_values, function_name, functions_of, functions_used, insts_of, label_of}
-use Rattle.name_resolution.specs.Names.{labels_used, reserved, used_by_item, values_defined, values_used, vtable_name, vtables_of}
+use Rattle.name_resolution.specs.Names.{labels_used, used_by_item, values_defined, values_used, vtable_name, vtables_of}
+use Rattle.sil_ast.specs.Imports.{reserved}
 use Rattle.name_resolution.specs.inner.Symbols.{Symbols, labels_in, names_in, numbered_by, unknown_of, values_in}
 use Rattle.name_resolution.proofs.DefinedNames.{fault_of_labels, fault_of_values, twice_of_numbered, unknown_of_numbered}
-use Rattle.name_resolution.proofs.FaultOrder.{earlier_assoc, earlier_none, earliest_append, unknown_more}
+use Rattle.name_resolution.proofs.FaultOrder.{earliest_append, unknown_more}
 
 uses_more : {X : Type 0} (names : List Name) (used : X → List WrittenToken) (first : Option Fault) (xs ys : List X)
     → earlier (earlier first (unknown_of names (flat_map used xs))) (unknown_of names (flat_map used ys)) ≡ earlier first (unknown_of names (flat_map used (xs ++ ys)))
@@ -34,7 +36,7 @@ uses_more names used first xs ys = unknown_more names first (flat_map used xs) (
 faults_more : {X Y : Type 0} (fault_of : Y → Option Fault) (parts : X → List Y) (first : Option Fault) (xs ys : List X)
     → earlier (earlier first (earliest (map fault_of (flat_map parts xs)))) (earliest (map fault_of (flat_map parts ys))) ≡ earlier first (earliest (map fault_of (flat_map parts (xs ++ ys))))
 faults_more fault_of parts first xs ys =
-    earlier_assoc first (earliest (map fault_of (flat_map parts xs))) (earliest (map fault_of (flat_map parts ys)))
+    earlier-assoc first (earliest (map fault_of (flat_map parts xs))) (earliest (map fault_of (flat_map parts ys)))
     ∙ ap (earlier first)
     (sym (earliest_append (map fault_of (flat_map parts xs)) (map fault_of (flat_map parts ys)))
     ∙ ap earliest (sym (map-append fault_of (flat_map parts xs) (flat_map parts ys)))
@@ -47,7 +49,7 @@ code_more k c xs ys =
 
 pub code_done : (k : Known) (c : CodeFaults) → with_code k c [] ≡ c
 unfolding with_code
-code_done k c = rw (earlier_none c.functions, earlier_none c.labels, earlier_none c.values) refl
+code_done k c = rw (earlier-none c.functions, earlier-none c.labels, earlier-none c.values) refl
 
 pub insts_more : (k : Known) (c : CodeFaults) (x : WrittenInst) (rest : List WrittenInst) → with_code k (with_code k c (x ∷ [])) rest ≡ with_code k c (x ∷ rest)
 insts_more k c x rest = code_more k c (x ∷ []) rest
@@ -63,7 +65,7 @@ edges_more k c x rest =
 
 pub edges_done : (k : Known) (c : CodeFaults) → with_edges k c [] ≡ c
 unfolding with_edges
-edges_done k c = rw (earlier_none c.labels, earlier_none c.values) refl
+edges_done k c = rw (earlier-none c.labels, earlier-none c.values) refl
 
 pub item_faults_more : (names : List Name) (i : ItemFaults) (x : WrittenItem) (rest : List WrittenItem) → with_faults names (with_faults names i (x ∷ [])) rest ≡ with_faults names i (x ∷ rest)
 unfolding with_faults
@@ -72,7 +74,7 @@ item_faults_more names i x rest =
 
 pub item_faults_done : (names : List Name) (i : ItemFaults) → with_faults names i [] ≡ i
 unfolding with_faults
-item_faults_done names i = rw (earlier_none i.functions, earlier_none i.members, earlier_none i.bodies) refl
+item_faults_done names i = rw (earlier-none i.functions, earlier-none i.members, earlier-none i.bodies) refl
 
 -- the faults of a function's code begin with the labels and values that are defined twice
 pub body_done : (functions : Symbols) (blocks : List WrittenBlock) (i : ItemFaults) (code : CodeFaults)
@@ -92,8 +94,8 @@ fault_of_body f =
     let unknown_labels : Option Fault = unknown_among (map label_of f.blocks) (flat_map labels_used insts) in
     let values : Option Fault = twice_after [] (flat_map values_defined f.blocks) in
     let unknown_values : Option Fault = unknown_among (flat_map values_defined f.blocks) (flat_map values_used insts) in
-    earlier_assoc labels unknown_labels (earlier values unknown_values)
-    ∙ ap (λ last. earlier labels (earlier unknown_labels (earlier values last))) (sym (earlier_none unknown_values))
+    earlier-assoc labels unknown_labels (earlier values unknown_values)
+    ∙ ap (λ last. earlier labels (earlier unknown_labels (earlier values last))) (sym (earlier-none unknown_values))
 
 -- a function is one more item
 pub function_faults : (names : List Name) (i : ItemFaults) (f : WrittenFunction) → with_body names i f.blocks ≡ with_faults names i (item.Function f ∷ [])
@@ -101,18 +103,18 @@ unfolding with_faults
 function_faults names i f =
     let used : List WrittenToken = flat_map functions_used (insts_of f) in
     ap (λ l. record { functions = earlier i.functions (unknown_of names l); members = i.members; bodies = earlier i.bodies (body_fault f.blocks) }) (sym (append-nil used))
-    ∙ ap (λ members. record { functions = earlier i.functions (unknown_of names (used ++ [])); members = members; bodies = earlier i.bodies (body_fault f.blocks) }) (sym (earlier_none i.members))
+    ∙ ap (λ members. record { functions = earlier i.functions (unknown_of names (used ++ [])); members = members; bodies = earlier i.bodies (body_fault f.blocks) }) (sym (earlier-none i.members))
     ∙ ap (λ fault. record { functions = earlier i.functions (unknown_of names (used ++ [])); members = earlier i.members None; bodies = earlier i.bodies fault }) (fault_of_body f
-    ∙ sym (earlier_none (function_fault f)))
+    ∙ sym (earlier-none (function_fault f)))
 
 -- so is a declaration
 pub decl_faults : (names : List Name) (i : ItemFaults) (d : WrittenDecl)
     → record { functions = i.functions; members = earlier i.members (members_fault d); bodies = i.bodies } ≡ with_faults names i (item.Decl d ∷ [])
 unfolding with_faults
 decl_faults names i d =
-    ap (λ functions. record { functions = functions; members = earlier i.members (members_fault d); bodies = i.bodies }) (sym (earlier_none i.functions))
-    ∙ ap (λ fault. record { functions = earlier i.functions None; members = earlier i.members fault; bodies = i.bodies }) (sym (earlier_none (members_fault d)))
-    ∙ ap (λ bodies. record { functions = earlier i.functions None; members = earlier i.members (earlier (members_fault d) None); bodies = bodies }) (sym (earlier_none i.bodies))
+    ap (λ functions. record { functions = functions; members = earlier i.members (members_fault d); bodies = i.bodies }) (sym (earlier-none i.functions))
+    ∙ ap (λ fault. record { functions = earlier i.functions None; members = earlier i.members fault; bodies = i.bodies }) (sym (earlier-none (members_fault d)))
+    ∙ ap (λ bodies. record { functions = earlier i.functions None; members = earlier i.members (earlier (members_fault d) None); bodies = bodies }) (sym (earlier-none i.bodies))
 
 -- and a vtable
 pub vtable_faults : (names : List Name) (i : ItemFaults) (t : WrittenVtable)
@@ -121,8 +123,8 @@ unfolding with_faults
 vtable_faults names i t =
     let used : List WrittenToken = used_by_item (item.Vtable t) in
     ap (λ l. record { functions = earlier i.functions (unknown_of names l); members = i.members; bodies = i.bodies }) (sym (append-nil used))
-    ∙ ap (λ members. record { functions = earlier i.functions (unknown_of names (used ++ [])); members = members; bodies = i.bodies }) (sym (earlier_none i.members))
-    ∙ ap (λ bodies. record { functions = earlier i.functions (unknown_of names (used ++ [])); members = earlier i.members None; bodies = bodies }) (sym (earlier_none i.bodies))
+    ∙ ap (λ members. record { functions = earlier i.functions (unknown_of names (used ++ [])); members = members; bodies = i.bodies }) (sym (earlier-none i.members))
+    ∙ ap (λ bodies. record { functions = earlier i.functions (unknown_of names (used ++ [])); members = earlier i.members None; bodies = bodies }) (sym (earlier-none i.bodies))
 
 -- the faults of all parts of a module
 pub fault_of_parts : (w : WrittenModule) (functions : List WrittenToken) → functions ≡ map function_name (flat_map functions_of w.items)
@@ -146,6 +148,6 @@ fault_of_parts w functions same faults is =
     (twice_of_numbered (map function_name (flat_map functions_of w.items)))
     ∙ ap (λ fault. earlier (earlier decls (earlier twice vtables)) (earlier fault (earlier members bodies)))
     (unknown_of_numbered (map function_name (flat_map functions_of w.items)) (flat_map used_by_item w.items))
-    ∙ earlier_assoc decls (earlier twice vtables) (earlier unknown (earlier members bodies))
-    ∙ ap (earlier decls) (earlier_assoc twice vtables (earlier unknown (earlier members bodies)))
-    ∙ ap (λ last. earlier decls (earlier twice (earlier vtables (earlier unknown (earlier members last))))) (sym (earlier_none bodies))
+    ∙ earlier-assoc decls (earlier twice vtables) (earlier unknown (earlier members bodies))
+    ∙ ap (earlier decls) (earlier-assoc twice vtables (earlier unknown (earlier members bodies)))
+    ∙ ap (λ last. earlier decls (earlier twice (earlier vtables (earlier unknown (earlier members last))))) (sym (earlier-none bodies))

@@ -3,4 +3,5 @@ pub mod FaultLemmas
 pub mod FaultOrder
 pub mod NumberLemmas
 pub mod ResolvedLemmas
+pub mod Steps
 pub mod SymbolLemmas

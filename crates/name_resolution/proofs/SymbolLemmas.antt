@@ -10,10 +10,10 @@ use Rattle.indexmap.specs.IndexMap.{insert_entry}
 use Rattle.written_tree.specs.declared.fault.FaultKind.TheVariants.{Twice}
 use Rattle.written_tree.specs.declared.written_declarations.WrittenToken.{WrittenToken}
 use Rattle.written_tree.specs.Faults.{earlier, fault}
+use Rattle.written_tree.proofs.FaultOrder.{earlier-none}
 use Rattle.name_resolution.specs.NameFaults.{is_among}
 use Rattle.name_resolution.specs.Names.{Name}
 use Rattle.name_resolution.specs.inner.Symbols.{Symbols, names_in, with_kept, with_name}
-use Rattle.name_resolution.proofs.FaultOrder.{earlier_none}
 
 pub among_names : (t : Symbols) (token : WrittenToken) → is_among (names_in t) token ≡ is_some (lookup (bytes_eq token.text) t.entries)
 among_names t token = sym (is_some-lookup (bytes_eq token.text) t.entries)
@@ -33,7 +33,7 @@ added t token number absent = sym (
     }) absent
     ∙ ap (λ among. record { entries = insert_entry bytes_eq t.entries token.text number; count = t.count; twice = earlier t.twice (if among then Some (fault Twice token.place) else None) })
     (among_names t token ∙ ap is_some absent)
-    ∙ ap (λ twice. record { entries = insert_entry bytes_eq t.entries token.text number; count = t.count; twice = twice }) (earlier_none t.twice))
+    ∙ ap (λ twice. record { entries = insert_entry bytes_eq t.entries token.text number; count = t.count; twice = twice }) (earlier-none t.twice))
 
 insert_again : (entries : List (Name × Option ℕ)) (name : Name) (a b : Option ℕ) → insert_entry bytes_eq (insert_entry bytes_eq entries name a) name b ≡ insert_entry bytes_eq entries name b
 insert_again [] name a b = ap (λ same. if same then (name, b) ∷ [] else (name, a) ∷ (name, b) ∷ []) ((bytes_decides name name).1 refl)

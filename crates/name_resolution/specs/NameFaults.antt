@@ -11,7 +11,8 @@ use Rattle.written_tree.specs.declared.written_module.WrittenModule.{WrittenModu
 use Rattle.written_tree.specs.Faults.{earlier, earliest, fault}
 use Rattle.written_tree.specs.Places.{name_of_decl}
 use Rattle.name_resolution.specs.Names.{Name, decls_of, function_name, functions_of, insts_of, label_of, labels_used, member_names, name_of}
-use Rattle.name_resolution.specs.Names.{reserved, used_by_item, values_defined, values_used, vtable_name, vtables_of}
+use Rattle.name_resolution.specs.Names.{used_by_item, values_defined, values_used, vtable_name, vtables_of}
+use Rattle.sil_ast.specs.Imports.{reserved}
 
 -- whether a name stands among these
 abbrev pub is_among : List Name → WrittenToken → Bool

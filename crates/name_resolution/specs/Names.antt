@@ -1,8 +1,7 @@
 -- The names of a written module: where each is defined, and where it is used, in the order of the text.
-use Rattle.std.specs.Prelude.{ℕ, List, [], ◌∷◌, ◌++◌, Bool, true, false, map, codes}
+use Rattle.std.specs.Prelude.{ℕ, List, [], ◌∷◌, ◌++◌, map}
 use Rattle.std.specs.List.{flat_map}
 use Rattle.std.specs.Option.{option_to_list}
-use Rattle.sil_ast.specs.declared.module.Imports.{Imports}
 use Rattle.written_tree.specs.declared.written_declarations.WrittenCase.{WrittenCase}
 use Rattle.written_tree.specs.declared.written_declarations.WrittenDecl.{WrittenDecl}
 use Rattle.written_tree.specs.declared.written_declarations.WrittenDecl.TheVariants as decl
@@ -57,14 +56,6 @@ function_name f = f.name
 
 abbrev pub vtable_name : WrittenVtable → WrittenToken
 vtable_name t = t.class_name
-
--- the names that the imports declare
-abbrev pub swift_names : Bool → List Name
-swift_names true = codes "Int" ∷ codes "Bool" ∷ codes "Optional" ∷ []
-swift_names false = []
-
-abbrev pub reserved : Imports → List Name
-reserved imports = codes "Builtin" ∷ swift_names imports.swift
 
 abbrev pub label_of : WrittenBlock → WrittenToken
 label_of b = b.label

@@ -89,15 +89,15 @@ abbrev pub counted : ℕ → List (Option Name) → List ValueId
 counted first [] = []
 counted first (value ∷ values) = record { 0 = first } ∷ counted (first + 1) values
 
--- an instruction whose first result has the number
-abbrev pub resolved_inst : Scope → ℕ → WrittenInst → Inst
-resolved_inst s first i = record {
+-- an instruction with numbers for its names
+abbrev pub with_numbers : WrittenInst → List ValueId → Option FuncId → List Operand → List Edge → Inst
+with_numbers i results function operands edges = record {
   op = i.op;
-  results = counted first (defined_by_inst i);
-  operands = map (resolved_operand s) i.operands;
+  results = results;
+  operands = operands;
   ty = i.ty;
   signature = i.signature;
-  function = option_map (function_of s) i.function;
+  function = function;
   member = i.member;
   number = i.number;
   text = i.text;
@@ -105,8 +105,14 @@ resolved_inst s first i = record {
   lexical = i.lexical;
   var_decl = i.var_decl;
   debug = i.debug;
-  edges = map (resolved_edge s) i.edges;
+  edges = edges;
 }
+
+-- an instruction whose first result has the number
+abbrev pub resolved_inst : Scope → ℕ → WrittenInst → Inst
+resolved_inst s first i =
+    let results = counted first (defined_by_inst i) in
+    with_numbers i results (option_map (function_of s) i.function) (map (resolved_operand s) i.operands) (map (resolved_edge s) i.edges)
 
 abbrev pub resolved_insts : Scope → ℕ → List WrittenInst → List Inst
 resolved_insts s first [] = []

@@ -9,7 +9,7 @@ ghost use Rattle.name_resolution.specs.inner.FirstFaults.{known_in, with_code, w
 ghost use Rattle.name_resolution.specs.NameFaults.{unknown_in};
 ghost use Rattle.name_resolution.specs.Names.{code_of, operand_name};
 ghost use Rattle.name_resolution.specs.Resolved.{Scope, counted, defined_by_inst, defined_in, function_of, resolved_args, resolved_block};
-ghost use Rattle.name_resolution.specs.Resolved.{resolved_blocks, resolved_edge, resolved_inst, resolved_insts, resolved_operand};
+ghost use Rattle.name_resolution.specs.Resolved.{resolved_blocks, resolved_edge, resolved_inst, resolved_insts, resolved_operand, with_numbers};
 ghost use Rattle.name_resolution.specs.inner.Symbols.{names_in, unknown_of};
 ghost use Rattle.name_resolution.specs.inner.Tables.{FindsNames, FindsScope, FindsValues};
 
@@ -52,7 +52,7 @@ struct Parts {
     names: Names,
 }
 
-#[tactic(auto, using(std::proofs::lemmas::Grind::common_steps, crate::proofs::FaultLemmas::blocks_more, crate::proofs::FaultLemmas::code_done))]
+#[tactic(auto, using(crate::proofs::Steps::blocks))]
 pub(crate) fn resolve_blocks(
     alloc: Global,
     tables: Tables<'_>,
@@ -110,6 +110,11 @@ fn resolve_parts(
     ensures block { IfOk result (λ parts. resolved_block s next.old block.old ≡ record {
       args = parts.args;
       insts = parts.insts;
+      terminator = with_numbers block.new.terminator parts.names.results parts.names.function parts.names.operands parts.names.edges;
+    }) }
+    ensures block { IfOk result (λ parts. resolved_block s next.old block.old ≡ record {
+      args = parts.args;
+      insts = parts.insts;
       terminator = record {
         op = block.new.terminator.op;
         results = parts.names.results;
@@ -163,7 +168,7 @@ fn resolve_args(
     Ok(resolved)
 }
 
-#[tactic(auto, using(std::proofs::lemmas::Grind::common_steps, crate::proofs::FaultLemmas::insts_more, crate::proofs::FaultLemmas::code_done))]
+#[tactic(auto, using(crate::proofs::Steps::insts))]
 fn resolve_insts(
     alloc: Global,
     tables: Tables<'_>,
@@ -175,7 +180,8 @@ fn resolve_insts(
     requires { FindsScope tables.functions.now tables.blocks.now tables.values.now s }
     ensures insts { IfOk result (λ resolved. resolved ≡ resolved_insts s next.old insts) }
     ensures next { OnOk result (next.new ≡ next.old + length (flat_map defined_by_inst insts)) }
-    ensures faults { OnOk result (faults.new ≡ with_code (known_in tables.entry.functions.now tables.entry.blocks.now tables.entry.values.now) faults.old insts) }
+    ensures faults { OnOk result (faults.new ≡ with_code
+        (known_in tables.entry.functions.now tables.entry.blocks.now tables.entry.values.now) faults.old insts) }
 {
     let mut resolved = List::with_capacity(alloc, insts.len())?;
     for inst in insts.into_vec() {
@@ -212,7 +218,7 @@ fn add_inst(
 }
 
 // Takes the operands and the edges out of the instruction.
-#[tactic(auto, using(std::proofs::lemmas::Grind::common_steps, crate::proofs::FaultOrder::unknown_more), unfolding(crate::specs::inner::FirstFaults::with_code, crate::specs::inner::FirstFaults::with_edges))]
+#[tactic(auto, using(crate::proofs::Steps::one_inst), unfolding(crate::specs::inner::FirstFaults::with_code, crate::specs::inner::FirstFaults::with_edges))]
 fn resolve_names(
     alloc: Global,
     tables: Tables<'_>,
@@ -222,6 +228,7 @@ fn resolve_names(
 ) -> Result<Names, Exhausted>
     ghost s: { Scope }
     requires { FindsScope tables.functions.now tables.blocks.now tables.values.now s }
+    ensures inst { IfOk result (λ names. resolved_inst s next.old inst.old ≡ with_numbers inst.new names.results names.function names.operands names.edges) }
     ensures inst { IfOk result (λ names. resolved_inst s next.old inst.old ≡ record {
       op = inst.new.op;
       results = names.results;
@@ -259,6 +266,7 @@ fn resolve_names(
 }
 
 fn with_names(inst: WrittenInst, names: Names) -> Inst
+    ensures { result ≡ with_numbers inst names.results names.function names.operands names.edges }
     ensures { result ≡ record {
       op = inst.op;
       results = names.results;
@@ -325,7 +333,7 @@ fn counted_results(
     Ok(results)
 }
 
-#[tactic(auto, using(std::proofs::lemmas::Grind::common_steps, crate::proofs::FaultOrder::earlier_none))]
+#[tactic(auto, using(crate::proofs::Steps::one_use))]
 fn resolve_callee(
     functions: &SymbolTable,
     unknown: &mut Option<Fault>,
@@ -342,7 +350,7 @@ fn resolve_callee(
     }
 }
 
-#[tactic(auto, using(std::proofs::lemmas::Grind::common_steps, crate::proofs::FaultLemmas::edges_more, crate::proofs::FaultLemmas::edges_done))]
+#[tactic(auto, using(crate::proofs::Steps::edges))]
 fn resolve_edges(
     alloc: Global,
     tables: Tables<'_>,
@@ -352,7 +360,8 @@ fn resolve_edges(
     ghost s: { Scope }
     requires { FindsScope tables.functions.now tables.blocks.now tables.values.now s }
     ensures edges { IfOk result (λ resolved. resolved ≡ map (resolved_edge s) edges) }
-    ensures faults { OnOk result (faults.new ≡ with_edges (known_in tables.entry.functions.now tables.entry.blocks.now tables.entry.values.now) faults.old edges) }
+    ensures faults { OnOk result (faults.new ≡ with_edges
+        (known_in tables.entry.functions.now tables.entry.blocks.now tables.entry.values.now) faults.old edges) }
 {
     let mut resolved = List::with_capacity(alloc, edges.len())?;
     for edge in edges.into_vec() {
@@ -361,7 +370,7 @@ fn resolve_edges(
     Ok(resolved)
 }
 
-#[tactic(auto, using(std::proofs::lemmas::Grind::common_steps, crate::proofs::FaultOrder::earlier_none), unfolding(crate::specs::inner::FirstFaults::with_edges))]
+#[tactic(auto, using(crate::proofs::Steps::one_use), unfolding(crate::specs::inner::FirstFaults::with_edges))]
 fn resolve_edge(
     alloc: Global,
     tables: Tables<'_>,
@@ -381,7 +390,7 @@ fn resolve_edge(
     })
 }
 
-#[tactic(auto, using(std::proofs::lemmas::Grind::common_steps, crate::proofs::FaultOrder::earlier_none, crate::proofs::FaultOrder::earlier_assoc))]
+#[tactic(auto, using(crate::proofs::Steps::operands))]
 fn resolve_edge_args(
     alloc: Global,
     values: &SymbolTable,
@@ -400,7 +409,7 @@ fn resolve_edge_args(
     Ok(resolved)
 }
 
-#[tactic(auto, using(std::proofs::lemmas::Grind::common_steps, crate::proofs::FaultOrder::earlier_none, crate::proofs::FaultOrder::earlier_assoc))]
+#[tactic(auto, using(crate::proofs::Steps::operands))]
 fn resolve_operands(
     alloc: Global,
     values: &SymbolTable,

@@ -40,7 +40,7 @@ struct Parts {
 }
 
 /// Adds items to the lists of a module.
-#[tactic(auto, using(std::proofs::lemmas::Grind::common_steps, crate::proofs::ResolvedLemmas::items_more, crate::proofs::ResolvedLemmas::items_done, crate::proofs::FaultLemmas::item_faults_more, crate::proofs::FaultLemmas::item_faults_done))]
+#[tactic(auto, using(crate::proofs::Steps::items))]
 pub(crate) fn resolve_items(
     alloc: Global,
     functions: &SymbolTable,
@@ -59,7 +59,7 @@ pub(crate) fn resolve_items(
     Ok(())
 }
 
-#[tactic(auto, using(std::proofs::lemmas::Grind::common_steps, crate::proofs::FaultLemmas::decl_faults, crate::proofs::FaultLemmas::function_faults, crate::proofs::FaultLemmas::vtable_faults))]
+#[tactic(auto, using(crate::proofs::Steps::item))]
 fn resolve_item(
     alloc: Global,
     functions: &SymbolTable,
@@ -287,7 +287,7 @@ fn kept_attributes(alloc: Global, words: List<WrittenToken>) -> Result<List<Text
     Ok(kept)
 }
 
-#[tactic(auto, using(std::proofs::lemmas::Grind::common_steps, crate::proofs::FaultOrder::earlier_none))]
+#[tactic(auto, using(crate::proofs::Steps::one_use))]
 fn resolve_vtable(
     alloc: Global,
     functions: &SymbolTable,

@@ -3,7 +3,7 @@
 ghost use Rattle.std.specs.Prelude.{◌≡◌, ◌+◌, [], ◌∷◌, true, Some, None, IfOk, OnOk};
 ghost use Rattle.written_tree.specs.Faults as said;
 ghost use Rattle.name_resolution.specs.NameFaults.{unknown_in};
-ghost use Rattle.name_resolution.specs.Names.{reserved, swift_names};
+ghost use Rattle.sil_ast.specs.Imports.{reserved, swift_names};
 
 use indexmap::IndexMap;
 use sil_ast::{Exhausted, Imports};
@@ -125,7 +125,7 @@ impl SymbolTable {
     }
 
     /// The number of the name that `token` uses, or 0. A name that isn't defined is noted in `unknown`.
-    #[tactic(auto, using(std::proofs::lemmas::Grind::common_steps, crate::proofs::FaultOrder::earlier_none, crate::proofs::SymbolLemmas::among_names))]
+    #[tactic(auto, using(crate::proofs::Steps::names))]
     pub(crate) fn number_of(&self, token: &WrittenToken, unknown: &mut Option<Fault>) -> u32
         ensures number { result ≡ number_in self.now token.now.text }
         ensures unknown { unknown.new ≡ said.earlier unknown.old (unknown_in (names_in self.now) token.now) }

@@ -1,5 +1,5 @@
 -- Names and texts have a spelling, and no name is given twice. The names in types are in `Types`.
-use Rattle.std.specs.Prelude.{ℕ, List, [], ◌∷◌, ◌++◌, ⊤, length, map, Contains, Bool, true, false, not, ◌&&◌, nat_le, codes, IsTrue, IfSome}
+use Rattle.std.specs.Prelude.{ℕ, List, [], ◌∷◌, ◌++◌, ⊤, length, map, Contains, Bool, false, not, ◌&&◌, nat_le, IsTrue, IfSome}
 use Rattle.std.specs.List.{list_all}
 use Rattle.sil_ast.specs.declared.decl.Case.{Case}
 use Rattle.sil_ast.specs.declared.decl.Decl.{Decl}
@@ -9,10 +9,10 @@ use Rattle.sil_ast.specs.declared.function.Function.{Function}
 use Rattle.sil_ast.specs.declared.inst.Edge.{Edge}
 use Rattle.sil_ast.specs.declared.inst.Inst.{Inst}
 use Rattle.sil_ast.specs.declared.member.Member.{Member}
-use Rattle.sil_ast.specs.declared.module.Imports.{Imports}
 use Rattle.sil_ast.specs.declared.module.Module.{Module}
 use Rattle.sil_ast.specs.declared.vtable.Vtable.{Vtable}
-use Rattle.sil_lexer.specs.Bytes.{is_word_start, is_name_byte, is_text_byte}
+use Rattle.sil_ast.specs.Imports.{reserved}
+use Rattle.text_bytes.specs.Bytes.{is_word_start, is_name_byte, is_text_byte}
 use Rattle.sil_rules.specs.declared.limits.TheConstants.{NAME_BYTES}
 use Rattle.numbered_form.specs.Lists.{Each, is_empty}
 use Rattle.numbered_form.specs.Insts.{EachInst}
@@ -99,14 +99,6 @@ pub record AreNamesSpelled (m : Module) : Type 0 where
 abbrev pub AreOnce : List Name → Type 0
 AreOnce [] = ⊤
 AreOnce (x ∷ xs) = (Contains xs x → ⊥) × AreOnce xs
-
--- the names that the imports declare
-abbrev pub swift_names : Bool → List Name
-swift_names true = codes "Int" ∷ codes "Bool" ∷ codes "Optional" ∷ []
-swift_names false = []
-
-abbrev pub reserved : Imports → List Name
-reserved imports = codes "Builtin" ∷ swift_names imports.swift
 
 abbrev pub AreMembersOnce : Decl → Type 0
 AreMembersOnce d = AreOnce (member_names d)

@@ -1,13 +1,12 @@
 -- Facts of lists, tests and faults.
-use Rattle.std.proofs.Common.{if◌then◌else◌, ◌≡◌, ℕ, ◌≤◌, zero, suc, List, [], ◌∷◌, ◌++◌, length, map, slice_get, Option, Some, None, Bool, true, false, ◌&&◌, ◌||◌, not, sym, refl, arith, flat_map}
+use Rattle.std.proofs.Common.{◌≡◌, ℕ, ◌≤◌, zero, suc, List, [], ◌∷◌, ◌++◌, length, map, slice_get, Option, Some, None, Bool, true, false, ◌&&◌, ◌||◌, not, sym, refl, arith, flat_map}
 use Rattle.std.specs.List.{list_all}
 use Rattle.std.specs.Option.{option_map}
 use Rattle.std.proofs.lemmas.List.{length-map}
 use Rattle.sil_ast.specs.declared.place.Place.{Place}
-use Rattle.written_tree.specs.declared.fault.Fault.{Fault}
 use Rattle.sil_rules.specs.declared.limit_word.LimitWord.{LimitWord}
 use Rattle.written_tree.specs.declared.fault.FaultKind.TheVariants.{Limit}
-use Rattle.written_tree.specs.Faults.{comes_before, earlier, fault, passed}
+use Rattle.written_tree.specs.Faults.{fault, passed}
 use Rattle.numbered_form.specs.Lists.{Each}
 
 pub both : (a b : Bool) → a ≡ true → b ≡ true → (a && b) ≡ true
@@ -61,25 +60,6 @@ all_each test [] e = refl
 all_each test (x ∷ xs) e = both (test x) (list_all test xs) e.0 (all_each test xs e.1)
 
 -- faults
-
-chosen : (t : Bool) (a b : Fault) → (if t then Some b else Some a) ≡ None → Some a ≡ None
-chosen true a b e = cc
-chosen false a b e = e
-
-pub no_first : (a b : Option Fault) → earlier a b ≡ None → a ≡ None
-unfolding earlier
-no_first None b e = refl
-no_first (Some a) None e = e
-no_first (Some a) (Some b) e = chosen (comes_before b a) a b e
-
-none_some : (a : Fault) → None ≡ Some a → ⊥
-none_some a e = cc
-
-pub no_second : (a b : Option Fault) → earlier a b ≡ None → b ≡ None
-unfolding earlier
-no_second None b e = e
-no_second (Some a) None e = refl
-no_second (Some a) (Some b) e = absurd (none_some a (sym (chosen (comes_before b a) a b e)))
 
 -- a list is no longer than the place at which it has nothing
 short : {A : Type 0} (xs : List A) (n : ℕ) → slice_get xs n ≡ None → length xs ≤ n

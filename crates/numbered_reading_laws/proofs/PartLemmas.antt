@@ -26,6 +26,7 @@ use Rattle.written_modules.specs.inner.Parts.{part, place_at, text_at}
 use Rattle.written_modules.specs.Opened.{PartGivens, PartParams, PartType, PartValue}
 use Rattle.written_modules.specs.inner.PartFaults.{body_fault, function_fault, module_fault, part_fault}
 use Rattle.written_tree.specs.Places.{arg_place, attribute_places, case_place, decl_names, field_place, function_names, label_place, operand_place, token_place}
+use Rattle.written_tree.proofs.FaultOrder.{no_first, no_second}
 use Rattle.written_modules.specs.Types.{in_parens, tailed, type_before}
 use Rattle.written_modules.specs.Values.{args_of, blocks_of, cases_of, edges_of, field_of, fields_of, givens_of, imports_of}
 use Rattle.written_modules.specs.Values.{inst_of, items_of, linkage_of, member_of, operands_of, params_of, questions_of}
@@ -36,7 +37,7 @@ use Rattle.numbered_form.specs.Lists.{Each}
 use Rattle.numbered_form.specs.Fields.{IsStrong}
 use Rattle.numbered_form.specs.Names.{IsMemberSpelled, IsWord, case_name, field_name, is_at_name}
 use Rattle.numbered_form.specs.Types.{HasFieldType, HasPayloadType, IsPlainType}
-use Rattle.numbered_reading_laws.proofs.ListsAndFaults.{Each-map, no_first, no_second, not_passed, not_passed-map}
+use Rattle.numbered_reading_laws.proofs.ListsAndFaults.{Each-map, not_passed, not_passed-map}
 use Rattle.numbered_reading_laws.proofs.FaultlessParts.{AreGoodCases, AreGoodFrom, AreGoodGivens, AreGoodOperands, AreGoodParams, AreGoodSwitch, IsGoodBlock}
 use Rattle.numbered_reading_laws.proofs.FaultlessParts.{IsGoodBranch, IsGoodCase, IsGoodDecl, IsGoodField, IsGoodFunction, IsGoodItem, IsGoodModule, IsGoodPart}
 use Rattle.numbered_reading_laws.proofs.FaultlessParts.{IsGoodSignature, IsGoodToken, IsGoodType, IsStrongField, IsWordToken, nothing_shown}

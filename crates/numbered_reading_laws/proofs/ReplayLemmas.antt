@@ -19,9 +19,9 @@ use Rattle.written_modules.specs.Opened.{PartValue}
 use Rattle.written_modules.specs.inner.Replay.{first_fault, parts_of, reduced, replay}
 use Rattle.written_modules.specs.Values.{token_of}
 use Rattle.numbered_reading_laws.specs.inner.Leaves.{AreOfClasses, IsOfClass, IsTextOf}
-use Rattle.numbered_reading_laws.proofs.ListsAndFaults.{no_first, no_second}
 use Rattle.numbered_reading_laws.proofs.FaultlessParts.{AreGoodFrom, IsGood, IsGoodToken}
 use Rattle.numbered_reading_laws.proofs.PartLemmas.{good_part}
+use Rattle.written_tree.proofs.FaultOrder.{no_first, no_second}
 
 -- the values are good for the symbols, one by one
 abbrev pub AreGood : List Symbol → List PartValue → Type 0

@@ -20,6 +20,7 @@ use Rattle.written_tree.specs.declared.written_module.WrittenItem.TheVariants as
 use Rattle.written_tree.specs.declared.written_module.WrittenVtable.{WrittenVtable}
 use Rattle.written_tree.specs.declared.written_module.WrittenModule.{WrittenModule}
 use Rattle.written_tree.specs.Faults.{earliest, fault}
+use Rattle.written_tree.proofs.FaultOrder.{no_first, no_second}
 use Rattle.name_resolution.specs.NameFaults.{function_fault, is_among, name_fault, unknown_among, unknown_in}
 use Rattle.name_resolution.specs.Names.{Name, code_of, edge_label, edge_values, entry_function, function_name, functions_of, vtables_of, functions_used}
 use Rattle.name_resolution.specs.Names.{label_of, labels_used, name_of, operand_name, results_of, used_by_item, values_defined, values_used}
@@ -30,7 +31,7 @@ use Rattle.numbered_form.specs.Lists.{Each}
 use Rattle.numbered_form.specs.Insts.{EachInBlock}
 use Rattle.numbered_form.specs.Numbering.{AreCountedFrom, AreNumbered, IsEdgeInRange, IsFunctionNumbered, IsInstInRange, IsValueBelow, IsVtableInRange}
 use Rattle.numbered_form.specs.Numbering as numbering
-use Rattle.numbered_reading_laws.proofs.ListsAndFaults.{Each-flat_map, Each-map, no_first, no_second}
+use Rattle.numbered_reading_laws.proofs.ListsAndFaults.{Each-flat_map, Each-map}
 use Rattle.numbered_reading_laws.proofs.BlockLemmas.{Each-blocks, Each-insts, length-blocks}
 use Rattle.numbered_reading_laws.proofs.FaultlessParts.{IsGoodBlock, IsGoodFunction, IsGoodModule}
 use Rattle.numbered_reading_laws.proofs.ModuleLemmas.{good_functions}

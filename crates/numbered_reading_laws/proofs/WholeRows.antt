@@ -17,6 +17,7 @@ use Rattle.written_tree.specs.Faults.{earlier}
 use Rattle.written_tree.specs.declared.fault.Fault.{Fault}
 use Rattle.written_tree.specs.declared.written_declarations.WrittenToken.{WrittenToken}
 use Rattle.written_tree.specs.declared.written_instructions.WrittenInst.{WrittenInst}
+use Rattle.written_tree.proofs.FaultOrder.{no_first, no_second}
 use Rattle.written_modules.specs.Opened.{PartValue}
 use Rattle.written_modules.specs.inner.PartFaults.{fault_of_part, parts_fault, row_fault}
 use Rattle.written_modules.specs.inner.RowMeaning.{begun, behind_part, row, with_part, with_parts}
@@ -27,7 +28,7 @@ use Rattle.numbered_form.specs.Literals.{is_number_of, is_text_of}
 use Rattle.numbered_form.specs.Names.{IsEdgeSpelled, IsMemberSpelled, is_quotable}
 use Rattle.numbered_form.specs.Parts.{has_operands, is_among, is_callee, is_debug, is_flags, is_member, is_number, is_signature, is_silent, is_text, is_type, may_have, row_has}
 use Rattle.numbered_form.specs.Types.{HasEdgeTypes, HasSignatureTypes, IsPlainType}
-use Rattle.numbered_reading_laws.proofs.ListsAndFaults.{Each-weaker, either_first, either_second, first_of_both, no_first, no_second, second_of_both}
+use Rattle.numbered_reading_laws.proofs.ListsAndFaults.{Each-weaker, either_first, either_second, first_of_both, second_of_both}
 use Rattle.numbered_reading_laws.proofs.FaultlessParts.{AreGoodFrom, IsGoodAnywhere, IsGoodDebug, IsGoodEdge, IsGoodPart, IsGoodSignature, nothing_shown}
 use Rattle.numbered_reading_laws.proofs.OperandLemmas.{AreOperandsBefore, operands_kept}
 use Rattle.numbered_reading_laws.proofs.RowFields.{HasField, HasItsEdges, IsNumberFor, IsOfRow, IsTextFor, debug_kept, edges_kept, flags_kept, function_kept}

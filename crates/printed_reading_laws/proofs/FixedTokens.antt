@@ -1,7 +1,7 @@
 -- One token that the grammar names in front of a piece, and any word.
 use Rattle.std.proofs.Common.{◌≡◌, ℕ, List, [], ◌∷◌, ◌++◌, IsTrue, refl, ap, sym, ◌∙◌}
 use Rattle.sil_lexer.specs.declared.token.TokenKind.TheVariants as kind
-use Rattle.sil_lexer.specs.Bytes.{is_punctuation}
+use Rattle.text_bytes.specs.Bytes.{is_punctuation}
 use Rattle.token_classes.specs.declared.classes.AtWord.{AtWord}
 use Rattle.token_classes.specs.declared.classes.Keyword.{Keyword}
 use Rattle.token_classes.specs.declared.classes.Punctuation.{Punctuation}

@@ -27,6 +27,7 @@ use Rattle.written_modules.specs.inner.Meaning.{kept_of, meaning}
 use Rattle.written_modules.specs.Opened.{PartValue}
 use Rattle.written_modules.specs.inner.PartFaults.{body_fault, part_fault}
 use Rattle.written_tree.specs.Places.{attribute_places, is_kept, label_place, mnemonics_of, token_place, values_of_block}
+use Rattle.written_tree.proofs.FaultOrder.{neither}
 use Rattle.written_modules.specs.Values.{blocks_of, item_of, linkage_of, token_of, tokens_of}
 use Rattle.name_resolution.specs.Names.{Name, name_of}
 use Rattle.numbered_form.specs.Functions.{IsAttribute}
@@ -39,7 +40,6 @@ use Rattle.printed_reading_laws.proofs.BlockCounts.{inst_count_is, length_blocks
 use Rattle.printed_reading_laws.proofs.BlockReading.{IsBlockPrintable, block_reads, blocks_behind, blocks_read}
 use Rattle.printed_reading_laws.proofs.Items.{IsItem}
 use Rattle.printed_reading_laws.proofs.FixedTokens.{any_at, any_word, keyword_here, punctuation_here}
-use Rattle.printed_reading_laws.proofs.NoFaults.{neither}
 use Rattle.printed_reading_laws.proofs.PartLimits.{not_passed}
 use Rattle.printed_reading_laws.proofs.Pieces.{Ends, Stands, Reads as reads}
 use Rattle.printed_reading_laws.proofs.ResolvedForms.{attributes_are}

@@ -7,14 +7,16 @@ use Rattle.written_tree.specs.declared.written_declarations.WrittenDecl.{Written
 use Rattle.written_tree.specs.declared.written_module.WrittenModule.{WrittenModule}
 use Rattle.name_resolution.specs.NameFaults.{function_fault, members_fault, name_fault, twice_after}
 use Rattle.written_tree.specs.Places.{name_of_decl}
+use Rattle.written_tree.proofs.FaultOrder.{neither}
 use Rattle.name_resolution.specs.Names.{Name, function_name, member_names, name_of, used_by_item, vtable_name}
 use Rattle.name_resolution.specs.Resolved.{resolved, resolved_decl, resolved_function, resolved_vtable}
 use Rattle.numbered_form.specs.Lists.{Each}
-use Rattle.numbered_form.specs.Names.{AreMembersOnce, AreOnce, reserved}
+use Rattle.numbered_form.specs.Names.{AreMembersOnce, AreOnce}
+use Rattle.sil_ast.specs.Imports.{reserved}
 use Rattle.numbered_form.specs.Names as spelled
 use Rattle.numbered_form.specs.NumberedForm.{IsNumbered}
 use Rattle.numbered_reading_laws.proofs.OnceLemmas.{decl_kept, members_kept, names_kept}
-use Rattle.printed_reading_laws.proofs.NoFaults.{IsKnown, neither, never_twice, never_unknown, none_of_each}
+use Rattle.printed_reading_laws.proofs.NoFaults.{IsKnown, never_twice, never_unknown, none_of_each}
 use Rattle.printed_reading_laws.proofs.ResolvedFunctions.{IsFunctionRead, function_is, no_function_fault}
 use Rattle.printed_reading_laws.proofs.ResolvedModules.{decls_are, decls_read, functions_are, functions_named, functions_read, names_written, used_known, vtables_are, vtables_read}
 use Rattle.printed_reading_laws.proofs.SideBySide.{zip_each, zip_read, zip_same, zip_weaker}

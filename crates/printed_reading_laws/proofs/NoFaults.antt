@@ -6,7 +6,8 @@ use Rattle.std.proofs.lemmas.List.Elements.{Contains-append_right, Contains-get_
 use Rattle.written_tree.specs.declared.fault.Fault.{Fault}
 use Rattle.written_tree.specs.declared.fault.FaultKind.TheVariants.{Twice, UnknownName}
 use Rattle.written_tree.specs.declared.written_declarations.WrittenToken.{WrittenToken}
-use Rattle.written_tree.specs.Faults.{earlier, earliest, fault}
+use Rattle.written_tree.specs.Faults.{earliest, fault}
+use Rattle.written_tree.proofs.FaultOrder.{neither}
 use Rattle.name_resolution.specs.NameFaults.{is_among, twice_after, unknown_among, unknown_in}
 use Rattle.name_resolution.specs.Names.{Name, name_of}
 use Rattle.numbered_form.specs.Lists.{Each}
@@ -16,11 +17,6 @@ use Rattle.printed_reading_laws.proofs.Namings.{no_match}
 
 abbrev pub IsNone : Option Fault → Type 0
 IsNone fault = fault ≡ None
-
--- where neither of two is at fault
-pub neither : (a b : Option Fault) → a ≡ None → b ≡ None → earlier a b ≡ None
-unfolding earlier
-neither a b e f = ap (λ first. earlier first b) e ∙ f
 
 pub none_of_all : (faults : List (Option Fault)) → Each IsNone faults → earliest faults ≡ None
 none_of_all [] e = refl

@@ -1,6 +1,6 @@
 -- How a piece of a text reads: the symbols of the grammar that its tokens stand for, with what they write and no fault.
 use Rattle.std.proofs.Common.{◌≡◌, ℕ, ◌≤◌, List, [], ◌∷◌, ◌++◌, None, IsTrue, IsFalse}
-use Rattle.sil_lexer.specs.Bytes.{is_blank, is_name_byte}
+use Rattle.text_bytes.specs.Bytes.{is_blank, is_name_byte}
 use Rattle.sil_lexer.specs.Lexes.{Lexeme}
 use Rattle.sil_lexer.specs.Places.{place_before}
 use Rattle.sil_lexer.specs.Spelling.{IsSpelled, begins_with, name_length}

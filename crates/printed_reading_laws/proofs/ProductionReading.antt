@@ -1,6 +1,6 @@
 -- A part that a production writes, and a part in front of a piece.
 use Rattle.std.proofs.Common.{◌≡◌, ℕ, List, ◌∷◌, None, IsTrue}
-use Rattle.sil_lexer.specs.Bytes.{is_blank}
+use Rattle.text_bytes.specs.Bytes.{is_blank}
 use Rattle.sil_shape.specs.declared.grammar.Nonterminal.{Nonterminal}
 use Rattle.sil_shape.specs.declared.grammar.Production.{Production}
 use Rattle.sil_shape.specs.declared.grammar.Symbol.{Symbol}

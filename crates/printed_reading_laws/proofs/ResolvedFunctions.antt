@@ -9,6 +9,7 @@ use Rattle.sil_printer.specs.CanonicalInsts.{block_name}
 use Rattle.written_tree.specs.declared.written_declarations.WrittenToken.{WrittenToken}
 use Rattle.written_tree.specs.declared.written_functions.WrittenFunction.{WrittenFunction}
 use Rattle.written_tree.specs.Places.{is_kept}
+use Rattle.written_tree.proofs.FaultOrder.{neither}
 use Rattle.name_resolution.specs.NameFaults.{function_fault}
 use Rattle.name_resolution.specs.Names.{Name, functions_used, insts_of, label_of, labels_used, name_of, values_defined, values_used}
 use Rattle.name_resolution.specs.Resolved.{Scope, form_of, resolved_blocks, resolved_function, scope_of, values_of}
@@ -20,7 +21,7 @@ use Rattle.numbered_form.specs.Numbering as numbering
 use Rattle.numbered_form.specs.Parts.{FunctionHasParts}
 use Rattle.numbered_reading_laws.proofs.ListsAndFaults.{Each-weaker}
 use Rattle.printed_reading_laws.proofs.Namings.{IsNaming, counted_names, names_from, numbered_names, tells_blocks, tells_values}
-use Rattle.printed_reading_laws.proofs.NoFaults.{IsKnown, neither, never_twice, never_unknown}
+use Rattle.printed_reading_laws.proofs.NoFaults.{IsKnown, never_twice, never_unknown}
 use Rattle.printed_reading_laws.proofs.ResolvedBlocks.{blocks_are}
 use Rattle.printed_reading_laws.proofs.WrittenCode.{Counts, IsBlockRead, blocks_read, value_tokens, values_defined as defined_values}
 use Rattle.printed_reading_laws.proofs.ResolvedForms.{attributes_are, form_is}

@@ -28,12 +28,12 @@ use Rattle.numbered_form.specs.Limits.{IsSignatureInLimits}
 use Rattle.numbered_form.specs.Types.{HasGivenType, HasParamType, HasSignatureTypes, IsPlainType}
 use Rattle.numbered_reading_laws.proofs.ListsAndFaults.{Each-weaker}
 use Rattle.printed_reading_laws.proofs.Commas.{AllItems, list_reads}
-use Rattle.printed_reading_laws.proofs.NoFaults.{neither}
 use Rattle.printed_reading_laws.proofs.PartLimits.{not_passed}
 use Rattle.printed_reading_laws.proofs.Pieces.{Ends, Reads as reads, ReadsAs, Stands, behind}
 use Rattle.printed_reading_laws.proofs.Tokens.{arrow_token, at_token, punctuation_token, word_token}
 use Rattle.printed_reading_laws.proofs.WordReading.{worded_reads}
 use Rattle.printed_reading_laws.proofs.TypeReading.{open_type_reads, type_reads}
+use Rattle.written_tree.proofs.FaultOrder.{neither}
 
 -- lists in front of which the values of parts are put, each with the place where it begins
 module _ {A L : Type 0} (items : L → List A) (places : L → ℕ) (before : PartValue → L → L) where

@@ -12,7 +12,7 @@ use Rattle.std.specs.Str.Parse.{AllDigits}
 use lib.Signed.{mag}
 use Rattle.std.specs.List.{list_all}
 use Rattle.std.specs.Fmt.{signed_decimal}
-use Rattle.sil_lexer.specs.Bytes.{is_punctuation, is_name_byte, is_word_start}
+use Rattle.text_bytes.specs.Bytes.{is_punctuation, is_name_byte, is_word_start}
 use Rattle.sil_lexer.specs.Spelling.{Spells, Spells as spells, begins_with, continues, name_length, without_quotes}
 use Rattle.sil_lexer.specs.declared.token.TokenKind.TheVariants as kind
 use Rattle.token_classes.specs.declared.classes.Class.TheVariants as c

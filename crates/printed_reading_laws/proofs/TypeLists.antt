@@ -21,11 +21,11 @@ use Rattle.written_modules.specs.Types.{between, type_before}
 use Rattle.written_modules.specs.Values.{questions_of, no_types, payload_of, type_of, types_of}
 use Rattle.numbered_form.specs.Lists.{Each}
 use Rattle.printed_reading_laws.proofs.Commas.{AllItems, MoreItems, list_reads, listed_reads}
-use Rattle.printed_reading_laws.proofs.NoFaults.{neither}
 use Rattle.printed_reading_laws.proofs.PartLimits.{not_passed, not_too_deep, one_more_level, whole_type}
 use Rattle.printed_reading_laws.proofs.Pieces.{Reads as reads, ReadsAs, Stands, behind}
 use Rattle.printed_reading_laws.proofs.Tokens.{punctuation_token}
 use Rattle.printed_reading_laws.proofs.TypeForms.{IsTypeOf, no_questions_fault}
+use Rattle.written_tree.proofs.FaultOrder.{neither}
 
 -- the types are these, counted as deep as the deepest
 record AreTypes (ts : List TypeName) (list : PartTypes) : Type 0 where

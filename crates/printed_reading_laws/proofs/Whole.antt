@@ -1,7 +1,7 @@
 -- What reads as a module to its end is spelled.
 use Rattle.std.proofs.Common.{◌≡◌, ℕ, List, [], ◌∷◌, ◌++◌, Option, None, IsTrue, subst}
 use Rattle.std.proofs.lemmas.List.{append_assoc, append-nil}
-use Rattle.sil_lexer.specs.Bytes.{is_blank}
+use Rattle.text_bytes.specs.Bytes.{is_blank}
 use Rattle.sil_lexer.specs.Lexes.{Lexeme, Lexes, Lexes as lexes, Skips as skips}
 use Rattle.sil_lexer.specs.declared.token.LexRefusal.{LexRefusal}
 use Rattle.sil_shape.specs.declared.grammar.Symbol.{Symbol}

@@ -28,6 +28,7 @@ use Rattle.written_modules.specs.inner.Meaning.{kept_of, meaning, with_import}
 use Rattle.written_modules.specs.Opened.{PartValue, module_value}
 use Rattle.written_modules.specs.inner.PartFaults.{module_fault, part_fault}
 use Rattle.written_tree.specs.Places.{decl_names, function_names, token_place}
+use Rattle.written_tree.proofs.FaultOrder.{neither}
 use Rattle.written_modules.specs.Values.{imports_of, items_of, stage_of, token_of}
 use Rattle.numbered_form.specs.Lists.{Each}
 use Rattle.numbered_form.specs.Names.{IsWord}
@@ -35,7 +36,6 @@ use Rattle.printed_reading_laws.proofs.DeclReading.{IsDeclPrintable, decl_reads}
 use Rattle.printed_reading_laws.proofs.FixedTokens.{any_word, keyword_here}
 use Rattle.printed_reading_laws.proofs.FunctionReading.{IsFunctionPrintable, function_reads}
 use Rattle.printed_reading_laws.proofs.Items.{items_in_front, no_items}
-use Rattle.printed_reading_laws.proofs.NoFaults.{neither}
 use Rattle.printed_reading_laws.proofs.PartLimits.{not_passed}
 use Rattle.printed_reading_laws.proofs.Pieces.{Stands, Reads as reads}
 use Rattle.printed_reading_laws.proofs.ProductionReading.{blank_here, stands_by, part_here}

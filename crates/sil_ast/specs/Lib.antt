@@ -1,3 +1,4 @@
 pub mod TypeName
+pub mod Imports
 pub mod formers
 pub mod inner

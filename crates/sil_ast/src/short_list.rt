@@ -38,15 +38,6 @@ impl<T: MadeWith<Global> + Drop, const N: usize> ShortList<T, N> {
         }
     }
 
-    /// The elements of `items`, in the same memory where they are more than `N`.
-    pub fn from_vec(items: Vec<T>) -> ShortList<T, N>
-        ensures { result ≡ items.items }
-    {
-        ShortList {
-            items: SmallVec::from_vec(items),
-        }
-    }
-
     /// Adds `item` at the end. Where there is no memory for it, the item is dropped.
     pub fn push(&mut self, item: T) -> Result<(), Exhausted>
         ensures ok { OnOk result (self.new ≡ self.old ++ item ∷ []) }

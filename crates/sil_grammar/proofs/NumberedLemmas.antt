@@ -4,7 +4,7 @@ use Rattle.std.proofs.Math.Seq.{take-append_seam}
 use Rattle.std.specs.List.{list_all}
 use Rattle.sil_lexer.specs.declared.token.LexRefusal.{LexRefusal}
 use Rattle.sil_lexer.specs.declared.token.TokenKind.{TokenKind}
-use Rattle.sil_lexer.specs.Bytes.{is_name_byte, is_word_start}
+use Rattle.text_bytes.specs.Bytes.{is_name_byte, is_word_start}
 use Rattle.sil_lexer.specs.Lexes.{Lexeme, Lexes, end, token, stop}
 use Rattle.sil_lexer.specs.Spelling.{Spells, arrow, at_name, name_length, negative, number, percent, punctuation, quoted, without_quotes, word}
 use Rattle.token_classes.specs.declared.classes.Punctuation as sign

@@ -1,4 +1,3 @@
-pub mod Bytes
 pub mod Spelling
 pub mod Places
 pub mod Lexes

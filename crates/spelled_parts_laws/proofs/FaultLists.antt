@@ -1,53 +1,17 @@
 -- Of some faults the first, as the replay finds it one by one.
-use Rattle.std.proofs.Common.{◌≡◌, ℕ, List, [], ◌∷◌, ◌++◌, Option, Some, None, Bool, true, false, if◌then◌else◌, ◌==◌, ◌&&◌, ◌||◌, nat_lt, sym, refl, ap, subst, ◌∙◌, arith}
+use Rattle.std.proofs.Common.{◌≡◌, List, [], ◌∷◌, ◌++◌, Option, Some, None, Bool, true, false, if◌then◌else◌, sym, refl, ap, subst, ◌∙◌}
 use Rattle.std.specs.List.{AllByRecursion}
 use Rattle.std.specs.Option.{option_to_list}
-use Rattle.std.proofs.lemmas.Bool.Decides.{nat_tests}
-use Rattle.std.proofs.lemmas.Option.{same_Some}
+use Rattle.std.proofs.lemmas.Option.{none-some, same_Some}
 use Rattle.written_tree.specs.declared.fault.Fault.{Fault}
 use Rattle.written_tree.specs.Faults.{comes_before, earlier, rank}
+use Rattle.written_tree.proofs.FaultOrder.{before_and_not, earlier-assoc, no_first, not_before-trans}
 use Rattle.spelled_parts_laws.specs.Reading.{IsFirstOf}
 use Rattle.spelled_parts_laws.specs.Reading.IsFirstOf.{here, later}
 
 abbrev pub first_of : List Fault → Option Fault
 first_of [] = None
 first_of (f ∷ fs) = earlier (Some f) (first_of fs)
-
--- the order of places and ranks
-
-abbrev before : ℕ → ℕ → ℕ → ℕ → Bool
-before x r y s = nat_lt x y || ((x == y) && nat_lt r s)
-
-before-trans : (x r y s z t : ℕ) → before x r y s ≡ true → before y s z t ≡ true → before x r z t ≡ true
-before-trans x r y s z t = grind (arith, nat_tests)
-
-not_before-trans : (x r y s z t : ℕ) → before x r y s ≡ false → before y s z t ≡ false → before x r z t ≡ false
-not_before-trans x r y s z t = grind (arith, nat_tests)
-
-before_and_not : (x r y s z t : ℕ) → before x r y s ≡ true → before x r z t ≡ false → before y s z t ≡ false
-before_and_not x r y s z t = grind (arith, nat_tests)
-
-pub earlier-none : (a : Option Fault) → earlier a None ≡ a
-unfolding earlier
-earlier-none None = refl
-earlier-none (Some a) = refl
-
-three : (a b c : Fault) (t u w : Bool) → comes_before b a ≡ t → comes_before c b ≡ u → comes_before c a ≡ w
-    → earlier (earlier (Some a) (Some b)) (Some c) ≡ earlier (Some a) (earlier (Some b) (Some c))
-unfolding earlier
-three a b c true true true e f g = rw (e, f, g) refl
-three a b c true true false e f g = absurd (cc (sym g ∙ before-trans c.place.offset (rank c.kind) b.place.offset (rank b.kind) a.place.offset (rank a.kind) f e))
-three a b c true false w e f g = rw (e, f) (rw e refl)
-three a b c false true w e f g = rw (e, f) refl
-three a b c false false false e f g = rw (e, f, g) (rw e refl)
-three a b c false false true e f g = absurd (cc (sym g ∙ not_before-trans c.place.offset (rank c.kind) b.place.offset (rank b.kind) a.place.offset (rank a.kind) f e))
-
-pub earlier-assoc : (a b c : Option Fault) → earlier (earlier a b) c ≡ earlier a (earlier b c)
-unfolding earlier
-earlier-assoc None b c = refl
-earlier-assoc (Some a) None c = refl
-earlier-assoc (Some a) (Some b) None = earlier-none (earlier (Some a) (Some b))
-earlier-assoc (Some a) (Some b) (Some c) = three a b c _ _ _ refl refl refl
 
 pub first-append : (fs gs : List Fault) → first_of (fs ++ gs) ≡ earlier (first_of fs) (first_of gs)
 unfolding earlier
@@ -72,18 +36,9 @@ first-four a b c d =
 
 -- no fault is first where there is none
 
-chosen_some : (t : Bool) (a b : Fault) → (if t then Some b else Some a) ≡ None → ⊥
-chosen_some true a b e = cc e
-chosen_some false a b e = cc e
-
-some_first : (f : Fault) (o : Option Fault) → earlier (Some f) o ≡ None → ⊥
-unfolding earlier
-some_first f None e = cc e
-some_first f (Some g) e = chosen_some (comes_before g f) f g e
-
 pub none_first : (fs : List Fault) → first_of fs ≡ None → fs ≡ []
 none_first [] e = refl
-none_first (f ∷ fs) e = absurd (some_first f (first_of fs) e)
+none_first (f ∷ fs) e = absurd (none-some f (sym (no_first (Some f) (first_of fs) e)))
 
 -- the first that is found is the first of them
 

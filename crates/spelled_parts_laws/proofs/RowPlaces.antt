@@ -19,7 +19,8 @@ use Rattle.written_tree.specs.declared.fault.Fault.{Fault}
 use Rattle.written_tree.specs.Faults.{earlier, out_of_range}
 use Rattle.written_tree.specs.declared.written_instructions.WrittenEdge.{WrittenEdge}
 use Rattle.written_tree.specs.declared.written_instructions.WrittenInst.{WrittenInst}
-use Rattle.spelled_parts_laws.proofs.FaultLists.{earlier-assoc, earlier-none, first-append, first-option, first_of}
+use Rattle.written_tree.proofs.FaultOrder.{earlier-assoc, earlier-none}
+use Rattle.spelled_parts_laws.proofs.FaultLists.{first-append, first-option, first_of}
 
 -- what is left behind a part
 abbrev pub left_behind : Op → Part → List Part → List PartValue → List PartValue

@@ -10,7 +10,8 @@ use Rattle.indexmap.specs.IndexSet.{insert_key}
 use Rattle.std.specs.Prelude.{codes}
 use Rattle.sil_ast.specs.declared.decl.Decl.{Decl}
 use Rattle.numbered_form.specs.Lists.{Each}
-use Rattle.numbered_form.specs.Names.{Name, AreOnce, AreMembersOnce, decl_name, swift_names}
+use Rattle.numbered_form.specs.Names.{Name, AreOnce, AreMembersOnce, decl_name}
+use Rattle.sil_ast.specs.Imports.{swift_names}
 use Rattle.type_definitions.specs.Declarations.{swift_structs}
 
 -- a name that isn't there goes to the end

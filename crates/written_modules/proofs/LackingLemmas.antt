@@ -1,6 +1,6 @@
 -- The shortest way to write what is left, replayed with no tokens, builds the values of what is left, and no fault.
 use Rattle.std.proofs.Common.{◌≡◌, ℕ, ◌+◌, ◌<◌, ◌≤◌, List, [], ◌∷◌, ◌++◌, length, map, take, drop, refl, ap, sym, subst, ◌∙◌, arith, append_assoc, length-append, reverse}
-use Rattle.std.specs.Prelude.{Option, None}
+use Rattle.std.specs.Prelude.{None}
 use Rattle.std.proofs.lemmas.List.{drop-append-le, length-map, length-reverse, map-append, take-append-le}
 use Rattle.std.proofs.Math.Seq.{take-append_seam, drop-append_seam}
 use Rattle.sil_shape.specs.declared.grammar.Nonterminal.{Nonterminal}
@@ -15,8 +15,8 @@ use Rattle.sil_shape.specs.Shortest.{shortest, Shortens, written, step}
 use Rattle.sil_shape.specs.Values.{IsEnough}
 use Rattle.sil_shape.proofs.Shortened.{Shortens-derives}
 use Rattle.sil_shape.proofs.ValuesLemmas.{IsEnough-derives}
-use Rattle.written_tree.specs.declared.fault.Fault.{Fault}
 use Rattle.written_tree.specs.Faults.{earlier}
+use Rattle.written_tree.proofs.FaultOrder.{neither}
 use Rattle.written_modules.specs.declared.value.Value.{Value}
 use Rattle.written_modules.specs.declared.value.Value.TheVariants as v
 use Rattle.written_modules.specs.inner.Lacking.{lacking, lacking_within, waiting}
@@ -36,10 +36,6 @@ fault-part : (part : Nonterminal) → part_fault (shortest part) (map lacking (b
 unfolding part_fault earlier lacking lacking_within shortest body row_body parts_row symbols_of comma_behind meaning tailed value_parts
 fault-part n.Module = refl
 fault-part _ = refl
-
-no_fault : {a b : Option Fault} → a ≡ None → b ≡ None → earlier a b ≡ None
-unfolding earlier
-no_fault a b = rw (a, b) refl
 
 -- a production takes the values of its body, whatever waits behind them
 reduced-behind : (p : Production) (own bs : List Value) → length own ≡ length (body p) → reduced p (own ++ bs) ≡ meaning p own ∷ bs
@@ -70,7 +66,7 @@ fault_lacking (step {ss = ss} {steps = steps} (Part part) h) =
     let values : replay steps [] ≡ map lacking (body p) ++ map lacking ss = replay_lacking h ∙ map-append lacking (body p) ss in
     let here : part_fault p (parts_of p (replay steps [])) ≡ None =
     ap (λ vs. part_fault p (parts_of p vs)) values ∙ ap (part_fault p) (parts-behind p (map lacking (body p)) (map lacking ss) (length-map (body p) lacking)) ∙ fault-part part in
-    no_fault here (fault_lacking h)
+    neither _ _ here (fault_lacking h)
 
 -- the values of a production's body were built, and others wait behind them
 pub reduced-waiting : (p : Production) (built left new : List Value) → length (body p) ≤ length built → new ≡ reduced p built → reduced p (built ++ left) ≡ new ++ left

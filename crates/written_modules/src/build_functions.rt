@@ -219,7 +219,8 @@ pub(crate) fn param(
     values: &mut Prepended<Value>,
 ) -> Result<(), Exhausted>
     requires { 2 ≤ length values.old }
-    ensures values { OnOk result ((word ty : Value) × (rest : List Value) × (values.old ≡ word ∷ ty ∷ rest) × (values.new ≡ param passing (word ∷ ty ∷ []) ∷ rest)) }
+    ensures values { OnOk result ((word ty : Value) × (rest : List Value)
+        × (values.old ≡ word ∷ ty ∷ rest) × (values.new ≡ param passing (word ∷ ty ∷ []) ∷ rest)) }
 {
     let first = values.pop_front().into_token().place;
     let ty = values.pop_front().into_type().ty;

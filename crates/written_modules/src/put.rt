@@ -46,7 +46,8 @@ pub(crate) fn put_second(values: &mut Prepended<Value>) -> Result<(), Exhausted>
 #[inline(never)]
 pub(crate) fn put_second_of_three(values: &mut Prepended<Value>) -> Result<(), Exhausted>
     requires { 3 ≤ length values.old }
-    ensures values { OnOk result ((first second third : Value) × (rest : List Value) × (values.old ≡ first ∷ second ∷ third ∷ rest) × (values.new ≡ second ∷ rest)) }
+    ensures values { OnOk result ((first second third : Value) × (rest : List Value)
+        × (values.old ≡ first ∷ second ∷ third ∷ rest) × (values.new ≡ second ∷ rest)) }
 {
     let second = second_of_three(values);
     put_value(second, values)

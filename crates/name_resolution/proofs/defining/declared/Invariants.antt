@@ -1,7 +1,8 @@
 use Rattle.std.proofs.Common.{◌≡◌, take, map}
 use Rattle.std.specs.List.{flat_map}
 use Rattle.written_tree.specs.Places.{name_of_decl}
-use Rattle.name_resolution.specs.Names.{decls_of, reserved}
+use Rattle.name_resolution.specs.Names.{decls_of}
+use Rattle.sil_ast.specs.Imports.{reserved}
 use Rattle.name_resolution.specs.inner.Symbols.{unnumbered_after}
 use Rattle.name_resolution.proofs.defining.declared.Given as goal
 
