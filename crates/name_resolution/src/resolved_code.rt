@@ -267,23 +267,6 @@ fn resolve_names(
 
 fn with_names(inst: WrittenInst, names: Names) -> Inst
     ensures { result ≡ with_numbers inst names.results names.function names.operands names.edges }
-    ensures { result ≡ record {
-      op = inst.op;
-      results = names.results;
-      operands = names.operands;
-      ty = inst.ty;
-      signature = inst.signature;
-      function = names.function;
-      member = inst.member;
-      number = inst.number;
-      text = inst.text;
-      qualifier =
-          inst.qualifier.word;
-      lexical = inst.lexical;
-      var_decl = inst.var_decl;
-      debug = inst.debug;
-      edges = names.edges;
-    } }
 {
     Inst {
         op: inst.op,

@@ -96,13 +96,9 @@ unfolding body written meaning part_fault args_of
 more_args = record {
   again = p.MoreBlockArgsMore;
   end = p.MoreBlockArgsEnd;
-  again_written = refl;
-  again_body = refl;
-  again_fault = λ parts. refl;
+  again_is = (refl, refl, λ parts. refl);
   again_makes = λ a args comma first others is are. (is, are);
-  end_written = refl;
-  end_body = refl;
-  end_fault = λ parts. refl;
+  end_is = (refl, refl, λ parts. refl);
   end_makes = tt;
 }
 

@@ -17,10 +17,14 @@ use Rattle.numbered_form.specs.Lists.{Each}
 use Rattle.printed_reading_laws.proofs.Pieces.{Ends, Reads, Reads as reads, ReadsAs, ReadsOne, behind}
 use Rattle.printed_reading_laws.proofs.Tokens.{punctuation_token}
 
--- a production whose part and body are known
-pub by_rule : {text : List ℕ} {part : Nonterminal} {symbols ss : List Symbol} {left middle : List ℕ} {parts values : List PartValue} {after : List ℕ} → (p : Production)
-    → written p ≡ part → body p ≡ symbols → Reads text symbols left parts middle → part_fault p parts ≡ None → Reads text ss middle values after
-    → Reads text (Part part ∷ ss) left (meaning p parts ∷ values) after
+-- a production that writes a part by these symbols, and is never at fault
+abbrev pub Writes : Production → Nonterminal → List Symbol → Type 0
+Writes p part symbols = (written p ≡ part) × (body p ≡ symbols) × ((parts : List PartValue) → part_fault p parts ≡ None)
+
+-- where part and body of a production are known
+pub by_rule : {text : List ℕ} {part : Nonterminal} {symbols ss : List Symbol} {left middle : List ℕ} {parts values : List PartValue} {after : List ℕ}
+    → (p : Production) → written p ≡ part → body p ≡ symbols → Reads text symbols left parts middle → part_fault p parts ≡ None
+    → Reads text ss middle values after → Reads text (Part part ∷ ss) left (meaning p parts ∷ values) after
 by_rule {text = text} {ss = ss} {left = left} {middle = middle} {parts = parts} {values = values} {after = after} p is_written is_body inside faultless r =
     subst (λ part. Reads text (Part part ∷ ss) left (meaning p parts ∷ values) after) is_written
     (reads.rule p (subst (λ symbols. Reads text symbols left parts middle) (sym is_body) inside) faultless r)
@@ -37,13 +41,9 @@ ends_more write (item ∷ items) after ends = refl
 pub record MoreItems {A : Type 0} (item : Symbol) (more : Nonterminal) (Is : A → PartValue → Type 0) (Are : List A → PartValue → Type 0) : Type 0 where
   pub again : Production
   pub end : Production
-  pub again_written : written again ≡ more
-  pub again_body : body again ≡ Read (punctuation m.Comma) ∷ item ∷ Part more ∷ []
-  pub again_fault : (parts : List PartValue) → part_fault again parts ≡ None
+  pub again_is : Writes again more (Read (punctuation m.Comma) ∷ item ∷ Part more ∷ [])
   pub again_makes : (x : A) (xs : List A) (comma first others : PartValue) → Is x first → Are xs others → Are (x ∷ xs) (meaning again (comma ∷ first ∷ others ∷ []))
-  pub end_written : written end ≡ more
-  pub end_body : body end ≡ []
-  pub end_fault : (parts : List PartValue) → part_fault end parts ≡ None
+  pub end_is : Writes end more []
   pub end_makes : Are [] (meaning end [])
 
 -- the two productions that write all items, or that there are none
@@ -51,13 +51,9 @@ pub record AllItems {A : Type 0} (item : Symbol) (more all : Nonterminal) (Is : 
   pub others : MoreItems item more Is Are
   pub some : Production
   pub none : Production
-  pub some_written : written some ≡ all
-  pub some_body : body some ≡ item ∷ Part more ∷ []
-  pub some_fault : (parts : List PartValue) → part_fault some parts ≡ None
+  pub some_is : Writes some all (item ∷ Part more ∷ [])
   pub some_makes : (x : A) (xs : List A) (first others : PartValue) → Is x first → Are xs others → Are (x ∷ xs) (meaning some (first ∷ others ∷ []))
-  pub none_written : written none ≡ all
-  pub none_body : body none ≡ []
-  pub none_fault : (parts : List PartValue) → part_fault none parts ≡ None
+  pub none_is : Writes none all []
   pub none_makes : Are [] (meaning none [])
 
 -- an item, and those behind it
@@ -89,7 +85,7 @@ module _ (text : List ℕ) {A : Type 0} (item : Symbol) (more : Nonterminal) (Is
   one_more rules x xs is_first are_others r = record {
     value = _;
     stands = rules.again_makes x xs _ _ _ is_first are_others;
-    reads = by_rule rules.again rules.again_written rules.again_body r (rules.again_fault _) reads.nothing;
+    reads = by_rule rules.again rules.again_is.0 rules.again_is.1.0 r (rules.again_is.1.1 _) reads.nothing;
   }
 
   pub more_reads : (rules : MoreItems item more Is Are) (xs : List A) → Each (λ x. ReadsAs text item (Is x) (write x)) xs → ReadsAs text (Part more) (Are xs) (more_text write xs)
@@ -97,7 +93,7 @@ module _ (text : List ℕ) {A : Type 0} (item : Symbol) (more : Nonterminal) (Is
   more_reads rules [] each after ends = record {
     value = _;
     stands = rules.end_makes;
-    reads = by_rule rules.end rules.end_written rules.end_body reads.nothing (rules.end_fault []) reads.nothing;
+    reads = by_rule rules.end rules.end_is.0 rules.end_is.1.0 reads.nothing (rules.end_is.1.1 _) reads.nothing;
   }
   more_reads rules (x ∷ xs) each after ends =
       let r = in_front x xs each.0 (more_reads rules xs each.1) after ends in
@@ -112,12 +108,12 @@ module _ (text : List ℕ) {A : Type 0} (item : Symbol) (more : Nonterminal) (Is
   list_reads all rules [] each after ends = record {
     value = _;
     stands = rules.none_makes;
-    reads = by_rule rules.none rules.none_written rules.none_body reads.nothing (rules.none_fault []) reads.nothing;
+    reads = by_rule rules.none rules.none_is.0 rules.none_is.1.0 reads.nothing (rules.none_is.1.1 _) reads.nothing;
   }
   list_reads all rules (x ∷ xs) each after ends =
       let r = listed_reads rules.others x xs each.0 each.1 after ends in
       record {
         value = _;
         stands = rules.some_makes x xs _ _ r.is_first r.are_others;
-        reads = by_rule rules.some rules.some_written rules.some_body r.reads (rules.some_fault _) reads.nothing;
+        reads = by_rule rules.some rules.some_is.0 rules.some_is.1.0 r.reads (rules.some_is.1.1 _) reads.nothing;
       }

@@ -45,13 +45,9 @@ module _ {A : Type 0} (value : A → ValueId) where
   more_names = record {
     again = p.MoreNamesMore;
     end = p.MoreNamesEnd;
-    again_written = refl;
-    again_body = refl;
-    again_fault = λ parts. refl;
+    again_is = (refl, refl, λ parts. refl);
     again_makes = λ x xs comma first others is_first are_others. (is_first, are_others);
-    end_written = refl;
-    end_body = refl;
-    end_fault = λ parts. refl;
+    end_is = (refl, refl, λ parts. refl);
     end_makes = tt;
   }
 
@@ -61,13 +57,9 @@ module _ {A : Type 0} (value : A → ValueId) where
     others = more_names;
     some = p.NamesSome;
     none = p.NamesNone;
-    some_written = refl;
-    some_body = refl;
-    some_fault = λ parts. refl;
+    some_is = (refl, refl, λ parts. refl);
     some_makes = λ x xs first others is_first are_others. (is_first, are_others);
-    none_written = refl;
-    none_body = refl;
-    none_fault = λ parts. refl;
+    none_is = (refl, refl, λ parts. refl);
     none_makes = tt;
   }
 
@@ -77,13 +69,9 @@ module _ {A : Type 0} (value : A → ValueId) where
     others = more_names;
     some = p.BareNamesSome;
     none = p.BareNamesNone;
-    some_written = refl;
-    some_body = refl;
-    some_fault = λ parts. refl;
+    some_is = (refl, refl, λ parts. refl);
     some_makes = λ x xs first others is_first are_others. (is_first, are_others);
-    none_written = refl;
-    none_body = refl;
-    none_fault = λ parts. refl;
+    none_is = (refl, refl, λ parts. refl);
     none_makes = tt;
   }
 

@@ -62,24 +62,16 @@ all_operands = record {
   others = record {
     again = p.MoreOperandsMore;
     end = p.MoreOperandsEnd;
-    again_written = refl;
-    again_body = refl;
-    again_fault = λ parts. refl;
+    again_is = (refl, refl, λ parts. refl);
     again_makes = λ o os comma first others is_first are_others. (is_first, are_others);
-    end_written = refl;
-    end_body = refl;
-    end_fault = λ parts. refl;
+    end_is = (refl, refl, λ parts. refl);
     end_makes = tt;
   };
   some = p.OperandsSome;
   none = p.OperandsNone;
-  some_written = refl;
-  some_body = refl;
-  some_fault = λ parts. refl;
+  some_is = (refl, refl, λ parts. refl);
   some_makes = λ o os first others is_first are_others. (is_first, are_others);
-  none_written = refl;
-  none_body = refl;
-  none_fault = λ parts. refl;
+  none_is = (refl, refl, λ parts. refl);
   none_makes = tt;
 }
 

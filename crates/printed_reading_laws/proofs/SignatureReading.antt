@@ -67,24 +67,16 @@ all_params = record {
   others = record {
     again = p.MoreParamsMore;
     end = p.MoreParamsEnd;
-    again_written = refl;
-    again_body = refl;
-    again_fault = λ parts. refl;
+    again_is = (refl, refl, λ parts. refl);
     again_makes = λ param params comma first others is are. put_in_front params_in param_count param_before param params first (params_of others) is are;
-    end_written = refl;
-    end_body = refl;
-    end_fault = λ parts. refl;
+    end_is = (refl, refl, λ parts. refl);
     end_makes = (refl, refl);
   };
   some = p.ParamsSome;
   none = p.ParamsNone;
-  some_written = refl;
-  some_body = refl;
-  some_fault = λ parts. refl;
+  some_is = (refl, refl, λ parts. refl);
   some_makes = λ param params first others is are. put_in_front params_in param_count param_before param params first (params_of others) is are;
-  none_written = refl;
-  none_body = refl;
-  none_fault = λ parts. refl;
+  none_is = (refl, refl, λ parts. refl);
   none_makes = (refl, refl);
 }
 
@@ -111,24 +103,16 @@ all_givens = record {
   others = record {
     again = p.MoreGivensMore;
     end = p.MoreGivensEnd;
-    again_written = refl;
-    again_body = refl;
-    again_fault = λ parts. refl;
+    again_is = (refl, refl, λ parts. refl);
     again_makes = λ given givens comma first others is are. put_in_front givens_in given_count given_before given givens first (givens_of others) is are;
-    end_written = refl;
-    end_body = refl;
-    end_fault = λ parts. refl;
+    end_is = (refl, refl, λ parts. refl);
     end_makes = (refl, refl);
   };
   some = p.InsideSome;
   none = p.InsideNone;
-  some_written = refl;
-  some_body = refl;
-  some_fault = λ parts. refl;
+  some_is = (refl, refl, λ parts. refl);
   some_makes = λ given givens first others is are. put_in_front givens_in given_count given_before given givens first (givens_of others) is are;
-  none_written = refl;
-  none_body = refl;
-  none_fault = λ parts. refl;
+  none_is = (refl, refl, λ parts. refl);
   none_makes = (refl, refl);
 }
 

@@ -54,13 +54,9 @@ unfolding body written part_fault meaning type_of types_of
 more_types = record {
   again = p.MoreTypesMore;
   end = p.MoreTypesEnd;
-  again_written = refl;
-  again_body = refl;
-  again_fault = λ parts. refl;
+  again_is = (refl, refl, λ parts. refl);
   again_makes = λ t ts comma first others is_first are_others. one_in_front t ts (type_of first) (types_of others) is_first.0 is_first.1 are_others;
-  end_written = refl;
-  end_body = refl;
-  end_fault = λ parts. refl;
+  end_is = (refl, refl, λ parts. refl);
   end_makes = nothing_there;
 }
 
@@ -70,13 +66,9 @@ all_types = record {
   others = more_types;
   some = p.TypesSome;
   none = p.TypesNone;
-  some_written = refl;
-  some_body = refl;
-  some_fault = λ parts. refl;
+  some_is = (refl, refl, λ parts. refl);
   some_makes = λ t ts first others is_first are_others. one_in_front t ts (type_of first) (types_of others) is_first.0 is_first.1 are_others;
-  none_written = refl;
-  none_body = refl;
-  none_fault = λ parts. refl;
+  none_is = (refl, refl, λ parts. refl);
   none_makes = nothing_there;
 }
 

@@ -1,15 +1,12 @@
 -- What is written of a report is written of what it reports.
-use Rattle.std.proofs.Common.{◌≡◌, refl, ap, subst, Some}
-use Rattle.std.specs.Prelude.{unwrap_or}
+use Rattle.std.proofs.Common.{◌≡◌, refl, subst}
 use Rattle.std.proofs.lemmas.List.{append-nil}
+use Rattle.std.proofs.lemmas.Option.{same_Some}
 use Rattle.sil_ast.specs.declared.module.Module.{Module}
 use Rattle.sil_verifier.specs.Findings.{Finding, item, limit, typing, value, IsLimit}
 use Rattle.sil_verifier.specs.Reports.{Reported}
 use Rattle.sil_verifier.specs.declared.refusal.Refusal.{Refusal}
 use Rattle.sil_command.specs.RefusalTexts.{refusal_text, report_text}
-
-same_some : {A : Type 0} (a b : A) → Some a ≡ Some b → a ≡ b
-same_some a b e = ap (λ o. unwrap_or o a) e
 
 -- a limit has no report
 pub reported_not_limit : (m : Module) (x : Finding) (r : Refusal) → Reported m x r → IsLimit x → ⊥
@@ -20,9 +17,9 @@ reported_not_limit m (value n s) r h is = is
 
 pub reported_text : (m : Module) (x : Finding) (r : Refusal) → Reported m x r → report_text m r ≡ refusal_text m x
 reported_text m (item s n) r h =
-    subst (λ q. report_text m q ≡ refusal_text m (item s n)) (same_some _ r h) (append-nil (refusal_text m (item s n)))
+    subst (λ q. report_text m q ≡ refusal_text m (item s n)) (same_Some _ r h) (append-nil (refusal_text m (item s n)))
 reported_text m (limit what) r h = cc h
 reported_text m (typing f) r h =
-    subst (λ q. report_text m q ≡ refusal_text m (typing f)) (same_some _ r h) (append-nil (refusal_text m (typing f)))
+    subst (λ q. report_text m q ≡ refusal_text m (typing f)) (same_Some _ r h) (append-nil (refusal_text m (typing f)))
 reported_text m (value n s) r h =
-    subst (λ q. report_text m q ≡ refusal_text m (value n s)) (same_some _ r h) refl
+    subst (λ q. report_text m q ≡ refusal_text m (value n s)) (same_Some _ r h) refl
