@@ -112,29 +112,6 @@ fn resolve_parts(
       insts = parts.insts;
       terminator = with_numbers block.new.terminator parts.names.results parts.names.function parts.names.operands parts.names.edges;
     }) }
-    ensures block { IfOk result (λ parts. resolved_block s next.old block.old ≡ record {
-      args = parts.args;
-      insts = parts.insts;
-      terminator = record {
-        op = block.new.terminator.op;
-        results = parts.names.results;
-        operands = parts.names.operands;
-        ty = block.new.terminator.ty;
-        signature = block.new.terminator.signature;
-        function = parts.names.function;
-        member =
-            block.new.terminator.member;
-        number = block.new.terminator.number;
-        text = block.new.terminator.text;
-        qualifier =
-            block.new.terminator.qualifier.word;
-        lexical = block.new.terminator.lexical;
-        var_decl =
-            block.new.terminator.var_decl;
-        debug = block.new.terminator.debug;
-        edges = parts.names.edges;
-      };
-    }) }
     ensures next { OnOk result (next.new ≡ next.old + length (defined_in block.old)) }
     ensures faults { OnOk result (faults.new ≡ with_code
         (known_in tables.entry.functions.now tables.entry.blocks.now tables.entry.values.now) faults.old (code_of block.old)) }
@@ -229,24 +206,6 @@ fn resolve_names(
     ghost s: { Scope }
     requires { FindsScope tables.functions.now tables.blocks.now tables.values.now s }
     ensures inst { IfOk result (λ names. resolved_inst s next.old inst.old ≡ with_numbers inst.new names.results names.function names.operands names.edges) }
-    ensures inst { IfOk result (λ names. resolved_inst s next.old inst.old ≡ record {
-      op = inst.new.op;
-      results = names.results;
-      operands = names.operands;
-      ty = inst.new.ty;
-      signature = inst.new.signature;
-      function = names.function;
-      member = inst.new.member;
-      number = inst.new.number;
-      text =
-          inst.new.text;
-      qualifier = inst.new.qualifier.word;
-      lexical =
-          inst.new.lexical;
-      var_decl = inst.new.var_decl;
-      debug = inst.new.debug;
-      edges = names.edges;
-    }) }
     ensures next { OnOk result (next.new ≡ next.old + length (defined_by_inst inst.old)) }
     ensures faults { OnOk result (faults.new ≡ with_code
         (known_in tables.entry.functions.now tables.entry.blocks.now tables.entry.values.now) faults.old (inst.old ∷ [])) }

@@ -107,7 +107,8 @@ with_operands functions i w os ws h operands =
     let p = parts h in
     whole (ap (λ (j : Inst). record j { operands = os }) p.0, (p.1.0, (operands, p.1.1.1)))
 
-pub with_function : (functions : List Function) (i : Inst) (w : WrittenInst) (f : Option FuncId) (token : WrittenToken) → IsInstWritten functions i w → Some token.text ≡ option_map (name_in functions) f
+pub with_function : (functions : List Function) (i : Inst) (w : WrittenInst) (f : Option FuncId) (token : WrittenToken)
+    → IsInstWritten functions i w → Some token.text ≡ option_map (name_in functions) f
     → IsInstWritten functions (record i { function = f }) (record w { function = Some token })
 with_function functions i w f token h same =
     let p = parts h in

@@ -57,11 +57,6 @@ stuck_at k [] settled no_fit = tt
 stuck_at k (Read t ∷ ss) settled no_fit = no_fit
 stuck_at k (Part part ∷ ss) settled no_fit = settled
 
-stuck_at_end : (stack : List Symbol) → IsSettled None stack → (stack ≡ [] → ⊥) → IsStuck None stack
-stuck_at_end [] settled some = some refl
-stuck_at_end (Read t ∷ ss) settled some = tt
-stuck_at_end (Part part ∷ ss) settled some = settled
-
 pub turned : {l : Option Class} {part : Nonterminal} {p : Production} {first stack new : List Symbol} {none steps more : List Step}
     → Turns l first none stack steps → slice_get stack 0 ≡ Some (Part part) → choose part l ≡ Some p → Expands p stack steps new more → Turns l first none new more
 turned {l = l} {p = p} {first = first} {stack = stack} {none = none} {steps = steps} t is choice e =
@@ -75,15 +70,7 @@ smaller l {part = part} {p = p} {stack = stack} is choice e =
     let below = subst (λ x. lead (body p ++ rest) < lead (Part x ∷ rest)) (choose-way part l p choice) (lead-body p rest) in
     omega (arith, ap lead e.stack_is, ap lead (part_first stack is), below)
 
-pub settled_part : (l : Option Class) {part : Nonterminal} (stack : List Symbol) → slice_get stack 0 ≡ Some (Part part) → choose part l ≡ None → IsSettled l stack
-settled_part l stack is none = subst (IsSettled l) (sym (part_first stack is)) none
-
-pub settled_else : (l : Option Class) (stack : List Symbol) → ((part : Nonterminal) → slice_get stack 0 ≡ Some (Part part) → ⊥) → IsSettled l stack
-settled_else l [] h = tt
-settled_else l (Read t ∷ ss) h = tt
-settled_else l (Part part ∷ ss) h = absurd (h part refl)
-
-pub refused_token : {k : Class} {stack last : List Symbol} {steps more : List Step} → Settles (Some k) stack steps last more → (IsAccepted k last → ⊥) → Refuses (Some k) stack steps last more
+refused_token : {k : Class} {stack last : List Symbol} {steps more : List Step} → Settles (Some k) stack steps last more → (IsAccepted k last → ⊥) → Refuses (Some k) stack steps last more
 refused_token {k = k} {last = last} s no_fit = record { turns = s.turns; stuck = stuck_at k last s.settled no_fit }
 
 -- the same of a class with its number, and of the stack as a slice shows it
@@ -93,9 +80,6 @@ refused_numbered k j l shown {stack = stack} {last = last} {steps = steps} {more
     let settles : Settles (Some k) stack steps last more = subst (λ x. Settles x stack steps last more) (look ∙ ap Some same) s in
     let fits : IsTrue suits ↔ IsAccepted k last = subst (λ x. IsTrue suits ↔ IsAccepted x last) same (subst (λ x. IsTrue suits ↔ IsAccepted j x) items accepts) in
     refused_token settles (λ a. false≢true (sym stays ∙ fits.1 a))
-
-pub refused_end : {stack last : List Symbol} {steps more : List Step} → Settles None stack steps last more → (last ≡ [] → ⊥) → Refuses None stack steps last more
-refused_end {last = last} s some = record { turns = s.turns; stuck = stuck_at_end last s.settled some }
 
 pub took : {k : Class} {stack mid rest : List Symbol} {steps before new_steps : List Step} (popped : Option Symbol)
     → Settles (Some k) stack steps mid before → IsAccepted k mid → Pops mid popped rest → new_steps ≡ before ++ Take ∷ [] → Takes k stack steps rest new_steps

@@ -30,10 +30,6 @@ takes_of-append [] b = omega arith
 takes_of-append (Take ∷ a) b = omega (arith, takes_of-append a b)
 takes_of-append (Expand p ∷ a) b = takes_of-append a b
 
--- the tokens that are taken before a place, and from there on
-pub takes_of-split : (i : ℕ) (steps : List Step) → takes_of (take i steps) + takes_of (drop i steps) ≡ takes_of steps
-takes_of-split i steps = sym (takes_of-append (take i steps) (drop i steps)) ∙ ap takes_of (take-append-drop i steps)
-
 pub IsEnough-drop : (i : ℕ) (steps : List Step) → IsEnough steps → IsEnough (drop i steps)
 IsEnough-drop zero steps h = h
 IsEnough-drop (suc i) [] h = h

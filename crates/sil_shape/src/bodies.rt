@@ -29,18 +29,6 @@ macro_rules! at {
     };
 }
 
-macro_rules! punctuation {
-    ($punctuation:ident) => {
-        Symbol::Read(Terminal::Just(Class::Punctuation(Punctuation::$punctuation)))
-    };
-}
-
-macro_rules! part {
-    ($part:ident) => {
-        Symbol::Part(Nonterminal::$part)
-    };
-}
-
 /// Puts the body of a production on the stack, its first symbol on top.
 #[inline(always)]
 #[tactic(auto, unfolding(crate::specs::Grammar::body))]

@@ -13,18 +13,6 @@ use instruction_table::{
 use std::alloc::AllocError;
 use token_classes::{Class, Keyword, Punctuation};
 
-macro_rules! punctuation {
-    ($punctuation:ident) => {
-        Symbol::Read(Terminal::Just(Class::Punctuation(Punctuation::$punctuation)))
-    };
-}
-
-macro_rules! part {
-    ($part:ident) => {
-        Symbol::Part(Nonterminal::$part)
-    };
-}
-
 /// Whether an instruction ends a block.
 #[tactic(auto, unfolding(crate::specs::Rows::ends_block))]
 pub(crate) fn ends_block(op: Op) -> bool
