@@ -18,7 +18,8 @@ use Rattle.sil_rules.specs.declared.rule.Rule.TheVariants as rule
 use Rattle.sil_types.specs.Typing.Typed.{BreaksAtFunction, BreaksAtPoint, BreaksAtVtable, BreaksAt, Site, at_function, at_point, at_vtable, IsAt}
 use Rattle.sil_types.specs.Typing.Typed.BreaksAt.{function, point, vtable}
 use Rattle.sil_types.specs.Typing.Typed.BreaksAtFunction.{external, address_escapes, signature as function_signature, mixed_forms as function_mixed}
-use Rattle.sil_types.specs.Typing.Typed.BreaksAtPoint.{operand_type, result_count, edge_arguments, callee, switch_cases, entry_has_predecessor, qualifier, signature as point_signature, mixed_forms as point_mixed}
+use Rattle.sil_types.specs.Typing.Typed.BreaksAtPoint.{operand_type, result_count, edge_arguments, callee, switch_cases, entry_has_predecessor}
+use Rattle.sil_types.specs.Typing.Typed.BreaksAtPoint.{qualifier, signature as point_signature, mixed_forms as point_mixed}
 use Rattle.sil_types.specs.Typing.Typed.BreaksAtVtable.{deinit_signature}
 use Rattle.type_check.proofs.Firsts.{IsIn, AreAfter, AreInOrder, IsFirstRule, first_rule, first_of_places, first_same, at_zero, of_zero}
 use Rattle.type_check.specs.inner.FirstFault.{judged_function, judged_point, judged_vtable, fault_of_inst, fault_of_block, fault_of_body, fault_of_function, fault_of_vtable, fault_of}
@@ -118,7 +119,19 @@ module _ (m : Module) where
       point_back _ (qualifier e) = inr (inr (inr (inr (inr (inr (inr (inr (inl (e, refl)))))))))
 
       point_in_order : AreInOrder (judged_point m f block index i)
-      point_in_order = ((omega arith, (omega arith, (omega arith, (omega arith, (omega arith, (omega arith, (omega arith, (omega arith, tt)))))))), ((omega arith, (omega arith, (omega arith, (omega arith, (omega arith, (omega arith, (omega arith, tt))))))), ((omega arith, (omega arith, (omega arith, (omega arith, (omega arith, (omega arith, tt)))))), ((omega arith, (omega arith, (omega arith, (omega arith, (omega arith, tt))))), ((omega arith, (omega arith, (omega arith, (omega arith, tt)))), ((omega arith, (omega arith, (omega arith, tt))), ((omega arith, (omega arith, tt)), ((omega arith, tt), (tt, tt)))))))))
+      point_in_order = (
+        (omega arith, (omega arith, (omega arith, (omega arith, (omega arith, (omega arith, (omega arith, (omega arith, tt)))))))),
+        (
+          (omega arith, (omega arith, (omega arith, (omega arith, (omega arith, (omega arith, (omega arith, tt))))))),
+          (
+            (omega arith, (omega arith, (omega arith, (omega arith, (omega arith, (omega arith, tt)))))),
+            (
+              (omega arith, (omega arith, (omega arith, (omega arith, (omega arith, tt))))),
+              ((omega arith, (omega arith, (omega arith, (omega arith, tt)))), ((omega arith, (omega arith, (omega arith, tt))), ((omega arith, (omega arith, tt)), ((omega arith, tt), (tt, tt))))),
+            ),
+          ),
+        ),
+      )
 
     -- what is broken at an instruction
     abbrev AtInst : ℕ → ℕ → Inst → TypingFault → Type 0
@@ -180,8 +193,12 @@ module _ (m : Module) where
   function_of_stage : (n : ℕ) (f : Function) (a : TypingFault) → InFunction n f a → (k : ℕ) × (rest : List ℕ) × (k ≡ 4) × (fault_key a ≡ k ∷ n ∷ rest)
   function_of_stage n f a (inl h) =
       (stage_of (group_of h.0), 0 ∷ 0 ∷ 0 ∷ number_of h.0 ∷ [], stage_at_function n f h.0 h.1, sym (ap fault_key h.2))
-  function_of_stage n f a (inr h) =
-      (stage_of (group_of h.is.is.0), 1 ∷ (0 + h.index) ∷ (0 + h.is.index) ∷ number_of h.is.is.0 ∷ [], stage_at_point n f (0 + h.index) (0 + h.is.index) h.is.place h.is.is.0 h.is.is.1, sym (ap fault_key h.is.is.2))
+  function_of_stage n f a (inr h) = (
+    stage_of (group_of h.is.is.0),
+    1 ∷ (0 + h.index) ∷ (0 + h.is.index) ∷ number_of h.is.is.0 ∷ [],
+    stage_at_point n f (0 + h.index) (0 + h.is.index) h.is.place h.is.is.0 h.is.is.1,
+    sym (ap fault_key h.is.is.2),
+  )
 
   functions_in_order : (k l : ℕ) (x y : Function) (a b : TypingFault) → k < l → InFunction k x a → InFunction l y b → NotAfter (fault_key a) (fault_key b)
   functions_in_order k l x y a b lt h g =

@@ -51,7 +51,8 @@ pub(crate) fn rule_at_function(
 fn is_wrong_operand_type(body: &Body<'_, '_>, given: Option<usize>, inst: &Inst) -> bool
     requires body { IsBody body.now }
     requires given { given ≡ given_count body.now.table.now inst.now }
-    ensures { result ≡ operands.has_wrong_operand_type (declarations_of body.now.module.now) (value_types (declarations_of body.now.module.now) body.now.function.now) inst.now }
+    ensures { result ≡ operands.has_wrong_operand_type (declarations_of body.now.module.now)
+        (value_types (declarations_of body.now.module.now) body.now.function.now) inst.now }
 {
     has_wrong_operand_type(given, body.facts.given.types.as_slice(), inst)
 }

@@ -25,14 +25,16 @@ first_in_block-requires-clause-given c =
     let count : Inst → Option ℕ = given_count c.args.body.now.table.now in
     let b : Block = c.block-item.result in
     let here = ahead count c.loop-block.rest.now c.args.blocks.now c.loop-block.block-index b c.loop-block-test.true c.block-item.is c.loop-block.invariant.1 in
-    c.split_at.ensures.front ∙ own_part count b c.loop-block.rest.now (map count (insts_in (drop (c.loop-block.block-index + 1) c.args.blocks.now))) (c.len.result + 1) (ap (λ n. n + 1) c.len.ensures) here
+    c.split_at.ensures.front ∙ own_part count b c.loop-block.rest.now (map count (insts_in (drop (c.loop-block.block-index + 1) c.args.blocks.now))) (c.len.result
+    + 1) (ap (λ n. n + 1) c.len.ensures) here
 
 pub loop-block-preserved : goal.loop-block-preserved
 loop-block-preserved c =
     let count : Inst → Option ℕ = given_count c.args.body.now.table.now in
     let b : Block = c.block-item.result in
     let here = ahead count c.loop-block.rest.now c.args.blocks.now c.loop-block.block-index b c.loop-block-test.true c.block-item.is c.loop-block.invariant.1 in
-    let more = c.split_at.ensures.back ∙ part_behind count b c.loop-block.rest.now (map count (insts_in (drop (c.loop-block.block-index + 1) c.args.blocks.now))) (c.len.result + 1) (ap (λ n. n + 1) c.len.ensures) here in
+    let more = c.split_at.ensures.back
+    ∙ part_behind count b c.loop-block.rest.now (map count (insts_in (drop (c.loop-block.block-index + 1) c.args.blocks.now))) (c.len.result + 1) (ap (λ n. n + 1) c.len.ensures) here in
     let find : ℕ → Block → Option TypingFault = fault_of_block c.args.body.now.module.now c.args.body.now.number c.args.body.now.function.now in
     let no_fault = sym c.first_in_block.ensures ∙ c.in_default.is in (
       search rules,

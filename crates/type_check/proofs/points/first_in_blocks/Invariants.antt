@@ -10,4 +10,5 @@ abbrev pub invariant-loop-block : goal.invariant-loop-block
 invariant-loop-block l =
     (l.number ≡ l.block-index)
     × (l.rest ≡ map (given_count l.body.table.now) (insts_in (drop l.block-index l.blocks)))
-    × (first_from (fault_of_block l.body.module.now l.body.number l.body.function.now) 0 l.blocks ≡ first_from (fault_of_block l.body.module.now l.body.number l.body.function.now) l.number (drop l.block-index l.blocks))
+    × (first_from (fault_of_block l.body.module.now l.body.number l.body.function.now) 0 l.blocks
+    ≡ first_from (fault_of_block l.body.module.now l.body.number l.body.function.now) l.number (drop l.block-index l.blocks))
