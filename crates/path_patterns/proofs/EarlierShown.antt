@@ -23,7 +23,8 @@ append_parts (x ∷ xs) ys (y ∷ u) v e = at (append_parts xs ys u v (let tail 
     head : x ≡ y
     head = cc
 
-    at : ((rest : List _) × (xs ≡ u ++ rest)) ⊎ ((rest : List _) × (u ≡ xs ++ rest) × (ys ≡ rest ++ v)) → ((rest : List _) × (x ∷ xs ≡ (y ∷ u) ++ rest)) ⊎ ((rest : List _) × (y ∷ u ≡ (x ∷ xs) ++ rest) × (ys ≡ rest ++ v))
+    at : ((rest : List _) × (xs ≡ u ++ rest)) ⊎ ((rest : List _) × (u ≡ xs ++ rest) × (ys ≡ rest ++ v))
+        → ((rest : List _) × (x ∷ xs ≡ (y ∷ u) ++ rest)) ⊎ ((rest : List _) × (y ∷ u ≡ (x ∷ xs) ++ rest) × (ys ≡ rest ++ v))
     at (inl r) = inl (r.0, ap (λ l. x ∷ l) r.1 ∙ ap (λ h. h ∷ (u ++ r.0)) head)
     at (inr r) = inr (r.0, ap (λ l. y ∷ l) r.1 ∙ ap (λ h. h ∷ (xs ++ r.0)) (sym head), r.2)
 
@@ -41,7 +42,8 @@ first_items g b w u rest e = record { walk = []; is_walk = tt; count = length u;
 front_walk : {A : Type 0} (g : Flow A) (b : ℕ) (w : List EdgeId) (k : ℕ) (u v : List A) → IsWalkFrom g b w → passed g w ++ take k (items_at g (end_from g b w)) ≡ u ++ v → Front g b w u
 front_walk g b [] k u v h same =
     first_items g b [] u (v ++ drop k (items_at g b)) (sym (take-append-drop k (items_at g b)) ∙ ap (λ l. l ++ drop k (items_at g b)) same ∙ append_assoc u v (drop k (items_at g b)))
-front_walk {A} g b (e ∷ w) k u v h same = at (append_parts own (edge_item g e ∷ later) u v (sym (append_assoc own (edge_item g e ∷ passed g w) (take k (items_at g (end_from g (edge_to g e) w)))) ∙ same)) (λ rest. front_walk g (edge_to g e) w k rest v h.2)
+front_walk {A} g b (e ∷ w) k u v h same = at (append_parts own (edge_item g e ∷ later) u v (sym (append_assoc own (edge_item g e ∷ passed g w) (take k (items_at g (end_from g (edge_to g e) w))))
+    ∙ same)) (λ rest. front_walk g (edge_to g e) w k rest v h.2)
   where
     own : List A
     own = items_at g e.block.0
@@ -66,7 +68,8 @@ front_walk {A} g b (e ∷ w) k u v h same = at (append_parts own (edge_item g e 
           short = let le : length r.walk ≤ length w = r.short in omega arith;
         }
 
-    at : ((rest : List A) × (own ≡ u ++ rest)) ⊎ ((rest : List A) × (u ≡ own ++ rest) × (edge_item g e ∷ later ≡ rest ++ v)) → ((more : List A) → later ≡ more ++ v → Front g (edge_to g e) w more) → Front g b (e ∷ w) u
+    at : ((rest : List A) × (own ≡ u ++ rest)) ⊎ ((rest : List A) × (u ≡ own ++ rest) × (edge_item g e ∷ later ≡ rest ++ v)) → ((more : List A) → later ≡ more ++ v → Front g (edge_to g e) w more)
+        → Front g b (e ∷ w) u
     at (inl r) further = first_items g b (e ∷ w) u r.0 (sym here ∙ r.1)
     at (inr r) further = beyond r.0 r.1 r.2 further
 
@@ -89,7 +92,8 @@ module _ {A M : Type 0} (step : ℕ → M → Step) (InPlace : List M → M → 
   item_marks (Go s) (i ∷ t) = item_marks (run step (Go s) (items i)) t ∙ sym (run-append step (Go s) (items i) (flat_map items t))
   item_marks (Bad c) (i ∷ t) = item_marks (Bad c) t ∙ ap (λ r. run step r (flat_map items t)) (sym (run_bad step c (items i))) ∙ sym (run-append step (Bad c) (items i) (flat_map items t))
 
-  pub earlier_shown : (g : Flow A) (w : List EdgeId) (t : List A) → IsTrail g w t → (before rest : List M) (mark : M) → flat_map items t ≡ before ++ mark ∷ rest → (InPlace before mark → ⊥) → IsShownBy items InPlace code_of g w
+  pub earlier_shown : (g : Flow A) (w : List EdgeId) (t : List A) → IsTrail g w t → (before rest : List M) (mark : M) → flat_map items t ≡ before ++ mark ∷ rest → (InPlace before mark → ⊥)
+      → IsShownBy items InPlace code_of g w
   unfolding each_step
   earlier_shown g w t trail before rest mark parts out = at (run each_step (Go 0) t) refl
     where

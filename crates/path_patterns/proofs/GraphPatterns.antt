@@ -73,7 +73,8 @@ module _ {M : Type 0} (g : Layout) (f : Function) (is : IsGraphOf g f) (numbers 
       let Q : List M → Type 0 = λ v. FirstBreak InPlace code_of (flat_map numbers h.before) v code in
       record { before = parts.front; trail = subst (IsTrail (flow_of f) w) whole r.2; breaks = subst P before (subst Q (agrees i item e) h.breaks) }
 
-  pub shown_back : (w : List EdgeId) (code : ℕ) (item : Item) → Shows (flow_of f) items InPlace code_of w code item → (i : ℕ) × (item_at g i ≡ Some item) × Shows (numbered g) numbers InPlace code_of w code i
+  pub shown_back : (w : List EdgeId) (code : ℕ) (item : Item) → Shows (flow_of f) items InPlace code_of w code item
+      → (i : ℕ) × (item_at g i ≡ Some item) × Shows (numbered g) numbers InPlace code_of w code i
   shown_back w code item h =
       let r = trail_back g f is w (h.before ++ item ∷ []) h.trail in
       let parts = split_numbers g.kinds r.0 h.before (item ∷ []) r.1 in

@@ -96,7 +96,8 @@ module _ {M : Type 0} (step : ℕ → M → Step) (InPlace : List M → M → Ty
 
       pub shown_reached : (w : List EdgeId) (c item : ℕ) → Shows g marks InPlace code_of w c item → ReachesFirst g (item_step step marks) w c item
       shown_reached w c item h =
-          let read = lawful_read (flat_map marks h.before) (λ front rest mark e. h.breaks.kept front (rest ++ h.breaks.front) mark (ap (λ v. v ++ h.breaks.front) e ∙ append_assoc front (mark ∷ rest) h.breaks.front)) in
+          let read = lawful_read (flat_map marks h.before)
+          (λ front rest mark e. h.breaks.kept front (rest ++ h.breaks.front) mark (ap (λ v. v ++ h.breaks.front) e ∙ append_assoc front (mark ∷ rest) h.breaks.front)) in
           record {
             before = h.before;
             state = read.0;
@@ -122,7 +123,8 @@ module _ {M : Type 0} (step : ℕ → M → Step) (InPlace : List M → M → Ty
       shown_unkept w c item h all =
           let b = h.breaks in
           let parts : flat_map marks (h.before ++ item ∷ []) ≡ (flat_map marks h.before ++ b.front) ++ b.mark ∷ b.rest =
-          flat_map-append marks h.before (item ∷ []) ∙ ap (λ v. flat_map marks h.before ++ v) (append-nil (marks item) ∙ b.parts) ∙ sym (append_assoc (flat_map marks h.before) b.front (b.mark ∷ b.rest)) in
+          flat_map-append marks h.before (item ∷ []) ∙ ap (λ v. flat_map marks h.before ++ v) (append-nil (marks item) ∙ b.parts)
+          ∙ sym (append_assoc (flat_map marks h.before) b.front (b.mark ∷ b.rest)) in
           b.out_of_place (all w (h.before ++ item ∷ []) h.trail (flat_map marks h.before ++ b.front) b.rest b.mark parts)
 
 -- the accesses read up to one that is bad

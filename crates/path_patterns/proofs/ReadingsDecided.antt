@@ -19,7 +19,8 @@ module _ {A M : Type 0} (step : ℕ → M → Step) (means : A → Option M) whe
   pub read_run : (r : Step) (accesses : List A) → run (read_step step means) r accesses ≡ run step r (marks_in means accesses)
   read_run r [] = refl
   read_run r (x ∷ accesses) =
-      read_run (after (read_step step means) r x) accesses ∙ ap (λ v. run step v (marks_in means accesses)) (read_one r x (means x) refl) ∙ sym (run-append step r (one_or_none (means x)) (marks_in means accesses))
+      read_run (after (read_step step means) r x) accesses ∙ ap (λ v. run step v (marks_in means accesses)) (read_one r x (means x) refl)
+      ∙ sym (run-append step r (one_or_none (means x)) (marks_in means accesses))
 
   pub read_decides : (InPlace : List M → M → Type 0) (code_of : M → ℕ) → Decides step InPlace code_of → Decides (read_step step means) (FitsRead InPlace means) (read_code code_of means)
   read_decides InPlace code_of decides accesses s access e = at (means access)

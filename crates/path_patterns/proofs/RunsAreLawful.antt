@@ -41,7 +41,8 @@ module _ (rules : Sort → Rule) where
   spoilt : {P : Type 0} (c s : ℕ) (sorts : List Sort) → run mark_step (Bad c) (map (held_mark rules) sorts) ≡ Go s → P
   spoilt c s sorts h = absurd (go-bad s c (sym h ∙ run_bad mark_step c (map (held_mark rules) sorts)))
 
-  reads : (sorts : List Sort) (s : ℕ) → (run mark_step (Go 0) (map (held_mark rules) sorts) ≡ Go s → AreRuns (ended_at s) sorts) × (run mark_step (Go 1) (map (held_mark rules) sorts) ≡ Go s → AreRest (ended_at s) sorts)
+  reads : (sorts : List Sort) (s : ℕ) → (run mark_step (Go 0) (map (held_mark rules) sorts) ≡ Go s → AreRuns (ended_at s) sorts)
+      × (run mark_step (Go 1) (map (held_mark rules) sorts) ≡ Go s → AreRest (ended_at s) sorts)
   unfolding ended_at
   reads [] s = (λ h. subst (λ n. AreRuns (ended_at n) []) (same_Go 0 s h) runs.none, λ h. subst (λ n. AreRest (ended_at n) []) (same_Go 1 s h) (open_rest 0))
   reads (End ∷ sorts) s = (λ h. spoilt (index_of (rules End)) s sorts h, λ h. ended_rest 0 (ended_at s) sorts ((reads sorts s).0 h))

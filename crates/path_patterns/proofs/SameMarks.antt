@@ -25,7 +25,8 @@ module _ {A B M : Type 0} (step : ℕ → M → Step) (InPlace : List M → M �
       (read_run step other (Go 0) before2 ∙ ap (run step (Go 0)) (sym old) ∙ sym (read_run step means (Go 0) before) ∙ read.1)
       (read_run step other (Go read.0) marks2 ∙ ap (run step (Go read.0)) (sym new) ∙ sym (read_run step means (Go read.0) marks) ∙ bad)
 
-  same_along : {I : Type 0} (table : I → List A) (table2 : I → List B) → ((i : I) → marks_in means (table i) ≡ marks_in other (table2 i)) → (trail : List I) → marks_in means (flat_map table trail) ≡ marks_in other (flat_map table2 trail)
+  same_along : {I : Type 0} (table : I → List A) (table2 : I → List B) → ((i : I) → marks_in means (table i) ≡ marks_in other (table2 i)) → (trail : List I)
+      → marks_in means (flat_map table trail) ≡ marks_in other (flat_map table2 trail)
   same_along table table2 same [] = refl
   same_along table table2 same (i ∷ trail) =
       flat_map-append (λ access. one_or_none (means access)) (table i) (flat_map table trail) ∙ ap₂ (λ u v. u ++ v) (same i) (same_along table table2 same trail)

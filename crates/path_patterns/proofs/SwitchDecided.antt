@@ -78,7 +78,8 @@ read_at before (mark ∷ marks) s t h e =
     let here : IsAt (before ++ mark ∷ []) p.0 = subst (IsAt (before ++ mark ∷ [])) (sym (step_goes s mark p.0 p.1)) (push_at before mark s h mark.turns refl) in
     subst (λ v. IsAt v t) (append_assoc before (mark ∷ []) marks) (read_at (before ++ mark ∷ []) marks p.0 t here p.2)
 
-judged : (marks : List Mark) (mark : Mark) (s : ℕ) → IsAt marks s → (needs : Option Bool) → Judges (cond (fits s needs) (Go (turned s mark.turns)) (Bad (code_of mark))) (Finds needs marks) (code_of mark)
+judged : (marks : List Mark) (mark : Mark) (s : ℕ) → IsAt marks s → (needs : Option Bool)
+    → Judges (cond (fits s needs) (Go (turned s mark.turns)) (Bad (code_of mark))) (Finds needs marks) (code_of mark)
 judged marks mark s h None = tt
 judged marks mark _ (on h) (Some true) = h
 judged marks mark _ (on h) (Some false) = (λ p. p h, refl)

@@ -10,7 +10,8 @@ abbrev pub IsKept : {A M : Type 0} → Flow A → (A → List M) → (List M →
 IsKept {A} g marks InPlace = (w : List EdgeId) (trail : List A) → IsTrail g w trail → AreLawful InPlace (flat_map marks trail)
 
 -- some trail along the walk keeps the pattern up to its last item, and breaks it there, first with this code
-pub record Shows {A M : Type 0} (g : Flow A) (marks : A → List M) (InPlace : List M → M → Type 0) (code_of : M → ℕ) (w : List EdgeId) (code : ℕ) (item : A) : Type 0 where
+pub record Shows {A M : Type 0} (g : Flow A) (marks : A → List M) (InPlace : List M → M → Type 0) (code_of : M → ℕ) (w : List EdgeId) (code : ℕ)
+    (item : A) : Type 0 where
   pub before : List A
   pub trail : IsTrail g w (before ++ item ∷ [])
   pub breaks : FirstBreak InPlace code_of (flat_map marks before) (marks item) code
