@@ -25,7 +25,8 @@ pub accesses_last : {A : Type 0} (xs : List (Vec A Global)) (x : Vec A Global) (
 accesses_last xs x i e = ap (λ o. unwrap_or o []) (slice_get-map (λ v. v.items) (xs ++ x ∷ []) i ∙ ap (option_map (λ v. v.items)) (ap (slice_get (xs ++ x ∷ [])) e ∙ last_get xs x))
 
 -- one item more has its accesses
-pub accesses_one_more : {A : Type 0} (at : ℕ → List A) (all : List (Vec A Global)) (x : Vec A Global) (n : ℕ) → length all ≡ n → x.items ≡ at n → ((k : ℕ) → k < n → accesses_at all k ≡ at k) → (k : ℕ) → k < n + 1 → accesses_at (all ++ x ∷ []) k ≡ at k
+pub accesses_one_more : {A : Type 0} (at : ℕ → List A) (all : List (Vec A Global)) (x : Vec A Global) (n : ℕ) → length all ≡ n → x.items ≡ at n → ((k : ℕ) → k < n → accesses_at all k ≡ at k) → (k : ℕ)
+    → k < n + 1 → accesses_at (all ++ x ∷ []) k ≡ at k
 accesses_one_more {A} at all x n size these h k lt = by_case (cases_eq k n)
   where
     by_case : (k ≡ n) ⊎ (k ≢ n) → accesses_at (all ++ x ∷ []) k ≡ at k
@@ -33,7 +34,8 @@ accesses_one_more {A} at all x n size these h k lt = by_case (cases_eq k n)
     by_case (inr ne) = accesses_kept all x k (omega arith) ∙ h k (omega arith)
 
 -- a fact of each item and of what was made of it, with one more item
-pub accesses_more : {A B : Type 0} (R : List A → List B → Type 0) (entries : List (Vec A Global)) (made : List (Vec B Global)) (e : Vec A Global) (x : Vec B Global) (n : ℕ) → length made ≡ n → accesses_at entries n ≡ e.items →
+pub accesses_more : {A B : Type 0} (R : List A → List B → Type 0) (entries : List (Vec A Global)) (made : List (Vec B Global)) (e : Vec A Global) (x : Vec B Global) (n : ℕ) → length made ≡ n →
+    accesses_at entries n ≡ e.items →
     ((i : ℕ) → i < n → R (accesses_at entries i) (accesses_at made i)) → R e.items x.items → (i : ℕ) → i < n + 1 → R (accesses_at entries i) (accesses_at (made ++ x ∷ []) i)
 accesses_more {A} {B} R entries made e x n size here h is i lt = at (cases_eq i n)
   where

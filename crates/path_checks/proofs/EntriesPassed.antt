@@ -24,7 +24,8 @@ module _ (first count width : ℕ) where
   passed_none old bad = AllMoved_as (passes first []) (passes first []) 2 count width [] (0 ∷ []) old old bad bad (λ u s lu ls. refl) (AllMoved_none (passes first []) 2 count width old bad)
 
   -- entries, and then more entries
-  pub passed_then : (xs ys : List Entry) (old mid new before bad after : List ℕ) → length mid ≡ 2 * width → ArePassed first count width xs old mid before bad → ArePassed first count width ys mid new bad after →
+  pub passed_then : (xs ys : List Entry) (old mid new before bad after : List ℕ) → length mid ≡ 2 * width → ArePassed first count width xs old mid before bad →
+      ArePassed first count width ys mid new bad after →
       ArePassed first count width (xs ++ ys) old new before after
   passed_then xs ys old mid new before bad end size a b =
       AllMoved_as f (passes first (xs ++ ys)) 2 count width (0 ∷ (1 ∷ [])) (0 ∷ []) old new before end (λ u s lu ls. same u s)
@@ -55,12 +56,15 @@ module _ (first count width : ℕ) where
       AllMoved_as (passes first []) (passes first (e ∷ [])) 2 count width (0 ∷ []) (0 ∷ []) old old bad bad (λ u s lu ls. sym (stays e u (other u lu) s)) (passed_none old bad)
 
   -- the entry of a subject of the chunk, which is moved by its mark
-  pub passed_one : (e : Entry) (u : ℕ) (old new before end : List ℕ) → count ≤ 64 * width → u < count → e.subject ≡ first + u → length old ≡ 2 * width → length before ≡ width → length new ≡ length old → length end ≡ length before →
-      Moved (λ s _. mark_step s e.mark) 2 width u (0 ∷ []) old new → OthersStay 2 width u old new → Blamed (λ s _. mark_step s e.mark) 2 width u (0 ∷ []) old before end → ((v : ℕ) → v ≢ u → bit_in end v ≡ bit_in before v) →
+  pub passed_one : (e : Entry) (u : ℕ) (old new before end : List ℕ) → count ≤ 64 * width → u < count → e.subject ≡ first + u → length old ≡ 2 * width → length before ≡ width →
+      length new ≡ length old → length end ≡ length before →
+      Moved (λ s _. mark_step s e.mark) 2 width u (0 ∷ []) old new → OthersStay 2 width u old new → Blamed (λ s _. mark_step s e.mark) 2 width u (0 ∷ []) old before end →
+      ((v : ℕ) → v ≢ u → bit_in end v ≡ bit_in before v) →
       ArePassed first count width (e ∷ []) old new before end
   passed_one e u old new before end fits lu own size bad_size same_size same_bad moved others blamed innocent =
       turned_all f 2 count width 0 ts old new before end 1 (omega arith) (omega arith) fits below quiet size
-      (turned_more f 2 width 0 ts old old new before before end 0 u refl up (omega arith) (λ i l. let b : get_or ts i 0 < count = below i l in omega arith) same_size same_bad (turned_none f 2 width 0 ts old before size bad_size)
+      (turned_more f 2 width 0 ts old old new before before end 0 u refl up (omega arith) (λ i l. let b : get_or ts i 0 < count = below i l in
+      omega arith) same_size same_bad (turned_none f 2 width 0 ts old before size bad_size)
       (Moved_as (λ s _. mark_step s e.mark) (f u) 2 width u (0 ∷ []) (0 ∷ []) old new (λ s ls. marked s) moved) others
       (Blamed_as (λ s _. mark_step s e.mark) (f u) 2 width u (0 ∷ []) (0 ∷ []) old before end (λ s ls. marked s) blamed) innocent)
     where

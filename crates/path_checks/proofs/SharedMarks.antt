@@ -19,7 +19,8 @@ shared_more n (m ∷ marks) mark =
     ap (λ v. entry_if n m ++ v) (shared_more (n + 1) marks mark ∙ ap (λ k. shared_from (n + 1) marks ++ entry_if k mark) same)
     ∙ sym (append_assoc (entry_if n m) (shared_from (n + 1) marks) (entry_if (n + length (m ∷ marks)) mark))
 
-pub shared_pushed : (marks : List (Option Mark)) (k : ℕ) (d : Option Mark) (old new : List Entry) → k < length marks → new ≡ old ++ entry_if k (get_or marks k d) → old ≡ shared_from 0 (take k marks) → new ≡ shared_from 0 (take (k + 1) marks)
+pub shared_pushed : (marks : List (Option Mark)) (k : ℕ) (d : Option Mark) (old new : List Entry) → k < length marks → new ≡ old ++ entry_if k (get_or marks k d) → old ≡ shared_from 0 (take k marks)
+    → new ≡ shared_from 0 (take (k + 1) marks)
 shared_pushed marks k d old new lt pushed before =
     let size : 0 + length (take k marks) ≡ k = omega (arith, length-take-le k marks (omega arith)) in
     pushed ∙ ap (λ v. v ++ entry_if k (get_or marks k d)) before
@@ -28,9 +29,11 @@ shared_pushed marks k d old new lt pushed before =
 shared_below : (bound n : ℕ) (marks : List (Option Mark)) → n + length marks ≤ bound → All (λ (e : Entry). e.subject < bound) (shared_from n marks)
 shared_below bound n [] le = All-nil (λ (e : Entry). e.subject < bound)
 shared_below bound n (None ∷ marks) le = shared_below bound (n + 1) marks (omega arith)
-shared_below bound n (Some m ∷ marks) le = All-cons (λ (e : Entry). e.subject < bound) (record { subject = n; mark = m }) (shared_from (n + 1) marks) (omega arith) (shared_below bound (n + 1) marks (omega arith))
+shared_below bound n (Some m ∷ marks) le =
+    All-cons (λ (e : Entry). e.subject < bound) (record { subject = n; mark = m }) (shared_from (n + 1) marks) (omega arith) (shared_below bound (n + 1) marks (omega arith))
 
-pub all_below : (bound : ℕ) (own : List (List Entry)) (marks : List (Option Mark)) (sharing : List Bool) (i : ℕ) → length marks ≤ bound → All (λ (e : Entry). e.subject < bound) (list_at own i) → All (λ (e : Entry). e.subject < bound) (entries_with own marks sharing i)
+pub all_below : (bound : ℕ) (own : List (List Entry)) (marks : List (Option Mark)) (sharing : List Bool) (i : ℕ) → length marks ≤ bound → All (λ (e : Entry). e.subject < bound) (list_at own i)
+    → All (λ (e : Entry). e.subject < bound) (entries_with own marks sharing i)
 all_below bound own marks sharing i le below = All-append (λ (e : Entry). e.subject < bound) (list_at own i) (shared_if marks (is_sharing sharing i)) below (at (is_sharing sharing i))
   where
     at : (b : Bool) → All (λ (e : Entry). e.subject < bound) (shared_if marks b)

@@ -61,8 +61,10 @@ fn first_of_chunk(
 }
 
 /// The first fault that some walk of the function shows: by subject, then by rule, then with fewest edges; none where nothing is shown.
-/// `entries` has what each item of the function's graph does, by the item's number. `marks` has the entries that items share: for each subject, by its number, a mark or none.
-/// The items that have true in `sharing`, by their numbers, have these entries too, behind their own. All that has no place in `marks` or `sharing` has none of it.
+/// `entries` has what each item of the function's graph does, by the item's number. `marks` has the entries that items share:
+/// for each subject, by its number, a mark or none.
+/// The items that have true in `sharing`, by their numbers, have these entries too, behind their own.
+/// All that has no place in `marks` or `sharing` has none of it.
 pub fn first_fault(
     alloc: Global,
     f: &Function,
@@ -74,7 +76,8 @@ pub fn first_fault(
     requires graph { IsGraphOf g.now f.now }
     requires items { length entries.now ≡ item_count g.now }
     requires marks { length marks.now ≤ 2 ^ 32 }
-    ensures { IfOk result (λ r. (table : Item → List entry.Entry) → AgreesWith g.now (entries_with entries.now marks.now sharing.now) table → IsFirst f.now table r) }
+    ensures { IfOk result (λ r. (table : Item → List entry.Entry) → AgreesWith g.now (entries_with entries.now marks.now sharing.now) table
+        → IsFirst f.now table r) }
 {
     let shared = shared_entries(alloc, marks)?;
     let subjects = subject_bound(entries, marks.len());

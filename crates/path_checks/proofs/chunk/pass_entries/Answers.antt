@@ -12,6 +12,7 @@ loop-entry-preserved c = record {
   passed =
       let P : List Entry → Type 0 = λ v. ArePassed c.args.first c.args.count c.args.width v c.args.bundle.now c.pass_entry.new.bundle c.args.bad.now c.pass_entry.new.bad in
       subst P (sym (take_more c.args.entries.now c.loop-entry.entry-index _ c.loop-entry-test.true))
-      (passed_then c.args.first c.args.count c.args.width (take c.loop-entry.entry-index c.args.entries.now) _ c.args.bundle.now c.loop-entry.bundle c.pass_entry.new.bundle c.args.bad.now c.loop-entry.bad c.pass_entry.new.bad
+      (passed_then c.args.first c.args.count c.args.width (take c.loop-entry.entry-index c.args.entries.now) _ c.args.bundle.now c.loop-entry.bundle c.pass_entry.new.bundle c.args.bad.now
+      c.loop-entry.bad c.pass_entry.new.bad
       c.loop-entry.invariant.size c.loop-entry.invariant.passed c.pass_entry.ensures);
 }
