@@ -23,4 +23,5 @@ begun a = defined a.value
 
 -- what the item does to the values of the function: operands, what its edge hands over, results, and arguments that begin with it
 abbrev pub accesses_of : Function → Item → List Entry
-accesses_of f item = map used (item_operands f item) ++ map used (item_handover f item) ++ map defined (item_results f item) ++ map begun (item_arguments f item)
+accesses_of f item = map used (item_operands f item) ++ map used (item_handover f item) ++ map defined (item_results f item)
+    ++ map begun (item_arguments f item)
