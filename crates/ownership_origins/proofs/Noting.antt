@@ -35,7 +35,8 @@ pub edges_more : (i : Inst) (edges : List Edge) (k : ℕ) (edge : Edge) (a b c :
     Adds (λ n. filter_map (edge_to n i) (take k edges)) a b → Adds (λ n. option_to_list (edge_to n i edge)) b c → Adds (λ n. filter_map (edge_to n i) (take (k + 1) edges)) a c
 edges_more i edges k edge a b c lt is size g h =
     adds_same (λ n. filter_map (edge_to n i) (take k edges) ++ option_to_list (edge_to n i edge)) (λ n. filter_map (edge_to n i) (take (k + 1) edges)) a c
-    (λ n. sym (ap (filter_map (edge_to n i)) (more_is) ∙ filter_map-append (edge_to n i) (take k edges) (edge ∷ []) ∙ ap (λ xs. filter_map (edge_to n i) (take k edges) ++ xs) (filter_map_one (edge_to n i) edge)))
+    (λ n. sym (ap (filter_map (edge_to n i)) (more_is) ∙ filter_map-append (edge_to n i) (take k edges) (edge ∷ [])
+    ∙ ap (λ xs. filter_map (edge_to n i) (take k edges) ++ xs) (filter_map_one (edge_to n i) edge)))
     (adds_both (λ n. filter_map (edge_to n i) (take k edges)) (λ n. option_to_list (edge_to n i edge)) a b c size g h)
   where
     more_is : take (k + 1) edges ≡ take k edges ++ edge ∷ []
@@ -45,7 +46,8 @@ pub blocks_more : (blocks : List Block) (k : ℕ) (block : Block) (a b c : List 
     Adds (λ n. flat_map (switches_from n) (take k blocks)) a b → Adds (λ n. switches_from n block) b c → Adds (λ n. flat_map (switches_from n) (take (k + 1) blocks)) a c
 blocks_more blocks k block a b c lt is size g h =
     adds_same (λ n. flat_map (switches_from n) (take k blocks) ++ switches_from n block) (λ n. flat_map (switches_from n) (take (k + 1) blocks)) a c
-    (λ n. sym (ap (flat_map (switches_from n)) more_is ∙ flat_map-append (switches_from n) (take k blocks) (block ∷ []) ∙ ap (λ xs. flat_map (switches_from n) (take k blocks) ++ xs) (append-nil (switches_from n block))))
+    (λ n. sym (ap (flat_map (switches_from n)) more_is ∙ flat_map-append (switches_from n) (take k blocks) (block ∷ [])
+    ∙ ap (λ xs. flat_map (switches_from n) (take k blocks) ++ xs) (append-nil (switches_from n block))))
     (adds_both (λ n. flat_map (switches_from n) (take k blocks)) (λ n. switches_from n block) a b c size g h)
   where
     more_is : take (k + 1) blocks ≡ take k blocks ++ block ∷ []

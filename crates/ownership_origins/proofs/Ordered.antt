@@ -49,7 +49,8 @@ leads_args s [] n m le h rest r = from_greater m n (omega arith) rest r
 leads_args s (a ∷ args) n m le h rest r = (h, leads_args s args (n + 1) m (omega arith) (each_below n (n + 1) (omega arith) (default_operand s) h) rest r)
 
 -- one element more
-pub leads_more : {A : Type 0} (f : A → List Definition) (xs : List A) (i : ℕ) (x : A) (n m k : ℕ) → i < length xs → x ≡ get_or xs i x → LeadsOn n (flat_map f (take i xs)) m → LeadsOn m (f x) k → LeadsOn n (flat_map f (take (i + 1) xs)) k
+pub leads_more : {A : Type 0} (f : A → List Definition) (xs : List A) (i : ℕ) (x : A) (n m k : ℕ) → i < length xs → x ≡ get_or xs i x → LeadsOn n (flat_map f (take i xs)) m → LeadsOn m (f x) k
+    → LeadsOn n (flat_map f (take (i + 1) xs)) k
 leads_more f xs i x n m k lt is g h =
     let one : flat_map f (take (i + 1) xs) ≡ flat_map f (take i xs) ++ f x =
     ap (flat_map f) (take_more xs i x lt ∙ ap (λ y. take i xs ++ y ∷ []) (sym is)) ∙ flat_map-append f (take i xs) (x ∷ []) ∙ ap (λ ds. flat_map f (take i xs) ++ ds) (append-nil (f x)) in
@@ -59,10 +60,12 @@ before_at : (n : ℕ) (ds : List Definition) → AreInOrder n ds → (k : ℕ) �
 before_at n [] h zero = tt
 before_at n [] h (suc k) = tt
 before_at n (d ∷ ds) h zero = let e : n ≡ n + 0 = omega arith in subst (λ b. Each (λ (w : ValueId). w.0 < b) d.operands) e h.0
-before_at n (d ∷ ds) h (suc k) = let e : (n + 1) + k ≡ n + suc k = omega arith in subst (λ b. Each (λ (w : ValueId). w.0 < b) (unwrap_or (slice_get (map (λ (x : Definition). x.operands) ds) k) [])) e (before_at (n + 1) ds h.1 k)
+before_at n (d ∷ ds) h (suc k) = let e : (n + 1) + k ≡ n + suc k = omega arith in
+    subst (λ b. Each (λ (w : ValueId). w.0 < b) (unwrap_or (slice_get (map (λ (x : Definition). x.operands) ds) k) [])) e (before_at (n + 1) ds h.1 k)
 
 pub no_ring_in_order : (ds : List Definition) (m : ℕ) → LeadsOn 0 ds m → HasNoRing ds
-no_ring_in_order ds m h = ordered_off ds (λ v lt. all_from_each (λ (w : ValueId). w.0 < v.0) (operands_at ds v) (let e : 0 + v.0 ≡ v.0 = omega arith in subst (λ b. Each (λ (w : ValueId). w.0 < b) (operands_at ds v)) e (before_at 0 ds ordered v.0)))
+no_ring_in_order ds m h = ordered_off ds (λ v lt. all_from_each (λ (w : ValueId). w.0 < v.0) (operands_at ds v) (let e : 0 + v.0 ≡ v.0 = omega arith in
+    subst (λ b. Each (λ (w : ValueId). w.0 < b) (operands_at ds v)) e (before_at 0 ds ordered v.0)))
   where
     ordered : AreInOrder 0 ds
     ordered = subst (AreInOrder 0) (append-nil ds) (h [] tt)

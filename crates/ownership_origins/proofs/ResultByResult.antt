@@ -44,4 +44,5 @@ made_serves d i made given = at (asks_type (result_kind_of i.op)) refl
   where
     at : (b : Bool) → asks_type (result_kind_of i.op) ≡ b → map (definition_by_types d i (unwrap_or made [])) (range_with_len 0 (length i.results)) ≡ result_definitions d i
     at true e = ap (λ (m : Option (List TypeName)). map (definition_by_types d i (unwrap_or m [])) (range_with_len 0 (length i.results))) (given e)
-    at false e = maps_same (definition_by_types d i (unwrap_or made [])) (definition_by_types d i (unwrap_or (row_types d i) [])) (λ k. unasked (result_kind_of i.op) i _ _ e) (range_with_len 0 (length i.results))
+    at false e = maps_same (definition_by_types d i (unwrap_or made [])) (definition_by_types d i (unwrap_or (row_types d i) [])) (λ k. unasked (result_kind_of i.op) i _ _ e)
+        (range_with_len 0 (length i.results))

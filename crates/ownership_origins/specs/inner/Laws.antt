@@ -11,8 +11,10 @@ use Rattle.ownership_origins.specs.Renamings.{renamings_of}
 
 -- there is one of each for each value
 abbrev pub AreOfValues : Type 0
-AreOfValues = (d : Declarations) (f : Function) → (length (definitions_of d f) ≡ length (values_of f.blocks)) × (length (renamings_of f) ≡ length (values_of f.blocks))
+AreOfValues = (d : Declarations) (f : Function) → (length (definitions_of d f) ≡ length (values_of f.blocks))
+    × (length (renamings_of f) ≡ length (values_of f.blocks))
 
 -- in a module that was read, what a value is made from or another name of is a value of the function
 abbrev pub AreInRange : Type 0
-AreInRange = (d : Declarations) (m : Module) (f : Function) → IsNumbered m → Contains m.functions f → IsInRange (definitions_of d f) × IsInRange (renamings_of f)
+AreInRange = (d : Declarations) (m : Module) (f : Function) → IsNumbered m → Contains m.functions f
+    → IsInRange (definitions_of d f) × IsInRange (renamings_of f)

@@ -6,6 +6,7 @@ use Rattle.ownership_origins.proofs.results.add_made.Goals as goal
 
 pub loop-k-preserved : goal.loop-k-preserved
 loop-k-preserved c =
-    made_more c.args.table.now c.args.inst.now (unwrap_or (option_map made_told c.args.made) []) c.loop-k.k c.result_kind_of-kind.result c.is_trivial_result-trivial.result c.in_ok-result_definition.field-0
+    made_more c.args.table.now c.args.inst.now (unwrap_or (option_map made_told c.args.made) []) c.loop-k.k c.result_kind_of-kind.result c.is_trivial_result-trivial.result
+    c.in_ok-result_definition.field-0
     c.args.defs.now c.loop-k.defs c.push.new.self
     c.result_kind_of-kind.ensures c.is_trivial_result-trivial.ensures c.in_ok-result_definition.ensures c.loop-k.invariant c.in_ok-push.ensures.ok

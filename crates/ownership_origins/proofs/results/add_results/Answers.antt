@@ -12,5 +12,6 @@ pub returns : goal.returns
 returns c =
     subst (λ (x : List Definition). OnOk c.add_made.result (c.add_made.new.defs ≡ c.args.defs.now ++ x))
     (made_serves c.args.table.now c.args.inst.now (option_map made_told c.made_where_asked-made.result)
-    (subst (λ (k : ResultKind). asks_type k ≡ true → option_map made_told c.made_where_asked-made.result ≡ row_types c.args.table.now c.args.inst.now) c.result_kind_of.ensures c.made_where_asked-made.ensures))
+    (subst (λ (k : ResultKind). asks_type k ≡ true → option_map made_told c.made_where_asked-made.result ≡ row_types c.args.table.now c.args.inst.now) c.result_kind_of.ensures
+    c.made_where_asked-made.ensures))
     c.add_made.ensures

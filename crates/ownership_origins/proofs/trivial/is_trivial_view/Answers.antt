@@ -6,7 +6,9 @@ use Rattle.ownership_origins.proofs.TrivialTuples.{operands_trivial, results_tri
 use Rattle.ownership_origins.proofs.trivial.is_trivial_view.Goals as goal
 
 pub returns-in-TupleOf : goal.returns-in-TupleOf
-returns-in-TupleOf c = c.are_trivial_operands.ensures ∙ sym (operands_trivial c.args.table.now c.in-TupleOf.operands.now) ∙ sym (ap (λ (v : TypeView). is_trivial c.args.table.now (view_told v)) c.in-TupleOf.is)
+returns-in-TupleOf c = c.are_trivial_operands.ensures ∙ sym (operands_trivial c.args.table.now c.in-TupleOf.operands.now)
+    ∙ sym (ap (λ (v : TypeView). is_trivial c.args.table.now (view_told v)) c.in-TupleOf.is)
 
 pub returns-in-GivenBy : goal.returns-in-GivenBy
-returns-in-GivenBy c = c.are_trivial_results.ensures ∙ sym (results_trivial c.args.table.now c.in-GivenBy.results.now) ∙ sym (ap (λ (v : TypeView). is_trivial c.args.table.now (view_told v)) c.in-GivenBy.is)
+returns-in-GivenBy c = c.are_trivial_results.ensures ∙ sym (results_trivial c.args.table.now c.in-GivenBy.results.now)
+    ∙ sym (ap (λ (v : TypeView). is_trivial c.args.table.now (view_told v)) c.in-GivenBy.is)
