@@ -1,5 +1,6 @@
 -- The search along chains.
-use Rattle.std.proofs.Common.{◌≡◌, ◌≢◌, ℕ, zero, suc, ◌+◌, ◌<◌, List, [], ◌∷◌, ◌++◌, length, get_or, set, take, refl, sym, ap, ◌∙◌, subst, arith, Bool, true, false, not, cond, ◌⊎◌, inl, inr, append_assoc, get_or-set_same, get_or-set_other}
+use Rattle.std.proofs.Common.{◌≡◌, ◌≢◌, ℕ, zero, suc, ◌+◌, ◌<◌, List, [], ◌∷◌, ◌++◌, length, get_or, set, take, refl, sym, ap, ◌∙◌, subst}
+use Rattle.std.proofs.Common.{arith, Bool, true, false, not, cond, ◌⊎◌, inl, inr, append_assoc, get_or-set_same, get_or-set_other}
 use Rattle.std.specs.Prelude.{All, Contains, count_by, Some}
 use Rattle.std.proofs.lemmas.Bool.{cases_eq}
 use Rattle.std.proofs.lemmas.List.{length-set, length_push, take_more}
@@ -37,7 +38,8 @@ marked_lt (x ∷ marks) zero h = omega arith
 marked_lt (x ∷ marks) (suc v) h = let lt : v < length marks = marked_lt marks v h in omega arith
 
 module _ (parts : List ℕ) (marks : List Bool) (stack : List ℕ) where
-  pub visit_skip : (marks' : List Bool) (stack' : List ℕ) (i d : ℕ) → i < length parts → Visits (take i parts) marks stack marks' stack' → IsMarked marks' (get_or parts i d) → Visits (take (i + 1) parts) marks stack marks' stack'
+  pub visit_skip : (marks' : List Bool) (stack' : List ℕ) (i d : ℕ) → i < length parts → Visits (take i parts) marks stack marks' stack' → IsMarked marks' (get_or parts i d)
+      → Visits (take (i + 1) parts) marks stack marks' stack'
   visit_skip marks' stack' i d lt v here = record {
     size = v.size;
     kept = v.kept;
@@ -54,7 +56,8 @@ module _ (parts : List ℕ) (marks : List Bool) (stack : List ℕ) where
       at x (inl h) = inl h
       at x (inr c) = inr (subst (λ xs. Contains xs x) (sym (take_more parts i d lt)) (Contains-append_left (take i parts) (get_or parts i d ∷ []) x c))
 
-  pub visit_push : (marks' : List Bool) (stack' : List ℕ) (i d : ℕ) → i < length parts → get_or parts i d < length marks' → Visits (take i parts) marks stack marks' stack' → get_or marks' (get_or parts i d) false ≡ false →
+  pub visit_push : (marks' : List Bool) (stack' : List ℕ) (i d : ℕ) → i < length parts → get_or parts i d < length marks' → Visits (take i parts) marks stack marks' stack' →
+      get_or marks' (get_or parts i d) false ≡ false →
       Visits (take (i + 1) parts) marks stack (set marks' (get_or parts i d) true) (stack' ++ get_or parts i d ∷ [])
   visit_push marks' stack' i d lt within v off = record {
     size = length-set marks' w true ∙ v.size;
@@ -65,7 +68,8 @@ module _ (parts : List ℕ) (marks : List Bool) (stack : List ℕ) where
     grows = ap (λ s. s ++ w ∷ []) v.grows ∙ append_assoc stack v.more (w ∷ []);
     new = λ x h. fresh x (set_only marks' w x h);
     marked = All-push (IsMarked new_marks) v.more w (All-weaker (IsMarked marks') (IsMarked new_marks) (λ x h. set_keeps marks' w x within h) v.more v.marked) here;
-    room = (let fewer : suc (count_by not new_marks) ≡ count_by not marks' = count_set marks' w within off in let longer : length (stack' ++ w ∷ []) ≡ length stack' + 1 = length_push stack' w in let room : count_by not marks' + length stack' ≡ count_by not marks + length stack = v.room in omega arith);
+    room = (let fewer : suc (count_by not new_marks) ≡ count_by not marks' = count_set marks' w within off in let longer : length (stack' ++ w ∷ []) ≡ length stack' + 1 = length_push stack' w in
+        let room : count_by not marks' + length stack' ≡ count_by not marks + length stack = v.room in omega arith);
   }
     where
       w : ℕ
@@ -83,7 +87,8 @@ module _ (parts : List ℕ) (marks : List Bool) (stack : List ℕ) where
           old : IsMarked marks x ⊎ Contains (take i parts) x → IsMarked marks x ⊎ Contains (take (i + 1) parts) x
           old (inl h) = inl h
           old (inr c) = inr (subst (λ xs. Contains xs x) (sym (take_more parts i d lt)) (Contains-append_left (take i parts) (get_or parts i d ∷ []) x c))
-      at x (inr e) = inr (subst (λ xs. Contains xs x) (sym (take_more parts i d lt)) (subst (Contains (take i parts ++ get_or parts i d ∷ [])) (sym e) (Contains-push (take i parts) (get_or parts i d))))
+      at x (inr e) =
+          inr (subst (λ xs. Contains xs x) (sym (take_more parts i d lt)) (subst (Contains (take i parts ++ get_or parts i d ∷ [])) (sym e) (Contains-push (take i parts) (get_or parts i d))))
 
       fresh : (x : ℕ) → IsMarked marks' x ⊎ (x ≡ get_or parts i d) → IsMarked marks x ⊎ Contains (v.more ++ get_or parts i d ∷ []) x
       fresh x (inl h) = old (v.new x h)
@@ -95,7 +100,8 @@ module _ (parts : List ℕ) (marks : List Bool) (stack : List ℕ) where
 
 module _ (graph : Graph) (from : ℕ) where
   -- the search when it begins
-  pub searches_begun : (marks marks' : List Bool) (stack' : List ℕ) → length marks ≡ length graph → ((v : ℕ) → get_or marks v false ≡ false) → Visits (parts_of graph from) marks [] marks' stack' → Searches graph from marks' stack'
+  pub searches_begun : (marks marks' : List Bool) (stack' : List ℕ) → length marks ≡ length graph → ((v : ℕ) → get_or marks v false ≡ false) → Visits (parts_of graph from) marks [] marks' stack'
+      → Searches graph from marks' stack'
   searches_begun marks marks' stack' size none v = record {
     size = v.size ∙ size;
     sound = λ x h. sound x (v.only x h);
@@ -170,7 +176,8 @@ module _ (graph : Graph) (from : ℕ) where
       along a b (one _ _ c) all = All-contains (IsMarked marks) (parts_of graph a) b all c
       along a b (more _ u _ c h) all = along u b h (closed u (All-contains (IsMarked marks) (parts_of graph a) u all c))
 
-pub visits_same : (parts : List ℕ) (marks : List Bool) (stack : List ℕ) (marks' m : List Bool) (stack' s : List ℕ) → marks' ≡ m → stack' ≡ s → Visits parts marks stack m s → Visits parts marks stack marks' stack'
+pub visits_same : (parts : List ℕ) (marks : List Bool) (stack : List ℕ) (marks' m : List Bool) (stack' s : List ℕ) → marks' ≡ m → stack' ≡ s → Visits parts marks stack m s
+    → Visits parts marks stack marks' stack'
 visits_same parts marks stack marks' m stack' s a b h = subst (λ x. Visits parts marks stack x stack') (sym a) (subst (λ y. Visits parts marks stack m y) (sym b) h)
 
 -- the parts of a number are what stands at its place

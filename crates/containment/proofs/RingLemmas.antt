@@ -59,10 +59,12 @@ module _ (graph : Graph) (P : ℕ → Type 0) (next : (v : ℕ) → P v → (w :
   pub some_ring : (v : ℕ) → P v → Ring graph P
   some_ring v p =
       let none = replicate (length graph) false in
-      ring_from (count_by not none) none v p (length-replicate (length graph) false) (omega arith) (λ x h. absurd (let lt : x < length graph = marked_lt_all x h in let off : get_or none x false ≡ false = get_or-replicate (length graph) x false false lt in cc (off, h)))
+      ring_from (count_by not none) none v p (length-replicate (length graph) false) (omega arith)
+      (λ x h. absurd (let lt : x < length graph = marked_lt_all x h in let off : get_or none x false ≡ false = get_or-replicate (length graph) x false false lt in cc (off, h)))
     where
       marked_lt_all : (x : ℕ) → IsMarked (replicate (length graph) false) x → x < length graph
-      marked_lt_all x h = let lt : x < length (replicate (length graph) false) = marked_lt (replicate (length graph) false) x h in let long : length (replicate (length graph) false) ≡ length graph = length-replicate (length graph) false in omega arith
+      marked_lt_all x h = let lt : x < length (replicate (length graph) false) = marked_lt (replicate (length graph) false) x h in
+          let long : length (replicate (length graph) false) ≡ length graph = length-replicate (length graph) false in omega arith
 
 -- a part that isn't marked
 some_unmarked : (marks : List Bool) (parts : List ℕ) → list_all (is_marked marks) parts ≡ false → (w : ℕ) × Contains parts w × (is_marked marks w ≡ false)
@@ -113,7 +115,8 @@ pub in_order : (graph : Graph) (marks : List Bool) (order : List ℕ) → IsInRa
     IsOrder graph order
 in_order graph marks order range s stuck none = record {
   all = λ v lt. s.placed v (all_marked graph marks range stuck none v lt);
-  inside = All-weaker (IsMarked marks) (λ v. v < length graph) (λ v h. let lt : v < length marks = marked_lt marks v h in let size : length marks ≡ length graph = s.size in omega arith) order s.marked;
+  inside = All-weaker (IsMarked marks) (λ v. v < length graph) (λ v h. let lt : v < length marks = marked_lt marks v h in let size : length marks ≡ length graph = s.size in
+      omega arith) order s.marked;
   parts = s.parts;
   once = let count : count_by not marks + length order ≡ length graph = s.count in omega arith;
 }

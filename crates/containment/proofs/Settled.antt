@@ -13,7 +13,8 @@ use Rattle.containment.specs.inner.Settling.{Settles, is_marked}
 use Rattle.containment.proofs.Chaining.{count_set, set_keeps, set_only}
 
 -- a number whose parts are placed goes behind them
-module _ (graph : Graph) (marks : List Bool) (order : List ℕ) (v : ℕ) (inside : v < length graph) (s : Settles graph marks order) (off : get_or marks v false ≡ false) (parts : list_all (is_marked marks) (parts_of graph v) ≡ true) where
+module _ (graph : Graph) (marks : List Bool) (order : List ℕ) (v : ℕ) (inside : v < length graph) (s : Settles graph marks order) (off : get_or marks v false ≡ false)
+    (parts : list_all (is_marked marks) (parts_of graph v) ≡ true) where
   within : v < length marks
   within = let size : length marks ≡ length graph = s.size in omega arith
 
@@ -50,7 +51,8 @@ module _ (graph : Graph) (marks : List Bool) (order : List ℕ) (v : ℕ) (insid
     placed = λ x h. placed x (set_only marks v x h);
     marked = All-push (IsMarked (set marks v true)) order v (All-weaker (IsMarked marks) (IsMarked (set marks v true)) (λ x h. set_keeps marks v x within h) order s.marked) here;
     parts = all_before;
-    count = (let fewer : suc (count_by not (set marks v true)) ≡ count_by not marks = count_set marks v within off in let longer : length (order ++ v ∷ []) ≡ length order + 1 = length_push order v in let count : count_by not marks + length order ≡ length graph = s.count in omega arith);
+    count = (let fewer : suc (count_by not (set marks v true)) ≡ count_by not marks = count_set marks v within off in let longer : length (order ++ v ∷ []) ≡ length order + 1 = length_push order v in
+        let count : count_by not marks + length order ≡ length graph = s.count in omega arith);
   }
 
   pub fewer_left : count_by not (set marks v true) < count_by not marks
