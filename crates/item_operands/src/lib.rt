@@ -7,5 +7,5 @@ mod parts;
 mod taken;
 
 pub use items::{add_item_defined, add_item_taken};
-pub use parts::{item_arguments, item_edge, item_handover, item_inst, item_operands, item_results};
+pub use parts::{item_arguments, item_handover, item_inst, item_operands, item_results};
 pub use taken::{Taken, add_taken_along, add_taken_by};

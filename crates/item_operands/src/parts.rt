@@ -67,7 +67,7 @@ pub fn item_inst(f: &Function, item: Item) -> Option<&Inst>
 }
 
 /// The edge of an item, if it is one's.
-pub fn item_edge(f: &Function, item: Item) -> Option<&Edge>
+pub(crate) fn item_edge(f: &Function, item: Item) -> Option<&Edge>
     ensures { option_copied result ≡ parts.item_edge f.now item }
 {
     match item {
