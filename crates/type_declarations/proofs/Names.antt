@@ -43,7 +43,8 @@ behind a x names (k, inside, e) = (suc k, omega arith, e)
 -- the names of `Swift` and those of the text differ, where no name is given twice
 pub names_once : (swift : Bool) (decls : List Decl) → AreOnce ((codes "Builtin" ∷ swift_names swift) ++ map decl_name decls) → AreOnce (map decl_name (swift_structs swift ++ decls))
 names_once false decls h = h.1
-names_once true decls h = (λ c. h.1.0 (further (codes "Bool") (codes "Optional") (codes "Int") (map decl_name decls) c), (λ c. h.1.1.0 (behind (codes "Optional") (codes "Bool") (map decl_name decls) c), h.1.1.1.1))
+names_once true decls h =
+    (λ c. h.1.0 (further (codes "Bool") (codes "Optional") (codes "Int") (map decl_name decls) c), (λ c. h.1.1.0 (behind (codes "Optional") (codes "Bool") (map decl_name decls) c), h.1.1.1.1))
 
 alone : (x : Name) → AreOnce (x ∷ [])
 alone x = (λ c. let none : c.0 < 0 = c.1 in absurd (omega arith), tt)

@@ -2,7 +2,8 @@
 
 ghost use Rattle.std.specs.Prelude.{◌≡◌, ◌+◌, IfSome, length};
 ghost use Rattle.std.specs.Option.{option_copied};
-ghost use Rattle.type_definitions.specs.Declarations.{all_decls, all_names, at_place, decl_of, has_member, is_class, is_swift_optional, members_of, optional_cases, place_of, swift_structs};
+ghost use Rattle.type_definitions.specs.Declarations.{all_decls, all_names, at_place, decl_of, has_member, is_class, is_swift_optional};
+ghost use Rattle.type_definitions.specs.Declarations.{members_of, optional_cases, place_of, swift_structs};
 ghost use Rattle.std.specs.Prelude.{is_some};
 
 use crate::name_index::NameIndex;
@@ -37,7 +38,8 @@ impl Model for DeclarationTable {
 
     ghost view = { λ t. record { swift = t.swift; decls = in_text t.swift t.all; vtables = t.vtables } };
 
-    ghost invariant = { λ t. IsSplit t.swift t.all × (t.names ≡ map decl_name t.all) × (t.members ≡ map member_names t.all) × (t.classes ≡ map class_name t.vtables) };
+    ghost invariant = { λ t. IsSplit t.swift t.all × (t.names ≡ map decl_name t.all) × (t.members ≡ map member_names t.all)
+        × (t.classes ≡ map class_name t.vtables) };
 }
 
 impl DeclarationTable {
