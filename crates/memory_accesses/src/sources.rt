@@ -10,8 +10,8 @@ use crate::columns::{AccessKind, access_kind_of};
 use crate::source::Source;
 use sil_ast::{BlockArg, Decl, Exhausted, Field, Function, Inst, List, Text, TypeName, ValueId};
 use sil_types::TypeTable;
+use sil_types::shapes::{is_trivial_object, target};
 use std::alloc::Global;
-use typing_rows::shapes::{is_trivial_object, target};
 use value_tables::{ValueTable, add_values, first_value, push_times, room_for_values};
 
 fn slot_source(table: &TypeTable, inst: &Inst) -> Source

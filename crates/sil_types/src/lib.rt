@@ -6,12 +6,16 @@ mod build;
 mod items;
 mod limits;
 mod lookups;
+pub mod members;
+mod parts;
 mod refusal;
 mod ring;
 mod same;
+pub mod shapes;
 mod table;
 mod wrong;
 
+pub use parts::{args_of, written};
 pub use refusal::TypeRefusal;
 pub use same::{same_signature, same_type, same_types};
 pub use table::TypeTable;

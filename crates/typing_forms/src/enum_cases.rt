@@ -3,13 +3,13 @@
 ghost use Rattle.std.specs.Prelude.{◌≡◌, ◌<◌, ◌≤◌, option_map, unwrap_or, IfSome};
 ghost use Rattle.numbered_form.specs.Limits.{IsDeclInLimits};
 ghost use Rattle.numbered_form.specs.Lists.{Each};
-ghost use Rattle.sil_ast.specs.declared.type_name.TypeName.{out-TypeName};
 ghost use Rattle.type_declarations.specs.inner.Found.{payload_told};
 ghost use Rattle.sil_types.specs.Typing.Shapes as shape;
 ghost use Rattle.sil_types.specs.Typing.SwitchRules as rules;
 
-use sil_ast::{Decl, Edge, Member, Text, TypeName};
+use sil_ast::{Decl, Edge, TypeName};
 use sil_rules::limits::MEMBERS;
+use sil_types::members::case_in;
 use sil_types::{PayloadRef, TypeTable};
 
 /// How many cases a type has: none where it isn't an enum.
@@ -29,31 +29,6 @@ pub(crate) fn case_count(table: &TypeTable, ty: &TypeName) -> usize
         | TypeName::Weak(_)
         | TypeName::Unowned(_)
         | TypeName::Address(_) => 0,
-    }
-}
-
-/// Whether the name in front of a case is that of the type.
-fn is_case_owner(owner: &Text, ty: &TypeName) -> bool
-    ensures { result ≡ shape.is_case_owner_layer owner.now (out-TypeName ty.now) }
-{
-    match ty {
-        TypeName::Named(name) => *name == *owner,
-        TypeName::Optional(_) => owner.as_slice() == b"Optional".as_slice(),
-        TypeName::Int(_)
-        | TypeName::Tuple(_)
-        | TypeName::Weak(_)
-        | TypeName::Unowned(_)
-        | TypeName::Address(_) => false,
-    }
-}
-
-fn case_in<'t>(table: &'t TypeTable, member: &Member, ty: &'t TypeName) -> Option<PayloadRef<'t>>
-    ensures { option_map payload_told result ≡ shape.case_in table.now member.now ty.now }
-{
-    if is_case_owner(&member.owner, ty) {
-        table.payload(ty, &member.name)
-    } else {
-        None
     }
 }
 

@@ -3,12 +3,13 @@
 ghost use Rattle.std.specs.Prelude.{◌≡◌};
 ghost use Rattle.std.specs.List.{list_any};
 ghost use Rattle.sil_types.specs.Typing.FormRules as rules;
-ghost use Rattle.sil_types.specs.Typing.Shapes as shape;
 ghost use Rattle.sil_types.specs.Typing.SignatureRules as signature;
 
-use crate::parts::{args_of, is_lowered, written_target};
+use crate::parts::{is_lowered, written_target};
 use instruction_table::{InForms, forms_of};
-use sil_ast::{ArgKind, BlockArg, Form, Function, Inst, Module, Qualifier, TypeName};
+use sil_ast::{ArgKind, BlockArg, Form, Function, Inst, Module, Qualifier};
+use sil_types::args_of;
+use sil_types::shapes::is_storage;
 
 /// The form of the first function that has a body.
 pub fn first_form(m: &Module) -> Option<Form>
@@ -108,19 +109,6 @@ fn is_at_storage(inst: &Inst) -> bool
     match written_target(inst, 0) {
         Some(ty) => is_storage(ty),
         None => false,
-    }
-}
-
-fn is_storage(ty: &TypeName) -> bool
-    ensures { result ≡ shape.is_storage ty.now }
-{
-    match ty {
-        TypeName::Weak(_) | TypeName::Unowned(_) => true,
-        TypeName::Int(_)
-        | TypeName::Named(_)
-        | TypeName::Optional(_)
-        | TypeName::Tuple(_)
-        | TypeName::Address(_) => false,
     }
 }
 

@@ -8,9 +8,9 @@ ghost use Rattle.sil_types.specs.Typing.SwitchRules as rules;
 ghost use Rattle.sil_types.specs.Typing.Values.{arg_type};
 
 use crate::enum_cases::case_of_edge;
-use crate::parts::{args_of, is_lowered};
+use crate::parts::is_lowered;
 use sil_ast::{BlockArg, Edge, Form, Function, TypeName};
-use sil_types::{TypeTable, same_type};
+use sil_types::{TypeTable, args_of, same_type};
 
 /// Whether each edge goes to a block with the payload of its case as its argument, or for the default with the enum or none.
 pub(crate) fn fit_edges(table: &TypeTable, f: &Function, ty: &TypeName, edges: &[Edge]) -> bool

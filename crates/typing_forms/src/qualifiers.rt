@@ -2,12 +2,12 @@
 
 ghost use Rattle.std.specs.Prelude.{◌≡◌};
 ghost use Rattle.sil_types.specs.Typing.FormRules as rules;
-ghost use Rattle.sil_types.specs.Typing.Shapes as shape;
 
 use crate::parts::written_target;
 use instruction_table::{TypeWords, type_words_of};
 use sil_ast::{Form, Function, Inst, Qualifier, TypeName};
 use sil_types::TypeTable;
+use sil_types::shapes::{is_nontrivial, is_trivial_object};
 
 /// Whether, in ownership form, the word in brackets isn't one for the type at the instruction's address, or there is none where
 /// one is asked for.
@@ -59,26 +59,5 @@ fn is_write_word(table: &TypeTable, word: Qualifier, ty: &TypeName) -> bool
         Qualifier::Init | Qualifier::Assign => is_nontrivial(table, ty),
         Qualifier::Trivial => is_trivial_object(table, ty),
         Qualifier::Plain | Qualifier::Copy | Qualifier::Take => false,
-    }
-}
-
-fn is_nontrivial(table: &TypeTable, ty: &TypeName) -> bool
-    ensures { result ≡ shape.is_nontrivial table.now ty.now }
-{
-    is_object(ty) && !table.is_trivial(ty)
-}
-
-fn is_trivial_object(table: &TypeTable, ty: &TypeName) -> bool
-    ensures { result ≡ shape.is_trivial_object table.now ty.now }
-{
-    is_object(ty) && table.is_trivial(ty)
-}
-
-fn is_object(ty: &TypeName) -> bool
-    ensures { result ≡ shape.is_object ty.now }
-{
-    match ty {
-        TypeName::Int(_) | TypeName::Named(_) | TypeName::Optional(_) | TypeName::Tuple(_) => true,
-        TypeName::Weak(_) | TypeName::Unowned(_) | TypeName::Address(_) => false,
     }
 }

@@ -8,12 +8,11 @@ ghost use Rattle.numbered_form.specs.Numbering.{IsEdgeInRange, values_of};
 ghost use Rattle.sil_types.specs.Typing.SwitchRules as rules;
 ghost use Rattle.typing_forms.specs.inner.Incoming.{AreIncoming};
 
-use crate::parts::written;
 use crate::payloads::fit_edges;
 use crate::switch_cases::{are_of_enum, has_each_case_once};
 use instruction_table::{Ending, ending_of};
 use sil_ast::{Edge, Function, Inst, TypeName};
-use sil_types::TypeTable;
+use sil_types::{TypeTable, written};
 
 /// Whether a `switch_enum` repeats a case, names one of another enum, or leaves one out without a default; or a block that it
 /// goes to has another edge to it, or arguments that aren't the case's payload. `counts` is what `count_incoming` makes.

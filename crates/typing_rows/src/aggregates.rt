@@ -7,11 +7,11 @@ ghost use Rattle.sil_types.specs.Typing.RowTypes.{all_written, is_made_by_case, 
 ghost use Rattle.sil_types.specs.Typing.Same.{are_same_types};
 ghost use Rattle.typing_rows.specs.inner.Views.{made_told};
 
-use crate::members::{case_in, fields_of_struct};
-use crate::shapes::is_enum;
 use crate::view::{Made, TypeView};
 use crate::written_types::{are_elements, next_written, none_written};
 use sil_ast::{Field, Inst, Operand, TypeName};
+use sil_types::members::{case_in, fields_of_struct};
+use sil_types::shapes::is_enum;
 use sil_types::{TypeTable, same_type};
 
 /// Whether the types that are written at the operands are those of the fields.

@@ -7,12 +7,12 @@ ghost use Rattle.sil_types.specs.Typing.RowTypes as rows;
 ghost use Rattle.sil_types.specs.Typing.Shapes as shapes;
 ghost use Rattle.sil_types.specs.Typing.Shapes.{where_it};
 
-use crate::shapes::{
+use sil_ast::TypeName;
+use sil_types::TypeTable;
+use sil_types::shapes::{
     element_of, is_bit, is_class_type, is_enum, is_integer, is_nontrivial, is_object, is_storage,
     object_at, target, unowned_at, weak_at,
 };
-use sil_ast::TypeName;
-use sil_types::TypeTable;
 
 pub(crate) fn where_integer(ty: Option<&TypeName>) -> Option<&TypeName>
     ensures { option_copied result ≡ where_it shapes.is_integer (option_copied ty.entry) }

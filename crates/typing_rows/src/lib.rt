@@ -7,13 +7,10 @@ mod builtin_rows;
 mod builtins;
 mod kept;
 mod made;
-pub mod members;
 mod rows;
 mod same_view;
-pub mod shapes;
 mod view;
 mod written_types;
 
 pub use rows::row_types;
 pub use view::{Made, TypeView};
-pub use written_types::written;

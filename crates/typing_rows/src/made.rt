@@ -9,11 +9,11 @@ ghost use Rattle.sil_types.specs.Typing.Shapes as shapes;
 ghost use Rattle.sil_types.specs.Typing.Shapes.{field_type};
 ghost use Rattle.typing_rows.specs.inner.Views.{made_told, view_told};
 
-use crate::members::fields_of_struct;
-use crate::shapes::elements;
 use crate::view::{Made, TypeView};
 use sil_ast::{Field, Inst, Storage, TypeName};
 use sil_types::TypeTable;
+use sil_types::members::fields_of_struct;
+use sil_types::shapes::elements;
 
 /// A result of this type.
 pub(crate) fn gives(ty: Option<&TypeName>) -> Option<Made<'_>>

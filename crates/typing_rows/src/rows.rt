@@ -17,12 +17,11 @@ use crate::made::{
     all_elements, all_fields, gives, gives_address, gives_address_of_field, gives_by_signature,
     gives_field, gives_field_address, takes,
 };
-use crate::members::{class_field, struct_field};
 use crate::view::Made;
-use crate::written_types::written;
 use instruction_table::Op;
 use sil_ast::{Field, Inst, TypeName};
-use sil_types::TypeTable;
+use sil_types::members::{class_field, struct_field};
+use sil_types::{TypeTable, written};
 
 /// The instruction's field of a type that is a struct.
 fn struct_field_of<'a>(

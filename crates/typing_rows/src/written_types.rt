@@ -8,18 +8,8 @@ ghost use Rattle.sil_types.specs.Typing.RowTypes.{all_written};
 ghost use Rattle.sil_types.specs.Typing.Shapes as shapes;
 ghost use Rattle.typing_rows.specs.inner.Views.{next_told};
 
-use crate::shapes::is_object;
 use sil_ast::{Inst, Operand, TypeName};
-
-/// The type written at the operand with this index.
-pub fn written(inst: &Inst, index: usize) -> Option<&TypeName>
-    ensures { option_copied result ≡ rows.written index inst.now }
-{
-    match inst.operands.get(index) {
-        Some(operand) => operand.ty.as_ref(),
-        None => None,
-    }
-}
+use sil_types::shapes::is_object;
 
 /// The first of the types that are written at some operands, with the operands behind it.
 #[derive(Clone, Copy)]

@@ -4,8 +4,8 @@ ghost use Rattle.std.specs.Prelude.{◌≡◌};
 ghost use Rattle.std.specs.List.{list_any};
 ghost use Rattle.sil_types.specs.Typing.EdgeRules as rules;
 
-use crate::shapes::is_address;
 use sil_ast::{Block, BlockArg, Function};
+use sil_types::shapes::is_address;
 
 /// Whether an argument of a block other than the entry has an address type.
 #[tactic(auto, unfolding(sil_types::specs::Typing::EdgeRules::lets_address_escape))]

@@ -5,9 +5,9 @@ ghost use Rattle.std.specs.List.{list_all};
 ghost use Rattle.sil_types.specs.Typing.Same as same;
 ghost use Rattle.sil_types.specs.Typing.SignatureRules as rules;
 
-use crate::shapes::{is_nontrivial, is_object, is_trivial_object};
 use sil_ast::{Given, Param, Passing, Signature};
 use sil_types::TypeTable;
+use sil_types::shapes::{is_nontrivial, is_object, is_trivial_object};
 
 /// Whether each parameter's word fits its type, and each result has `@owned` exactly where its type isn't trivial.
 pub(crate) fn has_fitting_conventions(table: &TypeTable, signature: &Signature) -> bool

@@ -7,10 +7,9 @@ ghost use Rattle.sil_types.specs.Typing.RowTypes.{all_written};
 ghost use Rattle.sil_types.specs.Typing.Same.{are_same_types};
 ghost use Rattle.sil_types.specs.Typing.Values.{arg_type};
 
-use crate::blocks::args_of;
 use instruction_table::{Ending, ending_of};
 use sil_ast::{BlockArg, Edge, Function, Inst, Operand};
-use sil_types::same_type;
+use sil_types::{args_of, same_type};
 
 /// Whether an edge of `br` or `cond_br` has other arguments than its block, in number or type.
 #[tactic(auto, unfolding(sil_types::specs::Typing::EdgeRules::has_wrong_edge_arguments))]
@@ -41,7 +40,7 @@ fn have_block_types(f: &Function, edges: &[Edge]) -> bool
 fn has_block_types(f: &Function, edge: &Edge) -> bool
     ensures { result ≡ rules.has_block_types f.now edge.now }
 {
-    have_types_of(edge.args.as_slice(), args_of(f, edge.block))
+    have_types_of(edge.args.as_slice(), args_of(f, edge.block.0 as usize))
 }
 
 /// Whether the types written at the operands are those of the arguments, in order.

@@ -6,10 +6,9 @@ ghost use Rattle.sil_types.specs.Typing.OperandTypes.{param_type};
 ghost use Rattle.sil_types.specs.Typing.Same.{all_pairs, is_same_type};
 ghost use Rattle.sil_types.specs.Typing.SignatureRules as rules;
 
-use crate::blocks::args_of;
 use crate::external::is_external;
-use sil_ast::{ArgKind, BlockArg, BlockId, Form, Function, Param, Passing, TypeName};
-use sil_types::same_type;
+use sil_ast::{ArgKind, BlockArg, Form, Function, Param, Passing, TypeName};
+use sil_types::{args_of, same_type};
 
 /// Whether the function has no body, or an entry with an argument for each parameter, in order.
 pub(crate) fn has_entry_arguments(f: &Function) -> bool
@@ -18,11 +17,7 @@ pub(crate) fn has_entry_arguments(f: &Function) -> bool
     if is_external(f.form) {
         return true;
     }
-    are_arguments_for(
-        f.form,
-        f.signature.params.as_slice(),
-        args_of(f, BlockId(0)),
-    )
+    are_arguments_for(f.form, f.signature.params.as_slice(), args_of(f, 0))
 }
 
 fn are_arguments_for(form: Form, params: &[Param], args: &[BlockArg]) -> bool

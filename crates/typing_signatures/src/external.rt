@@ -4,8 +4,8 @@ ghost use Rattle.std.specs.Prelude.{◌≡◌};
 ghost use Rattle.std.specs.List.{list_all};
 ghost use Rattle.sil_types.specs.Typing.SignatureRules as rules;
 
-use crate::shapes::is_integer;
 use sil_ast::{Form, Function, Param, Passing};
+use sil_types::shapes::is_integer;
 
 /// Whether the function has no body, and has a parameter that isn't a plain builtin integer, or a result.
 #[tactic(auto, unfolding(sil_types::specs::Typing::SignatureRules::is_no_output_call))]

@@ -4,7 +4,6 @@
 #![tactic(auto)]
 
 mod addresses;
-mod blocks;
 mod callees;
 mod conventions;
 mod deinitialisers;
@@ -12,7 +11,6 @@ mod edges;
 mod entry_arguments;
 mod external;
 mod functions;
-mod shapes;
 mod signatures;
 
 pub use addresses::lets_address_escape;

@@ -17,8 +17,9 @@ ghost use Rattle.typing_values.specs.inner.Told.{types_told};
 use crate::views::{is_address_view, is_bit_view};
 use instruction_table::{BareOperands, bare_operands_of};
 use sil_ast::{Edge, Inst, Operand, Param, Passing, TypeName};
-use typing_rows::shapes::{object_at, unowned_at, weak_at};
-use typing_rows::{TypeView, written};
+use sil_types::shapes::{object_at, unowned_at, weak_at};
+use sil_types::written;
+use typing_rows::TypeView;
 
 /// The type of an operand's value.
 fn type_of_value<'a>(types: &[Option<TypeView<'a>>], operand: &Operand) -> Option<TypeView<'a>>

@@ -5,9 +5,9 @@ ghost use Rattle.std.specs.List.{flat_map, range_with_len};
 ghost use Rattle.numbered_form.specs.Insts.{insts_in, insts_of};
 ghost use Rattle.typing_rows.specs.inner.Views.{made_told, view_told};
 ghost use Rattle.sil_types.specs.Typing.Values as values;
-ghost use Rattle.sil_types.specs.Typing.Values.{arg_has, block_types, result_types};
+ghost use Rattle.sil_types.specs.Typing.Values.{arg_has, result_types};
 ghost use Rattle.typing_values.specs.inner.Given.{given_count};
-ghost use Rattle.typing_values.specs.inner.Told.{types_told};
+ghost use Rattle.typing_values.specs.inner.Told.{block_types, types_told};
 
 use sil_ast::{Block, BlockArg, Boxed, Exhausted, Function, Inst};
 use sil_types::TypeTable;
@@ -49,7 +49,8 @@ fn add_made<'a>(
     made: &Option<Made<'a>>,
     count: usize,
 ) -> Result<(), Exhausted>
-    ensures { OnOk result (types_told types.new.items ≡ types_told types.old.items ++ map (slice_get (unwrap_or (option_map made_told made.now) [])) (range_with_len 0 count)) }
+    ensures { OnOk result (types_told types.new.items ≡ types_told types.old.items ++
+        map (slice_get (unwrap_or (option_map made_told made.now) [])) (range_with_len 0 count)) }
 {
     for k in 0..count {
         types.push(result_type(made, k))?;

@@ -9,8 +9,8 @@ ghost use Rattle.type_definitions.specs.Mentions.{result_type, together};
 
 use sil_ast::{Given, TypeName};
 use sil_types::same_type;
+use sil_types::shapes::is_bit;
 use typing_rows::TypeView;
-use typing_rows::shapes::is_bit;
 
 fn is_bit_type(ty: &TypeName) -> bool
     ensures { result ≡ is_same_type bit ty.now }

@@ -1,14 +1,13 @@
 -- The types of a function's values, and the functions that they stand for.
-use Rattle.std.specs.Prelude.{ℕ, List, ◌++◌, Option, Some, None, map, length, slice_get, replicate, unwrap_or}
-use Rattle.std.specs.List.{flat_map, range_with_len}
-use Rattle.sil_ast.specs.declared.function.Block.{Block}
+use Rattle.std.specs.Prelude.{ℕ, List, Option, Some, None, map, length, slice_get, replicate, unwrap_or}
+use Rattle.std.specs.List.{range_with_len}
 use Rattle.sil_ast.specs.declared.function.BlockArg.{BlockArg}
 use Rattle.sil_ast.specs.declared.function.Function.{Function}
 use Rattle.sil_ast.specs.declared.inst.Inst.{Inst}
 use Rattle.sil_ast.specs.declared.operands.Operand.{Operand}
 use Rattle.sil_ast.specs.declared.place.FuncId.{FuncId}
 use Rattle.sil_ast.specs.declared.type_name.TypeName.{TypeName}
-use Rattle.numbered_form.specs.Insts.{insts_of}
+use Rattle.value_tables.specs.ValueRows.{value_rows}
 use Rattle.type_definitions.specs.Declarations.{Declarations}
 use Rattle.sil_types.specs.Typing.RowTypes.{made_types}
 
@@ -22,12 +21,12 @@ arg_type a = a.ty
 abbrev pub arg_has : BlockArg → Option TypeName
 arg_has a = Some a.ty
 
-abbrev pub block_types : Declarations → Block → List (Option TypeName)
-block_types d b = map arg_has b.args ++ flat_map (result_types d) (insts_of b)
+abbrev pub arg_types : ℕ → List BlockArg → List (Option TypeName)
+arg_types n args = map arg_has args
 
 -- the types of a function's values, by their numbers
 abbrev pub value_types : Declarations → Function → List (Option TypeName)
-value_types d f = flat_map (block_types d) f.blocks
+value_types d f = value_rows arg_types (result_types d) f
 
 -- the type of the value with this number
 abbrev pub type_at : List (Option TypeName) → ℕ → Option TypeName
@@ -41,15 +40,12 @@ type_of_value types o = type_at types o.value.0
 abbrev pub result_functions : Inst → List (Option FuncId)
 result_functions i = replicate (length i.results) i.function
 
-abbrev pub no_function : BlockArg → Option FuncId
-no_function a = None
-
-abbrev pub block_functions : Block → List (Option FuncId)
-block_functions b = map no_function b.args ++ flat_map result_functions (insts_of b)
+abbrev pub arg_functions : ℕ → List BlockArg → List (Option FuncId)
+arg_functions n args = replicate (length args) None
 
 -- the functions that a function's values stand for, by the values' numbers
 abbrev pub value_functions : Function → List (Option FuncId)
-value_functions f = flat_map block_functions f.blocks
+value_functions f = value_rows arg_functions result_functions f
 
 -- the function that the value with this number stands for
 abbrev pub function_at : List (Option FuncId) → ℕ → Option FuncId

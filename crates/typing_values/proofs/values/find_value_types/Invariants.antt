@@ -1,9 +1,8 @@
 use Rattle.std.proofs.Common.{◌≡◌, map, take}
 use Rattle.std.specs.List.{flat_map}
 use Rattle.numbered_form.specs.Insts.{insts_in}
-use Rattle.sil_types.specs.Typing.Values.{block_types}
 use Rattle.typing_values.specs.inner.Given.{given_count}
-use Rattle.typing_values.specs.inner.Told.{types_told}
+use Rattle.typing_values.specs.inner.Told.{block_types, types_told}
 use Rattle.typing_values.proofs.values.find_value_types.Given as goal
 
 abbrev pub invariant-loop-block : goal.invariant-loop-block

@@ -5,8 +5,8 @@ ghost use Rattle.std.specs.Option.{option_copied};
 ghost use Rattle.type_definitions.specs.Rules as rules;
 ghost use Rattle.sil_types.specs.Typing.Shapes as shapes;
 
+use crate::table::TypeTable;
 use sil_ast::{Decl, TypeName};
-use sil_types::TypeTable;
 
 /// Whether it is an object's type: neither an address nor weak or unowned storage.
 pub fn is_object(ty: &TypeName) -> bool
@@ -74,6 +74,16 @@ pub fn is_class_type(table: &TypeTable, ty: &TypeName) -> bool
             Some(Decl::Class { .. }) => true,
             _ => false,
         },
+        _ => false,
+    }
+}
+
+/// Whether it is an address.
+pub fn is_address(ty: &TypeName) -> bool
+    ensures { result ≡ shapes.is_address ty.now }
+{
+    match ty {
+        TypeName::Address(_) => true,
         _ => false,
     }
 }

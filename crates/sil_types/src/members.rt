@@ -6,8 +6,9 @@ ghost use Rattle.sil_ast.specs.declared.type_name.TypeName.{out-TypeName};
 ghost use Rattle.type_declarations.specs.inner.Found.{payload_told};
 ghost use Rattle.sil_types.specs.Typing.Shapes as shapes;
 
+use crate::table::TypeTable;
 use sil_ast::{Decl, Field, Member, TypeName};
-use sil_types::{PayloadRef, TypeTable};
+use type_declarations::PayloadRef;
 
 /// The fields of a type that is a struct.
 pub fn fields_of_struct<'t>(table: &'t TypeTable, ty: &TypeName) -> Option<&'t [Field]>
