@@ -7,12 +7,13 @@ use Rattle.sil_ast.specs.declared.place.ValueId.{ValueId}
 use Rattle.sil_cfg.specs.Flow.{edge_to}
 use Rattle.sil_cfg.specs.Items.{flow_of}
 use Rattle.sil_rules.specs.declared.rule.Rule.{Rule}
+use Rattle.rule_faults.specs.declared.fault.RuleFault.{RuleFault}
 use Rattle.type_check.specs.Refusals.{function_id}
-use Rattle.sil_verifier.specs.Shown.{Showing, has_walk}
+use Rattle.sil_verifier.specs.Shown.{has_walk}
 use Rattle.sil_command.specs.Texts.{line, rule_words, site_words}
 
 -- the rule, the function and the point
-abbrev pub first_line : Module → ℕ → Showing → List ℕ
+abbrev pub first_line : Module → ℕ → RuleFault → List ℕ
 first_line m n s = line (rule_words s.rule ++ site_words m (Some (function_id n)) None (Some s.point))
 
 abbrev pub subject_line : ValueId → List ℕ
@@ -43,5 +44,5 @@ abbrev pub shown_lines : ValueId → Option ValueId → Rule → Option Function
 shown_lines v other r f es = subject_line v ++ (other_lines other ++ walk_lines r f es)
 
 -- the rule and the point, and behind it what is shown
-abbrev pub value_text : Module → ℕ → Showing → List ℕ
+abbrev pub value_text : Module → ℕ → RuleFault → List ℕ
 value_text m n s = first_line m n s ++ shown_lines s.subject s.other s.rule (slice_get m.functions n) s.walk

@@ -1,5 +1,5 @@
 -- What each group finds first in a function is the first of all that is shown there, where the groups before it find nothing.
-use Rattle.std.proofs.Common.{◌≡◌, ℕ, List, [], ◌∷◌, length, refl, arith, None, Some}
+use Rattle.std.proofs.Common.{◌≡◌, [], length, refl, sym, ap, ◌∙◌, subst, arith, None, Some}
 use Rattle.sil_ast.specs.declared.function.Function.{Function}
 use Rattle.sil_cfg.specs.Layout.{Layout}
 use Rattle.rule_faults.specs.declared.fault.RuleEnd.{RuleEnd}
@@ -8,8 +8,8 @@ use Rattle.rule_faults.specs.declared.fault.RuleFault.{RuleFault}
 use Rattle.numbered_form.specs.Numbering.{values_of}
 use Rattle.sil_rules.specs.Order.{IsLeast, NotAfter}
 use Rattle.sil_rules.specs.declared.group.Group.TheVariants as group
-use Rattle.sil_rules.specs.declared.rule.Rule.{Rule}
 use Rattle.type_definitions.specs.Declarations.{Declarations}
+use Rattle.point_checks.specs.inner.Reports.{report_of}
 use Rattle.path_checks.specs.First as paths
 use Rattle.path_checks.specs.Reported.{found_at}
 use Rattle.value_availability.specs.Accesses.{accesses_of}
@@ -24,30 +24,20 @@ use Rattle.memory_accesses.specs.Sources.{sources_of}
 use Rattle.memory_rules.specs.Broken as breaks
 use Rattle.memory_rules.specs.inner.Ends.{IsFirstFault, IsMemoryEnd, IsMemoryKept}
 use Rattle.sil_verifier.proofs.Groups.{by_group, of_definitions, of_kinds, of_lifetimes, of_memory, of_scopes, within_group}
-use Rattle.sil_verifier.specs.Shown.{IsShownIn, Showing, break_of, inner_key, lives_in, scopes_in}
+use Rattle.sil_verifier.specs.Shown.{IsShownIn, inner_key, lives_in, scopes_in}
 use Rattle.sil_verifier.specs.Shown.IsShownIn.{undefined, kind, life, scope, memory}
-use Rattle.sil_verifier.specs.Values.{IsCleanIn, IsEndIn, IsFirstIn, IsReportOf}
-
--- what a check on walks reports is what it shows
-abbrev shown_by : RuleFault → Showing
-shown_by x = record { rule = x.rule; subject = x.subject; other = x.other; walk = x.walk; point = x.point }
-
-itself : (x : RuleFault) → IsReportOf (shown_by x) x
-itself x = record { rule = refl; subject = refl; other = refl; point = refl; walk = refl }
+use Rattle.sil_verifier.specs.Values.{IsCleanIn, IsEndIn, IsFirstIn}
 
 module _ (d : Declarations) (f : Function) where
   -- 301
 
-  first_undefined : (x : RuleFault) → IsFirstUndefined f x → IsFirstIn d f x
-  first_undefined x h = record { showing = s; least = record { shown = undefined h.other found; first = behind }; reported = itself x }
+  first_undefined : (s : RuleFault) → IsFirstUndefined f s → IsFirstIn d f s
+  first_undefined s h = record { shown = undefined h.other found; first = behind }
     where
-      s : Showing
-      s = shown_by x
-
-      found : paths.IsShown f (accesses_of f) x.subject.0 x.rule x.walk x.point
+      found : paths.IsShown f (accesses_of f) s.subject.0 s.rule s.walk s.point
       found = record { item = h.item; at = h.first.0 }
 
-      behind : (t : Showing) → IsShownIn d f t → NotAfter (inner_key s) (inner_key t)
+      behind : (t : RuleFault) → IsShownIn d f t → NotAfter (inner_key s) (inner_key t)
       behind t (undefined o there) =
           within_group s t group.Definitions (of_definitions d f s found) (of_definitions d f t there) (h.first.1 t.subject.0 t.rule t.walk t.point there)
       behind t (kind o e b) = by_group s t group.Definitions group.Kinds (of_definitions d f s found) (of_kinds d f t b) (omega arith)
@@ -63,16 +53,20 @@ module _ (d : Declarations) (f : Function) where
     -- 302 to 305
 
     first_kind : (x : RuleFault) → IsFaultOn d f x → IsFirstIn d f x
-    first_kind x h = record {
-      showing = s;
-      least = record { shown = kind refl refl h.1.broken; first = behind };
-      reported = record { rule = h.2.rule; subject = h.2.subject; other = h.2.other; point = h.2.point; walk = h.2.walk };
-    }
+    first_kind x h = subst (IsFirstIn d f) (sym same) (record { shown = kind refl refl h.1.broken; first = behind })
       where
-        s : Showing
-        s = record { rule = h.0.rule; subject = h.0.subject; other = None; walk = []; point = h.0.point }
+        s : RuleFault
+        s = report_of h.0 None
 
-        behind : (t : Showing) → IsShownIn d f t → NotAfter (inner_key s) (inner_key t)
+        same : x ≡ s
+        same =
+            ap {B = RuleFault} (λ r. record { rule = r; subject = x.subject; other = x.other; point = x.point; walk = x.walk }) h.2.rule
+            ∙ ap {B = RuleFault} (λ v. record { rule = h.0.rule; subject = v; other = x.other; point = x.point; walk = x.walk }) h.2.subject
+            ∙ ap {B = RuleFault} (λ o. record { rule = h.0.rule; subject = h.0.subject; other = o; point = x.point; walk = x.walk }) h.2.other
+            ∙ ap {B = RuleFault} (λ p. record { rule = h.0.rule; subject = h.0.subject; other = None; point = p; walk = x.walk }) h.2.point
+            ∙ ap {B = RuleFault} (λ w. record { rule = h.0.rule; subject = h.0.subject; other = None; point = h.0.point; walk = w }) h.2.walk
+
+        behind : (t : RuleFault) → IsShownIn d f t → NotAfter (inner_key s) (inner_key t)
         behind t (undefined o there) = absurd (available t.subject.0 t.rule t.walk t.point there)
         behind t (kind o e b) =
             within_group s t group.Kinds (of_kinds d f s h.1.broken) (of_kinds d f t b) (h.1.first t.rule t.subject t.point.block.0 t.point.index b)
@@ -87,19 +81,16 @@ module _ (d : Declarations) (f : Function) where
     module _ (kept : HasKinds d f) (g : Layout) (k : Known) (are : AreKindsBy (length (values_of f.blocks)) (facts_in d f) f g k) where
       -- 401 to 404
 
-      first_life : (x : RuleFault) → IsFirstBrokenLife f g k x → IsFirstIn d f x
-      first_life x h = record { showing = s; least = record { shown = life h.other found; first = behind }; reported = itself x }
+      first_life : (s : RuleFault) → IsFirstBrokenLife f g k s → IsFirstIn d f s
+      first_life s h = record { shown = life h.other found; first = behind }
         where
-          s : Showing
-          s = shown_by x
-
-          first : paths.IsFirst f (lives_in d f) (Some (found_at x h.item))
+          first : paths.IsFirst f (lives_in d f) (Some (found_at s h.item))
           first = h.first (length (values_of f.blocks)) (facts_in d f) are
 
-          found : paths.IsShown f (lives_in d f) x.subject.0 x.rule x.walk x.point
+          found : paths.IsShown f (lives_in d f) s.subject.0 s.rule s.walk s.point
           found = record { item = h.item; at = first.0 }
 
-          behind : (t : Showing) → IsShownIn d f t → NotAfter (inner_key s) (inner_key t)
+          behind : (t : RuleFault) → IsShownIn d f t → NotAfter (inner_key s) (inner_key t)
           behind t (undefined o there) = absurd (available t.subject.0 t.rule t.walk t.point there)
           behind t (kind o e b) = absurd (kept t.rule t.subject t.point.block.0 t.point.index b)
           behind t (life o there) =
@@ -114,23 +105,16 @@ module _ (d : Declarations) (f : Function) where
       module _ (lives : AreLivesKept f g k) where
         -- 501 to 505
 
-        no_life : (t : Showing) → paths.IsShown f (lives_in d f) t.subject.0 t.rule t.walk t.point → ⊥
+        no_life : (t : RuleFault) → paths.IsShown f (lives_in d f) t.subject.0 t.rule t.walk t.point → ⊥
         no_life t there = lives (length (values_of f.blocks)) (facts_in d f) are t.subject.0 t.rule t.walk t.point there
 
-        first_scope : (x : RuleFault) → IsFirstBrokenScope f g k x → IsFirstIn d f x
-        first_scope x h = record {
-          showing = s;
-          least = record { shown = scope h.item (h.other (length (values_of f.blocks)) (facts_in d f) are) first.0; first = behind };
-          reported = itself x;
-        }
+        first_scope : (s : RuleFault) → IsFirstBrokenScope f g k s → IsFirstIn d f s
+        first_scope s h = record { shown = scope h.item (h.other (length (values_of f.blocks)) (facts_in d f) are) first.0; first = behind }
           where
-            s : Showing
-            s = shown_by x
-
-            first : paths.IsFirst f (scopes_in d f) (Some (found_at x h.item))
+            first : paths.IsFirst f (scopes_in d f) (Some (found_at s h.item))
             first = h.first (length (values_of f.blocks)) (facts_in d f) are
 
-            behind : (t : Showing) → IsShownIn d f t → NotAfter (inner_key s) (inner_key t)
+            behind : (t : RuleFault) → IsShownIn d f t → NotAfter (inner_key s) (inner_key t)
             behind t (undefined o there) = absurd (available t.subject.0 t.rule t.walk t.point there)
             behind t (kind o e b) = absurd (kept t.rule t.subject t.point.block.0 t.point.index b)
             behind t (life o there) = absurd (no_life t there)
@@ -146,28 +130,21 @@ module _ (d : Declarations) (f : Function) where
         module _ (scopes : AreScopesKept f g k) where
           -- 601 to 611
 
-          no_scope : (t : Showing) → paths.IsShown f (scopes_in d f) t.subject.0 t.rule t.walk t.point → ⊥
+          no_scope : (t : RuleFault) → paths.IsShown f (scopes_in d f) t.subject.0 t.rule t.walk t.point → ⊥
           no_scope t there = scopes (length (values_of f.blocks)) (facts_in d f) are t.subject.0 t.rule t.walk t.point there
 
-          first_memory : (x : RuleFault) → IsFirstFault d f g k x → IsFirstIn d f x
-          first_memory x h = record {
-            showing = s;
-            least = record { shown = memory least.shown; first = behind };
-            reported = record { rule = h.reported.rule; subject = h.reported.subject; other = h.reported.other; point = h.reported.point; walk = h.reported.walk };
-          }
+          first_memory : (s : RuleFault) → IsFirstFault d f g k s → IsFirstIn d f s
+          first_memory s h = record { shown = memory least.shown; first = behind }
             where
-              least : IsLeast breaks.break_key (breaks.IsBroken (sources_of d f) (facts_in d f) f) h.broken
-              least = h.first (length (values_of f.blocks)) (facts_in d f) are
+              least : IsLeast breaks.break_key (breaks.IsBroken (sources_of d f) (facts_in d f) f) s
+              least = h (length (values_of f.blocks)) (facts_in d f) are
 
-              s : Showing
-              s = record { rule = h.broken.rule; subject = h.broken.subject; other = h.broken.other; walk = h.broken.walk; point = h.broken.point }
-
-              behind : (t : Showing) → IsShownIn d f t → NotAfter (inner_key s) (inner_key t)
+              behind : (t : RuleFault) → IsShownIn d f t → NotAfter (inner_key s) (inner_key t)
               behind t (undefined o there) = absurd (available t.subject.0 t.rule t.walk t.point there)
               behind t (kind o e b) = absurd (kept t.rule t.subject t.point.block.0 t.point.index b)
               behind t (life o there) = absurd (no_life t there)
               behind t (scope item o there) = absurd (no_scope t (record { item = item; at = there }))
-              behind t (memory b) = within_group s t group.Memory (of_memory d f s least.shown) (of_memory d f t b) (least.first (break_of t) b)
+              behind t (memory b) = within_group s t group.Memory (of_memory d f s least.shown) (of_memory d f t b) (least.first t b)
 
           pub end_memory : (e : RuleEnd) → IsMemoryEnd d f g k e → IsEndIn d f e
           end_memory (end.Fault x) h = first_memory x h
@@ -179,4 +156,4 @@ module _ (d : Declarations) (f : Function) where
           clean_in memories t (kind o e b) = kept t.rule t.subject t.point.block.0 t.point.index b
           clean_in memories t (life o there) = no_life t there
           clean_in memories t (scope item o there) = no_scope t (record { item = item; at = there })
-          clean_in memories t (memory b) = memories (length (values_of f.blocks)) (facts_in d f) are (break_of t) b
+          clean_in memories t (memory b) = memories (length (values_of f.blocks)) (facts_in d f) are t b

@@ -44,15 +44,15 @@ module _ (m : Module) (n : ℕ) (f : Function) (there : slice_get m.functions n 
       at (inr other) = before p (omega arith) h
 
   first_here : (x : RuleFault) → HasBlocks f → IsCleanBefore m n → IsFirstIn (declarations_of m) f x → IsFirstOf m n x
-  first_here x body before h = record { showing = h.showing; least = record { shown = record { within = f; is_body = record { there = there; body = body }; shown = h.least.shown }; first = behind }; reported = h.reported }
+  first_here x body before h = record { shown = record { within = f; is_body = record { there = there; body = body }; shown = h.shown }; first = behind }
     where
-      behind : (p : ModuleShowing) → IsShown m p → NotAfter (showing_key (record { function = n; showing = h.showing })) (showing_key p)
-      behind p s = inr (stage_told (declarations_of m) f h.showing h.least.shown ∙ sym (stage_told (declarations_of m) s.within p.showing s.shown), at (compared n p.function))
+      behind : (p : ModuleShowing) → IsShown m p → NotAfter (showing_key (record { function = n; showing = x })) (showing_key p)
+      behind p s = inr (stage_told (declarations_of m) f x h.shown ∙ sym (stage_told (declarations_of m) s.within p.showing s.shown), at (compared n p.function))
         where
-          at : ((n < p.function) ⊎ (p.function < n)) ⊎ (n ≡ p.function) → NotAfter (n ∷ inner_key h.showing) (p.function ∷ inner_key p.showing)
+          at : ((n < p.function) ⊎ (p.function < n)) ⊎ (n ≡ p.function) → NotAfter (n ∷ inner_key x) (p.function ∷ inner_key p.showing)
           at (inl (inl lt)) = inl lt
           at (inl (inr gt)) = absurd (before p gt s)
-          at (inr e) = inr (e, h.least.first p.showing (shown_here p (sym e) s).1)
+          at (inr e) = inr (e, h.first p.showing (shown_here p (sym e) s).1)
 
   pub first_refusal : (r : ValueRefusal) → IsCleanBefore m n → IsRefusalIn (declarations_of m) n f r → IsValueRefusal m r
   first_refusal (refusal.Rule k x) before h = subst (λ i. IsFirstOf m i x) (sym h.0) (first_here x h.1 before h.2)

@@ -2,15 +2,12 @@
 use Rattle.std.proofs.Common.{◌≡◌, ℕ, ◌<◌, List, [], ◌∷◌, ◌++◌, length, refl, sym, ap, ◌∙◌, subst, arith, inl, inr, Option}
 use Rattle.numbered_form.specs.Numbering.{values_of}
 use Rattle.sil_ast.specs.declared.function.Function.{Function}
-use Rattle.sil_ast.specs.declared.place.EdgeId.{EdgeId}
-use Rattle.sil_ast.specs.declared.place.PointId.{PointId}
-use Rattle.sil_ast.specs.declared.place.ValueId.{ValueId}
 use Rattle.sil_cfg.specs.declared.item.Item.{Item}
 use Rattle.sil_rules.specs.Order.{NotAfter, stage_of}
 use Rattle.sil_rules.specs.Rules.{group_number, group_of, number_of}
 use Rattle.sil_rules.specs.declared.group.Group.{Group}
 use Rattle.sil_rules.specs.declared.group.Group.TheVariants as group
-use Rattle.rule_faults.specs.Keys.{key}
+use Rattle.rule_faults.specs.declared.fault.RuleFault.{RuleFault}
 use Rattle.type_definitions.specs.Declarations.{Declarations}
 use Rattle.path_checks.specs.First as paths
 use Rattle.value_availability.proofs.RulesOf.{on_definitions}
@@ -23,14 +20,14 @@ use Rattle.ownership_kinds.specs.Statics as kinds
 use Rattle.memory_accesses.specs.Sources.{sources_of}
 use Rattle.memory_rules.proofs.RulesOf.{on_memory}
 use Rattle.memory_rules.specs.Broken as breaks
-use Rattle.sil_verifier.specs.Shown.{IsShownIn, Showing, break_of, inner_key, last_key, lives_in, scopes_in}
+use Rattle.sil_verifier.specs.Shown.{IsShownIn, inner_key, last_key, lives_in, scopes_in}
 use Rattle.sil_verifier.specs.Shown.IsShownIn.{undefined, kind, life, scope, memory}
 
 -- the rule of what is shown is of this group
-abbrev pub IsOf : Group → Showing → Type 0
+abbrev pub IsOf : Group → RuleFault → Type 0
 IsOf g s = group_of s.rule ≡ g
 
-module _ (d : Declarations) (f : Function) (s : Showing) where
+module _ (d : Declarations) (f : Function) (s : RuleFault) where
   pub of_definitions : paths.IsShown f (accesses_of f) s.subject.0 s.rule s.walk s.point → IsOf group.Definitions s
   of_definitions there = on_definitions f s.subject.0 s.rule s.walk s.point there
 
@@ -44,8 +41,8 @@ module _ (d : Declarations) (f : Function) (s : Showing) where
   of_scopes item there =
       on_scopes (length (values_of f.blocks)) (facts_in d f) f s.subject.0 s.rule s.walk s.point (record { item = item; at = there })
 
-  pub of_memory : breaks.IsBroken (sources_of d f) (facts_in d f) f (break_of s) → IsOf group.Memory s
-  of_memory broken = on_memory (sources_of d f) (facts_in d f) f (break_of s) broken
+  pub of_memory : breaks.IsBroken (sources_of d f) (facts_in d f) f s → IsOf group.Memory s
+  of_memory broken = on_memory (sources_of d f) (facts_in d f) f s broken
 
   -- a shown rule is one that is looked for function by function
   pub stage_told : IsShownIn d f s → stage_of (group_of s.rule) ≡ 6
@@ -55,7 +52,7 @@ module _ (d : Declarations) (f : Function) (s : Showing) where
   stage_told (scope item o there) = ap stage_of (of_scopes item there)
   stage_told (memory b) = ap stage_of (of_memory b)
 
-module _ (s t : Showing) where
+module _ (s t : RuleFault) where
   -- what is of a later group comes behind
   pub by_group : (g h : Group) → IsOf g s → IsOf h t → group_number g < group_number h → NotAfter (inner_key s) (inner_key t)
   by_group g h one other less =

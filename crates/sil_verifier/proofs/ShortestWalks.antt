@@ -1,6 +1,7 @@
 -- The walk of a refusal has the fewest edges of all that show its rule of its value.
 use Rattle.std.proofs.Common.{◌≡◌, ℕ, ◌<◌, ◌≤◌, List, [], ◌∷◌, ◌++◌, Bool, true, false, not, ◌||◌, length, cond, refl, sym, ap, ◌∙◌, subst, arith, inl, inr, true≢false}
 use Rattle.sil_ast.specs.declared.module.Module.{Module}
+use Rattle.rule_faults.specs.declared.fault.RuleFault.{RuleFault}
 use Rattle.sil_rules.specs.Order.{NotAfter, stage_of, subject_key}
 use Rattle.sil_rules.specs.Rules.{group_of}
 use Rattle.sil_rules.specs.declared.group.Group.{Group}
@@ -10,7 +11,7 @@ use Rattle.memory_rules.specs.Statics.{is_static}
 use Rattle.sil_verifier.proofs.Groups.{stage_told}
 use Rattle.sil_verifier.specs.Findings.{Refusal, value}
 use Rattle.sil_verifier.specs.inner.Laws.{AreWalksShortest}
-use Rattle.sil_verifier.specs.Shown.{Showing, has_walk, is_of_kinds, last_key}
+use Rattle.sil_verifier.specs.Shown.{has_walk, is_of_kinds, last_key}
 use Rattle.sil_verifier.specs.Values.{IsShown}
 
 -- what comes behind a common front is in the same order
@@ -24,7 +25,7 @@ not_static true e = absurd (true≢false (sym e))
 not_static false e = refl
 
 -- a rule on walks that is looked for function by function is ordered by the number of edges
-edges_last : (g : Group) (s : Showing) → stage_of g ≡ 6 → not (is_of_kinds g || is_static s.rule) ≡ true → last_key g s ≡ length s.walk ∷ []
+edges_last : (g : Group) (s : RuleFault) → stage_of g ≡ 6 → not (is_of_kinds g || is_static s.rule) ≡ true → last_key g s ≡ length s.walk ∷ []
 edges_last group.Declarations s stage walk = absurd (omega arith)
 edges_last group.Finiteness s stage walk = absurd (omega arith)
 edges_last group.Typing s stage walk = absurd (omega arith)
@@ -35,7 +36,7 @@ edges_last group.Lifetimes s stage walk = refl
 edges_last group.Scopes s stage walk = refl
 edges_last group.Memory s stage walk = ap (λ b. cond b (s.point.block.0 ∷ s.point.index ∷ []) (length s.walk ∷ [])) (not_static (is_static s.rule) walk)
 
-edges_of : (m : Module) (n : ℕ) (s : Showing) → IsShown m (record { function = n; showing = s }) → has_walk s.rule ≡ true → last_key (group_of s.rule) s ≡ length s.walk ∷ []
+edges_of : (m : Module) (n : ℕ) (s : RuleFault) → IsShown m (record { function = n; showing = s }) → has_walk s.rule ≡ true → last_key (group_of s.rule) s ≡ length s.walk ∷ []
 edges_of m n s shown walk = edges_last (group_of s.rule) s (stage_told (declarations_of m) shown.within s shown.shown) walk
 
 no_fewer : (a b : ℕ) → NotAfter (a ∷ []) (b ∷ []) → a ≤ b

@@ -2,6 +2,7 @@
 -- that is wrong, where the stages before it find nothing.
 use Rattle.std.proofs.Common.{ℕ, ◌+◌, ◌≤◌, List, [], ◌∷◌, arith, inl, inr}
 use Rattle.sil_ast.specs.declared.module.Module.{Module}
+use Rattle.rule_faults.specs.declared.fault.RuleFault.{RuleFault}
 use Rattle.sil_rules.specs.Order.{IsLeast, NotAfter}
 use Rattle.sil_rules.specs.declared.limit_word.LimitWord.{LimitWord}
 use Rattle.sil_rules.specs.declared.rule.Rule.{Rule}
@@ -23,7 +24,6 @@ use Rattle.sil_verifier.proofs.Groups.{stage_told}
 use Rattle.sil_verifier.specs.Findings.{Finding, item, limit, typing, value, IsFound, Refusal, finding_key}
 use Rattle.sil_verifier.specs.Refusals.{HasDeclaredTypes, HasTypes, IsWrong}
 use Rattle.sil_verifier.specs.Refusals.IsLowered.{lowered}
-use Rattle.sil_verifier.specs.Shown.{Showing}
 use Rattle.sil_verifier.specs.Values.{IsShown, ModuleShowing, showing_key}
 
 -- the first number of a key is at most this, or at least
@@ -86,7 +86,7 @@ module _ (m : Module) where
       behind (value n s) found = apart 5 (fault_key f) _ (typing_stage f least.shown).1 (value_stage (record { function = n; showing = s }) found)
 
   -- the first broken rule on values, where typing is right too
-  pub first_value : (n : ℕ) (s : Showing) → HasTypes m → IsLeast showing_key (IsShown m) (record { function = n; showing = s }) → Refusal m (value n s)
+  pub first_value : (n : ℕ) (s : RuleFault) → HasTypes m → IsLeast showing_key (IsShown m) (record { function = n; showing = s }) → Refusal m (value n s)
   first_value n s types least = record { shown = least.shown; first = behind }
     where
       behind : (x : Finding) → IsFound m x → NotAfter (finding_key (value n s)) (finding_key x)

@@ -4,12 +4,12 @@ use Rattle.sil_ast.specs.declared.module.Module.{Module}
 use Rattle.sil_rules.specs.Order.{IsLeast, item_key}
 use Rattle.sil_rules.specs.declared.limit_word.LimitWord.{LimitWord}
 use Rattle.sil_rules.specs.declared.rule.Rule.{Rule}
+use Rattle.rule_faults.specs.declared.fault.RuleFault.{RuleFault}
 use Rattle.sil_types.specs.Refusals as types
 use Rattle.sil_types.specs.declared.refusal.TypeRefusal.TheVariants as type_refusal
 use Rattle.type_check.specs.Refusals.{fault_key}
 use Rattle.type_check.specs.declared.fault.TypingFault.{TypingFault}
 use Rattle.sil_verifier.specs.Refusals.{HasTypes, IsWrong}
-use Rattle.sil_verifier.specs.Shown.{Showing}
 use Rattle.sil_verifier.specs.Values.{AcceptedValues, IsShown, showing_key}
 
 -- an item breaks one of 101 to 104; a type exceeds a limit; one of 201 to 212 is broken; or one of 301 to 611, in the function with this number
@@ -17,7 +17,7 @@ pub data Finding : Type 0 where
   item : Rule → ℕ → Finding
   limit : LimitWord → Finding
   typing : TypingFault → Finding
-  value : ℕ → Showing → Finding
+  value : ℕ → RuleFault → Finding
 
 -- it is wrong with the module
 abbrev pub IsFound : Module → Finding → Type 0

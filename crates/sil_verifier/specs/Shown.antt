@@ -1,9 +1,6 @@
 -- What is shown of a function's values: one case for each group of rules.
 use Rattle.std.specs.Prelude.{◌≡◌, ℕ, List, [], ◌∷◌, ◌++◌, Bool, true, false, not, ◌||◌, length, Option, None}
 use Rattle.sil_ast.specs.declared.function.Function.{Function}
-use Rattle.sil_ast.specs.declared.place.EdgeId.{EdgeId}
-use Rattle.sil_ast.specs.declared.place.PointId.{PointId}
-use Rattle.sil_ast.specs.declared.place.ValueId.{ValueId}
 use Rattle.sil_cfg.specs.declared.item.Item.{Item}
 use Rattle.numbered_form.specs.Numbering.{values_of}
 use Rattle.sil_rules.specs.Order.{key_in_function}
@@ -11,6 +8,7 @@ use Rattle.sil_rules.specs.Rules.{group_of}
 use Rattle.sil_rules.specs.declared.group.Group.{Group}
 use Rattle.sil_rules.specs.declared.group.Group.TheVariants as group
 use Rattle.sil_rules.specs.declared.rule.Rule.{Rule}
+use Rattle.rule_faults.specs.declared.fault.RuleFault.{RuleFault}
 use Rattle.type_definitions.specs.Declarations.{Declarations}
 use Rattle.path_checks.specs.First as paths
 use Rattle.path_checks.specs.declared.entry.Entry.{Entry}
@@ -24,14 +22,6 @@ use Rattle.memory_accesses.specs.Sources.{sources_of}
 use Rattle.memory_rules.specs.Broken as breaks
 use Rattle.memory_rules.specs.Statics.{is_static}
 
--- a broken rule: of which value, with which other value that takes part, at which point, and the walk that shows it
-pub record Showing : Type 0 where
-  pub rule : Rule
-  pub subject : ValueId
-  pub other : Option ValueId
-  pub walk : List EdgeId
-  pub point : PointId
-
 -- what an item does to the Owned values, by the facts of the function itself
 abbrev pub lives_in : Declarations → Function → Item → List Entry
 lives_in d f = lives_of (length (values_of f.blocks)) (facts_in d f) f
@@ -39,10 +29,6 @@ lives_in d f = lives_of (length (values_of f.blocks)) (facts_in d f) f
 -- what an item does to the scopes
 abbrev pub scopes_in : Declarations → Function → Item → List Entry
 scopes_in d f = scopes_of (length (values_of f.blocks)) (facts_in d f) f
-
--- the same as what breaks a rule on memory
-abbrev pub break_of : Showing → breaks.MemoryBreak
-break_of s = record { rule = s.rule; subject = s.subject; other = s.other; walk = s.walk; point = s.point }
 
 abbrev pub is_of_kinds : Group → Bool
 is_of_kinds group.Declarations = false
@@ -61,16 +47,16 @@ has_walk r = not (is_of_kinds (group_of r) || is_static r)
 
 -- in the function a rule on its values is broken: 301 on a walk; 302 to 305 at a point, with no walk; 401 to 404 on a walk; 501 to 505 on a
 -- walk, with the other value that takes part at the item that breaks it; and 601 to 611, of which 608 and 611 are at a point, with no walk
-pub data IsShownIn (d : Declarations) (f : Function) (s : Showing) : Type 0 where
+pub data IsShownIn (d : Declarations) (f : Function) (s : RuleFault) : Type 0 where
   undefined : s.other ≡ None → paths.IsShown f (accesses_of f) s.subject.0 s.rule s.walk s.point → IsShownIn d f s
   kind : s.other ≡ None → s.walk ≡ [] → kinds.IsBroken d f s.rule s.subject s.point.block.0 s.point.index → IsShownIn d f s
   life : s.other ≡ None → paths.IsShown f (lives_in d f) s.subject.0 s.rule s.walk s.point → IsShownIn d f s
   scope : (item : Item) → s.other ≡ other_of s.rule (facts_in d f) f s.subject item
       → paths.IsShownAt f (scopes_in d f) s.subject.0 s.rule s.walk s.point item → IsShownIn d f s
-  memory : breaks.IsBroken (sources_of d f) (facts_in d f) f (break_of s) → IsShownIn d f s
+  memory : breaks.IsBroken (sources_of d f) (facts_in d f) f s → IsShownIn d f s
 
 -- of one value and rule: one on kinds by its point, as are 608 and 611, and one on walks by the number of edges
-abbrev pub last_key : Group → Showing → List ℕ
+abbrev pub last_key : Group → RuleFault → List ℕ
 last_key group.Declarations s = []
 last_key group.Finiteness s = []
 last_key group.Typing s = []
@@ -82,5 +68,5 @@ last_key group.Scopes s = length s.walk ∷ []
 last_key group.Memory s = breaks.last_key s.rule s.walk s.point
 
 -- within a function by group, by value, by rule, and then so
-abbrev pub inner_key : Showing → List ℕ
+abbrev pub inner_key : RuleFault → List ℕ
 inner_key s = key_in_function s.subject.0 s.rule ++ last_key (group_of s.rule) s

@@ -9,7 +9,7 @@ use Rattle.sil_rules.specs.Order.{IsLeast, subject_key}
 use Rattle.sil_rules.specs.Rules.{group_of}
 use Rattle.type_definitions.specs.Declarations.{Declarations, declarations_of}
 use Rattle.typed_graph_laws.specs.Laws.{HasBlocks}
-use Rattle.sil_verifier.specs.Shown.{IsShownIn, Showing, inner_key, last_key}
+use Rattle.sil_verifier.specs.Shown.{IsShownIn, inner_key, last_key}
 use Rattle.sil_verifier.specs.declared.values.ValueRefusal.{ValueRefusal}
 use Rattle.sil_verifier.specs.declared.values.ValueRefusal.TheVariants as refusal
 
@@ -21,7 +21,7 @@ pub record IsBody (m : Module) (n : ℕ) (f : Function) : Type 0 where
 -- a broken rule, and in which function
 pub record ModuleShowing : Type 0 where
   pub function : ℕ
-  pub showing : Showing
+  pub showing : RuleFault
 
 -- the rule is broken in a function of the module
 pub record IsShown (m : Module) (p : ModuleShowing) : Type 0 where
@@ -37,22 +37,12 @@ showing_key p = subject_key p.function p.showing.subject.0 p.showing.rule ++ las
 abbrev pub AcceptedValues : Module → Type 0
 AcceptedValues m = (p : ModuleShowing) → IsShown m p → ⊥
 
--- what is shown is reported so
-pub record IsReportOf (s : Showing) (x : RuleFault) : Type 0 where
-  pub rule : x.rule ≡ s.rule
-  pub subject : x.subject ≡ s.subject
-  pub other : x.other ≡ s.other
-  pub point : x.point ≡ s.point
-  pub walk : x.walk ≡ s.walk
-
--- the fault reports what is shown first in the function
-pub record IsFirstIn (d : Declarations) (f : Function) (x : RuleFault) : Type 0 where
-  pub showing : Showing
-  pub least : IsLeast inner_key (IsShownIn d f) showing
-  pub reported : IsReportOf showing x
+-- the fault is what is shown first in the function
+abbrev pub IsFirstIn : Declarations → Function → RuleFault → Type 0
+IsFirstIn d f x = IsLeast inner_key (IsShownIn d f) x
 
 abbrev pub IsCleanIn : Declarations → Function → Type 0
-IsCleanIn d f = (s : Showing) → IsShownIn d f s → ⊥
+IsCleanIn d f = (s : RuleFault) → IsShownIn d f s → ⊥
 
 abbrev pub IsEndIn : Declarations → Function → RuleEnd → Type 0
 IsEndIn d f (end.Fault x) = IsFirstIn d f x
@@ -63,11 +53,9 @@ abbrev pub IsRefusalIn : Declarations → ℕ → Function → ValueRefusal → 
 IsRefusalIn d n f (refusal.Rule function fault) = (function.0 ≡ n) × HasBlocks f × IsFirstIn d f fault
 IsRefusalIn d n f refusal.Memory = ⊤
 
--- the fault reports what is shown first in the module
-pub record IsFirstOf (m : Module) (n : ℕ) (x : RuleFault) : Type 0 where
-  pub showing : Showing
-  pub least : IsLeast showing_key (IsShown m) (record { function = n; showing = showing })
-  pub reported : IsReportOf showing x
+-- the fault is what is shown first in the module
+abbrev pub IsFirstOf : Module → ℕ → RuleFault → Type 0
+IsFirstOf m n x = IsLeast showing_key (IsShown m) (record { function = n; showing = x })
 
 -- the first of what is shown, unless memory ran out
 abbrev pub IsValueRefusal : Module → ValueRefusal → Type 0

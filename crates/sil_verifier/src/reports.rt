@@ -4,8 +4,6 @@ ghost use Rattle.std.specs.Prelude.{◌≡◌, ◌+◌, ◌<◌, ◌^◌, length
 ghost use Rattle.sil_ast.specs.declared.module.Module as any;
 ghost use Rattle.sil_verifier.specs.Findings as finding;
 ghost use Rattle.sil_verifier.specs.Reports.{Reported, vtable_item};
-ghost use Rattle.sil_verifier.specs.Shown.{Showing};
-ghost use Rattle.sil_verifier.specs.Values.{IsReportOf};
 
 use crate::refusal::Refusal;
 use rule_faults::RuleFault;
@@ -63,7 +61,7 @@ pub(crate) fn typing_refusal(alloc: Global, m: &Module, fault: TypingFault) -> O
 
 /// What is said of a rule on values that is broken in the function.
 pub(crate) fn value_refusal(function: FuncId, fault: RuleFault) -> Refusal
-    ensures { (m : any.Module) (s : Showing) → IsReportOf s fault → Reported m (finding.value function.0 s) result }
+    ensures { (m : any.Module) Reported m (finding.value function.0 fault) result }
 {
     Refusal {
         rule: fault.rule,

@@ -8,11 +8,9 @@ use Rattle.sil_verifier.proofs.verifier.end_of_values.Goals as goal
 pub returns-in-Rule : goal.returns-in-Rule
 returns-in-Rule c =
     let m = c.args.m in
+    let n = c.in-Rule.function.0 in
+    let fault = c.in-Rule.fault in
     let told = subst (IsValueRefusal m) c.in-Rule.is c.requires.refusal in (
       refl,
-      record {
-        found = value c.in-Rule.function.0 told.showing;
-        first = first_value m c.in-Rule.function.0 told.showing c.requires.types told.least;
-        reported = c.value_refusal.ensures m told.showing told.reported;
-      },
+      record { found = value n fault; first = first_value m n fault c.requires.types told; reported = c.value_refusal.ensures m },
     )
