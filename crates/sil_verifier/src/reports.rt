@@ -61,7 +61,7 @@ pub(crate) fn typing_refusal(alloc: Global, m: &Module, fault: TypingFault) -> O
 
 /// What is said of a rule on values that is broken in the function.
 pub(crate) fn value_refusal(function: FuncId, fault: RuleFault) -> Refusal
-    ensures { (m : any.Module) Reported m (finding.value function.0 fault) result }
+    ensures { (m : any.Module) → Reported m (finding.value function.0 fault) result }
 {
     Refusal {
         rule: fault.rule,
