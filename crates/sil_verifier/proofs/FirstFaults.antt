@@ -37,7 +37,10 @@ first_at n f = by f.form refl
   where
     by : (form : Form) → f.form ≡ form → IsFirst fault_key (IsLoweredAt n f) (fault_if n form)
     by Ossa e = λ a h. cc (h.0, e)
-    by Lowered e = record { shown = (e, refl); first = λ b h. subst (λ c. NotAfter (fault_key (fault_at (at_function n) rule.MixedForms)) (fault_key c)) h.1 (not_after_refl (fault_key (fault_at (at_function n) rule.MixedForms))) }
+    by Lowered e = record {
+      shown = (e, refl);
+      first = λ b h. subst (λ c. NotAfter (fault_key (fault_at (at_function n) rule.MixedForms)) (fault_key c)) h.1 (not_after_refl (fault_key (fault_at (at_function n) rule.MixedForms)));
+    }
     by External e = λ a h. cc (h.0, e)
 
 in_order : (n m : ℕ) (f g : Function) (a b : TypingFault) → n < m → IsLoweredAt n f a → IsLoweredAt m g b → NotAfter (fault_key a) (fault_key b)
@@ -109,7 +112,8 @@ module _ (m : Module) (n : ℕ) where
       by : (k < n) ⊎ ((k ≡ n) × (number_of r ≤ number_of rule.MixedForms)) → NotAfter (fault_key (fault_at (at_function k) r)) (lowered_key n)
       by (inl lt) = inr (stage_at_function m k f r b, inl lt)
       by (inr h) = inr (stage_at_function m k f r b, inr (h.0, inr (refl, inr (refl, inr (refl, last_number (number_of r) (number_of rule.MixedForms) h.1)))))
-  comes_first _ _ (point k f block index i r there at b) e = inr (stage_at_point m k f block index i r b, inl (behind_true k n (number_of r) (number_of rule.MixedForms) (is_none (fault_at (at_point k block index) r).point) refl e))
+  comes_first _ _ (point k f block index i r there at b) e =
+      inr (stage_at_point m k f block index i r b, inl (behind_true k n (number_of r) (number_of rule.MixedForms) (is_none (fault_at (at_point k block index) r).point) refl e))
   comes_first _ _ (vtable v w r there b) e = cc e
 
   -- and where it doesn't, the function without `[ossa]` does

@@ -19,7 +19,15 @@ report_of m (limit what) = None
 report_of m (typing f) =
     Some (record { rule = f.rule; item = option_map (vtable_item m) f.vtable; function = f.function; point = f.point; subject = None; other = None; walk = [] })
 report_of m (value n s) =
-    Some (record { rule = s.rule; item = None; function = Some (function_id n); point = Some s.point; subject = Some s.subject; other = s.other; walk = s.walk })
+    Some (record {
+      rule = s.rule;
+      item = None;
+      function = Some (function_id n);
+      point = Some s.point;
+      subject = Some s.subject;
+      other = s.other;
+      walk = s.walk;
+    })
 
 -- the refusal says this of the finding
 abbrev pub Reported : Module → Finding → declared.Refusal → Type 0

@@ -14,7 +14,10 @@ use std::alloc::Global;
 
 /// The values that are marks stand first in the entry block: behind `%c` four for each of three subjects.
 pub const MARKS: &str =
-    "bb0: %c = integer_literal $Builtin.Int1, 0 %on0 = integer_literal $Builtin.Int1, 0 %off0 = integer_literal $Builtin.Int1, 0 %need0 = integer_literal $Builtin.Int1, 0 %free0 = integer_literal $Builtin.Int1, 0 %on1 = integer_literal $Builtin.Int1, 0 %off1 = integer_literal $Builtin.Int1, 0 %need1 = integer_literal $Builtin.Int1, 0 %free1 = integer_literal $Builtin.Int1, 0 %on2 = integer_literal $Builtin.Int1, 0 %off2 = integer_literal $Builtin.Int1, 0 %need2 = integer_literal $Builtin.Int1, 0 %free2 = integer_literal $Builtin.Int1, 0 ";
+    "bb0: %c = integer_literal $Builtin.Int1, 0 %on0 = integer_literal $Builtin.Int1, 0 %off0 = integer_literal $Builtin.Int1, 0 \
+     %need0 = integer_literal $Builtin.Int1, 0 %free0 = integer_literal $Builtin.Int1, 0 %on1 = integer_literal $Builtin.Int1, 0 %off1 = integer_literal \
+     $Builtin.Int1, 0 %need1 = integer_literal $Builtin.Int1, 0 %free1 = integer_literal $Builtin.Int1, 0 %on2 = integer_literal $Builtin.Int1, 0 \
+     %off2 = integer_literal $Builtin.Int1, 0 %need2 = integer_literal $Builtin.Int1, 0 %free2 = integer_literal $Builtin.Int1, 0 ";
 
 const NO_MARK: Mark = Mark {
     needs: None,
@@ -108,7 +111,8 @@ pub struct Switches {
 }
 
 impl Family for Switches {
-    ghost step_of = { λ s u state item. step_in mark_step state (slice_get (cond (u == 0) s.first.marks.items (cond (u == 1) s.second.marks.items s.third.marks.items)) item) };
+    ghost step_of = { λ s u state item. step_in mark_step state
+        (slice_get (cond (u == 0) s.first.marks.items (cond (u == 1) s.second.marks.items s.third.marks.items)) item) };
 
     ghost subject_count = { λ _. 3 };
 

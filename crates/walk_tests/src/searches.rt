@@ -24,7 +24,8 @@ const ONE: [(&str, &str, &str); 12] = [
     ),
     (
         "both states at a merge",
-        "cond_br %c, bb1, bb2 bb1: debug_value %on0 : $Builtin.Int1 br bb3 bb2: br bb3 bb3: debug_value %off0 : $Builtin.Int1 br bb4 bb4: debug_value %free0 : $Builtin.Int1 unreachable",
+        "cond_br %c, bb1, bb2 bb1: debug_value %on0 : $Builtin.Int1 br bb3 bb2: br bb3 bb3: debug_value %off0 : $Builtin.Int1 br bb4 \
+         bb4: debug_value %free0 : $Builtin.Int1 unreachable",
         "clean 0:0 1:0 2:0 3:01 4:0",
     ),
     (
@@ -34,12 +35,14 @@ const ONE: [(&str, &str, &str); 12] = [
     ),
     (
         "a state that is lost and found again round a loop",
-        "debug_value %on0 : $Builtin.Int1 br bb1 bb1: debug_value %need0 : $Builtin.Int1 cond_br %c, bb2, bb3 bb2: debug_value %off0 : $Builtin.Int1 debug_value %on0 : $Builtin.Int1 br bb1 bb3: debug_value %need0 : $Builtin.Int1 unreachable",
+        "debug_value %on0 : $Builtin.Int1 br bb1 bb1: debug_value %need0 : $Builtin.Int1 cond_br %c, bb2, bb3 \
+         bb2: debug_value %off0 : $Builtin.Int1 debug_value %on0 : $Builtin.Int1 br bb1 bb3: debug_value %need0 : $Builtin.Int1 unreachable",
         "clean 0:0 1:1 2:1 3:1",
     ),
     (
         "a state that is lost round a loop",
-        "debug_value %on0 : $Builtin.Int1 br bb1 bb1: debug_value %need0 : $Builtin.Int1 cond_br %c, bb2, bb3 bb2: debug_value %off0 : $Builtin.Int1 br bb1 bb3: unreachable",
+        "debug_value %on0 : $Builtin.Int1 br bb1 bb1: debug_value %need0 : $Builtin.Int1 cond_br %c, bb2, bb3 \
+         bb2: debug_value %off0 : $Builtin.Int1 br bb1 bb3: unreachable",
         "2 bb1:0 0.0 1.0 2.0",
     ),
     (
@@ -49,7 +52,8 @@ const ONE: [(&str, &str, &str); 12] = [
     ),
     (
         "a least code on a longer walk",
-        "cond_br %c, bb1, bb2 bb1: debug_value %need0 : $Builtin.Int1 unreachable bb2: debug_value %on0 : $Builtin.Int1 br bb3 bb3: debug_value %free0 : $Builtin.Int1 unreachable",
+        "cond_br %c, bb1, bb2 bb1: debug_value %need0 : $Builtin.Int1 unreachable bb2: debug_value %on0 : $Builtin.Int1 br bb3 \
+         bb3: debug_value %free0 : $Builtin.Int1 unreachable",
         "1 bb3:0 0.1 2.0",
     ),
     (
@@ -59,7 +63,8 @@ const ONE: [(&str, &str, &str); 12] = [
     ),
     (
         "an edge that breaks",
-        "cond_br %c, bb1, bb2 bb1: br bb3(%free0 : $Builtin.Int1) bb2: debug_value %on0 : $Builtin.Int1 br bb3(%free0 : $Builtin.Int1) bb3(%a : $Builtin.Int1): unreachable",
+        "cond_br %c, bb1, bb2 bb1: br bb3(%free0 : $Builtin.Int1) bb2: debug_value %on0 : $Builtin.Int1 br bb3(%free0 : $Builtin.Int1) \
+         bb3(%a : $Builtin.Int1): unreachable",
         "1 bb2:1 0.1 2.0",
     ),
     (
@@ -93,7 +98,8 @@ const TOGETHER: [(&str, &str, &str); 6] = [
     ),
     (
         "states lost and found again round a loop",
-        "debug_value %on0 : $Builtin.Int1 br bb1 bb1: cond_br %c, bb2, bb3 bb2: debug_value %off0 : $Builtin.Int1 debug_value %on0 : $Builtin.Int1 debug_value %on2 : $Builtin.Int1 br bb1 bb3: debug_value %need0 : $Builtin.Int1 unreachable",
+        "debug_value %on0 : $Builtin.Int1 br bb1 bb1: cond_br %c, bb2, bb3 bb2: debug_value %off0 : $Builtin.Int1 debug_value %on0 : $Builtin.Int1 \
+         debug_value %on2 : $Builtin.Int1 br bb1 bb3: debug_value %need0 : $Builtin.Int1 unreachable",
         "clean 0:7/0 1:6/5 2:6/5 3:6/5",
     ),
     (
@@ -103,7 +109,8 @@ const TOGETHER: [(&str, &str, &str); 6] = [
     ),
     (
         "a subject that only a merge of walks brings on",
-        "cond_br %c, bb1, bb2 bb1: debug_value %on1 : $Builtin.Int1 br bb3 bb2: debug_value %on2 : $Builtin.Int1 br bb3 bb3: debug_value %free2 : $Builtin.Int1 unreachable",
+        "cond_br %c, bb1, bb2 bb1: debug_value %on1 : $Builtin.Int1 br bb3 bb2: debug_value %on2 : $Builtin.Int1 br bb3 \
+         bb3: debug_value %free2 : $Builtin.Int1 unreachable",
         "2 1 bb3:0 0.1 2.0",
     ),
 ];
@@ -220,14 +227,16 @@ fn three_switches(rt: HostRuntime) -> Result<(), Fail> {
 fn a_state_that_comes_late(rt: HostRuntime) -> Result<(), Fail> {
     let mut blocks = String::from_str(
         rt.alloc(),
-        "debug_value %on0 : $Builtin.Int1 debug_value %on1 : $Builtin.Int1 debug_value %on2 : $Builtin.Int1 cond_br %c, bb40, bb43 bb1: debug_value %need2 : $Builtin.Int1 unreachable",
+        "debug_value %on0 : $Builtin.Int1 debug_value %on1 : $Builtin.Int1 debug_value %on2 : $Builtin.Int1 cond_br %c, bb40, bb43 \
+         bb1: debug_value %need2 : $Builtin.Int1 unreachable",
     )?;
     for k in 2..41u32 {
         let block = format!(in rt.alloc(); " bb{k}: br bb{}", k - 1)?;
         blocks.push_str(&block)?;
     }
     blocks.push_str(
-        " bb41: debug_value %on1 : $Builtin.Int1 debug_value %off2 : $Builtin.Int1 br bb40 bb42: debug_value %on0 : $Builtin.Int1 debug_value %off1 : $Builtin.Int1 cond_br %c, bb40, bb41 bb43: debug_value %off0 : $Builtin.Int1 cond_br %c, bb40, bb42",
+        " bb41: debug_value %on1 : $Builtin.Int1 debug_value %off2 : $Builtin.Int1 br bb40 bb42: debug_value %on0 : $Builtin.Int1 \
+         debug_value %off1 : $Builtin.Int1 cond_br %c, bb40, bb41 bb43: debug_value %off0 : $Builtin.Int1 cond_br %c, bb40, bb42",
     )?;
     let mut wanted = String::from_str(rt.alloc(), "2 2 bb1:0 0.1 43.1 42.1 41.0")?;
     for k in 0..39u32 {

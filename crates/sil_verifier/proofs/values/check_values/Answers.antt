@@ -11,12 +11,14 @@ pub check_numbered-requires-clause-graph : goal.check_numbered-requires-clause-g
 check_numbered-requires-clause-graph c = λ body. (graphs_by_blocks c.args.m.now c.loop-function.number c.function-item.result c.requires.numbered c.requires.types.typed there body).graph
   where
     there : slice_get c.args.m.now.functions c.loop-function.number ≡ Some c.function-item.result
-    there = is_there c.args.m.now.functions c.as_slice-function-items.result.now c.loop-function.function-index c.loop-function.number c.function-item.result c.as_slice-function-items.ensures c.loop-function.invariant.0 c.loop-function-test.true c.function-item.is
+    there = is_there c.args.m.now.functions c.as_slice-function-items.result.now c.loop-function.function-index c.loop-function.number c.function-item.result c.as_slice-function-items.ensures
+        c.loop-function.invariant.0 c.loop-function-test.true c.function-item.is
 
 pub returns-in_err-check_numbered-clause-err : goal.returns-in_err-check_numbered-clause-err
 returns-in_err-check_numbered-clause-err c =
     let there : slice_get c.args.m.now.functions c.loop-function.number ≡ Some c.function-item.result =
-    is_there c.args.m.now.functions c.as_slice-function-items.result.now c.loop-function.function-index c.loop-function.number c.function-item.result c.as_slice-function-items.ensures c.loop-function.invariant.0 c.loop-function-test.true c.function-item.is in
+    is_there c.args.m.now.functions c.as_slice-function-items.result.now c.loop-function.function-index c.loop-function.number c.function-item.result c.as_slice-function-items.ensures
+    c.loop-function.invariant.0 c.loop-function-test.true c.function-item.is in
     let own : IsRefusalIn (declarations_of c.args.m.now) c.loop-function.number c.function-item.result c.in_err-check_numbered.field-0.0 =
     subst (λ d. IsRefusalIn d c.loop-function.number c.function-item.result c.in_err-check_numbered.field-0.0) c.requires.table.copied c.in_err-check_numbered.ensures.err in
     let told : IsValueRefusal c.args.m.now c.in_err-check_numbered.field-0.0 =
@@ -26,7 +28,8 @@ returns-in_err-check_numbered-clause-err c =
 pub loop-function-preserved : goal.loop-function-preserved
 loop-function-preserved c =
     let there : slice_get c.args.m.now.functions c.loop-function.number ≡ Some c.function-item.result =
-    is_there c.args.m.now.functions c.as_slice-function-items.result.now c.loop-function.function-index c.loop-function.number c.function-item.result c.as_slice-function-items.ensures c.loop-function.invariant.0 c.loop-function-test.true c.function-item.is in
+    is_there c.args.m.now.functions c.as_slice-function-items.result.now c.loop-function.function-index c.loop-function.number c.function-item.result c.as_slice-function-items.ensures
+    c.loop-function.invariant.0 c.loop-function-test.true c.function-item.is in
     let clean : HasBlocks c.function-item.result → IsCleanIn (declarations_of c.args.m.now) c.function-item.result =
     subst (λ d. HasBlocks c.function-item.result → IsCleanIn d c.function-item.result) c.requires.table.copied c.in_ok-check_numbered.ensures.ok in (
       ap (λ k. k + 1) c.loop-function.invariant.0,
