@@ -12,7 +12,8 @@ use Rattle.ownership_chains.specs.declared.definition.Origin.TheVariants.{Owned,
 use Rattle.ownership_chains.specs.declared.facts.Facts.{Facts}
 use Rattle.sil_ast.specs.declared.place.ValueId.{ValueId}
 use Rattle.ownership_chains.specs.Chains.{operands_at, IsInRange}
-use Rattle.ownership_chains.specs.Facts.{origin_at, facts_with, forwarded, bases_together, by_kind, by_operands, told_by, is_known, known_or, told_from, told_in, told_at, Has, is_owned, is_guaranteed, has, handed_on}
+use Rattle.ownership_chains.specs.Facts.{origin_at, facts_with, forwarded, bases_together, by_kind, by_operands, told_by, is_known}
+use Rattle.ownership_chains.specs.Facts.{known_or, told_from, told_in, told_at, Has, is_owned, is_guaranteed, has, handed_on}
 use Rattle.ownership_chains.specs.inner.Outcome.{IsExact}
 use Rattle.ownership_chains.specs.inner.Settling.{IsBelow, IsSound, AreStuck, IsListed, AreListed}
 use Rattle.ownership_chains.proofs.Listed.{listed_same, listed_listed, alone_listed, none_listed}
@@ -68,7 +69,8 @@ all_agree known more (w ∷ ops) below h = at (known w) refl (all_agree known mo
     parts : (is_some (known w) ≡ true) × (list_all (is_known known) ops ≡ true)
     parts = both_true (is_some (known w)) (list_all (is_known known) ops) h
 
-    at : (o : Option Facts) → known w ≡ o → (list_all (is_known more) ops ≡ true) × Agree (known_or known) (known_or more) ops → (list_all (is_known more) (w ∷ ops) ≡ true) × Agree (known_or known) (known_or more) (w ∷ ops)
+    at : (o : Option Facts) → known w ≡ o → (list_all (is_known more) ops ≡ true) × Agree (known_or known) (known_or more) ops
+        → (list_all (is_known more) (w ∷ ops) ≡ true) × Agree (known_or known) (known_or more) (w ∷ ops)
     at None e rest = absurd (let off : is_some (known w) ≡ false = ap is_some e in let on : is_some (known w) ≡ true = parts.0 in cc (off, on))
     at (Some f) e rest =
         let m : more w ≡ Some f = below w f e in
@@ -124,7 +126,8 @@ all_found defs known n (w ∷ ops) range none h = at (known w) refl (all_found d
     parts = both_true (is_some (told_in defs n w)) (list_all (is_known (told_in defs n)) ops) h
 
     at : (o : Option Facts) → known w ≡ o → list_all (is_known known) ops ≡ true → list_all (is_known known) (w ∷ ops) ≡ true
-    at None e rest = absurd (let off : is_some (told_in defs n w) ≡ false = ap is_some (none w (All-head (λ x. x.0 < length defs) w ops range) e) in let on : is_some (told_in defs n w) ≡ true = parts.0 in cc (off, on))
+    at None e rest = absurd (let off : is_some (told_in defs n w) ≡ false = ap is_some (none w (All-head (λ x. x.0 < length defs) w ops range) e) in
+        let on : is_some (told_in defs n w) ≡ true = parts.0 in cc (off, on))
     at (Some f) e rest = ap₂ (λ a b. a && b) (ap is_some e) rest
 
 stuck_none : (defs : List Definition) (known : ValueId → Option Facts) → IsInRange defs → AreStuck defs known (length defs) →

@@ -1,5 +1,6 @@
 -- Lists of values in ascending order, and how two of them are put together.
-use Rattle.std.proofs.Common.{◌≡◌, ◌≢◌, ℕ, zero, suc, ◌+◌, ◌<◌, ◌≤◌, List, [], ◌∷◌, ◌++◌, length, get_or, drop, refl, sym, ap, ap₂, ◌∙◌, subst, arith, Bool, true, false, cond, ◌⊎◌, inl, inr, append_assoc}
+use Rattle.std.proofs.Common.{◌≡◌, ◌≢◌, ℕ, zero, suc, ◌+◌, ◌<◌, ◌≤◌, List, [], ◌∷◌, ◌++◌, length, get_or, drop, refl, sym}
+use Rattle.std.proofs.Common.{ap, ap₂, ◌∙◌, subst, arith, Bool, true, false, cond, ◌⊎◌, inl, inr, append_assoc}
 use Rattle.std.specs.Prelude.{map, filter, ◌||◌, ◌==◌}
 use Rattle.std.specs.List.{range_with_len}
 use Rattle.std.proofs.lemmas.Bool.{cases_eq}
@@ -114,7 +115,8 @@ module _ (p q r : ℕ → Bool) (each : (z : ℕ) → r z ≡ (p z || q z)) wher
   either z b c e f = each z ∙ ap₂ (λ x y. x || y) e f
 
   -- the first of one list is before that of the other
-  goes_one : (a n : ℕ) (x : ValueId) (rest : List ValueId) → listed_from a n p ≡ x ∷ rest → ((y : ValueId) (more : List ValueId) → listed_from a n q ≡ y ∷ more → x.0 < y.0) → Goes p q r a n x rest (listed_from a n q)
+  goes_one : (a n : ℕ) (x : ValueId) (rest : List ValueId) → listed_from a n p ≡ x ∷ rest → ((y : ValueId) (more : List ValueId) → listed_from a n q ≡ y ∷ more → x.0 < y.0)
+      → Goes p q r a n x rest (listed_from a n q)
   goes_one a zero x rest h less = absurd (cc)
   goes_one a (suc n) x rest h less = by (p a) (q a) refl refl (goes_one (a + 1) n x rest)
     where
@@ -190,7 +192,8 @@ pub record Merges (count : ℕ) (p q : ℕ → Bool) (one : List ValueId) (i : �
 pub merges_begun : (count : ℕ) (p q : ℕ → Bool) (one other : List ValueId) → one ≡ listed count p → other ≡ listed count q → Merges count p q one 0 other 0 []
 merges_begun count p q one other h k = record { from = 0; len = count; one_left = h; other_left = k; all_left = refl }
 
-pub merges_over : (count : ℕ) (p q : ℕ → Bool) (one : List ValueId) (i : ℕ) (other : List ValueId) (j : ℕ) (all : List ValueId) → length one ≤ i → length other ≤ j → Merges count p q one i other j all → all ≡ listed count (λ b. p b || q b)
+pub merges_over : (count : ℕ) (p q : ℕ → Bool) (one : List ValueId) (i : ℕ) (other : List ValueId) (j : ℕ) (all : List ValueId) → length one ≤ i → length other ≤ j → Merges count p q one i other j all
+    → all ≡ listed count (λ b. p b || q b)
 merges_over count p q one i other j all one_over other_over m =
     let none = neither p q (λ b. p b || q b) (λ z. refl) m.from m.len (sym m.one_left ∙ drop_all i one one_over) (sym m.other_left ∙ drop_all j other other_over) in
     sym (m.all_left ∙ ap (λ v. all ++ v) none ∙ append-nil all)
@@ -220,17 +223,20 @@ module _ (count : ℕ) (p q : ℕ → Bool) (one : List ValueId) (i : ℕ) (othe
 
   takes_one : (x : ValueId) → IsFirst one i other j x → Merges count p q one (i + 1) other j (all ++ x ∷ [])
   takes_one x f =
-      let g = goes_one p q (λ b. p b || q b) (λ z. refl) m.from m.len x (drop (i + 1) one) (sym m.one_left ∙ left one i x f.there f.value_is) (λ y rest h. first_less one i other j x f y rest (m.other_left ∙ h)) in
+      let g = goes_one p q (λ b. p b || q b) (λ z. refl) m.from m.len x (drop (i + 1) one) (sym m.one_left ∙ left one i x f.there f.value_is)
+      (λ y rest h. first_less one i other j x f y rest (m.other_left ∙ h)) in
       record { from = g.from; len = g.len; one_left = g.one_is; other_left = m.other_left ∙ g.other_is; all_left = push x (listed_from g.from g.len (λ b. p b || q b)) g.all_is }
 
   takes_other : (x : ValueId) → IsFirst other j one i x → Merges count p q one i other (j + 1) (all ++ x ∷ [])
   takes_other x f =
-      let g = goes_one q p (λ b. p b || q b) (λ z. or_comm (p z) (q z)) m.from m.len x (drop (j + 1) other) (sym m.other_left ∙ left other j x f.there f.value_is) (λ y rest h. first_less other j one i x f y rest (m.one_left ∙ h)) in
+      let g = goes_one q p (λ b. p b || q b) (λ z. or_comm (p z) (q z)) m.from m.len x (drop (j + 1) other) (sym m.other_left ∙ left other j x f.there f.value_is)
+      (λ y rest h. first_less other j one i x f y rest (m.one_left ∙ h)) in
       record { from = g.from; len = g.len; one_left = m.one_left ∙ g.other_is; other_left = g.one_is; all_left = push x (listed_from g.from g.len (λ b. p b || q b)) g.all_is }
 
   takes_both : (x : ValueId) → AreSame one i other j x → Merges count p q one (i + 1) other (j + 1) (all ++ x ∷ [])
   takes_both x f =
-      let g = goes_both p q (λ b. p b || q b) (λ z. refl) m.from m.len x (drop (i + 1) one) (drop (j + 1) other) (sym m.one_left ∙ left one i x f.one_there f.is_one) (sym m.other_left ∙ left other j x f.other_there f.is_other) in
+      let g = goes_both p q (λ b. p b || q b) (λ z. refl) m.from m.len x (drop (i + 1) one) (drop (j + 1) other) (sym m.one_left ∙ left one i x f.one_there f.is_one)
+      (sym m.other_left ∙ left other j x f.other_there f.is_other) in
       record { from = g.from; len = g.len; one_left = g.one_is; other_left = g.other_is; all_left = push x (listed_from g.from g.len (λ b. p b || q b)) g.all_is }
 
   pub merges_more : (t : Turn) → IsTurn one i other j t → Merges count p q one t.one other t.other (all ++ t.value ∷ [])

@@ -11,7 +11,8 @@ use Rattle.ownership_chains.specs.Facts.{value_of}
 use Rattle.ownership_chains.specs.inner.Numbers.{number_of, numbers_of, operand_numbers}
 
 pub has_number : (xs : List ValueId) (w : ValueId) → Contains xs w → Contains (map number_of xs) w.0
-has_number xs w c = (c.0, let long : length (map number_of xs) ≡ length xs = length-map xs number_of in let lt : c.0 < length xs = c.1 in omega arith, get_or-map number_of xs c.0 w w.0 c.1 ∙ ap number_of c.2)
+has_number xs w c =
+    (c.0, let long : length (map number_of xs) ≡ length xs = length-map xs number_of in let lt : c.0 < length xs = c.1 in omega arith, get_or-map number_of xs c.0 w w.0 c.1 ∙ ap number_of c.2)
 
 pub has_value : (xs : List ValueId) (n : ℕ) → Contains (map number_of xs) n → Contains xs (value_of n)
 has_value xs n c =

@@ -51,7 +51,8 @@ stuck_next defs known first range stuck v p = at (list_all (is_known known) (ope
     at false e = found (some_unknown known (operands_at defs v) e)
 
 -- from an unknown value a chain leads into a ring
-unknown_leads : (defs : List Definition) (table : List (Option Facts)) → IsInRange defs → AreStuck defs (told_at table) (length defs) → (v : ValueId) → v.0 < length defs → told_at table v ≡ None → LeadsIntoRing defs v
+unknown_leads : (defs : List Definition) (table : List (Option Facts)) → IsInRange defs → AreStuck defs (told_at table) (length defs) → (v : ValueId) → v.0 < length defs
+    → told_at table v ≡ None → LeadsIntoRing defs v
 unknown_leads defs table range stuck v lt none = found (some_ring (numbers_of defs) Left next v.0 (lt, none, inl refl))
   where
     Left : ℕ → Type 0

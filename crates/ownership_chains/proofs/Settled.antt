@@ -1,5 +1,6 @@
 -- What a look at one value, or at all, leaves of a table of facts.
-use Rattle.std.proofs.Common.{◌++◌, take, drop, ◌≡◌, ◌≢◌, ℕ, zero, suc, ◌+◌, ◌<◌, ◌≤◌, List, [], ◌∷◌, length, get_or, set, replicate, refl, sym, ap, ◌∙◌, subst, arith, Bool, true, false, cond, ◌⊎◌, inl, inr, Option, Some, None}
+use Rattle.std.proofs.Common.{◌++◌, take, drop, ◌≡◌, ◌≢◌, ℕ, zero, suc, ◌+◌, ◌<◌, ◌≤◌, List, [], ◌∷◌, length, get_or, set, replicate}
+use Rattle.std.proofs.Common.{refl, sym, ap, ◌∙◌, subst, arith, Bool, true, false, cond, ◌⊎◌, inl, inr, Option, Some, None}
 use Rattle.std.specs.Prelude.{is_none, is_some, slice_get, unwrap_or}
 use Rattle.std.proofs.lemmas.Option.{none-some}
 use Rattle.std.proofs.lemmas.Bool.{cases_eq}
@@ -37,7 +38,8 @@ none_at (x ∷ table) (suc i) lt e = none_at table i (omega arith) e
 module _ (defs : List Definition) (table : List (Option Facts)) (v : ValueId) (f : Facts) (inside : v.0 < length table) (none : told_at table v ≡ None) where
   pub fewer : unknown (set table v.0 (Some f)) < unknown table
   fewer =
-      let sum : unknown (set table v.0 (Some f)) + cond {A = ℕ} (is_none (get_or table v.0 None)) 1 0 ≡ unknown table + 0 = sum_by-set (λ (o : Option Facts). cond (is_none o) 1 0) table v.0 (Some f) None inside in
+      let sum : unknown (set table v.0 (Some f)) + cond {A = ℕ} (is_none (get_or table v.0 None)) 1 0 ≡ unknown table + 0 =
+      sum_by-set (λ (o : Option Facts). cond (is_none o) 1 0) table v.0 (Some f) None inside in
       let one : cond {A = ℕ} (is_none (get_or table v.0 None)) 1 0 ≡ 1 = ap (λ (o : Option Facts). cond {A = ℕ} (is_none o) 1 0) (none_at table v.0 inside none) in
       omega arith
 

@@ -35,7 +35,8 @@ pub together_more : (count : ℕ) (known : ValueId → Option Facts) (only : Boo
     ((p q : ℕ → Bool) → so_far ≡ listed count p → handed ≡ listed count q → all ≡ listed count (λ b. p b || q b)) →
     all ≡ bases_together count only (known_or known) (take (i + 1) ops)
 together_more count known only ops i d so_far handed all lt ok is before union =
-    union (λ b. list_any (λ w. has (handed_on only (known_or known w)) b) (take i ops)) (has (handed_on only (known_or known (get_or ops i d)))) before (is ∙ handed_listed count known only (get_or ops i d) ok) ∙
+    union (λ b. list_any (λ w. has (handed_on only (known_or known w)) b) (take i ops)) (has (handed_on only (known_or known (get_or ops i d)))) before (is
+    ∙ handed_listed count known only (get_or ops i d) ok) ∙
     listed_same (λ b. list_any (λ w. has (handed_on only (known_or known w)) b) (take i ops) || has (handed_on only (known_or known (get_or ops i d))) b)
     (λ b. list_any (λ w. has (handed_on only (known_or known w)) b) (take (i + 1) ops)) count
     (λ b _. sym (list_any_more (λ w. has (handed_on only (known_or known w)) b) ops i d lt))
@@ -43,5 +44,6 @@ together_more count known only ops i d so_far handed all lt ok is before union =
 pub together_none : (count : ℕ) (known : ValueId → Option Facts) (only : Bool) → [] ≡ bases_together count only (known_or known) []
 together_none count known only = none_is_listed count
 
-pub together_all : (count : ℕ) (known : ValueId → Option Facts) (only : Bool) (ops : List ValueId) (i : ℕ) (all : List ValueId) → length ops ≤ i → all ≡ bases_together count only (known_or known) (take i ops) → all ≡ bases_together count only (known_or known) ops
+pub together_all : (count : ℕ) (known : ValueId → Option Facts) (only : Bool) (ops : List ValueId) (i : ℕ) (all : List ValueId) → length ops ≤ i
+    → all ≡ bases_together count only (known_or known) (take i ops) → all ≡ bases_together count only (known_or known) ops
 together_all count known only ops i all le h = h ∙ ap (bases_together count only (known_or known)) (take_all i ops le)

@@ -1,5 +1,6 @@
 -- The kind and the bases of a value, by its origin and the facts of its operands.
-use Rattle.std.specs.Prelude.{◌≡◌, ℕ, zero, suc, List, [], ◌∷◌, map, length, take, Bool, true, false, cond, not, ◌||◌, ◌==◌, Option, Some, None, is_some, unwrap_or, slice_get, filter}
+use Rattle.std.specs.Prelude.{◌≡◌, ℕ, zero, suc, List, [], ◌∷◌, map, length, take, Bool, true, false, cond}
+use Rattle.std.specs.Prelude.{not, ◌||◌, ◌==◌, Option, Some, None, is_some, unwrap_or, slice_get, filter}
 use Rattle.std.specs.List.{list_any, list_all, range_with_len}
 use Rattle.sil_ast.specs.declared.place.ValueId.{ValueId}
 use Rattle.type_definitions.specs.declared.kind.Kind.{Kind}

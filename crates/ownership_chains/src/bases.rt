@@ -82,7 +82,8 @@ pub(crate) fn together(
     operands: &[ValueId],
     only_guaranteed: bool,
 ) -> Result<ShortList<ValueId, 4>, Exhausted>
-    ensures { IfOk result (λ all. (count : ℕ) → AreListed count (told_at table.now) → all ≡ bases_together count only_guaranteed (known_or (told_at table.now)) operands.now) }
+    ensures { IfOk result (λ all. (count : ℕ) → AreListed count (told_at table.now)
+        → all ≡ bases_together count only_guaranteed (known_or (told_at table.now)) operands.now) }
 {
     let mut all = ShortList::new(alloc);
     for operand in operands {

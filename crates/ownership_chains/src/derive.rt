@@ -94,7 +94,8 @@ fn facts_by_origin(
     value: ValueId,
     origin: Origin,
 ) -> Result<Facts, Exhausted>
-    ensures { IfOk result (λ f. (count : ℕ) → AreListed count (told_at table.now) → f ≡ told_by count value (known_or (told_at table.now)) operands.now origin) }
+    ensures { IfOk result (λ f. (count : ℕ) → AreListed count (told_at table.now)
+        → f ≡ told_by count value (known_or (told_at table.now)) operands.now origin) }
 {
     match origin {
         Origin::Owned => facts_by_kind(alloc, table, operands, value, Kind::Owned),

@@ -12,4 +12,5 @@ loop-operand-preserved c count ok =
     c.loop-operand-test.true ok c.handed_on-handed.ensures (c.loop-operand.invariant count ok) (λ p q one other. c.in_ok-all.ensures count p q (c.as_slice.ensures ∙ one) other)
 
 pub returns : goal.returns
-returns c count ok = together_all count (told_at c.args.table.now) c.args.only_guaranteed c.args.operands.now c.loop-operand.operand-index c.loop-operand.all c.loop-operand-test.false (c.loop-operand.invariant count ok)
+returns c count ok = together_all count (told_at c.args.table.now) c.args.only_guaranteed c.args.operands.now c.loop-operand.operand-index c.loop-operand.all c.loop-operand-test.false
+    (c.loop-operand.invariant count ok)

@@ -28,7 +28,8 @@ returns-clause-all c =
 
 pub returns-clause-unknown : goal.returns-clause-unknown
 returns-clause-unknown c =
-    subst (KnowsAllButRings c.args.defs.now) (sym c.from_vec-2.ensures) (just_unknown c.args.defs.now c.in_ok-table-2.table.items c.requires c.in_ok-table-2.ensures.exact c.in_ok-table-2.ensures.stuck)
+    subst (KnowsAllButRings c.args.defs.now) (sym c.from_vec-2.ensures)
+    (just_unknown c.args.defs.now c.in_ok-table-2.table.items c.requires c.in_ok-table-2.ensures.exact c.in_ok-table-2.ensures.stuck)
 
 pub returns-clause-told : goal.returns-clause-told
 returns-clause-told c =

@@ -9,9 +9,11 @@ facts_of-requires-clause-listed c = sound_listed c.args.defs.now c.args.table.no
 
 pub returns-in-Some-clause-sound : goal.returns-in-Some-clause-sound
 returns-in-Some-clause-sound c =
-    stays_sound c.args.defs.now c.args.table.now c.args.value c.in-Some.facts (omega (arith, c.requires.inside, c.requires.size)) (unknown_none (told_at c.args.table.now c.args.value) (sym c.is_known.ensures ∙ c.if-is_known.false))
+    stays_sound c.args.defs.now c.args.table.now c.args.value c.in-Some.facts (omega (arith, c.requires.inside, c.requires.size))
+    (unknown_none (told_at c.args.table.now c.args.value) (sym c.is_known.ensures ∙ c.if-is_known.false))
     (sym c.in_ok-facts_of.ensures ∙ c.in-Some.is) c.requires.sound
 
 pub returns-in-Some-clause-settles : goal.returns-in-Some-clause-settles
 returns-in-Some-clause-settles c =
-    fewer c.args.defs.now c.args.table.now c.args.value c.in-Some.facts (omega (arith, c.requires.inside, c.requires.size)) (unknown_none (told_at c.args.table.now c.args.value) (sym c.is_known.ensures ∙ c.if-is_known.false))
+    fewer c.args.defs.now c.args.table.now c.args.value c.in-Some.facts (omega (arith, c.requires.inside, c.requires.size))
+    (unknown_none (told_at c.args.table.now c.args.value) (sym c.is_known.ensures ∙ c.if-is_known.false))
