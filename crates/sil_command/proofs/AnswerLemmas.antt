@@ -14,6 +14,7 @@ use Rattle.sil_rules.specs.declared.status.Status.{Status}
 use Rattle.sil_rules.specs.declared.status.Status.TheVariants.{Usage, Limit}
 use Rattle.sil_rules.specs.Statuses.{code_of}
 use Rattle.sil_command.specs.Texts.{limit_text, usage_text}
+use Rattle.sil_command.specs.declared.answer.Answer.{Answer}
 use Rattle.sil_command.specs.declared.words.Mode.{Mode}
 use Rattle.sil_command.specs.Words.{AsksFor, IsCommandLine}
 use Rattle.sil_command.specs.Answers.{AnswersCheck, AnswersModule, AnswersText, usage, in_mode, too_long, unread, spelled}
@@ -73,11 +74,11 @@ read_answer (Ok a) text_of status_of mode {m = m} within spells answer = spelled
 read_answer (Err e) text_of status_of mode within spells answer = tt
 
 -- what is told of a line and a status is told of a result with that line and that status
-pub told_line : {A E : Type 0} (Told : List ℕ → ℕ → Type 0) (r : Result A E) (text_of : A → List ℕ) (status_of : A → Status) (status : Status) {text : List ℕ} → Told text (code_of status)
-    → IfOk r (λ a. text_of a ≡ text) → IfOk r (λ a. status_of a ≡ status) → IfOk r (λ a. Told (text_of a) (code_of (status_of a)))
-told_line Told (Ok a) text_of status_of status {text = text} told same status_is =
-    subst (λ t. Told t (code_of (status_of a))) (sym same) (subst (λ s. Told text (code_of s)) (sym status_is) told)
-told_line Told (Err e) text_of status_of status told same status_is = tt
+pub told_line : {E : Type 0} (Told : List ℕ → ℕ → Type 0) (r : Result Answer E) (status : Status) {text : List ℕ} → Told text (code_of status)
+    → IfOk r (λ a. a.text.items ≡ text) → IfOk r (λ a. a.status ≡ status) → IfOk r (λ a. Told a.text.items (code_of a.status))
+told_line Told (Ok a) status {text = text} told same status_is =
+    subst (λ t. Told t (code_of a.status)) (sym same) (subst (λ s. Told text (code_of s)) (sym status_is) told)
+told_line Told (Err e) status told same status_is = tt
 
 -- what is answered to the reason is answered to the text that isn't read
 pub unread_answer : {A E : Type 0} (r : Result A E) (text_of : A → List ℕ) (status_of : A → ℕ) (mode : Mode) {text : List ℕ} {reason : ReadRefusal} → length text ≤ TEXT_BYTES
