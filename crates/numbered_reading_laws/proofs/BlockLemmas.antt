@@ -1,5 +1,6 @@
 -- What holds of good instructions and blocks holds where they are resolved.
 use Rattle.std.proofs.Common.{◌≡◌, ℕ, ◌+◌, suc, List, [], ◌∷◌, length, true, false, not, ap, refl}
+use Rattle.std.proofs.lemmas.Bool.{and_parts}
 use Rattle.sil_ast.specs.declared.function.Block.{Block}
 use Rattle.sil_ast.specs.declared.inst.Inst.{Inst}
 use Rattle.instruction_table.specs.declared.op.Op.{Op}
@@ -14,7 +15,7 @@ use Rattle.numbered_form.specs.Limits.{IsBlockInLimits, IsInstInLimits}
 use Rattle.instruction_table.specs.Forms.{extra_value_of, has_one_result, is_terminator}
 use Rattle.numbered_form.specs.Parts.{BlockHasParts, IsInside}
 use Rattle.numbered_form.specs.Types.{HasArgType, HasBlockTypes, HasInstTypes}
-use Rattle.numbered_reading_laws.proofs.ListsAndFaults.{first_of_both, not_true}
+use Rattle.numbered_reading_laws.proofs.ListsAndFaults.{not_true}
 use Rattle.numbered_reading_laws.proofs.RowRules.{ends_alone, takes_none}
 use Rattle.numbered_reading_laws.proofs.FaultlessParts.{IsGoodArg, IsGoodBlock, IsGoodEnd, IsGoodInside, IsGoodInst}
 
@@ -46,7 +47,7 @@ in_block Q h s first b g =
 
 -- a terminator gives no result
 ends_unnamed : (o : Op) → is_terminator o ≡ true → has_one_result o ≡ false
-ends_unnamed o e = not_true (has_one_result o) (first_of_both (not (has_one_result o)) (takes_none (extra_value_of o)) (ends_alone o e))
+ends_unnamed o e = not_true (has_one_result o) (and_parts (not (has_one_result o)) (takes_none (extra_value_of o)) (ends_alone o e)).0
 
 none_defined : (o : Op) (tokens : List WrittenToken) → has_one_result o ≡ false → tokens ≡ [] → defined_by o tokens ≡ []
 none_defined o tokens e f = rw (f, e) refl

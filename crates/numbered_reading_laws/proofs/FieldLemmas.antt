@@ -82,7 +82,7 @@ inside : (ossa : Bool) → (if ossa then Ossa else Lowered) ≡ External → ⊥
 inside true e = cc
 inside false e = cc
 
-not_empty : (b : Block) (bs : List Block) → b ∷ bs ≡ [] → ⊥
+pub not_empty : (b : Block) (bs : List Block) → b ∷ bs ≡ [] → ⊥
 not_empty b bs e = cc
 
 external_is : (s : Scope) (words : List WrittenToken) (blocks : List WrittenBlock) → (form_of words blocks ≡ External) ↔ (resolved_blocks s 0 blocks ≡ [])

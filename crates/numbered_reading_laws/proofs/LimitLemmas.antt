@@ -3,6 +3,7 @@ use Rattle.std.proofs.Common.{◌≡◌, ℕ, ◌+◌, ◌≤◌, suc, List, [],
 use Rattle.std.proofs.Common.{if◌then◌else◌, ap, sym, refl, ◌∙◌, arith, flat_map, count_by, length-append, ap₂, true≢false}
 use Rattle.std.proofs.lemmas.List.{length-map}
 use Rattle.std.proofs.lemmas.List.Sums.{sum_by-append, sum_by-cons}
+use Rattle.std.proofs.lemmas.Bool.{and_parts}
 use Rattle.sil_ast.specs.declared.function.Block.{Block}
 use Rattle.sil_ast.specs.declared.inst.Inst.{Inst}
 use Rattle.sil_ast.specs.declared.inst.Qualifier.{Qualifier}
@@ -32,7 +33,6 @@ use Rattle.instruction_table.specs.Forms.{extra_value_of, has_one_result, is_ter
 use Rattle.numbered_reading_laws.proofs.BlockLemmas.{Each-blocks, block_limits, end_defines_none, length-args, length-blocks}
 use Rattle.numbered_reading_laws.proofs.FieldLemmas.{in_decls, in_functions}
 use Rattle.numbered_reading_laws.proofs.FaultlessParts.{IsGoodBlock, IsGoodEnd, IsGoodFunction, IsGoodModule}
-use Rattle.numbered_reading_laws.proofs.ListsAndFaults.{second_of_both}
 use Rattle.numbered_reading_laws.proofs.ResultLemmas.{length-counted}
 use Rattle.numbered_reading_laws.proofs.RowRules.{ends_alone, takes_none}
 
@@ -112,7 +112,7 @@ never_taken extra.WhereAssigned q e = absurd (true≢false (sym e))
 never_taken extra.Always q e = absurd (true≢false (sym e))
 
 pub ends_take_none : (o : Op) (q : Qualifier) → is_terminator o ≡ true → takes_value o q ≡ false
-ends_take_none o q e = never_taken (extra_value_of o) q (second_of_both (not (has_one_result o)) (takes_none (extra_value_of o)) (ends_alone o e))
+ends_take_none o q e = never_taken (extra_value_of o) q (and_parts (not (has_one_result o)) (takes_none (extra_value_of o)) (ends_alone o e)).1
 
 end_values : (s : Scope) (first : ℕ) (w : WrittenInst) → IsGoodEnd w → values_with (resolved_inst s first w ∷ []) ≡ 0
 unfolding values_with

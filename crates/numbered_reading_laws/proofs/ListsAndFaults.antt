@@ -1,5 +1,5 @@
 -- Facts of lists, tests and faults.
-use Rattle.std.proofs.Common.{◌≡◌, ℕ, ◌≤◌, zero, suc, List, [], ◌∷◌, ◌++◌, length, map, slice_get, Option, Some, None, Bool, true, false, ◌&&◌, ◌||◌, not, sym, refl, arith, flat_map}
+use Rattle.std.proofs.Common.{if◌then◌else◌, ◌≡◌, ℕ, ◌≤◌, zero, suc, List, [], ◌∷◌, ◌++◌, length, map, slice_get, Option, Some, None, Bool, true, false, ◌&&◌, ◌||◌, not, sym, refl, arith, flat_map}
 use Rattle.std.specs.List.{list_all}
 use Rattle.std.specs.Option.{option_map}
 use Rattle.std.proofs.lemmas.List.{length-map}
@@ -7,19 +7,12 @@ use Rattle.sil_ast.specs.declared.place.Place.{Place}
 use Rattle.sil_rules.specs.declared.limit_word.LimitWord.{LimitWord}
 use Rattle.written_tree.specs.declared.fault.FaultKind.TheVariants.{Limit}
 use Rattle.written_tree.specs.Faults.{fault, passed}
+use Rattle.written_tree.specs.declared.fault.Fault.{Fault}
 use Rattle.numbered_form.specs.Lists.{Each}
 
 pub both : (a b : Bool) → a ≡ true → b ≡ true → (a && b) ≡ true
 both true b e f = f
 both false b e f = e
-
-pub first_of_both : (a b : Bool) → (a && b) ≡ true → a ≡ true
-first_of_both true b e = refl
-first_of_both false b e = e
-
-pub second_of_both : (a b : Bool) → (a && b) ≡ true → b ≡ true
-second_of_both true b e = e
-second_of_both false b e = cc
 
 pub either_first : (a b : Bool) → a ≡ true → (a || b) ≡ true
 either_first true b e = refl
@@ -60,6 +53,11 @@ all_each test [] e = refl
 all_each test (x ∷ xs) e = both (test x) (list_all test xs) e.0 (all_each test xs e.1)
 
 -- faults
+
+-- a fault that is there where a test is true
+pub not_there : (test : Bool) (f : Fault) → (if test then Some f else None) ≡ None → test ≡ false
+not_there true f e = cc
+not_there false f e = refl
 
 -- a list is no longer than the place at which it has nothing
 short : {A : Type 0} (xs : List A) (n : ℕ) → slice_get xs n ≡ None → length xs ≤ n

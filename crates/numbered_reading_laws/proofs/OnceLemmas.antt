@@ -25,6 +25,7 @@ use Rattle.name_resolution.specs.Resolved.{resolved, resolved_case, resolved_dec
 use Rattle.numbered_form.specs.Lists.{Each}
 use Rattle.numbered_form.specs.Names.{AreMembersOnce, AreNamesOnce, AreOnce, case_name, class_name, decl_name, field_name, function_name, member_names}
 use Rattle.sil_ast.specs.Imports.{reserved, swift_names}
+use Rattle.numbered_reading_laws.proofs.ListsAndFaults.{not_there}
 
 pub same_name : (name : Name) → bytes_eq name name ≡ true
 same_name name = (bytes_eq-Decides name name).1 refl
@@ -51,15 +52,11 @@ once_push (x ∷ names) name once e = (
   once_push names name once.1 (second_false (bytes_eq name x) (list_any (bytes_eq name) names) e),
 )
 
-not_twice : (test : Bool) (f : Fault) → (if test then Some f else None) ≡ None → test ≡ false
-not_twice true f e = absurd (cc)
-not_twice false f e = refl
-
 -- no token has the name of one before it
 once_after : (names : List Name) (tokens : List WrittenToken) → AreOnce names → twice_after names tokens ≡ None → AreOnce (names ++ map name_of tokens)
 once_after names [] once e = rw append-nil once
 once_after names (token ∷ tokens) once e =
-    let new : is_among names token ≡ false = not_twice (is_among names token) (fault Twice token.place) (no_first _ _ e) in
+    let new : is_among names token ≡ false = not_there (is_among names token) (fault Twice token.place) (no_first _ _ e) in
     let rest : AreOnce ((names ++ token.text ∷ []) ++ map name_of tokens) = once_after (names ++ token.text ∷ []) tokens (once_push names token.text once new) (no_second _ _ e) in
     rw append_assoc at rest
 

@@ -3,6 +3,7 @@ use Rattle.std.proofs.Common.{◌≡◌, ℕ, ◌+◌, ◌-◌, ◌≤◌, suc, 
 use Rattle.std.specs.List.{list_all}
 use Rattle.std.proofs.lemmas.List.{length-map}
 use Rattle.std.proofs.lemmas.Bool.Decides.{nat_tests}
+use Rattle.std.proofs.lemmas.Bool.{and_parts}
 use Rattle.sil_ast.specs.TypeName.{depth_of, depth_over, largest}
 use Rattle.sil_ast.specs.declared.place.Place.{Place}
 use Rattle.sil_ast.specs.declared.type_name.TypeName.{TypeName, TypeName-F, fold-roll-TypeName, fold_out-TypeName, map-TypeName, out-roll-TypeName, out-TypeName}
@@ -20,7 +21,7 @@ use Rattle.written_modules.specs.Types.{between, deeper, in_parens, kept, with_q
 use Rattle.numbered_form.specs.Literals.{literal_width, width_at}
 use Rattle.numbered_form.specs.Names.{IsWord, is_word}
 use Rattle.numbered_form.specs.Types.{IsPlacedType, IsPlainType, is_placed_at, is_plain_type, is_tuple, is_width, is_written, same}
-use Rattle.numbered_reading_laws.proofs.ListsAndFaults.{both, first_of_both, not_passed}
+use Rattle.numbered_reading_laws.proofs.ListsAndFaults.{both, not_passed, not_there}
 use Rattle.numbered_reading_laws.proofs.FaultlessParts.{AreGoodTypes, IsGoodType}
 
 plain-Int : (width : ℕ) → is_plain_type (Int width) ≡ is_width width
@@ -99,15 +100,11 @@ good_level depth t first last room plain deep =
       limit = omega (arith, d);
     }
 
-not_so : (test : Bool) (f : Fault) → (if test then Some f else None) ≡ None → test ≡ false
-not_so true f e = cc
-not_so false f e = refl
-
 has_room : (depth : ℕ) → depth ≤ 32 → (depth == 32) ≡ false → depth + 1 ≤ 32
 has_room depth h e = grind (arith, nat_tests)
 
 pub room : (depth : ℕ) (last : Place) → depth ≤ 32 → too_deep depth last ≡ None → depth + 1 ≤ 32
-room depth last h e = has_room depth h (not_so (depth == 32) (fault (Limit limit.Depth) last) e)
+room depth last h e = has_room depth h (not_there (depth == 32) (fault (Limit limit.Depth) last) e)
 
 pub good_optional : (t : PartType) (first last : Place) → IsGoodType t → t.depth + 1 ≤ 32 → IsGoodType (one_deeper t.depth (Optional t.ty) first last)
 good_optional t first last g more = good_level t.depth (Optional t.ty) first last more (plain-Optional t.ty ∙ g.written) (omega (arith, depth-Optional t.ty))
@@ -159,14 +156,14 @@ good_tuple types depth first last one few limited plain deep e =
     (plain-Tuple types ∙ tuple_of (map is_plain_type types) one few_tests plain)
     (omega (arith, depth-Tuple types))
 
-two_or_more : (n : ℕ) → (suc (suc n) == 1) ≡ false
+pub two_or_more : (n : ℕ) → (suc (suc n) == 1) ≡ false
 two_or_more n = grind (arith, nat_tests)
 
 good_between : (types : List TypeName) (depth : ℕ) (first last : Place) → length types ≤ 64 → depth ≤ 32
     → list_all same (map is_plain_type types) ≡ true → largest (map depth_of types) ≤ depth → too_deep_among types depth last ≡ None → IsGoodType (between types depth first last)
 good_between [] depth first last few limited plain deep e = good_tuple [] depth first last refl few limited plain deep e
 good_between (t ∷ []) depth first last few limited plain deep e = record {
-  written = first_of_both (is_plain_type t) true plain;
+  written = (and_parts (is_plain_type t) true plain).0;
   deep = omega arith;
   limit = limited;
 }

@@ -4,6 +4,8 @@ use Rattle.std.proofs.Common.{is_some, IfSome, IsTrue, ap, refl, sym, subst, ◌
 use Rattle.std.specs.List.{list_any}
 use Rattle.std.specs.Option.{option_map}
 use Rattle.std.proofs.lemmas.List.{length-map}
+use Rattle.std.proofs.lemmas.Bool.{and_parts}
+use Rattle.std.proofs.Math.Bool.{or-false}
 use Rattle.instruction_table.specs.Forms.{detail_of, is_terminator, parts_of, words_of}
 use Rattle.instruction_table.specs.declared.entries.Words.{Words}
 use Rattle.instruction_table.specs.declared.entries.Words.TheVariants as words
@@ -28,7 +30,7 @@ use Rattle.numbered_form.specs.Literals.{is_number_of, is_text_of}
 use Rattle.numbered_form.specs.Names.{IsEdgeSpelled, IsMemberSpelled, is_quotable}
 use Rattle.numbered_form.specs.Parts.{has_operands, is_among, is_callee, is_debug, is_flags, is_member, is_number, is_signature, is_silent, is_text, is_type, may_have, row_has}
 use Rattle.numbered_form.specs.Types.{HasEdgeTypes, HasSignatureTypes, IsPlainType}
-use Rattle.numbered_reading_laws.proofs.ListsAndFaults.{Each-weaker, either_first, either_second, first_of_both, second_of_both}
+use Rattle.numbered_reading_laws.proofs.ListsAndFaults.{Each-weaker, either_first, either_second}
 use Rattle.numbered_reading_laws.proofs.FaultlessParts.{AreGoodFrom, IsGoodAnywhere, IsGoodDebug, IsGoodEdge, IsGoodPart, IsGoodSignature, nothing_shown}
 use Rattle.numbered_reading_laws.proofs.OperandLemmas.{AreOperandsBefore, operands_kept}
 use Rattle.numbered_reading_laws.proofs.RowFields.{HasField, HasItsEdges, IsNumberFor, IsOfRow, IsTextFor, debug_kept, edges_kept, flags_kept, function_kept}
@@ -115,10 +117,10 @@ all_parts : (o : Op) (ps : List Part) (at : ℕ) (parts : List PartValue) (i : W
 all_parts o [] at parts i found stand good h g = g
 all_parts o (here ∷ others) at parts i found stand good h g =
     all_parts o others (behind_part o here others at) parts (with_part o here at parts i) (earlier found (fault_of_part o here at parts i))
-    (second_of_both (may_stand o here others) (may_all_stand o others) stand)
+    (and_parts (may_stand o here others) (may_all_stand o others) stand).1
     (others_behind o here others at parts good)
     h
-    (one_more_part o here others at parts i (first_of_both (may_stand o here others) (may_all_stand o others) stand)
+    (one_more_part o here others at parts i (and_parts (may_stand o here others) (may_all_stand o others) stand).0
     (here_good o here others at parts good) (no_fault_here o here others at parts i found h) g)
 
 -- before the first part
@@ -147,16 +149,12 @@ nothing_written o parts = record {
 
 -- behind the last part
 
-or_false : (b : Bool) → (b || false) ≡ b
-or_false true = refl
-or_false false = refl
-
 is_some-map : {A B : Type 0} (f : A → B) (x : Option A) → is_some (option_map f x) ≡ is_some x
 is_some-map f None = refl
 is_some-map f (Some x) = refl
 
 put_if : {A : Type 0} (test : Part → Bool) (o : Op) (IsFine : A → Type 0) (x : Option A) → HasField test o false IsFine x → is_some x ≡ row_has test o
-put_if test o IsFine x g = sym (or_false (is_some x)) ∙ g.there
+put_if test o IsFine x g = sym (or-false (is_some x)) ∙ g.there
 
 each_is : {A : Type 0} (P Q : A → Type 0) → ((x : A) → P x → Q x) → (x : Option A) → IfSome x P → IfSome x Q
 each_is P Q h None g = tt
@@ -170,7 +168,7 @@ good_inst w g s first = record {
   parts = record {
     ty = put_if is_type w.op IsPlainType w.ty g.ty;
     signature = put_if is_signature w.op IsGoodSignature w.signature g.signature;
-    function = is_some-map (function_of s) w.function ∙ sym (or_false (is_some w.function)) ∙ g.function;
+    function = is_some-map (function_of s) w.function ∙ sym (or-false (is_some w.function)) ∙ g.function;
     member = put_if is_member w.op IsMemberSpelled w.member g.member;
     number = put_if is_number w.op _ w.number g.number;
     text = put_if is_text w.op _ w.text g.text;

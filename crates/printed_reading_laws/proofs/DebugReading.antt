@@ -21,10 +21,11 @@ use Rattle.written_modules.specs.inner.PartFaults.{part_fault}
 use Rattle.written_modules.specs.Values.{debug_of, no_debug, token_of}
 use Rattle.numbered_form.specs.Names.{is_quotable}
 use Rattle.sil_grammar.specs.Classes.{text_class}
+use Rattle.sil_grammar.proofs.NumberedLemmas.{between_quotes}
 use Rattle.printed_reading_laws.proofs.NumberReading.{in_range}
 use Rattle.printed_reading_laws.proofs.Pieces.{Ends, Reads as reads, Stands}
 use Rattle.printed_reading_laws.proofs.ProductionReading.{stands_by}
-use Rattle.printed_reading_laws.proofs.Tokens.{between_quotes, punctuation_token, number_token, text_token, word_token}
+use Rattle.printed_reading_laws.proofs.Tokens.{punctuation_token, number_token, text_token, word_token}
 
 -- the rest of what is said: nothing, or a comma and a part that stands for it
 data ReadsRest (text : List ℕ) (part : Nonterminal) (d : Debug) (after : List ℕ) : List ℕ → Type 0 where

@@ -3,6 +3,7 @@ use Rattle.std.proofs.Common.{ℕ, ◌≤◌, ◌<◌, arith, List, [], ◌∷�
 use Rattle.std.specs.Prelude.{not}
 use Rattle.std.specs.List.{list_all}
 use Rattle.std.proofs.lemmas.Bool.Decides.{nat_tests}
+use Rattle.std.proofs.lemmas.Bool.{and_parts}
 use Rattle.sil_ast.specs.declared.inst.Edge.{Edge}
 use Rattle.sil_ast.specs.declared.member.Member.{Member}
 use Rattle.sil_ast.specs.declared.operands.Operand.{Operand}
@@ -12,14 +13,13 @@ use Rattle.numbered_form.specs.Limits.{IsEdgeInLimits}
 use Rattle.numbered_form.specs.Names.{IsEdgeSpelled, IsMemberSpelled}
 use Rattle.numbered_form.specs.Parts.{are_cases, is_branch}
 use Rattle.numbered_form.specs.Types.{HasEdgeTypes, HasOperandType}
-use Rattle.numbered_reading_laws.proofs.ListsAndFaults.{first_of_both, second_of_both}
 use Rattle.printed_reading_laws.proofs.OperandForms.{impossible}
 use Rattle.printed_reading_laws.proofs.OperandReading.{AreTyped}
 use Rattle.printed_reading_laws.proofs.Printable.{IsSmallEdge, IsSmallOperand}
 use Rattle.printed_reading_laws.proofs.Tokens.{IsSmall}
 
 other_length : (m n : ℕ) (b : Bool) → n < m → IsTrue (m == n && b) → IsTrue false
-other_length m n b more h = let same : IsTrue (m == n) = first_of_both (m == n) b h in grind (arith, nat_tests)
+other_length m n b more h = let same : IsTrue (m == n) = (and_parts (m == n) b h).0 in grind (arith, nat_tests)
 
 -- cases, and then at most one default
 pub data AreCases : List Edge → Type 0 where
@@ -48,8 +48,8 @@ pub record AreSwitchEdges (es : List Edge) : Type 0 where
 
 pub switch_edges : (es : List Edge) → IsTrue (not (is_empty es) && are_cases es) → Each IsEdgeSpelled es → Each IsSmallEdge es → AreSwitchEdges es
 switch_edges es h spelled small = record {
-  some = first_of_both (not (is_empty es)) (are_cases es) h;
-  cases = cases_are es (second_of_both (not (is_empty es)) (are_cases es) h) spelled small;
+  some = (and_parts (not (is_empty es)) (are_cases es) h).0;
+  cases = cases_are es (and_parts (not (is_empty es)) (are_cases es) h).1 spelled small;
 }
 
 abbrev pub branch_to : BlockId → List Operand → Edge
@@ -72,7 +72,7 @@ pub data IsOneBranch : List Edge → Type 0 where
 
 pub one_branch : (es : List Edge) → IsTrue (length es == 1 && list_all is_branch es) → Each IsSmallEdge es → Each HasEdgeTypes es → Each IsEdgeInLimits es → IsOneBranch es
 one_branch [] h small types few = impossible h
-one_branch (e ∷ []) h small types few = only_to e (branch_is e (first_of_both (is_branch e) true h) small.0 types.0 few.0)
+one_branch (e ∷ []) h small types few = only_to e (branch_is e (and_parts (is_branch e) true h).0 small.0 types.0 few.0)
 one_branch (e ∷ f ∷ es) h small types few = impossible (other_length (length (e ∷ f ∷ es)) 1 (list_all is_branch (e ∷ f ∷ es)) (omega arith) h)
 
 pub data IsTwoBranches : List Edge → Type 0 where
@@ -82,7 +82,7 @@ pub two_branches : (es : List Edge) → IsTrue (length es == 2 && list_all is_br
 two_branches [] h small types few = impossible h
 two_branches (e ∷ []) h small types few = impossible h
 two_branches (e ∷ f ∷ []) h small types few =
-    let second = second_of_both (is_branch e) (is_branch f && true) h in
-    either_to e f (branch_is e (first_of_both (is_branch e) (is_branch f && true) h) small.0 types.0 few.0)
-    (branch_is f (first_of_both (is_branch f) true second) small.1.0 types.1.0 few.1.0)
+    let second = (and_parts (is_branch e) (is_branch f && true) h).1 in
+    either_to e f (branch_is e (and_parts (is_branch e) (is_branch f && true) h).0 small.0 types.0 few.0)
+    (branch_is f (and_parts (is_branch f) true second).0 small.1.0 types.1.0 few.1.0)
 two_branches (e ∷ f ∷ g ∷ es) h small types few = impossible (other_length (length (e ∷ f ∷ g ∷ es)) 2 (list_all is_branch (e ∷ f ∷ g ∷ es)) (omega arith) h)

@@ -5,6 +5,7 @@ use Rattle.std.specs.Option.{option_map}
 use Rattle.std.specs.Prelude.{int_le, int_lt}
 use Rattle.std.proofs.lemmas.Bool.Decides.{nat_tests}
 use Rattle.std.proofs.lemmas.Int.{ints}
+use Rattle.std.proofs.lemmas.Bool.{and_parts}
 use lib.Signed.{mag}
 use Rattle.sil_ast.specs.declared.place.Place.{Place}
 use Rattle.sil_ast.specs.declared.type_name.TypeName.{TypeName, out-TypeName}
@@ -18,7 +19,6 @@ use Rattle.written_modules.specs.inner.RowMeaning.{element_of}
 use Rattle.written_modules.specs.Types.{width_in_range, width_of, width_over}
 use Rattle.numbered_form.specs.Literals.{is_element_number, is_residue, literal_width}
 use Rattle.numbered_form.specs.Types.{IsPlainType}
-use Rattle.numbered_reading_laws.proofs.ListsAndFaults.{first_of_both, second_of_both}
 use Rattle.numbered_reading_laws.proofs.TypeLemmas.{literal_width_is}
 
 le_holds : (a b : ℤ) → int_le a b ≡ true → a ≤ℤ b
@@ -37,7 +37,7 @@ is_signed : (width : ℕ) (n : ℤ) → IsTrue (is_residue width n) → IsSigned
 is_signed width n h =
     let low : ℤ = neg_ℤ (pos (2 ^ (width - 1))) in
     let high : ℤ = pos (2 ^ (width - 1)) in
-    (le_holds low n (first_of_both (int_le low n) (int_lt n high) h), lt_holds n high (second_of_both (int_le low n) (int_lt n high) h))
+    (le_holds low n (and_parts (int_le low n) (int_lt n high) h).0, lt_holds n high (and_parts (int_le low n) (int_lt n high) h).1)
 
 -- no literal has more than 64 bits
 width_at_most : (width : ℕ) → width_in_range width ≤ 64
@@ -74,7 +74,7 @@ pub record ReadsElement (n : ℤ) : Type 0 where
 
 pub element_reads : (n : ℤ) → IsTrue (is_element_number n) → ReadsElement n
 element_reads (pos n) h =
-    let high : pos n ≤ℤ pos 63 = le_holds (pos n) (pos 63) (second_of_both (int_le (pos 0) (pos n)) (int_le (pos n) (pos 63)) h) in
+    let high : pos n ≤ℤ pos 63 = le_holds (pos n) (pos 63) (and_parts (int_le (pos 0) (pos n)) (int_le (pos n) (pos 63)) h).1 in
     let few : n ≤ 63 = omega (arith, ints) in
     let e : element_of (decimal n) ≡ Some (pos n) = ap (option_map pos) (printed_number 63 n (omega arith) few) in
     record { small = omega arith; reads = e; faultless = λ place. in_range (element_of (decimal n)) (pos n) place e }

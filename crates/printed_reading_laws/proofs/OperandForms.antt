@@ -2,8 +2,8 @@
 use Rattle.std.proofs.Common.{◌≡◌, List, [], ◌∷◌, Option, Some, None, Bool, true, false, IsTrue, refl, sym, ◌||◌, ◌&&◌, true≢false, map}
 use Rattle.std.specs.List.{AllZip, list_all}
 use Rattle.std.specs.Prelude.{is_none, not}
+use Rattle.std.proofs.lemmas.Bool.{and_parts}
 use Rattle.sil_ast.specs.declared.operands.Operand.{Operand}
-use Rattle.numbered_reading_laws.proofs.ListsAndFaults.{first_of_both, second_of_both}
 use Rattle.written_modules.specs.inner.RowMeaning.{bare_operand}
 use Rattle.written_tree.specs.declared.written_declarations.WrittenToken.{WrittenToken}
 use Rattle.numbered_form.specs.Parts.{is_bare}
@@ -38,4 +38,4 @@ all_bare_written [] [] bare named = tt
 all_bare_written [] (token ∷ tokens) bare named = absurd named
 all_bare_written (o ∷ os) [] bare named = absurd named
 all_bare_written (o ∷ os) (token ∷ tokens) bare named =
-    (bare_written o token (first_of_both (is_bare o) (list_all is_bare os) bare) named.0, all_bare_written os tokens (second_of_both (is_bare o) (list_all is_bare os) bare) named.1)
+    (bare_written o token (and_parts (is_bare o) (list_all is_bare os) bare).0 named.0, all_bare_written os tokens (and_parts (is_bare o) (list_all is_bare os) bare).1 named.1)

@@ -3,6 +3,7 @@ use Rattle.std.proofs.Common.{◌≡◌, ◌≤◌, ℕ, List, [], ◌∷◌, �
 use Rattle.std.specs.Prelude.{not}
 use Rattle.std.specs.List.{AllZip, list_all}
 use Rattle.std.proofs.lemmas.List.{append_assoc}
+use Rattle.std.proofs.lemmas.Bool.{and_parts}
 use Rattle.instruction_table.specs.Forms.{may_lack_operand}
 use Rattle.instruction_table.specs.declared.forms.Part.{Part}
 use Rattle.instruction_table.specs.declared.forms.Part.TheVariants as form
@@ -28,7 +29,7 @@ use Rattle.written_tree.specs.Places.{operand_place}
 use Rattle.written_tree.specs.declared.written_instructions.WrittenInst.{WrittenInst}
 use Rattle.written_tree.specs.declared.written_instructions.WrittenOperand.{WrittenOperand}
 use Rattle.numbered_form.specs.Lists.{Each, is_empty}
-use Rattle.numbered_reading_laws.proofs.ListsAndFaults.{both, first_of_both}
+use Rattle.numbered_reading_laws.proofs.ListsAndFaults.{both}
 use Rattle.numbered_form.specs.Parts.{first_then, is_bare, is_typed}
 use Rattle.numbered_form.specs.Types.{HasOperandType}
 use Rattle.printed_reading_laws.proofs.ListLimits.{none_passed}
@@ -91,7 +92,7 @@ module _ (text : List ℕ) (functions : List Function) (i : Inst) (done : List P
   unfolding body written meaning part_fault operands_of punctuation_of punctuation_spelling signs
   lacking_reads ends [] typed small types = stands_by p.EnumOperandNone _ reads.nothing refl tt
   lacking_reads ends (x ∷ os) typed small types =
-      let operand = operand_reads text x rest (first_of_both (is_typed x) true typed) small.0 types.0 ends in
+      let operand = operand_reads text x rest (and_parts (is_typed x) true typed).0 small.0 types.0 ends in
       stands_by p.EnumOperandSome _ (punctuation_token 44 refl refl (reads.blank 32 refl operand.reads)) refl (operand.stands, tt)
 
   typed_or_none : Ends rest → IsTrue (may_lack_operand i.op) → IsTrue (is_behind_item done)
@@ -116,7 +117,7 @@ module _ (text : List ℕ) (functions : List Function) (i : Inst) (done : List P
   typed_front : (rest_fits : List Operand → Bool) (lack : Bool) (os : List Operand) → IsTrue (first_then is_typed rest_fits os || (lack && is_empty os)) → IsTrue (list_all is_typed (take 1 os))
   typed_front rest_fits lack [] h = refl
   typed_front rest_fits lack (x ∷ os) h =
-      both (is_typed x) true (first_of_both (is_typed x) (rest_fits os) (one_there (is_typed x && rest_fits os) lack h)) refl
+      both (is_typed x) true (and_parts (is_typed x) (rest_fits os) (one_there (is_typed x && rest_fits os) lack h)).0 refl
 
   -- an operand with its type, which may be lacking in some rows
   pub typed_part : (lack : Bool) → may_lack_operand i.op ≡ lack → IsTrue (not lack || is_behind_item done) → Ends rest
@@ -125,7 +126,7 @@ module _ (text : List ℕ) (functions : List Function) (i : Inst) (done : List P
   typed_part true may item ends rest_fits os h small types = typed_or_none ends may item os (typed_front rest_fits true os h) small types
   typed_part false never item ends rest_fits [] h small types = impossible h
   typed_part false never item ends rest_fits (x ∷ os) h small types =
-      typed_one ends never x os (first_of_both (is_typed x) (rest_fits os) (one_there (is_typed x && rest_fits os) false h)) small.0 types.0
+      typed_one ends never x os (and_parts (is_typed x) (rest_fits os) (one_there (is_typed x && rest_fits os) false h)).0 small.0 types.0
 
   -- `%1`, which lacks in no row
   pub bare_part : (lack : Bool) → IsTrue (not lack) → Ends rest
@@ -134,7 +135,7 @@ module _ (text : List ℕ) (functions : List Function) (i : Inst) (done : List P
   unfolding symbols_of brings_comma token_of kept_of
   bare_part lack never ends rest_fits [] h small = none_there lack never h
   bare_part lack never ends rest_fits (x ∷ os) h small =
-      let bare = first_of_both (is_bare x) (rest_fits os) (one_there (is_bare x && rest_fits os) lack h) in
+      let bare = (and_parts (is_bare x) (rest_fits os) (one_there (is_bare x && rest_fits os) lack h)).0 in
       led (bare_text x) refl refl record {
         values = _;
         reads = value_token x.value.0 small.0 ends reads.nothing;

@@ -2,6 +2,7 @@
 use Rattle.std.proofs.Common.{ℕ, List, [], ◌∷◌, ◌++◌, Option, Some, None, IsTrue, IfSome, refl, ap, sym, decimal, true≢false}
 use Rattle.std.specs.List.{AllZip, list_all}
 use Rattle.std.proofs.lemmas.List.{append_assoc}
+use Rattle.std.proofs.lemmas.Bool.{and_parts}
 use Rattle.sil_ast.specs.declared.operands.Operand.{Operand}
 use Rattle.sil_ast.specs.declared.place.ValueId.{ValueId}
 use Rattle.sil_ast.specs.declared.type_name.TypeName.{TypeName}
@@ -17,7 +18,6 @@ use Rattle.written_modules.specs.inner.Meaning.{kept_of, meaning}
 use Rattle.written_modules.specs.Opened.{PartValue}
 use Rattle.written_modules.specs.inner.PartFaults.{part_fault}
 use Rattle.written_modules.specs.Values.{operand_of, operands_of, token_of}
-use Rattle.numbered_reading_laws.proofs.ListsAndFaults.{first_of_both, second_of_both}
 use Rattle.numbered_form.specs.Lists.{Each}
 use Rattle.numbered_form.specs.Parts.{is_typed}
 use Rattle.numbered_form.specs.Types.{HasOperandType, IsPlacedType}
@@ -78,8 +78,8 @@ all_operands = record {
 each_reads : (text : List ℕ) (os : List Operand) → AreTyped os → Each (λ o. ReadsAs text (Part n.Operand) (IsOperand o) (typed_text o)) os
 each_reads text [] h = tt
 each_reads text (o ∷ os) h =
-    let typed : IsTrue (list_all is_typed os) = second_of_both (is_typed o) (list_all is_typed os) h.typed in (
-      λ after ends. operand_reads text o after (first_of_both (is_typed o) (list_all is_typed os) h.typed) h.small.0 h.types.0 ends,
+    let typed : IsTrue (list_all is_typed os) = (and_parts (is_typed o) (list_all is_typed os) h.typed).1 in (
+      λ after ends. operand_reads text o after (and_parts (is_typed o) (list_all is_typed os) h.typed).0 h.small.0 h.types.0 ends,
       each_reads text os record { typed = typed; small = h.small.1; types = h.types.1 },
     )
 

@@ -4,6 +4,7 @@ use Rattle.std.specs.Fmt.{signed_decimal}
 use Rattle.std.specs.Prelude.{not}
 use Rattle.std.specs.List.{list_any}
 use Rattle.std.specs.Option.{option_map}
+use Rattle.std.proofs.lemmas.Bool.{and_parts}
 use Rattle.instruction_table.specs.Forms.{detail_of, ending_of, may_lack_operand, words_of}
 use Rattle.instruction_table.specs.declared.entries.Detail.{Detail}
 use Rattle.instruction_table.specs.declared.entries.Detail.TheVariants as detail
@@ -37,9 +38,10 @@ use Rattle.numbered_form.specs.Limits.{IsSignatureInLimits}
 use Rattle.numbered_form.specs.Literals.{is_number_by, is_text_by}
 use Rattle.numbered_form.specs.Names.{IsMemberSpelled, is_quotable}
 use Rattle.numbered_form.specs.Parts.{are_of_parts, is_among, is_bare, is_callee, is_member, is_number, is_signature, is_text, is_type, is_typed, row_has}
-use Rattle.numbered_reading_laws.proofs.ListsAndFaults.{first_of_both, implied, second_of_both}
+use Rattle.numbered_reading_laws.proofs.ListsAndFaults.{implied}
 use Rattle.numbered_form.specs.Types.{HasSignatureTypes, IsPlainType}
 use Rattle.sil_grammar.specs.Classes.{text_class}
+use Rattle.sil_grammar.proofs.NumberedLemmas.{between_quotes}
 use Rattle.printed_reading_laws.proofs.DebugReading.{any_text, debug_reads}
 use Rattle.printed_reading_laws.proofs.FunctionNames.{is_name_at}
 use Rattle.printed_reading_laws.proofs.MemberReading.{case_reads, field_reads}
@@ -55,7 +57,7 @@ use Rattle.printed_reading_laws.proofs.OperandParts.{bare_args_part, bare_part, 
 use Rattle.printed_reading_laws.proofs.RowGaps.{last_of}
 use Rattle.printed_reading_laws.proofs.RowKept.{kept_if, so_far}
 use Rattle.printed_reading_laws.proofs.SignatureReading.{signature_reads}
-use Rattle.printed_reading_laws.proofs.Tokens.{at_token, between_quotes, number_token, punctuation_token, text_token, word_token}
+use Rattle.printed_reading_laws.proofs.Tokens.{at_token, number_token, punctuation_token, text_token, word_token}
 use Rattle.printed_reading_laws.proofs.TypeReading.{type_reads}
 use Rattle.printed_reading_laws.proofs.Written.{name_in}
 use Rattle.printed_reading_laws.proofs.WrittenParts.{with_debug, with_edges, with_flags, with_function, with_member, with_number, with_qualifier, with_signature, with_text, with_type}
@@ -159,8 +161,8 @@ module _ (text : List ℕ) (functions : List Function) (i : Inst) (h : IsInstPri
   part_reads form.Number others fit within operands =
       let typed = list_any is_type done in
       let known = number_fits (detail_of i.op) typed in
-      number_part typed refl (first_of_both known (not typed || row_has is_type i.op) fit)
-      (λ there. is_there i.ty (h.parts.ty ∙ implied typed (row_has is_type i.op) there (second_of_both known (not typed || row_has is_type i.op) fit)))
+      number_part typed refl (and_parts known (not typed || row_has is_type i.op) fit).0
+      (λ there. is_there i.ty (h.parts.ty ∙ implied typed (row_has is_type i.op) there (and_parts known (not typed || row_has is_type i.op) fit).1))
       (is_there i.number (h.parts.number ∙ within is_number refl))
   part_reads form.Text others fit within operands =
       let x = is_there i.text (h.parts.text ∙ within is_text refl) in

@@ -16,6 +16,7 @@ use Rattle.numbered_form.specs.Lists.{Each}
 use Rattle.numbered_form.specs.Functions.{IsAttribute}
 use Rattle.printed_reading_laws.proofs.Namings.{no_match}
 use Rattle.printed_reading_laws.proofs.Written.{form_words}
+use Rattle.numbered_reading_laws.proofs.FieldLemmas.{not_empty}
 
 abbrev tells_form : Name → Bool
 tells_form name = bytes_eq name (codes "ossa")
@@ -67,15 +68,12 @@ inside_form Ossa ossa h e = sym (ap (λ t. if t then Ossa else Lowered) e)
 inside_form Lowered ossa h e = sym (ap (λ t. if t then Ossa else Lowered) e)
 inside_form External ossa h e = absurd (h refl)
 
-some_block : (b : Block) (blocks : List Block) → b ∷ blocks ≡ [] → ⊥
-some_block b blocks e = cc
-
 form_by : (form : Form) (words : List WrittenToken) (blocks : List Block) (ws : List WrittenBlock) → (form ≡ External) ↔ (blocks ≡ []) → length ws ≡ length blocks
     → list_any is_ossa words ≡ list_any tells_form (form_words form) → form ≡ form_of words ws
 form_by form words [] [] external long e = external.1 refl
 form_by form words [] (w ∷ ws) external long e = absurd (cc)
 form_by form words (b ∷ blocks) [] external long e = absurd (cc)
-form_by form words (b ∷ blocks) (w ∷ ws) external long e = inside_form form (list_any is_ossa words) (λ is. some_block b blocks (external.0 is)) e
+form_by form words (b ∷ blocks) (w ∷ ws) external long e = inside_form form (list_any is_ossa words) (λ is. not_empty b blocks (external.0 is)) e
 
 pub form_is : (attributes : List Name) (form : Form) (words : List WrittenToken) (blocks : List Block) (ws : List WrittenBlock) → Each IsAttribute attributes → (form ≡ External) ↔ (blocks ≡ [])
     → map name_of words ≡ attributes ++ form_words form → length ws ≡ length blocks

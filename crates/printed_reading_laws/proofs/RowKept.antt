@@ -2,6 +2,7 @@
 use Rattle.std.proofs.Common.{◌≡◌, ℕ, List, [], ◌∷◌, Option, Some, None, Bool, true, false, IsTrue, refl, ◌∙◌, if◌then◌else◌, is_some, ◌||◌, ◌&&◌, true≢false}
 use Rattle.std.specs.Prelude.{not}
 use Rattle.std.specs.List.{list_any}
+use Rattle.std.proofs.Math.Bool.{or-false}
 use Rattle.instruction_table.specs.Forms.{ending_of, parts_of, words_of}
 use Rattle.sil_ast.specs.declared.debug.Binding.{Binding}
 use Rattle.sil_ast.specs.declared.debug.Debug.{Debug}
@@ -76,16 +77,12 @@ or_moved true false c = refl
 or_moved false true c = refl
 or_moved false false c = refl
 
-or_none : (a : Bool) → (a || false) ≡ a
-or_none true = refl
-or_none false = refl
-
 any_turned : (test : Part → Bool) (parts done : List Part) → list_any test (turned parts done) ≡ (list_any test parts || list_any test done)
 any_turned test [] done = refl
 any_turned test (here ∷ others) done = any_turned test others (here ∷ done) ∙ or_moved (test here) (list_any test others) (list_any test done)
 
 any_of_row : (o : Op) (test : Part → Bool) → list_any test (turned (parts_of o) []) ≡ row_has test o
-any_of_row o test = any_turned test (parts_of o) [] ∙ or_none (row_has test o)
+any_of_row o test = any_turned test (parts_of o) [] ∙ or-false (row_has test o)
 
 same_option : {A : Type 0} (flag : Bool) (o : Option A) → is_some o ≡ flag → kept_if flag o ≡ o
 same_option true o h = refl

@@ -3,6 +3,7 @@ use Rattle.std.proofs.Common.{◌∙◌, ◌≡◌, ◌≤◌, length, subst, sy
 use Rattle.std.specs.Prelude.{not}
 use Rattle.std.specs.List.{list_all, list_any}
 use Rattle.std.proofs.lemmas.List.{append_assoc, append-nil}
+use Rattle.std.proofs.lemmas.Bool.{and_parts}
 use Rattle.instruction_table.specs.Forms.{detail_of, ending_of, may_lack_operand, parts_of}
 use Rattle.instruction_table.specs.declared.entries.Detail.{Detail}
 use Rattle.instruction_table.specs.declared.entries.Detail.TheVariants as detail
@@ -15,7 +16,7 @@ use Rattle.sil_ast.specs.declared.operands.Operand.{Operand}
 use Rattle.sil_printer.specs.CanonicalInsts.{operands_after}
 use Rattle.numbered_form.specs.Lists.{Each, is_empty}
 use Rattle.numbered_form.specs.Parts.{are_of_part, are_of_parts, is_bare, is_type, is_typed, row_has}
-use Rattle.numbered_reading_laws.proofs.ListsAndFaults.{either_first, either_second, second_of_both}
+use Rattle.numbered_reading_laws.proofs.ListsAndFaults.{either_first, either_second}
 use Rattle.printed_reading_laws.proofs.OperandForms.{impossible, none_there, one_there}
 use Rattle.numbered_form.specs.Types.{HasOperandType}
 use Rattle.printed_reading_laws.proofs.Printable.{IsSmallOperand}
@@ -113,13 +114,13 @@ typed_left : (o : Op) (parts : List Part) (left : List Operand) → IsTrue (are_
 typed_left o parts [] h = either_second (are_of_parts parts []) (may_lack_operand o && true) h
 typed_left o parts (x ∷ left) h =
     either_first (are_of_parts parts left) (may_lack_operand o && is_empty left)
-    (second_of_both (is_typed x) (are_of_parts parts left) (one_there (is_typed x && are_of_parts parts left) (may_lack_operand o) h))
+    (and_parts (is_typed x) (are_of_parts parts left) (one_there (is_typed x && are_of_parts parts left) (may_lack_operand o) h)).1
 
 bare_left : (o : Op) (parts : List Part) (left : List Operand) → IsTrue (not (may_lack_operand o)) → IsTrue (are_left o (part.Bare ∷ parts) left) → IsTrue (are_left o parts (drop 1 left))
 bare_left o parts [] never h = none_there (may_lack_operand o) never h
 bare_left o parts (x ∷ left) never h =
     either_first (are_of_parts parts left) (may_lack_operand o && is_empty left)
-    (second_of_both (is_bare x) (are_of_parts parts left) (one_there (is_bare x && are_of_parts parts left) (may_lack_operand o) h))
+    (and_parts (is_bare x) (are_of_parts parts left) (one_there (is_bare x && are_of_parts parts left) (may_lack_operand o) h)).1
 
 quiet_left : (o : Op) (parts : List Part) → AreQuiet parts → IsTrue (are_left o parts [])
 quiet_left o parts quiet = either_first (are_of_parts parts []) (may_lack_operand o && true) (quiet_take_none parts quiet)

@@ -2,6 +2,7 @@
 use Rattle.std.proofs.Common.{◌≡◌, ◌+◌, ℕ, suc, List, [], ◌∷◌, ◌++◌, length, Some, None, IsTrue, IsFalse, refl, ap, sym, subst, arith, if◌then◌else◌, inr, ◌∙◌}
 use Rattle.std.specs.List.{list_any}
 use Rattle.std.proofs.lemmas.List.{append_assoc, length-append}
+use Rattle.std.proofs.lemmas.Bool.{and_parts}
 use Rattle.instruction_table.specs.Forms.{is_terminator, mnemonic_of, parts_of}
 use Rattle.instruction_table.specs.declared.forms.Part.{Part}
 use Rattle.instruction_table.specs.declared.op.Op.{Op}
@@ -26,7 +27,7 @@ use Rattle.written_modules.specs.Values.{bare_inst, inst_of, token_of}
 use Rattle.written_tree.specs.Faults.{earlier}
 use Rattle.written_tree.specs.declared.written_instructions.WrittenInst.{WrittenInst}
 use Rattle.numbered_form.specs.Names.{is_word}
-use Rattle.numbered_reading_laws.proofs.ListsAndFaults.{either_second, first_of_both, second_of_both}
+use Rattle.numbered_reading_laws.proofs.ListsAndFaults.{either_second}
 use Rattle.printed_reading_laws.proofs.FixedTokens.{keyword_here}
 use Rattle.printed_reading_laws.proofs.PartEnds.{parts_end}
 use Rattle.printed_reading_laws.proofs.PartPlaces.{fault_moved, with_part_moved}
@@ -124,11 +125,11 @@ module _ (text : List ℕ) (functions : List Function) (i : Inst) (h : IsInstPri
   parts_read [] done os all left fit within operands =
       record { values = []; reads = reads.nothing; written = λ front w is. subst (λ os. IsInstWritten functions (so_far done os i) w) (all_taken operands) is; faultless = λ front w is. refl }
   parts_read (here ∷ others) done os all left fit within operands =
-      let fits_here = first_of_both (fits i.op done here others) (are_fit i.op (here ∷ done) others) fit in
+      let fits_here = (and_parts (fits i.op done here others) (are_fit i.op (here ∷ done) others) fit).0 in
       let others_text = parts_text functions i (Some here) (operands_after here os) others in
       let others_end = parts_end text functions i h others (here ∷ done) (operands_after here os) after ends in
       let more = parts_read others (here ∷ done) (operands_after here os) (taken_by here all left) (left_by here left)
-      (second_of_both (fits i.op done here others) (are_fit i.op (here ∷ done) others) fit)
+      (and_parts (fits i.op done here others) (are_fit i.op (here ∷ done) others) fit).1
       (λ test there. within test (either_second (test here) (list_any test others) there))
       (next_operands done here others fits_here operands) in
       rw (append_assoc (part_text functions i os (gap (last_of done) here) here) others_text after)

@@ -1,9 +1,7 @@
 -- One token in front of a piece, for each kind.
-use Rattle.std.proofs.Common.{◌≡◌, ℕ, suc, ◌-◌, ◌^◌, ◌<◌, ◌≤◌, List, [], ◌∷◌, ◌++◌, length, true, false, IsTrue, IsFalse, refl, ap, sym, subst, ◌∙◌, arith, decimal, true≢false}
-use Rattle.std.proofs.Math.Seq.{take-append_seam}
+use Rattle.std.proofs.Common.{◌≡◌, ℕ, suc, ◌-◌, ◌^◌, ◌<◌, ◌≤◌, List, [], ◌∷◌, ◌++◌, length, true, false, IsTrue, IsFalse, refl, sym, subst, ◌∙◌, arith, decimal, true≢false}
 use Rattle.std.proofs.lemmas.Bool.Decides.{nat_tests}
 use Rattle.std.proofs.lemmas.Fmt.{decimal_nonempty, digits_decimal, length-decimal-le}
-use Rattle.std.proofs.lemmas.List.{length-append}
 use Rattle.std.proofs.lemmas.Str.Parse.{FoldsDigits, IsNumeralModel, digit_from_value, numerals_by_fold, tells_digits}
 use Rattle.std.specs.Char.{is_ascii_digit}
 use Rattle.std.specs.Int.{IsInRange}
@@ -12,6 +10,7 @@ use Rattle.std.specs.Str.Parse.{AllDigits}
 use lib.Signed.{mag}
 use Rattle.std.specs.List.{list_all}
 use Rattle.std.specs.Fmt.{signed_decimal}
+use Rattle.std.proofs.lemmas.Bool.{and_parts}
 use Rattle.text_bytes.specs.Bytes.{is_punctuation, is_name_byte, is_word_start}
 use Rattle.sil_lexer.specs.Spelling.{Spells, Spells as spells, begins_with, continues, name_length, without_quotes}
 use Rattle.sil_lexer.specs.declared.token.TokenKind.TheVariants as kind
@@ -26,8 +25,9 @@ use Rattle.written_modules.specs.inner.Meaning.{leaf_of}
 use Rattle.written_modules.specs.Opened.{PartValue}
 use Rattle.written_numbers.specs.Numbers.{next_number, number_of}
 use Rattle.numbered_form.specs.Names.{is_at_name, is_quotable, is_short, is_word}
-use Rattle.numbered_reading_laws.proofs.ListsAndFaults.{both, first_of_both, second_of_both}
+use Rattle.numbered_reading_laws.proofs.ListsAndFaults.{both}
 use Rattle.sil_grammar.specs.Classes.{class_by, punctuation_class, text_class}
+use Rattle.sil_grammar.proofs.NumberedLemmas.{between_quotes}
 use Rattle.printed_reading_laws.proofs.Pieces.{Ends, Reads, Reads as reads, lexeme_before}
 
 is_digit : (d : ℕ) → IsInRange 48 57 d → is_ascii_digit d ≡ true
@@ -70,8 +70,8 @@ short_decimal n small = length-decimal-le 4 n (omega arith) (omega arith) (omega
 word_spells : (name : List ℕ) → IsTrue (is_word name) → Spells kind.Word name
 word_spells [] h = absurd (true≢false (sym h))
 word_spells (b ∷ bs) h =
-    let front = first_of_both (is_word_start b && list_all is_name_byte bs) (is_short (b ∷ bs)) h in
-    spells.word b bs (first_of_both (is_word_start b) (list_all is_name_byte bs) front) (second_of_both (is_word_start b) (list_all is_name_byte bs) front)
+    let front = (and_parts (is_word_start b && list_all is_name_byte bs) (is_short (b ∷ bs)) h).0 in
+    spells.word b bs (and_parts (is_word_start b) (list_all is_name_byte bs) front).0 (and_parts (is_word_start b) (list_all is_name_byte bs) front).1
 
 is_few : (n : ℕ) → IsTrue (nat_le n 255) → n ≤ 255
 is_few n h = grind (arith, nat_tests)
@@ -81,16 +81,16 @@ few_is n h = grind (arith, nat_tests)
 
 word_is_short : (name : List ℕ) → IsTrue (is_word name) → length name ≤ 255
 word_is_short [] h = omega arith
-word_is_short (b ∷ bs) h = is_few (length (b ∷ bs)) (second_of_both (is_word_start b && list_all is_name_byte bs) (is_short (b ∷ bs)) h)
+word_is_short (b ∷ bs) h = is_few (length (b ∷ bs)) (and_parts (is_word_start b && list_all is_name_byte bs) (is_short (b ∷ bs)) h).1
 
 at_spells : (name : List ℕ) → IsTrue (is_at_name name) → Spells kind.AtName (64 ∷ name)
 at_spells [] h = absurd (true≢false (sym h))
-at_spells (b ∷ bs) h = spells.at_name b bs (first_of_both (list_all is_name_byte (b ∷ bs)) (is_short (b ∷ bs)) h)
+at_spells (b ∷ bs) h = spells.at_name b bs (and_parts (list_all is_name_byte (b ∷ bs)) (is_short (b ∷ bs)) h).0
 
 at_is_short : (name : List ℕ) → IsTrue (is_at_name name) → name_length kind.AtName (64 ∷ name) ≤ 255
 at_is_short [] h = absurd (true≢false (sym h))
 at_is_short (b ∷ bs) h =
-    let few : length (b ∷ bs) ≤ 255 = is_few (length (b ∷ bs)) (second_of_both (list_all is_name_byte (b ∷ bs)) (is_short (b ∷ bs)) h) in
+    let few : length (b ∷ bs) ≤ 255 = is_few (length (b ∷ bs)) (and_parts (list_all is_name_byte (b ∷ bs)) (is_short (b ∷ bs)) h).1 in
     omega (arith, few)
 
 percent_spells : (ds : List ℕ) → AllDigits 10 ds → 0 < length ds → Spells kind.Percent (37 ∷ ds)
@@ -114,13 +114,6 @@ label_is_word n small =
     let few : length (decimal n) ≤ 4 = short_decimal n small in
     both (list_all is_name_byte (decimal n)) (is_short (98 ∷ 98 ∷ decimal n)) (all_name_bytes (decimal n) (decimal_digits n (omega arith)))
     (few_is (length (98 ∷ 98 ∷ decimal n)) (omega (arith, few)))
-
-quoted_length : (inside : List ℕ) → length (34 ∷ inside ++ 34 ∷ []) - 1 - 1 ≡ length inside
-quoted_length inside = let e : length (inside ++ 34 ∷ []) ≡ length inside + 1 = length-append inside (34 ∷ []) in omega (arith, e)
-
--- what stands between the quotes
-pub between_quotes : (inside : List ℕ) → without_quotes (34 ∷ inside ++ 34 ∷ []) ≡ inside
-between_quotes inside = ap (λ n. take n (inside ++ 34 ∷ [])) (quoted_length inside) ∙ take-append_seam inside (34 ∷ [])
 
 -- a word
 pub word_token : {text : List ℕ} {s : Symbol} {ss : List Symbol} {rest : List ℕ} {values : List PartValue} {after : List ℕ} → (name : List ℕ)

@@ -26,6 +26,7 @@ use Rattle.printed_reading_laws.proofs.Pieces.{Reads as reads, ReadsAs, Stands, 
 use Rattle.printed_reading_laws.proofs.Tokens.{punctuation_token}
 use Rattle.printed_reading_laws.proofs.TypeForms.{IsTypeOf, no_questions_fault}
 use Rattle.written_tree.proofs.FaultOrder.{neither}
+use Rattle.numbered_reading_laws.proofs.TypeLemmas.{two_or_more}
 
 -- the types are these, counted as deep as the deepest
 record AreTypes (ts : List TypeName) (list : PartTypes) : Type 0 where
@@ -97,9 +98,6 @@ no_tuple_fault : (ts : List TypeName) (list : PartTypes) (last : Place) → AreT
 no_tuple_fault ts list last are few room = neither _ _
     (not_passed limit.Arguments 64 list.firsts (omega (arith, are.counted)))
     (no_depth_fault list.types list.depth last (omega (arith, are.depth)))
-
-two_or_more : (n : ℕ) → (suc (suc n) == 1) ≡ false
-two_or_more n = grind (arith, nat_tests)
 
 -- one type between parentheses is itself
 

@@ -4,6 +4,7 @@ use Rattle.std.proofs.Common.{nat_le, codes, if◌then◌else◌, IsTrue, IsFals
 use Rattle.std.specs.List.{list_all}
 use Rattle.std.proofs.lemmas.List.{append-nil, length-map}
 use Rattle.std.proofs.lemmas.Bool.Decides.{nat_tests}
+use Rattle.std.proofs.lemmas.Bool.{and_parts}
 use Rattle.sil_ast.specs.TypeName.{depth_of, depth_over, largest}
 use Rattle.sil_ast.specs.declared.type_name.TypeName.{TypeName, TypeName-F, fold-roll-TypeName, map-TypeName, out-TypeName, roll-TypeName, roll-out-TypeName}
 use Rattle.sil_ast.specs.declared.type_name.TypeName.TheVariants.{Address, Tuple, rolls-Int, rolls-Named, rolls-Optional, rolls-Tuple, rolls-Weak, rolls-Unowned, rolls-Address}
@@ -23,12 +24,12 @@ use Rattle.written_modules.specs.Opened.{PartValue}
 use Rattle.written_modules.specs.Values.{payload_of, starred, type_of}
 use Rattle.numbered_form.specs.Lists.{Each}
 use Rattle.numbered_form.specs.Types.{IsPlacedType, IsPlainType, is_placed_at, is_plain_type, is_tuple, is_written, same}
-use Rattle.numbered_reading_laws.proofs.ListsAndFaults.{first_of_both, second_of_both}
 use Rattle.printed_reading_laws.proofs.Pieces.{Ends, Reads, Reads as reads, ReadsAs, Stands}
 use Rattle.printed_reading_laws.proofs.Tokens.{punctuation_token}
 use Rattle.printed_reading_laws.proofs.TypeForms.{IsTypeOf, bare_type, int_reads, named_reads, optional_reads, unowned_reads, weak_reads}
 use Rattle.printed_reading_laws.proofs.TypeLists.{single_payload, tuple_payload, tuple_reads}
 use Rattle.printed_reading_laws.proofs.Written.{IsTypeWritten}
+use Rattle.numbered_reading_laws.proofs.ListsAndFaults.{not_true}
 
 -- the form in which a type is printed
 data Form (text : List ℕ) (t : TypeName) (depth : ℕ) (written : List ℕ) : Type 0 where
@@ -44,10 +45,6 @@ as_open_type : (text : List ℕ) (t : TypeName) (depth : ℕ) (written : List �
 as_open_type text t depth written (open_form r) closed = r
 as_open_type text t depth written (parens_form opens r) closed = absurd (true≢false (sym opens ∙ closed))
 
-not_so : (test : Bool) → not test ≡ true → test ≡ false
-not_so true h = sym h
-not_so false h = refl
-
 few : (count : ℕ) → nat_le count 64 ≡ true → count ≤ 64
 few count h = grind (arith, nat_tests)
 
@@ -60,11 +57,11 @@ record IsTuple (ts : List TypeName) : Type 0 where
 tuple_tests : (ts : List TypeName) → is_tuple (map is_plain_type ts) ≡ true → IsTuple ts
 tuple_tests ts h =
     let count : length (map is_plain_type ts) ≡ length ts = length-map ts is_plain_type in
-    let sizes = first_of_both (not (length (map is_plain_type ts) == 1) && nat_le (length (map is_plain_type ts)) 64) (list_all same (map is_plain_type ts)) h in
+    let sizes = (and_parts (not (length (map is_plain_type ts) == 1) && nat_le (length (map is_plain_type ts)) 64) (list_all same (map is_plain_type ts)) h).0 in
     record {
-      several = ap (λ count. count == 1) (sym count) ∙ not_so _ (first_of_both (not (length (map is_plain_type ts) == 1)) (nat_le (length (map is_plain_type ts)) 64) sizes);
-      few_enough = few (length ts) (ap (λ count. nat_le count 64) (sym count) ∙ second_of_both (not (length (map is_plain_type ts) == 1)) (nat_le (length (map is_plain_type ts)) 64) sizes);
-      plain = second_of_both (not (length (map is_plain_type ts) == 1) && nat_le (length (map is_plain_type ts)) 64) (list_all same (map is_plain_type ts)) h;
+      several = ap (λ count. count == 1) (sym count) ∙ not_true _ (and_parts (not (length (map is_plain_type ts) == 1)) (nat_le (length (map is_plain_type ts)) 64) sizes).0;
+      few_enough = few (length ts) (ap (λ count. nat_le count 64) (sym count) ∙ (and_parts (not (length (map is_plain_type ts) == 1)) (nat_le (length (map is_plain_type ts)) 64) sizes).1);
+      plain = (and_parts (not (length (map is_plain_type ts) == 1) && nat_le (length (map is_plain_type ts)) 64) (list_all same (map is_plain_type ts)) h).1;
     }
 
 module _ (text : List ℕ) (most : ℕ) (limited : most ≤ 32)
@@ -73,8 +70,8 @@ module _ (text : List ℕ) (most : ℕ) (limited : most ≤ 32)
       → Each (λ t. ReadsAs text (Part n.Type) (IsTypeOf t (depth_of t)) (type_text t)) ts
   each_inside [] plain deep = tt
   each_inside (t ∷ ts) plain deep = (
-    inside t (first_of_both (is_plain_type t) (list_all same (map is_plain_type ts)) plain) (omega arith),
-    each_inside ts (second_of_both (is_plain_type t) (list_all same (map is_plain_type ts)) plain) (omega arith),
+    inside t (and_parts (is_plain_type t) (list_all same (map is_plain_type ts)) plain).0 (omega arith),
+    each_inside ts (and_parts (is_plain_type t) (list_all same (map is_plain_type ts)) plain).1 (omega arith),
   )
 
   tuple_form : (ts : List TypeName) → IsTuple ts → 1 + largest (map depth_of ts) ≤ most

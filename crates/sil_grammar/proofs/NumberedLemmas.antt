@@ -20,8 +20,8 @@ use Rattle.sil_grammar.specs.Classes.{class_by, punctuation_class, text_class, t
 use Rattle.sil_grammar.specs.Spells as text
 use Rattle.sil_grammar.proofs.ReplayedSpelling.{replayed}
 
-inside_is : (inside : List ℕ) → without_quotes (34 ∷ inside ++ 34 ∷ []) ≡ inside
-inside_is inside =
+pub between_quotes : (inside : List ℕ) → without_quotes (34 ∷ inside ++ 34 ∷ []) ≡ inside
+between_quotes inside =
     let n : length (34 ∷ inside ++ 34 ∷ []) - 1 - 1 ≡ length inside = omega (arith, length-append inside (34 ∷ [])) in
     rw n (take-append_seam inside (34 ∷ []))
 
@@ -48,7 +48,7 @@ kept_text k spelling (number _ _ _) short = tt
 kept_text k spelling (negative _ _ _) short = tt
 kept_text k spelling (quoted inside bytes) short =
     let kept : List ℕ = without_quotes (34 ∷ inside ++ 34 ∷ []) in
-    text_of (is_builtin_name kept) kept refl (ap is_quotable (inside_is inside) ∙ bytes)
+    text_of (is_builtin_name kept) kept refl (ap is_quotable (between_quotes inside) ∙ bytes)
 kept_text k spelling (punctuation byte _) short = punctuation_text (punctuation_of (byte ∷ []))
 kept_text k spelling arrow short = punctuation_text (punctuation_of (45 ∷ 62 ∷ []))
 

@@ -32,7 +32,7 @@ use Rattle.sil_grammar.proofs.FaultLemmas.{is_found, of_front, whole_found}
 use Rattle.sil_grammar.proofs.FirstBadLemmas.{no_bad_place}
 use Rattle.sil_grammar.proofs.ReplayedSpelling.{replayed, spelled_by}
 
-never : {A : Type 0} {a : A} {o : Option A} → o ≡ Some a → o ≡ None → ⊥
+pub never : {A : Type 0} {a : A} {o : Option A} → o ≡ Some a → o ≡ None → ⊥
 never e f = cc
 
 one_module : (steps : List Step) (lexemes : List Lexeme) (w other : WrittenModule) → Writes steps lexemes w → Writes steps lexemes other → other ≡ w

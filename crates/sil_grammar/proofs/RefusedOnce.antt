@@ -21,11 +21,8 @@ use Rattle.sil_grammar.specs.Spells.{SpellsWritten}
 use Rattle.sil_grammar.proofs.CompletionLemmas.{shortest_begins, shortest_once}
 use Rattle.sil_grammar.proofs.FaultLemmas.{fault_of, of_front, whole_found}
 use Rattle.sil_grammar.proofs.FirstBadLemmas.{no_bad_place, once}
-use Rattle.sil_grammar.proofs.ReadLemmas.{written_once}
+use Rattle.sil_grammar.proofs.ReadLemmas.{never, written_once}
 use Rattle.sil_grammar.proofs.ReplayedSpelling.{replayed}
-
-some_or_none : {A : Type 0} {a : A} {o : Option A} → o ≡ Some a → o ≡ None → ⊥
-some_or_none e f = cc
 
 -- no more tokens are taken than a module can begin with
 not_more : (lexemes : List Lexeme) (m n : ℕ) → (m < length lexemes → BeginsShape (map token_class (take (m + 1) lexemes)) → ⊥)
@@ -111,7 +108,7 @@ misnamed_shaped text place fault s m = no_bad_place text (spells_shape text m.wr
 misnamed_faultless : (text : List ℕ) (a b : Fault) → IsFaulty text a → IsMisnamed text b → ⊥
 misnamed_faultless text a b (in_whole lexemes steps lexed derived first) m =
     let r = replayed m.spells in
-    some_or_none ((whole_found lexemes steps a derived).0 first) (whole_once text lexemes m.spells.lexemes steps r.steps lexed derived m.spells.lexed r.derived ∙ r.no_fault)
+    never ((whole_found lexemes steps a derived).0 first) (whole_once text lexemes m.spells.lexemes steps r.steps lexed derived m.spells.lexed r.derived ∙ r.no_fault)
 misnamed_faultless text a b (in_front place front first_bad first before) m = no_bad_place text (spells_shape text m.written m.spells) place first_bad.is_bad
 
 misnamed_once : (text : List ℕ) (a b : Fault) → IsMisnamed text a → IsMisnamed text b → b ≡ a

@@ -25,7 +25,7 @@ stops_behind text rest refusal (unclosed_at_end _ _) = omega arith
 stops_behind text rest refusal (name_too_long _ _ _ _ _) = omega arith
 
 -- a token inside the text has as many bytes as its spelling
-length-spelling : (text : List ℕ) (t : Token) → IsInside text t → length (spelling_of text t) ≡ t.length
+pub length-spelling : (text : List ℕ) (t : Token) → IsInside text t → length (spelling_of text t) ≡ t.length
 length-spelling text t inside =
     let rest = drop t.place.offset text in
     let size = length-drop t.place.offset text in

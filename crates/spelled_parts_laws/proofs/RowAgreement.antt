@@ -5,6 +5,7 @@ use Rattle.std.specs.List.{list_all}
 use Rattle.std.specs.Option.{option_to_list}
 use Rattle.std.proofs.lemmas.List.{length-append}
 use Rattle.std.proofs.Math.Seq.{drop-append_seam}
+use Rattle.std.proofs.lemmas.Bool.{and_parts}
 use Rattle.instruction_table.specs.Forms.{detail_of, ending_of, is_item, may_lack_operand, parts_of, words_of}
 use Rattle.instruction_table.specs.declared.entries.Detail.{Detail}
 use Rattle.instruction_table.specs.declared.entries.Detail.TheVariants as detail
@@ -222,14 +223,6 @@ no_values : (ss : List Symbol) (xs : Contents ss) → ss ≡ [] → values_of ss
 no_values [] xs e = refl
 no_values (s ∷ ss) xs e = absurd (cc)
 
-first_of_both : (a b : Bool) → (a && b) ≡ true → a ≡ true
-first_of_both true b e = refl
-first_of_both false b e = e
-
-second_of_both : (a b : Bool) → (a && b) ≡ true → b ≡ true
-second_of_both true b e = e
-second_of_both false b e = absurd (cc)
-
 one_more : (o : Op) (here : Part) (others : List Part) (values rest : List PartValue) (i : WrittenInst) → Steps o here others values rest i → left_behind o here others values ≡ rest
     → RowAgrees o others rest (with_part o here 0 values i) → RowAgrees o (here ∷ others) values i
 one_more o here others values rest i step left more =
@@ -261,10 +254,10 @@ rows o (here ∷ others) xs i f bits =
     let step = steps o here others t.0 comma rest i
     (λ e. ap (λ (vs : List PartValue). vs ++ rest) (no_values mark t.1 (no_comma o here others e)))
     (drop_front (length mark) comma rest (values_length mark t.1))
-    (first_of_both _ _ f) bits in
+    (and_parts _ _ f).0 bits in
     let left : left_behind o here others values ≡ rest =
     drop_front (length (symbols_of o here) + length mark) (own ++ comma) rest
     (length-append own comma ∙ ap₂ (λ (m k : ℕ). m + k) (values_length (symbols_of o here) t.0) (values_length mark t.1)) in
     let bits_then = subst (λ (vs : List PartValue). IfSome (with_part o here 0 vs i).ty HasBits) (sym (append_assoc own comma rest)) (bits_after o here t.0 (comma ++ rest) i bits) in
     subst (λ (vs : List PartValue). RowAgrees o (here ∷ others) vs i) (ap (λ (vs : List PartValue). vs ++ rest) t.2 ∙ s.2)
-    (one_more o here others values rest i step left (rows o others s.1 (with_part o here 0 values i) (second_of_both _ _ f) bits_then))
+    (one_more o here others values rest i step left (rows o others s.1 (with_part o here 0 values i) (and_parts _ _ f).1 bits_then))

@@ -21,14 +21,6 @@ sigil-part text from count some =
     ∙ ap (take (count - 1)) (drop-drop 1 from text)
     ∙ ap (λ n. take n (drop (from + 1) text)) (sym less)
 
--- the bytes of a token are as many as it says
-pub spelling-length : (text : List ℕ) (token : Token) → IsInside text token → length (spelling_of text token) ≡ token.length
-spelling-length text token inside =
-    let from : ℕ = token.place.offset in
-    let long : from + token.length - from ≡ token.length = omega arith in
-    let enough : token.length ≤ length (drop from text) = omega (arith, inside, length-drop from text) in
-    ap (λ n. length (take n (drop from text))) long ∙ length-take-le token.length (drop from text) enough
-
 -- each token that stands inside the text
 pub token_inside : (text : List ℕ) (tokens : List Token) (i : ℕ) → All (IsInside text) tokens → i < length tokens → IsInside text (get_or tokens i some_token)
 token_inside text tokens i inside below = All-get_or (IsInside text) tokens i some_token below inside

@@ -2,7 +2,8 @@
 use Rattle.std.proofs.Common.{◌∙◌, ap, arith, get_or, length}
 use Rattle.sil_lexer.specs.declared.token.Token.{Token}
 use Rattle.sil_lexer.specs.Lexing.{spelling_of}
-use Rattle.written_modules.proofs.LeafLemmas.{some_token, spelling-length, token_inside}
+use Rattle.sil_lexer.proofs.OrderLemmas.{length-spelling}
+use Rattle.written_modules.proofs.LeafLemmas.{some_token, token_inside}
 use Rattle.written_modules.proofs.leaves.kept_at.Goals as goal
 
 pub kept_of-requires : goal.kept_of-requires
@@ -11,4 +12,4 @@ kept_of-requires c =
     let text = c.args.text.now.value.items in
     let inside = token_inside text c.args.tokens.now.tokens c.args.i c.requires.inside c.requires.in_range in
     let spelled = c.text-count.ensures some_token ∙ ap (λ bytes. spelling_of bytes token) (c.as_slice.ensures.value ∙ ap (λ v. v.items) c.as_ref.ensures) in
-    omega (arith, inside, spelling-length text token inside, ap length spelled, ap (λ p. p.offset) (c.place-from.ensures some_token))
+    omega (arith, inside, length-spelling text token inside, ap length spelled, ap (λ p. p.offset) (c.place-from.ensures some_token))
