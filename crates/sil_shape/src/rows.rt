@@ -131,6 +131,7 @@ fn brings_comma(op: Op, part: Part) -> bool
 }
 
 /// Whether a comma stands behind a part, where others follow.
+#[inline]
 #[tactic(auto, unfolding(crate::specs::Rows::comma_behind, crate::specs::Rows::comma_between))]
 pub fn has_comma_behind(op: Op, here: Part, others: &[Part]) -> bool
     ensures { comma_behind op here others.now ≡ (if result then s.Read (punctuation Comma) ∷ [] else []) }
