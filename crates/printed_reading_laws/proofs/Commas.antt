@@ -85,7 +85,7 @@ module _ (text : List ℕ) {A : Type 0} (item : Symbol) (more : Nonterminal) (Is
   one_more rules x xs is_first are_others r = record {
     value = _;
     stands = rules.again_makes x xs _ _ _ is_first are_others;
-    reads = by_rule rules.again rules.again_is.0 rules.again_is.1.0 r (rules.again_is.1.1 _) reads.nothing;
+    reads = by_rule rules.again rules.again_is.0 rules.again_is.1 r (rules.again_is.2 _) reads.nothing;
   }
 
   pub more_reads : (rules : MoreItems item more Is Are) (xs : List A) → Each (λ x. ReadsAs text item (Is x) (write x)) xs → ReadsAs text (Part more) (Are xs) (more_text write xs)
@@ -93,7 +93,7 @@ module _ (text : List ℕ) {A : Type 0} (item : Symbol) (more : Nonterminal) (Is
   more_reads rules [] each after ends = record {
     value = _;
     stands = rules.end_makes;
-    reads = by_rule rules.end rules.end_is.0 rules.end_is.1.0 reads.nothing (rules.end_is.1.1 _) reads.nothing;
+    reads = by_rule rules.end rules.end_is.0 rules.end_is.1 reads.nothing (rules.end_is.2 _) reads.nothing;
   }
   more_reads rules (x ∷ xs) each after ends =
       let r = in_front x xs each.0 (more_reads rules xs each.1) after ends in
@@ -108,12 +108,12 @@ module _ (text : List ℕ) {A : Type 0} (item : Symbol) (more : Nonterminal) (Is
   list_reads all rules [] each after ends = record {
     value = _;
     stands = rules.none_makes;
-    reads = by_rule rules.none rules.none_is.0 rules.none_is.1.0 reads.nothing (rules.none_is.1.1 _) reads.nothing;
+    reads = by_rule rules.none rules.none_is.0 rules.none_is.1 reads.nothing (rules.none_is.2 _) reads.nothing;
   }
   list_reads all rules (x ∷ xs) each after ends =
       let r = listed_reads rules.others x xs each.0 each.1 after ends in
       record {
         value = _;
         stands = rules.some_makes x xs _ _ r.is_first r.are_others;
-        reads = by_rule rules.some rules.some_is.0 rules.some_is.1.0 r.reads (rules.some_is.1.1 _) reads.nothing;
+        reads = by_rule rules.some rules.some_is.0 rules.some_is.1 r.reads (rules.some_is.2 _) reads.nothing;
       }

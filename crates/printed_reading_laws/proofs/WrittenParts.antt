@@ -60,23 +60,23 @@ with_plain w i = record i {
   debug = w.debug;
 }
 
--- what is written of an instruction, in five: its plain parts, its results, its operands, its function, its edges
-abbrev Parts : List Function → Inst → WrittenInst → Type 0
-Parts functions i w = (with_plain w i ≡ i) × AllZip IsValueNamed i.results w.results × AllZip IsOperandWritten i.operands w.operands
+-- what has names: its results, its operands, its function and its edges
+abbrev Named : List Function → Inst → WrittenInst → Type 0
+Named functions i w = AllZip IsValueNamed i.results w.results × AllZip IsOperandWritten i.operands w.operands
     × (option_map name_of w.function ≡ option_map (name_in functions) i.function) × AllZip IsEdgeWritten i.edges w.edges
+
+abbrev Parts : List Function → Inst → WrittenInst → Type 0
+Parts functions i w = (with_plain w i ≡ i) × Named functions i w
 
 module _ {functions : List Function} where
   parts : {i : Inst} {w : WrittenInst} → IsInstWritten functions i w → Parts functions i w
   parts h = (
     rw (h.op, h.ty, h.signature, h.member, h.number, h.text, h.qualifier, h.lexical, h.var_decl, h.debug) refl,
-    h.results,
-    h.operands,
-    h.function,
-    h.edges,
+    (h.results, h.operands, h.function, h.edges),
   )
 
   whole : {i : Inst} {w : WrittenInst} → Parts functions i w → IsInstWritten functions i w
-  whole (plain, results, operands, function, edges) = record {
+  whole (plain, (results, operands, function, edges)) = record {
     op = ap (λ j. j.op) plain;
     results = results;
     operands = operands;
@@ -99,26 +99,26 @@ pub with_results : (functions : List Function) (i : Inst) (w : WrittenInst) (vs 
     → IsInstWritten functions (record i { results = vs }) (record w { results = ts })
 with_results functions i w vs ts h results =
     let p = parts h in
-    whole (ap (λ (j : Inst). record j { results = vs }) p.0, (results, p.1.1))
+    whole (ap (λ (j : Inst). record j { results = vs }) p.0, (results, p.1.1, p.1.2, p.1.3))
 
 pub with_operands : (functions : List Function) (i : Inst) (w : WrittenInst) (os : List Operand) (ws : List WrittenOperand) → IsInstWritten functions i w → AllZip IsOperandWritten os ws
     → IsInstWritten functions (record i { operands = os }) (record w { operands = ws })
 with_operands functions i w os ws h operands =
     let p = parts h in
-    whole (ap (λ (j : Inst). record j { operands = os }) p.0, (p.1.0, (operands, p.1.1.1)))
+    whole (ap (λ (j : Inst). record j { operands = os }) p.0, (p.1.0, operands, p.1.2, p.1.3))
 
 pub with_function : (functions : List Function) (i : Inst) (w : WrittenInst) (f : Option FuncId) (token : WrittenToken)
     → IsInstWritten functions i w → Some token.text ≡ option_map (name_in functions) f
     → IsInstWritten functions (record i { function = f }) (record w { function = Some token })
 with_function functions i w f token h same =
     let p = parts h in
-    whole (ap (λ (j : Inst). record j { function = f }) p.0, (p.1.0, (p.1.1.0, (same, p.1.1.1.1))))
+    whole (ap (λ (j : Inst). record j { function = f }) p.0, (p.1.0, p.1.1, same, p.1.3))
 
 pub with_edges : (functions : List Function) (i : Inst) (w : WrittenInst) (es : List Edge) (ws : List WrittenEdge) → IsInstWritten functions i w → AllZip IsEdgeWritten es ws
     → IsInstWritten functions (record i { edges = es }) (record w { edges = ws })
 with_edges functions i w es ws h edges =
     let p = parts h in
-    whole (ap (λ (j : Inst). record j { edges = es }) p.0, (p.1.0, (p.1.1.0, (p.1.1.1.0, edges))))
+    whole (ap (λ (j : Inst). record j { edges = es }) p.0, (p.1.0, p.1.1, p.1.2, edges))
 
 pub with_type : (functions : List Function) (i : Inst) (w : WrittenInst) (t : Option TypeName) (u : TypeName) → IsInstWritten functions i w → Some u ≡ t
     → IsInstWritten functions (record i { ty = t }) (record w { ty = Some u })
