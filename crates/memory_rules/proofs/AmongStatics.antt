@@ -2,6 +2,7 @@
 use Rattle.std.proofs.Common.{◌≡◌, ℕ, ◌+◌, List, [], ◌∷◌, find, map, refl, sym, ap, ◌∙◌, subst, arith, ◌⊎◌, inl, inr, Bool, true, false, Option, Some, None}
 use Rattle.std.specs.Prelude.{Contains, ◌&&◌, ◌==◌, cond, filter, option_map, slice_get}
 use Rattle.std.specs.List.{flat_map}
+use Rattle.std.proofs.lemmas.Bool.{and_parts}
 use Rattle.std.proofs.lemmas.Bool.Decides.{nat_tests}
 use Rattle.sil_ast.specs.declared.function.Block.{Block}
 use Rattle.sil_ast.specs.declared.function.Function.{Function}
@@ -10,20 +11,21 @@ use Rattle.sil_ast.specs.declared.place.ValueId.{ValueId}
 use Rattle.numbered_form.specs.Insts.{insts_of}
 use Rattle.sil_rules.specs.declared.rule.Rule.{Rule}
 use Rattle.sil_rules.specs.declared.rule.Rule.TheVariants as rule
-use Rattle.ownership_kinds.specs.inner.Faults.{fault_at}
-use Rattle.ownership_kinds.specs.Statics.{IsAt}
-use Rattle.ownership_kinds.specs.declared.fault.StaticFault.{StaticFault}
-use Rattle.ownership_kinds.proofs.Among.{Among, IsNumberedAt, among_contained, among_either, among_flat, among_left, among_map, among_numbered, among_right, among_where, contained_among, flat_among, numbered_among, where_among}
+use Rattle.point_checks.specs.Points.{IsAt}
+use Rattle.point_checks.specs.inner.Faults.{fault_at}
+use Rattle.point_checks.specs.declared.fault.PointFault.{PointFault}
+use Rattle.point_checks.proofs.Among.{Among, among_contained, among_either, among_flat, among_left, among_map, among_right, among_where}
+use Rattle.point_checks.proofs.Among.{contained_among, flat_among, map_among, where_among}
+use Rattle.point_checks.proofs.FaultsOf.{IsFound, found, inst_in_faults}
+use Rattle.point_checks.proofs.FaultsOf.IsFound.{at_args, at_inst}
 use Rattle.memory_accesses.specs.declared.access.Operated.{Operated}
 use Rattle.memory_accesses.specs.declared.source.Source.{Source}
 use Rattle.memory_accesses.specs.Operations.{addresses_of, deallocates, operations_of}
-use Rattle.memory_rules.specs.inner.StaticFaults.{block_statics, deallocation_faults, lacking_faults, no_slot_faults, operated_faults, other_by, overlap_faults, pair_faults, statics_at, statics_of}
-use Rattle.memory_rules.specs.Statics.{IsBrokenAt, OperandPair, address_in, crossed_with, crosses, do_overlap, is_no_slot, lacking_at, lacks, pairs_of, passed_of, second_of}
+use Rattle.memory_rules.specs.inner.StaticFaults.{deallocation_faults, lacking_faults, no_args_faults, no_slot_faults, operated_faults}
+use Rattle.memory_rules.specs.inner.StaticFaults.{other_by, overlap_faults, pair_faults, statics_at, statics_of}
+use Rattle.memory_rules.specs.Statics.{IsBrokenAt, OperandPair, address_in, crossed_with, crosses, do_overlap, is_no_slot}
+use Rattle.memory_rules.specs.Statics.{lacking_at, lacks, pairs_of, passed_of, second_of}
 use Rattle.memory_rules.specs.Statics.IsBrokenAt.{overlapping, lacking}
-
-both_true : (a b : Bool) → (a && b) ≡ true → (a ≡ true) × (b ≡ true)
-both_true true b h = (refl, h)
-both_true false b h = absurd cc
 
 -- what is found is one of the list, and passes
 found_among : {A : Type 0} (p : A → Bool) (xs : List A) (x : A) → find p xs ≡ Some x → Among x xs × (p x ≡ true)
@@ -75,14 +77,6 @@ among_filtered p (z ∷ xs) x h = by (λ a. among_filtered p xs x a) (p z) refl
     by rest true is = first rest is (subst (λ b. Among x (cond b (z ∷ filter p xs) (filter p xs))) is h)
     by rest false is = further (rest (subst (λ b. Among x (cond b (z ∷ filter p xs) (filter p xs))) is h))
 
-unmapped : {A B : Type 0} (g : A → B) (y : B) (xs : List A) → Among y (map g xs) → (x : A) × Among x xs × (y ≡ g x)
-unmapped g y [] h = absurd h
-unmapped g y (x ∷ xs) (inl e) = (x, inl refl, e)
-unmapped {A} g y (x ∷ xs) (inr h) = further (unmapped g y xs h)
-  where
-    further : (z : A) × Among z xs × (y ≡ g z) → (z : A) × Among z (x ∷ xs) × (y ≡ g z)
-    further r = (r.0, inr r.1, r.2)
-
 same_value : (a b : ValueId) → (a.0 == b.0) ≡ true → a ≡ b
 same_value a b h = let same : a.0 ≡ b.0 = grind (arith, nat_tests) in ap (λ n. record { 0 = n }) same
 
@@ -95,12 +89,13 @@ mapped_some (Some p) b h = (p, refl)
 
 module _ (sources : List Source) (f : Function) where
   -- the rule is broken at the point, with the other value that the instruction there gives
-  abbrev pub Breaks : StaticFault → Inst → Type 0
+  abbrev pub Breaks : PointFault → Inst → Type 0
   Breaks y i = (o : Option ValueId) → o ≡ other_by sources y.rule i y.subject → IsBrokenAt sources f y.rule y.subject o y.point.block.0 y.point.index
 
   -- what is among the faults is broken
 
-  pair_breaks : (n k : ℕ) (i : Inst) (p : OperandPair) → IsAt f n k i → Among p (pairs_of (passed_of i)) → do_overlap sources p.first p.second ≡ true → Breaks (fault_at n k rule.InoutOverlap p.first) i
+  pair_breaks : (n k : ℕ) (i : Inst) (p : OperandPair) → IsAt f n k i → Among p (pairs_of (passed_of i)) → do_overlap sources p.first p.second ≡ true →
+      Breaks (fault_at n k rule.InoutOverlap p.first) i
   pair_breaks n k i p at among over o is = with_other (some_found (crosses sources p.first) (pairs_of (passed_of i)) p among crossing)
     where
       crossing : crosses sources p.first p ≡ true
@@ -111,7 +106,7 @@ module _ (sources : List Source) (f : Function) where
           let found : crossed_with sources i p.first ≡ Some q.0.second = ap (option_map second_of) q.1 in
           subst (λ x. IsBrokenAt sources f rule.InoutOverlap p.first x n k) (sym (is ∙ found)) (overlapping n k i p.first q.0.second at found)
 
-  overlap_breaks : (n k : ℕ) (i : Inst) (y : StaticFault) → IsAt f n k i → Among y (overlap_faults sources n k i) → Breaks y i
+  overlap_breaks : (n k : ℕ) (i : Inst) (y : PointFault) → IsAt f n k i → Among y (overlap_faults sources n k i) → Breaks y i
   overlap_breaks n k i y at h = by (flat_among (pair_faults sources n k) y (pairs_of (passed_of i)) h)
     where
       by : (p : OperandPair) × Among p (pairs_of (passed_of i)) × Among y (pair_faults sources n k p) → Breaks y i
@@ -130,16 +125,17 @@ module _ (sources : List Source) (f : Function) where
   abbrev deallocated_part : Inst → List ValueId
   deallocated_part i = cond (deallocates i) (filter (is_no_slot sources) (addresses_of i)) []
 
-  operated_breaks : (n k : ℕ) (i : Inst) (y : StaticFault) → IsAt f n k i → Among y (flat_map (operated_faults sources n k) (operations_of i)) → Breaks y i
+  operated_breaks : (n k : ℕ) (i : Inst) (y : PointFault) → IsAt f n k i → Among y (flat_map (operated_faults sources n k) (operations_of i)) → Breaks y i
   operated_breaks n k i y at h = by (flat_among (operated_faults sources n k) y (operations_of i) h)
     where
       by : (x : Operated) × Among x (operations_of i) × Among y (operated_faults sources n k x) → Breaks y i
       by r =
           let w : (lacks sources r.0 ≡ true) × (y ≡ fault_at n k rule.PartialAccess r.0.address) = where_among (lacks sources r.0) (fault_at n k rule.PartialAccess r.0.address) y r.2 in
           subst (λ z. Breaks z i) (sym w.1) (address_breaks n k i r.0.address at
-          (among_left r.0.address (operated_part i) (deallocated_part i) (among_map address_in r.0 (filter (lacks sources) (operations_of i)) (filtered_among (lacks sources) (operations_of i) r.0 r.1 w.0))))
+          (among_left r.0.address (operated_part i) (deallocated_part i)
+          (among_map address_in r.0 (filter (lacks sources) (operations_of i)) (filtered_among (lacks sources) (operations_of i) r.0 r.1 w.0))))
 
-  deallocation_breaks : (n k : ℕ) (i : Inst) (y : StaticFault) → IsAt f n k i → Among y (deallocation_faults sources n k i) → Breaks y i
+  deallocation_breaks : (n k : ℕ) (i : Inst) (y : PointFault) → IsAt f n k i → Among y (deallocation_faults sources n k i) → Breaks y i
   deallocation_breaks n k i y at h = when (deallocates i) refl
     where
       by : deallocates i ≡ true → (v : ValueId) × Among v (addresses_of i) × Among y (no_slot_faults sources n k v) → Breaks y i
@@ -150,10 +146,13 @@ module _ (sources : List Source) (f : Function) where
           (subst (λ b. Among r.0 (cond b (filter (is_no_slot sources) (addresses_of i)) [])) (sym is) (filtered_among (is_no_slot sources) (addresses_of i) r.0 r.1 w.0))))
 
       when : (b : Bool) → deallocates i ≡ b → Breaks y i
-      when true is = by is (flat_among (no_slot_faults sources n k) y (addresses_of i) (subst (λ b. Among y (cond b (flat_map (no_slot_faults sources n k) (addresses_of i)) [])) is h))
+      when true is =
+          by is
+          (flat_among (no_slot_faults sources n k) y (addresses_of i)
+          (subst (λ b. Among y (cond b (flat_map (no_slot_faults sources n k) (addresses_of i)) [])) is h))
       when false is = absurd (subst (λ b. Among y (cond b (flat_map (no_slot_faults sources n k) (addresses_of i)) [])) is h)
 
-  inst_breaks : (n k : ℕ) (i : Inst) (y : StaticFault) → IsAt f n k i → Among y (statics_at sources n k i) → Breaks y i
+  inst_breaks : (n k : ℕ) (i : Inst) (y : PointFault) → IsAt f n k i → Among y (statics_at sources n k i) → Breaks y i
   inst_breaks n k i y at h = first (among_either y (overlap_faults sources n k i) (lacking_faults sources n k i) h)
     where
       second : Among y (flat_map (operated_faults sources n k) (operations_of i)) ⊎ Among y (deallocation_faults sources n k i) → Breaks y i
@@ -164,7 +163,7 @@ module _ (sources : List Source) (f : Function) where
       first (inl a) = overlap_breaks n k i y at a
       first (inr a) = second (among_either y (flat_map (operated_faults sources n k) (operations_of i)) (deallocation_faults sources n k i) a)
 
-  point_of : (n k : ℕ) (i : Inst) (y : StaticFault) → Among y (statics_at sources n k i) → (y.point.block.0 ≡ n) × (y.point.index ≡ k)
+  point_of : (n k : ℕ) (i : Inst) (y : PointFault) → Among y (statics_at sources n k i) → (y.point.block.0 ≡ n) × (y.point.index ≡ k)
   point_of n k i y h = first (among_either y (overlap_faults sources n k i) (lacking_faults sources n k i) h)
     where
       at : (r : Rule) (v : ValueId) → y ≡ fault_at n k r v → (y.point.block.0 ≡ n) × (y.point.index ≡ k)
@@ -192,42 +191,29 @@ module _ (sources : List Source) (f : Function) where
       first (inr a) = second (among_either y (flat_map (operated_faults sources n k) (operations_of i)) (deallocation_faults sources n k i) a)
 
   -- an instruction is at the fault's point, and there the fault's rule is broken
-  abbrev pub BreaksAt : StaticFault → Type 0
+  abbrev pub BreaksAt : PointFault → Type 0
   BreaksAt y = (i : Inst) × IsAt f y.point.block.0 y.point.index i × Breaks y i
 
-  in_block_breaks : (n k : ℕ) (b : Block) (i : Inst) (y : StaticFault) → slice_get f.blocks n ≡ Some b → slice_get (insts_of b) k ≡ Some i → Among y (statics_at sources n k i) → BreaksAt y
-  in_block_breaks n k b i y at in_block h =
-      let here : (y.point.block.0 ≡ n) × (y.point.index ≡ k) = point_of n k i y h in
-      let is_at : IsAt f n k i = record { within = b; is_block = at; is_inst = in_block } in
-      (i, subst (λ m. IsAt f m y.point.index i) (sym here.0) (subst (λ l. IsAt f n l i) (sym here.1) is_at), inst_breaks n k i y is_at h)
-
-  block_breaks : (n : ℕ) (b : Block) (y : StaticFault) → slice_get f.blocks n ≡ Some b → Among y (block_statics sources n b) → BreaksAt y
-  block_breaks n b y at h = insts (numbered_among (statics_at sources n) y (insts_of b) 0 h)
+  pub faults_break : (y : PointFault) → Among y (statics_of sources f) → BreaksAt y
+  faults_break y h = by (found f no_args_faults (statics_at sources) y h)
     where
-      insts : IsNumberedAt (statics_at sources n) y (insts_of b) 0 → BreaksAt y
-      insts r = let same : r.place ≡ r.number = (let e : r.number ≡ 0 + r.place = r.counts in omega arith) in
-          in_block_breaks n r.number b r.element y at (subst (λ k. slice_get (insts_of b) k ≡ Some r.element) same r.at) r.among
-
-  pub faults_break : (y : StaticFault) → Among y (statics_of sources f) → BreaksAt y
-  faults_break y h = at (numbered_among (block_statics sources) y f.blocks 0 h)
-    where
-      at : IsNumberedAt (block_statics sources) y f.blocks 0 → BreaksAt y
-      at r = let same : r.place ≡ r.number = (let e : r.number ≡ 0 + r.place = r.counts in omega arith) in
-          block_breaks r.number r.element y (subst (λ k. slice_get f.blocks k ≡ Some r.element) same r.at) r.among
+      by : IsFound f no_args_faults (statics_at sources) y → BreaksAt y
+      by (at_args n b at a) = absurd a
+      by (at_inst n k i at a) =
+          let here : (y.point.block.0 ≡ n) × (y.point.index ≡ k) = point_of n k i y a in
+          (i, subst (λ m. IsAt f m y.point.index i) (sym here.0) (subst (λ l. IsAt f n l i) (sym here.1) at), inst_breaks n k i y at a)
 
   -- what is broken is among the faults
 
-  in_faults : (n k : ℕ) (i : Inst) (y : StaticFault) → IsAt f n k i → Among y (statics_at sources n k i) → Among y (statics_of sources f)
-  in_faults n k i y at a =
-      among_numbered (block_statics sources) y f.blocks 0 n n at.within at.is_block (omega arith)
-      (among_numbered (statics_at sources n) y (insts_of at.within) 0 k k i at.is_inst (omega arith) a)
+  in_faults : (n k : ℕ) (i : Inst) (y : PointFault) → IsAt f n k i → Among y (statics_at sources n k i) → Among y (statics_of sources f)
+  in_faults n k i y at a = inst_in_faults f no_args_faults (statics_at sources) y n k i at a
 
   overlap_in_faults : (n k : ℕ) (i : Inst) (a b : ValueId) → crossed_with sources i a ≡ Some b → Among (fault_at n k rule.InoutOverlap a) (overlap_faults sources n k i)
   overlap_in_faults n k i a b e = by (mapped_some (find (crosses sources a) (pairs_of (passed_of i))) b e)
     where
       at : (p : OperandPair) → Among p (pairs_of (passed_of i)) × (crosses sources a p ≡ true) → Among (fault_at n k rule.InoutOverlap a) (overlap_faults sources n k i)
       at p r =
-          let both : ((p.first.0 == a.0) ≡ true) × (do_overlap sources p.first p.second ≡ true) = both_true (p.first.0 == a.0) (do_overlap sources p.first p.second) r.1 in
+          let both : ((p.first.0 == a.0) ≡ true) × (do_overlap sources p.first p.second ≡ true) = and_parts (p.first.0 == a.0) (do_overlap sources p.first p.second) r.1 in
           among_flat (pair_faults sources n k) (fault_at n k rule.InoutOverlap a) p (pairs_of (passed_of i)) r.0
           (subst (λ v. Among (fault_at n k rule.InoutOverlap v) (pair_faults sources n k p)) (same_value p.first a both.0)
           (among_where (do_overlap sources p.first p.second) (fault_at n k rule.InoutOverlap p.first) both.1))
@@ -248,15 +234,20 @@ module _ (sources : List Source) (f : Function) where
       of_operated r = operated r.0 r.2 (among_filtered (lacks sources) (operations_of i) r.0 r.1)
 
       no_slot : Among a (addresses_of i) × (is_no_slot sources a ≡ true) → Among (fault_at n k rule.PartialAccess a) (flat_map (no_slot_faults sources n k) (addresses_of i))
-      no_slot r = among_flat (no_slot_faults sources n k) (fault_at n k rule.PartialAccess a) a (addresses_of i) r.0 (among_where (is_no_slot sources a) (fault_at n k rule.PartialAccess a) r.1)
+      no_slot r =
+          among_flat (no_slot_faults sources n k) (fault_at n k rule.PartialAccess a) a (addresses_of i) r.0
+          (among_where (is_no_slot sources a) (fault_at n k rule.PartialAccess a) r.1)
 
-      deallocated : (b : Bool) → Among a (cond b (filter (is_no_slot sources) (addresses_of i)) []) → Among (fault_at n k rule.PartialAccess a) (cond b (flat_map (no_slot_faults sources n k) (addresses_of i)) [])
+      deallocated : (b : Bool) → Among a (cond b (filter (is_no_slot sources) (addresses_of i)) []) →
+          Among (fault_at n k rule.PartialAccess a) (cond b (flat_map (no_slot_faults sources n k) (addresses_of i)) [])
       deallocated true h = no_slot (among_filtered (is_no_slot sources) (addresses_of i) a h)
       deallocated false h = h
 
       by : Among a (operated_part i) ⊎ Among a (deallocated_part i) → Among (fault_at n k rule.PartialAccess a) (lacking_faults sources n k i)
-      by (inl h) = of_operated (unmapped address_in a (filter (lacks sources) (operations_of i)) h)
-      by (inr h) = among_right (fault_at n k rule.PartialAccess a) (flat_map (operated_faults sources n k) (operations_of i)) (deallocation_faults sources n k i) (deallocated (deallocates i) h)
+      by (inl h) = of_operated (map_among address_in a (filter (lacks sources) (operations_of i)) h)
+      by (inr h) =
+          among_right (fault_at n k rule.PartialAccess a) (flat_map (operated_faults sources n k) (operations_of i)) (deallocation_faults sources n k i)
+          (deallocated (deallocates i) h)
 
   pub broken_in_faults : (r : Rule) (v : ValueId) (o : Option ValueId) (n k : ℕ) → IsBrokenAt sources f r v o n k → Among (fault_at n k r v) (statics_of sources f)
   broken_in_faults _ _ _ _ _ (overlapping n k i a b at e) =

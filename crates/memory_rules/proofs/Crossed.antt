@@ -7,9 +7,9 @@ use Rattle.std.proofs.lemmas.List.{at_drop_more, take_all}
 use Rattle.std.proofs.lemmas.List.Concat.{flat_map-append}
 use Rattle.std.proofs.lemmas.List.Folds.{flat_map-map, find-append}
 use Rattle.sil_ast.specs.declared.place.ValueId.{ValueId}
-use Rattle.ownership_kinds.specs.inner.Faults.{least}
-use Rattle.ownership_kinds.specs.declared.fault.StaticFault.{StaticFault}
-use Rattle.ownership_kinds.proofs.Least.{least-append}
+use Rattle.point_checks.specs.inner.Faults.{least}
+use Rattle.point_checks.specs.declared.fault.PointFault.{PointFault}
+use Rattle.point_checks.proofs.Least.{least-append}
 use Rattle.memory_accesses.specs.declared.source.Source.{Source}
 use Rattle.memory_rules.specs.Statics.{OperandPair, crosses, do_overlap, pair, pairs_of, second_of}
 
@@ -18,7 +18,8 @@ pub rest_from : (xs : List ValueId) (n : ℕ) → n ≤ length xs → take (leng
 rest_from xs n le = take_all (length xs - n) (drop n xs) (omega (arith, length-drop n xs))
 
 -- one operand more with all behind it
-pub pairs_step : (g : OperandPair → List StaticFault) (xs rest : List ValueId) (i : ℕ) (d : ValueId) (found next all : Option StaticFault) → i < length xs → rest ≡ drop (i + 1) xs →
+pub pairs_step : (g : OperandPair → List PointFault) (xs rest : List ValueId) (i : ℕ) (d : ValueId) (found next all : Option PointFault) →
+    i < length xs → rest ≡ drop (i + 1) xs →
     least found (flat_map g (pairs_of (drop i xs))) ≡ all → next ≡ least found (flat_map (λ y. g (pair (get_or xs i d) y)) rest) →
     least next (flat_map g (pairs_of (drop (i + 1) xs))) ≡ all
 pairs_step g xs rest i d found next all lt is before e =
@@ -38,23 +39,27 @@ module _ (sources : List Source) (subject : ValueId) where
       option_map second_of (find (crosses sources subject) (map (pair a) ys)) ≡ find (do_overlap sources a) ys →
       option_map second_of (find (crosses sources subject) (map (pair a) (y ∷ ys))) ≡ find (do_overlap sources a) (y ∷ ys)
   one_more a y ys true e over rest =
-      ap (λ b. option_map second_of (cond b (Some (pair a y)) (find (crosses sources subject) (map (pair a) ys)))) (crossing ∙ over) ∙ ap (λ b. cond b (Some y) (find (do_overlap sources a) ys)) (sym over)
+      ap (λ b. option_map second_of (cond b (Some (pair a y)) (find (crosses sources subject) (map (pair a) ys)))) (crossing ∙ over)
+      ∙ ap (λ b. cond b (Some y) (find (do_overlap sources a) ys)) (sym over)
     where
       crossing : crosses sources subject (pair a y) ≡ do_overlap sources a y
       crossing = ap (λ b. b && do_overlap sources a y) e
   one_more a y ys false e over rest =
-      ap (λ b. option_map second_of (cond b (Some (pair a y)) (find (crosses sources subject) (map (pair a) ys)))) (crossing ∙ over) ∙ rest ∙ ap (λ b. cond b (Some y) (find (do_overlap sources a) ys)) (sym over)
+      ap (λ b. option_map second_of (cond b (Some (pair a y)) (find (crosses sources subject) (map (pair a) ys)))) (crossing ∙ over) ∙ rest
+      ∙ ap (λ b. cond b (Some y) (find (do_overlap sources a) ys)) (sym over)
     where
       crossing : crosses sources subject (pair a y) ≡ do_overlap sources a y
       crossing = ap (λ b. b && do_overlap sources a y) e
 
   -- of pairs with one first operand
-  with_one : (a : ValueId) (b : Bool) → (a.0 == subject.0) ≡ b → (ys : List ValueId) → option_map second_of (find (crosses sources subject) (map (pair a) ys)) ≡ cond b (find (do_overlap sources a) ys) None
+  with_one : (a : ValueId) (b : Bool) → (a.0 == subject.0) ≡ b → (ys : List ValueId) →
+      option_map second_of (find (crosses sources subject) (map (pair a) ys)) ≡ cond b (find (do_overlap sources a) ys) None
   with_one a true e [] = refl
   with_one a false e [] = refl
   with_one a true e (y ∷ ys) = one_more a y ys (do_overlap sources a y) e refl (with_one a true e ys)
   with_one a false e (y ∷ ys) =
-      ap (λ b. option_map second_of (cond (b && do_overlap sources a y) (Some (pair a y)) (find (crosses sources subject) (map (pair a) ys)))) e ∙ with_one a false e ys
+      ap (λ b. option_map second_of (cond (b && do_overlap sources a y) (Some (pair a y)) (find (crosses sources subject) (map (pair a) ys)))) e
+      ∙ with_one a false e ys
 
   after : (o p : Option OperandPair) → option_map second_of (option_or o p) ≡ option_or (option_map second_of o) (option_map second_of p)
   after None p = refl
@@ -82,12 +87,14 @@ module _ (sources : List Source) (subject : ValueId) where
   crossing xs i d rest = cond ((get_or xs i d).0 == subject.0) (find (do_overlap sources (get_or xs i d)) rest) None
 
   -- there is one
-  pub crossed_here : (xs rest : List ValueId) (i : ℕ) (d : ValueId) (r : Option ValueId) → i < length xs → rest ≡ drop (i + 1) xs → r ≡ crossing xs i d rest → is_some r ≡ true → r ≡ crossed (drop i xs)
+  pub crossed_here : (xs rest : List ValueId) (i : ℕ) (d : ValueId) (r : Option ValueId) →
+      i < length xs → rest ≡ drop (i + 1) xs → r ≡ crossing xs i d rest → is_some r ≡ true → r ≡ crossed (drop i xs)
   crossed_here xs rest i d r lt is e some =
       sym (some_first r (crossed (drop (i + 1) xs)) some) ∙ ap (λ o. option_or o (crossed (drop (i + 1) xs))) (e ∙ ap (crossing xs i d) is) ∙ sym (crossed_step xs i d lt)
 
   -- there is none
-  pub crossed_past : (xs rest : List ValueId) (i : ℕ) (d : ValueId) (r : Option ValueId) → i < length xs → rest ≡ drop (i + 1) xs → r ≡ crossing xs i d rest → is_some r ≡ false →
+  pub crossed_past : (xs rest : List ValueId) (i : ℕ) (d : ValueId) (r : Option ValueId) →
+      i < length xs → rest ≡ drop (i + 1) xs → r ≡ crossing xs i d rest → is_some r ≡ false →
       crossed (drop (i + 1) xs) ≡ crossed (drop i xs)
   crossed_past xs rest i d r lt is e none =
       sym (none_first r (crossed (drop (i + 1) xs)) none) ∙ ap (λ o. option_or o (crossed (drop (i + 1) xs))) (e ∙ ap (crossing xs i d) is) ∙ sym (crossed_step xs i d lt)

@@ -4,17 +4,20 @@ use Rattle.std.specs.Prelude.{cond, length}
 use Rattle.sil_ast.specs.declared.function.Function.{Function}
 use Rattle.sil_ast.specs.declared.inst.Inst.{Inst}
 use Rattle.sil_ast.specs.declared.place.ValueId.{ValueId}
+use Rattle.rule_faults.specs.declared.fault.RuleFault.{RuleFault}
 use Rattle.sil_rules.specs.Order.{NotAfter}
 use Rattle.sil_rules.specs.Rules.{number_of}
 use Rattle.sil_rules.specs.declared.rule.Rule.{Rule}
-use Rattle.ownership_kinds.specs.inner.Faults.{fault_at, fault_key, least}
-use Rattle.ownership_kinds.specs.Statics.{IsAt, static_key}
-use Rattle.ownership_kinds.specs.declared.fault.StaticFault.{StaticFault}
-use Rattle.ownership_kinds.proofs.Among.{Among}
-use Rattle.ownership_kinds.proofs.Order.{least_among, least_none}
+use Rattle.point_checks.specs.Points.{IsAt, key_at}
+use Rattle.point_checks.specs.inner.Faults.{fault_at, key_of, least}
+use Rattle.point_checks.specs.inner.Reports.{IsReport, report_of}
+use Rattle.point_checks.specs.declared.fault.PointFault.{PointFault}
+use Rattle.point_checks.proofs.Among.{Among}
+use Rattle.point_checks.proofs.Order.{least_among, least_none}
+use Rattle.point_checks.proofs.Reported.{is_report}
 use Rattle.memory_accesses.specs.declared.source.Source.{Source}
-use Rattle.memory_rules.specs.Broken.{IsFirstStatic, IsStaticBreak, MemoryBreak, break_key}
-use Rattle.memory_rules.specs.inner.StaticFaults.{broken_by, other_by, statics_of}
+use Rattle.memory_rules.specs.Broken.{IsFirstStatic, IsStaticBreak, break_key}
+use Rattle.memory_rules.specs.inner.StaticFaults.{other_by, statics_of}
 use Rattle.memory_rules.specs.Statics.{IsBrokenAt, is_static}
 use Rattle.memory_rules.specs.Statics.IsBrokenAt.{overlapping, lacking}
 use Rattle.memory_rules.proofs.AmongStatics.{BreaksAt, broken_in_faults, faults_break}
@@ -25,28 +28,32 @@ module _ (sources : List Source) (f : Function) where
   is_static_rule _ _ _ _ _ (lacking n k i a at c) = refl
 
   -- a static rule is ordered by its point
-  key_of : (x : MemoryBreak) → IsBrokenAt sources f x.rule x.subject x.other x.point.block.0 x.point.index → break_key x ≡ static_key x.rule x.subject x.point.block.0 x.point.index
-  key_of x broken =
-      ap (λ b. x.subject.0 ∷ number_of x.rule ∷ cond b (x.point.block.0 ∷ x.point.index ∷ []) (length x.walk ∷ [])) (is_static_rule x.rule x.subject x.other x.point.block.0 x.point.index broken)
+  key_is : (x : RuleFault) → IsBrokenAt sources f x.rule x.subject x.other x.point.block.0 x.point.index →
+      break_key x ≡ key_at x.rule x.subject x.point.block.0 x.point.index
+  key_is x broken =
+      ap (λ b. x.subject.0 ∷ number_of x.rule ∷ cond b (x.point.block.0 ∷ x.point.index ∷ []) (length x.walk ∷ []))
+      (is_static_rule x.rule x.subject x.other x.point.block.0 x.point.index broken)
 
-  first_some : (x : StaticFault) (o : Option ValueId) → least None (statics_of sources f) ≡ Some x → IsBrokenAt sources f x.rule x.subject o x.point.block.0 x.point.index → IsFirstStatic sources f (Some (broken_by x o))
+  first_some : (x : PointFault) (o : Option ValueId) → least None (statics_of sources f) ≡ Some x →
+      IsBrokenAt sources f x.rule x.subject o x.point.block.0 x.point.index → IsFirstStatic sources f (Some (report_of x o))
   first_some x o e broken = record { shown = (broken, refl); first = first }
     where
-      least_of : Among x (statics_of sources f) × ((y : StaticFault) → Among y (statics_of sources f) → NotAfter (fault_key x) (fault_key y))
+      least_of : Among x (statics_of sources f) × ((y : PointFault) → Among y (statics_of sources f) → NotAfter (key_of x) (key_of y))
       least_of = least_among (statics_of sources f) x e
 
-      first : (y : MemoryBreak) → IsStaticBreak sources f y → NotAfter (break_key (broken_by x o)) (break_key y)
+      first : (y : RuleFault) → IsStaticBreak sources f y → NotAfter (break_key (report_of x o)) (break_key y)
       first y h =
-          subst (λ key. NotAfter key (break_key y)) (sym (key_of (broken_by x o) broken))
-          (subst (NotAfter (fault_key x)) (sym (key_of y h.0))
-          (least_of.1 (fault_at y.point.block.0 y.point.index y.rule y.subject) (broken_in_faults sources f y.rule y.subject y.other y.point.block.0 y.point.index h.0)))
+          subst (λ key. NotAfter key (break_key y)) (sym (key_is (report_of x o) broken))
+          (subst (NotAfter (key_of x)) (sym (key_is y h.0))
+          (least_of.1 (fault_at y.point.block.0 y.point.index y.rule y.subject)
+          (broken_in_faults sources f y.rule y.subject y.other y.point.block.0 y.point.index h.0)))
 
-  pub found_first : (x : StaticFault) (o : Option ValueId) → least None (statics_of sources f) ≡ Some x →
-      ((i : Inst) → IsAt f x.point.block.0 x.point.index i → o ≡ other_by sources x.rule i x.subject) → IsFirstStatic sources f (Some (broken_by x o))
-  found_first x o e is = by (faults_break sources f x (least_among (statics_of sources f) x e).0)
+  pub found_first : (x : PointFault) (o : Option ValueId) (y : RuleFault) → least None (statics_of sources f) ≡ Some x →
+      ((i : Inst) → IsAt f x.point.block.0 x.point.index i → o ≡ other_by sources x.rule i x.subject) → IsReport x o y → IsFirstStatic sources f (Some y)
+  found_first x o y e is reported = by (faults_break sources f x (least_among (statics_of sources f) x e).0)
     where
-      by : BreaksAt sources f x → IsFirstStatic sources f (Some (broken_by x o))
-      by r = first_some x o e (r.2 o (is r.0 r.1))
+      by : BreaksAt sources f x → IsFirstStatic sources f (Some y)
+      by r = subst (λ z. IsFirstStatic sources f (Some z)) (sym (is_report x o y reported)) (first_some x o e (r.2 o (is r.0 r.1)))
 
   pub first_none : least None (statics_of sources f) ≡ None → IsFirstStatic sources f None
   first_none e y h =

@@ -5,7 +5,8 @@ use Rattle.sil_ast.specs.declared.inst.Inst.{Inst}
 use Rattle.sil_ast.specs.declared.inst.Qualifier.{Qualifier}
 use Rattle.sil_ast.specs.declared.place.ValueId.{ValueId}
 use Rattle.memory_accesses.specs.declared.columns.AccessKind.{AccessKind}
-use Rattle.memory_accesses.specs.declared.columns.AccessKind.TheVariants.{NoAccess, AllocatesSlot, AllocatesObject, DeallocatesSlot, LendsValue, LendsLocation, NamesField, NamesMember, NamesElement, Loads, Stores, Destroys, Passes}
+use Rattle.memory_accesses.specs.declared.columns.AccessKind.TheVariants.{NoAccess, AllocatesSlot, AllocatesObject, DeallocatesSlot, LendsValue, LendsLocation}
+use Rattle.memory_accesses.specs.declared.columns.AccessKind.TheVariants.{NamesField, NamesMember, NamesElement, Loads, Stores, Destroys, Passes}
 use Rattle.memory_accesses.specs.Operations.{access_kind_of, addresses_of, deallocates, deallocates_by, operated_at, operation_by, operations_of}
 use Rattle.memory_rules.specs.inner.StaticFaults.{is_idle, is_idle_by}
 

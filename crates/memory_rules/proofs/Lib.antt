@@ -1,5 +1,5 @@
-mod PartCodes
 mod BreakKeys
+mod PartRules
 mod FirstShown
 mod FirstOfAll
 mod Crossed
@@ -7,4 +7,4 @@ mod AmongStatics
 mod FirstStatic
 mod OtherValue
 mod Idle
-mod Short
+pub mod RulesOf

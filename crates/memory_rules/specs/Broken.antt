@@ -1,6 +1,7 @@
 -- What breaks a rule on memory, and the first of all.
 use Rattle.std.specs.Prelude.{◌≡◌, ℕ, List, [], ◌∷◌, cond, length, Option, Some}
 use Rattle.sil_ast.specs.declared.function.Function.{Function}
+use Rattle.rule_faults.specs.declared.fault.RuleFault.{RuleFault}
 use Rattle.sil_ast.specs.declared.place.EdgeId.{EdgeId}
 use Rattle.sil_ast.specs.declared.place.PointId.{PointId}
 use Rattle.sil_ast.specs.declared.place.ValueId.{ValueId}
@@ -18,31 +19,10 @@ use Rattle.memory_parts.specs.Shown as parts
 use Rattle.memory_slots.specs.Pairs.{IsCrossing}
 use Rattle.memory_rules.specs.Statics.{IsBrokenAt, is_static}
 
--- a rule on memory that is broken: at which value, with which other one that takes part, on which walk and at which point
-pub record MemoryBreak : Type 0 where
-  pub rule : Rule
-  pub subject : ValueId
-  pub other : Option ValueId
-  pub walk : List EdgeId
-  pub point : PointId
-
--- the rule that the code of a part stands for
-pub data IsPartRule : Rule → ℕ → Type 0 where
-  uninitialised : IsPartRule rule.LoadUninitialised 1
-  initialised : IsPartRule rule.InitTwice 2
-  left_full : IsPartRule rule.LeftInitialised 3
-  out_of_order : IsPartRule rule.StackOrder 4
-  left_allocated : IsPartRule rule.StackLeft 5
-  borrowed : IsPartRule rule.WriteWhileBorrowed 6
-  unbuilt : IsPartRule rule.FieldNotBuilt 7
-  left_empty : IsPartRule rule.InoutLeftUninitialised 9
-  outside : IsPartRule rule.AddressOutsideScope 10
-
--- a walk shows it at one of the parts: contents, allocation, loans, building and addresses; or of two slots; or an instruction breaks 608 or 611, with no walk
-pub data IsBroken (sources : List Source) (facts : ValueId → Option Facts) (f : Function) (x : MemoryBreak) : Type 0 where
-  at_part : (code : ℕ) → IsPartRule x.rule code
-      → parts.IsShown sources facts f (parts_of sources (known_or facts)) (record { subject = x.subject; code = code; walk = x.walk; point = x.point; other = x.other })
-      → IsBroken sources facts f x
+-- a rule on memory is broken: a walk shows it at one of the parts (contents, allocation, loans, building and addresses) or of two slots,
+-- or an instruction breaks 608 or 611, with no walk
+pub data IsBroken (sources : List Source) (facts : ValueId → Option Facts) (f : Function) (x : RuleFault) : Type 0 where
+  at_part : parts.IsShown sources facts f (parts_of sources (known_or facts)) x → IsBroken sources facts f x
   crossing : (later : ValueId) → x.rule ≡ rule.StackOrder → x.other ≡ Some later
       → IsCrossing sources facts f (record { first = x.subject; walk = x.walk; point = x.point; other = later }) → IsBroken sources facts f x
   static : x.walk ≡ [] → IsBrokenAt sources f x.rule x.subject x.other x.point.block.0 x.point.index → IsBroken sources facts f x
@@ -52,16 +32,17 @@ abbrev pub last_key : Rule → List EdgeId → PointId → List ℕ
 last_key r walk point = cond (is_static r) (point.block.0 ∷ point.index ∷ []) (length walk ∷ [])
 
 -- by value, then by rule, and then so
-abbrev pub break_key : MemoryBreak → List ℕ
+abbrev pub break_key : RuleFault → List ℕ
 break_key x = x.subject.0 ∷ number_of x.rule ∷ last_key x.rule x.walk x.point
 
 -- this comes first of all that is broken, whichever facts the kinds are by
-abbrev pub IsFirstBreak : List Source → Function → Layout → Known → Option MemoryBreak → Type 0
-IsFirstBreak sources f g k found = (count : ℕ) (facts : ValueId → Option Facts) → AreKindsBy count facts f g k → IsFirst break_key (IsBroken sources facts f) found
+abbrev pub IsFirstBreak : List Source → Function → Layout → Known → Option RuleFault → Type 0
+IsFirstBreak sources f g k found =
+    (count : ℕ) (facts : ValueId → Option Facts) → AreKindsBy count facts f g k → IsFirst break_key (IsBroken sources facts f) found
 
 -- the static rule comes first of those that are broken
-abbrev pub IsStaticBreak : List Source → Function → MemoryBreak → Type 0
+abbrev pub IsStaticBreak : List Source → Function → RuleFault → Type 0
 IsStaticBreak sources f x = IsBrokenAt sources f x.rule x.subject x.other x.point.block.0 x.point.index × (x.walk ≡ [])
 
-abbrev pub IsFirstStatic : List Source → Function → Option MemoryBreak → Type 0
+abbrev pub IsFirstStatic : List Source → Function → Option RuleFault → Type 0
 IsFirstStatic sources f found = IsFirst break_key (IsStaticBreak sources f) found

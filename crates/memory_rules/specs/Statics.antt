@@ -1,5 +1,6 @@
 -- Rules 608 and 611: where an instruction breaks them, whether a walk reaches it or not.
-use Rattle.std.specs.Prelude.{◌≡◌, ℕ, List, [], ◌∷◌, ◌++◌, Contains, Bool, false, ◌&&◌, ◌||◌, ◌==◌, cond, filter, find, map, not, option_map, Option, Some, None}
+use Rattle.std.specs.Prelude.{◌≡◌, ℕ, List, [], ◌∷◌, ◌++◌, Contains, Bool, false, ◌&&◌, ◌||◌, ◌==◌, Option, Some, None}
+use Rattle.std.specs.Prelude.{cond, filter, find, map, not, option_map}
 use Rattle.std.specs.List.{flat_map}
 use Rattle.sil_ast.specs.declared.function.Function.{Function}
 use Rattle.sil_ast.specs.declared.inst.Inst.{Inst}
@@ -7,7 +8,7 @@ use Rattle.sil_ast.specs.declared.place.ValueId.{ValueId}
 use Rattle.sil_rules.specs.Rules.{number_of}
 use Rattle.sil_rules.specs.declared.rule.Rule.{Rule}
 use Rattle.sil_rules.specs.declared.rule.Rule.TheVariants as rule
-use Rattle.ownership_kinds.specs.Statics.{IsAt}
+use Rattle.point_checks.specs.Points.{IsAt}
 use Rattle.memory_accesses.specs.declared.access.Operated.{Operated}
 use Rattle.memory_accesses.specs.declared.access.Operation.{Operation}
 use Rattle.memory_accesses.specs.declared.access.Operation.TheVariants.{FirstWrite, Read, Lend, Write, TrivialStore, InoutOperand, Take}
@@ -35,7 +36,9 @@ address_in x = x.address
 
 -- the addresses at which an instruction does what their location lacks, or which it deallocates and which aren't slots
 abbrev pub lacking_at : List Source → Inst → List ValueId
-lacking_at sources i = map address_in (filter (lacks sources) (operations_of i)) ++ cond (deallocates i) (filter (is_no_slot sources) (addresses_of i)) []
+lacking_at sources i =
+    map address_in (filter (lacks sources) (operations_of i))
+    ++ cond (deallocates i) (filter (is_no_slot sources) (addresses_of i)) []
 
 abbrev pub passed_by : Operation → ValueId → List ValueId
 passed_by FirstWrite v = []
@@ -88,8 +91,10 @@ crossed_with sources i subject = option_map second_of (find (crosses sources sub
 
 -- at this value, with this other one that takes part, and at the point with this block and index
 pub data IsBrokenAt (sources : List Source) (f : Function) : Rule → ValueId → Option ValueId → ℕ → ℕ → Type 0 where
-  overlapping : (n k : ℕ) (i : Inst) (a b : ValueId) → IsAt f n k i → crossed_with sources i a ≡ Some b → IsBrokenAt sources f rule.InoutOverlap a (Some b) n k
-  lacking : (n k : ℕ) (i : Inst) (a : ValueId) → IsAt f n k i → Contains (lacking_at sources i) a → IsBrokenAt sources f rule.PartialAccess a None n k
+  overlapping : (n k : ℕ) (i : Inst) (a b : ValueId) → IsAt f n k i → crossed_with sources i a ≡ Some b →
+      IsBrokenAt sources f rule.InoutOverlap a (Some b) n k
+  lacking : (n k : ℕ) (i : Inst) (a : ValueId) → IsAt f n k i → Contains (lacking_at sources i) a →
+      IsBrokenAt sources f rule.PartialAccess a None n k
 
 -- the rule is one of the two
 abbrev pub is_static : Rule → Bool

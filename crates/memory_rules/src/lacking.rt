@@ -2,12 +2,12 @@
 
 ghost use Rattle.std.specs.Prelude.{◌≡◌};
 ghost use Rattle.std.specs.List.{flat_map};
-ghost use Rattle.ownership_kinds.specs.inner.Faults.{least};
+ghost use Rattle.point_checks.specs.inner.Faults.{least};
 ghost use Rattle.memory_rules.specs.inner.StaticFaults.{no_slot_faults, operated_faults};
 ghost use Rattle.memory_rules.specs.Statics as statics;
 
 use memory_accesses::{Memory, Operated, Source};
-use ownership_kinds::{StaticFault, lesser};
+use point_checks::{PointFault, lesser};
 use sil_ast::{PointId, ValueId};
 use sil_rules::Rule;
 
@@ -26,14 +26,14 @@ fn add_operated(
     m: &Memory,
     point: PointId,
     operated: Operated,
-    found: Option<StaticFault>,
-) -> Option<StaticFault>
+    found: Option<PointFault>,
+) -> Option<PointFault>
     ensures { result ≡ least found (operated_faults m.now point.block.0 point.index operated) }
 {
     if lacks(m, operated) {
         return lesser(
             found,
-            StaticFault {
+            PointFault {
                 rule: Rule::PartialAccess,
                 subject: operated.address,
                 point,
@@ -48,8 +48,8 @@ pub(crate) fn add_lacking(
     m: &Memory,
     point: PointId,
     operations: &[Operated],
-    mut found: Option<StaticFault>,
-) -> Option<StaticFault>
+    mut found: Option<PointFault>,
+) -> Option<PointFault>
     ensures { result ≡ least found (flat_map (operated_faults m.now point.block.0 point.index) operations.now) }
 {
     for operated in operations {
@@ -78,14 +78,14 @@ fn add_no_slot(
     m: &Memory,
     point: PointId,
     address: ValueId,
-    found: Option<StaticFault>,
-) -> Option<StaticFault>
+    found: Option<PointFault>,
+) -> Option<PointFault>
     ensures { result ≡ least found (no_slot_faults m.now point.block.0 point.index address) }
 {
     if is_no_slot(m, address) {
         return lesser(
             found,
-            StaticFault {
+            PointFault {
                 rule: Rule::PartialAccess,
                 subject: address,
                 point,
@@ -100,8 +100,8 @@ pub(crate) fn add_no_slots(
     m: &Memory,
     point: PointId,
     addresses: &[ValueId],
-    mut found: Option<StaticFault>,
-) -> Option<StaticFault>
+    mut found: Option<PointFault>,
+) -> Option<PointFault>
     ensures { result ≡ least found (flat_map (no_slot_faults m.now point.block.0 point.index) addresses.now) }
 {
     for address in addresses {

@@ -2,7 +2,6 @@
 //! It puts together the parts of memory, the order of slots, and the two rules that no walk is needed for.
 #![tactic(auto)]
 
-mod earlier;
 mod lacking;
 mod operations;
 mod overlaps;

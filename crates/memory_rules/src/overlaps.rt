@@ -3,14 +3,14 @@
 ghost use Rattle.std.specs.Prelude.{◌≡◌, ◌==◌, IfOk, None, cond, find, option_map};
 ghost use Rattle.std.specs.List.{flat_map};
 ghost use Rattle.std.specs.Option.{option_to_list};
-ghost use Rattle.ownership_kinds.specs.inner.Faults.{least};
+ghost use Rattle.point_checks.specs.inner.Faults.{least};
 ghost use Rattle.memory_rules.specs.inner.StaticFaults.{faults_with, pair_faults};
 ghost use Rattle.memory_rules.specs.Statics as statics;
 ghost use Rattle.memory_rules.specs.Statics.{crosses, pairs_of, second_of};
 
 use crate::operations::operations_of;
 use memory_accesses::{Memory, Operated, Operation, overlap};
-use ownership_kinds::{StaticFault, lesser};
+use point_checks::{PointFault, lesser};
 use sil_ast::{Exhausted, Inst, PointId, ValueId};
 use sil_rules::Rule;
 use std::alloc::Global;
@@ -61,14 +61,14 @@ fn add_overlap(
     point: PointId,
     first: ValueId,
     second: ValueId,
-    found: Option<StaticFault>,
-) -> Option<StaticFault>
+    found: Option<PointFault>,
+) -> Option<PointFault>
     ensures { result ≡ least found (faults_with m.now point.block.0 point.index first second) }
 {
     if do_overlap(m, first, second) {
         return lesser(
             found,
-            StaticFault {
+            PointFault {
                 rule: Rule::InoutOverlap,
                 subject: first,
                 point,
@@ -84,8 +84,8 @@ fn add_overlaps_with(
     point: PointId,
     first: ValueId,
     later: &[ValueId],
-    mut found: Option<StaticFault>,
-) -> Option<StaticFault>
+    mut found: Option<PointFault>,
+) -> Option<PointFault>
     ensures { result ≡ least found (flat_map (faults_with m.now point.block.0 point.index first) later.now) }
 {
     for second in later {
@@ -99,8 +99,8 @@ pub(crate) fn add_overlaps(
     m: &Memory,
     point: PointId,
     operands: &[ValueId],
-    mut found: Option<StaticFault>,
-) -> Option<StaticFault>
+    mut found: Option<PointFault>,
+) -> Option<PointFault>
     ensures { result ≡ least found (flat_map (pair_faults m.now point.block.0 point.index) (pairs_of operands.now)) }
 {
     for (i, first) in operands.iter().enumerate() {

@@ -2,17 +2,18 @@
 
 ghost use Rattle.std.specs.Prelude.{IfErr, IfOk, OnOk};
 ghost use Rattle.sil_cfg.specs.Build.{IsGraphOf};
-ghost use Rattle.ownership_kinds.specs.inner.Ends.{IsOfNumberedModule};
+ghost use Rattle.point_checks.specs.inner.Numbered.{IsOfNumberedModule};
+ghost use Rattle.memory_accesses.specs.Sources.{sources_of};
+ghost use Rattle.memory_rules.specs.Broken.{IsFirstBreak};
 ghost use Rattle.memory_rules.specs.inner.Ends.{AreStaticsKept, IsMemoryEnd, IsMemoryKept, IsStaticEnd};
-ghost use Rattle.memory_rules.specs.inner.Reports.{IsMemoryFound};
 
-use crate::earlier::earlier;
 use crate::statics::first_static;
 use crate::walks::first_on_walks;
 use memory_accesses::Memory;
 use ownership_marks::Kinds;
+use rule_faults::{RuleEnd, RuleFault, earlier};
 use sil_ast::{Exhausted, Function};
-use sil_cfg::{Graph, RuleEnd, RuleFault};
+use sil_cfg::Graph;
 use sil_types::TypeTable;
 use std::alloc::Global;
 
@@ -26,7 +27,7 @@ fn first_broken(
 ) -> Result<Option<RuleFault>, Exhausted>
     requires of_module { IsOfNumberedModule f.now }
     requires graph { IsGraphOf g.now f.now }
-    ensures { IfOk result (IsMemoryFound table.now f.now g.now k.now) }
+    ensures { IfOk result (IsFirstBreak (sources_of table.now f.now) f.now g.now k.now) }
 {
     let memory = Memory::of(alloc, table, f)?;
     let walk_fault = first_on_walks(alloc, f, g, k, &memory)?;
@@ -34,11 +35,14 @@ fn first_broken(
     Ok(earlier(walk_fault, static_fault))
 }
 
-/// Checks rules 601 to 611: on every walk each location is read, written and taken only while it holds a value (601), written first only while it holds none (602), empty where its slot is deallocated (603), and full where an inout is given back (609);
-/// slots are allocated and deallocated one within another (604, 605); no location is written while it is lent (606); a new object is used only as its fields allow (607); and an address only while its scopes are open and its slot is allocated (610).
-/// No two inout operands of one call overlap (608), and each location has what is done to it (611), whether a walk reaches the point or not.
-/// `g` is the graph of `f`, `k` has its kinds and marks, and `table` the types of its module.
-/// The fault is that of the least value for which one is shown, of its first rule. Its walk has the fewest edges among those that show it; 608 and 611 have no walk, and the first point.
+/// Checks rules 601 to 611: on every walk each location is read, written and taken only while it holds a value (601), written first
+/// only while it holds none (602), empty where its slot is deallocated (603), and full where an inout is given back (609);
+/// slots are allocated and deallocated one within another (604, 605); no location is written while it is lent (606); a new object is
+/// used only as its fields allow (607); and an address only while its scopes are open and its slot is allocated (610).
+/// No two inout operands of one call overlap (608), and each location has what is done to it (611), whether a walk reaches the point
+/// or not. `g` is the graph of `f`, `k` has its kinds and marks, and `table` the types of its module.
+/// The fault is that of the least value for which one is shown, of its first rule. Its walk has the fewest edges among those that show
+/// it; 608 and 611 have no walk, and the first point.
 pub fn check(
     alloc: Global,
     f: &Function,
@@ -59,12 +63,7 @@ pub fn check(
 }
 
 /// Checks rules 608 and 611 alone. The fault is the first that is broken, by value, then by rule, then by point; it has no walk.
-pub fn check_static(
-    alloc: Global,
-    f: &Function,
-    k: &Kinds,
-    table: &TypeTable,
-) -> Result<(), RuleEnd>
+pub fn check_static(alloc: Global, f: &Function, table: &TypeTable) -> Result<(), RuleEnd>
     requires { IsOfNumberedModule f.now }
     ensures ok { OnOk result (AreStaticsKept table.now f.now) }
     ensures end { IfErr result (IsStaticEnd table.now f.now) }

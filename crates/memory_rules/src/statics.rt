@@ -1,22 +1,28 @@
-//! Rules 608 and 611, by one pass over the function: they hold at each point, whether a walk reaches it or not.
+//! Rules 608 and 611, by one pass over the points of a function: they hold at each point, whether a walk reaches it or not.
 
-ghost use Rattle.std.specs.Prelude.{◌≡◌, ◌<◌, ◌^◌, All, IfOk, None, Some, length};
-ghost use Rattle.std.specs.Option.{option_copied};
-ghost use Rattle.ownership_kinds.specs.inner.Ends.{IsOfNumberedModule};
-ghost use Rattle.ownership_kinds.specs.inner.Faults.{least, numbered};
-ghost use Rattle.ownership_kinds.specs.Statics.{IsAt};
-ghost use Rattle.memory_rules.specs.inner.Ends.{IsReportOf, IsStaticFound};
-ghost use Rattle.memory_rules.specs.inner.StaticFaults.{block_statics, broken_by, deallocation_faults, other_by, statics_at, statics_of};
+ghost use Rattle.std.specs.Prelude.{◌≡◌, IfOk};
+ghost use Rattle.point_checks.specs.inner.Numbered.{IsOfNumberedModule};
+ghost use Rattle.point_checks.specs.Points.{IsAt};
+ghost use Rattle.point_checks.specs.inner.Faults.{least};
+ghost use Rattle.memory_rules.specs.Broken.{IsFirstStatic};
+ghost use Rattle.memory_rules.specs.inner.StaticFaults.{deallocation_faults, no_args_faults, other_by, statics_at};
 
 use crate::lacking::{add_lacking, add_no_slots};
 use crate::operations::{is_idle, operations_of};
 use crate::overlaps::{add_overlaps, crossed_with, inout_operands};
 use memory_accesses::{Memory, add_addresses, deallocates};
-use ownership_kinds::StaticFault;
-use sil_ast::{Block, BlockId, Boxed, Exhausted, Function, Inst, List, PointId, ValueId};
-use sil_cfg::RuleFault;
+use point_checks::{PointCheck, PointFault, inst_at, least_fault, rule_fault};
+use rule_faults::RuleFault;
+use sil_ast::{Block, BlockId, Exhausted, Function, Inst, PointId, ValueId};
 use sil_rules::Rule;
 use std::alloc::Global;
+
+/// What the two rules are decided by: what each value is to memory.
+#[derive(Drop)]
+struct LocationCheck<'a> {
+    alloc: Global,
+    memory: &'a Memory,
+}
 
 /// The first of what was found and of the fault of an instruction that deallocates what is no slot.
 fn add_deallocated(
@@ -24,8 +30,8 @@ fn add_deallocated(
     m: &Memory,
     point: PointId,
     inst: &Inst,
-    found: Option<StaticFault>,
-) -> Result<Option<StaticFault>, Exhausted>
+    found: Option<PointFault>,
+) -> Result<Option<PointFault>, Exhausted>
     ensures { IfOk result (λ r. r ≡ least found (deallocation_faults m.now point.block.0 point.index inst.now)) }
 {
     if !deallocates(inst) {
@@ -36,85 +42,42 @@ fn add_deallocated(
     Ok(add_no_slots(m, point, addresses.as_slice(), found))
 }
 
-/// The first of what was found and of the faults of the instruction at the point.
-fn add_inst(
-    alloc: Global,
-    m: &Memory,
-    point: PointId,
-    inst: &Inst,
-    found: Option<StaticFault>,
-) -> Result<Option<StaticFault>, Exhausted>
-    ensures { IfOk result (λ r. r ≡ least found (statics_at m.now point.block.0 point.index inst.now)) }
-{
-    if is_idle(inst) {
-        return Ok(found);
+impl PointCheck for LocationCheck<'_> {
+    type Room = ();
+
+    ghost fits = { λ _ _. Unit {0} };
+
+    ghost args_faults = { λ _ _. no_args_faults };
+
+    ghost inst_faults = { λ check _. statics_at check.memory.now };
+
+    /// Arguments break neither rule.
+    fn add_args(
+        &self,
+        _f: &Function,
+        _number: BlockId,
+        _block: &Block,
+        found: Option<PointFault>,
+    ) -> Option<PointFault> {
+        found
     }
-    let operations = operations_of(alloc, inst)?;
-    let operands = inout_operands(alloc, operations.as_slice())?;
-    let crossed = add_overlaps(m, point, operands.as_slice(), found);
-    let lacking = add_lacking(m, point, operations.as_slice(), crossed);
-    add_deallocated(alloc, m, point, inst, lacking)
-}
 
-/// The first of what was found and of the faults of a block's instructions, its terminator left out.
-fn add_insts(
-    alloc: Global,
-    m: &Memory,
-    block: BlockId,
-    insts: &[Boxed<Inst>],
-    mut found: Option<StaticFault>,
-) -> Result<Option<StaticFault>, Exhausted>
-    requires { length insts.now < 2 ^ 32 }
-    ensures { IfOk result (λ r. r ≡ least found (numbered (statics_at m.now block.0) 0 insts.now)) }
-{
-    let mut index = 0;
-    for inst in insts {
-        found = add_inst(alloc, m, PointId { block, index }, inst.get(), found)?;
-        index += 1;
-    }
-    Ok(found)
-}
-
-/// The first of what was found and of the faults of a block.
-fn add_block(
-    alloc: Global,
-    m: &Memory,
-    number: BlockId,
-    block: &Block,
-    found: Option<StaticFault>,
-) -> Result<Option<StaticFault>, Exhausted>
-    requires { length block.now.insts < 2 ^ 32 }
-    ensures { IfOk result (λ r. r ≡ least found (block_statics m.now number.0 block.now)) }
-{
-    let found = add_insts(alloc, m, number, block.insts.as_slice(), found)?;
-    let point = PointId {
-        block: number,
-        index: block.insts.len() as u32,
-    };
-    add_inst(alloc, m, point, &block.terminator, found)
-}
-
-/// The least of all faults of the function.
-fn least_static(alloc: Global, m: &Memory, f: &Function) -> Result<Option<StaticFault>, Exhausted>
-    requires blocks { length f.now.blocks < 2 ^ 32 }
-    requires short { All (λ b. length b.insts < 2 ^ 32) f.now.blocks }
-    ensures { IfOk result (λ r. r ≡ least None (statics_of m.now f.now)) }
-{
-    let mut found = None;
-    for (number, block) in f.blocks.as_slice().iter().enumerate() {
-        found = add_block(alloc, m, BlockId(number as u32), block, found)?;
-    }
-    Ok(found)
-}
-
-/// The instruction or terminator at a point.
-fn inst_at(f: &Function, point: PointId) -> Option<&Inst>
-    ensures { (i : Inst) → IsAt f.now point.block.0 point.index i → option_copied result ≡ Some i }
-{
-    let block = f.blocks.get(point.block.0 as usize)?;
-    match block.inst(point.index as usize) {
-        Some(inst) => Some(inst),
-        None => Some(&block.terminator),
+    fn add_inst(
+        &self,
+        _room: &mut (),
+        _f: &Function,
+        point: PointId,
+        inst: &Inst,
+        found: Option<PointFault>,
+    ) -> Result<Option<PointFault>, Exhausted> {
+        if is_idle(inst) {
+            return Ok(found);
+        }
+        let operations = operations_of(self.alloc, inst)?;
+        let operands = inout_operands(self.alloc, operations.as_slice())?;
+        let crossed = add_overlaps(self.memory, point, operands.as_slice(), found);
+        let lacking = add_lacking(self.memory, point, operations.as_slice(), crossed);
+        add_deallocated(self.alloc, self.memory, point, inst, lacking)
     }
 }
 
@@ -123,7 +86,7 @@ fn other_value(
     alloc: Global,
     m: &Memory,
     f: &Function,
-    fault: StaticFault,
+    fault: PointFault,
 ) -> Result<Option<ValueId>, Exhausted>
     ensures { (i : Inst) → IsAt f.now fault.point.block.0 fault.point.index i → IfOk result (λ o. o ≡ other_by m.now fault.rule i fault.subject) }
 {
@@ -136,19 +99,6 @@ fn other_value(
     }
 }
 
-/// What a fault is reported as: no walk shows it.
-fn reported(alloc: Global, fault: StaticFault, other: Option<ValueId>) -> RuleFault
-    ensures { IsReportOf (broken_by fault other) result }
-{
-    RuleFault {
-        rule: fault.rule.number(),
-        subject: fault.subject,
-        other,
-        point: fault.point,
-        walk: List::new(alloc),
-    }
-}
-
 /// The first broken one of rules 608 and 611, by value, then by rule, then by point; `None` where the function breaks neither.
 pub(crate) fn first_static(
     alloc: Global,
@@ -156,13 +106,14 @@ pub(crate) fn first_static(
     f: &Function,
 ) -> Result<Option<RuleFault>, Exhausted>
     requires { IsOfNumberedModule f.now }
-    ensures { IfOk result (IsStaticFound m.now f.now) }
+    ensures { IfOk result (IsFirstStatic m.now f.now) }
 {
-    match least_static(alloc, m, f)? {
+    let check = LocationCheck { alloc, memory: m };
+    match least_fault(&check, &mut (), f)? {
         None => Ok(None),
         Some(fault) => {
             let other = other_value(alloc, m, f, fault)?;
-            Ok(Some(reported(alloc, fault, other)))
+            Ok(Some(rule_fault(alloc, fault, other)))
         }
     }
 }

@@ -4,34 +4,17 @@ ghost use Rattle.std.specs.Prelude.{◌≡◌, IfOk};
 ghost use Rattle.std.specs.List.{list_any};
 ghost use Rattle.sil_cfg.specs.Build.{IsGraphOf};
 ghost use Rattle.memory_slots.specs.Pairs.{is_slot_source};
-ghost use Rattle.memory_rules.specs.inner.Reports.{IsFirstReported, IsOrderBreak, IsPartBreak, IsWalkBreak};
+ghost use Rattle.memory_rules.specs.inner.Reports.{IsFirstShown, IsOrderBreak, IsWalkBreak};
 
-use crate::earlier::earlier;
-use crate::reports::{crossing_report, part_report};
+use crate::reports::crossing_report;
 use memory_accesses::{Memory, Source, accesses_by_item};
 use memory_parts::first_fault;
 use memory_slots::first_crossing;
 use ownership_marks::Kinds;
+use rule_faults::{RuleFault, earlier};
 use sil_ast::{Exhausted, Function};
-use sil_cfg::{Graph, RuleFault};
+use sil_cfg::Graph;
 use std::alloc::Global;
-
-/// The first that is shown at a part: each pattern but the order of two slots.
-fn first_at_parts(
-    alloc: Global,
-    f: &Function,
-    g: &Graph,
-    k: &Kinds,
-    m: &Memory,
-) -> Result<Option<RuleFault>, Exhausted>
-    requires { IsGraphOf g.now f.now }
-    ensures { IfOk result (IsFirstReported (IsPartBreak m.now f.now) f.now g.now k.now) }
-{
-    match first_fault(alloc, f, g, k, m)? {
-        None => Ok(None),
-        Some(fault) => Ok(Some(part_report(fault))),
-    }
-}
 
 fn has_slots(sources: &[Source]) -> bool
     ensures { result ≡ list_any is_slot_source sources.now }
@@ -50,7 +33,7 @@ fn first_of_slots(
     m: &Memory,
 ) -> Result<Option<RuleFault>, Exhausted>
     requires { IsGraphOf g.now f.now }
-    ensures { IfOk result (IsFirstReported (IsOrderBreak m.now f.now) f.now g.now k.now) }
+    ensures { IfOk result (IsFirstShown (IsOrderBreak m.now f.now) f.now g.now k.now) }
 {
     let sources = m.sources();
     if !has_slots(sources) {
@@ -73,9 +56,9 @@ pub(crate) fn first_on_walks(
     m: &Memory,
 ) -> Result<Option<RuleFault>, Exhausted>
     requires { IsGraphOf g.now f.now }
-    ensures { IfOk result (IsFirstReported (IsWalkBreak m.now f.now) f.now g.now k.now) }
+    ensures { IfOk result (IsFirstShown (IsWalkBreak m.now f.now) f.now g.now k.now) }
 {
-    let part = first_at_parts(alloc, f, g, k, m)?;
+    let part = first_fault(alloc, f, g, k, m)?;
     let crossing = first_of_slots(alloc, f, g, k, m)?;
     Ok(earlier(part, crossing))
 }

@@ -1,12 +1,13 @@
 //! What the checks of memory answer, as a text.
 
 ghost use Rattle.numbered_form.specs.NumberedForm.{IsNumbered};
-ghost use Rattle.ownership_kinds.specs.inner.Ends.{IsOfNumberedModule};
+ghost use Rattle.point_checks.specs.inner.Numbered.{IsOfNumberedModule};
 
 use memory_rules::{check, check_static};
 use ownership_kinds::kinds_in;
+use rule_faults::{RuleEnd, RuleFault};
 use sil_ast::{Function, Module};
-use sil_cfg::{Graph, RuleEnd, RuleFault, has_graph};
+use sil_cfg::{Graph, has_graph};
 use sil_grammar::{ReadRefusal, read};
 use sil_types::{TypeRefusal, TypeTable};
 use std::alloc::{AllocError, Global};
@@ -48,9 +49,9 @@ fn answers(rt: &impl Abort, alloc: Global, table: &TypeTable, f: &Function) -> R
     let g = Graph::build(alloc, f)?;
     match kinds_in(alloc, f, &g, table) {
         Err(end) => told(alloc, Err(end)),
-        Ok(kinds) => {
-            let all = check(alloc, f, &g, &kinds, table);
-            let statics = check_static(alloc, f, &kinds, table);
+        Ok(found) => {
+            let all = check(alloc, f, &g, &found.kinds, table);
+            let statics = check_static(alloc, f, table);
             told_both(alloc, all, statics)
         }
     }
@@ -79,7 +80,7 @@ fn told(alloc: Global, end: Result<(), RuleEnd>) -> Result<String, Fail> {
 
 /// The rule, the value, the other one that takes part, the point, and each edge of the walk.
 fn told_fault(alloc: Global, fault: &RuleFault) -> Result<String, Fail> {
-    let mut text = format!(in alloc; "{} %{}", fault.rule, fault.subject.0)?;
+    let mut text = format!(in alloc; "{} %{}", fault.rule.number(), fault.subject.0)?;
     if let Some(other) = fault.other {
         let part = format!(in alloc; " %{}", other.0)?;
         text.push_str(&part)?;

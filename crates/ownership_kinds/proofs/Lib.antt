@@ -1,3 +1,4 @@
 pub mod Broken
 pub mod First
 pub mod FirstRing
+pub mod RulesOf

@@ -11,7 +11,8 @@ use type_check::{CheckRefusal, check};
 
 /// The declarations before the functions of each text.
 const DECLARATIONS: &str =
-    "import Builtin import Swift class C { var x: Builtin.Int8 weak var w: C? unowned var u: C } struct P { var x: Builtin.Int8 var c: C } enum E { case a case b(C) }";
+    "import Builtin import Swift class C { var x: Builtin.Int8 weak var w: C? unowned var u: C } struct P { var x: Builtin.Int8 var c: C } \
+     enum E { case a case b(C) }";
 
 /// The answer to a module of these functions.
 pub fn outcome(rt: &impl Abort, alloc: Global, functions: &str) -> Result<String, Fail> {

@@ -5,7 +5,8 @@ use std::test::Fail;
 
 /// A lowered function up to its second point.
 const LOWERED: &str =
-    "sil @main : $@convention(thin) (@guaranteed C, @guaranteed P, @guaranteed (C, Builtin.Int8), @inout C, @inout Builtin.Int8) -> () { bb0(%c : $C, %p : $P, %t : $(C, Builtin.Int8), %a : $*C, %n : $*Builtin.Int8): strong_retain %c : $C";
+    "sil @main : $@convention(thin) (@guaranteed C, @guaranteed P, @guaranteed (C, Builtin.Int8), @inout C, @inout Builtin.Int8) -> () { \
+     bb0(%c : $C, %p : $P, %t : $(C, Builtin.Int8), %a : $*C, %n : $*Builtin.Int8): strong_retain %c : $C";
 
 // what stands behind the first point of a lowered function, and the answer: `typed`, or the rule, the function and the point
 const BODIES: [(&str, &str); 23] = [
@@ -125,22 +126,30 @@ const MODULES: [(&str, &str, &str); 23] = [
     ),
     (
         "a function without a body has neither form",
-        "sil [ossa] @e : $@convention(thin) () -> () sil @f : $@convention(thin) () -> () { bb0: unreachable } sil [ossa] @g : $@convention(thin) () -> () sil @main : $@convention(thin) () -> () { bb0: unreachable }",
+        "sil [ossa] @e : $@convention(thin) () -> () \
+         sil @f : $@convention(thin) () -> () { bb0: unreachable } \
+         sil [ossa] @g : $@convention(thin) () -> () \
+         sil @main : $@convention(thin) () -> () { bb0: unreachable }",
         "typed",
     ),
     (
         "the first function with a body decides",
-        "sil [ossa] @e : $@convention(thin) () -> () sil @f : $@convention(thin) () -> () { bb0: unreachable } sil @g : $@convention(thin) () -> () { bb0: unreachable } sil [ossa] @main : $@convention(thin) () -> () { bb0: unreachable }",
+        "sil [ossa] @e : $@convention(thin) () -> () \
+         sil @f : $@convention(thin) () -> () { bb0: unreachable } \
+         sil @g : $@convention(thin) () -> () { bb0: unreachable } \
+         sil [ossa] @main : $@convention(thin) () -> () { bb0: unreachable }",
         "207 function 3",
     ),
     (
         "the form comes before the points",
-        "sil [ossa] @f : $@convention(thin) () -> () { bb0: unreachable } sil @main : $@convention(thin) (@guaranteed C) -> () { bb0(%0 : $C): %1 = copy_value %0 : $P unreachable }",
+        "sil [ossa] @f : $@convention(thin) () -> () { bb0: unreachable } \
+         sil @main : $@convention(thin) (@guaranteed C) -> () { bb0(%0 : $C): %1 = copy_value %0 : $P unreachable }",
         "207 function 1",
     ),
     (
         "the signature comes before the form",
-        "sil [ossa] @f : $@convention(thin) () -> () { bb0: unreachable } sil @main : $@convention(thin) (@owned Builtin.Int8) -> () { bb0(%0 : $Builtin.Int8): unreachable }",
+        "sil [ossa] @f : $@convention(thin) () -> () { bb0: unreachable } \
+         sil @main : $@convention(thin) (@owned Builtin.Int8) -> () { bb0(%0 : $Builtin.Int8): unreachable }",
         "206 function 1",
     ),
     (
@@ -175,27 +184,32 @@ const MODULES: [(&str, &str, &str); 23] = [
     ),
     (
         "default with an argument",
-        "sil @main : $@convention(thin) (@owned E) -> () { bb0(%0 : $E): switch_enum %0 : $E, case #E.a!enumelt: bb1, default bb2 bb1: unreachable bb2(%1 : $E): unreachable }",
+        "sil @main : $@convention(thin) (@owned E) -> () { bb0(%0 : $E): switch_enum %0 : $E, case #E.a!enumelt: bb1, default bb2 bb1: unreachable \
+         bb2(%1 : $E): unreachable }",
         "209 function 0 bb0:0",
     ),
     (
         "default with an argument with [ossa]",
-        "sil [ossa] @main : $@convention(thin) (@owned E) -> () { bb0(%0 : @owned $E): switch_enum %0 : $E, case #E.a!enumelt: bb1, default bb2 bb1: unreachable bb2(%1 : @owned $E): unreachable }",
+        "sil [ossa] @main : $@convention(thin) (@owned E) -> () { bb0(%0 : @owned $E): switch_enum %0 : $E, case #E.a!enumelt: bb1, default bb2 \
+         bb1: unreachable bb2(%1 : @owned $E): unreachable }",
         "typed",
     ),
     (
         "case without its payload",
-        "sil @main : $@convention(thin) (@owned E) -> () { bb0(%0 : $E): switch_enum %0 : $E, case #E.a!enumelt: bb1, case #E.b!enumelt: bb2 bb1: unreachable bb2: unreachable }",
+        "sil @main : $@convention(thin) (@owned E) -> () { bb0(%0 : $E): switch_enum %0 : $E, case #E.a!enumelt: bb1, case #E.b!enumelt: bb2 \
+         bb1: unreachable bb2: unreachable }",
         "209 function 0 bb0:0",
     ),
     (
         "payload that is annotated",
-        "sil @main : $@convention(thin) (@owned E) -> () { bb0(%0 : $E): switch_enum %0 : $E, case #E.a!enumelt: bb1, case #E.b!enumelt: bb2 bb1: unreachable bb2(%1 : @owned $C): unreachable }",
+        "sil @main : $@convention(thin) (@owned E) -> () { bb0(%0 : $E): switch_enum %0 : $E, case #E.a!enumelt: bb1, case #E.b!enumelt: bb2 \
+         bb1: unreachable bb2(%1 : @owned $C): unreachable }",
         "207 function 0 bb2:0",
     ),
     (
         "destroy_addr behind weak storage",
-        "sil @main : $@convention(thin) (@inout C) -> () { bb0(%0 : $*C): %1 = alloc_stack $@sil_weak C? destroy_addr %1 : $*@sil_weak C? destroy_addr %0 : $*C unreachable }",
+        "sil @main : $@convention(thin) (@inout C) -> () { bb0(%0 : $*C): %1 = alloc_stack $@sil_weak C? destroy_addr %1 : $*@sil_weak C? \
+         destroy_addr %0 : $*C unreachable }",
         "207 function 0 bb0:2",
     ),
     (

@@ -5,18 +5,18 @@ use Rattle.sil_ast.specs.declared.function.Block.{Block}
 use Rattle.sil_ast.specs.declared.function.Function.{Function}
 use Rattle.sil_ast.specs.declared.inst.Inst.{Inst}
 use Rattle.sil_ast.specs.declared.place.ValueId.{ValueId}
-use Rattle.numbered_form.specs.Insts.{insts_of}
 use Rattle.sil_rules.specs.Rules.{number_of}
 use Rattle.sil_rules.specs.declared.rule.Rule.{Rule}
 use Rattle.sil_rules.specs.declared.rule.Rule.TheVariants as rule
-use Rattle.ownership_kinds.specs.inner.Faults.{fault_at, fault_where, numbered}
-use Rattle.ownership_kinds.specs.declared.fault.StaticFault.{StaticFault}
+use Rattle.point_checks.specs.inner.Faults.{fault_at, fault_where, faults_of}
+use Rattle.point_checks.specs.declared.fault.PointFault.{PointFault}
 use Rattle.memory_accesses.specs.declared.access.Operated.{Operated}
 use Rattle.memory_accesses.specs.declared.columns.AccessKind.{AccessKind}
-use Rattle.memory_accesses.specs.declared.columns.AccessKind.TheVariants.{NoAccess, AllocatesSlot, AllocatesObject, DeallocatesSlot, LendsValue, LendsLocation, NamesField, NamesMember, NamesElement, Loads, Stores, Destroys, Passes}
+use Rattle.memory_accesses.specs.declared.columns.AccessKind.TheVariants.{NoAccess, AllocatesSlot, AllocatesObject, DeallocatesSlot}
+use Rattle.memory_accesses.specs.declared.columns.AccessKind.TheVariants.{LendsValue, LendsLocation, NamesField, NamesMember, NamesElement}
+use Rattle.memory_accesses.specs.declared.columns.AccessKind.TheVariants.{Loads, Stores, Destroys, Passes}
 use Rattle.memory_accesses.specs.declared.source.Source.{Source}
 use Rattle.memory_accesses.specs.Operations.{access_kind_of, addresses_of, deallocates, operations_of}
-use Rattle.memory_rules.specs.Broken.{MemoryBreak}
 use Rattle.memory_rules.specs.Statics.{OperandPair, crossed_with, do_overlap, is_no_slot, lacks, pair, pairs_of, passed_of}
 
 -- by its row an instruction does nothing to a location, and deallocates no slot
@@ -41,41 +41,39 @@ is_idle i = is_idle_by (access_kind_of i.op)
 abbrev pub is_overlap : Rule → Bool
 is_overlap r = number_of r == number_of rule.InoutOverlap
 
+-- arguments break neither rule
+abbrev pub no_args_faults : ℕ → Block → List PointFault
+no_args_faults n b = []
+
 module _ (sources : List Source) where
   -- two operands of a call overlap, and the first is the subject
-  abbrev pub pair_faults : ℕ → ℕ → OperandPair → List StaticFault
+  abbrev pub pair_faults : ℕ → ℕ → OperandPair → List PointFault
   pair_faults n k p = fault_where (do_overlap sources p.first p.second) (fault_at n k rule.InoutOverlap p.first)
 
-  abbrev pub faults_with : ℕ → ℕ → ValueId → ValueId → List StaticFault
+  abbrev pub faults_with : ℕ → ℕ → ValueId → ValueId → List PointFault
   faults_with n k first second = pair_faults n k (pair first second)
 
-  abbrev pub overlap_faults : ℕ → ℕ → Inst → List StaticFault
+  abbrev pub overlap_faults : ℕ → ℕ → Inst → List PointFault
   overlap_faults n k i = flat_map (pair_faults n k) (pairs_of (passed_of i))
 
-  abbrev pub operated_faults : ℕ → ℕ → Operated → List StaticFault
+  abbrev pub operated_faults : ℕ → ℕ → Operated → List PointFault
   operated_faults n k o = fault_where (lacks sources o) (fault_at n k rule.PartialAccess o.address)
 
-  abbrev pub no_slot_faults : ℕ → ℕ → ValueId → List StaticFault
+  abbrev pub no_slot_faults : ℕ → ℕ → ValueId → List PointFault
   no_slot_faults n k v = fault_where (is_no_slot sources v) (fault_at n k rule.PartialAccess v)
 
-  abbrev pub deallocation_faults : ℕ → ℕ → Inst → List StaticFault
+  abbrev pub deallocation_faults : ℕ → ℕ → Inst → List PointFault
   deallocation_faults n k i = cond (deallocates i) (flat_map (no_slot_faults n k) (addresses_of i)) []
 
-  abbrev pub lacking_faults : ℕ → ℕ → Inst → List StaticFault
+  abbrev pub lacking_faults : ℕ → ℕ → Inst → List PointFault
   lacking_faults n k i = flat_map (operated_faults n k) (operations_of i) ++ deallocation_faults n k i
 
-  abbrev pub statics_at : ℕ → ℕ → Inst → List StaticFault
+  abbrev pub statics_at : ℕ → ℕ → Inst → List PointFault
   statics_at n k i = overlap_faults n k i ++ lacking_faults n k i
 
-  abbrev pub block_statics : ℕ → Block → List StaticFault
-  block_statics n b = numbered (statics_at n) 0 (insts_of b)
-
-  abbrev pub statics_of : Function → List StaticFault
-  statics_of f = numbered block_statics 0 f.blocks
+  abbrev pub statics_of : Function → List PointFault
+  statics_of f = faults_of no_args_faults statics_at f
 
   -- the other value that takes part in a fault of the instruction
   abbrev pub other_by : Rule → Inst → ValueId → Option ValueId
   other_by r i v = cond (is_overlap r) (crossed_with sources i v) None
-
-abbrev pub broken_by : StaticFault → Option ValueId → MemoryBreak
-broken_by x o = record { rule = x.rule; subject = x.subject; other = o; walk = []; point = x.point }

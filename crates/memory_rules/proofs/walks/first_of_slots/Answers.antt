@@ -5,6 +5,7 @@ use Rattle.memory_accesses.specs.Accesses.{accesses_of}
 use Rattle.memory_accesses.specs.declared.access.Access.{Access}
 use Rattle.memory_accesses.specs.declared.source.Source.{Source}
 use Rattle.memory_slots.specs.Pairs.{IsFirstCrossing, is_slot_source}
+use Rattle.memory_rules.specs.inner.Reports.{IsFirstShown, IsOrderBreak}
 use Rattle.memory_rules.proofs.FirstShown.{first_order, no_crossing, no_order}
 use Rattle.memory_rules.proofs.walks.first_of_slots.Goals as goal
 
@@ -26,6 +27,7 @@ returns-in-None c =
 
 pub returns : goal.returns
 returns c =
-    first_order c.args.m.now c.args.f.now c.args.g.now c.args.k.now c.in-Some.crossing c.crossing_report.result
+    subst (λ x. IsFirstShown (IsOrderBreak c.args.m.now c.args.f.now) c.args.f.now c.args.g.now c.args.k.now (Some x)) (sym c.crossing_report.ensures)
+    (first_order c.args.m.now c.args.f.now c.args.g.now c.args.k.now c.in-Some.crossing
     (subst (λ s. IsFirstCrossing s c.args.f.now c.args.g.now c.args.k.now (Some c.in-Some.crossing)) c.sources-sources.ensures
-    (subst (IsFirstCrossing c.sources-sources.result.now c.args.f.now c.args.g.now c.args.k.now) c.in-Some.is c.in_ok-first_crossing.ensures)) c.crossing_report.ensures
+    (subst (IsFirstCrossing c.sources-sources.result.now c.args.f.now c.args.g.now c.args.k.now) c.in-Some.is c.in_ok-first_crossing.ensures)))

@@ -1,17 +1,17 @@
 use Rattle.std.proofs.Common.{◌≡◌, [], ◌++◌, ap, false, sym, ◌∙◌}
 use Rattle.std.specs.Prelude.{cond}
 use Rattle.std.specs.List.{flat_map}
-use Rattle.ownership_kinds.specs.inner.Faults.{least}
-use Rattle.ownership_kinds.proofs.Least.{least_two, ok_along}
+use Rattle.point_checks.specs.inner.Faults.{least}
+use Rattle.point_checks.proofs.Least.{least_two, ok_along}
 use Rattle.memory_accesses.specs.Operations.{addresses_of, deallocates, operations_of}
 use Rattle.memory_rules.specs.inner.StaticFaults.{deallocation_faults, no_slot_faults, operated_faults, pair_faults, statics_at}
 use Rattle.memory_rules.specs.Statics.{pairs_of, passed, passed_of}
 use Rattle.memory_rules.proofs.Idle.{idle}
-use Rattle.memory_rules.proofs.statics.add_inst.Goals as goal
+use Rattle.memory_rules.proofs.statics.LocationCheckPointCheck.add_inst.Goals as goal
 
 pub returns-then-is_idle : goal.returns-then-is_idle
 returns-then-is_idle c =
-    let m = c.args.m.now in
+    let m = c.args.self.now.memory.now in
     let n = c.args.point.block.0 in
     let k = c.args.point.index in
     let i = c.args.inst.now in
@@ -21,7 +21,7 @@ returns-then-is_idle c =
 
 pub returns : goal.returns
 returns c =
-    let m = c.args.m.now in
+    let m = c.args.self.now.memory.now in
     let n = c.args.point.block.0 in
     let k = c.args.point.index in
     let i = c.args.inst.now in
@@ -29,7 +29,8 @@ returns c =
     (λ r e.
     least_two c.args.found c.add_overlaps-crossed.result r (flat_map (pair_faults m n k) (pairs_of (passed_of i))) (flat_map (operated_faults m n k) (operations_of i) ++ deallocation_faults m n k i)
     (c.add_overlaps-crossed.ensures
-    ∙ ap (λ vs. least c.args.found (flat_map (pair_faults m n k) (pairs_of vs))) (c.as_slice-2.ensures.value ∙ c.in_ok-operands.ensures ∙ ap (flat_map passed) (c.as_slice.ensures.value ∙ c.in_ok-operations.ensures)))
+    ∙ ap (λ vs. least c.args.found (flat_map (pair_faults m n k) (pairs_of vs))) (c.as_slice-2.ensures.value ∙ c.in_ok-operands.ensures
+    ∙ ap (flat_map passed) (c.as_slice.ensures.value ∙ c.in_ok-operations.ensures)))
     (least_two c.add_overlaps-crossed.result c.add_lacking-lacking.result r (flat_map (operated_faults m n k) (operations_of i)) (deallocation_faults m n k i)
     (c.add_lacking-lacking.ensures ∙ ap (λ os. least c.add_overlaps-crossed.result (flat_map (operated_faults m n k) os)) (c.as_slice-3.ensures.value ∙ c.in_ok-operations.ensures)) e))
     c.add_deallocated.ensures

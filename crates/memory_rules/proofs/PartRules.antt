@@ -1,0 +1,161 @@
+-- The rules of the parts' marks are shown on walks.
+use Rattle.std.proofs.Common.{◌≡◌, List, [], ◌∷◌, ◌++◌, map, refl, Bool, true, false, cond, Option, Some, None}
+use Rattle.std.specs.List.{AllByRecursion, flat_map}
+use Rattle.std.specs.Option.{option_to_list}
+use Rattle.sil_ast.specs.declared.function.Function.{Function}
+use Rattle.sil_ast.specs.declared.place.ValueId.{ValueId}
+use Rattle.sil_cfg.specs.Returns.{is_return}
+use Rattle.sil_cfg.specs.declared.item.Item.{Item}
+use Rattle.rule_faults.specs.declared.fault.RuleFault.{RuleFault}
+use Rattle.path_checks.specs.declared.entry.Entry.{Entry}
+use Rattle.path_checks.proofs.RulesShown.{shown_rule}
+use Rattle.path_patterns.specs.declared.mark.Mark.{Mark}
+use Rattle.ownership_chains.specs.Facts.{known_or}
+use Rattle.ownership_chains.specs.declared.facts.Facts.{Facts}
+use Rattle.memory_accesses.specs.Accesses.{accesses_of}
+use Rattle.memory_accesses.specs.Locations.{cell_of, location_of}
+use Rattle.memory_accesses.specs.Rows.{counted, is_part}
+use Rattle.memory_accesses.specs.declared.access.Access.{Access}
+use Rattle.memory_accesses.specs.declared.access.Access.TheVariants.{Ends, Begins, Allocates, Deallocates, Given, Does, Mentions}
+use Rattle.memory_accesses.specs.declared.access.Operation.{Operation}
+use Rattle.memory_accesses.specs.declared.access.Operation.TheVariants.{FirstWrite, Read, Lend, Write, TrivialStore, InoutOperand, Take}
+use Rattle.memory_accesses.specs.declared.location.Cell.{Cell}
+use Rattle.memory_accesses.specs.declared.location.Location.{Location}
+use Rattle.memory_accesses.specs.declared.source.Source.{Source}
+use Rattle.memory_parts.specs.Building.{fills, is_forbidden}
+use Rattle.memory_parts.specs.Contents.{at_location, deallocation_mark, operation_mark, same_cell}
+use Rattle.memory_parts.specs.Loans.{disturbs, lent_at}
+use Rattle.memory_parts.specs.Parts.{at_return, means}
+use Rattle.memory_parts.specs.Shown.{entry_of, marks_of_access, part_marks, part_table}
+use Rattle.memory_parts.specs.Switches.{is_same, when}
+use Rattle.memory_parts.specs.declared.part.Part.{Part}
+use Rattle.memory_parts.specs.declared.part.Part.TheVariants.{Contents, Allocation, Lent, Building, InScope, InSlot}
+use Rattle.memory_parts.specs.Shown.{IsShown}
+use Rattle.memory_rules.specs.Statics.{is_static}
+
+abbrev IsOn : Mark → Type 0
+IsOn m = is_static m.rule ≡ false
+
+abbrev IsEntryOn : Entry → Type 0
+IsEntryOn e = IsOn e.mark
+
+-- there is no mark, or it is one on walks
+abbrev AreOn : Option Mark → Type 0
+AreOn None = Unit {0}
+AreOn (Some m) = IsOn m
+
+where_on : (b : Bool) (m : Mark) → IsOn m → AreOn (when b m)
+where_on true m h = h
+where_on false m h = tt
+
+either_on : (b : Bool) (m n : Mark) → IsOn m → IsOn n → IsOn (cond b m n)
+either_on true m n h k = h
+either_on false m n h k = k
+
+operation_on : (part : Bool) (o : Operation) → IsOn (operation_mark part o)
+operation_on part FirstWrite = refl
+operation_on part Read = refl
+operation_on part Lend = refl
+operation_on part Write = refl
+operation_on true TrivialStore = refl
+operation_on false TrivialStore = refl
+operation_on part InoutOperand = refl
+operation_on part Take = refl
+
+deallocation_on : (emptied : Bool) → IsOn (deallocation_mark emptied)
+deallocation_on true = refl
+deallocation_on false = refl
+
+location_on : (sources : List Source) (cell : Cell) (o : Operation) (l : Option Location) → AreOn (at_location sources cell o l)
+location_on sources cell o None = tt
+location_on sources cell o (Some l) =
+    where_on (same_cell (cell_of sources l.root) cell) (operation_mark (is_part (counted sources l o)) o) (operation_on (is_part (counted sources l o)) o)
+
+module _ (sources : List Source) (facts : ValueId → Facts) where
+  access_on : (p : Part) (a : Access) → AreOn (means sources facts p a)
+  access_on (Contents cell emptied left_full) (Ends v) = tt
+  access_on (Contents cell emptied left_full) (Begins v) = tt
+  access_on (Contents cell emptied left_full) (Allocates v) = where_on (is_same v cell.subject) _ refl
+  access_on (Contents cell emptied left_full) (Deallocates v) = where_on (is_same v cell.subject) (deallocation_mark emptied) (deallocation_on emptied)
+  access_on (Contents cell emptied left_full) (Given v) = where_on (is_same v cell.subject) _ refl
+  access_on (Contents cell emptied left_full) (Does x) = location_on sources cell x.operation (location_of sources x.address)
+  access_on (Contents cell emptied left_full) (Mentions v a) = tt
+  access_on (Allocation slot) (Ends v) = tt
+  access_on (Allocation slot) (Begins v) = tt
+  access_on (Allocation slot) (Allocates v) = where_on (is_same v slot) _ refl
+  access_on (Allocation slot) (Deallocates v) = where_on (is_same v slot) _ refl
+  access_on (Allocation slot) (Given v) = tt
+  access_on (Allocation slot) (Does x) = tt
+  access_on (Allocation slot) (Mentions v a) = tt
+  access_on (Lent scope address) (Ends v) = where_on (is_same v scope) _ refl
+  access_on (Lent scope address) (Begins v) = where_on (is_same v scope) _ refl
+  access_on (Lent scope address) (Allocates v) = tt
+  access_on (Lent scope address) (Deallocates v) = where_on (disturbs sources (lent_at sources address) (Deallocates v)) _ refl
+  access_on (Lent scope address) (Given v) = tt
+  access_on (Lent scope address) (Does x) = where_on (disturbs sources (lent_at sources address) (Does x)) _ refl
+  access_on (Lent scope address) (Mentions v a) = tt
+  access_on (Building object field) (Ends v) = tt
+  access_on (Building object field) (Begins v) = tt
+  access_on (Building object field) (Allocates v) = where_on (is_same v object) _ refl
+  access_on (Building object field) (Deallocates v) = tt
+  access_on (Building object field) (Given v) = tt
+  access_on (Building object field) (Does x) =
+      where_on (fills sources (record { subject = object; field = Some field }) x.operation (location_of sources x.address)) _ refl
+  access_on (Building object field) (Mentions v a) = where_on (is_forbidden sources facts object v a) _ refl
+  access_on (InScope address scope) (Ends v) = where_on (is_same v scope) _ refl
+  access_on (InScope address scope) (Begins v) = where_on (is_same v scope) _ refl
+  access_on (InScope address scope) (Allocates v) = tt
+  access_on (InScope address scope) (Deallocates v) = tt
+  access_on (InScope address scope) (Given v) = tt
+  access_on (InScope address scope) (Does x) = tt
+  access_on (InScope address scope) (Mentions v a) = where_on (is_same v address) _ refl
+  access_on (InSlot address slot) (Ends v) = tt
+  access_on (InSlot address slot) (Begins v) = tt
+  access_on (InSlot address slot) (Allocates v) = where_on (is_same v slot) _ refl
+  access_on (InSlot address slot) (Deallocates v) = where_on (is_same v slot) _ refl
+  access_on (InSlot address slot) (Given v) = tt
+  access_on (InSlot address slot) (Does x) = tt
+  access_on (InSlot address slot) (Mentions v a) = where_on (is_same v address) _ refl
+
+left_on : (p : Part) → AreOn (at_return p)
+left_on (Contents cell emptied left_full) = where_on left_full _ refl
+left_on (Allocation slot) = refl
+left_on (Lent scope address) = tt
+left_on (Building object field) = tt
+left_on (InScope address scope) = tt
+left_on (InSlot address slot) = tt
+
+each_listed : (o : Option Mark) → AreOn o → AllByRecursion IsOn (option_to_list o)
+each_listed None h = tt
+each_listed (Some m) h = (h, tt)
+
+joined : (xs ys : List Mark) → AllByRecursion IsOn xs → AllByRecursion IsOn ys → AllByRecursion IsOn (xs ++ ys)
+joined [] ys h k = k
+joined (x ∷ xs) ys h k = (h.0, joined xs ys h.1 k)
+
+each_told : (g : Access → List Mark) (accesses : List Access) → ((a : Access) → AllByRecursion IsOn (g a)) → AllByRecursion IsOn (flat_map g accesses)
+each_told g [] h = tt
+each_told g (a ∷ accesses) h = joined (g a) (flat_map g accesses) (h a) (each_told g accesses h)
+
+each_returned : (b : Bool) (p : Part) → AllByRecursion IsOn (cond b (option_to_list (at_return p)) [])
+each_returned true p = each_listed (at_return p) (left_on p)
+each_returned false p = tt
+
+each_entry : (ms : List Mark) → AllByRecursion IsOn ms → AllByRecursion IsEntryOn (map entry_of ms)
+each_entry [] h = tt
+each_entry (m ∷ ms) h = (h.0, each_entry ms h.1)
+
+each_at : (sources : List Source) (facts : ValueId → Option Facts) (f : Function) (p : Part) (item : Item) → AllByRecursion IsEntryOn (part_table sources facts f p item)
+each_at sources facts f p item =
+    each_entry (part_marks sources facts f p item)
+    (joined (flat_map (marks_of_access sources facts f p) (accesses_of sources facts f item)) (cond (is_return f item) (option_to_list (at_return p)) [])
+    (each_told (marks_of_access sources facts f p) (accesses_of sources facts f item)
+    (λ a. each_listed (means sources (known_or facts) p a) (access_on sources (known_or facts) p a)))
+    (each_returned (is_return f item) p))
+
+-- what is shown at a part is no static rule
+pub part_on_walks : (sources : List Source) (facts : ValueId → Option Facts) (f : Function) (parts : List Part) (s : RuleFault) →
+    IsShown sources facts f parts s → is_static s.rule ≡ false
+part_on_walks sources facts f parts s h =
+    shown_rule (λ r. is_static r ≡ false) f (part_table sources facts f h.part) (each_at sources facts f h.part) 0 s.rule s.walk s.point
+    (record { item = h.item; at = h.shown })
