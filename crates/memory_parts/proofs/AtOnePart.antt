@@ -55,10 +55,12 @@ module _ (sources : List Source) (facts : ValueId → Option Facts) (f : Functio
     at_accesses : (accesses : List Access) → marks_in (entries.means n) (flat_map (joint sources (known_or facts) parts) accesses) ≡ flat_map (marks_of_access sources facts f p) accesses
     at_accesses [] = refl
     at_accesses (a ∷ accesses) =
-        flat_map-append (λ e. one_or_none (entries.means n e)) (joint sources (known_or facts) parts a) (flat_map (joint sources (known_or facts) parts) accesses) ∙ ap₂ (λ u v. u ++ v) (at_access a) (at_accesses accesses)
+        flat_map-append (λ e. one_or_none (entries.means n e)) (joint sources (known_or facts) parts a) (flat_map (joint sources (known_or facts) parts) accesses)
+        ∙ ap₂ (λ u v. u ++ v) (at_access a) (at_accesses accesses)
 
     at_returns : (b : Bool) → marks_in (entries.means n) (shared_if (map at_return parts) b) ≡ cond b (option_to_list (at_return p)) []
-    at_returns true = marks_shared (map at_return parts) n 0 n (omega arith) ∙ ap (λ o. one_or_none (unwrap_or o None)) (slice_get-map at_return parts n ∙ ap (option_map at_return) there) ∙ one_listed (at_return p)
+    at_returns true = marks_shared (map at_return parts) n 0 n (omega arith) ∙ ap (λ o. one_or_none (unwrap_or o None)) (slice_get-map at_return parts n ∙ ap (option_map at_return) there)
+        ∙ one_listed (at_return p)
     at_returns false = refl
 
     same_marks : (item : Item) → marks_in (entries.means n) (batch_table sources facts f parts item) ≡ marks_in (entries.means 0) (part_table sources facts f p item)
@@ -66,10 +68,12 @@ module _ (sources : List Source) (facts : ValueId → Option Facts) (f : Functio
         flat_map-append (λ e. one_or_none (entries.means n e)) (flat_map (joint sources (known_or facts) parts) (accesses_of sources facts f item)) (shared_if (map at_return parts) (is_return f item))
         ∙ ap₂ (λ u v. u ++ v) (at_accesses (accesses_of sources facts f item)) (at_returns (is_return f item)) ∙ sym (alone (part_marks sources facts f p item))
 
-    pub batch_part : (rule : Rule) (walk : List EdgeId) (point : PointId) (item : Item) → paths.IsShownAt f (batch_table sources facts f parts) n rule walk point item → paths.IsShownAt f (part_table sources facts f p) 0 rule walk point item
+    pub batch_part : (rule : Rule) (walk : List EdgeId) (point : PointId) (item : Item) → paths.IsShownAt f (batch_table sources facts f parts) n rule walk point item
+        → paths.IsShownAt f (part_table sources facts f p) 0 rule walk point item
     batch_part rule walk point item h = same_shown_at f (batch_table sources facts f parts) (part_table sources facts f p) n 0 same_marks rule walk point item h
 
-    pub part_batch : (rule : Rule) (walk : List EdgeId) (point : PointId) (item : Item) → paths.IsShownAt f (part_table sources facts f p) 0 rule walk point item → paths.IsShownAt f (batch_table sources facts f parts) n rule walk point item
+    pub part_batch : (rule : Rule) (walk : List EdgeId) (point : PointId) (item : Item) → paths.IsShownAt f (part_table sources facts f p) 0 rule walk point item
+        → paths.IsShownAt f (batch_table sources facts f parts) n rule walk point item
     part_batch rule walk point item h = same_shown_at f (part_table sources facts f p) (batch_table sources facts f parts) 0 n (λ i. sym (same_marks i)) rule walk point item h
 
   -- a number that is no part's has no marks
@@ -82,7 +86,8 @@ module _ (sources : List Source) (facts : ValueId → Option Facts) (f : Functio
     none_accesses : (accesses : List Access) → marks_in (entries.means n) (flat_map (joint sources (known_or facts) parts) accesses) ≡ []
     none_accesses [] = refl
     none_accesses (a ∷ accesses) =
-        flat_map-append (λ e. one_or_none (entries.means n e)) (joint sources (known_or facts) parts a) (flat_map (joint sources (known_or facts) parts) accesses) ∙ ap₂ (λ u v. u ++ v) (none_access a) (none_accesses accesses)
+        flat_map-append (λ e. one_or_none (entries.means n e)) (joint sources (known_or facts) parts a) (flat_map (joint sources (known_or facts) parts) accesses)
+        ∙ ap₂ (λ u v. u ++ v) (none_access a) (none_accesses accesses)
 
     none_returns : (b : Bool) → marks_in (entries.means n) (shared_if (map at_return parts) b) ≡ []
     none_returns true = marks_shared (map at_return parts) n 0 n (omega arith) ∙ ap (λ o. one_or_none (unwrap_or o None)) (slice_get-map at_return parts n ∙ ap (option_map at_return) past)
@@ -109,7 +114,8 @@ module _ (sources : List Source) (facts : ValueId → Option Facts) (f : Functio
   none_among none s h = none h.there.0 s.rule s.walk s.point (shown_number h.there.0 s h (place s h))
 
   -- nothing is shown at the parts before the first number
-  pub none_before : (fault : PathFault) → paths.IsFirst f (batch_table sources facts f parts) (Some fault) → fault.subject ≤ length parts → rules.IsFirst fault_key (IsShown sources facts f (take fault.subject parts)) None
+  pub none_before : (fault : PathFault) → paths.IsFirst f (batch_table sources facts f parts) (Some fault) → fault.subject ≤ length parts
+      → rules.IsFirst fault_key (IsShown sources facts f (take fault.subject parts)) None
   none_before fault first within s h = at (first.1 h.there.0 s.rule s.walk s.point shown)
     where
       lt : h.there.0 < fault.subject
@@ -130,7 +136,8 @@ one_part p q zero lt e = e
 one_part p q (suc k) lt e = absurd (omega arith)
 
 -- the first that the table of one part shows is the first that is shown at it
-pub first_alone : (sources : List Source) (facts : ValueId → Option Facts) (f : Function) (p : Part) (fault : PathFault) (v : ValueId) (o : Option ValueId) → paths.IsFirst f (batch_table sources facts f (p ∷ [])) (Some fault) →
+pub first_alone : (sources : List Source) (facts : ValueId → Option Facts) (f : Function) (p : Part) (fault : PathFault) (v : ValueId) (o : Option ValueId) →
+    paths.IsFirst f (batch_table sources facts f (p ∷ [])) (Some fault) →
     v ≡ subject_of p → o ≡ other_of sources facts f p fault.item →
     rules.IsFirst fault_key (IsShown sources facts f (p ∷ [])) (Some (record { subject = v; rule = fault.rule; walk = fault.walk; point = fault.point; other = o }))
 first_alone sources facts f p fault v o first subject_is other_is = at fault.subject refl

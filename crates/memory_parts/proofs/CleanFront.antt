@@ -31,10 +31,12 @@ module _ (sources : List Source) (facts : ValueId → Option Facts) (f : Functio
       subst IsClean (ap (λ v. take first parts ++ v) is ∙ sym (take_further parts first j n e)) (among_more sources facts f (take first parts) more None None None before here refl)
 
   -- a whole batch more
-  pub clean_batch : (first count n : ℕ) (batch : List Part) → n ≡ first + count → batch ≡ take count (drop first parts) → IsClean (take first parts) → paths.IsFirst f (batch_table sources facts f batch) None → IsClean (take n parts)
+  pub clean_batch : (first count n : ℕ) (batch : List Part) → n ≡ first + count → batch ≡ take count (drop first parts) → IsClean (take first parts)
+      → paths.IsFirst f (batch_table sources facts f batch) None → IsClean (take n parts)
   clean_batch first count n batch e is before none = clean_further first count n batch e is before (none_among sources facts f batch none)
 
-  within : (batch : List Part) (fault : PathFault) → paths.IsFirst f (batch_table sources facts f batch) (Some fault) → (fault.subject < length batch) ⊎ (length batch ≤ fault.subject) → fault.subject < length batch
+  within : (batch : List Part) (fault : PathFault) → paths.IsFirst f (batch_table sources facts f batch) (Some fault) → (fault.subject < length batch) ⊎ (length batch ≤ fault.subject)
+      → fault.subject < length batch
   within batch fault h (inl lt) = lt
   within batch fault h (inr le) = absurd (past_unshown sources facts f batch fault.subject (slice_get_past batch fault.subject le) fault.rule fault.walk fault.point fault.item h.0)
 

@@ -42,7 +42,8 @@ module _ (sources : List Source) (facts : ValueId → Option Facts) (f : Functio
 
   -- the earlier of the two that come first
   pub among_more : (a b r : Option RuleFault) → IsFirst fault_key (Shown parts) a → IsFirst fault_key (Shown more) b → IsEarlier fault_key a b r → IsFirst fault_key (Shown (parts ++ more)) r
-  among_more a b r first second e = first_same fault_key (Either (Shown parts) (Shown more)) (Shown (parts ++ more)) r together apart (first_earlier fault_key (Shown parts) (Shown more) a b r first second e)
+  among_more a b r first second e =
+      first_same fault_key (Either (Shown parts) (Shown more)) (Shown (parts ++ more)) r together apart (first_earlier fault_key (Shown parts) (Shown more) a b r first second e)
 
   -- nothing that is shown at parts of greater subjects comes before
   pub among_behind : (s : RuleFault) → IsFirst fault_key (Shown parts) (Some s) → All (λ q. s.subject.0 < (subject_of q).0) more → IsFirst fault_key (Shown (parts ++ more)) (Some s)
@@ -53,13 +54,15 @@ module _ (sources : List Source) (facts : ValueId → Option Facts) (f : Functio
 
 -- one part more
 pub among_one_more : (sources : List Source) (facts : ValueId → Option Facts) (f : Function) (parts : List Part) (n : ℕ) (d : Part) (best next r : Option RuleFault) → n < length parts →
-    IsFirst fault_key (IsShown sources facts f (take n parts)) best → IsFirst fault_key (IsShown sources facts f (get_or parts n d ∷ [])) next → IsEarlier fault_key best next r → IsFirst fault_key (IsShown sources facts f (take (n + 1) parts)) r
+    IsFirst fault_key (IsShown sources facts f (take n parts)) best → IsFirst fault_key (IsShown sources facts f (get_or parts n d ∷ [])) next → IsEarlier fault_key best next r
+    → IsFirst fault_key (IsShown sources facts f (take (n + 1) parts)) r
 among_one_more sources facts f parts n d best next r lt before here e =
     let P : List Part → Type 0 = λ v. IsFirst fault_key (IsShown sources facts f v) r in
     subst P (sym (take_more parts n d lt)) (among_more sources facts f (take n parts) (get_or parts n d ∷ []) best next r before here e)
 
 -- a fault comes first of all, where all further parts have greater subjects
-pub behind_all : (sources : List Source) (facts : ValueId → Option Facts) (f : Function) (parts : List Part) (n : ℕ) (d : Part) (best : Option RuleFault) (v : ValueId) → n < length parts → AreRising parts → v ≡ subject_of (get_or parts n d) →
+pub behind_all : (sources : List Source) (facts : ValueId → Option Facts) (f : Function) (parts : List Part) (n : ℕ) (d : Part) (best : Option RuleFault) (v : ValueId) → n < length parts →
+    AreRising parts → v ≡ subject_of (get_or parts n d) →
     is_behind best v ≡ true → IsFirst fault_key (IsShown sources facts f (take n parts)) best → IsFirst fault_key (IsShown sources facts f parts) best
 behind_all sources facts f parts n d None v lt rising is e first = absurd (true≢false (sym e))
 behind_all sources facts f parts n d (Some s) v lt rising is e first =

@@ -63,15 +63,18 @@ module _ (sources : List Source) (facts other : ValueId → Facts) (same : (v : 
 
   -- and which parts there are
   pub parts_same : parts_of sources facts ≡ parts_of sources other
-  parts_same = flat_map_same (parts_at sources facts) (parts_at sources other) (λ n. ap (λ f. parts_by sources f (value_of n) (source_at sources (value_of n))) (same (value_of n))) (range_with_len 0 (length sources))
+  parts_same = flat_map_same (parts_at sources facts) (parts_at sources other) (λ n. ap (λ f. parts_by sources f (value_of n) (source_at sources (value_of n))) (same (value_of n)))
+      (range_with_len 0 (length sources))
 
 -- the entries by number, and the shared ones, are the parts' table
-pub batch_agrees : (sources : List Source) (f : Function) (g : Layout) (k : Known) (returns : List Bool) (parts : List Part) (own : List (List Entry)) (marks : List (Option Mark)) → AreReturns f g returns →
+pub batch_agrees : (sources : List Source) (f : Function) (g : Layout) (k : Known) (returns : List Bool) (parts : List Part) (own : List (List Entry)) (marks : List (Option Mark)) →
+    AreReturns f g returns →
     ((n : ℕ) → n < item_count g → list_at own n ≡ flat_map (joint sources (facts_of k) parts) (told_at_item sources f g k n)) → marks ≡ map at_return parts →
     (count : ℕ) (facts : ValueId → Option Facts) → AreKindsBy count facts f g k → AgreesWith g (entries_with own marks returns) (batch_table sources facts f parts)
 batch_agrees sources f g k returns parts own marks returns_are own_are marks_are count facts by n item e =
     ap₂ (λ x y. x ++ y)
-    (own_are n (slice_get_within g.kinds n item e) ∙ ap (flat_map (joint sources (facts_of k) parts)) (told_agrees sources f g k count facts by n item e) ∙ joint_same sources (facts_of k) (known_or facts) by.facts_are parts (accesses_of sources facts f item))
+    (own_are n (slice_get_within g.kinds n item e) ∙ ap (flat_map (joint sources (facts_of k) parts)) (told_agrees sources f g k count facts by n item e)
+    ∙ joint_same sources (facts_of k) (known_or facts) by.facts_are parts (accesses_of sources facts f item))
     (ap₂ (λ m b. shared_if m b) marks_are (returns_are n item e))
 
 -- one part more
@@ -86,7 +89,8 @@ joint_more sources facts parts a n d lt =
     ap (λ v. shared_from 0 (map h v)) (take_more parts n d lt) ∙ ap (shared_from 0) (map-append h (take n parts) (get_or parts n d ∷ []))
     ∙ shared_more 0 (map h (take n parts)) (h (get_or parts n d)) n (let size : length (map h (take n parts)) ≡ n = length-map (take n parts) h ∙ length-take-le n parts (omega arith) in omega arith)
 
-pub joint_grown : (sources : List Source) (facts : ValueId → Facts) (parts : List Part) (a : Access) (n : ℕ) (d : Part) (mark : Option Mark) (initial old new : List Entry) → n < length parts → old ≡ initial ++ joint sources facts (take n parts) a →
+pub joint_grown : (sources : List Source) (facts : ValueId → Facts) (parts : List Part) (a : Access) (n : ℕ) (d : Part) (mark : Option Mark) (initial old new : List Entry) → n < length parts →
+    old ≡ initial ++ joint sources facts (take n parts) a →
     mark ≡ means sources facts (get_or parts n d) a → new ≡ old ++ entry_if n mark → new ≡ initial ++ joint sources facts (take (n + 1) parts) a
 joint_grown sources facts parts a n d mark initial old new lt before is more =
     more ∙ ap₂ (λ v m. v ++ entry_if n m) before is ∙ append_assoc initial (joint sources facts (take n parts) a) (entry_if n (means sources facts (get_or parts n d) a))

@@ -1,5 +1,6 @@
 -- The entries of the parts that are listed by an access's keys are those of all parts.
-use Rattle.std.proofs.Common.{◌≡◌, ℕ, zero, suc, ◌+◌, ◌<◌, ◌≤◌, List, [], ◌∷◌, ◌++◌, ◌-◌, length, get_or, map, take, append-nil, append_assoc, refl, sym, ap, ap₂, ◌∙◌, subst, ◌⊎◌, inl, inr, All, Option, Some, None, arith}
+use Rattle.std.proofs.Common.{◌≡◌, ℕ, zero, suc, ◌+◌, ◌<◌, ◌≤◌, List, [], ◌∷◌, ◌++◌, ◌-◌, length, get_or, map, take, append-nil}
+use Rattle.std.proofs.Common.{append_assoc, refl, sym, ap, ap₂, ◌∙◌, subst, ◌⊎◌, inl, inr, All, Option, Some, None, arith}
 use Rattle.std.specs.Prelude.{Contains, slice_get, unwrap_or, option_map}
 use Rattle.std.specs.List.{AllPairs, flat_map}
 use Rattle.std.specs.List.Sorted.{IsStrictlyIncreasing}
@@ -90,7 +91,8 @@ module _ (e : ℕ → List Entry) where
   step mark marks low n numbers are from rest behind (inr ne) =
       let above : low ≤ n = from.0 in
       let further : IsFrom (low + 1) (n ∷ numbers) = (omega arith, from.1) in
-      let none : e low ≡ [] = rest low (omega arith) (λ c. let less : low + 1 ≤ low = All-contains (λ x. low + 1 ≤ x) (n ∷ numbers) low (from_above (low + 1) (n ∷ numbers) further) c in omega arith) in
+      let none : e low ≡ [] =
+      rest low (omega arith) (λ c. let less : low + 1 ≤ low = All-contains (λ x. low + 1 ≤ x) (n ∷ numbers) low (from_above (low + 1) (n ∷ numbers) further) c in omega arith) in
       behind (n ∷ numbers) further (λ i le miss. rest i (omega arith) miss) ∙ ap (λ v. v ++ shared_from (low + 1) marks) (sym none ∙ first low mark marks are)
 
   pub listed_all : (marks : List (Option Mark)) (low : ℕ) (numbers : List ℕ) → AreOf low marks → IsFrom low numbers → HasRest low numbers → flat_map e numbers ≡ shared_from low marks
@@ -131,9 +133,11 @@ module _ (sources : List Source) (facts : ValueId → Facts) (parts : List Part)
       listed_all (entry_at sources facts parts a) (map (λ p. means sources facts p a) parts) 0 numbers entries_are (is_from numbers rising) (λ n le none. unlisted rows numbers is all n none)
 
 -- the entry of one number more
-pub each_more : (e : ℕ → List Entry) (numbers : List ℕ) (i d : ℕ) (initial old new : List Entry) → i < length numbers → old ≡ initial ++ flat_map e (take i numbers) → new ≡ old ++ e (get_or numbers i d) →
+pub each_more : (e : ℕ → List Entry) (numbers : List ℕ) (i d : ℕ) (initial old new : List Entry) → i < length numbers → old ≡ initial ++ flat_map e (take i numbers) →
+    new ≡ old ++ e (get_or numbers i d) →
     new ≡ initial ++ flat_map e (take (i + 1) numbers)
 each_more e numbers i d initial old new lt before more =
     more ∙ ap (λ v. v ++ e (get_or numbers i d)) before ∙ append_assoc initial (flat_map e (take i numbers)) (e (get_or numbers i d))
     ∙ ap (λ v. initial ++ v)
-    (ap (λ v. flat_map e (take i numbers) ++ v) (sym (append-nil (e (get_or numbers i d)))) ∙ sym (flat_map-append e (take i numbers) (get_or numbers i d ∷ [])) ∙ ap (flat_map e) (sym (take_more numbers i d lt)))
+    (ap (λ v. flat_map e (take i numbers) ++ v) (sym (append-nil (e (get_or numbers i d)))) ∙ sym (flat_map-append e (take i numbers) (get_or numbers i d ∷ []))
+    ∙ ap (flat_map e) (sym (take_more numbers i d lt)))

@@ -49,7 +49,8 @@ slot_at_of sources address (Some l) = slot_of address l.root (source_at sources 
 
 address_of : (sources : List Source) (f : Facts) (address : ValueId) → All (IsOf address) (address_parts sources f address)
 address_of sources f address =
-    All-append (IsOf address) (scope_parts sources address f.bases) (slot_part_at sources address (location_of sources address)) (scopes_of sources address f.bases) (slot_at_of sources address (location_of sources address))
+    All-append (IsOf address) (scope_parts sources address f.bases) (slot_part_at sources address (location_of sources address)) (scopes_of sources address f.bases)
+    (slot_at_of sources address (location_of sources address))
 
 fields_of : (object : ValueId) (fields : List ℕ) → All (IsOf object) (flat_map (field_parts object) fields)
 fields_of object [] = All-nil (IsOf object)
@@ -59,7 +60,8 @@ fields_of object (k ∷ fields) =
 
 parts_by_of : (sources : List Source) (f : Facts) (v : ValueId) (s : Source) → All (IsOf v) (parts_by sources f v s)
 parts_by_of sources f v (source.Slot emptied) =
-    All-cons (IsOf v) (Contents (whole_cell v) emptied false) (Allocation v ∷ address_parts sources f v) refl (All-cons (IsOf v) (Allocation v) (address_parts sources f v) refl (address_of sources f v))
+    All-cons (IsOf v) (Contents (whole_cell v) emptied false) (Allocation v ∷ address_parts sources f v) refl
+    (All-cons (IsOf v) (Allocation v) (address_parts sources f v) refl (address_of sources f v))
 parts_by_of sources f v source.Inout = one_of v (Contents (whole_cell v) false true) refl
 parts_by_of sources f v (source.Object fields) = fields_of v (range_with_len 0 fields)
 parts_by_of sources f v (source.Borrow of) = All-nil (IsOf v)

@@ -11,6 +11,7 @@ flat_map_one_more f n =
     ∙ flat_map-append (λ x. x) (map f (range_with_len 0 n)) (f n ∷ []) ∙ ap₂ (λ u v. u ++ v) (flat_map-map (λ x. x) f (range_with_len 0 n)) (append-nil (f n))
 
 -- a list that grows by one piece for each number
-pub grown : {X : Type 0} (f : ℕ → List X) (n : ℕ) (initial old new : List X) → old ≡ initial ++ flat_map f (range_with_len 0 n) → new ≡ old ++ f n → new ≡ initial ++ flat_map f (range_with_len 0 (n + 1))
+pub grown : {X : Type 0} (f : ℕ → List X) (n : ℕ) (initial old new : List X) → old ≡ initial ++ flat_map f (range_with_len 0 n) → new ≡ old ++ f n
+    → new ≡ initial ++ flat_map f (range_with_len 0 (n + 1))
 grown f n initial old new before more =
     more ∙ ap (λ v. v ++ f n) before ∙ append_assoc initial (flat_map f (range_with_len 0 n)) (f n) ∙ ap (λ v. initial ++ v) (sym (flat_map_one_more f n))

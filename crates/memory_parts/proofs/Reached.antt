@@ -113,7 +113,8 @@ module _ (sources : List Source) where
       by true = refl
       by false = refl
 
-  writes_other : (scope : ValueId) (o : Operation) (l lent : Option Location) → AreApart (keys_at sources o l) (Turned scope ∷ root_key lent) → writes_into sources (counted_loan sources lent) o l ≡ false
+  writes_other : (scope : ValueId) (o : Operation) (l lent : Option Location) → AreApart (keys_at sources o l) (Turned scope ∷ root_key lent)
+      → writes_into sources (counted_loan sources lent) o l ≡ false
   writes_other scope o l None apart = refl
   writes_other scope o None (Some lent) apart = refl
   writes_other scope o (Some l) (Some lent) apart = at (writes true o) refl
@@ -131,7 +132,8 @@ module _ (sources : List Source) where
       roots e = other_value (counted sources l o).root (counted sources lent Lend).root (λ same. unlike e (sym (root_of_counted l o) ∙ same ∙ root_of_counted lent Lend))
 
       at : (b : Bool) → writes true o ≡ b → (writes (is_part (counted sources l o)) o && overlap (counted sources l o) (counted sources lent Lend)) ≡ false
-      at true e = and_right (writes (is_part (counted sources l o)) o) (overlap (counted sources l o) (counted sources lent Lend)) (and_left (is_same (counted sources l o).root (counted sources lent Lend).root) _ (roots e))
+      at true e = and_right (writes (is_part (counted sources l o)) o) (overlap (counted sources l o) (counted sources lent Lend))
+          (and_left (is_same (counted sources l o).root (counted sources lent Lend).root) _ (roots e))
       at false e = ap into (no_write (is_part (counted sources l o)) o e)
 
   root_other : (v scope : ValueId) (k : Key) (lent : Option Location) → AreApart (k ∷ Written v ∷ []) (Turned scope ∷ root_key lent) → is_at_root (counted_loan sources lent) v ≡ false
@@ -161,11 +163,13 @@ module _ (sources : List Source) where
 
     unforbidden : (facts : ValueId → Facts) (v : ValueId) (a : Allowance) → AreApart (Named v ∷ flat_map (built_key sources) (facts v).bases) keys → is_forbidden sources facts object v a ≡ false
     unforbidden facts v a apart =
-        let none : list_any (builds sources object) (facts v).bases ≡ false = none_builds (facts v).bases (λ key c. apart key (behind (Named v) key (flat_map (built_key sources) (facts v).bases) c)) in
+        let none : list_any (builds sources object) (facts v).bases ≡ false =
+        none_builds (facts v).bases (λ key c. apart key (behind (Named v) key (flat_map (built_key sources) (facts v).bases) c)) in
         or_from (is_same v object && not (takes_object a)) (goes_by_borrow sources (facts v) object && not (builds sources object v && takes_borrow a))
         (and_left (is_same v object) (not (takes_object a))
         (other_value v object (λ e. apart (Named v) (here (Named v) (flat_map (built_key sources) (facts v).bases)) (subst (λ x. Contains keys (Named x)) (sym e) is_named))))
-        (and_left (goes_by_borrow sources (facts v) object) (not (builds sources object v && takes_borrow a)) (and_right (is_guaranteed (facts v).kind) (list_any (builds sources object) (facts v).bases) none))
+        (and_left (goes_by_borrow sources (facts v) object) (not (builds sources object v && takes_borrow a))
+        (and_right (is_guaranteed (facts v).kind) (list_any (builds sources object) (facts v).bases) none))
 
   module _ (facts : ValueId → Facts) where
     pub unreached : (p : Part) (a : Access) → AreApart (keys_of_access sources facts a) (keys_of_part sources p) → means sources facts p a ≡ None
@@ -174,7 +178,8 @@ module _ (sources : List Source) where
     unreached (Contents cell emptied left_full) (Allocates v) apart = unmarked v cell.subject _ (turned v cell.subject [] (Operated cell ∷ []) apart)
     unreached (Contents cell emptied left_full) (Deallocates v) apart = unmarked v cell.subject _ (turned v cell.subject (Written v ∷ []) (Operated cell ∷ []) apart)
     unreached (Contents cell emptied left_full) (Given v) apart = unmarked v cell.subject _ (turned v cell.subject [] (Operated cell ∷ []) apart)
-    unreached (Contents cell emptied left_full) (Does x) apart = at_other x.operation (location_of sources x.address) cell (keys_of_part sources (Contents cell emptied left_full)) (second (Turned cell.subject) (Operated cell) []) apart
+    unreached (Contents cell emptied left_full) (Does x) apart =
+        at_other x.operation (location_of sources x.address) cell (keys_of_part sources (Contents cell emptied left_full)) (second (Turned cell.subject) (Operated cell) []) apart
     unreached (Contents cell emptied left_full) (Mentions v a) apart = refl
     unreached (Allocation slot) (Ends v) apart = refl
     unreached (Allocation slot) (Begins v) apart = refl
@@ -197,7 +202,8 @@ module _ (sources : List Source) where
     unreached (Building object field) (Given v) apart = refl
     unreached (Building object field) (Does x) apart =
         no_mark (fills sources (cell_at object (Some field)) x.operation (location_of sources x.address)) _
-        (fills_other x.operation (location_of sources x.address) (cell_at object (Some field)) (keys_of_part sources (Building object field)) (third (Turned object) (Named object) (Operated (cell_at object (Some field))) []) apart)
+        (fills_other x.operation (location_of sources x.address) (cell_at object (Some field)) (keys_of_part sources (Building object field))
+        (third (Turned object) (Named object) (Operated (cell_at object (Some field))) []) apart)
     unreached (Building object field) (Mentions v a) apart = no_mark (is_forbidden sources facts object v a) _ (unforbidden object field facts v a apart)
     unreached (InScope address scope) (Ends v) apart = unmarked v scope _ (turned v scope [] (Named address ∷ []) apart)
     unreached (InScope address scope) (Begins v) apart = unmarked v scope _ (turned v scope [] (Named address ∷ []) apart)

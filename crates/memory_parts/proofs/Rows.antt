@@ -66,7 +66,8 @@ pub rows_more : (old before new : List (Vec ℕ Global)) (keys : List Key) (i : 
     ((r : ℕ) → accesses_at new r ≡ accesses_at before r ++ cond (row_of (get_or keys i d) == r) (n ∷ []) []) → HasRows old new (take (i + 1) keys) n
 rows_more old before new keys i d n lt has is = record {
   kept = λ r m c. stays r m (has.kept r m c);
-  there = All-more (λ key. Contains (row_at new key) n) keys i d lt (All-weaker (λ key. Contains (row_at before key) n) (λ key. Contains (row_at new key) n) (λ key c. stays (row_of key) n c) (take i keys) has.there) put;
+  there = All-more (λ key. Contains (row_at new key) n) keys i d lt
+      (All-weaker (λ key. Contains (row_at before key) n) (λ key. Contains (row_at new key) n) (λ key c. stays (row_of key) n c) (take i keys) has.there) put;
 }
   where
     stays : (r m : ℕ) → Contains (accesses_at before r) m → Contains (accesses_at new r) m
@@ -78,7 +79,8 @@ rows_more old before new keys i d n lt has is = record {
         subst (λ v. Contains v n) (sym (is r ∙ ap (λ q. accesses_at before r ++ cond q (n ∷ []) []) (eq-eqb r r refl))) (Contains-push (accesses_at before r) n)
 
 -- what the rows of the keys have, one key more
-pub all_more : (rows : List (Vec ℕ Global)) (keys : List Key) (i : ℕ) (d : Key) (old new : List ℕ) → i < length keys → HasAll rows (take i keys) old → new ≡ old ++ row_at rows (get_or keys i d) → HasAll rows (take (i + 1) keys) new
+pub all_more : (rows : List (Vec ℕ Global)) (keys : List Key) (i : ℕ) (d : Key) (old new : List ℕ) → i < length keys → HasAll rows (take i keys) old → new ≡ old ++ row_at rows (get_or keys i d)
+    → HasAll rows (take (i + 1) keys) new
 all_more rows keys i d old new lt has is n =
     All-more (λ key. Contains (row_at rows key) n → Contains new n) keys i d lt
     (All-weaker (λ key. Contains (row_at rows key) n → Contains old n) (λ key. Contains (row_at rows key) n → Contains new n)
@@ -86,7 +88,8 @@ all_more rows keys i d old new lt has is n =
     (λ c. subst (λ v. Contains v n) (sym is) (Contains-append_right old (row_at rows (get_or keys i d)) n c))
 
 -- one part more
-pub parts_more : (sources : List Source) (parts : List Part) (old new : List (Vec ℕ Global)) (n : ℕ) (d : Part) (none keys : List Key) → none ≡ [] → keys ≡ none ++ keys_of_part sources (get_or parts n d) →
+pub parts_more : (sources : List Source) (parts : List Part) (old new : List (Vec ℕ Global)) (n : ℕ) (d : Part) (none keys : List Key) → none ≡ [] →
+    keys ≡ none ++ keys_of_part sources (get_or parts n d) →
     ((i : ℕ) (p : Part) → i < n → slice_get parts i ≡ Some p → All (λ key. Contains (row_at old key) i) (keys_of_part sources p)) → HasRows old new keys n →
     (i : ℕ) (p : Part) → i < n + 1 → slice_get parts i ≡ Some p → All (λ key. Contains (row_at new key) i) (keys_of_part sources p)
 parts_more sources parts old new n d none keys empty are before has i p lt e = at (cases_eq i n)

@@ -63,7 +63,8 @@ module _ (sources : List Source) (facts : ValueId → Facts) (concerned : List B
 
   apart : (p : Part) (a : Access) → IsConcerned sources concerned p → may_mean sources facts concerned a ≡ false → AreApart (keys_of_access sources facts a) (keys_of_part sources p)
   apart p a is none key of_access of_part =
-      both (has_key concerned key) (All-contains (λ x. has_key concerned x ≡ true) (keys_of_part sources p) key is of_part) (All-contains IsNoKey (keys_of_access sources facts a) key (none_met a none) of_access)
+      both (has_key concerned key) (All-contains (λ x. has_key concerned x ≡ true) (keys_of_part sources p) key is of_part)
+      (All-contains IsNoKey (keys_of_access sources facts a) key (none_met a none) of_access)
 
   unmeant : (parts : List Part) (a : Access) (n : ℕ) → AreConcerned sources parts concerned → may_mean sources facts concerned a ≡ false → shared_from n (map (λ p. means sources facts p a) parts) ≡ []
   unmeant [] a n are none = refl
@@ -72,5 +73,6 @@ module _ (sources : List Source) (facts : ValueId → Facts) (concerned : List B
       (unmeant parts a (n + 1) (All-tail (IsConcerned sources concerned) p parts are) none)
 
   -- so that there is nothing to add for it
-  pub nothing_added : (parts : List Part) (a : Access) (before : List Entry) → AreConcerned sources parts concerned → may_mean sources facts concerned a ≡ false → before ≡ before ++ joint sources facts parts a
+  pub nothing_added : (parts : List Part) (a : Access) (before : List Entry) → AreConcerned sources parts concerned → may_mean sources facts concerned a ≡ false
+      → before ≡ before ++ joint sources facts parts a
   nothing_added parts a before are none = sym (ap (λ v. before ++ v) (unmeant parts a 0 are none) ∙ append-nil before)

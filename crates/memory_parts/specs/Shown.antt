@@ -63,4 +63,5 @@ pub record IsShown (sources : List Source) (facts : ValueId → Option Facts) (f
 -- this comes first of what is shown at any part, whichever facts the kinds are by
 abbrev pub IsFirstFinding : List Source → Function → Layout → Known → Option RuleFault → Type 0
 IsFirstFinding sources f g k found =
-    (count : ℕ) (facts : ValueId → Option Facts) → AreKindsBy count facts f g k → IsFirst fault_key (IsShown sources facts f (parts_of sources (known_or facts))) found
+    (count : ℕ) (facts : ValueId → Option Facts) → AreKindsBy count facts f g k
+    → IsFirst fault_key (IsShown sources facts f (parts_of sources (known_or facts))) found

@@ -136,7 +136,8 @@ fn index_of_many(
     Ok(Some(index_of(alloc, m, batch)?))
 }
 
-/// What an access means to the parts, each by its number: nothing where it has to do with no value that concerns them. Where there is an index, it tells which are asked.
+/// What an access means to the parts, each by its number: nothing where it has to do with no value that concerns them.
+/// Where there is an index, it tells which are asked.
 fn add_entries(
     entries: &mut Vec<Entry>,
     m: &Memory,
@@ -217,7 +218,8 @@ fn entries_of_each(
     requires concerned { AreConcerned m.now batch.now concerned.now }
     requires index { IfSome index.now (λ rows. IsIndexOf m.now batch.now rows.items) }
     ensures size { IfOk result (λ v. length v ≡ item_count g.now) }
-    ensures entries { IfOk result (λ v. (n : ℕ) → n < item_count g.now → list_at v n ≡ flat_map (joint m.now (facts_of k.now) batch.now) (told_at_item m.now f.now g.now k.now n)) }
+    ensures entries { IfOk result (λ v. (n : ℕ) → n < item_count g.now
+        → list_at v n ≡ flat_map (joint m.now (facts_of k.now) batch.now) (told_at_item m.now f.now g.now k.now n)) }
 {
     let mut all = ItemLists::with_capacity(alloc, g.items())?;
     let mut own = Vec::new(alloc);
@@ -259,7 +261,8 @@ pub(crate) fn entries_by_item(
 ) -> Result<ItemLists<Entry>, Exhausted>
     requires { length batch.now ≤ 1024 }
     ensures size { IfOk result (λ v. length v ≡ item_count g.now) }
-    ensures entries { IfOk result (λ v. (n : ℕ) → n < item_count g.now → list_at v n ≡ flat_map (joint m.now (facts_of k.now) batch.now) (told_at_item m.now f.now g.now k.now n)) }
+    ensures entries { IfOk result (λ v. (n : ℕ) → n < item_count g.now
+        → list_at v n ≡ flat_map (joint m.now (facts_of k.now) batch.now) (told_at_item m.now f.now g.now k.now n)) }
 {
     let mut concerned = [false; ROWS];
     add_parts(&mut concerned, m, batch);

@@ -38,18 +38,21 @@ entry_at sources facts parts a n = entry_if n (means_at sources facts a (slice_g
 
 -- the table of all of them
 abbrev pub batch_table : List Source → (ValueId → Option Facts) → Function → List Part → Item → List Entry
-batch_table sources facts f parts item = flat_map (joint sources (known_or facts) parts) (accesses_of sources facts f item) ++ shared_if (map at_return parts) (is_return f item)
+batch_table sources facts f parts item = flat_map (joint sources (known_or facts) parts) (accesses_of sources facts f item)
+    ++ shared_if (map at_return parts) (is_return f item)
 
 abbrev pub AreReturns : Function → Layout → List Bool → Type 0
 AreReturns f g returns = (i : ℕ) (item : Item) → item_at g i ≡ Some item → slice_index_or returns i false ≡ is_return f item
 
 -- the first of what the parts' table shows
 abbrev pub IsFirstNumber : List Source → Function → Layout → Known → List Part → Option PathFault → Type 0
-IsFirstNumber sources f g k parts fault = (count : ℕ) (facts : ValueId → Option Facts) → AreKindsBy count facts f g k → paths.IsFirst f (batch_table sources facts f parts) fault
+IsFirstNumber sources f g k parts fault = (count : ℕ) (facts : ValueId → Option Facts) → AreKindsBy count facts f g k
+    → paths.IsFirst f (batch_table sources facts f parts) fault
 
 -- the first of what is shown at these parts
 abbrev pub IsFirstAmong : List Source → Function → Layout → Known → List Part → Option RuleFault → Type 0
-IsFirstAmong sources f g k parts found = (count : ℕ) (facts : ValueId → Option Facts) → AreKindsBy count facts f g k → IsFirst fault_key (IsShown sources facts f parts) found
+IsFirstAmong sources f g k parts found = (count : ℕ) (facts : ValueId → Option Facts) → AreKindsBy count facts f g k
+    → IsFirst fault_key (IsShown sources facts f parts) found
 
 -- none has a lesser subject than one before it
 abbrev pub AreRising : List Part → Type 0

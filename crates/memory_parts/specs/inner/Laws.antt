@@ -13,4 +13,5 @@ use Rattle.memory_parts.specs.declared.part.Part.{Part}
 -- what walks show at a part breaks a rule on memory
 abbrev pub AreOnMemory : Type 0
 AreOnMemory =
-    (sources : List Source) (facts : ValueId → Option Facts) (f : Function) (parts : List Part) (s : RuleFault) → IsShown sources facts f parts s → group_of s.rule ≡ group.Memory
+    (sources : List Source) (facts : ValueId → Option Facts) (f : Function) (parts : List Part) (s : RuleFault) → IsShown sources facts f parts s
+    → group_of s.rule ≡ group.Memory

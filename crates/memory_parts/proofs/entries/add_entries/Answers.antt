@@ -15,4 +15,5 @@ add_by_index-requires c =
 
 pub returns-then-not-may_mean : goal.returns-then-not-may_mean
 returns-then-not-may_mean c =
-    nothing_added c.args.m.now (facts_of c.args.k.now) c.args.concerned.now c.args.batch.now c.args.access c.args.entries.now.items c.requires.concerned (sym c.may_mean.ensures ∙ c.if-not-may_mean.true)
+    nothing_added c.args.m.now (facts_of c.args.k.now) c.args.concerned.now c.args.batch.now c.args.access c.args.entries.now.items c.requires.concerned
+    (sym c.may_mean.ensures ∙ c.if-not-may_mean.true)

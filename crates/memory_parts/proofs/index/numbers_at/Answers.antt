@@ -19,4 +19,5 @@ pub returns-clause-all : goal.returns-clause-all
 returns-clause-all c =
     let whole : take c.loop-key.key-index c.args.keys.now ≡ c.args.keys.now = take_all c.loop-key.key-index c.args.keys.now (omega arith) in
     all_sorted c.args.rows.now c.args.keys.now c.loop-key.numbers.items c.sort.new.self.items c.dedup.new.self.items
-    (subst (λ (v : List Key). HasAll c.args.rows.now v c.loop-key.numbers.items) whole c.loop-key.invariant) c.in_ok-sort.ensures.permutation (dedup_is eqb c.sort.new.self.items c.dedup.new.self.items c.dedup.ensures.filtered)
+    (subst (λ (v : List Key). HasAll c.args.rows.now v c.loop-key.numbers.items) whole c.loop-key.invariant) c.in_ok-sort.ensures.permutation
+    (dedup_is eqb c.sort.new.self.items c.dedup.new.self.items c.dedup.ensures.filtered)

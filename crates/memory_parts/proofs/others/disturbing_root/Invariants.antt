@@ -5,4 +5,5 @@ use Rattle.memory_parts.proofs.others.disturbing_root.Given as goal
 
 abbrev pub invariant-loop-access : goal.invariant-loop-access
 invariant-loop-access l =
-    option_and_then (root_of l.m) (find (disturbs l.m (lent_at l.m l.address)) (drop l.access-index l.accesses)) ≡ option_and_then (root_of l.m) (find (disturbs l.m (lent_at l.m l.address)) l.accesses)
+    option_and_then (root_of l.m) (find (disturbs l.m (lent_at l.m l.address)) (drop l.access-index l.accesses))
+    ≡ option_and_then (root_of l.m) (find (disturbs l.m (lent_at l.m l.address)) l.accesses)
