@@ -4,7 +4,6 @@
 
 mod build;
 mod exits;
-mod fault;
 mod graph;
 mod item;
 mod laws;
@@ -13,7 +12,6 @@ mod linked;
 mod returns;
 
 pub use exits::is_exit;
-pub use fault::{RuleEnd, RuleFault};
 pub use graph::Graph;
 pub use item::Item;
 pub use laws::{graph_has_the_trails_of_its_function, splicing};

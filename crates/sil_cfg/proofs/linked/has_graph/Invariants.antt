@@ -1,4 +1,4 @@
-use Rattle.std.proofs.Common.{◌≡◌, take, All}
+use Rattle.std.proofs.Common.{take, All}
 use Rattle.sil_cfg.specs.Build.{IsBlockLinked}
 use Rattle.sil_cfg.proofs.linked.has_graph.Given as goal
 
