@@ -1,5 +1,6 @@
 -- The nearest crossing of the first slot that has one is the first of what walks show.
-use Rattle.std.proofs.Common.{◌≡◌, ◌≢◌, ℕ, ◌+◌, ◌<◌, ◌≤◌, List, [], ◌∷◌, ◌++◌, length, take, get_or, refl, sym, ap, ◌∙◌, subst, ◌⊎◌, inl, inr, All, Option, Some, None, Bool, true, false, append_assoc, arith}
+use Rattle.std.proofs.Common.{◌≡◌, ◌≢◌, ℕ, ◌+◌, ◌<◌, ◌≤◌, List, [], ◌∷◌, ◌++◌, length, take, get_or, refl, sym, ap, ◌∙◌}
+use Rattle.std.proofs.Common.{subst, ◌⊎◌, inl, inr, All, Option, Some, None, Bool, true, false, append_assoc, arith}
 use Rattle.std.specs.Prelude.{◌==◌, cond, Contains, flat_map}
 use Rattle.std.proofs.lemmas.Bool.{cases_eq, cases_lt}
 use Rattle.std.proofs.lemmas.Grind.{flat_map-append}
@@ -85,7 +86,8 @@ no_second a b same (Mentions v m) e = cc
 
 never_second : (a b : ValueId) → b.0 ≡ a.0 → (accesses : List Access) → All (λ m. m ≢ SecondIn) (marks_in (pair_mark a b) accesses)
 never_second a b same [] = All-nil (λ m. m ≢ SecondIn)
-never_second a b same (x ∷ accesses) = All-append (λ m. m ≢ SecondIn) (one_or_none (pair_mark a b x)) (marks_in (pair_mark a b) accesses) (at (pair_mark a b x) (no_second a b same x)) (never_second a b same accesses)
+never_second a b same (x ∷ accesses) =
+    All-append (λ m. m ≢ SecondIn) (one_or_none (pair_mark a b x)) (marks_in (pair_mark a b) accesses) (at (pair_mark a b x) (no_second a b same x)) (never_second a b same accesses)
   where
     at : (o : Option SlotMark) → (o ≡ Some SecondIn → ⊥) → All (λ m. m ≢ SecondIn) (one_or_none o)
     at None never = All-nil (λ m. m ≢ SecondIn)
@@ -152,10 +154,12 @@ module _ (g : Layout) (f : Function) (is : IsGraphOf g f) (accesses : ℕ → Li
     nearer_shown a b c w code item h after =
         let k = h.breaks in
         let parts : flat_map items (h.before ++ item ∷ []) ≡ (flat_map items h.before ++ k.front) ++ k.mark ∷ k.rest =
-        flat_map-append items h.before (item ∷ []) ∙ ap (λ v. flat_map items h.before ++ v) (append-nil (items item) ∙ k.parts) ∙ sym (append_assoc (flat_map items h.before) k.front (k.mark ∷ k.rest)) in
+        flat_map-append items h.before (item ∷ []) ∙ ap (λ v. flat_map items h.before ++ v) (append-nil (items item) ∙ k.parts)
+        ∙ sym (append_assoc (flat_map items h.before) k.front (k.mark ∷ k.rest)) in
         let out = out_of_first a b c k.mark (late a b (flat_map items h.before) (items item) code k).0 in
         let P : Option SlotMark → Type 0 = λ o. FitsMark IsOrdered (marks_in (pair_mark a c) (flat_map items h.before ++ k.front)) o in
-        earlier_shown (read_step order_step (pair_mark a c)) (FitsRead IsOrdered (pair_mark a c)) (read_code code_of (pair_mark a c)) (pair_decides a c) items (flow_of f) w (h.before ++ item ∷ []) h.trail
+        earlier_shown (read_step order_step (pair_mark a c)) (FitsRead IsOrdered (pair_mark a c)) (read_code code_of (pair_mark a c)) (pair_decides a c) items (flow_of f) w
+        (h.before ++ item ∷ []) h.trail
         (flat_map items h.before ++ k.front) k.rest k.mark parts (λ fits. (subst P out fits) after)
 
     -- so no slot that is nearer is later there
@@ -175,7 +179,8 @@ module _ (g : Layout) (f : Function) (is : IsGraphOf g f) (accesses : ℕ → Li
     is_listed : (v : ValueId) → IsSlot sources v → Contains slots v
     is_listed v slot = are.all v (slot_within sources v slot) slot
 
-    nearest_shown : (facts : ValueId → Option Facts) → AgreesWith g accesses (accesses_of sources facts f) → (c : Crossing) → Contains slots c.first → IsNearestCrossing g accesses c.first slots c → IsCrossing sources facts f c
+    nearest_shown : (facts : ValueId → Option Facts) → AgreesWith g accesses (accesses_of sources facts f) → (c : Crossing) → Contains slots c.first → IsNearestCrossing g accesses c.first slots c
+        → IsCrossing sources facts f c
     nearest_shown facts agrees c there h =
         let items = accesses_of sources facts f in
         let r = h.reaches in
@@ -204,9 +209,11 @@ module _ (g : Layout) (f : Function) (is : IsGraphOf g f) (accesses : ℕ → Li
       pub none_first : All (λ a. All (IsUncrossed g accesses a) slots) slots → IsFirstCrossing sources f g k None
       none_first clean count facts by c s =
           let r = crossing_reached facts (agree count facts by) c s in
-          All-contains (IsUncrossed g accesses c.first) slots s.second (All-contains (λ a. All (IsUncrossed g accesses a) slots) slots c.first clean (is_listed c.first s.is_first)) (is_listed s.second s.is_second) c.walk crossing_code r.0 r.1
+          All-contains (IsUncrossed g accesses c.first) slots s.second (All-contains (λ a. All (IsUncrossed g accesses a) slots) slots c.first clean (is_listed c.first s.is_first))
+          (is_listed s.second s.is_second) c.walk crossing_code r.0 r.1
 
-      pub nearest_first : (first : ValueId) (c : Crossing) → Contains slots first → IsNearestCrossing g accesses first slots c → ((a : ValueId) → Contains slots a → a.0 < first.0 → All (IsUncrossed g accesses a) slots) →
+      pub nearest_first : (first : ValueId) (c : Crossing) → Contains slots first → IsNearestCrossing g accesses first slots c →
+          ((a : ValueId) → Contains slots a → a.0 < first.0 → All (IsUncrossed g accesses a) slots) →
           IsFirstCrossing sources f g k (Some c)
       nearest_first first c there h clean count facts by = record {
         shown = nearest_shown facts (agree count facts by) c (subst (Contains slots) (sym h.first_is) there) (subst (λ a. IsNearestCrossing g accesses a slots c) (sym h.first_is) h);
@@ -221,21 +228,25 @@ module _ (g : Layout) (f : Function) (is : IsGraphOf g f) (accesses : ℕ → Li
               (λ e.
               let is_first : other.first ≡ first = same_value other.first first (sym e ∙ same) in
               let far : IsFar g accesses first (length c.walk) s.second = All-contains (IsFar g accesses first (length c.walk)) slots s.second h.far (is_listed s.second s.is_second) in
-              first_then (length c.walk) (length other.walk) [] [] (far other.walk crossing_code r.0 (subst (λ a. ReachesFirst (numbered g) (pair_step accesses a s.second) other.walk crossing_code r.0) is_first r.1)) (λ _. tt))
+              first_then (length c.walk) (length other.walk) [] []
+              (far other.walk crossing_code r.0 (subst (λ a. ReachesFirst (numbered g) (pair_step accesses a s.second) other.walk crossing_code r.0) is_first r.1)) (λ _. tt))
             where
               at : (other.first.0 < first.0) ⊎ (first.0 ≤ other.first.0) → c.first.0 ≤ other.first.0
               at (inl lt) =
                   let r = crossing_reached facts (agree count facts by) other s in
-                  absurd (All-contains (IsUncrossed g accesses other.first) slots s.second (clean other.first (is_listed other.first s.is_first) lt) (is_listed s.second s.is_second) other.walk crossing_code r.0 r.1)
+                  absurd (All-contains (IsUncrossed g accesses other.first) slots s.second (clean other.first (is_listed other.first s.is_first) lt) (is_listed s.second s.is_second)
+                  other.walk crossing_code r.0 r.1)
               at (inr le) = let same : c.first.0 ≡ first.0 = ap (λ v. v.0) h.first_is in omega arith
 
       -- behind slots that nothing crosses, one slot more
-      pub found_first : (i : ℕ) (d : ValueId) (o : Option Crossing) (c : Crossing) → i < length slots → All (λ a. All (IsUncrossed g accesses a) slots) (take i slots) → IsNearest g accesses (get_or slots i d) slots o → o ≡ Some c →
+      pub found_first : (i : ℕ) (d : ValueId) (o : Option Crossing) (c : Crossing) → i < length slots → All (λ a. All (IsUncrossed g accesses a) slots) (take i slots) →
+          IsNearest g accesses (get_or slots i d) slots o → o ≡ Some c →
           IsFirstCrossing sources f g k (Some c)
       found_first i d o c lt clean h e =
           nearest_first (get_or slots i d) c (Contains-get_or slots i d lt) (subst (IsNearest g accesses (get_or slots i d) slots) e h)
           (λ a there less. All-contains (λ a. All (IsUncrossed g accesses a) slots) (take i slots) a clean (slot_before slots i d a lt are.ascending there less))
 
-      pub clean_more : (i : ℕ) (d : ValueId) (o : Option Crossing) → i < length slots → All (λ a. All (IsUncrossed g accesses a) slots) (take i slots) → IsNearest g accesses (get_or slots i d) slots o → o ≡ None →
+      pub clean_more : (i : ℕ) (d : ValueId) (o : Option Crossing) → i < length slots → All (λ a. All (IsUncrossed g accesses a) slots) (take i slots) →
+          IsNearest g accesses (get_or slots i d) slots o → o ≡ None →
           All (λ a. All (IsUncrossed g accesses a) slots) (take (i + 1) slots)
       clean_more i d o lt clean h e = All-more (λ a. All (IsUncrossed g accesses a) slots) slots i d lt clean (subst (IsNearest g accesses (get_or slots i d) slots) e h)

@@ -26,9 +26,11 @@ use Rattle.memory_slots.proofs.StacksFollowed.{none_passed, more_passed, passed_
 bad_goes : (P : ℕ → Type 0) (r : Step) (code : ℕ) → r ≡ Bad code → GoesTo P r → ⊥
 bad_goes P r code e h = subst (GoesTo P) e h
 
-module _ (sources : List Source) (ranks : List ℕ) (accesses : ℕ → List Access) (g : Flow ℕ) (stacks : ℕ → Option (List ValueId)) (a : ValueId) (nested : (b : ℕ) → IsBlockNested sources ranks accesses g stacks b a) where
+module _ (sources : List Source) (ranks : List ℕ) (accesses : ℕ → List Access) (g : Flow ℕ) (stacks : ℕ → Option (List ValueId)) (a : ValueId)
+    (nested : (b : ℕ) → IsBlockNested sources ranks accesses g stacks b a) where
   -- along a walk from a known stack
-  walk_passed : (b : ℕ) (w : List EdgeId) (stack : List ValueId) → stacks b ≡ Some stack → IsWalkFrom g b w → (last : List ValueId) × (stacks (end_from g b w) ≡ Some last) × Passes sources ranks accesses stack (passed g w) last a
+  walk_passed : (b : ℕ) (w : List EdgeId) (stack : List ValueId) → stacks b ≡ Some stack → IsWalkFrom g b w
+      → (last : List ValueId) × (stacks (end_from g b w) ≡ Some last) × Passes sources ranks accesses stack (passed g w) last a
   walk_passed b [] stack known h = (stack, known, none_passed ranks sources accesses stack a)
   walk_passed b (e ∷ w) stack known h =
       let s = nested e.block.0 stack (ap stacks h.0 ∙ known) in
@@ -63,17 +65,21 @@ some_is None h = absurd (no h)
     no e = cc
 some_is (Some x) h = (x, refl)
 
-pub nested_uncrossed : (sources : List Source) (ranks : List ℕ) (accesses : ℕ → List Access) (g : Layout) (stacks : List (Option (Vec ValueId Global))) → length stacks ≤ block_count (numbered g) → IsSome (stack_at stacks 0) → (a : ValueId) →
-    ((b : ℕ) → b < block_count (numbered g) → IsBlockNested sources ranks accesses (numbered g) (stack_at stacks) b a) → IsSlot sources a → (b : ValueId) → IsSlot sources b → IsUncrossed g accesses a b
+pub nested_uncrossed : (sources : List Source) (ranks : List ℕ) (accesses : ℕ → List Access) (g : Layout) (stacks : List (Option (Vec ValueId Global))) → length stacks ≤ block_count (numbered g) →
+    IsSome (stack_at stacks 0) → (a : ValueId) →
+    ((b : ℕ) → b < block_count (numbered g) → IsBlockNested sources ranks accesses (numbered g) (stack_at stacks) b a) → IsSlot sources a → (b : ValueId) → IsSlot sources b
+    → IsUncrossed g accesses a b
 nested_uncrossed sources ranks accesses g stacks few some a nested sa b sb w code item h =
     let start = some_is (stack_at stacks 0) some in
-    nested_clean sources ranks accesses (numbered g) (stack_at stacks) a (λ n. everywhere n (cases_lt n (block_count (numbered g)))) start.0 start.1 b sa sb w h.before item code h.trail.count h.state h.trail.walk h.trail.items h.clean h.breaks
+    nested_clean sources ranks accesses (numbered g) (stack_at stacks) a (λ n. everywhere n (cases_lt n (block_count (numbered g)))) start.0 start.1 b sa sb w h.before item code h.trail.count h.state
+    h.trail.walk h.trail.items h.clean h.breaks
   where
     everywhere : (n : ℕ) → (n < block_count (numbered g)) ⊎ (block_count (numbered g) ≤ n) → IsBlockNested sources ranks accesses (numbered g) (stack_at stacks) n a
     everywhere n (inl lt) = nested n lt
     everywhere n (inr le) = λ stack known. absurd (none_some stack (sym (ap (λ o. items_in (unwrap_or o None)) (slice_get_past stacks n (omega arith))) ∙ known))
 
-pub edge_nested : (sources : List Source) (ranks : List ℕ) (accesses : ℕ → List Access) (g : Flow ℕ) (stacks : ℕ → Option (List ValueId)) (stack last : List ValueId) (e : EdgeId) (a : ValueId) (o : Option (List ValueId)) → o ≡ stacks (edge_to g e) →
+pub edge_nested : (sources : List Source) (ranks : List ℕ) (accesses : ℕ → List Access) (g : Flow ℕ) (stacks : ℕ →
+    Option (List ValueId)) (stack last : List ValueId) (e : EdgeId) (a : ValueId) (o : Option (List ValueId)) → o ≡ stacks (edge_to g e) →
     Meets last o a → Passes sources ranks accesses stack (edge_item g e ∷ []) last a → IsEdgeNested sources ranks accesses g stacks stack e a
 edge_nested sources ranks accesses g stacks stack last e a None known meets h = absurd meets
 edge_nested sources ranks accesses g stacks stack last e a (Some target) known meets h = record {
@@ -82,7 +88,8 @@ edge_nested sources ranks accesses g stacks stack last e a (Some target) known m
   passes = passed_within ranks sources accesses stack last target (edge_item g e ∷ []) a meets h;
 }
 
-pub block_nested : (sources : List Source) (ranks : List ℕ) (accesses : ℕ → List Access) (g : Flow ℕ) (stacks : ℕ → Option (List ValueId)) (b : ℕ) (stack last : List ValueId) (a : ValueId) → Some stack ≡ stacks b → Passes sources ranks accesses stack (items_at g b) last a →
+pub block_nested : (sources : List Source) (ranks : List ℕ) (accesses : ℕ → List Access) (g : Flow ℕ) (stacks : ℕ → Option (List ValueId)) (b : ℕ) (stack last : List ValueId) (a : ValueId) →
+    Some stack ≡ stacks b → Passes sources ranks accesses stack (items_at g b) last a →
     ((i : ℕ) → IsEdge g (edge_id b i) → IsEdgeNested sources ranks accesses g stacks last (edge_id b i) a) → IsBlockNested sources ranks accesses g stacks b a
 block_nested sources ranks accesses g stacks b stack last a here passes edges other known =
     subst (λ l. IsStackNested sources ranks accesses g stacks b l a) (ap (λ o. unwrap_or o []) (here ∙ known)) (record { last = last; passes = passes; edges = edges })

@@ -55,7 +55,8 @@ module _ (g : Layout) (accesses : ℕ → List Access) (first : ValueId) where
       at None s e = absurd (go-bad s code e)
       at (Some mark) s e = one_code s mark code e
 
-  pub pair_found : (second : ValueId) (walk : List EdgeId) (point : PointId) (code : ℕ) → ReachesPoint g (pair_step accesses first second) walk code point → IsShortest (numbered g) (pair_step accesses first second) code walk →
+  pub pair_found : (second : ValueId) (walk : List EdgeId) (point : PointId) (code : ℕ) → ReachesPoint g (pair_step accesses first second) walk code point →
+      IsShortest (numbered g) (pair_step accesses first second) code walk →
       IsPairCrossing g accesses first second (record { first = first; walk = walk; point = point; other = second })
   pair_found second walk point code h shortest =
       let four : code ≡ crossing_code = pair_code second walk code h.item h.reaches in
@@ -74,7 +75,8 @@ module _ (g : Layout) (accesses : ℕ → List Access) (first : ValueId) where
     first_is = n.first_is;
     other = subst (Contains (seen ++ s ∷ [])) (sym n.other_is) (Contains-push seen s);
     reaches = subst (λ v. ReachesPoint g (pair_step accesses first v) c.walk crossing_code c.point) (sym n.other_is) n.reaches;
-    far = All-push (IsFar g accesses first (length c.walk)) seen s (All-weaker (IsUncrossed g accesses first) (IsFar g accesses first (length c.walk)) (λ b u w code item r. absurd (u w code item r)) seen h) n.far;
+    far = All-push (IsFar g accesses first (length c.walk)) seen s
+        (All-weaker (IsUncrossed g accesses first) (IsFar g accesses first (length c.walk)) (λ b u w code item r. absurd (u w code item r)) seen h) n.far;
     farther = All-push (λ b. b.0 < c.other.0 → IsFar g accesses first (length c.walk + 1) b) seen s
         (All-weaker (IsUncrossed g accesses first) (λ b. b.0 < c.other.0 → IsFar g accesses first (length c.walk + 1) b) (λ b u lt w code item r. absurd (u w code item r)) seen h)
         (λ lt. let same : c.other.0 ≡ s.0 = ap (λ v. v.0) n.other_is in absurd (omega arith));
@@ -91,7 +93,8 @@ module _ (g : Layout) (accesses : ℕ → List Access) (first : ValueId) where
     other = subst (Contains (seen ++ s ∷ [])) (sym n.other_is) (Contains-push seen s);
     reaches = subst (λ v. ReachesPoint g (pair_step accesses first v) c.walk crossing_code c.point) (sym n.other_is) n.reaches;
     far = All-push (IsFar g accesses first (length c.walk)) seen s
-        (All-weaker (IsFar g accesses first (length best.walk)) (IsFar g accesses first (length c.walk)) (λ b u w code item r. let le : length best.walk ≤ length w = u w code item r in let lt : length c.walk < length best.walk = p.0 in omega arith) seen h.far) n.far;
+        (All-weaker (IsFar g accesses first (length best.walk)) (IsFar g accesses first (length c.walk)) (λ b u w code item r. let le : length best.walk ≤ length w = u w code item r in
+        let lt : length c.walk < length best.walk = p.0 in omega arith) seen h.far) n.far;
     farther = All-push (λ b. b.0 < c.other.0 → IsFar g accesses first (length c.walk + 1) b) seen s
         (All-weaker (IsFar g accesses first (length best.walk)) (λ b. b.0 < c.other.0 → IsFar g accesses first (length c.walk + 1) b)
         (λ b u less w code item r. let le : length best.walk ≤ length w = u w code item r in let lt : length c.walk < length best.walk = p.0 in omega arith) seen h.far)
@@ -101,7 +104,8 @@ module _ (g : Layout) (accesses : ℕ → List Access) (first : ValueId) where
     first_is = h.first_is;
     other = Contains-append_left seen (s ∷ []) best.other h.other;
     reaches = h.reaches;
-    far = All-push (IsFar g accesses first (length best.walk)) seen s h.far (λ w code item r. let le : length c.walk ≤ length w = n.far w code item r in let at_most : length best.walk ≤ length c.walk = p.0 in omega arith);
+    far = All-push (IsFar g accesses first (length best.walk)) seen s h.far (λ w code item r. let le : length c.walk ≤ length w = n.far w code item r in
+        let at_most : length best.walk ≤ length c.walk = p.0 in omega arith);
     farther = All-push (λ b. b.0 < best.other.0 → IsFar g accesses first (length best.walk + 1) b) seen s h.farther
         (λ less. let lt : best.other.0 < s.0 = All-contains (λ (b : ValueId). b.0 < s.0) seen best.other below h.other in absurd (omega arith));
   })

@@ -32,14 +32,16 @@ slots_put sources n slots s place is h = record {
   each = All-push (IsSlot sources) slots s h.each is;
   all = λ v lt slot. at v lt slot (cases_eq v.0 n);
   below = All-push (λ (v : ValueId). v.0 < n + 1) slots s (All-weaker (λ (v : ValueId). v.0 < n) (λ (v : ValueId). v.0 < n + 1) (λ v lt. omega arith) slots h.below) (omega arith);
-  ascending = all_pairs_push (λ (a b : ValueId). a.0 < b.0) slots s h.ascending (λ k d lt. let less : (get_or slots k d).0 < n = All-get_or (λ (v : ValueId). v.0 < n) slots k d lt h.below in omega arith);
+  ascending =
+      all_pairs_push (λ (a b : ValueId). a.0 < b.0) slots s h.ascending (λ k d lt. let less : (get_or slots k d).0 < n = All-get_or (λ (v : ValueId). v.0 < n) slots k d lt h.below in omega arith);
 }
   where
     at : (v : ValueId) → v.0 < n + 1 → IsSlot sources v → (v.0 ≡ n) ⊎ (v.0 ≢ n) → Contains (slots ++ s ∷ []) v
     at v lt slot (inl e) = subst (Contains (slots ++ s ∷ [])) (same_value s v (place ∙ sym e)) (Contains-push slots s)
     at v lt slot (inr ne) = Contains-append_left slots (s ∷ []) v (h.all v (omega arith) slot)
 
-pub slots_left : (sources : List Source) (n : ℕ) (slots : List ValueId) → is_slot_source (unwrap_or (slice_get sources n) source.Other) ≡ false → AreSlots sources n slots → AreSlots sources (n + 1) slots
+pub slots_left : (sources : List Source) (n : ℕ) (slots : List ValueId) → is_slot_source (unwrap_or (slice_get sources n) source.Other) ≡ false → AreSlots sources n slots
+    → AreSlots sources (n + 1) slots
 slots_left sources n slots none h = record {
   each = h.each;
   all = λ v lt slot. at v lt slot (cases_eq v.0 n);
@@ -61,7 +63,8 @@ slot_within sources v is = at (cases_lt v.0 (length sources))
 
 -- a slot with a lesser number stands before
 pub slot_before : (slots : List ValueId) (i : ℕ) (d a : ValueId) → i < length slots → AllPairs (λ a b. a.0 < b.0) slots → Contains slots a → a.0 < (get_or slots i d).0 → Contains (take i slots) a
-slot_before slots i d a lt ascending there less = All-contains (λ (v : ValueId). v.0 < (get_or slots i d).0 → Contains (take i slots) v) slots a (All-from_get_or (λ (v : ValueId). v.0 < (get_or slots i d).0 → Contains (take i slots) v) slots d place) there less
+slot_before slots i d a lt ascending there less = All-contains (λ (v : ValueId). v.0 < (get_or slots i d).0 → Contains (take i slots) v) slots a
+    (All-from_get_or (λ (v : ValueId). v.0 < (get_or slots i d).0 → Contains (take i slots) v) slots d place) there less
   where
     place : (k : ℕ) → k < length slots → (get_or slots k d).0 < (get_or slots i d).0 → Contains (take i slots) (get_or slots k d)
     place k within e = at (cases_lt k i) (cases_lt i k)

@@ -52,7 +52,8 @@ pub not_in : (v : ValueId) (xs : List Access) → has_slot v xs ≡ false → Al
 not_in v xs e i d lt same = true_not_false (sym (list_any_at (λ x. is_in v.0 (slot_in x)) xs i d lt (ap (is_in v.0) same ∙ eq-eqb v.0 v.0 refl)) ∙ e)
 
 -- one access more
-pub touched_put : (slots : List ValueId) (xs : List Access) (i : ℕ) (d : Access) (old new : List ℕ) → i < length xs → HasTouched slots (take i xs) old → IsPut slots (get_or xs i d) old new → HasTouched slots (take (i + 1) xs) new
+pub touched_put : (slots : List ValueId) (xs : List Access) (i : ℕ) (d : Access) (old new : List ℕ) → i < length xs → HasTouched slots (take i xs) old → IsPut slots (get_or xs i d) old new
+    → HasTouched slots (take (i + 1) xs) new
 touched_put slots xs i d old new lt h (inl p) u e lu none =
     All-more (λ x. slot_in x ≢ Some (get_or slots u e).0) xs i d lt (h u e lu (λ c. none (subst (λ l. Contains l u) (sym p.3) (Contains-append_left old (p.0 ∷ []) u c))))
     (λ same. none (subst (λ l. Contains l u) (sym p.3) (subst (Contains (old ++ p.0 ∷ [])) (sym (p.2 u e lu same)) (Contains-push old p.0))))
@@ -79,13 +80,15 @@ module _ (slots : List ValueId) (value : ℕ) (ascending : AllPairs (λ a b. a.0
       at (inr l) (inl m) = absurd (let less : (get_or slots place d).0 < (get_or slots k d).0 = ascending place k d m within in let there = here d in omega arith)
       at (inr l) (inr m) = omega arith
 
-  pub no_place : (place : ℕ) → ((k : ℕ) (d : ValueId) → k < place → (get_or slots k d).0 < value) → (place < length slots → (d : ValueId) → value < (get_or slots place d).0) → (k : ℕ) (d : ValueId) → k < length slots → (get_or slots k d).0 ≢ value
+  pub no_place : (place : ℕ) → ((k : ℕ) (d : ValueId) → k < place → (get_or slots k d).0 < value) → (place < length slots → (d : ValueId) → value < (get_or slots place d).0) → (k : ℕ) (d : ValueId)
+      → k < length slots → (get_or slots k d).0 ≢ value
   no_place place low high k d within e = at (cases_lt k place) (cases_lt place k)
     where
       at : (k < place) ⊎ (place ≤ k) → (place < k) ⊎ (k ≤ place) → ⊥
       at (inl l) m = let less = low k d l in omega arith
       at (inr l) (inl m) = let less : (get_or slots place d).0 < (get_or slots k d).0 = ascending place k d m within in let more = high (omega arith) d in omega arith
-      at (inr l) (inr m) = let same : k ≡ place = omega arith in let equal : (get_or slots k d).0 ≡ (get_or slots place d).0 = ap (λ n. (get_or slots n d).0) same in let more = high (omega arith) d in omega arith
+      at (inr l) (inr m) = let same : k ≡ place = omega arith in let equal : (get_or slots k d).0 ≡ (get_or slots place d).0 = ap (λ n. (get_or slots n d).0) same in
+          let more = high (omega arith) d in omega arith
 
   pub nondecreasing : IsNonDecreasingBy (λ v. v.0) slots
   nondecreasing i j d le within = at (cases_eq i j)

@@ -37,10 +37,12 @@ pub is_top_there : (stack : List ValueId) (top slot : ValueId) → Some top ≡ 
 is_top_there stack top slot e same =
     let there = top_there stack top e in
     let more : length stack - 1 + 1 ≡ length stack = (let lt = there.0 in omega arith) in
-    sym (take_all (length stack - 1 + 1) stack (omega arith)) ∙ (take_at_read stack (length stack - 1) top there.0).1 ∙ ap (λ v. take (length stack - 1) stack ++ v ∷ []) (there.1 top ∙ same_value top slot same)
+    sym (take_all (length stack - 1 + 1) stack (omega arith)) ∙ (take_at_read stack (length stack - 1) top there.0).1
+    ∙ ap (λ v. take (length stack - 1) stack ++ v ∷ []) (there.1 top ∙ same_value top slot same)
 
 module _ (ranks : List ℕ) where
-  pub above_all : (stack : List ValueId) (top slot : ValueId) → Some top ≡ slice_get stack (length stack - 1) → rank_at ranks top < rank_at ranks slot → AreRising ranks stack → All (λ u. rank_at ranks u < rank_at ranks slot) stack
+  pub above_all : (stack : List ValueId) (top slot : ValueId) → Some top ≡ slice_get stack (length stack - 1) → rank_at ranks top < rank_at ranks slot → AreRising ranks stack
+      → All (λ u. rank_at ranks u < rank_at ranks slot) stack
   above_all stack top slot e less rising k d within = at (cases_lt k (length stack - 1))
     where
       last : rank_at ranks (get_or stack (length stack - 1) d) ≡ rank_at ranks top
@@ -48,7 +50,8 @@ module _ (ranks : List ℕ) where
 
       at : (k < length stack - 1) ⊎ (length stack - 1 ≤ k) → rank_at ranks (get_or stack k d) < rank_at ranks slot
       at (inl lt) = let low : rank_at ranks (get_or stack k d) < rank_at ranks (get_or stack (length stack - 1) d) = rising k (length stack - 1) d lt (omega arith) in omega (arith, last)
-      at (inr le) = let same : k ≡ length stack - 1 = omega arith in let here : rank_at ranks (get_or stack k d) ≡ rank_at ranks (get_or stack (length stack - 1) d) = ap (λ n. rank_at ranks (get_or stack n d)) same in omega (arith, last)
+      at (inr le) = let same : k ≡ length stack - 1 = omega arith in
+          let here : rank_at ranks (get_or stack k d) ≡ rank_at ranks (get_or stack (length stack - 1) d) = ap (λ n. rank_at ranks (get_or stack n d)) same in omega (arith, last)
 
   pub rising_push : (stack : List ValueId) (v : ValueId) → AreRising ranks stack → All (λ u. rank_at ranks u < rank_at ranks v) stack → AreRising ranks (stack ++ v ∷ [])
   rising_push stack v rising below = all_pairs_push (λ (x y : ValueId). rank_at ranks x < rank_at ranks y) stack v rising (λ k d lt. below k d lt)
@@ -78,7 +81,8 @@ module _ (sources : List Source) (ranks : List ℕ) where
   pub none_kept : (stack : List ValueId) (d : Doubts) → AreFollowed sources ranks stack [] stack d d
   none_kept stack d = record { keeps = λ v t. t; rising = λ r. r; follows = λ r a t sa b sb s h. h }
 
-  pub quiet_kept : (x : Access) (stack : List ValueId) (d : Doubts) → ((a : ValueId) → IsSlot sources a → (b : ValueId) → IsSlot sources b → pair_mark a b x ≡ None) → AreFollowed sources ranks stack (x ∷ []) stack d d
+  pub quiet_kept : (x : Access) (stack : List ValueId) (d : Doubts) → ((a : ValueId) → IsSlot sources a → (b : ValueId) → IsSlot sources b → pair_mark a b x ≡ None)
+      → AreFollowed sources ranks stack (x ∷ []) stack d d
   quiet_kept x stack d none = record { keeps = λ v t. t; rising = λ r. r; follows = λ r a t. quiet ranks sources x stack a (none a) }
 
   pub not_entered_kept : (v : ValueId) (stack : List ValueId) (d : Doubts) → (IsSlot sources v → ⊥) → AreFollowed sources ranks stack (Allocates v ∷ []) stack d d
@@ -101,7 +105,8 @@ module _ (sources : List Source) (ranks : List ℕ) where
       at a r differs (inr e) = absurd (differs (ap (λ (x : ValueId). x.0) (sym e)))
 
   -- one that has a greater rank than all
-  pub pushed : (v : ValueId) (old : List ValueId) (d : Doubts) → (AreRising ranks old → All (λ u. rank_at ranks u < rank_at ranks v) old) → AreFollowed sources ranks old (Allocates v ∷ []) (old ++ v ∷ []) d d
+  pub pushed : (v : ValueId) (old : List ValueId) (d : Doubts) → (AreRising ranks old → All (λ u. rank_at ranks u < rank_at ranks v) old)
+      → AreFollowed sources ranks old (Allocates v ∷ []) (old ++ v ∷ []) d d
   pushed v old d above = record {
     keeps = λ v t. t;
     rising = λ r. rising_push ranks old v r (above r);
@@ -137,7 +142,8 @@ module _ (sources : List Source) (ranks : List ℕ) where
       stays u other (inr e) = absurd (other (ap (λ (x : ValueId). x.0) (sym e)))
 
   -- one that is in doubt goes out
-  pub doubted_left : (v : ValueId) (old new : List ValueId) (was is : Doubts) → Keeps was is → (IsTrusted is v → ⊥) → (AreRising ranks old → AreRising ranks new) → ((u : ValueId) → u.0 ≢ v.0 → Contains old u → Contains new u) →
+  pub doubted_left : (v : ValueId) (old new : List ValueId) (was is : Doubts) → Keeps was is → (IsTrusted is v → ⊥) → (AreRising ranks old → AreRising ranks new) →
+      ((u : ValueId) → u.0 ≢ v.0 → Contains old u → Contains new u) →
       AreFollowed sources ranks old (Deallocates v ∷ []) new was is
   doubted_left v old new was is keeps doubted rising stays = record {
     keeps = keeps;
@@ -145,13 +151,15 @@ module _ (sources : List Source) (ranks : List ℕ) where
     follows = λ r a t. left ranks sources v old new a stays (λ same b there less. doubted (subst (IsTrusted is) (sym (same_value v a same)) t));
   }
 
-  pub removed_left : (v : ValueId) (old new : List ValueId) (place : ℕ) (was is : Doubts) → Keeps was is → (IsTrusted is v → ⊥) → StandsAt old v place → new ≡ remove old place → AreFollowed sources ranks old (Deallocates v ∷ []) new was is
+  pub removed_left : (v : ValueId) (old new : List ValueId) (place : ℕ) (was is : Doubts) → Keeps was is → (IsTrusted is v → ⊥) → StandsAt old v place → new ≡ remove old place
+      → AreFollowed sources ranks old (Deallocates v ∷ []) new was is
   removed_left v old new place was is keeps doubted stands e =
       doubted_left v old new was is keeps doubted
       (λ r. subst (AreRising ranks) (sym e) (all_pairs_remove (λ (x y : ValueId). rank_at ranks x < rank_at ranks y) old place stands.0 r))
       (λ u other there. subst (λ l. Contains l u) (sym e) (removed_stays old v place stands u other there))
 
-  pub followed_more : (old mid new : List ValueId) (xs ys : List Access) (was now is : Doubts) → AreFollowed sources ranks old xs mid was now → AreFollowed sources ranks mid ys new now is → AreFollowed sources ranks old (xs ++ ys) new was is
+  pub followed_more : (old mid new : List ValueId) (xs ys : List Access) (was now is : Doubts) → AreFollowed sources ranks old xs mid was now → AreFollowed sources ranks mid ys new now is
+      → AreFollowed sources ranks old (xs ++ ys) new was is
   followed_more old mid new xs ys was now is h k = record {
     keeps = λ v t. h.keeps v (k.keeps v t);
     rising = λ r. k.rising (h.rising r);
@@ -165,7 +173,8 @@ module _ (sources : List Source) (ranks : List ℕ) where
     pub passed_item : (old new : List ValueId) (i : ℕ) (was is : Doubts) → AreFollowed sources ranks old (accesses i) new was is → ArePassed sources ranks accesses old (i ∷ []) new was is
     passed_item old new i was is h = record { keeps = h.keeps; rising = h.rising; passes = λ r a t. item_passed ranks sources accesses old new i a (h.follows r a t) }
 
-    pub passed_more : (old mid new : List ValueId) (xs ys : List ℕ) (was now is : Doubts) → ArePassed sources ranks accesses old xs mid was now → ArePassed sources ranks accesses mid ys new now is → ArePassed sources ranks accesses old (xs ++ ys) new was is
+    pub passed_more : (old mid new : List ValueId) (xs ys : List ℕ) (was now is : Doubts) → ArePassed sources ranks accesses old xs mid was now → ArePassed sources ranks accesses mid ys new now is
+        → ArePassed sources ranks accesses old (xs ++ ys) new was is
     passed_more old mid new xs ys was now is h k = record {
       keeps = λ v t. h.keeps v (k.keeps v t);
       rising = λ r. k.rising (h.rising r);

@@ -29,12 +29,14 @@ pub goes_on : {A : Type 0} (f : ℕ → A → Step) (P Q : ℕ → Type 0) (r : 
 goes_on f P Q (Go s) xs h next = next s h
 goes_on f P Q (Bad c) xs h next = absurd h
 
-pub goes_through : {A : Type 0} (f : ℕ → A → Step) (P Q : ℕ → Type 0) (s : ℕ) (xs ys : List A) → GoesTo P (run f (Go s) xs) → ((t : ℕ) → P t → GoesTo Q (run f (Go t) ys)) → GoesTo Q (run f (Go s) (xs ++ ys))
+pub goes_through : {A : Type 0} (f : ℕ → A → Step) (P Q : ℕ → Type 0) (s : ℕ) (xs ys : List A) → GoesTo P (run f (Go s) xs) → ((t : ℕ) → P t → GoesTo Q (run f (Go t) ys))
+    → GoesTo Q (run f (Go s) (xs ++ ys))
 goes_through f P Q s xs ys h next = subst (GoesTo Q) (sym (run-append f (Go s) xs ys)) (goes_on f P Q (run f (Go s) xs) ys h next)
 
 module _ (ranks : List ℕ) where
   -- a stack that has no less
-  pub covers_more : (old new : List ValueId) (a b : ValueId) → (Contains old a → Contains new a) → (Contains old a → Contains old b → Contains new b) → (s : ℕ) → Covers ranks old a b s → Covers ranks new a b s
+  pub covers_more : (old new : List ValueId) (a b : ValueId) → (Contains old a → Contains new a) → (Contains old a → Contains old b → Contains new b) → (s : ℕ) → Covers ranks old a b s
+      → Covers ranks new a b s
   covers_more old new a b fst snd zero h = tt
   covers_more old new a b fst snd (suc zero) h = fst h
   covers_more old new a b fst snd (suc (suc zero)) h = tt
@@ -54,7 +56,8 @@ module _ (ranks : List ℕ) where
         at sa b sb false false ea eb = refl
 
     -- a slot goes in, above the first one
-    pub entered : (v : ValueId) (old new : List ValueId) (a : ValueId) → Contains new v → (Contains old a → (u : ValueId) → Contains old u → Contains new u) → (Contains old a → a.0 ≢ v.0 → rank_at ranks a < rank_at ranks v) →
+    pub entered : (v : ValueId) (old new : List ValueId) (a : ValueId) → Contains new v → (Contains old a → (u : ValueId) → Contains old u → Contains new u) →
+        (Contains old a → a.0 ≢ v.0 → rank_at ranks a < rank_at ranks v) →
         Follows sources ranks old (Allocates v ∷ []) new a
     entered v old new a there stays above sa b sb s h = at (v.0 == a.0) (v.0 == b.0) refl refl s h
       where
@@ -79,7 +82,8 @@ module _ (ranks : List ℕ) where
                 itself : (n : ℕ) → (n == n) ≡ true
                 itself n = search arith
 
-        at : (t u : Bool) → (v.0 == a.0) ≡ t → (v.0 == b.0) ≡ u → (s : ℕ) → Covers ranks old a b s → GoesTo (Covers ranks new a b) (step_in order_step s (cond t (Some FirstIn) (cond u (Some SecondIn) None)))
+        at : (t u : Bool) → (v.0 == a.0) ≡ t → (v.0 == b.0) ≡ u → (s : ℕ) → Covers ranks old a b s
+            → GoesTo (Covers ranks new a b) (step_in order_step s (cond t (Some FirstIn) (cond u (Some SecondIn) None)))
         at true u ea eb zero h = first (eqb-true v.0 a.0 ea)
         at true u ea eb (suc zero) h = more 1 h
         at true u ea eb (suc (suc zero)) h = first (eqb-true v.0 a.0 ea)
@@ -93,7 +97,8 @@ module _ (ranks : List ℕ) where
         at false false ea eb s h = more s h
 
     -- a slot goes out; if it is the first one, none stands above it
-    pub left : (v : ValueId) (old new : List ValueId) (a : ValueId) → ((u : ValueId) → u.0 ≢ v.0 → Contains old u → Contains new u) → (v.0 ≡ a.0 → (b : ValueId) → Contains old b → rank_at ranks a < rank_at ranks b → ⊥) →
+    pub left : (v : ValueId) (old new : List ValueId) (a : ValueId) → ((u : ValueId) → u.0 ≢ v.0 → Contains old u → Contains new u) →
+        (v.0 ≡ a.0 → (b : ValueId) → Contains old b → rank_at ranks a < rank_at ranks b → ⊥) →
         Follows sources ranks old (Deallocates v ∷ []) new a
     left v old new a stays highest sa b sb s h = at (v.0 == a.0) (v.0 == b.0) refl refl s h
       where
@@ -106,7 +111,8 @@ module _ (ranks : List ℕ) where
             itself : (n : ℕ) → (n == n) ≡ true
             itself n = search arith
 
-        at : (t u : Bool) → (v.0 == a.0) ≡ t → (v.0 == b.0) ≡ u → (s : ℕ) → Covers ranks old a b s → GoesTo (Covers ranks new a b) (step_in order_step s (cond t (Some FirstOut) (cond u (Some SecondOut) None)))
+        at : (t u : Bool) → (v.0 == a.0) ≡ t → (v.0 == b.0) ≡ u → (s : ℕ) → Covers ranks old a b s
+            → GoesTo (Covers ranks new a b) (step_in order_step s (cond t (Some FirstOut) (cond u (Some SecondOut) None)))
         at true u ea eb zero h = tt
         at true u ea eb (suc zero) h = tt
         at true u ea eb (suc (suc zero)) h = tt
@@ -122,21 +128,24 @@ module _ (ranks : List ℕ) where
     pub none_followed : (stack : List ValueId) (a : ValueId) → Follows sources ranks stack [] stack a
     none_followed stack a sa b sb s h = h
 
-    pub more_followed : (old mid new : List ValueId) (xs ys : List Access) (a : ValueId) → Follows sources ranks old xs mid a → Follows sources ranks mid ys new a → Follows sources ranks old (xs ++ ys) new a
+    pub more_followed : (old mid new : List ValueId) (xs ys : List Access) (a : ValueId) → Follows sources ranks old xs mid a → Follows sources ranks mid ys new a
+        → Follows sources ranks old (xs ++ ys) new a
     more_followed old mid new xs ys a h k sa b sb s covered = goes_through (Both a b) (Covers ranks mid a b) (Covers ranks new a b) s xs ys (h sa b sb s covered) (λ t on. k sa b sb t on)
 
     module _ (accesses : ℕ → List Access) where
       pub none_passed : (stack : List ValueId) (a : ValueId) → Passes sources ranks accesses stack [] stack a
       none_passed stack a sa b sb s h = h
 
-      pub more_passed : (old mid new : List ValueId) (xs ys : List ℕ) (a : ValueId) → Passes sources ranks accesses old xs mid a → Passes sources ranks accesses mid ys new a → Passes sources ranks accesses old (xs ++ ys) new a
+      pub more_passed : (old mid new : List ValueId) (xs ys : List ℕ) (a : ValueId) → Passes sources ranks accesses old xs mid a → Passes sources ranks accesses mid ys new a
+          → Passes sources ranks accesses old (xs ++ ys) new a
       more_passed old mid new xs ys a h k sa b sb s covered = goes_through (pair_step accesses a b) (Covers ranks mid a b) (Covers ranks new a b) s xs ys (h sa b sb s covered) (λ t on. k sa b sb t on)
 
       pub item_passed : (old new : List ValueId) (i : ℕ) (a : ValueId) → Follows sources ranks old (accesses i) new a → Passes sources ranks accesses old (i ∷ []) new a
       item_passed old new i a h sa b sb s covered = h sa b sb s covered
 
       -- a stack that has all of the last one, if it has the slot
-      pub passed_within : (old mid new : List ValueId) (items : List ℕ) (a : ValueId) → (Contains mid a → All (Contains new) mid) → Passes sources ranks accesses old items mid a → Passes sources ranks accesses old items new a
+      pub passed_within : (old mid new : List ValueId) (items : List ℕ) (a : ValueId) → (Contains mid a → All (Contains new) mid) → Passes sources ranks accesses old items mid a
+          → Passes sources ranks accesses old items new a
       passed_within old mid new items a within h sa b sb s covered =
           on (run (pair_step accesses a b) (Go s) items) (h sa b sb s covered)
         where

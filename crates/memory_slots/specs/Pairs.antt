@@ -40,7 +40,8 @@ module _ (sources : List Source) (facts : ValueId → Option Facts) (f : Functio
   -- some trail along the walk keeps the order of the two up to the item, and breaks it there
   abbrev pub ShowsPair : ValueId → ValueId → List EdgeId → Item → Type 0
   ShowsPair first second walk item =
-      Shows (flow_of f) (accesses_of sources facts f) (FitsRead IsOrdered (pair_mark first second)) (read_code code_of (pair_mark first second)) walk crossing_code item
+      Shows (flow_of f) (accesses_of sources facts f) (FitsRead IsOrdered (pair_mark first second)) (read_code code_of (pair_mark first second))
+      walk crossing_code item
 
   -- behind these accesses the second slot was allocated after the first, and both still are
   abbrev pub IsLaterBehind : List Access → ValueId → ValueId → Type 0
@@ -57,7 +58,8 @@ module _ (sources : List Source) (facts : ValueId → Option Facts) (f : Functio
     pub point : c.point ≡ point_of (flow_of f) item
     pub is_other : IsSlot sources c.other
     pub later : IsLaterBehind (flat_map (accesses_of sources facts f) shows.before ++ shows.breaks.front) c.first c.other
-    pub least : (b : ValueId) → b.0 < c.other.0 → IsSlot sources b → IsLaterBehind (flat_map (accesses_of sources facts f) shows.before ++ shows.breaks.front) c.first b → ⊥
+    pub least : (b : ValueId) → b.0 < c.other.0 → IsSlot sources b
+        → IsLaterBehind (flat_map (accesses_of sources facts f) shows.before ++ shows.breaks.front) c.first b → ⊥
 
 -- by the first slot, then by the number of edges
 abbrev pub crossing_key : Crossing → List ℕ
@@ -65,4 +67,5 @@ crossing_key c = c.first.0 ∷ length c.walk ∷ []
 
 -- this comes first of what walks show of any two slots, whichever facts the kinds are by
 abbrev pub IsFirstCrossing : List Source → Function → Layout → Known → Option Crossing → Type 0
-IsFirstCrossing sources f g k found = (count : ℕ) (facts : ValueId → Option Facts) → AreKindsBy count facts f g k → IsFirst crossing_key (IsCrossing sources facts f) found
+IsFirstCrossing sources f g k found = (count : ℕ) (facts : ValueId → Option Facts) → AreKindsBy count facts f g k
+    → IsFirst crossing_key (IsCrossing sources facts f) found

@@ -52,7 +52,8 @@ fn crossing_in_doubt(
     }
 }
 
-/// The first slot by its number that some walk deallocates while a slot that was allocated after it still is allocated, with a walk of fewest edges, its last point, and the least such later slot there.
+/// The first slot by its number that some walk deallocates while a slot that was allocated after it still is allocated, with a walk of fewest edges,
+/// its last point, and the least such later slot there.
 /// `sources` has what each value is to memory, and `accesses` what each item of the function's graph does, by the item's number.
 pub fn first_crossing(
     alloc: Global,
@@ -64,7 +65,8 @@ pub fn first_crossing(
 ) -> Result<Option<Crossing>, Exhausted>
     requires graph { IsGraphOf g.now f.now }
     requires items { length accesses.now ≡ item_count g.now }
-    requires accesses { (count : ℕ) (facts : value.ValueId → Option Facts) → AreKindsBy count facts f.now g.now k.now → AgreesWith g.now (accesses_at accesses.now) (accesses_of sources.now facts f.now) }
+    requires accesses { (count : ℕ) (facts : value.ValueId → Option Facts) → AreKindsBy count facts f.now g.now k.now
+        → AgreesWith g.now (accesses_at accesses.now) (accesses_of sources.now facts f.now) }
     ensures { IfOk result (IsFirstCrossing sources.now f.now g.now k.now) }
 {
     let listed = slots_of(alloc, sources)?;

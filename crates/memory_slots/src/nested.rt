@@ -85,7 +85,8 @@ fn follow_edge(
     requires edge { IsEdge (numbered g.now) edge }
     requires rising { AreRising ranks.now stack.now }
     ensures keeps { IfOk result (λ _. Keeps doubts.old doubts.new) }
-    ensures nested { IfOk result (λ _. (a : value.ValueId) → IsTrusted doubts.new a → IsEdgeNested sources.now ranks.now (accesses_at accesses.now) (numbered g.now) (stack_at stacks.now) stack.now edge a) }
+    ensures nested { IfOk result (λ _. (a : value.ValueId) → IsTrusted doubts.new a
+        → IsEdgeNested sources.now ranks.now (accesses_at accesses.now) (numbered g.now) (stack_at stacks.now) stack.now edge a) }
 {
     let mut last = Vec::from_slice(alloc, stack)?;
     follow_items(
@@ -116,7 +117,8 @@ fn follow_edges(
     requires block { block.0 < block_count (numbered g.now) }
     requires rising { AreRising ranks.now stack.now }
     ensures keeps { IfOk result (λ _. Keeps doubts.old doubts.new) }
-    ensures nested { IfOk result (λ _. (a : value.ValueId) → IsTrusted doubts.new a → (i : ℕ) → IsEdge (numbered g.now) (edge_id block.0 i) → IsEdgeNested sources.now ranks.now (accesses_at accesses.now) (numbered g.now) (stack_at stacks.now) stack.now (edge_id block.0 i) a) }
+    ensures nested { IfOk result (λ _. (a : value.ValueId) → IsTrusted doubts.new a → (i : ℕ) → IsEdge (numbered g.now) (edge_id block.0 i)
+        → IsEdgeNested sources.now ranks.now (accesses_at accesses.now) (numbered g.now) (stack_at stacks.now) stack.now (edge_id block.0 i) a) }
 {
     for index in 0..g.edges(block) {
         let edge = EdgeId { block, index };
@@ -141,7 +143,8 @@ fn follow_block(
     requires items { length accesses.now ≡ item_count g.now }
     requires block { block.0 < block_count (numbered g.now) }
     ensures keeps { IfOk result (λ _. Keeps doubts.old doubts.new) }
-    ensures nested { IfOk result (λ _. (a : value.ValueId) → IsTrusted doubts.new a → IsBlockNested sources.now ranks.now (accesses_at accesses.now) (numbered g.now) (stack_at stacks.now) block.0 a) }
+    ensures nested { IfOk result (λ _. (a : value.ValueId) → IsTrusted doubts.new a
+        → IsBlockNested sources.now ranks.now (accesses_at accesses.now) (numbered g.now) (stack_at stacks.now) block.0 a) }
 {
     match stack_of(stacks, block) {
         None => Ok(()),
@@ -186,7 +189,8 @@ fn follow_blocks(
     doubts: &mut Doubts,
 ) -> Result<(), Exhausted>
     requires items { length accesses.now ≡ item_count g.now }
-    ensures { IfOk result (λ _. (a : value.ValueId) → IsTrusted doubts.new a → (b : ℕ) → b < block_count (numbered g.now) → IsBlockNested sources.now ranks.now (accesses_at accesses.now) (numbered g.now) (stack_at stacks.now) b a) }
+    ensures { IfOk result (λ _. (a : value.ValueId) → IsTrusted doubts.new a → (b : ℕ) → b < block_count (numbered g.now)
+        → IsBlockNested sources.now ranks.now (accesses_at accesses.now) (numbered g.now) (stack_at stacks.now) b a) }
 {
     for number in 0..g.blocks() {
         follow_block(
@@ -225,7 +229,8 @@ pub fn doubted_slots(
     accesses: &[Vec<Access>],
 ) -> Result<Doubts, Exhausted>
     requires items { length accesses.now ≡ item_count g.now }
-    ensures { IfOk result (λ doubts. (a : value.ValueId) → IsTrusted doubts a → IsSlot sources.now a → (b : value.ValueId) → IsSlot sources.now b → IsUncrossed g.now (accesses_at accesses.now) a b) }
+    ensures { IfOk result (λ doubts. (a : value.ValueId) → IsTrusted doubts a → IsSlot sources.now a → (b : value.ValueId) → IsSlot sources.now b
+        → IsUncrossed g.now (accesses_at accesses.now) a b) }
 {
     let guess = guess_stacks(alloc, g, sources, accesses)?;
     let ranks = guess.ranks.as_slice();

@@ -29,7 +29,8 @@ impl Rivals<'_> {
         requires { item < length self.now.accesses.now }
         ensures ascending { IsStrictlyIncreasing result.now }
         ensures below { All (λ u. u < length self.now.chunk.now.slots.items) result.now }
-        ensures others { (u s : ℕ) → u < length self.now.chunk.now.slots.items → (Contains result.now u → ⊥) → pair_step (accesses_at self.now.accesses.now) self.now.first (slice_index_or self.now.chunk.now.slots.items u self.now.first) s item ≡ Go s }
+        ensures others { (u s : ℕ) → u < length self.now.chunk.now.slots.items → (Contains result.now u → ⊥)
+            → pair_step (accesses_at self.now.accesses.now) self.now.first (slice_index_or self.now.chunk.now.slots.items u self.now.first) s item ≡ Go s }
     {
         if has_slot(self.accesses[item].as_slice(), self.first) {
             self.chunk.all.as_slice()

@@ -59,7 +59,8 @@ fn are_uncrossed(
     Ok(true)
 }
 
-/// Of the slots that cross the first one, the one whose walk has fewest edges, and the least of these. All are searched together; only where one is found, each by itself.
+/// Of the slots that cross the first one, the one whose walk has fewest edges, and the least of these. All are searched together;
+/// only where one is found, each by itself.
 pub fn crossing_of_first(
     alloc: Global,
     g: &Graph,

@@ -91,7 +91,8 @@ fn enter(
 
 /// Takes the slot off the stack. Where it doesn't stand on top, it is in doubt.
 fn leave(slot: ValueId, stack: &mut Vec<ValueId>, doubts: &mut Doubts)
-    ensures { (sources : List source.Source) (ranks : List ℕ) → AreFollowed sources ranks stack.old.items (access.Deallocates slot ∷ []) stack.new.items doubts.old doubts.new }
+    ensures { (sources : List source.Source) (ranks : List ℕ)
+        → AreFollowed sources ranks stack.old.items (access.Deallocates slot ∷ []) stack.new.items doubts.old doubts.new }
 {
     if is_top(stack.as_slice(), slot) {
         stack.pop();

@@ -8,13 +8,15 @@ use Rattle.memory_slots.specs.inner.Nesting.{AreRising, Follows, Passes}
 use Rattle.memory_slots.specs.inner.Trust.{IsTrusted, Keeps}
 
 -- doubts are kept, ranks go on to rise, and the new stack covers each slot that isn't in doubt wherever the old one does
-pub record AreFollowed (sources : List Source) (ranks : List ℕ) (old : List ValueId) (accesses : List Access) (new : List ValueId) (was is : Doubts) : Type 0 where
+pub record AreFollowed (sources : List Source) (ranks : List ℕ) (old : List ValueId) (accesses : List Access) (new : List ValueId)
+    (was is : Doubts) : Type 0 where
   pub keeps : Keeps was is
   pub rising : AreRising ranks old → AreRising ranks new
   pub follows : AreRising ranks old → (a : ValueId) → IsTrusted is a → Follows sources ranks old accesses new a
 
 -- the same along items
-pub record ArePassed (sources : List Source) (ranks : List ℕ) (accesses : ℕ → List Access) (old : List ValueId) (items : List ℕ) (new : List ValueId) (was is : Doubts) : Type 0 where
+pub record ArePassed (sources : List Source) (ranks : List ℕ) (accesses : ℕ → List Access) (old : List ValueId) (items : List ℕ) (new : List ValueId)
+    (was is : Doubts) : Type 0 where
   pub keeps : Keeps was is
   pub rising : AreRising ranks old → AreRising ranks new
   pub passes : AreRising ranks old → (a : ValueId) → IsTrusted is a → Passes sources ranks accesses old items new a

@@ -38,11 +38,13 @@ GoesTo P (Bad code) = ⊥
 -- from each state that the one stack covers the accesses lead to one that the other covers, whichever slot the second is
 abbrev pub Follows : List Source → List ℕ → List ValueId → List Access → List ValueId → ValueId → Type 0
 Follows sources ranks old accesses new a =
-    IsSlot sources a → (b : ValueId) → IsSlot sources b → (s : ℕ) → Covers ranks old a b s → GoesTo (Covers ranks new a b) (run (read_step order_step (pair_mark a b)) (Go s) accesses)
+    IsSlot sources a → (b : ValueId) → IsSlot sources b → (s : ℕ) → Covers ranks old a b s
+    → GoesTo (Covers ranks new a b) (run (read_step order_step (pair_mark a b)) (Go s) accesses)
 
 -- so do the items
 abbrev pub Passes : List Source → List ℕ → (ℕ → List Access) → List ValueId → List ℕ → List ValueId → ValueId → Type 0
-Passes sources ranks accesses old items new a = IsSlot sources a → (b : ValueId) → IsSlot sources b → (s : ℕ) → Covers ranks old a b s → GoesTo (Covers ranks new a b) (run (pair_step accesses a b) (Go s) items)
+Passes sources ranks accesses old items new a = IsSlot sources a → (b : ValueId) → IsSlot sources b → (s : ℕ) → Covers ranks old a b s
+    → GoesTo (Covers ranks new a b) (run (pair_step accesses a b) (Go s) items)
 
 -- the stack at a block's entry, where it is known
 abbrev pub items_in : Option (Vec ValueId Global) → Option (List ValueId)

@@ -55,4 +55,5 @@ IsNearest g accesses first slots (Some c) = IsNearestCrossing g accesses first s
 abbrev pub IsNearer : Option Crossing → Option Crossing → Option Crossing → Type 0
 IsNearer None next result = result ≡ next
 IsNearer (Some best) None result = result ≡ Some best
-IsNearer (Some best) (Some next) result = ((length next.walk < length best.walk) × (result ≡ Some next)) ⊎ ((length best.walk ≤ length next.walk) × (result ≡ Some best))
+IsNearer (Some best) (Some next) result = ((length next.walk < length best.walk) × (result ≡ Some next))
+    ⊎ ((length best.walk ≤ length next.walk) × (result ≡ Some best))

@@ -26,7 +26,8 @@ has_slot v accesses = list_any (λ x. is_in v.0 (slot_in x)) accesses
 -- the access's slot is put in by its place, or it isn't one of these
 abbrev pub IsPut : List ValueId → Access → List ℕ → List ℕ → Type 0
 IsPut slots access old new =
-    ((place : ℕ) × (place < length slots) × ((k : ℕ) (d : ValueId) → k < length slots → slot_in access ≡ Some (get_or slots k d).0 → k ≡ place) × (new ≡ old ++ place ∷ []))
+    ((place : ℕ) × (place < length slots) × ((k : ℕ) (d : ValueId) → k < length slots → slot_in access ≡ Some (get_or slots k d).0 → k ≡ place)
+    × (new ≡ old ++ place ∷ []))
     ⊎ (((k : ℕ) (d : ValueId) → k < length slots → slot_in access ≡ Some (get_or slots k d).0 → ⊥) × (new ≡ old))
 
 -- where a value with this number stands among the slots
@@ -36,7 +37,8 @@ IsPlaceOf slots value (Some place) = (place < length slots) × ((k : ℕ) (d : V
 
 -- a slot whose place isn't one of these is in none of the accesses
 abbrev pub HasTouched : List ValueId → List Access → List ℕ → Type 0
-HasTouched slots accesses places = (u : ℕ) (d : ValueId) → u < length slots → (Contains places u → ⊥) → All (λ x. slot_in x ≢ Some (get_or slots u d).0) accesses
+HasTouched slots accesses places = (u : ℕ) (d : ValueId) → u < length slots → (Contains places u → ⊥)
+    → All (λ x. slot_in x ≢ Some (get_or slots u d).0) accesses
 
 -- numbers below the count, each below the next
 pub record IsRising (count : ℕ) (places : List ℕ) : Type 0 where

@@ -7,8 +7,10 @@ use Rattle.memory_slots.proofs.nearest.nearest_crossing.Goals as goal
 
 pub loop-second-preserved : goal.loop-second-preserved
 loop-second-preserved c =
-    nearest_more c.args.g.now (accesses_at c.args.accesses.now) c.args.first c.args.slots.now c.loop-second.second-index _ c.loop-second-test.true c.requires.ascending c.loop-second.best c.in_ok-next.next c.nearer-best.result
+    nearest_more c.args.g.now (accesses_at c.args.accesses.now) c.args.first c.args.slots.now c.loop-second.second-index _ c.loop-second-test.true c.requires.ascending c.loop-second.best
+    c.in_ok-next.next c.nearer-best.result
     c.loop-second.invariant c.in_ok-next.ensures c.nearer-best.ensures
 
 pub returns : goal.returns
-returns c = subst (λ v. IsNearest c.args.g.now (accesses_at c.args.accesses.now) c.args.first v c.loop-second.best) (take_all c.loop-second.second-index c.args.slots.now (omega arith)) c.loop-second.invariant
+returns c =
+    subst (λ v. IsNearest c.args.g.now (accesses_at c.args.accesses.now) c.args.first v c.loop-second.best) (take_all c.loop-second.second-index c.args.slots.now (omega arith)) c.loop-second.invariant

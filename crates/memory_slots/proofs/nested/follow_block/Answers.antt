@@ -22,5 +22,7 @@ returns-in_ok-follow_edges-in-Some-clause-nested c = λ a t.
     let rising = subst Rises (sym same) (c.are_rising.ensures c.if-not-are_rising.false) in
     let passes = c.in_ok-follow_items-in-Some.ensures.passes rising a (c.in_ok-follow_edges-in-Some.ensures.keeps a t) in
     block_nested sources ranks accesses (numbered c.args.g.now) (stack_at c.args.stacks.now) c.args.block.0 c.in-Some.stack.now new a c.in-Some.ensures
-    (subst (λ (l : List ℕ). Passes sources ranks accesses c.in-Some.stack.now l new a) c.items_of.ensures.items (subst (λ (l : List ValueId). Passes sources ranks accesses l c.items_of.result.now new a) same passes))
-    (λ i is. subst (λ (l : List ValueId). IsEdgeNested sources ranks accesses (numbered c.args.g.now) (stack_at c.args.stacks.now) l (edge_id c.args.block.0 i) a) c.as_slice.ensures.value (c.in_ok-follow_edges-in-Some.ensures.nested a t i is))
+    (subst (λ (l : List ℕ). Passes sources ranks accesses c.in-Some.stack.now l new a) c.items_of.ensures.items
+    (subst (λ (l : List ValueId). Passes sources ranks accesses l c.items_of.result.now new a) same passes))
+    (λ i is. subst (λ (l : List ValueId). IsEdgeNested sources ranks accesses (numbered c.args.g.now) (stack_at c.args.stacks.now) l (edge_id c.args.block.0 i) a) c.as_slice.ensures.value
+    (c.in_ok-follow_edges-in-Some.ensures.nested a t i is))

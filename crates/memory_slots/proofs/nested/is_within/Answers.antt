@@ -8,7 +8,8 @@ use Rattle.memory_slots.proofs.SlotsListed.{same_value}
 use Rattle.memory_slots.proofs.nested.is_within.Goals as goal
 use Rattle.memory_slots.proofs.nested.is_within.Goals.{then-found-stack+then-stack-found, else-found-stack}
 
-one_found : (stack other : List ValueId) (n i m : ℕ) (d e : ValueId) → n < length stack → i < length other → (get_or stack n d).0 ≡ (get_or other i e).0 → m ≡ n + 1 → All (λ u. Contains other u) (take n stack) → All (λ u. Contains other u) (take m stack)
+one_found : (stack other : List ValueId) (n i m : ℕ) (d e : ValueId) → n < length stack → i < length other → (get_or stack n d).0 ≡ (get_or other i e).0 → m ≡ n + 1
+    → All (λ u. Contains other u) (take n stack) → All (λ u. Contains other u) (take m stack)
 one_found stack other n i m d e ln li same more h =
     subst (λ (k : ℕ). All (λ u. Contains other u) (take k stack)) (sym more)
     (All-more (λ u. Contains other u) stack n d ln h (subst (Contains other) (sym (same_value (get_or stack n d) (get_or other i e) same)) (Contains-get_or other i e li)))
@@ -22,7 +23,8 @@ pub loop-slot-preserved : goal.loop-slot-preserved
 loop-slot-preserved c = elim c.if-found-stack.branch [
   | then-found-stack+then-stack-found w ↦ record {
     within = omega (arith, w.found-is, w.if-found-stack.true);
-    all = one_found c.args.stack.now c.args.other.now c.loop-slot.found c.loop-slot.slot-index c.if-found-stack.found _ _ w.if-found-stack.true c.loop-slot-test.true w.if-stack-found.true w.found-is c.loop-slot.invariant.all;
+    all = one_found c.args.stack.now c.args.other.now c.loop-slot.found c.loop-slot.slot-index c.if-found-stack.found _ _ w.if-found-stack.true c.loop-slot-test.true w.if-stack-found.true w.found-is
+        c.loop-slot.invariant.all;
   }
   | else-found-stack w ↦ record {
     within = omega (arith, w.found-is, c.loop-slot.invariant.within);

@@ -10,7 +10,9 @@ pub returns : goal.returns
 returns c = elim c.match-branch-2.branch [
   | in-None w ↦
       subst (λ r. IfOk r (λ clean. IsTrue clean → All (IsUncrossed c.args.g.now (accesses_at c.args.accesses.now) c.args.first) c.args.chunk.now.slots.items)) (sym w.result-is)
-      (λ told. All-from_get_or (IsUncrossed c.args.g.now (accesses_at c.args.accesses.now) c.args.first) c.args.chunk.now.slots.items c.args.first (subst (λ o. IfNone o ((u : ℕ) → u < length c.args.chunk.now.slots.items → IsUncrossed c.args.g.now (accesses_at c.args.accesses.now) c.args.first (get_or c.args.chunk.now.slots.items u c.args.first))) w.in-None.is c.in_ok-first_broken.ensures.none))
+      (λ told. All-from_get_or (IsUncrossed c.args.g.now (accesses_at c.args.accesses.now) c.args.first)
+      c.args.chunk.now.slots.items c.args.first (subst (λ o. IfNone o ((u : ℕ) → u < length c.args.chunk.now.slots.items
+      → IsUncrossed c.args.g.now (accesses_at c.args.accesses.now) c.args.first (get_or c.args.chunk.now.slots.items u c.args.first))) w.in-None.is c.in_ok-first_broken.ensures.none))
   | in-Some w ↦
       subst (λ r. IfOk r (λ clean. IsTrue clean → All (IsUncrossed c.args.g.now (accesses_at c.args.accesses.now) c.args.first) c.args.chunk.now.slots.items)) (sym w.result-is)
       (λ told. cc)

@@ -18,11 +18,14 @@ loop-index-preserved c = elim c.if-is_slot_source.branch [
       let s : ValueId = record { 0 = w.in-Ok.number } in
       let place : w.in-Ok.number ≡ c.loop-index.index = w.in-Ok.ensures.1 in
       let new : c.if-is_slot_source.slots.items ≡ c.loop-index.slots.items ++ s ∷ [] = ap (λ (v : Vec ValueId Global). v.items) w.slots-is ∙ w.in_ok-push.ensures.items in
-      let there = ap (λ o. is_slot_source (unwrap_or o source.Other)) (slice_get-get_or c.args.sources.now c.loop-index.index _ c.loop-index-test.true) ∙ sym c.is_slot_source.ensures ∙ w.if-is_slot_source.true in
+      let there = ap (λ o. is_slot_source (unwrap_or o source.Other)) (slice_get-get_or c.args.sources.now c.loop-index.index _ c.loop-index-test.true) ∙ sym c.is_slot_source.ensures
+      ∙ w.if-is_slot_source.true in
       subst (AreSlots c.args.sources.now (c.loop-index.index + 1)) (sym new)
-      (slots_put c.args.sources.now c.loop-index.index c.loop-index.slots.items s place (ap (λ k. is_slot_source (unwrap_or (slice_get c.args.sources.now k) source.Other)) place ∙ there) c.loop-index.invariant)
+      (slots_put c.args.sources.now c.loop-index.index c.loop-index.slots.items s place (ap (λ k. is_slot_source (unwrap_or (slice_get c.args.sources.now k) source.Other)) place ∙ there)
+      c.loop-index.invariant)
   | else-is_slot_source w ↦
       let same : c.if-is_slot_source.slots.items ≡ c.loop-index.slots.items = ap (λ (v : Vec ValueId Global). v.items) w.slots-is in
       subst (AreSlots c.args.sources.now (c.loop-index.index + 1)) (sym same)
-      (slots_left c.args.sources.now c.loop-index.index c.loop-index.slots.items (ap (λ o. is_slot_source (unwrap_or o source.Other)) (slice_get-get_or c.args.sources.now c.loop-index.index _ c.loop-index-test.true) ∙ sym c.is_slot_source.ensures ∙ w.if-is_slot_source.false) c.loop-index.invariant)
+      (slots_left c.args.sources.now c.loop-index.index c.loop-index.slots.items (ap (λ o. is_slot_source (unwrap_or o source.Other))
+      (slice_get-get_or c.args.sources.now c.loop-index.index _ c.loop-index-test.true) ∙ sym c.is_slot_source.ensures ∙ w.if-is_slot_source.false) c.loop-index.invariant)
 ]

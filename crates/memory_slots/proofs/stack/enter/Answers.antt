@@ -13,7 +13,8 @@ use Rattle.memory_slots.proofs.stack.enter.Goals.{then-not-is_above, else-not-is
 
 pub returns-then-is_top : goal.returns-then-is_top
 returns-then-is_top c =
-    top_entered c.args.sources.now c.args.ranks.now c.args.slot c.args.stack.now.items c.args.doubts.now (subst (λ (l : List ValueId). IsTop l c.args.slot) c.as_slice.ensures.value (c.is_top.ensures c.if-is_top.true))
+    top_entered c.args.sources.now c.args.ranks.now c.args.slot c.args.stack.now.items c.args.doubts.now
+    (subst (λ (l : List ValueId). IsTop l c.args.slot) c.as_slice.ensures.value (c.is_top.ensures c.if-is_top.true))
 
 pub returns : goal.returns
 returns c =

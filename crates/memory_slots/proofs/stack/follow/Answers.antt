@@ -5,4 +5,5 @@ use Rattle.memory_slots.proofs.stack.follow.Goals as goal
 
 pub returns-in-Deallocates : goal.returns-in-Deallocates
 returns-in-Deallocates c =
-    subst (λ (x : Access). AreFollowed c.args.sources.now c.args.ranks.now c.args.stack.now.items (x ∷ []) c.leave.new.stack.items c.args.doubts.now c.leave.new.doubts) (sym c.in-Deallocates.is) (c.leave.ensures c.args.sources.now c.args.ranks.now)
+    subst (λ (x : Access). AreFollowed c.args.sources.now c.args.ranks.now c.args.stack.now.items (x ∷ []) c.leave.new.stack.items c.args.doubts.now c.leave.new.doubts) (sym c.in-Deallocates.is)
+    (c.leave.ensures c.args.sources.now c.args.ranks.now)

@@ -6,7 +6,8 @@ use Rattle.memory_slots.proofs.stack.leave.Goals as goal
 
 pub returns-then-is_top : goal.returns-then-is_top
 returns-then-is_top c = λ sources ranks.
-    top_left sources ranks c.args.slot c.args.stack.now.items c.pop.new.self.items c.args.doubts.now (subst (λ (l : List ValueId). IsTop l c.args.slot) c.as_slice.ensures.value (c.is_top.ensures c.if-is_top.true))
+    top_left sources ranks c.args.slot c.args.stack.now.items c.pop.new.self.items c.args.doubts.now
+    (subst (λ (l : List ValueId). IsTop l c.args.slot) c.as_slice.ensures.value (c.is_top.ensures c.if-is_top.true))
     (c.pop.ensures.rest ∙ ap (λ n. take (n - 1) c.args.stack.now.items) (sym c.as_slice.ensures.len ∙ ap length c.as_slice.ensures.value))
 
 pub returns-in-Some : goal.returns-in-Some

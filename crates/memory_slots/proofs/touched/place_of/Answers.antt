@@ -13,7 +13,8 @@ returns-else-place-slots c =
     let value : ℕ = c.args.value in
     let place : ℕ = c.partition_point-place.result in
     let parts : IsPartitionPoint (λ (v : ValueId). ltb v.0 value ≡ true) (λ (v : ValueId). ltb v.0 value ≡ false) slots place =
-    IsPartitionPoint-from_clause (λ (v : ValueId). ltb v.0 value) slots place c.partition_point-place.ensures.partitioned (IsPartitionedBy-ltb (λ (v : ValueId). v.0) slots value (nondecreasing slots value c.requires)) (λ a r q k. search rules) in
+    IsPartitionPoint-from_clause (λ (v : ValueId). ltb v.0 value) slots place c.partition_point-place.ensures.partitioned
+    (IsPartitionedBy-ltb (λ (v : ValueId). v.0) slots value (nondecreasing slots value c.requires)) (λ a r q k. search rules) in
     let low : (k : ℕ) (d : ValueId) → k < place → (get_or slots k d).0 < value = λ k d lt. ltb-true (get_or slots k d).0 value (parts.0 k d (omega arith) lt) in
     elim c.else-place-slots.branch [
       | else-place-slots-via-then-place-slots+else-slots-place w ↦

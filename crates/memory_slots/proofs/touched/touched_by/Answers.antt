@@ -11,15 +11,18 @@ use Rattle.memory_slots.proofs.touched.touched_by.Goals as goal
 pub loop-access-preserved : goal.loop-access-preserved
 loop-access-preserved c = record {
   below = below_put c.args.slots.now _ c.loop-access.places.items c.put_in.new.places.items c.loop-access.invariant.below c.in_ok-put_in.ensures;
-  all = touched_put c.args.slots.now c.args.accesses.now c.loop-access.access-index _ c.loop-access.places.items c.put_in.new.places.items c.loop-access-test.true c.loop-access.invariant.all c.in_ok-put_in.ensures;
+  all = touched_put c.args.slots.now c.args.accesses.now c.loop-access.access-index _ c.loop-access.places.items c.put_in.new.places.items c.loop-access-test.true
+      c.loop-access.invariant.all c.in_ok-put_in.ensures;
 }
 
 pub returns-clause-rising : goal.returns-clause-rising
 returns-clause-rising c =
-    rising_sorted (length c.args.slots.now) c.loop-access.places.items c.sort.new.self.items c.dedup.new.self.items c.loop-access.invariant.below c.in_ok-sort.ensures.permutation c.in_ok-sort.ensures.sorted (dedup_is eqb c.sort.new.self.items c.dedup.new.self.items c.dedup.ensures.filtered)
+    rising_sorted (length c.args.slots.now) c.loop-access.places.items c.sort.new.self.items c.dedup.new.self.items c.loop-access.invariant.below c.in_ok-sort.ensures.permutation
+    c.in_ok-sort.ensures.sorted (dedup_is eqb c.sort.new.self.items c.dedup.new.self.items c.dedup.ensures.filtered)
 
 pub returns-clause-all : goal.returns-clause-all
 returns-clause-all c =
     let whole : take c.loop-access.access-index c.args.accesses.now ≡ c.args.accesses.now = take_all c.loop-access.access-index c.args.accesses.now (omega arith) in
     touched_sorted c.args.slots.now c.args.accesses.now c.loop-access.places.items c.sort.new.self.items c.dedup.new.self.items
-    (subst (λ (v : List Access). HasTouched c.args.slots.now v c.loop-access.places.items) whole c.loop-access.invariant.all) c.in_ok-sort.ensures.permutation (dedup_is eqb c.sort.new.self.items c.dedup.new.self.items c.dedup.ensures.filtered)
+    (subst (λ (v : List Access). HasTouched c.args.slots.now v c.loop-access.places.items) whole c.loop-access.invariant.all) c.in_ok-sort.ensures.permutation
+    (dedup_is eqb c.sort.new.self.items c.dedup.new.self.items c.dedup.ensures.filtered)

@@ -7,6 +7,7 @@ pub loop-slot-preserved : goal.loop-slot-preserved
 loop-slot-preserved c = record {
   keeps = λ v t. c.loop-slot.invariant.keeps v (c.add.ensures.keeps v t);
   added = All-more (λ a. IsTrusted c.add.new.self a → ⊥) c.args.slots.now c.loop-slot.slot-index _ c.loop-slot-test.true
-      (All-weaker (λ a. IsTrusted c.loop-slot.self a → ⊥) (λ a. IsTrusted c.add.new.self a → ⊥) (λ a no t. no (c.add.ensures.keeps a t)) (take c.loop-slot.slot-index c.args.slots.now) c.loop-slot.invariant.added)
+      (All-weaker (λ a. IsTrusted c.loop-slot.self a → ⊥) (λ a. IsTrusted c.add.new.self a → ⊥) (λ a no t. no (c.add.ensures.keeps a t)) (take c.loop-slot.slot-index c.args.slots.now)
+      c.loop-slot.invariant.added)
       c.add.ensures.added;
 }

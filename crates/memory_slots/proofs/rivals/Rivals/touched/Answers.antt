@@ -33,8 +33,11 @@ returns-else-has_slot-clause-others c = λ u s lu none.
     let same : accesses_at c.args.self.now.chunk.now.touched.items c.args.item ≡ c.as_slice-else-has_slot.result.now =
     accesses_there c.args.self.now.chunk.now.touched.items c.args.item c.index.result.now (omega (arith, c.args.self.now.of.size)) c.index.ensures ∙ sym c.as_slice-else-has_slot.ensures.value in
     let own : accesses_at c.args.self.now.accesses.now c.args.item ≡ c.as_slice.result.now =
-    accesses_there c.args.self.now.accesses.now c.args.item c.index-self-item.result (omega arith) c.index-self-item.is ∙ ap (λ (v : Vec Access Global). v.items) c.index-self-item.is ∙ sym c.as_slice.ensures.value in
-    let outside : has_slot c.args.self.now.first (accesses_at c.args.self.now.accesses.now c.args.item) ≡ false = ap (has_slot c.args.self.now.first) own ∙ sym c.has_slot.ensures ∙ c.if-has_slot.false in
+    accesses_there c.args.self.now.accesses.now c.args.item c.index-self-item.result (omega arith) c.index-self-item.is ∙ ap (λ (v : Vec Access Global). v.items) c.index-self-item.is
+    ∙ sym c.as_slice.ensures.value in
+    let outside : has_slot c.args.self.now.first (accesses_at c.args.self.now.accesses.now c.args.item) ≡ false =
+    ap (has_slot c.args.self.now.first) own ∙ sym c.has_slot.ensures ∙ c.if-has_slot.false in
     let P : List ℕ → Type 0 = λ v. Contains v u in
-    quiet_pair c.args.self.now.first (get_or c.args.self.now.chunk.now.slots.items u c.args.self.now.first) (accesses_at c.args.self.now.accesses.now c.args.item) s (not_in c.args.self.now.first (accesses_at c.args.self.now.accesses.now c.args.item) outside)
+    quiet_pair c.args.self.now.first (get_or c.args.self.now.chunk.now.slots.items u c.args.self.now.first) (accesses_at c.args.self.now.accesses.now c.args.item) s
+    (not_in c.args.self.now.first (accesses_at c.args.self.now.accesses.now c.args.item) outside)
     (c.args.self.now.of.touched c.args.item u c.args.self.now.first lu (λ x. none (subst P same x)))
