@@ -5,7 +5,7 @@ ghost use Rattle.sil_cfg.specs.Build.{IsGraphOf};
 ghost use Rattle.point_checks.specs.inner.Numbered.{IsOfNumberedModule};
 ghost use Rattle.memory_accesses.specs.Sources.{sources_of};
 ghost use Rattle.memory_rules.specs.Broken.{IsFirstBreak};
-ghost use Rattle.memory_rules.specs.inner.Ends.{AreStaticsKept, IsMemoryEnd, IsMemoryKept, IsStaticEnd};
+ghost use Rattle.memory_rules.specs.inner.Ends.{IsMemoryEnd, IsMemoryKept};
 
 use crate::statics::first_static;
 use crate::walks::first_on_walks;
@@ -59,21 +59,5 @@ pub fn check(
         Ok(None) => Ok(()),
         Ok(Some(fault)) => Err(RuleEnd::Fault(fault)),
         Err(_) => Err(RuleEnd::Memory),
-    }
-}
-
-/// Checks rules 608 and 611 alone. The fault is the first that is broken, by value, then by rule, then by point; it has no walk.
-pub fn check_static(alloc: Global, f: &Function, table: &TypeTable) -> Result<(), RuleEnd>
-    requires { IsOfNumberedModule f.now }
-    ensures ok { OnOk result (AreStaticsKept table.now f.now) }
-    ensures end { IfErr result (IsStaticEnd table.now f.now) }
-{
-    let Ok(m) = Memory::of(alloc, table, f) else {
-        return Err(RuleEnd::Memory);
-    };
-    match first_static(alloc, &m, f) {
-        Err(_) => Err(RuleEnd::Memory),
-        Ok(None) => Ok(()),
-        Ok(Some(fault)) => Err(RuleEnd::Fault(fault)),
     }
 }

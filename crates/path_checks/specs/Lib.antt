@@ -1,5 +1,3 @@
 pub mod Entries
 pub mod First
-pub mod Reported
-pub mod Groups
 pub mod inner

@@ -1,2 +1,4 @@
 pub mod Shared
 pub mod Chunks
+pub mod Groups
+pub mod Reported

@@ -1,7 +1,7 @@
 //! What a check finds, and how it is reported.
 
 ghost use Rattle.std.specs.Prelude.{◌≡◌};
-ghost use Rattle.path_checks.specs.Reported.{found_at};
+ghost use Rattle.path_checks.specs.inner.Reported.{found_at};
 
 use rule_faults::RuleFault;
 use sil_ast::{EdgeId, List, PointId, ValueId};

@@ -11,7 +11,7 @@ use Rattle.sil_rules.specs.declared.group.Group.TheVariants as group
 use Rattle.type_definitions.specs.Declarations.{Declarations}
 use Rattle.point_checks.specs.inner.Reports.{report_of}
 use Rattle.path_checks.specs.First as paths
-use Rattle.path_checks.specs.Reported.{found_at}
+use Rattle.path_checks.specs.inner.Reported.{found_at}
 use Rattle.value_availability.specs.Accesses.{accesses_of}
 use Rattle.value_availability.specs.inner.Availability.{IsAvailable, IsFirstUndefined, IsUndefined}
 use Rattle.ownership_kinds.specs.inner.Ends.{IsEndOn, IsFaultOn}

@@ -6,7 +6,7 @@ use Rattle.sil_cfg.specs.declared.item.Item.{Item}
 use Rattle.sil_rules.specs.Rules.{group_of}
 use Rattle.sil_rules.specs.declared.group.Group.TheVariants.{Definitions}
 use Rattle.item_operands.specs.Parts.{item_arguments, item_handover, item_operands, item_results}
-use Rattle.path_checks.specs.Groups.{ShowsOnly}
+use Rattle.path_checks.specs.inner.Groups.{ShowsOnly}
 use Rattle.path_checks.specs.declared.entry.Entry.{Entry}
 use Rattle.path_checks.proofs.RulesShown.{each_append, each_map, shown_rule}
 use Rattle.value_availability.specs.Accesses.{accesses_of, begun, defined, used}

@@ -9,7 +9,7 @@ use Rattle.rule_faults.specs.declared.fault.RuleFault.{RuleFault}
 use Rattle.sil_rules.specs.declared.rule.Rule.{Rule}
 use Rattle.sil_cfg.specs.declared.item.Item.{Item}
 use Rattle.path_checks.specs.First.{IsFirst}
-use Rattle.path_checks.specs.Reported.{found_at}
+use Rattle.path_checks.specs.inner.Reported.{found_at}
 use Rattle.path_checks.specs.declared.fault.PathFault.{PathFault}
 use Rattle.ownership_chains.specs.Facts.{told_at, value_of}
 use Rattle.ownership_chains.specs.declared.facts.Facts.{Facts}

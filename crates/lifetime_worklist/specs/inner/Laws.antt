@@ -3,7 +3,7 @@ use Rattle.std.specs.Prelude.{ℕ, Option}
 use Rattle.sil_ast.specs.declared.function.Function.{Function}
 use Rattle.sil_ast.specs.declared.place.ValueId.{ValueId}
 use Rattle.sil_rules.specs.declared.group.Group.TheVariants as group
-use Rattle.path_checks.specs.Groups.{ShowsOnly}
+use Rattle.path_checks.specs.inner.Groups.{ShowsOnly}
 use Rattle.ownership_chains.specs.declared.facts.Facts.{Facts}
 use Rattle.lifetime_worklist.specs.Lives.{lives_of}
 

@@ -8,7 +8,7 @@ use Rattle.rule_faults.specs.declared.fault.RuleEnd.TheVariants.{Fault, Memory}
 use Rattle.rule_faults.specs.declared.fault.RuleFault.{RuleFault}
 use Rattle.sil_cfg.specs.declared.item.Item.{Item}
 use Rattle.path_checks.specs.First.{IsFirst}
-use Rattle.path_checks.specs.Reported.{found_at}
+use Rattle.path_checks.specs.inner.Reported.{found_at}
 use Rattle.path_checks.specs.declared.fault.PathFault.{PathFault}
 use Rattle.ownership_chains.specs.declared.facts.Facts.{Facts}
 use Rattle.ownership_marks.specs.Known.{AreKindsBy, Known}

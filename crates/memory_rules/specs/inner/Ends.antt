@@ -8,7 +8,7 @@ use Rattle.rule_faults.specs.declared.fault.RuleFault.{RuleFault}
 use Rattle.type_definitions.specs.Declarations.{Declarations}
 use Rattle.ownership_marks.specs.Known.{Known}
 use Rattle.memory_accesses.specs.Sources.{sources_of}
-use Rattle.memory_rules.specs.Broken.{IsFirstBreak, IsFirstStatic}
+use Rattle.memory_rules.specs.Broken.{IsFirstBreak}
 
 -- no rule on memory is broken
 abbrev pub IsMemoryKept : Declarations → Function → Layout → Known → Type 0
@@ -21,11 +21,3 @@ IsFirstFault d f g k x = IsFirstBreak (sources_of d f) f g k (Some x)
 abbrev pub IsMemoryEnd : Declarations → Function → Layout → Known → RuleEnd → Type 0
 IsMemoryEnd d f g k (Fault x) = IsFirstFault d f g k x
 IsMemoryEnd d f g k Memory = ⊤
-
--- neither 608 nor 611 is broken
-abbrev pub AreStaticsKept : Declarations → Function → Type 0
-AreStaticsKept d f = IsFirstStatic (sources_of d f) f None
-
-abbrev pub IsStaticEnd : Declarations → Function → RuleEnd → Type 0
-IsStaticEnd d f (Fault x) = IsFirstStatic (sources_of d f) f (Some x)
-IsStaticEnd d f Memory = ⊤

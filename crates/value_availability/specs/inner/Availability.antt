@@ -6,7 +6,7 @@ use Rattle.rule_faults.specs.declared.fault.RuleFault.{RuleFault}
 use Rattle.rule_faults.specs.declared.fault.RuleEnd.{RuleEnd}
 use Rattle.rule_faults.specs.declared.fault.RuleEnd.TheVariants.{Fault, Memory}
 use Rattle.path_checks.specs.First.{IsFirst}
-use Rattle.path_checks.specs.Reported.{found_at}
+use Rattle.path_checks.specs.inner.Reported.{found_at}
 use Rattle.value_availability.specs.Accesses.{accesses_of}
 
 -- no walk shows a value that is an operand before its definition
