@@ -1,5 +1,5 @@
 -- Where what is broken stands in the order: on walks as any fault, and a static rule never with one on walks.
-use Rattle.std.proofs.Common.{◌≡◌, ℕ, List, [], ◌∷◌, length, refl, sym, ap, ◌∙◌, subst, ◌⊎◌, inl, inr, Bool, false, Option, Some, None}
+use Rattle.std.proofs.Common.{◌≡◌, ℕ, [], ◌∷◌, length, refl, sym, ap, ◌∙◌, subst, inl, inr, Bool, false, Option, Some, None}
 use Rattle.std.specs.Prelude.{cond, ◌==◌, ◌||◌}
 use Rattle.rule_faults.specs.Keys.{fault_key}
 use Rattle.rule_faults.specs.declared.fault.RuleFault.{RuleFault}

@@ -1,5 +1,5 @@
 -- The earlier of two that come first of their kinds comes first of both.
-use Rattle.std.proofs.Common.{◌≡◌, ℕ, List, ap, subst, ◌⊎◌, inl, inr, false, Option, Some, None}
+use Rattle.std.proofs.Common.{◌≡◌, ℕ, List, ap, inl, inr, false, Option, Some, None}
 use Rattle.sil_ast.specs.declared.function.Function.{Function}
 use Rattle.sil_ast.specs.declared.place.ValueId.{ValueId}
 use Rattle.sil_cfg.specs.Layout.{Layout}

@@ -1,8 +1,8 @@
 -- The first of some faults, found in one pass over a list.
-use Rattle.std.proofs.Common.{◌≡◌, ℕ, ◌+◌, ◌<◌, ◌≤◌, List, [], ◌∷◌, ◌++◌, length, get_or, drop, refl, sym, ap, ◌∙◌, Option, Some, arith, Result, Ok, Err}
+use Rattle.std.proofs.Common.{◌≡◌, ℕ, ◌+◌, ◌<◌, List, [], ◌∷◌, ◌++◌, length, get_or, drop, refl, sym, ap, ◌∙◌, Option, Some, arith, Result, Ok, Err}
 use Rattle.std.specs.Prelude.{IfOk}
 use Rattle.std.specs.List.{flat_map}
-use Rattle.std.proofs.lemmas.List.{append_assoc, at_drop_more, at_drop_all}
+use Rattle.std.proofs.lemmas.List.{append_assoc, at_drop_more}
 use Rattle.point_checks.specs.inner.Faults.{least, lesser, numbered}
 use Rattle.point_checks.specs.declared.fault.PointFault.{PointFault}
 
@@ -17,9 +17,6 @@ least_step g xs i d found next all lt before e =
     ap (λ f. least f (flat_map g (drop (i + 1) xs))) e ∙ sym (least-append found (g (get_or xs i d)) (flat_map g (drop (i + 1) xs))) ∙
     sym (at_drop_more (λ ys. least found (flat_map g ys)) xs i d lt) ∙ before
 
-pub least_end : {A : Type 0} (g : A → List PointFault) (xs : List A) (i : ℕ) (found all : Option PointFault) → length xs ≤ i → least found (flat_map g (drop i xs)) ≡ all → found ≡ all
-least_end g xs i found all le before = sym (at_drop_all (λ ys. least found (flat_map g ys)) xs i le) ∙ before
-
 numbered_more : {A : Type 0} (g : ℕ → A → List PointFault) (xs : List A) (i n : ℕ) (d : A) (found : Option PointFault) → i < length xs →
     least found (numbered g n (drop i xs)) ≡ least (least found (g n (get_or xs i d))) (numbered g (n + 1) (drop (i + 1) xs))
 numbered_more g xs i n d found lt =
@@ -30,9 +27,6 @@ pub numbered_step : {A : Type 0} (g : ℕ → A → List PointFault) (xs : List 
     least found (numbered g n (drop i xs)) ≡ all → next ≡ least found (g n (get_or xs i d)) → least next (numbered g (n + 1) (drop (i + 1) xs)) ≡ all
 numbered_step g xs i n d found next all lt before e =
     ap (λ f. least f (numbered g (n + 1) (drop (i + 1) xs))) e ∙ sym (numbered_more g xs i n d found lt) ∙ before
-
-pub numbered_end : {A : Type 0} (g : ℕ → A → List PointFault) (xs : List A) (i n : ℕ) (found all : Option PointFault) → length xs ≤ i → least found (numbered g n (drop i xs)) ≡ all → found ≡ all
-numbered_end g xs i n found all le before = sym (at_drop_all (λ ys. least found (numbered g n ys)) xs i le) ∙ before
 
 pub numbered-append : {A : Type 0} (g : ℕ → A → List PointFault) (n : ℕ) (xs ys : List A) → numbered g n (xs ++ ys) ≡ numbered g n xs ++ numbered g (n + length xs) ys
 numbered-append g n [] ys = ap (λ k. numbered g k ys) (omega arith)

@@ -1,5 +1,5 @@
 -- A fault at a point is reported in one way.
-use Rattle.std.proofs.Common.{◌≡◌, List, [], ap, ◌∙◌, Option}
+use Rattle.std.proofs.Common.{◌≡◌, List, ap, ◌∙◌, Option}
 use Rattle.sil_ast.specs.declared.place.ValueId.{ValueId}
 use Rattle.sil_ast.specs.declared.place.PointId.{PointId}
 use Rattle.sil_ast.specs.declared.place.EdgeId.{EdgeId}

@@ -1,12 +1,11 @@
 -- What walks show of memory, and the first of it.
-use Rattle.std.specs.Prelude.{◌≡◌, ℕ, Option, Some}
+use Rattle.std.specs.Prelude.{◌≡◌, ℕ, List, Option, Some}
 use Rattle.sil_ast.specs.declared.function.Function.{Function}
 use Rattle.sil_ast.specs.declared.place.ValueId.{ValueId}
 use Rattle.sil_cfg.specs.Layout.{Layout}
 use Rattle.rule_faults.specs.declared.fault.RuleFault.{RuleFault}
 use Rattle.sil_rules.specs.Order.{Either, IsFirst}
 use Rattle.sil_rules.specs.declared.rule.Rule.TheVariants as rule
-use Rattle.std.specs.Prelude.{List}
 use Rattle.ownership_chains.specs.Facts.{known_or}
 use Rattle.ownership_chains.specs.declared.facts.Facts.{Facts}
 use Rattle.ownership_marks.specs.Known.{AreKindsBy, Known}

@@ -1,5 +1,4 @@
 use Rattle.std.proofs.Common.{subst}
-use Rattle.memory_accesses.specs.Sources.{sources_of}
 use Rattle.memory_rules.specs.Broken.{IsFirstBreak}
 use Rattle.memory_rules.proofs.FirstOfAll.{all_first}
 use Rattle.memory_rules.proofs.rules.first_broken.Goals as goal

@@ -1,4 +1,4 @@
-use Rattle.std.proofs.Common.{◌≡◌, ◌∙◌, List, sym, subst, ap, Some, None}
+use Rattle.std.proofs.Common.{◌∙◌, List, sym, subst, ap, Some, None}
 use Rattle.std.specs.List.{list_any}
 use Rattle.path_patterns.specs.Reads.{AgreesWith, accesses_at}
 use Rattle.memory_accesses.specs.Accesses.{accesses_of}
