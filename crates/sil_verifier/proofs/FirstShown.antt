@@ -1,5 +1,5 @@
 -- What each group finds first in a function is the first of all that is shown there, where the groups before it find nothing.
-use Rattle.std.proofs.Common.{◌≡◌, [], length, refl, sym, ap, ◌∙◌, subst, arith, None, Some}
+use Rattle.std.proofs.Common.{◌≡◌, length, refl, sym, ap, ◌∙◌, subst, arith, None, Some}
 use Rattle.sil_ast.specs.declared.function.Function.{Function}
 use Rattle.sil_cfg.specs.Layout.{Layout}
 use Rattle.rule_faults.specs.declared.fault.RuleEnd.{RuleEnd}

@@ -1,5 +1,5 @@
 -- The walk of a refusal has the fewest edges of all that show its rule of its value.
-use Rattle.std.proofs.Common.{◌≡◌, ℕ, ◌<◌, ◌≤◌, List, [], ◌∷◌, ◌++◌, Bool, true, false, not, ◌||◌, length, cond, refl, sym, ap, ◌∙◌, subst, arith, inl, inr, true≢false}
+use Rattle.std.proofs.Common.{◌≡◌, ℕ, ◌≤◌, List, [], ◌∷◌, ◌++◌, Bool, true, false, not, ◌||◌, length, cond, refl, sym, ap, ◌∙◌, subst, arith, inl, inr, true≢false}
 use Rattle.sil_ast.specs.declared.module.Module.{Module}
 use Rattle.rule_faults.specs.declared.fault.RuleFault.{RuleFault}
 use Rattle.sil_rules.specs.Order.{NotAfter, stage_of, subject_key}
@@ -9,7 +9,7 @@ use Rattle.sil_rules.specs.declared.group.Group.TheVariants as group
 use Rattle.type_definitions.specs.Declarations.{declarations_of}
 use Rattle.memory_rules.specs.Statics.{is_static}
 use Rattle.sil_verifier.proofs.Groups.{stage_told}
-use Rattle.sil_verifier.specs.Findings.{Refusal, value}
+use Rattle.sil_verifier.specs.Findings.{value}
 use Rattle.sil_verifier.specs.inner.Laws.{AreWalksShortest}
 use Rattle.sil_verifier.specs.Shown.{has_walk, is_of_kinds, last_key}
 use Rattle.sil_verifier.specs.Values.{IsShown}
