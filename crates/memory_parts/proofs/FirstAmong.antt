@@ -5,7 +5,7 @@ use Rattle.std.proofs.lemmas.List.Elements.{All-contains, All-weaker, Contains-a
 use Rattle.std.proofs.lemmas.List.{take-append-drop, take_more}
 use Rattle.sil_ast.specs.declared.function.Function.{Function}
 use Rattle.sil_ast.specs.declared.place.ValueId.{ValueId}
-use Rattle.sil_rules.proofs.Firsts.{first_earlier, first_some}
+use Rattle.sil_rules.proofs.Firsts.{first_earlier, first_same, first_some}
 use Rattle.sil_rules.specs.Order.{Either, IsEarlier, IsFirst}
 use Rattle.ownership_chains.specs.declared.facts.Facts.{Facts}
 use Rattle.memory_accesses.specs.declared.source.Source.{Source}
@@ -16,11 +16,6 @@ use Rattle.memory_parts.specs.Shown.{IsShown}
 use Rattle.rule_faults.specs.declared.fault.RuleFault.{RuleFault}
 use Rattle.memory_parts.specs.declared.part.Part.{Part}
 use Rattle.memory_parts.proofs.Ordered.{rising_behind}
-
--- what shows the same has the same first
-first_same : {A : Type 0} (key : A → List ℕ) (One Other : A → Type 0) (r : Option A) → ((a : A) → One a → Other a) → ((a : A) → Other a → One a) → IsFirst key One r → IsFirst key Other r
-first_same key One Other None to back none = λ a h. none a (back a h)
-first_same key One Other (Some a) to back least = record { shown = to a least.shown; first = λ b h. least.first b (back b h) }
 
 module _ (sources : List Source) (facts : ValueId → Option Facts) (f : Function) (parts more : List Part) where
   abbrev Shown : List Part → RuleFault → Type 0
@@ -43,12 +38,12 @@ module _ (sources : List Source) (facts : ValueId → Option Facts) (f : Functio
   -- the earlier of the two that come first
   pub among_more : (a b r : Option RuleFault) → IsFirst fault_key (Shown parts) a → IsFirst fault_key (Shown more) b → IsEarlier fault_key a b r → IsFirst fault_key (Shown (parts ++ more)) r
   among_more a b r first second e =
-      first_same fault_key (Either (Shown parts) (Shown more)) (Shown (parts ++ more)) r together apart (first_earlier fault_key (Shown parts) (Shown more) a b r first second e)
+      first_same fault_key (Either (Shown parts) (Shown more)) (Shown (parts ++ more)) together apart r (first_earlier fault_key (Shown parts) (Shown more) a b r first second e)
 
   -- nothing that is shown at parts of greater subjects comes before
   pub among_behind : (s : RuleFault) → IsFirst fault_key (Shown parts) (Some s) → All (λ q. s.subject.0 < (subject_of q).0) more → IsFirst fault_key (Shown (parts ++ more)) (Some s)
   among_behind s first behind =
-      first_same fault_key (Either (Shown parts) (Shown more)) (Shown (parts ++ more)) (Some s) together apart
+      first_same fault_key (Either (Shown parts) (Shown more)) (Shown (parts ++ more)) together apart (Some s)
       (first_some fault_key (Shown parts) (Shown more) s first
       (λ t h. inl (subst (λ v. s.subject.0 < v.0) h.subject (All-contains (λ q. s.subject.0 < (subject_of q).0) more h.part behind h.there))))
 

@@ -5,6 +5,7 @@ use Rattle.sil_ast.specs.declared.place.ValueId.{ValueId}
 use Rattle.sil_cfg.specs.Layout.{Layout}
 use Rattle.rule_faults.specs.Keys.{fault_key}
 use Rattle.rule_faults.specs.declared.fault.RuleFault.{RuleFault}
+use Rattle.sil_rules.proofs.Firsts.{first_same}
 use Rattle.sil_rules.specs.Order.{Either, IsEarlier, IsFirst}
 use Rattle.ownership_chains.specs.Facts.{known_or}
 use Rattle.ownership_chains.specs.declared.facts.Facts.{Facts}
@@ -19,12 +20,6 @@ use Rattle.memory_rules.specs.Statics.{is_static}
 use Rattle.memory_rules.proofs.BreakKeys.{earlier_first}
 use Rattle.memory_rules.proofs.FirstShown.{first_part}
 use Rattle.memory_rules.proofs.PartRules.{part_on_walks}
-
--- what is shown in the same cases has the same first
-first_same : {A : Type 0} (key : A → List ℕ) (One Other : A → Type 0) → ((a : A) → One a → Other a) → ((a : A) → Other a → One a) → (r : Option A) →
-    IsFirst key One r → IsFirst key Other r
-first_same key One Other to from None none = λ a shown. none a (from a shown)
-first_same key One Other to from (Some a) least = record { shown = to a least.shown; first = λ b shown. least.first b (from b shown) }
 
 module _ (sources : List Source) (f : Function) where
   module _ (facts : ValueId → Option Facts) where

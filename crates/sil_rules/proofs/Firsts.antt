@@ -62,3 +62,9 @@ module _ {A B : Type 0} (key : A → List ℕ) (further : B → List ℕ) (f : A
     where
       all : (b : B) → (other : A) × Shown other × (f other ≡ b) → NotAfter (further (f a)) (further b)
       all b source = subst (λ c. NotAfter (further (f a)) (further c)) source.2 (keeps a source.0 (least.first source.0 source.1))
+
+module _ {A : Type 0} (key : A → List ℕ) (One Other : A → Type 0) (to : (a : A) → One a → Other a) (back : (a : A) → Other a → One a) where
+  -- what is shown in other words has the same first
+  pub first_same : (r : Option A) → IsFirst key One r → IsFirst key Other r
+  first_same None none = λ a h. none a (back a h)
+  first_same (Some a) least = record { shown = to a least.shown; first = λ b h. least.first b (back b h) }

@@ -7,6 +7,7 @@ use Rattle.sil_ast.specs.declared.function.Form.{Form}
 use Rattle.sil_ast.specs.declared.function.Form.TheVariants.{Ossa, Lowered, External}
 use Rattle.sil_ast.specs.declared.function.Function.{Function}
 use Rattle.sil_ast.specs.declared.module.Module.{Module}
+use Rattle.sil_rules.proofs.Firsts.{first_same}
 use Rattle.sil_rules.proofs.Keys.{not_after_refl}
 use Rattle.sil_rules.specs.Order.{NotAfter, IsFirst}
 use Rattle.sil_rules.specs.Rules.{number_of}
@@ -16,7 +17,7 @@ use Rattle.sil_types.specs.Typing.FormRules.{is_lowered}
 use Rattle.sil_types.specs.Typing.Typed.{BreaksAt, Site, at_function, at_point}
 use Rattle.sil_types.specs.Typing.Typed.BreaksAt.{function, point, vtable}
 use Rattle.type_check.proofs.FirstFaults.{stage_at_function, stage_at_point}
-use Rattle.type_check.proofs.Firsts.{first_of_places, first_same, at_zero, of_zero}
+use Rattle.type_check.proofs.Firsts.{first_of_places, at_zero, of_zero}
 use Rattle.type_check.specs.inner.Firsts.{first_from, IsAtSome}
 use Rattle.type_check.specs.Refusals.{fault_at, fault_key, IsBroken}
 use Rattle.type_check.specs.Refusals.IsBroken.{broken}

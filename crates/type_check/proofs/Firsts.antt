@@ -102,12 +102,6 @@ module _ {X A : Type 0} (key : A → List ℕ) (Is : ℕ → X → A → Type 0)
         none_there (suc k) x e = cc e
     first_of_places n (x ∷ xs) = joined n x xs (find n x) (first_from find (n + 1) xs) (first n x) (first_of_places (n + 1) xs)
 
-module _ {A : Type 0} (key : A → List ℕ) (One Other : A → Type 0) (to : (a : A) → One a → Other a) (back : (a : A) → Other a → One a) where
-  -- what is shown in other words has the same first
-  pub first_same : (r : Option A) → IsFirst key One r → IsFirst key Other r
-  first_same None none = λ a h. none a (back a h)
-  first_same (Some a) least = record { shown = to a least.shown; first = λ b h. least.first b (back b h) }
-
 -- counted from 0, a place's number is its index
 pub at_zero : {X A : Type 0} (Is : ℕ → X → A → Type 0) (k : ℕ) (x : X) (a : A) → Is k x a → Is (0 + k) x a
 at_zero Is k x a h = subst (λ n. Is n x a) (omega arith) h

@@ -15,7 +15,8 @@ use Rattle.numbered_form.specs.Numbering.{IsEdgeInRange, IsFunctionNumbered, IsI
 use Rattle.numbered_form.specs.Parts.{BlockHasParts, FunctionHasParts, are_edges_by}
 use Rattle.instruction_table.specs.Forms.{ending_of}
 use Rattle.type_definitions.specs.Declarations.{declarations_of}
-use Rattle.sil_types.specs.Typing.Typed.{IsAt, Typed, at_point, edge_arguments, entry_has_predecessor, point, switch_cases}
+use Rattle.sil_types.specs.Typing.Typed.{Typed, at_point, edge_arguments, entry_has_predecessor, point, switch_cases}
+use Rattle.point_checks.specs.Points.{IsAt}
 use Rattle.typed_graph_laws.specs.Laws.{HasBlocks, IsNotExternal, HaveGraphsWhere}
 use Rattle.typed_graph_laws.specs.Ready.{HasFittingEdges, IsReadyForGraph}
 use Rattle.typed_graph_laws.proofs.Edges.{few_edges_at, fitting_edges}

@@ -11,7 +11,7 @@ use Rattle.numbered_form.specs.NumberedForm.{IsNumbered}
 use Rattle.numbered_form.specs.Numbering.{IsEdgeInRange, IsFunctionNumbered, IsInstInRange, values_of}
 use Rattle.type_definitions.specs.Declarations.{Declarations}
 use Rattle.type_definitions.specs.Rules.{AreDeclarationsOf}
-use Rattle.sil_types.specs.Typing.Typed.{IsAt}
+use Rattle.point_checks.specs.Points.{IsAt}
 
 pub members_in_limits : (d : Declarations) (m : Module) → AreDeclarationsOf d m → IsNumbered m → Each IsDeclInLimits d.decls
 members_in_limits d m table numbered = subst (λ d. Each IsDeclInLimits d.decls) (sym table.copied) numbered.limits.members

@@ -1,11 +1,10 @@
 -- Where each of 201 to 212 is broken, and the modules that break none.
 use Rattle.std.specs.Prelude.{◌≡◌, ℕ, true, Some, slice_get}
-use Rattle.sil_ast.specs.declared.function.Block.{Block}
 use Rattle.sil_ast.specs.declared.function.Function.{Function}
 use Rattle.sil_ast.specs.declared.inst.Inst.{Inst}
 use Rattle.sil_ast.specs.declared.module.Module.{Module}
 use Rattle.sil_ast.specs.declared.vtable.Vtable.{Vtable}
-use Rattle.numbered_form.specs.Insts.{insts_of}
+use Rattle.point_checks.specs.Points.{IsAt}
 use Rattle.sil_rules.specs.declared.rule.Rule.{Rule}
 use Rattle.sil_rules.specs.declared.rule.Rule.TheVariants as rule
 use Rattle.type_definitions.specs.Declarations.{declarations_of}
@@ -45,12 +44,6 @@ pub data Site : Type 0 where
   at_function : (function : ℕ) → Site
   at_point : (function block index : ℕ) → Site
   at_vtable : (vtable : ℕ) → Site
-
--- the instruction at a point, its terminator last
-pub record IsAt (f : Function) (block index : ℕ) (i : Inst) : Type 0 where
-  pub within : Block
-  pub is_block : slice_get f.blocks block ≡ Some within
-  pub is_inst : slice_get (insts_of within) index ≡ Some i
 
 -- the rule is broken at the place
 pub data BreaksAt (m : Module) : Site → Rule → Type 0 where
