@@ -3,7 +3,7 @@ use Rattle.std.proofs.Common.{◌≡◌, ℕ, ◌<◌, ◌≤◌, List, [], ◌�
 use Rattle.std.specs.Prelude.{IsSome, unwrap_or}
 use Rattle.std.proofs.lemmas.Bool.{cases_lt}
 use Rattle.std.proofs.lemmas.List.{take-append-drop}
-use Rattle.std.proofs.lemmas.Option.{slice_get_past}
+use Rattle.std.proofs.lemmas.Option.{none-some, slice_get_past}
 use Rattle.std.specs.declared.alloc.Global.{Global}
 use Rattle.std.specs.declared.vec.Vec.{Vec}
 use Rattle.sil_ast.specs.declared.place.EdgeId.{EdgeId}
@@ -55,9 +55,6 @@ module _ (sources : List Source) (ranks : List ℕ) (accesses : ℕ → List Acc
       bad_goes (Covers ranks n.last a b) (run (pair_step accesses a b) (Go 0) (passed g w ++ own)) code
       (ap (run (pair_step accesses a b) (Go 0)) split ∙ run_end_bad (pair_step accesses a b) (Go 0) (before ++ item ∷ []) (drop k own) code bad) whole
 
-none_some : {A : Type 0} (x : A) → None ≡ Some x → ⊥
-none_some x e = cc
-
 some_is : {A : Type 0} (o : Option A) → IsSome o → (x : A) × (o ≡ Some x)
 some_is None h = absurd (no h)
   where
@@ -76,7 +73,7 @@ nested_uncrossed sources ranks accesses g stacks few some a nested sa b sb w cod
   where
     everywhere : (n : ℕ) → (n < block_count (numbered g)) ⊎ (block_count (numbered g) ≤ n) → IsBlockNested sources ranks accesses (numbered g) (stack_at stacks) n a
     everywhere n (inl lt) = nested n lt
-    everywhere n (inr le) = λ stack known. absurd (none_some stack (sym (ap (λ o. items_in (unwrap_or o None)) (slice_get_past stacks n (omega arith))) ∙ known))
+    everywhere n (inr le) = λ stack known. absurd (none-some stack (sym (ap (λ o. items_in (unwrap_or o None)) (slice_get_past stacks n (omega arith))) ∙ known))
 
 pub edge_nested : (sources : List Source) (ranks : List ℕ) (accesses : ℕ → List Access) (g : Flow ℕ) (stacks : ℕ →
     Option (List ValueId)) (stack last : List ValueId) (e : EdgeId) (a : ValueId) (o : Option (List ValueId)) → o ≡ stacks (edge_to g e) →

@@ -9,7 +9,7 @@ use Rattle.std.proofs.lemmas.List.{take_all}
 use Rattle.std.proofs.lemmas.List.Edits.{get_or-remove_below, get_or-remove_above, length-remove}
 use Rattle.std.proofs.lemmas.List.Elements.{Contains-append_left, Contains-push, Contains-push_cases}
 use Rattle.std.proofs.lemmas.List.Quantifiers.{all_pairs_push, all_pairs_remove}
-use Rattle.std.proofs.lemmas.Option.{slice_get_past, unwrap_or-slice_get}
+use Rattle.std.proofs.lemmas.Option.{none-some, slice_get_past, unwrap_or-slice_get}
 use Rattle.sil_ast.specs.declared.place.ValueId.{ValueId}
 use Rattle.memory_accesses.specs.declared.access.Access.{Access}
 use Rattle.memory_accesses.specs.declared.access.Access.TheVariants.{Allocates, Deallocates}
@@ -23,15 +23,12 @@ use Rattle.memory_slots.specs.inner.Followed.{AreFollowed, ArePassed, IsTop, Sta
 use Rattle.memory_slots.proofs.SlotsListed.{same_value}
 use Rattle.memory_slots.proofs.StacksFollowed.{quiet, not_entered, entered, left, more_followed, more_passed, item_passed, below_top, top_highest}
 
-none_some : {A : Type 0} (x : A) → None ≡ Some x → ⊥
-none_some x e = cc
-
 top_there : (stack : List ValueId) (top : ValueId) → Some top ≡ slice_get stack (length stack - 1) → (length stack - 1 < length stack) × ((d : ValueId) → get_or stack (length stack - 1) d ≡ top)
 top_there stack top e = at (cases_lt (length stack - 1) (length stack))
   where
     at : (length stack - 1 < length stack) ⊎ (length stack ≤ length stack - 1) → (length stack - 1 < length stack) × ((d : ValueId) → get_or stack (length stack - 1) d ≡ top)
     at (inl lt) = (lt, λ d. sym (unwrap_or-slice_get stack (length stack - 1) d) ∙ ap (λ o. unwrap_or o d) (sym e))
-    at (inr le) = absurd (none_some top (sym (slice_get_past stack (length stack - 1) le) ∙ sym e))
+    at (inr le) = absurd (none-some top (sym (slice_get_past stack (length stack - 1) le) ∙ sym e))
 
 pub is_top_there : (stack : List ValueId) (top slot : ValueId) → Some top ≡ slice_get stack (length stack - 1) → top.0 ≡ slot.0 → IsTop stack slot
 is_top_there stack top slot e same =

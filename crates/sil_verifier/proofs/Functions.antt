@@ -2,7 +2,7 @@
 use Rattle.std.proofs.Common.{◌≡◌, ◌≢◌, ℕ, ◌+◌, ◌<◌, List, ◌∷◌, length, get_or, refl, sym, ◌∙◌, subst, arith, ◌⊎◌, inl, inr, Option, Some}
 use Rattle.std.specs.Prelude.{slice_get}
 use Rattle.std.proofs.lemmas.Bool.{cases_eq}
-use Rattle.std.proofs.lemmas.Option.{slice_get_read, slice_get_within}
+use Rattle.std.proofs.lemmas.Option.{slice_get_read, slice_get_within, same_Some}
 use Rattle.sil_ast.specs.declared.function.Function.{Function}
 use Rattle.sil_ast.specs.declared.module.Module.{Module}
 use Rattle.rule_faults.specs.declared.fault.RuleFault.{RuleFault}
@@ -20,9 +20,6 @@ use Rattle.sil_verifier.specs.declared.values.ValueRefusal.TheVariants as refusa
 abbrev pub IsCleanBefore : Module → ℕ → Type 0
 IsCleanBefore m n = (p : ModuleShowing) → p.function < n → IsShown m p → ⊥
 
-same_some : {A : Type 0} (o : Option A) (a b : A) → o ≡ Some a → o ≡ Some b → a ≡ b
-same_some o a b e h = let same : Some a ≡ Some b = sym e ∙ h in cc
-
 -- a function that a loop has reached
 pub is_there : (all fs : List Function) (i n : ℕ) (f : Function) → fs ≡ all → n ≡ i → i < length fs → f ≡ get_or fs i f → slice_get all n ≡ Some f
 is_there all fs i n f same e lt is = subst (λ k. slice_get all k ≡ Some f) (sym e) (subst (λ xs. slice_get xs i ≡ Some f) same (slice_get_read fs (length fs) i f refl lt is))
@@ -30,7 +27,7 @@ is_there all fs i n f same e lt is = subst (λ k. slice_get all k ≡ Some f) (s
 module _ (m : Module) (n : ℕ) (f : Function) (there : slice_get m.functions n ≡ Some f) where
   -- a function of the same number is this one
   is_this : (p : ModuleShowing) → p.function ≡ n → (h : IsShown m p) → h.within ≡ f
-  is_this p e h = same_some (slice_get m.functions n) h.within f (subst (λ k. slice_get m.functions k ≡ Some h.within) e h.is_body.there) there
+  is_this p e h = same_Some h.within f (sym (subst (λ k. slice_get m.functions k ≡ Some h.within) e h.is_body.there) ∙ there)
 
   shown_here : (p : ModuleShowing) → p.function ≡ n → IsShown m p → HasBlocks f × IsShownIn (declarations_of m) f p.showing
   shown_here p e h = subst (λ g. HasBlocks g × IsShownIn (declarations_of m) g p.showing) (is_this p e h) (h.is_body.body, h.shown)
