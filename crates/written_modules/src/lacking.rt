@@ -9,10 +9,7 @@ ghost use Rattle.sil_shape.specs.Values.{IsEnough};
 ghost use Rattle.written_modules.specs.inner.Lacking.{lacking, Fills};
 ghost use Rattle.written_modules.specs.inner.Replay.{replay};
 
-use crate::nothing::no_token;
-use crate::prepended::Prepended;
 use crate::reduce::reduce;
-use crate::value::Value;
 use sil_ast::Exhausted;
 use sil_shape::bodies::body_length;
 use sil_shape::grammar::{Nonterminal, Production, Symbol};
@@ -20,6 +17,9 @@ use sil_shape::shortest::shortest;
 use sil_shape::shortest_steps::shortest_steps;
 use sil_shape::steps::Step;
 use std::alloc::Global;
+use written_values::nothing::no_token;
+use written_values::prepended::Prepended;
+use written_values::value::Value;
 
 /// The values that the steps build where all tokens are lacking, that of the first step first.
 fn replay_lacking(alloc: Global, steps: &[Step]) -> Result<Prepended<Value>, Exhausted>

@@ -7,8 +7,8 @@ use Rattle.sil_lexer.specs.Lexing.{lexemes_of, IsInside}
 use Rattle.sil_shape.specs.Shortest.{Shortens, written}
 use Rattle.sil_shape.specs.Values.{IsEnough}
 use Rattle.sil_shape.proofs.ValuesLemmas.{IsEnough-derives}
-use Rattle.written_modules.specs.declared.value.Value.{Value}
-use Rattle.written_modules.specs.declared.value.Value.TheVariants as v
+use Rattle.written_values.specs.declared.value.Value.{Value}
+use Rattle.written_values.specs.declared.value.Value.TheVariants as v
 use Rattle.written_modules.specs.inner.Lacking.{lacking}
 use Rattle.written_modules.specs.inner.Replay.{first_fault, replay}
 use Rattle.written_modules.proofs.LackingLemmas.{waiting-length}
