@@ -1,20 +1,24 @@
 //! Builds declarations and their members, and puts them before the values that wait.
 
-ghost use Rattle.std.specs.Prelude.{◌≡◌, [], ◌∷◌, ◌≤◌, List, length, None, IfOk, OnOk};
+ghost use Rattle.std.specs.Prelude.{◌≡◌, [], ◌∷◌, ◌≤◌, List, length, map, None, IfOk, OnOk};
+ghost use Rattle.sil_rules.specs.declared.limits.TheConstants.{MEMBERS};
+ghost use Rattle.sil_rules.specs.declared.limit_word.LimitWord.TheVariants as limit;
 ghost use Rattle.sil_shape.specs.declared.grammar.Production.{Production};
 ghost use Rattle.written_values.specs.declared.value.Value.{Value};
 ghost use Rattle.written_values.specs.declared.value.Value.TheVariants as v;
 ghost use Rattle.written_values.specs.inner.Meaning as meant;
 ghost use Rattle.written_values.specs.inner.PartFaults.{part_fault};
 ghost use Rattle.written_values.specs.inner.Reduced.{parts_of, reduced};
-ghost use Rattle.written_values.specs.Values.{field_before, field_of, fields_of};
+ghost use Rattle.written_values.specs.Values.{field_before, field_of, fields_of, token_of};
+ghost use Rattle.written_tree.specs.Faults as faults;
+ghost use Rattle.written_tree.specs.Places as placed;
 ghost use Rattle.written_tree.specs.declared.written_module.WrittenItem.TheVariants as item;
 
-use sil_ast::{Boxed, Exhausted, Storage};
+use sil_ast::{Boxed, Exhausted, List, Storage};
 use sil_rules::{LimitWord, limits};
 use sil_shape::grammar::Production;
 use std::alloc::Global;
-use written_tree::{Fault, WrittenCase, WrittenDecl, WrittenField, WrittenItem};
+use written_tree::{Fault, WrittenCase, WrittenDecl, WrittenField, WrittenItem, WrittenToken};
 use written_values::faults::too_many;
 use written_values::nothing::{discard, skip};
 use written_values::prepended::Prepended;
@@ -36,6 +40,34 @@ fn put_declared(
     put(Reduced { value, fault }, values)
 }
 
+/// The name of a class or a struct, and its fields.
+#[derive(Drop)]
+struct Fielded {
+    name: WrittenToken,
+    fields: List<WrittenField>,
+    /// The fault of fields that become too many.
+    fault: Option<Fault>,
+}
+
+/// Takes a name away, and the fields in braces behind it.
+fn named_fields(alloc: Global, values: &mut Prepended<Value>) -> Fielded
+    requires { 4 ≤ length values.old }
+    ensures { (name opening fields closing : Value) × (values.old ≡ name ∷ opening ∷ fields ∷ closing ∷ values.new)
+        × (result.name ≡ token_of name) × (result.fields ≡ fields_of fields)
+        × (result.fault ≡ faults.passed limit.Members MEMBERS (map placed.field_place (fields_of fields))) }
+{
+    let name = values.pop_front().into_token();
+    skip(values);
+    let fields = values.pop_front().into_fields(alloc);
+    skip(values);
+    let fault = too_many(LimitWord::Members, &fields, limits::MEMBERS);
+    Fielded {
+        name,
+        fields: fields.into_list(),
+        fault,
+    }
+}
+
 /// Puts a class that isn't final.
 #[inline(never)]
 #[tactic(auto, unfolding(written_values::specs::inner::Reduced::reducing))]
@@ -48,12 +80,11 @@ pub(crate) fn plain_class(
     ensures fault { IfOk result (λ fault. fault ≡ part_fault Production.PlainClass (parts_of Production.PlainClass values.old)) }
 {
     skip(values);
-    let name = values.pop_front().into_token();
-    skip(values);
-    let fields = values.pop_front().into_fields(alloc);
-    skip(values);
-    let fault = too_many(LimitWord::Members, &fields, limits::MEMBERS);
-    let fields = fields.into_list();
+    let Fielded {
+        name,
+        fields,
+        fault,
+    } = named_fields(alloc, values);
     put_declared(alloc, WrittenDecl::Class { name, fields }, fault, values)
 }
 
@@ -70,12 +101,11 @@ pub(crate) fn final_class(
 {
     skip(values);
     skip(values);
-    let name = values.pop_front().into_token();
-    skip(values);
-    let fields = values.pop_front().into_fields(alloc);
-    skip(values);
-    let fault = too_many(LimitWord::Members, &fields, limits::MEMBERS);
-    let fields = fields.into_list();
+    let Fielded {
+        name,
+        fields,
+        fault,
+    } = named_fields(alloc, values);
     put_declared(alloc, WrittenDecl::Class { name, fields }, fault, values)
 }
 
@@ -91,12 +121,11 @@ pub(crate) fn struct_item(
     ensures fault { IfOk result (λ fault. fault ≡ part_fault Production.StructItem (parts_of Production.StructItem values.old)) }
 {
     skip(values);
-    let name = values.pop_front().into_token();
-    skip(values);
-    let fields = values.pop_front().into_fields(alloc);
-    skip(values);
-    let fault = too_many(LimitWord::Members, &fields, limits::MEMBERS);
-    let fields = fields.into_list();
+    let Fielded {
+        name,
+        fields,
+        fault,
+    } = named_fields(alloc, values);
     put_declared(alloc, WrittenDecl::Struct { name, fields }, fault, values)
 }
 
