@@ -7,7 +7,7 @@ use sil_shape::grammar::Production;
 use written_values::sections::Section;
 
 /// The section of a production.
-#[tactic(auto, unfolding(written_values::specs::inner::Sections::section, written_values::specs::inner::Sections::part_section, sil_shape::specs::Grammar::written))]
+#[tactic(auto, unfolding(written_values::specs::inner::Sections::telling))]
 pub(crate) fn section_of(production: Production) -> Section
     ensures { result ≡ section production }
 {

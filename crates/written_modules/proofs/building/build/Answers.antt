@@ -1,9 +1,8 @@
 -- The steps of a derivation of a module leave one value, the module.
 use Rattle.std.proofs.Common.{◌≡◌, [], ◌∷◌, ◌++◌, ◌∙◌, List, ap, arith, length, map, reverse, subst, sym}
-use Rattle.std.specs.Prelude.{All}
 use Rattle.std.proofs.lemmas.List.{append-nil, length-reverse}
 use Rattle.sil_lexer.specs.Lexes.{Lexeme}
-use Rattle.sil_lexer.specs.Lexing.{lexemes_of, IsInside}
+use Rattle.sil_lexer.specs.Lexing.{lexemes_of}
 use Rattle.sil_shape.specs.Shortest.{Shortens, written}
 use Rattle.sil_shape.specs.Values.{IsEnough}
 use Rattle.sil_shape.proofs.ValuesLemmas.{IsEnough-derives}
