@@ -1,6 +1,6 @@
 //! Builds declarations and their members, and puts them before the values that wait.
 
-ghost use Rattle.std.specs.Prelude.{◌≡◌, [], ◌∷◌, ◌≤◌, List, length, map, None, IfOk, OnOk};
+ghost use Rattle.std.specs.Prelude.{◌≡◌, [], ◌∷◌, ◌≤◌, List, length, map, IfOk, OnOk};
 ghost use Rattle.sil_rules.specs.declared.limits.TheConstants.{MEMBERS};
 ghost use Rattle.sil_rules.specs.declared.limit_word.LimitWord.TheVariants as limit;
 ghost use Rattle.sil_shape.specs.declared.grammar.Production.{Production};

@@ -1,7 +1,7 @@
 //! Builds a module's stage, its imports and its items, its functions and its tables of deinitialisers, and puts them
 //! before the values that wait.
 
-ghost use Rattle.std.specs.Prelude.{◌≡◌, [], ◌∷◌, ◌≤◌, false, length, None, IfOk, OnOk};
+ghost use Rattle.std.specs.Prelude.{◌≡◌, [], ◌∷◌, ◌≤◌, false, length, IfOk, OnOk};
 ghost use Rattle.sil_shape.specs.declared.grammar.Production.{Production};
 ghost use Rattle.written_values.specs.declared.value.Value.TheVariants as v;
 ghost use Rattle.written_values.specs.Imports.{with_import};

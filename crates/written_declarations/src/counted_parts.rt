@@ -1,6 +1,5 @@
 //! What is counted over many parts of a text: declarations and functions, attributes, instructions and values.
 
-ghost use Rattle.std.specs.Prelude.{◌≡◌, ℕ, List, map};
 ghost use Rattle.std.specs.List.{flat_map};
 ghost use Rattle.written_declarations.specs.inner.Found.{Finds, decl_places, function_places, kept_places};
 ghost use Rattle.written_tree.specs.Places as placed;

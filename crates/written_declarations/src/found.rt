@@ -1,6 +1,6 @@
 //! A search for the place at an index among the places that stand in parts, one part after the other.
 
-ghost use Rattle.std.specs.Prelude.{◌≡◌, ◌+◌, ℕ, List, [], ◌∷◌, length, map, slice_get};
+ghost use Rattle.std.specs.Prelude.{◌≡◌, List, [], ◌∷◌, map, slice_get};
 ghost use Rattle.std.specs.List.{flat_map};
 ghost use Rattle.sil_ast.specs.declared.place.Place.{Place};
 ghost use Rattle.written_declarations.specs.inner.Found.{Finds};

@@ -1,6 +1,6 @@
 //! Puts what a part of an instruction's row stands for where the instruction has it.
 
-ghost use Rattle.std.specs.Prelude.{◌≡◌, ◌∷◌, ◌++◌, ◌≤◌, drop, length, map, IfOk, OnOk};
+ghost use Rattle.std.specs.Prelude.{◌≡◌, ◌++◌, ◌≤◌, drop, length, map, IfOk, OnOk};
 ghost use Rattle.instruction_table.specs.Forms.{ending_of, may_lack_operand};
 ghost use Rattle.sil_shape.specs.Rows.{edges_by, symbols_of};
 ghost use Rattle.sil_rules.specs.declared.limits.TheConstants.{ARGUMENTS};

@@ -1,7 +1,7 @@
 //! Builds the row of any instruction from the parts that the table of instructions lists, and puts it before the values
 //! that wait.
 
-ghost use Rattle.std.specs.Prelude.{◌≡◌, ◌∷◌, ◌≤◌, drop, length, IfOk, OnOk};
+ghost use Rattle.std.specs.Prelude.{◌≡◌, ◌≤◌, drop, length, IfOk, OnOk};
 ghost use Rattle.sil_shape.specs.Grammar.{body};
 ghost use Rattle.sil_shape.specs.Rows.{comma_behind};
 ghost use Rattle.sil_shape.specs.declared.grammar.Production.TheVariants.{Row};

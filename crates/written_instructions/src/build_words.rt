@@ -1,6 +1,6 @@
 //! Builds the flags, the qualifiers and the words for a debugger, and puts them before the values that wait.
 
-ghost use Rattle.std.specs.Prelude.{◌≡◌, [], ◌∷◌, Some, ◌≤◌, List, length, None, IfOk, OnOk};
+ghost use Rattle.std.specs.Prelude.{◌≡◌, [], ◌∷◌, Some, ◌≤◌, List, length, IfOk, OnOk};
 ghost use Rattle.sil_shape.specs.declared.grammar.Production.{Production};
 ghost use Rattle.written_values.specs.declared.value.Value.{Value};
 ghost use Rattle.written_values.specs.declared.value.Value.TheVariants as v;

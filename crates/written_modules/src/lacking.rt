@@ -1,10 +1,9 @@
 //! What the symbols stand for that a front leaves to be written: their shortest texts, of which all tokens are lacking.
 
-ghost use Rattle.std.specs.Prelude.{◌≡◌, ◌+◌, ◌≤◌, [], ◌∷◌, length, reverse, IfOk, OnOk};
+ghost use Rattle.std.specs.Prelude.{◌≡◌, ◌+◌, ◌≤◌, [], length, reverse, IfOk, OnOk};
 ghost use Rattle.sil_shape.specs.Grammar.{body};
 ghost use Rattle.sil_shape.specs.declared.grammar.Symbol.TheVariants.{Part};
 ghost use Rattle.sil_shape.specs.Shortest as said;
-ghost use Rattle.sil_shape.specs.Shortest.{Shortens};
 ghost use Rattle.sil_shape.specs.Values.{IsEnough};
 ghost use Rattle.written_modules.specs.inner.Lacking.{lacking, Fills};
 ghost use Rattle.written_modules.specs.inner.Replay.{replay};

@@ -1,6 +1,6 @@
 //! Builds types, level by level.
 
-ghost use Rattle.std.specs.Prelude.{◌≡◌, [], ◌∷◌, ◌≤◌, List, length, None, IfOk, OnOk};
+ghost use Rattle.std.specs.Prelude.{◌≡◌, [], ◌∷◌, ◌≤◌, List, length, IfOk, OnOk};
 ghost use Rattle.sil_shape.specs.declared.grammar.Production.{Production};
 ghost use Rattle.written_values.specs.inner.PartFaults.{part_fault};
 ghost use Rattle.written_values.specs.inner.Reduced.{parts_of, reduced};
