@@ -10,8 +10,8 @@ use Rattle.sil_ast.specs.declared.type_name.TypeName.{TypeName}
 use Rattle.written_numbers.specs.Numbers.{literal_of, small_of, up_to, value_of}
 use Rattle.written_numbers.proofs.Residues.{literal_is_signed, half_some, half_doubled}
 use Rattle.written_tree.specs.Faults.{out_of_range}
-use Rattle.written_modules.specs.inner.RowMeaning.{element_of}
-use Rattle.written_modules.specs.Types.{width_of}
+use Rattle.written_values.specs.inner.RowMeaning.{element_of}
+use Rattle.written_values.specs.Types.{width_of}
 use Rattle.numbered_form.specs.Literals.{is_element_number, is_residue, literal_width}
 use Rattle.numbered_form.specs.Types.{is_plain_type}
 use Rattle.numbered_reading_laws.proofs.ListsAndFaults.{both}

@@ -17,11 +17,11 @@ use Rattle.written_tree.specs.declared.written_declarations.WrittenToken.{Writte
 use Rattle.written_tree.specs.declared.written_instructions.WrittenInst.{WrittenInst}
 use Rattle.written_tree.specs.declared.written_instructions.WrittenOperand.{WrittenOperand}
 use Rattle.written_tree.specs.Places.{operand_place}
-use Rattle.written_modules.specs.Opened.{PartValue}
-use Rattle.written_modules.specs.inner.PartFaults.{fault_of_part}
-use Rattle.written_modules.specs.inner.Parts.{part}
-use Rattle.written_modules.specs.inner.RowMeaning.{bare_operand, typed_by, with_part}
-use Rattle.written_modules.specs.Values.{operands_of, token_of, tokens_of}
+use Rattle.written_values.specs.Opened.{PartValue}
+use Rattle.written_values.specs.inner.PartFaults.{fault_of_part}
+use Rattle.written_values.specs.inner.Parts.{part}
+use Rattle.written_values.specs.inner.RowMeaning.{bare_operand, typed_by, with_part}
+use Rattle.written_values.specs.Values.{operands_of, token_of, tokens_of}
 use Rattle.name_resolution.specs.Resolved.{Scope, resolved_operand}
 use Rattle.numbered_form.specs.Lists.{Each, is_empty}
 use Rattle.numbered_form.specs.Parts.{are_of_parts, has_operands, is_bare, is_typed}

@@ -21,17 +21,17 @@ use Rattle.written_tree.specs.declared.written_instructions.WrittenEdge.{Written
 use Rattle.written_tree.specs.declared.written_instructions.WrittenOperand.{WrittenOperand}
 use Rattle.written_tree.specs.declared.written_module.WrittenModule.{WrittenModule}
 use Rattle.written_tree.specs.Faults.{earlier, passed}
-use Rattle.written_modules.specs.inner.Meaning.{meaning}
-use Rattle.written_modules.specs.inner.Parts.{part, place_at, text_at}
-use Rattle.written_modules.specs.Opened.{PartGivens, PartParams, PartType, PartValue}
-use Rattle.written_modules.specs.inner.PartFaults.{body_fault, function_fault, module_fault, part_fault}
+use Rattle.written_values.specs.inner.Meaning.{meaning}
+use Rattle.written_values.specs.inner.Parts.{part, place_at, text_at}
+use Rattle.written_values.specs.Opened.{PartGivens, PartParams, PartType, PartValue}
+use Rattle.written_values.specs.inner.PartFaults.{body_fault, function_fault, module_fault, part_fault}
 use Rattle.written_tree.specs.Places.{arg_place, attribute_places, case_place, decl_names, field_place, function_names, label_place, operand_place, token_place}
 use Rattle.written_tree.proofs.FaultOrder.{no_first, no_second}
-use Rattle.written_modules.specs.Types.{in_parens, tailed, type_before}
-use Rattle.written_modules.specs.Values.{args_of, blocks_of, cases_of, edges_of, field_of, fields_of, givens_of, imports_of}
-use Rattle.written_modules.specs.Values.{inst_of, items_of, linkage_of, member_of, operands_of, params_of, questions_of}
-use Rattle.written_modules.specs.Values.{signature_of, stage_of, token_of, tokens_of, type_of, types_of}
-use Rattle.written_modules.proofs.Unfolded.{value_parts}
+use Rattle.written_values.specs.Types.{in_parens, tailed, type_before}
+use Rattle.written_values.specs.Values.{args_of, blocks_of, cases_of, edges_of, field_of, fields_of, givens_of, imports_of}
+use Rattle.written_values.specs.Values.{inst_of, items_of, linkage_of, member_of, operands_of, params_of, questions_of}
+use Rattle.written_values.specs.Values.{signature_of, stage_of, token_of, tokens_of, type_of, types_of}
+use Rattle.written_values.proofs.Unfolded.{value_parts}
 use Rattle.name_resolution.specs.Resolved.{Scope, resolved_case, resolved_decl, resolved_field, resolved_operand}
 use Rattle.numbered_form.specs.Lists.{Each}
 use Rattle.numbered_form.specs.Fields.{IsStrong}

@@ -13,11 +13,12 @@ use Rattle.sil_shape.specs.Accepts.{Suits}
 use Rattle.sil_shape.specs.Derivation.{Derives}
 use Rattle.sil_shape.specs.Derivation.Derives.{nothing, token, rule}
 use Rattle.sil_shape.specs.Grammar.{body}
-use Rattle.written_modules.specs.inner.Meaning.{kept_of, leaf_of}
-use Rattle.written_modules.specs.inner.Parts.{part}
-use Rattle.written_modules.specs.Opened.{PartValue}
-use Rattle.written_modules.specs.inner.Replay.{first_fault, parts_of, reduced, replay}
-use Rattle.written_modules.specs.Values.{token_of}
+use Rattle.written_modules.specs.Leaves.{kept_of, leaf_of}
+use Rattle.written_values.specs.inner.Parts.{part}
+use Rattle.written_values.specs.Opened.{PartValue}
+use Rattle.written_modules.specs.inner.Replay.{first_fault, replay}
+use Rattle.written_values.specs.inner.Reduced.{parts_of, reduced}
+use Rattle.written_values.specs.Values.{token_of}
 use Rattle.numbered_reading_laws.specs.inner.Leaves.{AreOfClasses, IsOfClass, IsTextOf}
 use Rattle.numbered_reading_laws.proofs.FaultlessParts.{AreGoodFrom, IsGood, IsGoodToken}
 use Rattle.numbered_reading_laws.proofs.PartLemmas.{good_part}

@@ -21,11 +21,11 @@ use Rattle.sil_shape.specs.declared.grammar.Nonterminal.TheVariants as n
 use Rattle.written_tree.specs.Faults.{out_of_range}
 use Rattle.written_tree.specs.declared.written_instructions.WrittenEdge.{WrittenEdge}
 use Rattle.written_tree.specs.declared.written_instructions.WrittenInst.{WrittenInst}
-use Rattle.written_modules.specs.Opened.{PartValue}
-use Rattle.written_modules.specs.inner.PartFaults.{fault_of_part}
-use Rattle.written_modules.specs.inner.Parts.{part, place_at, text_at}
-use Rattle.written_modules.specs.inner.RowMeaning.{edges_at, number_by, with_part}
-use Rattle.written_modules.specs.Values.{edge_of, member_of, qualifier_of, type_of}
+use Rattle.written_values.specs.Opened.{PartValue}
+use Rattle.written_values.specs.inner.PartFaults.{fault_of_part}
+use Rattle.written_values.specs.inner.Parts.{part, place_at, text_at}
+use Rattle.written_values.specs.inner.RowMeaning.{edges_at, number_by, with_part}
+use Rattle.written_values.specs.Values.{edge_of, member_of, qualifier_of, type_of}
 use Rattle.name_resolution.specs.Resolved.{Scope, resolved_edge}
 use Rattle.numbered_form.specs.Lists.{Each}
 use Rattle.numbered_form.specs.Literals.{is_number_by, is_text_by}

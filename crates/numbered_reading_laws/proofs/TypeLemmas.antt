@@ -15,9 +15,9 @@ use Rattle.sil_rules.specs.declared.limit_word.LimitWord.TheVariants as limit
 use Rattle.written_tree.specs.declared.written_declarations.WrittenToken.{WrittenToken}
 use Rattle.written_tree.specs.Faults.{fault, passed}
 use Rattle.written_tree.proofs.FaultOrder.{no_first, no_second}
-use Rattle.written_modules.specs.Opened.{PartType, PartTypes}
-use Rattle.written_modules.specs.inner.PartFaults.{too_deep, too_deep_among, too_many_questions, tuple_fault}
-use Rattle.written_modules.specs.Types.{between, deeper, in_parens, kept, with_questions, named_type, one_deeper, one_token, type_before, width_in_range, width_of, width_over}
+use Rattle.written_values.specs.Opened.{PartType, PartTypes}
+use Rattle.written_values.specs.inner.PartFaults.{too_deep, too_deep_among, too_many_questions, tuple_fault}
+use Rattle.written_values.specs.Types.{between, deeper, in_parens, kept, with_questions, named_type, one_deeper, one_token, type_before, width_in_range, width_of, width_over}
 use Rattle.numbered_form.specs.Literals.{literal_width, width_at}
 use Rattle.numbered_form.specs.Names.{IsWord, is_word}
 use Rattle.numbered_form.specs.Types.{IsPlacedType, IsPlainType, is_placed_at, is_plain_type, is_tuple, is_width, is_written, same}

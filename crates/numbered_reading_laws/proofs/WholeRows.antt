@@ -20,10 +20,10 @@ use Rattle.written_tree.specs.declared.fault.Fault.{Fault}
 use Rattle.written_tree.specs.declared.written_declarations.WrittenToken.{WrittenToken}
 use Rattle.written_tree.specs.declared.written_instructions.WrittenInst.{WrittenInst}
 use Rattle.written_tree.proofs.FaultOrder.{no_first, no_second}
-use Rattle.written_modules.specs.Opened.{PartValue}
-use Rattle.written_modules.specs.inner.PartFaults.{fault_of_part, parts_fault, row_fault}
-use Rattle.written_modules.specs.inner.RowMeaning.{begun, behind_part, row, with_part, with_parts}
-use Rattle.written_modules.specs.Values.{inst_of}
+use Rattle.written_values.specs.Opened.{PartValue}
+use Rattle.written_values.specs.inner.PartFaults.{fault_of_part, parts_fault, row_fault}
+use Rattle.written_values.specs.inner.RowMeaning.{begun, behind_part, row, with_part, with_parts}
+use Rattle.written_values.specs.Values.{inst_of}
 use Rattle.name_resolution.specs.Resolved.{function_of, resolved_edge, resolved_operand}
 use Rattle.numbered_form.specs.Limits.{IsEdgeInLimits, IsSignatureInLimits}
 use Rattle.numbered_form.specs.Literals.{is_number_of, is_text_of}

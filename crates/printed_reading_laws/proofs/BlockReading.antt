@@ -22,11 +22,12 @@ use Rattle.sil_shape.specs.Grammar.{body, written}
 use Rattle.token_classes.specs.Spelling.{at_spelling, punctuation_spelling}
 use Rattle.sil_rules.specs.declared.limit_word.LimitWord.TheVariants as limit
 use Rattle.written_tree.specs.Faults.{passed}
-use Rattle.written_modules.specs.inner.Meaning.{kept_of, meaning}
-use Rattle.written_modules.specs.Opened.{PartValue}
-use Rattle.written_modules.specs.inner.PartFaults.{part_fault}
+use Rattle.written_modules.specs.Leaves.{kept_of}
+use Rattle.written_values.specs.inner.Meaning.{meaning}
+use Rattle.written_values.specs.Opened.{PartValue}
+use Rattle.written_values.specs.inner.PartFaults.{part_fault}
 use Rattle.written_tree.specs.Places.{arg_place}
-use Rattle.written_modules.specs.Values.{arg_of, args_of, block_of, blocks_of, insts_of, ownership_of, terminator_of, token_of}
+use Rattle.written_values.specs.Values.{arg_of, args_of, block_of, blocks_of, insts_of, ownership_of, terminator_of, token_of}
 use Rattle.numbered_form.specs.Lists.{Each}
 use Rattle.instruction_table.specs.Forms.{is_terminator}
 use Rattle.numbered_form.specs.Types.{IsPlacedType}

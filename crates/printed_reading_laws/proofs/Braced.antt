@@ -9,9 +9,9 @@ use Rattle.sil_shape.specs.declared.grammar.Symbol.TheVariants.{Part, Read}
 use Rattle.sil_shape.specs.declared.grammar.Terminal.TheVariants as t
 use Rattle.sil_shape.specs.Terminals.{punctuation, word}
 use Rattle.token_classes.specs.Spelling.{punctuation_spelling, spelling}
-use Rattle.written_modules.specs.inner.Meaning.{kept_of}
-use Rattle.written_modules.specs.Opened.{PartValue}
-use Rattle.written_modules.specs.Values.{token_of}
+use Rattle.written_modules.specs.Leaves.{kept_of}
+use Rattle.written_values.specs.Opened.{PartValue}
+use Rattle.written_values.specs.Values.{token_of}
 use Rattle.numbered_form.specs.Names.{IsWord}
 use Rattle.printed_reading_laws.proofs.FixedTokens.{any_word, keyword_here, punctuation_here}
 use Rattle.printed_reading_laws.proofs.Pieces.{Reads, Stands, Reads as reads}

@@ -10,9 +10,9 @@ use Rattle.sil_shape.specs.declared.grammar.Symbol.TheVariants.{Read, Part}
 use Rattle.sil_shape.specs.Grammar.{body, written}
 use Rattle.sil_shape.specs.Terminals.{punctuation}
 use Rattle.token_classes.specs.Spelling.{punctuation_of, punctuation_spelling, signs}
-use Rattle.written_modules.specs.inner.Meaning.{meaning}
-use Rattle.written_modules.specs.Opened.{PartValue}
-use Rattle.written_modules.specs.inner.PartFaults.{part_fault}
+use Rattle.written_values.specs.inner.Meaning.{meaning}
+use Rattle.written_values.specs.Opened.{PartValue}
+use Rattle.written_values.specs.inner.PartFaults.{part_fault}
 use Rattle.numbered_form.specs.Lists.{Each}
 use Rattle.printed_reading_laws.proofs.Pieces.{Ends, Reads, Reads as reads, ReadsAs, ReadsOne, behind}
 use Rattle.printed_reading_laws.proofs.Tokens.{punctuation_token}

@@ -16,9 +16,10 @@ use Rattle.sil_shape.specs.declared.grammar.Production.TheVariants as p
 use Rattle.sil_shape.specs.declared.grammar.Symbol.TheVariants.{Read}
 use Rattle.sil_shape.specs.declared.grammar.Terminal.TheVariants as t
 use Rattle.written_numbers.proofs.Printed.{printed_number}
-use Rattle.written_modules.specs.inner.Meaning.{kept_of, meaning}
-use Rattle.written_modules.specs.inner.PartFaults.{part_fault}
-use Rattle.written_modules.specs.Values.{debug_of, no_debug, token_of}
+use Rattle.written_modules.specs.Leaves.{kept_of}
+use Rattle.written_values.specs.inner.Meaning.{meaning}
+use Rattle.written_values.specs.inner.PartFaults.{part_fault}
+use Rattle.written_values.specs.Values.{debug_of, no_debug, token_of}
 use Rattle.numbered_form.specs.Names.{is_quotable}
 use Rattle.sil_grammar.specs.Classes.{text_class}
 use Rattle.sil_grammar.proofs.NumberedLemmas.{between_quotes}

@@ -23,10 +23,11 @@ use Rattle.written_tree.specs.declared.written_module.WrittenItem.TheVariants as
 use Rattle.sil_rules.specs.declared.limit_word.LimitWord.TheVariants as limit
 use Rattle.written_tree.specs.Faults.{passed}
 use Rattle.written_tree.specs.Places.{case_place, field_place}
-use Rattle.written_modules.specs.inner.Meaning.{kept_of, meaning}
-use Rattle.written_modules.specs.Opened.{PartValue}
-use Rattle.written_modules.specs.inner.PartFaults.{part_fault}
-use Rattle.written_modules.specs.Values.{cases_of, field_before, field_of, fields_of, item_of, payload_of, token_of}
+use Rattle.written_modules.specs.Leaves.{kept_of}
+use Rattle.written_values.specs.inner.Meaning.{meaning}
+use Rattle.written_values.specs.Opened.{PartValue}
+use Rattle.written_values.specs.inner.PartFaults.{part_fault}
+use Rattle.written_values.specs.Values.{cases_of, field_before, field_of, fields_of, item_of, payload_of, token_of}
 use Rattle.name_resolution.specs.Resolved.{resolved_case, resolved_field}
 use Rattle.numbered_form.specs.Fields.{HasStrongFields, IsStrong}
 use Rattle.numbered_form.specs.Lists.{Each}

@@ -23,12 +23,13 @@ use Rattle.written_tree.specs.declared.written_declarations.WrittenToken.{Writte
 use Rattle.written_tree.specs.declared.written_functions.WrittenBlock.{WrittenBlock}
 use Rattle.written_tree.specs.declared.written_module.WrittenItem.TheVariants as item
 use Rattle.written_tree.specs.Faults.{passed}
-use Rattle.written_modules.specs.inner.Meaning.{kept_of, meaning}
-use Rattle.written_modules.specs.Opened.{PartValue}
-use Rattle.written_modules.specs.inner.PartFaults.{body_fault, part_fault}
+use Rattle.written_modules.specs.Leaves.{kept_of}
+use Rattle.written_values.specs.inner.Meaning.{meaning}
+use Rattle.written_values.specs.Opened.{PartValue}
+use Rattle.written_values.specs.inner.PartFaults.{body_fault, part_fault}
 use Rattle.written_tree.specs.Places.{attribute_places, is_kept, label_place, mnemonics_of, token_place, values_of_block}
 use Rattle.written_tree.proofs.FaultOrder.{neither}
-use Rattle.written_modules.specs.Values.{blocks_of, item_of, linkage_of, token_of, tokens_of}
+use Rattle.written_values.specs.Values.{blocks_of, item_of, linkage_of, token_of, tokens_of}
 use Rattle.name_resolution.specs.Names.{Name, name_of}
 use Rattle.numbered_form.specs.Functions.{IsAttribute}
 use Rattle.numbered_form.specs.Lists.{Each}

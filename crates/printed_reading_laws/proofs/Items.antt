@@ -7,10 +7,10 @@ use Rattle.sil_shape.specs.declared.grammar.Nonterminal.TheVariants as n
 use Rattle.sil_shape.specs.declared.grammar.Production.TheVariants as p
 use Rattle.sil_shape.specs.Grammar.{body, written}
 use Rattle.written_tree.specs.declared.written_module.WrittenItem.{WrittenItem}
-use Rattle.written_modules.specs.inner.Meaning.{meaning}
-use Rattle.written_modules.specs.Opened.{PartValue}
-use Rattle.written_modules.specs.inner.PartFaults.{part_fault}
-use Rattle.written_modules.specs.Values.{item_of, items_of}
+use Rattle.written_values.specs.inner.Meaning.{meaning}
+use Rattle.written_values.specs.Opened.{PartValue}
+use Rattle.written_values.specs.inner.PartFaults.{part_fault}
+use Rattle.written_values.specs.Values.{item_of, items_of}
 use Rattle.numbered_form.specs.Lists.{Each}
 use Rattle.printed_reading_laws.proofs.Pieces.{Stands, Reads as reads}
 use Rattle.printed_reading_laws.proofs.ProductionReading.{stands_by, part_here}

@@ -11,10 +11,11 @@ use Rattle.sil_shape.specs.declared.grammar.Production.TheVariants as p
 use Rattle.sil_shape.specs.declared.grammar.Symbol.{Symbol}
 use Rattle.sil_shape.specs.declared.grammar.Symbol.TheVariants.{Read}
 use Rattle.sil_shape.specs.declared.grammar.Terminal.TheVariants as t
-use Rattle.written_modules.specs.inner.Meaning.{kept_of, meaning}
-use Rattle.written_modules.specs.Opened.{PartValue}
-use Rattle.written_modules.specs.inner.PartFaults.{part_fault}
-use Rattle.written_modules.specs.Values.{token_of, tokens_of}
+use Rattle.written_modules.specs.Leaves.{kept_of}
+use Rattle.written_values.specs.inner.Meaning.{meaning}
+use Rattle.written_values.specs.Opened.{PartValue}
+use Rattle.written_values.specs.inner.PartFaults.{part_fault}
+use Rattle.written_values.specs.Values.{token_of, tokens_of}
 use Rattle.numbered_form.specs.Lists.{Each}
 use Rattle.numbered_reading_laws.proofs.ListsAndFaults.{Each-weaker}
 use Rattle.printed_reading_laws.proofs.Commas.{AllItems, MoreItems, list_reads}

@@ -4,7 +4,7 @@ use Rattle.std.specs.List.{AllZip, list_all}
 use Rattle.std.specs.Prelude.{is_none, not}
 use Rattle.std.proofs.lemmas.Bool.{and_parts}
 use Rattle.sil_ast.specs.declared.operands.Operand.{Operand}
-use Rattle.written_modules.specs.inner.RowMeaning.{bare_operand}
+use Rattle.written_values.specs.inner.RowMeaning.{bare_operand}
 use Rattle.written_tree.specs.declared.written_declarations.WrittenToken.{WrittenToken}
 use Rattle.numbered_form.specs.Parts.{is_bare}
 use Rattle.printed_reading_laws.proofs.Written.{IsOperandWritten, IsValueNamed}

@@ -20,10 +20,11 @@ use Rattle.sil_shape.specs.declared.grammar.Production.TheVariants as p
 use Rattle.sil_shape.specs.declared.grammar.Symbol.TheVariants.{Part as NamedPart}
 use Rattle.token_classes.specs.Spelling.{punctuation_of, punctuation_spelling, signs}
 use Rattle.sil_rules.specs.declared.limit_word.LimitWord.TheVariants as limit
-use Rattle.written_modules.specs.inner.Meaning.{kept_of, meaning}
-use Rattle.written_modules.specs.inner.PartFaults.{part_fault}
-use Rattle.written_modules.specs.inner.RowMeaning.{bare_operand, typed_by}
-use Rattle.written_modules.specs.Values.{operands_of, token_of, tokens_of}
+use Rattle.written_modules.specs.Leaves.{kept_of}
+use Rattle.written_values.specs.inner.Meaning.{meaning}
+use Rattle.written_values.specs.inner.PartFaults.{part_fault}
+use Rattle.written_values.specs.inner.RowMeaning.{bare_operand, typed_by}
+use Rattle.written_values.specs.Values.{operands_of, token_of, tokens_of}
 use Rattle.written_tree.specs.Faults.{passed}
 use Rattle.written_tree.specs.Places.{operand_place}
 use Rattle.written_tree.specs.declared.written_instructions.WrittenInst.{WrittenInst}

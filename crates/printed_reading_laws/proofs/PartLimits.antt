@@ -8,8 +8,8 @@ use Rattle.sil_ast.specs.declared.type_name.TypeName.{TypeName}
 use Rattle.written_tree.specs.declared.fault.FaultKind.TheVariants.{Limit}
 use Rattle.sil_rules.specs.declared.limit_word.LimitWord.{LimitWord}
 use Rattle.written_tree.specs.Faults.{fault, passed}
-use Rattle.written_modules.specs.inner.PartFaults.{too_deep}
-use Rattle.written_modules.specs.Types.{deeper, kept}
+use Rattle.written_values.specs.inner.PartFaults.{too_deep}
+use Rattle.written_values.specs.Types.{deeper, kept}
 use Rattle.numbered_reading_laws.proofs.TypeLemmas.{all_kept, one_more}
 
 -- as many as the limit allows

@@ -8,11 +8,11 @@ use Rattle.instruction_table.specs.declared.forms.Part.{Part}
 use Rattle.instruction_table.specs.declared.forms.Part.TheVariants as form
 use Rattle.instruction_table.specs.declared.op.Op.{Op}
 use Rattle.sil_rules.specs.declared.limit_word.LimitWord.TheVariants as limit
-use Rattle.written_modules.specs.Opened.{PartValue}
-use Rattle.written_modules.specs.inner.PartFaults.{fault_of_part}
-use Rattle.written_modules.specs.inner.Parts.{part}
-use Rattle.written_modules.specs.inner.RowMeaning.{bare_operand, edges_at, number_by, typed_by, with_part}
-use Rattle.written_modules.specs.Values.{debug_of, edge_of, edges_of, flags_of, member_of, operands_of, qualifier_of, signature_of, token_of, tokens_of, type_of}
+use Rattle.written_values.specs.Opened.{PartValue}
+use Rattle.written_values.specs.inner.PartFaults.{fault_of_part}
+use Rattle.written_values.specs.inner.Parts.{part}
+use Rattle.written_values.specs.inner.RowMeaning.{bare_operand, edges_at, number_by, typed_by, with_part}
+use Rattle.written_values.specs.Values.{debug_of, edge_of, edges_of, flags_of, member_of, operands_of, qualifier_of, signature_of, token_of, tokens_of, type_of}
 use Rattle.written_tree.specs.Faults.{out_of_range, passed}
 use Rattle.written_tree.specs.Places.{operand_place}
 use Rattle.written_tree.specs.declared.written_instructions.WrittenInst.{WrittenInst}

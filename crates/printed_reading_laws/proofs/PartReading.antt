@@ -30,10 +30,10 @@ use Rattle.sil_shape.specs.declared.grammar.Terminal.TheVariants as t
 use Rattle.token_classes.specs.Spelling.{keyword_of, keywords, known_keyword, punctuation_of, punctuation_spelling, signs, spelling}
 use Rattle.token_classes.specs.declared.classes.Class.TheVariants as c
 use Rattle.builtin_names.specs.BuiltinNames.{is_builtin_name}
-use Rattle.written_modules.specs.inner.Meaning.{kept_of}
-use Rattle.written_modules.specs.Opened.{PartValue}
-use Rattle.written_modules.specs.inner.RowMeaning.{number_by}
-use Rattle.written_modules.specs.Values.{member_of, token_of}
+use Rattle.written_modules.specs.Leaves.{kept_of}
+use Rattle.written_values.specs.Opened.{PartValue}
+use Rattle.written_values.specs.inner.RowMeaning.{number_by}
+use Rattle.written_values.specs.Values.{member_of, token_of}
 use Rattle.numbered_form.specs.Limits.{IsSignatureInLimits}
 use Rattle.numbered_form.specs.Literals.{is_number_by, is_text_by}
 use Rattle.numbered_form.specs.Names.{IsMemberSpelled, is_quotable}

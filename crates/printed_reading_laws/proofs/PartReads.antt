@@ -10,9 +10,9 @@ use Rattle.sil_printer.specs.CanonicalInsts.{gap}
 use Rattle.sil_printer.specs.Words.{if_there}
 use Rattle.sil_shape.specs.Rows.{brings_comma, symbols_of}
 use Rattle.sil_shape.specs.declared.grammar.Symbol.{Symbol}
-use Rattle.written_modules.specs.Opened.{PartValue}
-use Rattle.written_modules.specs.inner.PartFaults.{fault_of_part}
-use Rattle.written_modules.specs.inner.RowMeaning.{with_part}
+use Rattle.written_values.specs.Opened.{PartValue}
+use Rattle.written_values.specs.inner.PartFaults.{fault_of_part}
+use Rattle.written_values.specs.inner.RowMeaning.{with_part}
 use Rattle.written_tree.specs.declared.written_instructions.WrittenInst.{WrittenInst}
 use Rattle.printed_reading_laws.proofs.OperandForms.{impossible}
 use Rattle.printed_reading_laws.proofs.Pieces.{Reads}

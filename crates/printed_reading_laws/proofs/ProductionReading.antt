@@ -6,9 +6,9 @@ use Rattle.sil_shape.specs.declared.grammar.Production.{Production}
 use Rattle.sil_shape.specs.declared.grammar.Symbol.{Symbol}
 use Rattle.sil_shape.specs.declared.grammar.Symbol.TheVariants.{Part}
 use Rattle.sil_shape.specs.Grammar.{body, written}
-use Rattle.written_modules.specs.inner.Meaning.{meaning}
-use Rattle.written_modules.specs.Opened.{PartValue}
-use Rattle.written_modules.specs.inner.PartFaults.{part_fault}
+use Rattle.written_values.specs.inner.Meaning.{meaning}
+use Rattle.written_values.specs.Opened.{PartValue}
+use Rattle.written_values.specs.inner.PartFaults.{part_fault}
 use Rattle.printed_reading_laws.proofs.Pieces.{Reads, Stands, behind, Reads as reads}
 
 -- what the production writes stands for what it makes of its parts

@@ -13,8 +13,8 @@ use Rattle.sil_printer.specs.CanonicalInsts.{block_name, default_word, edge_text
 use Rattle.sil_printer.specs.Words.{listed, parens_if_any}
 use Rattle.sil_shape.specs.Rows.{edges_by}
 use Rattle.token_classes.specs.Spelling.{punctuation_of, punctuation_spelling, signs}
-use Rattle.written_modules.specs.Opened.{PartValue}
-use Rattle.written_modules.specs.inner.RowMeaning.{edges_at}
+use Rattle.written_values.specs.Opened.{PartValue}
+use Rattle.written_values.specs.inner.RowMeaning.{edges_at}
 use Rattle.numbered_form.specs.Limits.{IsEdgeInLimits}
 use Rattle.numbered_form.specs.Lists.{Each}
 use Rattle.numbered_form.specs.Names.{IsEdgeSpelled}

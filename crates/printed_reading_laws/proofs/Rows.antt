@@ -19,11 +19,12 @@ use Rattle.sil_shape.specs.declared.grammar.Symbol.{Symbol}
 use Rattle.token_classes.specs.Spelling.{spelling}
 use Rattle.token_classes.specs.declared.classes.Keyword.TheVariants as k
 use Rattle.sil_lexer.specs.declared.token.TokenKind.TheVariants as kind
-use Rattle.written_modules.specs.inner.Meaning.{leaf_of, meaning}
-use Rattle.written_modules.specs.Opened.{PartValue}
-use Rattle.written_modules.specs.inner.PartFaults.{fault_of_part, part_fault, parts_fault}
-use Rattle.written_modules.specs.inner.RowMeaning.{behind_part, with_part, with_parts}
-use Rattle.written_modules.specs.Values.{bare_inst, inst_of, token_of}
+use Rattle.written_modules.specs.Leaves.{leaf_of}
+use Rattle.written_values.specs.inner.Meaning.{meaning}
+use Rattle.written_values.specs.Opened.{PartValue}
+use Rattle.written_values.specs.inner.PartFaults.{fault_of_part, part_fault, parts_fault}
+use Rattle.written_values.specs.inner.RowMeaning.{behind_part, with_part, with_parts}
+use Rattle.written_values.specs.Values.{bare_inst, inst_of, token_of}
 use Rattle.written_tree.specs.Faults.{earlier}
 use Rattle.written_tree.specs.declared.written_instructions.WrittenInst.{WrittenInst}
 use Rattle.numbered_form.specs.Names.{is_word}

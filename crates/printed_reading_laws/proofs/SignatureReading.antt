@@ -19,10 +19,10 @@ use Rattle.sil_shape.specs.declared.grammar.Symbol.TheVariants.{Part}
 use Rattle.sil_shape.specs.Grammar.{body, written}
 use Rattle.token_classes.specs.Spelling.{at_spelling, at_word_of, at_words, keyword_of, keywords, known_at_word, known_keyword, punctuation_of, punctuation_spelling, signs, spelling}
 use Rattle.sil_rules.specs.declared.limit_word.LimitWord.TheVariants as limit
-use Rattle.written_modules.specs.inner.Meaning.{meaning}
-use Rattle.written_modules.specs.Opened.{PartGivens, PartParams, PartValue}
-use Rattle.written_modules.specs.inner.PartFaults.{part_fault}
-use Rattle.written_modules.specs.Values.{convention_of, given_before, givens_of, param_before, params_of, signature_of, type_of}
+use Rattle.written_values.specs.inner.Meaning.{meaning}
+use Rattle.written_values.specs.Opened.{PartGivens, PartParams, PartValue}
+use Rattle.written_values.specs.inner.PartFaults.{part_fault}
+use Rattle.written_values.specs.Values.{convention_of, given_before, givens_of, param_before, params_of, signature_of, type_of}
 use Rattle.numbered_form.specs.Lists.{Each}
 use Rattle.numbered_form.specs.Limits.{IsSignatureInLimits}
 use Rattle.numbered_form.specs.Types.{HasGivenType, HasParamType, HasSignatureTypes, IsPlainType}

@@ -20,11 +20,12 @@ use Rattle.sil_shape.specs.Terminals.{word}
 use Rattle.token_classes.specs.Spelling.{at_spelling, at_word_of, at_words, keyword_of, keywords, known_at_word, known_keyword, punctuation_of, punctuation_spelling, signs, spelling}
 use Rattle.written_tree.specs.declared.written_declarations.WrittenToken.{WrittenToken}
 use Rattle.written_tree.specs.declared.fault.Fault.{Fault}
-use Rattle.written_modules.specs.inner.Meaning.{kept_of, meaning}
-use Rattle.written_modules.specs.Opened.{PartType, PartValue}
-use Rattle.written_modules.specs.inner.PartFaults.{part_fault, too_deep, too_many_questions}
-use Rattle.written_modules.specs.Types.{deeper, kept, tailed}
-use Rattle.written_modules.specs.Values.{questions_of, token_of, type_of}
+use Rattle.written_modules.specs.Leaves.{kept_of}
+use Rattle.written_values.specs.inner.Meaning.{meaning}
+use Rattle.written_values.specs.Opened.{PartType, PartValue}
+use Rattle.written_values.specs.inner.PartFaults.{part_fault, too_deep, too_many_questions}
+use Rattle.written_values.specs.Types.{deeper, kept, tailed}
+use Rattle.written_values.specs.Values.{questions_of, token_of, type_of}
 use Rattle.numbered_form.specs.Names.{is_word}
 use Rattle.numbered_form.specs.Types.{is_width}
 use Rattle.printed_reading_laws.proofs.Commas.{by_rule}

@@ -14,11 +14,11 @@ use Rattle.sil_shape.specs.declared.grammar.Symbol.TheVariants.{Part}
 use Rattle.sil_shape.specs.Grammar.{body, written}
 use Rattle.token_classes.specs.Spelling.{punctuation_of, punctuation_spelling, signs}
 use Rattle.sil_rules.specs.declared.limit_word.LimitWord.TheVariants as limit
-use Rattle.written_modules.specs.inner.Meaning.{meaning}
-use Rattle.written_modules.specs.Opened.{PartType, PartTypes, PartValue}
-use Rattle.written_modules.specs.inner.PartFaults.{part_fault, too_deep_among, tuple_fault}
-use Rattle.written_modules.specs.Types.{between, type_before}
-use Rattle.written_modules.specs.Values.{questions_of, no_types, payload_of, type_of, types_of}
+use Rattle.written_values.specs.inner.Meaning.{meaning}
+use Rattle.written_values.specs.Opened.{PartType, PartTypes, PartValue}
+use Rattle.written_values.specs.inner.PartFaults.{part_fault, too_deep_among, tuple_fault}
+use Rattle.written_values.specs.Types.{between, type_before}
+use Rattle.written_values.specs.Values.{questions_of, no_types, payload_of, type_of, types_of}
 use Rattle.numbered_form.specs.Lists.{Each}
 use Rattle.printed_reading_laws.proofs.Commas.{AllItems, MoreItems, list_reads, listed_reads}
 use Rattle.printed_reading_laws.proofs.PartLimits.{not_passed, not_too_deep, one_more_level, whole_type}

@@ -18,10 +18,10 @@ use Rattle.sil_shape.specs.declared.grammar.Production.TheVariants as p
 use Rattle.sil_shape.specs.declared.grammar.Symbol.TheVariants.{Part}
 use Rattle.sil_shape.specs.Grammar.{body, written}
 use Rattle.token_classes.specs.Spelling.{punctuation_of, punctuation_spelling, signs}
-use Rattle.written_modules.specs.inner.Meaning.{meaning}
-use Rattle.written_modules.specs.inner.PartFaults.{part_fault}
-use Rattle.written_modules.specs.Opened.{PartValue}
-use Rattle.written_modules.specs.Values.{payload_of, starred, type_of}
+use Rattle.written_values.specs.inner.Meaning.{meaning}
+use Rattle.written_values.specs.inner.PartFaults.{part_fault}
+use Rattle.written_values.specs.Opened.{PartValue}
+use Rattle.written_values.specs.Values.{payload_of, starred, type_of}
 use Rattle.numbered_form.specs.Lists.{Each}
 use Rattle.numbered_form.specs.Types.{IsPlacedType, IsPlainType, is_placed_at, is_plain_type, is_tuple, is_written, same}
 use Rattle.printed_reading_laws.proofs.Pieces.{Ends, Reads, Reads as reads, ReadsAs, Stands}

@@ -14,10 +14,11 @@ use Rattle.sil_shape.specs.declared.grammar.Production.TheVariants as p
 use Rattle.sil_shape.specs.Grammar.{body, written}
 use Rattle.token_classes.specs.Spelling.{punctuation_spelling, spelling}
 use Rattle.written_tree.specs.declared.written_module.WrittenItem.TheVariants as item
-use Rattle.written_modules.specs.inner.Meaning.{kept_of, meaning}
-use Rattle.written_modules.specs.Opened.{PartValue}
-use Rattle.written_modules.specs.inner.PartFaults.{part_fault}
-use Rattle.written_modules.specs.Values.{entry_of, item_of, token_of}
+use Rattle.written_modules.specs.Leaves.{kept_of}
+use Rattle.written_values.specs.inner.Meaning.{meaning}
+use Rattle.written_values.specs.Opened.{PartValue}
+use Rattle.written_values.specs.inner.PartFaults.{part_fault}
+use Rattle.written_values.specs.Values.{entry_of, item_of, token_of}
 use Rattle.numbered_form.specs.Lists.{Each}
 use Rattle.numbered_form.specs.Names.{IsFunctionSpelled, IsVtableSpelled, IsWord}
 use Rattle.numbered_form.specs.Numbering.{IsVtableInRange}

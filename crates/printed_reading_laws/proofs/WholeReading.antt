@@ -24,12 +24,14 @@ use Rattle.written_tree.specs.declared.written_module.WrittenItem.TheVariants as
 use Rattle.written_tree.specs.declared.written_module.WrittenModule.{WrittenModule}
 use Rattle.written_tree.specs.declared.written_module.WrittenVtable.{WrittenVtable}
 use Rattle.written_tree.specs.Faults.{passed}
-use Rattle.written_modules.specs.inner.Meaning.{kept_of, meaning, with_import}
-use Rattle.written_modules.specs.Opened.{PartValue, module_value}
-use Rattle.written_modules.specs.inner.PartFaults.{module_fault, part_fault}
+use Rattle.written_modules.specs.Leaves.{kept_of}
+use Rattle.written_values.specs.inner.Meaning.{meaning}
+use Rattle.written_values.specs.Imports.{with_import}
+use Rattle.written_values.specs.Opened.{PartValue, module_value}
+use Rattle.written_values.specs.inner.PartFaults.{module_fault, part_fault}
 use Rattle.written_tree.specs.Places.{decl_names, function_names, token_place}
 use Rattle.written_tree.proofs.FaultOrder.{neither}
-use Rattle.written_modules.specs.Values.{imports_of, items_of, stage_of, token_of}
+use Rattle.written_values.specs.Values.{imports_of, items_of, stage_of, token_of}
 use Rattle.numbered_form.specs.Lists.{Each}
 use Rattle.numbered_form.specs.Names.{IsWord}
 use Rattle.printed_reading_laws.proofs.DeclReading.{IsDeclPrintable, decl_reads}

@@ -11,9 +11,9 @@ use Rattle.sil_shape.specs.Accepts.{Suits}
 use Rattle.sil_shape.specs.Grammar.{body, written}
 use Rattle.sil_shape.specs.Terminals.{at, word}
 use Rattle.token_classes.specs.Spelling.{at_spelling, at_word_of, keyword_of}
-use Rattle.written_modules.specs.inner.Meaning.{meaning}
-use Rattle.written_modules.specs.Opened.{PartValue}
-use Rattle.written_modules.specs.inner.PartFaults.{part_fault}
+use Rattle.written_values.specs.inner.Meaning.{meaning}
+use Rattle.written_values.specs.Opened.{PartValue}
+use Rattle.written_values.specs.inner.PartFaults.{part_fault}
 use Rattle.numbered_form.specs.Names.{is_at_name}
 use Rattle.printed_reading_laws.proofs.Commas.{by_rule}
 use Rattle.printed_reading_laws.proofs.Pieces.{Reads as reads, Stands}

@@ -21,7 +21,7 @@ use Rattle.sil_ast.specs.declared.vtable.DeinitEntry.{DeinitEntry}
 use Rattle.sil_ast.specs.declared.vtable.Vtable.{Vtable}
 use Rattle.sil_printer.specs.CanonicalInsts.{block_name}
 use Rattle.sil_printer.specs.Words.{if_there}
-use Rattle.written_modules.specs.Opened.{PartType}
+use Rattle.written_values.specs.Opened.{PartType}
 use Rattle.written_tree.specs.declared.written_declarations.WrittenDecl.{WrittenDecl}
 use Rattle.written_tree.specs.declared.written_declarations.WrittenToken.{WrittenToken}
 use Rattle.written_tree.specs.declared.written_functions.WrittenArg.{WrittenArg}

@@ -16,7 +16,7 @@ use Rattle.sil_ast.specs.declared.place.Place.{Place}
 use Rattle.sil_ast.specs.declared.place.ValueId.{ValueId}
 use Rattle.sil_ast.specs.declared.signature.Signature.{Signature}
 use Rattle.sil_ast.specs.declared.type_name.TypeName.{TypeName}
-use Rattle.written_modules.specs.Values.{bare_inst}
+use Rattle.written_values.specs.Values.{bare_inst}
 use Rattle.written_tree.specs.declared.written_declarations.WrittenToken.{WrittenToken}
 use Rattle.written_tree.specs.declared.written_instructions.WrittenEdge.{WrittenEdge}
 use Rattle.written_tree.specs.declared.written_instructions.WrittenInst.{WrittenInst}

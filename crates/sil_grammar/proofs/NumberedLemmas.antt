@@ -10,7 +10,7 @@ use Rattle.sil_lexer.specs.Spelling.{Spells, arrow, at_name, name_length, negati
 use Rattle.token_classes.specs.declared.classes.Punctuation as sign
 use Rattle.builtin_names.specs.BuiltinNames.{is_builtin_name}
 use Rattle.token_classes.specs.Spelling.{punctuation_of}
-use Rattle.written_modules.specs.inner.Meaning.{kept_of}
+use Rattle.written_modules.specs.Leaves.{kept_of}
 use Rattle.numbered_form.specs.Names.{is_quotable, is_short}
 use Rattle.numbered_form.specs.NumberedForm.{IsNumbered}
 use Rattle.numbered_reading_laws.specs.inner.Leaves.{AreOfClasses, IsTextOf}

@@ -5,7 +5,7 @@ use Rattle.sil_shape.specs.declared.steps.Step.{Step}
 use Rattle.sil_shape.specs.Derivation.{Derives, start}
 use Rattle.spelled_parts_laws.specs.inner.Laws.{IsReplayed}
 use Rattle.spelled_parts_laws.proofs.Derived.{stood_for}
-use Rattle.written_modules.specs.Opened.{module_value}
+use Rattle.written_values.specs.Opened.{module_value}
 use Rattle.written_modules.specs.inner.Replay.{first_fault, Writes}
 use Rattle.written_tree.specs.declared.written_module.WrittenModule.{WrittenModule}
 use Rattle.sil_grammar.specs.Classes.{token_class}

@@ -4,7 +4,7 @@ use Rattle.sil_ast.specs.declared.module.Module.{Module}
 use Rattle.sil_lexer.specs.Lexes.{Lexeme, Lexes}
 use Rattle.sil_shape.specs.Derivation.{start}
 use Rattle.written_tree.specs.declared.written_module.WrittenModule.{WrittenModule}
-use Rattle.written_modules.specs.Opened.{module_value}
+use Rattle.written_values.specs.Opened.{module_value}
 use Rattle.spelled_parts_laws.specs.Stands.{Stands}
 use Rattle.numbered_form.specs.NumberedForm.{IsNumbered}
 use Rattle.name_resolution.specs.NameFaults.{name_fault}

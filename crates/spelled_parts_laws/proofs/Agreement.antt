@@ -12,15 +12,15 @@ use Rattle.sil_shape.specs.declared.grammar.Production.TheVariants as p
 use Rattle.sil_shape.specs.declared.grammar.Symbol.TheVariants.{Part}
 use Rattle.sil_shape.specs.Grammar.{body, written}
 use Rattle.sil_shape.specs.Rows.{ends_block, parts_row, row_body, row_part}
-use Rattle.written_modules.specs.inner.Meaning.{meaning}
-use Rattle.written_modules.specs.Opened.{PartType, PartValue}
-use Rattle.written_modules.specs.inner.PartFaults.{part_fault}
-use Rattle.written_modules.specs.inner.RowMeaning.{row, with_parts}
-use Rattle.written_modules.specs.Types.{in_parens, named_type, one_token, tailed, type_before, width_in_range}
-use Rattle.written_modules.specs.Values.{args_of, bare_inst, blocks_of, cases_of, fields_of, givens_of, items_of, operands_of}
-use Rattle.written_modules.specs.Values.{params_of, questions_of, token_of, tokens_of, type_of, types_of}
-use Rattle.written_modules.specs.Variants as v
-use Rattle.written_modules.proofs.Unfolded.{value_parts}
+use Rattle.written_values.specs.inner.Meaning.{meaning}
+use Rattle.written_values.specs.Opened.{PartType, PartValue}
+use Rattle.written_values.specs.inner.PartFaults.{part_fault}
+use Rattle.written_values.specs.inner.RowMeaning.{row, with_parts}
+use Rattle.written_values.specs.Types.{in_parens, named_type, one_token, tailed, type_before, width_in_range}
+use Rattle.written_values.specs.Values.{args_of, bare_inst, blocks_of, cases_of, fields_of, givens_of, items_of, operands_of}
+use Rattle.written_values.specs.Values.{params_of, questions_of, token_of, tokens_of, type_of, types_of}
+use Rattle.written_values.specs.Variants as v
+use Rattle.written_values.proofs.Unfolded.{value_parts}
 use Rattle.written_tree.specs.declared.fault.Fault.{Fault}
 use Rattle.written_tree.specs.Faults.{earlier}
 use Rattle.written_tree.specs.declared.written_declarations.WrittenCase.{WrittenCase}

@@ -14,12 +14,13 @@ use Rattle.sil_shape.specs.Derivation.Derives.{nothing as derived_nothing, token
 use Rattle.sil_shape.specs.Grammar.{body}
 use Rattle.token_classes.specs.declared.classes.Class.{Class}
 use Rattle.written_modules.specs.Leaves.{kept_of, leaf_of}
-use Rattle.written_modules.specs.inner.Meaning.{meaning}
-use Rattle.written_modules.specs.Opened.{PartValue}
-use Rattle.written_modules.specs.inner.PartFaults.{part_fault}
-use Rattle.written_modules.specs.inner.Replay.{first_fault, parts_of, reduced, replay}
-use Rattle.written_modules.specs.Values.{no_token}
-use Rattle.written_modules.specs.Variants as v
+use Rattle.written_values.specs.inner.Meaning.{meaning}
+use Rattle.written_values.specs.Opened.{PartValue}
+use Rattle.written_values.specs.inner.PartFaults.{part_fault}
+use Rattle.written_modules.specs.inner.Replay.{first_fault, replay}
+use Rattle.written_values.specs.inner.Reduced.{parts_of, reduced}
+use Rattle.written_values.specs.Values.{no_token}
+use Rattle.written_values.specs.Variants as v
 use Rattle.written_tree.specs.declared.fault.Fault.{Fault}
 use Rattle.written_tree.specs.Faults.{earlier}
 use Rattle.spelled_parts_laws.specs.inner.Laws.{AreReplayed, AreToldByReplay}

@@ -24,12 +24,12 @@ use Rattle.sil_shape.specs.declared.grammar.Symbol.{Symbol}
 use Rattle.sil_shape.specs.Rows.{comma_behind, comma_between, edges_by, edges_of, member_by, member_of as member_part}
 use Rattle.sil_shape.specs.Rows.{operand_of as operand_part, parts_row, qualifier_of as qualifier_part, symbols_of, word_by}
 use Rattle.written_numbers.specs.Numbers.{literal_of}
-use Rattle.written_modules.specs.Opened.{PartValue}
-use Rattle.written_modules.specs.inner.PartFaults.{fault_of_part}
-use Rattle.written_modules.specs.inner.RowMeaning.{edges_at, number_by, typed_by, with_part}
-use Rattle.written_modules.specs.Values.{edge_of, type_of, edges_of as stored_edges}
-use Rattle.written_modules.specs.Variants as v
-use Rattle.written_modules.proofs.Unfolded.{value_parts}
+use Rattle.written_values.specs.Opened.{PartValue}
+use Rattle.written_values.specs.inner.PartFaults.{fault_of_part}
+use Rattle.written_values.specs.inner.RowMeaning.{edges_at, number_by, typed_by, with_part}
+use Rattle.written_values.specs.Values.{edge_of, type_of, edges_of as stored_edges}
+use Rattle.written_values.specs.Variants as v
+use Rattle.written_values.proofs.Unfolded.{value_parts}
 use Rattle.written_tree.specs.declared.fault.Fault.{Fault}
 use Rattle.written_tree.specs.declared.written_declarations.WrittenToken.{WrittenToken}
 use Rattle.written_tree.specs.declared.written_instructions.WrittenEdge.{WrittenEdge}

@@ -10,11 +10,11 @@ use Rattle.instruction_table.specs.declared.forms.Part.{Part}
 use Rattle.instruction_table.specs.declared.forms.Part.TheVariants as form
 use Rattle.instruction_table.specs.declared.op.Op.{Op}
 use Rattle.sil_shape.specs.Rows.{comma_behind, symbols_of}
-use Rattle.written_modules.specs.Opened.{PartValue}
-use Rattle.written_modules.specs.inner.PartFaults.{fault_of_part, parts_fault}
-use Rattle.written_modules.specs.inner.Parts.{part}
-use Rattle.written_modules.specs.inner.RowMeaning.{edges_at, number_by, with_part, with_parts}
-use Rattle.written_modules.specs.Values.{token_of}
+use Rattle.written_values.specs.Opened.{PartValue}
+use Rattle.written_values.specs.inner.PartFaults.{fault_of_part, parts_fault}
+use Rattle.written_values.specs.inner.Parts.{part}
+use Rattle.written_values.specs.inner.RowMeaning.{edges_at, number_by, with_part, with_parts}
+use Rattle.written_values.specs.Values.{token_of}
 use Rattle.written_tree.specs.declared.fault.Fault.{Fault}
 use Rattle.written_tree.specs.Faults.{earlier, out_of_range}
 use Rattle.written_tree.specs.declared.written_instructions.WrittenEdge.{WrittenEdge}

@@ -12,10 +12,10 @@ use Rattle.sil_rules.specs.declared.limit_word.LimitWord.TheVariants as limit
 use Rattle.written_tree.specs.declared.fault.Fault.{Fault}
 use Rattle.written_tree.specs.declared.fault.FaultKind.TheVariants.{Limit}
 use Rattle.written_tree.specs.Faults.{earlier, fault, passed}
-use Rattle.written_modules.specs.Opened.{PartType, PartTypes}
-use Rattle.written_modules.specs.inner.PartFaults.{too_deep, too_deep_among, too_many_questions, tuple_fault}
-use Rattle.written_modules.specs.Types.{between, deeper, in_parens, kept, one_deeper, type_before, width_in_range, width_over, with_questions}
-use Rattle.written_modules.specs.Values.{no_types}
+use Rattle.written_values.specs.Opened.{PartType, PartTypes}
+use Rattle.written_values.specs.inner.PartFaults.{too_deep, too_deep_among, too_many_questions, tuple_fault}
+use Rattle.written_values.specs.Types.{between, deeper, in_parens, kept, one_deeper, type_before, width_in_range, width_over, with_questions}
+use Rattle.written_values.specs.Values.{no_types}
 use Rattle.spelled_parts_laws.specs.Faults.{level_faults, parens_faults, question_faults}
 use Rattle.spelled_parts_laws.specs.Limits.{bits_over, past, too_deep as too_deep_here}
 use Rattle.spelled_parts_laws.proofs.FaultLists.{first-append, first-option, first_of}

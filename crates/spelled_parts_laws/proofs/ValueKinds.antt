@@ -18,9 +18,9 @@ use Rattle.sil_shape.specs.declared.grammar.Nonterminal.{Nonterminal}
 use Rattle.sil_shape.specs.declared.grammar.Nonterminal.TheVariants as n
 use Rattle.sil_shape.specs.declared.grammar.Symbol.{Symbol}
 use Rattle.sil_shape.specs.declared.grammar.Symbol.TheVariants.{Read, Part}
-use Rattle.written_modules.specs.Opened.{PartFlags, PartGivens, PartParams, PartType, PartTypes, PartValue}
-use Rattle.written_modules.specs.Types.{width_of}
-use Rattle.written_modules.specs.Variants as v
+use Rattle.written_values.specs.Opened.{PartFlags, PartGivens, PartParams, PartType, PartTypes, PartValue}
+use Rattle.written_values.specs.Types.{width_of}
+use Rattle.written_values.specs.Variants as v
 use Rattle.written_tree.specs.declared.written_declarations.WrittenCase.{WrittenCase}
 use Rattle.written_tree.specs.declared.written_declarations.WrittenField.{WrittenField}
 use Rattle.written_tree.specs.declared.written_declarations.WrittenToken.{WrittenToken}

@@ -9,10 +9,10 @@ use Rattle.sil_rules.specs.declared.limit_word.LimitWord.TheVariants as limit
 use Rattle.sil_rules.specs.declared.limits.TheConstants.{ARGUMENTS, BLOCKS, DECLARATIONS, FUNCTIONS, INSTRUCTIONS, MEMBERS, VALUES}
 use Rattle.sil_shape.specs.declared.grammar.Production.{Production}
 use Rattle.sil_shape.specs.declared.grammar.Production.TheVariants as p
-use Rattle.written_modules.specs.Opened.{PartTypes, PartValue}
-use Rattle.written_modules.specs.Types.{deeper, in_parens, type_before}
-use Rattle.written_modules.specs.Values.{bare_inst}
-use Rattle.written_modules.specs.Variants as v
+use Rattle.written_values.specs.Opened.{PartTypes, PartValue}
+use Rattle.written_values.specs.Types.{deeper, in_parens, type_before}
+use Rattle.written_values.specs.Values.{bare_inst}
+use Rattle.written_values.specs.Variants as v
 use Rattle.written_numbers.specs.Numbers.{small_of}
 use Rattle.written_tree.specs.Places.{arg_place, attribute_places, case_place, decl_names, field_place, function_names}
 use Rattle.written_tree.specs.Places.{label_place, mnemonics_of, operand_place, token_place, values_of_block}

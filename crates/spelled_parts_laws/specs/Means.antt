@@ -15,11 +15,11 @@ use Rattle.sil_ast.specs.declared.type_name.TypeName.TheVariants as ty
 use Rattle.sil_shape.specs.declared.grammar.Production.{Production}
 use Rattle.sil_shape.specs.declared.grammar.Production.TheVariants as p
 use Rattle.written_numbers.specs.Numbers.{small_of}
-use Rattle.written_modules.specs.Leaves.{with_import}
-use Rattle.written_modules.specs.Opened.{PartValue}
-use Rattle.written_modules.specs.Types.{in_parens, named_type, one_deeper, one_token, type_before, with_questions}
-use Rattle.written_modules.specs.Values.{bare_inst, no_debug, no_givens, no_params, no_qualifier, no_types}
-use Rattle.written_modules.specs.Variants as v
+use Rattle.written_values.specs.Imports.{with_import}
+use Rattle.written_values.specs.Opened.{PartValue}
+use Rattle.written_values.specs.Types.{in_parens, named_type, one_deeper, one_token, type_before, with_questions}
+use Rattle.written_values.specs.Values.{bare_inst, no_debug, no_givens, no_params, no_qualifier, no_types}
+use Rattle.written_values.specs.Variants as v
 use Rattle.written_tree.specs.declared.fault.Fault.{Fault}
 use Rattle.written_tree.specs.declared.written_declarations.WrittenDecl.TheVariants as decl
 use Rattle.written_tree.specs.declared.written_instructions.WrittenInst.{WrittenInst}

@@ -8,9 +8,9 @@ use Rattle.sil_shape.specs.declared.steps.Step.{Step}
 use Rattle.sil_shape.specs.declared.steps.Step.TheVariants.{Take, Expand}
 use Rattle.sil_shape.specs.Grammar.{body}
 use Rattle.written_modules.specs.Leaves.{leaf_of}
-use Rattle.written_modules.specs.Opened.{PartValue}
-use Rattle.written_modules.specs.Values.{no_token}
-use Rattle.written_modules.specs.Variants as v
+use Rattle.written_values.specs.Opened.{PartValue}
+use Rattle.written_values.specs.Values.{no_token}
+use Rattle.written_values.specs.Variants as v
 use Rattle.written_tree.specs.declared.fault.Fault.{Fault}
 use Rattle.written_tree.specs.Faults.{comes_before}
 use Rattle.spelled_parts_laws.specs.Faults.{AreFaultsOf}

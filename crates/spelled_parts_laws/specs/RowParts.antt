@@ -9,8 +9,8 @@ use Rattle.instruction_table.specs.declared.op.Op.{Op}
 use Rattle.sil_shape.specs.Rows.{comma_behind}
 use Rattle.sil_rules.specs.declared.limit_word.LimitWord.TheVariants as limit
 use Rattle.sil_rules.specs.declared.limits.TheConstants.{ARGUMENTS}
-use Rattle.written_modules.specs.Opened.{PartValue}
-use Rattle.written_modules.specs.Variants as v
+use Rattle.written_values.specs.Opened.{PartValue}
+use Rattle.written_values.specs.Variants as v
 use Rattle.written_tree.specs.Places.{operand_place}
 use Rattle.written_tree.specs.declared.fault.Fault.{Fault}
 use Rattle.written_tree.specs.declared.written_declarations.WrittenToken.{WrittenToken}

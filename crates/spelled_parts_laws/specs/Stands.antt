@@ -6,7 +6,7 @@ use Rattle.sil_shape.specs.declared.grammar.Symbol.{Symbol}
 use Rattle.sil_shape.specs.declared.steps.Step.{Step}
 use Rattle.sil_shape.specs.Derivation.{Derives}
 use Rattle.token_classes.specs.declared.classes.Class.{Class}
-use Rattle.written_modules.specs.Opened.{PartValue}
+use Rattle.written_values.specs.Opened.{PartValue}
 use Rattle.spelled_parts_laws.specs.Reading.{AreFaultless, Reads}
 
 -- these tokens, as these symbols, stand for these values, one for each symbol, and nothing is at fault

@@ -17,12 +17,13 @@ use Rattle.sil_shape.specs.Shortest.{Shortens}
 use Rattle.sil_shape.specs.Values.{takes_of, IsEnough}
 use Rattle.sil_shape.proofs.ValuesLemmas.{takes_of-append, IsEnough-drop}
 use Rattle.written_tree.specs.declared.fault.Fault.{Fault}
-use Rattle.written_modules.specs.declared.value.Value.{Value}
+use Rattle.written_values.specs.declared.value.Value.{Value}
 use Rattle.written_tree.specs.Faults.{earlier}
 use Rattle.written_modules.specs.inner.Lacking.{lacking}
 use Rattle.written_modules.specs.Leaves.{leaf_of}
-use Rattle.written_modules.specs.inner.PartFaults.{part_fault}
-use Rattle.written_modules.specs.inner.Replay.{first_fault, parts_of, reduced, replay, KeepsFirst}
+use Rattle.written_values.specs.inner.PartFaults.{part_fault}
+use Rattle.written_modules.specs.inner.Replay.{first_fault, replay, KeepsFirst}
+use Rattle.written_values.specs.inner.Reduced.{parts_of, reduced}
 use Rattle.written_modules.proofs.LackingLemmas.{fault_lacking, replay_lacking}
 use Rattle.written_modules.proofs.ReplayLength.{length-replay}
 

@@ -17,15 +17,16 @@ use Rattle.sil_shape.proofs.Shortened.{Shortens-derives}
 use Rattle.sil_shape.proofs.ValuesLemmas.{IsEnough-derives}
 use Rattle.written_tree.specs.Faults.{earlier}
 use Rattle.written_tree.proofs.FaultOrder.{neither}
-use Rattle.written_modules.specs.declared.value.Value.{Value}
-use Rattle.written_modules.specs.declared.value.Value.TheVariants as v
+use Rattle.written_values.specs.declared.value.Value.{Value}
+use Rattle.written_values.specs.declared.value.Value.TheVariants as v
 use Rattle.written_modules.specs.inner.Lacking.{lacking, lacking_within, waiting}
-use Rattle.written_modules.specs.inner.Meaning.{meaning}
-use Rattle.written_modules.specs.inner.PartFaults.{part_fault}
-use Rattle.written_modules.specs.inner.Replay.{first_fault, parts_of, reduced, replay}
-use Rattle.written_modules.specs.Types.{tailed}
-use Rattle.written_modules.specs.Values.{no_token}
-use Rattle.written_modules.proofs.Unfolded.{value_parts}
+use Rattle.written_values.specs.inner.Meaning.{meaning}
+use Rattle.written_values.specs.inner.PartFaults.{part_fault}
+use Rattle.written_modules.specs.inner.Replay.{first_fault, replay}
+use Rattle.written_values.specs.inner.Reduced.{parts_of, reduced}
+use Rattle.written_values.specs.Types.{tailed}
+use Rattle.written_values.specs.Values.{no_token}
+use Rattle.written_values.proofs.Unfolded.{value_parts}
 
 lacking-part : (part : Nonterminal) → lacking (Part part) ≡ meaning (shortest part) (map lacking (body (shortest part)))
 unfolding lacking lacking_within shortest body row_body parts_row symbols_of comma_behind meaning tailed value_parts

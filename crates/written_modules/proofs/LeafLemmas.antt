@@ -1,11 +1,11 @@
 -- Tokens inside a text, and the parts of it that are kept of them.
-use Rattle.std.proofs.Common.{◌≡◌, ℕ, ◌+◌, ◌-◌, ◌<◌, ◌≤◌, List, length, take, drop, get_or, ap, sym, ◌∙◌, arith}
-use Rattle.std.proofs.lemmas.List.{drop-drop, drop-take, length-drop, length-take-le}
+use Rattle.std.proofs.Common.{◌≡◌, ℕ, ◌+◌, ◌-◌, ◌<◌, List, length, take, drop, get_or, ap, sym, ◌∙◌, arith}
+use Rattle.std.proofs.lemmas.List.{drop-drop, drop-take}
 use Rattle.std.proofs.lemmas.List.Elements.{All-get_or}
 use Rattle.std.specs.Prelude.{All, slice_range}
 use Rattle.sil_lexer.specs.declared.token.Token.{Token}
 use Rattle.sil_lexer.specs.declared.token.TokenKind.TheVariants.{Word}
-use Rattle.sil_lexer.specs.Lexing.{spelling_of, IsInside}
+use Rattle.sil_lexer.specs.Lexing.{IsInside}
 
 pub some_token : Token
 some_token = record { kind = Word; place = record { offset = 0; line = 0; column = 0 }; length = 0 }

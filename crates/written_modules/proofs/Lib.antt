@@ -1,9 +1,5 @@
 pub mod LeafLemmas
 pub mod ReplayLength
 pub mod BuildLemmas
-pub mod RowLemmas
-pub mod FoundLemmas
-pub mod Unfolded
 pub mod LackingLemmas
-pub mod Popped
 pub mod WholeLemmas

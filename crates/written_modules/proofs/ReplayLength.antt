@@ -8,8 +8,9 @@ use Rattle.sil_shape.specs.declared.steps.Step.TheVariants.{Take, Expand}
 use Rattle.sil_shape.specs.Grammar.{body}
 use Rattle.sil_shape.specs.Values.{values_left, IsEnough}
 use Rattle.sil_shape.proofs.ValuesLemmas.{IsEnough-drop}
-use Rattle.written_modules.specs.declared.value.Value.{Value}
-use Rattle.written_modules.specs.inner.Replay.{reduced, replay}
+use Rattle.written_values.specs.declared.value.Value.{Value}
+use Rattle.written_values.specs.inner.Reduced.{reduced}
+use Rattle.written_modules.specs.inner.Replay.{replay}
 
 length-reduced : (p : Production) (values : List Value) → length (reduced p values) ≡ length values - length (body p) + 1
 unfolding reduced

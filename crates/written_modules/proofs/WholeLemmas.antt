@@ -18,11 +18,12 @@ use Rattle.sil_shape.specs.Shortest.{Shortens}
 use Rattle.sil_shape.specs.Values.{takes_of, IsEnough}
 use Rattle.sil_shape.proofs.Shortened.{Shortens-derives}
 use Rattle.sil_shape.proofs.ValuesLemmas.{takes_of-append, takes_of-derives, values_left-derives, IsEnough-derives}
-use Rattle.written_modules.specs.declared.value.Value.{Value}
-use Rattle.written_modules.specs.declared.value.Value.TheVariants as v
+use Rattle.written_values.specs.declared.value.Value.{Value}
+use Rattle.written_values.specs.declared.value.Value.TheVariants as v
 use Rattle.written_tree.specs.declared.written_module.WrittenModule.{WrittenModule}
-use Rattle.written_modules.specs.inner.Meaning.{meaning}
-use Rattle.written_modules.specs.inner.Replay.{reduced, replay}
+use Rattle.written_values.specs.inner.Meaning.{meaning}
+use Rattle.written_values.specs.inner.Reduced.{reduced}
+use Rattle.written_modules.specs.inner.Replay.{replay}
 use Rattle.written_modules.proofs.ReplayLength.{length-replay}
 
 no_row : (ends : Bool) → (if ends then n.Terminator else n.Row) ≡ n.Module → ⊥

@@ -1,13 +1,11 @@
--- What a token stands for by itself, and which imports are kept.
-use Rattle.std.specs.Prelude.{ℕ, List, [], Bool, ◌||◌, codes, nat_eq}
-use Rattle.std.specs.Cmp.Lexicographic.{pointwise}
-use Rattle.sil_ast.specs.declared.module.Imports.{Imports}
+-- What a token stands for by itself.
+use Rattle.std.specs.Prelude.{ℕ, List, []}
 use Rattle.sil_lexer.specs.Lexes.{Lexeme}
 use Rattle.sil_lexer.specs.Spelling.{without_quotes, without_sigil}
 use Rattle.sil_lexer.specs.declared.token.TokenKind.{TokenKind}
 use Rattle.sil_lexer.specs.declared.token.TokenKind.TheVariants as token
-use Rattle.written_modules.specs.declared.value.Value.{Value}
-use Rattle.written_modules.specs.declared.value.Value.TheVariants as v
+use Rattle.written_values.specs.declared.value.Value.{Value}
+use Rattle.written_values.specs.declared.value.Value.TheVariants as v
 
 -- what is kept of a token's bytes
 unfoldable pub kept_of : TokenKind → List ℕ → List ℕ
@@ -20,13 +18,3 @@ kept_of token.Punctuation spelling = []
 
 abbrev pub leaf_of : Lexeme → Value
 leaf_of l = v.Token (record { text = kept_of l.kind l.spelling; place = l.place })
-
--- of the imports these two are kept
-abbrev pub is_text : List ℕ → List ℕ → Bool
-is_text = pointwise nat_eq
-
-abbrev pub with_import : List ℕ → Imports → Imports
-with_import name imports = record {
-  builtin = is_text name (codes "Builtin") || imports.builtin;
-  swift = is_text name (codes "Swift") || imports.swift;
-}

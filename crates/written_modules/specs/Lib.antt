@@ -1,6 +1,2 @@
 pub mod Leaves
-pub mod Types
-pub mod Values
-pub mod Opened
-pub mod Variants
 pub mod inner

@@ -14,9 +14,7 @@ ghost use Rattle.written_modules.specs.inner.Replay.{first_fault, replay, KeepsF
 
 use crate::lacking::{fill, fill_body};
 use crate::leaves::leaf_at;
-use crate::prepended::Prepended;
 use crate::reduce::reduce;
-use crate::value::Value;
 use sil_ast::Exhausted;
 use sil_lexer::Tokens;
 use sil_shape::grammar::Symbol;
@@ -24,6 +22,8 @@ use sil_shape::steps::{Front, Step};
 use std::alloc::Global;
 use std::rc::Rc;
 use written_tree::{Fault, WrittenModule, earlier};
+use written_values::prepended::Prepended;
+use written_values::value::Value;
 
 /// What the steps of a derivation stand for.
 #[derive(Drop)]

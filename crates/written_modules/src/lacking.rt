@@ -1,18 +1,14 @@
 //! What the symbols stand for that a front leaves to be written: their shortest texts, of which all tokens are lacking.
 
-ghost use Rattle.std.specs.Prelude.{◌≡◌, ◌+◌, ◌≤◌, [], ◌∷◌, length, reverse, IfOk, OnOk};
+ghost use Rattle.std.specs.Prelude.{◌≡◌, ◌+◌, ◌≤◌, [], length, reverse, IfOk, OnOk};
 ghost use Rattle.sil_shape.specs.Grammar.{body};
 ghost use Rattle.sil_shape.specs.declared.grammar.Symbol.TheVariants.{Part};
 ghost use Rattle.sil_shape.specs.Shortest as said;
-ghost use Rattle.sil_shape.specs.Shortest.{Shortens};
 ghost use Rattle.sil_shape.specs.Values.{IsEnough};
 ghost use Rattle.written_modules.specs.inner.Lacking.{lacking, Fills};
 ghost use Rattle.written_modules.specs.inner.Replay.{replay};
 
-use crate::nothing::no_token;
-use crate::prepended::Prepended;
 use crate::reduce::reduce;
-use crate::value::Value;
 use sil_ast::Exhausted;
 use sil_shape::bodies::body_length;
 use sil_shape::grammar::{Nonterminal, Production, Symbol};
@@ -20,6 +16,9 @@ use sil_shape::shortest::shortest;
 use sil_shape::shortest_steps::shortest_steps;
 use sil_shape::steps::Step;
 use std::alloc::Global;
+use written_values::nothing::no_token;
+use written_values::prepended::Prepended;
+use written_values::value::Value;
 
 /// The values that the steps build where all tokens are lacking, that of the first step first.
 fn replay_lacking(alloc: Global, steps: &[Step]) -> Result<Prepended<Value>, Exhausted>

@@ -6,11 +6,11 @@ ghost use Rattle.sil_lexer.specs.Spelling.{without_quotes, without_sigil};
 ghost use Rattle.written_modules.specs.Leaves as meant;
 ghost use Rattle.written_modules.specs.inner.Replay.{IsKeptAt, IsLeafAt};
 
-use crate::value::Value;
 use sil_ast::Exhausted;
 use sil_lexer::{TokenKind, Tokens};
 use std::rc::Rc;
 use written_tree::{Spelling, WrittenToken};
+use written_values::value::Value;
 
 /// A part of the text, without the sigil that it begins with.
 fn without_sigil(text: &Rc<Vec<u8>>, from: usize, count: usize) -> Result<Spelling, Exhausted>

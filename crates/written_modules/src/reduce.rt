@@ -2,28 +2,25 @@
 
 ghost use Rattle.std.specs.Prelude.{◌≡◌, ◌≤◌, length, IfOk, OnOk};
 ghost use Rattle.sil_shape.specs.Grammar.{body};
-ghost use Rattle.written_modules.specs.inner.PartFaults.{part_fault};
-ghost use Rattle.written_modules.specs.inner.Replay.{parts_of, reduced};
+ghost use Rattle.written_values.specs.inner.PartFaults.{part_fault};
+ghost use Rattle.written_values.specs.inner.Reduced.{parts_of, reduced};
 
-use crate::build_rows;
-use crate::prepended::Prepended;
-use crate::reduce_base_types::reduce_base_type;
-use crate::reduce_blocks::reduce_block;
-use crate::reduce_declarations::reduce_declaration;
-use crate::reduce_functions::reduce_function;
-use crate::reduce_operands::reduce_operand;
-use crate::reduce_types::reduce_type;
-use crate::reduce_words::reduce_word;
-use crate::sections::{Section, section_of};
-use crate::value::Value;
+use crate::sections::section_of;
 use sil_ast::Exhausted;
 use sil_shape::grammar::Production;
 use std::alloc::Global;
+use written_declarations::reduce_declaration;
+use written_functions::{reduce_block, reduce_function};
+use written_instructions::{reduce_operand, reduce_row, reduce_word};
 use written_tree::Fault;
+use written_types::{reduce_base_type, reduce_type};
+use written_values::prepended::Prepended;
+use written_values::sections::Section;
+use written_values::value::Value;
 
 /// Puts what a production stands for in the place of the values of its body, which are the first ones, and answers the
 /// first fault in it by itself.
-#[tactic(auto, unfolding(crate::specs::inner::Replay::reduced))]
+#[tactic(auto, unfolding(written_values::specs::inner::Reduced::reduced))]
 pub(crate) fn reduce(
     alloc: Global,
     production: Production,
@@ -34,7 +31,7 @@ pub(crate) fn reduce(
     ensures fault { IfOk result (λ fault. fault ≡ part_fault production (parts_of production values.old)) }
 {
     if let Production::Row(op) = production {
-        return build_rows::row(alloc, op, values);
+        return reduce_row(alloc, op, values);
     }
     match section_of(production) {
         Section::Declarations => reduce_declaration(alloc, production, values),

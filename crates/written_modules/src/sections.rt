@@ -1,31 +1,13 @@
-//! The sections of the grammar, of which each has a table of builders.
+//! Which section of the grammar a production belongs to.
 
 ghost use Rattle.std.specs.Prelude.{◌≡◌};
-ghost use Rattle.written_modules.specs.inner.Sections.{section};
+ghost use Rattle.written_values.specs.inner.Sections.{section};
 
 use sil_shape::grammar::Production;
-
-/// What a production writes a part of.
-#[derive(Clone, Copy)]
-pub(crate) enum Section {
-    /// modules, declarations and their parts
-    Declarations,
-    /// types, and what stands around or behind a base type
-    Types,
-    /// names of types, builtin integers and `Optional<T>`
-    BaseTypes,
-    /// what a function has before its blocks
-    Functions,
-    /// blocks, their instructions in a row, and names
-    Blocks,
-    /// operands, edges and members
-    Operands,
-    /// flags, qualifiers and words for a debugger
-    Words,
-}
+use written_values::sections::Section;
 
 /// The section of a production.
-#[tactic(auto, unfolding(crate::specs::inner::Sections::section, crate::specs::inner::Sections::part_section, sil_shape::specs::Grammar::written))]
+#[tactic(auto, unfolding(written_values::specs::inner::Sections::telling))]
 pub(crate) fn section_of(production: Production) -> Section
     ensures { result ≡ section production }
 {
@@ -70,8 +52,6 @@ pub(crate) fn section_of(production: Production) -> Section
         | Production::SetterNone
         | Production::CasesMore
         | Production::CasesEnd
-        | Production::PayloadSome
-        | Production::PayloadNone
         | Production::EntrySome
         | Production::EntryNone => Section::Declarations,
         Production::BareType
@@ -84,7 +64,9 @@ pub(crate) fn section_of(production: Production) -> Section
         | Production::TypesSome
         | Production::TypesNone
         | Production::MoreTypesMore
-        | Production::MoreTypesEnd => Section::Types,
+        | Production::MoreTypesEnd
+        | Production::PayloadSome
+        | Production::PayloadNone => Section::Types,
         Production::BuiltinBase
         | Production::OptionalBase
         | Production::NamedBase

@@ -5,7 +5,7 @@ use Rattle.sil_lexer.specs.Lexes.{Lexeme}
 use Rattle.token_classes.specs.declared.classes.Class.{Class}
 use Rattle.token_classes.specs.declared.classes.Class.TheVariants as c
 use Rattle.builtin_names.specs.BuiltinNames.{is_builtin_name}
-use Rattle.written_modules.specs.inner.Meaning.{kept_of}
+use Rattle.written_modules.specs.Leaves.{kept_of}
 use Rattle.numbered_form.specs.Names.{IsWord, is_at_name, is_quotable}
 
 -- a text between quotes that names a builtin operation

@@ -5,7 +5,7 @@ use Rattle.sil_shape.specs.declared.steps.Step.{Step}
 use Rattle.sil_shape.specs.declared.grammar.Symbol.{Symbol}
 use Rattle.sil_shape.specs.Derivation.{Derives}
 use Rattle.token_classes.specs.declared.classes.Class.{Class}
-use Rattle.written_modules.specs.Opened.{PartValue}
+use Rattle.written_values.specs.Opened.{PartValue}
 use Rattle.written_modules.specs.inner.Replay.{first_fault, replay}
 use Rattle.written_tree.specs.declared.fault.Fault.{Fault}
 use Rattle.spelled_parts_laws.specs.Reading.{AreFaultless, IsFirstFault, Reads}

@@ -4,10 +4,10 @@ use Rattle.sil_shape.specs.declared.grammar.Symbol.{Symbol}
 use Rattle.sil_shape.specs.declared.grammar.Symbol.TheVariants.{Read, Part}
 use Rattle.sil_shape.specs.Grammar.{body}
 use Rattle.sil_shape.specs.Shortest.{shortest}
-use Rattle.written_modules.specs.declared.value.Value.{Value}
-use Rattle.written_modules.specs.declared.value.Value.TheVariants as v
-use Rattle.written_modules.specs.inner.Meaning.{meaning}
-use Rattle.written_modules.specs.Values.{no_token}
+use Rattle.written_values.specs.declared.value.Value.{Value}
+use Rattle.written_values.specs.declared.value.Value.TheVariants as v
+use Rattle.written_values.specs.inner.Meaning.{meaning}
+use Rattle.written_values.specs.Values.{no_token}
 
 -- down to so many levels of parts
 unfoldable pub lacking_within : ℕ → Symbol → Value

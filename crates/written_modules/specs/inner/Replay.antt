@@ -1,35 +1,20 @@
 -- What the steps of a derivation and the tokens that they take stand for, and the first fault in it, from the last step
 -- to the first.
-use Rattle.std.specs.Prelude.{⊤, ◌≡◌, ◌≤◌, ◌++◌, ℕ, List, [], ◌∷◌, length, take, drop, Option, None}
+use Rattle.std.specs.Prelude.{◌≡◌, ◌≤◌, ◌++◌, ℕ, List, [], ◌∷◌, length, Option, None}
 use Rattle.std.specs.List.{HoldsAt}
 use Rattle.sil_lexer.specs.Lexes.{Lexeme}
 use Rattle.sil_lexer.specs.Lexing.{Lexing, lexeme_of}
-use Rattle.sil_shape.specs.declared.grammar.Production.{Production}
 use Rattle.sil_shape.specs.declared.steps.Step.{Step}
 use Rattle.sil_shape.specs.declared.steps.Step.TheVariants.{Take, Expand}
-use Rattle.sil_shape.specs.Grammar.{body}
 use Rattle.written_tree.specs.declared.fault.Fault.{Fault}
-use Rattle.written_modules.specs.declared.value.Value.{Value}
-use Rattle.written_modules.specs.declared.value.Value.TheVariants as v
+use Rattle.written_values.specs.declared.value.Value.{Value}
+use Rattle.written_values.specs.declared.value.Value.TheVariants as v
 use Rattle.written_tree.specs.declared.written_module.WrittenModule.{WrittenModule}
 use Rattle.written_tree.specs.Faults.{earlier}
 use Rattle.written_modules.specs.Leaves.{kept_of, leaf_of}
-use Rattle.written_modules.specs.inner.Meaning.{meaning}
-use Rattle.written_modules.specs.inner.PartFaults.{part_fault}
-use Rattle.written_modules.specs.Values.{no_token}
-
--- the values of the parts that a production has
-abbrev pub parts_of : Production → List Value → List Value
-parts_of p values = take (length (body p)) values
-
--- the values of a body give way to what the production stands for
-unfoldable pub reduced : Production → List Value → List Value
-reduced p values = meaning p (parts_of p values) ∷ drop (length (body p)) values
-
--- what a check unfolds where a production is reduced
-unfoldable pub reducing : ⊤
-unfolding reduced meaning part_fault body
-reducing = tt
+use Rattle.written_values.specs.inner.Reduced.{parts_of, reduced}
+use Rattle.written_values.specs.inner.PartFaults.{part_fault}
+use Rattle.written_values.specs.Values.{no_token}
 
 -- where more tokens are taken than there are, those that are lacking are empty, and stand behind every token
 abbrev pub replay : List Step → List Lexeme → List Value

@@ -1,14 +1,13 @@
 -- The steps of a derivation of a module leave one value, the module.
 use Rattle.std.proofs.Common.{◌≡◌, [], ◌∷◌, ◌++◌, ◌∙◌, List, ap, arith, length, map, reverse, subst, sym}
-use Rattle.std.specs.Prelude.{All}
 use Rattle.std.proofs.lemmas.List.{append-nil, length-reverse}
 use Rattle.sil_lexer.specs.Lexes.{Lexeme}
-use Rattle.sil_lexer.specs.Lexing.{lexemes_of, IsInside}
+use Rattle.sil_lexer.specs.Lexing.{lexemes_of}
 use Rattle.sil_shape.specs.Shortest.{Shortens, written}
 use Rattle.sil_shape.specs.Values.{IsEnough}
 use Rattle.sil_shape.proofs.ValuesLemmas.{IsEnough-derives}
-use Rattle.written_modules.specs.declared.value.Value.{Value}
-use Rattle.written_modules.specs.declared.value.Value.TheVariants as v
+use Rattle.written_values.specs.declared.value.Value.{Value}
+use Rattle.written_values.specs.declared.value.Value.TheVariants as v
 use Rattle.written_modules.specs.inner.Lacking.{lacking}
 use Rattle.written_modules.specs.inner.Replay.{first_fault, replay}
 use Rattle.written_modules.proofs.LackingLemmas.{waiting-length}

@@ -6,12 +6,12 @@ use Rattle.sil_lexer.specs.Lexing.{lexemes_of, IsInside}
 use Rattle.sil_shape.specs.Grammar.{body}
 use Rattle.written_tree.specs.Faults.{earlier}
 use Rattle.written_modules.specs.inner.Lacking.{lacking, waiting}
-use Rattle.written_modules.specs.inner.PartFaults.{part_fault}
-use Rattle.written_modules.specs.inner.Replay.{parts_of, reduced}
+use Rattle.written_values.specs.inner.PartFaults.{part_fault}
+use Rattle.written_values.specs.inner.Reduced.{parts_of, reduced}
 use Rattle.written_modules.proofs.BuildLemmas.{InReplay, all_faults, all_replayed, begun, enough_there, kept_all, kept_front, none_left, production_replayed, some_left, token_replayed}
 use Rattle.written_modules.proofs.LackingLemmas.{parts-waiting, reduced-waiting, waiting-length}
 use Rattle.written_modules.proofs.LeafLemmas.{some_token}
-use Rattle.written_modules.proofs.Popped.{front_with_last}
+use Rattle.written_values.proofs.Popped.{front_with_last}
 use Rattle.written_modules.proofs.building.replay.Goals as goal
 
 pub loop-i-init : goal.loop-i-init

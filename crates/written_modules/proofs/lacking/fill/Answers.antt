@@ -2,7 +2,7 @@
 use Rattle.std.proofs.Common.{◌∷◌, [], ◌∙◌, ap, arith, length, length-append, reverse, sym}
 use Rattle.written_modules.specs.inner.Lacking.{waiting}
 use Rattle.written_modules.proofs.LackingLemmas.{one_moved, some_left}
-use Rattle.written_modules.proofs.Popped.{first_popped, popped}
+use Rattle.written_values.proofs.Popped.{first_popped, popped}
 use Rattle.written_modules.proofs.lacking.fill.Goals as goal
 
 pub loop-alloc-preserved : goal.loop-alloc-preserved

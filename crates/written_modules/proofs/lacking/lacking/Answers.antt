@@ -1,5 +1,5 @@
 use Rattle.std.proofs.Common.{ap}
-use Rattle.written_modules.specs.declared.value.Value.TheVariants.{Token}
+use Rattle.written_values.specs.declared.value.Value.TheVariants.{Token}
 use Rattle.written_modules.specs.inner.Lacking.{lacking, lacking_within}
 use Rattle.written_modules.proofs.lacking.lacking.Goals as goal
 

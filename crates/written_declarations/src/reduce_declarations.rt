@@ -1,0 +1,104 @@
+//! What the productions of declarations stand for.
+
+ghost use Rattle.std.specs.Prelude.{◌≡◌, ◌≤◌, length, IfOk, OnOk};
+ghost use Rattle.sil_shape.specs.Grammar.{body};
+ghost use Rattle.written_values.specs.declared.sections.Section.TheVariants.{Declarations};
+ghost use Rattle.written_values.specs.inner.PartFaults.{part_fault};
+ghost use Rattle.written_values.specs.inner.Reduced.{parts_of, reduced};
+ghost use Rattle.written_values.specs.inner.Sections.{section};
+
+use crate::{build_declarations, build_module};
+use sil_ast::{Exhausted, Stage, Storage};
+use sil_shape::grammar::Production;
+use std::alloc::Global;
+use written_tree::Fault;
+use written_values::nothing::skip;
+use written_values::prepended::Prepended;
+use written_values::put::{pass, put_nothing, put_second};
+use written_values::value::Value;
+
+/// Puts what a production of declarations stands for in the place of the values of its body.
+#[tactic(auto, unfolding(written_values::specs::inner::Reduced::reducing, written_values::specs::inner::Sections::telling))]
+pub fn reduce_declaration(
+    alloc: Global,
+    production: Production,
+    values: &mut Prepended<Value>,
+) -> Result<Option<Fault>, Exhausted>
+    requires section { section production ≡ Declarations }
+    requires parts { length (body production) ≤ length values.old }
+    ensures values { OnOk result (values.new ≡ reduced production values.old) }
+    ensures fault { IfOk result (λ fault. fault ≡ part_fault production (parts_of production values.old)) }
+{
+    match production {
+        Production::WholeModule => return build_module::whole_module(alloc, values),
+        Production::StageNone => build_module::stage(Stage::Canonical, values)?,
+        Production::Raw => {
+            skip(values);
+            build_module::stage(Stage::Raw, values)?
+        },
+        Production::Canonical => {
+            skip(values);
+            build_module::stage(Stage::Canonical, values)?
+        },
+        Production::ImportsMore => build_module::more_imports(values)?,
+        Production::ImportsEnd => build_module::no_imports(values)?,
+        Production::ItemsMore => build_module::more_items(alloc, values)?,
+        Production::ItemsEnd => build_module::no_items(alloc, values)?,
+        Production::FinalClass => return build_declarations::final_class(alloc, values),
+        Production::PlainClass => return build_declarations::plain_class(alloc, values),
+        Production::StructItem => return build_declarations::struct_item(alloc, values),
+        Production::EnumItem => return build_declarations::enum_item(alloc, values),
+        Production::FunctionItem => return build_module::function(alloc, values),
+        Production::VtableItem => build_module::vtable(alloc, values)?,
+        Production::EntrySome => build_module::entry(alloc, values)?,
+        Production::MembersMore | Production::FieldsMore => {
+            build_declarations::fields(alloc, values)?
+        }
+        Production::MembersEnd | Production::FieldsEnd => {
+            build_declarations::no_fields(alloc, values)?
+        }
+        Production::WeakVariable => build_declarations::variable(alloc, Storage::Weak, values)?,
+        Production::UnownedVariable => build_declarations::variable(
+            alloc,
+            Storage::Unowned,
+            values,
+        )?,
+        Production::VarBinding | Production::LetBinding => {
+            build_declarations::binding(alloc, values)?
+        }
+        Production::CasesMore => build_declarations::more_cases(alloc, values)?,
+        Production::CasesEnd => build_declarations::no_cases(alloc, values)?,
+        Production::PlainMember
+        | Production::ModifiedVariable
+        | Production::StrongVariable
+        | Production::PlainField => pass(values),
+        Production::StageSome
+        | Production::StoredMember
+        | Production::FinalMember
+        | Production::ModifiedStored
+        | Production::ModifiedFinal
+        | Production::StoredField => put_second(values)?,
+        Production::DeinitMember | Production::SetterSome => {
+            skip(values);
+            put_nothing(values)?
+        },
+        Production::InitMember => {
+            skip(values);
+            skip(values);
+            skip(values);
+            put_nothing(values)?
+        },
+        Production::AccessorsSome => {
+            skip(values);
+            skip(values);
+            skip(values);
+            skip(values);
+            put_nothing(values)?
+        },
+        Production::AccessorsNone | Production::SetterNone | Production::EntryNone => put_nothing(
+            values,
+        )?,
+        _ => unreachable!(),
+    }
+    Ok(None)
+}

@@ -1,0 +1,6 @@
+pub mod Parts
+pub mod RowMeaning
+pub mod Meaning
+pub mod PartFaults
+pub mod Reduced
+pub mod Sections
