@@ -1,13 +1,17 @@
--- The rules of the parts' marks are those on memory.
+-- The rules of the parts' marks are those on memory that walks show.
 use Rattle.std.proofs.Common.{◌≡◌, List, [], ◌∷◌, ◌++◌, map, refl, Bool, true, false, cond, Option, Some, None}
+use Rattle.std.specs.Prelude.{◌==◌, ◌||◌}
 use Rattle.std.specs.List.{AllByRecursion, flat_map}
 use Rattle.std.specs.Option.{option_to_list}
 use Rattle.sil_ast.specs.declared.function.Function.{Function}
 use Rattle.sil_ast.specs.declared.place.ValueId.{ValueId}
 use Rattle.sil_cfg.specs.Returns.{is_return}
 use Rattle.sil_cfg.specs.declared.item.Item.{Item}
-use Rattle.sil_rules.specs.Rules.{group_of}
+use Rattle.sil_rules.specs.Rules.{group_of, number_of}
 use Rattle.sil_rules.specs.declared.group.Group.TheVariants as group
+use Rattle.sil_rules.specs.declared.rule.Rule.{Rule}
+use Rattle.sil_rules.specs.declared.rule.Rule.TheVariants as rule
+use Rattle.rule_faults.specs.declared.fault.RuleFault.{RuleFault}
 use Rattle.path_checks.specs.declared.entry.Entry.{Entry}
 use Rattle.path_checks.proofs.RulesShown.{shown_rule}
 use Rattle.path_patterns.specs.declared.mark.Mark.{Mark}
@@ -27,19 +31,23 @@ use Rattle.memory_parts.specs.Building.{fills, is_forbidden}
 use Rattle.memory_parts.specs.Contents.{at_location, deallocation_mark, operation_mark, same_cell}
 use Rattle.memory_parts.specs.Loans.{disturbs, lent_at}
 use Rattle.memory_parts.specs.Parts.{at_return, means}
-use Rattle.memory_parts.specs.Shown.{entry_of, marks_of_access, part_marks, part_table}
+use Rattle.memory_parts.specs.Shown.{IsShown, entry_of, marks_of_access, part_marks, part_table}
 use Rattle.memory_parts.specs.Switches.{is_same, when}
 use Rattle.memory_parts.specs.declared.part.Part.{Part}
 use Rattle.memory_parts.specs.declared.part.Part.TheVariants.{Contents, Allocation, Lent, Building, InScope, InSlot}
 use Rattle.memory_parts.specs.inner.Laws.{AreOnMemory}
 
+-- a rule on memory, and neither of the two that no walk is needed for
+abbrev pub IsOfParts : Rule → Type 0
+IsOfParts r = (group_of r ≡ group.Memory) × ((number_of r == number_of rule.InoutOverlap || number_of r == number_of rule.PartialAccess) ≡ false)
+
 abbrev IsOn : Mark → Type 0
-IsOn m = group_of m.rule ≡ group.Memory
+IsOn m = IsOfParts m.rule
 
 abbrev IsEntryOn : Entry → Type 0
 IsEntryOn e = IsOn e.mark
 
--- there is no mark, or it is on memory
+-- there is no mark, or it is of such a rule
 abbrev AreOn : Option Mark → Type 0
 AreOn None = Unit {0}
 AreOn (Some m) = IsOn m
@@ -53,18 +61,18 @@ either_on true m n h k = h
 either_on false m n h k = k
 
 operation_on : (part : Bool) (o : Operation) → IsOn (operation_mark part o)
-operation_on part FirstWrite = refl
-operation_on part Read = refl
-operation_on part Lend = refl
-operation_on part Write = refl
-operation_on true TrivialStore = refl
-operation_on false TrivialStore = refl
-operation_on part InoutOperand = refl
-operation_on part Take = refl
+operation_on part FirstWrite = (refl, refl)
+operation_on part Read = (refl, refl)
+operation_on part Lend = (refl, refl)
+operation_on part Write = (refl, refl)
+operation_on true TrivialStore = (refl, refl)
+operation_on false TrivialStore = (refl, refl)
+operation_on part InoutOperand = (refl, refl)
+operation_on part Take = (refl, refl)
 
 deallocation_on : (emptied : Bool) → IsOn (deallocation_mark emptied)
-deallocation_on true = refl
-deallocation_on false = refl
+deallocation_on true = (refl, refl)
+deallocation_on false = (refl, refl)
 
 location_on : (sources : List Source) (cell : Cell) (o : Operation) (l : Option Location) → AreOn (at_location sources cell o l)
 location_on sources cell o None = tt
@@ -75,51 +83,51 @@ module _ (sources : List Source) (facts : ValueId → Facts) where
   access_on : (p : Part) (a : Access) → AreOn (means sources facts p a)
   access_on (Contents cell emptied left_full) (Ends v) = tt
   access_on (Contents cell emptied left_full) (Begins v) = tt
-  access_on (Contents cell emptied left_full) (Allocates v) = where_on (is_same v cell.subject) _ refl
+  access_on (Contents cell emptied left_full) (Allocates v) = where_on (is_same v cell.subject) _ (refl, refl)
   access_on (Contents cell emptied left_full) (Deallocates v) = where_on (is_same v cell.subject) (deallocation_mark emptied) (deallocation_on emptied)
-  access_on (Contents cell emptied left_full) (Given v) = where_on (is_same v cell.subject) _ refl
+  access_on (Contents cell emptied left_full) (Given v) = where_on (is_same v cell.subject) _ (refl, refl)
   access_on (Contents cell emptied left_full) (Does x) = location_on sources cell x.operation (location_of sources x.address)
   access_on (Contents cell emptied left_full) (Mentions v a) = tt
   access_on (Allocation slot) (Ends v) = tt
   access_on (Allocation slot) (Begins v) = tt
-  access_on (Allocation slot) (Allocates v) = where_on (is_same v slot) _ refl
-  access_on (Allocation slot) (Deallocates v) = where_on (is_same v slot) _ refl
+  access_on (Allocation slot) (Allocates v) = where_on (is_same v slot) _ (refl, refl)
+  access_on (Allocation slot) (Deallocates v) = where_on (is_same v slot) _ (refl, refl)
   access_on (Allocation slot) (Given v) = tt
   access_on (Allocation slot) (Does x) = tt
   access_on (Allocation slot) (Mentions v a) = tt
-  access_on (Lent scope address) (Ends v) = where_on (is_same v scope) _ refl
-  access_on (Lent scope address) (Begins v) = where_on (is_same v scope) _ refl
+  access_on (Lent scope address) (Ends v) = where_on (is_same v scope) _ (refl, refl)
+  access_on (Lent scope address) (Begins v) = where_on (is_same v scope) _ (refl, refl)
   access_on (Lent scope address) (Allocates v) = tt
-  access_on (Lent scope address) (Deallocates v) = where_on (disturbs sources (lent_at sources address) (Deallocates v)) _ refl
+  access_on (Lent scope address) (Deallocates v) = where_on (disturbs sources (lent_at sources address) (Deallocates v)) _ (refl, refl)
   access_on (Lent scope address) (Given v) = tt
-  access_on (Lent scope address) (Does x) = where_on (disturbs sources (lent_at sources address) (Does x)) _ refl
+  access_on (Lent scope address) (Does x) = where_on (disturbs sources (lent_at sources address) (Does x)) _ (refl, refl)
   access_on (Lent scope address) (Mentions v a) = tt
   access_on (Building object field) (Ends v) = tt
   access_on (Building object field) (Begins v) = tt
-  access_on (Building object field) (Allocates v) = where_on (is_same v object) _ refl
+  access_on (Building object field) (Allocates v) = where_on (is_same v object) _ (refl, refl)
   access_on (Building object field) (Deallocates v) = tt
   access_on (Building object field) (Given v) = tt
   access_on (Building object field) (Does x) =
-      where_on (fills sources (record { subject = object; field = Some field }) x.operation (location_of sources x.address)) _ refl
-  access_on (Building object field) (Mentions v a) = where_on (is_forbidden sources facts object v a) _ refl
-  access_on (InScope address scope) (Ends v) = where_on (is_same v scope) _ refl
-  access_on (InScope address scope) (Begins v) = where_on (is_same v scope) _ refl
+      where_on (fills sources (record { subject = object; field = Some field }) x.operation (location_of sources x.address)) _ (refl, refl)
+  access_on (Building object field) (Mentions v a) = where_on (is_forbidden sources facts object v a) _ (refl, refl)
+  access_on (InScope address scope) (Ends v) = where_on (is_same v scope) _ (refl, refl)
+  access_on (InScope address scope) (Begins v) = where_on (is_same v scope) _ (refl, refl)
   access_on (InScope address scope) (Allocates v) = tt
   access_on (InScope address scope) (Deallocates v) = tt
   access_on (InScope address scope) (Given v) = tt
   access_on (InScope address scope) (Does x) = tt
-  access_on (InScope address scope) (Mentions v a) = where_on (is_same v address) _ refl
+  access_on (InScope address scope) (Mentions v a) = where_on (is_same v address) _ (refl, refl)
   access_on (InSlot address slot) (Ends v) = tt
   access_on (InSlot address slot) (Begins v) = tt
-  access_on (InSlot address slot) (Allocates v) = where_on (is_same v slot) _ refl
-  access_on (InSlot address slot) (Deallocates v) = where_on (is_same v slot) _ refl
+  access_on (InSlot address slot) (Allocates v) = where_on (is_same v slot) _ (refl, refl)
+  access_on (InSlot address slot) (Deallocates v) = where_on (is_same v slot) _ (refl, refl)
   access_on (InSlot address slot) (Given v) = tt
   access_on (InSlot address slot) (Does x) = tt
-  access_on (InSlot address slot) (Mentions v a) = where_on (is_same v address) _ refl
+  access_on (InSlot address slot) (Mentions v a) = where_on (is_same v address) _ (refl, refl)
 
 left_on : (p : Part) → AreOn (at_return p)
-left_on (Contents cell emptied left_full) = where_on left_full _ refl
-left_on (Allocation slot) = refl
+left_on (Contents cell emptied left_full) = where_on left_full _ (refl, refl)
+left_on (Allocation slot) = (refl, refl)
 left_on (Lent scope address) = tt
 left_on (Building object field) = tt
 left_on (InScope address scope) = tt
@@ -153,7 +161,12 @@ each_at sources facts f p item =
     (λ a. each_listed (means sources (known_or facts) p a) (access_on sources (known_or facts) p a)))
     (each_returned (is_return f item) p))
 
-pub on_memory : AreOnMemory
-on_memory sources facts f parts s h =
-    shown_rule (λ r. group_of r ≡ group.Memory) f (part_table sources facts f h.part) (each_at sources facts f h.part) 0 s.rule s.walk s.point
+-- what is shown at a part breaks such a rule
+pub of_parts : (sources : List Source) (facts : ValueId → Option Facts) (f : Function) (parts : List Part) (s : RuleFault) →
+    IsShown sources facts f parts s → IsOfParts s.rule
+of_parts sources facts f parts s h =
+    shown_rule IsOfParts f (part_table sources facts f h.part) (each_at sources facts f h.part) 0 s.rule s.walk s.point
     (record { item = h.item; at = h.shown })
+
+pub on_memory : AreOnMemory
+on_memory sources facts f parts s h = (of_parts sources facts f parts s h).0

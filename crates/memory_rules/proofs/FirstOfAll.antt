@@ -19,12 +19,12 @@ use Rattle.memory_rules.specs.inner.Reports.{IsFirstShown, IsOrderBreak, IsPartB
 use Rattle.memory_rules.specs.Statics.{is_static}
 use Rattle.memory_rules.proofs.BreakKeys.{earlier_first}
 use Rattle.memory_rules.proofs.FirstShown.{first_part}
-use Rattle.memory_rules.proofs.PartRules.{part_on_walks}
+use Rattle.memory_parts.proofs.RulesOf.{of_parts}
 
 module _ (sources : List Source) (f : Function) where
   module _ (facts : ValueId → Option Facts) where
     at_parts : (x : RuleFault) → IsPartBreak sources f facts x → is_static x.rule ≡ false
-    at_parts x h = part_on_walks sources facts f (parts_of sources (known_or facts)) x h
+    at_parts x h = (of_parts sources facts f (parts_of sources (known_or facts)) x h).1
 
     on_walks : (x : RuleFault) → IsWalkBreak sources f facts x → is_static x.rule ≡ false
     on_walks x (inl part) = at_parts x part

@@ -24,7 +24,7 @@ use Rattle.memory_slots.specs.declared.crossing.Crossing.{Crossing}
 use Rattle.memory_rules.specs.Broken.{break_key, last_key}
 use Rattle.memory_rules.specs.inner.Reports.{IsFirstShown, IsOrderBreak, IsPartBreak, report_of}
 use Rattle.memory_rules.proofs.BreakKeys.{walk_key}
-use Rattle.memory_rules.proofs.PartRules.{part_on_walks}
+use Rattle.memory_parts.proofs.RulesOf.{of_parts}
 
 -- where there is no slot, no two of them cross
 no_slot : (sources : List Source) → list_any is_slot_source sources ≡ false → (n : ℕ) → is_slot_source (unwrap_or (slice_get sources n) source.Other) ≡ true → ⊥
@@ -65,7 +65,7 @@ module _ (sources : List Source) (f : Function) where
   module _ (g : Layout) (k : Known) where
     pub first_part : (o : Option RuleFault) → IsFirstFinding sources f g k o → IsFirstShown (IsPartBreak sources f) f g k o
     first_part o first = λ count facts are.
-        first_by fault_key break_key (IsPartBreak sources f facts) (λ x h. walk_key x (part_on_walks sources facts f (parts_of sources (known_or facts)) x h)) o
+        first_by fault_key break_key (IsPartBreak sources f facts) (λ x h. walk_key x (of_parts sources facts f (parts_of sources (known_or facts)) x h).1) o
         (first count facts are)
 
     pub no_order : IsFirstCrossing sources f g k None → IsFirstShown (IsOrderBreak sources f) f g k None

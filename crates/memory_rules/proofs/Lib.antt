@@ -1,5 +1,4 @@
 mod BreakKeys
-mod PartRules
 mod FirstShown
 mod FirstOfAll
 mod Crossed
