@@ -16,6 +16,11 @@ impl Case<'_> {
     pub fn prints(&self) -> bool {
         self.wanted.status == 0 && self.words.contains(&"print")
     }
+
+    /// Whether the check of types is asked by itself, by the word `typing`, which is none of the command's.
+    pub fn asks_for_typing(&self) -> bool {
+        matches!(self.words.as_slice(), ["typing"])
+    }
 }
 
 /// What the comments at the head of a file ask for, or none where they don't have the form of a case.

@@ -1,11 +1,13 @@
-//! Runs each case file below a folder through the command, prints each that fails with both answers, and ends with the
-//! line `N passed, M failed`. The folder is the first word, or else the one that the program runs in.
+//! Runs each case file below a folder through the command, or through the check of types alone, prints each that fails with
+//! both answers, and ends with the line `N passed, M failed`. The folder is the first word, or else the one that the program
+//! runs in.
 #![tactic(auto)]
 
 mod answers;
 mod case_file;
 mod folder;
 mod report;
+mod typing;
 
 use std::io;
 use std::process::ExitCode;

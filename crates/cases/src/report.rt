@@ -2,6 +2,8 @@
 
 use crate::answers::{Answer, answer_to};
 use crate::case_file::{Case, case_of};
+use crate::typing::answer_on_types;
+use sil_ast::Exhausted;
 use std::alloc::Global;
 use std::rt::Files;
 use std::{fs, io};
@@ -9,7 +11,7 @@ use std::{fs, io};
 /// Room for an answer of one line or a few, behind that of the answer that is wanted.
 const ROOM: usize = 4096;
 
-/// Whether the command gives the answer and the status of a case file. One that fails is printed with both answers.
+/// Whether the answer and the status are those of a case file. One that fails is printed with both answers.
 /// Where `print` writes a module, this has to print as itself too, and `check` has to read it.
 pub fn passes<R: AllocGlobal + Files + Print>(
     rt: &R,
@@ -46,7 +48,7 @@ fn is_read<R: AllocGlobal + Print>(rt: &R, path: &str, text: &[u8]) -> io::Resul
     Ok(false)
 }
 
-/// Whether the command gives a case's answer and status to this text.
+/// Whether this text has a case's answer and status.
 fn gives<R: AllocGlobal + Print>(
     rt: &R,
     path: &str,
@@ -54,8 +56,7 @@ fn gives<R: AllocGlobal + Print>(
     text: &[u8],
 ) -> io::Result<bool> {
     let alloc = rt.alloc();
-    let room = case.wanted.written.len().saturating_add(ROOM);
-    let Ok(answer) = answer_to(alloc, &case.words, text, room) else {
+    let Ok(answer) = answer_of(alloc, case, text) else {
         println!(rt; "{path}: out of memory\n")?;
         return Ok(false);
     };
@@ -67,6 +68,15 @@ fn gives<R: AllocGlobal + Print>(
     print_answer(rt, "got", &answer)?;
     println!(rt)?;
     Ok(false)
+}
+
+/// The answer to a text: of the check of types where a case asks for this alone, and else of the command.
+fn answer_of(alloc: Global, case: &Case<'_>, text: &[u8]) -> Result<Answer, Exhausted> {
+    if case.asks_for_typing() {
+        return answer_on_types(alloc, text);
+    }
+    let room = case.wanted.written.len().saturating_add(ROOM);
+    answer_to(alloc, &case.words, text, room)
 }
 
 /// Prints a status and an answer's lines.
