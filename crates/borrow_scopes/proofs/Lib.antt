@@ -3,3 +3,4 @@ pub mod Agreeing
 pub mod SameOthers
 pub mod Reported
 pub mod RulesOf
+pub mod ScopesAreRuns

@@ -1,3 +1,4 @@
 pub mod Borrows
 pub mod Tables
 pub mod Laws
+pub mod Runs

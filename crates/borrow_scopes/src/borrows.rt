@@ -1,7 +1,7 @@
 //! The check of rules 501 to 505.
 
 ghost use Rattle.std.specs.Prelude.{◌≡◌, IfErr, IfOk, MatchOption, OnOk};
-ghost use Rattle.sil_cfg.specs.Build.{IsGraphOf};
+ghost use Rattle.sil_cfg.specs.inner.Build.{IsGraphOf};
 ghost use Rattle.value_tables.specs.Borrows as borrowing;
 ghost use Rattle.borrow_scopes.specs.inner.Borrows.{AreScopesKept, IsFaultOf, IsFirstBrokenScope, IsFirstScope, IsScopeBroken};
 
@@ -34,7 +34,7 @@ fn first_broken(
         borrows,
         rows: rows.as_slice(),
     };
-    let entries = entries_by_item(alloc, &scopes, g)?;
+    let entries = entries_by_item(alloc, &scopes, &mut (), g)?;
     let marks = marks_by_subject(alloc, &scopes, k.values())?;
     let returns = returns_by_item(alloc, f, g)?;
     first_fault(alloc, f, g, &entries, &marks, &returns)

@@ -132,15 +132,19 @@ pub(crate) struct Scopes<'a> {
 }
 
 impl ItemTable for Scopes<'_> {
+    type Room = ();
+
+    ghost fits = { λ _. Unit {0} };
+
     ghost entries_at = { λ t n _. flat_map (mark_entries_in t.borrows.now (facts_of t.k.now) t.rows.now) (marks_at t.k.now n) };
 
     fn add_entries(
         &self,
+        _room: &mut (),
         entries: &mut Vec<Entry>,
         number: usize,
-        item: Item,
+        _item: Item,
     ) -> Result<(), Exhausted> {
-        let _ = item;
         add_marks(
             entries,
             self.k,

@@ -5,7 +5,7 @@ use Rattle.path_checks.proofs.PickedMarks.{shared_picked}
 use Rattle.path_checks.specs.declared.entry.Entry.{Entry}
 use Rattle.path_checks.specs.inner.Shared.{entries_with, is_sharing, shared_if}
 use Rattle.path_lists.specs.inner.Lists.{list_at}
-use Rattle.path_patterns.specs.Reads.{AgreesWith}
+use Rattle.path_patterns.specs.inner.Reads.{AgreesWith}
 use Rattle.path_patterns.specs.declared.mark.Mark as pattern
 use Rattle.sil_ast.specs.declared.function.Function.{Function}
 use Rattle.sil_ast.specs.declared.place.ValueId.{ValueId}

@@ -1,2 +1,3 @@
 pub mod Lifetimes
 pub mod Laws
+pub mod Runs

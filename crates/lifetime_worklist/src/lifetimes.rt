@@ -1,7 +1,7 @@
 //! The check of rules 401 to 404.
 
 ghost use Rattle.std.specs.Prelude.{IfErr, IfOk, OnOk};
-ghost use Rattle.sil_cfg.specs.Build.{IsGraphOf};
+ghost use Rattle.sil_cfg.specs.inner.Build.{IsGraphOf};
 ghost use Rattle.lifetime_worklist.specs.inner.Lifetimes.{AreLivesKept, IsFirstLife, IsLifeBroken};
 
 use crate::lives::Lives;
@@ -23,7 +23,7 @@ fn first_broken(
     ensures { IfOk result (IsFirstLife f.now g.now k.now) }
 {
     let lives = Lives { k };
-    let entries = entries_by_item(alloc, &lives, g)?;
+    let entries = entries_by_item(alloc, &lives, &mut (), g)?;
     let marks = marks_by_subject(alloc, &lives, k.values())?;
     let returns = returns_by_item(alloc, f, g)?;
     first_fault(alloc, f, g, &entries, &marks, &returns)

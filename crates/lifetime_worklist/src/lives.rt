@@ -53,15 +53,19 @@ pub(crate) struct Lives<'k> {
 }
 
 impl ItemTable for Lives<'_> {
+    type Room = ();
+
+    ghost fits = { λ _. Unit {0} };
+
     ghost entries_at = { λ t n _. flat_map (lives_by (facts_of t.k.now)) (marks_at t.k.now n) };
 
     fn add_entries(
         &self,
+        _room: &mut (),
         entries: &mut Vec<Entry>,
         number: usize,
-        item: Item,
+        _item: Item,
     ) -> Result<(), Exhausted> {
-        let _ = item;
         add_marks(entries, self.k, self.k.marks(number))
     }
 }

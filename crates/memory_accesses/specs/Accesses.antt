@@ -57,23 +57,10 @@ abbrev pub does_of : Option Inst → List Access
 does_of None = []
 does_of (Some i) = map Does (operations_of i)
 
-abbrev pub deallocated_by : ValueId → Source → List Access
-deallocated_by v (source.Slot emptied) = Deallocates v ∷ []
-deallocated_by v source.Inout = []
-deallocated_by v (source.Object fields) = []
-deallocated_by v (source.Borrow of) = []
-deallocated_by v (source.Loan of) = []
-deallocated_by v (source.Field of k) = []
-deallocated_by v (source.Part of k) = []
-deallocated_by v source.Other = []
-
--- one of another operand than a slot deallocates no slot
-abbrev pub deallocated : List Source → ValueId → List Access
-deallocated sources v = deallocated_by v (source_at sources v)
-
-abbrev pub deallocations_of : List Source → Option Inst → List Access
-deallocations_of sources None = []
-deallocations_of sources (Some i) = cond (deallocates i) (flat_map (deallocated sources) (addresses_of i)) []
+-- the operand of a `dealloc_stack`, whether it is a slot or not
+abbrev pub deallocations_of : Option Inst → List Access
+deallocations_of None = []
+deallocations_of (Some i) = cond (deallocates i) (map Deallocates (addresses_of i)) []
 
 abbrev pub made_by : ValueId → Source → List Access
 made_by v (source.Slot emptied) = Allocates v ∷ []
@@ -89,10 +76,10 @@ made_by v source.Other = []
 abbrev pub made : List Source → ValueId → List Access
 made sources v = made_by v (source_at sources v)
 
--- what an item with these marks does: values that end, operands, what is done to locations, a slot that is deallocated, what is allocated, values that begin
+-- what an item with these marks does: values that end, operands, what is done to locations, what is deallocated, what is allocated, values that begin
 abbrev pub accesses_with : List Source → List Mark → Function → Item → List Access
 accesses_with sources marks f item =
-    flat_map ended marks ++ (mentions_of (item_inst f item) (item_taken f item) ++ (does_of (item_inst f item) ++ (deallocations_of sources (item_inst f item)
+    flat_map ended marks ++ (mentions_of (item_inst f item) (item_taken f item) ++ (does_of (item_inst f item) ++ (deallocations_of (item_inst f item)
     ++ (flat_map (made sources) (item_defined f item) ++ flat_map begun marks))))
 
 -- what the item does, by the marks that it has where the values have these facts

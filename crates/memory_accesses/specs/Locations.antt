@@ -42,6 +42,15 @@ same_step a b = a == b
 abbrev pub overlap : Location → Location → Bool
 overlap a b = a.root.0 == b.root.0 && (starts_with same_step a.path b.path || starts_with same_step b.path a.path)
 
+abbrev pub meet : Option Location → Option Location → Bool
+meet None b = false
+meet (Some a) None = false
+meet (Some a) (Some b) = overlap a b
+
+-- the locations that two addresses name overlap
+abbrev pub do_overlap : List Source → ValueId → ValueId → Bool
+do_overlap sources a b = meet (location_of sources a) (location_of sources b)
+
 -- the value is a new object
 abbrev pub is_object : Source → Bool
 is_object (Slot emptied) = false

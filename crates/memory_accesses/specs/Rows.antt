@@ -5,7 +5,7 @@ use Rattle.memory_accesses.specs.declared.access.Operation.TheVariants.{FirstWri
 use Rattle.memory_accesses.specs.declared.location.Location.{Location}
 use Rattle.memory_accesses.specs.declared.source.Source.{Source}
 use Rattle.memory_accesses.specs.declared.source.Source.TheVariants.{Slot, Inout, Object, Borrow, Loan, Field, Part, Other}
-use Rattle.memory_accesses.specs.Locations.{object_built, whole}
+use Rattle.memory_accesses.specs.Locations.{object_built}
 use Rattle.memory_accesses.specs.Sources.{source_at}
 
 abbrev pub has_steps : List ℕ → Bool
@@ -49,7 +49,3 @@ has_by sources Other part o = false
 -- the location's row has the operation
 abbrev pub has_operation : List Source → Location → Operation → Bool
 has_operation sources l o = has_by sources (source_at sources l.root) (is_part l) o
-
--- an operation that the row lacks counts like the same one on the whole
-abbrev pub counted : List Source → Location → Operation → Location
-counted sources l o = cond (has_operation sources l o) l (whole l.root)

@@ -1,5 +1,6 @@
 -- What each value of a function is to memory.
-use Rattle.std.specs.Prelude.{ℕ, zero, suc, ℤ, pos, negsuc, List, not, cond, map, replicate, length, slice_get, unwrap_or, option_map, Option, Some, None}
+use Rattle.std.specs.Prelude.{ℕ, zero, suc, ℤ, pos, negsuc, Bool, true, false, not, cond, Option, Some, None, option_map, unwrap_or}
+use Rattle.std.specs.Prelude.{List, map, replicate, length, slice_get}
 use Rattle.sil_ast.specs.declared.function.BlockArg.{BlockArg}
 use Rattle.sil_ast.specs.declared.function.Function.{Function}
 use Rattle.sil_ast.specs.declared.inst.Inst.{Inst}
@@ -100,3 +101,17 @@ sources_of d f = value_rows arg_sources (result_sources d) f
 
 abbrev pub source_at : List Source → ValueId → Source
 source_at sources v = unwrap_or (slice_get sources v.0) source.Other
+
+abbrev pub is_slot_source : Source → Bool
+is_slot_source (source.Slot emptied) = true
+is_slot_source source.Inout = false
+is_slot_source (source.Object fields) = false
+is_slot_source (source.Borrow of) = false
+is_slot_source (source.Loan of) = false
+is_slot_source (source.Field of k) = false
+is_slot_source (source.Part of k) = false
+is_slot_source source.Other = false
+
+-- the value is a slot
+abbrev pub is_slot : List Source → ValueId → Bool
+is_slot sources v = is_slot_source (source_at sources v)

@@ -37,7 +37,7 @@ pub enum Access {
     Begins(ValueId),
     /// A slot or an object is allocated.
     Allocates(ValueId),
-    /// A slot is deallocated.
+    /// A `dealloc_stack` has this address as its operand. One of another address than a slot's deallocates no slot.
     Deallocates(ValueId),
     /// The entry is given a location for an `@inout` parameter.
     Given(ValueId),

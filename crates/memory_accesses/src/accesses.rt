@@ -3,7 +3,7 @@
 ghost use Rattle.std.specs.Prelude.{◌≡◌, ℕ, Option, IfOk, OnOk, length};
 ghost use Rattle.sil_ast.specs.declared.place.ValueId.{ValueId};
 ghost use Rattle.sil_cfg.specs.Layout.{item_count};
-ghost use Rattle.path_patterns.specs.Reads.{accesses_at, AgreesWith};
+ghost use Rattle.path_patterns.specs.inner.Reads.{accesses_at, AgreesWith};
 ghost use Rattle.ownership_chains.specs.Facts.{told_at};
 ghost use Rattle.ownership_chains.specs.declared.facts.Facts.{Facts};
 ghost use Rattle.ownership_marks.specs.Known.{AreKindsBy};
@@ -42,7 +42,7 @@ pub fn make_accesses(
     add_ends(accesses, marks)?;
     add_mentions(accesses, inst, taken.as_slice())?;
     add_does(accesses, inst, taken.as_slice())?;
-    add_deallocations(accesses, m, inst)?;
+    add_deallocations(accesses, inst)?;
     add_made(accesses, m, defined.as_slice())?;
     add_begins(accesses, marks)
 }

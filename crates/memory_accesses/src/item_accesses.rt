@@ -4,6 +4,7 @@ ghost use Rattle.std.specs.Prelude.{◌≡◌, ◌++◌, OnOk, Some, map};
 ghost use Rattle.std.specs.List.{flat_map};
 ghost use Rattle.std.specs.Option.{option_copied, option_to_list};
 ghost use Rattle.memory_accesses.specs.Accesses as spec;
+ghost use Rattle.memory_accesses.specs.declared.access.Access.TheVariants.{Deallocates};
 ghost use Rattle.memory_accesses.specs.inner.Done.{does_among, done_at};
 
 use crate::access::{Access, Operated, Operation};
@@ -106,28 +107,22 @@ pub(crate) fn add_does(
     add_operated(accesses, operation, taken)
 }
 
-/// Adds the deallocations of those addresses that are slots.
-fn add_deallocated(
-    accesses: &mut Vec<Access>,
-    m: &Memory,
-    addresses: &[ValueId],
-) -> Result<(), Exhausted>
-    ensures { OnOk result (accesses.new.items ≡ accesses.old.items ++ flat_map (spec.deallocated m.now) addresses.now) }
+/// Adds the deallocations of the addresses.
+fn add_deallocated(accesses: &mut Vec<Access>, addresses: &[ValueId]) -> Result<(), Exhausted>
+    ensures { OnOk result (accesses.new.items ≡ accesses.old.items ++ map Deallocates addresses.now) }
 {
     for address in addresses {
-        if matches!(m.source(*address), Source::Slot { .. }) {
-            accesses.push(Access::Deallocates(*address))?;
-        }
+        accesses.push(Access::Deallocates(*address))?;
     }
     Ok(())
 }
 
+/// Adds what an item's `dealloc_stack` has as its operand.
 pub(crate) fn add_deallocations(
     accesses: &mut Vec<Access>,
-    m: &Memory,
     inst: Option<&Inst>,
 ) -> Result<(), Exhausted>
-    ensures { OnOk result (accesses.new.items ≡ accesses.old.items ++ spec.deallocations_of m.now (option_copied inst.entry)) }
+    ensures { OnOk result (accesses.new.items ≡ accesses.old.items ++ spec.deallocations_of (option_copied inst.entry)) }
 {
     let Some(inst) = inst else {
         return Ok(());
@@ -137,8 +132,7 @@ pub(crate) fn add_deallocations(
     }
     let mut addresses = Vec::new(*accesses.allocator());
     add_addresses(&mut addresses, inst)?;
-    add_deallocated(accesses, m, addresses.as_slice())?;
-    Ok(())
+    add_deallocated(accesses, addresses.as_slice())
 }
 
 /// What the item does to memory that defines the value.

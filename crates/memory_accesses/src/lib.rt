@@ -17,7 +17,7 @@ mod sources;
 pub use access::{Access, Operated, Operation};
 pub use accesses::{accesses_anew, accesses_by_item, make_accesses};
 pub use columns::{AccessKind, Allowance, access_kind_of, allowance_of};
-pub use location::{Cell, Location, overlap};
+pub use location::{Cell, Location};
 pub use memory::Memory;
 pub use operations::{add_addresses, add_operations, deallocates};
 pub use source::Source;

@@ -31,7 +31,7 @@ impl Location {
 }
 
 /// Whether two locations overlap: one is the other or a part of it.
-pub fn overlap(a: &Location, b: &Location) -> bool
+pub(crate) fn overlap(a: &Location, b: &Location) -> bool
     ensures { result ≡ locations.overlap a.now b.now }
 {
     let x = a.path.as_slice();

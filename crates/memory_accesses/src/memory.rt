@@ -9,7 +9,7 @@ ghost use Rattle.memory_accesses.specs.Sources as sources;
 
 use crate::access::Operation;
 use crate::locating::{location_at, locations_of, source_at};
-use crate::location::{Cell, Location};
+use crate::location::{Cell, Location, overlap};
 use crate::rows::{field_has, slot_has};
 use crate::source::Source;
 use crate::sources::sources_of;
@@ -71,11 +71,28 @@ impl Memory {
         source_at(self.sources.as_slice(), value)
     }
 
+    /// Whether a value is a slot.
+    pub fn is_slot(&self, value: ValueId) -> bool
+        ensures { result ≡ sources.is_slot self.now value }
+    {
+        self.source(value).is_slot()
+    }
+
     /// The location that an address names, if it names one.
     pub fn location(&self, address: ValueId) -> Option<&Location>
         ensures { option_copied result ≡ locations.location_of self.now address }
     {
         location_at(self.locations.as_slice(), address)
+    }
+
+    /// Whether the locations that two addresses name overlap.
+    pub fn do_overlap(&self, a: ValueId, b: ValueId) -> bool
+        ensures { result ≡ locations.do_overlap self.now a b }
+    {
+        match (self.location(a), self.location(b)) {
+            (Some(one), Some(other)) => overlap(one, other),
+            _ => false,
+        }
     }
 
     /// The new object that is built through a value: the object that the value borrows.

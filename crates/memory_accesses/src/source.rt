@@ -1,5 +1,8 @@
 //! What a value is to memory.
 
+ghost use Rattle.std.specs.Prelude.{◌≡◌};
+ghost use Rattle.memory_accesses.specs.Sources as sources;
+
 use sil_ast::ValueId;
 
 /// What a value is to memory, by the instruction that defines it.
@@ -21,4 +24,13 @@ pub enum Source {
     Part { of: ValueId, index: usize },
     /// Nothing.
     Other,
+}
+
+impl Source {
+    /// Whether it is the address of a slot.
+    pub fn is_slot(self) -> bool
+        ensures { result ≡ sources.is_slot_source self }
+    {
+        matches!(self, Source::Slot { .. })
+    }
 }

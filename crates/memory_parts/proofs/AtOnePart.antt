@@ -1,9 +1,9 @@
 -- What the table of several parts shows of a number is what the part's own table shows.
 use Rattle.std.proofs.Common.{◌≡◌, ℕ, zero, suc, ◌<◌, ◌≤◌, List, [], ◌∷◌, ◌++◌, length, get_or, take, map, refl, sym, ap, ap₂, ◌∙◌, subst, Bool, true, false, Option, Some, None, arith, inl, inr}
-use Rattle.std.specs.Prelude.{cond, option_map, slice_get, unwrap_or}
+use Rattle.std.specs.Prelude.{cond, filter_map, option_map, slice_get, unwrap_or}
 use Rattle.std.specs.List.{flat_map}
 use Rattle.std.specs.Option.{option_to_list}
-use Rattle.std.proofs.lemmas.Grind.{flat_map-append}
+use Rattle.std.proofs.lemmas.List.Elements.{filter_map-append}
 use Rattle.std.proofs.lemmas.List.{get_or-take, length-take-le}
 use Rattle.std.proofs.lemmas.Option.{slice_get-map, slice_get_read}
 use Rattle.sil_ast.specs.declared.function.Function.{Function}
@@ -15,12 +15,11 @@ use Rattle.sil_cfg.specs.declared.item.Item.{Item}
 use Rattle.sil_rules.specs.Order as rules
 use Rattle.ownership_chains.specs.Facts.{known_or}
 use Rattle.ownership_chains.specs.declared.facts.Facts.{Facts}
-use Rattle.path_checks.proofs.OneSubject.{marks_shared, same_shown_at}
+use Rattle.path_checks.proofs.OneSubject.{marks_shared, same_shown_of}
 use Rattle.path_checks.specs.Entries as entries
 use Rattle.path_checks.specs.First as paths
 use Rattle.path_checks.specs.inner.Shared.{shared_if}
 use Rattle.path_checks.specs.declared.fault.PathFault.{PathFault}
-use Rattle.path_patterns.specs.Reads.{marks_in, one_or_none}
 use Rattle.path_patterns.specs.declared.mark.Mark.{Mark}
 use Rattle.memory_accesses.specs.Accesses.{accesses_of}
 use Rattle.memory_accesses.specs.declared.access.Access.{Access}
@@ -29,17 +28,9 @@ use Rattle.memory_parts.specs.inner.Batches.{batch_table, joint}
 use Rattle.memory_parts.specs.Parts.{at_return, means, subject_of}
 use Rattle.rule_faults.specs.Keys.{fault_key, key}
 use Rattle.sil_rules.specs.declared.rule.Rule.{Rule}
-use Rattle.memory_parts.specs.Shown.{entry_of, IsShown, marks_of_access, other_of, part_marks, part_table}
+use Rattle.memory_parts.specs.Shown.{IsShown, marks_of_access, other_of, part_marks}
 use Rattle.rule_faults.specs.declared.fault.RuleFault.{RuleFault}
 use Rattle.memory_parts.specs.declared.part.Part.{Part}
-
-one_listed : (o : Option Mark) → one_or_none o ≡ option_to_list o
-one_listed None = refl
-one_listed (Some m) = refl
-
-alone : (marks : List Mark) → marks_in (entries.means 0) (map entry_of marks) ≡ marks
-alone [] = refl
-alone (m ∷ marks) = ap (λ v. m ∷ v) (alone marks)
 
 no_first : {A : Type 0} (front : List A) (x : A) (rest : List A) → [] ≡ front ++ x ∷ rest → ⊥
 no_first [] x rest e = cc
@@ -47,60 +38,59 @@ no_first (y ∷ front) x rest e = cc
 
 module _ (sources : List Source) (facts : ValueId → Option Facts) (f : Function) (parts : List Part) where
   module _ (n : ℕ) (p : Part) (there : slice_get parts n ≡ Some p) where
-    at_access : (a : Access) → marks_in (entries.means n) (joint sources (known_or facts) parts a) ≡ marks_of_access sources facts f p a
+    at_access : (a : Access) → filter_map (entries.means n) (joint sources (known_or facts) parts a) ≡ marks_of_access sources facts f p a
     at_access a =
         let h : Part → Option Mark = λ q. means sources (known_or facts) q a in
-        marks_shared (map h parts) n 0 n (omega arith) ∙ ap (λ o. one_or_none (unwrap_or o None)) (slice_get-map h parts n ∙ ap (option_map h) there) ∙ one_listed (h p)
+        marks_shared (map h parts) n 0 n (omega arith) ∙ ap (λ o. option_to_list (unwrap_or o None)) (slice_get-map h parts n ∙ ap (option_map h) there)
 
-    at_accesses : (accesses : List Access) → marks_in (entries.means n) (flat_map (joint sources (known_or facts) parts) accesses) ≡ flat_map (marks_of_access sources facts f p) accesses
+    at_accesses : (accesses : List Access) → filter_map (entries.means n) (flat_map (joint sources (known_or facts) parts) accesses) ≡ flat_map (marks_of_access sources facts f p) accesses
     at_accesses [] = refl
     at_accesses (a ∷ accesses) =
-        flat_map-append (λ e. one_or_none (entries.means n e)) (joint sources (known_or facts) parts a) (flat_map (joint sources (known_or facts) parts) accesses)
+        filter_map-append (entries.means n) (joint sources (known_or facts) parts a) (flat_map (joint sources (known_or facts) parts) accesses)
         ∙ ap₂ (λ u v. u ++ v) (at_access a) (at_accesses accesses)
 
-    at_returns : (b : Bool) → marks_in (entries.means n) (shared_if (map at_return parts) b) ≡ cond b (option_to_list (at_return p)) []
-    at_returns true = marks_shared (map at_return parts) n 0 n (omega arith) ∙ ap (λ o. one_or_none (unwrap_or o None)) (slice_get-map at_return parts n ∙ ap (option_map at_return) there)
-        ∙ one_listed (at_return p)
+    at_returns : (b : Bool) → filter_map (entries.means n) (shared_if (map at_return parts) b) ≡ cond b (option_to_list (at_return p)) []
+    at_returns true = marks_shared (map at_return parts) n 0 n (omega arith) ∙ ap (λ o. option_to_list (unwrap_or o None)) (slice_get-map at_return parts n ∙ ap (option_map at_return) there)
     at_returns false = refl
 
-    same_marks : (item : Item) → marks_in (entries.means n) (batch_table sources facts f parts item) ≡ marks_in (entries.means 0) (part_table sources facts f p item)
+    same_marks : (item : Item) → entries.marks_for n (batch_table sources facts f parts) item ≡ part_marks sources facts f p item
     same_marks item =
-        flat_map-append (λ e. one_or_none (entries.means n e)) (flat_map (joint sources (known_or facts) parts) (accesses_of sources facts f item)) (shared_if (map at_return parts) (is_return f item))
-        ∙ ap₂ (λ u v. u ++ v) (at_accesses (accesses_of sources facts f item)) (at_returns (is_return f item)) ∙ sym (alone (part_marks sources facts f p item))
+        filter_map-append (entries.means n) (flat_map (joint sources (known_or facts) parts) (accesses_of sources facts f item)) (shared_if (map at_return parts) (is_return f item))
+        ∙ ap₂ (λ u v. u ++ v) (at_accesses (accesses_of sources facts f item)) (at_returns (is_return f item))
 
     pub batch_part : (rule : Rule) (walk : List EdgeId) (point : PointId) (item : Item) → paths.IsShownAt f (batch_table sources facts f parts) n rule walk point item
-        → paths.IsShownAt f (part_table sources facts f p) 0 rule walk point item
-    batch_part rule walk point item h = same_shown_at f (batch_table sources facts f parts) (part_table sources facts f p) n 0 same_marks rule walk point item h
+        → paths.IsBreakShown f (part_marks sources facts f p) rule walk point item
+    batch_part rule walk point item h = same_shown_of f (entries.marks_for n (batch_table sources facts f parts)) (part_marks sources facts f p) same_marks rule walk point item h
 
-    pub part_batch : (rule : Rule) (walk : List EdgeId) (point : PointId) (item : Item) → paths.IsShownAt f (part_table sources facts f p) 0 rule walk point item
+    pub part_batch : (rule : Rule) (walk : List EdgeId) (point : PointId) (item : Item) → paths.IsBreakShown f (part_marks sources facts f p) rule walk point item
         → paths.IsShownAt f (batch_table sources facts f parts) n rule walk point item
-    part_batch rule walk point item h = same_shown_at f (part_table sources facts f p) (batch_table sources facts f parts) 0 n (λ i. sym (same_marks i)) rule walk point item h
+    part_batch rule walk point item h = same_shown_of f (part_marks sources facts f p) (entries.marks_for n (batch_table sources facts f parts)) (λ i. sym (same_marks i)) rule walk point item h
 
   -- a number that is no part's has no marks
   module _ (n : ℕ) (past : slice_get parts n ≡ None) where
-    none_access : (a : Access) → marks_in (entries.means n) (joint sources (known_or facts) parts a) ≡ []
+    none_access : (a : Access) → filter_map (entries.means n) (joint sources (known_or facts) parts a) ≡ []
     none_access a =
         let h : Part → Option Mark = λ q. means sources (known_or facts) q a in
-        marks_shared (map h parts) n 0 n (omega arith) ∙ ap (λ o. one_or_none (unwrap_or o None)) (slice_get-map h parts n ∙ ap (option_map h) past)
+        marks_shared (map h parts) n 0 n (omega arith) ∙ ap (λ o. option_to_list (unwrap_or o None)) (slice_get-map h parts n ∙ ap (option_map h) past)
 
-    none_accesses : (accesses : List Access) → marks_in (entries.means n) (flat_map (joint sources (known_or facts) parts) accesses) ≡ []
+    none_accesses : (accesses : List Access) → filter_map (entries.means n) (flat_map (joint sources (known_or facts) parts) accesses) ≡ []
     none_accesses [] = refl
     none_accesses (a ∷ accesses) =
-        flat_map-append (λ e. one_or_none (entries.means n e)) (joint sources (known_or facts) parts a) (flat_map (joint sources (known_or facts) parts) accesses)
+        filter_map-append (entries.means n) (joint sources (known_or facts) parts a) (flat_map (joint sources (known_or facts) parts) accesses)
         ∙ ap₂ (λ u v. u ++ v) (none_access a) (none_accesses accesses)
 
-    none_returns : (b : Bool) → marks_in (entries.means n) (shared_if (map at_return parts) b) ≡ []
-    none_returns true = marks_shared (map at_return parts) n 0 n (omega arith) ∙ ap (λ o. one_or_none (unwrap_or o None)) (slice_get-map at_return parts n ∙ ap (option_map at_return) past)
+    none_returns : (b : Bool) → filter_map (entries.means n) (shared_if (map at_return parts) b) ≡ []
+    none_returns true = marks_shared (map at_return parts) n 0 n (omega arith) ∙ ap (λ o. option_to_list (unwrap_or o None)) (slice_get-map at_return parts n ∙ ap (option_map at_return) past)
     none_returns false = refl
 
-    none_marks : (item : Item) → marks_in (entries.means n) (batch_table sources facts f parts item) ≡ []
+    none_marks : (item : Item) → entries.marks_for n (batch_table sources facts f parts) item ≡ []
     none_marks item =
-        flat_map-append (λ e. one_or_none (entries.means n e)) (flat_map (joint sources (known_or facts) parts) (accesses_of sources facts f item)) (shared_if (map at_return parts) (is_return f item))
+        filter_map-append (entries.means n) (flat_map (joint sources (known_or facts) parts) (accesses_of sources facts f item)) (shared_if (map at_return parts) (is_return f item))
         ∙ ap₂ (λ u v. u ++ v) (none_accesses (accesses_of sources facts f item)) (none_returns (is_return f item))
 
     pub past_unshown : (rule : Rule) (walk : List EdgeId) (point : PointId) (item : Item) → paths.IsShownAt f (batch_table sources facts f parts) n rule walk point item → ⊥
     past_unshown rule walk point item h =
-        let r = same_shown_at f (batch_table sources facts f parts) (λ _. []) n 0 none_marks rule walk point item h in
+        let r = same_shown_of f (entries.marks_for n (batch_table sources facts f parts)) (λ _. []) none_marks rule walk point item h in
         no_first r.shows.breaks.front r.shows.breaks.mark r.shows.breaks.rest r.shows.breaks.parts
 
   -- what is shown at a part is shown of its number

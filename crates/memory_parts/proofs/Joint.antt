@@ -1,31 +1,31 @@
 -- The table of several parts, by facts that are the same, and by an item's own entries and the shared ones of a `return`.
-use Rattle.std.proofs.Common.{◌≡◌, ℕ, ◌+◌, ◌<◌, List, [], ◌∷◌, ◌++◌, length, map, refl, sym, ap, ap₂, ◌∙◌, Bool, Option, append-nil, append_assoc, arith, get_or, take}
+use Rattle.std.proofs.Common.{◌≡◌, ℕ, ◌+◌, ◌<◌, List, [], ◌∷◌, ◌++◌, length, map, refl, sym, ap, ap₂, ◌∙◌, Bool, Option, append-nil, append_assoc, arith, get_or, take, Some, None}
 use Rattle.std.proofs.lemmas.List.{length-map, length-take-le, map-append, take_more}
-use Rattle.std.specs.Prelude.{not, ◌&&◌, ◌||◌}
+use Rattle.std.proofs.lemmas.List.FromFn.{fill_by_all}
+use Rattle.std.proofs.lemmas.Option.{slice_get-map, unwrap_or-slice_get}
+use Rattle.std.specs.Prelude.{not, ◌&&◌, ◌||◌, option_and_then, option_map, slice_get, unwrap_or}
 use Rattle.std.specs.List.{flat_map, range_with_len}
-use Rattle.std.proofs.lemmas.Option.{slice_get_within}
 use Rattle.sil_ast.specs.declared.function.Function.{Function}
 use Rattle.sil_ast.specs.declared.place.ValueId.{ValueId}
-use Rattle.sil_cfg.specs.Layout.{Layout, item_count}
+use Rattle.sil_cfg.specs.Layout.{Layout, item_at}
+use Rattle.sil_cfg.specs.declared.item.Item.{Item}
 use Rattle.ownership_chains.specs.Facts.{known_or, value_of}
 use Rattle.ownership_chains.specs.declared.facts.Facts.{Facts}
 use Rattle.ownership_marks.proofs.MarkTables.{flat_map_same}
-use Rattle.ownership_marks.specs.Known.{AreKindsBy, Known, facts_of}
+use Rattle.ownership_marks.specs.Known.{AreKindsBy, Known, facts_of, marks_at}
 use Rattle.path_checks.specs.inner.Shared.{entries_with, entry_if, shared_from, shared_if}
 use Rattle.path_checks.specs.declared.entry.Entry.{Entry}
 use Rattle.path_lists.specs.inner.Lists.{list_at}
-use Rattle.path_patterns.specs.Reads.{AgreesWith}
+use Rattle.path_patterns.specs.inner.Reads.{AgreesWith}
 use Rattle.path_patterns.specs.Marks.{needs_off}
 use Rattle.sil_rules.specs.declared.rule.Rule.TheVariants as rule
 use Rattle.path_patterns.specs.declared.mark.Mark.{Mark}
-use Rattle.memory_accesses.proofs.ByItem.{told_agrees}
-use Rattle.memory_accesses.specs.Accesses.{accesses_of}
-use Rattle.memory_accesses.specs.inner.Done.{told_at_item}
+use Rattle.memory_accesses.specs.Accesses.{accesses_of, accesses_with}
 use Rattle.memory_accesses.specs.Sources.{source_at}
 use Rattle.memory_accesses.specs.declared.access.Access.{Access}
 use Rattle.memory_accesses.specs.declared.access.Access.TheVariants.{Ends, Begins, Allocates, Deallocates, Given, Does, Mentions}
 use Rattle.memory_accesses.specs.declared.source.Source.{Source}
-use Rattle.memory_parts.specs.inner.Batches.{AreReturns, batch_table, joint}
+use Rattle.memory_parts.specs.inner.Batches.{AreReturns, batch_table, joint, return_mark}
 use Rattle.memory_parts.specs.Building.{builds, building_mark, goes_by_borrow, takes_borrow, takes_object}
 use Rattle.memory_parts.specs.Parts.{at_return, means, parts_at, parts_by, parts_of}
 use Rattle.memory_parts.specs.Switches.{is_same, when}
@@ -69,13 +69,24 @@ module _ (sources : List Source) (facts other : ValueId → Facts) (same : (v : 
 -- the entries by number, and the shared ones, are the parts' table
 pub batch_agrees : (sources : List Source) (f : Function) (g : Layout) (k : Known) (returns : List Bool) (parts : List Part) (own : List (List Entry)) (marks : List (Option Mark)) →
     AreReturns f g returns →
-    ((n : ℕ) → n < item_count g → list_at own n ≡ flat_map (joint sources (facts_of k) parts) (told_at_item sources f g k n)) → marks ≡ map at_return parts →
+    ((n : ℕ) (item : Item) → item_at g n ≡ Some item → list_at own n ≡ flat_map (joint sources (facts_of k) parts) (accesses_with sources (marks_at k n) f item)) →
+    marks ≡ map at_return parts →
     (count : ℕ) (facts : ValueId → Option Facts) → AreKindsBy count facts f g k → AgreesWith g (entries_with own marks returns) (batch_table sources facts f parts)
 batch_agrees sources f g k returns parts own marks returns_are own_are marks_are count facts by n item e =
     ap₂ (λ x y. x ++ y)
-    (own_are n (slice_get_within g.kinds n item e) ∙ ap (flat_map (joint sources (facts_of k) parts)) (told_agrees sources f g k count facts by n item e)
+    (own_are n item e ∙ ap (λ these. flat_map (joint sources (facts_of k) parts) (accesses_with sources these f item)) (by.marks_are n item e)
     ∙ joint_same sources (facts_of k) (known_or facts) by.facts_are parts (accesses_of sources facts f item))
     (ap₂ (λ m b. shared_if m b) marks_are (returns_are n item e))
+
+mark_or_none : (o : Option Part) → unwrap_or (option_map at_return o) None ≡ option_and_then at_return o
+mark_or_none None = refl
+mark_or_none (Some p) = refl
+
+-- what a `return` means to each of the parts, by their numbers
+pub returns_listed : (parts : List Part) → map at_return parts ≡ map (return_mark parts) (range_with_len 0 (length parts))
+returns_listed parts =
+    fill_by_all (return_mark parts) (map at_return parts) (length parts) None (length-map parts at_return)
+    (λ n lt. sym (unwrap_or-slice_get (map at_return parts) n None) ∙ ap (λ o. unwrap_or o None) (slice_get-map at_return parts n) ∙ mark_or_none (slice_get parts n))
 
 -- one part more
 shared_more : (n : ℕ) (marks : List (Option Mark)) (m : Option Mark) (j : ℕ) → n + length marks ≡ j → shared_from n (marks ++ m ∷ []) ≡ shared_from n marks ++ entry_if j m

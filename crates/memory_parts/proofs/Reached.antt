@@ -15,15 +15,16 @@ use Rattle.memory_accesses.specs.declared.columns.Allowance.{Allowance}
 use Rattle.memory_accesses.specs.declared.location.Cell.{Cell}
 use Rattle.memory_accesses.specs.declared.location.Location.{Location}
 use Rattle.memory_accesses.specs.declared.source.Source.{Source}
-use Rattle.memory_accesses.specs.Locations.{cell_of, location_of, object_built, overlap, whole}
-use Rattle.memory_accesses.specs.Rows.{counted, has_operation, is_part}
+use Rattle.memory_accesses.specs.Locations.{cell_of, location_of, meet, object_built}
+use Rattle.memory_accesses.specs.Rows.{is_part}
+use Rattle.memory_accesses.specs.Sources.{is_slot}
 use Rattle.path_patterns.specs.declared.mark.Mark.{Mark}
-use Rattle.memory_parts.specs.Building.{builds, fills, goes_by_borrow, is_first_write, is_forbidden, is_object_of, takes_borrow, takes_object}
+use Rattle.memory_parts.specs.Building.{builds, fills, goes_by_borrow, is_forbidden, is_object_of, takes_borrow, takes_object}
 use Rattle.memory_parts.specs.Contents.{at_location, same_cell, same_field}
 use Rattle.memory_parts.specs.inner.Keys.{built_key, keys_at, keys_of_access, keys_of_part, object_key, root_key}
-use Rattle.memory_parts.specs.Loans.{counted_loan, disturbed_mark, is_at_root, writes, writes_into}
+use Rattle.memory_parts.specs.Loans.{disturbed_mark, writes, writes_at}
 use Rattle.memory_parts.specs.Parts.{means}
-use Rattle.memory_parts.specs.Switches.{is_same, when}
+use Rattle.memory_parts.specs.Switches.{is_same, is_turned_on, when}
 use Rattle.memory_parts.specs.declared.key.Key.{Key}
 use Rattle.memory_parts.specs.declared.key.Key.TheVariants.{Turned, Named, Operated, Written}
 use Rattle.memory_parts.specs.declared.part.Part.{Part}
@@ -91,10 +92,7 @@ module _ (sources : List Source) where
   at_other o (Some l) cell keys there apart = no_mark (same_cell (cell_of sources l.root) cell) _ (other_cell (cell_of sources l.root) cell (operated_unlike o l cell keys there apart))
 
   fills_other : (o : Operation) (l : Option Location) (cell : Cell) (keys : List Key) → Contains keys (Operated cell) → AreApart (keys_at sources o l) keys → fills sources cell o l ≡ false
-  fills_other o None cell keys there apart = refl
-  fills_other o (Some l) cell keys there apart =
-      let e : same_cell (cell_of sources l.root) cell ≡ false = other_cell (cell_of sources l.root) cell (operated_unlike o l cell keys there apart) in
-      and_right (is_first_write o && not (is_part l)) (same_cell (cell_of sources l.root) cell) e
+  fills_other o l cell keys there apart = ap is_turned_on (at_other o l cell keys there apart)
 
   -- whatever is written at a part is written at the whole
   no_write : (part : Bool) (o : Operation) → writes true o ≡ false → writes part o ≡ false
@@ -106,42 +104,25 @@ module _ (sources : List Source) where
   no_write part InoutOperand e = cc
   no_write part Take e = cc
 
-  root_of_counted : (l : Location) (o : Operation) → (counted sources l o).root ≡ l.root
-  root_of_counted l o = by (has_operation sources l o)
+  meet_other : (k : Key) (scope : ValueId) (l lent : Option Location) → AreApart (k ∷ root_key l) (Turned scope ∷ root_key lent) → meet l lent ≡ false
+  meet_other k scope None lent apart = refl
+  meet_other k scope (Some l) None apart = refl
+  meet_other k scope (Some l) (Some lent) apart =
+      and_left (is_same l.root lent.root) _
+      (other_value l.root lent.root
+      (λ same. apart (Written l.root) (second k (Written l.root) [])
+      (subst (λ v. Contains (Turned scope ∷ Written v ∷ []) (Written l.root)) same (second (Turned scope) (Written l.root) []))))
+
+  writes_other : (scope : ValueId) (o : Operation) (l lent : Option Location) → AreApart (keys_at sources o l) (Turned scope ∷ root_key lent) → (writes_at l o && meet l lent) ≡ false
+  writes_other scope o None lent apart = refl
+  writes_other scope o (Some l) lent apart = at (writes true o) refl
     where
-      by : (b : Bool) → (cond b l (whole l.root)).root ≡ l.root
-      by true = refl
-      by false = refl
-
-  writes_other : (scope : ValueId) (o : Operation) (l lent : Option Location) → AreApart (keys_at sources o l) (Turned scope ∷ root_key lent)
-      → writes_into sources (counted_loan sources lent) o l ≡ false
-  writes_other scope o l None apart = refl
-  writes_other scope o None (Some lent) apart = refl
-  writes_other scope o (Some l) (Some lent) apart = at (writes true o) refl
-    where
-      into : Bool → Bool
-      into b = b && overlap (counted sources l o) (counted sources lent Lend)
-
-      unlike : writes true o ≡ true → l.root ≡ lent.root → ⊥
-      unlike e same =
-          apart (Written l.root)
-          (subst (λ b. Contains (Operated (cell_of sources l.root) ∷ cond b (Written l.root ∷ []) []) (Written l.root)) (sym e) (second (Operated (cell_of sources l.root)) (Written l.root) []))
-          (subst (λ v. Contains (Turned scope ∷ Written v ∷ []) (Written l.root)) same (second (Turned scope) (Written l.root) []))
-
-      roots : writes true o ≡ true → is_same (counted sources l o).root (counted sources lent Lend).root ≡ false
-      roots e = other_value (counted sources l o).root (counted sources lent Lend).root (λ same. unlike e (sym (root_of_counted l o) ∙ same ∙ root_of_counted lent Lend))
-
-      at : (b : Bool) → writes true o ≡ b → (writes (is_part (counted sources l o)) o && overlap (counted sources l o) (counted sources lent Lend)) ≡ false
-      at true e = and_right (writes (is_part (counted sources l o)) o) (overlap (counted sources l o) (counted sources lent Lend))
-          (and_left (is_same (counted sources l o).root (counted sources lent Lend).root) _ (roots e))
-      at false e = ap into (no_write (is_part (counted sources l o)) o e)
-
-  root_other : (v scope : ValueId) (k : Key) (lent : Option Location) → AreApart (k ∷ Written v ∷ []) (Turned scope ∷ root_key lent) → is_at_root (counted_loan sources lent) v ≡ false
-  root_other v scope k None apart = refl
-  root_other v scope k (Some lent) apart =
-      other_value (counted sources lent Lend).root v
-      (λ e. apart (Written v) (second k (Written v) [])
-      (subst (λ x. Contains (Turned scope ∷ Written x ∷ []) (Written v)) (sym e ∙ root_of_counted lent Lend) (second (Turned scope) (Written v) [])))
+      at : (b : Bool) → writes true o ≡ b → (writes (is_part l) o && meet (Some l) lent) ≡ false
+      at true e =
+          and_right (writes (is_part l) o) (meet (Some l) lent)
+          (meet_other (Operated (cell_of sources l.root)) scope (Some l) lent
+          (λ key c. apart key (subst (λ b. Contains (Operated (cell_of sources l.root) ∷ cond b (Written l.root ∷ []) []) key) (sym e) c)))
+      at false e = and_left (writes (is_part l) o) (meet (Some l) lent) (no_write (is_part l) o e)
 
   module _ (object : ValueId) (field : ℕ) where
     abbrev keys : List Key
@@ -176,7 +157,10 @@ module _ (sources : List Source) where
     unreached (Contents cell emptied left_full) (Ends v) apart = refl
     unreached (Contents cell emptied left_full) (Begins v) apart = refl
     unreached (Contents cell emptied left_full) (Allocates v) apart = unmarked v cell.subject _ (turned v cell.subject [] (Operated cell ∷ []) apart)
-    unreached (Contents cell emptied left_full) (Deallocates v) apart = unmarked v cell.subject _ (turned v cell.subject (Written v ∷ []) (Operated cell ∷ []) apart)
+    unreached (Contents cell emptied left_full) (Deallocates v) apart =
+        no_mark (is_slot sources v && is_same v cell.subject) _
+        (and_right (is_slot sources v) (is_same v cell.subject)
+        (other_value v cell.subject (turned v cell.subject (root_key (location_of sources v)) (Operated cell ∷ []) apart)))
     unreached (Contents cell emptied left_full) (Given v) apart = unmarked v cell.subject _ (turned v cell.subject [] (Operated cell ∷ []) apart)
     unreached (Contents cell emptied left_full) (Does x) apart =
         at_other x.operation (location_of sources x.address) cell (keys_of_part sources (Contents cell emptied left_full)) (second (Turned cell.subject) (Operated cell) []) apart
@@ -184,14 +168,14 @@ module _ (sources : List Source) where
     unreached (Allocation slot) (Ends v) apart = refl
     unreached (Allocation slot) (Begins v) apart = refl
     unreached (Allocation slot) (Allocates v) apart = unmarked v slot _ (turned v slot [] [] apart)
-    unreached (Allocation slot) (Deallocates v) apart = unmarked v slot _ (turned v slot (Written v ∷ []) [] apart)
+    unreached (Allocation slot) (Deallocates v) apart = unmarked v slot _ (turned v slot (root_key (location_of sources v)) [] apart)
     unreached (Allocation slot) (Given v) apart = refl
     unreached (Allocation slot) (Does x) apart = refl
     unreached (Allocation slot) (Mentions v a) apart = refl
     unreached (Lent scope address) (Ends v) apart = unmarked v scope _ (turned v scope [] _ apart)
     unreached (Lent scope address) (Begins v) apart = unmarked v scope _ (turned v scope [] _ apart)
     unreached (Lent scope address) (Allocates v) apart = refl
-    unreached (Lent scope address) (Deallocates v) apart = ap disturbed_mark (root_other v scope (Turned v) (location_of sources address) apart)
+    unreached (Lent scope address) (Deallocates v) apart = ap disturbed_mark (meet_other (Turned v) scope (location_of sources v) (location_of sources address) apart)
     unreached (Lent scope address) (Given v) apart = refl
     unreached (Lent scope address) (Does x) apart = ap disturbed_mark (writes_other scope x.operation (location_of sources x.address) (location_of sources address) apart)
     unreached (Lent scope address) (Mentions v a) apart = refl
@@ -215,7 +199,7 @@ module _ (sources : List Source) where
     unreached (InSlot address slot) (Ends v) apart = refl
     unreached (InSlot address slot) (Begins v) apart = refl
     unreached (InSlot address slot) (Allocates v) apart = unmarked v slot _ (turned v slot [] (Named address ∷ []) apart)
-    unreached (InSlot address slot) (Deallocates v) apart = unmarked v slot _ (turned v slot (Written v ∷ []) (Named address ∷ []) apart)
+    unreached (InSlot address slot) (Deallocates v) apart = unmarked v slot _ (turned v slot (root_key (location_of sources v)) (Named address ∷ []) apart)
     unreached (InSlot address slot) (Given v) apart = refl
     unreached (InSlot address slot) (Does x) apart = refl
     unreached (InSlot address slot) (Mentions v a) apart = unmarked v address _ (named_second v address (Turned slot) _ [] apart)

@@ -16,7 +16,7 @@ use Rattle.std.proofs.lemmas.Map.Keys.{IsStrictlyIncreasing-dedup}
 use Rattle.std.proofs.lemmas.Option.{get_or_from_slice_get}
 use Rattle.sil_cfg.proofs.Gets.{length_push}
 use Rattle.path_checks.proofs.Accesses.{accesses_kept, accesses_last, accesses_past, accesses_there}
-use Rattle.path_patterns.specs.Reads.{accesses_at}
+use Rattle.path_patterns.specs.inner.Reads.{accesses_at}
 use Rattle.memory_accesses.specs.declared.source.Source.{Source}
 use Rattle.memory_parts.specs.inner.Index.{HasAll, HasRows, row_at, row_of}
 use Rattle.memory_parts.specs.inner.Keys.{keys_of_part}

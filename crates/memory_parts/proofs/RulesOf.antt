@@ -1,6 +1,6 @@
 -- The rules of the parts' marks are those on memory that walks show.
 use Rattle.std.proofs.Common.{◌≡◌, List, [], ◌∷◌, ◌++◌, map, refl, Bool, true, false, cond, Option, Some, None}
-use Rattle.std.specs.Prelude.{◌==◌, ◌||◌}
+use Rattle.std.specs.Prelude.{◌&&◌, ◌==◌, ◌||◌}
 use Rattle.std.specs.List.{AllByRecursion, flat_map}
 use Rattle.std.specs.Option.{option_to_list}
 use Rattle.sil_ast.specs.declared.function.Function.{Function}
@@ -12,14 +12,13 @@ use Rattle.sil_rules.specs.declared.group.Group.TheVariants as group
 use Rattle.sil_rules.specs.declared.rule.Rule.{Rule}
 use Rattle.sil_rules.specs.declared.rule.Rule.TheVariants as rule
 use Rattle.rule_faults.specs.declared.fault.RuleFault.{RuleFault}
-use Rattle.path_checks.specs.declared.entry.Entry.{Entry}
-use Rattle.path_checks.proofs.RulesShown.{shown_rule}
+use Rattle.path_checks.proofs.RulesShown.{broken_rule}
 use Rattle.path_patterns.specs.declared.mark.Mark.{Mark}
 use Rattle.ownership_chains.specs.Facts.{known_or}
 use Rattle.ownership_chains.specs.declared.facts.Facts.{Facts}
 use Rattle.memory_accesses.specs.Accesses.{accesses_of}
 use Rattle.memory_accesses.specs.Locations.{cell_of, location_of}
-use Rattle.memory_accesses.specs.Rows.{counted, is_part}
+use Rattle.memory_accesses.specs.Sources.{is_slot}
 use Rattle.memory_accesses.specs.declared.access.Access.{Access}
 use Rattle.memory_accesses.specs.declared.access.Access.TheVariants.{Ends, Begins, Allocates, Deallocates, Given, Does, Mentions}
 use Rattle.memory_accesses.specs.declared.access.Operation.{Operation}
@@ -28,10 +27,10 @@ use Rattle.memory_accesses.specs.declared.location.Cell.{Cell}
 use Rattle.memory_accesses.specs.declared.location.Location.{Location}
 use Rattle.memory_accesses.specs.declared.source.Source.{Source}
 use Rattle.memory_parts.specs.Building.{fills, is_forbidden}
-use Rattle.memory_parts.specs.Contents.{at_location, deallocation_mark, operation_mark, same_cell}
-use Rattle.memory_parts.specs.Loans.{disturbs, lent_at}
+use Rattle.memory_parts.specs.Contents.{at_location, counts_at_part, deallocation_mark, operation_mark, same_cell}
+use Rattle.memory_parts.specs.Loans.{disturbs}
 use Rattle.memory_parts.specs.Parts.{at_return, means}
-use Rattle.memory_parts.specs.Shown.{IsShown, entry_of, marks_of_access, part_marks, part_table}
+use Rattle.memory_parts.specs.Shown.{IsShown, marks_of_access, part_marks}
 use Rattle.memory_parts.specs.Switches.{is_same, when}
 use Rattle.memory_parts.specs.declared.part.Part.{Part}
 use Rattle.memory_parts.specs.declared.part.Part.TheVariants.{Contents, Allocation, Lent, Building, InScope, InSlot}
@@ -43,9 +42,6 @@ IsOfParts r = (group_of r ≡ group.Memory) × ((number_of r == number_of rule.I
 
 abbrev IsOn : Mark → Type 0
 IsOn m = IsOfParts m.rule
-
-abbrev IsEntryOn : Entry → Type 0
-IsEntryOn e = IsOn e.mark
 
 -- there is no mark, or it is of such a rule
 abbrev AreOn : Option Mark → Type 0
@@ -77,14 +73,14 @@ deallocation_on false = (refl, refl)
 location_on : (sources : List Source) (cell : Cell) (o : Operation) (l : Option Location) → AreOn (at_location sources cell o l)
 location_on sources cell o None = tt
 location_on sources cell o (Some l) =
-    where_on (same_cell (cell_of sources l.root) cell) (operation_mark (is_part (counted sources l o)) o) (operation_on (is_part (counted sources l o)) o)
+    where_on (same_cell (cell_of sources l.root) cell) (operation_mark (counts_at_part sources l o) o) (operation_on (counts_at_part sources l o) o)
 
 module _ (sources : List Source) (facts : ValueId → Facts) where
   access_on : (p : Part) (a : Access) → AreOn (means sources facts p a)
   access_on (Contents cell emptied left_full) (Ends v) = tt
   access_on (Contents cell emptied left_full) (Begins v) = tt
   access_on (Contents cell emptied left_full) (Allocates v) = where_on (is_same v cell.subject) _ (refl, refl)
-  access_on (Contents cell emptied left_full) (Deallocates v) = where_on (is_same v cell.subject) (deallocation_mark emptied) (deallocation_on emptied)
+  access_on (Contents cell emptied left_full) (Deallocates v) = where_on (is_slot sources v && is_same v cell.subject) (deallocation_mark emptied) (deallocation_on emptied)
   access_on (Contents cell emptied left_full) (Given v) = where_on (is_same v cell.subject) _ (refl, refl)
   access_on (Contents cell emptied left_full) (Does x) = location_on sources cell x.operation (location_of sources x.address)
   access_on (Contents cell emptied left_full) (Mentions v a) = tt
@@ -98,9 +94,9 @@ module _ (sources : List Source) (facts : ValueId → Facts) where
   access_on (Lent scope address) (Ends v) = where_on (is_same v scope) _ (refl, refl)
   access_on (Lent scope address) (Begins v) = where_on (is_same v scope) _ (refl, refl)
   access_on (Lent scope address) (Allocates v) = tt
-  access_on (Lent scope address) (Deallocates v) = where_on (disturbs sources (lent_at sources address) (Deallocates v)) _ (refl, refl)
+  access_on (Lent scope address) (Deallocates v) = where_on (disturbs sources address (Deallocates v)) _ (refl, refl)
   access_on (Lent scope address) (Given v) = tt
-  access_on (Lent scope address) (Does x) = where_on (disturbs sources (lent_at sources address) (Does x)) _ (refl, refl)
+  access_on (Lent scope address) (Does x) = where_on (disturbs sources address (Does x)) _ (refl, refl)
   access_on (Lent scope address) (Mentions v a) = tt
   access_on (Building object field) (Ends v) = tt
   access_on (Building object field) (Begins v) = tt
@@ -149,24 +145,18 @@ each_returned : (b : Bool) (p : Part) → AllByRecursion IsOn (cond b (option_to
 each_returned true p = each_listed (at_return p) (left_on p)
 each_returned false p = tt
 
-each_entry : (ms : List Mark) → AllByRecursion IsOn ms → AllByRecursion IsEntryOn (map entry_of ms)
-each_entry [] h = tt
-each_entry (m ∷ ms) h = (h.0, each_entry ms h.1)
-
-each_at : (sources : List Source) (facts : ValueId → Option Facts) (f : Function) (p : Part) (item : Item) → AllByRecursion IsEntryOn (part_table sources facts f p item)
+each_at : (sources : List Source) (facts : ValueId → Option Facts) (f : Function) (p : Part) (item : Item) → AllByRecursion IsOn (part_marks sources facts f p item)
 each_at sources facts f p item =
-    each_entry (part_marks sources facts f p item)
-    (joined (flat_map (marks_of_access sources facts f p) (accesses_of sources facts f item)) (cond (is_return f item) (option_to_list (at_return p)) [])
+    joined (flat_map (marks_of_access sources facts f p) (accesses_of sources facts f item)) (cond (is_return f item) (option_to_list (at_return p)) [])
     (each_told (marks_of_access sources facts f p) (accesses_of sources facts f item)
     (λ a. each_listed (means sources (known_or facts) p a) (access_on sources (known_or facts) p a)))
-    (each_returned (is_return f item) p))
+    (each_returned (is_return f item) p)
 
 -- what is shown at a part breaks such a rule
 pub of_parts : (sources : List Source) (facts : ValueId → Option Facts) (f : Function) (parts : List Part) (s : RuleFault) →
     IsShown sources facts f parts s → IsOfParts s.rule
 of_parts sources facts f parts s h =
-    shown_rule IsOfParts f (part_table sources facts f h.part) (each_at sources facts f h.part) 0 s.rule s.walk s.point
-    (record { item = h.item; at = h.shown })
+    broken_rule IsOfParts f (part_marks sources facts f h.part) (each_at sources facts f h.part) s.rule s.walk s.point h.item h.shown
 
 pub on_memory : AreOnMemory
 on_memory sources facts f parts s h = (of_parts sources facts f parts s h).0

@@ -10,10 +10,11 @@ use Rattle.path_checks.specs.declared.entry.Entry.{Entry}
 use Rattle.memory_accesses.specs.declared.access.Access.{Access}
 use Rattle.memory_accesses.specs.declared.access.Access.TheVariants.{Ends, Begins, Allocates, Deallocates, Given, Does, Mentions}
 use Rattle.memory_accesses.specs.declared.source.Source.{Source}
-use Rattle.memory_accesses.specs.Locations.{object_built}
+use Rattle.memory_accesses.specs.Locations.{location_of, object_built}
+use Rattle.memory_accesses.specs.declared.location.Location.{Location}
 use Rattle.memory_parts.specs.inner.Batches.{joint}
-use Rattle.memory_parts.specs.inner.Concerned.{AreConcerned, IsConcerned, Keeps, has_key, has_object, is_built, is_concerned, may_mean, value_in}
-use Rattle.memory_parts.specs.inner.Keys.{built_key, keys_of_access, keys_of_part, object_key}
+use Rattle.memory_parts.specs.inner.Concerned.{AreConcerned, IsConcerned, Keeps, has_key, has_object, has_root, is_built, is_concerned, may_mean, value_in}
+use Rattle.memory_parts.specs.inner.Keys.{built_key, keys_of_access, keys_of_part, object_key, root_key}
 use Rattle.memory_parts.specs.Parts.{means}
 use Rattle.memory_parts.specs.declared.key.Key.{Key}
 use Rattle.memory_parts.specs.declared.key.Key.TheVariants.{Turned, Named, Written}
@@ -44,6 +45,10 @@ module _ (sources : List Source) (facts : ValueId → Facts) (concerned : List B
   no_object None e = All-nil IsNoKey
   no_object (Some object) e = one (Named object) e
 
+  no_root : (o : Option Location) → has_root concerned o ≡ false → All IsNoKey (root_key o)
+  no_root None e = All-nil IsNoKey
+  no_root (Some l) e = one (Written l.root) e
+
   none_built : (bases : List ValueId) → list_any (is_built sources concerned) bases ≡ false → All IsNoKey (flat_map (built_key sources) bases)
   none_built [] e = All-nil IsNoKey
   none_built (b ∷ bases) e =
@@ -54,7 +59,9 @@ module _ (sources : List Source) (facts : ValueId → Facts) (concerned : List B
   none_met (Ends v) e = one (Turned v) e
   none_met (Begins v) e = one (Turned v) e
   none_met (Allocates v) e = one (Turned v) e
-  none_met (Deallocates v) e = All-cons IsNoKey (Turned v) (Written v ∷ []) e (one (Written v) e)
+  none_met (Deallocates v) e =
+      let parts = or_parts (is_concerned concerned v) (has_root concerned (location_of sources v)) e in
+      All-cons IsNoKey (Turned v) (root_key (location_of sources v)) parts.0 (no_root (location_of sources v) parts.1)
   none_met (Given v) e = one (Turned v) e
   none_met (Does x) e = cc
   none_met (Mentions v w) e =

@@ -1,4 +1,4 @@
--- A field of a new object: on from its allocation until it is first written. 607.
+-- A field of a new object: on from its allocation until it is written. 607.
 use Rattle.std.specs.Prelude.{ℕ, List, Bool, true, false, not, ◌&&◌, ◌||◌, Option, Some, None}
 use Rattle.std.specs.List.{list_any}
 use Rattle.sil_ast.specs.declared.place.ValueId.{ValueId}
@@ -7,32 +7,21 @@ use Rattle.memory_accesses.specs.declared.access.Access.TheVariants.{Ends, Begin
 use Rattle.ownership_chains.specs.Facts.{is_guaranteed}
 use Rattle.ownership_chains.specs.declared.facts.Facts.{Facts}
 use Rattle.memory_accesses.specs.declared.access.Operation.{Operation}
-use Rattle.memory_accesses.specs.declared.access.Operation.TheVariants.{FirstWrite, Read, Lend, Write, TrivialStore, InoutOperand, Take}
 use Rattle.memory_accesses.specs.declared.columns.Allowance.{Allowance}
 use Rattle.memory_accesses.specs.declared.columns.Allowance.TheVariants.{NeitherOfThem, FreshObject, BuildingBorrow, BothOfThem}
 use Rattle.memory_accesses.specs.declared.location.Cell.{Cell}
 use Rattle.memory_accesses.specs.declared.location.Location.{Location}
 use Rattle.memory_accesses.specs.declared.source.Source.{Source}
-use Rattle.memory_accesses.specs.Locations.{cell_of, location_of, object_built}
-use Rattle.memory_accesses.specs.Rows.{is_part}
+use Rattle.memory_accesses.specs.Locations.{location_of, object_built}
 use Rattle.path_patterns.specs.Marks.{needs_off, turns_off, turns_on}
 use Rattle.sil_rules.specs.declared.rule.Rule.TheVariants as rule
 use Rattle.path_patterns.specs.declared.mark.Mark.{Mark}
-use Rattle.memory_parts.specs.Contents.{same_cell}
-use Rattle.memory_parts.specs.Switches.{is_same, when}
+use Rattle.memory_parts.specs.Contents.{at_location}
+use Rattle.memory_parts.specs.Switches.{is_same, is_turned_on, when}
 
-abbrev pub is_first_write : Operation → Bool
-is_first_write FirstWrite = true
-is_first_write Read = false
-is_first_write Lend = false
-is_first_write Write = false
-is_first_write TrivialStore = true
-is_first_write InoutOperand = false
-is_first_write Take = false
-
+-- the operation turns the contents of the cell on
 abbrev pub fills : List Source → Cell → Operation → Option Location → Bool
-fills sources cell o None = false
-fills sources cell o (Some l) = is_first_write o && not (is_part l) && same_cell (cell_of sources l.root) cell
+fills sources cell o l = is_turned_on (at_location sources cell o l)
 
 abbrev pub takes_object : Allowance → Bool
 takes_object NeitherOfThem = false

@@ -8,7 +8,8 @@ use Rattle.memory_accesses.specs.declared.location.Cell.{Cell}
 use Rattle.memory_accesses.specs.declared.location.Location.{Location}
 use Rattle.memory_accesses.specs.declared.source.Source.{Source}
 use Rattle.memory_accesses.specs.Locations.{cell_of, location_of}
-use Rattle.memory_accesses.specs.Rows.{counted, is_part}
+use Rattle.memory_accesses.specs.Rows.{has_operation, is_part}
+use Rattle.memory_accesses.specs.Sources.{is_slot}
 use Rattle.path_patterns.specs.Marks.{needs_off, needs_off_turns_on, needs_on, needs_on_turns_off, turns_off, turns_on}
 use Rattle.sil_rules.specs.declared.rule.Rule.TheVariants as rule
 use Rattle.path_patterns.specs.declared.mark.Mark.{Mark}
@@ -26,6 +27,10 @@ operation_mark false TrivialStore = turns_on rule.LoadUninitialised
 operation_mark part InoutOperand = needs_on rule.LoadUninitialised
 operation_mark part Take = needs_on_turns_off rule.LoadUninitialised
 
+-- the operation counts at a part: one that the row lacks counts like the same one on the whole
+abbrev pub counts_at_part : List Source → Location → Operation → Bool
+counts_at_part sources l o = has_operation sources l o && is_part l
+
 abbrev pub same_field : Option ℕ → Option ℕ → Bool
 same_field None None = true
 same_field None (Some k) = false
@@ -37,17 +42,17 @@ same_cell a b = is_same a.subject b.subject && same_field a.field b.field
 
 abbrev pub at_location : List Source → Cell → Operation → Option Location → Option Mark
 at_location sources cell o None = None
-at_location sources cell o (Some l) = when (same_cell (cell_of sources l.root) cell) (operation_mark (is_part (counted sources l o)) o)
+at_location sources cell o (Some l) = when (same_cell (cell_of sources l.root) cell) (operation_mark (counts_at_part sources l o) o)
 
 abbrev pub deallocation_mark : Bool → Mark
 deallocation_mark emptied = cond emptied (needs_off rule.LeftInitialised) (turns_off rule.LeftInitialised)
 
--- it is empty behind its allocation, and where it is deallocated; an inout is full when it is given
+-- it is empty behind its allocation, and where it is deallocated, which a slot alone can be; an inout is full when it is given
 abbrev pub contents_mark : List Source → Cell → Bool → Access → Option Mark
 contents_mark sources cell emptied (Ends v) = None
 contents_mark sources cell emptied (Begins v) = None
 contents_mark sources cell emptied (Allocates v) = when (is_same v cell.subject) (turns_off rule.LoadUninitialised)
-contents_mark sources cell emptied (Deallocates v) = when (is_same v cell.subject) (deallocation_mark emptied)
+contents_mark sources cell emptied (Deallocates v) = when (is_slot sources v && is_same v cell.subject) (deallocation_mark emptied)
 contents_mark sources cell emptied (Given v) = when (is_same v cell.subject) (turns_on rule.LoadUninitialised)
 contents_mark sources cell emptied (Does x) = at_location sources cell x.operation (location_of sources x.address)
 contents_mark sources cell emptied (Mentions v a) = None

@@ -7,8 +7,8 @@ use Rattle.memory_accesses.specs.declared.access.Operation.{Operation}
 use Rattle.memory_accesses.specs.declared.access.Operation.TheVariants.{FirstWrite, Read, Lend, Write, TrivialStore, InoutOperand, Take}
 use Rattle.memory_accesses.specs.declared.location.Location.{Location}
 use Rattle.memory_accesses.specs.declared.source.Source.{Source}
-use Rattle.memory_accesses.specs.Locations.{cell_of, location_of, overlap}
-use Rattle.memory_accesses.specs.Rows.{counted, is_part}
+use Rattle.memory_accesses.specs.Locations.{cell_of, do_overlap, location_of}
+use Rattle.memory_accesses.specs.Rows.{is_part}
 use Rattle.path_patterns.specs.Marks.{needs_off, turns_off, turns_on}
 use Rattle.sil_rules.specs.declared.rule.Rule.TheVariants as rule
 use Rattle.path_patterns.specs.declared.mark.Mark.{Mark}
@@ -24,32 +24,19 @@ writes part TrivialStore = part
 writes part InoutOperand = true
 writes part Take = true
 
-abbrev pub writes_into : List Source → Option Location → Operation → Option Location → Bool
-writes_into sources None o l = false
-writes_into sources (Some lent) o None = false
-writes_into sources (Some lent) o (Some l) = writes (is_part (counted sources l o)) o && overlap (counted sources l o) lent
+abbrev pub writes_at : Option Location → Operation → Bool
+writes_at None o = false
+writes_at (Some l) o = writes (is_part l) o
 
-abbrev pub counted_loan : List Source → Option Location → Option Location
-counted_loan sources None = None
-counted_loan sources (Some l) = Some (counted sources l Lend)
-
--- what is lent at an address
-abbrev pub lent_at : List Source → ValueId → Option Location
-lent_at sources address = counted_loan sources (location_of sources address)
-
-abbrev pub is_at_root : Option Location → ValueId → Bool
-is_at_root None v = false
-is_at_root (Some l) v = is_same l.root v
-
--- the access would write into what is lent, or deallocate it
-abbrev pub disturbs : List Source → Option Location → Access → Bool
-disturbs sources lent (Ends v) = false
-disturbs sources lent (Begins v) = false
-disturbs sources lent (Allocates v) = false
-disturbs sources lent (Deallocates v) = is_at_root lent v
-disturbs sources lent (Given v) = false
-disturbs sources lent (Does x) = writes_into sources lent x.operation (location_of sources x.address)
-disturbs sources lent (Mentions v a) = false
+-- the access would write into what is lent at the address, or deallocate it: it concerns its own location, whatever the row of that has
+abbrev pub disturbs : List Source → ValueId → Access → Bool
+disturbs sources address (Ends v) = false
+disturbs sources address (Begins v) = false
+disturbs sources address (Allocates v) = false
+disturbs sources address (Deallocates v) = do_overlap sources v address
+disturbs sources address (Given v) = false
+disturbs sources address (Does x) = writes_at (location_of sources x.address) x.operation && do_overlap sources x.address address
+disturbs sources address (Mentions v a) = false
 
 abbrev pub disturbed_mark : Bool → Option Mark
 disturbed_mark test = when test (needs_off rule.WriteWhileBorrowed)
@@ -58,9 +45,9 @@ abbrev pub loan_mark : List Source → ValueId → ValueId → Access → Option
 loan_mark sources scope address (Ends v) = when (is_same v scope) (turns_off rule.WriteWhileBorrowed)
 loan_mark sources scope address (Begins v) = when (is_same v scope) (turns_on rule.WriteWhileBorrowed)
 loan_mark sources scope address (Allocates v) = None
-loan_mark sources scope address (Deallocates v) = disturbed_mark (disturbs sources (lent_at sources address) (Deallocates v))
+loan_mark sources scope address (Deallocates v) = disturbed_mark (disturbs sources address (Deallocates v))
 loan_mark sources scope address (Given v) = None
-loan_mark sources scope address (Does x) = disturbed_mark (disturbs sources (lent_at sources address) (Does x))
+loan_mark sources scope address (Does x) = disturbed_mark (disturbs sources address (Does x))
 loan_mark sources scope address (Mentions v a) = None
 
 abbrev pub shown_root : List Source → Option Location → Option ValueId
@@ -72,7 +59,7 @@ abbrev pub root_of : List Source → Access → Option ValueId
 root_of sources (Ends v) = None
 root_of sources (Begins v) = None
 root_of sources (Allocates v) = None
-root_of sources (Deallocates v) = Some v
+root_of sources (Deallocates v) = shown_root sources (location_of sources v)
 root_of sources (Given v) = None
 root_of sources (Does x) = shown_root sources (location_of sources x.address)
 root_of sources (Mentions v a) = None

@@ -1,5 +1,5 @@
 -- What is shown at a part by itself, and the first of all parts.
-use Rattle.std.specs.Prelude.{◌≡◌, ℕ, List, [], ◌++◌, Contains, cond, find, map, option_and_then, Option, None}
+use Rattle.std.specs.Prelude.{◌≡◌, ℕ, List, [], ◌++◌, Contains, cond, find, option_and_then, Option, None}
 use Rattle.std.specs.List.{flat_map}
 use Rattle.std.specs.Option.{option_to_list}
 use Rattle.sil_ast.specs.declared.function.Function.{Function}
@@ -11,26 +11,22 @@ use Rattle.sil_rules.specs.Order.{IsFirst}
 use Rattle.ownership_chains.specs.Facts.{known_or}
 use Rattle.ownership_chains.specs.declared.facts.Facts.{Facts}
 use Rattle.ownership_marks.specs.Known.{AreKindsBy, Known}
-use Rattle.path_checks.specs.First as paths
-use Rattle.path_checks.specs.declared.entry.Entry.{Entry}
+use Rattle.path_checks.specs.First.{IsBreakShown}
 use Rattle.path_patterns.specs.declared.mark.Mark.{Mark}
 use Rattle.memory_accesses.specs.declared.access.Access.{Access}
 use Rattle.memory_accesses.specs.declared.source.Source.{Source}
 use Rattle.memory_accesses.specs.Accesses.{accesses_of}
 use Rattle.rule_faults.specs.Keys.{fault_key}
 use Rattle.rule_faults.specs.declared.fault.RuleFault.{RuleFault}
-use Rattle.memory_parts.specs.Loans.{disturbs, lent_at, root_of}
+use Rattle.memory_parts.specs.Loans.{disturbs, root_of}
 use Rattle.memory_parts.specs.Parts.{at_return, means, parts_of, subject_of}
 use Rattle.memory_parts.specs.declared.part.Part.{Part}
 use Rattle.memory_parts.specs.declared.part.Part.TheVariants.{Contents, Allocation, Lent, Building, InScope, InSlot}
 
-abbrev pub entry_of : Mark → Entry
-entry_of m = record { subject = 0; mark = m }
-
 abbrev pub first_root : List Source → Part → List Access → Option ValueId
 first_root sources (Contents cell emptied left_full) accesses = None
 first_root sources (Allocation slot) accesses = None
-first_root sources (Lent scope address) accesses = option_and_then (root_of sources) (find (disturbs sources (lent_at sources address)) accesses)
+first_root sources (Lent scope address) accesses = option_and_then (root_of sources) (find (disturbs sources address) accesses)
 first_root sources (Building object field) accesses = None
 first_root sources (InScope address scope) accesses = None
 first_root sources (InSlot address slot) accesses = None
@@ -43,10 +39,6 @@ module _ (sources : List Source) (facts : ValueId → Option Facts) (f : Functio
   abbrev pub part_marks : Part → Item → List Mark
   part_marks p item = flat_map (marks_of_access p) (accesses_of sources facts f item) ++ cond (is_return f item) (option_to_list (at_return p)) []
 
-  -- the table of the part alone
-  abbrev pub part_table : Part → Item → List Entry
-  part_table p item = map entry_of (part_marks p item)
-
   -- the other value that takes part: the root of the first access that disturbs a loan
   abbrev pub other_of : Part → Item → Option ValueId
   other_of p item = first_root sources p (accesses_of sources facts f item)
@@ -57,7 +49,7 @@ pub record IsShown (sources : List Source) (facts : ValueId → Option Facts) (f
   pub there : Contains parts part
   pub subject : subject_of part ≡ s.subject
   pub item : Item
-  pub shown : paths.IsShownAt f (part_table sources facts f part) 0 s.rule s.walk s.point item
+  pub shown : IsBreakShown f (part_marks sources facts f part) s.rule s.walk s.point item
   pub other : s.other ≡ other_of sources facts f part item
 
 -- this comes first of what is shown at any part, whichever facts the kinds are by

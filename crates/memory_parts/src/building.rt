@@ -6,8 +6,8 @@ ghost use Rattle.std.specs.Option.{option_copied};
 ghost use Rattle.ownership_marks.specs.Known.{facts_of};
 ghost use Rattle.memory_parts.specs.Building as building;
 
-use crate::contents::same_cell;
-use crate::switch::{is_same, when};
+use crate::contents::at_location;
+use crate::switch::{is_same, is_turned_on, when};
 use memory_accesses::{Access, Allowance, Cell, Location, Memory, Operation};
 use ownership_marks::Kinds;
 use path_patterns::Mark;
@@ -15,27 +15,11 @@ use sil_ast::ValueId;
 use sil_rules::Rule;
 use type_definitions::Kind;
 
-fn is_first_write(operation: Operation) -> bool
-    ensures { result ≡ building.is_first_write operation }
-{
-    match operation {
-        Operation::FirstWrite | Operation::TrivialStore => true,
-        Operation::Read
-        | Operation::Lend
-        | Operation::Write
-        | Operation::InoutOperand
-        | Operation::Take => false,
-    }
-}
-
-/// Whether the operation at the location is a first write of the whole cell.
+/// Whether the operation at the location turns the contents of the cell on.
 fn fills(m: &Memory, cell: Cell, operation: Operation, location: Option<&Location>) -> bool
     ensures { result ≡ building.fills m.now cell operation (option_copied location.entry) }
 {
-    match location {
-        None => false,
-        Some(l) => { is_first_write(operation) && !l.is_part() && same_cell(m.cell(l.root), cell) }
-    }
+    is_turned_on(at_location(m, cell, operation, location))
 }
 
 fn takes_object(allowance: Allowance) -> bool

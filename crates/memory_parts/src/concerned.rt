@@ -78,6 +78,16 @@ pub(crate) fn add_parts(concerned: &mut [bool], m: &Memory, batch: &[Part])
     }
 }
 
+/// Whether the root of the location concerns them.
+fn has_root(concerned: &[bool], location: Option<&Location>) -> bool
+    ensures { result ≡ values.has_root concerned.now (option_copied location.entry) }
+{
+    match location {
+        None => false,
+        Some(l) => is_concerned(concerned, l.root),
+    }
+}
+
 /// Whether the object that is built through the base concerns them.
 fn is_built(concerned: &[bool], m: &Memory, base: ValueId) -> bool
     ensures { result ≡ values.is_built m.now concerned.now base }
@@ -105,7 +115,8 @@ pub(crate) fn may_mean(concerned: &[bool], m: &Memory, k: &Kinds, access: Access
 {
     match access {
         Access::Ends(v) | Access::Begins(v) | Access::Allocates(v) => is_concerned(concerned, v),
-        Access::Deallocates(v) | Access::Given(v) => is_concerned(concerned, v),
+        Access::Given(v) => is_concerned(concerned, v),
+        Access::Deallocates(v) => is_concerned(concerned, v) || has_root(concerned, m.location(v)),
         Access::Does(_) => true,
         Access::Mentions { value, .. } => {
             is_concerned(concerned, value) || any_built(concerned, m, k.bases(value))

@@ -2,7 +2,6 @@
 
 ghost use Rattle.std.specs.Prelude.{◌≡◌, Some};
 ghost use Rattle.std.specs.Option.{option_copied};
-ghost use Rattle.memory_accesses.specs.Rows.{counted, is_part};
 ghost use Rattle.memory_parts.specs.Contents as contents;
 
 use crate::switch::{is_same, when};
@@ -10,9 +9,9 @@ use memory_accesses::{Access, Cell, Location, Memory, Operation};
 use path_patterns::Mark;
 use sil_rules::Rule;
 
-/// Whether the operation is counted at a part of its root.
-pub(crate) fn is_counted_part(m: &Memory, location: &Location, operation: Operation) -> bool
-    ensures { result ≡ is_part (counted m.now location.now operation) }
+/// Whether the operation counts at a part: one that the location lacks counts like the same one on the whole.
+fn counts_at_part(m: &Memory, location: &Location, operation: Operation) -> bool
+    ensures { result ≡ contents.counts_at_part m.now location.now operation }
 {
     m.has_operation(location, operation) && location.is_part()
 }
@@ -28,7 +27,7 @@ fn same_field(a: Option<usize>, b: Option<usize>) -> bool
 }
 
 /// Whether it is one cell.
-pub(crate) fn same_cell(a: Cell, b: Cell) -> bool
+fn same_cell(a: Cell, b: Cell) -> bool
     ensures { result ≡ contents.same_cell a b }
 {
     is_same(a.subject, b.subject) && same_field(a.field, b.field)
@@ -55,7 +54,7 @@ fn operation_mark(part: bool, operation: Operation) -> Mark
 }
 
 /// An operation means something to the cell that is at the root of its location.
-fn at_location(
+pub(crate) fn at_location(
     m: &Memory,
     cell: Cell,
     operation: Operation,
@@ -67,7 +66,7 @@ fn at_location(
         None => None,
         Some(l) => when(
             same_cell(m.cell(l.root), cell),
-            operation_mark(is_counted_part(m, l, operation), operation),
+            operation_mark(counts_at_part(m, l, operation), operation),
         ),
     }
 }
@@ -94,7 +93,10 @@ pub(crate) fn contents_mark(m: &Memory, cell: Cell, emptied: bool, access: Acces
             is_same(v, cell.subject),
             Mark::turns_off(Rule::LoadUninitialised),
         ),
-        Access::Deallocates(v) => when(is_same(v, cell.subject), deallocation_mark(emptied)),
+        Access::Deallocates(v) => when(
+            m.is_slot(v) && is_same(v, cell.subject),
+            deallocation_mark(emptied),
+        ),
         Access::Given(v) => when(
             is_same(v, cell.subject),
             Mark::turns_on(Rule::LoadUninitialised),

@@ -1,15 +1,15 @@
 //! The first fault of all parts.
 
 ghost use Rattle.std.specs.Prelude.{◌≡◌, ◌≤◌, IfOk, None, length, take};
-ghost use Rattle.sil_cfg.specs.Build.{IsGraphOf};
+ghost use Rattle.sil_cfg.specs.inner.Build.{IsGraphOf};
 ghost use Rattle.memory_parts.specs.inner.Batches as batches;
 ghost use Rattle.memory_parts.specs.inner.Batches.{AreReturns, AreRising, IsFirstAmong};
 ghost use Rattle.memory_parts.specs.Shown.{IsFirstFinding};
 
-use crate::batch::first_number;
 use crate::meaning::subject_of;
 use crate::part::Part;
 use crate::parts::parts_of;
+use crate::search::first_number;
 use crate::single::first_of_part;
 use memory_accesses::Memory;
 use ownership_marks::Kinds;

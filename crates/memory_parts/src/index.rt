@@ -2,7 +2,7 @@
 
 ghost use Rattle.std.specs.Prelude.{◌≡◌, [], ◌∷◌, ◌++◌, ◌==◌, ◌<◌, ◌≤◌, ℕ, IfOk, OnOk, cond, length};
 ghost use Rattle.std.specs.List.Sorted.{IsStrictlyIncreasing};
-ghost use Rattle.path_patterns.specs.Reads.{accesses_at};
+ghost use Rattle.path_patterns.specs.inner.Reads.{accesses_at};
 ghost use Rattle.memory_parts.specs.inner.Index as index;
 ghost use Rattle.memory_parts.specs.inner.Index.{HasRows, IsIndexOf};
 

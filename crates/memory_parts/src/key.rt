@@ -115,7 +115,7 @@ pub(crate) fn add_keys_of_access(
         Access::Allocates(v) | Access::Given(v) => found.push(Key::Turned(v))?,
         Access::Deallocates(v) => {
             found.push(Key::Turned(v))?;
-            found.push(Key::Written(v))?;
+            add_root(found, m.location(v))?;
         }
         Access::Does(x) => add_keys_at(found, m, x.operation, m.location(x.address))?,
         Access::Mentions { value, .. } => {

@@ -18,6 +18,7 @@ mod meaning;
 mod others;
 mod part;
 mod parts;
+mod search;
 mod single;
 mod switch;
 

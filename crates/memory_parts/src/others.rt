@@ -11,7 +11,7 @@ use sil_ast::ValueId;
 
 /// The root of the first access that disturbs a loan of what is at the address.
 fn disturbing_root(m: &Memory, address: ValueId, accesses: &[Access]) -> Option<ValueId>
-    ensures { result ≡ option_and_then (loans.root_of m.now) (find (loans.disturbs m.now (loans.lent_at m.now address)) accesses.now) }
+    ensures { result ≡ option_and_then (loans.root_of m.now) (find (loans.disturbs m.now address) accesses.now) }
 {
     for access in accesses {
         if disturbs(m, address, *access) {

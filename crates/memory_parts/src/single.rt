@@ -1,13 +1,13 @@
 //! One part by itself.
 
 ghost use Rattle.std.specs.Prelude.{[], ◌∷◌, IfOk};
-ghost use Rattle.sil_cfg.specs.Build.{IsGraphOf};
+ghost use Rattle.sil_cfg.specs.inner.Build.{IsGraphOf};
 ghost use Rattle.memory_parts.specs.inner.Batches.{AreReturns, IsFirstAmong};
 
-use crate::batch::first_number;
 use crate::meaning::subject_of;
 use crate::others::other_of;
 use crate::part::Part;
+use crate::search::first_number;
 use memory_accesses::{Memory, accesses_anew};
 use ownership_marks::Kinds;
 use rule_faults::RuleFault;

@@ -1,4 +1,4 @@
-//! When an access has a mark.
+//! When an access has a mark, and when its mark turns the switch on.
 
 ghost use Rattle.std.specs.Prelude.{◌≡◌};
 ghost use Rattle.memory_parts.specs.Switches as switches;
@@ -11,6 +11,16 @@ pub(crate) fn when(test: bool, mark: Mark) -> Option<Mark>
     ensures { result ≡ switches.when test mark }
 {
     if test { Some(mark) } else { None }
+}
+
+/// Whether there is a mark that turns its switch on.
+pub(crate) fn is_turned_on(mark: Option<Mark>) -> bool
+    ensures { result ≡ switches.is_turned_on mark }
+{
+    match mark {
+        None => false,
+        Some(mark) => mark.turns.unwrap_or(false),
+    }
 }
 
 /// Whether it is one value.

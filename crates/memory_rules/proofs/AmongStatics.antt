@@ -18,10 +18,11 @@ use Rattle.point_checks.proofs.FaultsOf.{IsFound, found, inst_in_faults}
 use Rattle.point_checks.proofs.FaultsOf.IsFound.{at_args, at_inst}
 use Rattle.memory_accesses.specs.declared.access.Operated.{Operated}
 use Rattle.memory_accesses.specs.declared.source.Source.{Source}
+use Rattle.memory_accesses.specs.Locations.{do_overlap}
 use Rattle.memory_accesses.specs.Operations.{addresses_of, deallocates, operations_of}
 use Rattle.memory_rules.specs.inner.StaticFaults.{deallocation_faults, lacking_faults, no_args_faults, no_slot_faults, operated_faults}
 use Rattle.memory_rules.specs.inner.StaticFaults.{other_by, overlap_faults, pair_faults, statics_at, statics_of}
-use Rattle.memory_rules.specs.Statics.{IsBrokenAt, OperandPair, address_in, crossed_with, crosses, do_overlap, is_no_slot}
+use Rattle.memory_rules.specs.Statics.{IsBrokenAt, OperandPair, address_in, crossed_with, crosses, is_no_slot}
 use Rattle.memory_rules.specs.Statics.{lacking_at, lacks, pairs_of, passed_of, second_of}
 use Rattle.memory_rules.specs.Statics.IsBrokenAt.{overlapping, lacking}
 

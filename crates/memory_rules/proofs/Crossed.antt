@@ -11,7 +11,8 @@ use Rattle.point_checks.specs.inner.Faults.{least}
 use Rattle.point_checks.specs.declared.fault.PointFault.{PointFault}
 use Rattle.point_checks.proofs.Least.{least-append}
 use Rattle.memory_accesses.specs.declared.source.Source.{Source}
-use Rattle.memory_rules.specs.Statics.{OperandPair, crosses, do_overlap, pair, pairs_of, second_of}
+use Rattle.memory_accesses.specs.Locations.{do_overlap}
+use Rattle.memory_rules.specs.Statics.{OperandPair, crosses, pair, pairs_of, second_of}
 
 -- a slice from a place on is what is left there
 pub rest_from : (xs : List ValueId) (n : ℕ) → n ≤ length xs → take (length xs - n) (drop n xs) ≡ drop n xs

@@ -19,7 +19,8 @@ use Rattle.memory_accesses.specs.declared.source.Source.{Source}
 use Rattle.memory_accesses.specs.declared.source.Source.TheVariants as source
 use Rattle.memory_parts.specs.Parts.{parts_of}
 use Rattle.memory_parts.specs.Shown.{IsFirstFinding}
-use Rattle.memory_slots.specs.Pairs.{IsCrossing, IsFirstCrossing, crossing_key, is_slot_source}
+use Rattle.memory_accesses.specs.Sources.{is_slot_source}
+use Rattle.memory_slots.specs.Pairs.{IsCrossing, IsFirstCrossing, crossing_key}
 use Rattle.memory_slots.specs.declared.crossing.Crossing.{Crossing}
 use Rattle.memory_rules.specs.Broken.{break_key, last_key}
 use Rattle.memory_rules.specs.inner.Reports.{IsFirstShown, IsOrderBreak, IsPartBreak, report_of}

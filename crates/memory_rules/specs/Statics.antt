@@ -14,11 +14,10 @@ use Rattle.memory_accesses.specs.declared.access.Operation.{Operation}
 use Rattle.memory_accesses.specs.declared.access.Operation.TheVariants.{FirstWrite, Read, Lend, Write, TrivialStore, InoutOperand, Take}
 use Rattle.memory_accesses.specs.declared.location.Location.{Location}
 use Rattle.memory_accesses.specs.declared.source.Source.{Source}
-use Rattle.memory_accesses.specs.Locations.{location_of, overlap}
+use Rattle.memory_accesses.specs.Locations.{do_overlap, location_of}
 use Rattle.memory_accesses.specs.Operations.{addresses_of, deallocates, operations_of}
 use Rattle.memory_accesses.specs.Rows.{has_operation}
-use Rattle.memory_accesses.specs.Sources.{source_at}
-use Rattle.memory_slots.specs.Pairs.{is_slot_source}
+use Rattle.memory_accesses.specs.Sources.{is_slot}
 
 abbrev pub lacks_by : List Source → Option Location → Operation → Bool
 lacks_by sources None o = false
@@ -29,7 +28,7 @@ abbrev pub lacks : List Source → Operated → Bool
 lacks sources x = lacks_by sources (location_of sources x.address) x.operation
 
 abbrev pub is_no_slot : List Source → ValueId → Bool
-is_no_slot sources v = not (is_slot_source (source_at sources v))
+is_no_slot sources v = not (is_slot sources v)
 
 abbrev pub address_in : Operated → ValueId
 address_in x = x.address
@@ -55,15 +54,6 @@ passed x = passed_by x.operation x.address
 -- the inout operands of a call, in order
 abbrev pub passed_of : Inst → List ValueId
 passed_of i = flat_map passed (operations_of i)
-
-abbrev pub meet : Option Location → Option Location → Bool
-meet None b = false
-meet (Some a) None = false
-meet (Some a) (Some b) = overlap a b
-
--- the locations that the two addresses name overlap
-abbrev pub do_overlap : List Source → ValueId → ValueId → Bool
-do_overlap sources a b = meet (location_of sources a) (location_of sources b)
 
 -- two operands of one call
 pub record OperandPair : Type 0 where

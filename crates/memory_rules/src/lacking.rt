@@ -6,7 +6,7 @@ ghost use Rattle.point_checks.specs.inner.Faults.{least};
 ghost use Rattle.memory_rules.specs.inner.StaticFaults.{no_slot_faults, operated_faults};
 ghost use Rattle.memory_rules.specs.Statics as statics;
 
-use memory_accesses::{Memory, Operated, Source};
+use memory_accesses::{Memory, Operated};
 use point_checks::{PointFault, lesser};
 use sil_ast::{PointId, ValueId};
 use sil_rules::Rule;
@@ -61,16 +61,7 @@ pub(crate) fn add_lacking(
 fn is_no_slot(m: &Memory, value: ValueId) -> bool
     ensures { result ≡ statics.is_no_slot m.now value }
 {
-    match m.source(value) {
-        Source::Slot { .. } => false,
-        Source::Inout
-        | Source::Object { .. }
-        | Source::Borrow { .. }
-        | Source::Loan { .. }
-        | Source::Field { .. }
-        | Source::Part { .. }
-        | Source::Other => true,
-    }
+    !m.is_slot(value)
 }
 
 /// The first of what was found and of the fault of an address that is deallocated, where it is no slot.

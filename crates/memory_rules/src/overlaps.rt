@@ -5,11 +5,12 @@ ghost use Rattle.std.specs.List.{flat_map};
 ghost use Rattle.std.specs.Option.{option_to_list};
 ghost use Rattle.point_checks.specs.inner.Faults.{least};
 ghost use Rattle.memory_rules.specs.inner.StaticFaults.{faults_with, pair_faults};
+ghost use Rattle.memory_accesses.specs.Locations as locations;
 ghost use Rattle.memory_rules.specs.Statics as statics;
 ghost use Rattle.memory_rules.specs.Statics.{crosses, pairs_of, second_of};
 
 use crate::operations::operations_of;
-use memory_accesses::{Memory, Operated, Operation, overlap};
+use memory_accesses::{Memory, Operated, Operation};
 use point_checks::{PointFault, lesser};
 use sil_ast::{Exhausted, Inst, PointId, ValueId};
 use sil_rules::Rule;
@@ -45,16 +46,6 @@ pub(crate) fn inout_operands(
     Ok(operands)
 }
 
-/// Whether the locations that two addresses name overlap.
-fn do_overlap(m: &Memory, a: ValueId, b: ValueId) -> bool
-    ensures { result ≡ statics.do_overlap m.now a b }
-{
-    match (m.location(a), m.location(b)) {
-        (Some(one), Some(other)) => overlap(one, other),
-        _ => false,
-    }
-}
-
 /// The first of what was found and of the fault of two operands, where they overlap.
 fn add_overlap(
     m: &Memory,
@@ -65,7 +56,7 @@ fn add_overlap(
 ) -> Option<PointFault>
     ensures { result ≡ least found (faults_with m.now point.block.0 point.index first second) }
 {
-    if do_overlap(m, first, second) {
+    if m.do_overlap(first, second) {
         return lesser(
             found,
             PointFault {
@@ -111,10 +102,10 @@ pub(crate) fn add_overlaps(
 
 /// The first of the operands behind one that overlaps it.
 fn first_overlapping(m: &Memory, first: ValueId, later: &[ValueId]) -> Option<ValueId>
-    ensures { result ≡ find (statics.do_overlap m.now first) later.now }
+    ensures { result ≡ find (locations.do_overlap m.now first) later.now }
 {
     for second in later {
-        if do_overlap(m, first, *second) {
+        if m.do_overlap(first, *second) {
             return Some(*second);
         }
     }
@@ -128,7 +119,7 @@ fn first_crossing(
     first: ValueId,
     later: &[ValueId],
 ) -> Option<ValueId>
-    ensures { result ≡ cond (first.0 == subject.0) (find (statics.do_overlap m.now first) later.now) None }
+    ensures { result ≡ cond (first.0 == subject.0) (find (locations.do_overlap m.now first) later.now) None }
 {
     if first.0 == subject.0 {
         return first_overlapping(m, first, later);

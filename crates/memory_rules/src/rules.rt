@@ -1,7 +1,7 @@
 //! The checks of rules 601 to 611.
 
 ghost use Rattle.std.specs.Prelude.{IfErr, IfOk, OnOk};
-ghost use Rattle.sil_cfg.specs.Build.{IsGraphOf};
+ghost use Rattle.sil_cfg.specs.inner.Build.{IsGraphOf};
 ghost use Rattle.point_checks.specs.inner.Numbered.{IsOfNumberedModule};
 ghost use Rattle.memory_accesses.specs.Sources.{sources_of};
 ghost use Rattle.memory_rules.specs.Broken.{IsFirstBreak};

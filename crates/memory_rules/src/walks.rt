@@ -2,8 +2,8 @@
 
 ghost use Rattle.std.specs.Prelude.{◌≡◌, IfOk};
 ghost use Rattle.std.specs.List.{list_any};
-ghost use Rattle.sil_cfg.specs.Build.{IsGraphOf};
-ghost use Rattle.memory_slots.specs.Pairs.{is_slot_source};
+ghost use Rattle.sil_cfg.specs.inner.Build.{IsGraphOf};
+ghost use Rattle.memory_accesses.specs.Sources.{is_slot_source};
 ghost use Rattle.memory_rules.specs.inner.Reports.{IsFirstShown, IsOrderBreak, IsWalkBreak};
 
 use crate::reports::crossing_report;

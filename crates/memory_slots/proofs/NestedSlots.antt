@@ -13,11 +13,11 @@ use Rattle.sil_cfg.specs.Layout.{Layout}
 use Rattle.sil_cfg.specs.Walk.{IsWalkFrom, end_from, passed}
 use Rattle.reach_engine.specs.declared.scan.Step.{Step}
 use Rattle.reach_engine.specs.declared.scan.Step.TheVariants.{Go, Bad}
-use Rattle.reach_engine.specs.Run.{run}
+use Rattle.reach_engine.specs.inner.Run.{run}
 use Rattle.reach_engine.proofs.Runs.{run_breaks, run_end_bad}
 use Rattle.memory_accesses.specs.declared.access.Access.{Access}
 use Rattle.memory_accesses.specs.declared.source.Source.{Source}
-use Rattle.memory_slots.specs.Marks.{pair_step}
+use Rattle.memory_slots.specs.inner.Automaton.{pair_step}
 use Rattle.memory_slots.specs.inner.Nesting.{Covers, GoesTo, Meets, Passes, stack_at, items_in, IsEdgeNested, IsStackNested, IsBlockNested}
 use Rattle.memory_slots.specs.Pairs.{IsSlot}
 use Rattle.memory_slots.specs.inner.Searches.{IsUncrossed}

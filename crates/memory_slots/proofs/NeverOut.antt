@@ -7,10 +7,10 @@ use Rattle.sil_ast.specs.declared.place.ValueId.{ValueId}
 use Rattle.sil_cfg.specs.Layout.{Layout}
 use Rattle.reach_engine.specs.declared.scan.Step.TheVariants.{Bad}
 use Rattle.reach_engine.proofs.Runs.{BadAt, bad_at, go-bad}
-use Rattle.path_patterns.specs.Reads.{read_step, step_in}
+use Rattle.path_patterns.specs.inner.Reads.{read_step, step_in}
 use Rattle.memory_accesses.specs.declared.access.Access.{Access}
 use Rattle.memory_accesses.specs.declared.access.Access.TheVariants.{Ends, Begins, Allocates, Deallocates, Given, Does, Mentions}
-use Rattle.memory_slots.specs.Order.{order_step}
+use Rattle.memory_slots.specs.inner.Automaton.{order_step}
 use Rattle.memory_slots.specs.Marks.{pair_mark}
 use Rattle.memory_slots.specs.inner.Searches.{IsUncrossed}
 use Rattle.memory_slots.specs.declared.mark.SlotMark.{SlotMark}

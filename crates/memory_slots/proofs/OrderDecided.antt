@@ -4,13 +4,14 @@ use Rattle.std.proofs.lemmas.List.{append-nil}
 use Rattle.std.proofs.lemmas.List.Elements.{All-nil, All-cons, All-append, All-push, All-pop}
 use Rattle.reach_engine.specs.declared.scan.Step.{Step}
 use Rattle.reach_engine.specs.declared.scan.Step.TheVariants.{Go, Bad}
-use Rattle.reach_engine.specs.Run.{run}
+use Rattle.reach_engine.specs.inner.Run.{run}
 use Rattle.reach_engine.proofs.Runs.{run_split, same_Go}
-use Rattle.path_patterns.specs.Decides.{Judges, Decides}
+use Rattle.path_patterns.specs.inner.Decides.{Judges, Decides}
 use Rattle.path_patterns.proofs.PushedMarks.{PushedAt, there, behind, pushed_at}
 use Rattle.memory_slots.specs.declared.mark.SlotMark.{SlotMark}
 use Rattle.memory_slots.specs.declared.mark.SlotMark.TheVariants.{FirstIn, FirstOut, SecondIn, SecondOut}
-use Rattle.memory_slots.specs.Order.{IsIn, IsAfter, IsOrdered, code_of, order_step}
+use Rattle.memory_slots.specs.Order.{IsIn, IsAfter, IsOrdered, code_of}
+use Rattle.memory_slots.specs.inner.Automaton.{order_step}
 
 abbrev FirstIsIn : List SlotMark → Type 0
 FirstIsIn marks = IsIn FirstIn FirstOut marks
@@ -159,29 +160,3 @@ judged marks SecondOut _ (earlier f s n) = tt
 
 pub order_decides : Decides order_step IsOrdered code_of
 order_decides marks s mark e = judged marks mark s (read_at [] marks 0 s no_marks e)
-
--- what is behind the first's deallocation that is out of place
-pub bad_after : (marks : List SlotMark) (mark : SlotMark) (s c : ℕ) → run order_step (Go 0) marks ≡ Go s → order_step s mark ≡ Bad c → (mark ≡ FirstOut) × IsAfter marks
-bad_after marks mark s c clean e = at mark s (read_at [] marks 0 s no_marks clean) e
-  where
-    at : (m : SlotMark) (k : ℕ) → IsAt marks k → order_step k m ≡ Bad c → (m ≡ FirstOut) × IsAfter marks
-    at FirstIn _ (neither f n) e = cc
-    at FirstIn _ (first f n) e = cc
-    at FirstIn _ (second f n) e = cc
-    at FirstIn _ (later f n a) e = cc
-    at FirstIn _ (earlier f n a) e = cc
-    at FirstOut _ (neither f n) e = cc
-    at FirstOut _ (first f n) e = cc
-    at FirstOut _ (second f n) e = cc
-    at FirstOut _ (later f n a) e = (refl, a)
-    at FirstOut _ (earlier f n a) e = cc
-    at SecondIn _ (neither f n) e = cc
-    at SecondIn _ (first f n) e = cc
-    at SecondIn _ (second f n) e = cc
-    at SecondIn _ (later f n a) e = cc
-    at SecondIn _ (earlier f n a) e = cc
-    at SecondOut _ (neither f n) e = cc
-    at SecondOut _ (first f n) e = cc
-    at SecondOut _ (second f n) e = cc
-    at SecondOut _ (later f n a) e = cc
-    at SecondOut _ (earlier f n a) e = cc

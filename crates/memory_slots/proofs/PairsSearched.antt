@@ -13,10 +13,12 @@ use Rattle.reach_engine.specs.declared.scan.Step.TheVariants.{Bad}
 use Rattle.reach_engine.specs.inner.Reach.{ReachesFirst, ReachesPoint}
 use Rattle.reach_engine.specs.inner.Search.{IsShortest}
 use Rattle.reach_engine.proofs.Runs.{bad_at, go-bad, same_Bad}
-use Rattle.path_patterns.specs.Reads.{read_step, step_in}
+use Rattle.path_patterns.specs.inner.Reads.{read_step, step_in}
 use Rattle.memory_accesses.specs.declared.access.Access.{Access}
-use Rattle.memory_slots.specs.Order.{order_step, crossing_code}
-use Rattle.memory_slots.specs.Marks.{pair_mark, pair_step}
+use Rattle.memory_slots.specs.Order.{crossing_code}
+use Rattle.memory_slots.specs.inner.Automaton.{order_step}
+use Rattle.memory_slots.specs.Marks.{pair_mark}
+use Rattle.memory_slots.specs.inner.Automaton.{pair_step}
 use Rattle.memory_slots.specs.inner.Searches.{IsUncrossed, IsFar, IsPairCrossing, IsPairSearched, IsNearest, IsNearer}
 use Rattle.memory_slots.specs.declared.crossing.Crossing.{Crossing}
 use Rattle.memory_slots.specs.declared.mark.SlotMark.{SlotMark}

@@ -10,7 +10,8 @@ use Rattle.std.proofs.lemmas.Option.{slice_get_past}
 use Rattle.sil_ast.specs.declared.place.ValueId.{ValueId}
 use Rattle.memory_accesses.specs.declared.source.Source.{Source}
 use Rattle.memory_accesses.specs.declared.source.Source.TheVariants as source
-use Rattle.memory_slots.specs.Pairs.{IsSlot, is_slot_source}
+use Rattle.memory_accesses.specs.Sources.{is_slot_source}
+use Rattle.memory_slots.specs.Pairs.{IsSlot}
 use Rattle.memory_slots.specs.inner.Searches.{AreSlots}
 
 pub same_value : (a b : ValueId) → a.0 ≡ b.0 → a ≡ b

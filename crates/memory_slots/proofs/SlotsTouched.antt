@@ -9,12 +9,12 @@ use Rattle.std.proofs.lemmas.List.Folds.{list_any_at}
 use Rattle.std.proofs.lemmas.Option.{slice_get-get_or}
 use Rattle.sil_ast.specs.declared.place.ValueId.{ValueId}
 use Rattle.reach_engine.specs.declared.scan.Step.TheVariants.{Go}
-use Rattle.reach_engine.specs.Run.{run}
-use Rattle.path_patterns.specs.Reads.{read_step, step_in}
+use Rattle.reach_engine.specs.inner.Run.{run}
+use Rattle.path_patterns.specs.inner.Reads.{read_step, step_in}
 use Rattle.memory_slots.proofs.Rising.{contains_sorted}
 use Rattle.memory_accesses.specs.declared.access.Access.{Access}
 use Rattle.memory_accesses.specs.declared.access.Access.TheVariants.{Ends, Begins, Allocates, Deallocates, Given, Does, Mentions}
-use Rattle.memory_slots.specs.Order.{order_step}
+use Rattle.memory_slots.specs.inner.Automaton.{order_step}
 use Rattle.memory_slots.specs.Marks.{pair_mark}
 use Rattle.memory_slots.specs.inner.Touched.{slot_in, is_in, has_slot, IsPut, HasTouched}
 use Rattle.memory_slots.specs.declared.mark.SlotMark.TheVariants.{FirstIn, FirstOut, SecondIn, SecondOut}

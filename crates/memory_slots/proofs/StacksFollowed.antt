@@ -8,14 +8,15 @@ use Rattle.std.proofs.Math.Seq.{get_or-append_seam}
 use Rattle.sil_ast.specs.declared.place.ValueId.{ValueId}
 use Rattle.reach_engine.specs.declared.scan.Step.{Step}
 use Rattle.reach_engine.specs.declared.scan.Step.TheVariants.{Go, Bad}
-use Rattle.reach_engine.specs.Run.{run}
+use Rattle.reach_engine.specs.inner.Run.{run}
 use Rattle.reach_engine.proofs.Runs.{run-append}
-use Rattle.path_patterns.specs.Reads.{read_step, step_in}
+use Rattle.path_patterns.specs.inner.Reads.{read_step, step_in}
 use Rattle.memory_accesses.specs.declared.access.Access.{Access}
 use Rattle.memory_accesses.specs.declared.access.Access.TheVariants.{Allocates, Deallocates}
 use Rattle.memory_accesses.specs.declared.source.Source.{Source}
-use Rattle.memory_slots.specs.Order.{order_step}
-use Rattle.memory_slots.specs.Marks.{pair_mark, pair_step}
+use Rattle.memory_slots.specs.inner.Automaton.{order_step}
+use Rattle.memory_slots.specs.Marks.{pair_mark}
+use Rattle.memory_slots.specs.inner.Automaton.{pair_step}
 use Rattle.memory_slots.specs.Pairs.{IsSlot}
 use Rattle.memory_slots.specs.inner.Nesting.{rank_at, AreRising, Covers, GoesTo, Follows, Passes}
 use Rattle.memory_slots.specs.declared.mark.SlotMark.TheVariants.{FirstIn, FirstOut, SecondIn, SecondOut}

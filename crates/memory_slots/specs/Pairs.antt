@@ -1,6 +1,5 @@
 -- What walks show of two slots, and the first of all pairs.
-use Rattle.std.specs.Prelude.{◌≡◌, ◌≢◌, ℕ, ◌<◌, List, [], ◌∷◌, ◌++◌, Bool, true, false, length, Option}
-use Rattle.std.specs.List.{flat_map}
+use Rattle.std.specs.Prelude.{◌≡◌, ◌≢◌, ℕ, ◌<◌, List, [], ◌∷◌, true, filter_map, length, Option}
 use Rattle.sil_ast.specs.declared.function.Function.{Function}
 use Rattle.sil_ast.specs.declared.place.EdgeId.{EdgeId}
 use Rattle.sil_ast.specs.declared.place.ValueId.{ValueId}
@@ -12,54 +11,37 @@ use Rattle.sil_rules.specs.Order.{IsFirst}
 use Rattle.ownership_chains.specs.declared.facts.Facts.{Facts}
 use Rattle.ownership_marks.specs.Known.{AreKindsBy, Known}
 use Rattle.path_patterns.specs.Along.{Shows}
-use Rattle.path_patterns.specs.Reads.{FitsRead, marks_in, read_code}
 use Rattle.memory_accesses.specs.declared.access.Access.{Access}
 use Rattle.memory_accesses.specs.declared.source.Source.{Source}
-use Rattle.memory_accesses.specs.declared.source.Source.TheVariants as source
 use Rattle.memory_accesses.specs.Accesses.{accesses_of}
-use Rattle.memory_accesses.specs.Sources.{source_at}
+use Rattle.memory_accesses.specs.Sources.{is_slot}
 use Rattle.memory_slots.specs.Marks.{pair_mark}
-use Rattle.memory_slots.specs.Order.{IsAfter, IsOrdered, code_of, crossing_code}
+use Rattle.memory_slots.specs.Order.{IsOrdered, code_of, crossing_code}
 use Rattle.memory_slots.specs.declared.crossing.Crossing.{Crossing}
-
-abbrev pub is_slot_source : Source → Bool
-is_slot_source (source.Slot emptied) = true
-is_slot_source source.Inout = false
-is_slot_source (source.Object fields) = false
-is_slot_source (source.Borrow of) = false
-is_slot_source (source.Loan of) = false
-is_slot_source (source.Field of k) = false
-is_slot_source (source.Part of k) = false
-is_slot_source source.Other = false
+use Rattle.memory_slots.specs.declared.mark.SlotMark.{SlotMark}
 
 -- the value is a slot
 abbrev pub IsSlot : List Source → ValueId → Type 0
-IsSlot sources v = is_slot_source (source_at sources v) ≡ true
+IsSlot sources v = is_slot sources v ≡ true
 
 module _ (sources : List Source) (facts : ValueId → Option Facts) (f : Function) where
+  -- the marks of two slots at an item
+  abbrev pub pair_marks : ValueId → ValueId → Item → List SlotMark
+  pair_marks first second item = filter_map (pair_mark first second) (accesses_of sources facts f item)
+
   -- some trail along the walk keeps the order of the two up to the item, and breaks it there
   abbrev pub ShowsPair : ValueId → ValueId → List EdgeId → Item → Type 0
-  ShowsPair first second walk item =
-      Shows (flow_of f) (accesses_of sources facts f) (FitsRead IsOrdered (pair_mark first second)) (read_code code_of (pair_mark first second))
-      walk crossing_code item
+  ShowsPair first second walk item = Shows (flow_of f) (pair_marks first second) IsOrdered code_of walk crossing_code item
 
-  -- behind these accesses the second slot was allocated after the first, and both still are
-  abbrev pub IsLaterBehind : List Access → ValueId → ValueId → Type 0
-  IsLaterBehind before first second = IsAfter (marks_in (pair_mark first second) before)
-
-  -- the walk shows it for one later slot; the other value is the least of those that still are allocated there
+  -- the walk shows it for the first slot and this other one, and at the same item for none that is less
   pub record IsCrossing (c : Crossing) : Type 0 where
     pub is_first : IsSlot sources c.first
-    pub second : ValueId
-    pub is_second : IsSlot sources second
-    pub different : second.0 ≢ c.first.0
-    pub item : Item
-    pub shows : ShowsPair c.first second c.walk item
-    pub point : c.point ≡ point_of (flow_of f) item
     pub is_other : IsSlot sources c.other
-    pub later : IsLaterBehind (flat_map (accesses_of sources facts f) shows.before ++ shows.breaks.front) c.first c.other
-    pub least : (b : ValueId) → b.0 < c.other.0 → IsSlot sources b
-        → IsLaterBehind (flat_map (accesses_of sources facts f) shows.before ++ shows.breaks.front) c.first b → ⊥
+    pub different : c.other.0 ≢ c.first.0
+    pub item : Item
+    pub point : c.point ≡ point_of (flow_of f) item
+    pub shows : ShowsPair c.first c.other c.walk item
+    pub least : (b : ValueId) → b.0 < c.other.0 → IsSlot sources b → ShowsPair c.first b c.walk item → ⊥
 
 -- by the first slot, then by the number of edges
 abbrev pub crossing_key : Crossing → List ℕ

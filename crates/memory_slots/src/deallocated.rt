@@ -2,7 +2,7 @@
 
 ghost use Rattle.std.specs.Prelude.{◌≢◌, ℕ, IfOk, All};
 ghost use Rattle.sil_ast.specs.declared.place.ValueId as value;
-ghost use Rattle.path_patterns.specs.Reads.{accesses_at};
+ghost use Rattle.path_patterns.specs.inner.Reads.{accesses_at};
 ghost use Rattle.memory_accesses.specs.declared.access.Access.TheVariants as kinds;
 ghost use Rattle.memory_slots.specs.inner.Trust.{IsTrusted, Keeps};
 

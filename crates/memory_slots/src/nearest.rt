@@ -2,7 +2,7 @@
 
 ghost use Rattle.std.specs.Prelude.{◌≡◌, IfOk, length, AllPairs, ◌<◌};
 ghost use Rattle.sil_cfg.specs.Layout.{item_count};
-ghost use Rattle.path_patterns.specs.Reads.{accesses_at};
+ghost use Rattle.path_patterns.specs.inner.Reads.{accesses_at};
 ghost use Rattle.memory_slots.specs.inner.Searches.{IsPairSearched, IsNearer, IsNearest};
 
 use crate::crossing::Crossing;

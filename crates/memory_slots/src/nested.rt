@@ -4,7 +4,7 @@ ghost use Rattle.std.specs.Prelude.{◌≡◌, ◌≤◌, ◌<◌, ℕ, IfOk, Is
 ghost use Rattle.sil_ast.specs.declared.place.ValueId as value;
 ghost use Rattle.sil_cfg.specs.Layout.{item_count};
 ghost use Rattle.sil_cfg.specs.Flow.{block_count, edge_id, numbered, IsEdge};
-ghost use Rattle.path_patterns.specs.Reads.{accesses_at};
+ghost use Rattle.path_patterns.specs.inner.Reads.{accesses_at};
 ghost use Rattle.memory_slots.specs.Pairs.{IsSlot};
 ghost use Rattle.memory_slots.specs.inner.Searches.{IsUncrossed};
 ghost use Rattle.memory_slots.specs.inner.Trust.{IsTrusted, Keeps};

@@ -1,11 +1,12 @@
 //! Two slots as one automaton over items.
 
 ghost use Rattle.std.specs.Prelude.{◌≡◌, ℕ, ◌<◌, length};
-ghost use Rattle.reach_engine.specs.Run.{run, StaysBelow};
+ghost use Rattle.reach_engine.specs.inner.Run.{run, StaysBelow};
 ghost use Rattle.reach_engine.specs.declared.scan.Step.TheVariants.{Go};
-ghost use Rattle.path_patterns.specs.Reads.{accesses_at, read_step};
-ghost use Rattle.memory_slots.specs.Order.{order_step};
-ghost use Rattle.memory_slots.specs.Marks.{pair_mark, pair_step};
+ghost use Rattle.path_patterns.specs.inner.Reads.{accesses_at, read_step};
+ghost use Rattle.memory_slots.specs.inner.Automaton.{order_step};
+ghost use Rattle.memory_slots.specs.Marks.{pair_mark};
+ghost use Rattle.memory_slots.specs.inner.Automaton.{pair_step};
 
 use crate::mark::{mark_of, step};
 use memory_accesses::Access;

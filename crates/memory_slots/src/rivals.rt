@@ -3,8 +3,8 @@
 ghost use Rattle.std.specs.Prelude.{◌≡◌, ℕ, ◌<◌, All, Contains, length, slice_index_or};
 ghost use Rattle.std.specs.List.Sorted.{IsStrictlyIncreasing};
 ghost use Rattle.reach_engine.specs.declared.scan.Step.TheVariants.{Go};
-ghost use Rattle.path_patterns.specs.Reads.{accesses_at};
-ghost use Rattle.memory_slots.specs.Marks.{pair_step};
+ghost use Rattle.path_patterns.specs.inner.Reads.{accesses_at};
+ghost use Rattle.memory_slots.specs.inner.Automaton.{pair_step};
 ghost use Rattle.memory_slots.specs.inner.Chunks.{IsChunkOf};
 
 use crate::chunk::Chunk;

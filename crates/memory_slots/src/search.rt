@@ -2,7 +2,7 @@
 
 ghost use Rattle.std.specs.Prelude.{◌≡◌, ◌<◌, IfOk, IsTrue, All, AllPairs, length};
 ghost use Rattle.sil_cfg.specs.Layout.{item_count};
-ghost use Rattle.path_patterns.specs.Reads.{accesses_at};
+ghost use Rattle.path_patterns.specs.inner.Reads.{accesses_at};
 ghost use Rattle.memory_slots.specs.inner.Searches.{IsNearest, IsUncrossed};
 ghost use Rattle.memory_slots.specs.inner.Chunks.{IsChunkOf, slots_in};
 

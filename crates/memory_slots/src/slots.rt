@@ -1,18 +1,11 @@
 //! The slots of a function.
 
-ghost use Rattle.std.specs.Prelude.{◌≡◌, IfOk, length};
-ghost use Rattle.memory_slots.specs.Pairs as pairs;
+ghost use Rattle.std.specs.Prelude.{IfOk, length};
 ghost use Rattle.memory_slots.specs.inner.Searches.{AreSlots};
 
 use memory_accesses::Source;
 use sil_ast::{Exhausted, ValueId};
 use std::alloc::Global;
-
-pub fn is_slot_source(source: Source) -> bool
-    ensures { result ≡ pairs.is_slot_source source }
-{
-    matches!(source, Source::Slot { .. })
-}
 
 /// The slots among values, in ascending order. Values that have no number are reported as exhausted.
 pub fn slots_of(alloc: Global, sources: &[Source]) -> Result<Vec<ValueId>, Exhausted>
@@ -20,7 +13,7 @@ pub fn slots_of(alloc: Global, sources: &[Source]) -> Result<Vec<ValueId>, Exhau
 {
     let mut slots = Vec::new(alloc);
     for index in 0..sources.len() {
-        if is_slot_source(sources[index]) {
+        if sources[index].is_slot() {
             let Ok(number) = u32::try_from(index) else {
                 return Err(Exhausted);
             };

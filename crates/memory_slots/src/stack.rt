@@ -1,26 +1,24 @@
 //! The slots that may be allocated, in the order of their ranks, along items. A slot that is deallocated below another one is in doubt from there on.
 
 ghost use Rattle.std.specs.Prelude.{◌≡◌, ◌<◌, ◌∷◌, [], ℕ, List, IfOk, IfSome, IsTrue, All, length};
-ghost use Rattle.path_patterns.specs.Reads.{accesses_at};
-ghost use Rattle.memory_accesses.specs.Sources.{source_at};
+ghost use Rattle.path_patterns.specs.inner.Reads.{accesses_at};
+ghost use Rattle.memory_accesses.specs.Sources as slots;
 ghost use Rattle.memory_accesses.specs.declared.access.Access.TheVariants as access;
 ghost use Rattle.memory_accesses.specs.declared.source.Source as source;
-ghost use Rattle.memory_slots.specs.Pairs as slots;
 ghost use Rattle.memory_slots.specs.inner.Nesting.{rank_at, AreRising};
 ghost use Rattle.memory_slots.specs.inner.Followed.{AreFollowed, ArePassed, IsTop, StandsAt};
 
 use crate::doubts::Doubts;
-use crate::slots::is_slot_source;
 use memory_accesses::{Access, Source};
 use sil_ast::{Exhausted, ValueId};
 
 /// Whether the value is a slot.
 fn is_slot(sources: &[Source], value: ValueId) -> bool
-    ensures { result ≡ slots.is_slot_source (source_at sources.now value) }
+    ensures { result ≡ slots.is_slot sources.now value }
 {
     match sources.get(value.0 as usize) {
         None => false,
-        Some(source) => is_slot_source(*source),
+        Some(source) => source.is_slot(),
     }
 }
 

@@ -1,7 +1,7 @@
 //! The kinds of a function, or why it has none.
 
 ghost use Rattle.std.specs.Prelude.{◌≡◌, IfErr, IfNone, IfOk, IfSome, OnOk};
-ghost use Rattle.sil_cfg.specs.Build.{HasGraph};
+ghost use Rattle.sil_cfg.specs.inner.Build.{HasGraph};
 ghost use Rattle.point_checks.specs.inner.Numbered.{IsOfNumberedModule};
 ghost use Rattle.ownership_chains.specs.Chains.{HasNoRing, IsFirstCyclic, IsInRange};
 ghost use Rattle.ownership_origins.specs.Renamings.{renamings_of};

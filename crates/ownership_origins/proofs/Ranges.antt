@@ -17,7 +17,7 @@ use Rattle.sil_ast.specs.declared.inst.Inst.{Inst}
 use Rattle.sil_ast.specs.declared.operands.Operand.{Operand}
 use Rattle.sil_ast.specs.declared.place.ValueId.{ValueId}
 use Rattle.numbered_form.specs.Insts.{EachInBlock}
-use Rattle.numbered_form.specs.Limits.{value_count, IsFunctionInLimits}
+use Rattle.numbered_form.specs.inner.Limits.{value_count, IsFunctionInLimits}
 use Rattle.numbered_form.specs.Lists.{Each}
 use Rattle.numbered_form.specs.Numbering.{values_of, IsValueBelow, IsInstInRange, IsFunctionNumbered}
 use Rattle.type_definitions.specs.Declarations.{Declarations}

@@ -7,7 +7,7 @@ use Rattle.std.specs.declared.alloc.Global.{Global}
 use Rattle.std.proofs.lemmas.Bool.{cases_eq, cases_lt}
 use Rattle.std.proofs.lemmas.Option.{slice_get-get_or, slice_get-map, slice_get_past}
 use Rattle.sil_cfg.proofs.Gets.{kept_get, last_get}
-use Rattle.path_patterns.specs.Reads.{accesses_at}
+use Rattle.path_patterns.specs.inner.Reads.{accesses_at}
 
 pub accesses_there : {A : Type 0} (xs : List (Vec A Global)) (i : ℕ) (x : Vec A Global) → i < length xs → x ≡ get_or xs i x → accesses_at xs i ≡ x.items
 accesses_there xs i x lt e = ap (λ o. unwrap_or o []) (slice_get-map (λ v. v.items) xs i ∙ ap (option_map (λ v. v.items)) (slice_get-get_or xs i x lt ∙ ap (λ v. Some v) (sym e)))

@@ -6,11 +6,11 @@ use Rattle.reach_engine.specs.inner.Bits.{bit_in}
 use Rattle.reach_engine.specs.declared.scan.Step.{Step}
 use Rattle.reach_engine.specs.declared.scan.Step.TheVariants.{Go, Bad}
 use Rattle.reach_engine.specs.inner.Columns.{Blamed, Moved, OthersStay}
-use Rattle.reach_engine.specs.Run.{after, run}
+use Rattle.reach_engine.specs.inner.Run.{after, run}
 use Rattle.reach_engine.proofs.Runs.{run-append, run_bad}
 use Rattle.reach_engine.proofs.SubjectsMoved.{AllMoved_as, AllMoved_none, AllMoved_then, Blamed_as, Moved_as, turned_all, turned_more, turned_none}
-use Rattle.path_patterns.specs.Reads.{read_step, step_in}
-use Rattle.path_patterns.specs.Switch.{mark_step}
+use Rattle.path_patterns.specs.inner.Reads.{read_step, step_in}
+use Rattle.path_patterns.specs.inner.Automaton.{mark_step}
 use Rattle.path_checks.specs.declared.entry.Entry.{Entry}
 use Rattle.path_checks.specs.inner.Chunks.{ArePassed}
 use Rattle.path_checks.specs.Entries.{means}

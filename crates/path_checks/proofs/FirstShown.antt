@@ -1,5 +1,6 @@
 -- What the automata reach on the graph is what the table shows on the function.
 use Rattle.std.proofs.Common.{◌≡◌, ◌≢◌, ℕ, ◌+◌, ◌-◌, ◌<◌, ◌≤◌, List, [], ◌∷◌, length, refl, sym, ap, ◌∙◌, subst, ◌⊎◌, inl, inr, Some, None, All, arith}
+use Rattle.std.specs.Prelude.{filter_map}
 use Rattle.std.proofs.lemmas.Bool.{cases_eq}
 use Rattle.sil_ast.specs.declared.place.EdgeId.{EdgeId}
 use Rattle.sil_ast.specs.declared.place.PointId.{PointId}
@@ -13,18 +14,23 @@ use Rattle.sil_cfg.specs.declared.item.Item.TheVariants.{Entry, Inst, Edge, Exit
 use Rattle.sil_cfg.specs.Layout.{Layout, item_at}
 use Rattle.sil_cfg.specs.Flow.{numbered, point_of}
 use Rattle.sil_cfg.specs.Items.{flow_of}
-use Rattle.sil_cfg.specs.Build.{IsGraphOf}
+use Rattle.sil_cfg.specs.inner.Build.{IsGraphOf}
 use Rattle.reach_engine.specs.inner.Reach.{ReachesFirst}
 use Rattle.reach_engine.specs.inner.Search.{IsClean}
+use Rattle.reach_engine.specs.declared.scan.Step.TheVariants.{Go}
+use Rattle.reach_engine.specs.inner.Run.{run}
 use Rattle.reach_engine.proofs.Runs.{go-bad}
-use Rattle.path_patterns.specs.Reads.{AgreesWith, FitsRead, read_code, read_step}
-use Rattle.path_patterns.specs.Switch.{IsInPlace, code_of, mark_step}
-use Rattle.path_patterns.proofs.SwitchDecided.{reading_decides}
+use Rattle.path_patterns.specs.inner.Reads.{AgreesWith}
+use Rattle.path_patterns.specs.Switch.{IsInPlace, code_of}
+use Rattle.path_patterns.specs.inner.Automaton.{mark_step}
+use Rattle.path_patterns.proofs.MarksRead.{read_run}
+use Rattle.path_patterns.proofs.SwitchDecided.{switch_decides}
 use Rattle.path_patterns.proofs.PatternsDecided.{reached_shown, shown_reached}
 use Rattle.path_patterns.proofs.GraphPatterns.{shown_there, shown_back}
 use Rattle.path_checks.specs.declared.entry.Entry as entry
 use Rattle.path_checks.specs.declared.fault.PathFault.{PathFault}
-use Rattle.path_checks.specs.Entries.{means, subject_step}
+use Rattle.path_checks.specs.Entries.{marks_for, means}
+use Rattle.path_checks.specs.inner.Automata.{subject_step}
 use Rattle.path_checks.specs.inner.Chunks.{IsChunkFault}
 use Rattle.path_checks.specs.First.{IsShownAt, IsShown, IsFirst}
 use Rattle.path_checks.proofs.OtherSubjects.{quiet_run}
@@ -55,14 +61,19 @@ rules_then a b xs ys le more = at (cases_eq (index_of a) (index_of b))
     at (inr n) = inl (numbers_rise a b (omega arith))
 
 module _ (g : Layout) (f : Function) (is : IsGraphOf g f) (entries : ℕ → List entry.Entry) (table : Item → List entry.Entry) (agrees : AgreesWith g entries table) where
+  marks_agree : (subject : ℕ) → AgreesWith g (marks_for subject entries) (marks_for subject table)
+  marks_agree subject i item e = ap (filter_map (means subject)) (agrees i item e)
+
+  entries_read : (subject s i : ℕ) → subject_step entries subject s i ≡ run mark_step (Go s) (marks_for subject entries i)
+  entries_read subject s i = read_run mark_step (means subject) (Go s) (entries i)
+
   -- what is shown is reached
   pub shown_is_reached : (subject : ℕ) (rule : Rule) (walk : List EdgeId) (point : PointId) → IsShown f table subject rule walk point →
       (i : ℕ) × ReachesFirst (numbered g) (subject_step entries subject) walk (index_of rule) i
   shown_is_reached subject rule walk point h =
-      let r = shown_back g f is entries table agrees (FitsRead IsInPlace (means subject)) (read_code code_of (means subject)) walk (index_of rule) h.item h.at.shows in (
+      let r = shown_back g f is (marks_for subject entries) (marks_for subject table) (marks_agree subject) IsInPlace code_of walk (index_of rule) h.item h.at.shows in (
         r.0,
-        shown_reached (read_step mark_step (means subject)) (FitsRead IsInPlace (means subject)) (read_code code_of (means subject))
-            (reading_decides (means subject)) entries (numbered g) walk (index_of rule) r.0 r.2,
+        shown_reached mark_step IsInPlace code_of switch_decides (marks_for subject entries) (subject_step entries subject) (entries_read subject) (numbered g) walk (index_of rule) r.0 r.2,
       )
 
   -- and what is reached is shown
@@ -70,11 +81,10 @@ module _ (g : Layout) (f : Function) (is : IsGraphOf g f) (entries : ℕ → Lis
       ReachesFirst (numbered g) (subject_step entries subject) walk (index_of rule) i → item_at g i ≡ Some item → point ≡ point_of (numbered g) item →
       IsShownAt f table subject rule walk point item
   reached_is_shown subject rule walk point i item h there point_is =
-      let shows = reached_shown (read_step mark_step (means subject)) (FitsRead IsInPlace (means subject)) (read_code code_of (means subject))
-      (reading_decides (means subject)) entries (numbered g) walk (index_of rule) i h in
+      let shows = reached_shown mark_step IsInPlace code_of switch_decides (marks_for subject entries) (subject_step entries subject) (entries_read subject) (numbered g) walk (index_of rule) i h in
       record {
         point_is = point_is ∙ point_same g f is item;
-        shows = shown_there g f is entries table agrees (FitsRead IsInPlace (means subject)) (read_code code_of (means subject)) walk (index_of rule) i item there shows;
+        shows = shown_there g f is (marks_for subject entries) (marks_for subject table) (marks_agree subject) IsInPlace code_of walk (index_of rule) i item there shows;
       }
 
   -- a subject without entries is clean

@@ -7,3 +7,4 @@ pub mod OneSubject
 pub mod OtherSubjects
 pub mod PickedMarks
 pub mod SharedMarks
+pub mod QuietEntries

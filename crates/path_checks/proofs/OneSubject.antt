@@ -1,6 +1,7 @@
 -- What a table shows of a subject depends only on the marks that it has of it; and which of the shared entries are a subject's.
-use Rattle.std.proofs.Common.{◌≡◌, ℕ, zero, suc, ◌+◌, ◌<◌, List, [], ◌∷◌, ◌++◌, refl, ap₂, Option, Some, None, arith}
-use Rattle.std.specs.Prelude.{slice_get, unwrap_or}
+use Rattle.std.proofs.Common.{◌≡◌, ℕ, zero, suc, ◌+◌, ◌<◌, List, [], ◌∷◌, refl, ap₂, Option, Some, None, arith}
+use Rattle.std.specs.Prelude.{filter_map, option_to_list, slice_get, unwrap_or}
+use Rattle.std.specs.List.{cons_option}
 use Rattle.sil_ast.specs.declared.function.Function.{Function}
 use Rattle.sil_ast.specs.declared.place.EdgeId.{EdgeId}
 use Rattle.sil_ast.specs.declared.place.PointId.{PointId}
@@ -8,38 +9,35 @@ use Rattle.sil_rules.specs.Rules.{index_of}
 use Rattle.sil_rules.specs.declared.rule.Rule.{Rule}
 use Rattle.sil_cfg.specs.declared.item.Item.{Item}
 use Rattle.sil_cfg.specs.Items.{flow_of}
-use Rattle.path_patterns.specs.Reads.{marks_in, one_or_none}
-use Rattle.path_patterns.specs.Switch.{IsInPlace, code_of, mark_step}
+use Rattle.path_patterns.specs.Switch.{IsInPlace, code_of}
 use Rattle.path_patterns.specs.declared.mark.Mark.{Mark}
 use Rattle.path_patterns.proofs.SameMarks.{same_shown}
-use Rattle.path_patterns.proofs.SwitchDecided.{switch_decides}
 use Rattle.path_checks.specs.declared.entry.Entry.{Entry}
 use Rattle.path_checks.specs.Entries.{means}
-use Rattle.path_checks.specs.First.{IsShownAt}
+use Rattle.path_checks.specs.First.{IsBreakShown}
 use Rattle.path_checks.specs.inner.Shared.{shared_from}
 use Rattle.path_checks.proofs.OtherSubjects.{no_mark, own_mark}
 
--- two tables with the same marks, one of a subject and one of another, show the same of these
-pub same_shown_at : (f : Function) (table table2 : Item → List Entry) (subject subject2 : ℕ) →
-    ((item : Item) → marks_in (means subject) (table item) ≡ marks_in (means subject2) (table2 item)) →
-    (rule : Rule) (walk : List EdgeId) (point : PointId) (item : Item) → IsShownAt f table subject rule walk point item → IsShownAt f table2 subject2 rule walk point item
-same_shown_at f table table2 subject subject2 same rule walk point item h = record {
+-- the same marks show the same
+pub same_shown_of : (f : Function) (marks other : Item → List Mark) → ((item : Item) → marks item ≡ other item) →
+    (rule : Rule) (walk : List EdgeId) (point : PointId) (item : Item) → IsBreakShown f marks rule walk point item → IsBreakShown f other rule walk point item
+same_shown_of f marks other same rule walk point item h = record {
   point_is = h.point_is;
-  shows = same_shown mark_step IsInPlace code_of switch_decides (means subject) (means subject2) (flow_of f) table table2 same walk (index_of rule) item h.shows;
+  shows = same_shown IsInPlace code_of marks other same (flow_of f) walk (index_of rule) item h.shows;
 }
 
-none_later : (subject n : ℕ) (marks : List (Option Mark)) → subject < n → marks_in (means subject) (shared_from n marks) ≡ []
+none_later : (subject n : ℕ) (marks : List (Option Mark)) → subject < n → filter_map (means subject) (shared_from n marks) ≡ []
 none_later subject n [] lt = refl
 none_later subject n (None ∷ marks) lt = none_later subject (n + 1) marks (omega arith)
-none_later subject n (Some m ∷ marks) lt = ap₂ (λ o v. one_or_none o ++ v) (no_mark subject (record { subject = n; mark = m }) (λ same. omega arith)) (none_later subject (n + 1) marks (omega arith))
+none_later subject n (Some m ∷ marks) lt = ap₂ cons_option (no_mark subject (record { subject = n; mark = m }) (λ same. omega arith)) (none_later subject (n + 1) marks (omega arith))
 
 -- of the shared entries a subject has its own mark, if it has one
-pub marks_shared : (marks : List (Option Mark)) (subject n d : ℕ) → subject ≡ n + d → marks_in (means subject) (shared_from n marks) ≡ one_or_none (unwrap_or (slice_get marks d) None)
+pub marks_shared : (marks : List (Option Mark)) (subject n d : ℕ) → subject ≡ n + d → filter_map (means subject) (shared_from n marks) ≡ option_to_list (unwrap_or (slice_get marks d) None)
 marks_shared [] subject n d e = refl
 marks_shared (None ∷ marks) subject n zero e = none_later subject (n + 1) marks (omega arith)
 marks_shared (None ∷ marks) subject n (suc d) e = marks_shared marks subject (n + 1) d (omega arith)
 marks_shared (Some m ∷ marks) subject n zero e =
     let same : n ≡ subject = omega arith in
-    ap₂ (λ o v. one_or_none o ++ v) (own_mark subject (record { subject = n; mark = m }) same) (none_later subject (n + 1) marks (omega arith))
+    ap₂ cons_option (own_mark subject (record { subject = n; mark = m }) same) (none_later subject (n + 1) marks (omega arith))
 marks_shared (Some m ∷ marks) subject n (suc d) e =
-    ap₂ (λ o v. one_or_none o ++ v) (no_mark subject (record { subject = n; mark = m }) (λ same. omega arith)) (marks_shared marks subject (n + 1) d (omega arith))
+    ap₂ cons_option (no_mark subject (record { subject = n; mark = m }) (λ same. omega arith)) (marks_shared marks subject (n + 1) d (omega arith))

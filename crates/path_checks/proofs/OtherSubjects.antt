@@ -4,9 +4,9 @@ use Rattle.std.specs.Prelude.{All, ◌==◌, cond}
 use Rattle.std.proofs.lemmas.Bool.{eqb-true}
 use Rattle.std.proofs.lemmas.List.Elements.{All-head, All-tail}
 use Rattle.reach_engine.specs.declared.scan.Step.TheVariants.{Go}
-use Rattle.reach_engine.specs.Run.{run}
-use Rattle.path_patterns.specs.Reads.{read_step, step_in}
-use Rattle.path_patterns.specs.Switch.{mark_step}
+use Rattle.reach_engine.specs.inner.Run.{run}
+use Rattle.path_patterns.specs.inner.Reads.{read_step, step_in}
+use Rattle.path_patterns.specs.inner.Automaton.{mark_step}
 use Rattle.path_checks.specs.declared.entry.Entry.{Entry}
 use Rattle.path_checks.specs.Entries.{means}
 

@@ -1,7 +1,7 @@
 -- Which rules a search of a table may show: those of its marks.
 use Rattle.std.proofs.Common.{◌≡◌, ℕ, ◌<◌, List, [], ◌∷◌, ◌++◌, refl, sym, ap, ◌∙◌, subst, Bool, true, false, Some, None}
-use Rattle.std.specs.Prelude.{cond, map, ◌==◌}
-use Rattle.std.specs.List.{AllByRecursion, flat_map}
+use Rattle.std.specs.Prelude.{cond, filter_map, map, ◌==◌}
+use Rattle.std.specs.List.{AllByRecursion, cons_option, flat_map}
 use Rattle.sil_ast.specs.declared.function.Function.{Function}
 use Rattle.sil_ast.specs.declared.place.EdgeId.{EdgeId}
 use Rattle.sil_ast.specs.declared.place.PointId.{PointId}
@@ -13,11 +13,13 @@ use Rattle.sil_cfg.specs.Flow.{Flow}
 use Rattle.reach_engine.specs.declared.scan.Step.TheVariants.{Go, Bad}
 use Rattle.reach_engine.specs.inner.Reach.{ReachesFirst}
 use Rattle.reach_engine.proofs.Runs.{bad_at, go-bad, same_Bad}
-use Rattle.path_patterns.specs.Reads.{FitsMark, code_in, marks_in, read_step, step_in}
-use Rattle.path_patterns.specs.Switch.{IsInPlace, code_of, fits, mark_step, turned}
+use Rattle.path_patterns.specs.inner.Reads.{read_step, step_in}
+use Rattle.path_patterns.specs.Switch.{code_of}
+use Rattle.path_patterns.specs.inner.Automaton.{fits, mark_step, turned}
 use Rattle.path_patterns.specs.declared.mark.Mark.{Mark}
-use Rattle.path_checks.specs.Entries.{means, subject_step}
-use Rattle.path_checks.specs.First.{IsShown}
+use Rattle.path_checks.specs.Entries.{marks_for, means}
+use Rattle.path_checks.specs.inner.Automata.{subject_step}
+use Rattle.path_checks.specs.First.{IsBreakShown, IsShown}
 use Rattle.path_checks.specs.declared.entry.Entry.{Entry}
 
 -- the way back from a code to a rule
@@ -46,39 +48,47 @@ reached_rule g entries subject walk code item h =
     let b = bad_at (read_step mark_step (means subject)) h.state (entries item) code h.breaks in
     entry_code b.state b.here.mark (b.here.subject == subject) code b.breaks
 
-module _ (P : Entry → Type 0) where
-  pub each_append : (xs ys : List Entry) → AllByRecursion P xs → AllByRecursion P ys → AllByRecursion P (xs ++ ys)
+module _ {X : Type 0} (P : X → Type 0) where
+  pub each_append : (xs ys : List X) → AllByRecursion P xs → AllByRecursion P ys → AllByRecursion P (xs ++ ys)
   each_append [] ys a b = b
   each_append (x ∷ xs) ys a b = (a.0, each_append xs ys a.1 b)
 
-  pub each_map : {A : Type 0} (g : A → Entry) (xs : List A) → ((x : A) → P (g x)) → AllByRecursion P (map g xs)
+  pub each_map : {A : Type 0} (g : A → X) (xs : List A) → ((x : A) → P (g x)) → AllByRecursion P (map g xs)
   each_map g [] h = tt
   each_map g (x ∷ xs) h = (h x, each_map g xs h)
 
-  pub each_flat : {A : Type 0} (g : A → List Entry) (xs : List A) → ((x : A) → AllByRecursion P (g x)) → AllByRecursion P (flat_map g xs)
+  pub each_flat : {A : Type 0} (g : A → List X) (xs : List A) → ((x : A) → AllByRecursion P (g x)) → AllByRecursion P (flat_map g xs)
   each_flat g [] h = tt
   each_flat g (x ∷ xs) h = each_append (g x) (flat_map g xs) (h x) (each_flat g xs h)
 
-  pub each_if : (b : Bool) (e : Entry) → P e → AllByRecursion P (cond b (e ∷ []) [])
+  pub each_if : (b : Bool) (e : X) → P e → AllByRecursion P (cond b (e ∷ []) [])
   each_if true e h = (h, tt)
   each_if false e h = tt
 
-  each_in : (front rest : List Entry) (x : Entry) → AllByRecursion P (front ++ x ∷ rest) → P x
+  each_in : (front rest : List X) (x : X) → AllByRecursion P (front ++ x ∷ rest) → P x
   each_in [] rest x h = h.0
   each_in (y ∷ front) rest x h = each_in front rest x h.1
 
--- an entry that is out of place for a subject has the code that is read
-code_told : (InPlace : List Mark → Mark → Type 0) (before : List Mark) (m : Mark) (b : Bool) →
-    (FitsMark InPlace before (cond b (Some m) None) → ⊥) → code_in code_of (cond b (Some m) None) ≡ code_of m
-code_told InPlace before m true h = refl
-code_told InPlace before m false h = absurd (h tt)
+-- what is told of the rules of all marks is told of a rule that a walk shows
+pub broken_rule : (Q : Rule → Type 0) (f : Function) (marks : Item → List Mark) → ((item : Item) → AllByRecursion (λ m. Q m.rule) (marks item)) →
+    (rule : Rule) (walk : List EdgeId) (point : PointId) (item : Item) → IsBreakShown f marks rule walk point item → Q rule
+broken_rule Q f marks each rule walk point item h =
+    let b = h.shows.breaks in
+    let here : Q b.mark.rule = each_in (λ m. Q m.rule) b.front b.rest b.mark (subst (AllByRecursion (λ m. Q m.rule)) b.parts (each item)) in
+    subst Q (sym (same_rule rule b.mark.rule b.code_is)) here
+
+-- the subject's marks are of rules of its entries
+each_for : (Q : Rule → Type 0) (subject : ℕ) (entries : List Entry) → AllByRecursion (λ e. Q e.mark.rule) entries → AllByRecursion (λ m. Q m.rule) (filter_map (means subject) entries)
+each_for Q subject [] h = tt
+each_for Q subject (e ∷ entries) h = at (e.subject == subject) (each_for Q subject entries h.1)
+  where
+    at : (own : Bool) → AllByRecursion (λ m. Q m.rule) (filter_map (means subject) entries)
+        → AllByRecursion (λ m. Q m.rule) (cons_option (cond own (Some e.mark) None) (filter_map (means subject) entries))
+    at true rest = (h.0, rest)
+    at false rest = rest
 
 -- what is told of the rules of all entries of a table is told of a rule that a walk shows
 pub shown_rule : (Q : Rule → Type 0) (f : Function) (table : Item → List Entry) → ((item : Item) → AllByRecursion (λ e. Q e.mark.rule) (table item)) →
     (subject : ℕ) (rule : Rule) (walk : List EdgeId) (point : PointId) → IsShown f table subject rule walk point → Q rule
 shown_rule Q f table each subject rule walk point h =
-    let b = h.at.shows.breaks in
-    let here : Q b.mark.mark.rule = each_in (λ e. Q e.mark.rule) b.front b.rest b.mark (subst (AllByRecursion (λ e. Q e.mark.rule)) b.parts (each h.item)) in
-    let code : index_of rule ≡ index_of b.mark.mark.rule =
-    b.code_is ∙ code_told IsInPlace (marks_in (means subject) (flat_map table h.at.shows.before ++ b.front)) b.mark.mark (b.mark.subject == subject) b.out_of_place in
-    subst Q (sym (same_rule rule b.mark.mark.rule code)) here
+    broken_rule Q f (marks_for subject table) (λ item. each_for Q subject (table item) (each item)) rule walk point h.item h.at

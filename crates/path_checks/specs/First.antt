@@ -11,16 +11,20 @@ use Rattle.sil_rules.specs.Rules.{index_of}
 use Rattle.sil_rules.specs.declared.rule.Rule.{Rule}
 use Rattle.rule_faults.specs.Keys.{key}
 use Rattle.path_patterns.specs.Along.{Shows}
-use Rattle.path_patterns.specs.Reads.{FitsRead, read_code}
 use Rattle.path_patterns.specs.Switch.{IsInPlace, code_of}
+use Rattle.path_patterns.specs.declared.mark.Mark.{Mark}
 use Rattle.path_checks.specs.declared.entry.Entry.{Entry}
 use Rattle.path_checks.specs.declared.fault.PathFault.{PathFault}
-use Rattle.path_checks.specs.Entries.{means}
+use Rattle.path_checks.specs.Entries.{marks_for}
 
--- the walk shows at the item, which has this point, that the subject's pattern breaks, first at a mark of this rule
-pub record IsShownAt (f : Function) (table : Item → List Entry) (subject : ℕ) (rule : Rule) (walk : List EdgeId) (point : PointId) (item : Item) : Type 0 where
+-- the walk shows at the item, which has this point, that these marks break the switch, first at one of this rule
+pub record IsBreakShown (f : Function) (marks : Item → List Mark) (rule : Rule) (walk : List EdgeId) (point : PointId) (item : Item) : Type 0 where
   pub point_is : point ≡ point_of (flow_of f) item
-  pub shows : Shows (flow_of f) table (FitsRead IsInPlace (means subject)) (read_code code_of (means subject)) walk (index_of rule) item
+  pub shows : Shows (flow_of f) marks IsInPlace code_of walk (index_of rule) item
+
+-- the walk shows this of the subject's marks
+abbrev pub IsShownAt : Function → (Item → List Entry) → ℕ → Rule → List EdgeId → PointId → Item → Type 0
+IsShownAt f table subject rule walk point item = IsBreakShown f (marks_for subject table) rule walk point item
 
 -- the walk shows it at some item of this point
 pub record IsShown (f : Function) (table : Item → List Entry) (subject : ℕ) (rule : Rule) (walk : List EdgeId) (point : PointId) : Type 0 where

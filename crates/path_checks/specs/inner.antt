@@ -1,3 +1,4 @@
+pub mod Automata
 pub mod Shared
 pub mod Chunks
 pub mod Groups

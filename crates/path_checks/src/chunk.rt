@@ -1,11 +1,12 @@
 //! Some of the subjects, as one family of automata: those from a first one on.
 
 ghost use Rattle.std.specs.Prelude.{◌≡◌, ◌+◌, ◌*◌, ◌<◌, ◌≤◌, ◌^◌, ◌++◌, [], ◌∷◌, length};
-ghost use Rattle.reach_engine.specs.Run.{run, StaysBelow};
+ghost use Rattle.reach_engine.specs.inner.Run.{run, StaysBelow};
 ghost use Rattle.reach_engine.specs.declared.scan.Step.TheVariants.{Go};
-ghost use Rattle.path_patterns.specs.Reads.{read_step};
-ghost use Rattle.path_patterns.specs.Switch.{mark_step};
-ghost use Rattle.path_checks.specs.Entries.{means, subject_step};
+ghost use Rattle.path_patterns.specs.inner.Reads.{read_step};
+ghost use Rattle.path_patterns.specs.inner.Automaton.{mark_step};
+ghost use Rattle.path_checks.specs.Entries.{means};
+ghost use Rattle.path_checks.specs.inner.Automata.{subject_step};
 ghost use Rattle.path_checks.specs.inner.Shared.{entries_among};
 ghost use Rattle.path_checks.specs.inner.Chunks.{ArePassed};
 

@@ -3,8 +3,8 @@
 ghost use Rattle.std.specs.Prelude.{◌≡◌, ℕ, ◌+◌, ◌<◌, ◌≤◌, ◌^◌, List, length, IfOk};
 ghost use Rattle.sil_cfg.specs.declared.item.Item.{Item};
 ghost use Rattle.sil_cfg.specs.Layout.{item_count};
-ghost use Rattle.sil_cfg.specs.Build.{IsGraphOf};
-ghost use Rattle.path_patterns.specs.Reads.{AgreesWith};
+ghost use Rattle.sil_cfg.specs.inner.Build.{IsGraphOf};
+ghost use Rattle.path_patterns.specs.inner.Reads.{AgreesWith};
 ghost use Rattle.path_checks.specs.declared.entry.Entry as entry;
 ghost use Rattle.path_checks.specs.inner.Chunks.{IsFirstOfChunk};
 ghost use Rattle.path_checks.specs.inner.Shared.{entries_among, entries_with};

@@ -17,15 +17,23 @@ use std::alloc::Global;
 
 /// What each item does to the subjects.
 pub trait ItemTable {
+    /// Memory that the table needs at an item. What it holds doesn't matter.
+    type Room;
+
+    /// What the table is made of goes together.
+    ghost fits: { Self → Type 0 };
+
     ghost entries_at: { Self → ℕ → Item → List Entry };
 
     /// Adds what the item with this number does.
     fn add_entries(
         &self,
+        room: &mut Self::Room,
         entries: &mut Vec<Entry>,
         number: usize,
         item: Item,
     ) -> Result<(), Exhausted>
+        requires { fits self.now }
         ensures { OnOk result (entries.new.items ≡ entries.old.items ++ entries_at self.now number item) };
 }
 
@@ -41,15 +49,17 @@ pub trait SubjectMarks {
 /// The entries of an item, as those behind the items before. `own` is room for them.
 fn push_item<T: ItemTable>(
     table: &T,
+    room: &mut T::Room,
     all: &mut ItemLists<Entry>,
     own: &mut Vec<Entry>,
     number: usize,
     item: Item,
 ) -> Result<(), Exhausted>
+    requires { T.fits table.now }
     ensures { OnOk result (all.new ≡ all.old ++ T.entries_at table.now number item ∷ []) }
 {
     own.clear();
-    table.add_entries(own, number, item)?;
+    table.add_entries(room, own, number, item)?;
     all.push(own.as_slice())
 }
 
@@ -57,15 +67,17 @@ fn push_item<T: ItemTable>(
 pub fn entries_by_item<T: ItemTable>(
     alloc: Global,
     table: &T,
+    room: &mut T::Room,
     g: &Graph,
 ) -> Result<ItemLists<Entry>, Exhausted>
+    requires { T.fits table.now }
     ensures size { IfOk result (λ v. length v ≡ item_count g.now) }
     ensures entries { IfOk result (λ v. (n : ℕ) (item : Item) → item_at g.now n ≡ Some item → list_at v n ≡ T.entries_at table.now n item) }
 {
     let mut all = ItemLists::with_capacity(alloc, g.items())?;
     let mut own = Vec::new(alloc);
     for i in 0..g.items() {
-        push_item(table, &mut all, &mut own, i, g.item(i))?;
+        push_item(table, room, &mut all, &mut own, i, g.item(i))?;
     }
     Ok(all)
 }

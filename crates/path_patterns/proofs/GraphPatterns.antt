@@ -9,12 +9,12 @@ use Rattle.sil_cfg.specs.declared.item.Item.{Item}
 use Rattle.sil_cfg.specs.Layout.{Layout, item_at}
 use Rattle.sil_cfg.specs.Flow.{numbered}
 use Rattle.sil_cfg.specs.Items.{flow_of}
-use Rattle.sil_cfg.specs.Build.{AreItems, IsGraphOf}
+use Rattle.sil_cfg.specs.inner.Build.{AreItems, IsGraphOf}
 use Rattle.sil_cfg.specs.Walk.{IsTrail}
 use Rattle.sil_cfg.proofs.GraphTrails.{trail_there, trail_back}
 use Rattle.path_patterns.specs.Lawful.{FirstBreak}
 use Rattle.path_patterns.specs.Along.{Shows}
-use Rattle.path_patterns.specs.Reads.{AgreesWith}
+use Rattle.path_patterns.specs.inner.Reads.{AgreesWith}
 
 record SplitItems (kinds : List Item) (m n : List ℕ) (items : List Item) : Type 0 where
   front : List Item

@@ -1,9 +1,9 @@
 pub mod PushedMarks
 pub mod PatternsDecided
-pub mod ReadingsDecided
+pub mod MarksRead
 pub mod SwitchDecided
 pub mod SwitchTurned
 pub mod GraphPatterns
 pub mod RunsAreLawful
 pub mod SameMarks
-pub mod EarlierShown
+pub mod HeldIsOn

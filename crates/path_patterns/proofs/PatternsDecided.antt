@@ -9,13 +9,13 @@ use Rattle.sil_cfg.specs.Walk.{IsTrail}
 use Rattle.sil_cfg.proofs.Paths.{Trail-front, some_pushed}
 use Rattle.reach_engine.specs.declared.scan.Step.{Step}
 use Rattle.reach_engine.specs.declared.scan.Step.TheVariants.{Go, Bad}
-use Rattle.reach_engine.specs.Run.{run}
+use Rattle.reach_engine.specs.inner.Run.{run}
 use Rattle.reach_engine.specs.inner.Reach.{ReachesFirst}
 use Rattle.reach_engine.specs.inner.Search.{IsClean}
 use Rattle.reach_engine.proofs.Runs.{run-append, run_split, run_join, run_breaks, bad_at}
 use Rattle.path_patterns.specs.Lawful.{AreLawful, FirstBreak}
 use Rattle.path_patterns.specs.Along.{IsKept, Shows}
-use Rattle.path_patterns.specs.Decides.{Judges, Decides, item_step}
+use Rattle.path_patterns.specs.inner.Decides.{Judges, Decides}
 
 module _ {M : Type 0} (step : ℕ → M → Step) (InPlace : List M → M → Type 0) (code_of : M → ℕ) (decides : Decides step InPlace code_of) where
   -- a mark that is read is in place
@@ -75,11 +75,12 @@ module _ {M : Type 0} (step : ℕ → M → Step) (InPlace : List M → M → Ty
           let out = bad_out_of_place (before ++ b.front) b.mark kept.0 d kept.1 e in
           ap (run step (Go s)) b.parts ∙ run_breaks step (Go s) b.front b.rest b.mark kept.0 c from (e ∙ ap Bad (out.1 ∙ sym b.code_is))
 
-  module _ (marks : ℕ → List M) where
+  -- an automaton over items, which reads the marks of each
+  module _ (marks : ℕ → List M) (steps : ℕ → ℕ → Step) (reads : (s i : ℕ) → steps s i ≡ run step (Go s) (marks i)) where
     -- a trail is read mark by mark
-    trail_marks : (r : Step) (t : List ℕ) → run (item_step step marks) r t ≡ run step r (flat_map marks t)
+    trail_marks : (r : Step) (t : List ℕ) → run steps r t ≡ run step r (flat_map marks t)
     trail_marks r [] = refl
-    trail_marks (Go s) (i ∷ t) = trail_marks (run step (Go s) (marks i)) t ∙ sym (run-append step (Go s) (marks i) (flat_map marks t))
+    trail_marks (Go s) (i ∷ t) = trail_marks (steps s i) t ∙ ap (λ r. run step r (flat_map marks t)) (reads s i) ∙ sym (run-append step (Go s) (marks i) (flat_map marks t))
     trail_marks (Bad c) (i ∷ t) = trail_marks (Bad c) t ∙ ap (λ r. run step r (flat_map marks t)) (sym (stays c (marks i))) ∙ sym (run-append step (Bad c) (marks i) (flat_map marks t))
       where
         stays : (c : ℕ) (u : List M) → run step (Bad c) u ≡ Bad c
@@ -87,14 +88,14 @@ module _ {M : Type 0} (step : ℕ → M → Step) (InPlace : List M → M → Ty
         stays c (x ∷ u) = stays c u
 
     module _ (g : Flow ℕ) where
-      pub reached_shown : (w : List EdgeId) (c item : ℕ) → ReachesFirst g (item_step step marks) w c item → Shows g marks InPlace code_of w c item
+      pub reached_shown : (w : List EdgeId) (c item : ℕ) → ReachesFirst g steps w c item → Shows g marks InPlace code_of w c item
       reached_shown w c item h = record {
         before = h.before;
         trail = h.trail;
-        breaks = break_sound (flat_map marks h.before) (marks item) h.state c (sym (trail_marks (Go 0) h.before) ∙ h.clean) h.breaks;
+        breaks = break_sound (flat_map marks h.before) (marks item) h.state c (sym (trail_marks (Go 0) h.before) ∙ h.clean) (sym (reads h.state item) ∙ h.breaks);
       }
 
-      pub shown_reached : (w : List EdgeId) (c item : ℕ) → Shows g marks InPlace code_of w c item → ReachesFirst g (item_step step marks) w c item
+      pub shown_reached : (w : List EdgeId) (c item : ℕ) → Shows g marks InPlace code_of w c item → ReachesFirst g steps w c item
       shown_reached w c item h =
           let read = lawful_read (flat_map marks h.before)
           (λ front rest mark e. h.breaks.kept front (rest ++ h.breaks.front) mark (ap (λ v. v ++ h.breaks.front) e ∙ append_assoc front (mark ∷ rest) h.breaks.front)) in
@@ -103,17 +104,17 @@ module _ {M : Type 0} (step : ℕ → M → Step) (InPlace : List M → M → Ty
             state = read.0;
             trail = h.trail;
             clean = trail_marks (Go 0) h.before ∙ read.1;
-            breaks = break_complete (flat_map marks h.before) (marks item) read.0 c read.1 h.breaks;
+            breaks = reads read.0 item ∙ break_complete (flat_map marks h.before) (marks item) read.0 c read.1 h.breaks;
           }
 
       -- where the search is clean each trail keeps the pattern
-      pub clean_kept : IsClean g (item_step step marks) → IsKept g marks InPlace
-      clean_kept clean w t trail = at (run (item_step step marks) (Go 0) t) refl
+      pub clean_kept : IsClean g steps → IsKept g marks InPlace
+      clean_kept clean w t trail = at (run steps (Go 0) t) refl
         where
-          at : (x : Step) → run (item_step step marks) (Go 0) t ≡ x → AreLawful InPlace (flat_map marks t)
+          at : (x : Step) → run steps (Go 0) t ≡ x → AreLawful InPlace (flat_map marks t)
           at (Go s) e = read_lawful (flat_map marks t) s (sym (trail_marks (Go 0) t) ∙ e)
           at (Bad c) e =
-              let b = bad_at (item_step step marks) 0 t c e in
+              let b = bad_at steps 0 t c e in
               let parts : t ≡ (b.front ++ b.here ∷ []) ++ b.rest = b.parts ∙ sym (append_assoc b.front (b.here ∷ []) b.rest) in
               let front = Trail-front g w (b.front ++ b.here ∷ []) b.rest (some_pushed b.front b.here) (subst (IsTrail g w) parts trail) in
               absurd (clean front.0 c b.here (record { before = b.front; state = b.state; trail = front.1; clean = b.clean; breaks = b.breaks }))

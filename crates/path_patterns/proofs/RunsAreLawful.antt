@@ -3,13 +3,14 @@ use Rattle.std.proofs.Common.{◌≡◌, ℕ, zero, suc, List, [], ◌∷◌, �
 use Rattle.std.specs.Prelude.{◌↔◌}
 use Rattle.std.proofs.lemmas.List.{map-append}
 use Rattle.reach_engine.specs.declared.scan.Step.TheVariants.{Go, Bad}
-use Rattle.reach_engine.specs.Run.{run}
+use Rattle.reach_engine.specs.inner.Run.{run}
 use Rattle.sil_rules.specs.Rules.{index_of}
 use Rattle.sil_rules.specs.declared.rule.Rule.{Rule}
 use Rattle.reach_engine.proofs.Runs.{run_bad, run_join, run_split, go-bad, same_Go}
 use Rattle.path_patterns.specs.Lawful.{AreLawful}
 use Rattle.path_patterns.specs.Marks.{needs_off}
-use Rattle.path_patterns.specs.Switch.{IsInPlace, code_of, mark_step}
+use Rattle.path_patterns.specs.Switch.{IsInPlace, code_of}
+use Rattle.path_patterns.specs.inner.Automaton.{mark_step}
 use Rattle.path_patterns.proofs.PatternsDecided.{read_lawful, lawful_read}
 use Rattle.path_patterns.proofs.SwitchDecided.{switch_decides}
 use Rattle.path_patterns.specs.inner.Runs as runs

@@ -4,14 +4,13 @@ use Rattle.std.specs.Prelude.{cond}
 use Rattle.std.proofs.lemmas.List.{append-nil}
 use Rattle.std.proofs.lemmas.List.Elements.{All-nil, All-push, All-pop}
 use Rattle.reach_engine.specs.declared.scan.Step.TheVariants.{Go, Bad}
-use Rattle.reach_engine.specs.Run.{run}
+use Rattle.reach_engine.specs.inner.Run.{run}
 use Rattle.reach_engine.proofs.Runs.{run_split, go-bad, same_Go}
 use Rattle.path_patterns.specs.declared.mark.Mark.{Mark}
-use Rattle.path_patterns.specs.Decides.{Judges, Decides}
-use Rattle.path_patterns.specs.Switch.{IsOn, Finds, IsInPlace, code_of, fits, turned, mark_step}
-use Rattle.path_patterns.specs.Reads.{FitsRead, read_code, read_step}
+use Rattle.path_patterns.specs.inner.Decides.{Judges, Decides}
+use Rattle.path_patterns.specs.Switch.{IsOn, Finds, IsInPlace, code_of}
+use Rattle.path_patterns.specs.inner.Automaton.{fits, turned, mark_step}
 use Rattle.path_patterns.proofs.PushedMarks.{PushedAt, there, behind, pushed_at}
-use Rattle.path_patterns.proofs.ReadingsDecided.{read_decides}
 
 abbrev Unturned : Mark → Type 0
 Unturned m = m.turns ≡ None
@@ -88,6 +87,3 @@ judged marks mark _ (off h) (Some false) = h
 
 pub switch_decides : Decides mark_step IsInPlace code_of
 switch_decides marks s mark e = judged marks mark s (read_at [] marks 0 s (off no_marks) e) mark.needs
-
-pub reading_decides : {A : Type 0} (means : A → Option Mark) → Decides (read_step mark_step means) (FitsRead IsInPlace means) (read_code code_of means)
-reading_decides means = read_decides mark_step means IsInPlace code_of switch_decides

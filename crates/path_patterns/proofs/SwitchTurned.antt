@@ -5,7 +5,8 @@ use Rattle.std.proofs.lemmas.List.{append-nil}
 use Rattle.reach_engine.specs.declared.scan.Step.TheVariants.{Go}
 use Rattle.reach_engine.proofs.Runs.{run_split, same_Go}
 use Rattle.path_patterns.specs.declared.mark.Mark.{Mark}
-use Rattle.path_patterns.specs.Switch.{IsOn, turned, mark_step}
+use Rattle.path_patterns.specs.Switch.{IsOn}
+use Rattle.path_patterns.specs.inner.Automaton.{turned, mark_step}
 use Rattle.path_patterns.specs.inner.Turns.{later_of, last_turn, Leaves, LeavesAsTurned, EndsAsTurned, TurnsByBits}
 use Rattle.path_patterns.proofs.SwitchDecided.{push_on, push_off, push_none, pop_none, step_goes}
 

@@ -1,5 +1,5 @@
 -- A pattern along the walks of a graph; `marks` gives the marks of an item, in order.
-use Rattle.std.specs.Prelude.{ℕ, ◌≤◌, List, [], ◌∷◌, ◌++◌, length, flat_map}
+use Rattle.std.specs.Prelude.{ℕ, List, [], ◌∷◌, ◌++◌, flat_map}
 use Rattle.sil_ast.specs.declared.place.EdgeId.{EdgeId}
 use Rattle.sil_cfg.specs.Flow.{Flow}
 use Rattle.sil_cfg.specs.Walk.{IsTrail}
@@ -15,11 +15,3 @@ pub record Shows {A M : Type 0} (g : Flow A) (marks : A → List M) (InPlace : L
   pub before : List A
   pub trail : IsTrail g w (before ++ item ∷ [])
   pub breaks : FirstBreak InPlace code_of (flat_map marks before) (marks item) code
-
--- no walk shows a lesser code
-abbrev pub IsLeast : {A M : Type 0} → Flow A → (A → List M) → (List M → M → Type 0) → (M → ℕ) → ℕ → Type 0
-IsLeast {A} g marks InPlace code_of code = (w : List EdgeId) (other : ℕ) (item : A) → Shows g marks InPlace code_of w other item → code ≤ other
-
--- no walk with fewer edges shows the code
-abbrev pub IsShortest : {A M : Type 0} → Flow A → (A → List M) → (List M → M → Type 0) → (M → ℕ) → ℕ → List EdgeId → Type 0
-IsShortest {A} g marks InPlace code_of code walk = (w : List EdgeId) (item : A) → Shows g marks InPlace code_of w code item → length walk ≤ length w

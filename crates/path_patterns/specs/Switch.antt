@@ -1,7 +1,5 @@
 -- The pattern of a switch: it is off at first; a mark may need it on or off, and may turn it on or off.
-use Rattle.std.specs.Prelude.{◌≡◌, ℕ, zero, suc, List, ◌∷◌, ◌++◌, All, Bool, true, false, cond, Option, Some, None}
-use Rattle.reach_engine.specs.declared.scan.Step.{Step}
-use Rattle.reach_engine.specs.declared.scan.Step.TheVariants.{Go, Bad}
+use Rattle.std.specs.Prelude.{◌≡◌, ℕ, List, ◌∷◌, ◌++◌, All, Bool, true, false, Option, Some, None}
 use Rattle.sil_rules.specs.Rules.{index_of}
 use Rattle.path_patterns.specs.declared.mark.Mark.{Mark}
 
@@ -26,19 +24,3 @@ IsInPlace before mark = Finds mark.needs before
 -- the code of its break
 abbrev pub code_of : Mark → ℕ
 code_of mark = index_of mark.rule
-
--- the automaton: state 1 where the switch is on
-abbrev pub fits : ℕ → Option Bool → Bool
-fits s None = true
-fits zero (Some true) = false
-fits zero (Some false) = true
-fits (suc s) (Some true) = true
-fits (suc s) (Some false) = false
-
-abbrev pub turned : ℕ → Option Bool → ℕ
-turned s None = s
-turned s (Some true) = 1
-turned s (Some false) = 0
-
-abbrev pub mark_step : ℕ → Mark → Step
-mark_step s mark = cond (fits s mark.needs) (Go (turned s mark.turns)) (Bad (code_of mark))

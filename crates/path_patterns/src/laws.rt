@@ -2,7 +2,7 @@
 
 ghost use Rattle.path_patterns.specs.inner.Laws.{IsSwitchDecided, BreaksWithSwitch, BreaksOnFunction, KeepsWithoutBreak};
 ghost use Rattle.path_patterns.specs.inner.Turns.{LeavesAsTurned, EndsAsTurned, TurnsByBits};
-ghost use Rattle.path_patterns.specs.inner.Runs.{ReadsRuns, ReadsEndedRuns};
+ghost use Rattle.path_patterns.specs.inner.Runs.{IsOnWhileHeld, ReadsRuns, ReadsEndedRuns};
 
 /// The automaton of two states decides the switch: it goes on at just the marks that are in place.
 pub fn switch_is_decided()
@@ -37,4 +37,9 @@ pub fn graph_shows_what_its_function_does()
 pub fn lawful_marks_are_runs()
     ensures runs { ReadsRuns }
     ensures ended { ReadsEndedRuns }
+{}
+
+/// The switch is on just while the value is held, where the marks turn it as the value begins and ends.
+pub fn switch_is_on_while_held()
+    ensures { IsOnWhileHeld }
 {}

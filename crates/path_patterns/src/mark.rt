@@ -1,9 +1,9 @@
 //! A mark of a subject, and the two states of its switch.
 
 ghost use Rattle.std.specs.Prelude.{◌≡◌, ℕ, ◌<◌};
-ghost use Rattle.reach_engine.specs.Run.{StaysBelow};
+ghost use Rattle.reach_engine.specs.inner.Run.{StaysBelow};
 ghost use Rattle.path_patterns.specs.Marks as marks;
-ghost use Rattle.path_patterns.specs.Switch.{mark_step};
+ghost use Rattle.path_patterns.specs.inner.Automaton.{mark_step};
 
 use reach_engine::Step;
 use sil_rules::Rule;

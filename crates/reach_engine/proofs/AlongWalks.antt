@@ -6,7 +6,7 @@ use Rattle.sil_cfg.specs.Flow.{Flow, items_at, IsEdge, edge_to, edge_item}
 use Rattle.sil_cfg.specs.Walk.{IsWalkFrom, end_from, passed}
 use Rattle.reach_engine.specs.declared.scan.Step.{Step}
 use Rattle.reach_engine.specs.declared.scan.Step.TheVariants.{Go, Bad}
-use Rattle.reach_engine.specs.Run.{run}
+use Rattle.reach_engine.specs.inner.Run.{run}
 use Rattle.reach_engine.specs.inner.Frontier.{ReachesFrom}
 use Rattle.reach_engine.proofs.Runs.{run_split, run_breaks, run_end_bad, same_Go, end_cases}
 

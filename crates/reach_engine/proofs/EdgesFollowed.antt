@@ -12,7 +12,7 @@ use Rattle.reach_engine.specs.declared.scan.Step.TheVariants.{Go, Bad}
 use Rattle.reach_engine.specs.declared.frontier.Visit.{Visit}
 use Rattle.reach_engine.specs.declared.frontier.Fault.{Fault}
 use Rattle.reach_engine.specs.declared.frontier.Frontier.{Frontier}
-use Rattle.reach_engine.specs.Run.{run, BreaksAt}
+use Rattle.reach_engine.specs.inner.Run.{run, BreaksAt}
 use Rattle.reach_engine.specs.inner.Table.{mark_at}
 use Rattle.reach_engine.specs.inner.Frontier.{Noted, IsQueued, EdgeDone, VisitDone, IsNext, IsFault, IsFront, Grows}
 use Rattle.reach_engine.proofs.Runs.{run_join, run_breaks_at, run_end_bad, go-bad, same_Go, same_Bad}

@@ -8,7 +8,7 @@ use Rattle.std.proofs.lemmas.Nat.Bits.{bit_at-lt}
 use Rattle.sil_cfg.specs.Flow.{Flow, block_count, items_at}
 use Rattle.reach_engine.specs.declared.scan.Step.{Step}
 use Rattle.reach_engine.specs.declared.scan.Step.TheVariants.{Go, Bad}
-use Rattle.reach_engine.specs.Run.{run}
+use Rattle.reach_engine.specs.inner.Run.{run}
 use Rattle.reach_engine.specs.inner.Bits.{bit_in}
 use Rattle.reach_engine.specs.inner.Columns.{cell, Has, AllMoved}
 use Rattle.reach_engine.specs.inner.Effects.{effect_rows, IsEffect, AreEffects, AreKnown, EffectAdded, Applied}

@@ -10,7 +10,7 @@ use Rattle.reach_engine.specs.declared.scan.Step.{Step}
 use Rattle.reach_engine.specs.declared.scan.Step.TheVariants.{Go}
 use Rattle.reach_engine.specs.declared.frontier.Visit.{Visit}
 use Rattle.reach_engine.specs.declared.frontier.Fault.{Fault}
-use Rattle.reach_engine.specs.Run.{run}
+use Rattle.reach_engine.specs.inner.Run.{run}
 use Rattle.reach_engine.specs.inner.Table.{mark_at}
 use Rattle.reach_engine.specs.inner.Reach.{Enters, ReachesFirst}
 use Rattle.reach_engine.specs.inner.Frontier.{Noted, IsQueued, VisitDone, IsNext, IsRoot, HasParent, IsReached, ReachesFrom, IsFault, IsFront, Climbs, edge_list}

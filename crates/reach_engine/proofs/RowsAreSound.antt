@@ -7,7 +7,7 @@ use Rattle.sil_cfg.proofs.Paths.{some_pushed}
 use Rattle.sil_cfg.specs.Walk.{passed}
 use Rattle.reach_engine.specs.declared.scan.Step.{Step}
 use Rattle.reach_engine.specs.declared.scan.Step.TheVariants.{Go, Bad}
-use Rattle.reach_engine.specs.Run.{run}
+use Rattle.reach_engine.specs.inner.Run.{run}
 use Rattle.reach_engine.specs.inner.Reach.{Enters, ReachesFirst}
 use Rattle.reach_engine.proofs.Runs.{run_join, bad_at}
 use Rattle.reach_engine.proofs.EveryWalk.{walk_push, end_push, passed_push}

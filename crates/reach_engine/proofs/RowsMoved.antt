@@ -9,7 +9,7 @@ use Rattle.sil_ast.specs.declared.place.EdgeId.{EdgeId}
 use Rattle.sil_cfg.specs.Flow.{Flow, items_at, edge_count, IsEdge, edge_to, edge_item, edge_id}
 use Rattle.reach_engine.specs.declared.scan.Step.{Step}
 use Rattle.reach_engine.specs.declared.scan.Step.TheVariants.{Go, Bad}
-use Rattle.reach_engine.specs.Run.{run}
+use Rattle.reach_engine.specs.inner.Run.{run}
 use Rattle.reach_engine.proofs.Runs.{run_split, run_join}
 use Rattle.reach_engine.specs.inner.Bits.{bit_in}
 use Rattle.reach_engine.specs.inner.Columns.{cell, Has, Blamed, AllMoved}

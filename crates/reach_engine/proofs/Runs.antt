@@ -3,7 +3,7 @@ use Rattle.std.proofs.lemmas.List.Sums.{fold-append}
 use Rattle.std.proofs.lemmas.List.Folds.{fold_stays}
 use Rattle.reach_engine.specs.declared.scan.Step.{Step}
 use Rattle.reach_engine.specs.declared.scan.Step.TheVariants.{Go, Bad}
-use Rattle.reach_engine.specs.Run.{run, after, BreaksAt}
+use Rattle.reach_engine.specs.inner.Run.{run, after, BreaksAt}
 
 pub run-append : {A : Type 0} (f : ℕ → A → Step) (r : Step) (u v : List A) → run f r (u ++ v) ≡ run f (run f r u) v
 run-append f r u v = fold-append (after f) r u v

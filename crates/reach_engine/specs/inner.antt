@@ -1,3 +1,4 @@
+pub mod Run
 pub mod Reach
 pub mod Table
 pub mod Frontier

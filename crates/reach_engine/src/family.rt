@@ -2,7 +2,7 @@
 
 ghost use Rattle.std.specs.Prelude.{◌≡◌, ℕ, ◌*◌, ◌<◌, ◌≤◌, ◌∷◌, [], length};
 ghost use Rattle.reach_engine.specs.declared.scan.Step.{Step};
-ghost use Rattle.reach_engine.specs.Run.{StaysBelow};
+ghost use Rattle.reach_engine.specs.inner.Run.{StaysBelow};
 ghost use Rattle.reach_engine.specs.inner.Columns.{AllMoved};
 
 use crate::scan::Step;

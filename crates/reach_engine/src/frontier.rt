@@ -3,7 +3,7 @@
 ghost use Rattle.std.specs.Prelude.{◌≡◌, ◌⊎◌, ℕ, suc, ◌+◌, ◌*◌, ◌<◌, ◌≤◌, ◌^◌, Some, length, vec_len, slice_get, IfOk, OnOk};
 ghost use Rattle.sil_cfg.specs.Layout.{item_count};
 ghost use Rattle.sil_cfg.specs.Flow.{block_count, items_at, edge_item, IsEdge, numbered};
-ghost use Rattle.reach_engine.specs.Run.{run};
+ghost use Rattle.reach_engine.specs.inner.Run.{run};
 ghost use Rattle.reach_engine.specs.declared.scan.Step.TheVariants.{Go};
 ghost use Rattle.reach_engine.specs.declared.scan.Step.{Step};
 ghost use Rattle.reach_engine.specs.inner.Frontier.{FrontOf, Noted, Climbs, ParentsFirst, EdgeDone, Grows, IsWalkOf};

@@ -2,7 +2,7 @@
 
 ghost use Rattle.std.specs.Prelude.{◌≡◌, ℕ, ◌<◌, All};
 ghost use Rattle.reach_engine.specs.declared.scan.Step.{Step};
-ghost use Rattle.reach_engine.specs.Run.{StaysBelow, Passes};
+ghost use Rattle.reach_engine.specs.inner.Run.{StaysBelow, Passes};
 
 /// What an automaton does at an item.
 #[derive(Clone, Copy, PartialEq, Eq, Debug)]

@@ -15,7 +15,7 @@ use Rattle.sil_cfg.specs.declared.item.Item.TheVariants.{Entry, Inst, Edge, Exit
 use Rattle.sil_cfg.specs.declared.layout.EdgeFlow.{EdgeFlow}
 use Rattle.sil_cfg.specs.Layout.{BlockLayout, no_block, no_edge, IsEdgeSound, IsBlockSound, IsSound}
 use Rattle.sil_cfg.specs.Items.{items_in, targets_in, last_in, IsItem, IsExit}
-use Rattle.sil_cfg.specs.Build.{AreItems, HasGraph, IsBlockLinked, IsGraphOf}
+use Rattle.sil_cfg.specs.inner.Build.{AreItems, HasGraph, IsBlockLinked, IsGraphOf}
 use Rattle.sil_cfg.specs.Flow.{edge_id}
 use Rattle.sil_cfg.specs.inner.Laying.{IsItemOf, IsLaid, LaysBlock, IsLaidAt, AreLaid}
 use Rattle.sil_cfg.proofs.Gets.{kept_get, last_get}

@@ -9,7 +9,7 @@ use Rattle.sil_cfg.specs.declared.item.Item.TheVariants.{Edge}
 use Rattle.sil_cfg.specs.Layout.{Layout}
 use Rattle.sil_cfg.specs.Flow.{items_at, IsEdge, edge_to, edge_item, numbered}
 use Rattle.sil_cfg.specs.Items.{flow_of}
-use Rattle.sil_cfg.specs.Build.{AreItems, IsGraphOf}
+use Rattle.sil_cfg.specs.inner.Build.{AreItems, IsGraphOf}
 use Rattle.sil_cfg.specs.Walk.{IsWalkFrom, end_from, passed, IsTrail}
 use Rattle.sil_cfg.proofs.Numbers.{AreItems-append}
 

@@ -10,7 +10,7 @@ use Rattle.sil_cfg.specs.declared.item.Item.{Item}
 use Rattle.sil_cfg.specs.declared.item.Item.TheVariants.{Inst, Edge}
 use Rattle.sil_cfg.specs.declared.layout.EdgeFlow.{EdgeFlow}
 use Rattle.sil_cfg.specs.Items.{insts_from, point_at, entry_of, exit_of, ends_function, own_items}
-use Rattle.sil_cfg.specs.Build.{AreItems}
+use Rattle.sil_cfg.specs.inner.Build.{AreItems}
 use Rattle.sil_cfg.specs.Flow.{edge_id}
 use Rattle.sil_cfg.specs.inner.Laying.{IsItemOf, Adds, HasLaid, LaysMore, AreEdgesLaid, LaysBlock}
 use Rattle.sil_cfg.proofs.Gets.{kept_get, last_get, pushed_get, take_one_more}

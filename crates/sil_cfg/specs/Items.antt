@@ -74,6 +74,10 @@ flow_of f = record {
 abbrev pub IsExit : PointId → Block → Type 0
 IsExit p block = (p.index ≡ length block.insts) × IsTrue (ends_function block.terminator.op)
 
+-- the function has a body
+abbrev pub HasBlocks : Function → Type 0
+HasBlocks f = 0 < length f.blocks
+
 -- the items of a function: its entry item, its instructions, each terminator with one of its edges, each `return` or `unreachable`
 abbrev pub IsItem : Function → Item → Type 0
 IsItem f Entry = 0 < length f.blocks

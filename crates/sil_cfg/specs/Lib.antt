@@ -2,6 +2,5 @@ pub mod Layout
 pub mod Flow
 pub mod Walk
 pub mod Items
-pub mod Build
 pub mod Returns
 pub mod inner

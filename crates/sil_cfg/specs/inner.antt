@@ -1,3 +1,4 @@
+pub mod Build
 pub mod Splice
 pub mod Laying
 pub mod Laws

@@ -3,7 +3,7 @@
 ghost use Rattle.std.specs.Prelude.{◌≡◌, ℕ, ◌+◌, ◌<◌, ◌≤◌, ◌^◌, [], ◌∷◌, ◌++◌, length, map, IfOk, OnOk};
 ghost use Rattle.sil_cfg.specs.Layout.{block_of, layout_of, IsSound};
 ghost use Rattle.sil_cfg.specs.Items.{entry_of, exit_of, insts_from, point_at, ends_function};
-ghost use Rattle.sil_cfg.specs.Build.{HasGraph, IsGraphOf};
+ghost use Rattle.sil_cfg.specs.inner.Build.{HasGraph, IsGraphOf};
 ghost use Rattle.sil_cfg.specs.inner.Laying.{LaysMore, LaysBlock, HasLaid, Adds, AreEdgesLaid};
 
 use crate::exits::is_exit;

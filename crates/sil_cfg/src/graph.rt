@@ -29,7 +29,7 @@ impl Model for Graph {
 impl Graph {
     ghost use Rattle.sil_cfg.specs.Layout.{item_at, item_count, edge_at, IsEdgeSound, IsSound};
     ghost use Rattle.sil_cfg.specs.Flow.{IsEdge, block_count, items_at, edge_count, edge_to, edge_item, numbered, point_of};
-    ghost use Rattle.sil_cfg.specs.Build.{HasGraph, IsGraphOf};
+    ghost use Rattle.sil_cfg.specs.inner.Build.{HasGraph, IsGraphOf};
     ghost use Rattle.sil_cfg.specs.declared.item.Item.{Item};
 
     /// The graph of a function.

@@ -64,15 +64,19 @@ pub(crate) struct Accesses<'f> {
 }
 
 impl ItemTable for Accesses<'_> {
+    type Room = ();
+
+    ghost fits = { λ _. Unit {0} };
+
     ghost entries_at = { λ t _ item. accesses_of t.f.now item };
 
     fn add_entries(
         &self,
+        _room: &mut (),
         entries: &mut Vec<Entry>,
-        number: usize,
+        _number: usize,
         item: Item,
     ) -> Result<(), Exhausted> {
-        let _ = number;
         add_operands(entries, item_operands(self.f, item))?;
         add_operands(entries, item_handover(self.f, item))?;
         add_results(entries, item_results(self.f, item))?;

@@ -1,7 +1,7 @@
 //! The check of rule 301.
 
 ghost use Rattle.std.specs.Prelude.{IfOk, OnOk, IfErr};
-ghost use Rattle.sil_cfg.specs.Build.{IsGraphOf};
+ghost use Rattle.sil_cfg.specs.inner.Build.{IsGraphOf};
 ghost use Rattle.path_checks.specs.First.{IsFirst};
 ghost use Rattle.value_availability.specs.Accesses.{accesses_of};
 ghost use Rattle.value_availability.specs.inner.Availability.{IsAvailable, IsUndefined};
@@ -18,7 +18,7 @@ fn first_undefined(alloc: Global, f: &Function, g: &Graph) -> Result<Option<Path
     requires { IsGraphOf g.now f.now }
     ensures { IfOk result (IsFirst f.now (accesses_of f.now)) }
 {
-    let entries = entries_by_item(alloc, &Accesses { f }, g)?;
+    let entries = entries_by_item(alloc, &Accesses { f }, &mut (), g)?;
     first_fault(alloc, f, g, &entries, &[], &[])
 }
 

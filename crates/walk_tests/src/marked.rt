@@ -2,8 +2,8 @@
 
 ghost use Rattle.std.specs.Prelude.{◌≡◌, ℕ, ◌<◌, ◌==◌, length, slice_get, cond, IfOk};
 ghost use Rattle.sil_cfg.specs.Layout.{item_count};
-ghost use Rattle.path_patterns.specs.Switch.{mark_step};
-ghost use Rattle.path_patterns.specs.Reads.{step_in};
+ghost use Rattle.path_patterns.specs.inner.Automaton.{mark_step};
+ghost use Rattle.path_patterns.specs.inner.Reads.{step_in};
 
 use path_patterns::{Mark, turn};
 use reach_engine::{Family, MoveAll, Scan, Step, turn_touched};

@@ -5,7 +5,7 @@ use Rattle.std.specs.declared.alloc.Global.{Global}
 use Rattle.std.specs.declared.vec.Vec.{Vec}
 use Rattle.sil_ast.specs.declared.place.ValueId.{ValueId}
 use Rattle.path_checks.specs.declared.entry.Entry as entry
-use Rattle.path_patterns.specs.Reads.{accesses_at}
+use Rattle.path_patterns.specs.inner.Reads.{accesses_at}
 use Rattle.path_patterns.specs.declared.mark.Mark as pattern
 use Rattle.ownership_chains.specs.Facts.{has, is_guaranteed, value_of}
 use Rattle.ownership_chains.specs.declared.facts.Facts.{Facts}

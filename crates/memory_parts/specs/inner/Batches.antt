@@ -1,6 +1,9 @@
 -- Parts that are searched together: each by its number among them.
-use Rattle.std.specs.Prelude.{◌≡◌, ◌≤◌, ℕ, List, [], ◌∷◌, ◌++◌, All, Bool, false, map, nat_lt, slice_get, slice_index_or, Option, Some, None}
+use Rattle.std.specs.Prelude.{◌≡◌, ◌≤◌, ℕ, List, [], ◌∷◌, ◌++◌, All, Bool, false, length, map, nat_lt, slice_get, slice_index_or, Option, Some, None}
+use Rattle.std.specs.Prelude.{IfSome, option_and_then}
 use Rattle.std.specs.List.{flat_map}
+use Rattle.std.specs.declared.alloc.Global.{Global}
+use Rattle.std.specs.declared.vec.Vec.{Vec}
 use Rattle.sil_ast.specs.declared.function.Function.{Function}
 use Rattle.sil_ast.specs.declared.place.ValueId.{ValueId}
 use Rattle.sil_cfg.specs.Layout.{Layout, item_at}
@@ -21,6 +24,8 @@ use Rattle.memory_accesses.specs.declared.source.Source.{Source}
 use Rattle.memory_parts.specs.Parts.{at_return, means, subject_of}
 use Rattle.rule_faults.specs.Keys.{fault_key}
 use Rattle.memory_parts.specs.Shown.{IsShown}
+use Rattle.memory_parts.specs.inner.Concerned.{AreConcerned}
+use Rattle.memory_parts.specs.inner.Index.{IsIndexOf}
 use Rattle.rule_faults.specs.declared.fault.RuleFault.{RuleFault}
 use Rattle.memory_parts.specs.declared.part.Part.{Part}
 
@@ -35,6 +40,16 @@ means_at sources facts a (Some p) = means sources facts p a
 -- what it means to the part with a number
 abbrev pub entry_at : List Source → (ValueId → Facts) → List Part → Access → ℕ → List Entry
 entry_at sources facts parts a n = entry_if n (means_at sources facts a (slice_get parts n))
+
+-- what a `return` means to it
+abbrev pub return_mark : List Part → ℕ → Option Mark
+return_mark parts n = option_and_then at_return (slice_get parts n)
+
+-- what is made of the parts before they are searched: the values that concern them, and an index, where there is one
+pub record IsBatch (sources : List Source) (parts : List Part) (concerned : List Bool) (index : Option (Vec (Vec ℕ Global) Global)) : Type 0 where
+  pub few : length parts ≤ 1024
+  pub concerned_are : AreConcerned sources parts concerned
+  pub index_is : IfSome index (λ rows. IsIndexOf sources parts rows.items)
 
 -- the table of all of them
 abbrev pub batch_table : List Source → (ValueId → Option Facts) → Function → List Part → Item → List Entry

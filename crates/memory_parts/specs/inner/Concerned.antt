@@ -5,8 +5,9 @@ use Rattle.sil_ast.specs.declared.place.ValueId.{ValueId}
 use Rattle.ownership_chains.specs.declared.facts.Facts.{Facts}
 use Rattle.memory_accesses.specs.declared.access.Access.{Access}
 use Rattle.memory_accesses.specs.declared.access.Access.TheVariants.{Ends, Begins, Allocates, Deallocates, Given, Does, Mentions}
+use Rattle.memory_accesses.specs.declared.location.Location.{Location}
 use Rattle.memory_accesses.specs.declared.source.Source.{Source}
-use Rattle.memory_accesses.specs.Locations.{object_built}
+use Rattle.memory_accesses.specs.Locations.{location_of, object_built}
 use Rattle.memory_parts.specs.inner.Index.{value_row}
 use Rattle.memory_parts.specs.inner.Keys.{keys_of_part}
 use Rattle.memory_parts.specs.declared.key.Key.{Key}
@@ -34,6 +35,10 @@ IsConcerned sources concerned p = All (λ key. has_key concerned key ≡ true) (
 abbrev pub AreConcerned : List Source → List Part → List Bool → Type 0
 AreConcerned sources parts concerned = All (IsConcerned sources concerned) parts
 
+abbrev pub has_root : List Bool → Option Location → Bool
+has_root concerned None = false
+has_root concerned (Some l) = is_concerned concerned l.root
+
 abbrev pub has_object : List Bool → Option ValueId → Bool
 has_object concerned None = false
 has_object concerned (Some object) = is_concerned concerned object
@@ -47,7 +52,7 @@ abbrev pub may_mean : List Source → (ValueId → Facts) → List Bool → Acce
 may_mean sources facts concerned (Ends v) = is_concerned concerned v
 may_mean sources facts concerned (Begins v) = is_concerned concerned v
 may_mean sources facts concerned (Allocates v) = is_concerned concerned v
-may_mean sources facts concerned (Deallocates v) = is_concerned concerned v
+may_mean sources facts concerned (Deallocates v) = is_concerned concerned v || has_root concerned (location_of sources v)
 may_mean sources facts concerned (Given v) = is_concerned concerned v
 may_mean sources facts concerned (Does x) = true
 may_mean sources facts concerned (Mentions v a) = is_concerned concerned v || list_any (is_built sources concerned) (facts v).bases

@@ -42,7 +42,7 @@ abbrev pub keys_of_access : List Source → (ValueId → Facts) → Access → L
 keys_of_access sources facts (Ends v) = Turned v ∷ []
 keys_of_access sources facts (Begins v) = Turned v ∷ []
 keys_of_access sources facts (Allocates v) = Turned v ∷ []
-keys_of_access sources facts (Deallocates v) = Turned v ∷ Written v ∷ []
+keys_of_access sources facts (Deallocates v) = Turned v ∷ root_key (location_of sources v)
 keys_of_access sources facts (Given v) = Turned v ∷ []
 keys_of_access sources facts (Does x) = keys_at sources x.operation (location_of sources x.address)
 keys_of_access sources facts (Mentions v a) = Named v ∷ flat_map (built_key sources) (facts v).bases

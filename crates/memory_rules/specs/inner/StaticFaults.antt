@@ -16,8 +16,9 @@ use Rattle.memory_accesses.specs.declared.columns.AccessKind.TheVariants.{NoAcce
 use Rattle.memory_accesses.specs.declared.columns.AccessKind.TheVariants.{LendsValue, LendsLocation, NamesField, NamesMember, NamesElement}
 use Rattle.memory_accesses.specs.declared.columns.AccessKind.TheVariants.{Loads, Stores, Destroys, Passes}
 use Rattle.memory_accesses.specs.declared.source.Source.{Source}
+use Rattle.memory_accesses.specs.Locations.{do_overlap}
 use Rattle.memory_accesses.specs.Operations.{access_kind_of, addresses_of, deallocates, operations_of}
-use Rattle.memory_rules.specs.Statics.{OperandPair, crossed_with, do_overlap, is_no_slot, lacks, pair, pairs_of, passed_of}
+use Rattle.memory_rules.specs.Statics.{OperandPair, crossed_with, is_no_slot, lacks, pair, pairs_of, passed_of}
 
 -- by its row an instruction does nothing to a location, and deallocates no slot
 abbrev pub is_idle_by : AccessKind → Bool

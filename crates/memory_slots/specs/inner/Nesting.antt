@@ -7,12 +7,13 @@ use Rattle.sil_ast.specs.declared.place.ValueId.{ValueId}
 use Rattle.sil_cfg.specs.Flow.{Flow, items_at, IsEdge, edge_to, edge_item, edge_id}
 use Rattle.reach_engine.specs.declared.scan.Step.{Step}
 use Rattle.reach_engine.specs.declared.scan.Step.TheVariants.{Go, Bad}
-use Rattle.reach_engine.specs.Run.{run}
-use Rattle.path_patterns.specs.Reads.{read_step}
+use Rattle.reach_engine.specs.inner.Run.{run}
+use Rattle.path_patterns.specs.inner.Reads.{read_step}
 use Rattle.memory_accesses.specs.declared.access.Access.{Access}
 use Rattle.memory_accesses.specs.declared.source.Source.{Source}
-use Rattle.memory_slots.specs.Marks.{pair_mark, pair_step}
-use Rattle.memory_slots.specs.Order.{order_step}
+use Rattle.memory_slots.specs.Marks.{pair_mark}
+use Rattle.memory_slots.specs.inner.Automaton.{pair_step}
+use Rattle.memory_slots.specs.inner.Automaton.{order_step}
 use Rattle.memory_slots.specs.Pairs.{IsSlot}
 
 abbrev pub rank_at : List ℕ → ValueId → ℕ

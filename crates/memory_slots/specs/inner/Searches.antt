@@ -8,7 +8,7 @@ use Rattle.reach_engine.specs.inner.Reach.{ReachesFirst, ReachesPoint}
 use Rattle.reach_engine.specs.inner.Search.{IsClean}
 use Rattle.memory_accesses.specs.declared.access.Access.{Access}
 use Rattle.memory_accesses.specs.declared.source.Source.{Source}
-use Rattle.memory_slots.specs.Marks.{pair_step}
+use Rattle.memory_slots.specs.inner.Automaton.{pair_step}
 use Rattle.memory_slots.specs.Pairs.{IsSlot}
 use Rattle.memory_slots.specs.declared.crossing.Crossing.{Crossing}
 use Rattle.memory_slots.specs.Order.{crossing_code}

@@ -6,13 +6,14 @@ use Rattle.sil_cfg.specs.Flow.{numbered, point_of}
 use Rattle.reach_engine.specs.declared.scan.Step.TheVariants.{Go}
 use Rattle.reach_engine.specs.inner.Columns.{AllMoved}
 use Rattle.reach_engine.specs.inner.Reach.{ReachesFirst}
-use Rattle.reach_engine.specs.Run.{run}
+use Rattle.reach_engine.specs.inner.Run.{run}
 use Rattle.reach_engine.specs.inner.Search.{IsClean, IsLeastCode, IsShortest}
 use Rattle.path_checks.specs.declared.entry.Entry.{Entry}
 use Rattle.path_checks.specs.declared.fault.PathFault.{PathFault}
-use Rattle.path_patterns.specs.Reads.{read_step}
-use Rattle.path_patterns.specs.Switch.{mark_step}
-use Rattle.path_checks.specs.Entries.{means, subject_step}
+use Rattle.path_patterns.specs.inner.Reads.{read_step}
+use Rattle.path_patterns.specs.inner.Automaton.{mark_step}
+use Rattle.path_checks.specs.Entries.{means}
+use Rattle.path_checks.specs.inner.Automata.{subject_step}
 
 -- each subject of the chunk is in the state to which these entries take it, and it is marked as bad if they break it
 abbrev pub ArePassed : ℕ → ℕ → ℕ → List Entry → List ℕ → List ℕ → List ℕ → List ℕ → Type 0

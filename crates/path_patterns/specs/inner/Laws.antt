@@ -6,13 +6,14 @@ use Rattle.sil_cfg.specs.declared.item.Item.{Item}
 use Rattle.sil_cfg.specs.Layout.{Layout, item_at}
 use Rattle.sil_cfg.specs.Flow.{Flow, numbered}
 use Rattle.sil_cfg.specs.Items.{flow_of}
-use Rattle.sil_cfg.specs.Build.{IsGraphOf}
+use Rattle.sil_cfg.specs.inner.Build.{IsGraphOf}
 use Rattle.reach_engine.specs.inner.Reach.{ReachesFirst}
 use Rattle.path_patterns.specs.declared.mark.Mark.{Mark}
 use Rattle.path_patterns.specs.Along.{IsKept, Shows}
-use Rattle.path_patterns.specs.Decides.{Decides, item_step}
-use Rattle.path_patterns.specs.Reads.{AgreesWith}
-use Rattle.path_patterns.specs.Switch.{IsInPlace, code_of, mark_step}
+use Rattle.path_patterns.specs.inner.Decides.{Decides, item_step}
+use Rattle.path_patterns.specs.inner.Reads.{AgreesWith}
+use Rattle.path_patterns.specs.Switch.{IsInPlace, code_of}
+use Rattle.path_patterns.specs.inner.Automaton.{mark_step}
 
 abbrev pub IsSwitchDecided : Type 0
 IsSwitchDecided = Decides mark_step IsInPlace code_of

@@ -1,10 +1,10 @@
 -- The marks of a value that is held from a begin to its end, as runs.
-use Rattle.std.specs.Prelude.{◌↔◌, ℕ, List, [], ◌∷◌, ◌++◌, map, replicate, Bool, true, false}
+use Rattle.std.specs.Prelude.{◌≡◌, ◌↔◌, ℕ, List, [], ◌∷◌, ◌++◌, All, filter_map, map, replicate, Bool, true, false, Option, Some, None}
 use Rattle.sil_rules.specs.declared.rule.Rule.{Rule}
 use Rattle.path_patterns.specs.declared.mark.Mark.{Mark}
 use Rattle.path_patterns.specs.Lawful.{AreLawful}
 use Rattle.path_patterns.specs.Marks.{needs_off, needs_off_turns_on, needs_on, needs_on_turns_off}
-use Rattle.path_patterns.specs.Switch.{IsInPlace}
+use Rattle.path_patterns.specs.Switch.{IsInPlace, IsOn}
 
 -- what an item does to the value
 pub data Sort : Type 0 where
@@ -33,3 +33,23 @@ ReadsRuns = (rules : Sort → Rule) (sorts : List Sort) →
 abbrev pub ReadsEndedRuns : Type 0
 ReadsEndedRuns = (rules : Sort → Rule) (left : Rule) (sorts : List Sort) →
     AreLawful IsInPlace (map (held_mark rules) sorts ++ needs_off left ∷ []) ↔ AreRuns true sorts
+
+-- the value is held: it began, and since then it has only been used
+pub record IsHeld (sorts : List Sort) : Type 0 where
+  pub before : List Sort
+  pub since : List Sort
+  pub parts : sorts ≡ before ++ Begin ∷ since
+  pub used : All (λ s. s ≡ Use) since
+
+abbrev pub turned_by : Sort → Option Bool
+turned_by End = Some false
+turned_by Use = None
+turned_by Begin = Some true
+
+-- the marks turn the switch as these begins and ends do; marks that turn nothing may stand between
+abbrev pub TurnAlike : List Mark → List Sort → Type 0
+TurnAlike marks sorts = filter_map (λ m. m.turns) marks ≡ filter_map turned_by sorts
+
+-- then the switch is on just while the value is held
+abbrev pub IsOnWhileHeld : Type 0
+IsOnWhileHeld = (marks : List Mark) (sorts : List Sort) → TurnAlike marks sorts → IsOn marks ↔ IsHeld sorts

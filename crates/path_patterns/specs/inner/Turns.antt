@@ -1,9 +1,10 @@
 -- What a list of marks does to the switch.
 use Rattle.std.specs.Prelude.{◌≡◌, ◌↔◌, ℕ, ◌-◌, ◌<◌, List, [], ◌∷◌, ◌++◌, min, max, Bool, true, false, Option, Some, None}
 use Rattle.reach_engine.specs.declared.scan.Step.TheVariants.{Go}
-use Rattle.reach_engine.specs.Run.{run}
+use Rattle.reach_engine.specs.inner.Run.{run}
 use Rattle.path_patterns.specs.declared.mark.Mark.{Mark}
-use Rattle.path_patterns.specs.Switch.{IsOn, turned, mark_step}
+use Rattle.path_patterns.specs.Switch.{IsOn}
+use Rattle.path_patterns.specs.inner.Automaton.{turned, mark_step}
 
 -- a later turn counts
 abbrev pub later_of : Option Bool → Option Bool → Option Bool

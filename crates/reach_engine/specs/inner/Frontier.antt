@@ -9,7 +9,7 @@ use Rattle.reach_engine.specs.declared.scan.Step.TheVariants.{Go, Bad}
 use Rattle.reach_engine.specs.declared.frontier.Visit.{Visit}
 use Rattle.reach_engine.specs.declared.frontier.Fault.{Fault}
 use Rattle.reach_engine.specs.declared.frontier.Frontier.{Frontier}
-use Rattle.reach_engine.specs.Run.{run}
+use Rattle.reach_engine.specs.inner.Run.{run}
 use Rattle.reach_engine.specs.inner.Table.{mark_at}
 
 -- a fault at least as good as this one is known

@@ -8,7 +8,7 @@ use Rattle.sil_cfg.specs.Flow.{Flow, numbered, point_of}
 use Rattle.sil_cfg.specs.Walk.{IsWalk, last_block, passed, IsTrail}
 use Rattle.reach_engine.specs.declared.scan.Step.{Step}
 use Rattle.reach_engine.specs.declared.scan.Step.TheVariants.{Go, Bad}
-use Rattle.reach_engine.specs.Run.{run}
+use Rattle.reach_engine.specs.inner.Run.{run}
 
 -- the walk enters the block in this state
 pub record Enters (g : Flow ℕ) (f : ℕ → ℕ → Step) (w : List EdgeId) (block state : ℕ) : Type 0 where

@@ -5,7 +5,7 @@ use Rattle.sil_ast.specs.declared.place.EdgeId.{EdgeId}
 use Rattle.sil_cfg.specs.Flow.{Flow, block_count, items_at, IsEdge, edge_to, edge_item, edge_id}
 use Rattle.reach_engine.specs.declared.scan.Step.TheVariants.{Go, Bad}
 use Rattle.reach_engine.specs.declared.scan.Step.{Step}
-use Rattle.reach_engine.specs.Run.{run}
+use Rattle.reach_engine.specs.inner.Run.{run}
 use Rattle.reach_engine.specs.inner.Reach.{Enters, ReachesFirst}
 use Rattle.reach_engine.specs.inner.Search.{IsClean}
 use Rattle.reach_engine.specs.inner.Bits.{bit_in}

@@ -6,7 +6,7 @@ use Rattle.sil_cfg.specs.declared.item.Item.{Item}
 use Rattle.sil_cfg.specs.Layout.{Layout}
 use Rattle.sil_cfg.specs.Flow.{numbered}
 use Rattle.sil_cfg.specs.Items.{flow_of}
-use Rattle.sil_cfg.specs.Build.{AreItems, IsGraphOf}
+use Rattle.sil_cfg.specs.inner.Build.{AreItems, IsGraphOf}
 use Rattle.sil_cfg.specs.Walk.{IsTrail}
 
 -- the numbers of each trail of the graph stand for a trail of the function, along the same walk

@@ -9,7 +9,7 @@ use Rattle.sil_cfg.specs.declared.layout.EdgeFlow.{EdgeFlow}
 use Rattle.sil_cfg.specs.Layout.{BlockLayout}
 use Rattle.sil_cfg.specs.Flow.{edge_id}
 use Rattle.sil_cfg.specs.Items.{own_items, IsItem, IsExit}
-use Rattle.sil_cfg.specs.Build.{AreItems}
+use Rattle.sil_cfg.specs.inner.Build.{AreItems}
 
 -- an item of the block with this number
 abbrev pub IsItemOf : ℕ → Block → Item → Type 0

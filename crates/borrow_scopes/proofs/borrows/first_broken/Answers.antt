@@ -5,7 +5,7 @@ use Rattle.std.specs.declared.alloc.Global.{Global}
 use Rattle.std.specs.declared.vec.Vec.{Vec}
 use Rattle.std.proofs.lemmas.Result.{IfOk-weaker}
 use Rattle.sil_cfg.specs.declared.item.Item.{Item}
-use Rattle.path_patterns.specs.Reads.{AgreesWith}
+use Rattle.path_patterns.specs.inner.Reads.{AgreesWith}
 use Rattle.path_checks.specs.First.{IsFirst}
 use Rattle.path_checks.specs.inner.Shared.{entries_with, is_sharing}
 use Rattle.path_checks.specs.declared.entry.Entry.{Entry}

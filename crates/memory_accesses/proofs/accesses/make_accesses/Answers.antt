@@ -23,12 +23,12 @@ returns c =
     let P : List Access → Type 0 = λ v. OnOk c.add_begins.result (c.add_begins.new.accesses.items ≡ v) in
     subst P
     (all_steps (flat_map ended marks) (mentions_of (item_inst f item) (item_taken f item)) (does_of (item_inst f item))
-    (deallocations_of c.args.m.now (item_inst f item)) (flat_map (made c.args.m.now) (item_defined f item)) (flat_map begun marks)
+    (deallocations_of (item_inst f item)) (flat_map (made c.args.m.now) (item_defined f item)) (flat_map begun marks)
     c.add_ends.new.accesses.items c.add_mentions.new.accesses.items c.add_does.new.accesses.items c.add_deallocations.new.accesses.items c.add_made.new.accesses.items
     (c.in_ok-add_ends.ensures ∙ ap (λ (v : List Access). v ++ flat_map ended marks) c.clear-3.ensures.items)
     (c.in_ok-add_mentions.ensures ∙ ap₂ (λ (o : Option Inst) (v : List Taken). c.add_ends.new.accesses.items ++ mentions_of o v) inst (c.as_slice.ensures.value ∙ taken))
     (c.in_ok-add_does.ensures ∙ ap₂ (λ (o : Option Inst) (v : List Taken). c.add_mentions.new.accesses.items ++ does_among o v) inst (c.as_slice-2.ensures.value ∙ taken)
     ∙ ap (λ v. c.add_mentions.new.accesses.items ++ v) (item_does f item))
-    (c.in_ok-add_deallocations.ensures ∙ ap (λ (o : Option Inst). c.add_does.new.accesses.items ++ deallocations_of c.args.m.now o) inst)
+    (c.in_ok-add_deallocations.ensures ∙ ap (λ (o : Option Inst). c.add_does.new.accesses.items ++ deallocations_of o) inst)
     (c.in_ok-add_made.ensures ∙ ap (λ (v : List ValueId). c.add_deallocations.new.accesses.items ++ flat_map (made c.args.m.now) v) (c.as_slice-3.ensures.value ∙ defined)))
     c.add_begins.ensures

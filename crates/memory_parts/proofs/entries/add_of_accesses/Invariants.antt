@@ -5,4 +5,4 @@ use Rattle.memory_parts.specs.inner.Batches.{joint}
 use Rattle.memory_parts.proofs.entries.add_of_accesses.Given as goal
 
 abbrev pub invariant-loop-access : goal.invariant-loop-access
-invariant-loop-access l = l.entries.items ≡ l.initial.entries.items ++ flat_map (joint l.m (facts_of l.k) l.batch) (take l.access-index l.accesses)
+invariant-loop-access l = l.entries.items ≡ l.initial.entries.items ++ flat_map (joint l.batch.m.now (facts_of l.batch.k.now) l.batch.parts.now) (take l.access-index l.accesses)

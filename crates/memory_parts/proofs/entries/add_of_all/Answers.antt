@@ -4,6 +4,7 @@ use Rattle.memory_parts.proofs.entries.add_of_all.Goals as goal
 
 pub loop-number-preserved : goal.loop-number-preserved
 loop-number-preserved c =
-    joint_grown c.args.m.now (facts_of c.args.k.now) c.args.batch.now c.args.access c.loop-number.number _ c.means.result c.args.entries.now.items c.loop-number.entries.items
+    joint_grown c.args.batch.now.m.now (facts_of c.args.batch.now.k.now) c.args.batch.now.parts.now c.args.access
+    c.loop-number.number _ c.means.result c.args.entries.now.items c.loop-number.entries.items
     c.add_entry.new.entries.items
     c.loop-number-test.true c.loop-number.invariant c.means.ensures c.in_ok-add_entry.ensures

@@ -4,4 +4,4 @@ use Rattle.memory_parts.specs.inner.Batches.{joint}
 use Rattle.memory_parts.proofs.entries.add_of_all.Given as goal
 
 abbrev pub invariant-loop-number : goal.invariant-loop-number
-invariant-loop-number l = l.entries.items ≡ l.initial.entries.items ++ joint l.m (facts_of l.k) (take l.number l.batch) l.access
+invariant-loop-number l = l.entries.items ≡ l.initial.entries.items ++ joint l.batch.m.now (facts_of l.batch.k.now) (take l.number l.batch.parts.now) l.access

@@ -7,7 +7,8 @@ use Rattle.memory_parts.proofs.entries.add_of_each.Goals as goal
 
 pub loop-number-preserved : goal.loop-number-preserved
 loop-number-preserved c =
-    each_more (entry_at c.args.m.now (facts_of c.args.k.now) c.args.batch.now c.args.access) c.args.numbers.now c.loop-number.number-index 0 c.args.entries.now.items c.loop-number.entries.items
+    each_more (entry_at c.args.batch.now.m.now (facts_of c.args.batch.now.k.now) c.args.batch.now.parts.now c.args.access)
+    c.args.numbers.now c.loop-number.number-index 0 c.args.entries.now.items c.loop-number.entries.items
     c.add_entry.new.entries.items
     c.loop-number-test.true c.loop-number.invariant
     (c.in_ok-add_entry.ensures ∙ ap (λ mark. c.loop-number.entries.items ++ entry_if (get_or c.args.numbers.now c.loop-number.number-index 0) mark) c.means_at.ensures)

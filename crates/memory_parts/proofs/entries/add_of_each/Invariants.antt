@@ -5,4 +5,4 @@ use Rattle.memory_parts.specs.inner.Batches.{entry_at}
 use Rattle.memory_parts.proofs.entries.add_of_each.Given as goal
 
 abbrev pub invariant-loop-number : goal.invariant-loop-number
-invariant-loop-number l = l.entries.items ≡ l.initial.entries.items ++ flat_map (entry_at l.m (facts_of l.k) l.batch l.access) (take l.number-index l.numbers)
+invariant-loop-number l = l.entries.items ≡ l.initial.entries.items ++ flat_map (entry_at l.batch.m.now (facts_of l.batch.k.now) l.batch.parts.now l.access) (take l.number-index l.numbers)

@@ -1,6 +1,6 @@
 use Rattle.std.proofs.Common.{ap, ◌∙◌, ◌++◌, [], ◌∷◌, cond}
 use Rattle.std.specs.Prelude.{◌==◌}
-use Rattle.path_patterns.specs.Reads.{accesses_at}
+use Rattle.path_patterns.specs.inner.Reads.{accesses_at}
 use Rattle.memory_parts.proofs.Rows.{row_set}
 use Rattle.memory_parts.proofs.index.add_number.Goals as goal
 

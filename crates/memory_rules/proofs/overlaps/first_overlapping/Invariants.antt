@@ -1,5 +1,5 @@
 use Rattle.std.proofs.Common.{◌≡◌, drop, find}
-use Rattle.memory_rules.specs.Statics.{do_overlap}
+use Rattle.memory_accesses.specs.Locations.{do_overlap}
 use Rattle.memory_rules.proofs.overlaps.first_overlapping.Given as goal
 
 abbrev pub invariant-loop-second : goal.invariant-loop-second

@@ -1,6 +1,6 @@
 use Rattle.std.proofs.Common.{◌≡◌, ◌≤◌, ◌<◌, ℕ, List, length, sym, subst}
 use Rattle.std.specs.Prelude.{Contains}
-use Rattle.path_patterns.specs.Reads.{accesses_at}
+use Rattle.path_patterns.specs.inner.Reads.{accesses_at}
 use Rattle.memory_slots.specs.inner.Touched.{IsRising}
 use Rattle.sil_ast.specs.declared.place.ValueId.{ValueId}
 use Rattle.memory_slots.specs.inner.Touched.{HasTouched}

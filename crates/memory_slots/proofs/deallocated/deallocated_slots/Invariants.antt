@@ -1,7 +1,7 @@
 use Rattle.std.proofs.Common.{◌≢◌, ◌<◌, ℕ, All}
 use Rattle.sil_ast.specs.declared.place.ValueId.{ValueId}
 use Rattle.memory_accesses.specs.declared.access.Access.TheVariants.{Deallocates}
-use Rattle.path_patterns.specs.Reads.{accesses_at}
+use Rattle.path_patterns.specs.inner.Reads.{accesses_at}
 use Rattle.memory_slots.specs.inner.Trust.{IsTrusted}
 use Rattle.memory_slots.proofs.deallocated.deallocated_slots.Given as goal
 

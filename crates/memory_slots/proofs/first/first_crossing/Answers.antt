@@ -3,7 +3,7 @@ use Rattle.std.specs.Prelude.{All, AllPairs, length}
 use Rattle.std.proofs.lemmas.List.{take_all}
 use Rattle.std.proofs.lemmas.List.Elements.{All-from_get_or, All-get_or, All-weaker}
 use Rattle.sil_ast.specs.declared.place.ValueId.{ValueId}
-use Rattle.path_patterns.specs.Reads.{accesses_at}
+use Rattle.path_patterns.specs.inner.Reads.{accesses_at}
 use Rattle.memory_slots.specs.Pairs.{IsSlot}
 use Rattle.memory_slots.specs.inner.Searches.{AreSlots, IsUncrossed}
 use Rattle.memory_slots.proofs.FirstCrossing.{found_first, clean_more, none_first}

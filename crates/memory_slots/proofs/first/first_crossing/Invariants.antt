@@ -1,6 +1,6 @@
 use Rattle.std.proofs.Common.{take}
 use Rattle.std.specs.Prelude.{All}
-use Rattle.path_patterns.specs.Reads.{accesses_at}
+use Rattle.path_patterns.specs.inner.Reads.{accesses_at}
 use Rattle.memory_slots.specs.inner.Searches.{IsUncrossed}
 use Rattle.memory_slots.proofs.first.first_crossing.Given as goal
 

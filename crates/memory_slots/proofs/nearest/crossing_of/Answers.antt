@@ -2,8 +2,8 @@ use Rattle.std.proofs.Common.{subst}
 use Rattle.sil_cfg.specs.Flow.{numbered}
 use Rattle.reach_engine.specs.inner.Reach.{ReachesPoint}
 use Rattle.reach_engine.specs.inner.Search.{IfFault, IsShortest}
-use Rattle.path_patterns.specs.Reads.{accesses_at}
-use Rattle.memory_slots.specs.Marks.{pair_step}
+use Rattle.path_patterns.specs.inner.Reads.{accesses_at}
+use Rattle.memory_slots.specs.inner.Automaton.{pair_step}
 use Rattle.memory_slots.proofs.PairsSearched.{pair_found}
 use Rattle.memory_slots.proofs.nearest.crossing_of.Goals as goal
 

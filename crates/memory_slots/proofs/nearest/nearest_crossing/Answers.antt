@@ -1,6 +1,6 @@
 use Rattle.std.proofs.Common.{subst, arith}
 use Rattle.std.proofs.lemmas.List.{take_all}
-use Rattle.path_patterns.specs.Reads.{accesses_at}
+use Rattle.path_patterns.specs.inner.Reads.{accesses_at}
 use Rattle.memory_slots.specs.inner.Searches.{IsNearest}
 use Rattle.memory_slots.proofs.PairsSearched.{nearest_more}
 use Rattle.memory_slots.proofs.nearest.nearest_crossing.Goals as goal

@@ -1,5 +1,5 @@
 use Rattle.std.proofs.Common.{take}
-use Rattle.path_patterns.specs.Reads.{accesses_at}
+use Rattle.path_patterns.specs.inner.Reads.{accesses_at}
 use Rattle.memory_slots.specs.inner.Searches.{IsNearest}
 use Rattle.memory_slots.proofs.nearest.nearest_crossing.Given as goal
 

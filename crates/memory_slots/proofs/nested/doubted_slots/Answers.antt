@@ -1,4 +1,4 @@
-use Rattle.path_patterns.specs.Reads.{accesses_at}
+use Rattle.path_patterns.specs.inner.Reads.{accesses_at}
 use Rattle.memory_slots.proofs.NestedSlots.{nested_uncrossed}
 use Rattle.memory_slots.proofs.nested.doubted_slots.Goals as goal
 

@@ -1,7 +1,7 @@
 use Rattle.std.proofs.Common.{ℕ, ◌<◌}
 use Rattle.sil_ast.specs.declared.place.ValueId.{ValueId}
 use Rattle.sil_cfg.specs.Flow.{numbered}
-use Rattle.path_patterns.specs.Reads.{accesses_at}
+use Rattle.path_patterns.specs.inner.Reads.{accesses_at}
 use Rattle.memory_slots.specs.inner.Trust.{IsTrusted}
 use Rattle.memory_slots.specs.inner.Nesting.{stack_at, IsBlockNested}
 use Rattle.memory_slots.proofs.nested.follow_blocks.Given as goal

@@ -1,7 +1,7 @@
 use Rattle.std.proofs.Common.{◌≡◌, ℕ, List, [], ◌∷◌, refl, sym, ap, subst}
 use Rattle.sil_ast.specs.declared.place.ValueId.{ValueId}
 use Rattle.sil_cfg.specs.Flow.{edge_item, edge_to, numbered}
-use Rattle.path_patterns.specs.Reads.{accesses_at}
+use Rattle.path_patterns.specs.inner.Reads.{accesses_at}
 use Rattle.memory_slots.specs.inner.Nesting.{AreRising, Meets, Passes, stack_at}
 use Rattle.memory_slots.proofs.NestedSlots.{edge_nested}
 use Rattle.memory_slots.proofs.nested.follow_edge.Goals as goal

@@ -1,7 +1,7 @@
 use Rattle.std.proofs.Common.{sym, arith}
-use Rattle.path_patterns.specs.Reads.{read_step}
+use Rattle.path_patterns.specs.inner.Reads.{read_step}
 use Rattle.path_patterns.proofs.PatternsDecided.{bad_access}
-use Rattle.memory_slots.specs.Order.{order_step}
+use Rattle.memory_slots.specs.inner.Automaton.{order_step}
 use Rattle.memory_slots.specs.Marks.{pair_mark}
 use Rattle.memory_slots.proofs.pair.step_all.Goals as goal
 

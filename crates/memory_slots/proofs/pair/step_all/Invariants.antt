@@ -1,8 +1,8 @@
 use Rattle.std.proofs.Common.{◌≡◌, ◌<◌, take}
 use Rattle.reach_engine.specs.declared.scan.Step.TheVariants.{Go}
-use Rattle.reach_engine.specs.Run.{run}
-use Rattle.path_patterns.specs.Reads.{read_step}
-use Rattle.memory_slots.specs.Order.{order_step}
+use Rattle.reach_engine.specs.inner.Run.{run}
+use Rattle.path_patterns.specs.inner.Reads.{read_step}
+use Rattle.memory_slots.specs.inner.Automaton.{order_step}
 use Rattle.memory_slots.specs.Marks.{pair_mark}
 use Rattle.memory_slots.proofs.pair.step_all.Given as goal
 

@@ -3,7 +3,7 @@ use Rattle.std.proofs.lemmas.Grind.{flat_map-append, take_at_read}
 use Rattle.std.proofs.lemmas.List.{take_all, append-nil}
 use Rattle.std.proofs.lemmas.List.Elements.{All-append}
 use Rattle.sil_ast.specs.declared.place.ValueId.{ValueId}
-use Rattle.path_patterns.specs.Reads.{accesses_at}
+use Rattle.path_patterns.specs.inner.Reads.{accesses_at}
 use Rattle.memory_slots.specs.inner.Chunks.{slots_in}
 use Rattle.memory_slots.specs.inner.Searches.{IsUncrossed}
 use Rattle.memory_slots.specs.declared.chunk.Chunk.{Chunk}

@@ -1,5 +1,5 @@
 use Rattle.std.proofs.Common.{take, All}
-use Rattle.path_patterns.specs.Reads.{accesses_at}
+use Rattle.path_patterns.specs.inner.Reads.{accesses_at}
 use Rattle.memory_slots.specs.inner.Chunks.{slots_in}
 use Rattle.memory_slots.specs.inner.Searches.{IsUncrossed}
 use Rattle.memory_slots.proofs.search.are_uncrossed.Given as goal

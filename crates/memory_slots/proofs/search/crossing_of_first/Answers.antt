@@ -1,6 +1,6 @@
 use Rattle.std.proofs.Common.{List, All, subst}
 use Rattle.sil_ast.specs.declared.place.ValueId.{ValueId}
-use Rattle.path_patterns.specs.Reads.{accesses_at}
+use Rattle.path_patterns.specs.inner.Reads.{accesses_at}
 use Rattle.memory_slots.specs.inner.Searches.{IsUncrossed}
 use Rattle.memory_slots.proofs.search.crossing_of_first.Goals as goal
 

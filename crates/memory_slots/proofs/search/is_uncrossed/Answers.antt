@@ -1,7 +1,7 @@
 use Rattle.std.proofs.Common.{ℕ, ◌<◌, length, get_or, All, sym, subst}
 use Rattle.std.specs.Prelude.{IfOk, IfNone, IsTrue}
 use Rattle.std.proofs.lemmas.List.Elements.{All-from_get_or}
-use Rattle.path_patterns.specs.Reads.{accesses_at}
+use Rattle.path_patterns.specs.inner.Reads.{accesses_at}
 use Rattle.memory_slots.specs.inner.Searches.{IsUncrossed}
 use Rattle.memory_slots.proofs.search.is_uncrossed.Goals as goal
 use Rattle.memory_slots.proofs.search.is_uncrossed.Goals.{in-None, in-Some}

@@ -1,7 +1,7 @@
 use Rattle.std.proofs.Common.{ℕ, List, [], ◌∷◌, sym, subst, take}
 use Rattle.std.proofs.lemmas.Grind.{take_at_read}
 use Rattle.memory_accesses.specs.declared.access.Access.{Access}
-use Rattle.path_patterns.specs.Reads.{accesses_at}
+use Rattle.path_patterns.specs.inner.Reads.{accesses_at}
 use Rattle.memory_slots.specs.inner.Followed.{AreFollowed, ArePassed}
 use Rattle.memory_slots.proofs.StackTops.{passed_item, passed_more}
 use Rattle.memory_slots.proofs.stack.follow_items.Goals as goal

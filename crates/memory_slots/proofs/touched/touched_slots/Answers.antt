@@ -3,7 +3,7 @@ use Rattle.std.specs.declared.vec.Vec.{Vec}
 use Rattle.std.specs.declared.alloc.Global.{Global}
 use Rattle.std.proofs.lemmas.Bool.{cases_eq, cases_lt}
 use Rattle.sil_cfg.proofs.Gets.{length_push}
-use Rattle.path_patterns.specs.Reads.{accesses_at}
+use Rattle.path_patterns.specs.inner.Reads.{accesses_at}
 use Rattle.memory_slots.specs.inner.Touched.{IsRising}
 use Rattle.path_checks.proofs.Accesses.{accesses_there, accesses_past, accesses_kept, accesses_last, accesses_more, accesses_each}
 use Rattle.memory_slots.proofs.Rising.{rising_none}

@@ -1,5 +1,5 @@
 use Rattle.std.proofs.Common.{◌≡◌, ℕ, ◌<◌, length}
-use Rattle.path_patterns.specs.Reads.{accesses_at}
+use Rattle.path_patterns.specs.inner.Reads.{accesses_at}
 use Rattle.memory_slots.specs.inner.Touched.{IsRising}
 use Rattle.memory_slots.specs.inner.Touched.{HasTouched}
 use Rattle.memory_slots.proofs.touched.touched_slots.Given as goal

@@ -1,6 +1,6 @@
 use Rattle.std.proofs.Common.{sym, arith}
-use Rattle.path_patterns.specs.Reads.{read_step}
-use Rattle.path_patterns.specs.Switch.{mark_step}
+use Rattle.path_patterns.specs.inner.Reads.{read_step}
+use Rattle.path_patterns.specs.inner.Automaton.{mark_step}
 use Rattle.path_patterns.proofs.PatternsDecided.{bad_access}
 use Rattle.path_checks.specs.Entries.{means}
 use Rattle.path_checks.proofs.chunk.step_all.Goals as goal

@@ -1,8 +1,8 @@
 use Rattle.std.proofs.Common.{◌≡◌, ◌<◌, take}
 use Rattle.reach_engine.specs.declared.scan.Step.TheVariants.{Go}
-use Rattle.reach_engine.specs.Run.{run}
-use Rattle.path_patterns.specs.Reads.{read_step}
-use Rattle.path_patterns.specs.Switch.{mark_step}
+use Rattle.reach_engine.specs.inner.Run.{run}
+use Rattle.path_patterns.specs.inner.Reads.{read_step}
+use Rattle.path_patterns.specs.inner.Automaton.{mark_step}
 use Rattle.path_checks.specs.Entries.{means}
 use Rattle.path_checks.proofs.chunk.step_all.Given as goal
 

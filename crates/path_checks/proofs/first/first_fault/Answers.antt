@@ -4,10 +4,10 @@ use Rattle.std.proofs.lemmas.List.Elements.{All-weaker}
 use Rattle.sil_cfg.specs.declared.item.Item.{Item}
 use Rattle.sil_cfg.specs.Flow.{numbered}
 use Rattle.reach_engine.specs.inner.Search.{IsClean}
-use Rattle.path_patterns.specs.Reads.{AgreesWith}
+use Rattle.path_patterns.specs.inner.Reads.{AgreesWith}
 use Rattle.path_checks.specs.declared.entry.Entry.{Entry}
 use Rattle.path_checks.specs.declared.fault.PathFault.{PathFault}
-use Rattle.path_checks.specs.Entries.{subject_step}
+use Rattle.path_checks.specs.inner.Automata.{subject_step}
 use Rattle.path_checks.specs.inner.Chunks.{IsFirstOfChunk}
 use Rattle.path_checks.specs.inner.Shared.{entries_among, entries_with, shared_from}
 use Rattle.path_checks.proofs.FirstShown.{absent_clean, nothing_shown, chunk_fault_first}

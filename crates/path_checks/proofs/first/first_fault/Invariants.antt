@@ -1,7 +1,7 @@
 use Rattle.std.proofs.Common.{ℕ, ◌-◌, ◌<◌, ◌≤◌}
 use Rattle.sil_cfg.specs.Flow.{numbered}
 use Rattle.reach_engine.specs.inner.Search.{IsClean}
-use Rattle.path_checks.specs.Entries.{subject_step}
+use Rattle.path_checks.specs.inner.Automata.{subject_step}
 use Rattle.path_checks.specs.inner.Shared.{entries_with}
 use Rattle.path_checks.proofs.first.first_fault.Given as goal
 

@@ -9,7 +9,7 @@ use Rattle.reach_engine.specs.declared.scan.Step.{Step}
 use Rattle.reach_engine.specs.declared.together.Broken.{Broken}
 use Rattle.reach_engine.specs.inner.Reach.{ReachesFirst}
 use Rattle.reach_engine.specs.inner.Search.{IsClean, IsLeastCode, IsShortest}
-use Rattle.path_checks.specs.Entries.{subject_step}
+use Rattle.path_checks.specs.inner.Automata.{subject_step}
 use Rattle.path_checks.specs.declared.entry.Entry.{Entry}
 use Rattle.path_checks.specs.inner.Shared.{entries_among}
 use Rattle.path_checks.proofs.RulesShown.{reached_rule}

@@ -2,7 +2,7 @@ use Rattle.std.proofs.Common.{◌≡◌, ◌≤◌, refl, subst, length, arith, 
 use Rattle.std.specs.List.{slice_get}
 use Rattle.std.proofs.lemmas.Option.{slice_get_read}
 use Rattle.sil_cfg.specs.Flow.{numbered, items_at, edge_count}
-use Rattle.reach_engine.specs.Run.{BreaksAt, run}
+use Rattle.reach_engine.specs.inner.Run.{BreaksAt, run}
 use Rattle.reach_engine.specs.declared.scan.Step.TheVariants.{Go}
 use Rattle.reach_engine.proofs.EdgesFollowed.{fault_either, block_fault, visit_broken, visit_passed, done_more, kept_there}
 use Rattle.reach_engine.proofs.FrontierKept.{front_note, front_next}

@@ -6,7 +6,7 @@ use Rattle.sil_ast.specs.declared.function.Block.{Block}
 use Rattle.sil_ast.specs.declared.function.Function.{Function}
 use Rattle.sil_cfg.specs.Layout.{BlockLayout, block_of}
 use Rattle.sil_cfg.specs.inner.Laying.{AreLaid}
-use Rattle.sil_cfg.specs.Build.{HasGraph, IsBlockLinked}
+use Rattle.sil_cfg.specs.inner.Build.{HasGraph, IsBlockLinked}
 use Rattle.sil_cfg.proofs.Blocks.{all_get, laid_more, laid_graph, laid_sound}
 use Rattle.sil_cfg.proofs.build.build_blocks.Goals as goal
 

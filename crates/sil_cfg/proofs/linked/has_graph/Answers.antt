@@ -3,7 +3,7 @@ use Rattle.std.specs.Prelude.{◌==◌}
 use Rattle.std.proofs.lemmas.List.{take_all}
 use Rattle.std.proofs.lemmas.List.Elements.{All-more}
 use Rattle.sil_ast.specs.declared.function.Block.{Block}
-use Rattle.sil_cfg.specs.Build.{IsBlockLinked}
+use Rattle.sil_cfg.specs.inner.Build.{IsBlockLinked}
 use Rattle.sil_cfg.proofs.linked.has_graph.Goals as goal
 
 some_there : (n : ℕ) → (n == 0) ≡ false → 0 < n

@@ -3,7 +3,7 @@ use Rattle.std.specs.Prelude.{Contains}
 use Rattle.std.specs.List.Sorted.{IsStrictlyIncreasing}
 use Rattle.std.specs.declared.alloc.Global.{Global}
 use Rattle.std.specs.declared.vec.Vec.{Vec}
-use Rattle.path_patterns.specs.Reads.{accesses_at}
+use Rattle.path_patterns.specs.inner.Reads.{accesses_at}
 use Rattle.path_checks.proofs.Accesses.{accesses_there}
 use Rattle.memory_accesses.specs.declared.access.Access.{Access}
 use Rattle.memory_slots.specs.inner.Touched.{has_slot}

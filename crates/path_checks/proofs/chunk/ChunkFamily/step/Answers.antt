@@ -1,10 +1,10 @@
 use Rattle.std.proofs.Common.{ℕ, ◌+◌, ◌++◌, List, sym, ap, ap₂, ◌∙◌}
 use Rattle.reach_engine.specs.declared.scan.Step.{Step}
 use Rattle.reach_engine.specs.declared.scan.Step.TheVariants.{Go}
-use Rattle.reach_engine.specs.Run.{run}
+use Rattle.reach_engine.specs.inner.Run.{run}
 use Rattle.reach_engine.proofs.Runs.{run_join, run_end_bad}
-use Rattle.path_patterns.specs.Reads.{read_step}
-use Rattle.path_patterns.specs.Switch.{mark_step}
+use Rattle.path_patterns.specs.inner.Reads.{read_step}
+use Rattle.path_patterns.specs.inner.Automaton.{mark_step}
 use Rattle.path_checks.specs.declared.entry.Entry.{Entry}
 use Rattle.path_checks.specs.Entries.{means}
 use Rattle.path_checks.specs.inner.Shared.{if_sharing, is_sharing}

@@ -2,7 +2,7 @@
 use Rattle.std.specs.Prelude.{◌≡◌, ℕ, List}
 use Rattle.reach_engine.specs.declared.scan.Step.{Step}
 use Rattle.reach_engine.specs.declared.scan.Step.TheVariants.{Go, Bad}
-use Rattle.reach_engine.specs.Run.{run}
+use Rattle.reach_engine.specs.inner.Run.{run}
 
 -- the step goes on where the mark is in place, and else breaks with the mark's code
 abbrev pub Judges : Step → Type 0 → ℕ → Type 0
