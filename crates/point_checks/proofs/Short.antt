@@ -3,7 +3,7 @@ use Rattle.std.proofs.Common.{ℕ, zero, suc, ◌<◌, ◌≤◌, ◌^◌, List,
 use Rattle.sil_ast.specs.declared.function.Block.{Block}
 use Rattle.sil_ast.specs.declared.function.Function.{Function}
 use Rattle.numbered_form.specs.Insts.{insts_in, insts_of}
-use Rattle.numbered_form.specs.Limits.{IsFunctionInLimits}
+use Rattle.numbered_form.specs.inner.Limits.{IsFunctionInLimits}
 use Rattle.numbered_form.specs.Lists.{Each}
 use Rattle.point_checks.specs.inner.Numbered.{IsOfNumberedModule}
 use Rattle.point_checks.proofs.Among.{Among, among_contained}

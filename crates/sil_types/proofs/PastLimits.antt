@@ -1,9 +1,10 @@
 -- A module mentions a type past either limit where it mentions one past the limit on depth, or one past the limit on leaves.
 use Rattle.std.proofs.Common.{◌≡◌, List, [], ◌∷◌, refl, sym, ap, ◌∙◌, Bool, true, false}
 use Rattle.std.specs.Prelude.{◌||◌, Option, Some, None, not, nat_le, min, slice_get, unwrap_or}
-use Rattle.std.proofs.Common.{ℕ, zero, suc, ◌<◌, map, arith}
+use Rattle.std.proofs.Common.{ℕ, zero, suc, ◌+◌, ◌<◌, map, arith}
 use Rattle.std.proofs.lemmas.Bool.Decides.{leb_tells}
 use Rattle.std.specs.List.{list_any}
+use Rattle.sil_rules.specs.declared.limits.TheConstants.{DEPTH, LEAVES}
 use Rattle.sil_ast.specs.declared.module.Module.{Module}
 use Rattle.sil_ast.specs.declared.type_name.TypeName.TheVariants.{Int, Named}
 use Rattle.numbered_form.specs.Names.{Name}
@@ -53,10 +54,10 @@ le_counted : (n most limit : ℕ) → limit < most → nat_le (min n most) limit
 le_counted n most limit h = grind (arith, leb_tells)
 
 past_counted : (what : Limit) (m : Measure) → is_past what (capped m) ≡ is_past what m
-past_counted Depth m = ap not (le_counted m.depth 33 32 (omega arith))
-past_counted Leaves m = ap not (le_counted m.leaves 65 64 (omega arith))
-past_counted Either m = ap (λ b. not b || not (nat_le (min m.leaves 65) 64)) (le_counted m.depth 33 32 (omega arith))
-    ∙ ap (λ b. not (nat_le m.depth 32) || not b) (le_counted m.leaves 65 64 (omega arith))
+past_counted Depth m = ap not (le_counted m.depth (DEPTH + 1) DEPTH (omega arith))
+past_counted Leaves m = ap not (le_counted m.leaves (LEAVES + 1) LEAVES (omega arith))
+past_counted Either m = ap (λ b. not b || not (nat_le (min m.leaves (LEAVES + 1)) LEAVES)) (le_counted m.depth (DEPTH + 1) DEPTH (omega arith))
+    ∙ ap (λ b. not (nat_le m.depth DEPTH) || not b) (le_counted m.leaves (LEAVES + 1) LEAVES (omega arith))
 
 unmeasured_within : (what : Limit) → is_past what unmeasured ≡ false
 unmeasured_within Depth = refl

@@ -1,11 +1,12 @@
 //! Makes a module's type table, or says why it has none.
 
 ghost use Rattle.std.specs.Prelude.{◌≡◌, ◌||◌, ◌+◌, ◌<◌, ◌^◌, ℕ, OnOk, IfOk, IfErr, length, true};
-ghost use Rattle.numbered_form.specs.NumberedForm.{IsNumbered};
+ghost use Rattle.numbered_form.specs.inner.NumberedForm.{IsNumbered};
 ghost use Rattle.type_definitions.specs.Declarations.{declarations_of};
 ghost use Rattle.type_definitions.specs.Rules.{AreDeclarationsOf, HoldsItself, InLimits, exceeds_depth, exceeds_leaves};
 ghost use Rattle.type_item_rules.specs.Faults.{BreaksIn};
 ghost use Rattle.type_item_rules.specs.declared.by_item.ItemFault.{ItemFault};
+ghost use Rattle.type_measures.specs.inner.ByParts.{AreByParts};
 ghost use Rattle.sil_types.specs.Refusals.{IsRefusal};
 
 use crate::items::check_items;
@@ -26,6 +27,7 @@ impl TypeTable {
     pub fn build(alloc: Global, m: &Module) -> Result<TypeTable, TypeRefusal>
         requires { IsNumbered m.now }
         ensures ok { IfOk result (λ table. AreDeclarationsOf table m.now) }
+        ensures measures { IfOk result AreByParts }
         ensures err { IfErr result (IsRefusal m.now) }
     {
         let declarations = DeclarationTable::build(alloc, m)?;

@@ -15,8 +15,8 @@ pub mod shapes;
 mod table;
 mod wrong;
 
-pub use parts::{args_of, written};
+pub use parts::{args_of, is_external, written};
 pub use refusal::TypeRefusal;
-pub use same::{same_signature, same_type, same_types};
+pub use same::{is_unowned_of, is_weak_of, same_signature, same_type, same_types};
 pub use table::TypeTable;
 pub use type_declarations::{FieldRef, PayloadRef};

@@ -1,11 +1,13 @@
-//! What rules read of an instruction and of a block: the type written at an operand, and the arguments of a block.
+//! What rules read of an instruction, of a block and of a function: the type written at an operand, the arguments of a block, and
+//! whether there is a body.
 
 ghost use Rattle.std.specs.Prelude.{◌≡◌};
 ghost use Rattle.std.specs.Option.{option_copied};
 ghost use Rattle.sil_types.specs.Typing.EdgeRules as edges;
 ghost use Rattle.sil_types.specs.Typing.RowTypes as rows;
+ghost use Rattle.sil_types.specs.Typing.SignatureRules as signatures;
 
-use sil_ast::{BlockArg, Function, Inst, TypeName};
+use sil_ast::{BlockArg, Form, Function, Inst, TypeName};
 
 /// The type written at the operand with this index.
 pub fn written(inst: &Inst, index: usize) -> Option<&TypeName>
@@ -24,5 +26,15 @@ pub fn args_of(f: &Function, block: usize) -> &[BlockArg]
     match f.blocks.get(block) {
         Some(block) => block.args.as_slice(),
         None => &[],
+    }
+}
+
+/// Whether a function of this form has no body.
+pub fn is_external(form: Form) -> bool
+    ensures { result ≡ signatures.is_external form }
+{
+    match form {
+        Form::External => true,
+        Form::Ossa | Form::Lowered => false,
     }
 }

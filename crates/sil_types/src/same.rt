@@ -1,6 +1,7 @@
 //! Whether two types, or two signatures, are the same.
 
 ghost use Rattle.std.specs.Prelude.{◌≡◌, map};
+ghost use Rattle.sil_ast.specs.declared.type_name.TypeName.TheVariants as type;
 ghost use Rattle.sil_types.specs.Typing.Same as same;
 ghost use Rattle.sil_types.specs.Typing.Same.{all_pairs, applied};
 
@@ -41,6 +42,26 @@ pub fn same_types(a: &[TypeName], b: &[TypeName]) -> bool
         }
     }
     true
+}
+
+/// Whether a type is weak storage of another one.
+pub fn is_weak_of(ty: &TypeName, inner: &TypeName) -> bool
+    ensures { result ≡ same.is_same_type ty.now (type.Weak inner.now) }
+{
+    match ty {
+        TypeName::Weak(own) => same_type(own.get(), inner),
+        _ => false,
+    }
+}
+
+/// Whether a type is unowned storage of another one.
+pub fn is_unowned_of(ty: &TypeName, inner: &TypeName) -> bool
+    ensures { result ≡ same.is_same_type ty.now (type.Unowned inner.now) }
+{
+    match ty {
+        TypeName::Unowned(own) => same_type(own.get(), inner),
+        _ => false,
+    }
 }
 
 fn same_convention(a: Convention, b: Convention) -> bool

@@ -6,9 +6,9 @@ use Rattle.sil_ast.specs.declared.function.Function.{Function}
 use Rattle.sil_ast.specs.declared.inst.Inst.{Inst}
 use Rattle.sil_ast.specs.declared.module.Module.{Module}
 use Rattle.numbered_form.specs.Insts.{insts_of, insts_in, EachInBlock}
-use Rattle.numbered_form.specs.Limits.{IsFunctionInLimits}
+use Rattle.numbered_form.specs.inner.Limits.{IsFunctionInLimits}
 use Rattle.numbered_form.specs.Lists.{Each}
-use Rattle.numbered_form.specs.NumberedForm.{IsNumbered}
+use Rattle.numbered_form.specs.inner.NumberedForm.{IsNumbered}
 use Rattle.numbered_form.specs.Numbering.{IsEdgeInRange, IsFunctionNumbered, IsInstInRange, values_of}
 use Rattle.sil_rules.specs.declared.limits.TheConstants.{BLOCKS, INSTRUCTIONS}
 use Rattle.type_check.specs.inner.Body.{AreEdgesInRange, HasBodyInRange, IsBlockInRange}

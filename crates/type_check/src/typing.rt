@@ -1,9 +1,9 @@
 //! Decides whether a module is typed.
 
 ghost use Rattle.std.specs.Prelude.{◌≡◌, ◌+◌, ◌<◌, ◌^◌, length, IfOk, IfErr, OnOk};
-ghost use Rattle.numbered_form.specs.Limits.{IsDeclInLimits};
+ghost use Rattle.numbered_form.specs.inner.Limits.{IsDeclInLimits};
 ghost use Rattle.numbered_form.specs.Lists.{Each};
-ghost use Rattle.numbered_form.specs.NumberedForm.{IsNumbered};
+ghost use Rattle.numbered_form.specs.inner.NumberedForm.{IsNumbered};
 ghost use Rattle.sil_types.specs.Typing.FormRules as forms;
 ghost use Rattle.sil_types.specs.Typing.Typed.{Typed};
 ghost use Rattle.type_check.specs.inner.Body.{HasBodyInRange};

@@ -3,7 +3,7 @@
 ghost use Rattle.std.specs.Prelude.{◌≡◌, ◌++◌, map, length, IfOk, OnOk};
 ghost use Rattle.numbered_form.specs.Names.{AreMembersOnce, AreOnce, case_name, class_name, decl_name, field_name, member_names};
 ghost use Rattle.numbered_form.specs.Lists.{Each};
-ghost use Rattle.numbered_form.specs.NumberedForm.{IsNumbered};
+ghost use Rattle.numbered_form.specs.inner.NumberedForm.{IsNumbered};
 ghost use Rattle.type_definitions.specs.Declarations.{declarations_of, integer_struct, swift_structs};
 
 use crate::name_index::NameIndex;

@@ -1,4 +1,4 @@
--- Measures of types go by what is known of the names in them, just past the limits.
+-- Measures of types go by what is known of the names in them: seen exactly, and just past the limits.
 use Rattle.std.proofs.Common.{◌≡◌, ℕ, ◌+◌, List, [], ◌∷◌, ◌++◌, map, length, Contains, refl, sym, ap, ◌∙◌, subst, arith}
 use Rattle.std.specs.List.{flat_map}
 use Rattle.std.specs.Prelude.{min, true, false}
@@ -14,6 +14,7 @@ use Rattle.type_definitions.specs.Measures.{measure_with, measure_over, measure_
 use Rattle.type_definitions.specs.declared.measure.Measure.{Measure}
 use Rattle.type_definitions.specs.Mentions.{together, target_of, target_at}
 use Rattle.type_measures.specs.inner.Gathered.{capped, gathered, as_members, as_payloads}
+use Rattle.type_measures.specs.declared.gathered.TheConstants.{MOST_DEPTH}
 use Rattle.type_measures.proofs.Gathering.{gathered_same, members_capped, payloads_capped, storage_capped}
 
 -- the names of a type, by its form
@@ -61,61 +62,79 @@ module _ (known : Name → Measure) where
   pub measure-Address : (t : TypeName) → measure_with known (Address t) ≡ measure_with known t
   measure-Address t = ap (measure_with known) (sym (rolls-Address t)) ∙ fold-roll-TypeName Measure (measure_over known) (TypeName-F.Address t)
 
-members_same : (ms ns : List Measure) → map capped ms ≡ map capped ns → capped (of_members ms) ≡ capped (of_members ns)
-members_same ms ns e = sym (members_capped ms) ∙ ap as_members (gathered_same ms ns e) ∙ members_capped ns
+-- a way to see measures by which those of wholes go by those of their parts
+pub record GoesByParts (seen : Measure → Measure) : Type 0 where
+  pub members : (ms ns : List Measure) → map seen ms ≡ map seen ns → seen (of_members ms) ≡ seen (of_members ns)
+  pub payloads : (ms ns : List Measure) → map seen ms ≡ map seen ns → seen (of_payloads ms) ≡ seen (of_payloads ns)
+  pub storage : (m n : Measure) → seen m ≡ seen n → seen (of_storage m) ≡ seen (of_storage n)
 
-payloads_same : (ms ns : List Measure) → map capped ms ≡ map capped ns → capped (of_payloads ms) ≡ capped (of_payloads ns)
-payloads_same ms ns e = sym (payloads_capped ms) ∙ ap as_payloads (gathered_same ms ns e) ∙ payloads_capped ns
+pub past_limits : GoesByParts capped
+past_limits = record {
+  members = λ ms ns e. sym (members_capped ms) ∙ ap as_members (gathered_same ms ns e) ∙ members_capped ns;
+  payloads = λ ms ns e. sym (payloads_capped ms) ∙ ap as_payloads (gathered_same ms ns e) ∙ payloads_capped ns;
+  storage = λ m n e. sym (storage_capped m) ∙ ap (λ (c : Measure). measured false 1 (min (c.depth + 1) MOST_DEPTH)) e ∙ storage_capped n;
+}
 
-storage_same : (m n : Measure) → capped m ≡ capped n → capped (of_storage m) ≡ capped (of_storage n)
-storage_same m n e = sym (storage_capped m) ∙ ap (λ (c : Measure). measured false 1 (min (c.depth + 1) 33)) e ∙ storage_capped n
+abbrev pub itself_seen : Measure → Measure
+itself_seen m = m
 
-module _ (a b : Name → Measure) where
-  -- both know the same of these names, just past the limits
+all_seen : (ms : List Measure) → map itself_seen ms ≡ ms
+all_seen [] = refl
+all_seen (m ∷ ms) = ap (λ rest. m ∷ rest) (all_seen ms)
+
+pub exactly : GoesByParts itself_seen
+exactly = record {
+  members = λ ms ns e. ap of_members (sym (all_seen ms) ∙ e ∙ all_seen ns);
+  payloads = λ ms ns e. ap of_payloads (sym (all_seen ms) ∙ e ∙ all_seen ns);
+  storage = λ m n e. ap of_storage e;
+}
+
+module _ (seen : Measure → Measure) (parts : GoesByParts seen) (a b : Name → Measure) where
+  -- both know the same of these names
   abbrev Agree : List Name → Type 0
-  Agree names = (n : Name) → Contains names n → capped (a n) ≡ capped (b n)
+  Agree names = (n : Name) → Contains names n → seen (a n) ≡ seen (b n)
 
   abbrev AgreeOn : TypeName → Type 0
-  AgreeOn t = Agree (names_in t) → capped (measure_with a t) ≡ capped (measure_with b t)
+  AgreeOn t = Agree (names_in t) → seen (measure_with a t) ≡ seen (measure_with b t)
 
-  on_names : (t u : TypeName) → names_in u ≡ names_in t → AgreeOn t → Agree (names_in u) → capped (measure_with a t) ≡ capped (measure_with b t)
+  on_names : (t u : TypeName) → names_in u ≡ names_in t → AgreeOn t → Agree (names_in u) → seen (measure_with a t) ≡ seen (measure_with b t)
   on_names t u e h agree = h (subst Agree e agree)
 
   on-Int : (width : ℕ) → AgreeOn (Int width)
-  on-Int width agree = ap capped (measure-Int a width) ∙ sym (ap capped (measure-Int b width))
+  on-Int width agree = ap seen (measure-Int a width) ∙ sym (ap seen (measure-Int b width))
 
   on-Named : (n : Name) → AgreeOn (Named n)
-  on-Named n agree = ap capped (measure-Named a n) ∙ agree n (subst (λ names. Contains names n) (sym (names-Named n)) (0, omega arith, refl)) ∙ sym (ap capped (measure-Named b n))
+  on-Named n agree = ap seen (measure-Named a n) ∙ agree n (subst (λ names. Contains names n) (sym (names-Named n)) (0, omega arith, refl)) ∙ sym (ap seen (measure-Named b n))
 
   on-Optional : (t : TypeName) → AgreeOn t → AgreeOn (Optional t)
   on-Optional t h agree =
-      ap capped (measure-Optional a t)
-      ∙ payloads_same (measure_with a t ∷ []) (measure_with b t ∷ []) (ap (λ m. m ∷ []) (on_names t (Optional t) (names-Optional t) h agree))
-      ∙ sym (ap capped (measure-Optional b t))
+      ap seen (measure-Optional a t)
+      ∙ parts.payloads (measure_with a t ∷ []) (measure_with b t ∷ []) (ap (λ m. m ∷ []) (on_names t (Optional t) (names-Optional t) h agree))
+      ∙ sym (ap seen (measure-Optional b t))
 
   on-Weak : (t : TypeName) → AgreeOn t → AgreeOn (Weak t)
-  on-Weak t h agree = ap capped (measure-Weak a t) ∙ storage_same (measure_with a t) (measure_with b t) (on_names t (Weak t) (names-Weak t) h agree) ∙ sym (ap capped (measure-Weak b t))
+  on-Weak t h agree = ap seen (measure-Weak a t) ∙ parts.storage (measure_with a t) (measure_with b t) (on_names t (Weak t) (names-Weak t) h agree) ∙ sym (ap seen (measure-Weak b t))
 
   on-Unowned : (t : TypeName) → AgreeOn t → AgreeOn (Unowned t)
-  on-Unowned t h agree = ap capped (measure-Unowned a t) ∙ storage_same (measure_with a t) (measure_with b t) (on_names t (Unowned t) (names-Unowned t) h agree) ∙ sym (ap capped (measure-Unowned b t))
+  on-Unowned t h agree = ap seen (measure-Unowned a t) ∙ parts.storage (measure_with a t) (measure_with b t) (on_names t (Unowned t) (names-Unowned t) h agree) ∙ sym (ap seen (measure-Unowned b t))
 
   on-Address : (t : TypeName) → AgreeOn t → AgreeOn (Address t)
-  on-Address t h agree = ap capped (measure-Address a t) ∙ on_names t (Address t) (names-Address t) h agree ∙ sym (ap capped (measure-Address b t))
+  on-Address t h agree = ap seen (measure-Address a t) ∙ on_names t (Address t) (names-Address t) h agree ∙ sym (ap seen (measure-Address b t))
 
   module _ {X : Type 0} (type_of : X → TypeName) (agrees : (x : X) → AgreeOn (type_of x)) where
-    on_all : (xs : List X) → Agree (flat_map itself (map names_in (map type_of xs))) → map capped (map (measure_with a) (map type_of xs)) ≡ map capped (map (measure_with b) (map type_of xs))
+    on_all : (xs : List X) → Agree (flat_map itself (map names_in (map type_of xs))) → map seen (map (measure_with a) (map type_of xs)) ≡ map seen (map (measure_with b) (map type_of xs))
     on_all [] agree = refl
     on_all (x ∷ xs) agree =
         let behind = flat_map itself (map names_in (map type_of xs)) in
         let here = agrees x (λ n c. agree n (Contains-append_left (names_in (type_of x)) behind n c)) in
         let rest = on_all xs (λ n c. agree n (Contains-append_right (names_in (type_of x)) behind n c)) in
-        ap (λ m. m ∷ map capped (map (measure_with a) (map type_of xs))) here ∙ ap (λ ms. capped (measure_with b (type_of x)) ∷ ms) rest
+        ap (λ m. m ∷ map seen (map (measure_with a) (map type_of xs))) here ∙ ap (λ ms. seen (measure_with b (type_of x)) ∷ ms) rest
 
     on-Tuple : (xs : List X) → AgreeOn (Tuple (map type_of xs))
     on-Tuple xs agree =
-        ap capped (measure-Tuple a (map type_of xs))
-        ∙ members_same (map (measure_with a) (map type_of xs)) (map (measure_with b) (map type_of xs)) (on_all xs (subst Agree (names-Tuple (map type_of xs)) agree))
-        ∙ sym (ap capped (measure-Tuple b (map type_of xs)))
+        ap seen (measure-Tuple a (map type_of xs))
+        ∙ parts.members (map (measure_with a) (map type_of xs)) (map (measure_with b) (map type_of xs)) (on_all xs (subst Agree (names-Tuple (map type_of xs)) agree))
+        ∙ sym (ap seen (measure-Tuple b (map type_of xs)))
 
     on_layer : (y : TypeName-F X) → AgreeOn (roll-TypeName (map-TypeName X TypeName type_of y))
     on_layer (TypeName-F.Int width) = subst AgreeOn (sym (rolls-Int width)) (on-Int width)
@@ -130,19 +149,19 @@ module _ (a b : Name → Measure) where
   pub type_agrees : (t : TypeName) → AgreeOn t
   type_agrees = ind-TypeName AgreeOn (λ x y is. subst (λ z. AgreeOn (roll-TypeName z)) is (on_layer (λ e. e.0) (λ e. e.1) y))
 
-  all_agree : (ts : List TypeName) → Agree (flat_map names_in ts) → map capped (map (measure_with a) ts) ≡ map capped (map (measure_with b) ts)
+  all_agree : (ts : List TypeName) → Agree (flat_map names_in ts) → map seen (map (measure_with a) ts) ≡ map seen (map (measure_with b) ts)
   all_agree [] agree = refl
   all_agree (t ∷ ts) agree =
       let here = type_agrees t (λ n c. agree n (Contains-append_left (names_in t) (flat_map names_in ts) n c)) in
       let rest = all_agree ts (λ n c. agree n (Contains-append_right (names_in t) (flat_map names_in ts) n c)) in
-      ap (λ m. m ∷ map capped (map (measure_with a) ts)) here ∙ ap (λ ms. capped (measure_with b t) ∷ ms) rest
+      ap (λ m. m ∷ map seen (map (measure_with a) ts)) here ∙ ap (λ ms. seen (measure_with b t) ∷ ms) rest
 
   -- of a declared type
-  pub decl_agrees : (d : Decl) → Agree (held_names d) → capped (measure_decl a d) ≡ capped (measure_decl b d)
+  pub decl_agrees : (d : Decl) → Agree (held_names d) → seen (measure_decl a d) ≡ seen (measure_decl b d)
   decl_agrees (decl.Struct name fields) agree =
-      members_same (map (measure_with a) (held_types (decl.Struct name fields))) (map (measure_with b) (held_types (decl.Struct name fields))) (all_agree (held_types (decl.Struct name fields)) agree)
+      parts.members (map (measure_with a) (held_types (decl.Struct name fields))) (map (measure_with b) (held_types (decl.Struct name fields))) (all_agree (held_types (decl.Struct name fields)) agree)
   decl_agrees (decl.Enum name cases) agree =
-      payloads_same (map (measure_with a) (held_types (decl.Enum name cases))) (map (measure_with b) (held_types (decl.Enum name cases))) (all_agree (held_types (decl.Enum name cases)) agree)
+      parts.payloads (map (measure_with a) (held_types (decl.Enum name cases))) (map (measure_with b) (held_types (decl.Enum name cases))) (all_agree (held_types (decl.Enum name cases)) agree)
   decl_agrees (decl.Class name fields) agree = refl
 
 -- no type or several are a tuple

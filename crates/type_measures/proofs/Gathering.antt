@@ -11,6 +11,7 @@ use Rattle.type_definitions.specs.Measures.{all_trivial, all_leaves, most_leaves
 use Rattle.type_definitions.specs.declared.measure.Measure.{Measure}
 use Rattle.type_measures.specs.declared.gathered.Gathered.{Gathered}
 use Rattle.type_measures.specs.inner.Gathered.{capped, gathered, with_member, as_members, as_payloads}
+use Rattle.type_measures.specs.declared.gathered.TheConstants.{MOST_DEPTH, MOST_LEAVES}
 
 all_leaves-push : (ms : List Measure) (m : Measure) → all_leaves (ms ++ m ∷ []) ≡ all_leaves ms + m.leaves
 all_leaves-push ms m = ap sum (map-append leaves_in ms (m ∷ [])) ∙ sum_by-append (λ n. n) (map leaves_in ms) (m.leaves ∷ []) ∙ omega arith
@@ -38,7 +39,7 @@ make_same a a' b b' c c' d d' ea eb ec ed = ap (λ x. make x b c d) ea ∙ ap (�
 measured_same : (a : Bool) (b b' c c' : ℕ) → b ≡ b' → c ≡ c' → measured a b c ≡ measured a b' c'
 measured_same a b b' c c' eb ec = ap (λ x. measured a x c) eb ∙ ap (λ x. measured a b' x) ec
 
-sum_capped : (n k all : ℕ) → all ≡ n + k → min (min n 65 + min k 65) 65 ≡ min all 65
+sum_capped : (n k all : ℕ) → all ≡ n + k → min (min n MOST_LEAVES + min k MOST_LEAVES) MOST_LEAVES ≡ min all MOST_LEAVES
 sum_capped n k all e = omega (arith, e)
 
 max_capped : (limit n k all : ℕ) → all ≡ max n k → max (min n limit) (min k limit) ≡ min all limit
@@ -53,14 +54,14 @@ gathered_push ms m =
     make_same _ _ _ _ _ _ _ _
     (sym (all_trivial-push ms m))
     (sum_capped (all_leaves ms) m.leaves (all_leaves (ms ++ m ∷ [])) (all_leaves-push ms m))
-    (max_capped 65 (most_leaves ms) m.leaves (most_leaves (ms ++ m ∷ [])) (most-push leaves_in ms m))
-    (max_capped 33 (most_depth ms) m.depth (most_depth (ms ++ m ∷ [])) (most-push depth_in ms m))
+    (max_capped MOST_LEAVES (most_leaves ms) m.leaves (most_leaves (ms ++ m ∷ [])) (most-push leaves_in ms m))
+    (max_capped MOST_DEPTH (most_depth ms) m.depth (most_depth (ms ++ m ∷ [])) (most-push depth_in ms m))
 
 pub members_capped : (ms : List Measure) → as_members (gathered ms) ≡ capped (of_members ms)
-members_capped ms = ap (λ d. measured (all_trivial ms) (min (all_leaves ms) 65) d) (next_capped 33 (most_depth ms) (omega arith))
+members_capped ms = ap (λ d. measured (all_trivial ms) (min (all_leaves ms) MOST_LEAVES) d) (next_capped MOST_DEPTH (most_depth ms) (omega arith))
 
 pub payloads_capped : (ms : List Measure) → as_payloads (gathered ms) ≡ capped (of_payloads ms)
-payloads_capped ms = measured_same (all_trivial ms) _ _ _ _ (next_capped 65 (most_leaves ms) (omega arith)) (next_capped 33 (most_depth ms) (omega arith))
+payloads_capped ms = measured_same (all_trivial ms) _ _ _ _ (next_capped MOST_LEAVES (most_leaves ms) (omega arith)) (next_capped MOST_DEPTH (most_depth ms) (omega arith))
 
 -- all of them, from one on
 pub gathered_behind : (before ms : List Measure) → fold with_member (gathered before) (map capped ms) ≡ gathered (before ++ ms)
@@ -74,8 +75,8 @@ gathered_behind before (m ∷ ms) =
 pub gathered_same : (ms ns : List Measure) → map capped ms ≡ map capped ns → gathered ms ≡ gathered ns
 gathered_same ms ns e = sym (gathered_behind [] ms) ∙ ap (fold with_member (gathered [])) e ∙ gathered_behind [] ns
 
-pub storage_capped : (m : Measure) → measured false 1 (min ((capped m).depth + 1) 33) ≡ capped (of_storage m)
-storage_capped m = ap (λ d. measured false 1 d) (next_capped 33 m.depth (omega arith))
+pub storage_capped : (m : Measure) → measured false 1 (min ((capped m).depth + 1) MOST_DEPTH) ≡ capped (of_storage m)
+storage_capped m = ap (λ d. measured false 1 d) (next_capped MOST_DEPTH m.depth (omega arith))
 
 pub capped_twice : (m : Measure) → capped (capped m) ≡ capped m
 capped_twice m = measured_same m.trivial _ _ _ _ (omega arith) (omega arith)

@@ -1,4 +1,5 @@
 mod Gathering
 mod Placing
 pub mod Agreement
+pub mod ByParts
 pub mod Ordered

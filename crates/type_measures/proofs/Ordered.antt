@@ -19,31 +19,39 @@ use Rattle.type_definitions.specs.declared.measure.Measure.{Measure}
 use Rattle.sil_ast.specs.declared.type_name.TypeName.{TypeName}
 use Rattle.type_measures.specs.inner.Gathered.{capped, known_at}
 use Rattle.type_measures.specs.inner.Ordered.{AreMeasuredUpTo}
-use Rattle.type_measures.proofs.Agreement.{decl_agrees, type_agrees}
+use Rattle.type_measures.proofs.Agreement.{decl_agrees, past_limits, type_agrees}
 use Rattle.type_measures.proofs.Gathering.{capped_twice}
 
-known_is : (ms : List Measure) (v : ℕ) → known_at ms v ≡ get_or ms v unmeasured
+pub known_is : (ms : List Measure) (v : ℕ) → known_at ms v ≡ get_or ms v unmeasured
 known_is ms v = unwrap_or-slice_get ms v unmeasured
 
-other_default : {X : Type 0} (xs : List X) (i : ℕ) (d e : X) → i < length xs → get_or xs i d ≡ get_or xs i e
+pub other_default : {X : Type 0} (xs : List X) (i : ℕ) (d e : X) → i < length xs → get_or xs i d ≡ get_or xs i e
 other_default [] i d e lt = absurd (omega arith)
 other_default (x ∷ xs) zero d e lt = refl
 other_default (x ∷ xs) (suc i) d e lt = other_default xs i d e (omega arith)
 
-take_short : (i : ℕ) (xs : List ℕ) → length (take i xs) ≤ i
+pub take_short : (i : ℕ) (xs : List ℕ) → length (take i xs) ≤ i
 take_short zero xs = omega arith
 take_short (suc i) [] = omega arith
 take_short (suc i) (x ∷ xs) = omega (arith, take_short i xs)
 
 -- a name that a declaration holds, by its place
-held_at : (names ns : List Name) (n : Name) (w : ℕ) → place_of names n ≡ Some w → Contains ns n → Contains (flat_map (place_list names) ns) w
+pub held_at : (names ns : List Name) (n : Name) (w : ℕ) → place_of names n ≡ Some w → Contains ns n → Contains (flat_map (place_list names) ns) w
 held_at names [] n w e (k, lt, is) = absurd (omega arith)
 held_at names (x ∷ ns) n w e (zero, lt, is) =
     Contains-append_left (place_list names x) (flat_map (place_list names) ns) w (subst (λ o. Contains (option_to_list o) w) (sym (ap (place_of names) is ∙ e)) (0, omega arith, refl))
 held_at names (x ∷ ns) n w e (suc k, lt, is) = Contains-append_right (place_list names x) (flat_map (place_list names) ns) w (held_at names ns n w e (k, omega arith, is))
 
-parts_are : (names : List Name) (decls : List Decl) (v : ℕ) (x : Decl) → v < length decls → x ≡ get_or decls v x → parts_of (map (held_places names) decls) v ≡ held_places names x
+pub parts_are : (names : List Name) (decls : List Decl) (v : ℕ) (x : Decl) → v < length decls → x ≡ get_or decls v x → parts_of (map (held_places names) decls) v ≡ held_places names x
 parts_are names decls v x lt is = get_or-map (held_places names) decls v x [] lt ∙ ap (held_places names) (sym is)
+
+-- one declaration more is looked through
+pub within_next : (d : Declarations) (v k : ℕ) (x : Decl) → v < length (all_decls d) → x ≡ get_or (all_decls d) v x →
+    known_at (measures_within d (suc k)) v ≡ measure_decl (measure_at (all_names d) (measures_within d k)) x
+within_next d v k x inside is =
+    known_is (measures_within d (suc k)) v
+    ∙ get_or-map (measure_decl (measure_at (all_names d) (measures_within d k))) (all_decls d) v x unmeasured inside
+    ∙ ap (measure_decl (measure_at (all_names d) (measures_within d k))) (sym is)
 
 module _ (d : Declarations) (order : List ℕ) (parts : ArePartsBefore (containment d) order) where
   -- what is known of the names that a declaration holds is right, where the declarations before it are measured
@@ -68,14 +76,9 @@ module _ (d : Declarations) (order : List ℕ) (parts : ArePartsBefore (containm
         at None e = refl
         at (Some w) e = known_part w (held_at (all_names d) (held_names x) n w e c)
 
-    within_next : known_at (measures_within d (suc k)) (get_or order i 0) ≡ measure_decl (measure_at (all_names d) (measures_within d k)) x
-    within_next =
-        known_is (measures_within d (suc k)) (get_or order i 0)
-        ∙ get_or-map (measure_decl (measure_at (all_names d) (measures_within d k))) (all_decls d) (get_or order i 0) x unmeasured inside
-        ∙ ap (measure_decl (measure_at (all_names d) (measures_within d k))) (sym is)
-
     right_next : capped (measure_decl (measure_at (all_names d) ms) x) ≡ capped (known_at (measures_within d (suc k)) (get_or order i 0))
-    right_next = decl_agrees (measure_at (all_names d) ms) (measure_at (all_names d) (measures_within d k)) x agree ∙ sym (ap capped within_next)
+    right_next = decl_agrees capped past_limits (measure_at (all_names d) ms) (measure_at (all_names d) (measures_within d k)) x agree
+        ∙ sym (ap capped (within_next d (get_or order i 0) k x inside is))
 
   -- one declaration more
   module _ (ms : List Measure) (i : ℕ) (here : i < length order) (up_to : AreMeasuredUpTo d order ms i) (size : length ms ≡ length (all_decls d)) (x : Decl)
@@ -111,11 +114,11 @@ module _ (d : Declarations) (order : List ℕ) (parts : ArePartsBefore (containm
         at (inl same) = at_place_of j lt same k far
         at (inr other) = elsewhere j lt other k far
 
-length_within : (d : Declarations) (n : ℕ) → 0 < n → length (measures_within d n) ≡ length (all_decls d)
+pub length_within : (d : Declarations) (n : ℕ) → 0 < n → length (measures_within d n) ≡ length (all_decls d)
 length_within d zero h = absurd (omega arith)
 length_within d (suc n) h = length-map (all_decls d) (measure_decl (measure_at (all_names d) (measures_within d n)))
 
-length_of : (d : Declarations) → length (measures_of d) ≡ length (all_decls d)
+pub length_of : (d : Declarations) → length (measures_of d) ≡ length (all_decls d)
 length_of d = at (length (all_decls d)) refl
   where
     at : (n : ℕ) → length (all_decls d) ≡ n → length (measures_within d n) ≡ length (all_decls d)
@@ -145,7 +148,7 @@ all_measured d order ms o size up_to =
 pub kept_serves : (d : Declarations) (ms : List Measure) (t : TypeName) → ms ≡ map capped (measures_of d) → capped (measure_with (measure_at (all_names d) ms) t) ≡ capped (measure_of d t)
 kept_serves d ms t e =
     ap (λ xs. capped (measure_with (measure_at (all_names d) xs) t)) e
-    ∙ type_agrees (measure_at (all_names d) (map capped (measures_of d))) (measure_at (all_names d) (measures_of d)) t (λ n c. by_name n)
+    ∙ type_agrees capped past_limits (measure_at (all_names d) (map capped (measures_of d))) (measure_at (all_names d) (measures_of d)) t (λ n c. by_name n)
   where
     known_capped : (xs : List Measure) (w : ℕ) → known_at (map capped xs) w ≡ capped (known_at xs w)
     known_capped [] w = refl

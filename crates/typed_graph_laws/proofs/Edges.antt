@@ -1,29 +1,30 @@
 -- What holds of a terminator's edges where it breaks no rule of typing.
 use Rattle.std.proofs.Common.{◌≡◌, ℕ, suc, ◌<◌, ◌^◌, List, [], ◌∷◌, ◌++◌, length, refl, sym, ap, ◌∙◌, subst, arith, Bool, true, false, not, Option, Some, None}
-use Rattle.std.specs.Prelude.{◌&&◌, ◌==◌, ⊤, All, is_some, is_none, map}
+use Rattle.std.specs.Prelude.{◌||◌, ◌==◌, ⊤, All, is_some, is_none, map}
 use Rattle.std.specs.List.{list_all}
 use Rattle.std.specs.Option.{option_to_list}
 use Rattle.std.proofs.lemmas.Bool.{eqb-true}
 use Rattle.std.proofs.lemmas.List.{length-map}
 use Rattle.instruction_table.specs.Forms.{ending_of}
-use Rattle.instruction_table.specs.declared.entries.Ending.{Ending}
-use Rattle.instruction_table.specs.declared.entries.Ending.TheVariants as ending
+use Rattle.instruction_table.specs.declared.op.Op.{Op}
+use Rattle.instruction_table.specs.declared.op.Op.TheVariants as op
 use Rattle.sil_ast.specs.declared.function.Block.{Block}
 use Rattle.sil_ast.specs.declared.function.Function.{Function}
 use Rattle.sil_ast.specs.declared.inst.Edge.{Edge}
 use Rattle.sil_ast.specs.declared.inst.Inst.{Inst}
 use Rattle.sil_ast.specs.declared.operands.Operand.{Operand}
 use Rattle.sil_ast.specs.declared.type_name.TypeName.{TypeName}
-use Rattle.numbered_form.specs.Limits.{IsDeclInLimits}
+use Rattle.numbered_form.specs.inner.Limits.{IsDeclInLimits}
 use Rattle.numbered_form.specs.Lists.{Each, is_empty}
-use Rattle.numbered_form.specs.Parts.{are_cases, are_edges_by, is_branch, is_typed}
+use Rattle.numbered_form.specs.inner.Parts.{are_cases, are_edges_by, is_branch, is_typed}
 use Rattle.type_definitions.specs.Declarations.{Declarations}
-use Rattle.sil_types.specs.Typing.EdgeRules.{args_of, goes_to_entry, has_block_types, has_wrong_edge_arguments, have_block_types_by, is_to_entry}
-use Rattle.sil_types.specs.Typing.RowTypes.{all_written, passes, written}
+use Rattle.sil_types.specs.Typing.EdgeRules.{args_of, goes_to_entry, has_block_types, has_wrong_edge_arguments, have_wrong_arguments_by, is_to_entry}
+use Rattle.sil_types.specs.Typing.RowTypes.{all_written, written}
 use Rattle.sil_types.specs.Typing.Same.{all_pairs, is_same_type}
-use Rattle.sil_types.specs.Typing.SwitchRules.{are_all_there, are_once, fits_edge, has_switch_cases_by, has_wrong_cases, is_alone, is_of_enum, places_of, switches_well}
+use Rattle.sil_types.specs.Typing.SwitchRules.{are_once, has_wrong_cases, has_wrong_cases_by, is_of_enum, leaves_out_case, misfits_default, misfits_payload}
+use Rattle.sil_types.specs.Typing.SwitchRules.{names_other_case, places_of, repeats_case, shares_block, switches_wrongly}
 use Rattle.sil_types.specs.Typing.Values.{arg_type}
-use Rattle.typed_graph_laws.specs.Ready.{AvoidsEntry, FitsBlock, FitsBlockBy, HasFittingEdges}
+use Rattle.typed_graph_laws.specs.inner.Ready.{AvoidsEntry, FitsBlock, FitsBlockBy, HasFittingEdges}
 use Rattle.typed_graph_laws.proofs.Facts.{all_at, and_first, and_second, fails_at, never_fails, never_passes, passes_at}
 use Rattle.typed_graph_laws.proofs.Switches.{few_edges, none_left}
 
@@ -56,13 +57,10 @@ all_fit f es branches same = all_at (FitsBlock f) es (λ i e at. fits f e (passe
 nothing_asked : (es : List Edge) → All (λ e. ⊤) es
 nothing_asked es k d lt = tt
 
-fit_by : (ends : Ending) (f : Function) (es : List Edge) → are_edges_by ends es ≡ true → have_block_types_by ends f es ≡ true → All (FitsBlockBy ends f) es
-fit_by ending.Inside f es edges same = nothing_asked es
-fit_by ending.OneBranch f es edges same = all_fit f es (and_second (length es == 1) (list_all is_branch es) edges) same
-fit_by ending.TwoBranches f es edges same = all_fit f es (and_second (length es == 2) (list_all is_branch es) edges) same
-fit_by ending.Cases f es edges same = nothing_asked es
-fit_by ending.Return f es edges same = nothing_asked es
-fit_by ending.Unreachable f es edges same = nothing_asked es
+fit_by : (o : Op) (f : Function) (es : List Edge) → are_edges_by (ending_of o) es ≡ true → (have_wrong_arguments_by o f es ≡ true → ⊥) → All (FitsBlockBy (ending_of o) f) es
+fit_by op.Br f es edges right = all_fit f es (and_second (length es == 1) (list_all is_branch es) edges) (never_fails (list_all (has_block_types f) es) right)
+fit_by op.CondBr f es edges right = all_fit f es (and_second (length es == 2) (list_all is_branch es) edges) (never_fails (list_all (has_block_types f) es) right)
+fit_by _ f es edges right = nothing_asked es
 
 -- ---- the entry
 
@@ -78,31 +76,42 @@ fitting_edges f b edges same entry =
     let i = b.terminator in
     record {
       entry = let misses = never_passes (goes_to_entry i) entry in all_at AvoidsEntry i.edges (λ k e at. avoids e (fails_at is_to_entry i.edges k e misses at));
-      arguments = fit_by (ending_of i.op) f i.edges edges (never_fails (have_block_types_by (ending_of i.op) f i.edges) same);
+      arguments = fit_by i.op f i.edges edges same;
     }
 
 -- ---- how many
 
+neither_first : (a b : Bool) → ((a || b) ≡ true → ⊥) → a ≡ true → ⊥
+neither_first true b misses e = misses refl
+neither_first false b misses e = cc
+
+neither_second : (a b : Bool) → ((a || b) ≡ true → ⊥) → b ≡ true → ⊥
+neither_second true b misses e = misses refl
+neither_second false b misses e = misses e
+
 few_in_switch : (d : Declarations) (f : Function) → Each IsDeclInLimits d.decls → (es : List Edge) → are_cases es ≡ true → (o : Option TypeName)
-    → passes (switches_well d f es) o ≡ true → length es < 2 ^ 32
-few_in_switch d f members es cases None e = cc
-few_in_switch d f members es cases (Some t) e =
-    let of_enum = list_all (is_of_enum d t) es in
-    let once = are_once (places_of d t es) in
-    let all = are_all_there d t es in
-    let alone = list_all (is_alone f) es in
-    let both = and_first (of_enum && once) all (and_first (of_enum && once && all) alone (and_first (of_enum && once && all && alone) (list_all (fits_edge d f t) es) e)) in
-    let few = few_edges d t members es cases (and_first of_enum once both) (and_second of_enum once both) in
+    → (switches_wrongly d f es o ≡ true → ⊥) → length es < 2 ^ 32
+few_in_switch d f members es cases None right = absurd (right refl)
+few_in_switch d f members es cases (Some t) right =
+    let two = names_other_case d t es || repeats_case d t es in
+    let three = two || leaves_out_case d t es in
+    let four = three || shares_block f es in
+    let five = four || misfits_payload d f t es in
+    let here : two ≡ true → ⊥ =
+    neither_first two (leaves_out_case d t es) (neither_first three (shares_block f es)
+    (neither_first four (misfits_payload d f t es) (neither_first five (misfits_default f t es) right))) in
+    let of_enum : list_all (is_of_enum d t) es ≡ true = never_fails (list_all (is_of_enum d t) es) (neither_first (names_other_case d t es) (repeats_case d t es) here) in
+    let once : are_once (places_of d t es) ≡ true = never_fails (are_once (places_of d t es)) (neither_second (names_other_case d t es) (repeats_case d t es) here) in
+    let few = few_edges d t members es cases of_enum once in
     omega (arith, few)
 
-few_by : (ends : Ending) (d : Declarations) (f : Function) (i : Inst) → Each IsDeclInLimits d.decls → are_edges_by ends i.edges ≡ true → has_switch_cases_by ends d f i ≡ true → length i.edges < 2 ^ 32
-few_by ending.Inside d f i members edges cases = let none = none_left i.edges edges in omega arith
-few_by ending.OneBranch d f i members edges cases = let one = eqb-true (length i.edges) 1 (and_first (length i.edges == 1) (list_all is_branch i.edges) edges) in omega arith
-few_by ending.TwoBranches d f i members edges cases = let two = eqb-true (length i.edges) 2 (and_first (length i.edges == 2) (list_all is_branch i.edges) edges) in omega arith
-few_by ending.Cases d f i members edges cases = few_in_switch d f members i.edges (and_second (not (is_empty i.edges)) (are_cases i.edges) edges) (written 0 i) cases
-few_by ending.Return d f i members edges cases = let none = none_left i.edges edges in omega arith
-few_by ending.Unreachable d f i members edges cases = let none = none_left i.edges edges in omega arith
+few_by : (o : Op) (d : Declarations) (f : Function) (i : Inst) → Each IsDeclInLimits d.decls → are_edges_by (ending_of o) i.edges ≡ true →
+    (has_wrong_cases_by o d f i ≡ true → ⊥) → length i.edges < 2 ^ 32
+few_by op.Br d f i members edges right = let one = eqb-true (length i.edges) 1 (and_first (length i.edges == 1) (list_all is_branch i.edges) edges) in omega arith
+few_by op.CondBr d f i members edges right = let two = eqb-true (length i.edges) 2 (and_first (length i.edges == 2) (list_all is_branch i.edges) edges) in omega arith
+few_by op.SwitchEnum d f i members edges right = few_in_switch d f members i.edges (and_second (not (is_empty i.edges)) (are_cases i.edges) edges) (written 0 i) right
+few_by _ d f i members edges right = let none = none_left i.edges edges in omega arith
 
 pub few_edges_at : (d : Declarations) (f : Function) (i : Inst) → Each IsDeclInLimits d.decls → are_edges_by (ending_of i.op) i.edges ≡ true → (has_wrong_cases d f i ≡ true → ⊥)
     → length i.edges < 2 ^ 32
-few_edges_at d f i members edges wrong = few_by (ending_of i.op) d f i members edges (never_fails (has_switch_cases_by (ending_of i.op) d f i) wrong)
+few_edges_at d f i members edges right = few_by i.op d f i members edges right

@@ -5,20 +5,21 @@ use Rattle.sil_ast.specs.declared.function.Block.{Block}
 use Rattle.sil_ast.specs.declared.function.Function.{Function}
 use Rattle.sil_ast.specs.declared.inst.Inst.{Inst}
 use Rattle.sil_ast.specs.declared.module.Module.{Module}
-use Rattle.sil_cfg.specs.Build.{IsBlockLinked}
+use Rattle.sil_cfg.specs.Items.{HasBlocks}
+use Rattle.sil_cfg.specs.inner.Build.{IsBlockLinked}
 use Rattle.sil_rules.specs.declared.rule.Rule.TheVariants as rule
-use Rattle.numbered_form.specs.Functions.{IsFormed}
+use Rattle.numbered_form.specs.inner.Functions.{IsFormed}
 use Rattle.numbered_form.specs.Insts.{EachInBlock, insts_in, insts_of}
-use Rattle.numbered_form.specs.Limits.{IsFunctionInLimits}
-use Rattle.numbered_form.specs.NumberedForm.{IsNumbered}
+use Rattle.numbered_form.specs.inner.Limits.{IsFunctionInLimits}
+use Rattle.numbered_form.specs.inner.NumberedForm.{IsNumbered}
 use Rattle.numbered_form.specs.Numbering.{IsEdgeInRange, IsFunctionNumbered, IsInstInRange, values_of}
-use Rattle.numbered_form.specs.Parts.{BlockHasParts, FunctionHasParts, are_edges_by}
+use Rattle.numbered_form.specs.inner.Parts.{BlockHasParts, FunctionHasParts, are_edges_by}
 use Rattle.instruction_table.specs.Forms.{ending_of}
 use Rattle.type_definitions.specs.Declarations.{declarations_of}
 use Rattle.sil_types.specs.Typing.Typed.{Typed, at_point, edge_arguments, entry_has_predecessor, point, switch_cases}
 use Rattle.point_checks.specs.Points.{IsAt}
-use Rattle.typed_graph_laws.specs.Laws.{HasBlocks, IsNotExternal, HaveGraphsWhere}
-use Rattle.typed_graph_laws.specs.Ready.{HasFittingEdges, IsReadyForGraph}
+use Rattle.typed_graph_laws.specs.inner.Laws.{IsNotExternal, HaveGraphsWhere}
+use Rattle.typed_graph_laws.specs.inner.Ready.{HasFittingEdges, IsReadyForGraph}
 use Rattle.typed_graph_laws.proofs.Edges.{few_edges_at, fitting_edges}
 use Rattle.typed_graph_laws.proofs.Facts.{all_at, all_of_each, at_end, each_at, each_of}
 

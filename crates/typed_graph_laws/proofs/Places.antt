@@ -16,7 +16,7 @@ use Rattle.sil_ast.specs.declared.member.Member.{Member}
 use Rattle.sil_ast.specs.declared.type_name.TypeName.{TypeName, out-TypeName}
 use Rattle.sil_ast.specs.declared.type_name.TypeName.TheOpen.{TypeName-F, Int, Named, Optional, Tuple, Weak, Unowned, Address}
 use Rattle.sil_rules.specs.declared.limits.TheConstants.{MEMBERS}
-use Rattle.numbered_form.specs.Limits.{IsDeclInLimits}
+use Rattle.numbered_form.specs.inner.Limits.{IsDeclInLimits}
 use Rattle.numbered_form.specs.Lists.{Each}
 use Rattle.numbered_form.specs.Names.{Name, case_name}
 use Rattle.type_definitions.specs.Declarations.{Declarations, all_decls, at_place, optional_cases, place_of, swift_structs}

@@ -1,7 +1,7 @@
 //! The cases of an enum: how many there are, and which of them an edge is for.
 
 ghost use Rattle.std.specs.Prelude.{◌≡◌, ◌<◌, ◌≤◌, option_map, unwrap_or, IfSome};
-ghost use Rattle.numbered_form.specs.Limits.{IsDeclInLimits};
+ghost use Rattle.numbered_form.specs.inner.Limits.{IsDeclInLimits};
 ghost use Rattle.numbered_form.specs.Lists.{Each};
 ghost use Rattle.type_declarations.specs.inner.Found.{payload_told};
 ghost use Rattle.sil_types.specs.Typing.Shapes as shape;

@@ -3,13 +3,12 @@
 ghost use Rattle.std.specs.Prelude.{◌≡◌};
 ghost use Rattle.std.specs.List.{list_any};
 ghost use Rattle.sil_types.specs.Typing.FormRules as rules;
-ghost use Rattle.sil_types.specs.Typing.SignatureRules as signature;
 
 use crate::parts::{is_lowered, written_target};
 use instruction_table::{InForms, forms_of};
 use sil_ast::{ArgKind, BlockArg, Form, Function, Inst, Module, Qualifier};
-use sil_types::args_of;
 use sil_types::shapes::is_storage;
+use sil_types::{args_of, is_external};
 
 /// The form of the first function that has a body.
 pub fn first_form(m: &Module) -> Option<Form>
@@ -21,15 +20,6 @@ pub fn first_form(m: &Module) -> Option<Form>
         }
     }
     None
-}
-
-fn is_external(form: Form) -> bool
-    ensures { result ≡ signature.is_external form }
-{
-    match form {
-        Form::External => true,
-        Form::Ossa | Form::Lowered => false,
-    }
 }
 
 fn is_same_form(a: Form, b: Form) -> bool

@@ -12,25 +12,35 @@ use crate::parts::is_lowered;
 use sil_ast::{BlockArg, Edge, Form, Function, TypeName};
 use sil_types::{TypeTable, args_of, same_type};
 
-/// Whether each edge goes to a block with the payload of its case as its argument, or for the default with the enum or none.
-pub(crate) fn fit_edges(table: &TypeTable, f: &Function, ty: &TypeName, edges: &[Edge]) -> bool
-    ensures { result ≡ list_all (rules.fits_edge table.now f.now ty.now) edges.now }
+/// Whether each case goes to a block with its payload as the argument, or none where it has none.
+pub(crate) fn fit_cases(table: &TypeTable, f: &Function, ty: &TypeName, edges: &[Edge]) -> bool
+    ensures { result ≡ list_all (rules.fits_case table.now f.now ty.now) edges.now }
 {
-    edges.iter().all(|edge| fits_edge(table, f, ty, edge))
+    edges.iter().all(|edge| fits_case(table, f, ty, edge))
 }
 
-/// A case that the enum doesn't have fits.
-fn fits_edge(table: &TypeTable, f: &Function, ty: &TypeName, edge: &Edge) -> bool
-    ensures { result ≡ rules.fits_edge table.now f.now ty.now edge.now }
+/// A case that the enum doesn't have fits, and so does the default.
+fn fits_case(table: &TypeTable, f: &Function, ty: &TypeName, edge: &Edge) -> bool
+    ensures { result ≡ rules.fits_case table.now f.now ty.now edge.now }
 {
-    let args = args_of(f, edge.block.0 as usize);
-    if edge.case_of.is_none() {
-        return is_default_argument(f.form, ty, args);
-    }
     match case_of_edge(table, ty, edge) {
-        Some(payload) => are_payload(args, payload.ty),
+        Some(payload) => are_payload(args_of(f, edge.block.0 as usize), payload.ty),
         None => true,
     }
+}
+
+/// Whether the default goes to a block with the enum as its argument or none.
+pub(crate) fn fit_defaults(f: &Function, ty: &TypeName, edges: &[Edge]) -> bool
+    ensures { result ≡ list_all (rules.fits_default f.now ty.now) edges.now }
+{
+    edges.iter().all(|edge| fits_default(f, ty, edge))
+}
+
+/// Each case fits.
+fn fits_default(f: &Function, ty: &TypeName, edge: &Edge) -> bool
+    ensures { result ≡ rules.fits_default f.now ty.now edge.now }
+{
+    edge.case_of.is_some() || is_default_argument(f.form, ty, args_of(f, edge.block.0 as usize))
 }
 
 /// Whether the arguments are the payload of a case, or none where it has none.

@@ -2,7 +2,7 @@
 
 ghost use Rattle.std.specs.Prelude.{◌≡◌, ◌≤◌, ◌<◌, ◌&&◌, ℕ, IfSome, false, is_some, length, slice_index_or};
 ghost use Rattle.std.specs.List.{list_all, list_any, range_with_len};
-ghost use Rattle.numbered_form.specs.Limits.{IsDeclInLimits};
+ghost use Rattle.numbered_form.specs.inner.Limits.{IsDeclInLimits};
 ghost use Rattle.numbered_form.specs.Lists.{Each};
 ghost use Rattle.sil_types.specs.Typing.SwitchRules as rules;
 

@@ -1,16 +1,16 @@
 //! Whether a `switch_enum` names the cases of its enum, and goes to blocks of their own that take the payloads.
 
-ghost use Rattle.std.specs.Prelude.{◌≡◌, ◌<◌, length};
+ghost use Rattle.std.specs.Prelude.{◌≡◌, ◌<◌, Some, length};
 ghost use Rattle.std.specs.List.{list_all};
-ghost use Rattle.numbered_form.specs.Limits.{IsDeclInLimits};
+ghost use Rattle.numbered_form.specs.inner.Limits.{IsDeclInLimits};
 ghost use Rattle.numbered_form.specs.Lists.{Each};
 ghost use Rattle.numbered_form.specs.Numbering.{IsEdgeInRange, values_of};
 ghost use Rattle.sil_types.specs.Typing.SwitchRules as rules;
 ghost use Rattle.typing_forms.specs.inner.Incoming.{AreIncoming};
 
-use crate::payloads::fit_edges;
+use crate::payloads::{fit_cases, fit_defaults};
 use crate::switch_cases::{are_of_enum, has_each_case_once};
-use instruction_table::{Ending, ending_of};
+use instruction_table::Op;
 use sil_ast::{Edge, Function, Inst, TypeName};
 use sil_types::{TypeTable, written};
 
@@ -22,20 +22,16 @@ pub fn has_wrong_cases(table: &TypeTable, f: &Function, counts: &[u8], inst: &In
     requires edges { Each (IsEdgeInRange (length (values_of f.now.blocks)) (length f.now.blocks)) inst.now.edges }
     ensures { result ≡ rules.has_wrong_cases table.now f.now inst.now }
 {
-    match ending_of(inst.op) {
-        Ending::Cases => match written(inst, 0) {
-            Some(ty) => !switches_well(table, f, counts, inst.edges.as_slice(), ty),
+    match inst.op {
+        Op::SwitchEnum => match written(inst, 0) {
+            Some(ty) => switches_wrongly(table, f, counts, inst.edges.as_slice(), ty),
             None => true,
         },
-        Ending::Inside
-        | Ending::OneBranch
-        | Ending::TwoBranches
-        | Ending::Return
-        | Ending::Unreachable => false,
+        _ => false,
     }
 }
 
-fn switches_well(
+fn switches_wrongly(
     table: &TypeTable,
     f: &Function,
     counts: &[u8],
@@ -45,12 +41,13 @@ fn switches_well(
     requires members { Each IsDeclInLimits table.now.decls }
     requires counted { AreIncoming f.now counts.now }
     requires edges { Each (IsEdgeInRange (length (values_of f.now.blocks)) (length f.now.blocks)) edges.now }
-    ensures { result ≡ rules.switches_well table.now f.now edges.now ty.now }
+    ensures { result ≡ rules.switches_wrongly table.now f.now edges.now (Some ty.now) }
 {
-    are_of_enum(table, ty, edges)
-        && has_each_case_once(table, ty, edges)
-        && are_alone(f, counts, edges)
-        && fit_edges(table, f, ty, edges)
+    !are_of_enum(table, ty, edges)
+        || !has_each_case_once(table, ty, edges)
+        || !are_alone(f, counts, edges)
+        || !fit_cases(table, f, ty, edges)
+        || !fit_defaults(f, ty, edges)
 }
 
 /// Whether each edge is the only one of the function to its block.

@@ -10,7 +10,7 @@ ghost use Rattle.typing_rows.specs.inner.Views.{view_told};
 use crate::view::TypeView;
 use crate::written_types::{next_written, none_written};
 use sil_ast::{Given, Operand, TypeName};
-use sil_types::same_type;
+use sil_types::{is_unowned_of, is_weak_of, same_type};
 
 impl TypeView<'_> {
     /// Whether a type is the one that this is put together to.
@@ -37,29 +37,11 @@ fn is_address(own: &TypeName, ty: &TypeName) -> bool
     }
 }
 
-fn is_weak(own: &TypeName, ty: &TypeName) -> bool
-    ensures { result ≡ is_same_type ty.now (type.Weak own.now) }
-{
-    match ty {
-        TypeName::Weak(inner) => same_type(inner.get(), own),
-        _ => false,
-    }
-}
-
-fn is_unowned(own: &TypeName, ty: &TypeName) -> bool
-    ensures { result ≡ is_same_type ty.now (type.Unowned own.now) }
-{
-    match ty {
-        TypeName::Unowned(inner) => same_type(inner.get(), own),
-        _ => false,
-    }
-}
-
 fn is_weak_address(own: &TypeName, ty: &TypeName) -> bool
     ensures { result ≡ is_same_type ty.now (type.Address (type.Weak own.now)) }
 {
     match ty {
-        TypeName::Address(inner) => is_weak(own, inner.get()),
+        TypeName::Address(inner) => is_weak_of(inner.get(), own),
         _ => false,
     }
 }
@@ -68,7 +50,7 @@ fn is_unowned_address(own: &TypeName, ty: &TypeName) -> bool
     ensures { result ≡ is_same_type ty.now (type.Address (type.Unowned own.now)) }
 {
     match ty {
-        TypeName::Address(inner) => is_unowned(own, inner.get()),
+        TypeName::Address(inner) => is_unowned_of(inner.get(), own),
         _ => false,
     }
 }

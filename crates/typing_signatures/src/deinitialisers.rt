@@ -5,10 +5,10 @@ ghost use Rattle.sil_ast.specs.declared.type_name.TypeName.TheVariants as type_o
 ghost use Rattle.sil_types.specs.Typing.Same as same;
 ghost use Rattle.sil_types.specs.Typing.SignatureRules as rules;
 
-use crate::external::is_external;
 use sil_ast::{
     Convention, DeinitEntry, Function, Module, Param, Passing, Signature, Text, TypeName, Vtable,
 };
+use sil_types::is_external;
 
 /// Whether the vtable names a deinitialiser that has no body, or another signature than one has.
 #[tactic(auto, unfolding(sil_types::specs::Typing::SignatureRules::has_wrong_deinitialiser))]

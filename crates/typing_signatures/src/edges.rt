@@ -7,7 +7,7 @@ ghost use Rattle.sil_types.specs.Typing.RowTypes.{all_written};
 ghost use Rattle.sil_types.specs.Typing.Same.{are_same_types};
 ghost use Rattle.sil_types.specs.Typing.Values.{arg_type};
 
-use instruction_table::{Ending, ending_of};
+use instruction_table::Op;
 use sil_ast::{BlockArg, Edge, Function, Inst, Operand};
 use sil_types::{args_of, same_type};
 
@@ -16,13 +16,9 @@ use sil_types::{args_of, same_type};
 pub fn has_wrong_edge_arguments(f: &Function, inst: &Inst) -> bool
     ensures { result ≡ rules.has_wrong_edge_arguments f.now inst.now }
 {
-    match ending_of(inst.op) {
-        Ending::Inside => false,
-        Ending::OneBranch => !have_block_types(f, inst.edges.as_slice()),
-        Ending::TwoBranches => !have_block_types(f, inst.edges.as_slice()),
-        Ending::Cases => false,
-        Ending::Return => false,
-        Ending::Unreachable => false,
+    match inst.op {
+        Op::Br | Op::CondBr => !have_block_types(f, inst.edges.as_slice()),
+        _ => false,
     }
 }
 

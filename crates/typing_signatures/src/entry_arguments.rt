@@ -6,9 +6,8 @@ ghost use Rattle.sil_types.specs.Typing.OperandTypes.{param_type};
 ghost use Rattle.sil_types.specs.Typing.Same.{all_pairs, is_same_type};
 ghost use Rattle.sil_types.specs.Typing.SignatureRules as rules;
 
-use crate::external::is_external;
 use sil_ast::{ArgKind, BlockArg, Form, Function, Param, Passing, TypeName};
-use sil_types::{args_of, same_type};
+use sil_types::{args_of, is_external, same_type};
 
 /// Whether the function has no body, or an entry with an argument for each parameter, in order.
 pub(crate) fn has_entry_arguments(f: &Function) -> bool

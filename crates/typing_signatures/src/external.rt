@@ -4,7 +4,8 @@ ghost use Rattle.std.specs.Prelude.{◌≡◌};
 ghost use Rattle.std.specs.List.{list_all};
 ghost use Rattle.sil_types.specs.Typing.SignatureRules as rules;
 
-use sil_ast::{Form, Function, Param, Passing};
+use sil_ast::{Function, Param, Passing};
+use sil_types::is_external;
 use sil_types::shapes::is_integer;
 
 /// Whether the function has no body, and has a parameter that isn't a plain builtin integer, or a result.
@@ -19,16 +20,6 @@ pub fn is_no_output_call(f: &Function) -> bool
         return true;
     }
     !f.signature.results.as_slice().is_empty()
-}
-
-pub(crate) fn is_external(form: Form) -> bool
-    ensures { result ≡ rules.is_external form }
-{
-    match form {
-        Form::Ossa => false,
-        Form::Lowered => false,
-        Form::External => true,
-    }
 }
 
 fn are_plain_integers(params: &[Param]) -> bool

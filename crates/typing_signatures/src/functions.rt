@@ -1,4 +1,4 @@
-//! The functions that values stand for: the result of a `function_ref` for the function that it names.
+//! The functions that values stand for: the result of a `function_ref` for the function that it names, and no name behind it.
 
 ghost use Rattle.std.specs.Prelude.{◌≡◌, OnOk};
 ghost use Rattle.sil_types.specs.Typing.Values as values;
@@ -34,7 +34,13 @@ impl<'f> ValueTable<'f> for ValueFunctions {
         functions: &mut Vec<Option<FuncId>>,
         inst: &'f Inst,
     ) -> Result<(), Exhausted> {
-        push_times(functions, inst.results.len(), inst.function)
+        match inst.results.as_slice() {
+            [] => Ok(()),
+            [_, others @ ..] => {
+                functions.push(inst.function)?;
+                push_times(functions, others.len(), None)
+            }
+        }
     }
 }
 

@@ -7,10 +7,10 @@ ghost use Rattle.sil_types.specs.Typing.RowTypes.{written};
 ghost use Rattle.sil_types.specs.Typing.Same.{all_pairs, applied, is_same_type};
 ghost use Rattle.sil_types.specs.Typing.SignatureRules as rules;
 
-use crate::callees::named_function;
+use crate::callees::callee;
 use crate::conventions::has_fitting_conventions;
 use crate::entry_arguments::has_entry_arguments;
-use instruction_table::{Ending, ending_of};
+use instruction_table::Op;
 use sil_ast::{FuncId, Function, Given, Inst, Module, Signature, TypeName};
 use sil_types::{TypeTable, same_signature, same_type};
 
@@ -33,30 +33,31 @@ pub fn differs_from_signature(
 ) -> bool
     ensures { result ≡ rules.differs_from_signature m.now f.now functions.now inst.now }
 {
-    !(has_named_signature(m, functions, inst) && returns_what_is_given(f, inst))
+    match inst.op {
+        Op::FunctionRef => !has_signature_of(m, inst.function, inst),
+        Op::Apply => !has_signature_of(m, callee(functions, inst), inst),
+        Op::Return => !returns_what_is_given(f, inst),
+        _ => false,
+    }
 }
 
-fn has_named_signature(m: &Module, functions: &[Option<FuncId>], inst: &Inst) -> bool
-    ensures { result ≡ rules.has_named_signature m.now functions.now inst.now }
+/// Whether the signature that is written in the instruction is the function's, where there is a function.
+fn has_signature_of(m: &Module, function: Option<FuncId>, inst: &Inst) -> bool
+    ensures { result ≡ rules.has_signature_of m.now function inst.now }
 {
     match &inst.signature {
         None => true,
-        Some(written) => match named_signature(m, functions, inst) {
+        Some(written) => match signature_of(m, function) {
             None => true,
             Some(named) => same_signature(written.get(), named),
         },
     }
 }
 
-/// The signature of the function that the instruction names, or calls.
-fn named_signature<'m>(
-    m: &'m Module,
-    functions: &[Option<FuncId>],
-    inst: &Inst,
-) -> Option<&'m Signature>
-    ensures { option_copied result ≡ option_and_then (rules.signature_of m.now) (rules.named_function functions.now inst.now) }
+fn signature_of(m: &Module, function: Option<FuncId>) -> Option<&Signature>
+    ensures { option_copied result ≡ option_and_then (rules.signature_of m.now) function }
 {
-    match named_function(functions, inst) {
+    match function {
         None => None,
         Some(function) => match m.functions.get(function.0 as usize) {
             None => None,
@@ -68,16 +69,9 @@ fn named_signature<'m>(
 fn returns_what_is_given(f: &Function, inst: &Inst) -> bool
     ensures { result ≡ rules.returns_what_is_given f.now inst.now }
 {
-    match ending_of(inst.op) {
-        Ending::Inside => true,
-        Ending::OneBranch => true,
-        Ending::TwoBranches => true,
-        Ending::Cases => true,
-        Ending::Return => match written_first(inst) {
-            None => false,
-            Some(ty) => is_given_type(f.signature.results.as_slice(), ty),
-        },
-        Ending::Unreachable => true,
+    match written_first(inst) {
+        None => false,
+        Some(ty) => is_given_type(f.signature.results.as_slice(), ty),
     }
 }
 

@@ -1,18 +1,19 @@
 //! The types of a function's values, by their numbers, and how many results the row of each instruction gives.
 
 ghost use Rattle.std.specs.Prelude.{◌≡◌, ◌++◌, OnOk, [], ◌∷◌, length, map, option_map, slice_get, unwrap_or};
-ghost use Rattle.std.specs.List.{flat_map, range_with_len};
-ghost use Rattle.numbered_form.specs.Insts.{insts_in, insts_of};
+ghost use Rattle.std.specs.List.{range_with_len};
+ghost use Rattle.numbered_form.specs.Insts.{insts_in};
 ghost use Rattle.typing_rows.specs.inner.Views.{made_told, view_told};
 ghost use Rattle.sil_types.specs.Typing.Values as values;
-ghost use Rattle.sil_types.specs.Typing.Values.{arg_has, result_types};
-ghost use Rattle.typing_values.specs.inner.Given.{given_count};
-ghost use Rattle.typing_values.specs.inner.Told.{block_types, types_told};
+ghost use Rattle.sil_types.specs.Typing.Values.{arg_has, arg_types, result_types};
+ghost use Rattle.typing_values.specs.inner.Given.{given_count, given_counts, no_counts};
+ghost use Rattle.typing_values.specs.inner.Told.{types_told};
 
-use sil_ast::{Block, BlockArg, Boxed, Exhausted, Function, Inst};
+use sil_ast::{BlockArg, Exhausted, Function, Inst, TypeName};
 use sil_types::TypeTable;
 use std::alloc::Global;
 use typing_rows::{Made, TypeView, row_types};
+use value_tables::{ValueTable, add_values};
 
 /// What the rows of a function's instructions give.
 #[derive(Drop)]
@@ -58,20 +59,6 @@ fn add_made<'a>(
     Ok(())
 }
 
-/// Adds what an instruction's row gives.
-fn add_results<'a>(
-    given: &mut GivenTypes<'a>,
-    table: &'a TypeTable,
-    inst: &'a Inst,
-) -> Result<(), Exhausted>
-    ensures types { OnOk result (types_told given.new.types.items ≡ types_told given.old.types.items ++ result_types table.now inst.now) }
-    ensures counts { OnOk result (given.new.counts.items ≡ given.old.counts.items ++ given_count table.now inst.now ∷ []) }
-{
-    let made = row_types(table, inst);
-    given.counts.push(count_of(&made))?;
-    add_made(&mut given.types, &made, inst.results.len())
-}
-
 /// Adds the types of a block's arguments.
 fn add_args<'a>(
     types: &mut Vec<Option<TypeView<'a>>>,
@@ -85,31 +72,99 @@ fn add_args<'a>(
     Ok(())
 }
 
-fn add_insts<'a>(
-    given: &mut GivenTypes<'a>,
+/// The types of values, by what a module declares.
+#[derive(Drop)]
+struct ValueTypes<'a> {
     table: &'a TypeTable,
-    insts: &'a [Boxed<Inst>],
-) -> Result<(), Exhausted>
-    ensures types { OnOk result (types_told given.new.types.items ≡ types_told given.old.types.items ++ flat_map (result_types table.now) insts.now) }
-    ensures counts { OnOk result (given.new.counts.items ≡ given.old.counts.items ++ map (given_count table.now) insts.now) }
-{
-    for inst in insts {
-        add_results(given, table, inst.get())?;
-    }
-    Ok(())
 }
 
-fn add_block<'a>(
-    given: &mut GivenTypes<'a>,
+impl<'a> ValueTable<'a> for ValueTypes<'a> {
+    type Table = Vec<Option<TypeView<'a>>>;
+
+    type Row = Option<TypeName>;
+
+    ghost rows = { λ types. types_told types.items };
+
+    ghost arg_rows = { λ of. arg_types };
+
+    ghost result_rows = { λ of. result_types of.table.now };
+
+    fn add_args(
+        &self,
+        types: &mut Vec<Option<TypeView<'a>>>,
+        _number: usize,
+        args: &'a [BlockArg],
+    ) -> Result<(), Exhausted> {
+        add_args(types, args)
+    }
+
+    fn add_results(
+        &self,
+        types: &mut Vec<Option<TypeView<'a>>>,
+        inst: &'a Inst,
+    ) -> Result<(), Exhausted> {
+        add_made(types, &row_types(self.table, inst), inst.results.len())
+    }
+}
+
+/// How many results the rows of instructions give: one number for each instruction, whatever names it has.
+#[derive(Drop)]
+struct RowCounts<'a> {
     table: &'a TypeTable,
-    block: &'a Block,
+}
+
+impl<'a> ValueTable<'a> for RowCounts<'a> {
+    type Table = Vec<Option<usize>>;
+
+    type Row = Option<usize>;
+
+    ghost rows = { λ counts. counts.items };
+
+    ghost arg_rows = { λ of. no_counts };
+
+    ghost result_rows = { λ of. given_counts of.table.now };
+
+    fn add_args(
+        &self,
+        _counts: &mut Vec<Option<usize>>,
+        _number: usize,
+        _args: &'a [BlockArg],
+    ) -> Result<(), Exhausted> {
+        Ok(())
+    }
+
+    fn add_results(
+        &self,
+        counts: &mut Vec<Option<usize>>,
+        inst: &'a Inst,
+    ) -> Result<(), Exhausted> {
+        counts.push(count_of(&row_types(self.table, inst)))?;
+        Ok(())
+    }
+}
+
+/// Makes of a list, in its memory, the types of a function's values, by their numbers.
+fn find_types<'a>(
+    types: &mut Vec<Option<TypeView<'a>>>,
+    table: &'a TypeTable,
+    f: &'a Function,
 ) -> Result<(), Exhausted>
-    ensures types { OnOk result (types_told given.new.types.items ≡ types_told given.old.types.items ++ block_types table.now block.now) }
-    ensures counts { OnOk result (given.new.counts.items ≡ given.old.counts.items ++ map (given_count table.now) (insts_of block.now)) }
+    ensures { OnOk result (types_told types.new.items ≡ values.value_types table.now f.now) }
 {
-    add_args(&mut given.types, block.args.as_slice())?;
-    add_insts(given, table, block.insts.as_slice())?;
-    add_results(given, table, &block.terminator)
+    types.clear();
+    add_values(&ValueTypes { table }, types, f)
+}
+
+/// Makes of a list, in its memory, how many results the row of each instruction gives.
+fn find_counts<'a>(
+    counts: &mut Vec<Option<usize>>,
+    table: &'a TypeTable,
+    f: &'a Function,
+) -> Result<(), Exhausted>
+    ensures { OnOk result (counts.new.items ≡ map (given_count table.now) (insts_in f.now.blocks)) }
+{
+    counts.clear();
+    add_values(&RowCounts { table }, counts, f)
 }
 
 impl<'a> GivenTypes<'a> {
@@ -123,7 +178,7 @@ impl<'a> GivenTypes<'a> {
 }
 
 /// Makes of `given`, in its memory, what the rows of a function's instructions give: the types of the function's values, by their
-/// numbers, and how many results each instruction's row gives. Each row is asked once.
+/// numbers, and how many results each instruction's row gives.
 pub fn find_value_types<'a>(
     given: &mut GivenTypes<'a>,
     table: &'a TypeTable,
@@ -132,10 +187,6 @@ pub fn find_value_types<'a>(
     ensures types { OnOk result (types_told given.new.types.items ≡ values.value_types table.now f.now) }
     ensures counts { OnOk result (given.new.counts.items ≡ map (given_count table.now) (insts_in f.now.blocks)) }
 {
-    given.types.clear();
-    given.counts.clear();
-    for block in f.blocks.as_slice() {
-        add_block(given, table, block)?;
-    }
-    Ok(())
+    find_types(&mut given.types, table, f)?;
+    find_counts(&mut given.counts, table, f)
 }

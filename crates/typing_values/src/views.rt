@@ -8,8 +8,8 @@ ghost use Rattle.sil_types.specs.Typing.Same.{is_same_type};
 ghost use Rattle.type_definitions.specs.Mentions.{result_type, together};
 
 use sil_ast::{Given, TypeName};
-use sil_types::same_type;
 use sil_types::shapes::is_bit;
+use sil_types::{is_unowned_of, is_weak_of, same_type};
 use typing_rows::TypeView;
 
 fn is_bit_type(ty: &TypeName) -> bool
@@ -50,24 +50,6 @@ fn is_address(target: &TypeName, ty: &TypeName) -> bool
     }
 }
 
-fn is_weak(ty: &TypeName, inner: &TypeName) -> bool
-    ensures { result ≡ is_same_type ty.now (type.Weak inner.now) }
-{
-    match ty {
-        TypeName::Weak(own) => same_type(own.get(), inner),
-        _ => false,
-    }
-}
-
-fn is_unowned(ty: &TypeName, inner: &TypeName) -> bool
-    ensures { result ≡ is_same_type ty.now (type.Unowned inner.now) }
-{
-    match ty {
-        TypeName::Unowned(own) => same_type(own.get(), inner),
-        _ => false,
-    }
-}
-
 fn is_address_given(target: &TypeName, results: &[Given]) -> bool
     ensures { result ≡ is_same_type (type.Address target.now) (together (map result_type results.now)) }
 {
@@ -84,8 +66,8 @@ pub(crate) fn is_address_view(target: &TypeName, view: &TypeView<'_>) -> bool
     match view {
         TypeView::Written(ty) => is_address(target, ty),
         TypeView::AddressOf(own) => same_type(target, own),
-        TypeView::WeakAddress(inner) => is_weak(target, inner),
-        TypeView::UnownedAddress(inner) => is_unowned(target, inner),
+        TypeView::WeakAddress(inner) => is_weak_of(target, inner),
+        TypeView::UnownedAddress(inner) => is_unowned_of(target, inner),
         TypeView::TupleOf(_) => false,
         TypeView::GivenBy(results) => is_address_given(target, results),
     }

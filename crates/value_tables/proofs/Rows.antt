@@ -1,11 +1,11 @@
 -- Rows by value, block by block: how they grow, how many there are, what holds of each, and when two lists of them are the same.
 use Rattle.std.proofs.Common.{◌≡◌, ℕ, ◌+◌, ◌<◌, ◌≤◌, List, [], ◌∷◌, ◌++◌, length, map, get_or, take, refl, sym, ap, ap₂, ◌∙◌, arith, append_assoc, length-append}
 use Rattle.std.specs.List.{flat_map}
-use Rattle.std.proofs.lemmas.List.{append-nil, length-map, length-take-le, take_more}
+use Rattle.std.proofs.lemmas.List.{append-nil, length-map, length-take-le, map-append, take_more}
 use Rattle.sil_ast.specs.declared.function.Block.{Block}
 use Rattle.sil_ast.specs.declared.function.BlockArg.{BlockArg}
 use Rattle.sil_ast.specs.declared.inst.Inst.{Inst}
-use Rattle.numbered_form.specs.Insts.{EachInBlock, insts_of}
+use Rattle.numbered_form.specs.Insts.{EachInBlock, insts_in, insts_of}
 use Rattle.numbered_form.specs.Lists.{Each}
 use Rattle.numbered_form.specs.Numbering.{defined_in, results_of, value_of, values_of}
 use Rattle.value_tables.specs.ValueRows.{block_rows, rows_from}
@@ -79,8 +79,13 @@ same_args args others results n (b ∷ bs) same =
     ap₂ (λ x y. (x ++ flat_map results (insts_of b)) ++ y) (same n b.args (omega arith) (omega arith))
     (same_args args others results (n + 1) bs (λ k xs le lt. same k xs (omega arith) (omega arith)))
 
--- where it doesn't go by the block's number, the rows are those of each block
-pub rows_flat : {A : Type 0} (args : List BlockArg → List A) (results : Inst → List A) (n : ℕ) (bs : List Block) →
-    rows_from (λ k. args) results n bs ≡ flat_map (λ b. args b.args ++ flat_map results (insts_of b)) bs
-rows_flat args results n [] = refl
-rows_flat args results n (b ∷ bs) = ap (λ r. (args b.args ++ flat_map results (insts_of b)) ++ r) (rows_flat args results (n + 1) bs)
+-- where one thing is told of each instruction and none of arguments, the rows are those of the instructions, in order
+rows_of_insts : {A : Type 0} (of : Inst → A) (is : List Inst) → flat_map (λ i. of i ∷ []) is ≡ map of is
+rows_of_insts of [] = refl
+rows_of_insts of (i ∷ is) = ap (λ r. of i ∷ r) (rows_of_insts of is)
+
+pub rows_by_inst : {A : Type 0} (of : Inst → A) (n : ℕ) (bs : List Block) → rows_from (λ k args. []) (λ i. of i ∷ []) n bs ≡ map of (insts_in bs)
+rows_by_inst of n [] = refl
+rows_by_inst of n (b ∷ bs) =
+    ap₂ (λ x y. x ++ y) (rows_of_insts of (insts_of b)) (rows_by_inst of (n + 1) bs)
+    ∙ sym (map-append of (insts_of b) (insts_in bs))

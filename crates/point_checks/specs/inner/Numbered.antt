@@ -2,7 +2,7 @@
 use Rattle.std.specs.Prelude.{Contains}
 use Rattle.sil_ast.specs.declared.function.Function.{Function}
 use Rattle.sil_ast.specs.declared.module.Module.{Module}
-use Rattle.numbered_form.specs.NumberedForm.{IsNumbered}
+use Rattle.numbered_form.specs.inner.NumberedForm.{IsNumbered}
 
 -- the function is one of a module in numbered form
 abbrev pub IsOfNumberedModule : Function → Type 0

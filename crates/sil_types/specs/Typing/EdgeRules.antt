@@ -1,9 +1,8 @@
 -- 203, 210 and 211: what edges bring to blocks.
-use Rattle.std.specs.Prelude.{ℕ, List, [], Bool, true, not, ◌==◌, Option, Some, None, drop, map, slice_get}
+use Rattle.std.specs.Prelude.{ℕ, List, [], Bool, false, not, ◌==◌, Option, Some, None, drop, map, slice_get}
 use Rattle.std.specs.List.{list_all, list_any}
-use Rattle.instruction_table.specs.Forms.{ending_of}
-use Rattle.instruction_table.specs.declared.entries.Ending.{Ending}
-use Rattle.instruction_table.specs.declared.entries.Ending.TheVariants as ending
+use Rattle.instruction_table.specs.declared.op.Op.{Op}
+use Rattle.instruction_table.specs.declared.op.Op.TheVariants as op
 use Rattle.sil_ast.specs.declared.function.Block.{Block}
 use Rattle.sil_ast.specs.declared.function.BlockArg.{BlockArg}
 use Rattle.sil_ast.specs.declared.function.Function.{Function}
@@ -22,21 +21,18 @@ args_in (Some b) = b.args
 abbrev pub args_of : Function → ℕ → List BlockArg
 args_of f b = args_in (slice_get f.blocks b)
 
--- the edge's arguments have the types of its block's, in order
+-- the edge's arguments have the types of its block's, in order; in numbered form each of them has its type written
 abbrev pub has_block_types : Function → Edge → Bool
 has_block_types f e = are_same_types (all_written e.args) (map arg_type (args_of f e.block.0))
 
-abbrev pub have_block_types_by : Ending → Function → List Edge → Bool
-have_block_types_by ending.Inside f es = true
-have_block_types_by ending.OneBranch f es = list_all (has_block_types f) es
-have_block_types_by ending.TwoBranches f es = list_all (has_block_types f) es
-have_block_types_by ending.Cases f es = true
-have_block_types_by ending.Return f es = true
-have_block_types_by ending.Unreachable f es = true
+abbrev pub have_wrong_arguments_by : Op → Function → List Edge → Bool
+have_wrong_arguments_by op.Br f es = not (list_all (has_block_types f) es)
+have_wrong_arguments_by op.CondBr f es = not (list_all (has_block_types f) es)
+have_wrong_arguments_by _ f es = false
 
 -- 203: an edge of `br` or `cond_br` has other arguments than its block, in number or type
 unfoldable pub has_wrong_edge_arguments : Function → Inst → Bool
-has_wrong_edge_arguments f i = not (have_block_types_by (ending_of i.op) f i.edges)
+has_wrong_edge_arguments f i = have_wrong_arguments_by i.op f i.edges
 
 abbrev pub has_address_type : BlockArg → Bool
 has_address_type a = is_address a.ty

@@ -30,7 +30,7 @@ written n i = option_and_then type_of (slice_get i.operands n)
 abbrev pub types_of : Operand → List TypeName
 types_of o = option_to_list o.ty
 
--- the types written at some operands, in order
+-- the types written at some operands, in order; in numbered form each operand of `builtin`, `struct`, `tuple`, `enum` and of an edge has one
 abbrev pub all_written : List Operand → List TypeName
 all_written os = flat_map types_of os
 

@@ -2,11 +2,8 @@
 use Rattle.std.specs.Prelude.{List, [], ◌∷◌, Bool, true, false, not, ◌&&◌, ◌||◌, Option, Some, None, is_none, option_and_then, option_map, slice_get}
 use Rattle.std.specs.List.{list_all}
 use Rattle.std.specs.Option.{option_to_list}
-use Rattle.instruction_table.specs.Forms.{bare_operands_of, ending_of}
-use Rattle.instruction_table.specs.declared.entries.BareOperands.{BareOperands}
-use Rattle.instruction_table.specs.declared.entries.BareOperands.TheVariants.{NoBare, StoredValue, WeakValue, UnownedValue, Condition, Arguments}
-use Rattle.instruction_table.specs.declared.entries.Ending.{Ending}
-use Rattle.instruction_table.specs.declared.entries.Ending.TheVariants as ending
+use Rattle.instruction_table.specs.declared.op.Op.{Op}
+use Rattle.instruction_table.specs.declared.op.Op.TheVariants as op
 use Rattle.sil_ast.specs.declared.function.ArgKind.{ArgKind}
 use Rattle.sil_ast.specs.declared.function.ArgKind.TheVariants as kind
 use Rattle.sil_ast.specs.declared.function.BlockArg.{BlockArg}
@@ -47,21 +44,13 @@ callee_value functions o = function_at functions o.value.0
 abbrev pub callee : List (Option FuncId) → Inst → Option FuncId
 callee functions i = option_and_then (callee_value functions) (slice_get i.operands 0)
 
-abbrev pub calls_by : BareOperands → Bool
-calls_by NoBare = false
-calls_by StoredValue = false
-calls_by WeakValue = false
-calls_by UnownedValue = false
-calls_by Condition = false
-calls_by Arguments = true
+abbrev pub calls_none_by : Op → List (Option FuncId) → Inst → Bool
+calls_none_by op.Apply functions i = is_none (callee functions i)
+calls_none_by _ functions i = false
 
--- the instruction calls its first operand
-abbrev pub calls : Inst → Bool
-calls i = calls_by (bare_operands_of i.op)
-
--- 204: what is called isn't the result of a `function_ref`
+-- 204: the callee of an `apply` isn't the result of a `function_ref`
 unfoldable pub calls_no_function : List (Option FuncId) → Inst → Bool
-calls_no_function functions i = calls i && is_none (callee functions i)
+calls_no_function functions i = calls_none_by i.op functions i
 
 -- 205
 
@@ -139,37 +128,27 @@ has_wrong_signature d f = not (has_fitting_conventions d f.signature && has_entr
 abbrev pub signature_of : Module → FuncId → Option Signature
 signature_of m f = option_map (λ g. g.signature) (slice_get m.functions f.0)
 
-abbrev pub named_by : Bool → List (Option FuncId) → Inst → Option FuncId
-named_by true functions i = callee functions i
-named_by false functions i = i.function
-
--- the function that the instruction names, or calls
-abbrev pub named_function : List (Option FuncId) → Inst → Option FuncId
-named_function functions i = named_by (calls i) functions i
-
 abbrev pub is_signature_of : Option Signature → Signature → Bool
 is_signature_of None s = true
 is_signature_of (Some t) s = is_same_signature s t
 
-abbrev pub has_named_signature : Module → List (Option FuncId) → Inst → Bool
-has_named_signature m functions i =
-    list_all (is_signature_of (option_and_then (signature_of m) (named_function functions i))) (option_to_list i.signature)
+-- the signature that is written in the instruction is the function's, where there is a function
+abbrev pub has_signature_of : Module → Option FuncId → Inst → Bool
+has_signature_of m function i = list_all (is_signature_of (option_and_then (signature_of m) function)) (option_to_list i.signature)
 
-abbrev pub returns_by : Ending → Function → Inst → Bool
-returns_by ending.Inside f i = true
-returns_by ending.OneBranch f i = true
-returns_by ending.TwoBranches f i = true
-returns_by ending.Cases f i = true
-returns_by ending.Return f i = passes (is_same_type (given_type f.signature)) (written 0 i)
-returns_by ending.Unreachable f i = true
-
--- a `return` gives the type that the function's signature gives
+-- the type that is written at the value is the one that the function's signature gives
 abbrev pub returns_what_is_given : Function → Inst → Bool
-returns_what_is_given f i = returns_by (ending_of i.op) f i
+returns_what_is_given f i = passes (is_same_type (given_type f.signature)) (written 0 i)
 
--- 206: `function_ref`, `apply` or `return` differs from the signature
+abbrev pub differs_by : Op → Module → Function → List (Option FuncId) → Inst → Bool
+differs_by op.FunctionRef m f functions i = not (has_signature_of m i.function i)
+differs_by op.Apply m f functions i = not (has_signature_of m (callee functions i) i)
+differs_by op.Return m f functions i = not (returns_what_is_given f i)
+differs_by _ m f functions i = false
+
+-- 206: `function_ref`, `apply` or `return` differs from the signature of the function that is named, called or returned from
 unfoldable pub differs_from_signature : Module → Function → List (Option FuncId) → Inst → Bool
-differs_from_signature m f functions i = not (has_named_signature m functions i && returns_what_is_given f i)
+differs_from_signature m f functions i = differs_by i.op m f functions i
 
 -- 208
 

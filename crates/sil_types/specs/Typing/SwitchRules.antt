@@ -3,22 +3,20 @@ use Rattle.std.specs.Prelude.{ℕ, List, [], ◌∷◌, Bool, true, false, not, 
 use Rattle.std.specs.Prelude.{is_some, is_none, option_and_then, option_map, map, unwrap_or, count_by}
 use Rattle.std.specs.List.{flat_map, list_all, list_any, filter_map, range_with_len}
 use Rattle.std.specs.Option.{option_to_list}
-use Rattle.instruction_table.specs.Forms.{ending_of}
-use Rattle.instruction_table.specs.declared.entries.Ending.{Ending}
-use Rattle.instruction_table.specs.declared.entries.Ending.TheVariants as ending
+use Rattle.instruction_table.specs.declared.op.Op.{Op}
+use Rattle.instruction_table.specs.declared.op.Op.TheVariants as op
 use Rattle.sil_ast.specs.declared.function.Block.{Block}
 use Rattle.sil_ast.specs.declared.function.BlockArg.{BlockArg}
 use Rattle.sil_ast.specs.declared.function.Form.{Form}
 use Rattle.sil_ast.specs.declared.function.Function.{Function}
 use Rattle.sil_ast.specs.declared.inst.Edge.{Edge}
 use Rattle.sil_ast.specs.declared.inst.Inst.{Inst}
-use Rattle.sil_ast.specs.declared.member.Member.{Member}
 use Rattle.sil_ast.specs.declared.type_name.TypeName.{TypeName}
 use Rattle.type_definitions.specs.Declarations.{Declarations}
 use Rattle.type_definitions.specs.Lookups.{Payload}
 use Rattle.sil_types.specs.Typing.EdgeRules.{args_of}
 use Rattle.sil_types.specs.Typing.FormRules.{is_lowered}
-use Rattle.sil_types.specs.Typing.RowTypes.{passes, written}
+use Rattle.sil_types.specs.Typing.RowTypes.{written}
 use Rattle.sil_types.specs.Typing.Same.{are_same_types, is_same_type}
 use Rattle.sil_types.specs.Typing.Shapes.{case_count, case_in}
 use Rattle.sil_types.specs.Typing.Values.{arg_type}
@@ -75,40 +73,62 @@ incoming f block = count_by (is_to block) (edges_of f)
 abbrev pub is_alone : Function → Edge → Bool
 is_alone f e = incoming f e.block.0 == 1
 
--- the block of a case has the payload as its argument, or none
+-- the block has the payload as its argument, or none where the case has none
 abbrev pub fits_payload : Function → Edge → Payload → Bool
 fits_payload f e p = are_same_types (map arg_type (args_of f e.block.0)) (option_to_list p.ty)
 
+abbrev pub fits_case : Declarations → Function → TypeName → Edge → Bool
+fits_case d f t e = list_all (fits_payload f e) (option_to_list (case_of_edge d t e))
+
+-- there is no argument, or the enum itself, which a lowered function doesn't hand on
 abbrev pub is_default_argument : Form → TypeName → List BlockArg → Bool
 is_default_argument form t [] = true
 is_default_argument form t (a ∷ []) = not (is_lowered form) && is_same_type a.ty t
 is_default_argument form t (a ∷ b ∷ more) = false
 
-abbrev pub fits_edge_by : Option Member → Declarations → Function → TypeName → Edge → Bool
-fits_edge_by None d f t e = is_default_argument f.form t (args_of f e.block.0)
-fits_edge_by (Some m) d f t e = list_all (fits_payload f e) (option_to_list (case_in d m t))
+abbrev pub fits_default : Function → TypeName → Edge → Bool
+fits_default f t e = has_case e || is_default_argument f.form t (args_of f e.block.0)
 
--- the arguments of the block that the edge goes to are a case's payload, or for a default the enum or nothing
-abbrev pub fits_edge : Declarations → Function → TypeName → Edge → Bool
-fits_edge d f t e = fits_edge_by e.case_of d f t e
+-- a case belongs to another enum
+abbrev pub names_other_case : Declarations → TypeName → List Edge → Bool
+names_other_case d t es = not (list_all (is_of_enum d t) es)
 
-abbrev pub switches_well : Declarations → Function → List Edge → TypeName → Bool
-switches_well d f es t =
-    list_all (is_of_enum d t) es
-    && are_once (places_of d t es)
-    && are_all_there d t es
-    && list_all (is_alone f) es
-    && list_all (fits_edge d f t) es
+-- a case is repeated
+abbrev pub repeats_case : Declarations → TypeName → List Edge → Bool
+repeats_case d t es = not (are_once (places_of d t es))
 
-abbrev pub has_switch_cases_by : Ending → Declarations → Function → Inst → Bool
-has_switch_cases_by ending.Inside d f i = true
-has_switch_cases_by ending.OneBranch d f i = true
-has_switch_cases_by ending.TwoBranches d f i = true
-has_switch_cases_by ending.Cases d f i = passes (switches_well d f i.edges) (written 0 i)
-has_switch_cases_by ending.Return d f i = true
-has_switch_cases_by ending.Unreachable d f i = true
+-- a case of the enum is left out, and there is no default
+abbrev pub leaves_out_case : Declarations → TypeName → List Edge → Bool
+leaves_out_case d t es = not (are_all_there d t es)
 
--- 209: a case is repeated, belongs to another enum, or is left out without a default; a block has another edge to it; or a block's
--- arguments aren't the case's payload, or for a default the enum, which a lowered function doesn't hand on
+-- a block has another edge to it
+abbrev pub shares_block : Function → List Edge → Bool
+shares_block f es = not (list_all (is_alone f) es)
+
+-- the arguments of a case's block don't fit the payload, in number or type
+abbrev pub misfits_payload : Declarations → Function → TypeName → List Edge → Bool
+misfits_payload d f t es = not (list_all (fits_case d f t) es)
+
+-- the default's block has more than one argument, or one of another type than the enum, or any in a lowered function
+abbrev pub misfits_default : Function → TypeName → List Edge → Bool
+misfits_default f t es = not (list_all (fits_default f t) es)
+
+-- one of these is so; in numbered form the type of what is switched is written
+abbrev pub switches_wrongly : Declarations → Function → List Edge → Option TypeName → Bool
+switches_wrongly d f es None = true
+switches_wrongly d f es (Some t) =
+    names_other_case d t es
+    || repeats_case d t es
+    || leaves_out_case d t es
+    || shares_block f es
+    || misfits_payload d f t es
+    || misfits_default f t es
+
+abbrev pub has_wrong_cases_by : Op → Declarations → Function → Inst → Bool
+has_wrong_cases_by op.SwitchEnum d f i = switches_wrongly d f i.edges (written 0 i)
+has_wrong_cases_by _ d f i = false
+
+-- 209: a case of a `switch_enum` belongs to another enum, is repeated, or is left out without a default; a block has another edge to it;
+-- or a block's arguments aren't the case's payload, or for a default the enum
 abbrev pub has_wrong_cases : Declarations → Function → Inst → Bool
-has_wrong_cases d f i = not (has_switch_cases_by (ending_of i.op) d f i)
+has_wrong_cases d f i = has_wrong_cases_by i.op d f i

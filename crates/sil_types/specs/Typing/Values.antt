@@ -1,11 +1,12 @@
 -- The types of a function's values, and the functions that they stand for.
-use Rattle.std.specs.Prelude.{ℕ, List, Option, Some, None, map, length, slice_get, replicate, unwrap_or}
+use Rattle.std.specs.Prelude.{ℕ, List, [], ◌∷◌, Option, Some, None, map, length, slice_get, replicate, unwrap_or}
 use Rattle.std.specs.List.{range_with_len}
 use Rattle.sil_ast.specs.declared.function.BlockArg.{BlockArg}
 use Rattle.sil_ast.specs.declared.function.Function.{Function}
 use Rattle.sil_ast.specs.declared.inst.Inst.{Inst}
 use Rattle.sil_ast.specs.declared.operands.Operand.{Operand}
 use Rattle.sil_ast.specs.declared.place.FuncId.{FuncId}
+use Rattle.sil_ast.specs.declared.place.ValueId.{ValueId}
 use Rattle.sil_ast.specs.declared.type_name.TypeName.{TypeName}
 use Rattle.value_tables.specs.ValueRows.{value_rows}
 use Rattle.type_definitions.specs.Declarations.{Declarations}
@@ -36,9 +37,14 @@ type_at types v = unwrap_or (slice_get types v) None
 abbrev pub type_of_value : List (Option TypeName) → Operand → Option TypeName
 type_of_value types o = type_at types o.value.0
 
--- each result of a `function_ref` stands for the function that it names, and no other value stands for one
+-- of an instruction's names the first is a result of a `function_ref`; a further one is a name too many
+abbrev pub functions_by : Option FuncId → List ValueId → List (Option FuncId)
+functions_by function [] = []
+functions_by function (result ∷ others) = function ∷ replicate (length others) None
+
+-- the result of a `function_ref` stands for the function that it names, and no other value stands for one
 abbrev pub result_functions : Inst → List (Option FuncId)
-result_functions i = replicate (length i.results) i.function
+result_functions i = functions_by i.function i.results
 
 abbrev pub arg_functions : ℕ → List BlockArg → List (Option FuncId)
 arg_functions n args = replicate (length args) None

@@ -4,7 +4,7 @@ use Rattle.sil_ast.specs.declared.function.Block.{Block}
 use Rattle.sil_ast.specs.declared.function.Function.{Function}
 use Rattle.sil_ast.specs.declared.inst.Inst.{Inst}
 use Rattle.numbered_form.specs.Insts.{EachInBlock}
-use Rattle.numbered_form.specs.Limits.{IsDeclInLimits}
+use Rattle.numbered_form.specs.inner.Limits.{IsDeclInLimits}
 use Rattle.numbered_form.specs.Lists.{Each}
 use Rattle.numbered_form.specs.Numbering.{IsEdgeInRange, values_of}
 use Rattle.type_definitions.specs.Declarations.{declarations_of}

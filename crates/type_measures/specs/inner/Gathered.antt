@@ -4,23 +4,34 @@ use Rattle.std.specs.Prelude.{ℕ, ◌+◌, List, Bool, ◌&&◌, min, max, unwr
 use Rattle.type_definitions.specs.Measures.{all_trivial, all_leaves, most_leaves, most_depth, measured, unmeasured}
 use Rattle.type_definitions.specs.declared.measure.Measure.{Measure}
 use Rattle.type_measures.specs.declared.gathered.Gathered.{Gathered}
+use Rattle.type_measures.specs.declared.gathered.TheConstants.{MOST_DEPTH, MOST_LEAVES}
 
 abbrev pub capped : Measure → Measure
-capped m = measured m.trivial (min m.leaves 65) (min m.depth 33)
+capped m = measured m.trivial (min m.leaves MOST_LEAVES) (min m.depth MOST_DEPTH)
 
 abbrev pub known_at : List Measure → ℕ → Measure
 known_at known place = unwrap_or (slice_get known place) unmeasured
 
 -- what these measures come to
 abbrev pub gathered : List Measure → Gathered
-gathered ms = record { trivial = all_trivial ms; leaves = min (all_leaves ms) 65; most = min (most_leaves ms) 65; depth = min (most_depth ms) 33 }
+gathered ms = record {
+  trivial = all_trivial ms;
+  leaves = min (all_leaves ms) MOST_LEAVES;
+  most = min (most_leaves ms) MOST_LEAVES;
+  depth = min (most_depth ms) MOST_DEPTH;
+}
 
 -- with one more that is counted just past the limits
 abbrev pub with_member : Gathered → Measure → Gathered
-with_member g m = record { trivial = g.trivial && m.trivial; leaves = min (g.leaves + m.leaves) 65; most = max g.most m.leaves; depth = max g.depth m.depth }
+with_member g m = record {
+  trivial = g.trivial && m.trivial;
+  leaves = min (g.leaves + m.leaves) MOST_LEAVES;
+  most = max g.most m.leaves;
+  depth = max g.depth m.depth;
+}
 
 abbrev pub as_members : Gathered → Measure
-as_members g = measured g.trivial g.leaves (min (g.depth + 1) 33)
+as_members g = measured g.trivial g.leaves (min (g.depth + 1) MOST_DEPTH)
 
 abbrev pub as_payloads : Gathered → Measure
-as_payloads g = measured g.trivial (min (g.most + 1) 65) (min (g.depth + 1) 33)
+as_payloads g = measured g.trivial (min (g.most + 1) MOST_LEAVES) (min (g.depth + 1) MOST_DEPTH)

@@ -1,6 +1,7 @@
 use Rattle.std.proofs.Common.{◌≡◌, ◌+◌, ◌<◌, ◌∷◌, length, drop, refl, sym, ap, ◌∙◌, arith, true, false, length-set}
 use Rattle.std.specs.Prelude.{◌&&◌, ◌||◌, slice_index_or}
 use Rattle.std.specs.List.{list_all, cons_option}
+use Rattle.sil_rules.specs.declared.limits.TheConstants.{MEMBERS}
 use Rattle.sil_types.specs.Typing.SwitchRules.{are_once, has_number, places_of}
 use Rattle.typing_forms.proofs.MetCases.{is_free, once_at_first, met_at_first, places_from, once_more, met_more}
 use Rattle.typing_forms.proofs.switch_cases.cases_met.Goals as goal
@@ -9,7 +10,7 @@ use Rattle.typing_forms.proofs.switch_cases.cases_met.Goals.{in-Some+else-met-pl
 pub loop-edge-init : goal.loop-edge-init
 loop-edge-init c =
     let ns = places_of c.args.table.now c.args.ty.now c.args.edges.now in
-    record { size = refl; once = once_at_first 64 ns; met = λ k lt. met_at_first 64 k ns }
+    record { size = refl; once = once_at_first MEMBERS ns; met = λ k lt. met_at_first MEMBERS k ns }
 
 pub loop-edge-preserved : goal.loop-edge-preserved
 loop-edge-preserved c =

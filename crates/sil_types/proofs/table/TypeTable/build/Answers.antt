@@ -1,3 +1,4 @@
+use Rattle.type_measures.proofs.ByParts.{by_parts}
 use Rattle.sil_types.proofs.FirstRefusals.{all_declared}
 use Rattle.sil_types.proofs.table.TypeTable.build.Goals as goal
 
@@ -7,3 +8,6 @@ returns-clause-ok c = record {
   declared = all_declared c.args.m.now c.in_ok-check_items_and_limits.ensures.items c.in_ok-order.ensures.finite;
   limits = c.in_ok-check_items_and_limits.ensures.limits;
 }
+
+pub returns-clause-measures : goal.returns-clause-measures
+returns-clause-measures c = by_parts c.in_ok-declarations.declarations _ c.in_ok-order.ensures.order

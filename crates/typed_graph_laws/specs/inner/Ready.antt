@@ -7,7 +7,7 @@ use Rattle.sil_ast.specs.declared.function.Block.{Block}
 use Rattle.sil_ast.specs.declared.function.Function.{Function}
 use Rattle.sil_ast.specs.declared.inst.Edge.{Edge}
 use Rattle.numbered_form.specs.Numbering.{IsFunctionNumbered}
-use Rattle.sil_cfg.specs.Build.{HasGraph}
+use Rattle.sil_cfg.specs.inner.Build.{HasGraph}
 use Rattle.sil_types.specs.Typing.EdgeRules.{args_of}
 
 -- the edge goes to another block than the entry
