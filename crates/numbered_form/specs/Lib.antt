@@ -1,11 +1,5 @@
 pub mod Lists
 pub mod Insts
 pub mod Numbering
-pub mod Parts
-pub mod Literals
-pub mod Fields
 pub mod Names
-pub mod Types
-pub mod Functions
-pub mod Limits
-pub mod NumberedForm
+pub mod inner

@@ -11,10 +11,10 @@ use Rattle.written_tree.specs.declared.written_instructions.WrittenInst.{Written
 use Rattle.name_resolution.specs.Resolved.{Scope, counted, defined_by, defined_by_inst, defined_in, resolved_args, resolved_block, resolved_blocks, resolved_inst, resolved_insts}
 use Rattle.numbered_form.specs.Lists.{Each}
 use Rattle.numbered_form.specs.Insts.{EachInBlock}
-use Rattle.numbered_form.specs.Limits.{IsBlockInLimits, IsInstInLimits}
+use Rattle.numbered_form.specs.inner.Limits.{IsBlockInLimits, IsInstInLimits}
 use Rattle.instruction_table.specs.Forms.{extra_value_of, has_one_result, is_terminator}
-use Rattle.numbered_form.specs.Parts.{BlockHasParts, IsInside}
-use Rattle.numbered_form.specs.Types.{HasArgType, HasBlockTypes, HasInstTypes}
+use Rattle.numbered_form.specs.inner.Parts.{BlockHasParts, IsInside}
+use Rattle.numbered_form.specs.inner.Types.{HasArgType, HasBlockTypes, HasInstTypes}
 use Rattle.numbered_reading_laws.proofs.ListsAndFaults.{not_true}
 use Rattle.numbered_reading_laws.proofs.RowRules.{ends_alone, takes_none}
 use Rattle.numbered_reading_laws.proofs.FaultlessParts.{IsGoodArg, IsGoodBlock, IsGoodEnd, IsGoodInside, IsGoodInst}

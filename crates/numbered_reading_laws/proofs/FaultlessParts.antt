@@ -40,13 +40,13 @@ use Rattle.written_values.specs.Values.{param_before, givens_of, given_before, s
 use Rattle.written_values.specs.Values.{inst_of, operands_of, operand_of, edges_of, edge_of, member_of, qualifier_of, debug_of, entry_of, no_debug}
 use Rattle.name_resolution.specs.Resolved.{Scope, resolved_decl, resolved_edge, resolved_inst, resolved_operand}
 use Rattle.numbered_form.specs.Lists.{Each, is_empty}
-use Rattle.numbered_form.specs.Fields.{HasStrongFields}
-use Rattle.numbered_form.specs.Limits.{IsDeclInLimits, IsEdgeInLimits, IsInstInLimits, IsSignatureInLimits}
-use Rattle.numbered_form.specs.Literals.{HasLiterals}
+use Rattle.numbered_form.specs.inner.Fields.{HasStrongFields}
+use Rattle.numbered_form.specs.inner.Limits.{IsDeclInLimits, IsEdgeInLimits, IsInstInLimits, IsSignatureInLimits}
+use Rattle.numbered_form.specs.inner.Literals.{HasLiterals}
 use Rattle.numbered_form.specs.Names.{IsDeclSpelled, IsEdgeSpelled, IsInstSpelled, IsMemberSpelled, IsWord, is_at_name, is_quotable}
 use Rattle.instruction_table.specs.Forms.{is_terminator}
-use Rattle.numbered_form.specs.Parts.{HasItsParts, are_cases, is_branch, is_plain_or_init, is_plain_or_take, is_typed}
-use Rattle.numbered_form.specs.Types.{HasDeclTypes, HasEdgeTypes, HasGivenType, HasInstTypes, HasOperandType, HasParamType, HasSignatureTypes, IsPlacedType, IsPlainType, is_plain_type, same}
+use Rattle.numbered_form.specs.inner.Parts.{HasItsParts, are_cases, is_branch, is_plain_or_init, is_plain_or_take, is_typed}
+use Rattle.numbered_form.specs.inner.Types.{HasDeclTypes, HasEdgeTypes, HasGivenType, HasInstTypes, HasOperandType, HasParamType, HasSignatureTypes, IsPlacedType, IsPlainType, is_plain_type, same}
 use Rattle.numbered_reading_laws.specs.inner.Leaves.{IsTextOf}
 
 -- types

@@ -18,13 +18,13 @@ use Rattle.written_tree.specs.Places.{is_kept, is_ossa}
 use Rattle.name_resolution.specs.Names.{Name, decls_of, functions_of, name_of, vtables_of}
 use Rattle.name_resolution.specs.Resolved.{Scope, form_of, resolved, resolved_blocks, resolved_decl, resolved_entry, resolved_function, resolved_vtable, scope_of}
 use Rattle.numbered_form.specs.Lists.{Each}
-use Rattle.numbered_form.specs.Fields.{AreStructFieldsStrong, HasStrongFields}
-use Rattle.numbered_form.specs.Functions.{AreFunctionsFormed, IsAttribute, IsFormed}
+use Rattle.numbered_form.specs.inner.Fields.{AreStructFieldsStrong, HasStrongFields}
+use Rattle.numbered_form.specs.inner.Functions.{AreFunctionsFormed, IsAttribute, IsFormed}
 use Rattle.numbered_form.specs.Insts.{EachInBlock, EachInFunction, EachInst}
-use Rattle.numbered_form.specs.Literals.{AreLiteralsInRange, HasLiterals}
+use Rattle.numbered_form.specs.inner.Literals.{AreLiteralsInRange, HasLiterals}
 use Rattle.numbered_form.specs.Names.{AreNamesSpelled, IsDeclSpelled, IsFunctionSpelled, IsInstSpelled, IsVtableSpelled, IsWord}
-use Rattle.numbered_form.specs.Parts.{BlockHasParts, FunctionHasParts, HaveTheirParts}
-use Rattle.numbered_form.specs.Types.{AreTypesWritten, HasBlockTypes, HasDeclTypes, HasFunctionTypes}
+use Rattle.numbered_form.specs.inner.Parts.{BlockHasParts, FunctionHasParts, HaveTheirParts}
+use Rattle.numbered_form.specs.inner.Types.{AreTypesWritten, HasBlockTypes, HasDeclTypes, HasFunctionTypes}
 use Rattle.numbered_reading_laws.proofs.ListsAndFaults.{Each-map}
 use Rattle.numbered_reading_laws.proofs.BlockLemmas.{Each-blocks, block_parts, block_types, in_block}
 use Rattle.numbered_reading_laws.proofs.FaultlessParts.{IsGoodBlock, IsGoodEntry, IsGoodFunction, IsGoodInst, IsGoodModule, IsGoodVtable, IsWordToken}

@@ -26,7 +26,7 @@ use Rattle.name_resolution.specs.Resolved.{Scope, counted, defined_by, defined_b
 use Rattle.name_resolution.specs.Resolved.{resolved_decl, resolved_function, resolved_inst, resolved_insts, scope_of}
 use Rattle.numbered_form.specs.Lists.{Each}
 use Rattle.numbered_form.specs.Insts.{insts_in, insts_of}
-use Rattle.numbered_form.specs.Limits.{AreLimitsKept, IsBlockInLimits, IsDeclInLimits, IsFunctionInLimits, inst_takes_value, takes_value, takes_value_by, value_count}
+use Rattle.numbered_form.specs.inner.Limits.{AreLimitsKept, IsBlockInLimits, IsDeclInLimits, IsFunctionInLimits, inst_takes_value, takes_value, takes_value_by, value_count}
 use Rattle.numbered_form.specs.Numbering.{results_of, value_of, values_of}
 use Rattle.numbered_form.specs.Numbering as numbering
 use Rattle.instruction_table.specs.Forms.{extra_value_of, has_one_result, is_terminator}

@@ -12,8 +12,8 @@ use Rattle.written_numbers.proofs.Residues.{literal_is_signed, half_some, half_d
 use Rattle.written_tree.specs.Faults.{out_of_range}
 use Rattle.written_values.specs.inner.RowMeaning.{element_of}
 use Rattle.written_values.specs.Types.{width_of}
-use Rattle.numbered_form.specs.Literals.{is_element_number, is_residue, literal_width}
-use Rattle.numbered_form.specs.Types.{is_plain_type}
+use Rattle.numbered_form.specs.inner.Literals.{is_element_number, is_residue, literal_width}
+use Rattle.numbered_form.specs.inner.Types.{is_plain_type}
 use Rattle.numbered_reading_laws.proofs.ListsAndFaults.{both}
 use Rattle.numbered_reading_laws.proofs.TypeLemmas.{literal_width_is}
 

@@ -24,8 +24,8 @@ use Rattle.written_values.specs.inner.RowMeaning.{bare_operand, typed_by, with_p
 use Rattle.written_values.specs.Values.{operands_of, token_of, tokens_of}
 use Rattle.name_resolution.specs.Resolved.{Scope, resolved_operand}
 use Rattle.numbered_form.specs.Lists.{Each, is_empty}
-use Rattle.numbered_form.specs.Parts.{are_of_parts, has_operands, is_bare, is_typed}
-use Rattle.numbered_form.specs.Types.{HasOperandType}
+use Rattle.numbered_form.specs.inner.Parts.{are_of_parts, has_operands, is_bare, is_typed}
+use Rattle.numbered_form.specs.inner.Types.{HasOperandType}
 use Rattle.numbered_reading_laws.proofs.ListsAndFaults.{Each-append, Each-weaker, all_each, both, either_first, implied, not_passed-map}
 use Rattle.numbered_reading_laws.proofs.FaultlessParts.{AreEnumOperands, AreGoodFrom, IsGoodOperand, IsGoodPart}
 use Rattle.numbered_reading_laws.proofs.RowRules.{may_stand, none_asked, operand_parts}

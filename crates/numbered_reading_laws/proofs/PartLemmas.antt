@@ -34,9 +34,9 @@ use Rattle.written_values.specs.Values.{signature_of, stage_of, token_of, tokens
 use Rattle.written_values.proofs.Unfolded.{value_parts}
 use Rattle.name_resolution.specs.Resolved.{Scope, resolved_case, resolved_decl, resolved_field, resolved_operand}
 use Rattle.numbered_form.specs.Lists.{Each}
-use Rattle.numbered_form.specs.Fields.{IsStrong}
+use Rattle.numbered_form.specs.inner.Fields.{IsStrong}
 use Rattle.numbered_form.specs.Names.{IsMemberSpelled, IsWord, case_name, field_name, is_at_name}
-use Rattle.numbered_form.specs.Types.{HasFieldType, HasPayloadType, IsPlainType}
+use Rattle.numbered_form.specs.inner.Types.{HasFieldType, HasPayloadType, IsPlainType}
 use Rattle.numbered_reading_laws.proofs.ListsAndFaults.{Each-map, not_passed, not_passed-map}
 use Rattle.numbered_reading_laws.proofs.FaultlessParts.{AreGoodCases, AreGoodFrom, AreGoodGivens, AreGoodOperands, AreGoodParams, AreGoodSwitch, IsGoodBlock}
 use Rattle.numbered_reading_laws.proofs.FaultlessParts.{IsGoodBranch, IsGoodCase, IsGoodDecl, IsGoodField, IsGoodFunction, IsGoodItem, IsGoodModule, IsGoodPart}

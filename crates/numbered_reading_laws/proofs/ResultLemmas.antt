@@ -7,7 +7,7 @@ use Rattle.written_tree.specs.declared.written_declarations.WrittenToken.{Writte
 use Rattle.written_tree.specs.declared.written_instructions.WrittenInst.{WrittenInst}
 use Rattle.name_resolution.specs.Resolved.{Scope, counted, defined_by, resolved_inst}
 use Rattle.numbered_form.specs.Lists.{is_empty}
-use Rattle.numbered_form.specs.Parts.{has_results}
+use Rattle.numbered_form.specs.inner.Parts.{has_results}
 use Rattle.numbered_reading_laws.proofs.FaultlessParts.{IsGoodInst}
 
 not_and_false : (b : Bool) → not (b && false) ≡ true

@@ -28,10 +28,10 @@ use Rattle.written_values.specs.inner.RowMeaning.{edges_at, number_by, with_part
 use Rattle.written_values.specs.Values.{edge_of, member_of, qualifier_of, type_of}
 use Rattle.name_resolution.specs.Resolved.{Scope, resolved_edge}
 use Rattle.numbered_form.specs.Lists.{Each}
-use Rattle.numbered_form.specs.Literals.{is_number_by, is_text_by}
+use Rattle.numbered_form.specs.inner.Literals.{is_number_by, is_text_by}
 use Rattle.numbered_form.specs.Names.{IsMemberSpelled, is_quotable}
-use Rattle.numbered_form.specs.Parts.{are_edges_by, has_edges, is_among, is_callee, is_debug, is_flags, is_member, is_number, is_signature, is_silent, is_text, is_type, may_have, row_has}
-use Rattle.numbered_form.specs.Types.{IsPlainType}
+use Rattle.numbered_form.specs.inner.Parts.{are_edges_by, has_edges, is_among, is_callee, is_debug, is_flags, is_member, is_number, is_signature, is_silent, is_text, is_type, may_have, row_has}
+use Rattle.numbered_form.specs.inner.Types.{IsPlainType}
 use Rattle.numbered_reading_laws.proofs.ListsAndFaults.{both, either_first, either_second, not_true}
 use Rattle.numbered_reading_laws.proofs.FaultlessParts.{AreGoodFrom, IsGoodBranch, IsGoodDebug, IsGoodEdge, IsGoodPart, IsGoodSignature, IsGoodToken}
 use Rattle.numbered_reading_laws.proofs.NumberLemmas.{IsGoodElement, IsGoodLiteral, good_element, good_literal}

@@ -12,7 +12,7 @@ use Rattle.instruction_table.specs.declared.op.Op.{Op}
 use Rattle.instruction_table.specs.declared.op.Op.TheVariants as op
 use Rattle.sil_ast.specs.declared.operands.Operand.{Operand}
 use Rattle.numbered_form.specs.Lists.{is_empty}
-use Rattle.numbered_form.specs.Parts.{are_of_parts, has_edges, is_type, row_has}
+use Rattle.numbered_form.specs.inner.Parts.{are_of_parts, has_edges, is_type, row_has}
 use Rattle.numbered_reading_laws.proofs.ListsAndFaults.{implied}
 
 abbrev pub is_operand : Part → Bool

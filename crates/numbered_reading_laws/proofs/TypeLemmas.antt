@@ -18,9 +18,9 @@ use Rattle.written_tree.proofs.FaultOrder.{no_first, no_second}
 use Rattle.written_values.specs.Opened.{PartType, PartTypes}
 use Rattle.written_values.specs.inner.PartFaults.{too_deep, too_deep_among, too_many_questions, tuple_fault}
 use Rattle.written_values.specs.Types.{between, deeper, in_parens, kept, with_questions, named_type, one_deeper, one_token, type_before, width_in_range, width_of, width_over}
-use Rattle.numbered_form.specs.Literals.{literal_width, width_at}
+use Rattle.numbered_form.specs.inner.Literals.{literal_width, width_at}
 use Rattle.numbered_form.specs.Names.{IsWord, is_word}
-use Rattle.numbered_form.specs.Types.{IsPlacedType, IsPlainType, is_placed_at, is_plain_type, is_tuple, is_width, is_written, same}
+use Rattle.numbered_form.specs.inner.Types.{IsPlacedType, IsPlainType, is_placed_at, is_plain_type, is_tuple, is_width, is_written, same}
 use Rattle.numbered_reading_laws.proofs.ListsAndFaults.{both, not_passed, not_there}
 use Rattle.numbered_reading_laws.proofs.FaultlessParts.{AreGoodTypes, IsGoodType}
 

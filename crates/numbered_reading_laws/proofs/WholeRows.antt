@@ -25,11 +25,11 @@ use Rattle.written_values.specs.inner.PartFaults.{fault_of_part, parts_fault, ro
 use Rattle.written_values.specs.inner.RowMeaning.{begun, behind_part, row, with_part, with_parts}
 use Rattle.written_values.specs.Values.{inst_of}
 use Rattle.name_resolution.specs.Resolved.{function_of, resolved_edge, resolved_operand}
-use Rattle.numbered_form.specs.Limits.{IsEdgeInLimits, IsSignatureInLimits}
-use Rattle.numbered_form.specs.Literals.{is_number_of, is_text_of}
+use Rattle.numbered_form.specs.inner.Limits.{IsEdgeInLimits, IsSignatureInLimits}
+use Rattle.numbered_form.specs.inner.Literals.{is_number_of, is_text_of}
 use Rattle.numbered_form.specs.Names.{IsEdgeSpelled, IsMemberSpelled, is_quotable}
-use Rattle.numbered_form.specs.Parts.{has_operands, is_among, is_callee, is_debug, is_flags, is_member, is_number, is_signature, is_silent, is_text, is_type, may_have, row_has}
-use Rattle.numbered_form.specs.Types.{HasEdgeTypes, HasSignatureTypes, IsPlainType}
+use Rattle.numbered_form.specs.inner.Parts.{has_operands, is_among, is_callee, is_debug, is_flags, is_member, is_number, is_signature, is_silent, is_text, is_type, may_have, row_has}
+use Rattle.numbered_form.specs.inner.Types.{HasEdgeTypes, HasSignatureTypes, IsPlainType}
 use Rattle.numbered_reading_laws.proofs.ListsAndFaults.{Each-weaker, either_first, either_second}
 use Rattle.numbered_reading_laws.proofs.FaultlessParts.{AreGoodFrom, IsGoodAnywhere, IsGoodDebug, IsGoodEdge, IsGoodPart, IsGoodSignature, nothing_shown}
 use Rattle.numbered_reading_laws.proofs.OperandLemmas.{AreOperandsBefore, operands_kept}

@@ -14,9 +14,9 @@ use Rattle.written_tree.specs.Places.{arg_place, extra_places, mnemonic_place, m
 use Rattle.name_resolution.specs.Resolved.{defined_by}
 use Rattle.numbered_form.specs.Lists.{Each}
 use Rattle.numbered_form.specs.Insts.{insts_in, insts_of}
-use Rattle.numbered_form.specs.Limits.{inst_takes_value, takes_value, value_count}
+use Rattle.numbered_form.specs.inner.Limits.{inst_takes_value, takes_value, value_count}
 use Rattle.numbered_form.specs.Numbering.{defined_in, results_of, value_of, values_of}
-use Rattle.numbered_form.specs.Parts.{has_results}
+use Rattle.numbered_form.specs.inner.Parts.{has_results}
 use Rattle.numbered_reading_laws.proofs.LimitLemmas.{both_lengths, ends_take_none, extra_count, result_count, values_with, values_with-cons}
 use Rattle.printed_reading_laws.proofs.BlockReading.{IsBlockPrintable, IsEndPrintable, IsInsidePrintable}
 use Rattle.printed_reading_laws.proofs.ResultNames.{IsDefinedAs, results_defined}

@@ -30,7 +30,7 @@ use Rattle.written_tree.specs.Places.{arg_place}
 use Rattle.written_values.specs.Values.{arg_of, args_of, block_of, blocks_of, insts_of, ownership_of, terminator_of, token_of}
 use Rattle.numbered_form.specs.Lists.{Each}
 use Rattle.instruction_table.specs.Forms.{is_terminator}
-use Rattle.numbered_form.specs.Types.{IsPlacedType}
+use Rattle.numbered_form.specs.inner.Types.{IsPlacedType}
 use Rattle.numbered_reading_laws.proofs.ListsAndFaults.{Each-weaker}
 use Rattle.printed_reading_laws.proofs.Commas.{MoreItems, listed_reads}
 use Rattle.printed_reading_laws.proofs.FixedTokens.{at_here, punctuation_here}

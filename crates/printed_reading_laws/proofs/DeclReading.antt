@@ -29,11 +29,11 @@ use Rattle.written_values.specs.Opened.{PartValue}
 use Rattle.written_values.specs.inner.PartFaults.{part_fault}
 use Rattle.written_values.specs.Values.{cases_of, field_before, field_of, fields_of, item_of, payload_of, token_of}
 use Rattle.name_resolution.specs.Resolved.{resolved_case, resolved_field}
-use Rattle.numbered_form.specs.Fields.{HasStrongFields, IsStrong}
+use Rattle.numbered_form.specs.inner.Fields.{HasStrongFields, IsStrong}
 use Rattle.numbered_form.specs.Lists.{Each}
-use Rattle.numbered_form.specs.Limits.{IsDeclInLimits}
+use Rattle.numbered_form.specs.inner.Limits.{IsDeclInLimits}
 use Rattle.numbered_form.specs.Names.{IsWord, Name, case_name, decl_name, field_name, member_names}
-use Rattle.numbered_form.specs.Types.{HasDeclTypes, HasFieldType, HasPayloadType, IsPlainType}
+use Rattle.numbered_form.specs.inner.Types.{HasDeclTypes, HasFieldType, HasPayloadType, IsPlainType}
 use Rattle.printed_reading_laws.proofs.Braced.{braced_reads}
 use Rattle.printed_reading_laws.proofs.FixedTokens.{any_word, keyword_here, punctuation_here}
 use Rattle.printed_reading_laws.proofs.PartLimits.{not_passed}

@@ -9,10 +9,10 @@ use Rattle.sil_ast.specs.declared.member.Member.{Member}
 use Rattle.sil_ast.specs.declared.operands.Operand.{Operand}
 use Rattle.sil_ast.specs.declared.place.BlockId.{BlockId}
 use Rattle.numbered_form.specs.Lists.{Each, is_empty}
-use Rattle.numbered_form.specs.Limits.{IsEdgeInLimits}
+use Rattle.numbered_form.specs.inner.Limits.{IsEdgeInLimits}
 use Rattle.numbered_form.specs.Names.{IsEdgeSpelled, IsMemberSpelled}
-use Rattle.numbered_form.specs.Parts.{are_cases, is_branch}
-use Rattle.numbered_form.specs.Types.{HasEdgeTypes, HasOperandType}
+use Rattle.numbered_form.specs.inner.Parts.{are_cases, is_branch}
+use Rattle.numbered_form.specs.inner.Types.{HasEdgeTypes, HasOperandType}
 use Rattle.printed_reading_laws.proofs.OperandForms.{impossible}
 use Rattle.printed_reading_laws.proofs.OperandReading.{AreTyped}
 use Rattle.printed_reading_laws.proofs.Printable.{IsSmallEdge, IsSmallOperand}

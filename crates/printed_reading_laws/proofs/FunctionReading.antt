@@ -31,11 +31,11 @@ use Rattle.written_tree.specs.Places.{attribute_places, is_kept, label_place, mn
 use Rattle.written_tree.proofs.FaultOrder.{neither}
 use Rattle.written_values.specs.Values.{blocks_of, item_of, linkage_of, token_of, tokens_of}
 use Rattle.name_resolution.specs.Names.{Name, name_of}
-use Rattle.numbered_form.specs.Functions.{IsAttribute}
+use Rattle.numbered_form.specs.inner.Functions.{IsAttribute}
 use Rattle.numbered_form.specs.Lists.{Each}
-use Rattle.numbered_form.specs.Limits.{IsFunctionInLimits}
+use Rattle.numbered_form.specs.inner.Limits.{IsFunctionInLimits}
 use Rattle.numbered_form.specs.Names.{IsFunctionSpelled, IsWord}
-use Rattle.numbered_form.specs.Types.{HasSignatureTypes}
+use Rattle.numbered_form.specs.inner.Types.{HasSignatureTypes}
 use Rattle.numbered_reading_laws.proofs.ListsAndFaults.{Each-append}
 use Rattle.printed_reading_laws.proofs.BlockCounts.{inst_count_is, length_blocks, value_count_is}
 use Rattle.printed_reading_laws.proofs.BlockReading.{IsBlockPrintable, block_reads, blocks_behind, blocks_read}

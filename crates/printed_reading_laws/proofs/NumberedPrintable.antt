@@ -7,17 +7,17 @@ use Rattle.sil_ast.specs.declared.function.Function.{Function}
 use Rattle.sil_ast.specs.declared.inst.Inst.{Inst}
 use Rattle.sil_ast.specs.declared.module.Module.{Module}
 use Rattle.sil_ast.specs.declared.vtable.Vtable.{Vtable}
-use Rattle.numbered_form.specs.Fields.{HasStrongFields}
-use Rattle.numbered_form.specs.Functions.{IsFormed}
+use Rattle.numbered_form.specs.inner.Fields.{HasStrongFields}
+use Rattle.numbered_form.specs.inner.Functions.{IsFormed}
 use Rattle.numbered_form.specs.Insts.{EachInBlock, EachInFunction, insts_of}
-use Rattle.numbered_form.specs.Limits.{IsBlockInLimits, IsDeclInLimits, IsFunctionInLimits, IsInstInLimits}
+use Rattle.numbered_form.specs.inner.Limits.{IsBlockInLimits, IsDeclInLimits, IsFunctionInLimits, IsInstInLimits}
 use Rattle.numbered_form.specs.Lists.{Each}
-use Rattle.numbered_form.specs.Literals.{HasLiterals}
+use Rattle.numbered_form.specs.inner.Literals.{HasLiterals}
 use Rattle.numbered_form.specs.Names.{IsDeclSpelled, IsFunctionSpelled, IsInstSpelled, IsVtableSpelled}
-use Rattle.numbered_form.specs.NumberedForm.{IsNumbered}
+use Rattle.numbered_form.specs.inner.NumberedForm.{IsNumbered}
 use Rattle.numbered_form.specs.Numbering.{IsFunctionNumbered, IsInstInRange, IsVtableInRange, defined_in, results_of, value_of, values_of}
-use Rattle.numbered_form.specs.Parts.{BlockHasParts, FunctionHasParts, HasItsParts, IsInside}
-use Rattle.numbered_form.specs.Types.{HasArgType, HasBlockTypes, HasDeclTypes, HasFunctionTypes, HasInstTypes}
+use Rattle.numbered_form.specs.inner.Parts.{BlockHasParts, FunctionHasParts, HasItsParts, IsInside}
+use Rattle.numbered_form.specs.inner.Types.{HasArgType, HasBlockTypes, HasDeclTypes, HasFunctionTypes, HasInstTypes}
 use Rattle.numbered_reading_laws.proofs.UsedLemmas.{Each-split}
 use Rattle.printed_reading_laws.proofs.BlockReading.{IsArgPrintable, IsBlockPrintable, IsInsidePrintable}
 use Rattle.printed_reading_laws.proofs.DeclReading.{IsDeclPrintable}

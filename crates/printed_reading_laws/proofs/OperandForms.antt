@@ -6,7 +6,7 @@ use Rattle.std.proofs.lemmas.Bool.{and_parts}
 use Rattle.sil_ast.specs.declared.operands.Operand.{Operand}
 use Rattle.written_values.specs.inner.RowMeaning.{bare_operand}
 use Rattle.written_tree.specs.declared.written_declarations.WrittenToken.{WrittenToken}
-use Rattle.numbered_form.specs.Parts.{is_bare}
+use Rattle.numbered_form.specs.inner.Parts.{is_bare}
 use Rattle.printed_reading_laws.proofs.Written.{IsOperandWritten, IsValueNamed}
 
 pub impossible : {A : Type 0} → IsTrue false → A

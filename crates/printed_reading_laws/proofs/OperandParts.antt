@@ -31,8 +31,8 @@ use Rattle.written_tree.specs.declared.written_instructions.WrittenInst.{Written
 use Rattle.written_tree.specs.declared.written_instructions.WrittenOperand.{WrittenOperand}
 use Rattle.numbered_form.specs.Lists.{Each, is_empty}
 use Rattle.numbered_reading_laws.proofs.ListsAndFaults.{both}
-use Rattle.numbered_form.specs.Parts.{first_then, is_bare, is_typed}
-use Rattle.numbered_form.specs.Types.{HasOperandType}
+use Rattle.numbered_form.specs.inner.Parts.{first_then, is_bare, is_typed}
+use Rattle.numbered_form.specs.inner.Types.{HasOperandType}
 use Rattle.printed_reading_laws.proofs.ListLimits.{none_passed}
 use Rattle.printed_reading_laws.proofs.NameReading.{argument_names_read}
 use Rattle.printed_reading_laws.proofs.OperandForms.{all_bare_written, bare_written, impossible, none_there, one_there}

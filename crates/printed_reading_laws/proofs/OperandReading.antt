@@ -20,8 +20,8 @@ use Rattle.written_values.specs.Opened.{PartValue}
 use Rattle.written_values.specs.inner.PartFaults.{part_fault}
 use Rattle.written_values.specs.Values.{operand_of, operands_of, token_of}
 use Rattle.numbered_form.specs.Lists.{Each}
-use Rattle.numbered_form.specs.Parts.{is_typed}
-use Rattle.numbered_form.specs.Types.{HasOperandType, IsPlacedType}
+use Rattle.numbered_form.specs.inner.Parts.{is_typed}
+use Rattle.numbered_form.specs.inner.Types.{HasOperandType, IsPlacedType}
 use Rattle.printed_reading_laws.proofs.Commas.{AllItems, ReadsListed, list_reads, listed_reads}
 use Rattle.printed_reading_laws.proofs.Pieces.{Ends, Reads as reads, ReadsAs, Stands}
 use Rattle.printed_reading_laws.proofs.Printable.{IsSmallOperand}

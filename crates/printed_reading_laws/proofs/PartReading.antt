@@ -34,12 +34,12 @@ use Rattle.written_modules.specs.Leaves.{kept_of}
 use Rattle.written_values.specs.Opened.{PartValue}
 use Rattle.written_values.specs.inner.RowMeaning.{number_by}
 use Rattle.written_values.specs.Values.{member_of, token_of}
-use Rattle.numbered_form.specs.Limits.{IsSignatureInLimits}
-use Rattle.numbered_form.specs.Literals.{is_number_by, is_text_by}
+use Rattle.numbered_form.specs.inner.Limits.{IsSignatureInLimits}
+use Rattle.numbered_form.specs.inner.Literals.{is_number_by, is_text_by}
 use Rattle.numbered_form.specs.Names.{IsMemberSpelled, is_quotable}
-use Rattle.numbered_form.specs.Parts.{are_of_parts, is_among, is_bare, is_callee, is_member, is_number, is_signature, is_text, is_type, is_typed, row_has}
+use Rattle.numbered_form.specs.inner.Parts.{are_of_parts, is_among, is_bare, is_callee, is_member, is_number, is_signature, is_text, is_type, is_typed, row_has}
 use Rattle.numbered_reading_laws.proofs.ListsAndFaults.{implied}
-use Rattle.numbered_form.specs.Types.{HasSignatureTypes, IsPlainType}
+use Rattle.numbered_form.specs.inner.Types.{HasSignatureTypes, IsPlainType}
 use Rattle.sil_grammar.specs.Classes.{text_class}
 use Rattle.sil_grammar.proofs.NumberedLemmas.{between_quotes}
 use Rattle.printed_reading_laws.proofs.DebugReading.{any_text, debug_reads}

@@ -6,11 +6,11 @@ use Rattle.sil_ast.specs.declared.inst.Inst.{Inst}
 use Rattle.sil_ast.specs.declared.operands.Operand.{Operand}
 use Rattle.sil_ast.specs.declared.place.ValueId.{ValueId}
 use Rattle.numbered_form.specs.Lists.{Each}
-use Rattle.numbered_form.specs.Limits.{IsInstInLimits}
-use Rattle.numbered_form.specs.Literals.{HasLiterals}
+use Rattle.numbered_form.specs.inner.Limits.{IsInstInLimits}
+use Rattle.numbered_form.specs.inner.Literals.{HasLiterals}
 use Rattle.numbered_form.specs.Names.{IsFunctionSpelled, IsInstSpelled}
-use Rattle.numbered_form.specs.Parts.{HasItsParts}
-use Rattle.numbered_form.specs.Types.{HasInstTypes}
+use Rattle.numbered_form.specs.inner.Parts.{HasItsParts}
+use Rattle.numbered_form.specs.inner.Types.{HasInstTypes}
 use Rattle.printed_reading_laws.proofs.Tokens.{IsSmall}
 
 abbrev pub IsSmallValue : ValueId → Type 0

@@ -12,7 +12,7 @@ use Rattle.sil_shape.specs.declared.grammar.Production.TheVariants as p
 use Rattle.written_values.specs.inner.Meaning.{meaning}
 use Rattle.written_values.specs.inner.PartFaults.{part_fault}
 use Rattle.written_values.specs.Values.{flags_of, qualifier_of}
-use Rattle.numbered_form.specs.Parts.{is_plain_or_init, is_plain_or_take}
+use Rattle.numbered_form.specs.inner.Parts.{is_plain_or_init, is_plain_or_take}
 use Rattle.printed_reading_laws.proofs.Pieces.{Ends, Reads as reads, Stands}
 use Rattle.printed_reading_laws.proofs.ProductionReading.{stands_by}
 use Rattle.printed_reading_laws.proofs.Tokens.{punctuation_token, word_token}

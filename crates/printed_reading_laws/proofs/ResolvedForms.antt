@@ -13,7 +13,7 @@ use Rattle.written_tree.specs.Places.{is_kept, is_ossa}
 use Rattle.name_resolution.specs.Names.{Name, name_of}
 use Rattle.name_resolution.specs.Resolved.{form_of}
 use Rattle.numbered_form.specs.Lists.{Each}
-use Rattle.numbered_form.specs.Functions.{IsAttribute}
+use Rattle.numbered_form.specs.inner.Functions.{IsAttribute}
 use Rattle.printed_reading_laws.proofs.Namings.{no_match}
 use Rattle.printed_reading_laws.proofs.Written.{form_words}
 use Rattle.numbered_reading_laws.proofs.FieldLemmas.{not_empty}

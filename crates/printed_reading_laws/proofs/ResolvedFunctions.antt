@@ -14,11 +14,11 @@ use Rattle.name_resolution.specs.NameFaults.{function_fault}
 use Rattle.name_resolution.specs.Names.{Name, functions_used, insts_of, label_of, labels_used, name_of, values_defined, values_used}
 use Rattle.name_resolution.specs.Resolved.{Scope, form_of, resolved_blocks, resolved_function, scope_of, values_of}
 use Rattle.numbered_form.specs.Lists.{Each}
-use Rattle.numbered_form.specs.Functions.{IsFormed}
-use Rattle.numbered_form.specs.Limits.{IsFunctionInLimits}
+use Rattle.numbered_form.specs.inner.Functions.{IsFormed}
+use Rattle.numbered_form.specs.inner.Limits.{IsFunctionInLimits}
 use Rattle.numbered_form.specs.Numbering.{IsFunctionNumbered}
 use Rattle.numbered_form.specs.Numbering as numbering
-use Rattle.numbered_form.specs.Parts.{FunctionHasParts}
+use Rattle.numbered_form.specs.inner.Parts.{FunctionHasParts}
 use Rattle.numbered_reading_laws.proofs.ListsAndFaults.{Each-weaker}
 use Rattle.printed_reading_laws.proofs.Namings.{IsNaming, counted_names, names_from, numbered_names, tells_blocks, tells_values}
 use Rattle.printed_reading_laws.proofs.NoFaults.{IsKnown, never_twice, never_unknown}

@@ -14,12 +14,12 @@ use Rattle.written_tree.specs.declared.written_module.WrittenModule.{WrittenModu
 use Rattle.name_resolution.specs.Names.{Name, decls_of, entry_function, function_name, functions_of, name_of, used_by_item, vtables_of}
 use Rattle.name_resolution.specs.Resolved.{resolved_decl, resolved_entry, resolved_vtable}
 use Rattle.numbered_form.specs.Lists.{Each}
-use Rattle.numbered_form.specs.Functions.{IsFormed}
-use Rattle.numbered_form.specs.Limits.{IsFunctionInLimits}
+use Rattle.numbered_form.specs.inner.Functions.{IsFormed}
+use Rattle.numbered_form.specs.inner.Limits.{IsFunctionInLimits}
 use Rattle.numbered_form.specs.Names as spelled
 use Rattle.numbered_form.specs.Numbering.{IsFunctionNumbered, IsVtableInRange}
-use Rattle.numbered_form.specs.NumberedForm.{IsNumbered}
-use Rattle.numbered_form.specs.Parts.{FunctionHasParts}
+use Rattle.numbered_form.specs.inner.NumberedForm.{IsNumbered}
+use Rattle.numbered_form.specs.inner.Parts.{FunctionHasParts}
 use Rattle.numbered_reading_laws.proofs.ListsAndFaults.{Each-append, Each-flat_map, Each-map}
 use Rattle.printed_reading_laws.proofs.Namings.{IsNaming, known, named_functions, placed}
 use Rattle.printed_reading_laws.proofs.NoFaults.{IsKnown}

@@ -15,11 +15,11 @@ use Rattle.sil_shape.specs.Rows.{edges_by}
 use Rattle.token_classes.specs.Spelling.{punctuation_of, punctuation_spelling, signs}
 use Rattle.written_values.specs.Opened.{PartValue}
 use Rattle.written_values.specs.inner.RowMeaning.{edges_at}
-use Rattle.numbered_form.specs.Limits.{IsEdgeInLimits}
+use Rattle.numbered_form.specs.inner.Limits.{IsEdgeInLimits}
 use Rattle.numbered_form.specs.Lists.{Each}
 use Rattle.numbered_form.specs.Names.{IsEdgeSpelled}
-use Rattle.numbered_form.specs.Parts.{are_edges_by}
-use Rattle.numbered_form.specs.Types.{HasEdgeTypes}
+use Rattle.numbered_form.specs.inner.Parts.{are_edges_by}
+use Rattle.numbered_form.specs.inner.Types.{HasEdgeTypes}
 use Rattle.printed_reading_laws.proofs.EdgeForms.{IsOneBranch, IsTwoBranches, branch, branch_to, either_to, one_branch, only_to, switch_edges, two_branches}
 use Rattle.printed_reading_laws.proofs.EdgeReading.{branch_reads, switch_reads}
 use Rattle.printed_reading_laws.proofs.OperandForms.{impossible}

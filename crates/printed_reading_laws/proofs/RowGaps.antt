@@ -14,7 +14,7 @@ use Rattle.sil_shape.specs.declared.grammar.Symbol.TheVariants.{Read}
 use Rattle.token_classes.specs.Spelling.{punctuation_of, punctuation_spelling, signs}
 use Rattle.token_classes.specs.declared.classes.Punctuation.TheVariants as m
 use Rattle.written_values.specs.Opened.{PartValue}
-use Rattle.numbered_form.specs.Parts.{is_text}
+use Rattle.numbered_form.specs.inner.Parts.{is_text}
 use Rattle.printed_reading_laws.proofs.OperandForms.{impossible}
 use Rattle.printed_reading_laws.proofs.Pieces.{Reads, Reads as reads}
 use Rattle.printed_reading_laws.proofs.Tokens.{punctuation_token}

@@ -21,7 +21,7 @@ use Rattle.instruction_table.specs.declared.op.Op.TheVariants as op
 use Rattle.sil_ast.specs.declared.operands.Operand.{Operand}
 use Rattle.written_values.specs.Values.{no_debug}
 use Rattle.numbered_form.specs.Lists.{is_empty}
-use Rattle.numbered_form.specs.Parts.{HasItsParts, are_edges_by, is_among, is_callee, is_debug, is_flags, is_member, is_number, is_plain, is_signature, is_silent, is_text, is_type, row_has}
+use Rattle.numbered_form.specs.inner.Parts.{HasItsParts, are_edges_by, is_among, is_callee, is_debug, is_flags, is_member, is_number, is_plain, is_signature, is_silent, is_text, is_type, row_has}
 use Rattle.printed_reading_laws.proofs.OperandForms.{impossible}
 
 abbrev is_qualifier : Part → Bool

@@ -24,8 +24,8 @@ use Rattle.written_values.specs.Opened.{PartGivens, PartParams, PartValue}
 use Rattle.written_values.specs.inner.PartFaults.{part_fault}
 use Rattle.written_values.specs.Values.{convention_of, given_before, givens_of, param_before, params_of, signature_of, type_of}
 use Rattle.numbered_form.specs.Lists.{Each}
-use Rattle.numbered_form.specs.Limits.{IsSignatureInLimits}
-use Rattle.numbered_form.specs.Types.{HasGivenType, HasParamType, HasSignatureTypes, IsPlainType}
+use Rattle.numbered_form.specs.inner.Limits.{IsSignatureInLimits}
+use Rattle.numbered_form.specs.inner.Types.{HasGivenType, HasParamType, HasSignatureTypes, IsPlainType}
 use Rattle.numbered_reading_laws.proofs.ListsAndFaults.{Each-weaker}
 use Rattle.printed_reading_laws.proofs.Commas.{AllItems, list_reads}
 use Rattle.printed_reading_laws.proofs.PartLimits.{not_passed}

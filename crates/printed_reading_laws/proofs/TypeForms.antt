@@ -27,7 +27,7 @@ use Rattle.written_values.specs.inner.PartFaults.{part_fault, too_deep, too_many
 use Rattle.written_values.specs.Types.{deeper, kept, tailed}
 use Rattle.written_values.specs.Values.{questions_of, token_of, type_of}
 use Rattle.numbered_form.specs.Names.{is_word}
-use Rattle.numbered_form.specs.Types.{is_width}
+use Rattle.numbered_form.specs.inner.Types.{is_width}
 use Rattle.printed_reading_laws.proofs.Commas.{by_rule}
 use Rattle.printed_reading_laws.proofs.PartLimits.{not_too_deep, one_more_level, whole_type}
 use Rattle.printed_reading_laws.proofs.Pieces.{Reads as reads, ReadsAs, Stands, behind}

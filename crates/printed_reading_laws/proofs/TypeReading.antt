@@ -23,7 +23,7 @@ use Rattle.written_values.specs.inner.PartFaults.{part_fault}
 use Rattle.written_values.specs.Opened.{PartValue}
 use Rattle.written_values.specs.Values.{payload_of, starred, type_of}
 use Rattle.numbered_form.specs.Lists.{Each}
-use Rattle.numbered_form.specs.Types.{IsPlacedType, IsPlainType, is_placed_at, is_plain_type, is_tuple, is_written, same}
+use Rattle.numbered_form.specs.inner.Types.{IsPlacedType, IsPlainType, is_placed_at, is_plain_type, is_tuple, is_written, same}
 use Rattle.printed_reading_laws.proofs.Pieces.{Ends, Reads, Reads as reads, ReadsAs, Stands}
 use Rattle.printed_reading_laws.proofs.Tokens.{punctuation_token}
 use Rattle.printed_reading_laws.proofs.TypeForms.{IsTypeOf, bare_type, int_reads, named_reads, optional_reads, unowned_reads, weak_reads}

@@ -16,7 +16,7 @@ use Rattle.numbered_form.specs.Lists.{Each}
 use Rattle.numbered_form.specs.Insts.{EachInBlock, insts_in, insts_of}
 use Rattle.numbered_form.specs.Numbering.{IsInstInRange}
 use Rattle.numbered_form.specs.Numbering as numbering
-use Rattle.numbered_form.specs.Parts.{BlockHasParts, HasItsParts, IsInside, has_results}
+use Rattle.numbered_form.specs.inner.Parts.{BlockHasParts, HasItsParts, IsInside, has_results}
 use Rattle.numbered_reading_laws.proofs.NumberingLemmas.{with_end}
 use Rattle.printed_reading_laws.proofs.ResultNames.{IsDefinedAs, results_defined}
 use Rattle.printed_reading_laws.proofs.SideBySide.{zip_append, zip_flat, zip_left, zip_right}

@@ -2,5 +2,6 @@ pub mod AnswerLemmas
 pub mod EndLemmas
 pub mod ReadBackLemmas
 pub mod RefusalLemmas
+pub mod Refused
 pub mod StatusLemmas
 pub mod Unread

@@ -1,12 +1,14 @@
 -- For the law that what `print` writes reads back.
 use Rattle.std.proofs.Common.{◌≡◌, ℕ, List, arith}
 use Rattle.sil_ast.specs.declared.module.Module.{Module}
-use Rattle.sil_grammar.specs.Spells.{AreSpelledNumbered, Spells}
+use Rattle.sil_grammar.specs.Spells.{Spells}
+use Rattle.sil_grammar.specs.inner.Laws.{AreSpelledNumbered}
 use Rattle.printed_reading_laws.specs.inner.Laws.{ArePrintedSpelled}
 use Rattle.sil_rules.specs.declared.status.Status.TheVariants.{Done}
 use Rattle.sil_rules.specs.Statuses.{code_of}
 use Rattle.sil_command.specs.declared.words.Mode.TheVariants.{Print}
-use Rattle.sil_command.specs.Answers.{AnswersText, too_long, unread, spelled, AnswersPrint, printed, ArePrintedReadBack}
+use Rattle.sil_command.specs.Answers.{AnswersText, too_long, unread, spelled, AnswersPrint, printed}
+use Rattle.sil_command.specs.Laws.{ArePrintedReadBack}
 use Rattle.sil_command.proofs.StatusLemmas.{mode_answers}
 use Rattle.sil_command.proofs.Unread.{unread_status}
 

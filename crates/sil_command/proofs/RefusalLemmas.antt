@@ -4,9 +4,10 @@ use Rattle.std.proofs.lemmas.List.{append-nil}
 use Rattle.std.proofs.lemmas.Option.{same_Some}
 use Rattle.sil_ast.specs.declared.module.Module.{Module}
 use Rattle.sil_verifier.specs.Findings.{Finding, item, limit, typing, value, IsLimit}
-use Rattle.sil_verifier.specs.Reports.{Reported}
+use Rattle.sil_verifier.specs.inner.Reports.{Reported}
 use Rattle.sil_verifier.specs.declared.refusal.Refusal.{Refusal}
-use Rattle.sil_command.specs.RefusalTexts.{refusal_text, report_text}
+use Rattle.sil_command.specs.RefusalTexts.{refusal_text}
+use Rattle.sil_command.specs.inner.ReportTexts.{report_text}
 
 -- a limit has no report
 pub reported_not_limit : (m : Module) (x : Finding) (r : Refusal) → Reported m x r → IsLimit x → ⊥

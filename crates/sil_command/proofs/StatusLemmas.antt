@@ -2,15 +2,17 @@
 use Rattle.std.proofs.Common.{◌≡◌, ◌↔◌, ◌⊎◌, inl, inr, ℕ, ◌≤◌, List, [], ◌∷◌, length, get_or, refl, sym, ap, subst, ◌∙◌, arith}
 use Rattle.std.specs.Prelude.{⊤}
 use Rattle.sil_ast.specs.declared.module.Module.{Module}
-use Rattle.sil_grammar.specs.Spells.{AreSpelledOnce, Spells}
+use Rattle.sil_grammar.specs.Spells.{Spells}
+use Rattle.sil_grammar.specs.inner.Laws.{AreSpelledOnce}
 use Rattle.sil_rules.specs.declared.limits.TheConstants.{TEXT_BYTES}
 use Rattle.sil_rules.specs.declared.status.Status.TheVariants.{Done, NotAModule, Limit}
 use Rattle.sil_rules.specs.Statuses.{code_of}
 use Rattle.sil_command.specs.declared.words.Mode.{Mode}
 use Rattle.sil_command.specs.declared.words.Mode.TheVariants.{Check, Print}
 use Rattle.sil_command.specs.Words.{AsksFor, word_of}
-use Rattle.sil_command.specs.Answers.{Answers, usage, in_mode, AnswersExactly, AnswersText, too_long, unread, spelled, AnswersModule, AnswersCheck}
-use Rattle.sil_command.specs.Answers.{limit_passed, refused, accepted, AnswersPrint, printed, AreAcceptedExactly, ArePrintedExactly}
+use Rattle.sil_command.specs.Answers.{Answers, usage, in_mode, AnswersText, too_long, unread, spelled, AnswersModule, AnswersCheck}
+use Rattle.sil_command.specs.Answers.{limit_passed, refused, accepted, AnswersPrint, printed}
+use Rattle.sil_command.specs.Laws.{AnswersExactly, AreAcceptedExactly, ArePrintedExactly}
 use Rattle.sil_verifier.specs.Findings.{Accepted, limit as found_limit}
 use Rattle.sil_verifier.specs.inner.Laws.{AreAcceptedWhereNothingIsFound}
 use Rattle.sil_command.proofs.Unread.{unread_none, unread_status}

@@ -1,5 +1,5 @@
 -- The answer to a command line and a text: the bytes that are written, and the status.
-use Rattle.std.specs.Prelude.{◌≡◌, ◌↔◌, ℕ, ◌<◌, ◌≤◌, List, length, ⊤}
+use Rattle.std.specs.Prelude.{ℕ, ◌<◌, ◌≤◌, List, length}
 use Rattle.sil_ast.specs.declared.module.Module.{Module}
 use Rattle.sil_grammar.specs.declared.refusal.ReadRefusal.{ReadRefusal}
 use Rattle.sil_grammar.specs.Refusals.{IsRefusalOf}
@@ -44,23 +44,3 @@ pub data AnswersText (mode : Mode) (text : List ℕ) : List ℕ → ℕ → Type
 pub data Answers (words : List (List ℕ)) (text : List ℕ) : List ℕ → ℕ → Type 0 where
   usage : (IsCommandLine words → ⊥) → Answers words text usage_text (code_of Usage)
   in_mode : (mode : Mode) (answer : List ℕ) (status : ℕ) → AsksFor words mode → AnswersText mode text answer status → Answers words text answer status
-
--- among texts within the limit, the mode answers with the status just those that spell a module that is such
-abbrev pub AnswersExactly : Mode → ℕ → (Module → Type 0) → Type 0
-AnswersExactly mode wanted IsSuch =
-    (words : List (List ℕ)) (text answer : List ℕ) (status : ℕ) → AsksFor words mode → length text ≤ TEXT_BYTES → Answers words text answer status
-    → ((m : Module) × Spells m text × IsSuch m) ↔ (status ≡ wanted)
-
--- `check` answers Done just for the texts that spell an accepted module
-abbrev pub AreAcceptedExactly : Type 0
-AreAcceptedExactly = AnswersExactly Check (code_of Done) Accepted
-
--- `print` answers Done just for the texts that spell a module
-abbrev pub ArePrintedExactly : Type 0
-ArePrintedExactly = AnswersExactly Print (code_of Done) (λ m. ⊤)
-
--- what `print` writes with Done spells the module that the text spells
-abbrev pub ArePrintedReadBack : Type 0
-ArePrintedReadBack =
-    (words : List (List ℕ)) (text answer : List ℕ) (status : ℕ) → AsksFor words Print → Answers words text answer status → status ≡ code_of Done
-    → (m : Module) × Spells m text × Spells m answer

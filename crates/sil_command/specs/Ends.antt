@@ -31,7 +31,7 @@ abbrev pub GainsFront : {K : Type 0} → (K → Option (List ℕ)) → (K → Li
 GainsFront held took refused old new text = (n : ℕ) × (n < length text)
     × Appends (held old) (held new) (take n text) × PutsUntilRefused took refused old text n new
 
--- an allowed answer to the words and to the text that the source had, which it was taken from it where the words are a command line
+-- an allowed answer to the words and to the text that the source had, all of which was taken from it where the words are a command line
 pub record IsAnswer (words : List (List ℕ)) (left : Option (List ℕ)) (Takes : List ℕ → Type 0) (answer : List ℕ) (status : ℕ) : Type 0 where
   pub text : List ℕ
   pub source : MayHave left text

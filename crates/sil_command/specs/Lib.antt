@@ -5,3 +5,5 @@ pub mod Answers
 pub mod Ends
 pub mod ValueTexts
 pub mod RefusalTexts
+pub mod Laws
+pub mod inner

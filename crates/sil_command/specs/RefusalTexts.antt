@@ -1,13 +1,9 @@
--- The lines of a refusal: of what is found first, and of what the verifier reports.
-use Rattle.std.specs.Prelude.{List, [], ◌++◌, ℕ, Option, Some, None, slice_get}
-use Rattle.sil_ast.specs.declared.function.Function.{Function}
+-- The lines of a refusal, by what is found first.
+use Rattle.std.specs.Prelude.{List, ℕ}
 use Rattle.sil_ast.specs.declared.module.Module.{Module}
-use Rattle.sil_ast.specs.declared.place.FuncId.{FuncId}
-use Rattle.sil_ast.specs.declared.place.ValueId.{ValueId}
 use Rattle.sil_verifier.specs.Findings.{Finding, item, limit, typing, value}
-use Rattle.sil_verifier.specs.declared.refusal.Refusal.{Refusal}
-use Rattle.sil_command.specs.Texts.{line, refused_item_text, rule_words, site_words, type_limit_text, typing_text}
-use Rattle.sil_command.specs.ValueTexts.{shown_lines, value_text}
+use Rattle.sil_command.specs.Texts.{refused_item_text, type_limit_text, typing_text}
+use Rattle.sil_command.specs.ValueTexts.{value_text}
 
 -- the lines of what is found
 abbrev pub refusal_text : Module → Finding → List ℕ
@@ -15,15 +11,3 @@ refusal_text m (item r n) = refused_item_text r n
 refusal_text m (limit what) = type_limit_text what
 refusal_text m (typing fault) = typing_text m fault
 refusal_text m (value n s) = value_text m n s
-
-abbrev pub function_in : Module → Option FuncId → Option Function
-function_in m None = None
-function_in m (Some n) = slice_get m.functions n.0
-
-abbrev pub lines_behind : Module → Refusal → Option ValueId → List ℕ
-lines_behind m r None = []
-lines_behind m r (Some v) = shown_lines v r.other r.rule (function_in m r.function) r.walk
-
--- the lines of what is reported: where there is a value, what is shown of it stands behind the first line
-abbrev pub report_text : Module → Refusal → List ℕ
-report_text m r = line (rule_words r.rule ++ site_words m r.function r.item r.point) ++ lines_behind m r r.subject

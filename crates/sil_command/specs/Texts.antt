@@ -11,7 +11,7 @@ use Rattle.sil_rules.specs.declared.rule.Rule.{Rule}
 use Rattle.sil_rules.specs.LimitWords.{word_of}
 use Rattle.sil_rules.specs.Rules.{number_of, name_of}
 use Rattle.type_check.specs.declared.fault.TypingFault.{TypingFault}
-use Rattle.sil_verifier.specs.Reports.{vtable_item}
+use Rattle.sil_verifier.specs.Findings.{vtable_item}
 
 -- the bytes, and a line feed
 abbrev pub line : List ℕ → List ℕ

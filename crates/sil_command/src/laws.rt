@@ -1,6 +1,7 @@
 //! What follows from the definition of answers, on calls that do nothing.
 
-ghost use Rattle.sil_command.specs.Answers.{AreAcceptedExactly, ArePrintedExactly, ArePrintedReadBack};
+ghost use Rattle.sil_command.specs.Laws.{AreAcceptedExactly, AreRefusedForTheFirst, AreReportedRightly};
+ghost use Rattle.sil_command.specs.Laws.{ArePrintedExactly, ArePrintedReadBack};
 
 use printed_reading_laws::printed_modules_are_spelled;
 use sil_grammar::{spelled_modules_are_numbered, spelled_once};
@@ -13,6 +14,18 @@ pub fn accepted_exactly()
     spelled_once();
     accepted_where_nothing_is_found();
 }
+
+/// To a text that spells a module which isn't accepted `check` answers the first of all that is wrong with that module.
+pub fn refused_for_the_first()
+    ensures { AreRefusedForTheFirst }
+{
+    spelled_once();
+}
+
+/// A text that is answered with status 3, as no module, spells none.
+pub fn reported_rightly()
+    ensures { AreReportedRightly }
+{}
 
 /// `print` answers a text that spells a module with status 0, and one that is answered so spells a module.
 pub fn printed_exactly()

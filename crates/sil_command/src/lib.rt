@@ -12,5 +12,8 @@ mod value_lines;
 mod verified;
 mod words;
 
-pub use laws::{accepted_exactly, printed_exactly, printed_texts_read_back};
+pub use laws::{
+    accepted_exactly, printed_exactly, printed_texts_read_back, refused_for_the_first,
+    reported_rightly,
+};
 pub use top_call::command;

@@ -2,7 +2,7 @@
 
 ghost use Rattle.std.specs.Prelude.{◌≡◌, ◌++◌, IfOk, OnOk};
 ghost use Rattle.std.specs.Option.{option_copied};
-ghost use Rattle.sil_command.specs.RefusalTexts.{function_in, lines_behind, report_text};
+ghost use Rattle.sil_command.specs.inner.ReportTexts.{function_in, lines_behind, report_text};
 ghost use Rattle.sil_command.specs.Texts.{item_words, name_at, site_words, typed_point_words};
 
 use crate::texts::{push_number, push_rule};

@@ -25,7 +25,8 @@ use std::alloc::Global;
 /// by a rule), 2 (not a command line), 3 (not a module), 4 (a read failed), 5 (a write failed), 8 (past a limit) and 9 (no
 /// memory left; nothing was written).
 /// Of a text that spells a module `check` answers that it is accepted exactly where the module is within the limits and keeps all
-/// rules, and else the first that is wrong with it, with a walk that shows it for a rule on walks.
+/// rules, and else the first that is wrong with it, with a walk that shows it for a rule on walks. `print` answers the module's
+/// canonical text. Of a text that spells none both answer what is wrong, and where.
 /// The answer is built whole before the first byte of it is written, and after that no memory is taken.
 pub fn command<'a, S: Source, K: Sink>(
     alloc: Global,
@@ -42,10 +43,14 @@ pub fn command<'a, S: Source, K: Sink>(
     ensures source_untouched { ¬ IsCommandLine (map (λ w. w.now) words.entry.now) → source.new ≡ source.old }
     ensures takes { TakesWithin S.gave S.missed TEXT_BYTES source.old source.new }
 
+    // The status of a failed read comes only with a fault of the source. With one, and none of the sink, the line on it is written
+    // whole, or memory ran out.
     ensures read_fault_cause { result ≡ code_of ReadFault → MayFail (S.faults source.old) (S.faults source.new) }
     ensures read_fault { S.faults source.old < S.faults source.new → ¬ MayFail (K.faults out.old) (K.faults out.new) →
         WritesWhole (Gains K.held K.took out.old out.new) read_fault_text (code_of ReadFault) result ⊎ Exhausts (out.new ≡ out.old) result }
 
+    // The status of a failed write comes only with a fault of the sink, and with each. Then a front of an allowed answer was written,
+    // or of that line.
     ensures write_fault_cause { result ≡ code_of WriteFault → MayFail (K.faults out.old) (K.faults out.new) }
     ensures write_fault { K.faults out.old < K.faults out.new → result ≡ code_of WriteFault }
     ensures written_front { result ≡ code_of WriteFault →
@@ -53,6 +58,7 @@ pub fn command<'a, S: Source, K: Sink>(
         (TakesText S.gave source.old source.new) (GainsFront K.held K.took K.refused out.old out.new)
         ⊎ (MayFail (S.faults source.old) (S.faults source.new) × GainsFront K.held K.took K.refused out.old out.new read_fault_text) }
 
+    // Where memory ran out nothing was written. There are no other statuses.
     ensures exhausted { result ≡ code_of OutOfMemory → out.new ≡ out.old }
     ensures statuses { IsStatus result }
 

@@ -6,7 +6,7 @@ ghost use Rattle.sil_rules.specs.declared.status.Status.TheVariants as status;
 ghost use Rattle.sil_rules.specs.Statuses.{code_of};
 ghost use Rattle.sil_verifier.specs.inner.Ends.{IsVerifyEnd};
 ghost use Rattle.sil_command.specs.Answers.{AnswersCheck};
-ghost use Rattle.sil_command.specs.RefusalTexts.{report_text};
+ghost use Rattle.sil_command.specs.inner.ReportTexts.{report_text};
 ghost use Rattle.sil_command.specs.Texts.{type_limit_text};
 
 use crate::answer::Answer;

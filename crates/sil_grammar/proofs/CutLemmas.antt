@@ -10,7 +10,7 @@ use Rattle.sil_shape.specs.inner.Begun.{LeadsTo}
 use Rattle.sil_shape.specs.Derivation.{Derives, token, rule, start}
 use Rattle.sil_shape.specs.Grammar.{body}
 use Rattle.sil_shape.specs.Shortest.{Shortens}
-use Rattle.sil_shape.specs.Values.{takes_of}
+use Rattle.sil_shape.specs.inner.Values.{takes_of}
 use Rattle.sil_shape.proofs.Shortened.{shortened, Shortens-derives}
 use Rattle.sil_shape.proofs.ValuesLemmas.{takes_of-append, takes_of-derives}
 use Rattle.sil_grammar.specs.Completion.{Completes, IsShortestFrom, behind, taken, expanded}

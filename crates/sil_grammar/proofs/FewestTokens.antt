@@ -17,10 +17,11 @@ use Rattle.sil_shape.specs.Derivation.{Accepts, Derives, nothing, token, rule}
 use Rattle.sil_shape.specs.Grammar.{written, body}
 use Rattle.sil_shape.specs.Rows.{row_body, row_part}
 use Rattle.sil_shape.specs.Shortest.{shortest, Shortens, written as nothing_left, step}
-use Rattle.sil_shape.specs.Values.{takes_of}
+use Rattle.sil_shape.specs.inner.Values.{takes_of}
 use Rattle.sil_shape.proofs.Unfolded.{rows}
 use Rattle.sil_shape.proofs.NextClasses.{Derives-inner, Fits, Fits-expand, FitsOne-start}
-use Rattle.sil_grammar.specs.Completion.{Completes, HaveFewestTokens, behind, taken, expanded}
+use Rattle.sil_grammar.specs.Completion.{Completes, behind, taken, expanded}
+use Rattle.sil_grammar.specs.inner.Laws.{HaveFewestTokens}
 use Rattle.sil_grammar.proofs.CompletionLemmas.{inner}
 
 -- how many tokens the shortest text of a part has

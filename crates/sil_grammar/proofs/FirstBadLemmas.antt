@@ -12,7 +12,7 @@ use Rattle.sil_lexer.specs.declared.token.LexRefusal.{LexRefusal}
 use Rattle.sil_lexer.specs.declared.token.LexRefusal.TheVariants as stop
 use Rattle.sil_lexer.specs.declared.token.Token.{Token}
 use Rattle.sil_lexer.specs.Lexes.{Lexeme, Lexes, end, token, stop}
-use Rattle.sil_lexer.specs.Lexing.{Lexing, IsLexingOf, AreInOrder, lexeme_of, lexemes_of, refusal_place, spelling_of}
+use Rattle.sil_lexer.specs.inner.Lexing.{Lexing, IsLexingOf, AreInOrder, lexeme_of, lexemes_of, refusal_place, spelling_of}
 use Rattle.sil_lexer.specs.Places.{place_of}
 use Rattle.sil_lexer.proofs.OrderLemmas.{in_order}
 use Rattle.sil_lexer.proofs.SpellLemmas.{spelling_some}

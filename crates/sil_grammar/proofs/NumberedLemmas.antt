@@ -12,12 +12,12 @@ use Rattle.builtin_names.specs.BuiltinNames.{is_builtin_name}
 use Rattle.token_classes.specs.Spelling.{punctuation_of}
 use Rattle.written_modules.specs.Leaves.{kept_of}
 use Rattle.numbered_form.specs.Names.{is_quotable, is_short}
-use Rattle.numbered_form.specs.NumberedForm.{IsNumbered}
+use Rattle.numbered_form.specs.inner.NumberedForm.{IsNumbered}
 use Rattle.numbered_reading_laws.specs.inner.Leaves.{AreOfClasses, IsTextOf}
 use Rattle.numbered_reading_laws.proofs.ListsAndFaults.{both}
 use Rattle.numbered_reading_laws.proofs.Numbered.{written_numbered}
 use Rattle.sil_grammar.specs.Classes.{class_by, punctuation_class, text_class, token_class}
-use Rattle.sil_grammar.specs.Spells as text
+use Rattle.sil_grammar.specs.inner.Laws.{AreSpelledNumbered}
 use Rattle.sil_grammar.proofs.ReplayedSpelling.{replayed}
 
 pub between_quotes : (inside : List ℕ) → without_quotes (34 ∷ inside ++ 34 ∷ []) ≡ inside
@@ -57,7 +57,7 @@ lexed_classes all left lexemes refusal (end _ _) = tt
 lexed_classes all left lexemes refusal (token _ spelling after k more _ skipped spelled short rest) = (kept_text k spelling spelled.spelled short, lexed_classes all after more refusal rest)
 lexed_classes all left lexemes refusal (stop _ _ _ _ _) = tt
 
-pub spelled_numbered : text.AreSpelledNumbered
+pub spelled_numbered : AreSpelledNumbered
 spelled_numbered m bytes h =
     let s = h.spells in
     let r = replayed s in

@@ -4,7 +4,7 @@ use Rattle.std.specs.Prelude.{Result, IsErrAnd, IfErr}
 use Rattle.std.proofs.lemmas.List.{length-map}
 use Rattle.std.proofs.lemmas.Result.{err_from_is_err_and}
 use Rattle.sil_lexer.specs.Lexes.{Lexeme, Lexes}
-use Rattle.sil_lexer.specs.Lexing.{Lexing, IsLexingOf, lexeme_of, lexemes_of}
+use Rattle.sil_lexer.specs.inner.Lexing.{Lexing, IsLexingOf, lexeme_of, lexemes_of}
 use Rattle.sil_lexer.proofs.UniqueLemmas.{one_way}
 use Rattle.sil_shape.specs.declared.steps.Step.{Step}
 use Rattle.sil_shape.specs.declared.steps.Front.{Front}
@@ -25,7 +25,8 @@ use Rattle.sil_grammar.specs.FirstBad.{HasShape, IsFirstBadPlace}
 use Rattle.sil_grammar.specs.inner.Front.{IsFound, IsFrontFault}
 use Rattle.sil_grammar.specs.Refusals.{IsFaulty, IsFront, IsRefusalOf, IsShapeless, SpellsNone, exhausted, in_front, in_whole}
 use Rattle.sil_grammar.specs.inner.Shape.{IsBroken, IsWhole}
-use Rattle.sil_grammar.specs.Spells.{AreSpelledOnce, SpellsWritten}
+use Rattle.sil_grammar.specs.Spells.{SpellsWritten}
+use Rattle.sil_grammar.specs.inner.Laws.{AreSpelledOnce}
 use Rattle.sil_grammar.specs.inner.Left.{IsCut}
 use Rattle.sil_grammar.proofs.CutLemmas.{cut_completes}
 use Rattle.sil_grammar.proofs.FaultLemmas.{is_found, of_front, whole_found}

@@ -16,8 +16,9 @@ use Rattle.sil_grammar.specs.declared.first_bad.BadPlace.{BadPlace}
 use Rattle.sil_grammar.specs.Classes.{token_class}
 use Rattle.sil_grammar.specs.Completion.{IsShortestFrom}
 use Rattle.sil_grammar.specs.FirstBad.{HasShape}
-use Rattle.sil_grammar.specs.Refusals.{AreRefusedOnce, IsFaulty, IsFront, IsMisnamed, IsShapeless, exhausted, faulty, in_front, in_whole, misnamed, refusal_of_bad, refusal_of_fault, shapeless}
+use Rattle.sil_grammar.specs.Refusals.{IsFaulty, IsFront, IsMisnamed, IsShapeless, exhausted, faulty, in_front, in_whole, misnamed, refusal_of_bad, refusal_of_fault, shapeless}
 use Rattle.sil_grammar.specs.Spells.{SpellsWritten}
+use Rattle.sil_grammar.specs.inner.Laws.{AreRefusedOnce}
 use Rattle.sil_grammar.proofs.CompletionLemmas.{shortest_begins, shortest_once}
 use Rattle.sil_grammar.proofs.FaultLemmas.{fault_of, of_front, whole_found}
 use Rattle.sil_grammar.proofs.FirstBadLemmas.{no_bad_place, once}

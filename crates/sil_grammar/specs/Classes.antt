@@ -1,10 +1,8 @@
 -- The class of a token, by its kind and its bytes.
-use Rattle.std.specs.Prelude.{◌≡◌, ℕ, Bool, true, false, List, Option, Some, None}
-use Rattle.std.specs.List.{HoldsAt}
+use Rattle.std.specs.Prelude.{ℕ, Bool, true, false, List, Option, Some, None}
 use Rattle.sil_lexer.specs.declared.token.TokenKind.{TokenKind}
 use Rattle.sil_lexer.specs.declared.token.TokenKind.TheVariants as kind
 use Rattle.sil_lexer.specs.Lexes.{Lexeme}
-use Rattle.sil_lexer.specs.Lexing.{Lexing, lexeme_of}
 use Rattle.sil_lexer.specs.Spelling.{without_quotes, without_sigil}
 use Rattle.token_classes.specs.declared.classes.Class.{Class}
 use Rattle.token_classes.specs.declared.classes.Class.TheVariants.{Word, At, Percent, Number, BuiltinText, OtherText, Punctuation}
@@ -31,7 +29,3 @@ class_by kind.Punctuation spelling = punctuation_class (punctuation_of spelling)
 
 abbrev pub token_class : Lexeme → Class
 token_class l = class_by l.kind l.spelling
-
--- the token at i has the class
-abbrev pub IsClassAt : List ℕ → Lexing → ℕ → Class → Type 0
-IsClassAt text lexing i class = HoldsAt (λ token. class ≡ token_class (lexeme_of text token)) lexing.tokens i

@@ -1,15 +1,14 @@
 -- The shortest list with the shape of a module that begins with given classes.
-use Rattle.std.specs.Prelude.{◌≤◌, List, [], ◌∷◌, ◌++◌, length}
+use Rattle.std.specs.Prelude.{List, [], ◌∷◌, ◌++◌}
 use Rattle.token_classes.specs.declared.classes.Class.{Class}
 use Rattle.sil_shape.specs.declared.grammar.Symbol.{Symbol}
 use Rattle.sil_shape.specs.declared.grammar.Symbol.TheVariants.{Part}
 use Rattle.sil_shape.specs.declared.grammar.Production.{Production}
 use Rattle.sil_shape.specs.declared.steps.Step.{Step}
 use Rattle.sil_shape.specs.declared.steps.Step.TheVariants.{Take, Expand}
-use Rattle.sil_shape.specs.Derivation.{Accepts, Derives, start}
+use Rattle.sil_shape.specs.Derivation.{Accepts, start}
 use Rattle.sil_shape.specs.Grammar.{written, body}
 use Rattle.sil_shape.specs.Shortest.{Shortens}
-use Rattle.sil_shape.specs.Values.{takes_of}
 
 -- these symbols in a row derive these classes, and behind the last class what is left is written in the shortest way, by these steps
 pub data Completes : List Symbol → List Class → List Step → Type 0 where
@@ -25,8 +24,3 @@ pub data Completes : List Symbol → List Class → List Step → Type 0 where
 -- the steps derive the shortest module that begins with these classes
 abbrev pub IsShortestFrom : List Class → List Step → Type 0
 IsShortestFrom = Completes start
-
--- no module that begins with these classes has fewer tokens
-abbrev pub HaveFewestTokens : Type 0
-HaveFewestTokens = (classes more : List Class) (steps others : List Step) → IsShortestFrom classes steps → Derives start (classes ++ more) others
-    → takes_of steps ≤ length (classes ++ more)

@@ -84,8 +84,3 @@ pub data IsRefusalOf (text : List ℕ) : ReadRefusal → Type 0 where
   faulty : (fault : Fault) → SpellsNone text → IsFaulty text fault → IsRefusalOf text (refusal_of_fault fault.kind fault.place)
   misnamed : (fault : Fault) → SpellsNone text → IsMisnamed text fault → IsRefusalOf text (refusal_of_fault fault.kind fault.place)
   exhausted : IsRefusalOf text refusal.Memory
-
--- two refusals of one text, other than for want of memory, are equal
-abbrev pub AreRefusedOnce : Type 0
-AreRefusedOnce =
-    (text : List ℕ) (a b : ReadRefusal) → IsRefusalOf text a → IsRefusalOf text b → (a ≡ refusal.Memory → ⊥) → (b ≡ refusal.Memory → ⊥) → b ≡ a

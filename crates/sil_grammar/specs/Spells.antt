@@ -6,7 +6,6 @@ use Rattle.sil_shape.specs.Derivation.{start}
 use Rattle.written_tree.specs.declared.written_module.WrittenModule.{WrittenModule}
 use Rattle.written_values.specs.Opened.{module_value}
 use Rattle.spelled_parts_laws.specs.Stands.{Stands}
-use Rattle.numbered_form.specs.NumberedForm.{IsNumbered}
 use Rattle.name_resolution.specs.NameFaults.{name_fault}
 use Rattle.name_resolution.specs.Resolved.{resolved}
 use Rattle.sil_grammar.specs.Classes.{token_class}
@@ -25,11 +24,3 @@ pub record Spells (m : Module) (text : List ℕ) : Type 0 where
   -- every name is defined once, and defined at all
   pub names : name_fault written ≡ None
   pub numbered : m ≡ resolved written
-
--- two modules that one text spells are equal
-abbrev pub AreSpelledOnce : Type 0
-AreSpelledOnce = (text : List ℕ) (m other : Module) → Spells m text → Spells other text → other ≡ m
-
--- a module that a text spells is in numbered form
-abbrev pub AreSpelledNumbered : Type 0
-AreSpelledNumbered = (m : Module) (text : List ℕ) → Spells m text → IsNumbered m

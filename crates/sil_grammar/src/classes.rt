@@ -1,10 +1,11 @@
 //! The classes of the tokens of a text, by which its shape is found.
 
 ghost use Rattle.std.specs.Prelude.{◌≡◌, ◌<◌, length, map, IfOk};
-ghost use Rattle.sil_lexer.specs.Lexing.{IsLexingOf, lexemes_of};
+ghost use Rattle.sil_lexer.specs.inner.Lexing.{IsLexingOf, lexemes_of};
 ghost use Rattle.builtin_names.specs.BuiltinNames.{is_builtin_name};
 ghost use Rattle.token_classes.specs.Spelling.{punctuation_of};
-ghost use Rattle.sil_grammar.specs.Classes.{class_by, punctuation_class, text_class, token_class, IsClassAt};
+ghost use Rattle.sil_grammar.specs.Classes.{class_by, punctuation_class, text_class, token_class};
+ghost use Rattle.sil_grammar.specs.inner.ClassAt.{IsClassAt};
 
 use builtin_names::is_builtin_name;
 use sil_ast::Exhausted;

@@ -3,7 +3,7 @@
 ghost use Rattle.std.specs.Prelude.{◌≡◌, ◌≤◌, drop, length, reverse, take, IfOk, OnOk};
 ghost use Rattle.sil_shape.specs.Derivation.{start};
 ghost use Rattle.sil_shape.specs.inner.Turns.{Pops};
-ghost use Rattle.sil_shape.specs.Values.{takes_of};
+ghost use Rattle.sil_shape.specs.inner.Values.{takes_of};
 ghost use Rattle.sil_grammar.specs.inner.Left.{after, left_after, AreDecided, IsCut};
 
 use sil_ast::Exhausted;

@@ -2,7 +2,7 @@
 //! It asks for the shape of a module alone: names may be unknown, numbers and types of any size.
 
 ghost use Rattle.std.specs.Prelude.{◌≡◌, [], ◌↔◌, length, map, IfOk, IsNone, MatchOption, None, Some};
-ghost use Rattle.sil_lexer.specs.Lexing.{IsLexingOf, lexemes_of};
+ghost use Rattle.sil_lexer.specs.inner.Lexing.{IsLexingOf, lexemes_of};
 ghost use Rattle.sil_lexer.specs.Places.{IsInLimit};
 ghost use Rattle.sil_shape.specs.declared.steps.Front.{Front};
 ghost use Rattle.sil_shape.specs.Derivation.{IsFirstBad};

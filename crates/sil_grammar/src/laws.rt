@@ -1,8 +1,6 @@
 //! What follows from the definitions of what a text spells and why it is refused, on calls that do nothing.
 
-ghost use Rattle.sil_grammar.specs.Completion.{HaveFewestTokens};
-ghost use Rattle.sil_grammar.specs.Refusals.{AreRefusedOnce};
-ghost use Rattle.sil_grammar.specs.Spells.{AreSpelledNumbered, AreSpelledOnce};
+ghost use Rattle.sil_grammar.specs.inner.Laws.{AreRefusedOnce, AreSpelledNumbered, AreSpelledOnce, HaveFewestTokens};
 
 /// A text spells at most one module.
 pub fn spelled_once()

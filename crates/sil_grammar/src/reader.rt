@@ -2,11 +2,11 @@
 
 ghost use Rattle.std.specs.Prelude.{◌≡◌, ℕ, List, ◌≤◌, length, map, reverse, take, IfOk, IfErr};
 ghost use Rattle.sil_ast.specs.declared.module.Module.{Module};
-ghost use Rattle.sil_lexer.specs.Lexing.{IsLexingOf, Lexing, lexemes_of};
+ghost use Rattle.sil_lexer.specs.inner.Lexing.{IsLexingOf, Lexing, lexemes_of};
 ghost use Rattle.sil_lexer.specs.Places.{IsInLimit};
 ghost use Rattle.sil_shape.specs.declared.steps.Front.{Front};
 ghost use Rattle.sil_shape.specs.inner.Begun.{LeadsTo};
-ghost use Rattle.numbered_form.specs.NumberedForm.{IsNumbered};
+ghost use Rattle.numbered_form.specs.inner.NumberedForm.{IsNumbered};
 ghost use Rattle.sil_grammar.specs.Classes.{token_class};
 ghost use Rattle.sil_grammar.specs.inner.Front.{IsFrontFault};
 ghost use Rattle.sil_grammar.specs.Refusals.{IsRefusalOf};

@@ -9,7 +9,7 @@ use Rattle.sil_lexer.specs.declared.token.TokenKind.{TokenKind}
 use Rattle.sil_lexer.specs.declared.token.TokenKind.TheVariants.{Word, AtName, Percent, Number, Text, Punctuation}
 use Rattle.text_bytes.specs.Bytes.{is_word_start, is_name_byte, is_text_byte, is_punctuation}
 use Rattle.sil_lexer.specs.Spelling.{Spells, word, at_name, percent, number, negative, quoted, punctuation, arrow, IsSpelled, begins_with, continues}
-use Rattle.sil_lexer.specs.Lexing.{IsLongestTaken}
+use Rattle.sil_lexer.specs.inner.Lexing.{IsLongestTaken}
 
 -- a kind and a number of bytes
 abbrev Front : Type 0

@@ -17,7 +17,7 @@ use Rattle.text_bytes.specs.Bytes.{is_line_feed, is_in_line, is_word_start, is_n
 use Rattle.sil_lexer.specs.Places.{place_before, ahead_of, IsPlaceIn}
 use Rattle.sil_lexer.specs.Spelling.{Spells, word, at_name, percent, number, negative, quoted, punctuation, arrow}
 use Rattle.sil_lexer.specs.Lexes.{Lexeme, Skips, nothing, Stops, Lexes, end, token, stop}
-use Rattle.sil_lexer.specs.Lexing.{Lexing, spelling_of, lexeme_of, IsInside, IsLexingOf}
+use Rattle.sil_lexer.specs.inner.Lexing.{Lexing, spelling_of, lexeme_of, IsInside, IsLexingOf}
 use Rattle.sil_lexer.specs.inner.Scan.{SkipsTo, IsTokenAt}
 use Rattle.sil_lexer.proofs.PlaceLemmas.{place_ahead}
 use Rattle.sil_lexer.proofs.SkipLemmas.{skips_on}

@@ -7,7 +7,7 @@ use Rattle.sil_lexer.specs.declared.token.LexRefusal.{LexRefusal}
 use Rattle.sil_lexer.specs.declared.token.Token.{Token}
 use Rattle.sil_lexer.specs.Places.{place_before}
 use Rattle.sil_lexer.specs.Lexes.{Lexeme, Skips, nothing, blank, comment, last_comment, Stops, bad_byte, bad_text_byte, unclosed_at_line_end, unclosed_at_end, name_too_long, Lexes, end, token, stop}
-use Rattle.sil_lexer.specs.Lexing.{lexeme_of, spelling_of, IsInside, refusal_place, AreInOrder, IsLexedInOrder}
+use Rattle.sil_lexer.specs.inner.Lexing.{lexeme_of, spelling_of, IsInside, refusal_place, AreInOrder, IsLexedInOrder}
 
 -- what is behind blanks and comments is no longer than what begins with them
 skips_shorter : (left rest : List ℕ) → Skips left rest → length rest ≤ length left

@@ -14,7 +14,7 @@ use Rattle.sil_lexer.specs.Places.{place_before}
 use Rattle.sil_lexer.specs.Spelling.{Spells, word, at_name, percent, number, negative, quoted, punctuation, arrow, IsSpelled, begins_with, name_length}
 use Rattle.sil_lexer.specs.Lexes.{Lexeme, Skips, nothing, blank, comment, last_comment, begins_comment, begins_skipped, BeginsNothing, Stops, bad_byte}
 use Rattle.sil_lexer.specs.Lexes.{bad_text_byte, unclosed_at_line_end, unclosed_at_end, name_too_long, Lexes, end, token, stop}
-use Rattle.sil_lexer.specs.Lexing.{IsLexedOneWay}
+use Rattle.sil_lexer.specs.inner.Lexing.{IsLexedOneWay}
 use Rattle.sil_lexer.proofs.FrontLemmas.{one_spelling, run_goes_on, ended_run}
 use Rattle.sil_lexer.proofs.SpellLemmas.{spelling_some}
 

@@ -3,7 +3,7 @@
 ghost use Rattle.std.specs.Prelude.{◌≡◌, [], ◌∷◌, ◌++◌, IfOk, OnOk};
 ghost use Rattle.sil_lexer.specs.declared.lexer.LexStop.TheVariants.{Memory};
 ghost use Rattle.sil_lexer.specs.Places.{IsInLimit};
-ghost use Rattle.sil_lexer.specs.Lexing.{IsLexedInOrder, IsLexedOneWay, IsLexingOf, IsLongestTaken};
+ghost use Rattle.sil_lexer.specs.inner.Lexing.{IsLexedInOrder, IsLexedOneWay, IsLexingOf, IsLongestTaken};
 
 use crate::place::{START, ahead};
 use crate::scan::token_at;

@@ -15,7 +15,7 @@ pub struct Tokens {
 }
 
 impl Model for Tokens {
-    ghost use Rattle.sil_lexer.specs.Lexing.{Lexing};
+    ghost use Rattle.sil_lexer.specs.inner.Lexing.{Lexing};
 
     ghost Value = { Lexing };
 
@@ -23,7 +23,7 @@ impl Model for Tokens {
 }
 
 impl Tokens {
-    ghost use Rattle.sil_lexer.specs.Lexing.{spelling_of, IsInside};
+    ghost use Rattle.sil_lexer.specs.inner.Lexing.{spelling_of, IsInside};
 
     pub(crate) fn new(tokens: Vec<Token>, stop: Option<LexRefusal>) -> Tokens
         ensures tokens { result.tokens ≡ tokens.items }

@@ -8,7 +8,7 @@ use Rattle.sil_shape.specs.declared.steps.Step.{Step}
 use Rattle.sil_shape.specs.declared.steps.Step.TheVariants.{Take, Expand}
 use Rattle.sil_shape.specs.Grammar.{body}
 use Rattle.sil_shape.specs.Derivation.{Derives, nothing, token, rule}
-use Rattle.sil_shape.specs.Values.{takes_of, values_left, IsEnough}
+use Rattle.sil_shape.specs.inner.Values.{takes_of, values_left, IsEnough}
 
 pub takes_of-derives : {ss : List Symbol} {ks : List Class} {steps : List Step} → Derives ss ks steps → takes_of steps ≡ length ks
 takes_of-derives nothing = refl

@@ -3,7 +3,6 @@ pub mod Rows
 pub mod Accepts
 pub mod Grammar
 pub mod Derivation
-pub mod Values
 pub mod Shortest
 pub mod Unsupported
 pub mod inner

@@ -1,3 +1,4 @@
+pub mod Values
 pub mod ClassNumbers
 pub mod Begun
 pub mod Refusal

@@ -4,7 +4,7 @@
 ghost use Rattle.std.specs.Prelude.{◌≡◌, ◌++◌, ◌∷◌, [], List, ◌≤◌, ◌+◌, ◌↔◌, length, reverse, slice_get, IfOk, OnOk, IfErr, IsTrue, MatchResult, MatchBool};
 ghost use Rattle.sil_shape.specs.inner.Turns.{Turns, IsAccepted, Pops, Expands, Settles, Takes, Refuses};
 ghost use Rattle.sil_shape.specs.Derivation.{start, IsDerivation};
-ghost use Rattle.sil_shape.specs.Values.{takes_of, values_left, IsEnough};
+ghost use Rattle.sil_shape.specs.inner.Values.{takes_of, values_left, IsEnough};
 ghost use Rattle.sil_shape.specs.inner.Refusal.{IsRefusal};
 ghost use Rattle.sil_shape.specs.declared.machine.ShapeRefusal.TheVariants.{FirstBad, Memory};
 

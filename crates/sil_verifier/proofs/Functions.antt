@@ -9,7 +9,7 @@ use Rattle.rule_faults.specs.declared.fault.RuleFault.{RuleFault}
 use Rattle.sil_rules.specs.Order.{NotAfter}
 use Rattle.sil_rules.proofs.Keys.{compared}
 use Rattle.type_definitions.specs.Declarations.{declarations_of}
-use Rattle.typed_graph_laws.specs.Laws.{HasBlocks}
+use Rattle.sil_cfg.specs.Items.{HasBlocks}
 use Rattle.sil_verifier.proofs.Groups.{stage_told}
 use Rattle.sil_verifier.specs.Shown.{IsShownIn, inner_key}
 use Rattle.sil_verifier.specs.Values.{IsCleanIn, IsFirstIn, IsFirstOf, IsRefusalIn, IsShown, IsValueRefusal, ModuleShowing, showing_key}

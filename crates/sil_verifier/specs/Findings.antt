@@ -1,5 +1,5 @@
 -- What may be wrong with a module, one case for each stage of the checks, and the first of all that is wrong.
-use Rattle.std.specs.Prelude.{ℕ, List, ⊤}
+use Rattle.std.specs.Prelude.{ℕ, ◌+◌, List, length, ⊤}
 use Rattle.sil_ast.specs.declared.module.Module.{Module}
 use Rattle.sil_rules.specs.Order.{IsLeast, item_key}
 use Rattle.sil_rules.specs.declared.limit_word.LimitWord.{LimitWord}
@@ -18,6 +18,10 @@ pub data Finding : Type 0 where
   limit : LimitWord → Finding
   typing : TypingFault → Finding
   value : ℕ → RuleFault → Finding
+
+-- the number of a vtable among declarations, functions and vtables
+abbrev pub vtable_item : Module → ℕ → ℕ
+vtable_item m v = length m.decls + (length m.functions + v)
 
 -- it is wrong with the module
 abbrev pub IsFound : Module → Finding → Type 0

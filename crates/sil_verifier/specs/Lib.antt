@@ -2,5 +2,4 @@ pub mod Refusals
 pub mod Shown
 pub mod Values
 pub mod Findings
-pub mod Reports
 pub mod inner

@@ -8,7 +8,7 @@ use Rattle.rule_faults.specs.declared.fault.RuleFault.{RuleFault}
 use Rattle.sil_rules.specs.Order.{IsLeast, subject_key}
 use Rattle.sil_rules.specs.Rules.{group_of}
 use Rattle.type_definitions.specs.Declarations.{Declarations, declarations_of}
-use Rattle.typed_graph_laws.specs.Laws.{HasBlocks}
+use Rattle.sil_cfg.specs.Items.{HasBlocks}
 use Rattle.sil_verifier.specs.Shown.{IsShownIn, inner_key, last_key}
 use Rattle.sil_verifier.specs.declared.values.ValueRefusal.{ValueRefusal}
 use Rattle.sil_verifier.specs.declared.values.ValueRefusal.TheVariants as refusal

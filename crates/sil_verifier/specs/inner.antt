@@ -1,4 +1,5 @@
 pub mod Lowered
 pub mod Checked
+pub mod Reports
 pub mod Ends
 pub mod Laws

@@ -1,7 +1,7 @@
 //! An accepted module with its type table.
 
 ghost use Rattle.std.specs.Prelude.{◌≡◌, IfOk};
-ghost use Rattle.numbered_form.specs.NumberedForm.{IsNumbered};
+ghost use Rattle.numbered_form.specs.inner.NumberedForm.{IsNumbered};
 ghost use Rattle.type_definitions.specs.Rules.{AreDeclarationsOf};
 ghost use Rattle.sil_verifier.specs.inner.Checked.{IsVerified, IsVerifiedWith};
 

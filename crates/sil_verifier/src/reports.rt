@@ -3,7 +3,8 @@
 ghost use Rattle.std.specs.Prelude.{◌≡◌, ◌+◌, ◌<◌, ◌^◌, length, IfSome};
 ghost use Rattle.sil_ast.specs.declared.module.Module as any;
 ghost use Rattle.sil_verifier.specs.Findings as finding;
-ghost use Rattle.sil_verifier.specs.Reports.{Reported, vtable_item};
+ghost use Rattle.sil_verifier.specs.Findings.{vtable_item};
+ghost use Rattle.sil_verifier.specs.inner.Reports.{Reported};
 
 use crate::refusal::Refusal;
 use rule_faults::RuleFault;

@@ -1,7 +1,7 @@
 //! The checks of items, types and typing, in their order.
 
 ghost use Rattle.std.specs.Prelude.{◌≡◌, IfErr, IfOk, OnOk};
-ghost use Rattle.numbered_form.specs.NumberedForm.{IsNumbered};
+ghost use Rattle.numbered_form.specs.inner.NumberedForm.{IsNumbered};
 ghost use Rattle.type_definitions.specs.Rules.{AreDeclarationsOf};
 ghost use Rattle.sil_verifier.specs.Refusals.{HasTypes, IsRefusal};
 ghost use Rattle.sil_verifier.specs.declared.types.StaticRefusal.TheVariants.{Memory};

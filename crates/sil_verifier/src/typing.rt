@@ -1,7 +1,7 @@
 //! The first fault of typing: one of 201 to 212, or 207 at a function that has a body and no `[ossa]`.
 
 ghost use Rattle.std.specs.Prelude.{◌≡◌, IfOk, IfSome};
-ghost use Rattle.numbered_form.specs.NumberedForm.{IsNumbered};
+ghost use Rattle.numbered_form.specs.inner.NumberedForm.{IsNumbered};
 ghost use Rattle.sil_ast.specs.declared.module.Module.{Module};
 ghost use Rattle.sil_rules.specs.Order.{IsEarlier, IsFirst};
 ghost use Rattle.type_check.specs.Refusals.{IsBroken, fault_key};

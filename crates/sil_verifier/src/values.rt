@@ -1,11 +1,11 @@
 //! The checks of values, function by function: definitions, kinds, lifetimes, scopes and memory, in this order.
 
 ghost use Rattle.std.specs.Prelude.{IfErr, OnOk};
-ghost use Rattle.numbered_form.specs.NumberedForm.{IsNumbered};
+ghost use Rattle.numbered_form.specs.inner.NumberedForm.{IsNumbered};
 ghost use Rattle.type_definitions.specs.Rules.{AreDeclarationsOf};
-ghost use Rattle.sil_cfg.specs.Build.{HasGraph};
+ghost use Rattle.sil_cfg.specs.inner.Build.{HasGraph};
 ghost use Rattle.point_checks.specs.inner.Numbered.{IsOfNumberedModule};
-ghost use Rattle.typed_graph_laws.specs.Laws.{HasBlocks};
+ghost use Rattle.sil_cfg.specs.Items.{HasBlocks};
 ghost use Rattle.sil_verifier.specs.Refusals.{HasTypes};
 ghost use Rattle.sil_verifier.specs.Values.{AcceptedValues, IsCleanIn, IsEndIn, IsRefusalIn, IsValueRefusal};
 

@@ -1,7 +1,7 @@
 //! The one call: a module in, an accepted module with its table out, or why it isn't accepted.
 
 ghost use Rattle.std.specs.Prelude.{◌≡◌, IfErr, IfOk, OnOk};
-ghost use Rattle.numbered_form.specs.NumberedForm.{IsNumbered};
+ghost use Rattle.numbered_form.specs.inner.NumberedForm.{IsNumbered};
 ghost use Rattle.sil_verifier.specs.inner.Ends.{IsVerifyEnd};
 ghost use Rattle.sil_verifier.specs.Findings.{Accepted};
 ghost use Rattle.sil_verifier.specs.Refusals as types;

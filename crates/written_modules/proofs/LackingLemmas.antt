@@ -12,7 +12,7 @@ use Rattle.sil_shape.specs.declared.steps.Step.{Step}
 use Rattle.sil_shape.specs.Grammar.{body}
 use Rattle.sil_shape.specs.Rows.{comma_behind, parts_row, row_body, symbols_of}
 use Rattle.sil_shape.specs.Shortest.{shortest, Shortens, written, step}
-use Rattle.sil_shape.specs.Values.{IsEnough}
+use Rattle.sil_shape.specs.inner.Values.{IsEnough}
 use Rattle.sil_shape.proofs.Shortened.{Shortens-derives}
 use Rattle.sil_shape.proofs.ValuesLemmas.{IsEnough-derives}
 use Rattle.written_tree.specs.Faults.{earlier}

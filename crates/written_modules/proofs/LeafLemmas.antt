@@ -5,7 +5,7 @@ use Rattle.std.proofs.lemmas.List.Elements.{All-get_or}
 use Rattle.std.specs.Prelude.{All, slice_range}
 use Rattle.sil_lexer.specs.declared.token.Token.{Token}
 use Rattle.sil_lexer.specs.declared.token.TokenKind.TheVariants.{Word}
-use Rattle.sil_lexer.specs.Lexing.{IsInside}
+use Rattle.sil_lexer.specs.inner.Lexing.{IsInside}
 
 pub some_token : Token
 some_token = record { kind = Word; place = record { offset = 0; line = 0; column = 0 }; length = 0 }

@@ -6,7 +6,7 @@ use Rattle.sil_shape.specs.declared.grammar.Production.{Production}
 use Rattle.sil_shape.specs.declared.steps.Step.{Step}
 use Rattle.sil_shape.specs.declared.steps.Step.TheVariants.{Take, Expand}
 use Rattle.sil_shape.specs.Grammar.{body}
-use Rattle.sil_shape.specs.Values.{values_left, IsEnough}
+use Rattle.sil_shape.specs.inner.Values.{values_left, IsEnough}
 use Rattle.sil_shape.proofs.ValuesLemmas.{IsEnough-drop}
 use Rattle.written_values.specs.declared.value.Value.{Value}
 use Rattle.written_values.specs.inner.Reduced.{reduced}

@@ -15,7 +15,7 @@ use Rattle.sil_shape.specs.Derivation.{Accepts, Derives, nothing, rule, start, t
 use Rattle.sil_shape.specs.Grammar.{written}
 use Rattle.sil_shape.specs.Rows.{ends_block, row_part}
 use Rattle.sil_shape.specs.Shortest.{Shortens}
-use Rattle.sil_shape.specs.Values.{takes_of, IsEnough}
+use Rattle.sil_shape.specs.inner.Values.{takes_of, IsEnough}
 use Rattle.sil_shape.proofs.Shortened.{Shortens-derives}
 use Rattle.sil_shape.proofs.ValuesLemmas.{takes_of-append, takes_of-derives, values_left-derives, IsEnough-derives}
 use Rattle.written_values.specs.declared.value.Value.{Value}

@@ -2,13 +2,13 @@
 //! keeps the first fault.
 
 ghost use Rattle.std.specs.Prelude.{◌≡◌, ◌≤◌, ◌++◌, All, List, length, reverse, take, IfOk};
-ghost use Rattle.sil_lexer.specs.Lexing.{IsInside, IsLexingOf, lexemes_of};
+ghost use Rattle.sil_lexer.specs.inner.Lexing.{IsInside, IsLexingOf, lexemes_of};
 ghost use Rattle.token_classes.specs.declared.classes.Class.{Class};
 ghost use Rattle.sil_shape.specs.declared.steps.Step.{Step};
 ghost use Rattle.sil_shape.specs.inner.Begun.{LeadsTo};
 ghost use Rattle.sil_shape.specs.Derivation.{start, Derives};
 ghost use Rattle.sil_shape.specs.Shortest.{Shortens};
-ghost use Rattle.sil_shape.specs.Values.{takes_of, IsEnough};
+ghost use Rattle.sil_shape.specs.inner.Values.{takes_of, IsEnough};
 ghost use Rattle.written_modules.specs.inner.Lacking.{waiting};
 ghost use Rattle.written_modules.specs.inner.Replay.{first_fault, replay, KeepsFirst, Writes};
 

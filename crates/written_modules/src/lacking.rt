@@ -4,7 +4,7 @@ ghost use Rattle.std.specs.Prelude.{◌≡◌, ◌+◌, ◌≤◌, [], length, r
 ghost use Rattle.sil_shape.specs.Grammar.{body};
 ghost use Rattle.sil_shape.specs.declared.grammar.Symbol.TheVariants.{Part};
 ghost use Rattle.sil_shape.specs.Shortest as said;
-ghost use Rattle.sil_shape.specs.Values.{IsEnough};
+ghost use Rattle.sil_shape.specs.inner.Values.{IsEnough};
 ghost use Rattle.written_modules.specs.inner.Lacking.{lacking, Fills};
 ghost use Rattle.written_modules.specs.inner.Replay.{replay};
 

@@ -1,7 +1,7 @@
 //! What the tokens of a text stand for. What is kept of their bytes is shared with the text.
 
 ghost use Rattle.std.specs.Prelude.{◌≡◌, ◌+◌, ◌<◌, ◌≤◌, All, length, slice_range, IfOk};
-ghost use Rattle.sil_lexer.specs.Lexing.{IsInside};
+ghost use Rattle.sil_lexer.specs.inner.Lexing.{IsInside};
 ghost use Rattle.sil_lexer.specs.Spelling.{without_quotes, without_sigil};
 ghost use Rattle.written_modules.specs.Leaves as meant;
 ghost use Rattle.written_modules.specs.inner.Replay.{IsKeptAt, IsLeafAt};

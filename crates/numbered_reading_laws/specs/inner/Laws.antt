@@ -8,7 +8,7 @@ use Rattle.written_tree.specs.declared.written_module.WrittenModule.{WrittenModu
 use Rattle.written_modules.specs.inner.Replay.{first_fault, Writes}
 use Rattle.name_resolution.specs.NameFaults.{name_fault}
 use Rattle.name_resolution.specs.Resolved.{resolved}
-use Rattle.numbered_form.specs.NumberedForm.{IsNumbered}
+use Rattle.numbered_form.specs.inner.NumberedForm.{IsNumbered}
 use Rattle.numbered_reading_laws.specs.inner.Leaves.{AreOfClasses}
 
 -- tokens of these classes, derived by these steps, write the module, and nothing in it is at fault

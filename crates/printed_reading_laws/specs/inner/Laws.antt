@@ -1,7 +1,7 @@
 -- What is printed reads back.
 use Rattle.sil_ast.specs.declared.module.Module.{Module}
 use Rattle.sil_printer.specs.CanonicalModules.{canonical_text}
-use Rattle.numbered_form.specs.NumberedForm.{IsNumbered}
+use Rattle.numbered_form.specs.inner.NumberedForm.{IsNumbered}
 use Rattle.sil_grammar.specs.Spells.{Spells}
 
 -- a module in numbered form is spelled by its canonical text

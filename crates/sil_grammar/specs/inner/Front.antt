@@ -1,7 +1,7 @@
 -- The first fault in the front of a text.
 use Rattle.std.specs.Prelude.{ℕ, List, map, take, Option, Some, None}
 use Rattle.sil_lexer.specs.Lexes.{Lexeme}
-use Rattle.sil_lexer.specs.Lexing.{Lexing, lexemes_of}
+use Rattle.sil_lexer.specs.inner.Lexing.{Lexing, lexemes_of}
 use Rattle.sil_shape.specs.declared.steps.Step.{Step}
 use Rattle.written_tree.specs.declared.fault.Fault.{Fault}
 use Rattle.spelled_parts_laws.specs.Reading.{AreFaultless, IsFirstFault}

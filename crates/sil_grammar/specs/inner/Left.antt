@@ -6,7 +6,7 @@ use Rattle.sil_shape.specs.declared.steps.Step.{Step}
 use Rattle.sil_shape.specs.declared.steps.Step.TheVariants.{Take, Expand}
 use Rattle.sil_shape.specs.Derivation.{start}
 use Rattle.sil_shape.specs.Grammar.{body}
-use Rattle.sil_shape.specs.Values.{takes_of}
+use Rattle.sil_shape.specs.inner.Values.{takes_of}
 
 -- what is left to be written after a step
 unfoldable pub after : Step → List Symbol → List Symbol

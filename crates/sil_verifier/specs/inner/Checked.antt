@@ -1,6 +1,6 @@
 -- What is known of an accepted module that was checked.
 use Rattle.sil_ast.specs.declared.module.Module.{Module}
-use Rattle.numbered_form.specs.NumberedForm.{IsNumbered}
+use Rattle.numbered_form.specs.inner.NumberedForm.{IsNumbered}
 use Rattle.type_definitions.specs.Declarations.{Declarations}
 use Rattle.type_definitions.specs.Rules.{AreDeclarationsOf}
 use Rattle.sil_verifier.specs.Findings.{Accepted}

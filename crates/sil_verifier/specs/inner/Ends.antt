@@ -2,7 +2,7 @@
 use Rattle.std.specs.Prelude.{◌≡◌}
 use Rattle.sil_ast.specs.declared.module.Module.{Module}
 use Rattle.sil_verifier.specs.Findings.{Finding, Refusal, limit}
-use Rattle.sil_verifier.specs.Reports.{Reported}
+use Rattle.sil_verifier.specs.inner.Reports.{Reported}
 use Rattle.sil_verifier.specs.declared.refusal.Refusal as declared
 use Rattle.sil_verifier.specs.declared.verifier.VerifyEnd.{VerifyEnd}
 use Rattle.sil_verifier.specs.declared.verifier.VerifyEnd.TheVariants as end

@@ -3,7 +3,7 @@
 use Rattle.std.specs.Prelude.{◌≡◌, ◌≤◌, ◌++◌, ℕ, List, [], ◌∷◌, length, Option, None}
 use Rattle.std.specs.List.{HoldsAt}
 use Rattle.sil_lexer.specs.Lexes.{Lexeme}
-use Rattle.sil_lexer.specs.Lexing.{Lexing, lexeme_of}
+use Rattle.sil_lexer.specs.inner.Lexing.{Lexing, lexeme_of}
 use Rattle.sil_shape.specs.declared.steps.Step.{Step}
 use Rattle.sil_shape.specs.declared.steps.Step.TheVariants.{Take, Expand}
 use Rattle.written_tree.specs.declared.fault.Fault.{Fault}

@@ -4,7 +4,7 @@ use Rattle.sil_rules.specs.declared.status.Status.TheVariants.{Refused, Limit}
 use Rattle.sil_rules.specs.Statuses.{code_of}
 use Rattle.sil_verifier.specs.inner.Ends.{IsVerifyEnd}
 use Rattle.sil_command.specs.Answers.{AnswersCheck, refused, limit_passed}
-use Rattle.sil_command.specs.RefusalTexts.{report_text}
+use Rattle.sil_command.specs.inner.ReportTexts.{report_text}
 use Rattle.sil_command.proofs.AnswerLemmas.{told_line}
 use Rattle.sil_command.proofs.RefusalLemmas.{reported_not_limit, reported_text}
 use Rattle.sil_command.proofs.verified.answer_end.Goals as goal

@@ -3,7 +3,7 @@ use Rattle.std.proofs.Common.{◌≡◌, List, ◌++◌, ap, drop, subst, sym, t
 use Rattle.std.proofs.lemmas.List.{take-append-drop}
 use Rattle.sil_shape.specs.declared.steps.Step.{Step}
 use Rattle.sil_shape.specs.Derivation.{start}
-use Rattle.sil_shape.specs.Values.{takes_of}
+use Rattle.sil_shape.specs.inner.Values.{takes_of}
 use Rattle.sil_grammar.specs.inner.Left.{left_after, AreDecided}
 use Rattle.sil_grammar.proofs.cutting.cut_at_last_token.Goals as goal
 

@@ -1,6 +1,6 @@
 -- For `fault_before`: the front is cut behind its last token, and what is left is written in the shortest way.
 use Rattle.std.proofs.Common.{◌≡◌, ◌++◌, List, map, reverse, subst, sym, take}
-use Rattle.sil_lexer.specs.Lexing.{lexemes_of, IsLexingOf}
+use Rattle.sil_lexer.specs.inner.Lexing.{lexemes_of, IsLexingOf}
 use Rattle.token_classes.specs.declared.classes.Class.{Class}
 use Rattle.sil_shape.specs.declared.steps.Step.{Step}
 use Rattle.sil_shape.specs.Shortest.{Shortens}

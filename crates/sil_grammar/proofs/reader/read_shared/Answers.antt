@@ -4,7 +4,7 @@ use Rattle.std.proofs.lemmas.Result.{IfOk-weaker}
 use Rattle.sil_grammar.specs.inner.Shape.{IsBroken, IsShapeOf}
 use Rattle.sil_ast.specs.declared.module.Module.{Module}
 use Rattle.sil_grammar.specs.Spells.{Spells}
-use Rattle.numbered_form.specs.NumberedForm.{IsNumbered}
+use Rattle.numbered_form.specs.inner.NumberedForm.{IsNumbered}
 use Rattle.sil_grammar.proofs.NumberedLemmas.{spelled_numbered}
 use Rattle.sil_grammar.proofs.ReadLemmas.{out_of_memory, spelled_once}
 use Rattle.sil_grammar.proofs.reader.read_shared.Goals as goal

@@ -1,6 +1,6 @@
 -- For `read_whole`: a fault refuses, and else the steps and tokens write a module.
 use Rattle.std.proofs.Common.{◌≡◌, Some, ap, subst, sym, ◌∙◌}
-use Rattle.sil_lexer.specs.Lexing.{lexemes_of, IsLexingOf}
+use Rattle.sil_lexer.specs.inner.Lexing.{lexemes_of, IsLexingOf}
 use Rattle.std.proofs.lemmas.Result.{IfErr-weaker, IfOk-weaker}
 use Rattle.written_modules.specs.inner.Replay.{first_fault, Writes}
 use Rattle.sil_grammar.specs.Refusals.{IsRefusalOf, faulty}

@@ -4,7 +4,7 @@ use Rattle.std.proofs.lemmas.List.{take_rest}
 use Rattle.std.proofs.lemmas.List.Elements.{All-nil}
 use Rattle.sil_lexer.specs.Places.{IsPlaceIn}
 use Rattle.sil_lexer.specs.inner.Scan.{HasRoom, SkipsTo}
-use Rattle.sil_lexer.specs.Lexing.{IsInside}
+use Rattle.sil_lexer.specs.inner.Lexing.{IsInside}
 use Rattle.sil_lexer.proofs.PlaceLemmas.{bounds}
 use Rattle.sil_lexer.proofs.LexLemmas.{LexedBefore, lexed_none, lexed_more, lexed_all, lexed_up_to, token_end, inside_more, lexing_is}
 use Rattle.sil_lexer.proofs.lexer.lex.Goals as goal

@@ -2,7 +2,7 @@ use Rattle.std.proofs.Common.{◌≡◌, ◌-◌, false, length, drop}
 use Rattle.std.specs.Prelude.{All}
 use Rattle.sil_lexer.specs.Places.{IsPlaceIn}
 use Rattle.sil_lexer.specs.Lexes.{begins_skipped}
-use Rattle.sil_lexer.specs.Lexing.{IsInside}
+use Rattle.sil_lexer.specs.inner.Lexing.{IsInside}
 use Rattle.sil_lexer.proofs.LexLemmas.{LexedBefore}
 use Rattle.sil_lexer.proofs.lexer.lex.Given as goal
 

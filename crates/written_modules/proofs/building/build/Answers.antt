@@ -2,9 +2,9 @@
 use Rattle.std.proofs.Common.{◌≡◌, [], ◌∷◌, ◌++◌, ◌∙◌, List, ap, arith, length, map, reverse, subst, sym}
 use Rattle.std.proofs.lemmas.List.{append-nil, length-reverse}
 use Rattle.sil_lexer.specs.Lexes.{Lexeme}
-use Rattle.sil_lexer.specs.Lexing.{lexemes_of}
+use Rattle.sil_lexer.specs.inner.Lexing.{lexemes_of}
 use Rattle.sil_shape.specs.Shortest.{Shortens, written}
-use Rattle.sil_shape.specs.Values.{IsEnough}
+use Rattle.sil_shape.specs.inner.Values.{IsEnough}
 use Rattle.sil_shape.proofs.ValuesLemmas.{IsEnough-derives}
 use Rattle.written_values.specs.declared.value.Value.{Value}
 use Rattle.written_values.specs.declared.value.Value.TheVariants as v

@@ -3,7 +3,7 @@ use Rattle.std.proofs.Common.{◌≡◌, ◌++◌, ◌∙◌, ap, length, map, r
 use Rattle.std.specs.Prelude.{All}
 use Rattle.std.proofs.lemmas.List.{length-take-le, take-map}
 use Rattle.std.proofs.lemmas.List.Elements.{All-take}
-use Rattle.sil_lexer.specs.Lexing.{lexeme_of, lexemes_of, IsInside}
+use Rattle.sil_lexer.specs.inner.Lexing.{lexeme_of, lexemes_of, IsInside}
 use Rattle.sil_shape.proofs.Shortened.{shortened}
 use Rattle.written_modules.specs.inner.Replay.{first_fault}
 use Rattle.written_modules.proofs.WholeLemmas.{enough_whole, takes_before}

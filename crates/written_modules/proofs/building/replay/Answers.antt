@@ -2,7 +2,7 @@
 use Rattle.std.proofs.Common.{◌≡◌, [], ◌∷◌, ◌++◌, ◌<◌, ◌≤◌, ◌-◌, ◌∙◌, length, map, reverse, take, get_or, ap, arith, subst, sym}
 use Rattle.std.specs.Prelude.{None}
 use Rattle.std.proofs.lemmas.List.{length-reverse, length-take-le, take_all}
-use Rattle.sil_lexer.specs.Lexing.{lexemes_of, IsInside}
+use Rattle.sil_lexer.specs.inner.Lexing.{lexemes_of, IsInside}
 use Rattle.sil_shape.specs.Grammar.{body}
 use Rattle.written_tree.specs.Faults.{earlier}
 use Rattle.written_modules.specs.inner.Lacking.{lacking, waiting}

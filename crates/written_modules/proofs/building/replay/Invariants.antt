@@ -1,7 +1,7 @@
 -- The steps and tokens that are left are still to be replayed.
 use Rattle.std.proofs.Common.{◌++◌, ◌≤◌, length, reverse, take}
 use Rattle.std.specs.Prelude.{All}
-use Rattle.sil_lexer.specs.Lexing.{lexemes_of, IsInside}
+use Rattle.sil_lexer.specs.inner.Lexing.{lexemes_of, IsInside}
 use Rattle.written_modules.specs.inner.Lacking.{waiting}
 use Rattle.written_modules.proofs.BuildLemmas.{InReplay}
 use Rattle.written_modules.proofs.building.replay.Given as goal

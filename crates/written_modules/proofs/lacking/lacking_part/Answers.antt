@@ -2,7 +2,7 @@
 use Rattle.std.proofs.Common.{◌≡◌, [], ◌∷◌, ◌∙◌, ap, arith, length, subst, sym}
 use Rattle.sil_shape.specs.declared.grammar.Symbol.TheVariants.{Part}
 use Rattle.sil_shape.specs.Grammar.{body}
-use Rattle.sil_shape.specs.Values.{IsEnough}
+use Rattle.sil_shape.specs.inner.Values.{IsEnough}
 use Rattle.written_modules.specs.inner.Lacking.{lacking}
 use Rattle.written_modules.specs.inner.Replay.{replay}
 use Rattle.written_modules.proofs.LackingLemmas.{enough_alone, one_part}

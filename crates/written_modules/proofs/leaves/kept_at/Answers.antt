@@ -1,7 +1,7 @@
 -- The token stands inside the text.
 use Rattle.std.proofs.Common.{◌∙◌, ap, arith, get_or, length}
 use Rattle.sil_lexer.specs.declared.token.Token.{Token}
-use Rattle.sil_lexer.specs.Lexing.{spelling_of}
+use Rattle.sil_lexer.specs.inner.Lexing.{spelling_of}
 use Rattle.sil_lexer.proofs.OrderLemmas.{length-spelling}
 use Rattle.written_modules.proofs.LeafLemmas.{some_token, token_inside}
 use Rattle.written_modules.proofs.leaves.kept_at.Goals as goal

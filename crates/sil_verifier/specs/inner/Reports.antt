@@ -1,14 +1,10 @@
 -- What a refusal says of a finding.
-use Rattle.std.specs.Prelude.{◌≡◌, ℕ, ◌+◌, [], Option, Some, None, length}
+use Rattle.std.specs.Prelude.{◌≡◌, [], Option, Some, None}
 use Rattle.std.specs.Option.{option_map}
 use Rattle.sil_ast.specs.declared.module.Module.{Module}
 use Rattle.type_check.specs.Refusals.{function_id}
-use Rattle.sil_verifier.specs.Findings.{Finding, item, limit, typing, value}
+use Rattle.sil_verifier.specs.Findings.{Finding, item, limit, typing, value, vtable_item}
 use Rattle.sil_verifier.specs.declared.refusal.Refusal as declared
-
--- the number of a vtable among declarations, functions and vtables
-abbrev pub vtable_item : Module → ℕ → ℕ
-vtable_item m v = length m.decls + (length m.functions + v)
 
 -- of an item its number; of a broken rule of typing the function and the point, or the vtable's number among the items; of one on values
 -- all that is shown. A limit has no rule

@@ -1,13 +1,13 @@
 -- Numbered form: what holds of a module that was read, before any rule of types or ownership.
 use Rattle.sil_ast.specs.declared.module.Module.{Module}
 use Rattle.numbered_form.specs.Numbering.{AreNumbered}
-use Rattle.numbered_form.specs.Parts.{HaveTheirParts}
-use Rattle.numbered_form.specs.Literals.{AreLiteralsInRange}
-use Rattle.numbered_form.specs.Fields.{AreStructFieldsStrong}
+use Rattle.numbered_form.specs.inner.Parts.{HaveTheirParts}
+use Rattle.numbered_form.specs.inner.Literals.{AreLiteralsInRange}
+use Rattle.numbered_form.specs.inner.Fields.{AreStructFieldsStrong}
 use Rattle.numbered_form.specs.Names.{AreNamesSpelled, AreNamesOnce}
-use Rattle.numbered_form.specs.Types.{AreTypesWritten}
-use Rattle.numbered_form.specs.Functions.{AreFunctionsFormed}
-use Rattle.numbered_form.specs.Limits.{AreLimitsKept}
+use Rattle.numbered_form.specs.inner.Types.{AreTypesWritten}
+use Rattle.numbered_form.specs.inner.Functions.{AreFunctionsFormed}
+use Rattle.numbered_form.specs.inner.Limits.{AreLimitsKept}
 
 pub record IsNumbered (m : Module) : Type 0 where
   pub numbering : AreNumbered m

@@ -1,0 +1,6 @@
+-- For the law `refused_for_the_first`.
+use Rattle.sil_command.proofs.Refused.{refused_for_the_first}
+use Rattle.sil_command.proofs.laws.refused_for_the_first.Goals as goal
+
+pub returns : goal.returns
+returns c = refused_for_the_first c.spelled_once.ensures

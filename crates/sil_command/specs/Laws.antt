@@ -1,0 +1,46 @@
+-- What the answers of each mode tell of a text.
+use Rattle.std.specs.Prelude.{◌≡◌, ◌≢◌, ◌↔◌, ℕ, ◌≤◌, List, length, ⊤}
+use Rattle.sil_ast.specs.declared.module.Module.{Module}
+use Rattle.sil_grammar.specs.Refusals.{SpellsNone}
+use Rattle.sil_grammar.specs.Spells.{Spells}
+use Rattle.sil_rules.specs.declared.limits.TheConstants.{TEXT_BYTES}
+use Rattle.sil_rules.specs.declared.status.Status.TheVariants.{Done, NotAModule}
+use Rattle.sil_rules.specs.Statuses.{code_of}
+use Rattle.sil_verifier.specs.Findings.{Accepted, Finding, Refusal}
+use Rattle.sil_command.specs.declared.words.Mode.{Mode}
+use Rattle.sil_command.specs.declared.words.Mode.TheVariants.{Check, Print}
+use Rattle.sil_command.specs.Words.{AsksFor}
+use Rattle.sil_command.specs.Answers.{Answers}
+use Rattle.sil_command.specs.RefusalTexts.{refusal_text}
+
+-- among texts within the limit, the mode answers with the status just those that spell a module that is such
+abbrev pub AnswersExactly : Mode → ℕ → (Module → Type 0) → Type 0
+AnswersExactly mode wanted IsSuch =
+    (words : List (List ℕ)) (text answer : List ℕ) (status : ℕ) → AsksFor words mode → length text ≤ TEXT_BYTES → Answers words text answer status
+    → ((m : Module) × Spells m text × IsSuch m) ↔ (status ≡ wanted)
+
+-- `check` answers Done just for the texts that spell an accepted module
+abbrev pub AreAcceptedExactly : Type 0
+AreAcceptedExactly = AnswersExactly Check (code_of Done) Accepted
+
+-- where `check` doesn't answer Done for a text that spells a module, it writes the first of all that is wrong with the module
+abbrev pub AreRefusedForTheFirst : Type 0
+AreRefusedForTheFirst =
+    (words : List (List ℕ)) (text answer : List ℕ) (status : ℕ) → AsksFor words Check → length text ≤ TEXT_BYTES → Answers words text answer status
+    → (m : Module) → Spells m text → status ≢ code_of Done → (x : Finding) × Refusal m x × (answer ≡ refusal_text m x)
+
+-- no mode answers NotAModule for a text that spells a module
+abbrev pub AreReportedRightly : Type 0
+AreReportedRightly =
+    (words : List (List ℕ)) (mode : Mode) (text answer : List ℕ) (status : ℕ) → AsksFor words mode → Answers words text answer status
+    → status ≡ code_of NotAModule → SpellsNone text
+
+-- `print` answers Done just for the texts that spell a module
+abbrev pub ArePrintedExactly : Type 0
+ArePrintedExactly = AnswersExactly Print (code_of Done) (λ m. ⊤)
+
+-- what `print` writes with Done spells the module that the text spells
+abbrev pub ArePrintedReadBack : Type 0
+ArePrintedReadBack =
+    (words : List (List ℕ)) (text answer : List ℕ) (status : ℕ) → AsksFor words Print → Answers words text answer status → status ≡ code_of Done
+    → (m : Module) × Spells m text × Spells m answer
