@@ -17,22 +17,6 @@ pub struct Ended {
     pub status: u8,
 }
 
-/// Calls `check` on a text, from a source and into a sink that never fail.
-pub fn check(alloc: Global, text: &[u8]) -> Result<Ended, Fail> {
-    calm_call(alloc, &["check"], text)
-}
-
-/// Calls `print` on a text, from a source and into a sink that never fail.
-pub fn print(alloc: Global, text: &[u8]) -> Result<Ended, Fail> {
-    calm_call(alloc, &["print"], text)
-}
-
-fn calm_call(alloc: Global, words: &[&str], text: &[u8]) -> Result<Ended, Fail> {
-    let nothing = Vec::new(alloc);
-    let nowhere = Vec::new(alloc);
-    call(alloc, words, text, (4096, nothing), (4096, nowhere))
-}
-
 /// Calls the command with pieces of these sizes and faults at these calls, of the source and of the sink.
 pub fn call(
     alloc: Global,

@@ -1,6 +1,6 @@
 //! Runs each case file below a folder through the command, or through the check of types alone, prints each that fails with
-//! both answers, and ends with the line `N passed, M failed`. The folder is the first word, or else the one that the program
-//! runs in.
+//! both answers, and ends with the line `all cases passed`, `failed: N` or `no cases`. How many ran is told on standard error.
+//! The folder is the first word, or else the one that the program runs in.
 #![tactic(auto)]
 
 mod answers;
@@ -25,18 +25,31 @@ fn main(rt: HostRuntime) -> ExitCode {
 }
 
 /// Whether there is a case and all of them pass.
-fn run_all<R: AllocGlobal + Env + Files + Print + Clone + Drop>(rt: &R) -> io::Result<bool> {
+fn run_all<R: AllocGlobal + Env + Files + Print + Eprint + Clone + Drop>(
+    rt: &R,
+) -> io::Result<bool> {
     let alloc = rt.alloc();
     let root = folder::named(rt)?;
-    let mut passed = 0u64;
+    let files = folder::files_below(rt, root.as_str())?;
     let mut failed = 0u64;
-    for path in &folder::files_below(rt, root.as_str())? {
-        if report::passes(rt, alloc, path.as_str())? {
-            passed = passed.saturating_add(1);
-        } else {
+    for path in &files {
+        if !report::passes(rt, alloc, path.as_str())? {
             failed = failed.saturating_add(1);
         }
     }
-    println!(rt; "{passed} passed, {failed} failed")?;
-    Ok(0 < passed && failed == 0)
+    let ran = files.len();
+    eprintln!(rt; "{ran} cases ran")?;
+    print_last_line(rt, ran, failed)?;
+    Ok(0 < ran && failed == 0)
+}
+
+/// Prints a line that is the same for any number of cases, where all of them pass.
+fn print_last_line<R: Print>(rt: &R, ran: usize, failed: u64) -> io::Result<()> {
+    if ran == 0 {
+        println!(rt; "no cases")
+    } else if failed == 0 {
+        println!(rt; "all cases passed")
+    } else {
+        println!(rt; "failed: {failed}")
+    }
 }
