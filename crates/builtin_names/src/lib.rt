@@ -3,4 +3,4 @@
 
 mod names;
 
-pub use names::{Operation, Width, is_builtin_name};
+pub use names::{Operation, Width, is_builtin_name, operation_spelling, width_spelling};

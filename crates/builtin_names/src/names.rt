@@ -31,8 +31,9 @@ pub enum Width {
     Int64,
 }
 
+/// How an operation is spelled.
 #[tactic(auto, unfolding(crate::specs::BuiltinNames::operation_spelling))]
-fn operation_spelling(operation: Operation) -> &'static [u8]
+pub fn operation_spelling(operation: Operation) -> &'static [u8]
     ensures { result.now ≡ operation_spelling operation }
 {
     match operation {
@@ -51,8 +52,9 @@ fn operation_spelling(operation: Operation) -> &'static [u8]
     }
 }
 
+/// How a width is spelled.
 #[tactic(auto, unfolding(crate::specs::BuiltinNames::width_spelling))]
-fn width_spelling(width: Width) -> &'static [u8]
+pub fn width_spelling(width: Width) -> &'static [u8]
     ensures { result.now ≡ width_spelling width }
 {
     match width {

@@ -8,9 +8,10 @@ use crate::entries::Results::{NoResult, OneResult, ResultList};
 use crate::entries::Words::{AnyWord, InitWord, NoWord, TakeWord};
 use crate::entries::{Detail, Ending, ExtraValue, Results, Words};
 use crate::forms::Part;
+use crate::op::INSTRUCTION_COUNT;
 
 /// The word with which an instruction begins, behind its results.
-pub static MNEMONICS: [&[u8]; 41] = [
+pub static MNEMONICS: [&[u8]; INSTRUCTION_COUNT] = [
     b"integer_literal",
     b"function_ref",
     b"builtin",
@@ -55,7 +56,7 @@ pub static MNEMONICS: [&[u8]; 41] = [
 ];
 
 /// The parts behind that word, from left to right. Both flags may stand where a row has `Flags`.
-pub static PARTS: [&[Part]; 41] = [
+pub static PARTS: [&[Part]; INSTRUCTION_COUNT] = [
     &[Part::TypeWord, Part::Number], // integer_literal
     &[Part::Callee, Part::SignatureWord], // function_ref
     &[Part::Text, Part::TypedArgs, Part::ResultType], // builtin
@@ -100,7 +101,7 @@ pub static PARTS: [&[Part]; 41] = [
 ];
 
 /// How many results an instruction has.
-pub static RESULTS: [Results; 41] = [
+pub static RESULTS: [Results; INSTRUCTION_COUNT] = [
     OneResult, // integer_literal
     OneResult, // function_ref
     OneResult, // builtin
@@ -145,7 +146,7 @@ pub static RESULTS: [Results; 41] = [
 ];
 
 /// Whether an instruction ends a block, and what comes then.
-pub static ENDINGS: [Ending; 41] = [
+pub static ENDINGS: [Ending; INSTRUCTION_COUNT] = [
     Inside, // integer_literal
     Inside, // function_ref
     Inside, // builtin
@@ -190,7 +191,7 @@ pub static ENDINGS: [Ending; 41] = [
 ];
 
 /// Which words may stand in brackets.
-pub static WORDS: [Words; 41] = [
+pub static WORDS: [Words; INSTRUCTION_COUNT] = [
     NoWord, // integer_literal
     NoWord, // function_ref
     NoWord, // builtin
@@ -235,7 +236,7 @@ pub static WORDS: [Words; 41] = [
 ];
 
 /// Whether the operands may be left out.
-pub static OPTIONAL_OPERANDS: [bool; 41] = [
+pub static OPTIONAL_OPERANDS: [bool; INSTRUCTION_COUNT] = [
     false, // integer_literal
     false, // function_ref
     false, // builtin
@@ -280,7 +281,7 @@ pub static OPTIONAL_OPERANDS: [bool; 41] = [
 ];
 
 /// What an instruction's number, text or member says.
-pub static DETAILS: [Detail; 41] = [
+pub static DETAILS: [Detail; INSTRUCTION_COUNT] = [
     Literal, // integer_literal
     NoDetail, // function_ref
     Operation, // builtin
@@ -325,7 +326,7 @@ pub static DETAILS: [Detail; 41] = [
 ];
 
 /// Whether an instruction counts for one value more than it defines.
-pub static EXTRA_VALUES: [ExtraValue; 41] = [
+pub static EXTRA_VALUES: [ExtraValue; INSTRUCTION_COUNT] = [
     Never, // integer_literal
     Never, // function_ref
     Never, // builtin

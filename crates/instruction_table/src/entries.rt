@@ -125,7 +125,7 @@ pub enum Role {
     AnyRole,
     /// It is a scope itself, which ends here.
     ScopeRole,
-    /// As the parameter of the callee says: consumed for `@owned`, an address for `@inout`, else used.
+    /// As the parameter of the callee says: consumed for `@owned`, an address for `@inout`, `@in` and `@in_guaranteed`, else used.
     ByParameter,
     /// Its references are counted, which only lowered functions do.
     Counted,

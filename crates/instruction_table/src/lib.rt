@@ -14,7 +14,7 @@ pub use entries::{
     BareOperands, Detail, Ending, ExtraValue, InForms, ResultKind, Results, Role, TypeWords, Words,
 };
 pub use forms::{FormRow, Part};
-pub use op::{OPS, Op};
+pub use op::{INSTRUCTION_COUNT, OPS, Op};
 pub use rows::{
     bare_operands_of, detail_of, ending_of, extra_value_of, forms_of, has_one_result,
     has_result_list, makes_tuple, may_have_storage, may_lack_operand, result_kind_of, results_of,

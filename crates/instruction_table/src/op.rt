@@ -87,8 +87,11 @@ pub enum Op {
     Unreachable,
 }
 
+/// How many instructions there are.
+pub const INSTRUCTION_COUNT: usize = 41;
+
 /// Every instruction, at its number.
-pub static OPS: [Op; 41] = [
+pub static OPS: [Op; INSTRUCTION_COUNT] = [
     Op::IntegerLiteral,
     Op::FunctionRef,
     Op::Builtin,

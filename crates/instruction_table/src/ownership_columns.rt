@@ -7,9 +7,10 @@ use crate::entries::Role::{
     AddressRole, AnyRole, ByParameter, Consumed, Counted, Forwarded, Lent, ScopeRole, Used,
 };
 use crate::entries::{ResultKind, Role};
+use crate::op::INSTRUCTION_COUNT;
 
 /// What an instruction does to its operands, in order. The last role is that of all operands behind it. The arguments of edges are consumed.
-pub static ROLES: [&[Role]; 41] = [
+pub static ROLES: [&[Role]; INSTRUCTION_COUNT] = [
     &[], // integer_literal
     &[], // function_ref
     &[Used], // builtin
@@ -54,7 +55,7 @@ pub static ROLES: [&[Role]; 41] = [
 ];
 
 /// Of what kind an instruction's results are, where their types aren't trivial. Of `switch_enum`, the arguments of its blocks.
-pub static RESULT_KINDS: [ResultKind; 41] = [
+pub static RESULT_KINDS: [ResultKind; INSTRUCTION_COUNT] = [
     NoneResult, // integer_literal
     NoneResult, // function_ref
     NoneResult, // builtin

@@ -6,9 +6,10 @@ use crate::entries::BareOperands::{
 use crate::entries::InForms::{BothForms, ByStorage, ByWord, LoweredForm, OwnershipForm};
 use crate::entries::TypeWords::{AnyType, ReadWords, WriteWords};
 use crate::entries::{BareOperands, InForms, TypeWords};
+use crate::op::INSTRUCTION_COUNT;
 
 /// Whether weak and unowned storage may stand behind an instruction as its type.
-pub static STORAGE_TYPES: [bool; 41] = [
+pub static STORAGE_TYPES: [bool; INSTRUCTION_COUNT] = [
     false, // integer_literal
     false, // function_ref
     false, // builtin
@@ -53,7 +54,7 @@ pub static STORAGE_TYPES: [bool; 41] = [
 ];
 
 /// Whether an instruction makes the tuple of its operands.
-pub static OPERAND_TUPLES: [bool; 41] = [
+pub static OPERAND_TUPLES: [bool; INSTRUCTION_COUNT] = [
     false, // integer_literal
     false, // function_ref
     false, // builtin
@@ -98,7 +99,7 @@ pub static OPERAND_TUPLES: [bool; 41] = [
 ];
 
 /// In functions of which form an instruction may stand.
-pub static FORMS: [InForms; 41] = [
+pub static FORMS: [InForms; INSTRUCTION_COUNT] = [
     BothForms, // integer_literal
     BothForms, // function_ref
     BothForms, // builtin
@@ -143,7 +144,7 @@ pub static FORMS: [InForms; 41] = [
 ];
 
 /// Which words an instruction takes for which types, in a function in ownership form.
-pub static TYPE_WORDS: [TypeWords; 41] = [
+pub static TYPE_WORDS: [TypeWords; INSTRUCTION_COUNT] = [
     AnyType, // integer_literal
     AnyType, // function_ref
     AnyType, // builtin
@@ -188,7 +189,7 @@ pub static TYPE_WORDS: [TypeWords; 41] = [
 ];
 
 /// What the operands without a written type stand for, which tells their types.
-pub static BARE_OPERANDS: [BareOperands; 41] = [
+pub static BARE_OPERANDS: [BareOperands; INSTRUCTION_COUNT] = [
     NoBare, // integer_literal
     NoBare, // function_ref
     NoBare, // builtin

@@ -7,6 +7,7 @@ use Rattle.sil_ast.specs.declared.place.EdgeId.{EdgeId}
 use Rattle.sil_ast.specs.declared.place.PointId.{PointId}
 use Rattle.sil_rules.specs.Rules.{index_of, rule_at}
 use Rattle.sil_rules.specs.declared.rule.Rule.{Rule}
+use Rattle.sil_rules.specs.declared.rule.TheConstants.{RULE_COUNT}
 use Rattle.sil_rules.proofs.Numbers.{in_place, same_rule}
 use Rattle.sil_cfg.specs.declared.item.Item.{Item}
 use Rattle.sil_cfg.specs.Flow.{Flow}
@@ -24,12 +25,12 @@ use Rattle.path_checks.specs.declared.entry.Entry.{Entry}
 
 -- the way back from a code to a rule
 pub record IsRuleCode (code : ℕ) : Type 0 where
-  pub below : code < 41
+  pub below : code < RULE_COUNT
   pub found : index_of (rule_at code) ≡ code
 
 told_by : (r : Rule) (code : ℕ) → index_of r ≡ code → IsRuleCode code
 told_by r code e = record {
-  below = subst (λ n. n < 41) e (in_place r).0;
+  below = subst (λ n. n < RULE_COUNT) e (in_place r).0;
   found = ap (λ n. index_of (rule_at n)) (sym e) ∙ ap index_of (in_place r).1 ∙ e;
 }
 

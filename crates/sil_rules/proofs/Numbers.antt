@@ -5,7 +5,7 @@ use Rattle.sil_rules.specs.inner.Laws.{AreInPlace}
 use Rattle.sil_rules.specs.Rules.{index_of, number_of, rule_at}
 use Rattle.sil_rules.specs.declared.rule.Rule.{Rule}
 use Rattle.sil_rules.specs.declared.rule.Rule.TheVariants as rule
-use Rattle.sil_rules.specs.declared.rule.TheConstants.{NUMBERS}
+use Rattle.sil_rules.specs.declared.rule.TheConstants.{NUMBERS, RULE_COUNT}
 use Rattle.sil_rules.proofs.Rising.{increasing}
 
 pub in_place : AreInPlace
@@ -68,7 +68,7 @@ module _ (xs : List ℕ) (up : IsStrictlyIncreasing xs) where
 -- a rule with a lesser index has a lesser number
 pub numbers_rise : (a b : Rule) → index_of a < index_of b → number_of a < number_of b
 numbers_rise a b lt =
-    let few : index_of b < 41 = (in_place b).0 in
+    let few : index_of b < RULE_COUNT = (in_place b).0 in
     let place : (index_of a + (index_of b - index_of a - 1)) + 1 ≡ index_of b = omega arith in
     subst (λ n. get_or NUMBERS (index_of a) 0 < get_or NUMBERS n 0) place
-    (rising NUMBERS (increasing NUMBERS refl) (index_of a) (index_of b - index_of a - 1) (let size : length NUMBERS ≡ 41 = refl in omega arith))
+    (rising NUMBERS (increasing NUMBERS refl) (index_of a) (index_of b - index_of a - 1) (let size : length NUMBERS ≡ RULE_COUNT = refl in omega arith))

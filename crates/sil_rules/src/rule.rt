@@ -92,15 +92,18 @@ pub enum Rule {
     PartialAccess,
 }
 
+/// How many rules there are.
+pub const RULE_COUNT: usize = 41;
+
 /// The number of each rule, in order.
-const NUMBERS: [u16; 41] = [
+const NUMBERS: [u16; RULE_COUNT] = [
     101, 102, 103, 104, 201, 202, 203, 204, 205, 206, 207, 208, 209, 210, 211, 212, 301, 302, 303,
     304, 305, 401, 402, 403, 404, 501, 502, 503, 504, 505, 601, 602, 603, 604, 605, 606, 607, 608,
     609, 610, 611,
 ];
 
 /// The name of each rule, in order.
-const NAMES: [&[u8]; 41] = [
+const NAMES: [&[u8]; RULE_COUNT] = [
     b"UnknownType",
     b"InfiniteType",
     b"BadMember",
@@ -145,7 +148,7 @@ const NAMES: [&[u8]; 41] = [
 ];
 
 /// The group of each rule, in order.
-const GROUPS: [Group; 41] = [
+const GROUPS: [Group; RULE_COUNT] = [
     Group::Declarations,
     Group::Finiteness,
     Group::Declarations,
@@ -190,7 +193,7 @@ const GROUPS: [Group; 41] = [
 ];
 
 /// All rules, in the order of their numbers.
-pub static RULES: [Rule; 41] = [
+pub static RULES: [Rule; RULE_COUNT] = [
     Rule::UnknownType,
     Rule::InfiniteType,
     Rule::BadMember,
@@ -244,7 +247,7 @@ impl Rule {
 
     /// The rule at a place in the order.
     pub fn at(index: u8) -> Rule
-        requires { index < 41 }
+        requires { index < RULE_COUNT }
         ensures { result ≡ rule_at index }
     {
         RULES[index as usize]

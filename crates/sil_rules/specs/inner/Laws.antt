@@ -3,6 +3,7 @@ use Rattle.std.specs.Prelude.{◌≡◌, ◌⊎◌, ◌<◌, ℕ, List}
 use Rattle.sil_rules.specs.Order.{NotAfter}
 use Rattle.sil_rules.specs.Rules.{index_of, rule_at}
 use Rattle.sil_rules.specs.declared.rule.Rule.{Rule}
+use Rattle.sil_rules.specs.declared.rule.TheConstants.{RULE_COUNT}
 
 -- lists of numbers are in one order
 pub record AreOrdered : Type 0 where
@@ -13,4 +14,4 @@ pub record AreOrdered : Type 0 where
 
 -- each rule stands at its index
 abbrev pub AreInPlace : Type 0
-AreInPlace = (r : Rule) → (index_of r < 41) × (rule_at (index_of r) ≡ r)
+AreInPlace = (r : Rule) → (index_of r < RULE_COUNT) × (rule_at (index_of r) ≡ r)
