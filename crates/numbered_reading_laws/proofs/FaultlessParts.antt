@@ -46,7 +46,7 @@ use Rattle.numbered_form.specs.inner.Literals.{HasLiterals}
 use Rattle.numbered_form.specs.Names.{IsDeclSpelled, IsEdgeSpelled, IsInstSpelled, IsMemberSpelled, IsWord, is_at_name, is_quotable}
 use Rattle.instruction_table.specs.Forms.{is_terminator}
 use Rattle.numbered_form.specs.inner.Parts.{HasItsParts, are_cases, is_branch, is_plain_or_init, is_plain_or_take, is_typed}
-use Rattle.numbered_form.specs.inner.Types.{HasDeclTypes, HasEdgeTypes, HasGivenType, HasInstTypes, HasOperandType, HasParamType, HasSignatureTypes, IsPlacedType, IsPlainType, is_plain_type, same}
+use Rattle.numbered_form.specs.inner.Types.{HasDeclTypes, HasEdgeTypes, HasInstTypes, HasOperandType, HasParamType, HasSignatureTypes, IsGivenWritten, IsPlacedType, IsPlainType, is_plain_type, same}
 use Rattle.numbered_reading_laws.specs.inner.Leaves.{IsTextOf}
 
 -- types
@@ -67,7 +67,7 @@ pub record AreGoodParams (l : PartParams) : Type 0 where
   pub counted : length l.params ≡ length l.firsts
 
 pub record AreGoodGivens (l : PartGivens) : Type 0 where
-  pub types : Each HasGivenType l.givens
+  pub types : Each IsGivenWritten l.givens
   pub counted : length l.givens ≡ length l.firsts
 
 pub record IsGoodSignature (s : Signature) : Type 0 where

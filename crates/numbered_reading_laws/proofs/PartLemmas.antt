@@ -1,5 +1,5 @@
 -- Each part is good where the parts of its body are, and nothing in it is at fault.
-use Rattle.std.proofs.Common.{◌≡◌, ℕ, ◌≤◌, suc, List, [], ◌∷◌, length, map, Some, None, IsTrue, ap, refl, subst, arith, flat_map}
+use Rattle.std.proofs.Common.{◌≡◌, ℕ, ◌≤◌, suc, List, [], ◌∷◌, length, map, Some, None, true, false, IsTrue, ap, refl, subst, arith, flat_map}
 use Rattle.std.proofs.lemmas.List.{length-map}
 use Rattle.sil_ast.specs.declared.function.Linkage.{Linkage}
 use Rattle.sil_ast.specs.declared.member.Member.{Member}
@@ -21,7 +21,7 @@ use Rattle.written_tree.specs.declared.written_instructions.WrittenEdge.{Written
 use Rattle.written_tree.specs.declared.written_instructions.WrittenOperand.{WrittenOperand}
 use Rattle.written_tree.specs.declared.written_module.WrittenModule.{WrittenModule}
 use Rattle.written_tree.specs.Faults.{earlier, passed}
-use Rattle.written_values.specs.inner.Meaning.{meaning}
+use Rattle.written_values.specs.inner.Meaning.{given_with, meaning}
 use Rattle.written_values.specs.inner.Parts.{part, place_at, text_at}
 use Rattle.written_values.specs.Opened.{PartGivens, PartParams, PartType, PartValue}
 use Rattle.written_values.specs.inner.PartFaults.{body_fault, function_fault, module_fault, part_fault}
@@ -36,7 +36,7 @@ use Rattle.name_resolution.specs.Resolved.{Scope, resolved_case, resolved_decl, 
 use Rattle.numbered_form.specs.Lists.{Each}
 use Rattle.numbered_form.specs.inner.Fields.{IsStrong}
 use Rattle.numbered_form.specs.Names.{IsMemberSpelled, IsWord, case_name, field_name, is_at_name}
-use Rattle.numbered_form.specs.inner.Types.{HasFieldType, HasPayloadType, IsPlainType}
+use Rattle.numbered_form.specs.inner.Types.{HasFieldType, HasPayloadType, IsGivenWritten, IsPlainType}
 use Rattle.numbered_reading_laws.proofs.ListsAndFaults.{Each-map, not_passed, not_passed-map}
 use Rattle.numbered_reading_laws.proofs.FaultlessParts.{AreGoodCases, AreGoodFrom, AreGoodGivens, AreGoodOperands, AreGoodParams, AreGoodSwitch, IsGoodBlock}
 use Rattle.numbered_reading_laws.proofs.FaultlessParts.{IsGoodBranch, IsGoodCase, IsGoodDecl, IsGoodField, IsGoodFunction, IsGoodItem, IsGoodModule, IsGoodPart}
@@ -135,9 +135,9 @@ one_more_param param first others plain g = record { types = (plain, g.types); c
 no_givens_good : AreGoodGivens (record { givens = []; firsts = [] })
 no_givens_good = record { types = tt; counted = refl }
 
-one_more_given : (given : Given) (first : Place) (others : PartGivens) → IsPlainType given.ty
+one_more_given : (given : Given) (first : Place) (others : PartGivens) → IsGivenWritten given
     → AreGoodGivens others → AreGoodGivens (record { givens = given ∷ others.givens; firsts = first ∷ others.firsts })
-one_more_given given first others plain g = record { types = (plain, g.types); counted = ap suc g.counted }
+one_more_given given first others h g = record { types = (h, g.types); counted = ap suc g.counted }
 
 -- modules
 
@@ -241,16 +241,21 @@ good_part p.MoreParamsEnd parts g h = no_params_good
 good_part p.ParamOwned parts g h = λ others k. one_more_param _ _ others (plain_type (type_of (part 1 parts)) g.1.0) k
 good_part p.ParamGuaranteed parts g h = λ others k. one_more_param _ _ others (plain_type (type_of (part 1 parts)) g.1.0) k
 good_part p.ParamInout parts g h = λ others k. one_more_param _ _ others (plain_type (type_of (part 1 parts)) g.1.0) k
+good_part p.ParamIn parts g h = λ others k. one_more_param _ _ others (plain_type (type_of (part 1 parts)) g.1.0) k
+good_part p.ParamInGuaranteed parts g h = λ others k. one_more_param _ _ others (plain_type (type_of (part 1 parts)) g.1.0) k
 good_part p.ParamPlain parts g h = λ others k. one_more_param _ _ others (plain_type (type_of (part 0 parts)) g.0) k
 good_part p.ResultList parts g h = g.1.0
-good_part p.ResultOwned parts g h = record { types = ((plain_type (type_of (part 1 parts)) g.1.0), tt); counted = refl }
-good_part p.ResultPlain parts g h = record { types = ((plain_type (type_of (part 0 parts)) g.0), tt); counted = refl }
+good_part p.ResultOwned parts g h = record { types = (record { word = refl; ty = plain_type (type_of (part 1 parts)) g.1.0 }, tt); counted = refl }
+good_part p.ResultOut parts g h = record { types = (record { word = refl; ty = plain_type (type_of (part 1 parts)) g.1.0 }, tt); counted = refl }
+good_part p.ResultPlain parts g h = record { types = (record { word = refl; ty = plain_type (type_of (part 0 parts)) g.0 }, tt); counted = refl }
 good_part p.InsideSome parts g h = g.0 (givens_of (part 1 parts)) g.1.0
 good_part p.InsideNone parts g h = no_givens_good
 good_part p.MoreGivensMore parts g h = g.1.0 (givens_of (part 2 parts)) g.1.1.0
 good_part p.MoreGivensEnd parts g h = no_givens_good
-good_part p.GivenOwned parts g h = λ others k. one_more_given _ _ others (plain_type (type_of (part 1 parts)) g.1.0) k
-good_part p.GivenPlain parts g h = λ others k. one_more_given _ _ others (plain_type (type_of (part 0 parts)) g.0) k
+good_part p.GivenOwned parts g h = λ others k. one_more_given (given_with true false 1 parts) (place_at 0 parts) others (record { word = refl; ty = plain_type (type_of (part 1 parts)) g.1.0 }) k
+good_part p.GivenOut parts g h = λ others k. one_more_given (given_with false true 1 parts) (place_at 0 parts) others (record { word = refl; ty = plain_type (type_of (part 1 parts)) g.1.0 }) k
+good_part p.GivenPlain parts g h = λ others k. one_more_given (given_with false false 0 parts) (type_of (part 0 parts)).first others
+    (record { word = refl; ty = plain_type (type_of (part 0 parts)) g.0 }) k
 good_part p.WholeBlock parts g h = record { args = g.1.0; few = not_passed-map arg_place limit.Arguments 64 (args_of (part 1 parts)) h; insts = g.1.1.1.0.0; terminator = g.1.1.1.0.1 }
 good_part p.BlocksMore parts g h = (g.0, g.1.0)
 good_part p.BlockArgsSome parts g h = (g.1.0, g.1.1.0)

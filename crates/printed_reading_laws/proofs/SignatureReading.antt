@@ -1,5 +1,7 @@
 -- A printed signature reads as itself.
-use Rattle.std.proofs.Common.{◌≡◌, ℕ, suc, List, [], ◌∷◌, ◌++◌, length, Bool, true, false, if◌then◌else◌, codes, refl, ap, ◌∙◌, arith}
+use Rattle.std.proofs.Common.{◌≡◌, ℕ, suc, List, [], ◌∷◌, ◌++◌, length, Bool, true, false, if◌then◌else◌, codes, refl, ap, ◌∙◌, arith, IsTrue}
+use Rattle.std.specs.Prelude.{◌&&◌, not}
+use Rattle.std.proofs.lemmas.Bool.{false≢true}
 use Rattle.std.proofs.lemmas.List.{append_assoc}
 use Rattle.sil_ast.specs.declared.signature.Convention.{Convention}
 use Rattle.sil_ast.specs.declared.signature.Convention.TheVariants as convention
@@ -25,7 +27,7 @@ use Rattle.written_values.specs.inner.PartFaults.{part_fault}
 use Rattle.written_values.specs.Values.{convention_of, given_before, givens_of, param_before, params_of, signature_of, type_of}
 use Rattle.numbered_form.specs.Lists.{Each}
 use Rattle.numbered_form.specs.inner.Limits.{IsSignatureInLimits}
-use Rattle.numbered_form.specs.inner.Types.{HasGivenType, HasParamType, HasSignatureTypes, IsPlainType}
+use Rattle.numbered_form.specs.inner.Types.{HasParamType, HasSignatureTypes, IsGivenWritten, IsPlainType}
 use Rattle.numbered_reading_laws.proofs.ListsAndFaults.{Each-weaker}
 use Rattle.printed_reading_laws.proofs.Commas.{AllItems, list_reads}
 use Rattle.printed_reading_laws.proofs.PartLimits.{not_passed}
@@ -116,8 +118,8 @@ all_givens = record {
   none_makes = (refl, refl);
 }
 
-abbrev given_as : Bool → TypeName → Given
-given_as owned t = record { owned = owned; ty = t }
+abbrev given_as : Bool → Bool → TypeName → Given
+given_as owned out t = record { owned = owned; out = out; ty = t }
 
 module _ (text : List ℕ) where
   param_reads : (passing : Passing) (t : TypeName) → IsPlainType t
@@ -136,28 +138,37 @@ module _ (text : List ℕ) where
       (λ sigil inside is others. (ap (λ t. passed_as passing.Guaranteed t ∷ others.params) is.ty, refl)) (λ sigil inside is. refl) (type_reads text t after plain ends)
   param_reads passing.Inout t plain after ends = worded_reads p.ParamInout a.Inout refl refl refl refl
       (λ sigil inside is others. (ap (λ t. passed_as passing.Inout t ∷ others.params) is.ty, refl)) (λ sigil inside is. refl) (type_reads text t after plain ends)
+  param_reads passing.In t plain after ends = worded_reads p.ParamIn a.In refl refl refl refl
+      (λ sigil inside is others. (ap (λ t. passed_as passing.In t ∷ others.params) is.ty, refl)) (λ sigil inside is. refl) (type_reads text t after plain ends)
+  param_reads passing.InGuaranteed t plain after ends = worded_reads p.ParamInGuaranteed a.InGuaranteed refl refl refl refl
+      (λ sigil inside is others. (ap (λ t. passed_as passing.InGuaranteed t ∷ others.params) is.ty, refl)) (λ sigil inside is. refl) (type_reads text t after plain ends)
 
   params_read : (params : List Param) → Each HasParamType params → ReadsAs text (Part n.Params) (AreParamValues params) (listed param_text params)
   params_read params types = list_reads text (Part n.Param) n.MoreParams IsParamValue AreParamValues param_text n.Params all_params params
       (Each-weaker HasParamType (λ param. ReadsAs text (Part n.Param) (IsParamValue param) (param_text param)) (λ param plain. param_reads param.passing param.ty plain) params types)
 
-  given_reads : (owned : Bool) (t : TypeName) → IsPlainType t → ReadsAs text (Part n.Given) (IsGivenValue (given_as owned t)) (given_text (given_as owned t))
+  given_reads : (owned out : Bool) (t : TypeName) → IsTrue (not (owned && out)) → IsPlainType t
+      → ReadsAs text (Part n.Given) (IsGivenValue (given_as owned out t)) (given_text (given_as owned out t))
   unfolding body written part_fault meaning given_before type_of at_word_of known_at_word at_words at_spelling
-  given_reads true t plain after ends = worded_reads p.GivenOwned a.Owned refl refl refl refl
-      (λ sigil inside is others. (ap (λ t. given_as true t ∷ others.givens) is.ty, refl)) (λ sigil inside is. refl) (type_reads text t after plain ends)
-  given_reads false t plain after ends =
+  given_reads true true t word plain after ends = absurd (false≢true word)
+  given_reads true false t word plain after ends = worded_reads p.GivenOwned a.Owned refl refl refl refl
+      (λ sigil inside is others. (ap (λ t. given_as true false t ∷ others.givens) is.ty, refl)) (λ sigil inside is. refl) (type_reads text t after plain ends)
+  given_reads false true t word plain after ends = worded_reads p.GivenOut a.Out refl refl refl refl
+      (λ sigil inside is others. (ap (λ t. given_as false true t ∷ others.givens) is.ty, refl)) (λ sigil inside is. refl) (type_reads text t after plain ends)
+  given_reads false false t word plain after ends =
       let r = type_reads text t after plain ends in
       record {
         value = _;
-        stands = λ others. (ap (λ t. given_as false t ∷ others.givens) r.stands.ty, refl);
+        stands = λ others. (ap (λ t. given_as false false t ∷ others.givens) r.stands.ty, refl);
         reads = reads.rule p.GivenPlain r.reads refl reads.nothing;
       }
 
   -- results in parentheses
-  results_between : (givens : List Given) → Each HasGivenType givens → ReadsAs text (Part n.Results) (AreGivenValues givens) (in_parens given_text givens)
+  results_between : (givens : List Given) → Each IsGivenWritten givens → ReadsAs text (Part n.Results) (AreGivenValues givens) (in_parens given_text givens)
   unfolding body written part_fault meaning givens_of punctuation_of punctuation_spelling signs
   results_between givens types after ends =
-      let each = Each-weaker HasGivenType (λ given. ReadsAs text (Part n.Given) (IsGivenValue given) (given_text given)) (λ given plain. given_reads given.owned given.ty plain) givens types in
+      let each = Each-weaker IsGivenWritten (λ given. ReadsAs text (Part n.Given) (IsGivenValue given) (given_text given))
+      (λ given h. given_reads given.owned given.out given.ty h.word h.ty) givens types in
       let r = list_reads text (Part n.Given) n.MoreGivens IsGivenValue AreGivenValues given_text n.ResultsInside all_givens givens each (41 ∷ after) refl in
       rw (append_assoc (listed given_text givens) (codes ")") after) (record {
         value = _;
@@ -166,24 +177,28 @@ module _ (text : List ℕ) where
       })
 
   -- one result, which stands by itself where it doesn't begin with a parenthesis
-  result_reads : (owned : Bool) (t : TypeName) → IsPlainType t → (opens : Bool) → opens_parens (given_text (given_as owned t)) ≡ opens
-      → ReadsAs text (Part n.Results) (AreGivenValues (given_as owned t ∷ []))
-      (if opens then in_parens given_text (given_as owned t ∷ []) else given_text (given_as owned t))
+  result_reads : (owned out : Bool) (t : TypeName) → IsTrue (not (owned && out)) → IsPlainType t → (opens : Bool)
+      → opens_parens (given_text (given_as owned out t)) ≡ opens
+      → ReadsAs text (Part n.Results) (AreGivenValues (given_as owned out t ∷ []))
+      (if opens then in_parens given_text (given_as owned out t ∷ []) else given_text (given_as owned out t))
   unfolding body written part_fault meaning givens_of type_of at_word_of known_at_word at_words at_spelling
-  result_reads owned t plain true e after ends = results_between (given_as owned t ∷ []) (plain, tt) after ends
-  result_reads true t plain false e after ends = worded_reads p.ResultOwned a.Owned refl refl refl refl
-      (λ sigil inside is. (ap (λ t. given_as true t ∷ []) is.ty, refl)) (λ sigil inside is. refl) (type_reads text t after plain ends)
-  result_reads false t plain false e after ends =
+  result_reads owned out t word plain true e after ends = results_between (given_as owned out t ∷ []) (record { word = word; ty = plain }, tt) after ends
+  result_reads true true t word plain false e after ends = absurd (false≢true word)
+  result_reads true false t word plain false e after ends = worded_reads p.ResultOwned a.Owned refl refl refl refl
+      (λ sigil inside is. (ap (λ t. given_as true false t ∷ []) is.ty, refl)) (λ sigil inside is. refl) (type_reads text t after plain ends)
+  result_reads false true t word plain false e after ends = worded_reads p.ResultOut a.Out refl refl refl refl
+      (λ sigil inside is. (ap (λ t. given_as false true t ∷ []) is.ty, refl)) (λ sigil inside is. refl) (type_reads text t after plain ends)
+  result_reads false false t word plain false e after ends =
       let r = open_type_reads text t after plain e ends in
       record {
         value = _;
-        stands = (ap (λ t. given_as false t ∷ []) r.stands.ty, refl);
+        stands = (ap (λ t. given_as false false t ∷ []) r.stands.ty, refl);
         reads = reads.rule p.ResultPlain r.reads refl reads.nothing;
       }
 
-  results_read : (givens : List Given) → Each HasGivenType givens → ReadsAs text (Part n.Results) (AreGivenValues givens) (results_text givens)
+  results_read : (givens : List Given) → Each IsGivenWritten givens → ReadsAs text (Part n.Results) (AreGivenValues givens) (results_text givens)
   results_read [] types = results_between [] types
-  results_read (given ∷ []) types = result_reads given.owned given.ty types.0 (opens_parens (given_text given)) refl
+  results_read (given ∷ []) types = result_reads given.owned given.out given.ty types.0.word types.0.ty (opens_parens (given_text given)) refl
   results_read (given ∷ other ∷ others) types = results_between (given ∷ other ∷ others) types
 
 -- the word between the parentheses of a convention

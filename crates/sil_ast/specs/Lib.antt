@@ -1,4 +1,5 @@
 pub mod TypeName
 pub mod Imports
+pub mod Blocks
 pub mod formers
 pub mod inner

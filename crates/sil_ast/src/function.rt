@@ -2,6 +2,7 @@
 
 ghost use Rattle.std.specs.Prelude.{◌≡◌, slice_get};
 ghost use Rattle.std.specs.Option.{option_copied};
+ghost use Rattle.sil_ast.specs.Blocks.{args_of};
 
 use crate::boxed::Boxed;
 use crate::exhausted::Exhausted;
@@ -67,6 +68,18 @@ pub enum ArgKind {
     Plain,
     Owned,
     Guaranteed,
+}
+
+impl Function {
+    /// The arguments of the block with this number, and none where the function doesn't have it.
+    pub fn args_of(&self, block: usize) -> &[BlockArg]
+        ensures { result.now ≡ args_of self.now block }
+    {
+        match self.blocks.get(block) {
+            Some(block) => block.args.as_slice(),
+            None => &[],
+        }
+    }
 }
 
 impl Block {

@@ -28,19 +28,22 @@ pub struct Param {
     pub ty: TypeName,
 }
 
-/// How a parameter is passed: plainly, `@owned`, `@guaranteed` or `@inout`.
+/// How a parameter is passed: plainly, `@owned` or `@guaranteed`; or in a place, `@inout`, `@in` or `@in_guaranteed`.
 #[derive(Clone, Copy, Debug, PartialEq, Eq)]
 pub enum Passing {
     Plain,
     Owned,
     Guaranteed,
     Inout,
+    In,
+    InGuaranteed,
 }
 
-/// A result: `Int`, or `@owned Node`.
+/// A result: `Int`, `@owned Node`, or `@out Node`, which is put in a place of the caller's. At most one of the two words is set.
 #[derive(Drop)]
 pub struct Given {
     pub owned: bool,
+    pub out: bool,
     pub ty: TypeName,
 }
 
@@ -67,6 +70,7 @@ impl TryClone for Given {
     fn try_clone(&self, alloc: Global) -> Result<Given, Exhausted> {
         Ok(Given {
             owned: self.owned,
+            out: self.out,
             ty: self.ty.try_clone(alloc)?,
         })
     }

@@ -19,12 +19,14 @@ passing_text passing.Plain = []
 passing_text passing.Owned = codes "@owned "
 passing_text passing.Guaranteed = codes "@guaranteed "
 passing_text passing.Inout = codes "@inout "
+passing_text passing.In = codes "@in "
+passing_text passing.InGuaranteed = codes "@in_guaranteed "
 
 abbrev pub param_text : Param → List ℕ
 param_text param = passing_text param.passing ++ type_text param.ty
 
 abbrev pub given_text : Given → List ℕ
-given_text given = if_set (codes "@owned ") given.owned ++ type_text given.ty
+given_text given = if_set (codes "@owned ") given.owned ++ if_set (codes "@out ") given.out ++ type_text given.ty
 
 -- no result is `()`, and several stand in parentheses, as does one that would itself begin with a parenthesis
 abbrev pub results_text : List Given → List ℕ

@@ -45,6 +45,8 @@ fn passing_word(passing: Passing) -> &'static [u8]
         Passing::Owned => b"@owned ",
         Passing::Guaranteed => b"@guaranteed ",
         Passing::Inout => b"@inout ",
+        Passing::In => b"@in ",
+        Passing::InGuaranteed => b"@in_guaranteed ",
     }
 }
 
@@ -53,6 +55,7 @@ impl Canonical for Given {
 
     fn push_to(&self, out: &mut Vec<u8>) -> Result<(), Exhausted> {
         push_if_set(out, b"@owned ", self.owned)?;
+        push_if_set(out, b"@out ", self.out)?;
         push_type(out, &self.ty)
     }
 }
@@ -69,5 +72,5 @@ fn push_results(out: &mut Vec<u8>, results: &[Given]) -> Result<(), Exhausted>
 fn begins_with_parens(given: &Given) -> bool
     ensures { result ≡ opens_parens (given_text given.now) }
 {
-    !given.owned && opens_with_parens(&given.ty)
+    !given.owned && !given.out && opens_with_parens(&given.ty)
 }

@@ -22,7 +22,8 @@ use Rattle.sil_shape.specs.inner.ParseTable.{look_number, part_number}
 unfoldable pub fixed_looks : List (Option Class)
 fixed_looks = None ∷ Some c.Percent ∷ Some c.Number ∷ Some c.BuiltinText ∷ Some c.OtherText ∷ Some (c.At a.Other) ∷ Some (c.At a.HasStorage)
     ∷ Some (c.At a.SilWeak) ∷ Some (c.At a.SilUnowned) ∷ Some (c.At a.Convention) ∷ Some (c.At a.Owned) ∷ Some (c.At a.Guaranteed)
-    ∷ Some (c.At a.Inout) ∷ Some (c.Punctuation m.LeftBrace) ∷ Some (c.Punctuation m.RightBrace) ∷ Some (c.Punctuation m.LeftParen)
+    ∷ Some (c.At a.Inout) ∷ Some (c.At a.In) ∷ Some (c.At a.InGuaranteed) ∷ Some (c.At a.Out)
+    ∷ Some (c.Punctuation m.LeftBrace) ∷ Some (c.Punctuation m.RightBrace) ∷ Some (c.Punctuation m.LeftParen)
     ∷ Some (c.Punctuation m.RightParen) ∷ Some (c.Punctuation m.LeftBracket) ∷ Some (c.Punctuation m.RightBracket) ∷ Some (c.Punctuation m.Less)
     ∷ Some (c.Punctuation m.Greater) ∷ Some (c.Punctuation m.Comma) ∷ Some (c.Punctuation m.Colon) ∷ Some (c.Punctuation m.Dot)
     ∷ Some (c.Punctuation m.Question) ∷ Some (c.Punctuation m.Star) ∷ Some (c.Punctuation m.Equals) ∷ Some (c.Punctuation m.Bang)
@@ -42,6 +43,10 @@ all_looks = fixed_looks ++ map (λ o. Some (c.Word (k.Mnemonic o))) OPS
 
 unfoldable pub each_look : (Option Class → Bool) → Bool
 each_look f = list_all f all_looks
+
+-- how many productions there are but the rows
+abbrev FIXED_PRODUCTIONS : ℕ
+FIXED_PRODUCTIONS = 179
 
 -- a number of its own for each production, those of rows last
 unfoldable pub production_number : Production → ℕ
@@ -129,98 +134,102 @@ production_number p.MoreParamsEnd = 80
 production_number p.ParamOwned = 81
 production_number p.ParamGuaranteed = 82
 production_number p.ParamInout = 83
-production_number p.ParamPlain = 84
-production_number p.ResultList = 85
-production_number p.ResultOwned = 86
-production_number p.ResultPlain = 87
-production_number p.InsideSome = 88
-production_number p.InsideNone = 89
-production_number p.MoreGivensMore = 90
-production_number p.MoreGivensEnd = 91
-production_number p.GivenOwned = 92
-production_number p.GivenPlain = 93
-production_number p.WholeBlock = 94
-production_number p.BlocksMore = 95
-production_number p.BlocksEnd = 96
-production_number p.BlockArgsSome = 97
-production_number p.BlockArgsNone = 98
-production_number p.MoreBlockArgsMore = 99
-production_number p.MoreBlockArgsEnd = 100
-production_number p.WholeBlockArg = 101
-production_number p.OwnershipOwned = 102
-production_number p.OwnershipGuaranteed = 103
-production_number p.OwnershipNone = 104
-production_number p.StarSome = 105
-production_number p.StarNone = 106
-production_number p.CodeInst = 107
-production_number p.CodeEnd = 108
-production_number p.InstOneName = 109
-production_number p.InstNames = 110
-production_number p.InstUnnamed = 111
-production_number p.NamesSome = 112
-production_number p.NamesNone = 113
-production_number p.MoreNamesMore = 114
-production_number p.MoreNamesEnd = 115
-production_number p.WholeOperand = 116
-production_number p.OperandsSome = 117
-production_number p.OperandsNone = 118
-production_number p.MoreOperandsMore = 119
-production_number p.MoreOperandsEnd = 120
-production_number p.BareNamesSome = 121
-production_number p.BareNamesNone = 122
-production_number p.WholeEdge = 123
-production_number p.EdgeArgsSome = 124
-production_number p.EdgeArgsNone = 125
-production_number p.SwitchCase = 126
-production_number p.SwitchDefault = 127
-production_number p.SwitchMoreSome = 128
-production_number p.SwitchMoreEnd = 129
-production_number p.WholeEnumElement = 130
-production_number p.SuffixSome = 131
-production_number p.SuffixNone = 132
-production_number p.EnumOperandSome = 133
-production_number p.EnumOperandNone = 134
-production_number p.WholeMemberName = 135
-production_number p.FlagsSome = 136
-production_number p.FlagsNone = 137
-production_number p.LexicalFirst = 138
-production_number p.VarDeclFirst = 139
-production_number p.VarDeclAfterSome = 140
-production_number p.VarDeclAfterNone = 141
-production_number p.LexicalAfterSome = 142
-production_number p.LexicalAfterNone = 143
-production_number p.QualifierSome = 144
-production_number p.QualifierNone = 145
-production_number p.QualifierCopy = 146
-production_number p.QualifierTake = 147
-production_number p.QualifierTrivial = 148
-production_number p.QualifierInit = 149
-production_number p.QualifierAssign = 150
-production_number p.TakeFlagSome = 151
-production_number p.TakeFlagNone = 152
-production_number p.InitFlagSome = 153
-production_number p.InitFlagNone = 154
-production_number p.InitShort = 155
-production_number p.InitLong = 156
-production_number p.DebugSome = 157
-production_number p.DebugNone = 158
-production_number p.DebugLet = 159
-production_number p.DebugVar = 160
-production_number p.DebugRest = 161
-production_number p.DebugAfterBindingSome = 162
-production_number p.DebugAfterBindingNone = 163
-production_number p.DebugName = 164
-production_number p.DebugNoName = 165
-production_number p.DebugAfterNameSome = 166
-production_number p.DebugAfterNameNone = 167
-production_number p.DebugNumber = 168
-production_number p.DebugNoNumber = 169
-production_number p.DebugAfterNumberSome = 170
-production_number p.DebugAfterNumberNone = 171
-production_number p.DebugDeref = 172
-production_number p.EntrySome = 173
-production_number p.EntryNone = 174
-production_number (p.Row o) = 175 + number_of o
+production_number p.ParamIn = 84
+production_number p.ParamInGuaranteed = 85
+production_number p.ParamPlain = 86
+production_number p.ResultList = 87
+production_number p.ResultOwned = 88
+production_number p.ResultOut = 89
+production_number p.ResultPlain = 90
+production_number p.InsideSome = 91
+production_number p.InsideNone = 92
+production_number p.MoreGivensMore = 93
+production_number p.MoreGivensEnd = 94
+production_number p.GivenOwned = 95
+production_number p.GivenOut = 96
+production_number p.GivenPlain = 97
+production_number p.WholeBlock = 98
+production_number p.BlocksMore = 99
+production_number p.BlocksEnd = 100
+production_number p.BlockArgsSome = 101
+production_number p.BlockArgsNone = 102
+production_number p.MoreBlockArgsMore = 103
+production_number p.MoreBlockArgsEnd = 104
+production_number p.WholeBlockArg = 105
+production_number p.OwnershipOwned = 106
+production_number p.OwnershipGuaranteed = 107
+production_number p.OwnershipNone = 108
+production_number p.StarSome = 109
+production_number p.StarNone = 110
+production_number p.CodeInst = 111
+production_number p.CodeEnd = 112
+production_number p.InstOneName = 113
+production_number p.InstNames = 114
+production_number p.InstUnnamed = 115
+production_number p.NamesSome = 116
+production_number p.NamesNone = 117
+production_number p.MoreNamesMore = 118
+production_number p.MoreNamesEnd = 119
+production_number p.WholeOperand = 120
+production_number p.OperandsSome = 121
+production_number p.OperandsNone = 122
+production_number p.MoreOperandsMore = 123
+production_number p.MoreOperandsEnd = 124
+production_number p.BareNamesSome = 125
+production_number p.BareNamesNone = 126
+production_number p.WholeEdge = 127
+production_number p.EdgeArgsSome = 128
+production_number p.EdgeArgsNone = 129
+production_number p.SwitchCase = 130
+production_number p.SwitchDefault = 131
+production_number p.SwitchMoreSome = 132
+production_number p.SwitchMoreEnd = 133
+production_number p.WholeEnumElement = 134
+production_number p.SuffixSome = 135
+production_number p.SuffixNone = 136
+production_number p.EnumOperandSome = 137
+production_number p.EnumOperandNone = 138
+production_number p.WholeMemberName = 139
+production_number p.FlagsSome = 140
+production_number p.FlagsNone = 141
+production_number p.LexicalFirst = 142
+production_number p.VarDeclFirst = 143
+production_number p.VarDeclAfterSome = 144
+production_number p.VarDeclAfterNone = 145
+production_number p.LexicalAfterSome = 146
+production_number p.LexicalAfterNone = 147
+production_number p.QualifierSome = 148
+production_number p.QualifierNone = 149
+production_number p.QualifierCopy = 150
+production_number p.QualifierTake = 151
+production_number p.QualifierTrivial = 152
+production_number p.QualifierInit = 153
+production_number p.QualifierAssign = 154
+production_number p.TakeFlagSome = 155
+production_number p.TakeFlagNone = 156
+production_number p.InitFlagSome = 157
+production_number p.InitFlagNone = 158
+production_number p.InitShort = 159
+production_number p.InitLong = 160
+production_number p.DebugSome = 161
+production_number p.DebugNone = 162
+production_number p.DebugLet = 163
+production_number p.DebugVar = 164
+production_number p.DebugRest = 165
+production_number p.DebugAfterBindingSome = 166
+production_number p.DebugAfterBindingNone = 167
+production_number p.DebugName = 168
+production_number p.DebugNoName = 169
+production_number p.DebugAfterNameSome = 170
+production_number p.DebugAfterNameNone = 171
+production_number p.DebugNumber = 172
+production_number p.DebugNoNumber = 173
+production_number p.DebugAfterNumberSome = 174
+production_number p.DebugAfterNumberNone = 175
+production_number p.DebugDeref = 176
+production_number p.EntrySome = 177
+production_number p.EntryNone = 178
+production_number (p.Row o) = FIXED_PRODUCTIONS + number_of o
 
 all_productions : List Production
 all_productions = fixed_productions ++ map p.Row OPS
@@ -235,19 +244,19 @@ all_productions = fixed_productions ++ map p.Row OPS
         ∷ p.OptionalOf ∷ p.OptionalName ∷ p.Width1 ∷ p.Width8 ∷ p.Width16 ∷ p.Width32 ∷ p.Width64 ∷ p.QuestionsMore ∷ p.QuestionsEnd ∷ p.TypesSome
         ∷ p.TypesNone ∷ p.MoreTypesMore ∷ p.MoreTypesEnd ∷ p.LinkageHidden ∷ p.LinkagePrivate ∷ p.LinkageShared ∷ p.LinkagePublic ∷ p.LinkagePlain
         ∷ p.AttributesMore ∷ p.AttributesEnd ∷ p.BodySome ∷ p.BodyNone ∷ p.WholeFunctionType ∷ p.Thin ∷ p.Method ∷ p.ParamsSome ∷ p.ParamsNone
-        ∷ p.MoreParamsMore ∷ p.MoreParamsEnd ∷ p.ParamOwned ∷ p.ParamGuaranteed ∷ p.ParamInout ∷ p.ParamPlain ∷ p.ResultList ∷ p.ResultOwned
-        ∷ p.ResultPlain ∷ p.InsideSome ∷ p.InsideNone ∷ p.MoreGivensMore ∷ p.MoreGivensEnd ∷ p.GivenOwned ∷ p.GivenPlain ∷ p.WholeBlock ∷ p.BlocksMore
-        ∷ p.BlocksEnd ∷ p.BlockArgsSome ∷ p.BlockArgsNone ∷ p.MoreBlockArgsMore ∷ p.MoreBlockArgsEnd ∷ p.WholeBlockArg ∷ p.OwnershipOwned
-        ∷ p.OwnershipGuaranteed ∷ p.OwnershipNone ∷ p.StarSome ∷ p.StarNone ∷ p.CodeInst ∷ p.CodeEnd ∷ p.InstOneName ∷ p.InstNames ∷ p.InstUnnamed
-        ∷ p.NamesSome ∷ p.NamesNone ∷ p.MoreNamesMore ∷ p.MoreNamesEnd ∷ p.WholeOperand ∷ p.OperandsSome ∷ p.OperandsNone ∷ p.MoreOperandsMore
-        ∷ p.MoreOperandsEnd ∷ p.BareNamesSome ∷ p.BareNamesNone ∷ p.WholeEdge ∷ p.EdgeArgsSome ∷ p.EdgeArgsNone ∷ p.SwitchCase ∷ p.SwitchDefault
-        ∷ p.SwitchMoreSome ∷ p.SwitchMoreEnd ∷ p.WholeEnumElement ∷ p.SuffixSome ∷ p.SuffixNone ∷ p.EnumOperandSome ∷ p.EnumOperandNone
-        ∷ p.WholeMemberName ∷ p.FlagsSome ∷ p.FlagsNone ∷ p.LexicalFirst ∷ p.VarDeclFirst ∷ p.VarDeclAfterSome ∷ p.VarDeclAfterNone
-        ∷ p.LexicalAfterSome ∷ p.LexicalAfterNone ∷ p.QualifierSome ∷ p.QualifierNone ∷ p.QualifierCopy ∷ p.QualifierTake ∷ p.QualifierTrivial
-        ∷ p.QualifierInit ∷ p.QualifierAssign ∷ p.TakeFlagSome ∷ p.TakeFlagNone ∷ p.InitFlagSome ∷ p.InitFlagNone ∷ p.InitShort ∷ p.InitLong
-        ∷ p.DebugSome ∷ p.DebugNone ∷ p.DebugLet ∷ p.DebugVar ∷ p.DebugRest ∷ p.DebugAfterBindingSome ∷ p.DebugAfterBindingNone ∷ p.DebugName
-        ∷ p.DebugNoName ∷ p.DebugAfterNameSome ∷ p.DebugAfterNameNone ∷ p.DebugNumber ∷ p.DebugNoNumber ∷ p.DebugAfterNumberSome
-        ∷ p.DebugAfterNumberNone ∷ p.DebugDeref ∷ p.EntrySome ∷ p.EntryNone ∷ []
+        ∷ p.MoreParamsMore ∷ p.MoreParamsEnd ∷ p.ParamOwned ∷ p.ParamGuaranteed ∷ p.ParamInout ∷ p.ParamIn ∷ p.ParamInGuaranteed ∷ p.ParamPlain
+        ∷ p.ResultList ∷ p.ResultOwned ∷ p.ResultOut ∷ p.ResultPlain ∷ p.InsideSome ∷ p.InsideNone ∷ p.MoreGivensMore ∷ p.MoreGivensEnd
+        ∷ p.GivenOwned ∷ p.GivenOut ∷ p.GivenPlain ∷ p.WholeBlock ∷ p.BlocksMore ∷ p.BlocksEnd ∷ p.BlockArgsSome ∷ p.BlockArgsNone
+        ∷ p.MoreBlockArgsMore ∷ p.MoreBlockArgsEnd ∷ p.WholeBlockArg ∷ p.OwnershipOwned ∷ p.OwnershipGuaranteed ∷ p.OwnershipNone ∷ p.StarSome
+        ∷ p.StarNone ∷ p.CodeInst ∷ p.CodeEnd ∷ p.InstOneName ∷ p.InstNames ∷ p.InstUnnamed ∷ p.NamesSome ∷ p.NamesNone ∷ p.MoreNamesMore
+        ∷ p.MoreNamesEnd ∷ p.WholeOperand ∷ p.OperandsSome ∷ p.OperandsNone ∷ p.MoreOperandsMore ∷ p.MoreOperandsEnd ∷ p.BareNamesSome
+        ∷ p.BareNamesNone ∷ p.WholeEdge ∷ p.EdgeArgsSome ∷ p.EdgeArgsNone ∷ p.SwitchCase ∷ p.SwitchDefault ∷ p.SwitchMoreSome ∷ p.SwitchMoreEnd
+        ∷ p.WholeEnumElement ∷ p.SuffixSome ∷ p.SuffixNone ∷ p.EnumOperandSome ∷ p.EnumOperandNone ∷ p.WholeMemberName ∷ p.FlagsSome ∷ p.FlagsNone
+        ∷ p.LexicalFirst ∷ p.VarDeclFirst ∷ p.VarDeclAfterSome ∷ p.VarDeclAfterNone ∷ p.LexicalAfterSome ∷ p.LexicalAfterNone ∷ p.QualifierSome
+        ∷ p.QualifierNone ∷ p.QualifierCopy ∷ p.QualifierTake ∷ p.QualifierTrivial ∷ p.QualifierInit ∷ p.QualifierAssign ∷ p.TakeFlagSome
+        ∷ p.TakeFlagNone ∷ p.InitFlagSome ∷ p.InitFlagNone ∷ p.InitShort ∷ p.InitLong ∷ p.DebugSome ∷ p.DebugNone ∷ p.DebugLet ∷ p.DebugVar
+        ∷ p.DebugRest ∷ p.DebugAfterBindingSome ∷ p.DebugAfterBindingNone ∷ p.DebugName ∷ p.DebugNoName ∷ p.DebugAfterNameSome ∷ p.DebugAfterNameNone
+        ∷ p.DebugNumber ∷ p.DebugNoNumber ∷ p.DebugAfterNumberSome ∷ p.DebugAfterNumberNone ∷ p.DebugDeref ∷ p.EntrySome ∷ p.EntryNone ∷ []
 
 all_parts : List Nonterminal
 all_parts = n.Module ∷ n.Stage ∷ n.StageWord ∷ n.Imports ∷ n.Items ∷ n.Item ∷ n.Members ∷ n.Member ∷ n.Modified ∷ n.Variable ∷ n.Binding ∷ n.Fields

@@ -11,27 +11,28 @@ use Rattle.token_classes.specs.declared.classes.Class.{Class}
 use Rattle.sil_shape.specs.declared.grammar.Nonterminal.{Nonterminal}
 use Rattle.sil_shape.specs.declared.grammar.Nonterminal.TheVariants as n
 use Rattle.sil_shape.specs.declared.grammar.Production.{Production}
+use Rattle.sil_shape.specs.declared.parse_table.TheConstants.{LOOKAHEADS, PARTS}
 use Rattle.sil_shape.specs.inner.Choice.{choose}
 use Rattle.sil_shape.specs.inner.ClassNumbers.{keyword_number, at_number, punctuation_number, class_number}
 use Rattle.sil_shape.specs.inner.ParseTable.{look_number, part_number, place, IsParseTable}
 use Rattle.sil_shape.proofs.Numbered.{all_looks, fixed_looks, all_looks-at, each_look, each_look-at, is_it, is_it_some, is_it-self, same_part}
 
-computed_part : (part : Nonterminal) → nat_lt (part_number part) 81 ≡ true
+computed_part : (part : Nonterminal) → nat_lt (part_number part) PARTS ≡ true
 unfolding part_number
 computed_part n.Module = refl
 computed_part _ = refl
 
-computed_look : each_look (λ l. nat_lt (look_number l) 118) ≡ true
+computed_look : each_look (λ l. nat_lt (look_number l) LOOKAHEADS) ≡ true
 unfolding each_look all_looks fixed_looks look_number class_number keyword_number at_number punctuation_number
 computed_look = refl
 
-pub part_inside : (part : Nonterminal) → part_number part < 81
-part_inside part = ltb-true (part_number part) 81 (computed_part part)
+pub part_inside : (part : Nonterminal) → part_number part < PARTS
+part_inside part = ltb-true (part_number part) PARTS (computed_part part)
 
-pub look_inside : (l : Option Class) → look_number l < 118
-look_inside l = ltb-true (look_number l) 118 (each_look-at (λ l. nat_lt (look_number l) 118) computed_look l)
+pub look_inside : (l : Option Class) → look_number l < LOOKAHEADS
+look_inside l = ltb-true (look_number l) LOOKAHEADS (each_look-at (λ l. nat_lt (look_number l) LOOKAHEADS) computed_look l)
 
-same_row : (i j m n : ℕ) → m < 81 → n < 81 → i * 81 + m ≡ j * 81 + n → i ≡ j
+same_row : (i j m n : ℕ) → m < PARTS → n < PARTS → i * PARTS + m ≡ j * PARTS + n → i ≡ j
 same_row i j m n a b h = omega arith
 
 own_looks : (l m : Option Class) → look_number l ≡ look_number m → l ≡ m
@@ -45,14 +46,15 @@ one_place a b l m h =
     let columns : part_number a ≡ part_number b = omega (arith, h, rows) in
     (same_part a b (eq-eqb (part_number a) (part_number b) columns), own_looks l m rows)
 
-place_inside : (part : Nonterminal) (l : Option Class) → place part l < 118 * 81
+place_inside : (part : Nonterminal) (l : Option Class) → place part l < LOOKAHEADS * PARTS
 unfolding place
 place_inside part l = omega (arith, look_inside l, part_inside part)
 
 -- where nothing is known, nothing is wrong
-pub empty_table : (known : List (Option Production)) → known ≡ replicate (118 * 81) None → ∥ IsParseTable known ∥₁
+pub empty_table : (known : List (Option Production)) → known ≡ replicate (LOOKAHEADS * PARTS) None → ∥ IsParseTable known ∥₁
 empty_table known e = ∣ (λ part l p h.
-    let none : slice_index_or known (place part l) None ≡ None = ap (λ xs. slice_index_or xs (place part l) None) e ∙ get_or-replicate (118 * 81) (place part l) None None (place_inside part l) in
+    let none : slice_index_or known (place part l) None ≡ None =
+    ap (λ xs. slice_index_or xs (place part l) None) e ∙ get_or-replicate (LOOKAHEADS * PARTS) (place part l) None None (place_inside part l) in
     cc) ∣₁
 
 -- a production is put in

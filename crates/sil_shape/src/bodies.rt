@@ -243,6 +243,8 @@ fn fixed_body(production: Production) -> &'static [Symbol]
         Production::ParamOwned => &[at!(Owned), part!(Type)],
         Production::ParamGuaranteed => &[at!(Guaranteed), part!(Type)],
         Production::ParamInout => &[at!(Inout), part!(Type)],
+        Production::ParamIn => &[at!(In), part!(Type)],
+        Production::ParamInGuaranteed => &[at!(InGuaranteed), part!(Type)],
         Production::ParamPlain => &[part!(Type)],
         Production::ResultList => &[
             punctuation!(LeftParen),
@@ -250,12 +252,14 @@ fn fixed_body(production: Production) -> &'static [Symbol]
             punctuation!(RightParen),
         ],
         Production::ResultOwned => &[at!(Owned), part!(Type)],
+        Production::ResultOut => &[at!(Out), part!(Type)],
         Production::ResultPlain => &[part!(OpenType)],
         Production::InsideSome => &[part!(Given), part!(MoreGivens)],
         Production::InsideNone => &[],
         Production::MoreGivensMore => &[punctuation!(Comma), part!(Given), part!(MoreGivens)],
         Production::MoreGivensEnd => &[],
         Production::GivenOwned => &[at!(Owned), part!(Type)],
+        Production::GivenOut => &[at!(Out), part!(Type)],
         Production::GivenPlain => &[part!(Type)],
         Production::WholeBlock => &[
             Symbol::Read(Terminal::AnyWord),

@@ -100,7 +100,7 @@ pub(crate) fn class_number(class: Class) -> u16
         Class::BuiltinText => 3,
         Class::OtherText => 4,
         Class::At(word) => 5 + at_number(word) as u16,
-        Class::Punctuation(punctuation) => 13 + punctuation_number(punctuation) as u16,
-        Class::Word(word) => 31 + keyword_number(word) as u16,
+        Class::Punctuation(punctuation) => 16 + punctuation_number(punctuation) as u16,
+        Class::Word(word) => 34 + keyword_number(word) as u16,
     }
 }

@@ -8,14 +8,15 @@ ghost use Rattle.sil_shape.specs.declared.parse_table.TheConstants.{LOOKAHEADS, 
 use crate::choice::choose;
 use crate::grammar::{Nonterminal, Production};
 use crate::lookahead::Lookahead;
+use instruction_table::INSTRUCTION_COUNT;
 use std::alloc::{AllocError, Global};
 use token_classes::Class;
 
 /// How many parts the grammar has.
 const PARTS: usize = 81;
 
-/// How many lookaheads there are: the end, and each class.
-const LOOKAHEADS: usize = 118;
+/// How many lookaheads there are: the end and each class but the mnemonics, and each mnemonic.
+const LOOKAHEADS: usize = 80 + INSTRUCTION_COUNT;
 
 #[tactic(auto, unfolding(crate::specs::inner::ParseTable::part_number))]
 fn part_number(part: Nonterminal) -> usize

@@ -136,19 +136,25 @@ Means p.MoreParamsEnd [] value = value ≡ v.Params no_params
 Means p.ParamOwned (v.Token word ∷ v.Type t ∷ []) value = value ≡ v.Param (record { passing = passing.Owned; ty = t.ty }) word.place
 Means p.ParamGuaranteed (v.Token word ∷ v.Type t ∷ []) value = value ≡ v.Param (record { passing = passing.Guaranteed; ty = t.ty }) word.place
 Means p.ParamInout (v.Token word ∷ v.Type t ∷ []) value = value ≡ v.Param (record { passing = passing.Inout; ty = t.ty }) word.place
+Means p.ParamIn (v.Token word ∷ v.Type t ∷ []) value = value ≡ v.Param (record { passing = passing.In; ty = t.ty }) word.place
+Means p.ParamInGuaranteed (v.Token word ∷ v.Type t ∷ []) value = value ≡ v.Param (record { passing = passing.InGuaranteed; ty = t.ty }) word.place
 Means p.ParamPlain (v.Type t ∷ []) value = value ≡ v.Param (record { passing = passing.Plain; ty = t.ty }) t.first
 -- results: a list in parentheses, or one alone
 Means p.ResultList (_ ∷ v.Givens results ∷ _ ∷ []) value = value ≡ v.Givens results
 Means p.ResultOwned (v.Token word ∷ v.Type t ∷ []) value =
-    value ≡ v.Givens (record { givens = record { owned = true; ty = t.ty } ∷ []; firsts = word.place ∷ [] })
-Means p.ResultPlain (v.Type t ∷ []) value = value ≡ v.Givens (record { givens = record { owned = false; ty = t.ty } ∷ []; firsts = t.first ∷ [] })
+    value ≡ v.Givens (record { givens = record { owned = true; out = false; ty = t.ty } ∷ []; firsts = word.place ∷ [] })
+Means p.ResultOut (v.Token word ∷ v.Type t ∷ []) value =
+    value ≡ v.Givens (record { givens = record { owned = false; out = true; ty = t.ty } ∷ []; firsts = word.place ∷ [] })
+Means p.ResultPlain (v.Type t ∷ []) value =
+    value ≡ v.Givens (record { givens = record { owned = false; out = false; ty = t.ty } ∷ []; firsts = t.first ∷ [] })
 Means p.InsideSome (v.Given x first ∷ v.Givens others ∷ []) value = value ≡ v.Givens (record { givens = x ∷ others.givens; firsts = first ∷ others.firsts })
 Means p.InsideNone [] value = value ≡ v.Givens no_givens
 Means p.MoreGivensMore (_ ∷ v.Given x first ∷ v.Givens others ∷ []) value =
     value ≡ v.Givens (record { givens = x ∷ others.givens; firsts = first ∷ others.firsts })
 Means p.MoreGivensEnd [] value = value ≡ v.Givens no_givens
-Means p.GivenOwned (v.Token word ∷ v.Type t ∷ []) value = value ≡ v.Given (record { owned = true; ty = t.ty }) word.place
-Means p.GivenPlain (v.Type t ∷ []) value = value ≡ v.Given (record { owned = false; ty = t.ty }) t.first
+Means p.GivenOwned (v.Token word ∷ v.Type t ∷ []) value = value ≡ v.Given (record { owned = true; out = false; ty = t.ty }) word.place
+Means p.GivenOut (v.Token word ∷ v.Type t ∷ []) value = value ≡ v.Given (record { owned = false; out = true; ty = t.ty }) word.place
+Means p.GivenPlain (v.Type t ∷ []) value = value ≡ v.Given (record { owned = false; out = false; ty = t.ty }) t.first
 -- blocks: a function without a body has none
 Means p.BodySome (_ ∷ v.Block b ∷ v.Blocks others ∷ _ ∷ []) value = value ≡ v.Blocks (b ∷ others)
 Means p.BodyNone [] value = value ≡ v.Blocks []

@@ -84,10 +84,13 @@ at_spelling a.Convention = codes "convention"
 at_spelling a.Owned = codes "owned"
 at_spelling a.Guaranteed = codes "guaranteed"
 at_spelling a.Inout = codes "inout"
+at_spelling a.In = codes "in"
+at_spelling a.InGuaranteed = codes "in_guaranteed"
+at_spelling a.Out = codes "out"
 
 -- every one of them
 unfoldable pub at_words : List AtWord
-at_words = a.HasStorage ∷ a.SilWeak ∷ a.SilUnowned ∷ a.Convention ∷ a.Owned ∷ a.Guaranteed ∷ a.Inout ∷ []
+at_words = a.HasStorage ∷ a.SilWeak ∷ a.SilUnowned ∷ a.Convention ∷ a.Owned ∷ a.Guaranteed ∷ a.Inout ∷ a.In ∷ a.InGuaranteed ∷ a.Out ∷ []
 
 -- the one that is spelled so
 unfoldable pub known_at_word : List ℕ → Option AtWord

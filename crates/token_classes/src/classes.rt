@@ -68,6 +68,9 @@ pub enum AtWord {
     Owned,
     Guaranteed,
     Inout,
+    In,
+    InGuaranteed,
+    Out,
 }
 
 /// Punctuation.

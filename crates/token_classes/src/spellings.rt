@@ -93,6 +93,9 @@ pub fn at_spelling(at_word: AtWord) -> &'static [u8]
         AtWord::Owned => b"owned",
         AtWord::Guaranteed => b"guaranteed",
         AtWord::Inout => b"inout",
+        AtWord::In => b"in",
+        AtWord::InGuaranteed => b"in_guaranteed",
+        AtWord::Out => b"out",
     }
 }
 
@@ -135,6 +138,9 @@ fn known_at_word(name: &[u8]) -> Option<AtWord>
         AtWord::Owned,
         AtWord::Guaranteed,
         AtWord::Inout,
+        AtWord::In,
+        AtWord::InGuaranteed,
+        AtWord::Out,
     ];
     words
         .iter()

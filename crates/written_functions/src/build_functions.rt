@@ -4,8 +4,9 @@ ghost use Rattle.std.specs.Prelude.{◌≡◌, [], ◌∷◌, ◌≤◌, List, l
 ghost use Rattle.sil_shape.specs.declared.grammar.Production.{Production};
 ghost use Rattle.written_values.specs.declared.value.Value.{Value};
 ghost use Rattle.written_values.specs.declared.value.Value.TheVariants as v;
-ghost use Rattle.written_values.specs.inner.Meaning.{param};
+ghost use Rattle.written_values.specs.inner.Meaning.{given_with, param};
 ghost use Rattle.written_values.specs.inner.PartFaults.{part_fault};
+ghost use Rattle.written_values.specs.inner.Parts.{place_at};
 ghost use Rattle.written_values.specs.inner.Reduced.{parts_of, reduced};
 ghost use Rattle.written_values.specs.Values.{given_before, givens_of, no_givens, no_params, param_before, params_of};
 
@@ -232,20 +233,25 @@ pub(crate) fn result_list(alloc: Global, values: &mut Prepended<Value>) -> Resul
     put_value(Value::Givens(givens), values)
 }
 
-/// Puts an owned result, alone in a list.
+/// Puts a result behind the word that says how it is given, alone in a list.
 #[inline(never)]
-#[tactic(auto, unfolding(written_values::specs::inner::Reduced::reduced, written_values::specs::inner::Meaning::meaning, sil_shape::specs::Grammar::body))]
-pub(crate) fn owned_result(alloc: Global, values: &mut Prepended<Value>) -> Result<(), Exhausted>
+pub(crate) fn worded_result(
+    alloc: Global,
+    owned: bool,
+    out: bool,
+    values: &mut Prepended<Value>,
+) -> Result<(), Exhausted>
     requires { 2 ≤ length values.old }
-    ensures values { OnOk result (values.new ≡ reduced Production.ResultOwned values.old) }
+    ensures values { OnOk result ((word ty : Value) × (rest : List Value) × (values.old ≡ word ∷ ty ∷ rest)
+        × (values.new ≡ v.Givens (record { givens = given_with owned out 1 (word ∷ ty ∷ []) ∷ []; firsts = place_at 0 (word ∷ ty ∷ []) ∷ [] }) ∷ rest)) }
 {
     let first = values.pop_front().into_token().place;
     let ty = values.pop_front().into_type().ty;
-    let givens = one_given(alloc, Given { owned: true, ty }, first)?;
+    let givens = one_given(alloc, Given { owned, out, ty }, first)?;
     put_value(Value::Givens(givens), values)
 }
 
-/// Puts a result that isn't owned, alone in a list.
+/// Puts a result of which no word says how it is given, alone in a list.
 #[inline(never)]
 #[tactic(auto, unfolding(written_values::specs::inner::Reduced::reduced, written_values::specs::inner::Meaning::meaning, sil_shape::specs::Grammar::body))]
 pub(crate) fn plain_result(alloc: Global, values: &mut Prepended<Value>) -> Result<(), Exhausted>
@@ -253,23 +259,36 @@ pub(crate) fn plain_result(alloc: Global, values: &mut Prepended<Value>) -> Resu
     ensures values { OnOk result (values.new ≡ reduced Production.ResultPlain values.old) }
 {
     let WrittenType { ty, first, .. } = values.pop_front().into_type();
-    let givens = one_given(alloc, Given { owned: false, ty }, first)?;
+    let givens = one_given(
+        alloc,
+        Given {
+            owned: false,
+            out: false,
+            ty,
+        },
+        first,
+    )?;
     put_value(Value::Givens(givens), values)
 }
 
-/// Puts an owned result of several.
+/// Puts a result of several behind the word that says how it is given.
 #[inline(never)]
-#[tactic(auto, unfolding(written_values::specs::inner::Reduced::reduced, written_values::specs::inner::Meaning::meaning, sil_shape::specs::Grammar::body))]
-pub(crate) fn owned_given(alloc: Global, values: &mut Prepended<Value>) -> Result<(), Exhausted>
+pub(crate) fn worded_given(
+    alloc: Global,
+    owned: bool,
+    out: bool,
+    values: &mut Prepended<Value>,
+) -> Result<(), Exhausted>
     requires { 2 ≤ length values.old }
-    ensures values { OnOk result (values.new ≡ reduced Production.GivenOwned values.old) }
+    ensures values { OnOk result ((word ty : Value) × (rest : List Value) × (values.old ≡ word ∷ ty ∷ rest)
+        × (values.new ≡ v.Given (given_with owned out 1 (word ∷ ty ∷ [])) (place_at 0 (word ∷ ty ∷ [])) ∷ rest)) }
 {
     let first = values.pop_front().into_token().place;
     let ty = values.pop_front().into_type().ty;
-    put_value(Value::Given(Given { owned: true, ty }, first), values)
+    put_value(Value::Given(Given { owned, out, ty }, first), values)
 }
 
-/// Puts a result of several that isn't owned.
+/// Puts a result of several of which no word says how it is given.
 #[inline(never)]
 #[tactic(auto, unfolding(written_values::specs::inner::Reduced::reduced, written_values::specs::inner::Meaning::meaning, sil_shape::specs::Grammar::body))]
 pub(crate) fn plain_given(alloc: Global, values: &mut Prepended<Value>) -> Result<(), Exhausted>
@@ -277,5 +296,15 @@ pub(crate) fn plain_given(alloc: Global, values: &mut Prepended<Value>) -> Resul
     ensures values { OnOk result (values.new ≡ reduced Production.GivenPlain values.old) }
 {
     let WrittenType { ty, first, .. } = values.pop_front().into_type();
-    put_value(Value::Given(Given { owned: false, ty }, first), values)
+    put_value(
+        Value::Given(
+            Given {
+                owned: false,
+                out: false,
+                ty,
+            },
+            first,
+        ),
+        values,
+    )
 }

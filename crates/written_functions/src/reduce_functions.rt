@@ -68,9 +68,16 @@ pub fn reduce_function(
         Production::ParamOwned => build_functions::param(alloc, Passing::Owned, values)?,
         Production::ParamGuaranteed => build_functions::param(alloc, Passing::Guaranteed, values)?,
         Production::ParamInout => build_functions::param(alloc, Passing::Inout, values)?,
+        Production::ParamIn => build_functions::param(alloc, Passing::In, values)?,
+        Production::ParamInGuaranteed => build_functions::param(
+            alloc,
+            Passing::InGuaranteed,
+            values,
+        )?,
         Production::ParamPlain => build_functions::plain_param(alloc, values)?,
         Production::ResultList => build_functions::result_list(alloc, values)?,
-        Production::ResultOwned => build_functions::owned_result(alloc, values)?,
+        Production::ResultOwned => build_functions::worded_result(alloc, true, false, values)?,
+        Production::ResultOut => build_functions::worded_result(alloc, false, true, values)?,
         Production::ResultPlain => build_functions::plain_result(alloc, values)?,
         Production::InsideSome => build_functions::givens(alloc, values)?,
         Production::MoreGivensMore => {
@@ -80,7 +87,8 @@ pub fn reduce_function(
         Production::InsideNone | Production::MoreGivensEnd => {
             build_functions::no_more_givens(alloc, values)?
         }
-        Production::GivenOwned => build_functions::owned_given(alloc, values)?,
+        Production::GivenOwned => build_functions::worded_given(alloc, true, false, values)?,
+        Production::GivenOut => build_functions::worded_given(alloc, false, true, values)?,
         Production::GivenPlain => build_functions::plain_given(alloc, values)?,
         Production::BodySome => build_blocks::body(alloc, values)?,
         Production::BodyNone => build_blocks::no_blocks(alloc, values)?,

@@ -98,15 +98,19 @@ pub(crate) fn section_of(production: Production) -> Section
         Production::ParamOwned
         | Production::ParamGuaranteed
         | Production::ParamInout
+        | Production::ParamIn
+        | Production::ParamInGuaranteed
         | Production::ParamPlain
         | Production::ResultList
         | Production::ResultOwned
+        | Production::ResultOut
         | Production::ResultPlain
         | Production::InsideSome
         | Production::InsideNone
         | Production::MoreGivensMore
         | Production::MoreGivensEnd
         | Production::GivenOwned
+        | Production::GivenOut
         | Production::GivenPlain => Section::Functions,
         Production::WholeBlock
         | Production::BlocksMore

@@ -1,4 +1,5 @@
--- Every type that a module mentions is written as the grammar writes types, with `*` only where that has it.
+-- Every type that a module mentions is written as the grammar writes types, with `*` only where that has it, and behind at most
+-- one of the words that the grammar has for it.
 use Rattle.std.specs.Prelude.{ℕ, ◌≤◌, List, Bool, false, not, ◌&&◌, ◌||◌, ◌==◌, nat_le, length, IsTrue, IfSome}
 use Rattle.std.specs.List.{list_all}
 use Rattle.sil_ast.specs.TypeName.{depth_of}
@@ -80,12 +81,14 @@ HasDeclTypes (decl.Class name fields) = Each HasFieldType fields
 abbrev pub HasParamType : Param → Type 0
 HasParamType p = IsPlainType p.ty
 
-abbrev pub HasGivenType : Given → Type 0
-HasGivenType r = IsPlainType r.ty
+-- a result: `@owned`, `@out` or neither stands before its type, and not both
+pub record IsGivenWritten (r : Given) : Type 0 where
+  pub word : IsTrue (not (r.owned && r.out))
+  pub ty : IsPlainType r.ty
 
 pub record HasSignatureTypes (s : Signature) : Type 0 where
   pub params : Each HasParamType s.params
-  pub results : Each HasGivenType s.results
+  pub results : Each IsGivenWritten s.results
 
 abbrev pub HasOperandType : Operand → Type 0
 HasOperandType o = IfSome o.ty IsPlacedType

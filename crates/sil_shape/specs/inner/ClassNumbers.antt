@@ -73,6 +73,9 @@ at_number a.Convention = 4
 at_number a.Owned = 5
 at_number a.Guaranteed = 6
 at_number a.Inout = 7
+at_number a.In = 8
+at_number a.InGuaranteed = 9
+at_number a.Out = 10
 
 unfoldable pub punctuation_number : Punctuation → ℕ
 punctuation_number m.LeftBrace = 0
@@ -100,8 +103,8 @@ class_number c.Number = 2
 class_number c.BuiltinText = 3
 class_number c.OtherText = 4
 class_number (c.At w) = 5 + at_number w
-class_number (c.Punctuation x) = 13 + punctuation_number x
-class_number (c.Word w) = 31 + keyword_number w
+class_number (c.Punctuation x) = 16 + punctuation_number x
+class_number (c.Word w) = 34 + keyword_number w
 
 -- whether a token of this class may stand for the terminal
 unfoldable pub accepts : Terminal → Class → Bool

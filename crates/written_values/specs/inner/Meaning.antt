@@ -8,6 +8,7 @@ use Rattle.sil_ast.specs.declared.inst.Qualifier.{Qualifier}
 use Rattle.sil_ast.specs.declared.inst.Qualifier.TheVariants as qualifier
 use Rattle.sil_ast.specs.declared.module.Stage.TheVariants as stage
 use Rattle.sil_ast.specs.declared.signature.Convention.TheVariants as convention
+use Rattle.sil_ast.specs.declared.signature.Given.{Given}
 use Rattle.sil_ast.specs.declared.signature.Passing.TheVariants as passing
 use Rattle.sil_ast.specs.declared.signature.Passing.{Passing}
 use Rattle.sil_ast.specs.declared.type_name.TypeName.TheVariants as ty
@@ -34,6 +35,10 @@ binding parts = v.Field (record { name = token_of (part 1 parts); storage = stor
 
 abbrev pub param : Passing → List Value → Value
 param how parts = v.Param (record { passing = how; ty = (type_of (part 1 parts)).ty }) (place_at 0 parts)
+
+-- a result whose type is this part
+abbrev pub given_with : Bool → Bool → ℕ → List Value → Given
+given_with owned out i parts = record { owned = owned; out = out; ty = (type_of (part i parts)).ty }
 
 abbrev pub member : List Value → Value
 member parts = v.Member (record { owner = text_at 1 parts; name = text_at 3 parts })
@@ -133,17 +138,20 @@ meaning p.MoreParamsEnd parts = v.Params no_params
 meaning p.ParamOwned parts = param passing.Owned parts
 meaning p.ParamGuaranteed parts = param passing.Guaranteed parts
 meaning p.ParamInout parts = param passing.Inout parts
+meaning p.ParamIn parts = param passing.In parts
+meaning p.ParamInGuaranteed parts = param passing.InGuaranteed parts
 meaning p.ParamPlain parts = v.Param (record { passing = passing.Plain; ty = (type_of (part 0 parts)).ty }) (type_of (part 0 parts)).first
 meaning p.ResultList parts = v.Givens (givens_of (part 1 parts))
-meaning p.ResultOwned parts = v.Givens (record { givens = record { owned = true; ty = (type_of (part 1 parts)).ty } ∷ []; firsts = place_at 0 parts ∷ [] })
-meaning p.ResultPlain parts = v.Givens (record
-    { givens = record { owned = false; ty = (type_of (part 0 parts)).ty } ∷ []; firsts = (type_of (part 0 parts)).first ∷ [] })
+meaning p.ResultOwned parts = v.Givens (record { givens = given_with true false 1 parts ∷ []; firsts = place_at 0 parts ∷ [] })
+meaning p.ResultOut parts = v.Givens (record { givens = given_with false true 1 parts ∷ []; firsts = place_at 0 parts ∷ [] })
+meaning p.ResultPlain parts = v.Givens (record { givens = given_with false false 0 parts ∷ []; firsts = (type_of (part 0 parts)).first ∷ [] })
 meaning p.InsideSome parts = v.Givens (given_before (part 0 parts) (givens_of (part 1 parts)))
 meaning p.InsideNone parts = v.Givens no_givens
 meaning p.MoreGivensMore parts = v.Givens (given_before (part 1 parts) (givens_of (part 2 parts)))
 meaning p.MoreGivensEnd parts = v.Givens no_givens
-meaning p.GivenOwned parts = v.Given (record { owned = true; ty = (type_of (part 1 parts)).ty }) (place_at 0 parts)
-meaning p.GivenPlain parts = v.Given (record { owned = false; ty = (type_of (part 0 parts)).ty }) (type_of (part 0 parts)).first
+meaning p.GivenOwned parts = v.Given (given_with true false 1 parts) (place_at 0 parts)
+meaning p.GivenOut parts = v.Given (given_with false true 1 parts) (place_at 0 parts)
+meaning p.GivenPlain parts = v.Given (given_with false false 0 parts) (type_of (part 0 parts)).first
 -- blocks
 meaning p.WholeBlock parts = v.Block (record {
   label = token_of (part 0 parts);
