@@ -1,5 +1,6 @@
 -- The parts of a function that belong to an item.
 use Rattle.std.specs.Prelude.{ℕ, List, [], Option, Some, None, slice_get}
+use Rattle.sil_ast.specs.Blocks.{args_of}
 use Rattle.sil_ast.specs.declared.function.Block.{Block}
 use Rattle.sil_ast.specs.declared.function.BlockArg.{BlockArg}
 use Rattle.sil_ast.specs.declared.function.Function.{Function}
@@ -19,10 +20,6 @@ inst_in (Some b) k = slice_get b.insts k
 abbrev pub terminator_in : Option Block → Option inst.Inst
 terminator_in None = None
 terminator_in (Some b) = Some b.terminator
-
-abbrev pub args_in : Option Block → List BlockArg
-args_in None = []
-args_in (Some b) = b.args
 
 abbrev pub edge_in : Option inst.Inst → ℕ → Option edge.Edge
 edge_in None k = None
@@ -47,10 +44,6 @@ inst_at f p = inst_in (slice_get f.blocks p.block.0) p.index
 -- the terminator of the block with this number
 abbrev pub terminator_of : Function → ℕ → Option inst.Inst
 terminator_of f b = terminator_in (slice_get f.blocks b)
-
--- the arguments of the block with this number
-abbrev pub args_of : Function → ℕ → List BlockArg
-args_of f b = args_in (slice_get f.blocks b)
 
 abbrev pub edge_at : Function → EdgeId → Option edge.Edge
 edge_at f e = edge_in (terminator_of f e.block.0) e.index

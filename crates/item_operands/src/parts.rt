@@ -26,15 +26,6 @@ fn terminator_of(f: &Function, b: BlockId) -> Option<&Inst>
     }
 }
 
-fn args_of(f: &Function, b: BlockId) -> &[BlockArg]
-    ensures { result.now ≡ parts.args_of f.now b.0 }
-{
-    match f.blocks.get(b.0 as usize) {
-        None => &[],
-        Some(block) => block.args.as_slice(),
-    }
-}
-
 fn edge_at(f: &Function, e: EdgeId) -> Option<&Edge>
     ensures { option_copied result ≡ parts.edge_at f.now e }
 {
@@ -50,7 +41,7 @@ fn args_behind<'f>(f: &'f Function, edge: Option<&Edge>) -> &'f [BlockArg]
 {
     match edge {
         None => &[],
-        Some(edge) => args_of(f, edge.block),
+        Some(edge) => f.args_of(edge.block.0 as usize),
     }
 }
 
@@ -120,7 +111,7 @@ pub fn item_arguments(f: &Function, item: Item) -> &[BlockArg]
     ensures { result.now ≡ parts.item_arguments f.now item }
 {
     match item {
-        Item::Entry => args_of(f, BlockId(0)),
+        Item::Entry => f.args_of(0),
         Item::Edge(e) => args_behind(f, edge_at(f, e)),
         Item::Inst(_) | Item::Exit(_) => &[],
     }

@@ -2,46 +2,70 @@
 
 ghost use Rattle.std.specs.Prelude.{◌≡◌, ◌++◌, ◌<◌, ℕ, IfSome, List, length, map, replicate, slice_get, OnOk};
 ghost use Rattle.std.specs.Bool.{OnTrue};
-ghost use Rattle.sil_ast.specs.declared.signature.Param.{Param};
+ghost use Rattle.std.specs.Option.{option_copied};
+ghost use Rattle.argument_conventions.specs.declared.convention.ArgumentConvention.{ArgumentConvention};
 ghost use Rattle.item_operands.specs.Roles as roles;
-ghost use Rattle.item_operands.specs.Roles.{last_roles, params_in, roles_for, taken_along, taken_as, taken_by, taken_each};
+ghost use Rattle.item_operands.specs.Roles.{last_roles, roles_for, taken_along, taken_by, taken_each};
 
+use argument_conventions::{AddressRow, ArgumentConvention, argument};
 use instruction_table::{Role, roles_of};
-use sil_ast::{Edge, Exhausted, Inst, Operand, Param, Passing, ValueId};
+use sil_ast::{Edge, Exhausted, Inst, Operand, Signature, ValueId};
 
-/// A value that is an operand, and what is done to it.
+/// A value that is an operand, what is done to it, and the row of its convention, where its address is handed to a call.
 #[derive(Clone, Copy, PartialEq, Eq)]
 pub struct Taken {
     pub value: ValueId,
     pub role: Role,
+    pub handed: Option<AddressRow>,
 }
 
-fn role_passed(passing: Passing) -> Role
-    ensures { result ≡ roles.role_passed passing }
+/// What is done to an operand, and the row of its convention, where its address is handed to a call.
+#[derive(Clone, Copy, PartialEq, Eq)]
+pub struct Treatment {
+    pub role: Role,
+    pub handed: Option<AddressRow>,
+}
+
+fn role_handed(convention: ArgumentConvention) -> Role
+    ensures { result ≡ roles.role_handed convention }
 {
-    match passing {
-        Passing::Plain | Passing::Guaranteed => Role::Used,
-        Passing::Owned => Role::Consumed,
-        Passing::Inout => Role::AddressRole,
+    match convention {
+        ArgumentConvention::Plain | ArgumentConvention::Guaranteed => Role::Used,
+        ArgumentConvention::Owned => Role::Consumed,
+        ArgumentConvention::Address(_) => Role::AddressRole,
     }
 }
 
-/// The role of the parameter with this number, if there is one.
-fn parameter_role(params: &[Param], k: usize) -> Option<Role>
-    ensures { result ≡ slice_get (map roles.param_role params.now) k }
+fn by_row(role: Role) -> Treatment
+    ensures { result ≡ roles.by_row role }
 {
-    match params.get(k) {
-        None => None,
-        Some(param) => Some(role_passed(param.passing)),
+    Treatment { role, handed: None }
+}
+
+fn by_convention(convention: ArgumentConvention) -> Treatment
+    ensures { result ≡ roles.by_convention convention }
+{
+    Treatment {
+        role: role_handed(convention),
+        handed: convention.address_row(),
     }
 }
 
-/// The role of the operand with this number among those that the last role of a row is for.
-fn last_role(role: Role, params: &[Param], k: usize) -> Option<Role>
-    ensures { (n : ℕ) → k < n → result ≡ slice_get (last_roles role params.now n) k }
+/// What is done to the argument with this number, if a function of the signature has one.
+fn argument_treatment(signature: Option<&Signature>, k: usize) -> Option<Treatment>
+    ensures { result ≡ slice_get (map roles.by_convention (roles.conventions_by (option_copied signature.entry))) k }
+{
+    let signature = signature?;
+    let found = argument(signature, k)?;
+    Some(by_convention(found.convention))
+}
+
+/// What is done to the operand with this number among those that the last role of a row is for.
+fn last_treatment(role: Role, signature: Option<&Signature>, k: usize) -> Option<Treatment>
+    ensures { (n : ℕ) → k < n → result ≡ slice_get (last_roles role (roles.conventions_by (option_copied signature.entry)) n) k }
 {
     match role {
-        Role::ByParameter => parameter_role(params, k),
+        Role::ByParameter => argument_treatment(signature, k),
         Role::Consumed
         | Role::Used
         | Role::Lent
@@ -49,31 +73,41 @@ fn last_role(role: Role, params: &[Param], k: usize) -> Option<Role>
         | Role::AddressRole
         | Role::AnyRole
         | Role::ScopeRole
-        | Role::Counted => Some(role),
+        | Role::Counted => Some(by_row(role)),
     }
 }
 
-/// The role of the operand with this number, if it has one.
-fn role_at(row: &[Role], params: &[Param], i: usize) -> Option<Role>
-    ensures { (n : ℕ) → i < n → result ≡ slice_get (roles_for row.now params.now n) i }
+/// What is done to the operand with this number, if a row says anything of it.
+fn treatment_at(row: &[Role], signature: Option<&Signature>, i: usize) -> Option<Treatment>
+    ensures { (n : ℕ) → i < n → result ≡ slice_get (roles_for row.now (roles.conventions_by (option_copied signature.entry)) n) i }
 {
     if row.is_empty() {
         return None;
     }
     let last = row.len() - 1;
     if i < last {
-        Some(row[i])
+        Some(by_row(row[i]))
     } else {
-        last_role(row[last], params, i - last)
+        last_treatment(row[last], signature, i - last)
     }
 }
 
-fn params_of(inst: &Inst) -> &[Param]
-    ensures { result.now ≡ params_in inst.now }
+fn signature_of(inst: &Inst) -> Option<&Signature>
+    ensures { option_copied result ≡ inst.now.signature }
 {
     match &inst.signature {
-        None => &[],
-        Some(signature) => signature.get().params.as_slice(),
+        None => None,
+        Some(signature) => Some(signature.get()),
+    }
+}
+
+fn taken_as(operand: &Operand, treatment: Treatment) -> Taken
+    ensures { result ≡ roles.taken_as operand.now treatment }
+{
+    Taken {
+        value: operand.value,
+        role: treatment.role,
+        handed: treatment.handed,
     }
 }
 
@@ -81,24 +115,22 @@ fn add_operands(
     taken: &mut Vec<Taken>,
     operands: &[Operand],
     row: &[Role],
-    params: &[Param],
+    signature: Option<&Signature>,
 ) -> Result<(), Exhausted>
-    ensures { OnOk result (taken.new.items ≡ taken.old.items ++ taken_each operands.now (roles_for row.now params.now (length operands.now))) }
+    ensures { OnOk result (taken.new.items ≡ taken.old.items
+        ++ taken_each operands.now (roles_for row.now (roles.conventions_by (option_copied signature.entry)) (length operands.now))) }
 {
     for (i, operand) in operands.iter().enumerate() {
-        if let Some(role) = role_at(row, params, i) {
-            taken.push(Taken {
-                value: operand.value,
-                role,
-            })?;
+        if let Some(treatment) = treatment_at(row, signature, i) {
+            taken.push(taken_as(operand, treatment))?;
         }
     }
     Ok(())
 }
 
-/// Whether a last role of a row is that of each operand that it is for, whatever the parameters are.
+/// Whether a last role of a row is that of each operand that it is for, whatever the signature is.
 fn is_alike(role: Role) -> bool
-    ensures { OnTrue result ((params : List Param) (n : ℕ) → last_roles role params n ≡ replicate n role) }
+    ensures { OnTrue result ((conventions : List ArgumentConvention) (n : ℕ) → last_roles role conventions n ≡ replicate n (roles.by_row role)) }
 {
     match role {
         Role::ByParameter => false,
@@ -115,7 +147,7 @@ fn is_alike(role: Role) -> bool
 
 /// The role of all operands, where a row has one for all.
 fn role_of_all(row: &[Role]) -> Option<Role>
-    ensures { IfSome result (λ role. (params : List Param) (n : ℕ) → roles_for row.now params n ≡ replicate n role) }
+    ensures { IfSome result (λ role. (conventions : List ArgumentConvention) (n : ℕ) → roles_for row.now conventions n ≡ replicate n (roles.by_row role)) }
 {
     match row {
         [role] if is_alike(*role) => Some(*role),
@@ -125,13 +157,10 @@ fn role_of_all(row: &[Role]) -> Option<Role>
 
 /// Adds operands of this role.
 fn add_alike(taken: &mut Vec<Taken>, operands: &[Operand], role: Role) -> Result<(), Exhausted>
-    ensures { OnOk result (taken.new.items ≡ taken.old.items ++ map (λ o. taken_as o role) operands.now) }
+    ensures { OnOk result (taken.new.items ≡ taken.old.items ++ map (λ o. roles.taken_as o (roles.by_row role)) operands.now) }
 {
     for operand in operands {
-        taken.push(Taken {
-            value: operand.value,
-            role,
-        })?;
+        taken.push(taken_as(operand, by_row(role)))?;
     }
     Ok(())
 }
@@ -144,7 +173,7 @@ pub fn add_taken_by(taken: &mut Vec<Taken>, inst: &Inst) -> Result<(), Exhausted
     let row = roles_of(inst.op);
     match role_of_all(row) {
         Some(role) => add_alike(taken, inst.operands.as_slice(), role),
-        None => add_operands(taken, inst.operands.as_slice(), row, params_of(inst)),
+        None => add_operands(taken, inst.operands.as_slice(), row, signature_of(inst)),
     }
 }
 
