@@ -15,7 +15,7 @@ pub mod shapes;
 mod table;
 mod wrong;
 
-pub use parts::{args_of, is_external, written};
+pub use parts::{is_external, only_direct_type, written};
 pub use refusal::TypeRefusal;
 pub use same::{is_unowned_of, is_weak_of, same_signature, same_type, same_types};
 pub use table::TypeTable;

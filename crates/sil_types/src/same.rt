@@ -82,10 +82,16 @@ fn same_param(a: &Param, b: &Param) -> bool
     same_passing(a.passing, b.passing) && same_type(&a.ty, &b.ty)
 }
 
+fn same_flag(a: bool, b: bool) -> bool
+    ensures { result ≡ same.is_same_flag a b }
+{
+    a == b
+}
+
 fn same_given(a: &Given, b: &Given) -> bool
     ensures { result ≡ same.is_same_given a.now b.now }
 {
-    a.owned == b.owned && same_type(&a.ty, &b.ty)
+    same_flag(a.owned, b.owned) && same_flag(a.out, b.out) && same_type(&a.ty, &b.ty)
 }
 
 fn same_params(a: &[Param], b: &[Param]) -> bool

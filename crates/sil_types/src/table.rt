@@ -4,7 +4,7 @@ ghost use Rattle.std.specs.Prelude.{◌≡◌, map};
 ghost use Rattle.std.specs.List.{flat_map};
 ghost use Rattle.sil_ast.specs.declared.type_name.TypeName.TheVariants as type_of;
 ghost use Rattle.type_definitions.specs.Measures.{measure_of, measures_of};
-ghost use Rattle.type_definitions.specs.Mentions.{operand_types, result_type, together};
+ghost use Rattle.type_definitions.specs.Mentions.{direct_type, operand_types, together};
 ghost use Rattle.type_measures.specs.inner.Gathered.{capped};
 
 use sil_ast::{Given, List, Operand, Text, TypeName};
@@ -66,7 +66,7 @@ impl TypeTable {
     }
 
     pub(crate) fn measure_results(&self, results: &[Given]) -> Measure
-        ensures { result ≡ capped (measure_of self.now (together (map result_type results.now))) }
+        ensures { result ≡ capped (measure_of self.now (direct_type results.now)) }
     {
         measure_results(&self.declarations, self.measures.as_slice(), results)
     }

@@ -26,6 +26,7 @@ use Rattle.sil_ast.specs.declared.type_name.TypeName.TheOpen.{TypeName-F}
 use Rattle.sil_ast.specs.declared.type_name.TypeName.TheOpen as layer
 use Rattle.sil_ast.specs.declared.type_name.TypeName.TheVariants as type
 use Rattle.sil_ast.specs.declared.vtable.Vtable.{Vtable}
+use Rattle.argument_conventions.specs.Arguments.{direct_results}
 use Rattle.numbered_form.specs.Insts.{insts_of}
 use Rattle.numbered_form.specs.Names.{decl_name}
 use Rattle.type_definitions.specs.declared.standing.Standing.{Standing}
@@ -77,9 +78,16 @@ together [] = type.Tuple []
 together (t ∷ []) = t
 together (t ∷ u ∷ ts) = type.Tuple (t ∷ u ∷ ts)
 
+abbrev pub direct_types : List Given → List TypeName
+direct_types results = map result_type (direct_results results)
+
+-- the type of what a `return` gives: of the one direct result, or the tuple of all
+abbrev pub direct_type : List Given → TypeName
+direct_type results = together (direct_types results)
+
 -- the type that a signature gives
 abbrev pub given_type : Signature → TypeName
-given_type s = together (map result_type s.results)
+given_type s = direct_type s.results
 
 abbrev pub in_signature : Signature → List Mention
 in_signature s = map in_param s.params ++ map in_result s.results ++ mention Unwritten (given_type s) ∷ []

@@ -1,5 +1,5 @@
 -- Measures of types go by what is known of the names in them: seen exactly, and just past the limits.
-use Rattle.std.proofs.Common.{◌≡◌, ℕ, ◌+◌, List, [], ◌∷◌, ◌++◌, map, length, Contains, refl, sym, ap, ◌∙◌, subst, arith}
+use Rattle.std.proofs.Common.{◌≡◌, ℕ, ◌+◌, List, [], ◌∷◌, map, length, Contains, refl, sym, ap, ◌∙◌, subst, arith}
 use Rattle.std.specs.List.{flat_map}
 use Rattle.std.specs.Prelude.{min, true, false}
 use Rattle.std.proofs.lemmas.List.Elements.{Contains-append_left, Contains-append_right}
@@ -13,7 +13,7 @@ use Rattle.type_definitions.specs.Contained.{names_in, names_over, held_names, h
 use Rattle.type_definitions.specs.Measures.{measure_with, measure_over, measure_decl, of_members, of_payloads, of_storage, measured}
 use Rattle.type_definitions.specs.declared.measure.Measure.{Measure}
 use Rattle.type_definitions.specs.Mentions.{together, target_of, target_at}
-use Rattle.type_measures.specs.inner.Gathered.{capped, gathered, as_members, as_payloads}
+use Rattle.type_measures.specs.inner.Gathered.{capped, as_members, as_payloads}
 use Rattle.type_measures.specs.declared.gathered.TheConstants.{MOST_DEPTH}
 use Rattle.type_measures.proofs.Gathering.{gathered_same, members_capped, payloads_capped, storage_capped}
 

@@ -1,6 +1,6 @@
 -- Where parts can be put before wholes, the measures of declarations don't change once enough declarations are looked through.
-use Rattle.std.proofs.Common.{◌≡◌, ℕ, zero, suc, ◌+◌, ◌<◌, ◌≤◌, List, [], length, get_or, map, take, Contains, refl, sym, ap, ◌∙◌, subst, arith}
-use Rattle.std.specs.Prelude.{All, Option, Some, None, option_map, slice_get, unwrap_or}
+use Rattle.std.proofs.Common.{◌≡◌, ℕ, zero, suc, ◌<◌, ◌≤◌, List, [], length, get_or, take, Contains, refl, sym, ap, ◌∙◌, subst, arith}
+use Rattle.std.specs.Prelude.{Option, Some, None, option_map, slice_get, unwrap_or}
 use Rattle.std.proofs.lemmas.List.{length-map, get_or-take, ext_get_or}
 use Rattle.std.proofs.lemmas.List.Elements.{All-contains}
 use Rattle.std.proofs.lemmas.Option.{slice_get-map}
@@ -10,7 +10,7 @@ use Rattle.sil_ast.specs.declared.decl.Decl.{Decl}
 use Rattle.sil_ast.specs.declared.decl.Decl.TheVariants as decl
 use Rattle.numbered_form.specs.Names.{Name}
 use Rattle.type_definitions.specs.Contained.{containment, held_names, held_places}
-use Rattle.type_definitions.specs.Declarations.{Declarations, all_decls, all_names, at_place, decl_of, place_of}
+use Rattle.type_definitions.specs.Declarations.{Declarations, all_decls, all_names, at_place, place_of}
 use Rattle.type_definitions.specs.Measures.{measure_at, measure_decl, measures_of, measures_within, unmeasured}
 use Rattle.type_measures.specs.inner.ByParts.{AreByParts}
 use Rattle.type_measures.specs.inner.Gathered.{known_at}

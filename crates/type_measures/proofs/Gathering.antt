@@ -1,16 +1,21 @@
 -- What measures that are counted just past the limits come to.
-use Rattle.std.proofs.Common.{◌≡◌, ℕ, ◌+◌, ◌<◌, length, get_or, take, List, [], ◌∷◌, ◌++◌, map, refl, sym, ap, ◌∙◌, arith, Bool, true, false, append_assoc}
-use Rattle.std.specs.Prelude.{min, max, sum, ◌&&◌, fold}
-use Rattle.std.specs.List.{list_all, sum_by, flat_map}
+use Rattle.std.proofs.Common.{◌≡◌, ℕ, ◌+◌, ◌<◌, length, get_or, take, List, [], ◌∷◌, ◌++◌, map, refl, sym, ap, ◌∙◌, arith, Bool, true, false, append_assoc, drop, add-one}
+use Rattle.std.specs.Prelude.{min, max, sum, cond, ◌&&◌, fold}
+use Rattle.std.proofs.Math.Seq.{drop-cons}
+use Rattle.std.specs.List.{flat_map}
 use Rattle.std.proofs.lemmas.List.{map-append, append-nil, take_more}
 use Rattle.std.proofs.lemmas.Grind.{flat_map-append}
 use Rattle.std.proofs.lemmas.List.Folds.{list_all-append}
 use Rattle.std.proofs.lemmas.List.Sums.{sum_by-append}
 use Rattle.sil_ast.specs.TypeName.{largest}
+use Rattle.sil_ast.specs.declared.signature.Given.{Given}
+use Rattle.sil_ast.specs.declared.type_name.TypeName.{TypeName}
+use Rattle.argument_conventions.specs.Arguments.{direct_results, is_direct}
 use Rattle.type_definitions.specs.Measures.{all_trivial, all_leaves, most_leaves, most_depth, of_members, of_payloads, of_storage, leaves_in, depth_in, is_trivial_measure, measured}
 use Rattle.type_definitions.specs.declared.measure.Measure.{Measure}
+use Rattle.type_definitions.specs.Mentions.{direct_types, result_type}
 use Rattle.type_measures.specs.declared.gathered.Gathered.{Gathered}
-use Rattle.type_measures.specs.inner.Gathered.{capped, gathered, with_member, as_members, as_payloads}
+use Rattle.type_measures.specs.inner.Gathered.{capped, gathered, with_member, with_members, as_members, as_payloads}
 use Rattle.type_measures.specs.declared.gathered.TheConstants.{MOST_DEPTH, MOST_LEAVES}
 
 all_leaves-push : (ms : List Measure) (m : Measure) → all_leaves (ms ++ m ∷ []) ≡ all_leaves ms + m.leaves
@@ -106,3 +111,26 @@ gathered_flat F f ys i y lt is =
     ap (map F) (ap (flat_map f) (take_more ys i y lt) ∙ flat_map-append f (take i ys) (get_or ys i y ∷ []) ∙ ap (λ z. flat_map f (take i ys) ++ (f z ++ [])) (sym is)
     ∙ ap (λ r. flat_map f (take i ys) ++ r) (append-nil (f y)))
     ∙ map-append F (flat_map f (take i ys)) (f y)
+
+one_result : (F : TypeName → Measure) (b : Bool) (x : Given) (ms : List Measure) (g : Gathered) →
+    with_members (with_members g (map F (map result_type (cond b (x ∷ []) [])))) ms ≡ with_members g (map F (map result_type (cond b (x ∷ []) [])) ++ ms)
+one_result F true x ms g = refl
+one_result F false x ms g = refl
+
+split_results : (b : Bool) (x : Given) (xs : List Given) → cond b (x ∷ xs) xs ≡ cond b (x ∷ []) [] ++ xs
+split_results true x xs = refl
+split_results false x xs = refl
+
+-- what the results from the next one on come to, with those before it
+pub next_result : (F : TypeName → Measure) (rs : List Given) (i : ℕ) (r : Given) (old new : Gathered) → i < length rs → r ≡ get_or rs i r
+    → new ≡ with_members old (map F (direct_types (r ∷ []))) → with_members new (map F (direct_types (drop (i + 1) rs))) ≡ with_members old (map F (direct_types (drop i rs)))
+next_result F rs i r old new lt is one =
+    let behind = direct_results (drop (i + 1) rs) in
+    ap (λ g. with_members g (map F (map result_type behind))) one
+    ∙ one_result F (is_direct r) r (map F (map result_type behind)) old
+    ∙ ap (with_members old) (sym (ap (map F) (ap (map result_type) (split_results (is_direct r) r behind)
+    ∙ map-append result_type (cond (is_direct r) (r ∷ []) []) behind)
+    ∙ map-append F (map result_type (cond (is_direct r) (r ∷ []) [])) (map result_type behind)))
+    ∙ ap (λ y. with_members old (map F (direct_types (y ∷ drop (i + 1) rs)))) is
+    ∙ ap (λ k. with_members old (map F (direct_types (get_or rs i r ∷ drop k rs)))) (add-one i)
+    ∙ ap (λ ys. with_members old (map F (direct_types ys))) (sym (drop-cons rs i r lt))

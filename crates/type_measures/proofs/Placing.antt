@@ -1,11 +1,11 @@
 -- The places of the names of some types together.
 use Rattle.std.proofs.Common.{◌≡◌, ℕ, zero, suc, ◌+◌, ◌<◌, List, [], ◌∷◌, ◌++◌, map, length, take, get_or, refl, sym, ap, ◌∙◌, subst, arith, append_assoc}
-use Rattle.std.specs.Prelude.{Option, Some, None, All, Contains, Bool, true, false, cond, nat_lt}
+use Rattle.std.specs.Prelude.{Some, None, All, Bool, true, false, cond, nat_lt}
 use Rattle.std.specs.List.{position_or_len}
 use Rattle.std.specs.Option.{option_to_list}
 use Rattle.std.proofs.lemmas.List.Elements.{All-append}
 use Rattle.std.specs.Str.{bytes_eq}
-use Rattle.std.proofs.lemmas.List.{map-append, append-nil, take_more, length-map}
+use Rattle.std.proofs.lemmas.List.{append-nil, take_more, length-map}
 use Rattle.std.proofs.lemmas.Bool.{ltb-true}
 use Rattle.containment.specs.Chains.{IsInRange, parts_of}
 use Rattle.sil_ast.specs.declared.decl.Decl.{Decl}

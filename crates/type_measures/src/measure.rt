@@ -1,18 +1,19 @@
 //! The measures of types, from those of the declarations.
 
-ghost use Rattle.std.specs.Prelude.{◌≡◌, ◌++◌, ℕ, List, length, map};
+ghost use Rattle.std.specs.Prelude.{◌≡◌, ◌++◌, ℕ, List, [], ◌∷◌, length, map};
 ghost use Rattle.std.specs.Option.{option_to_list};
 ghost use Rattle.std.specs.List.{flat_map};
 ghost use Rattle.type_definitions.specs.Contained.{field_type, payload_types};
 ghost use Rattle.type_definitions.specs.Declarations.{all_names};
 ghost use Rattle.type_definitions.specs.Measures as measures;
 ghost use Rattle.type_definitions.specs.Measures.{measure_at, measure_with, of_storage};
-ghost use Rattle.type_definitions.specs.Mentions.{operand_types, result_type, together};
+ghost use Rattle.type_definitions.specs.Mentions.{direct_type, direct_types, operand_types, together};
 ghost use Rattle.type_definitions.specs.declared.measure.Measure.{Measure};
 ghost use Rattle.type_measures.specs.inner.Gathered as spec;
-ghost use Rattle.type_measures.specs.inner.Gathered.{capped, gathered};
+ghost use Rattle.type_measures.specs.inner.Gathered.{capped, gathered, with_members};
 
 use crate::gathered::{Gathered, MOST_DEPTH, MOST_LEAVES};
+use argument_conventions::direct_count;
 use sil_ast::{Case, Decl, Field, Given, Operand, Text, TypeName};
 use type_declarations::DeclarationTable;
 use type_definitions::Measure;
@@ -148,23 +149,39 @@ pub(crate) fn measure_decl(table: &DeclarationTable, known: &[Measure], decl: &D
 }
 
 fn gather_results(table: &DeclarationTable, known: &[Measure], results: &[Given]) -> Gathered
-    ensures { result ≡ gathered (map (measure_with (measure_at (all_names table.now) known.now)) (map result_type results.now)) }
+    ensures { result ≡ gathered (map (measure_with (measure_at (all_names table.now) known.now)) (direct_types results.now)) }
 {
     let mut all = Gathered::new();
     for given in results {
-        all = all.and(measure_type(table, known, &given.ty));
+        all = with_result(table, known, all, given);
     }
     all
 }
 
+fn with_result(
+    table: &DeclarationTable,
+    known: &[Measure],
+    all: Gathered,
+    given: &Given,
+) -> Gathered
+    ensures { result ≡ with_members all (map (measure_with (measure_at (all_names table.now) known.now)) (direct_types (given.now ∷ []))) }
+{
+    if given.out {
+        all
+    } else {
+        all.and(measure_type(table, known, &given.ty))
+    }
+}
+
 /// Of the type that a signature with these results gives.
 pub fn measure_results(table: &DeclarationTable, known: &[Measure], results: &[Given]) -> Measure
-    ensures { result ≡ capped (measure_with (measure_at (all_names table.now) known.now) (together (map result_type results.now))) }
+    ensures { result ≡ capped (measure_with (measure_at (all_names table.now) known.now) (direct_type results.now)) }
 {
-    if results.len() == 1 {
-        return measure_type(table, known, &results[0].ty);
+    let all = gather_results(table, known, results);
+    if direct_count(results) == 1 {
+        return all.as_itself();
     }
-    gather_results(table, known, results).as_members()
+    all.as_members()
 }
 
 /// What the operands' types come to, an address as its target.

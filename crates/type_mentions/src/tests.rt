@@ -1,10 +1,10 @@
 //! What a caller asks of each type and of each member.
 
-ghost use Rattle.std.specs.Prelude.{◌≡◌, Bool, map};
+ghost use Rattle.std.specs.Prelude.{◌≡◌, Bool};
 ghost use Rattle.std.specs.List.{flat_map};
 ghost use Rattle.sil_ast.specs.declared.member.Member.{Member};
 ghost use Rattle.sil_ast.specs.declared.type_name.TypeName.TheVariants as type_of;
-ghost use Rattle.type_definitions.specs.Mentions.{Mention, mention, together, result_type, operand_types};
+ghost use Rattle.type_definitions.specs.Mentions.{Mention, direct_type, mention, together, operand_types};
 ghost use Rattle.type_definitions.specs.declared.standing.Standing.TheVariants as place;
 
 use sil_ast::{Given, Member, Operand, Text, TypeName};
@@ -24,7 +24,7 @@ pub trait MentionTest {
 
     /// Of the type that a signature with these results gives.
     fn of_results(&self, results: &[Given]) -> bool
-        ensures { result ≡ holds self.now (mention place.Unwritten (together (map result_type results.now))) };
+        ensures { result ≡ holds self.now (mention place.Unwritten (direct_type results.now)) };
 
     /// Of the tuple of these operands' types.
     fn of_operands(&self, operands: &[Operand]) -> bool

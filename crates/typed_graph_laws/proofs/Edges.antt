@@ -8,6 +8,7 @@ use Rattle.std.proofs.lemmas.List.{length-map}
 use Rattle.instruction_table.specs.Forms.{ending_of}
 use Rattle.instruction_table.specs.declared.op.Op.{Op}
 use Rattle.instruction_table.specs.declared.op.Op.TheVariants as op
+use Rattle.sil_ast.specs.Blocks.{args_of}
 use Rattle.sil_ast.specs.declared.function.Block.{Block}
 use Rattle.sil_ast.specs.declared.function.Function.{Function}
 use Rattle.sil_ast.specs.declared.inst.Edge.{Edge}
@@ -18,7 +19,7 @@ use Rattle.numbered_form.specs.inner.Limits.{IsDeclInLimits}
 use Rattle.numbered_form.specs.Lists.{Each, is_empty}
 use Rattle.numbered_form.specs.inner.Parts.{are_cases, are_edges_by, is_branch, is_typed}
 use Rattle.type_definitions.specs.Declarations.{Declarations}
-use Rattle.sil_types.specs.Typing.EdgeRules.{args_of, goes_to_entry, has_block_types, has_wrong_edge_arguments, have_wrong_arguments_by, is_to_entry}
+use Rattle.sil_types.specs.Typing.EdgeRules.{goes_to_entry, has_block_types, has_wrong_edge_arguments, have_wrong_arguments_by, is_to_entry}
 use Rattle.sil_types.specs.Typing.RowTypes.{all_written, written}
 use Rattle.sil_types.specs.Typing.Same.{all_pairs, is_same_type}
 use Rattle.sil_types.specs.Typing.SwitchRules.{are_once, has_wrong_cases, has_wrong_cases_by, is_of_enum, leaves_out_case, misfits_default, misfits_payload}

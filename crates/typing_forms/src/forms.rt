@@ -7,8 +7,8 @@ ghost use Rattle.sil_types.specs.Typing.FormRules as rules;
 use crate::parts::{is_lowered, written_target};
 use instruction_table::{InForms, forms_of};
 use sil_ast::{ArgKind, BlockArg, Form, Function, Inst, Module, Qualifier};
+use sil_types::is_external;
 use sil_types::shapes::is_storage;
-use sil_types::{args_of, is_external};
 
 /// The form of the first function that has a body.
 pub fn first_form(m: &Module) -> Option<Form>
@@ -106,7 +106,7 @@ fn is_at_storage(inst: &Inst) -> bool
 fn is_annotated_at(f: &Function, block: usize, index: usize) -> bool
     ensures { result ≡ rules.is_annotated_at f.now block index }
 {
-    is_lowered(f.form) && index == 0 && any_annotated(args_of(f, block))
+    is_lowered(f.form) && index == 0 && any_annotated(f.args_of(block))
 }
 
 fn any_annotated(args: &[BlockArg]) -> bool

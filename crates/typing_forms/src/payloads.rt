@@ -10,7 +10,7 @@ ghost use Rattle.sil_types.specs.Typing.Values.{arg_type};
 use crate::enum_cases::case_of_edge;
 use crate::parts::is_lowered;
 use sil_ast::{BlockArg, Edge, Form, Function, TypeName};
-use sil_types::{TypeTable, args_of, same_type};
+use sil_types::{TypeTable, same_type};
 
 /// Whether each case goes to a block with its payload as the argument, or none where it has none.
 pub(crate) fn fit_cases(table: &TypeTable, f: &Function, ty: &TypeName, edges: &[Edge]) -> bool
@@ -24,7 +24,7 @@ fn fits_case(table: &TypeTable, f: &Function, ty: &TypeName, edge: &Edge) -> boo
     ensures { result ≡ rules.fits_case table.now f.now ty.now edge.now }
 {
     match case_of_edge(table, ty, edge) {
-        Some(payload) => are_payload(args_of(f, edge.block.0 as usize), payload.ty),
+        Some(payload) => are_payload(f.args_of(edge.block.0 as usize), payload.ty),
         None => true,
     }
 }
@@ -40,7 +40,7 @@ pub(crate) fn fit_defaults(f: &Function, ty: &TypeName, edges: &[Edge]) -> bool
 fn fits_default(f: &Function, ty: &TypeName, edge: &Edge) -> bool
     ensures { result ≡ rules.fits_default f.now ty.now edge.now }
 {
-    edge.case_of.is_some() || is_default_argument(f.form, ty, args_of(f, edge.block.0 as usize))
+    edge.case_of.is_some() || is_default_argument(f.form, ty, f.args_of(edge.block.0 as usize))
 }
 
 /// Whether the arguments are the payload of a case, or none where it has none.

@@ -12,7 +12,7 @@ ghost use Rattle.sil_types.specs.Typing.RowTypes.{all_written};
 ghost use Rattle.builtin_names.specs.declared.names.Width.{Width};
 ghost use Rattle.typing_rows.specs.inner.BuiltinViews.{builtin_told, is_spelled_by, is_width_text, sort_told};
 
-use builtin_names::{Operation, Width};
+use builtin_names::{Operation, Width, operation_spelling, width_spelling};
 use sil_ast::TypeName;
 
 /// An operation at a width.
@@ -59,39 +59,6 @@ pub(crate) fn sort_of(operation: Operation) -> Sort
         Operation::And => Sort::Combining,
         Operation::Or => Sort::Combining,
         Operation::Xor => Sort::Combining,
-    }
-}
-
-#[tactic(auto, unfolding(builtin_names::specs::BuiltinNames::operation_spelling))]
-fn operation_spelling(operation: Operation) -> &'static [u8]
-    ensures { result.now ≡ names.operation_spelling operation }
-{
-    match operation {
-        Operation::AddWithOverflow => b"sadd_with_overflow",
-        Operation::SubWithOverflow => b"ssub_with_overflow",
-        Operation::MulWithOverflow => b"smul_with_overflow",
-        Operation::Equal => b"cmp_eq",
-        Operation::NotEqual => b"cmp_ne",
-        Operation::Less => b"cmp_slt",
-        Operation::LessOrEqual => b"cmp_sle",
-        Operation::Greater => b"cmp_sgt",
-        Operation::GreaterOrEqual => b"cmp_sge",
-        Operation::And => b"and",
-        Operation::Or => b"or",
-        Operation::Xor => b"xor",
-    }
-}
-
-#[tactic(auto, unfolding(builtin_names::specs::BuiltinNames::width_spelling))]
-fn width_spelling(width: Width) -> &'static [u8]
-    ensures { result.now ≡ names.width_spelling width }
-{
-    match width {
-        Width::Int1 => b"1",
-        Width::Int8 => b"8",
-        Width::Int16 => b"16",
-        Width::Int32 => b"32",
-        Width::Int64 => b"64",
     }
 }
 

@@ -1,16 +1,17 @@
 //! Whether a type is the one that a view tells, without building it.
 
-ghost use Rattle.std.specs.Prelude.{◌≡◌, map};
+ghost use Rattle.std.specs.Prelude.{◌≡◌};
 ghost use Rattle.sil_ast.specs.declared.type_name.TypeName.TheVariants as type;
-ghost use Rattle.type_definitions.specs.Mentions.{result_type, together};
+ghost use Rattle.type_definitions.specs.Mentions.{direct_type, direct_types};
 ghost use Rattle.sil_types.specs.Typing.RowTypes.{all_written};
 ghost use Rattle.sil_types.specs.Typing.Same.{are_same_types, is_same_type};
 ghost use Rattle.typing_rows.specs.inner.Views.{view_told};
 
 use crate::view::TypeView;
 use crate::written_types::{next_written, none_written};
+use argument_conventions::next_direct;
 use sil_ast::{Given, Operand, TypeName};
-use sil_types::{is_unowned_of, is_weak_of, same_type};
+use sil_types::{is_unowned_of, is_weak_of, only_direct_type, same_type};
 
 impl TypeView<'_> {
     /// Whether a type is the one that this is put together to.
@@ -81,32 +82,34 @@ fn is_tuple_of(operands: &[Operand], ty: &TypeName) -> bool
     }
 }
 
-/// Whether these are the types of the results.
+/// Whether these are the types of the direct results.
 fn are_given(parts: &[TypeName], results: &[Given]) -> bool
-    ensures { result ≡ are_same_types parts.now (map result_type results.now) }
+    ensures { result ≡ are_same_types parts.now (direct_types results.now) }
 {
-    if parts.len() != results.len() {
-        return false;
-    }
-    for i in 0..parts.len() {
-        if !same_type(&parts[i], &results[i].ty) {
+    let mut rest = results;
+    for part in parts {
+        let Some(next) = next_direct(rest) else {
+            return false;
+        };
+        if !same_type(part, &next.given.ty) {
             return false;
         }
+        rest = next.rest;
     }
-    true
+    next_direct(rest).is_none()
 }
 
 fn is_given_by(results: &[Given], ty: &TypeName) -> bool
-    ensures { result ≡ is_same_type ty.now (together (map result_type results.now)) }
+    ensures { result ≡ is_same_type ty.now (direct_type results.now) }
 {
-    if results.len() == 1 {
-        return same_type(ty, &results[0].ty);
+    match only_direct_type(results) {
+        Some(own) => same_type(ty, own),
+        None => is_tuple_given(results, ty),
     }
-    is_tuple_given(results, ty)
 }
 
 fn is_tuple_given(results: &[Given], ty: &TypeName) -> bool
-    ensures { result ≡ is_same_type ty.now (type.Tuple (map result_type results.now)) }
+    ensures { result ≡ is_same_type ty.now (type.Tuple (direct_types results.now)) }
 {
     match ty {
         TypeName::Tuple(parts) => are_given(parts.get().as_slice(), results),

@@ -65,6 +65,8 @@ fn is_guaranteed(class_name: &Text, param: &Param) -> bool
         Passing::Owned => false,
         Passing::Guaranteed => is_named(class_name, &param.ty),
         Passing::Inout => false,
+        Passing::In => false,
+        Passing::InGuaranteed => false,
     }
 }
 

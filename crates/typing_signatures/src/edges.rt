@@ -9,7 +9,7 @@ ghost use Rattle.sil_types.specs.Typing.Values.{arg_type};
 
 use instruction_table::Op;
 use sil_ast::{BlockArg, Edge, Function, Inst, Operand};
-use sil_types::{args_of, same_type};
+use sil_types::same_type;
 
 /// Whether an edge of `br` or `cond_br` has other arguments than its block, in number or type.
 #[tactic(auto, unfolding(sil_types::specs::Typing::EdgeRules::has_wrong_edge_arguments))]
@@ -36,7 +36,7 @@ fn have_block_types(f: &Function, edges: &[Edge]) -> bool
 fn has_block_types(f: &Function, edge: &Edge) -> bool
     ensures { result ≡ rules.has_block_types f.now edge.now }
 {
-    have_types_of(edge.args.as_slice(), args_of(f, edge.block.0 as usize))
+    have_types_of(edge.args.as_slice(), f.args_of(edge.block.0 as usize))
 }
 
 /// Whether the types written at the operands are those of the arguments, in order.

@@ -1,57 +1,56 @@
-//! Whether the entry's arguments fit the parameters.
+//! Whether the entry has the arguments that the signature tells of.
 
 ghost use Rattle.std.specs.Prelude.{◌≡◌};
+ghost use Rattle.argument_conventions.specs.Arguments.{argument_type, arguments_of, as_told};
 ghost use Rattle.sil_ast.specs.declared.type_name.TypeName.TheVariants as type_of;
-ghost use Rattle.sil_types.specs.Typing.OperandTypes.{param_type};
 ghost use Rattle.sil_types.specs.Typing.Same.{all_pairs, is_same_type};
 ghost use Rattle.sil_types.specs.Typing.SignatureRules as rules;
 
-use sil_ast::{ArgKind, BlockArg, Form, Function, Param, Passing, TypeName};
-use sil_types::{args_of, is_external, same_type};
+use argument_conventions::{ArgumentConvention, FunctionArgument, all_arguments};
+use sil_ast::{ArgKind, BlockArg, Form, Function, Signature, TypeName};
+use sil_types::{is_external, same_type};
 
-/// Whether the function has no body, or an entry with an argument for each parameter, in order.
+/// Whether the function has no body, or an entry with an argument for each `@out` result and then for each parameter, in order.
 pub(crate) fn has_entry_arguments(f: &Function) -> bool
     ensures { result ≡ rules.has_entry_arguments f.now }
 {
     if is_external(f.form) {
         return true;
     }
-    are_arguments_for(f.form, f.signature.params.as_slice(), args_of(f, 0))
+    are_arguments_for(f.form, f.args_of(0), &f.signature)
 }
 
-fn are_arguments_for(form: Form, params: &[Param], args: &[BlockArg]) -> bool
-    ensures { result ≡ all_pairs (rules.is_argument_for form) params.now args.now }
+fn are_arguments_for(form: Form, args: &[BlockArg], signature: &Signature) -> bool
+    ensures { result ≡ all_pairs (rules.is_argument_for form) args.now (arguments_of signature.now) }
 {
-    let mut rest = args;
-    for param in params {
-        match rest {
-            [] => return false,
-            [arg, others @ ..] => {
-                if !is_argument_for(form, param, arg) {
-                    return false;
-                }
-                rest = others;
-            }
+    let mut rest = all_arguments(signature);
+    for arg in args {
+        let Some(next) = rest.next() else {
+            return false;
+        };
+        if !is_argument_for(form, arg, next.argument) {
+            return false;
         }
+        rest = next.rest;
     }
-    rest.is_empty()
+    rest.next().is_none()
 }
 
-fn is_argument_for(form: Form, param: &Param, arg: &BlockArg) -> bool
-    ensures { result ≡ rules.is_argument_for form param.now arg.now }
+fn is_argument_for(form: Form, arg: &BlockArg, argument: FunctionArgument<'_>) -> bool
+    ensures { result ≡ rules.is_argument_for form arg.now (as_told argument.entry) }
 {
-    is_param_type(&arg.ty, param) && is_annotated_for(form, param, arg)
+    is_argument_type(&arg.ty, argument) && is_annotated_for(form, arg, argument.convention)
 }
 
-/// Whether the type is what is passed for the parameter: for `@inout` an address.
-fn is_param_type(ty: &TypeName, param: &Param) -> bool
-    ensures { result ≡ is_same_type ty.now (param_type param.now) }
+/// Whether the type is that of what is handed over for the argument.
+fn is_argument_type(ty: &TypeName, argument: FunctionArgument<'_>) -> bool
+    ensures { result ≡ is_same_type ty.now (argument_type (as_told argument.entry)) }
 {
-    match param.passing {
-        Passing::Plain => same_type(ty, &param.ty),
-        Passing::Owned => same_type(ty, &param.ty),
-        Passing::Guaranteed => same_type(ty, &param.ty),
-        Passing::Inout => is_address_of(ty, &param.ty),
+    match argument.convention {
+        ArgumentConvention::Plain => same_type(ty, argument.ty),
+        ArgumentConvention::Owned => same_type(ty, argument.ty),
+        ArgumentConvention::Guaranteed => same_type(ty, argument.ty),
+        ArgumentConvention::Address(_) => is_address_of(ty, argument.ty),
     }
 }
 
@@ -64,12 +63,12 @@ fn is_address_of(ty: &TypeName, target: &TypeName) -> bool
     }
 }
 
-/// In ownership form the argument is annotated as the parameter; in lowered form it doesn't count.
-fn is_annotated_for(form: Form, param: &Param, arg: &BlockArg) -> bool
-    ensures { result ≡ rules.is_annotated_for form param.now arg.now }
+/// In ownership form the argument is annotated by its convention; in lowered form it doesn't count.
+fn is_annotated_for(form: Form, arg: &BlockArg, convention: ArgumentConvention) -> bool
+    ensures { result ≡ rules.is_annotated_for form arg.now convention }
 {
     match form {
-        Form::Ossa => is_same_kind(arg.kind, annotation_of(param.passing)),
+        Form::Ossa => is_same_kind(arg.kind, annotation_of(convention)),
         Form::Lowered => true,
         Form::External => true,
     }
@@ -81,13 +80,13 @@ fn is_same_kind(a: ArgKind, b: ArgKind) -> bool
     a == b
 }
 
-fn annotation_of(passing: Passing) -> ArgKind
-    ensures { result ≡ rules.annotation_of passing }
+fn annotation_of(convention: ArgumentConvention) -> ArgKind
+    ensures { result ≡ rules.annotation_of convention }
 {
-    match passing {
-        Passing::Plain => ArgKind::Plain,
-        Passing::Owned => ArgKind::Owned,
-        Passing::Guaranteed => ArgKind::Guaranteed,
-        Passing::Inout => ArgKind::Plain,
+    match convention {
+        ArgumentConvention::Plain => ArgKind::Plain,
+        ArgumentConvention::Owned => ArgKind::Owned,
+        ArgumentConvention::Guaranteed => ArgKind::Guaranteed,
+        ArgumentConvention::Address(_) => ArgKind::Plain,
     }
 }

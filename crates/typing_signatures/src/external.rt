@@ -4,7 +4,8 @@ ghost use Rattle.std.specs.Prelude.{◌≡◌};
 ghost use Rattle.std.specs.List.{list_all};
 ghost use Rattle.sil_types.specs.Typing.SignatureRules as rules;
 
-use sil_ast::{Function, Param, Passing};
+use argument_conventions::{ArgumentConvention, convention_of};
+use sil_ast::{Function, Param};
 use sil_types::is_external;
 use sil_types::shapes::is_integer;
 
@@ -36,10 +37,10 @@ fn are_plain_integers(params: &[Param]) -> bool
 fn is_plain_integer(param: &Param) -> bool
     ensures { result ≡ rules.is_plain_integer param.now }
 {
-    match param.passing {
-        Passing::Plain => is_integer(&param.ty),
-        Passing::Owned => false,
-        Passing::Guaranteed => false,
-        Passing::Inout => false,
+    match convention_of(param.passing) {
+        ArgumentConvention::Plain => is_integer(&param.ty),
+        ArgumentConvention::Owned => false,
+        ArgumentConvention::Guaranteed => false,
+        ArgumentConvention::Address(_) => false,
     }
 }

@@ -2,7 +2,7 @@
 
 ghost use Rattle.std.specs.Prelude.{◌≡◌, map, option_and_then};
 ghost use Rattle.std.specs.Option.{option_copied};
-ghost use Rattle.type_definitions.specs.Mentions.{result_type, together};
+ghost use Rattle.type_definitions.specs.Mentions.{direct_type, direct_types};
 ghost use Rattle.sil_types.specs.Typing.RowTypes.{written};
 ghost use Rattle.sil_types.specs.Typing.Same.{all_pairs, applied, is_same_type};
 ghost use Rattle.sil_types.specs.Typing.SignatureRules as rules;
@@ -10,11 +10,12 @@ ghost use Rattle.sil_types.specs.Typing.SignatureRules as rules;
 use crate::callees::callee;
 use crate::conventions::has_fitting_conventions;
 use crate::entry_arguments::has_entry_arguments;
+use argument_conventions::next_direct;
 use instruction_table::Op;
 use sil_ast::{FuncId, Function, Given, Inst, Module, Signature, TypeName};
-use sil_types::{TypeTable, same_signature, same_type};
+use sil_types::{TypeTable, only_direct_type, same_signature, same_type};
 
-/// Whether a convention doesn't fit its type, or the entry's arguments don't fit the parameters.
+/// Whether a convention doesn't fit its type, or the entry has other arguments than the signature tells of.
 #[tactic(auto, unfolding(sil_types::specs::Typing::SignatureRules::has_wrong_signature))]
 pub fn has_wrong_signature(table: &TypeTable, f: &Function) -> bool
     ensures { result ≡ rules.has_wrong_signature table.now f.now }
@@ -85,13 +86,13 @@ fn written_first(inst: &Inst) -> Option<&TypeName>
     }
 }
 
-/// Whether the results together have the type: one is its type, and other numbers of results are a tuple.
+/// Whether the direct results together have the type: one is its type, and other numbers of them are a tuple.
 fn is_given_type(results: &[Given], ty: &TypeName) -> bool
-    ensures { result ≡ is_same_type (together (map result_type results.now)) ty.now }
+    ensures { result ≡ is_same_type (direct_type results.now) ty.now }
 {
-    match results {
-        [only] => same_type(&only.ty, ty),
-        _ => match ty {
+    match only_direct_type(results) {
+        Some(only) => same_type(only, ty),
+        None => match ty {
             TypeName::Tuple(elements) => are_given_types(results, elements.get().as_slice()),
             _ => false,
         },
@@ -99,19 +100,17 @@ fn is_given_type(results: &[Given], ty: &TypeName) -> bool
 }
 
 fn are_given_types(results: &[Given], types: &[TypeName]) -> bool
-    ensures { result ≡ all_pairs applied (map is_same_type (map result_type results.now)) types.now }
+    ensures { result ≡ all_pairs applied (map is_same_type (direct_types results.now)) types.now }
 {
-    let mut rest = types;
-    for given in results {
-        match rest {
-            [] => return false,
-            [ty, others @ ..] => {
-                if !same_type(&given.ty, ty) {
-                    return false;
-                }
-                rest = others;
-            }
+    let mut rest = results;
+    for ty in types {
+        let Some(next) = next_direct(rest) else {
+            return false;
+        };
+        if !same_type(&next.given.ty, ty) {
+            return false;
         }
+        rest = next.rest;
     }
-    rest.is_empty()
+    next_direct(rest).is_none()
 }

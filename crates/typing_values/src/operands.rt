@@ -3,11 +3,12 @@
 ghost use Rattle.std.specs.Prelude.{◌≡◌, ◌&&◌, [], ◌∷◌, drop, is_some, map, option_map, take};
 ghost use Rattle.std.specs.List.{flat_map, list_all};
 ghost use Rattle.std.specs.Option.{option_copied, option_to_list};
+ghost use Rattle.argument_conventions.specs.Arguments.{argument_type, as_told};
 ghost use Rattle.typing_rows.specs.inner.Views.{view_told};
 ghost use Rattle.sil_ast.specs.declared.type_name.TypeName.TheVariants as type;
 ghost use Rattle.sil_types.specs.Typing.Builtins.{bit};
 ghost use Rattle.sil_types.specs.Typing.OperandTypes as spec;
-ghost use Rattle.sil_types.specs.Typing.OperandTypes.{param_type, param_types};
+ghost use Rattle.sil_types.specs.Typing.OperandTypes.{argument_types};
 ghost use Rattle.sil_types.specs.Typing.Same.{all_pairs};
 ghost use Rattle.sil_types.specs.Typing.Values as values;
 ghost use Rattle.type_definitions.specs.Declarations.{Declarations};
@@ -15,8 +16,9 @@ ghost use Rattle.typing_values.specs.inner.Given.{given_count};
 ghost use Rattle.typing_values.specs.inner.Told.{types_told};
 
 use crate::views::{is_address_view, is_bit_view};
+use argument_conventions::{ArgumentConvention, FunctionArgument, all_arguments};
 use instruction_table::{BareOperands, bare_operands_of};
-use sil_ast::{Edge, Inst, Operand, Param, Passing, TypeName};
+use sil_ast::{Edge, Inst, Operand, Signature, TypeName};
 use sil_types::shapes::{object_at, unowned_at, weak_at};
 use sil_types::written;
 use typing_rows::TypeView;
@@ -108,42 +110,51 @@ fn has_address_type(types: &[Option<TypeView<'_>>], operand: &Operand, target: &
     }
 }
 
-/// Whether the operand's value has the type of what is passed for the parameter.
-fn has_param_type(types: &[Option<TypeView<'_>>], operand: &Operand, param: &Param) -> bool
-    ensures { result ≡ spec.has_type (types_told types.now) operand.now (param_type param.now) }
+/// Whether the operand's value has the type of what is handed over for the argument.
+fn has_argument_type(
+    types: &[Option<TypeView<'_>>],
+    operand: &Operand,
+    argument: FunctionArgument<'_>,
+) -> bool
+    ensures { result ≡ spec.has_type (types_told types.now) operand.now (argument_type (as_told argument.entry)) }
 {
-    match param.passing {
-        Passing::Plain => has_type(types, operand, &param.ty),
-        Passing::Owned => has_type(types, operand, &param.ty),
-        Passing::Guaranteed => has_type(types, operand, &param.ty),
-        Passing::Inout => has_address_type(types, operand, &param.ty),
+    match argument.convention {
+        ArgumentConvention::Plain => has_type(types, operand, argument.ty),
+        ArgumentConvention::Owned => has_type(types, operand, argument.ty),
+        ArgumentConvention::Guaranteed => has_type(types, operand, argument.ty),
+        ArgumentConvention::Address(_) => has_address_type(types, operand, argument.ty),
     }
 }
 
-/// Whether the operands behind the first have the types of the parameters, one for each.
-fn are_arguments(types: &[Option<TypeView<'_>>], operands: &[Operand], params: &[Param]) -> bool
-    ensures { result ≡ all_pairs (spec.has_type (types_told types.now)) (drop 1 operands.now) (map param_type params.now) }
+/// Whether these operands have the types of the arguments, one for each: of the `@out` results, and then of the parameters.
+fn are_arguments(
+    types: &[Option<TypeView<'_>>],
+    operands: &[Operand],
+    signature: &Signature,
+) -> bool
+    ensures { result ≡ all_pairs (spec.has_type (types_told types.now)) operands.now (argument_types signature.now) }
 {
-    let mut rest = operands.get(1..).unwrap_or(&[]);
-    for param in params {
-        let Some((operand, more)) = rest.split_first() else {
+    let mut rest = all_arguments(signature);
+    for operand in operands {
+        let Some(next) = rest.next() else {
             return false;
         };
-        if !has_param_type(types, operand, param) {
+        if !has_argument_type(types, operand, next.argument) {
             return false;
         }
-        rest = more;
+        rest = next.rest;
     }
-    rest.is_empty()
+    rest.next().is_none()
 }
 
 fn are_as_called(types: &[Option<TypeView<'_>>], inst: &Inst) -> bool
-    ensures { result ≡ all_pairs (spec.has_type (types_told types.now)) (drop 1 inst.now.operands) (flat_map param_types (option_to_list inst.now.signature)) }
+    ensures { result ≡ all_pairs (spec.has_type (types_told types.now)) (drop 1 inst.now.operands)
+        (flat_map argument_types (option_to_list inst.now.signature)) }
 {
-    let operands = inst.operands.as_slice();
+    let handed_over = inst.operands.as_slice().get(1..).unwrap_or(&[]);
     match &inst.signature {
-        Some(signature) => are_arguments(types, operands, signature.get().params.as_slice()),
-        None => operands.len() <= 1,
+        Some(signature) => are_arguments(types, handed_over, signature.get()),
+        None => handed_over.is_empty(),
     }
 }
 

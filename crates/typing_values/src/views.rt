@@ -1,15 +1,15 @@
 //! Whether what a view tells is `Builtin.Int1`, or the address of a location that holds a type.
 
-ghost use Rattle.std.specs.Prelude.{◌≡◌, map};
+ghost use Rattle.std.specs.Prelude.{◌≡◌};
 ghost use Rattle.typing_rows.specs.inner.Views.{view_told};
 ghost use Rattle.sil_ast.specs.declared.type_name.TypeName.TheVariants as type;
 ghost use Rattle.sil_types.specs.Typing.Builtins.{bit};
 ghost use Rattle.sil_types.specs.Typing.Same.{is_same_type};
-ghost use Rattle.type_definitions.specs.Mentions.{result_type, together};
+ghost use Rattle.type_definitions.specs.Mentions.{direct_type};
 
 use sil_ast::{Given, TypeName};
 use sil_types::shapes::is_bit;
-use sil_types::{is_unowned_of, is_weak_of, same_type};
+use sil_types::{is_unowned_of, is_weak_of, only_direct_type, same_type};
 use typing_rows::TypeView;
 
 fn is_bit_type(ty: &TypeName) -> bool
@@ -19,11 +19,11 @@ fn is_bit_type(ty: &TypeName) -> bool
 }
 
 fn is_bit_given(results: &[Given]) -> bool
-    ensures { result ≡ is_same_type bit (together (map result_type results.now)) }
+    ensures { result ≡ is_same_type bit (direct_type results.now) }
 {
-    match results {
-        [given] => is_bit_type(&given.ty),
-        _ => false,
+    match only_direct_type(results) {
+        Some(ty) => is_bit_type(ty),
+        None => false,
     }
 }
 
@@ -51,11 +51,11 @@ fn is_address(target: &TypeName, ty: &TypeName) -> bool
 }
 
 fn is_address_given(target: &TypeName, results: &[Given]) -> bool
-    ensures { result ≡ is_same_type (type.Address target.now) (together (map result_type results.now)) }
+    ensures { result ≡ is_same_type (type.Address target.now) (direct_type results.now) }
 {
-    match results {
-        [given] => is_address(target, &given.ty),
-        _ => false,
+    match only_direct_type(results) {
+        Some(ty) => is_address(target, ty),
+        None => false,
     }
 }
 

@@ -1,8 +1,9 @@
 -- 203, 210 and 211: what edges bring to blocks.
-use Rattle.std.specs.Prelude.{ℕ, List, [], Bool, false, not, ◌==◌, Option, Some, None, drop, map, slice_get}
+use Rattle.std.specs.Prelude.{List, Bool, false, not, ◌==◌, drop, map}
 use Rattle.std.specs.List.{list_all, list_any}
 use Rattle.instruction_table.specs.declared.op.Op.{Op}
 use Rattle.instruction_table.specs.declared.op.Op.TheVariants as op
+use Rattle.sil_ast.specs.Blocks.{args_of}
 use Rattle.sil_ast.specs.declared.function.Block.{Block}
 use Rattle.sil_ast.specs.declared.function.BlockArg.{BlockArg}
 use Rattle.sil_ast.specs.declared.function.Function.{Function}
@@ -12,14 +13,6 @@ use Rattle.sil_types.specs.Typing.RowTypes.{all_written}
 use Rattle.sil_types.specs.Typing.Same.{are_same_types}
 use Rattle.sil_types.specs.Typing.Shapes.{is_address}
 use Rattle.sil_types.specs.Typing.Values.{arg_type}
-
-abbrev pub args_in : Option Block → List BlockArg
-args_in None = []
-args_in (Some b) = b.args
-
--- the arguments of the block with this number
-abbrev pub args_of : Function → ℕ → List BlockArg
-args_of f b = args_in (slice_get f.blocks b)
 
 -- the edge's arguments have the types of its block's, in order; in numbered form each of them has its type written
 abbrev pub has_block_types : Function → Edge → Bool

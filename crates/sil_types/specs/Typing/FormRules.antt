@@ -7,6 +7,7 @@ use Rattle.instruction_table.specs.declared.entries.InForms.{InForms}
 use Rattle.instruction_table.specs.declared.entries.InForms.TheVariants.{BothForms, OwnershipForm, LoweredForm, ByWord, ByStorage}
 use Rattle.instruction_table.specs.declared.entries.TypeWords.{TypeWords}
 use Rattle.instruction_table.specs.declared.entries.TypeWords.TheVariants.{AnyType, ReadWords, WriteWords}
+use Rattle.sil_ast.specs.Blocks.{args_of}
 use Rattle.sil_ast.specs.declared.function.ArgKind.{ArgKind}
 use Rattle.sil_ast.specs.declared.function.ArgKind.TheVariants as kind
 use Rattle.sil_ast.specs.declared.function.BlockArg.{BlockArg}
@@ -19,7 +20,6 @@ use Rattle.sil_ast.specs.declared.inst.Qualifier.TheVariants as word
 use Rattle.sil_ast.specs.declared.module.Module.{Module}
 use Rattle.sil_ast.specs.declared.type_name.TypeName.{TypeName}
 use Rattle.type_definitions.specs.Declarations.{Declarations}
-use Rattle.sil_types.specs.Typing.EdgeRules.{args_of}
 use Rattle.sil_types.specs.Typing.RowTypes.{passes, written}
 use Rattle.sil_types.specs.Typing.Shapes.{is_nontrivial, is_storage, is_trivial_object, target}
 use Rattle.sil_types.specs.Typing.SignatureRules.{is_external}

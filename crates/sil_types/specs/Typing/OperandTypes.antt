@@ -8,12 +8,9 @@ use Rattle.instruction_table.specs.declared.entries.BareOperands.TheVariants.{No
 use Rattle.sil_ast.specs.declared.inst.Edge.{Edge}
 use Rattle.sil_ast.specs.declared.inst.Inst.{Inst}
 use Rattle.sil_ast.specs.declared.operands.Operand.{Operand}
-use Rattle.sil_ast.specs.declared.signature.Param.{Param}
-use Rattle.sil_ast.specs.declared.signature.Passing.{Passing}
-use Rattle.sil_ast.specs.declared.signature.Passing.TheVariants as passing
 use Rattle.sil_ast.specs.declared.signature.Signature.{Signature}
 use Rattle.sil_ast.specs.declared.type_name.TypeName.{TypeName}
-use Rattle.sil_ast.specs.declared.type_name.TypeName.TheVariants as type
+use Rattle.argument_conventions.specs.Arguments.{argument_type, arguments_of}
 use Rattle.type_definitions.specs.Declarations.{Declarations}
 use Rattle.sil_types.specs.Typing.Builtins.{bit}
 use Rattle.sil_types.specs.Typing.RowTypes.{keeps_row, passes, written}
@@ -39,18 +36,9 @@ are_as_written types os = list_all (is_as_written types) os
 abbrev pub edge_is_as_written : List (Option TypeName) → Edge → Bool
 edge_is_as_written types e = are_as_written types e.args
 
-abbrev pub passed_as : Passing → TypeName → TypeName
-passed_as passing.Plain t = t
-passed_as passing.Owned t = t
-passed_as passing.Guaranteed t = t
-passed_as passing.Inout t = type.Address t
-
--- the type of what is passed for a parameter: for `@inout` an address
-abbrev pub param_type : Param → TypeName
-param_type p = passed_as p.passing p.ty
-
-abbrev pub param_types : Signature → List TypeName
-param_types s = map param_type s.params
+-- the types of what is handed over in a call
+abbrev pub argument_types : Signature → List TypeName
+argument_types s = map argument_type (arguments_of s)
 
 -- the operands that have no written type, but for a function that is called
 abbrev pub bare_by : BareOperands → List Operand → List Operand
@@ -68,7 +56,7 @@ asked_by StoredValue i = option_to_list (option_and_then object_at (written 1 i)
 asked_by WeakValue i = option_to_list (option_and_then weak_at (written 1 i))
 asked_by UnownedValue i = option_to_list (option_and_then unowned_at (written 1 i))
 asked_by Condition i = bit ∷ []
-asked_by Arguments i = flat_map param_types (option_to_list i.signature)
+asked_by Arguments i = flat_map argument_types (option_to_list i.signature)
 
 abbrev pub are_as_asked_by : BareOperands → List (Option TypeName) → Inst → Bool
 are_as_asked_by bare types i = all_pairs (has_type types) (bare_by bare i.operands) (asked_by bare i)

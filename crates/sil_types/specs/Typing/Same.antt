@@ -49,6 +49,8 @@ is_same_passing passing.Plain passing.Plain = true
 is_same_passing passing.Owned passing.Owned = true
 is_same_passing passing.Guaranteed passing.Guaranteed = true
 is_same_passing passing.Inout passing.Inout = true
+is_same_passing passing.In passing.In = true
+is_same_passing passing.InGuaranteed passing.InGuaranteed = true
 is_same_passing _ _ = false
 
 abbrev pub is_same_flag : Bool → Bool → Bool
@@ -61,7 +63,7 @@ abbrev pub is_same_param : Param → Param → Bool
 is_same_param p q = is_same_passing p.passing q.passing && is_same_type p.ty q.ty
 
 abbrev pub is_same_given : Given → Given → Bool
-is_same_given r s = is_same_flag r.owned s.owned && is_same_type r.ty s.ty
+is_same_given r s = is_same_flag r.owned s.owned && is_same_flag r.out s.out && is_same_type r.ty s.ty
 
 -- the two signatures are the same, word for word
 abbrev pub is_same_signature : Signature → Signature → Bool

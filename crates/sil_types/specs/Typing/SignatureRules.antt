@@ -4,6 +4,7 @@ use Rattle.std.specs.List.{list_all}
 use Rattle.std.specs.Option.{option_to_list}
 use Rattle.instruction_table.specs.declared.op.Op.{Op}
 use Rattle.instruction_table.specs.declared.op.Op.TheVariants as op
+use Rattle.sil_ast.specs.Blocks.{args_of}
 use Rattle.sil_ast.specs.declared.function.ArgKind.{ArgKind}
 use Rattle.sil_ast.specs.declared.function.ArgKind.TheVariants as kind
 use Rattle.sil_ast.specs.declared.function.BlockArg.{BlockArg}
@@ -17,19 +18,19 @@ use Rattle.sil_ast.specs.declared.place.FuncId.{FuncId}
 use Rattle.sil_ast.specs.declared.signature.Convention.TheVariants.{Method}
 use Rattle.sil_ast.specs.declared.signature.Given.{Given}
 use Rattle.sil_ast.specs.declared.signature.Param.{Param}
-use Rattle.sil_ast.specs.declared.signature.Passing.{Passing}
 use Rattle.sil_ast.specs.declared.signature.Passing.TheVariants as passing
 use Rattle.sil_ast.specs.declared.signature.Signature.{Signature}
 use Rattle.sil_ast.specs.declared.type_name.TypeName.{TypeName}
 use Rattle.sil_ast.specs.declared.type_name.TypeName.TheVariants as type
 use Rattle.sil_ast.specs.declared.vtable.DeinitEntry.{DeinitEntry}
 use Rattle.sil_ast.specs.declared.vtable.Vtable.{Vtable}
+use Rattle.argument_conventions.specs.Arguments.{Told, argument_type, arguments_of, convention_of}
+use Rattle.argument_conventions.specs.declared.convention.ArgumentConvention.{ArgumentConvention}
+use Rattle.argument_conventions.specs.declared.convention.ArgumentConvention.TheVariants as convention
 use Rattle.numbered_form.specs.Names.{Name}
 use Rattle.type_definitions.specs.Declarations.{Declarations}
 use Rattle.type_definitions.specs.Measures.{is_trivial}
 use Rattle.type_definitions.specs.Mentions.{given_type}
-use Rattle.sil_types.specs.Typing.EdgeRules.{args_of}
-use Rattle.sil_types.specs.Typing.OperandTypes.{param_type}
 use Rattle.sil_types.specs.Typing.RowTypes.{passes, written}
 use Rattle.sil_types.specs.Typing.Same.{all_pairs, is_same_flag, is_same_signature, is_same_type}
 use Rattle.sil_types.specs.Typing.Shapes.{is_integer, is_nontrivial, is_object, is_trivial_object}
@@ -59,47 +60,47 @@ is_external Ossa = false
 is_external Lowered = false
 is_external External = true
 
-abbrev pub is_plain_passing : Passing → Bool
-is_plain_passing passing.Plain = true
-is_plain_passing passing.Owned = false
-is_plain_passing passing.Guaranteed = false
-is_plain_passing passing.Inout = false
+abbrev pub is_plain : ArgumentConvention → Bool
+is_plain convention.Plain = true
+is_plain convention.Owned = false
+is_plain convention.Guaranteed = false
+is_plain (convention.Address c) = false
 
 abbrev pub is_plain_integer : Param → Bool
-is_plain_integer p = is_plain_passing p.passing && is_integer p.ty
+is_plain_integer p = is_plain (convention_of p.passing) && is_integer p.ty
 
 abbrev pub gives_nothing : List Given → Bool
 gives_nothing [] = true
 gives_nothing (r ∷ rs) = false
 
--- 205: a function without a body has a parameter that isn't a plain builtin integer, or a result
+-- 205: a function without a body has a parameter that isn't a plain builtin integer, or a result, with `@out` or without
 unfoldable pub is_no_output_call : Function → Bool
 is_no_output_call f = is_external f.form && not (list_all is_plain_integer f.signature.params && gives_nothing f.signature.results)
 
 -- 206 at a function
 
-abbrev pub fits_passing : Declarations → Passing → TypeName → Bool
-fits_passing d passing.Plain t = is_trivial_object d t
-fits_passing d passing.Owned t = is_nontrivial d t
-fits_passing d passing.Guaranteed t = is_nontrivial d t
-fits_passing d passing.Inout t = is_object t
+abbrev pub fits_by : Declarations → ArgumentConvention → TypeName → Bool
+fits_by d convention.Plain t = is_trivial_object d t
+fits_by d convention.Owned t = is_nontrivial d t
+fits_by d convention.Guaranteed t = is_nontrivial d t
+fits_by d (convention.Address c) t = is_object t
 
--- `@owned` and `@guaranteed` fit types that aren't trivial, no word those that are, and `@inout` each object's type
+-- `@owned` and `@guaranteed` fit types that aren't trivial, no word those that are, and an address convention each object's type
 abbrev pub fits_param : Declarations → Param → Bool
-fits_param d p = fits_passing d p.passing p.ty
+fits_param d p = fits_by d (convention_of p.passing) p.ty
 
--- a result has `@owned` exactly where its type isn't trivial
+-- `@out` fits each object's type, and another result has `@owned` exactly where its type isn't trivial
 abbrev pub fits_result : Declarations → Given → Bool
-fits_result d r = is_object r.ty && is_same_flag r.owned (not (is_trivial d r.ty))
+fits_result d r = is_object r.ty && (r.out || is_same_flag r.owned (not (is_trivial d r.ty)))
 
 abbrev pub has_fitting_conventions : Declarations → Signature → Bool
 has_fitting_conventions d s = list_all (fits_param d) s.params && list_all (fits_result d) s.results
 
-abbrev pub annotation_of : Passing → ArgKind
-annotation_of passing.Plain = kind.Plain
-annotation_of passing.Owned = kind.Owned
-annotation_of passing.Guaranteed = kind.Guaranteed
-annotation_of passing.Inout = kind.Plain
+abbrev pub annotation_of : ArgumentConvention → ArgKind
+annotation_of convention.Plain = kind.Plain
+annotation_of convention.Owned = kind.Owned
+annotation_of convention.Guaranteed = kind.Guaranteed
+annotation_of (convention.Address c) = kind.Plain
 
 abbrev pub is_same_kind : ArgKind → ArgKind → Bool
 is_same_kind kind.Plain kind.Plain = true
@@ -107,19 +108,20 @@ is_same_kind kind.Owned kind.Owned = true
 is_same_kind kind.Guaranteed kind.Guaranteed = true
 is_same_kind _ _ = false
 
--- in ownership form an entry argument is annotated as its parameter; in lowered form its type alone counts
-abbrev pub is_annotated_for : Form → Param → BlockArg → Bool
-is_annotated_for Ossa p a = is_same_kind a.kind (annotation_of p.passing)
-is_annotated_for Lowered p a = true
-is_annotated_for External p a = true
+-- in ownership form an entry argument is annotated by its convention; in lowered form its type alone counts
+abbrev pub is_annotated_for : Form → BlockArg → ArgumentConvention → Bool
+is_annotated_for Ossa b c = is_same_kind b.kind (annotation_of c)
+is_annotated_for Lowered b c = true
+is_annotated_for External b c = true
 
-abbrev pub is_argument_for : Form → Param → BlockArg → Bool
-is_argument_for form p a = is_same_type a.ty (param_type p) && is_annotated_for form p a
+-- an argument of the entry is the one that the signature tells of
+abbrev pub is_argument_for : Form → BlockArg → Told → Bool
+is_argument_for form b a = is_same_type b.ty (argument_type a) && is_annotated_for form b a.convention
 
 abbrev pub has_entry_arguments : Function → Bool
-has_entry_arguments f = is_external f.form || all_pairs (is_argument_for f.form) f.signature.params (args_of f 0)
+has_entry_arguments f = is_external f.form || all_pairs (is_argument_for f.form) (args_of f 0) (arguments_of f.signature)
 
--- 206: a convention doesn't fit its type, or the entry's arguments don't fit the parameters
+-- 206: a convention doesn't fit its type, or the entry has other arguments than the signature tells of
 unfoldable pub has_wrong_signature : Declarations → Function → Bool
 has_wrong_signature d f = not (has_fitting_conventions d f.signature && has_entry_arguments f)
 

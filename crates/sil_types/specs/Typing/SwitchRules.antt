@@ -5,6 +5,7 @@ use Rattle.std.specs.List.{flat_map, list_all, list_any, filter_map, range_with_
 use Rattle.std.specs.Option.{option_to_list}
 use Rattle.instruction_table.specs.declared.op.Op.{Op}
 use Rattle.instruction_table.specs.declared.op.Op.TheVariants as op
+use Rattle.sil_ast.specs.Blocks.{args_of}
 use Rattle.sil_ast.specs.declared.function.Block.{Block}
 use Rattle.sil_ast.specs.declared.function.BlockArg.{BlockArg}
 use Rattle.sil_ast.specs.declared.function.Form.{Form}
@@ -14,7 +15,6 @@ use Rattle.sil_ast.specs.declared.inst.Inst.{Inst}
 use Rattle.sil_ast.specs.declared.type_name.TypeName.{TypeName}
 use Rattle.type_definitions.specs.Declarations.{Declarations}
 use Rattle.type_definitions.specs.Lookups.{Payload}
-use Rattle.sil_types.specs.Typing.EdgeRules.{args_of}
 use Rattle.sil_types.specs.Typing.FormRules.{is_lowered}
 use Rattle.sil_types.specs.Typing.RowTypes.{written}
 use Rattle.sil_types.specs.Typing.Same.{are_same_types, is_same_type}

@@ -1,6 +1,6 @@
 -- Measures counted just past the limits, and what some of them come to.
 -- A number above its limit is kept as the limit and one. Sums, maxima and comparisons with the limit don't tell such numbers apart.
-use Rattle.std.specs.Prelude.{ℕ, ◌+◌, List, Bool, ◌&&◌, min, max, unwrap_or, slice_get}
+use Rattle.std.specs.Prelude.{ℕ, ◌+◌, List, ◌&&◌, fold, map, min, max, unwrap_or, slice_get}
 use Rattle.type_definitions.specs.Measures.{all_trivial, all_leaves, most_leaves, most_depth, measured, unmeasured}
 use Rattle.type_definitions.specs.declared.measure.Measure.{Measure}
 use Rattle.type_measures.specs.declared.gathered.Gathered.{Gathered}
@@ -29,6 +29,9 @@ with_member g m = record {
   most = max g.most m.leaves;
   depth = max g.depth m.depth;
 }
+
+abbrev pub with_members : Gathered → List Measure → Gathered
+with_members g ms = fold with_member g (map capped ms)
 
 abbrev pub as_members : Gathered → Measure
 as_members g = measured g.trivial g.leaves (min (g.depth + 1) MOST_DEPTH)

@@ -3,12 +3,12 @@ use Rattle.std.specs.Prelude.{◌≡◌, ◌≢◌, ⊤, ℕ, All, length}
 use Rattle.instruction_table.specs.Forms.{ending_of}
 use Rattle.instruction_table.specs.declared.entries.Ending.{Ending}
 use Rattle.instruction_table.specs.declared.entries.Ending.TheVariants as ending
+use Rattle.sil_ast.specs.Blocks.{args_of}
 use Rattle.sil_ast.specs.declared.function.Block.{Block}
 use Rattle.sil_ast.specs.declared.function.Function.{Function}
 use Rattle.sil_ast.specs.declared.inst.Edge.{Edge}
 use Rattle.numbered_form.specs.Numbering.{IsFunctionNumbered}
 use Rattle.sil_cfg.specs.inner.Build.{HasGraph}
-use Rattle.sil_types.specs.Typing.EdgeRules.{args_of}
 
 -- the edge goes to another block than the entry
 abbrev pub AvoidsEntry : Edge → Type 0

@@ -2,7 +2,7 @@
 use Rattle.std.specs.Prelude.{List, [], ◌∷◌, Option, Some, None, map}
 use Rattle.sil_ast.specs.declared.type_name.TypeName.{TypeName}
 use Rattle.sil_ast.specs.declared.type_name.TypeName.TheVariants as type
-use Rattle.type_definitions.specs.Mentions.{result_type, together}
+use Rattle.type_definitions.specs.Mentions.{direct_type}
 use Rattle.sil_types.specs.Typing.RowTypes.{all_written}
 use Rattle.sil_types.specs.Typing.Shapes.{field_type}
 use Rattle.typing_rows.specs.declared.view.Made.{Made}
@@ -18,7 +18,7 @@ view_told (AddressOf t) = type.Address t.now
 view_told (WeakAddress t) = type.Address (type.Weak t.now)
 view_told (UnownedAddress t) = type.Address (type.Unowned t.now)
 view_told (TupleOf operands) = type.Tuple (all_written operands.now)
-view_told (GivenBy results) = together (map result_type results.now)
+view_told (GivenBy results) = direct_type results.now
 
 -- the types of the results, in order
 abbrev pub made_told : Made → List TypeName

@@ -1,4 +1,4 @@
-use Rattle.std.proofs.Common.{◌≡◌, take, map}
+use Rattle.std.proofs.Common.{◌≡◌, take}
 use Rattle.std.specs.List.{flat_map}
 use Rattle.type_definitions.specs.Contained.{payload_types, names_in, place_list}
 use Rattle.type_definitions.specs.Declarations.{all_names}

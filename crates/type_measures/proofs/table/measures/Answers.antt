@@ -1,4 +1,4 @@
-use Rattle.std.proofs.Common.{◌≡◌, ◌<◌, ap, sym, ◌∙◌, subst, arith, length, get_or}
+use Rattle.std.proofs.Common.{◌≡◌, ◌<◌, ap, ◌∙◌, arith, length, get_or}
 use Rattle.std.proofs.lemmas.List.{length-map, length-set}
 use Rattle.type_definitions.specs.Contained.{containment, held_places}
 use Rattle.type_definitions.specs.Declarations.{all_decls, all_names}

@@ -1,10 +1,12 @@
 use Rattle.std.proofs.Common.{◌≡◌, drop, map}
-use Rattle.sil_types.specs.Typing.OperandTypes.{has_type, param_type}
+use Rattle.argument_conventions.specs.Arguments.{argument_type}
+use Rattle.argument_conventions.specs.inner.Remaining.{remaining_told}
+use Rattle.sil_types.specs.Typing.OperandTypes.{argument_types, has_type}
 use Rattle.sil_types.specs.Typing.Same.{all_pairs}
 use Rattle.typing_values.specs.inner.Told.{types_told}
 use Rattle.typing_values.proofs.operands.are_arguments.Given as goal
 
-abbrev pub invariant-loop-param : goal.invariant-loop-param
-invariant-loop-param l =
-    all_pairs (has_type (types_told l.types)) (drop 1 l.operands) (map param_type l.params)
-    ≡ all_pairs (has_type (types_told l.types)) l.rest (map param_type (drop l.param-index l.params))
+abbrev pub invariant-loop-operand : goal.invariant-loop-operand
+invariant-loop-operand l =
+    all_pairs (has_type (types_told l.types)) l.operands (argument_types l.signature)
+    ≡ all_pairs (has_type (types_told l.types)) (drop l.operand-index l.operands) (map argument_type (remaining_told l.rest))
