@@ -1,9 +1,10 @@
--- Facts by depth: what is known at one depth is known at each greater one.
+-- Facts that are told by those of operands: each value has one, and what is known at one depth is known at each greater one.
 use Rattle.std.proofs.Common.{◌≡◌, ℕ, zero, suc, ◌+◌, ◌<◌, List, [], ◌∷◌, length, take, refl, sym, ap, ap₂, ◌∙◌, subst, arith, Bool, true, false, cond, Option, Some, None}
-use Rattle.std.specs.Prelude.{All, is_some, unwrap_or, slice_get, ◌&&◌, ◌||◌}
+use Rattle.std.specs.Prelude.{All, Contains, is_some, unwrap_or, slice_get, ◌&&◌, ◌||◌}
 use Rattle.std.specs.List.{list_any, list_all}
 use Rattle.std.proofs.lemmas.Option.{none-some, same_Some}
-use Rattle.std.proofs.lemmas.List.Elements.{All-head, All-tail}
+use Rattle.std.proofs.lemmas.List.Sums.{AllPass-from_list_all}
+use Rattle.std.proofs.lemmas.List.Elements.{All-contains, All-head, All-tail, Contains-append_right}
 use Rattle.ownership_chains.specs.declared.definition.Definition.{Definition}
 use Rattle.type_definitions.specs.declared.kind.Kind.{Kind}
 use Rattle.type_definitions.specs.declared.kind.Kind.TheVariants as kind
@@ -13,13 +14,14 @@ use Rattle.ownership_chains.specs.declared.facts.Facts.{Facts}
 use Rattle.sil_ast.specs.declared.place.ValueId.{ValueId}
 use Rattle.ownership_chains.specs.Chains.{operands_at, IsInRange}
 use Rattle.ownership_chains.specs.Facts.{origin_at, facts_with, forwarded, bases_together, by_kind, by_operands, told_by, is_known}
-use Rattle.ownership_chains.specs.Facts.{known_or, told_from, told_in, told_at, Has, is_owned, is_guaranteed, has, handed_on}
+use Rattle.ownership_chains.specs.Facts.{known_or, told_at, AreFactsOf, told, is_owned, is_guaranteed, has, handed_on}
+use Rattle.ownership_chains.specs.Steps.{told_from, told_in}
 use Rattle.ownership_chains.specs.inner.Outcome.{IsExact}
 use Rattle.ownership_chains.specs.inner.Settling.{IsBelow, IsSound, AreStuck, IsListed, AreListed}
 use Rattle.ownership_chains.proofs.Listed.{listed_same, listed_listed, alone_listed, none_listed}
 
 -- two tellings agree on the operands
-abbrev Agree : (ValueId → Facts) → (ValueId → Facts) → List ValueId → Type 0
+abbrev pub Agree : (ValueId → Facts) → (ValueId → Facts) → List ValueId → Type 0
 Agree at to [] = Unit {0}
 Agree at to (w ∷ ops) = (at w ≡ to w) × Agree at to ops
 
@@ -56,7 +58,7 @@ told_agree count v at to ops Same h = by_operands_agree count v at to (take 1 op
 told_agree count v at to ops Lent h = ap (facts_with kind.Guaranteed) (together_agree count true at to ops h)
 told_agree count v at to ops Address h = ap (facts_with kind.Plain) (together_agree count false at to ops h)
 
-pub both_true : (a b : Bool) → (a && b) ≡ true → (a ≡ true) × (b ≡ true)
+both_true : (a b : Bool) → (a && b) ≡ true → (a ≡ true) × (b ≡ true)
 both_true true b h = (refl, h)
 both_true false b h = absurd (cc)
 
@@ -77,7 +79,7 @@ all_agree known more (w ∷ ops) below h = at (known w) refl (all_agree known mo
         (ap₂ (λ a b. a && b) (ap is_some m) rest.0, (ap (λ o. unwrap_or o (facts_with kind.Plain [])) (e ∙ sym m), rest.1))
 
 -- the facts come from operands that are all known
-pub from_all : (defs : List Definition) (known : ValueId → Option Facts) (v : ValueId) (f : Facts) → told_from defs known v ≡ Some f →
+from_all : (defs : List Definition) (known : ValueId → Option Facts) (v : ValueId) (f : Facts) → told_from defs known v ≡ Some f →
     (list_all (is_known known) (operands_at defs v) ≡ true) × (told_by (length defs) v (known_or known) (operands_at defs v) (origin_at defs v) ≡ f)
 from_all defs known v f h = at (list_all (is_known known) (operands_at defs v)) refl
   where
@@ -108,46 +110,62 @@ deeper_by defs n (suc k) v f h =
     let e : suc (n + k) ≡ n + suc k = omega arith in
     subst (λ m. told_in defs m v ≡ Some f) e (deeper defs (n + k) v f (deeper_by defs n k v f h))
 
--- a value has one kind and one set of bases
-pub determined : (defs : List Definition) (v : ValueId) (f g : Facts) → Has defs v f → Has defs v g → f ≡ g
-determined defs v f g a b =
-    let one : told_in defs (a.0 + b.0) v ≡ Some f = deeper_by defs a.0 b.0 v f a.1 in
-    let e : b.0 + a.0 ≡ a.0 + b.0 = omega arith in
-    let two : told_in defs (a.0 + b.0) v ≡ Some g = subst (λ m. told_in defs m v ≡ Some g) e (deeper_by defs b.0 a.0 v g b.1) in
-    same_Some f g (sym one ∙ two)
-
--- where nothing can be found of any value that isn't known, none of these has facts
-all_found : (defs : List Definition) (known : ValueId → Option Facts) (n : ℕ) (ops : List ValueId) → All (λ w. w.0 < length defs) ops →
-    ((w : ValueId) → w.0 < length defs → known w ≡ None → told_in defs n w ≡ None) → list_all (is_known (told_in defs n)) ops ≡ true → list_all (is_known known) ops ≡ true
-all_found defs known n [] range none h = refl
-all_found defs known n (w ∷ ops) range none h = at (known w) refl (all_found defs known n ops (All-tail (λ x. x.0 < length defs) w ops range) none parts.1)
+-- the operands that are all known have facts
+all_at : (known : ValueId → Option Facts) (ops : List ValueId) (w : ValueId) → list_all (is_known known) ops ≡ true → Contains ops w → (f : Facts) × (known w ≡ Some f)
+all_at known ops w h c = at (known w) refl
   where
-    parts : (is_some (told_in defs n w) ≡ true) × (list_all (is_known (told_in defs n)) ops ≡ true)
-    parts = both_true (is_some (told_in defs n w)) (list_all (is_known (told_in defs n)) ops) h
+    on : is_known known w ≡ true
+    on = All-contains (λ x. is_known known x ≡ true) ops w (AllPass-from_list_all (is_known known) ops h) c
 
+    at : (o : Option Facts) → known w ≡ o → (f : Facts) × (known w ≡ Some f)
+    at None e = absurd (let off : is_known known w ≡ false = ap is_some e in cc (off, on))
+    at (Some f) e = (f, e)
+
+-- what is told by facts that are so is so
+pub from_sound : (defs : List Definition) (known : ValueId → Option Facts) → IsSound defs known → IsSound defs (told_from defs known)
+from_sound defs known sound v f e =
+    let from = from_all defs known v f e in
+    subst (AreFactsOf defs v) from.1 (told v (known_or known) (λ w c.
+    let g = all_at known (operands_at defs v) w from.0 c in
+    subst (AreFactsOf defs w) (sym (ap (λ o. unwrap_or o (facts_with kind.Plain [])) g.1)) (sound w g.0 g.1)))
+
+pub steps_sound : (defs : List Definition) (n : ℕ) → IsSound defs (told_in defs n)
+steps_sound defs zero v f e = absurd (none-some f e)
+steps_sound defs (suc n) v f e = from_sound defs (told_in defs n) (steps_sound defs n) v f e
+
+agree_on : (at to : ValueId → Facts) (ops : List ValueId) → ((w : ValueId) → Contains ops w → at w ≡ to w) → Agree at to ops
+agree_on at to [] h = tt
+agree_on at to (w ∷ ops) h = (h w (0, omega arith, refl), agree_on at to ops (λ u c. h u (Contains-append_right (w ∷ []) ops u c)))
+
+-- a value has one kind and one list of bases
+pub determined : (defs : List Definition) (v : ValueId) (f g : Facts) → AreFactsOf defs v f → AreFactsOf defs v g → f ≡ g
+determined defs v _ _ (told _ at below) (told _ to under) =
+    told_agree (length defs) v at to (operands_at defs v) (origin_at defs v) (agree_on at to (operands_at defs v) (λ w c. determined defs w (at w) (to w) (below w c) (under w c)))
+
+-- operands of which none is unknown are all known
+all_unless_unknown : (known : ValueId → Option Facts) (count : ℕ) (ops : List ValueId) → All (λ w. w.0 < count) ops →
+    ((w : ValueId) → w.0 < count → Contains ops w → known w ≡ None → ⊥) → list_all (is_known known) ops ≡ true
+all_unless_unknown known count [] range none = refl
+all_unless_unknown known count (w ∷ ops) range none =
+    at (known w) refl (all_unless_unknown known count ops (All-tail (λ x. x.0 < count) w ops range) (λ u lt c e. none u lt (Contains-append_right (w ∷ []) ops u c) e))
+  where
     at : (o : Option Facts) → known w ≡ o → list_all (is_known known) ops ≡ true → list_all (is_known known) (w ∷ ops) ≡ true
-    at None e rest = absurd (let off : is_some (told_in defs n w) ≡ false = ap is_some (none w (All-head (λ x. x.0 < length defs) w ops range) e) in
-        let on : is_some (told_in defs n w) ≡ true = parts.0 in cc (off, on))
+    at None e rest = absurd (none w (All-head (λ x. x.0 < count) w ops range) (0, omega arith, refl) e)
     at (Some f) e rest = ap₂ (λ a b. a && b) (ap is_some e) rest
 
+-- where nothing can be found of any value that isn't known, none of these has facts
 stuck_none : (defs : List Definition) (known : ValueId → Option Facts) → IsInRange defs → AreStuck defs known (length defs) →
-    (n : ℕ) (v : ValueId) → v.0 < length defs → known v ≡ None → told_in defs n v ≡ None
-stuck_none defs known range stuck zero v lt e = refl
-stuck_none defs known range stuck (suc n) v lt e = at (told_from defs (told_in defs n) v) refl (λ w less none. stuck_none defs known range stuck n w less none)
-  where
-    at : (o : Option Facts) → told_from defs (told_in defs n) v ≡ o → ((w : ValueId) → w.0 < length defs → known w ≡ None → told_in defs n w ≡ None) → told_from defs (told_in defs n) v ≡ None
-    at None h below = h
-    at (Some f) h below =
-        let a = from_all defs (told_in defs n) v f h in
-        let all = all_found defs known n (operands_at defs v) (range.inside v lt) below a.0 in
-        absurd (none-some _ (sym (stuck v lt e) ∙ all_from defs known v all))
+    (v : ValueId) (f : Facts) → v.0 < length defs → AreFactsOf defs v f → known v ≡ None → ⊥
+stuck_none defs known range stuck v _ lt (told _ at below) none =
+    none-some _ (sym (stuck v lt none) ∙ all_from defs known v (all_unless_unknown known (length defs) (operands_at defs v) (range.inside v lt)
+    (λ w less c unknown. stuck_none defs known range stuck w (at w) less (below w c) unknown)))
 
 pub stuck_exact : (defs : List Definition) (known : ValueId → Option Facts) → IsInRange defs → IsSound defs known → AreStuck defs known (length defs) → IsExact defs known
-stuck_exact defs known range sound stuck v f lt = (λ e. (sound.0, sound.1 v f e), λ h. at h (known v) refl)
+stuck_exact defs known range sound stuck v f lt = (sound v f, λ h. at h (known v) refl)
   where
-    at : Has defs v f → (o : Option Facts) → known v ≡ o → known v ≡ Some f
-    at h None e = absurd (none-some f (sym (stuck_none defs known range stuck h.0 v lt e) ∙ h.1))
-    at h (Some g) e = e ∙ ap Some (determined defs v g f (sound.0, sound.1 v g e) h)
+    at : AreFactsOf defs v f → (o : Option Facts) → known v ≡ o → known v ≡ Some f
+    at h None e = absurd (stuck_none defs known range stuck v f lt h e)
+    at h (Some g) e = e ∙ ap Some (determined defs v g f (sound v g e) h)
 
 -- bases are in ascending order
 by_kind_listed : (count : ℕ) (v : ValueId) (at : ValueId → Facts) (ops : List ValueId) (k : Kind) → v.0 < count → IsListed count (by_kind count v at ops k).bases
@@ -164,11 +182,8 @@ told_listed count v at ops Same lt = by_kind_listed count v at (take 1 ops) (for
 told_listed count v at ops Lent lt = listed_listed (λ b. list_any (λ w. has (handed_on true (at w)) b) ops) count
 told_listed count v at ops Address lt = listed_listed (λ b. list_any (λ w. has (handed_on false (at w)) b) ops) count
 
-in_listed : (defs : List Definition) (n : ℕ) (v : ValueId) (f : Facts) → v.0 < length defs → told_in defs n v ≡ Some f → IsListed (length defs) f.bases
-in_listed defs zero v f lt h = absurd (none-some f h)
-in_listed defs (suc n) v f lt h =
-    let a = from_all defs (told_in defs n) v f h in
-    subst (λ (g : Facts). IsListed (length defs) g.bases) a.1 (told_listed (length defs) v (known_or (told_in defs n)) (operands_at defs v) (origin_at defs v) lt)
+in_listed : (defs : List Definition) (v : ValueId) (f : Facts) → v.0 < length defs → AreFactsOf defs v f → IsListed (length defs) f.bases
+in_listed defs v _ lt (told _ at below) = told_listed (length defs) v at (operands_at defs v) (origin_at defs v) lt
 
 told_lt : (table : List (Option Facts)) (v : ValueId) (f : Facts) → told_at table v ≡ Some f → v.0 < length table
 told_lt table v f h = at table v.0 h
@@ -180,4 +195,4 @@ told_lt table v f h = at table v.0 h
     at (x ∷ table) (suc n) h = let lt : n < length table = at table n h in omega arith
 
 pub sound_listed : (defs : List Definition) (table : List (Option Facts)) → length table ≡ length defs → IsSound defs (told_at table) → AreListed (length defs) (told_at table)
-sound_listed defs table size sound v f h = in_listed defs sound.0 v f (let lt : v.0 < length table = told_lt table v f h in omega arith) (sound.1 v f h)
+sound_listed defs table size sound v f h = in_listed defs v f (let lt : v.0 < length table = told_lt table v f h in omega arith) (sound v f h)

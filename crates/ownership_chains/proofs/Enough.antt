@@ -7,11 +7,12 @@ use Rattle.sil_ast.specs.declared.place.ValueId.{ValueId}
 use Rattle.ownership_chains.specs.declared.definition.Definition.{Definition}
 use Rattle.ownership_chains.specs.declared.facts.Facts.{Facts}
 use Rattle.ownership_chains.specs.Chains.{IsInRange}
-use Rattle.ownership_chains.specs.Facts.{value_of, told_in, Has}
+use Rattle.ownership_chains.specs.Facts.{AreFactsOf, value_of}
+use Rattle.ownership_chains.specs.Steps.{told_in}
 use Rattle.ownership_chains.specs.inner.Laws.{AreToldInTime}
 use Rattle.ownership_chains.specs.inner.Outcome.{IsExact, IsTold}
 use Rattle.ownership_chains.specs.inner.Settling.{IsBelow, AreStuck}
-use Rattle.ownership_chains.proofs.Depths.{deeper, deeper_by, stuck_exact}
+use Rattle.ownership_chains.proofs.Depths.{deeper, deeper_by, steps_sound, stuck_exact}
 
 -- one where nothing is known
 abbrev lack : Option Facts → ℕ
@@ -98,10 +99,10 @@ stops defs = at (still defs (length defs))
     at (inr h) = h
 
 pub told_in_time : AreToldInTime
-told_in_time defs v f range lt = (λ h. within (exact.1 h), λ e. (length defs, e))
+told_in_time defs v f range lt = (λ h. within (exact.1 h), steps_sound defs (length defs) v f)
   where
-    exact : (told_in defs (stops defs).0 v ≡ Some f) ↔ Has defs v f
-    exact = stuck_exact defs (told_in defs (stops defs).0) range ((stops defs).0, λ w g h. h) (stops defs).2 v f lt
+    exact : (told_in defs (stops defs).0 v ≡ Some f) ↔ AreFactsOf defs v f
+    exact = stuck_exact defs (told_in defs (stops defs).0) range (steps_sound defs (stops defs).0) (stops defs).2 v f lt
 
     within : told_in defs (stops defs).0 v ≡ Some f → told_in defs (length defs) v ≡ Some f
     within h =
@@ -115,5 +116,5 @@ exact_told defs known range exact v lt = at (known v) (told_in defs (length defs
   where
     at : (o p : Option Facts) → known v ≡ o → told_in defs (length defs) v ≡ p → known v ≡ told_in defs (length defs) v
     at None None e g = e ∙ sym g
-    at o (Some f) e g = (exact v f lt).1 (length defs, g) ∙ sym g
+    at o (Some f) e g = (exact v f lt).1 (steps_sound defs (length defs) v f g) ∙ sym g
     at (Some f) None e g = e ∙ sym ((told_in_time defs v f range lt).0 ((exact v f lt).0 e))

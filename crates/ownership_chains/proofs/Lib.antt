@@ -5,4 +5,5 @@ mod Settled
 mod NumberLemmas
 pub mod FactLemmas
 pub mod RingLemmas
-mod Enough
+mod OwnBases
+pub mod Enough

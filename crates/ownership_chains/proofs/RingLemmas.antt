@@ -12,7 +12,7 @@ use Rattle.sil_ast.specs.declared.place.ValueId.{ValueId}
 use Rattle.ownership_chains.specs.declared.definition.Definition.{Definition}
 use Rattle.ownership_chains.specs.declared.facts.Facts.{Facts}
 use Rattle.ownership_chains.specs.Chains.{operands_at, Chain, one, more, IsCyclic, IsInRange, HasNoRing, LeadsIntoRing}
-use Rattle.ownership_chains.specs.Facts.{is_known, told_in, told_at, value_of}
+use Rattle.ownership_chains.specs.Facts.{AreFactsOf, is_known, told_at, value_of}
 use Rattle.ownership_chains.specs.inner.Outcome.{IsExact, AreAll, KnowsAllButRings}
 use Rattle.ownership_chains.specs.inner.Numbers.{numbers_of, operand_numbers}
 use Rattle.ownership_chains.specs.inner.Settling.{AreStuck}
@@ -79,9 +79,9 @@ unknown_leads defs table range stuck v lt none = found (some_ring (numbers_of de
 all_known : (defs : List Definition) (table : List (Option Facts)) → IsInRange defs → IsExact defs (told_at table) → AreStuck defs (told_at table) (length defs) → HasNoRing defs → AreAll defs table
 all_known defs table range exact stuck none v lt = at (told_at table v) refl
   where
-    at : (o : Option Facts) → told_at table v ≡ o → IsSomeAnd (told_at table v) (λ f. (n : ℕ) × (told_in defs n v ≡ Some f))
+    at : (o : Option Facts) → told_at table v ≡ o → IsSomeAnd (told_at table v) (AreFactsOf defs v)
     at None e = let r = unknown_leads defs table range stuck v lt e in absurd (none r.0 r.2)
-    at (Some f) e = subst (λ o. IsSomeAnd o (λ f. (n : ℕ) × (told_in defs n v ≡ Some f))) (sym e) ((exact v f lt).0 e)
+    at (Some f) e = subst (λ o. IsSomeAnd o (AreFactsOf defs v)) (sym e) ((exact v f lt).0 e)
 
 pub just_unknown : (defs : List Definition) (table : List (Option Facts)) → IsInRange defs → IsExact defs (told_at table) → AreStuck defs (told_at table) (length defs) → KnowsAllButRings defs table
 just_unknown defs table range exact stuck v lt = (unknown_leads defs table range stuck v lt, λ h. at h (told_at table v) refl)

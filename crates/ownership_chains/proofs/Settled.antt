@@ -2,7 +2,7 @@
 use Rattle.std.proofs.Common.{◌++◌, take, drop, ◌≡◌, ◌≢◌, ℕ, zero, suc, ◌+◌, ◌<◌, ◌≤◌, List, [], ◌∷◌, length, get_or, set, replicate}
 use Rattle.std.proofs.Common.{refl, sym, ap, ◌∙◌, subst, arith, Bool, true, false, cond, ◌⊎◌, inl, inr, Option, Some, None}
 use Rattle.std.specs.Prelude.{is_none, is_some, slice_get, unwrap_or}
-use Rattle.std.proofs.lemmas.Option.{none-some}
+use Rattle.std.proofs.lemmas.Option.{none-some, same_Some}
 use Rattle.std.proofs.lemmas.Bool.{cases_eq}
 use Rattle.std.proofs.Math.Seq.{drop-length}
 use Rattle.std.proofs.lemmas.List.{append-nil, take_all}
@@ -10,9 +10,10 @@ use Rattle.std.proofs.lemmas.List.Sums.{sum_by-set}
 use Rattle.sil_ast.specs.declared.place.ValueId.{ValueId}
 use Rattle.ownership_chains.specs.declared.definition.Definition.{Definition}
 use Rattle.ownership_chains.specs.declared.facts.Facts.{Facts}
-use Rattle.ownership_chains.specs.Facts.{told_from, told_in, told_at, value_of}
+use Rattle.ownership_chains.specs.Facts.{AreFactsOf, told_at, value_of}
+use Rattle.ownership_chains.specs.Steps.{told_from}
 use Rattle.ownership_chains.specs.inner.Settling.{IsSound, IsStuck, Settles, Sweeps, unknown}
-use Rattle.ownership_chains.proofs.Depths.{from_more, deeper}
+use Rattle.ownership_chains.proofs.Depths.{from_sound}
 
 abbrev entry : List (Option Facts) → ℕ → Option Facts
 entry table n = unwrap_or (slice_get table n) None
@@ -44,14 +45,14 @@ module _ (defs : List Definition) (table : List (Option Facts)) (v : ValueId) (f
       omega arith
 
   pub stays_sound : told_from defs (told_at table) v ≡ Some f → IsSound defs (told_at table) → IsSound defs (told_at (set table v.0 (Some f)))
-  stays_sound from s = (suc s.0, λ w g h. at w g h (cases_eq w.0 v.0))
+  stays_sound from s w g h = at w g h (cases_eq w.0 v.0)
     where
-      at : (w : ValueId) (g : Facts) → told_at (set table v.0 (Some f)) w ≡ Some g → (w.0 ≡ v.0) ⊎ (w.0 ≢ v.0) → told_in defs (suc s.0) w ≡ Some g
+      at : (w : ValueId) (g : Facts) → told_at (set table v.0 (Some f)) w ≡ Some g → (w.0 ≡ v.0) ⊎ (w.0 ≢ v.0) → AreFactsOf defs w g
       at w g h (inl e) =
-          let here : told_in defs (suc s.0) v ≡ Some f = from_more defs (told_at table) (told_in defs s.0) s.1 v f from in
+          let here : AreFactsOf defs v f = from_sound defs (told_at table) s v f from in
           let same : entry (set table v.0 (Some f)) v.0 ≡ Some g = ap (entry (set table v.0 (Some f))) (sym e) ∙ h in
-          ap (λ n. told_in defs (suc s.0) (value_of n)) e ∙ here ∙ sym (set_same table v.0 f inside) ∙ same
-      at w g h (inr n) = deeper defs s.0 w g (s.1 w g (sym (set_other table v.0 w.0 f n) ∙ h))
+          subst (λ n. AreFactsOf defs (value_of n) g) (sym e) (subst (AreFactsOf defs v) (same_Some f g (sym (set_same table v.0 f inside) ∙ same)) here)
+      at w g h (inr n) = s w g (sym (set_other table v.0 w.0 f n) ∙ h)
 
 -- one value more was looked at
 sweeps_yes : (defs : List Definition) (a b c : List (Option Facts)) (n : ℕ) (moved : Bool) → Sweeps defs a b n moved → unknown c < unknown b → unknown c < unknown a
@@ -85,7 +86,7 @@ nothing_at (suc n) zero = refl
 nothing_at (suc n) (suc k) = nothing_at n k
 
 pub nothing_sound : (defs : List Definition) (table : List (Option Facts)) → ((v : ValueId) → told_at table v ≡ None) → IsSound defs (told_at table)
-nothing_sound defs table none = (0, λ v f h. absurd (none-some f (sym (none v) ∙ h)))
+nothing_sound defs table none v f h = absurd (none-some f (sym (none v) ∙ h))
 
 -- a slice written back over a whole list
 pub written_back : {A : Type 0} (len : ℕ) (new old : List A) → length new ≡ length old → len ≡ length old → take len (new ++ drop (length new) old) ≡ new

@@ -1,7 +1,7 @@
 -- The kind and the bases of a value, by its origin and the facts of its operands.
-use Rattle.std.specs.Prelude.{◌≡◌, ℕ, zero, suc, List, [], ◌∷◌, map, length, take, Bool, true, false, cond}
-use Rattle.std.specs.Prelude.{not, ◌||◌, ◌==◌, Option, Some, None, is_some, unwrap_or, slice_get, filter}
-use Rattle.std.specs.List.{list_any, list_all, range_with_len}
+use Rattle.std.specs.Prelude.{ℕ, List, [], ◌∷◌, map, length, take, Bool, true, false, cond}
+use Rattle.std.specs.Prelude.{not, ◌||◌, ◌==◌, Contains, Option, None, is_some, unwrap_or, slice_get, filter}
+use Rattle.std.specs.List.{list_any, range_with_len}
 use Rattle.sil_ast.specs.declared.place.ValueId.{ValueId}
 use Rattle.type_definitions.specs.declared.kind.Kind.{Kind}
 use Rattle.type_definitions.specs.declared.kind.Kind.TheVariants as kind
@@ -73,19 +73,10 @@ is_known known w = is_some (known w)
 abbrev pub known_or : (ValueId → Option Facts) → ValueId → Facts
 known_or known w = unwrap_or (known w) (facts_with kind.Plain [])
 
--- the facts of a value, where those of all its operands are known
-abbrev pub told_from : List Definition → (ValueId → Option Facts) → ValueId → Option Facts
-told_from defs known v =
-    cond (list_all (is_known known) (operands_at defs v)) (Some (told_by (length defs) v (known_or known) (operands_at defs v) (origin_at defs v))) None
-
--- what chains of fewer than n steps tell
-abbrev pub told_in : List Definition → ℕ → ValueId → Option Facts
-told_in defs zero v = None
-told_in defs (suc n) v = told_from defs (told_in defs n) v
-
--- these are the kind and the bases of the value: where every chain from it ends, some depth tells them
-abbrev pub Has : List Definition → ValueId → Facts → Type 0
-Has defs v f = (n : ℕ) × (told_in defs n v ≡ Some f)
+-- these are the kind and the bases of the value: each of its operands has facts, and by these its own are told
+pub data AreFactsOf (defs : List Definition) : ValueId → Facts → Type 0 where
+  told : (v : ValueId) (at : ValueId → Facts) → ((w : ValueId) → Contains (operands_at defs v) w → AreFactsOf defs w (at w))
+      → AreFactsOf defs v (told_by (length defs) v at (operands_at defs v) (origin_at defs v))
 
 -- what a table tells
 abbrev pub told_at : List (Option Facts) → ValueId → Option Facts

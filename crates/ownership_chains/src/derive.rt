@@ -3,7 +3,8 @@
 ghost use Rattle.std.specs.Prelude.{◌≡◌, ◌<◌, ℕ, IfOk, [], ◌∷◌, length, take};
 ghost use Rattle.std.specs.List.{list_any};
 ghost use Rattle.ownership_chains.specs.Facts as facts;
-ghost use Rattle.ownership_chains.specs.Facts.{told_at, told_from, known_or, forwarded, by_kind, told_by};
+ghost use Rattle.ownership_chains.specs.Facts.{told_at, known_or, forwarded, by_kind, told_by};
+ghost use Rattle.ownership_chains.specs.Steps.{told_from};
 ghost use Rattle.ownership_chains.specs.inner.Settling.{AreListed};
 
 use crate::bases::together;

@@ -7,7 +7,8 @@ use Rattle.sil_ast.specs.declared.place.ValueId.{ValueId}
 use Rattle.sil_cfg.specs.Layout.{Layout}
 use Rattle.numbered_form.specs.Numbering.{values_of}
 use Rattle.ownership_chains.specs.Chains.{HasNoRing, IsFirstCyclic}
-use Rattle.ownership_chains.specs.Facts.{told_at, told_in}
+use Rattle.ownership_chains.specs.Facts.{told_at}
+use Rattle.ownership_chains.specs.Steps.{told_in}
 use Rattle.ownership_chains.specs.inner.Outcome.{IsTold}
 use Rattle.ownership_chains.specs.declared.definition.Definition.{Definition}
 use Rattle.ownership_chains.specs.declared.facts.Facts.{Facts}

@@ -1,4 +1,5 @@
 pub mod Broken
 pub mod First
 pub mod FirstRing
+mod FactsTold
 pub mod RulesOf

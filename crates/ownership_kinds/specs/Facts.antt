@@ -2,14 +2,14 @@
 use Rattle.std.specs.Prelude.{List, Option, None, length, option_map, nat_lt, if◌then◌else◌}
 use Rattle.sil_ast.specs.declared.function.Function.{Function}
 use Rattle.sil_ast.specs.declared.place.ValueId.{ValueId}
-use Rattle.ownership_chains.specs.Facts.{told_in}
+use Rattle.ownership_chains.specs.Steps.{told_in}
 use Rattle.ownership_chains.specs.declared.definition.Definition.{Definition}
 use Rattle.ownership_chains.specs.declared.facts.Facts.{Facts}
 use Rattle.type_definitions.specs.Declarations.{Declarations}
 use Rattle.type_definitions.specs.declared.kind.Kind.{Kind}
 use Rattle.ownership_origins.specs.Origins.{definitions_of}
 
--- what chains of no more steps than there are values tell; a number beyond them tells nothing
+-- what as many steps as there are values tell, which are just their facts (`facts_are_told`); a number beyond them tells nothing
 abbrev pub facts_by : List Definition → ValueId → Option Facts
 facts_by defs v = if nat_lt v.0 (length defs) then told_in defs (length defs) v else None
 

@@ -8,9 +8,11 @@ mod decide;
 mod defaults;
 mod find;
 mod kinds;
+mod laws;
 mod mismatch;
 mod mixed;
 mod rings;
 
 pub use find::{FunctionKinds, kinds_in};
+pub use laws::facts_are_told;
 pub use ownership_marks::Kinds;

@@ -5,3 +5,4 @@ mod TrivialTuples
 pub mod Counts
 pub mod Ranges
 mod Ordered
+mod Lenders

@@ -4,12 +4,11 @@ use Rattle.std.specs.Prelude.{◌&&◌}
 use Rattle.std.specs.List.{flat_map, list_all}
 use Rattle.std.proofs.lemmas.List.Folds.{list_all-append}
 use Rattle.sil_ast.specs.declared.operands.Operand.{Operand}
-use Rattle.sil_ast.specs.declared.signature.Given.{Given}
 use Rattle.sil_ast.specs.declared.type_name.TypeName.{TypeName}
 use Rattle.sil_ast.specs.declared.type_name.TypeName.TheVariants as type
 use Rattle.type_definitions.specs.Declarations.{Declarations, all_names}
 use Rattle.type_definitions.specs.Measures.{is_trivial, is_trivial_measure, measure_at, measure_of, measures_of}
-use Rattle.type_definitions.specs.Mentions.{result_type, together}
+use Rattle.type_definitions.specs.Mentions.{together}
 use Rattle.type_measures.proofs.Agreement.{measure-Tuple}
 use Rattle.sil_types.specs.Typing.RowTypes.{all_written, types_of}
 
@@ -28,13 +27,10 @@ and_true false = refl
 tuple_trivial : (d : Declarations) (ts : List TypeName) → is_trivial d (type.Tuple ts) ≡ list_all (is_trivial d) ts
 tuple_trivial d ts = ap is_trivial_measure (measure-Tuple (measure_at (all_names d) (measures_of d)) ts) ∙ all_mapped is_trivial_measure (measure_of d) ts
 
-together_trivial : (d : Declarations) (ts : List TypeName) → is_trivial d (together ts) ≡ list_all (is_trivial d) ts
+pub together_trivial : (d : Declarations) (ts : List TypeName) → is_trivial d (together ts) ≡ list_all (is_trivial d) ts
 together_trivial d [] = tuple_trivial d []
 together_trivial d (t ∷ []) = sym (and_true (is_trivial d t))
 together_trivial d (t ∷ u ∷ ts) = tuple_trivial d (t ∷ u ∷ ts)
 
 pub operands_trivial : (d : Declarations) (os : List Operand) → is_trivial d (type.Tuple (all_written os)) ≡ list_all (λ o. list_all (is_trivial d) (types_of o)) os
 operands_trivial d os = tuple_trivial d (all_written os) ∙ all_joined (is_trivial d) types_of os
-
-pub results_trivial : (d : Declarations) (results : List Given) → is_trivial d (together (map result_type results)) ≡ list_all (λ r. is_trivial d r.ty) results
-results_trivial d results = together_trivial d (map result_type results) ∙ all_mapped (is_trivial d) result_type results

@@ -16,7 +16,7 @@ mod trivial;
 
 pub use defining::definitions;
 pub use in_order::are_renamed_in_order;
-pub use laws::{definitions_are_in_range, definitions_are_of_values};
+pub use laws::{definitions_are_in_range, definitions_are_of_values, lenders_are_borrows};
 pub use renamed::renamings;
 pub use switched::Switched;
 pub use switching::{switch_of, switches};

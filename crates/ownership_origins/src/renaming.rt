@@ -1,7 +1,9 @@
 //! A column of the table of instructions: which instructions lowering makes another name for their operand.
 
+use instruction_table::INSTRUCTION_COUNT;
+
 /// Whether an instruction's result is lowered to another name for its operand.
-pub static RENAMINGS: [bool; 41] = [
+pub static RENAMINGS: [bool; INSTRUCTION_COUNT] = [
     false, // integer_literal
     false, // function_ref
     false, // builtin

@@ -3,6 +3,7 @@
 ghost use Rattle.std.specs.Prelude.{◌≡◌, option_map, slice_get, unwrap_or, []};
 ghost use Rattle.std.specs.List.{list_all};
 ghost use Rattle.type_definitions.specs.Measures.{is_trivial};
+ghost use Rattle.type_definitions.specs.Mentions.{direct_types};
 ghost use Rattle.sil_types.specs.Typing.RowTypes.{types_of};
 ghost use Rattle.typing_rows.specs.inner.Views.{made_told, view_told};
 ghost use Rattle.ownership_origins.specs.Origins.{is_trivial_or_untyped};
@@ -31,11 +32,12 @@ fn are_trivial_operands(table: &TypeTable, operands: &[Operand]) -> bool
     true
 }
 
+/// Whether the direct results are of trivial types.
 fn are_trivial_results(table: &TypeTable, results: &[Given]) -> bool
-    ensures { result ≡ list_all (λ r. is_trivial table.now r.ty) results.now }
+    ensures { result ≡ list_all (is_trivial table.now) (direct_types results.now) }
 {
     for given in results {
-        if !table.is_trivial(&given.ty) {
+        if !given.out && !table.is_trivial(&given.ty) {
             return false;
         }
     }

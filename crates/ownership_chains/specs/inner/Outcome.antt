@@ -4,11 +4,12 @@ use Rattle.sil_ast.specs.declared.place.ValueId.{ValueId}
 use Rattle.ownership_chains.specs.declared.definition.Definition.{Definition}
 use Rattle.ownership_chains.specs.declared.facts.Facts.{Facts}
 use Rattle.ownership_chains.specs.Chains.{LeadsIntoRing}
-use Rattle.ownership_chains.specs.Facts.{Has, told_at, told_in}
+use Rattle.ownership_chains.specs.Facts.{AreFactsOf, told_at}
+use Rattle.ownership_chains.specs.Steps.{told_in}
 
 -- exactly the values whose chains end are known, with their kind and bases
 abbrev pub IsExact : List Definition → (ValueId → Option Facts) → Type 0
-IsExact defs known = (v : ValueId) (f : Facts) → v.0 < length defs → (known v ≡ Some f) ↔ Has defs v f
+IsExact defs known = (v : ValueId) (f : Facts) → v.0 < length defs → (known v ≡ Some f) ↔ AreFactsOf defs v f
 
 -- of each value just that is known which as many steps as there are values tell
 abbrev pub IsTold : List Definition → (ValueId → Option Facts) → Type 0
@@ -20,4 +21,4 @@ KnowsAllButRings defs table = (v : ValueId) → v.0 < length defs → (told_at t
 
 -- each value is known, with its kind and bases
 abbrev pub AreAll : List Definition → List (Option Facts) → Type 0
-AreAll defs table = (v : ValueId) → v.0 < length defs → IsSomeAnd (told_at table v) (Has defs v)
+AreAll defs table = (v : ValueId) → v.0 < length defs → IsSomeAnd (told_at table v) (AreFactsOf defs v)

@@ -3,7 +3,8 @@ use Rattle.std.specs.Prelude.{◌≡◌, ℕ, ◌<◌, List, Bool, true, false, 
 use Rattle.sil_ast.specs.declared.place.ValueId.{ValueId}
 use Rattle.ownership_chains.specs.declared.definition.Definition.{Definition}
 use Rattle.ownership_chains.specs.declared.facts.Facts.{Facts}
-use Rattle.ownership_chains.specs.Facts.{has, listed, told_from, told_in, told_at}
+use Rattle.ownership_chains.specs.Facts.{AreFactsOf, has, listed, told_at}
+use Rattle.ownership_chains.specs.Steps.{told_from}
 
 -- what the one knows, the other knows too
 abbrev pub IsBelow : (ValueId → Option Facts) → (ValueId → Option Facts) → Type 0
@@ -11,7 +12,7 @@ IsBelow known more = (v : ValueId) (f : Facts) → known v ≡ Some f → more v
 
 -- all that is known is so
 abbrev pub IsSound : List Definition → (ValueId → Option Facts) → Type 0
-IsSound defs known = (n : ℕ) × IsBelow known (told_in defs n)
+IsSound defs known = (v : ValueId) (f : Facts) → known v ≡ Some f → AreFactsOf defs v f
 
 -- nothing can be found of the value now
 abbrev pub IsStuck : List Definition → (ValueId → Option Facts) → ValueId → Type 0

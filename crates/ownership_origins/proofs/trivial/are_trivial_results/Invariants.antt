@@ -1,7 +1,8 @@
-use Rattle.std.proofs.Common.{◌≡◌, take, true}
+use Rattle.std.proofs.Common.{◌≡◌, drop}
 use Rattle.std.specs.List.{list_all}
 use Rattle.type_definitions.specs.Measures.{is_trivial}
+use Rattle.type_definitions.specs.Mentions.{direct_types}
 use Rattle.ownership_origins.proofs.trivial.are_trivial_results.Given as goal
 
 abbrev pub invariant-loop-given : goal.invariant-loop-given
-invariant-loop-given l = list_all (λ r. is_trivial l.table r.ty) (take l.given-index l.results) ≡ true
+invariant-loop-given l = list_all (is_trivial l.table) (direct_types l.results) ≡ list_all (is_trivial l.table) (direct_types (drop l.given-index l.results))

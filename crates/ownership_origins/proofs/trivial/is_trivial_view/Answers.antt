@@ -1,8 +1,9 @@
 use Rattle.std.proofs.Common.{sym, ap, ◌∙◌}
 use Rattle.type_definitions.specs.Measures.{is_trivial}
+use Rattle.type_definitions.specs.Mentions.{direct_types}
 use Rattle.typing_rows.specs.inner.Views.{view_told}
 use Rattle.typing_rows.specs.declared.view.TypeView.{TypeView}
-use Rattle.ownership_origins.proofs.TrivialTuples.{operands_trivial, results_trivial}
+use Rattle.ownership_origins.proofs.TrivialTuples.{operands_trivial, together_trivial}
 use Rattle.ownership_origins.proofs.trivial.is_trivial_view.Goals as goal
 
 pub returns-in-TupleOf : goal.returns-in-TupleOf
@@ -10,5 +11,5 @@ returns-in-TupleOf c = c.are_trivial_operands.ensures ∙ sym (operands_trivial 
     ∙ sym (ap (λ (v : TypeView). is_trivial c.args.table.now (view_told v)) c.in-TupleOf.is)
 
 pub returns-in-GivenBy : goal.returns-in-GivenBy
-returns-in-GivenBy c = c.are_trivial_results.ensures ∙ sym (results_trivial c.args.table.now c.in-GivenBy.results.now)
+returns-in-GivenBy c = c.are_trivial_results.ensures ∙ sym (together_trivial c.args.table.now (direct_types c.in-GivenBy.results.now))
     ∙ sym (ap (λ (v : TypeView). is_trivial c.args.table.now (view_told v)) c.in-GivenBy.is)
