@@ -8,9 +8,10 @@ use Rattle.std.proofs.lemmas.Option.{slice_get_past, unwrap_or-slice_get}
 use Rattle.std.proofs.lemmas.Bool.{cases_lt}
 use Rattle.ownership_chains.specs.Facts.{value_of}
 use Rattle.sil_ast.specs.declared.place.ValueId.{ValueId}
+use Rattle.argument_conventions.specs.declared.row.AddressRow.{AddressRow}
 use Rattle.memory_accesses.specs.declared.location.Location.{Location}
 use Rattle.memory_accesses.specs.declared.source.Source.{Source}
-use Rattle.memory_accesses.specs.declared.source.Source.TheVariants.{Slot, Inout, Object, Borrow, Loan, Field, Part, Other}
+use Rattle.memory_accesses.specs.declared.source.Source.TheVariants.{Slot, Argument, Object, Borrow, Loan, Field, Part, Other}
 use Rattle.memory_accesses.specs.inner.Kept.{behind, location_at, locations_of}
 use Rattle.memory_accesses.specs.Locations.{extended, locate, located_by, location_of, whole}
 use Rattle.memory_accesses.specs.Sources.{source_at}
@@ -62,11 +63,12 @@ module _ (sources : List Source) (address at : ValueId) (i : ℕ) (steps : List 
       ∙ ap (λ s. option_map (behind s) (locate sources (length sources - (i + 1)) of)) (sym pushed)
 
   -- a root is reached
-  pub at_root : (source : Source) → source ≡ source_at sources at → ((x : Bool) × (source ≡ Slot x)) ⊎ ((source ≡ Inout) ⊎ ((x : ValueId) × (k : ℕ) × (source ≡ Field x k))) →
+  pub at_root : (source : Source) → source ≡ source_at sources at →
+      ((x : Bool) × (source ≡ Slot x)) ⊎ (((x : AddressRow) × (b : Bool) × (source ≡ Argument x b)) ⊎ ((x : ValueId) × (k : ℕ) × (b : Bool) × (source ≡ Field x k b))) →
       (found : Location) → found ≡ behind steps (whole at) → Some found ≡ location_of sources address
   at_root source e (inl w) found is = ap (λ l. Some l) is ∙ sym (at_source (Slot w.0) (sym w.1 ∙ e))
-  at_root source e (inr (inl same)) found is = ap (λ l. Some l) is ∙ sym (at_source Inout (sym same ∙ e))
-  at_root source e (inr (inr w)) found is = ap (λ l. Some l) is ∙ sym (at_source (Field w.0 w.1) (sym w.2 ∙ e))
+  at_root source e (inr (inl w)) found is = ap (λ l. Some l) is ∙ sym (at_source (Argument w.0 w.1) (sym w.2 ∙ e))
+  at_root source e (inr (inr w)) found is = ap (λ l. Some l) is ∙ sym (at_source (Field w.0 w.1 w.2) (sym w.3 ∙ e))
 
   -- what is reached is no root, and no step leads on
   pub at_no_root : (source : Source) → source ≡ source_at sources at →

@@ -1,5 +1,4 @@
 pub mod ByItem
 pub mod Following
 pub mod SourceCount
-pub mod Idle
 pub mod Operating

@@ -12,45 +12,39 @@ use Rattle.item_operands.specs.Items.{item_taken, taken_along_in, taken_in}
 use Rattle.item_operands.specs.Parts.{item_edge, item_inst}
 use Rattle.item_operands.specs.Roles.{consumed, taken_by}
 use Rattle.item_operands.specs.declared.taken.Taken.{Taken}
+use Rattle.sil_ast.specs.declared.inst.Qualifier.{Qualifier}
+use Rattle.memory_accesses.specs.declared.columns.AccessKind.{AccessKind}
 use Rattle.memory_accesses.specs.declared.access.Access.{Access}
 use Rattle.memory_accesses.specs.declared.access.Access.TheVariants.{Does}
-use Rattle.memory_accesses.specs.declared.access.Operation.{Operation}
 use Rattle.memory_accesses.specs.Accesses.{does_of}
-use Rattle.memory_accesses.specs.Operations.{access_kind_of, address_of, addresses_of, operated_at, operation_by}
-use Rattle.memory_accesses.specs.inner.Done.{does_among, done_at, operated_by}
+use Rattle.memory_accesses.specs.Operations.{access_kind_of, operated_at}
+use Rattle.memory_accesses.specs.inner.Done.{does_among, done_at}
 
--- by the operands, and by the addresses among them
-pub operated_each : (o : Option Operation) (taken : List Taken) → flat_map (operated_by o) taken ≡ flat_map (operated_at o) (flat_map address_of taken)
-operated_each o [] = refl
-operated_each o (t ∷ taken) = ap (λ v. operated_by o t ++ v) (operated_each o taken) ∙ sym (flat_map-append (operated_at o) (address_of t) (flat_map address_of taken))
+module _ (k : AccessKind) (q : Qualifier) where
+  done_each : (taken : List Taken) → flat_map (done_at k q) taken ≡ map Does (flat_map (operated_at k q) taken)
+  done_each [] = refl
+  done_each (t ∷ taken) = ap (λ v. done_at k q t ++ v) (done_each taken) ∙ sym (map-append Does (operated_at k q t) (flat_map (operated_at k q) taken))
 
-done_each : (o : Option Operation) (taken : List Taken) → flat_map (done_at o) taken ≡ map Does (flat_map (operated_by o) taken)
-done_each o [] = refl
-done_each o (t ∷ taken) = ap (λ v. done_at o t ++ v) (done_each o taken) ∙ sym (map-append Does (operated_by o t) (flat_map (operated_by o) taken))
+  -- what is handed over along an edge is no address
+  none_along : (operands : List Operand) → flat_map (done_at k q) (map consumed operands) ≡ []
+  none_along [] = refl
+  none_along (o ∷ operands) = none_along operands
 
--- what is handed over along an edge is no address
-none_along : (operands : List Operand) → flat_map address_of (map consumed operands) ≡ []
-none_along [] = refl
-none_along (o ∷ operands) = none_along operands
+  none_along_at : (e : Option Edge) → flat_map (done_at k q) (taken_along_in e) ≡ []
+  none_along_at None = refl
+  none_along_at (Some e) = none_along e.args
 
-none_along_at : (e : Option Edge) → flat_map address_of (taken_along_in e) ≡ []
-none_along_at None = refl
-none_along_at (Some e) = none_along e.args
+  done_before : (taken along : List Taken) → flat_map (done_at k q) along ≡ [] → flat_map (done_at k q) (taken ++ along) ≡ map Does (flat_map (operated_at k q) taken)
+  done_before taken along none =
+      flat_map-append (done_at k q) taken along ∙ ap (λ v. flat_map (done_at k q) taken ++ v) none ∙ append-nil (flat_map (done_at k q) taken) ∙ done_each taken
 
-does_at : (i : Inst) (along : List Taken) → flat_map address_of along ≡ [] → does_among (Some i) (taken_by i ++ along) ≡ does_of (Some i)
-does_at i along none =
-    let o : Option Operation = operation_by (access_kind_of i.op) i.qualifier in
-    done_each o (taken_by i ++ along)
-    ∙ ap (map Does)
-    (operated_each o (taken_by i ++ along)
-    ∙ ap (flat_map (operated_at o)) (flat_map-append address_of (taken_by i) along ∙ ap (λ v. addresses_of i ++ v) none ∙ append-nil (addresses_of i)))
-
-does_along : (o : Option Inst) (along : List Taken) → flat_map address_of along ≡ [] → does_among o (taken_in o ++ along) ≡ does_of o
-does_along None along none = refl
-does_along (Some i) along none = does_at i along none
+does_along : (i : Option Inst) (e : Option Edge) → does_among i (taken_in i ++ taken_along_in e) ≡ does_of i
+does_along None e = refl
+does_along (Some i) e =
+    done_before (access_kind_of i.op) i.qualifier (taken_by i) (taken_along_in e) (none_along_at (access_kind_of i.op) i.qualifier e)
 
 pub item_does : (f : Function) (n : Item) → does_among (item_inst f n) (item_taken f n) ≡ does_of (item_inst f n)
-item_does f n = does_along (item_inst f n) (taken_along_in (item_edge f n)) (none_along_at (item_edge f n))
+item_does f n = does_along (item_inst f n) (item_edge f n)
 
 -- all steps of an item, one behind the other
 pub all_steps : (a b c d e g r1 r2 r3 r4 r5 : List Access) → r1 ≡ a → r2 ≡ r1 ++ b → r3 ≡ r2 ++ c → r4 ≡ r3 ++ d → r5 ≡ r4 ++ e → r5 ++ g ≡ a ++ (b ++ (c ++ (d ++ (e ++ g))))

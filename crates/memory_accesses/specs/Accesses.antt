@@ -63,16 +63,16 @@ deallocations_of None = []
 deallocations_of (Some i) = cond (deallocates i) (map Deallocates (addresses_of i)) []
 
 abbrev pub made_by : ValueId → Source → List Access
-made_by v (source.Slot emptied) = Allocates v ∷ []
-made_by v source.Inout = Given v ∷ []
+made_by v (source.Slot trivial) = Allocates v ∷ []
+made_by v (source.Argument row trivial) = Given v row.before ∷ []
 made_by v (source.Object fields) = Allocates v ∷ []
 made_by v (source.Borrow of) = []
 made_by v (source.Loan of) = []
-made_by v (source.Field of k) = []
+made_by v (source.Field of k trivial) = []
 made_by v (source.Part of k) = []
 made_by v source.Other = []
 
--- a slot and an object are allocated where they are defined, and an inout is given
+-- a slot and an object are allocated where they are defined, and an argument is given, full or empty
 abbrev pub made : List Source → ValueId → List Access
 made sources v = made_by v (source_at sources v)
 

@@ -5,7 +5,7 @@ use Rattle.sil_ast.specs.declared.place.ValueId.{ValueId}
 use Rattle.memory_accesses.specs.declared.location.Cell.{Cell}
 use Rattle.memory_accesses.specs.declared.location.Location.{Location}
 use Rattle.memory_accesses.specs.declared.source.Source.{Source}
-use Rattle.memory_accesses.specs.declared.source.Source.TheVariants.{Slot, Inout, Object, Borrow, Loan, Field, Part, Other}
+use Rattle.memory_accesses.specs.declared.source.Source.TheVariants.{Slot, Argument, Object, Borrow, Loan, Field, Part, Other}
 use Rattle.memory_accesses.specs.Sources.{source_at}
 
 abbrev pub whole : ValueId → Location
@@ -17,12 +17,12 @@ extended k l = record { root = l.root; path = l.path ++ k ∷ [] }
 
 -- the location that an address names by what it is, where others name these
 abbrev pub located_by : (ValueId → Option Location) → ValueId → Source → Option Location
-located_by others v (Slot emptied) = Some (whole v)
-located_by others v Inout = Some (whole v)
+located_by others v (Slot trivial) = Some (whole v)
+located_by others v (Argument row trivial) = Some (whole v)
 located_by others v (Object fields) = None
 located_by others v (Borrow of) = None
 located_by others v (Loan of) = None
-located_by others v (Field of k) = Some (whole v)
+located_by others v (Field of k trivial) = Some (whole v)
 located_by others v (Part of k) = option_map (extended k) (others of)
 located_by others v Other = None
 
@@ -53,22 +53,22 @@ do_overlap sources a b = meet (location_of sources a) (location_of sources b)
 
 -- the value is a new object
 abbrev pub is_object : Source → Bool
-is_object (Slot emptied) = false
-is_object Inout = false
+is_object (Slot trivial) = false
+is_object (Argument row trivial) = false
 is_object (Object fields) = true
 is_object (Borrow of) = false
 is_object (Loan of) = false
-is_object (Field of k) = false
+is_object (Field of k trivial) = false
 is_object (Part of k) = false
 is_object Other = false
 
 abbrev pub object_lent : List Source → Source → Option ValueId
-object_lent sources (Slot emptied) = None
-object_lent sources Inout = None
+object_lent sources (Slot trivial) = None
+object_lent sources (Argument row trivial) = None
 object_lent sources (Object fields) = None
 object_lent sources (Borrow of) = cond (is_object (source_at sources of)) (Some of) None
 object_lent sources (Loan of) = None
-object_lent sources (Field of k) = None
+object_lent sources (Field of k trivial) = None
 object_lent sources (Part of k) = None
 object_lent sources Other = None
 
@@ -81,15 +81,15 @@ field_cell None root k = record { subject = root; field = None }
 field_cell (Some object) root k = record { subject = object; field = Some k }
 
 abbrev pub cell_by : List Source → ValueId → Source → Cell
-cell_by sources root (Slot emptied) = record { subject = root; field = None }
-cell_by sources root Inout = record { subject = root; field = None }
+cell_by sources root (Slot trivial) = record { subject = root; field = None }
+cell_by sources root (Argument row trivial) = record { subject = root; field = None }
 cell_by sources root (Object fields) = record { subject = root; field = None }
 cell_by sources root (Borrow of) = record { subject = root; field = None }
 cell_by sources root (Loan of) = record { subject = root; field = None }
-cell_by sources root (Field of k) = field_cell (object_built sources of) root k
+cell_by sources root (Field of k trivial) = field_cell (object_built sources of) root k
 cell_by sources root (Part of k) = record { subject = root; field = None }
 cell_by sources root Other = record { subject = root; field = None }
 
--- whose contents are at a root: the slot's, the inout's, or those of a field of the new object that is being built there
+-- whose contents are at a root: the slot's, the argument's, or those of a field of the new object that is being built there
 abbrev pub cell_of : List Source → ValueId → Cell
 cell_of sources root = cell_by sources root (source_at sources root)

@@ -1,6 +1,7 @@
 -- What an instruction does to the locations at its addresses.
-use Rattle.std.specs.Prelude.{List, [], ◌∷◌, Bool, true, false, cond, slice_index_or, Option, Some, None}
+use Rattle.std.specs.Prelude.{List, [], ◌∷◌, Bool, true, false, cond, option_map, slice_index_or, Option, Some, None}
 use Rattle.std.specs.List.{flat_map}
+use Rattle.std.specs.Option.{option_or, option_to_list}
 use Rattle.instruction_table.specs.Forms.{number_of}
 use Rattle.instruction_table.specs.declared.entries.Role.{Role}
 use Rattle.instruction_table.specs.declared.entries.Role.TheVariants as role
@@ -13,7 +14,7 @@ use Rattle.item_operands.specs.Roles.{taken_by}
 use Rattle.item_operands.specs.declared.taken.Taken.{Taken}
 use Rattle.memory_accesses.specs.declared.access.Operated.{Operated}
 use Rattle.memory_accesses.specs.declared.access.Operation.{Operation}
-use Rattle.memory_accesses.specs.declared.access.Operation.TheVariants.{FirstWrite, Read, Lend, Write, TrivialStore, InoutOperand, Take}
+use Rattle.memory_accesses.specs.declared.access.Operation.TheVariants.{FirstWrite, Read, Lend, Write, TrivialStore, Handed, Take}
 use Rattle.memory_accesses.specs.declared.columns.AccessKind.{AccessKind}
 use Rattle.memory_accesses.specs.declared.columns.AccessKind.TheVariants as access
 use Rattle.memory_accesses.specs.declared.columns.TheConstants.{ACCESSES}
@@ -38,7 +39,7 @@ store_operation word.Trivial = TrivialStore
 store_operation word.Init = FirstWrite
 store_operation word.Assign = Write
 
--- what is done to a location, by the row and the word in brackets
+-- what is done to each location, by the row and the word in brackets; what a call does with one goes by its convention
 abbrev pub operation_by : AccessKind → Qualifier → Option Operation
 operation_by access.NoAccess q = None
 operation_by access.AllocatesSlot q = None
@@ -52,7 +53,7 @@ operation_by access.NamesElement q = None
 operation_by access.Loads q = Some (load_operation q)
 operation_by access.Stores q = Some (store_operation q)
 operation_by access.Destroys q = Some Take
-operation_by access.Passes q = Some InoutOperand
+operation_by access.Passes q = None
 
 abbrev pub is_address_role : Role → Bool
 is_address_role role.Consumed = false
@@ -72,13 +73,18 @@ address_of t = cond (is_address_role t.role) (t.value ∷ []) []
 abbrev pub addresses_of : Inst → List ValueId
 addresses_of i = flat_map address_of (taken_by i)
 
-abbrev pub operated_at : Option Operation → ValueId → List Operated
-operated_at None v = []
-operated_at (Some o) v = record { address = v; operation = o } ∷ []
+abbrev pub operation_at : AccessKind → Qualifier → Taken → Option Operation
+operation_at k q t = option_or (option_map Handed t.handed) (cond (is_address_role t.role) (operation_by k q) None)
+
+abbrev pub operated : ValueId → Operation → Operated
+operated v o = record { address = v; operation = o }
+
+abbrev pub operated_at : AccessKind → Qualifier → Taken → List Operated
+operated_at k q t = option_to_list (option_map (operated t.value) (operation_at k q t))
 
 -- what an instruction does to locations, in the order of its operands
 abbrev pub operations_of : Inst → List Operated
-operations_of i = flat_map (operated_at (operation_by (access_kind_of i.op) i.qualifier)) (addresses_of i)
+operations_of i = flat_map (operated_at (access_kind_of i.op) i.qualifier) (taken_by i)
 
 abbrev pub deallocates_by : AccessKind → Bool
 deallocates_by access.NoAccess = false

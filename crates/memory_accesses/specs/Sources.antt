@@ -1,6 +1,7 @@
 -- What each value of a function is to memory.
-use Rattle.std.specs.Prelude.{ℕ, zero, suc, ℤ, pos, negsuc, Bool, true, false, not, cond, Option, Some, None, option_map, unwrap_or}
+use Rattle.std.specs.Prelude.{ℕ, zero, suc, ℤ, pos, negsuc, Bool, true, false, Option, Some, None, option_map, unwrap_or}
 use Rattle.std.specs.Prelude.{List, map, replicate, length, slice_get}
+use Rattle.std.specs.List.{range_with_len}
 use Rattle.sil_ast.specs.declared.function.BlockArg.{BlockArg}
 use Rattle.sil_ast.specs.declared.function.Function.{Function}
 use Rattle.sil_ast.specs.declared.inst.Inst.{Inst}
@@ -8,9 +9,13 @@ use Rattle.sil_ast.specs.declared.member.Member.{Member}
 use Rattle.sil_ast.specs.declared.place.ValueId.{ValueId}
 use Rattle.sil_ast.specs.declared.type_name.TypeName.{TypeName, out-TypeName}
 use Rattle.sil_ast.specs.declared.type_name.TypeName.TheOpen.{TypeName-F, Int, Named, Optional, Tuple, Weak, Unowned, Address}
+use Rattle.sil_ast.specs.declared.signature.Signature.{Signature}
+use Rattle.argument_conventions.specs.Arguments.{Told, arguments_of}
+use Rattle.argument_conventions.specs.Rows.{address_row}
+use Rattle.argument_conventions.specs.declared.row.AddressRow.{AddressRow}
 use Rattle.type_definitions.specs.Declarations.{Declarations}
-use Rattle.type_definitions.specs.Lookups.{field_of, fields_of}
-use Rattle.sil_types.specs.Typing.Shapes.{is_address, is_trivial_object}
+use Rattle.type_definitions.specs.Lookups.{FoundField, field_of, fields_of}
+use Rattle.sil_types.specs.Typing.Shapes.{is_trivial_object}
 use Rattle.value_tables.specs.FirstValue.{first_value}
 use Rattle.value_tables.specs.ValueRows.{value_rows}
 use Rattle.memory_accesses.specs.declared.columns.AccessKind.{AccessKind}
@@ -19,10 +24,9 @@ use Rattle.memory_accesses.specs.declared.source.Source.{Source}
 use Rattle.memory_accesses.specs.declared.source.Source.TheVariants as source
 use Rattle.memory_accesses.specs.Operations.{access_kind_of}
 
--- a slot has to be empty when it is deallocated, unless it is of a trivial type
 abbrev pub slot_source : Declarations → Option TypeName → Source
 slot_source d None = source.Other
-slot_source d (Some t) = source.Slot (not (is_trivial_object d t))
+slot_source d (Some t) = source.Slot (is_trivial_object d t)
 
 abbrev pub field_count_in : Declarations → TypeName-F TypeName → ℕ
 field_count_in d (Int width) = 0
@@ -50,15 +54,24 @@ abbrev pub member_place : Declarations → Option Member → Option ℕ
 member_place d None = None
 member_place d (Some m) = option_map (λ f. f.place) (field_of d m.owner m.name)
 
+abbrev pub is_trivial_field : Declarations → Option FoundField → Bool
+is_trivial_field d None = false
+is_trivial_field d (Some f) = is_trivial_object d f.field.ty
+
+-- the field or member is of a trivial type
+abbrev pub is_trivial_member : Declarations → Option Member → Bool
+is_trivial_member d None = false
+is_trivial_member d (Some m) = is_trivial_field d (field_of d m.owner m.name)
+
 abbrev pub element_place : Option ℤ → Option ℕ
 element_place None = None
 element_place (Some (pos n)) = Some n
 element_place (Some (negsuc n)) = None
 
-abbrev pub field_source : Option ValueId → Option ℕ → Source
-field_source None k = source.Other
-field_source (Some v) None = source.Other
-field_source (Some v) (Some k) = source.Field v k
+abbrev pub field_source : Option ValueId → Option ℕ → Bool → Source
+field_source None k trivial = source.Other
+field_source (Some v) None trivial = source.Other
+field_source (Some v) (Some k) trivial = source.Field v k trivial
 
 abbrev pub part_source : Option ValueId → Option ℕ → Source
 part_source None k = source.Other
@@ -72,7 +85,7 @@ source_by access.AllocatesObject d i = object_source d i.ty
 source_by access.DeallocatesSlot d i = source.Other
 source_by access.LendsValue d i = borrow_source (first_value i)
 source_by access.LendsLocation d i = loan_source (first_value i)
-source_by access.NamesField d i = field_source (first_value i) (member_place d i.member)
+source_by access.NamesField d i = field_source (first_value i) (member_place d i.member) (is_trivial_member d i.member)
 source_by access.NamesMember d i = part_source (first_value i) (member_place d i.member)
 source_by access.NamesElement d i = part_source (first_value i) (element_place i.number)
 source_by access.Loads d i = source.Other
@@ -87,31 +100,57 @@ result_source d i = source_by (access_kind_of i.op) d i
 abbrev pub result_sources : Declarations → Inst → List Source
 result_sources d i = replicate (length i.results) (result_source d i)
 
-abbrev pub given_source : BlockArg → Source
-given_source a = cond (is_address a.ty) source.Inout source.Other
+abbrev pub handed_source : Bool → Option AddressRow → Source
+handed_source trivial None = source.Other
+handed_source trivial (Some row) = source.Argument row trivial
 
--- an address among the entry's arguments is one that is passed for an `@inout` parameter
-abbrev pub arg_sources : ℕ → List BlockArg → List Source
-arg_sources zero args = map given_source args
-arg_sources (suc n) args = replicate (length args) source.Other
+-- what an argument of the entry is by its convention
+abbrev pub argument_source : Declarations → Told → Source
+argument_source d a = handed_source (is_trivial_object d a.ty) (address_row a.convention)
+
+abbrev pub argument_source_or : Declarations → Option Told → Source
+argument_source_or d None = source.Other
+argument_source_or d (Some a) = argument_source d a
+
+-- what so many arguments of the entry are: those of the signature
+abbrev pub entry_sources : Declarations → List Told → ℕ → List Source
+entry_sources d told n = map (λ k. argument_source_or d (slice_get told k)) (range_with_len 0 n)
+
+abbrev pub arg_sources : Declarations → Signature → ℕ → List BlockArg → List Source
+arg_sources d s zero args = entry_sources d (arguments_of s) (length args)
+arg_sources d s (suc n) args = replicate (length args) source.Other
 
 -- what each value is to memory, by the values' numbers
 abbrev pub sources_of : Declarations → Function → List Source
-sources_of d f = value_rows arg_sources (result_sources d) f
+sources_of d f = value_rows (arg_sources d f.signature) (result_sources d) f
 
 abbrev pub source_at : List Source → ValueId → Source
 source_at sources v = unwrap_or (slice_get sources v.0) source.Other
 
 abbrev pub is_slot_source : Source → Bool
-is_slot_source (source.Slot emptied) = true
-is_slot_source source.Inout = false
+is_slot_source (source.Slot trivial) = true
+is_slot_source (source.Argument row trivial) = false
 is_slot_source (source.Object fields) = false
 is_slot_source (source.Borrow of) = false
 is_slot_source (source.Loan of) = false
-is_slot_source (source.Field of k) = false
+is_slot_source (source.Field of k trivial) = false
 is_slot_source (source.Part of k) = false
 is_slot_source source.Other = false
 
 -- the value is a slot
 abbrev pub is_slot : List Source → ValueId → Bool
 is_slot sources v = is_slot_source (source_at sources v)
+
+abbrev pub is_trivial_source : Source → Bool
+is_trivial_source (source.Slot trivial) = trivial
+is_trivial_source (source.Argument row trivial) = trivial
+is_trivial_source (source.Object fields) = false
+is_trivial_source (source.Borrow of) = false
+is_trivial_source (source.Loan of) = false
+is_trivial_source (source.Field of k trivial) = trivial
+is_trivial_source (source.Part of k) = false
+is_trivial_source source.Other = false
+
+-- what is at the root is of a trivial type, so that it is never asked to be empty
+abbrev pub is_trivial_at : List Source → ValueId → Bool
+is_trivial_at sources root = is_trivial_source (source_at sources root)

@@ -1,6 +1,7 @@
 //! What an item does, step by step, to memory and to the values that it lends.
 
 use crate::columns::Allowance;
+use argument_conventions::{AddressRow, Content};
 use sil_ast::ValueId;
 
 /// What is done to a location.
@@ -15,8 +16,8 @@ pub enum Operation {
     Write,
     /// A trivial value is stored, whether it held one or not.
     TrivialStore,
-    /// It is passed to a function, which reads and writes it.
-    InoutOperand,
+    /// Its address is handed to a call, by a convention with this row.
+    Handed(AddressRow),
     /// What it holds is taken away.
     Take,
 }
@@ -39,8 +40,8 @@ pub enum Access {
     Allocates(ValueId),
     /// A `dealloc_stack` has this address as its operand. One of another address than a slot's deallocates no slot.
     Deallocates(ValueId),
-    /// The entry is given a location for an `@inout` parameter.
-    Given(ValueId),
+    /// The entry is given a location, full or empty.
+    Given(ValueId, Content),
     /// A location is operated on.
     Does(Operated),
     /// A value is an operand, of an instruction that takes these of unfinished objects.

@@ -9,7 +9,7 @@ use crate::columns::AccessKind::{
     NamesElement, NamesField, NamesMember, NoAccess, Passes, Stores,
 };
 use crate::columns::Allowance::{BothOfThem, BuildingBorrow, FreshObject, NeitherOfThem};
-use instruction_table::Op;
+use instruction_table::{INSTRUCTION_COUNT, Op};
 
 /// What an instruction does to memory.
 #[derive(Clone, Copy, PartialEq, Eq)]
@@ -36,7 +36,7 @@ pub enum AccessKind {
     Stores,
     /// It takes what a location holds away.
     Destroys,
-    /// It passes locations to a function, for its `@inout` parameters.
+    /// It hands addresses to a function, by the conventions of its arguments.
     Passes,
 }
 
@@ -52,7 +52,7 @@ pub enum Allowance {
 }
 
 /// What each instruction does to memory.
-pub static ACCESSES: [AccessKind; 41] = [
+pub static ACCESSES: [AccessKind; INSTRUCTION_COUNT] = [
     NoAccess, // integer_literal
     NoAccess, // function_ref
     NoAccess, // builtin
@@ -97,7 +97,7 @@ pub static ACCESSES: [AccessKind; 41] = [
 ];
 
 /// Which unfinished objects each instruction takes.
-pub static ALLOWANCES: [Allowance; 41] = [
+pub static ALLOWANCES: [Allowance; INSTRUCTION_COUNT] = [
     NeitherOfThem, // integer_literal
     NeitherOfThem, // function_ref
     NeitherOfThem, // builtin

@@ -7,14 +7,14 @@ ghost use Rattle.memory_accesses.specs.Accesses as spec;
 ghost use Rattle.memory_accesses.specs.declared.access.Access.TheVariants.{Deallocates};
 ghost use Rattle.memory_accesses.specs.inner.Done.{does_among, done_at};
 
-use crate::access::{Access, Operated, Operation};
-use crate::columns::{Allowance, allowance_of};
+use crate::access::{Access, Operated};
+use crate::columns::{AccessKind, Allowance, access_kind_of, allowance_of};
 use crate::memory::Memory;
-use crate::operations::{add_addresses, deallocates, is_address_role, operation_of};
+use crate::operations::{add_addresses, deallocates, operation_at};
 use crate::source::Source;
 use item_operands::Taken;
 use ownership_marks::{Mark, MarkSort};
-use sil_ast::{Exhausted, Inst, ValueId};
+use sil_ast::{Exhausted, Inst, Qualifier, ValueId};
 
 pub(crate) fn add_ends(accesses: &mut Vec<Access>, marks: &[Mark]) -> Result<(), Exhausted>
     ensures { OnOk result (accesses.new.items ≡ accesses.old.items ++ flat_map spec.ended marks.now) }
@@ -71,16 +71,17 @@ pub(crate) fn add_mentions(
     add_mentioned(accesses, allowance_of(inst.op), taken)
 }
 
-/// Adds the operation at each of the operands that are addresses.
+/// Adds what is done at each of the operands.
 fn add_operated(
     accesses: &mut Vec<Access>,
-    operation: Operation,
+    kind: AccessKind,
+    qualifier: Qualifier,
     taken: &[Taken],
 ) -> Result<(), Exhausted>
-    ensures { OnOk result (accesses.new.items ≡ accesses.old.items ++ flat_map (done_at (Some operation)) taken.now) }
+    ensures { OnOk result (accesses.new.items ≡ accesses.old.items ++ flat_map (done_at kind qualifier) taken.now) }
 {
     for one in taken {
-        if is_address_role(one.role) {
+        if let Some(operation) = operation_at(kind, qualifier, *one) {
             accesses.push(Access::Does(Operated {
                 address: one.value,
                 operation,
@@ -101,10 +102,7 @@ pub(crate) fn add_does(
     let Some(inst) = inst else {
         return Ok(());
     };
-    let Some(operation) = operation_of(inst) else {
-        return Ok(());
-    };
-    add_operated(accesses, operation, taken)
+    add_operated(accesses, access_kind_of(inst.op), inst.qualifier, taken)
 }
 
 /// Adds the deallocations of the addresses.
@@ -141,7 +139,7 @@ fn made_by(m: &Memory, value: ValueId) -> Option<Access>
 {
     match m.source(value) {
         Source::Slot { .. } | Source::Object { .. } => Some(Access::Allocates(value)),
-        Source::Inout => Some(Access::Given(value)),
+        Source::Argument { row, .. } => Some(Access::Given(value, row.before)),
         Source::Borrow { .. }
         | Source::Loan { .. }
         | Source::Field { .. }

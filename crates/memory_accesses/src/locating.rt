@@ -58,7 +58,7 @@ fn location_of(
                 steps.push(index)?;
                 at = of;
             }
-            Source::Slot { .. } | Source::Inout | Source::Field { .. } => {
+            Source::Slot { .. } | Source::Argument { .. } | Source::Field { .. } => {
                 return Ok(Some(location_behind(at, steps)));
             }
             Source::Object { .. } | Source::Borrow { .. } | Source::Loan { .. } | Source::Other => {

@@ -6,8 +6,8 @@ ghost use Rattle.memory_accesses.specs.Rows as rows;
 
 use sil_ast::{List, ValueId};
 
-/// A location: a slot, what is passed for an `@inout` parameter, or the field of an object, each by the value that is its address; and the
-/// numbers of the members and elements that lead from there to a part.
+/// A location: a slot, what is at an address that the entry is given, or the field of an object, each by the value that is its address;
+/// and the numbers of the members and elements that lead from there to a part.
 #[derive(Drop)]
 pub struct Location {
     pub root: ValueId,

@@ -10,7 +10,7 @@ ghost use Rattle.memory_accesses.specs.Sources as sources;
 use crate::access::Operation;
 use crate::locating::{location_at, locations_of, source_at};
 use crate::location::{Cell, Location, overlap};
-use crate::rows::{field_has, slot_has};
+use crate::rows::{field_has, shared_has, slot_has};
 use crate::source::Source;
 use crate::sources::sources_of;
 use sil_ast::{Exhausted, Function, List, ValueId};
@@ -78,6 +78,13 @@ impl Memory {
         self.source(value).is_slot()
     }
 
+    /// Whether what is at the root is of a trivial type.
+    pub fn is_trivial_at(&self, root: ValueId) -> bool
+        ensures { result ≡ sources.is_trivial_at self.now root }
+    {
+        self.source(root).is_trivial()
+    }
+
     /// The location that an address names, if it names one.
     pub fn location(&self, address: ValueId) -> Option<&Location>
         ensures { option_copied result ≡ locations.location_of self.now address }
@@ -116,7 +123,7 @@ impl Memory {
             subject: root,
             field: None,
         };
-        let Source::Field { of, index } = self.source(root) else {
+        let Source::Field { of, index, .. } = self.source(root) else {
             return whole;
         };
         match self.object_built(of) {
@@ -134,7 +141,14 @@ impl Memory {
     {
         let part = location.is_part();
         match self.source(location.root) {
-            Source::Slot { .. } | Source::Inout => slot_has(part, operation),
+            Source::Slot { .. } => slot_has(part, operation),
+            Source::Argument { row, .. } => {
+                if row.shared {
+                    shared_has(operation)
+                } else {
+                    slot_has(part, operation)
+                }
+            }
             Source::Field { of, .. } => {
                 field_has(part, self.object_built(of).is_some(), operation)
             }

@@ -1,8 +1,7 @@
 //! What an instruction does to the locations at its addresses.
 
-ghost use Rattle.std.specs.Prelude.{◌≡◌, ◌++◌, OnOk, Some};
+ghost use Rattle.std.specs.Prelude.{◌≡◌, ◌++◌, OnOk};
 ghost use Rattle.std.specs.List.{flat_map};
-ghost use Rattle.memory_accesses.specs.inner.Done.{operated_by};
 ghost use Rattle.memory_accesses.specs.Operations as spec;
 
 use crate::access::{Operated, Operation};
@@ -36,7 +35,7 @@ fn store_operation(qualifier: Qualifier) -> Operation
     }
 }
 
-/// What is done to a location, by the row and the word in brackets.
+/// What is done to each location, by the row and the word in brackets. What a call does with one goes by its convention.
 fn operation_by(kind: AccessKind, qualifier: Qualifier) -> Option<Operation>
     ensures { result ≡ spec.operation_by kind qualifier }
 {
@@ -45,7 +44,6 @@ fn operation_by(kind: AccessKind, qualifier: Qualifier) -> Option<Operation>
         AccessKind::Loads => Some(load_operation(qualifier)),
         AccessKind::Stores => Some(store_operation(qualifier)),
         AccessKind::Destroys => Some(Operation::Take),
-        AccessKind::Passes => Some(Operation::InoutOperand),
         AccessKind::NoAccess
         | AccessKind::AllocatesSlot
         | AccessKind::AllocatesObject
@@ -53,7 +51,8 @@ fn operation_by(kind: AccessKind, qualifier: Qualifier) -> Option<Operation>
         | AccessKind::LendsValue
         | AccessKind::NamesField
         | AccessKind::NamesMember
-        | AccessKind::NamesElement => None,
+        | AccessKind::NamesElement
+        | AccessKind::Passes => None,
     }
 }
 
@@ -94,22 +93,34 @@ pub fn add_addresses(addresses: &mut Vec<ValueId>, inst: &Inst) -> Result<(), Ex
     Ok(())
 }
 
-/// What an instruction does to the location at each of its addresses, if it does anything.
-pub(crate) fn operation_of(inst: &Inst) -> Option<Operation>
-    ensures { result ≡ spec.operation_by (spec.access_kind_of inst.now.op) inst.now.qualifier }
+/// What is done at an operand, by an instruction of this kind with this word in brackets.
+pub(crate) fn operation_at(
+    kind: AccessKind,
+    qualifier: Qualifier,
+    taken: Taken,
+) -> Option<Operation>
+    ensures { result ≡ spec.operation_at kind qualifier taken }
 {
-    operation_by(access_kind_of(inst.op), inst.qualifier)
+    if let Some(row) = taken.handed {
+        return Some(Operation::Handed(row));
+    }
+    if is_address_role(taken.role) {
+        operation_by(kind, qualifier)
+    } else {
+        None
+    }
 }
 
 fn add_operated(
     operations: &mut Vec<Operated>,
-    operation: Operation,
+    kind: AccessKind,
+    qualifier: Qualifier,
     taken: &[Taken],
 ) -> Result<(), Exhausted>
-    ensures { OnOk result (operations.new.items ≡ operations.old.items ++ flat_map (operated_by (Some operation)) taken.now) }
+    ensures { OnOk result (operations.new.items ≡ operations.old.items ++ flat_map (spec.operated_at kind qualifier) taken.now) }
 {
     for one in taken {
-        if is_address_role(one.role) {
+        if let Some(operation) = operation_at(kind, qualifier, *one) {
             operations.push(Operated {
                 address: one.value,
                 operation,
@@ -123,12 +134,14 @@ fn add_operated(
 pub fn add_operations(operations: &mut Vec<Operated>, inst: &Inst) -> Result<(), Exhausted>
     ensures { OnOk result (operations.new.items ≡ operations.old.items ++ spec.operations_of inst.now) }
 {
-    let Some(operation) = operation_of(inst) else {
-        return Ok(());
-    };
     let mut taken = Vec::new(*operations.allocator());
     add_taken_by(&mut taken, inst)?;
-    add_operated(operations, operation, taken.as_slice())
+    add_operated(
+        operations,
+        access_kind_of(inst.op),
+        inst.qualifier,
+        taken.as_slice(),
+    )
 }
 
 /// Whether an instruction deallocates a slot.

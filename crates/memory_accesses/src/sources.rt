@@ -1,16 +1,20 @@
 //! What each value of a function is to memory, in one pass over it.
 
-ghost use Rattle.std.specs.Prelude.{◌≡◌, ◌++◌, IfOk, OnOk, map};
+ghost use Rattle.std.specs.Prelude.{◌≡◌, ◌++◌, IfOk, OnOk, option_map};
 ghost use Rattle.sil_ast.specs.declared.type_name.TypeName.{out-TypeName};
 ghost use Rattle.type_definitions.specs.Lookups as lookups;
+ghost use Rattle.argument_conventions.specs.Arguments.{arguments_of, as_told};
 ghost use Rattle.memory_accesses.specs.Sources as spec;
 ghost use Rattle.memory_accesses.specs.Sources.{arg_sources, result_sources};
 
 use crate::columns::{AccessKind, access_kind_of};
 use crate::source::Source;
-use sil_ast::{BlockArg, Decl, Exhausted, Field, Function, Inst, List, Text, TypeName, ValueId};
+use argument_conventions::{FunctionArgument, argument};
+use sil_ast::{
+    BlockArg, Decl, Exhausted, Field, Function, Inst, List, Signature, Text, TypeName, ValueId,
+};
 use sil_types::TypeTable;
-use sil_types::shapes::{is_trivial_object, target};
+use sil_types::shapes::is_trivial_object;
 use std::alloc::Global;
 use value_tables::{ValueTable, add_values, first_value, push_times, room_for_values};
 
@@ -20,7 +24,7 @@ fn slot_source(table: &TypeTable, inst: &Inst) -> Source
     match &inst.ty {
         None => Source::Other,
         Some(ty) => Source::Slot {
-            emptied: !is_trivial_object(table, ty),
+            trivial: is_trivial_object(table, ty),
         },
     }
 }
@@ -108,11 +112,27 @@ fn element_place(number: Option<i64>) -> Option<usize>
     }
 }
 
-fn field_source(owner: Option<ValueId>, place: Option<usize>) -> Source
-    ensures { result ≡ spec.field_source owner place }
+/// Whether the field that an instruction names is of a trivial type.
+fn is_trivial_member(table: &TypeTable, inst: &Inst) -> bool
+    ensures { result ≡ spec.is_trivial_member table.now inst.now.member }
+{
+    match &inst.member {
+        None => false,
+        Some(member) => {
+            let member = member.get();
+            match table.field(&member.owner, &member.name) {
+                None => false,
+                Some(found) => is_trivial_object(table, &found.field.ty),
+            }
+        }
+    }
+}
+
+fn field_source(owner: Option<ValueId>, place: Option<usize>, trivial: bool) -> Source
+    ensures { result ≡ spec.field_source owner place trivial }
 {
     match (owner, place) {
-        (Some(of), Some(index)) => Source::Field { of, index },
+        (Some(of), Some(index)) => Source::Field { of, index, trivial },
         _ => Source::Other,
     }
 }
@@ -134,7 +154,11 @@ fn source_by(table: &TypeTable, kind: AccessKind, inst: &Inst) -> Source
         AccessKind::AllocatesObject => object_source(table, inst),
         AccessKind::LendsValue => borrow_source(first_value(inst)),
         AccessKind::LendsLocation => loan_source(first_value(inst)),
-        AccessKind::NamesField => field_source(first_value(inst), member_place(table, inst)),
+        AccessKind::NamesField => field_source(
+            first_value(inst),
+            member_place(table, inst),
+            is_trivial_member(table, inst),
+        ),
         AccessKind::NamesMember => part_source(first_value(inst), member_place(table, inst)),
         AccessKind::NamesElement => part_source(first_value(inst), element_place(inst.number)),
         AccessKind::NoAccess
@@ -146,35 +170,48 @@ fn source_by(table: &TypeTable, kind: AccessKind, inst: &Inst) -> Source
     }
 }
 
-fn given_source(arg: &BlockArg) -> Source
-    ensures { result ≡ spec.given_source arg.now }
+/// What an argument of the entry is by its convention.
+fn argument_source(table: &TypeTable, argument: Option<FunctionArgument<'_>>) -> Source
+    ensures { result ≡ spec.argument_source_or table.now (option_map as_told argument.entry) }
 {
-    if target(&arg.ty).is_some() {
-        Source::Inout
-    } else {
-        Source::Other
+    let Some(argument) = argument else {
+        return Source::Other;
+    };
+    match argument.convention.address_row() {
+        None => Source::Other,
+        Some(row) => Source::Argument {
+            row,
+            trivial: is_trivial_object(table, argument.ty),
+        },
     }
 }
 
-/// Adds what the arguments of the entry are.
-fn add_given(sources: &mut Vec<Source>, args: &[BlockArg]) -> Result<(), Exhausted>
-    ensures { OnOk result (sources.new.items ≡ sources.old.items ++ map spec.given_source args.now) }
+/// Adds what so many arguments of the entry are.
+fn add_given(
+    sources: &mut Vec<Source>,
+    table: &TypeTable,
+    signature: &Signature,
+    count: usize,
+) -> Result<(), Exhausted>
+    ensures { OnOk result (sources.new.items ≡ sources.old.items ++ spec.entry_sources table.now (arguments_of signature.now) count) }
 {
-    for arg in args {
-        sources.push(given_source(arg))?;
+    for n in 0..count {
+        sources.push(argument_source(table, argument(signature, n)))?;
     }
     Ok(())
 }
 
 fn add_arg_sources(
     sources: &mut Vec<Source>,
+    table: &TypeTable,
+    signature: &Signature,
     number: usize,
     args: &[BlockArg],
 ) -> Result<(), Exhausted>
-    ensures { OnOk result (sources.new.items ≡ sources.old.items ++ arg_sources number args.now) }
+    ensures { OnOk result (sources.new.items ≡ sources.old.items ++ arg_sources table.now signature.now number args.now) }
 {
     match number {
-        0 => add_given(sources, args),
+        0 => add_given(sources, table, signature, args.len()),
         _ => push_times(sources, args.len(), Source::Other),
     }
 }
@@ -183,6 +220,7 @@ fn add_arg_sources(
 #[derive(Drop)]
 struct Sources<'t> {
     types: &'t TypeTable,
+    signature: &'t Signature,
 }
 
 impl<'f> ValueTable<'f> for Sources<'_> {
@@ -192,7 +230,7 @@ impl<'f> ValueTable<'f> for Sources<'_> {
 
     ghost rows = { λ table. table.items };
 
-    ghost arg_rows = { λ of. arg_sources };
+    ghost arg_rows = { λ of. arg_sources of.types.now of.signature.now };
 
     ghost result_rows = { λ of. result_sources of.types.now };
 
@@ -202,7 +240,7 @@ impl<'f> ValueTable<'f> for Sources<'_> {
         number: usize,
         args: &'f [BlockArg],
     ) -> Result<(), Exhausted> {
-        add_arg_sources(table, number, args)
+        add_arg_sources(table, self.types, self.signature, number, args)
     }
 
     fn add_results(&self, table: &mut Vec<Source>, inst: &'f Inst) -> Result<(), Exhausted> {
@@ -220,6 +258,10 @@ pub(crate) fn sources_of(
     ensures { IfOk result (λ sources. sources ≡ spec.sources_of types.now f.now) }
 {
     let mut sources = Vec::with_capacity(alloc, room_for_values(f))?;
-    add_values(&Sources { types }, &mut sources, f)?;
+    let of = Sources {
+        types,
+        signature: &f.signature,
+    };
+    add_values(&of, &mut sources, f)?;
     Ok(List::from_vec(sources))
 }

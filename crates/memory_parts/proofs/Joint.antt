@@ -42,13 +42,13 @@ module _ (sources : List Source) (facts other : ValueId → Facts) (same : (v : 
   building_same object field (Begins v) = refl
   building_same object field (Allocates v) = refl
   building_same object field (Deallocates v) = refl
-  building_same object field (Given v) = refl
+  building_same object field (Given v content) = refl
   building_same object field (Does x) = refl
   building_same object field (Mentions v w) =
       ap (λ f. when ((is_same v object && not (takes_object w)) || (goes_by_borrow sources f object && not (builds sources object v && takes_borrow w))) (needs_off rule.FieldNotBuilt)) (same v)
 
   means_same : (p : Part) (a : Access) → means sources facts p a ≡ means sources other p a
-  means_same (Contents cell emptied left_full) a = refl
+  means_same (Contents cell trivial left) a = refl
   means_same (Allocation slot) a = refl
   means_same (Lent scope address) a = refl
   means_same (Building object field) a = building_same object field a

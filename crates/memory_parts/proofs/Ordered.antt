@@ -6,6 +6,7 @@ use Rattle.std.proofs.lemmas.List.Elements.{All-nil, All-cons, All-head, All-tai
 use Rattle.sil_ast.specs.declared.place.ValueId.{ValueId}
 use Rattle.ownership_chains.specs.Facts.{value_of}
 use Rattle.ownership_chains.specs.declared.facts.Facts.{Facts}
+use Rattle.argument_conventions.specs.declared.row.AddressRow.{AddressRow}
 use Rattle.memory_accesses.specs.Locations.{location_of}
 use Rattle.memory_accesses.specs.Sources.{source_at}
 use Rattle.memory_accesses.specs.declared.location.Location.{Location}
@@ -34,12 +35,12 @@ scopes_of sources address (b ∷ bases) = All-append (IsOf address) (scope_part 
     one false = All-nil (IsOf address)
 
 slot_of : (address root : ValueId) (s : Source) → All (IsOf address) (slot_part address root s)
-slot_of address root (source.Slot emptied) = one_of address (InSlot address root) refl
-slot_of address root source.Inout = All-nil (IsOf address)
+slot_of address root (source.Slot trivial) = one_of address (InSlot address root) refl
+slot_of address root (source.Argument row trivial) = All-nil (IsOf address)
 slot_of address root (source.Object fields) = All-nil (IsOf address)
 slot_of address root (source.Borrow of) = All-nil (IsOf address)
 slot_of address root (source.Loan of) = All-nil (IsOf address)
-slot_of address root (source.Field of k) = All-nil (IsOf address)
+slot_of address root (source.Field of k trivial) = All-nil (IsOf address)
 slot_of address root (source.Part of k) = All-nil (IsOf address)
 slot_of address root source.Other = All-nil (IsOf address)
 
@@ -55,18 +56,22 @@ address_of sources f address =
 fields_of : (object : ValueId) (fields : List ℕ) → All (IsOf object) (flat_map (field_parts object) fields)
 fields_of object [] = All-nil (IsOf object)
 fields_of object (k ∷ fields) =
-    All-cons (IsOf object) (Contents (record { subject = object; field = Some k }) false false) (Building object k ∷ flat_map (field_parts object) fields) refl
+    All-cons (IsOf object) (Contents (record { subject = object; field = Some k }) false None) (Building object k ∷ flat_map (field_parts object) fields) refl
     (All-cons (IsOf object) (Building object k) (flat_map (field_parts object) fields) refl (fields_of object fields))
 
+argument_of : (v : ValueId) (row : AddressRow) (trivial shared : Bool) → All (IsOf v) (cond shared [] (Contents (whole_cell v) trivial (Some row.after) ∷ []))
+argument_of v row trivial true = All-nil (IsOf v)
+argument_of v row trivial false = one_of v (Contents (whole_cell v) trivial (Some row.after)) refl
+
 parts_by_of : (sources : List Source) (f : Facts) (v : ValueId) (s : Source) → All (IsOf v) (parts_by sources f v s)
-parts_by_of sources f v (source.Slot emptied) =
-    All-cons (IsOf v) (Contents (whole_cell v) emptied false) (Allocation v ∷ address_parts sources f v) refl
+parts_by_of sources f v (source.Slot trivial) =
+    All-cons (IsOf v) (Contents (whole_cell v) trivial None) (Allocation v ∷ address_parts sources f v) refl
     (All-cons (IsOf v) (Allocation v) (address_parts sources f v) refl (address_of sources f v))
-parts_by_of sources f v source.Inout = one_of v (Contents (whole_cell v) false true) refl
+parts_by_of sources f v (source.Argument row trivial) = argument_of v row trivial row.shared
 parts_by_of sources f v (source.Object fields) = fields_of v (range_with_len 0 fields)
 parts_by_of sources f v (source.Borrow of) = All-nil (IsOf v)
 parts_by_of sources f v (source.Loan of) = one_of v (Lent v of) refl
-parts_by_of sources f v (source.Field of k) = address_of sources f v
+parts_by_of sources f v (source.Field of k trivial) = address_of sources f v
 parts_by_of sources f v (source.Part of k) = address_of sources f v
 parts_by_of sources f v source.Other = All-nil (IsOf v)
 

@@ -10,7 +10,7 @@ use Rattle.ownership_chains.specs.declared.facts.Facts.{Facts}
 use Rattle.memory_accesses.specs.declared.access.Access.{Access}
 use Rattle.memory_accesses.specs.declared.access.Access.TheVariants.{Ends, Begins, Allocates, Deallocates, Given, Does, Mentions}
 use Rattle.memory_accesses.specs.declared.access.Operation.{Operation}
-use Rattle.memory_accesses.specs.declared.access.Operation.TheVariants.{FirstWrite, Read, Lend, Write, TrivialStore, InoutOperand, Take}
+use Rattle.memory_accesses.specs.declared.access.Operation.TheVariants.{FirstWrite, Read, Lend, Write, TrivialStore, Handed, Take}
 use Rattle.memory_accesses.specs.declared.columns.Allowance.{Allowance}
 use Rattle.memory_accesses.specs.declared.location.Cell.{Cell}
 use Rattle.memory_accesses.specs.declared.location.Location.{Location}
@@ -101,7 +101,7 @@ module _ (sources : List Source) where
   no_write part Lend e = refl
   no_write part Write e = cc
   no_write part TrivialStore e = cc
-  no_write part InoutOperand e = cc
+  no_write part (Handed row) e = e
   no_write part Take e = cc
 
   meet_other : (k : Key) (scope : ValueId) (l lent : Option Location) → AreApart (k ∷ root_key l) (Turned scope ∷ root_key lent) → meet l lent ≡ false
@@ -154,36 +154,36 @@ module _ (sources : List Source) where
 
   module _ (facts : ValueId → Facts) where
     pub unreached : (p : Part) (a : Access) → AreApart (keys_of_access sources facts a) (keys_of_part sources p) → means sources facts p a ≡ None
-    unreached (Contents cell emptied left_full) (Ends v) apart = refl
-    unreached (Contents cell emptied left_full) (Begins v) apart = refl
-    unreached (Contents cell emptied left_full) (Allocates v) apart = unmarked v cell.subject _ (turned v cell.subject [] (Operated cell ∷ []) apart)
-    unreached (Contents cell emptied left_full) (Deallocates v) apart =
+    unreached (Contents cell trivial left) (Ends v) apart = refl
+    unreached (Contents cell trivial left) (Begins v) apart = refl
+    unreached (Contents cell trivial left) (Allocates v) apart = unmarked v cell.subject _ (turned v cell.subject [] (Operated cell ∷ []) apart)
+    unreached (Contents cell trivial left) (Deallocates v) apart =
         no_mark (is_slot sources v && is_same v cell.subject) _
         (and_right (is_slot sources v) (is_same v cell.subject)
         (other_value v cell.subject (turned v cell.subject (root_key (location_of sources v)) (Operated cell ∷ []) apart)))
-    unreached (Contents cell emptied left_full) (Given v) apart = unmarked v cell.subject _ (turned v cell.subject [] (Operated cell ∷ []) apart)
-    unreached (Contents cell emptied left_full) (Does x) apart =
-        at_other x.operation (location_of sources x.address) cell (keys_of_part sources (Contents cell emptied left_full)) (second (Turned cell.subject) (Operated cell) []) apart
-    unreached (Contents cell emptied left_full) (Mentions v a) apart = refl
+    unreached (Contents cell trivial left) (Given v content) apart = unmarked v cell.subject _ (turned v cell.subject [] (Operated cell ∷ []) apart)
+    unreached (Contents cell trivial left) (Does x) apart =
+        at_other x.operation (location_of sources x.address) cell (keys_of_part sources (Contents cell trivial left)) (second (Turned cell.subject) (Operated cell) []) apart
+    unreached (Contents cell trivial left) (Mentions v a) apart = refl
     unreached (Allocation slot) (Ends v) apart = refl
     unreached (Allocation slot) (Begins v) apart = refl
     unreached (Allocation slot) (Allocates v) apart = unmarked v slot _ (turned v slot [] [] apart)
     unreached (Allocation slot) (Deallocates v) apart = unmarked v slot _ (turned v slot (root_key (location_of sources v)) [] apart)
-    unreached (Allocation slot) (Given v) apart = refl
+    unreached (Allocation slot) (Given v content) apart = refl
     unreached (Allocation slot) (Does x) apart = refl
     unreached (Allocation slot) (Mentions v a) apart = refl
     unreached (Lent scope address) (Ends v) apart = unmarked v scope _ (turned v scope [] _ apart)
     unreached (Lent scope address) (Begins v) apart = unmarked v scope _ (turned v scope [] _ apart)
     unreached (Lent scope address) (Allocates v) apart = refl
     unreached (Lent scope address) (Deallocates v) apart = ap disturbed_mark (meet_other (Turned v) scope (location_of sources v) (location_of sources address) apart)
-    unreached (Lent scope address) (Given v) apart = refl
+    unreached (Lent scope address) (Given v content) apart = refl
     unreached (Lent scope address) (Does x) apart = ap disturbed_mark (writes_other scope x.operation (location_of sources x.address) (location_of sources address) apart)
     unreached (Lent scope address) (Mentions v a) apart = refl
     unreached (Building object field) (Ends v) apart = refl
     unreached (Building object field) (Begins v) apart = refl
     unreached (Building object field) (Allocates v) apart = unmarked v object _ (turned v object [] (Named object ∷ Operated (cell_at object (Some field)) ∷ []) apart)
     unreached (Building object field) (Deallocates v) apart = refl
-    unreached (Building object field) (Given v) apart = refl
+    unreached (Building object field) (Given v content) apart = refl
     unreached (Building object field) (Does x) apart =
         no_mark (fills sources (cell_at object (Some field)) x.operation (location_of sources x.address)) _
         (fills_other x.operation (location_of sources x.address) (cell_at object (Some field)) (keys_of_part sources (Building object field))
@@ -193,13 +193,13 @@ module _ (sources : List Source) where
     unreached (InScope address scope) (Begins v) apart = unmarked v scope _ (turned v scope [] (Named address ∷ []) apart)
     unreached (InScope address scope) (Allocates v) apart = refl
     unreached (InScope address scope) (Deallocates v) apart = refl
-    unreached (InScope address scope) (Given v) apart = refl
+    unreached (InScope address scope) (Given v content) apart = refl
     unreached (InScope address scope) (Does x) apart = refl
     unreached (InScope address scope) (Mentions v a) apart = unmarked v address _ (named_second v address (Turned scope) _ [] apart)
     unreached (InSlot address slot) (Ends v) apart = refl
     unreached (InSlot address slot) (Begins v) apart = refl
     unreached (InSlot address slot) (Allocates v) apart = unmarked v slot _ (turned v slot [] (Named address ∷ []) apart)
     unreached (InSlot address slot) (Deallocates v) apart = unmarked v slot _ (turned v slot (root_key (location_of sources v)) (Named address ∷ []) apart)
-    unreached (InSlot address slot) (Given v) apart = refl
+    unreached (InSlot address slot) (Given v content) apart = refl
     unreached (InSlot address slot) (Does x) apart = refl
     unreached (InSlot address slot) (Mentions v a) apart = unmarked v address _ (named_second v address (Turned slot) _ [] apart)

@@ -1,6 +1,6 @@
 -- The rules of the parts' marks are those on memory that walks show.
-use Rattle.std.proofs.Common.{◌≡◌, List, [], ◌∷◌, ◌++◌, map, refl, Bool, true, false, cond, Option, Some, None}
-use Rattle.std.specs.Prelude.{◌&&◌, ◌==◌, ◌||◌}
+use Rattle.std.proofs.Common.{◌≡◌, List, [], ◌∷◌, ◌++◌, refl, Bool, true, false, cond, Option, Some, None}
+use Rattle.std.specs.Prelude.{◌&&◌, ◌==◌, ◌||◌, not}
 use Rattle.std.specs.List.{AllByRecursion, flat_map}
 use Rattle.std.specs.Option.{option_to_list}
 use Rattle.sil_ast.specs.declared.function.Function.{Function}
@@ -18,16 +18,18 @@ use Rattle.ownership_chains.specs.Facts.{known_or}
 use Rattle.ownership_chains.specs.declared.facts.Facts.{Facts}
 use Rattle.memory_accesses.specs.Accesses.{accesses_of}
 use Rattle.memory_accesses.specs.Locations.{cell_of, location_of}
-use Rattle.memory_accesses.specs.Sources.{is_slot}
+use Rattle.memory_accesses.specs.Sources.{is_slot, is_trivial_at}
+use Rattle.argument_conventions.specs.declared.row.Content.{Content}
+use Rattle.argument_conventions.specs.declared.row.Content.TheVariants.{Empty, Full}
 use Rattle.memory_accesses.specs.declared.access.Access.{Access}
 use Rattle.memory_accesses.specs.declared.access.Access.TheVariants.{Ends, Begins, Allocates, Deallocates, Given, Does, Mentions}
 use Rattle.memory_accesses.specs.declared.access.Operation.{Operation}
-use Rattle.memory_accesses.specs.declared.access.Operation.TheVariants.{FirstWrite, Read, Lend, Write, TrivialStore, InoutOperand, Take}
+use Rattle.memory_accesses.specs.declared.access.Operation.TheVariants.{FirstWrite, Read, Lend, Write, TrivialStore, Handed, Take}
 use Rattle.memory_accesses.specs.declared.location.Cell.{Cell}
 use Rattle.memory_accesses.specs.declared.location.Location.{Location}
 use Rattle.memory_accesses.specs.declared.source.Source.{Source}
 use Rattle.memory_parts.specs.Building.{fills, is_forbidden}
-use Rattle.memory_parts.specs.Contents.{at_location, counts_at_part, deallocation_mark, operation_mark, same_cell}
+use Rattle.memory_parts.specs.Contents.{at_location, counts_at_part, deallocation_mark, given_mark, handed_mark, operation_mark, same_cell}
 use Rattle.memory_parts.specs.Loans.{disturbs}
 use Rattle.memory_parts.specs.Parts.{at_return, means}
 use Rattle.memory_parts.specs.Shown.{IsShown, marks_of_access, part_marks}
@@ -52,57 +54,67 @@ where_on : (b : Bool) (m : Mark) → IsOn m → AreOn (when b m)
 where_on true m h = h
 where_on false m h = tt
 
-either_on : (b : Bool) (m n : Mark) → IsOn m → IsOn n → IsOn (cond b m n)
-either_on true m n h k = h
-either_on false m n h k = k
+handed_on : (trivial : Bool) (before after : Content) → IsOn (handed_mark trivial before after)
+handed_on trivial Full Full = (refl, refl)
+handed_on false Full Empty = (refl, refl)
+handed_on true Full Empty = (refl, refl)
+handed_on false Empty Full = (refl, refl)
+handed_on true Empty Full = (refl, refl)
+handed_on false Empty Empty = (refl, refl)
+handed_on true Empty Empty = (refl, refl)
 
-operation_on : (part : Bool) (o : Operation) → IsOn (operation_mark part o)
-operation_on part FirstWrite = (refl, refl)
-operation_on part Read = (refl, refl)
-operation_on part Lend = (refl, refl)
-operation_on part Write = (refl, refl)
-operation_on true TrivialStore = (refl, refl)
-operation_on false TrivialStore = (refl, refl)
-operation_on part InoutOperand = (refl, refl)
-operation_on part Take = (refl, refl)
+operation_on : (trivial part : Bool) (o : Operation) → IsOn (operation_mark trivial part o)
+operation_on trivial part FirstWrite = (refl, refl)
+operation_on trivial part Read = (refl, refl)
+operation_on trivial part Lend = (refl, refl)
+operation_on trivial part Write = (refl, refl)
+operation_on trivial true TrivialStore = (refl, refl)
+operation_on trivial false TrivialStore = (refl, refl)
+operation_on trivial part (Handed row) = handed_on trivial row.before row.after
+operation_on trivial part Take = (refl, refl)
 
-deallocation_on : (emptied : Bool) → IsOn (deallocation_mark emptied)
+given_on : (content : Content) → IsOn (given_mark content)
+given_on Empty = (refl, refl)
+given_on Full = (refl, refl)
+
+deallocation_on : (trivial : Bool) → IsOn (deallocation_mark trivial)
 deallocation_on true = (refl, refl)
 deallocation_on false = (refl, refl)
 
 location_on : (sources : List Source) (cell : Cell) (o : Operation) (l : Option Location) → AreOn (at_location sources cell o l)
 location_on sources cell o None = tt
 location_on sources cell o (Some l) =
-    where_on (same_cell (cell_of sources l.root) cell) (operation_mark (counts_at_part sources l o) o) (operation_on (counts_at_part sources l o) o)
+    where_on (same_cell (cell_of sources l.root) cell) (operation_mark (is_trivial_at sources l.root) (counts_at_part sources l o) o)
+    (operation_on (is_trivial_at sources l.root) (counts_at_part sources l o) o)
 
 module _ (sources : List Source) (facts : ValueId → Facts) where
   access_on : (p : Part) (a : Access) → AreOn (means sources facts p a)
-  access_on (Contents cell emptied left_full) (Ends v) = tt
-  access_on (Contents cell emptied left_full) (Begins v) = tt
-  access_on (Contents cell emptied left_full) (Allocates v) = where_on (is_same v cell.subject) _ (refl, refl)
-  access_on (Contents cell emptied left_full) (Deallocates v) = where_on (is_slot sources v && is_same v cell.subject) (deallocation_mark emptied) (deallocation_on emptied)
-  access_on (Contents cell emptied left_full) (Given v) = where_on (is_same v cell.subject) _ (refl, refl)
-  access_on (Contents cell emptied left_full) (Does x) = location_on sources cell x.operation (location_of sources x.address)
-  access_on (Contents cell emptied left_full) (Mentions v a) = tt
+  access_on (Contents cell trivial left) (Ends v) = tt
+  access_on (Contents cell trivial left) (Begins v) = tt
+  access_on (Contents cell trivial left) (Allocates v) = where_on (is_same v cell.subject) _ (refl, refl)
+  access_on (Contents cell trivial left) (Deallocates v) = where_on (is_slot sources v && is_same v cell.subject) (deallocation_mark trivial) (deallocation_on trivial)
+  access_on (Contents cell trivial left) (Given v content) = where_on (is_same v cell.subject) (given_mark content) (given_on content)
+  access_on (Contents cell trivial left) (Does x) = location_on sources cell x.operation (location_of sources x.address)
+  access_on (Contents cell trivial left) (Mentions v a) = tt
   access_on (Allocation slot) (Ends v) = tt
   access_on (Allocation slot) (Begins v) = tt
   access_on (Allocation slot) (Allocates v) = where_on (is_same v slot) _ (refl, refl)
   access_on (Allocation slot) (Deallocates v) = where_on (is_same v slot) _ (refl, refl)
-  access_on (Allocation slot) (Given v) = tt
+  access_on (Allocation slot) (Given v content) = tt
   access_on (Allocation slot) (Does x) = tt
   access_on (Allocation slot) (Mentions v a) = tt
   access_on (Lent scope address) (Ends v) = where_on (is_same v scope) _ (refl, refl)
   access_on (Lent scope address) (Begins v) = where_on (is_same v scope) _ (refl, refl)
   access_on (Lent scope address) (Allocates v) = tt
   access_on (Lent scope address) (Deallocates v) = where_on (disturbs sources address (Deallocates v)) _ (refl, refl)
-  access_on (Lent scope address) (Given v) = tt
+  access_on (Lent scope address) (Given v content) = tt
   access_on (Lent scope address) (Does x) = where_on (disturbs sources address (Does x)) _ (refl, refl)
   access_on (Lent scope address) (Mentions v a) = tt
   access_on (Building object field) (Ends v) = tt
   access_on (Building object field) (Begins v) = tt
   access_on (Building object field) (Allocates v) = where_on (is_same v object) _ (refl, refl)
   access_on (Building object field) (Deallocates v) = tt
-  access_on (Building object field) (Given v) = tt
+  access_on (Building object field) (Given v content) = tt
   access_on (Building object field) (Does x) =
       where_on (fills sources (record { subject = object; field = Some field }) x.operation (location_of sources x.address)) _ (refl, refl)
   access_on (Building object field) (Mentions v a) = where_on (is_forbidden sources facts object v a) _ (refl, refl)
@@ -110,19 +122,21 @@ module _ (sources : List Source) (facts : ValueId → Facts) where
   access_on (InScope address scope) (Begins v) = where_on (is_same v scope) _ (refl, refl)
   access_on (InScope address scope) (Allocates v) = tt
   access_on (InScope address scope) (Deallocates v) = tt
-  access_on (InScope address scope) (Given v) = tt
+  access_on (InScope address scope) (Given v content) = tt
   access_on (InScope address scope) (Does x) = tt
   access_on (InScope address scope) (Mentions v a) = where_on (is_same v address) _ (refl, refl)
   access_on (InSlot address slot) (Ends v) = tt
   access_on (InSlot address slot) (Begins v) = tt
   access_on (InSlot address slot) (Allocates v) = where_on (is_same v slot) _ (refl, refl)
   access_on (InSlot address slot) (Deallocates v) = where_on (is_same v slot) _ (refl, refl)
-  access_on (InSlot address slot) (Given v) = tt
+  access_on (InSlot address slot) (Given v content) = tt
   access_on (InSlot address slot) (Does x) = tt
   access_on (InSlot address slot) (Mentions v a) = where_on (is_same v address) _ (refl, refl)
 
 left_on : (p : Part) → AreOn (at_return p)
-left_on (Contents cell emptied left_full) = where_on left_full _ (refl, refl)
+left_on (Contents cell trivial None) = tt
+left_on (Contents cell trivial (Some Full)) = (refl, refl)
+left_on (Contents cell trivial (Some Empty)) = where_on (not trivial) _ (refl, refl)
 left_on (Allocation slot) = (refl, refl)
 left_on (Lent scope address) = tt
 left_on (Building object field) = tt

@@ -62,7 +62,7 @@ module _ (sources : List Source) (facts : ValueId → Facts) (concerned : List B
   none_met (Deallocates v) e =
       let parts = or_parts (is_concerned concerned v) (has_root concerned (location_of sources v)) e in
       All-cons IsNoKey (Turned v) (root_key (location_of sources v)) parts.0 (no_root (location_of sources v) parts.1)
-  none_met (Given v) e = one (Turned v) e
+  none_met (Given v content) e = one (Turned v) e
   none_met (Does x) e = cc
   none_met (Mentions v w) e =
       let parts = or_parts (is_concerned concerned v) (list_any (is_built sources concerned) (facts v).bases) e in

@@ -16,7 +16,7 @@ in_scope_mark address scope (Ends v) = when (is_same v scope) (turns_off rule.Ad
 in_scope_mark address scope (Begins v) = when (is_same v scope) (turns_on rule.AddressOutsideScope)
 in_scope_mark address scope (Allocates v) = None
 in_scope_mark address scope (Deallocates v) = None
-in_scope_mark address scope (Given v) = None
+in_scope_mark address scope (Given v content) = None
 in_scope_mark address scope (Does x) = None
 in_scope_mark address scope (Mentions v a) = address_mark address v
 
@@ -25,6 +25,6 @@ in_slot_mark address slot (Ends v) = None
 in_slot_mark address slot (Begins v) = None
 in_slot_mark address slot (Allocates v) = when (is_same v slot) (turns_on rule.AddressOutsideScope)
 in_slot_mark address slot (Deallocates v) = when (is_same v slot) (turns_off rule.AddressOutsideScope)
-in_slot_mark address slot (Given v) = None
+in_slot_mark address slot (Given v content) = None
 in_slot_mark address slot (Does x) = None
 in_slot_mark address slot (Mentions v a) = address_mark address v

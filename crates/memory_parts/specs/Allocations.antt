@@ -13,7 +13,7 @@ allocation_mark slot (Ends v) = None
 allocation_mark slot (Begins v) = None
 allocation_mark slot (Allocates v) = when (is_same v slot) (needs_off_turns_on rule.StackOrder)
 allocation_mark slot (Deallocates v) = when (is_same v slot) (needs_on_turns_off rule.StackOrder)
-allocation_mark slot (Given v) = None
+allocation_mark slot (Given v content) = None
 allocation_mark slot (Does x) = None
 allocation_mark slot (Mentions v a) = None
 

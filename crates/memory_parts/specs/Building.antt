@@ -57,7 +57,7 @@ building_mark sources facts object field (Ends v) = None
 building_mark sources facts object field (Begins v) = None
 building_mark sources facts object field (Allocates v) = when (is_same v object) (turns_on rule.FieldNotBuilt)
 building_mark sources facts object field (Deallocates v) = None
-building_mark sources facts object field (Given v) = None
+building_mark sources facts object field (Given v content) = None
 building_mark sources facts object field (Does x) =
     when (fills sources (record { subject = object; field = Some field }) x.operation (location_of sources x.address)) (turns_off rule.FieldNotBuilt)
 building_mark sources facts object field (Mentions v a) = when (is_forbidden sources facts object v a) (needs_off rule.FieldNotBuilt)

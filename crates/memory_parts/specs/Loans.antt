@@ -1,10 +1,11 @@
 -- A loan: on while the scope is open that borrows what a location holds. 606.
-use Rattle.std.specs.Prelude.{List, Bool, true, false, ◌&&◌, Option, Some, None}
+use Rattle.std.specs.Prelude.{List, Bool, true, false, not, ◌&&◌, Option, Some, None}
+use Rattle.argument_conventions.specs.Rows.{only_reads}
 use Rattle.sil_ast.specs.declared.place.ValueId.{ValueId}
 use Rattle.memory_accesses.specs.declared.access.Access.{Access}
 use Rattle.memory_accesses.specs.declared.access.Access.TheVariants.{Ends, Begins, Allocates, Deallocates, Given, Does, Mentions}
 use Rattle.memory_accesses.specs.declared.access.Operation.{Operation}
-use Rattle.memory_accesses.specs.declared.access.Operation.TheVariants.{FirstWrite, Read, Lend, Write, TrivialStore, InoutOperand, Take}
+use Rattle.memory_accesses.specs.declared.access.Operation.TheVariants.{FirstWrite, Read, Lend, Write, TrivialStore, Handed, Take}
 use Rattle.memory_accesses.specs.declared.location.Location.{Location}
 use Rattle.memory_accesses.specs.declared.source.Source.{Source}
 use Rattle.memory_accesses.specs.Locations.{cell_of, do_overlap, location_of}
@@ -21,7 +22,7 @@ writes part Read = false
 writes part Lend = false
 writes part Write = true
 writes part TrivialStore = part
-writes part InoutOperand = true
+writes part (Handed row) = not (only_reads row)
 writes part Take = true
 
 abbrev pub writes_at : Option Location → Operation → Bool
@@ -34,7 +35,7 @@ disturbs sources address (Ends v) = false
 disturbs sources address (Begins v) = false
 disturbs sources address (Allocates v) = false
 disturbs sources address (Deallocates v) = do_overlap sources v address
-disturbs sources address (Given v) = false
+disturbs sources address (Given v content) = false
 disturbs sources address (Does x) = writes_at (location_of sources x.address) x.operation && do_overlap sources x.address address
 disturbs sources address (Mentions v a) = false
 
@@ -46,7 +47,7 @@ loan_mark sources scope address (Ends v) = when (is_same v scope) (turns_off rul
 loan_mark sources scope address (Begins v) = when (is_same v scope) (turns_on rule.WriteWhileBorrowed)
 loan_mark sources scope address (Allocates v) = None
 loan_mark sources scope address (Deallocates v) = disturbed_mark (disturbs sources address (Deallocates v))
-loan_mark sources scope address (Given v) = None
+loan_mark sources scope address (Given v content) = None
 loan_mark sources scope address (Does x) = disturbed_mark (disturbs sources address (Does x))
 loan_mark sources scope address (Mentions v a) = None
 
@@ -60,6 +61,6 @@ root_of sources (Ends v) = None
 root_of sources (Begins v) = None
 root_of sources (Allocates v) = None
 root_of sources (Deallocates v) = shown_root sources (location_of sources v)
-root_of sources (Given v) = None
+root_of sources (Given v content) = None
 root_of sources (Does x) = shown_root sources (location_of sources x.address)
 root_of sources (Mentions v a) = None

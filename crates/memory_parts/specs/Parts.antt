@@ -4,6 +4,7 @@ use Rattle.std.specs.List.{flat_map, range_with_len}
 use Rattle.sil_ast.specs.declared.place.ValueId.{ValueId}
 use Rattle.ownership_chains.specs.Facts.{value_of}
 use Rattle.ownership_chains.specs.declared.facts.Facts.{Facts}
+use Rattle.argument_conventions.specs.declared.row.AddressRow.{AddressRow}
 use Rattle.memory_accesses.specs.declared.access.Access.{Access}
 use Rattle.memory_accesses.specs.declared.location.Cell.{Cell}
 use Rattle.memory_accesses.specs.declared.location.Location.{Location}
@@ -15,7 +16,7 @@ use Rattle.path_patterns.specs.declared.mark.Mark.{Mark}
 use Rattle.memory_parts.specs.Addresses.{in_scope_mark, in_slot_mark}
 use Rattle.memory_parts.specs.Allocations.{allocation_mark, left_allocated_mark}
 use Rattle.memory_parts.specs.Building.{building_mark}
-use Rattle.memory_parts.specs.Contents.{contents_mark, left_full_mark}
+use Rattle.memory_parts.specs.Contents.{contents_mark, left_mark}
 use Rattle.memory_parts.specs.Loans.{loan_mark}
 use Rattle.memory_parts.specs.declared.part.Part.{Part}
 use Rattle.memory_parts.specs.declared.part.Part.TheVariants.{Contents, Allocation, Lent, Building, InScope, InSlot}
@@ -24,12 +25,12 @@ abbrev pub whole_cell : ValueId → Cell
 whole_cell v = record { subject = v; field = None }
 
 abbrev pub is_scope_source : Source → Bool
-is_scope_source (source.Slot emptied) = false
-is_scope_source source.Inout = false
+is_scope_source (source.Slot trivial) = false
+is_scope_source (source.Argument row trivial) = false
 is_scope_source (source.Object fields) = false
 is_scope_source (source.Borrow of) = true
 is_scope_source (source.Loan of) = true
-is_scope_source (source.Field of k) = false
+is_scope_source (source.Field of k trivial) = false
 is_scope_source (source.Part of k) = false
 is_scope_source source.Other = false
 
@@ -38,7 +39,7 @@ is_scope sources v = is_scope_source (source_at sources v)
 
 -- one part for each field: what it holds, and whether it is still to be written
 abbrev pub field_parts : ValueId → ℕ → List Part
-field_parts object k = Contents (record { subject = object; field = Some k }) false false ∷ Building object k ∷ []
+field_parts object k = Contents (record { subject = object; field = Some k }) false None ∷ Building object k ∷ []
 
 abbrev pub scope_part : List Source → ValueId → ValueId → List Part
 scope_part sources address base = cond (is_scope sources base) (InScope address base ∷ []) []
@@ -48,12 +49,12 @@ abbrev pub scope_parts : List Source → ValueId → List ValueId → List Part
 scope_parts sources address bases = flat_map (scope_part sources address) bases
 
 abbrev pub slot_part : ValueId → ValueId → Source → List Part
-slot_part address root (source.Slot emptied) = InSlot address root ∷ []
-slot_part address root source.Inout = []
+slot_part address root (source.Slot trivial) = InSlot address root ∷ []
+slot_part address root (source.Argument row trivial) = []
 slot_part address root (source.Object fields) = []
 slot_part address root (source.Borrow of) = []
 slot_part address root (source.Loan of) = []
-slot_part address root (source.Field of k) = []
+slot_part address root (source.Field of k trivial) = []
 slot_part address root (source.Part of k) = []
 slot_part address root source.Other = []
 
@@ -66,15 +67,19 @@ abbrev pub address_parts : List Source → Facts → ValueId → List Part
 address_parts sources f address = scope_parts sources address f.bases ++ slot_part_at sources address (location_of sources address)
 
 abbrev pub slot_parts : List Source → Facts → ValueId → Bool → List Part
-slot_parts sources f slot emptied = Contents (whole_cell slot) emptied false ∷ Allocation slot ∷ address_parts sources f slot
+slot_parts sources f slot trivial = Contents (whole_cell slot) trivial None ∷ Allocation slot ∷ address_parts sources f slot
+
+-- where an argument may be shared, it is full on all walks
+abbrev pub argument_parts : ValueId → AddressRow → Bool → List Part
+argument_parts v row trivial = cond row.shared [] (Contents (whole_cell v) trivial (Some row.after) ∷ [])
 
 abbrev pub parts_by : List Source → Facts → ValueId → Source → List Part
-parts_by sources f v (source.Slot emptied) = slot_parts sources f v emptied
-parts_by sources f v source.Inout = Contents (whole_cell v) false true ∷ []
+parts_by sources f v (source.Slot trivial) = slot_parts sources f v trivial
+parts_by sources f v (source.Argument row trivial) = argument_parts v row trivial
 parts_by sources f v (source.Object fields) = flat_map (field_parts v) (range_with_len 0 fields)
 parts_by sources f v (source.Borrow of) = []
 parts_by sources f v (source.Loan of) = Lent v of ∷ []
-parts_by sources f v (source.Field of k) = address_parts sources f v
+parts_by sources f v (source.Field of k trivial) = address_parts sources f v
 parts_by sources f v (source.Part of k) = address_parts sources f v
 parts_by sources f v source.Other = []
 
@@ -89,7 +94,7 @@ module _ (sources : List Source) (facts : ValueId → Facts) where
 
   -- what an access means to a part
   abbrev pub means : Part → Access → Option Mark
-  means (Contents cell emptied left_full) a = contents_mark sources cell emptied a
+  means (Contents cell trivial left) a = contents_mark sources cell trivial a
   means (Allocation slot) a = allocation_mark slot a
   means (Lent scope address) a = loan_mark sources scope address a
   means (Building object field) a = building_mark sources facts object field a
@@ -98,7 +103,7 @@ module _ (sources : List Source) (facts : ValueId → Facts) where
 
 -- what a `return` means to it
 abbrev pub at_return : Part → Option Mark
-at_return (Contents cell emptied left_full) = left_full_mark left_full
+at_return (Contents cell trivial left) = left_mark trivial left
 at_return (Allocation slot) = left_allocated_mark
 at_return (Lent scope address) = None
 at_return (Building object field) = None
@@ -106,7 +111,7 @@ at_return (InScope address scope) = None
 at_return (InSlot address slot) = None
 
 abbrev pub subject_of : Part → ValueId
-subject_of (Contents cell emptied left_full) = cell.subject
+subject_of (Contents cell trivial left) = cell.subject
 subject_of (Allocation slot) = slot
 subject_of (Lent scope address) = scope
 subject_of (Building object field) = object

@@ -24,7 +24,7 @@ use Rattle.memory_parts.specs.declared.part.Part.{Part}
 use Rattle.memory_parts.specs.declared.part.Part.TheVariants.{Contents, Allocation, Lent, Building, InScope, InSlot}
 
 abbrev pub first_root : List Source → Part → List Access → Option ValueId
-first_root sources (Contents cell emptied left_full) accesses = None
+first_root sources (Contents cell trivial left) accesses = None
 first_root sources (Allocation slot) accesses = None
 first_root sources (Lent scope address) accesses = option_and_then (root_of sources) (find (disturbs sources address) accesses)
 first_root sources (Building object field) accesses = None

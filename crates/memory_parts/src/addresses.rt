@@ -30,7 +30,8 @@ pub(crate) fn in_scope_mark(address: ValueId, scope: ValueId, access: Access) ->
         ),
         Access::Begins(v) => when(is_same(v, scope), Mark::turns_on(Rule::AddressOutsideScope)),
         Access::Mentions { value, .. } => address_mark(address, value),
-        Access::Allocates(_) | Access::Deallocates(_) | Access::Given(_) | Access::Does(_) => None,
+        Access::Allocates(_) | Access::Deallocates(_) | Access::Given(_, _) | Access::Does(_) =>
+            None,
     }
 }
 
@@ -45,6 +46,6 @@ pub(crate) fn in_slot_mark(address: ValueId, slot: ValueId, access: Access) -> O
             Mark::turns_off(Rule::AddressOutsideScope),
         ),
         Access::Mentions { value, .. } => address_mark(address, value),
-        Access::Ends(_) | Access::Begins(_) | Access::Given(_) | Access::Does(_) => None,
+        Access::Ends(_) | Access::Begins(_) | Access::Given(_, _) | Access::Does(_) => None,
     }
 }

@@ -14,7 +14,7 @@ pub(crate) fn allocation_mark(slot: ValueId, access: Access) -> Option<Mark>
     ensures { result ≡ allocations.allocation_mark slot access }
 {
     match access {
-        Access::Ends(_) | Access::Begins(_) | Access::Given(_) | Access::Does(_) => None,
+        Access::Ends(_) | Access::Begins(_) | Access::Given(_, _) | Access::Does(_) => None,
         Access::Mentions { .. } => None,
         Access::Allocates(v) => when(is_same(v, slot), Mark::needs_off_turns_on(Rule::StackOrder)),
         Access::Deallocates(v) => when(

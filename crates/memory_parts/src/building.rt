@@ -98,7 +98,7 @@ pub(crate) fn building_mark(
     ensures { result ≡ building.building_mark m.now (facts_of k.now) object field access }
 {
     match access {
-        Access::Ends(_) | Access::Begins(_) | Access::Deallocates(_) | Access::Given(_) => None,
+        Access::Ends(_) | Access::Begins(_) | Access::Deallocates(_) | Access::Given(_, _) => None,
         Access::Allocates(v) => when(is_same(v, object), Mark::turns_on(Rule::FieldNotBuilt)),
         Access::Does(x) => {
             let cell = Cell {

@@ -7,7 +7,6 @@ ghost use Rattle.ownership_marks.specs.Known.{facts_of};
 ghost use Rattle.memory_parts.specs.inner.Concerned as values;
 ghost use Rattle.memory_parts.specs.inner.Concerned.{AreConcerned, IsConcerned, Keeps};
 ghost use Rattle.memory_parts.specs.inner.Keys.{root_key};
-ghost use Rattle.memory_parts.specs.declared.key.Key.{Key};
 
 use crate::index::value_row;
 use crate::part::Part;
@@ -115,7 +114,7 @@ pub(crate) fn may_mean(concerned: &[bool], m: &Memory, k: &Kinds, access: Access
 {
     match access {
         Access::Ends(v) | Access::Begins(v) | Access::Allocates(v) => is_concerned(concerned, v),
-        Access::Given(v) => is_concerned(concerned, v),
+        Access::Given(v, _) => is_concerned(concerned, v),
         Access::Deallocates(v) => is_concerned(concerned, v) || has_root(concerned, m.location(v)),
         Access::Does(_) => true,
         Access::Mentions { value, .. } => {

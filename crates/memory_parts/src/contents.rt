@@ -5,6 +5,7 @@ ghost use Rattle.std.specs.Option.{option_copied};
 ghost use Rattle.memory_parts.specs.Contents as contents;
 
 use crate::switch::{is_same, when};
+use argument_conventions::Content;
 use memory_accesses::{Access, Cell, Location, Memory, Operation};
 use path_patterns::Mark;
 use sil_rules::Rule;
@@ -33,9 +34,29 @@ fn same_cell(a: Cell, b: Cell) -> bool
     is_same(a.subject, b.subject) && same_field(a.field, b.field)
 }
 
-/// A first write fills the empty cell, and a take empties the full one. A trivial store to the whole fills it, whatever it was; all else needs it full.
-fn operation_mark(part: bool, operation: Operation) -> Mark
-    ensures { result ≡ contents.operation_mark part operation }
+/// What a call needs and leaves by its row. Where the type is trivial, empty is met by any state, and nothing is emptied.
+fn handed_mark(trivial: bool, before: Content, after: Content) -> Mark
+    ensures { result ≡ contents.handed_mark trivial before after }
+{
+    match (before, after, trivial) {
+        (Content::Full, Content::Full, _) => Mark::needs_on(Rule::LoadUninitialised),
+        (Content::Full, Content::Empty, false) => Mark::needs_on_turns_off(Rule::LoadUninitialised),
+        (Content::Full, Content::Empty, true) => Mark::needs_on(Rule::LoadUninitialised),
+        (Content::Empty, Content::Full, false) => Mark::needs_off_turns_on(Rule::InitTwice),
+        (Content::Empty, Content::Full, true) => Mark::turns_on(Rule::InitTwice),
+        (Content::Empty, Content::Empty, false) => Mark::needs_off(Rule::InitTwice),
+        (Content::Empty, Content::Empty, true) => Mark {
+            needs: None,
+            turns: None,
+            rule: Rule::InitTwice,
+        },
+    }
+}
+
+/// A first write fills the empty cell, a take empties the full one, and a call does as its row says. A trivial store to the whole fills it,
+/// whatever it was; all else needs it full.
+fn operation_mark(trivial: bool, part: bool, operation: Operation) -> Mark
+    ensures { result ≡ contents.operation_mark trivial part operation }
 {
     match operation {
         Operation::FirstWrite => Mark::needs_off_turns_on(Rule::InitTwice),
@@ -49,7 +70,7 @@ fn operation_mark(part: bool, operation: Operation) -> Mark
         }
         Operation::Read | Operation::Lend => Mark::needs_on(Rule::LoadUninitialised),
         Operation::Write => Mark::needs_on(Rule::LoadUninitialised),
-        Operation::InoutOperand => Mark::needs_on(Rule::LoadUninitialised),
+        Operation::Handed(row) => handed_mark(trivial, row.before, row.after),
     }
 }
 
@@ -66,25 +87,38 @@ pub(crate) fn at_location(
         None => None,
         Some(l) => when(
             same_cell(m.cell(l.root), cell),
-            operation_mark(counts_at_part(m, l, operation), operation),
+            operation_mark(
+                m.is_trivial_at(l.root),
+                counts_at_part(m, l, operation),
+                operation,
+            ),
         ),
     }
 }
 
-/// Where the cell is `emptied` it may not be full when it is deallocated, and it never is behind that.
-fn deallocation_mark(emptied: bool) -> Mark
-    ensures { result ≡ contents.deallocation_mark emptied }
+/// A slot is empty when it is deallocated, unless it is of a trivial type, and it is behind that.
+fn deallocation_mark(trivial: bool) -> Mark
+    ensures { result ≡ contents.deallocation_mark trivial }
 {
-    if emptied {
-        Mark::needs_off(Rule::LeftInitialised)
-    } else {
+    if trivial {
         Mark::turns_off(Rule::LeftInitialised)
+    } else {
+        Mark::needs_off(Rule::LeftInitialised)
+    }
+}
+
+fn given_mark(content: Content) -> Mark
+    ensures { result ≡ contents.given_mark content }
+{
+    match content {
+        Content::Empty => Mark::turns_off(Rule::LoadUninitialised),
+        Content::Full => Mark::turns_on(Rule::LoadUninitialised),
     }
 }
 
 /// What an access means to the contents of a cell.
-pub(crate) fn contents_mark(m: &Memory, cell: Cell, emptied: bool, access: Access) -> Option<Mark>
-    ensures { result ≡ contents.contents_mark m.now cell emptied access }
+pub(crate) fn contents_mark(m: &Memory, cell: Cell, trivial: bool, access: Access) -> Option<Mark>
+    ensures { result ≡ contents.contents_mark m.now cell trivial access }
 {
     match access {
         Access::Ends(_) | Access::Begins(_) => None,
@@ -95,19 +129,20 @@ pub(crate) fn contents_mark(m: &Memory, cell: Cell, emptied: bool, access: Acces
         ),
         Access::Deallocates(v) => when(
             m.is_slot(v) && is_same(v, cell.subject),
-            deallocation_mark(emptied),
+            deallocation_mark(trivial),
         ),
-        Access::Given(v) => when(
-            is_same(v, cell.subject),
-            Mark::turns_on(Rule::LoadUninitialised),
-        ),
+        Access::Given(v, content) => when(is_same(v, cell.subject), given_mark(content)),
         Access::Does(x) => at_location(m, cell, x.operation, m.location(x.address)),
     }
 }
 
-/// Where the cell is `left_full` it is full at a `return`.
-pub(crate) fn left_full_mark(left_full: bool) -> Option<Mark>
-    ensures { result ≡ contents.left_full_mark left_full }
+/// At a `return` an argument's location is as its row says.
+pub(crate) fn left_mark(trivial: bool, left: Option<Content>) -> Option<Mark>
+    ensures { result ≡ contents.left_mark trivial left }
 {
-    when(left_full, Mark::needs_on(Rule::InoutLeftUninitialised))
+    match left {
+        None => None,
+        Some(Content::Full) => Some(Mark::needs_on(Rule::InoutLeftUninitialised)),
+        Some(Content::Empty) => when(!trivial, Mark::needs_off(Rule::LeftInitialised)),
+    }
 }

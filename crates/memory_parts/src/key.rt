@@ -112,7 +112,7 @@ pub(crate) fn add_keys_of_access(
 {
     match access {
         Access::Ends(v) | Access::Begins(v) => found.push(Key::Turned(v))?,
-        Access::Allocates(v) | Access::Given(v) => found.push(Key::Turned(v))?,
+        Access::Allocates(v) | Access::Given(v, _) => found.push(Key::Turned(v))?,
         Access::Deallocates(v) => {
             found.push(Key::Turned(v))?;
             add_root(found, m.location(v))?;

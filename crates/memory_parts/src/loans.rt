@@ -17,7 +17,8 @@ pub(crate) fn writes(part: bool, operation: Operation) -> bool
 {
     match operation {
         Operation::FirstWrite | Operation::Read | Operation::Lend => false,
-        Operation::Write | Operation::InoutOperand | Operation::Take => true,
+        Operation::Write | Operation::Take => true,
+        Operation::Handed(row) => !row.only_reads(),
         Operation::TrivialStore => part,
     }
 }
@@ -37,7 +38,7 @@ pub(crate) fn disturbs(m: &Memory, address: ValueId, access: Access) -> bool
     ensures { result ≡ loans.disturbs m.now address access }
 {
     match access {
-        Access::Ends(_) | Access::Begins(_) | Access::Allocates(_) | Access::Given(_) => false,
+        Access::Ends(_) | Access::Begins(_) | Access::Allocates(_) | Access::Given(_, _) => false,
         Access::Mentions { .. } => false,
         Access::Deallocates(v) => m.do_overlap(v, address),
         Access::Does(x) => {
@@ -58,7 +59,7 @@ pub(crate) fn loan_mark(
     match access {
         Access::Ends(v) => when(is_same(v, scope), Mark::turns_off(Rule::WriteWhileBorrowed)),
         Access::Begins(v) => when(is_same(v, scope), Mark::turns_on(Rule::WriteWhileBorrowed)),
-        Access::Allocates(_) | Access::Given(_) => None,
+        Access::Allocates(_) | Access::Given(_, _) => None,
         Access::Mentions { .. } => None,
         Access::Deallocates(_) | Access::Does(_) => {
             when(
@@ -83,7 +84,7 @@ pub(crate) fn root_of(m: &Memory, access: Access) -> Option<ValueId>
     ensures { result ≡ loans.root_of m.now access }
 {
     match access {
-        Access::Ends(_) | Access::Begins(_) | Access::Allocates(_) | Access::Given(_) => None,
+        Access::Ends(_) | Access::Begins(_) | Access::Allocates(_) | Access::Given(_, _) => None,
         Access::Mentions { .. } => None,
         Access::Deallocates(v) => shown_root(m, m.location(v)),
         Access::Does(x) => shown_root(m, m.location(x.address)),

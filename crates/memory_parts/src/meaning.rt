@@ -7,7 +7,7 @@ ghost use Rattle.memory_parts.specs.Parts as parts;
 use crate::addresses::{in_scope_mark, in_slot_mark};
 use crate::allocations::{allocation_mark, left_allocated_mark};
 use crate::building::building_mark;
-use crate::contents::{contents_mark, left_full_mark};
+use crate::contents::{contents_mark, left_mark};
 use crate::loans::loan_mark;
 use crate::part::Part;
 use memory_accesses::{Access, Memory};
@@ -22,9 +22,9 @@ pub(crate) fn means(m: &Memory, k: &Kinds, part: Part, access: Access) -> Option
     match part {
         Part::Contents {
             cell,
-            emptied,
-            left_full: _,
-        } => contents_mark(m, cell, emptied, access),
+            trivial,
+            left: _,
+        } => contents_mark(m, cell, trivial, access),
         Part::Allocation { slot } => allocation_mark(slot, access),
         Part::Lent { scope, address } => loan_mark(m, scope, address, access),
         Part::Building { object, field } => building_mark(m, k, object, field, access),
@@ -38,7 +38,7 @@ pub(crate) fn at_return(part: Part) -> Option<Mark>
     ensures { result ≡ parts.at_return part }
 {
     match part {
-        Part::Contents { left_full, .. } => left_full_mark(left_full),
+        Part::Contents { trivial, left, .. } => left_mark(trivial, left),
         Part::Allocation { .. } => left_allocated_mark(),
         Part::Lent { .. } | Part::Building { .. } | Part::InScope { .. } | Part::InSlot { .. } => {
             None

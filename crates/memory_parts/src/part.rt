@@ -1,16 +1,17 @@
 //! The parts of the patterns of memory: each is a switch by itself.
 
+use argument_conventions::Content;
 use memory_accesses::Cell;
 use sil_ast::ValueId;
 
 /// A pattern of memory at one subject, or the part of it that is followed by itself.
 #[derive(Clone, Copy, Debug, PartialEq, Eq)]
 pub enum Part {
-    /// Whether a cell is full. Where it is `emptied` it may not be when it is deallocated, and where it is `left_full` it must be at a `return`.
+    /// Whether a cell is full. Unless it is `trivial` it may not be when it is deallocated. At a `return` it is as `left` says, if that says anything.
     Contents {
         cell: Cell,
-        emptied: bool,
-        left_full: bool,
+        trivial: bool,
+        left: Option<Content>,
     },
     /// Whether a slot is allocated.
     Allocation {

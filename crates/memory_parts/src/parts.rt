@@ -8,6 +8,7 @@ ghost use Rattle.ownership_marks.specs.Known.{facts_of};
 ghost use Rattle.memory_parts.specs.Parts as parts;
 
 use crate::part::Part;
+use argument_conventions::AddressRow;
 use memory_accesses::{Cell, Memory, Source};
 use ownership_marks::Kinds;
 use sil_ast::{Exhausted, ValueId};
@@ -27,7 +28,7 @@ fn is_scope(m: &Memory, value: ValueId) -> bool
 {
     match m.source(value) {
         Source::Borrow { .. } | Source::Loan { .. } => true,
-        Source::Slot { .. } | Source::Inout | Source::Object { .. } => false,
+        Source::Slot { .. } | Source::Argument { .. } | Source::Object { .. } => false,
         Source::Field { .. } | Source::Part { .. } => false,
         Source::Other => false,
     }
@@ -42,8 +43,8 @@ fn add_field(found: &mut Vec<Part>, object: ValueId, field: usize) -> Result<(),
             subject: object,
             field: Some(field),
         },
-        emptied: false,
-        left_full: false,
+        trivial: false,
+        left: None,
     })?;
     found.push(Part::Building { object, field })?;
     Ok(())
@@ -93,7 +94,7 @@ fn add_slot(found: &mut Vec<Part>, m: &Memory, address: ValueId) -> Result<(), E
                 })?;
                 Ok(())
             }
-            Source::Inout | Source::Object { .. } | Source::Borrow { .. } => Ok(()),
+            Source::Argument { .. } | Source::Object { .. } | Source::Borrow { .. } => Ok(()),
             Source::Loan { .. } | Source::Other => Ok(()),
             Source::Field { .. } | Source::Part { .. } => Ok(()),
         },
@@ -120,17 +121,36 @@ fn add_slot_parts(
     m: &Memory,
     k: &Kinds,
     slot: ValueId,
-    emptied: bool,
+    trivial: bool,
 ) -> Result<(), Exhausted>
-    ensures { OnOk result (found.new.items ≡ found.old.items ++ parts.slot_parts m.now (facts_of k.now slot) slot emptied) }
+    ensures { OnOk result (found.new.items ≡ found.old.items ++ parts.slot_parts m.now (facts_of k.now slot) slot trivial) }
 {
     found.push(Part::Contents {
         cell: whole_cell(slot),
-        emptied,
-        left_full: false,
+        trivial,
+        left: None,
     })?;
     found.push(Part::Allocation { slot })?;
     add_address(found, m, k, slot)?;
+    Ok(())
+}
+
+/// What an argument holds, unless it may be shared: then it is full on all walks.
+fn add_argument(
+    found: &mut Vec<Part>,
+    value: ValueId,
+    row: AddressRow,
+    trivial: bool,
+) -> Result<(), Exhausted>
+    ensures { OnOk result (found.new.items ≡ found.old.items ++ parts.argument_parts value row trivial) }
+{
+    if !row.shared {
+        found.push(Part::Contents {
+            cell: whole_cell(value),
+            trivial,
+            left: Some(row.after),
+        })?;
+    }
     Ok(())
 }
 
@@ -139,15 +159,8 @@ fn add_parts(found: &mut Vec<Part>, m: &Memory, k: &Kinds, value: ValueId) -> Re
     ensures { OnOk result (found.new.items ≡ found.old.items ++ parts.parts_by m.now (facts_of k.now value) value (source_at m.now value)) }
 {
     match m.source(value) {
-        Source::Slot { emptied } => add_slot_parts(found, m, k, value, emptied),
-        Source::Inout => {
-            found.push(Part::Contents {
-                cell: whole_cell(value),
-                emptied: false,
-                left_full: true,
-            })?;
-            Ok(())
-        }
+        Source::Slot { trivial } => add_slot_parts(found, m, k, value, trivial),
+        Source::Argument { row, trivial } => add_argument(found, value, row, trivial),
         Source::Object { fields } => add_fields(found, value, fields),
         Source::Borrow { .. } | Source::Other => Ok(()),
         Source::Loan { of } => {

@@ -1,6 +1,6 @@
 //! The search of walks for a break of some of the parts.
 
-ghost use Rattle.std.specs.Prelude.{◌≡◌, ◌≤◌, IfOk, IfSome, length};
+ghost use Rattle.std.specs.Prelude.{◌≤◌, IfOk, IfSome, length};
 ghost use Rattle.sil_cfg.specs.inner.Build.{IsGraphOf};
 ghost use Rattle.memory_parts.specs.inner.Batches.{AreReturns, IsFirstNumber};
 ghost use Rattle.memory_parts.specs.inner.Index.{IsIndexOf};

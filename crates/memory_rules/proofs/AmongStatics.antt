@@ -18,12 +18,11 @@ use Rattle.point_checks.proofs.FaultsOf.{IsFound, found, inst_in_faults}
 use Rattle.point_checks.proofs.FaultsOf.IsFound.{at_args, at_inst}
 use Rattle.memory_accesses.specs.declared.access.Operated.{Operated}
 use Rattle.memory_accesses.specs.declared.source.Source.{Source}
-use Rattle.memory_accesses.specs.Locations.{do_overlap}
 use Rattle.memory_accesses.specs.Operations.{addresses_of, deallocates, operations_of}
 use Rattle.memory_rules.specs.inner.StaticFaults.{deallocation_faults, lacking_faults, no_args_faults, no_slot_faults, operated_faults}
 use Rattle.memory_rules.specs.inner.StaticFaults.{other_by, overlap_faults, pair_faults, statics_at, statics_of}
-use Rattle.memory_rules.specs.Statics.{IsBrokenAt, OperandPair, address_in, crossed_with, crosses, is_no_slot}
-use Rattle.memory_rules.specs.Statics.{lacking_at, lacks, pairs_of, passed_of, second_of}
+use Rattle.memory_rules.specs.Statics.{AddressPair, IsBrokenAt, address_in, crossed_with, crosses, do_clash, handed_of, is_no_slot}
+use Rattle.memory_rules.specs.Statics.{lacking_at, lacks, pairs_of, second_of}
 use Rattle.memory_rules.specs.Statics.IsBrokenAt.{overlapping, lacking}
 
 -- what is found is one of the list, and passes
@@ -82,7 +81,7 @@ same_value a b h = let same : a.0 ≡ b.0 = grind (arith, nat_tests) in ap (λ n
 value_same : (a b : ValueId) → a.0 ≡ b.0 → (a.0 == b.0) ≡ true
 value_same a b e = grind (arith, nat_tests)
 
-mapped_some : (o : Option OperandPair) (b : ValueId) → option_map second_of o ≡ Some b → (p : OperandPair) × (o ≡ Some p)
+mapped_some : (o : Option AddressPair) (b : ValueId) → option_map second_of o ≡ Some b → (p : AddressPair) × (o ≡ Some p)
 mapped_some None b h = absurd cc
 mapped_some (Some p) b h = (p, refl)
 
@@ -93,25 +92,25 @@ module _ (sources : List Source) (f : Function) where
 
   -- what is among the faults is broken
 
-  pair_breaks : (n k : ℕ) (i : Inst) (p : OperandPair) → IsAt f n k i → Among p (pairs_of (passed_of i)) → do_overlap sources p.first p.second ≡ true →
-      Breaks (fault_at n k rule.InoutOverlap p.first) i
-  pair_breaks n k i p at among over o is = with_other (some_found (crosses sources p.first) (pairs_of (passed_of i)) p among crossing)
+  pair_breaks : (n k : ℕ) (i : Inst) (p : AddressPair) → IsAt f n k i → Among p (pairs_of (handed_of i)) → do_clash sources p ≡ true →
+      Breaks (fault_at n k rule.InoutOverlap p.first.address) i
+  pair_breaks n k i p at among over o is = with_other (some_found (crosses sources p.first.address) (pairs_of (handed_of i)) p among crossing)
     where
-      crossing : crosses sources p.first p ≡ true
-      crossing = ap (λ b. b && do_overlap sources p.first p.second) (value_same p.first p.first refl) ∙ over
+      crossing : crosses sources p.first.address p ≡ true
+      crossing = ap (λ b. b && do_clash sources p) (value_same p.first.address p.first.address refl) ∙ over
 
-      with_other : (q : OperandPair) × (find (crosses sources p.first) (pairs_of (passed_of i)) ≡ Some q) → IsBrokenAt sources f rule.InoutOverlap p.first o n k
+      with_other : (q : AddressPair) × (find (crosses sources p.first.address) (pairs_of (handed_of i)) ≡ Some q) → IsBrokenAt sources f rule.InoutOverlap p.first.address o n k
       with_other q =
-          let found : crossed_with sources i p.first ≡ Some q.0.second = ap (option_map second_of) q.1 in
-          subst (λ x. IsBrokenAt sources f rule.InoutOverlap p.first x n k) (sym (is ∙ found)) (overlapping n k i p.first q.0.second at found)
+          let found : crossed_with sources i p.first.address ≡ Some q.0.second.address = ap (option_map second_of) q.1 in
+          subst (λ x. IsBrokenAt sources f rule.InoutOverlap p.first.address x n k) (sym (is ∙ found)) (overlapping n k i p.first.address q.0.second.address at found)
 
   overlap_breaks : (n k : ℕ) (i : Inst) (y : PointFault) → IsAt f n k i → Among y (overlap_faults sources n k i) → Breaks y i
-  overlap_breaks n k i y at h = by (flat_among (pair_faults sources n k) y (pairs_of (passed_of i)) h)
+  overlap_breaks n k i y at h = by (flat_among (pair_faults sources n k) y (pairs_of (handed_of i)) h)
     where
-      by : (p : OperandPair) × Among p (pairs_of (passed_of i)) × Among y (pair_faults sources n k p) → Breaks y i
+      by : (p : AddressPair) × Among p (pairs_of (handed_of i)) × Among y (pair_faults sources n k p) → Breaks y i
       by r =
-          let w : (do_overlap sources r.0.first r.0.second ≡ true) × (y ≡ fault_at n k rule.InoutOverlap r.0.first) =
-          where_among (do_overlap sources r.0.first r.0.second) (fault_at n k rule.InoutOverlap r.0.first) y r.2 in
+          let w : (do_clash sources r.0 ≡ true) × (y ≡ fault_at n k rule.InoutOverlap r.0.first.address) =
+          where_among (do_clash sources r.0) (fault_at n k rule.InoutOverlap r.0.first.address) y r.2 in
           subst (λ z. Breaks z i) (sym w.1) (pair_breaks n k i r.0 at r.1 w.0)
 
   address_breaks : (n k : ℕ) (i : Inst) (a : ValueId) → IsAt f n k i → Among a (lacking_at sources i) → Breaks (fault_at n k rule.PartialAccess a) i
@@ -168,8 +167,8 @@ module _ (sources : List Source) (f : Function) where
       at : (r : Rule) (v : ValueId) → y ≡ fault_at n k r v → (y.point.block.0 ≡ n) × (y.point.index ≡ k)
       at r v e = (ap (λ z. z.point.block.0) e, ap (λ z. z.point.index) e)
 
-      of_pair : (p : OperandPair) × Among p (pairs_of (passed_of i)) × Among y (pair_faults sources n k p) → (y.point.block.0 ≡ n) × (y.point.index ≡ k)
-      of_pair r = at rule.InoutOverlap r.0.first (where_among (do_overlap sources r.0.first r.0.second) (fault_at n k rule.InoutOverlap r.0.first) y r.2).1
+      of_pair : (p : AddressPair) × Among p (pairs_of (handed_of i)) × Among y (pair_faults sources n k p) → (y.point.block.0 ≡ n) × (y.point.index ≡ k)
+      of_pair r = at rule.InoutOverlap r.0.first.address (where_among (do_clash sources r.0) (fault_at n k rule.InoutOverlap r.0.first.address) y r.2).1
 
       of_operated : (x : Operated) × Among x (operations_of i) × Among y (operated_faults sources n k x) → (y.point.block.0 ≡ n) × (y.point.index ≡ k)
       of_operated r = at rule.PartialAccess r.0.address (where_among (lacks sources r.0) (fault_at n k rule.PartialAccess r.0.address) y r.2).1
@@ -186,7 +185,7 @@ module _ (sources : List Source) (f : Function) where
       second (inr a) = of_deallocation (deallocates i) a
 
       first : Among y (overlap_faults sources n k i) ⊎ Among y (lacking_faults sources n k i) → (y.point.block.0 ≡ n) × (y.point.index ≡ k)
-      first (inl a) = of_pair (flat_among (pair_faults sources n k) y (pairs_of (passed_of i)) a)
+      first (inl a) = of_pair (flat_among (pair_faults sources n k) y (pairs_of (handed_of i)) a)
       first (inr a) = second (among_either y (flat_map (operated_faults sources n k) (operations_of i)) (deallocation_faults sources n k i) a)
 
   -- an instruction is at the fault's point, and there the fault's rule is broken
@@ -208,17 +207,17 @@ module _ (sources : List Source) (f : Function) where
   in_faults n k i y at a = inst_in_faults f no_args_faults (statics_at sources) y n k i at a
 
   overlap_in_faults : (n k : ℕ) (i : Inst) (a b : ValueId) → crossed_with sources i a ≡ Some b → Among (fault_at n k rule.InoutOverlap a) (overlap_faults sources n k i)
-  overlap_in_faults n k i a b e = by (mapped_some (find (crosses sources a) (pairs_of (passed_of i))) b e)
+  overlap_in_faults n k i a b e = by (mapped_some (find (crosses sources a) (pairs_of (handed_of i))) b e)
     where
-      at : (p : OperandPair) → Among p (pairs_of (passed_of i)) × (crosses sources a p ≡ true) → Among (fault_at n k rule.InoutOverlap a) (overlap_faults sources n k i)
+      at : (p : AddressPair) → Among p (pairs_of (handed_of i)) × (crosses sources a p ≡ true) → Among (fault_at n k rule.InoutOverlap a) (overlap_faults sources n k i)
       at p r =
-          let both : ((p.first.0 == a.0) ≡ true) × (do_overlap sources p.first p.second ≡ true) = and_parts (p.first.0 == a.0) (do_overlap sources p.first p.second) r.1 in
-          among_flat (pair_faults sources n k) (fault_at n k rule.InoutOverlap a) p (pairs_of (passed_of i)) r.0
-          (subst (λ v. Among (fault_at n k rule.InoutOverlap v) (pair_faults sources n k p)) (same_value p.first a both.0)
-          (among_where (do_overlap sources p.first p.second) (fault_at n k rule.InoutOverlap p.first) both.1))
+          let both : ((p.first.address.0 == a.0) ≡ true) × (do_clash sources p ≡ true) = and_parts (p.first.address.0 == a.0) (do_clash sources p) r.1 in
+          among_flat (pair_faults sources n k) (fault_at n k rule.InoutOverlap a) p (pairs_of (handed_of i)) r.0
+          (subst (λ v. Among (fault_at n k rule.InoutOverlap v) (pair_faults sources n k p)) (same_value p.first.address a both.0)
+          (among_where (do_clash sources p) (fault_at n k rule.InoutOverlap p.first.address) both.1))
 
-      by : (p : OperandPair) × (find (crosses sources a) (pairs_of (passed_of i)) ≡ Some p) → Among (fault_at n k rule.InoutOverlap a) (overlap_faults sources n k i)
-      by r = at r.0 (found_among (crosses sources a) (pairs_of (passed_of i)) r.0 r.1)
+      by : (p : AddressPair) × (find (crosses sources a) (pairs_of (handed_of i)) ≡ Some p) → Among (fault_at n k rule.InoutOverlap a) (overlap_faults sources n k i)
+      by r = at r.0 (found_among (crosses sources a) (pairs_of (handed_of i)) r.0 r.1)
 
   lacking_in_faults : (n k : ℕ) (i : Inst) (a : ValueId) → Contains (lacking_at sources i) a → Among (fault_at n k rule.PartialAccess a) (lacking_faults sources n k i)
   lacking_in_faults n k i a c = by (among_either a (operated_part i) (deallocated_part i) (among_contained a (lacking_at sources i) c))

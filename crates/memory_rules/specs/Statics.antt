@@ -11,9 +11,10 @@ use Rattle.sil_rules.specs.declared.rule.Rule.TheVariants as rule
 use Rattle.point_checks.specs.Points.{IsAt}
 use Rattle.memory_accesses.specs.declared.access.Operated.{Operated}
 use Rattle.memory_accesses.specs.declared.access.Operation.{Operation}
-use Rattle.memory_accesses.specs.declared.access.Operation.TheVariants.{FirstWrite, Read, Lend, Write, TrivialStore, InoutOperand, Take}
+use Rattle.memory_accesses.specs.declared.access.Operation.TheVariants.{FirstWrite, Read, Lend, Write, TrivialStore, Handed, Take}
 use Rattle.memory_accesses.specs.declared.location.Location.{Location}
 use Rattle.memory_accesses.specs.declared.source.Source.{Source}
+use Rattle.memory_rules.specs.declared.overlaps.HandedAddress.{HandedAddress}
 use Rattle.memory_accesses.specs.Locations.{do_overlap, location_of}
 use Rattle.memory_accesses.specs.Operations.{addresses_of, deallocates, operations_of}
 use Rattle.memory_accesses.specs.Rows.{has_operation}
@@ -39,45 +40,55 @@ lacking_at sources i =
     map address_in (filter (lacks sources) (operations_of i))
     ++ cond (deallocates i) (filter (is_no_slot sources) (addresses_of i)) []
 
-abbrev pub passed_by : Operation → ValueId → List ValueId
-passed_by FirstWrite v = []
-passed_by Read v = []
-passed_by Lend v = []
-passed_by Write v = []
-passed_by TrivialStore v = []
-passed_by InoutOperand v = v ∷ []
-passed_by Take v = []
+abbrev pub handed_by : Operation → ValueId → List HandedAddress
+handed_by FirstWrite v = []
+handed_by Read v = []
+handed_by Lend v = []
+handed_by Write v = []
+handed_by TrivialStore v = []
+handed_by (Handed row) v = record { address = v; shared = row.shared } ∷ []
+handed_by Take v = []
 
-abbrev pub passed : Operated → List ValueId
-passed x = passed_by x.operation x.address
+abbrev pub handed : Operated → List HandedAddress
+handed x = handed_by x.operation x.address
 
--- the inout operands of a call, in order
-abbrev pub passed_of : Inst → List ValueId
-passed_of i = flat_map passed (operations_of i)
+-- the addresses that are handed to a call, in order
+abbrev pub handed_of : Inst → List HandedAddress
+handed_of i = flat_map handed (operations_of i)
 
--- two operands of one call
-pub record OperandPair : Type 0 where
-  pub first : ValueId
-  pub second : ValueId
+abbrev pub address_of : HandedAddress → ValueId
+address_of a = a.address
 
-abbrev pub pair : ValueId → ValueId → OperandPair
+-- two of them
+pub record AddressPair : Type 0 where
+  pub first : HandedAddress
+  pub second : HandedAddress
+
+abbrev pub pair : HandedAddress → HandedAddress → AddressPair
 pair a b = record { first = a; second = b }
 
-abbrev pub second_of : OperandPair → ValueId
-second_of p = p.second
+abbrev pub second_of : AddressPair → ValueId
+second_of p = address_of p.second
 
--- all pairs of operands, in order
-abbrev pub pairs_of : List ValueId → List OperandPair
+-- all pairs, in order
+abbrev pub pairs_of : List HandedAddress → List AddressPair
 pairs_of [] = []
-pairs_of (a ∷ operands) = map (pair a) operands ++ pairs_of operands
+pairs_of (a ∷ addresses) = map (pair a) addresses ++ pairs_of addresses
 
--- the two overlap, and the subject is the first of them
-abbrev pub crosses : List Source → ValueId → OperandPair → Bool
-crosses sources subject p = p.first.0 == subject.0 && do_overlap sources p.first p.second
+-- their locations overlap, and not both may be shared
+abbrev pub do_clash : List Source → AddressPair → Bool
+do_clash sources p = not (p.first.shared && p.second.shared) && do_overlap sources p.first.address p.second.address
 
--- the second operand of the first pair that overlaps and has the subject as its first operand
+abbrev pub clashes_with : List Source → HandedAddress → HandedAddress → Bool
+clashes_with sources a b = do_clash sources (pair a b)
+
+-- and the subject is the first of them
+abbrev pub crosses : List Source → ValueId → AddressPair → Bool
+crosses sources subject p = p.first.address.0 == subject.0 && do_clash sources p
+
+-- the second of the first pair that does, with the subject as its first
 abbrev pub crossed_with : List Source → Inst → ValueId → Option ValueId
-crossed_with sources i subject = option_map second_of (find (crosses sources subject) (pairs_of (passed_of i)))
+crossed_with sources i subject = option_map second_of (find (crosses sources subject) (pairs_of (handed_of i)))
 
 -- at this value, with this other one that takes part, and at the point with this block and index
 pub data IsBrokenAt (sources : List Source) (f : Function) : Rule → ValueId → Option ValueId → ℕ → ℕ → Type 0 where

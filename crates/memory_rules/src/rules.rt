@@ -36,11 +36,12 @@ fn first_broken(
 }
 
 /// Checks rules 601 to 611: on every walk each location is read, written and taken only while it holds a value (601), written first
-/// only while it holds none (602), empty where its slot is deallocated (603), and full where an inout is given back (609);
-/// slots are allocated and deallocated one within another (604, 605); no location is written while it is lent (606); a new object is
-/// used only as its fields allow (607); and an address only while its scopes are open and its slot is allocated (610).
-/// No two inout operands of one call overlap (608), and each location has what is done to it (611), whether a walk reaches the point
-/// or not. `g` is the graph of `f`, `k` has its kinds and marks, and `table` the types of its module.
+/// only while it holds none (602), empty where its slot is deallocated or its convention gives it back empty (603), and full where its
+/// convention gives it back full (609); slots are allocated and deallocated one within another (604, 605); no location is written while
+/// it is lent (606); a new object is used only as its fields allow (607); and an address only while its scopes are open and its slot is
+/// allocated (610). No two locations that one call is handed overlap, unless both may be shared (608), and each location has what is
+/// done to it (611), whether a walk reaches the point or not.
+/// `g` is the graph of `f`, `k` has its kinds and marks, and `table` the types of its module.
 /// The fault is that of the least value for which one is shown, of its first rule. Its walk has the fewest edges among those that show
 /// it; 608 and 611 have no walk, and the first point.
 pub fn check(

@@ -9,7 +9,7 @@ ghost use Rattle.memory_rules.specs.inner.StaticFaults.{deallocation_faults, no_
 
 use crate::lacking::{add_lacking, add_no_slots};
 use crate::operations::{is_idle, operations_of};
-use crate::overlaps::{add_overlaps, crossed_with, inout_operands};
+use crate::overlaps::{add_overlaps, crossed_with, handed_addresses};
 use memory_accesses::{Memory, add_addresses, deallocates};
 use point_checks::{PointCheck, PointFault, inst_at, least_fault, rule_fault};
 use rule_faults::RuleFault;
@@ -74,14 +74,14 @@ impl PointCheck for LocationCheck<'_> {
             return Ok(found);
         }
         let operations = operations_of(self.alloc, inst)?;
-        let operands = inout_operands(self.alloc, operations.as_slice())?;
-        let crossed = add_overlaps(self.memory, point, operands.as_slice(), found);
+        let addresses = handed_addresses(self.alloc, operations.as_slice())?;
+        let crossed = add_overlaps(self.memory, point, addresses.as_slice(), found);
         let lacking = add_lacking(self.memory, point, operations.as_slice(), crossed);
         add_deallocated(self.alloc, self.memory, point, inst, lacking)
     }
 }
 
-/// The other value that takes part in a fault: of 608 the operand that overlaps its subject.
+/// The other value that takes part in a fault: of 608 the address that clashes with its subject.
 fn other_value(
     alloc: Global,
     m: &Memory,

@@ -56,7 +56,7 @@ no_second a b same (Deallocates v) e = at (v.0 == a.0) (v.0 == b.0) e
     at false false e = cc
 no_second a b same (Ends v) e = cc
 no_second a b same (Begins v) e = cc
-no_second a b same (Given v) e = cc
+no_second a b same (Given v content) e = cc
 no_second a b same (Does x) e = cc
 no_second a b same (Mentions v m) e = cc
 

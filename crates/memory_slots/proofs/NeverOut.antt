@@ -54,7 +54,7 @@ out_is a b (Allocates v) e = absurd (at (v.0 == a.0) (v.0 == b.0) e)
     at false false e = cc
 out_is a b (Ends v) e = cc
 out_is a b (Begins v) e = cc
-out_is a b (Given v) e = cc
+out_is a b (Given v content) e = cc
 out_is a b (Does x) e = cc
 out_is a b (Mentions v m) e = cc
 

@@ -34,7 +34,7 @@ unmarked a b (Deallocates v) h k = at (v.0 == a.0) (v.0 == b.0) refl refl
     at false false ea eb = refl
 unmarked a b (Ends v) h k = refl
 unmarked a b (Begins v) h k = refl
-unmarked a b (Given v) h k = refl
+unmarked a b (Given v content) h k = refl
 unmarked a b (Does x) h k = refl
 unmarked a b (Mentions v m) h k = refl
 

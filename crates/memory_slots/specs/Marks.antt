@@ -15,6 +15,6 @@ pair_mark first second (Ends v) = None
 pair_mark first second (Begins v) = None
 pair_mark first second (Allocates v) = one_of first second v FirstIn SecondIn
 pair_mark first second (Deallocates v) = one_of first second v FirstOut SecondOut
-pair_mark first second (Given v) = None
+pair_mark first second (Given v content) = None
 pair_mark first second (Does x) = None
 pair_mark first second (Mentions v a) = None

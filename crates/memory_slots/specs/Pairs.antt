@@ -11,7 +11,6 @@ use Rattle.sil_rules.specs.Order.{IsFirst}
 use Rattle.ownership_chains.specs.declared.facts.Facts.{Facts}
 use Rattle.ownership_marks.specs.Known.{AreKindsBy, Known}
 use Rattle.path_patterns.specs.Along.{Shows}
-use Rattle.memory_accesses.specs.declared.access.Access.{Access}
 use Rattle.memory_accesses.specs.declared.source.Source.{Source}
 use Rattle.memory_accesses.specs.Accesses.{accesses_of}
 use Rattle.memory_accesses.specs.Sources.{is_slot}

@@ -1,6 +1,6 @@
 //! What an item does to one of two slots, and the five states of the two.
 
-ghost use Rattle.std.specs.Prelude.{◌≡◌, ℕ, ◌<◌};
+ghost use Rattle.std.specs.Prelude.{◌≡◌, ◌<◌};
 ghost use Rattle.reach_engine.specs.inner.Run.{StaysBelow};
 ghost use Rattle.memory_slots.specs.inner.Automaton.{order_step};
 ghost use Rattle.memory_slots.specs.Marks as marks;

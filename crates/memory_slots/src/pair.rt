@@ -1,6 +1,6 @@
 //! Two slots as one automaton over items.
 
-ghost use Rattle.std.specs.Prelude.{◌≡◌, ℕ, ◌<◌, length};
+ghost use Rattle.std.specs.Prelude.{◌≡◌, ◌<◌, length};
 ghost use Rattle.reach_engine.specs.inner.Run.{run, StaysBelow};
 ghost use Rattle.reach_engine.specs.declared.scan.Step.TheVariants.{Go};
 ghost use Rattle.path_patterns.specs.inner.Reads.{accesses_at, read_step};

@@ -1,6 +1,6 @@
 //! Which of some slots an item allocates or deallocates.
 
-ghost use Rattle.std.specs.Prelude.{◌≡◌, ◌≢◌, ◌≤◌, ◌<◌, ℕ, IfOk, All, AllPairs, Contains, length};
+ghost use Rattle.std.specs.Prelude.{◌≡◌, ◌≤◌, ◌<◌, ℕ, IfOk, AllPairs, Contains, length};
 ghost use Rattle.path_patterns.specs.inner.Reads.{accesses_at};
 ghost use Rattle.memory_slots.specs.inner.Touched.{IsRising};
 ghost use Rattle.memory_slots.specs.inner.Touched as touched;

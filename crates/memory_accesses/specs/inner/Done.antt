@@ -10,22 +10,18 @@ use Rattle.ownership_marks.specs.declared.mark.Mark.{Mark}
 use Rattle.item_operands.specs.declared.taken.Taken.{Taken}
 use Rattle.memory_accesses.specs.declared.access.Access.{Access}
 use Rattle.memory_accesses.specs.declared.access.Access.TheVariants.{Does}
-use Rattle.memory_accesses.specs.declared.access.Operated.{Operated}
-use Rattle.memory_accesses.specs.declared.access.Operation.{Operation}
+use Rattle.memory_accesses.specs.declared.columns.AccessKind.{AccessKind}
+use Rattle.sil_ast.specs.declared.inst.Qualifier.{Qualifier}
 use Rattle.memory_accesses.specs.declared.source.Source.{Source}
 use Rattle.memory_accesses.specs.Accesses.{accesses_with}
-use Rattle.memory_accesses.specs.Operations.{access_kind_of, address_of, operated_at, operation_by}
+use Rattle.memory_accesses.specs.Operations.{access_kind_of, operated_at}
 
--- what is done at an operand, if it is an address
-abbrev pub operated_by : Option Operation → Taken → List Operated
-operated_by o t = flat_map (operated_at o) (address_of t)
-
-abbrev pub done_at : Option Operation → Taken → List Access
-done_at o t = map Does (operated_by o t)
+abbrev pub done_at : AccessKind → Qualifier → Taken → List Access
+done_at k q t = map Does (operated_at k q t)
 
 abbrev pub does_among : Option Inst → List Taken → List Access
 does_among None taken = []
-does_among (Some i) taken = flat_map (done_at (operation_by (access_kind_of i.op) i.qualifier)) taken
+does_among (Some i) taken = flat_map (done_at (access_kind_of i.op) i.qualifier) taken
 
 abbrev pub done_by : List Source → Function → List Mark → Option Item → List Access
 done_by sources f marks None = []

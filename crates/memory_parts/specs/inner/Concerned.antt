@@ -53,7 +53,7 @@ may_mean sources facts concerned (Ends v) = is_concerned concerned v
 may_mean sources facts concerned (Begins v) = is_concerned concerned v
 may_mean sources facts concerned (Allocates v) = is_concerned concerned v
 may_mean sources facts concerned (Deallocates v) = is_concerned concerned v || has_root concerned (location_of sources v)
-may_mean sources facts concerned (Given v) = is_concerned concerned v
+may_mean sources facts concerned (Given v content) = is_concerned concerned v
 may_mean sources facts concerned (Does x) = true
 may_mean sources facts concerned (Mentions v a) = is_concerned concerned v || list_any (is_built sources concerned) (facts v).bases
 

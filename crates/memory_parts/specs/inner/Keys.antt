@@ -20,7 +20,7 @@ root_key None = []
 root_key (Some l) = Written l.root ∷ []
 
 abbrev pub keys_of_part : List Source → Part → List Key
-keys_of_part sources (Contents cell emptied left_full) = Turned cell.subject ∷ Operated cell ∷ []
+keys_of_part sources (Contents cell trivial left) = Turned cell.subject ∷ Operated cell ∷ []
 keys_of_part sources (Allocation slot) = Turned slot ∷ []
 keys_of_part sources (Lent scope address) = Turned scope ∷ root_key (location_of sources address)
 keys_of_part sources (Building object field) = Turned object ∷ Named object ∷ Operated (record { subject = object; field = Some field }) ∷ []
@@ -43,6 +43,6 @@ keys_of_access sources facts (Ends v) = Turned v ∷ []
 keys_of_access sources facts (Begins v) = Turned v ∷ []
 keys_of_access sources facts (Allocates v) = Turned v ∷ []
 keys_of_access sources facts (Deallocates v) = Turned v ∷ root_key (location_of sources v)
-keys_of_access sources facts (Given v) = Turned v ∷ []
+keys_of_access sources facts (Given v content) = Turned v ∷ []
 keys_of_access sources facts (Does x) = keys_at sources x.operation (location_of sources x.address)
 keys_of_access sources facts (Mentions v a) = Named v ∷ flat_map (built_key sources) (facts v).bases

@@ -16,9 +16,9 @@ use Rattle.memory_accesses.specs.declared.columns.AccessKind.TheVariants.{NoAcce
 use Rattle.memory_accesses.specs.declared.columns.AccessKind.TheVariants.{LendsValue, LendsLocation, NamesField, NamesMember, NamesElement}
 use Rattle.memory_accesses.specs.declared.columns.AccessKind.TheVariants.{Loads, Stores, Destroys, Passes}
 use Rattle.memory_accesses.specs.declared.source.Source.{Source}
-use Rattle.memory_accesses.specs.Locations.{do_overlap}
 use Rattle.memory_accesses.specs.Operations.{access_kind_of, addresses_of, deallocates, operations_of}
-use Rattle.memory_rules.specs.Statics.{OperandPair, crossed_with, is_no_slot, lacks, pair, pairs_of, passed_of}
+use Rattle.memory_rules.specs.Statics.{AddressPair, crossed_with, do_clash, handed_of, is_no_slot, lacks, pair, pairs_of}
+use Rattle.memory_rules.specs.declared.overlaps.HandedAddress.{HandedAddress}
 
 -- by its row an instruction does nothing to a location, and deallocates no slot
 abbrev pub is_idle_by : AccessKind → Bool
@@ -47,15 +47,15 @@ abbrev pub no_args_faults : ℕ → Block → List PointFault
 no_args_faults n b = []
 
 module _ (sources : List Source) where
-  -- two operands of a call overlap, and the first is the subject
-  abbrev pub pair_faults : ℕ → ℕ → OperandPair → List PointFault
-  pair_faults n k p = fault_where (do_overlap sources p.first p.second) (fault_at n k rule.InoutOverlap p.first)
+  -- two addresses that a call is handed clash, and the first is the subject
+  abbrev pub pair_faults : ℕ → ℕ → AddressPair → List PointFault
+  pair_faults n k p = fault_where (do_clash sources p) (fault_at n k rule.InoutOverlap p.first.address)
 
-  abbrev pub faults_with : ℕ → ℕ → ValueId → ValueId → List PointFault
+  abbrev pub faults_with : ℕ → ℕ → HandedAddress → HandedAddress → List PointFault
   faults_with n k first second = pair_faults n k (pair first second)
 
   abbrev pub overlap_faults : ℕ → ℕ → Inst → List PointFault
-  overlap_faults n k i = flat_map (pair_faults n k) (pairs_of (passed_of i))
+  overlap_faults n k i = flat_map (pair_faults n k) (pairs_of (handed_of i))
 
   abbrev pub operated_faults : ℕ → ℕ → Operated → List PointFault
   operated_faults n k o = fault_where (lacks sources o) (fault_at n k rule.PartialAccess o.address)

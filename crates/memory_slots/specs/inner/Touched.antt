@@ -12,7 +12,7 @@ slot_in (Ends v) = None
 slot_in (Begins v) = None
 slot_in (Allocates v) = Some v.0
 slot_in (Deallocates v) = Some v.0
-slot_in (Given v) = None
+slot_in (Given v content) = None
 slot_in (Does x) = None
 slot_in (Mentions v a) = None
 

@@ -7,5 +7,5 @@ use Rattle.memory_rules.proofs.overlaps.add_overlaps.Given as goal
 
 abbrev pub invariant-loop-i : goal.invariant-loop-i
 invariant-loop-i l =
-    least l.found (flat_map (pair_faults l.m l.point.block.0 l.point.index) (pairs_of (drop l.i l.operands))) ≡
-    least l.initial.found (flat_map (pair_faults l.m l.point.block.0 l.point.index) (pairs_of l.operands))
+    least l.found (flat_map (pair_faults l.m l.point.block.0 l.point.index) (pairs_of (drop l.i l.addresses))) ≡
+    least l.initial.found (flat_map (pair_faults l.m l.point.block.0 l.point.index) (pairs_of l.addresses))

@@ -3,4 +3,4 @@ use Rattle.memory_rules.proofs.Crossed.{crossed}
 use Rattle.memory_rules.proofs.overlaps.first_crossed.Given as goal
 
 abbrev pub invariant-loop-i : goal.invariant-loop-i
-invariant-loop-i l = crossed l.m l.subject (drop l.i l.operands) ≡ crossed l.m l.subject l.operands
+invariant-loop-i l = crossed l.m l.subject (drop l.i l.addresses) ≡ crossed l.m l.subject l.addresses

@@ -5,7 +5,7 @@ use Rattle.point_checks.specs.inner.Faults.{least}
 use Rattle.point_checks.proofs.Least.{least_two, ok_along}
 use Rattle.memory_accesses.specs.Operations.{addresses_of, deallocates, operations_of}
 use Rattle.memory_rules.specs.inner.StaticFaults.{deallocation_faults, no_slot_faults, operated_faults, pair_faults, statics_at}
-use Rattle.memory_rules.specs.Statics.{pairs_of, passed, passed_of}
+use Rattle.memory_rules.specs.Statics.{handed, handed_of, pairs_of}
 use Rattle.memory_rules.proofs.Idle.{idle}
 use Rattle.memory_rules.proofs.statics.LocationCheckPointCheck.add_inst.Goals as goal
 
@@ -17,7 +17,7 @@ returns-then-is_idle c =
     let i = c.args.inst.now in
     let still : (operations_of i ≡ []) × (deallocates i ≡ false) = idle i (sym c.is_idle.ensures ∙ c.if-is_idle.true) in
     ap (λ d. least c.args.found (cond d (flat_map (no_slot_faults m n k) (addresses_of i)) [])) (sym still.1)
-    ∙ ap (λ os. least c.args.found (flat_map (pair_faults m n k) (pairs_of (flat_map passed os)) ++ (flat_map (operated_faults m n k) os ++ deallocation_faults m n k i))) (sym still.0)
+    ∙ ap (λ os. least c.args.found (flat_map (pair_faults m n k) (pairs_of (flat_map handed os)) ++ (flat_map (operated_faults m n k) os ++ deallocation_faults m n k i))) (sym still.0)
 
 pub returns : goal.returns
 returns c =
@@ -27,10 +27,10 @@ returns c =
     let i = c.args.inst.now in
     ok_along c.add_deallocated.result (λ r. r ≡ least c.add_lacking-lacking.result (deallocation_faults m n k i)) (λ r. r ≡ least c.args.found (statics_at m n k i))
     (λ r e.
-    least_two c.args.found c.add_overlaps-crossed.result r (flat_map (pair_faults m n k) (pairs_of (passed_of i))) (flat_map (operated_faults m n k) (operations_of i) ++ deallocation_faults m n k i)
+    least_two c.args.found c.add_overlaps-crossed.result r (flat_map (pair_faults m n k) (pairs_of (handed_of i))) (flat_map (operated_faults m n k) (operations_of i) ++ deallocation_faults m n k i)
     (c.add_overlaps-crossed.ensures
-    ∙ ap (λ vs. least c.args.found (flat_map (pair_faults m n k) (pairs_of vs))) (c.as_slice-2.ensures.value ∙ c.in_ok-operands.ensures
-    ∙ ap (flat_map passed) (c.as_slice.ensures.value ∙ c.in_ok-operations.ensures)))
+    ∙ ap (λ vs. least c.args.found (flat_map (pair_faults m n k) (pairs_of vs))) (c.as_slice-2.ensures.value ∙ c.in_ok-addresses.ensures
+    ∙ ap (flat_map handed) (c.as_slice.ensures.value ∙ c.in_ok-operations.ensures)))
     (least_two c.add_overlaps-crossed.result c.add_lacking-lacking.result r (flat_map (operated_faults m n k) (operations_of i)) (deallocation_faults m n k i)
     (c.add_lacking-lacking.ensures ∙ ap (λ os. least c.add_overlaps-crossed.result (flat_map (operated_faults m n k) os)) (c.as_slice-3.ensures.value ∙ c.in_ok-operations.ensures)) e))
     c.add_deallocated.ensures
