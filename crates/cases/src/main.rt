@@ -1,55 +1,85 @@
-//! Runs each case file below a folder through the command, or through the check of types alone, prints each that fails with
-//! both answers, and ends with the line `all cases passed`, `failed: N` or `no cases`. How many ran is told on standard error.
-//! The folder is the first word, or else the one that the program runs in.
+//! Calls what `sil` has no word for, so that case files can ask for it: the first word names a call of a library, and standard
+//! input has the text. `docs/CASES.md` says what each of them answers.
 #![tactic(auto)]
 
-mod answers;
-mod case_file;
-mod folder;
-mod report;
+mod answer;
+mod ends;
+mod marked;
+mod searches;
+mod tokens;
 mod typing;
 
-use std::io;
+use answer::Answer;
+use ends::End;
+use sil_ast::Exhausted;
+use sil_io::{ReadSource, Sink, Source, WriteSink, read_all, write_all};
+use sil_rules::{Status, limits};
+use std::alloc::{AllocError, Global};
+use std::env::Args;
 use std::process::ExitCode;
-use std::rt::{Env, Files};
+use std::{env, io};
 
 fn main(rt: HostRuntime) -> ExitCode {
-    match run_all(&rt) {
-        Ok(true) => ExitCode::SUCCESS,
-        Ok(false) => ExitCode::from(1),
-        Err(error) => {
-            let _ = eprintln!(rt; "cases: {error}");
-            ExitCode::from(2)
-        }
+    let mut source = ReadSource::new(rt.reader());
+    let mut out = WriteSink::new(io::writer(&rt));
+    ExitCode::from(run(rt.alloc(), env::args(&rt), &mut source, &mut out))
+}
+
+/// Answers what the words behind the program's name ask of the text in the source, and gives the status.
+fn run<S: Source, K: Sink>(
+    alloc: Global,
+    args: io::Result<Args>,
+    source: &mut S,
+    out: &mut K,
+) -> u8 {
+    let Ok(args) = args else {
+        return Status::Usage.code();
+    };
+    let Ok(text) = read_all(alloc, source, limits::TEXT_BYTES) else {
+        return Status::ReadFault.code();
+    };
+    match answer_to(alloc, args, text.as_slice()) {
+        Ok(answer) => match write_all(out, answer.written.as_slice()) {
+            Ok(()) => answer.status,
+            Err(_fault) => Status::WriteFault.code(),
+        },
+        Err(Exhausted) => Status::OutOfMemory.code(),
     }
 }
 
-/// Whether there is a case and all of them pass.
-fn run_all<R: AllocGlobal + Env + Files + Print + Eprint + Clone + Drop>(
-    rt: &R,
-) -> io::Result<bool> {
-    let alloc = rt.alloc();
-    let root = folder::named(rt)?;
-    let files = folder::files_below(rt, root.as_str())?;
-    let mut failed = 0u64;
-    for path in &files {
-        if !report::passes(rt, alloc, path.as_str())? {
-            failed = failed.saturating_add(1);
-        }
+/// What the words ask of a text.
+fn answer_to(alloc: Global, args: Args, text: &[u8]) -> Result<Answer, Exhausted> {
+    let mut words = Vec::new(alloc);
+    for word in args {
+        words.push(word)?;
     }
-    let ran = files.len();
-    eprintln!(rt; "{ran} cases ran")?;
-    print_last_line(rt, ran, failed)?;
-    Ok(0 < ran && failed == 0)
+    let texts = texts_of(alloc, words.as_slice())?;
+    answer_by(alloc, texts.as_slice(), text)
 }
 
-/// Prints a line that is the same for any number of cases, where all of them pass.
-fn print_last_line<R: Print>(rt: &R, ran: usize, failed: u64) -> io::Result<()> {
-    if ran == 0 {
-        println!(rt; "no cases")
-    } else if failed == 0 {
-        println!(rt; "all cases passed")
-    } else {
-        println!(rt; "failed: {failed}")
+/// The texts of these words.
+fn texts_of<'a>(alloc: Global, words: &'a [String]) -> Result<Vec<&'a str>, AllocError> {
+    let mut texts = Vec::new(alloc);
+    for word in words {
+        texts.push(word.as_str())?;
+    }
+    Ok(texts)
+}
+
+/// What the call that the word behind the program's name names answers to a text.
+fn answer_by(alloc: Global, words: &[&str], text: &[u8]) -> Result<Answer, Exhausted> {
+    match words {
+        [_name, "typing"] => typing::answer_on_types(alloc, text),
+        [_name, "tokens"] => tokens::answer_on_tokens(alloc, text),
+        [_name, "search"] => searches::answer_on_walks(alloc, text, false),
+        [_name, "search", "together"] => searches::answer_on_walks(alloc, text, true),
+        [_name, "read-faults", rest @ ..] => {
+            ends::answer_on_faults(alloc, rest, text, End::Source)
+        }
+        [_name, "read-faults-of-no-text", rest @ ..] => {
+            ends::answer_on_faults(alloc, rest, b"", End::Source)
+        }
+        [_name, "write-faults", rest @ ..] => ends::answer_on_faults(alloc, rest, text, End::Sink),
+        _ => answer::line(alloc, "no such call", Status::Usage.code()),
     }
 }

@@ -1,6 +1,6 @@
 //! What the check of types answers to a text. It goes into lowered functions too, which `check` refuses as a whole.
 
-use crate::answers::Answer;
+use crate::answer::{Answer, add, line};
 use sil_ast::{Exhausted, FuncId, PointId};
 use sil_grammar::{ReadRefusal, read};
 use sil_rules::{Rule, limits};
@@ -37,13 +37,6 @@ pub fn answer_on_types(alloc: Global, text: &[u8]) -> Result<Answer, Exhausted> 
     }
 }
 
-/// A line and a status.
-fn line(alloc: Global, text: &str, status: u8) -> Result<Answer, Exhausted> {
-    let mut written = Vec::from_slice(alloc, text.as_bytes())?;
-    written.push(b'\n')?;
-    Ok(Answer { written, status })
-}
-
 /// The line with a rule, and each part of the place that the refusal names.
 fn refused(
     alloc: Global,
@@ -63,18 +56,17 @@ fn told(
     point: Option<PointId>,
     vtable: Option<u32>,
 ) -> Result<String, AllocError> {
-    let mut text = format!(in alloc; "{}", rule.number())?;
+    let mut text = String::new(alloc);
+    add(alloc, &mut text, "", u64::from(rule.number()))?;
     if let Some(function) = function {
-        let part = format!(in alloc; " function {}", function.0)?;
-        text.push_str(&part)?;
+        add(alloc, &mut text, " function ", u64::from(function.0))?;
     }
     if let Some(point) = point {
-        let part = format!(in alloc; " bb{}:{}", point.block.0, point.index)?;
-        text.push_str(&part)?;
+        add(alloc, &mut text, " bb", u64::from(point.block.0))?;
+        add(alloc, &mut text, ":", u64::from(point.index))?;
     }
     if let Some(vtable) = vtable {
-        let part = format!(in alloc; " vtable {vtable}")?;
-        text.push_str(&part)?;
+        add(alloc, &mut text, " vtable ", u64::from(vtable))?;
     }
     Ok(text)
 }
