@@ -12,6 +12,15 @@ class K {
   var n: Builtin.Int64
   var p: P
 }
+class L : K {
+  var c: C
+  var m: Builtin.Int64
+}
+class N : L {
+}
+class M : N {
+  var d: C
+}
 struct P {
   var c: C
   var n: Builtin.Int64
@@ -30,6 +39,9 @@ BIT = 'Builtin.Int1'
 PAIR = '(C, Builtin.Int64)'
 FIELDS = {'P': [('c', 'C'), ('n', INT)], 'Q': [('p', 'P'), ('c', 'C')], 'I': [('a', INT), ('b', INT)],
           'K': [('c', 'C'), ('n', INT), ('p', 'P')]}
+# of classes that inherit: their own fields, and from which they inherit
+OWN = {'K': FIELDS['K'], 'L': [('c', 'C'), ('m', INT)], 'N': [], 'M': [('d', 'C')]}
+ABOVE = {'K': None, 'L': 'K', 'N': 'L', 'M': 'N'}
 TYPES = ['C', 'C', 'P', 'Q', 'I', INT, PAIR]
 TRIVIAL = {'I', INT, BIT}
 ADDRESS = ('@inout', '@in', '@in_guaranteed', '@out')
@@ -102,18 +114,44 @@ class Gen:
 
     def object(self):
         r = self.r
-        vals = [(f, t, self.value(t)) for f, t in FIELDS['K']]
+        cls = r.choice(('K', 'K', 'L', 'N', 'M'))
+        chain = self.chain(cls)
+        vals = [(c, f, t, self.value(t)) for c in chain for f, t in OWN[c]]
         o, b = self.name('o'), self.name('s')
-        self.emit(f'{o} = alloc_ref $K')
-        self.emit(f'{b} = begin_borrow {o} : $K')
+        self.emit(f'{o} = alloc_ref ${cls}')
+        self.emit(f'{b} = begin_borrow {o} : ${cls}')
+        borrows = {cls: [b]}
         r.shuffle(vals)
-        for f, t, v in vals:
-            a = self.name('a')
+        for c, f, t, v in vals:
+            a, seen = self.name('a'), self.seen_as(borrows, c)
             self.addresses[a] = t
-            self.emit(f'{a} = ref_element_addr {b} : $K, #K.{f}')
+            self.emit(f'{a} = ref_element_addr {seen} : ${c}, #{c}.{f}')
             self.emit(f'store {v} to [{"trivial" if t in TRIVIAL else "init"}] {a} : $*{t}')
-        self.emit(f'end_borrow {b} : $K')
+        self.emit(f'end_borrow {b} : ${cls}')
+        while cls != 'K':
+            above = r.choice(self.chain(cls)[1:])
+            v = self.name('o')
+            self.emit(f'{v} = upcast {o} : ${cls} to ${above}')
+            o, cls = v, above
         return o
+
+    @staticmethod
+    def chain(cls):
+        """A class and its ancestors."""
+        return [cls] + (Gen.chain(ABOVE[cls]) if ABOVE[cls] else [])
+
+    def seen_as(self, borrows, cls):
+        """The borrow as one of this class: one that is there, or an upcast of one."""
+        if cls in borrows and self.r.random() < 0.7:
+            return self.r.choice(borrows[cls])
+        below = [(c, v) for c, vs in borrows.items() for v in vs if c != cls and cls in self.chain(c)]
+        if not below:
+            return self.r.choice(borrows[cls])
+        c, v = self.r.choice(below)
+        w = self.name('u')
+        self.emit(f'{w} = upcast {v} : ${c} to ${cls}')
+        borrows.setdefault(cls, []).append(w)
+        return w
 
     def destroy(self, v, ty):
         self.emit(f'destroy_value {v} : ${ty}')
@@ -479,7 +517,7 @@ class Gen:
         silent = lambda x: isinstance(x, Call) or x.split()[0] in (
             'store', 'destroy_addr', 'destroy_value', 'end_borrow', 'dealloc_stack', 'debug_value')
         kind = r.choice(('drop', 'drop', 'twice', 'move', 'move', 'address', 'address', 'address', 'word', 'word', 'convention', 'convention',
-                         'own', 'target', 'insert', 'insert', 'loan', 'loan', 'loan', 'pair'))
+                         'own', 'target', 'insert', 'insert', 'loan', 'loan', 'loan', 'pair', 'class', 'class'))
         if kind in ('drop', 'twice', 'move'):
             spots = self.spots(silent)
             if not spots:
@@ -543,6 +581,39 @@ class Gen:
                     where.remove(a)
             a[0] = c
             (self.outs if c == '@out' else self.args).append(a)
+        elif kind == 'class':
+            # a value of a class is used in the place of another one of that class, or once more
+            spots = self.spots(lambda x: not isinstance(x, Call) and any(f' : ${c}' in x for c in OWN))
+            if not spots:
+                return
+            b, n = r.choice(spots)
+            x = b[1][n]
+            cls = next(c for c in OWN if f' : ${c}' in x)
+            made = []
+            for c in self.blocks:
+                for k, y in enumerate(c[1]):
+                    if c is b and k >= n:
+                        break
+                    if not isinstance(y, Call) and (y.endswith(f' to ${cls}') or y.endswith(f'alloc_ref ${cls}') or f'begin_borrow' in y and y.endswith(f' : ${cls}')):
+                        made.append(y.split()[0])
+                if c is b:
+                    break
+            if not made:
+                return
+            v, use = r.choice(made), r.random()
+            if use < 0.5:
+                head, _, tail = x.partition(f' : ${cls}')
+                b[1][n] = f'{head.rsplit(" ", 1)[0]} {v} : ${cls}{tail}'
+            elif use < 0.7:
+                b[1].insert(n, f'debug_value {v} : ${cls}')
+            elif use < 0.85 and ABOVE[cls]:
+                w = self.name('u')
+                b[1].insert(n, f'{w} = upcast {v} : ${cls} to ${r.choice(self.chain(cls)[1:])}')
+            elif OWN[cls]:
+                f, t = r.choice(OWN[cls])
+                a = self.name('a')
+                self.addresses[a] = t
+                b[1].insert(n, f'{a} = ref_element_addr {v} : ${cls}, #{cls}.{f}')
         elif kind == 'target':
             some = [b for b in self.blocks if b[2].startswith('cond_br')]
             if not some:

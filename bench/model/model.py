@@ -16,7 +16,7 @@ CONVENTIONS = {
     '@out': ('empty', 'full', 'empty', 'full', 'write'),
 }
 
-FORWARDING = ('struct', 'tuple', 'enum', 'destructure_struct', 'destructure_tuple', 'switch_enum')
+FORWARDING = ('struct', 'tuple', 'enum', 'destructure_struct', 'destructure_tuple', 'switch_enum', 'upcast')
 EXTRACTS = ('struct_extract', 'tuple_extract')
 STEPS = ('struct_element_addr', 'tuple_element_addr', 'ref_element_addr')
 RENAMES = ('copy_value', 'move_value', 'begin_borrow')
@@ -76,7 +76,7 @@ class Checker:
     def result_types(self, i):
         m, t = self.m, (i.operands[0][1] if i.operands else None)
         op = i.op
-        if op in ('integer_literal', 'alloc_ref', 'builtin', 'struct', 'enum'):
+        if op in ('integer_literal', 'alloc_ref', 'builtin', 'struct', 'enum', 'upcast'):
             return [i.ty]
         if op == 'function_ref':
             return [None]
@@ -507,6 +507,8 @@ class Checker:
     def fresh(self, v):
         """The alloc_ref of which this is a building borrow."""
         d = self.defs[v]
+        if d[0] == 'inst' and d[1].op == 'upcast':
+            return self.fresh(d[1].operands[0][0])
         if d[0] == 'inst' and d[1].op == 'begin_borrow':
             o = d[1].operands[0][0]
             e = self.defs[o]
@@ -520,7 +522,7 @@ class Checker:
             return (r, None)
         i = self.defs[r][1]
         o = self.fresh(i.operands[0][0])
-        return None if o is None else (o, i.member[1])
+        return None if o is None else (o, tuple(i.member))
 
     def shown_root(self, r):
         """The value by which a root is shown: of a fresh object's field the object."""
@@ -572,8 +574,8 @@ class Checker:
             elif d[0] == 'entry' and self.is_address(v) and d[1] != '@in_guaranteed':
                 yield self.content((v, None), self.m.trivial(self.types[v][1]), CONVENTIONS[d[1]][0] == 'full', CONVENTIONS[d[1]][1])
             elif d[0] == 'inst' and d[1].op == 'alloc_ref':
-                for name, storage, ty in self.m.decls[d[1].ty[1]][1]:
-                    yield self.content((v, name), storage == 'strong' and self.m.trivial(ty), False, None)
+                for owner, name, storage, ty in self.m.all_fields(d[1].ty[1]):
+                    yield self.content((v, (owner, name)), storage == 'strong' and self.m.trivial(ty), False, None)
 
     def content(self, cell, trivial, full_at_entry, due):
         def step(full, item):
@@ -681,13 +683,13 @@ class Checker:
             borrows = {b for b in range(self.f.values) if self.defs[b][0] == 'inst' and self.fresh(b) == o}
             forwarded = {v for v in range(self.f.values)
                          if v not in borrows and self.kind(v) == GUARANTEED and any(b in borrows for b in self.bases(v))}
-            for name, storage, ty in self.m.decls[d[1].ty[1]][1]:
-                def step(building, item, o=o, borrows=borrows, forwarded=forwarded, name=name):
+            for owner, name, storage, ty in self.m.all_fields(d[1].ty[1]):
+                def step(building, item, o=o, borrows=borrows, forwarded=forwarded, name=(owner, name)):
                     if building:
                         op = item.inst.op if item.inst is not None else None
                         for v, r in item.ops:
                             if v == o and op not in ('begin_borrow', 'debug_value') or v in forwarded \
-                                    or v in borrows and op not in ('ref_element_addr', 'debug_value', 'end_borrow'):
+                                    or v in borrows and op not in ('upcast', 'ref_element_addr', 'debug_value', 'end_borrow'):
                                 return building, (607, None)
                     for a, q in item.accesses:
                         root, steps = self.place(a)

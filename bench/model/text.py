@@ -116,6 +116,7 @@ class Reader:
     def decl(self):
         kind, name = self.take('class', 'struct', 'enum'), self.take()
         members = []
+        above = self.take() if self.eat(':') else None
         self.take('{')
         while not self.eat('}'):
             if kind == 'enum':
@@ -146,7 +147,7 @@ class Reader:
             self.take(':')
             members.append((f, storage, self.type()))
             self.accessors()
-        return kind, name, members
+        return kind, name, members, above
 
     # functions
     def ftype(self):
@@ -296,6 +297,8 @@ class Reader:
             self.take(); i.operands = self.typed_list(); self.take(':'); i.ty = self.valtype()
         elif op == 'cond_fail':
             i.operands = [self.typed()]; self.take(','); self.take()
+        elif op == 'upcast':
+            i.operands = [self.typed()]; self.take('to'); i.ty = self.valtype()
         elif op == 'alloc_ref':
             i.ty = self.valtype()
         elif op == 'alloc_stack':
@@ -350,12 +353,13 @@ class Reader:
 TERMINATORS = ('br', 'cond_br', 'switch_enum', 'return', 'unreachable')
 ONE_RESULT = {'integer_literal', 'function_ref', 'builtin', 'alloc_ref', 'alloc_stack', 'copy_value', 'move_value', 'begin_borrow', 'load',
               'load_borrow', 'load_weak', 'load_unowned', 'struct', 'tuple', 'enum', 'struct_extract', 'tuple_extract',
-              'struct_element_addr', 'tuple_element_addr', 'ref_element_addr', 'apply'}
+              'struct_element_addr', 'tuple_element_addr', 'ref_element_addr', 'apply', 'upcast'}
 
 
 class Module:
     def __init__(self):
         self.decls, self.order, self.functions, self.vtables, self.swift = {}, [], [], [], False
+        self.above = {}
 
     def trivial(self, t):
         k = t[0]
@@ -374,6 +378,11 @@ class Module:
 
     def is_class(self, t):
         return t[0] == 'name' and self.decls[t[1]][0] == 'class'
+
+    def all_fields(self, name):
+        """The fields of a class, each with the class that declares it: those of its ancestors first."""
+        above = self.above.get(name)
+        return (self.all_fields(above) if above else []) + [(name,) + tuple(f) for f in self.decls[name][1]]
 
     def member(self, owner, name):
         kind, members = self.decls[owner]
@@ -420,8 +429,9 @@ def read(text):
         if w == 'final':
             r.take()
         elif w in ('class', 'struct', 'enum'):
-            kind, name, members = r.decl()
+            kind, name, members, above = r.decl()
             m.decls[name] = (kind, members)
+            m.above[name] = above
             m.order.append(name)
         elif w == 'sil':
             m.functions.append(r.function())

@@ -70,6 +70,7 @@ number_of op.CondBr = 37
 number_of op.SwitchEnum = 38
 number_of op.Return = 39
 number_of op.Unreachable = 40
+number_of op.Upcast = 41
 
 -- the word with which an instruction begins
 abbrev pub mnemonic_of : Op → List ℕ

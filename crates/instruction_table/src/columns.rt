@@ -53,6 +53,7 @@ pub static MNEMONICS: [&[u8]; INSTRUCTION_COUNT] = [
     b"switch_enum",
     b"return",
     b"unreachable",
+    b"upcast",
 ];
 
 /// The parts behind that word, from left to right. Both flags may stand where a row has `Flags`.
@@ -98,6 +99,7 @@ pub static PARTS: [&[Part]; INSTRUCTION_COUNT] = [
     &[Part::Typed, Part::Edges], // switch_enum
     &[Part::Typed], // return
     &[], // unreachable
+    &[Part::Typed, Part::To, Part::TypeWord], // upcast
 ];
 
 /// How many results an instruction has.
@@ -143,6 +145,7 @@ pub static RESULTS: [Results; INSTRUCTION_COUNT] = [
     NoResult, // switch_enum
     NoResult, // return
     NoResult, // unreachable
+    OneResult, // upcast
 ];
 
 /// Whether an instruction ends a block, and what comes then.
@@ -188,6 +191,7 @@ pub static ENDINGS: [Ending; INSTRUCTION_COUNT] = [
     Cases, // switch_enum
     Return, // return
     Unreachable, // unreachable
+    Inside, // upcast
 ];
 
 /// Which words may stand in brackets.
@@ -233,6 +237,7 @@ pub static WORDS: [Words; INSTRUCTION_COUNT] = [
     NoWord, // switch_enum
     NoWord, // return
     NoWord, // unreachable
+    NoWord, // upcast
 ];
 
 /// Whether the operands may be left out.
@@ -278,6 +283,7 @@ pub static OPTIONAL_OPERANDS: [bool; INSTRUCTION_COUNT] = [
     false, // switch_enum
     false, // return
     false, // unreachable
+    false, // upcast
 ];
 
 /// What an instruction's number, text or member says.
@@ -323,6 +329,7 @@ pub static DETAILS: [Detail; INSTRUCTION_COUNT] = [
     NoDetail, // switch_enum
     NoDetail, // return
     NoDetail, // unreachable
+    NoDetail, // upcast
 ];
 
 /// Whether an instruction counts for one value more than it defines.
@@ -368,4 +375,5 @@ pub static EXTRA_VALUES: [ExtraValue; INSTRUCTION_COUNT] = [
     Never, // switch_enum
     Never, // return
     Never, // unreachable
+    Never, // upcast
 ];

@@ -125,7 +125,7 @@ pub enum Role {
     AnyRole,
     /// It is a scope itself, which ends here.
     ScopeRole,
-    /// As the parameter of the callee says: consumed for `@owned`, an address for `@inout`, `@in` and `@in_guaranteed`, else used.
+    /// As the convention of the argument says: consumed for `@owned`, an address for `@inout`, `@in`, `@in_guaranteed` and `@out`, else used.
     ByParameter,
     /// Its references are counted, which only lowered functions do.
     Counted,

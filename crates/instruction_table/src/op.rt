@@ -85,10 +85,12 @@ pub enum Op {
     Return,
     /// `unreachable`
     Unreachable,
+    /// `%1 = upcast %0 : $Derived to $Base`
+    Upcast,
 }
 
 /// How many instructions there are.
-pub const INSTRUCTION_COUNT: usize = 41;
+pub const INSTRUCTION_COUNT: usize = 42;
 
 /// Every instruction, at its number.
 pub static OPS: [Op; INSTRUCTION_COUNT] = [
@@ -133,4 +135,5 @@ pub static OPS: [Op; INSTRUCTION_COUNT] = [
     Op::SwitchEnum,
     Op::Return,
     Op::Unreachable,
+    Op::Upcast,
 ];

@@ -52,6 +52,7 @@ pub static ROLES: [&[Role]; INSTRUCTION_COUNT] = [
     &[Forwarded], // switch_enum
     &[Consumed], // return
     &[], // unreachable
+    &[Forwarded], // upcast
 ];
 
 /// Of what kind an instruction's results are, where their types aren't trivial. Of `switch_enum`, the arguments of its blocks.
@@ -97,4 +98,5 @@ pub static RESULT_KINDS: [ResultKind; INSTRUCTION_COUNT] = [
     ForwardedResult, // switch_enum
     NoneResult, // return
     NoneResult, // unreachable
+    ForwardedResult, // upcast
 ];

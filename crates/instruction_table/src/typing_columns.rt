@@ -51,6 +51,7 @@ pub static STORAGE_TYPES: [bool; INSTRUCTION_COUNT] = [
     false, // switch_enum
     false, // return
     false, // unreachable
+    false, // upcast
 ];
 
 /// Whether an instruction makes the tuple of its operands.
@@ -96,6 +97,7 @@ pub static OPERAND_TUPLES: [bool; INSTRUCTION_COUNT] = [
     false, // switch_enum
     false, // return
     false, // unreachable
+    false, // upcast
 ];
 
 /// In functions of which form an instruction may stand.
@@ -141,6 +143,7 @@ pub static FORMS: [InForms; INSTRUCTION_COUNT] = [
     BothForms, // switch_enum
     BothForms, // return
     BothForms, // unreachable
+    BothForms, // upcast
 ];
 
 /// Which words an instruction takes for which types, in a function in ownership form.
@@ -186,6 +189,7 @@ pub static TYPE_WORDS: [TypeWords; INSTRUCTION_COUNT] = [
     AnyType, // switch_enum
     AnyType, // return
     AnyType, // unreachable
+    AnyType, // upcast
 ];
 
 /// What the operands without a written type stand for, which tells their types.
@@ -231,4 +235,5 @@ pub static BARE_OPERANDS: [BareOperands; INSTRUCTION_COUNT] = [
     NoBare, // switch_enum
     NoBare, // return
     NoBare, // unreachable
+    NoBare, // upcast
 ];

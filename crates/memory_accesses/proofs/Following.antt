@@ -11,7 +11,7 @@ use Rattle.sil_ast.specs.declared.place.ValueId.{ValueId}
 use Rattle.argument_conventions.specs.declared.row.AddressRow.{AddressRow}
 use Rattle.memory_accesses.specs.declared.location.Location.{Location}
 use Rattle.memory_accesses.specs.declared.source.Source.{Source}
-use Rattle.memory_accesses.specs.declared.source.Source.TheVariants.{Slot, Argument, Object, Borrow, Loan, Field, Part, Other}
+use Rattle.memory_accesses.specs.declared.source.Source.TheVariants.{Slot, Argument, Object, Borrow, Upcast, Loan, Field, Part, Other}
 use Rattle.memory_accesses.specs.inner.Kept.{behind, location_at, locations_of}
 use Rattle.memory_accesses.specs.Locations.{extended, locate, located_by, location_of, whole}
 use Rattle.memory_accesses.specs.Sources.{source_at}
@@ -72,11 +72,13 @@ module _ (sources : List Source) (address at : ValueId) (i : ℕ) (steps : List 
 
   -- what is reached is no root, and no step leads on
   pub at_no_root : (source : Source) → source ≡ source_at sources at →
-      ((x : ℕ) × (source ≡ Object x)) ⊎ (((x : ValueId) × (source ≡ Borrow x)) ⊎ (((x : ValueId) × (source ≡ Loan x)) ⊎ (source ≡ Other))) → None ≡ location_of sources address
+      ((x : ℕ) × (source ≡ Object x)) ⊎ (((x : ValueId) × (source ≡ Borrow x)) ⊎ (((x : ValueId) × (source ≡ Upcast x)) ⊎ (((x : ValueId) × (source ≡ Loan x)) ⊎ (source ≡ Other)))) →
+      None ≡ location_of sources address
   at_no_root source e (inl w) = sym (at_source (Object w.0) (sym w.1 ∙ e))
   at_no_root source e (inr (inl w)) = sym (at_source (Borrow w.0) (sym w.1 ∙ e))
-  at_no_root source e (inr (inr (inl w))) = sym (at_source (Loan w.0) (sym w.1 ∙ e))
-  at_no_root source e (inr (inr (inr same))) = sym (at_source Other (sym same ∙ e))
+  at_no_root source e (inr (inr (inl w))) = sym (at_source (Upcast w.0) (sym w.1 ∙ e))
+  at_no_root source e (inr (inr (inr (inl w)))) = sym (at_source (Loan w.0) (sym w.1 ∙ e))
+  at_no_root source e (inr (inr (inr (inr same)))) = sym (at_source Other (sym same ∙ e))
 
 get_mapped : {X : Type 0} (f : ℕ → Option X) (n i : ℕ) → ((k : ℕ) → n ≤ k → f k ≡ None) → unwrap_or (slice_get (map f (range_with_len 0 n)) i) None ≡ f i
 get_mapped f n i past = at (cases_lt i n)

@@ -5,7 +5,7 @@ use Rattle.sil_ast.specs.declared.place.ValueId.{ValueId}
 use Rattle.memory_accesses.specs.declared.location.Cell.{Cell}
 use Rattle.memory_accesses.specs.declared.location.Location.{Location}
 use Rattle.memory_accesses.specs.declared.source.Source.{Source}
-use Rattle.memory_accesses.specs.declared.source.Source.TheVariants.{Slot, Argument, Object, Borrow, Loan, Field, Part, Other}
+use Rattle.memory_accesses.specs.declared.source.Source.TheVariants.{Slot, Argument, Object, Borrow, Upcast, Loan, Field, Part, Other}
 use Rattle.memory_accesses.specs.Sources.{source_at}
 
 abbrev pub whole : ValueId → Location
@@ -21,6 +21,7 @@ located_by others v (Slot trivial) = Some (whole v)
 located_by others v (Argument row trivial) = Some (whole v)
 located_by others v (Object fields) = None
 located_by others v (Borrow of) = None
+located_by others v (Upcast of) = None
 located_by others v (Loan of) = None
 located_by others v (Field of k trivial) = Some (whole v)
 located_by others v (Part of k) = option_map (extended k) (others of)
@@ -57,6 +58,7 @@ is_object (Slot trivial) = false
 is_object (Argument row trivial) = false
 is_object (Object fields) = true
 is_object (Borrow of) = false
+is_object (Upcast of) = false
 is_object (Loan of) = false
 is_object (Field of k trivial) = false
 is_object (Part of k) = false
@@ -67,14 +69,36 @@ object_lent sources (Slot trivial) = None
 object_lent sources (Argument row trivial) = None
 object_lent sources (Object fields) = None
 object_lent sources (Borrow of) = cond (is_object (source_at sources of)) (Some of) None
+object_lent sources (Upcast of) = None
 object_lent sources (Loan of) = None
 object_lent sources (Field of k trivial) = None
 object_lent sources (Part of k) = None
 object_lent sources Other = None
 
--- the new object that a building borrow lends: one whose operand is the object itself
+-- what an upcast has as its operand, where others go further
+abbrev pub below_by : (ValueId → ValueId) → ValueId → Source → ValueId
+below_by others v (Slot trivial) = v
+below_by others v (Argument row trivial) = v
+below_by others v (Object fields) = v
+below_by others v (Borrow of) = v
+below_by others v (Upcast of) = others of
+below_by others v (Loan of) = v
+below_by others v (Field of k trivial) = v
+below_by others v (Part of k) = v
+below_by others v Other = v
+
+-- the value from which a value comes by so many upcasts at most
+abbrev pub below : List Source → ℕ → ValueId → ValueId
+below sources zero v = v
+below sources (suc n) v = below_by (below sources n) v (source_at sources v)
+
+-- the value from which a value comes by upcasts alone; as many as there are values lead to the first
+unfoldable pub upcast_from : List Source → ValueId → ValueId
+upcast_from sources v = below sources (length sources) v
+
+-- the new object that a building borrow lends: a borrow whose operand is the object itself, or an upcast of a building borrow
 abbrev pub object_built : List Source → ValueId → Option ValueId
-object_built sources v = object_lent sources (source_at sources v)
+object_built sources v = object_lent sources (source_at sources (upcast_from sources v))
 
 abbrev pub field_cell : Option ValueId → ValueId → ℕ → Cell
 field_cell None root k = record { subject = root; field = None }
@@ -85,6 +109,7 @@ cell_by sources root (Slot trivial) = record { subject = root; field = None }
 cell_by sources root (Argument row trivial) = record { subject = root; field = None }
 cell_by sources root (Object fields) = record { subject = root; field = None }
 cell_by sources root (Borrow of) = record { subject = root; field = None }
+cell_by sources root (Upcast of) = record { subject = root; field = None }
 cell_by sources root (Loan of) = record { subject = root; field = None }
 cell_by sources root (Field of k trivial) = field_cell (object_built sources of) root k
 cell_by sources root (Part of k) = record { subject = root; field = None }

@@ -5,7 +5,7 @@ use Rattle.memory_accesses.specs.declared.access.Operation.{Operation}
 use Rattle.memory_accesses.specs.declared.access.Operation.TheVariants.{FirstWrite, Read, Lend, Write, TrivialStore, Handed, Take}
 use Rattle.memory_accesses.specs.declared.location.Location.{Location}
 use Rattle.memory_accesses.specs.declared.source.Source.{Source}
-use Rattle.memory_accesses.specs.declared.source.Source.TheVariants.{Slot, Argument, Object, Borrow, Loan, Field, Part, Other}
+use Rattle.memory_accesses.specs.declared.source.Source.TheVariants.{Slot, Argument, Object, Borrow, Upcast, Loan, Field, Part, Other}
 use Rattle.memory_accesses.specs.Locations.{object_built}
 use Rattle.memory_accesses.specs.Sources.{source_at}
 
@@ -52,6 +52,7 @@ has_by sources (Slot trivial) part o = slot_has part o
 has_by sources (Argument row trivial) part o = cond row.shared (shared_has o) (slot_has part o)
 has_by sources (Object fields) part o = false
 has_by sources (Borrow of) part o = false
+has_by sources (Upcast of) part o = false
 has_by sources (Loan of) part o = false
 has_by sources (Field of k trivial) part o = field_has part (is_some (object_built sources of)) o
 has_by sources (Part of k) part o = false

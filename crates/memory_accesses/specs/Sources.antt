@@ -45,6 +45,10 @@ abbrev pub borrow_source : Option ValueId → Source
 borrow_source None = source.Other
 borrow_source (Some v) = source.Borrow v
 
+abbrev pub upcast_source : Option ValueId → Source
+upcast_source None = source.Other
+upcast_source (Some v) = source.Upcast v
+
 abbrev pub loan_source : Option ValueId → Source
 loan_source None = source.Other
 loan_source (Some v) = source.Loan v
@@ -84,6 +88,7 @@ source_by access.AllocatesSlot d i = slot_source d i.ty
 source_by access.AllocatesObject d i = object_source d i.ty
 source_by access.DeallocatesSlot d i = source.Other
 source_by access.LendsValue d i = borrow_source (first_value i)
+source_by access.Upcasts d i = upcast_source (first_value i)
 source_by access.LendsLocation d i = loan_source (first_value i)
 source_by access.NamesField d i = field_source (first_value i) (member_place d i.member) (is_trivial_member d i.member)
 source_by access.NamesMember d i = part_source (first_value i) (member_place d i.member)
@@ -132,6 +137,7 @@ is_slot_source (source.Slot trivial) = true
 is_slot_source (source.Argument row trivial) = false
 is_slot_source (source.Object fields) = false
 is_slot_source (source.Borrow of) = false
+is_slot_source (source.Upcast of) = false
 is_slot_source (source.Loan of) = false
 is_slot_source (source.Field of k trivial) = false
 is_slot_source (source.Part of k) = false
@@ -146,6 +152,7 @@ is_trivial_source (source.Slot trivial) = trivial
 is_trivial_source (source.Argument row trivial) = trivial
 is_trivial_source (source.Object fields) = false
 is_trivial_source (source.Borrow of) = false
+is_trivial_source (source.Upcast of) = false
 is_trivial_source (source.Loan of) = false
 is_trivial_source (source.Field of k trivial) = trivial
 is_trivial_source (source.Part of k) = false

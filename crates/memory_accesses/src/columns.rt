@@ -6,7 +6,7 @@ ghost use Rattle.memory_accesses.specs.Accesses as accesses;
 
 use crate::columns::AccessKind::{
     AllocatesObject, AllocatesSlot, DeallocatesSlot, Destroys, LendsLocation, LendsValue, Loads,
-    NamesElement, NamesField, NamesMember, NoAccess, Passes, Stores,
+    NamesElement, NamesField, NamesMember, NoAccess, Passes, Stores, Upcasts,
 };
 use crate::columns::Allowance::{BothOfThem, BuildingBorrow, FreshObject, NeitherOfThem};
 use instruction_table::{INSTRUCTION_COUNT, Op};
@@ -24,6 +24,8 @@ pub enum AccessKind {
     LendsValue,
     /// Its result borrows what a location holds.
     LendsLocation,
+    /// Its result is the operand's object, as an instance of an ancestor.
+    Upcasts,
     /// Its result is the address of a field of an object.
     NamesField,
     /// Its result is the address of a member of the struct at an address.
@@ -94,6 +96,7 @@ pub static ACCESSES: [AccessKind; INSTRUCTION_COUNT] = [
     NoAccess, // switch_enum
     NoAccess, // return
     NoAccess, // unreachable
+    Upcasts, // upcast
 ];
 
 /// Which unfinished objects each instruction takes.
@@ -139,6 +142,7 @@ pub static ALLOWANCES: [Allowance; INSTRUCTION_COUNT] = [
     NeitherOfThem, // switch_enum
     NeitherOfThem, // return
     NeitherOfThem, // unreachable
+    BuildingBorrow, // upcast
 ];
 
 /// What an instruction does to memory.

@@ -141,6 +141,7 @@ fn made_by(m: &Memory, value: ValueId) -> Option<Access>
         Source::Slot { .. } | Source::Object { .. } => Some(Access::Allocates(value)),
         Source::Argument { row, .. } => Some(Access::Given(value, row.before)),
         Source::Borrow { .. }
+        | Source::Upcast { .. }
         | Source::Loan { .. }
         | Source::Field { .. }
         | Source::Part { .. }

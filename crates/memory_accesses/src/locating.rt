@@ -21,6 +21,20 @@ pub(crate) fn source_at(sources: &[Source], value: ValueId) -> Source
     }
 }
 
+/// The value from which a value comes by upcasts alone. The time goes with the number of upcasts.
+pub(crate) fn upcast_from(sources: &[Source], value: ValueId) -> ValueId
+    ensures { result ≡ spec.upcast_from sources.now value }
+{
+    let mut at = value;
+    for _ in 0..sources.len() {
+        let Source::Upcast { of } = source_at(sources, at) else {
+            return at;
+        };
+        at = of;
+    }
+    at
+}
+
 /// The location that a table has of an address.
 pub(crate) fn location_at(locations: &[Option<Location>], address: ValueId) -> Option<&Location>
     ensures { option_copied result ≡ kept.location_at locations.now address }
@@ -61,9 +75,11 @@ fn location_of(
             Source::Slot { .. } | Source::Argument { .. } | Source::Field { .. } => {
                 return Ok(Some(location_behind(at, steps)));
             }
-            Source::Object { .. } | Source::Borrow { .. } | Source::Loan { .. } | Source::Other => {
-                return Ok(None);
-            }
+            Source::Object { .. }
+            | Source::Borrow { .. }
+            | Source::Upcast { .. }
+            | Source::Loan { .. }
+            | Source::Other => return Ok(None),
         }
     }
     Ok(None)

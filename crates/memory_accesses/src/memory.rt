@@ -8,7 +8,7 @@ ghost use Rattle.memory_accesses.specs.Rows as rows;
 ghost use Rattle.memory_accesses.specs.Sources as sources;
 
 use crate::access::Operation;
-use crate::locating::{location_at, locations_of, source_at};
+use crate::locating::{location_at, locations_of, source_at, upcast_from};
 use crate::location::{Cell, Location, overlap};
 use crate::rows::{field_has, shared_has, slot_has};
 use crate::source::Source;
@@ -102,11 +102,11 @@ impl Memory {
         }
     }
 
-    /// The new object that is built through a value: the object that the value borrows.
+    /// The new object that is built through a value: the object that the value borrows, itself or through upcasts.
     pub fn object_built(&self, value: ValueId) -> Option<ValueId>
         ensures { result ≡ locations.object_built self.now value }
     {
-        let Source::Borrow { of } = self.source(value) else {
+        let Source::Borrow { of } = self.source(upcast_from(self.sources(), value)) else {
             return None;
         };
         match self.source(of) {
@@ -154,6 +154,7 @@ impl Memory {
             }
             Source::Object { .. }
             | Source::Borrow { .. }
+            | Source::Upcast { .. }
             | Source::Loan { .. }
             | Source::Part { .. }
             | Source::Other => false,

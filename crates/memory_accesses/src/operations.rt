@@ -49,6 +49,7 @@ fn operation_by(kind: AccessKind, qualifier: Qualifier) -> Option<Operation>
         | AccessKind::AllocatesObject
         | AccessKind::DeallocatesSlot
         | AccessKind::LendsValue
+        | AccessKind::Upcasts
         | AccessKind::NamesField
         | AccessKind::NamesMember
         | AccessKind::NamesElement
@@ -154,6 +155,7 @@ pub fn deallocates(inst: &Inst) -> bool
         | AccessKind::AllocatesSlot
         | AccessKind::AllocatesObject
         | AccessKind::LendsValue
+        | AccessKind::Upcasts
         | AccessKind::LendsLocation
         | AccessKind::NamesField
         | AccessKind::NamesMember

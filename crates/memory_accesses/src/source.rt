@@ -26,6 +26,10 @@ pub enum Source {
     Borrow {
         of: ValueId,
     },
+    /// The same object, as an instance of an ancestor.
+    Upcast {
+        of: ValueId,
+    },
     /// A borrow of what is at an address.
     Loan {
         of: ValueId,
@@ -61,8 +65,8 @@ impl Source {
             Source::Slot { trivial } => trivial,
             Source::Argument { trivial, .. } => trivial,
             Source::Field { trivial, .. } => trivial,
-            Source::Object { .. } | Source::Borrow { .. } | Source::Loan { .. } => false,
-            Source::Part { .. } | Source::Other => false,
+            Source::Object { .. } | Source::Borrow { .. } | Source::Upcast { .. } => false,
+            Source::Loan { .. } | Source::Part { .. } | Source::Other => false,
         }
     }
 }

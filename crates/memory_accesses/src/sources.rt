@@ -2,7 +2,6 @@
 
 ghost use Rattle.std.specs.Prelude.{◌≡◌, ◌++◌, IfOk, OnOk, option_map};
 ghost use Rattle.sil_ast.specs.declared.type_name.TypeName.{out-TypeName};
-ghost use Rattle.type_definitions.specs.Lookups as lookups;
 ghost use Rattle.argument_conventions.specs.Arguments.{arguments_of, as_told};
 ghost use Rattle.memory_accesses.specs.Sources as spec;
 ghost use Rattle.memory_accesses.specs.Sources.{arg_sources, result_sources};
@@ -10,9 +9,7 @@ ghost use Rattle.memory_accesses.specs.Sources.{arg_sources, result_sources};
 use crate::columns::{AccessKind, access_kind_of};
 use crate::source::Source;
 use argument_conventions::{FunctionArgument, argument};
-use sil_ast::{
-    BlockArg, Decl, Exhausted, Field, Function, Inst, List, Signature, Text, TypeName, ValueId,
-};
+use sil_ast::{BlockArg, Exhausted, Function, Inst, List, Signature, TypeName, ValueId};
 use sil_types::TypeTable;
 use sil_types::shapes::is_trivial_object;
 use std::alloc::Global;
@@ -29,24 +26,12 @@ fn slot_source(table: &TypeTable, inst: &Inst) -> Source
     }
 }
 
-/// The fields of a struct or class.
-fn fields_of<'t>(table: &'t TypeTable, owner: &Text) -> &'t [Field]
-    ensures { result.now ≡ lookups.fields_of table.now owner.now }
-{
-    match table.decl(owner) {
-        None => &[],
-        Some(Decl::Struct { name: _, fields }) => fields.as_slice(),
-        Some(Decl::Enum { name: _, cases: _ }) => &[],
-        Some(Decl::Class { name: _, fields }) => fields.as_slice(),
-    }
-}
-
 fn field_count(table: &TypeTable, ty: &TypeName) -> usize
     ensures { result ≡ spec.field_count_in table.now (out-TypeName ty.now) }
 {
     match ty {
         TypeName::Int(_) => 0,
-        TypeName::Named(name) => fields_of(table, name).len(),
+        TypeName::Named(name) => table.field_count(name),
         TypeName::Optional(_) => 0,
         TypeName::Tuple(_) => 0,
         TypeName::Weak(_) => 0,
@@ -72,6 +57,15 @@ fn borrow_source(lent: Option<ValueId>) -> Source
     match lent {
         None => Source::Other,
         Some(of) => Source::Borrow { of },
+    }
+}
+
+fn upcast_source(value: Option<ValueId>) -> Source
+    ensures { result ≡ spec.upcast_source value }
+{
+    match value {
+        None => Source::Other,
+        Some(of) => Source::Upcast { of },
     }
 }
 
@@ -153,6 +147,7 @@ fn source_by(table: &TypeTable, kind: AccessKind, inst: &Inst) -> Source
         AccessKind::AllocatesSlot => slot_source(table, inst),
         AccessKind::AllocatesObject => object_source(table, inst),
         AccessKind::LendsValue => borrow_source(first_value(inst)),
+        AccessKind::Upcasts => upcast_source(first_value(inst)),
         AccessKind::LendsLocation => loan_source(first_value(inst)),
         AccessKind::NamesField => field_source(
             first_value(inst),

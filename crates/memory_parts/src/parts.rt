@@ -29,7 +29,7 @@ fn is_scope(m: &Memory, value: ValueId) -> bool
     match m.source(value) {
         Source::Borrow { .. } | Source::Loan { .. } => true,
         Source::Slot { .. } | Source::Argument { .. } | Source::Object { .. } => false,
-        Source::Field { .. } | Source::Part { .. } => false,
+        Source::Upcast { .. } | Source::Field { .. } | Source::Part { .. } => false,
         Source::Other => false,
     }
 }
@@ -95,7 +95,7 @@ fn add_slot(found: &mut Vec<Part>, m: &Memory, address: ValueId) -> Result<(), E
                 Ok(())
             }
             Source::Argument { .. } | Source::Object { .. } | Source::Borrow { .. } => Ok(()),
-            Source::Loan { .. } | Source::Other => Ok(()),
+            Source::Upcast { .. } | Source::Loan { .. } | Source::Other => Ok(()),
             Source::Field { .. } | Source::Part { .. } => Ok(()),
         },
     }
@@ -162,7 +162,7 @@ fn add_parts(found: &mut Vec<Part>, m: &Memory, k: &Kinds, value: ValueId) -> Re
         Source::Slot { trivial } => add_slot_parts(found, m, k, value, trivial),
         Source::Argument { row, trivial } => add_argument(found, value, row, trivial),
         Source::Object { fields } => add_fields(found, value, fields),
-        Source::Borrow { .. } | Source::Other => Ok(()),
+        Source::Borrow { .. } | Source::Upcast { .. } | Source::Other => Ok(()),
         Source::Loan { of } => {
             found.push(Part::Lent {
                 scope: value,

@@ -20,7 +20,7 @@ use Rattle.item_operands.specs.declared.taken.Treatment.{Treatment}
 use Rattle.memory_accesses.specs.declared.access.Operation.{Operation}
 use Rattle.memory_accesses.specs.declared.access.Operation.TheVariants.{Handed}
 use Rattle.memory_accesses.specs.declared.columns.AccessKind.{AccessKind}
-use Rattle.memory_accesses.specs.declared.columns.AccessKind.TheVariants.{NoAccess, AllocatesSlot, AllocatesObject, DeallocatesSlot, LendsValue, LendsLocation}
+use Rattle.memory_accesses.specs.declared.columns.AccessKind.TheVariants.{NoAccess, AllocatesSlot, AllocatesObject, DeallocatesSlot, LendsValue, Upcasts, LendsLocation}
 use Rattle.memory_accesses.specs.declared.columns.AccessKind.TheVariants.{NamesField, NamesMember, NamesElement, Loads, Stores, Destroys, Passes}
 use Rattle.memory_accesses.specs.Operations.{access_kind_of, deallocates, deallocates_by, is_address_role, operated, operated_at, operation_by, operations_of}
 use Rattle.memory_rules.specs.inner.StaticFaults.{is_idle, is_idle_by}
@@ -90,6 +90,7 @@ by_kind AllocatesSlot q e = (refl, refl)
 by_kind AllocatesObject q e = (refl, refl)
 by_kind DeallocatesSlot q e = absurd cc
 by_kind LendsValue q e = (refl, refl)
+by_kind Upcasts q e = (refl, refl)
 by_kind LendsLocation q e = absurd cc
 by_kind NamesField q e = (refl, refl)
 by_kind NamesMember q e = (refl, refl)

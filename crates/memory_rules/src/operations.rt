@@ -23,6 +23,7 @@ pub(crate) fn is_idle(inst: &Inst) -> bool
         | AccessKind::AllocatesSlot
         | AccessKind::AllocatesObject
         | AccessKind::LendsValue
+        | AccessKind::Upcasts
         | AccessKind::NamesField
         | AccessKind::NamesMember
         | AccessKind::NamesElement => true,

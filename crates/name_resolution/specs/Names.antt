@@ -47,7 +47,7 @@ abbrev pub case_name : WrittenCase → WrittenToken
 case_name c = c.name
 
 abbrev pub member_names : WrittenDecl → List WrittenToken
-member_names (decl.Class name fields) = map field_name fields
+member_names (decl.Class name superclass fields) = map field_name fields
 member_names (decl.Struct name fields) = map field_name fields
 member_names (decl.Enum name cases) = map case_name cases
 

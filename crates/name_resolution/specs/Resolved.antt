@@ -159,7 +159,7 @@ abbrev pub resolved_case : WrittenCase → Case
 resolved_case c = record { name = c.name.text; payload = c.payload }
 
 abbrev pub resolved_decl : WrittenDecl → Decl
-resolved_decl (decl.Class name fields) = kept.Class name.text (map resolved_field fields)
+resolved_decl (decl.Class name superclass fields) = kept.Class name.text (option_map name_of superclass) (map resolved_field fields)
 resolved_decl (decl.Struct name fields) = kept.Struct name.text (map resolved_field fields)
 resolved_decl (decl.Enum name cases) = kept.Enum name.text (map resolved_case cases)
 

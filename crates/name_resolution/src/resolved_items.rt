@@ -1,7 +1,7 @@
 //! Declarations, functions and vtables, with numbers for their names. What has no name is moved out of the written
 //! module.
 
-ghost use Rattle.std.specs.Prelude.{◌≡◌, List, [], ◌∷◌, filter, map, IfOk, OnOk};
+ghost use Rattle.std.specs.Prelude.{◌≡◌, List, [], ◌∷◌, filter, map, option_map, IfOk, OnOk};
 ghost use Rattle.std.specs.List.{list_any};
 ghost use Rattle.written_tree.specs.declared.written_module.WrittenItem.TheVariants as written;
 ghost use Rattle.written_tree.specs.Faults as said;
@@ -103,9 +103,11 @@ fn resolve_decl(alloc: Global, decl: WrittenDecl) -> Result<Decl, Exhausted>
     match decl {
         WrittenDecl::Class {
             name: _token,
+            superclass,
             fields,
         } => Ok(Decl::Class {
             name,
+            superclass: resolve_superclass(alloc, superclass)?,
             fields: resolve_fields(alloc, fields)?,
         }),
         WrittenDecl::Struct {
@@ -122,6 +124,18 @@ fn resolve_decl(alloc: Global, decl: WrittenDecl) -> Result<Decl, Exhausted>
             name,
             cases: resolve_cases(alloc, cases)?,
         }),
+    }
+}
+
+fn resolve_superclass(
+    alloc: Global,
+    superclass: Option<WrittenToken>,
+) -> Result<Option<Text>, Exhausted>
+    ensures { IfOk result (λ resolved. resolved ≡ option_map name_of superclass) }
+{
+    match superclass {
+        None => Ok(None),
+        Some(name) => Ok(Some(name.text.to_text(alloc)?)),
     }
 }
 

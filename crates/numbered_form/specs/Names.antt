@@ -1,5 +1,5 @@
 -- Names and texts have a spelling, and no name is given twice. The names in types are in `Types`.
-use Rattle.std.specs.Prelude.{ℕ, List, [], ◌∷◌, ◌++◌, ⊤, length, map, Contains, Bool, false, not, ◌&&◌, nat_le, IsTrue, IfSome}
+use Rattle.std.specs.Prelude.{ℕ, List, [], ◌∷◌, ◌++◌, ⊤, length, map, Contains, Bool, false, not, ◌&&◌, nat_le, IsTrue, IfSome, Option, None}
 use Rattle.std.specs.List.{list_all}
 use Rattle.sil_ast.specs.declared.decl.Case.{Case}
 use Rattle.sil_ast.specs.declared.decl.Decl.{Decl}
@@ -44,7 +44,7 @@ IsWord name = IsTrue (is_word name)
 abbrev pub decl_name : Decl → Name
 decl_name (Struct name fields) = name
 decl_name (Enum name cases) = name
-decl_name (Class name fields) = name
+decl_name (Class name superclass fields) = name
 
 abbrev pub field_name : Field → Name
 field_name f = f.name
@@ -55,7 +55,7 @@ case_name c = c.name
 abbrev pub member_names : Decl → List Name
 member_names (Struct name fields) = map field_name fields
 member_names (Enum name cases) = map case_name cases
-member_names (Class name fields) = map field_name fields
+member_names (Class name superclass fields) = map field_name fields
 
 abbrev pub function_name : Function → Name
 function_name f = f.name
@@ -63,8 +63,15 @@ function_name f = f.name
 abbrev pub class_name : Vtable → Name
 class_name v = v.class_name
 
+-- the superclass that a class names
+abbrev pub superclass_in : Decl → Option Name
+superclass_in (Struct name fields) = None
+superclass_in (Enum name cases) = None
+superclass_in (Class name superclass fields) = superclass
+
 pub record IsDeclSpelled (d : Decl) : Type 0 where
   pub name : IsWord (decl_name d)
+  pub superclass : IfSome (superclass_in d) IsWord
   pub members : Each IsWord (member_names d)
 
 pub record IsFunctionSpelled (f : Function) : Type 0 where

@@ -37,7 +37,7 @@ use Rattle.written_values.specs.inner.Parts.{part}
 use Rattle.written_tree.specs.Places.{attribute_places, decl_names, function_names, mnemonics_of, values_of_block}
 use Rattle.written_values.specs.Values.{token_of, items_of, item_of, fields_of, field_of, field_before, cases_of, type_of, payload_of, types_of, tokens_of, params_of}
 use Rattle.written_values.specs.Values.{param_before, givens_of, given_before, starred, signature_of, blocks_of, block_of, args_of, arg_of, insts_of, terminator_of}
-use Rattle.written_values.specs.Values.{inst_of, operands_of, operand_of, edges_of, edge_of, member_of, qualifier_of, debug_of, entry_of, no_debug}
+use Rattle.written_values.specs.Values.{inst_of, operands_of, operand_of, edges_of, edge_of, member_of, qualifier_of, debug_of, entry_of, no_debug, superclass_of}
 use Rattle.name_resolution.specs.Resolved.{Scope, resolved_decl, resolved_edge, resolved_inst, resolved_operand}
 use Rattle.numbered_form.specs.Lists.{Each, is_empty}
 use Rattle.numbered_form.specs.inner.Fields.{HasStrongFields}
@@ -216,6 +216,7 @@ unfoldable pub IsGoodPart : Nonterminal → PartValue → Type 0
 IsGoodPart n.Module x = (w : WrittenModule) → x ≡ module_value w → IsGoodModule w
 IsGoodPart n.Items x = Each IsGoodItem (items_of x)
 IsGoodPart n.Item x = IsGoodItem (item_of x)
+IsGoodPart n.Superclass x = IfSome (superclass_of x) IsWordToken
 IsGoodPart n.Members x = Each IsGoodField (fields_of x)
 IsGoodPart n.Member x = IsGoodBefore x
 IsGoodPart n.Modified x = IsGoodBefore x

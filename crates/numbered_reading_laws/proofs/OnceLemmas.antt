@@ -74,12 +74,12 @@ names_kept f name token e [] = refl
 names_kept f name token e (x ∷ xs) = ap₂ (λ n ns. n ∷ ns) (sym (e x)) (names_kept f name token e xs)
 
 pub decl_kept : (d : WrittenDecl) → decl_name (resolved_decl d) ≡ (name_of_decl d).text
-decl_kept (decl.Class name fields) = refl
+decl_kept (decl.Class name superclass fields) = refl
 decl_kept (decl.Struct name fields) = refl
 decl_kept (decl.Enum name cases) = refl
 
 pub members_kept : (d : WrittenDecl) → map name_of (written.member_names d) ≡ member_names (resolved_decl d)
-members_kept (decl.Class name fields) = names_kept resolved_field field_name written.field_name (λ f. refl) fields
+members_kept (decl.Class name superclass fields) = names_kept resolved_field field_name written.field_name (λ f. refl) fields
 members_kept (decl.Struct name fields) = names_kept resolved_field field_name written.field_name (λ f. refl) fields
 members_kept (decl.Enum name cases) = names_kept resolved_case case_name written.case_name (λ c. refl) cases
 

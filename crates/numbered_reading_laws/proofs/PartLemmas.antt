@@ -1,5 +1,6 @@
 -- Each part is good where the parts of its body are, and nothing in it is at fault.
-use Rattle.std.proofs.Common.{◌≡◌, ℕ, ◌≤◌, suc, List, [], ◌∷◌, length, map, Some, None, true, false, IsTrue, ap, refl, subst, arith, flat_map}
+use Rattle.std.proofs.Common.{◌≡◌, ℕ, ◌≤◌, suc, List, [], ◌∷◌, length, map, Option, Some, None, IfSome, true, false, IsTrue, ap, refl, subst, arith, flat_map}
+use Rattle.std.specs.Prelude.{option_map}
 use Rattle.std.proofs.lemmas.List.{length-map}
 use Rattle.sil_ast.specs.declared.function.Linkage.{Linkage}
 use Rattle.sil_ast.specs.declared.member.Member.{Member}
@@ -30,8 +31,9 @@ use Rattle.written_tree.proofs.FaultOrder.{no_first, no_second}
 use Rattle.written_values.specs.Types.{in_parens, tailed, type_before}
 use Rattle.written_values.specs.Values.{args_of, blocks_of, cases_of, edges_of, field_of, fields_of, givens_of, imports_of}
 use Rattle.written_values.specs.Values.{inst_of, items_of, linkage_of, member_of, operands_of, params_of, questions_of}
-use Rattle.written_values.specs.Values.{signature_of, stage_of, token_of, tokens_of, type_of, types_of}
+use Rattle.written_values.specs.Values.{signature_of, stage_of, superclass_of, token_of, tokens_of, type_of, types_of}
 use Rattle.written_values.proofs.Unfolded.{value_parts}
+use Rattle.name_resolution.specs.Names.{name_of}
 use Rattle.name_resolution.specs.Resolved.{Scope, resolved_case, resolved_decl, resolved_field, resolved_operand}
 use Rattle.numbered_form.specs.Lists.{Each}
 use Rattle.numbered_form.specs.inner.Fields.{IsStrong}
@@ -68,10 +70,15 @@ case_words (c ∷ cases) g = (g.0.name, case_words cases g.1)
 few_names : {A B : Type 0} (f : A → B) (name : B → List ℕ) (xs : List A) → length xs ≤ 64 → length (map name (map f xs)) ≤ 64
 few_names f name xs h = rw (length-map, length-map) h
 
-good_class : (name : WrittenToken) (fields : List WrittenField) → IsWord name.text → Each IsGoodField fields → passed limit.Members 64 (map field_place fields) ≡ None
-    → IsGoodDecl (resolved_decl (decl.Class name fields))
-good_class name fields word g h = record {
-  spelled = record { name = word; members = field_words fields g };
+superclass_word : (superclass : Option WrittenToken) → IfSome superclass IsWordToken → IfSome (option_map name_of superclass) IsWord
+superclass_word None g = tt
+superclass_word (Some token) g = g
+
+good_class : (name : WrittenToken) (superclass : Option WrittenToken) (fields : List WrittenField) → IsWord name.text → IfSome superclass IsWordToken
+    → Each IsGoodField fields → passed limit.Members 64 (map field_place fields) ≡ None
+    → IsGoodDecl (resolved_decl (decl.Class name superclass fields))
+good_class name superclass fields word above g h = record {
+  spelled = record { name = word; superclass = superclass_word superclass above; members = field_words fields g };
   strong = tt;
   types = field_types fields g;
   limits = few_names resolved_field field_name fields (not_passed-map field_place limit.Members 64 fields h);
@@ -80,7 +87,7 @@ good_class name fields word g h = record {
 good_struct : (name : WrittenToken) (fields : List WrittenField) → IsWord name.text → Each IsGoodField fields → Each IsStrongField fields → passed limit.Members 64 (map field_place fields) ≡ None
     → IsGoodDecl (resolved_decl (decl.Struct name fields))
 good_struct name fields word g strong h = record {
-  spelled = record { name = word; members = field_words fields g };
+  spelled = record { name = word; superclass = tt; members = field_words fields g };
   strong = Each-map resolved_field IsStrongField IsStrong (λ f e. e) fields strong;
   types = field_types fields g;
   limits = few_names resolved_field field_name fields (not_passed-map field_place limit.Members 64 fields h);
@@ -89,7 +96,7 @@ good_struct name fields word g strong h = record {
 good_enum : (name : WrittenToken) (cases : List WrittenCase) → IsWord name.text → Each IsGoodCase cases → passed limit.Members 64 (map case_place cases) ≡ None
     → IsGoodDecl (resolved_decl (decl.Enum name cases))
 good_enum name cases word g h = record {
-  spelled = record { name = word; members = case_words cases g };
+  spelled = record { name = word; superclass = tt; members = case_words cases g };
   strong = tt;
   types = Each-map resolved_case IsGoodCase HasPayloadType (λ c h. h.payload) cases g;
   limits = few_names resolved_case case_name cases (not_passed-map case_place limit.Members 64 cases h);
@@ -176,8 +183,8 @@ unfolding body written meaning part_fault tailed IsGoodPart IsGoodToken value_pa
 good_part p.WholeModule parts g h = λ w e. let whole : WrittenModule = record { stage = stage_of (part 0 parts); imports = imports_of (part 1 parts); items = items_of (part 2 parts) } in
     let same : whole ≡ w = (cc) in subst IsGoodModule same (good_items whole g.1.1.0 h)
 good_part p.ItemsMore parts g h = (g.0, g.1.0)
-good_part p.FinalClass parts g h = good_class (token_of (part 2 parts)) (fields_of (part 4 parts)) g.1.1.0 g.1.1.1.1.0 h
-good_part p.PlainClass parts g h = good_class (token_of (part 1 parts)) (fields_of (part 3 parts)) g.1.0 g.1.1.1.0 h
+good_part p.FinalClass parts g h = good_class (token_of (part 2 parts)) (superclass_of (part 3 parts)) (fields_of (part 5 parts)) g.1.1.0 g.1.1.1.0 g.1.1.1.1.1.0 h
+good_part p.PlainClass parts g h = good_class (token_of (part 1 parts)) (superclass_of (part 2 parts)) (fields_of (part 4 parts)) g.1.0 g.1.1.0 g.1.1.1.1.0 h
 good_part p.StructItem parts g h = good_struct (token_of (part 1 parts)) (fields_of (part 3 parts)) g.1.0 g.1.1.1.0.0 g.1.1.1.0.1 h
 good_part p.EnumItem parts g h = good_enum (token_of (part 1 parts)) (cases_of (part 3 parts)) g.1.0 g.1.1.1.0 h
 good_part p.FunctionItem parts g h = good_function (token_of (part 3 parts)) (linkage_of (part 1 parts)) (tokens_of (part 2 parts))
@@ -312,4 +319,5 @@ good_part p.DebugAfterNumberSome parts g h = g.1.0
 good_part p.DebugAfterNumberNone parts g h = nothing_shown
 good_part p.DebugDeref parts g h = nothing_shown
 good_part p.EntrySome parts g h = g.1.0
+good_part p.SuperclassSome parts g h = g.1.0
 good_part _ parts g h = tt

@@ -45,4 +45,5 @@ pub static RENAMINGS: [bool; INSTRUCTION_COUNT] = [
     false, // switch_enum
     false, // return
     false, // unreachable
+    false, // upcast
 ];

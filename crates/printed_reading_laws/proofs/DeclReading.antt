@@ -1,5 +1,6 @@
 -- A printed declaration reads as itself.
 use Rattle.std.proofs.Common.{◌≡◌, ℕ, ◌≤◌, List, [], ◌∷◌, ◌++◌, length, map, Option, Some, None, IfSome, Bool, true, false, if◌then◌else◌, true≢false, codes, refl, ap, ap₂, sym, ◌∙◌, arith}
+use Rattle.std.specs.Prelude.{option_map}
 use Rattle.std.proofs.lemmas.List.{append_assoc, length-map}
 use Rattle.sil_ast.specs.declared.decl.Case.{Case}
 use Rattle.sil_ast.specs.declared.decl.Decl.{Decl}
@@ -9,9 +10,9 @@ use Rattle.sil_ast.specs.declared.decl.Storage.{Storage}
 use Rattle.sil_ast.specs.declared.decl.Storage.TheVariants as storage
 use Rattle.instruction_table.specs.declared.op.Op.TheVariants as op
 use Rattle.sil_ast.specs.declared.type_name.TypeName.{TypeName, TypeName-F, fold_out-TypeName, map-TypeName, out-TypeName}
-use Rattle.sil_printer.specs.CanonicalDecls.{case_text, decl_text, field_text, payload_text}
+use Rattle.sil_printer.specs.CanonicalDecls.{case_text, decl_text, field_text, heading, payload_text}
 use Rattle.sil_printer.specs.CanonicalTypes.{is_several, several_over, type_over, type_text}
-use Rattle.sil_printer.specs.Words.{if_there, indented}
+use Rattle.sil_printer.specs.Words.{if_there, indented, line, opening}
 use Rattle.token_classes.specs.declared.classes.Keyword.TheVariants as k
 use Rattle.token_classes.specs.declared.classes.Punctuation.TheVariants as m
 use Rattle.sil_shape.specs.declared.grammar.Nonterminal.TheVariants as n
@@ -27,19 +28,20 @@ use Rattle.written_modules.specs.Leaves.{kept_of}
 use Rattle.written_values.specs.inner.Meaning.{meaning}
 use Rattle.written_values.specs.Opened.{PartValue}
 use Rattle.written_values.specs.inner.PartFaults.{part_fault}
-use Rattle.written_values.specs.Values.{cases_of, field_before, field_of, fields_of, item_of, payload_of, token_of}
+use Rattle.written_values.specs.Values.{cases_of, field_before, field_of, fields_of, item_of, payload_of, superclass_of, token_of}
+use Rattle.name_resolution.specs.Names.{name_of}
 use Rattle.name_resolution.specs.Resolved.{resolved_case, resolved_field}
 use Rattle.numbered_form.specs.inner.Fields.{HasStrongFields, IsStrong}
 use Rattle.numbered_form.specs.Lists.{Each}
 use Rattle.numbered_form.specs.inner.Limits.{IsDeclInLimits}
-use Rattle.numbered_form.specs.Names.{IsWord, Name, case_name, decl_name, field_name, member_names}
+use Rattle.numbered_form.specs.Names.{IsWord, Name, case_name, decl_name, field_name, member_names, superclass_in}
 use Rattle.numbered_form.specs.inner.Types.{HasDeclTypes, HasFieldType, HasPayloadType, IsPlainType}
 use Rattle.printed_reading_laws.proofs.Braced.{braced_reads}
 use Rattle.printed_reading_laws.proofs.FixedTokens.{any_word, keyword_here, punctuation_here}
 use Rattle.printed_reading_laws.proofs.PartLimits.{not_passed}
 use Rattle.printed_reading_laws.proofs.Pieces.{Ends, Stands, Reads as reads}
 use Rattle.printed_reading_laws.proofs.ProductionReading.{stands_by, part_here}
-use Rattle.printed_reading_laws.proofs.TextsInFront.{line_ahead}
+use Rattle.printed_reading_laws.proofs.TextsInFront.{braced_ahead, line_ahead}
 use Rattle.printed_reading_laws.proofs.TypeReading.{payload_reads, type_reads}
 use Rattle.printed_reading_laws.proofs.Written.{IsDeclWritten}
 use Rattle.printed_reading_laws.proofs.Items.{IsItem}
@@ -171,8 +173,33 @@ cases_read text (c ∷ cases) after printable =
     (part_here payload (reads.blank 10 refl (part_here rest reads.nothing)))))))) refl
     (ap₂ (λ payload others. record { name = c.name; payload = payload } ∷ others) payload.stands rest.stands)))
 
+-- what stands behind the name of a class, before the brace
+abbrev behind_class : Option Name → List ℕ → List ℕ
+behind_class None rest = rest
+behind_class (Some superclass) rest = 32 ∷ 58 ∷ 32 ∷ (superclass ++ rest)
+
+class_ahead : (name : Name) (superclass : Option Name) (inside after : List ℕ)
+    → (opening (codes "class ") (heading name superclass) ++ inside ++ line (codes "}")) ++ after
+    ≡ codes "class" ++ (32 ∷ (name ++ behind_class superclass (32 ∷ 123 ∷ 10 ∷ (inside ++ (125 ∷ 10 ∷ after)))))
+class_ahead name None inside after = braced_ahead (codes "class ") name inside after
+class_ahead name (Some superclass) inside after = braced_ahead (codes "class ") (name ++ codes " : " ++ superclass) inside after ∙ simp append_assoc refl
+
+-- so the name of the class ends before it
+class_ends : (superclass : Option Name) (rest : List ℕ) → Ends (behind_class superclass (32 ∷ rest))
+class_ends None rest = refl
+class_ends (Some superclass) rest = refl
+
+superclass_reads : (text : List ℕ) (superclass : Option Name) (rest : List ℕ) → IfSome superclass IsWord
+    → Stands text n.Superclass (λ x. option_map name_of (superclass_of x) ≡ superclass) (behind_class superclass (32 ∷ rest)) (32 ∷ rest)
+unfolding body written meaning part_fault punctuation_spelling kept_of token_of superclass_of
+superclass_reads text None rest spelled = stands_by p.SuperclassNone (λ x. option_map name_of (superclass_of x) ≡ None) reads.nothing refl refl
+superclass_reads text (Some superclass) rest spelled =
+    stands_by p.SuperclassSome (λ x. option_map name_of (superclass_of x) ≡ Some superclass)
+    (reads.blank 32 refl (punctuation_here m.Colon 58 refl refl (reads.blank 32 refl (any_word superclass spelled refl reads.nothing)))) refl refl
+
 pub record IsDeclPrintable (d : Decl) : Type 0 where
   pub name : IsWord (decl_name d)
+  pub superclass : IfSome (superclass_in d) IsWord
   pub members : Each IsWord (member_names d)
   pub types : HasDeclTypes d
   pub strong : HasStrongFields d
@@ -200,7 +227,7 @@ cases_printable (c ∷ cases) spelled types = ((spelled.0, types.0), cases_print
 
 pub decl_reads : (text : List ℕ) (d : Decl) (after : List ℕ) → IsDeclPrintable d
     → Stands text n.Item (IsItem item.Decl IsDeclWritten d) (decl_text d ++ after) after
-unfolding body written meaning part_fault item_of spelling
+unfolding body written meaning part_fault item_of spelling punctuation_spelling kept_of token_of
 decl_reads text (decl.Struct name fields) after printable =
     let inside = fields_read text fields (125 ∷ 10 ∷ after) (fields_printable fields printable.members printable.types) printable.strong in
     let whole = braced_reads (k.Mnemonic op.Struct) name (indented field_text fields) after refl printable.name inside in
@@ -211,8 +238,14 @@ decl_reads text (decl.Enum name cases) after printable =
     let whole = braced_reads (k.Mnemonic op.Enum) name (indented case_text cases) after refl printable.name inside in
     stands_by p.EnumItem (IsItem item.Decl IsDeclWritten (decl.Enum name cases)) whole.reads (few_cases inside.value cases inside.stands printable.limits)
     (record { item = _; is_item = refl; stands = ap₂ decl.Enum whole.named inside.stands })
-decl_reads text (decl.Class name fields) after printable =
+decl_reads text (decl.Class name superclass fields) after printable =
     let inside = members_read text fields (125 ∷ 10 ∷ after) (fields_printable fields printable.members printable.types) in
-    let whole = braced_reads k.Class name (indented field_text fields) after refl printable.name inside in
-    stands_by p.PlainClass (IsItem item.Decl IsDeclWritten (decl.Class name fields)) whole.reads (few_fields inside.value fields inside.stands printable.limits)
-    (record { item = _; is_item = refl; stands = ap₂ decl.Class whole.named inside.stands })
+    let begun = 10 ∷ (indented field_text fields ++ (125 ∷ 10 ∷ after)) in
+    let above = superclass_reads text superclass (123 ∷ begun) printable.superclass in
+    rw (class_ahead name superclass (indented field_text fields) after)
+    (stands_by p.PlainClass (IsItem item.Decl IsDeclWritten (decl.Class name superclass fields))
+    (keyword_here k.Class refl refl (reads.blank 32 refl (any_word name printable.name (class_ends superclass (123 ∷ begun)) (part_here above
+    (reads.blank 32 refl (punctuation_here m.LeftBrace 123 refl refl (reads.blank 10 refl (part_here inside
+    (punctuation_here m.RightBrace 125 refl refl (reads.blank 10 refl reads.nothing))))))))))
+    (few_fields inside.value fields inside.stands printable.limits)
+    (record { item = _; is_item = refl; stands = ap₂ (λ s fs. decl.Class name s fs) above.stands inside.stands }))

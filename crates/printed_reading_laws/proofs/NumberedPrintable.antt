@@ -138,7 +138,7 @@ functions_printable all (f ∷ functions) names named formed parts literals spel
 decls_printable : (decls : List Decl) → Each IsDeclSpelled decls → Each HasDeclTypes decls → Each HasStrongFields decls → Each IsDeclInLimits decls → Each IsDeclPrintable decls
 decls_printable [] spelled types strong limits = tt
 decls_printable (d ∷ decls) spelled types strong limits = (
-  record { name = spelled.0.name; members = spelled.0.members; types = types.0; strong = strong.0; limits = limits.0 },
+  record { name = spelled.0.name; superclass = spelled.0.superclass; members = spelled.0.members; types = types.0; strong = strong.0; limits = limits.0 },
   decls_printable decls spelled.1 types.1 strong.1 limits.1,
 )
 

@@ -7,12 +7,22 @@ use crate::try_clone::TryClone;
 use crate::type_name::TypeName;
 use std::alloc::Global;
 
-/// A declared type: `struct Pair { .. }`, `enum Answer { .. }` or `class Node { .. }`, with its members in order.
+/// A declared type: `struct Pair { .. }`, `enum Answer { .. }` or `class Leaf : Node { .. }`, with its own members in order.
 #[derive(Drop)]
 pub enum Decl {
-    Struct { name: Text, fields: List<Field> },
-    Enum { name: Text, cases: List<Case> },
-    Class { name: Text, fields: List<Field> },
+    Struct {
+        name: Text,
+        fields: List<Field>,
+    },
+    Enum {
+        name: Text,
+        cases: List<Case>,
+    },
+    Class {
+        name: Text,
+        superclass: Option<Text>,
+        fields: List<Field>,
+    },
 }
 
 /// A field of a struct or class: `var left: Node`, `weak var parent: Optional<Node>`.
@@ -50,8 +60,13 @@ impl TryClone for Decl {
                 name: name.try_clone(alloc)?,
                 cases: cases.try_clone(alloc)?,
             }),
-            Decl::Class { name, fields } => Ok(Decl::Class {
+            Decl::Class {
+                name,
+                superclass,
+                fields,
+            } => Ok(Decl::Class {
                 name: name.try_clone(alloc)?,
+                superclass: superclass.try_clone(alloc)?,
                 fields: fields.try_clone(alloc)?,
             }),
         }

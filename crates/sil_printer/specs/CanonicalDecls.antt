@@ -1,5 +1,5 @@
 -- Declarations of types: a first line, a line for each member, and the closing brace.
-use Rattle.std.specs.Prelude.{ℕ, List, [], ◌++◌, if◌then◌else◌, codes}
+use Rattle.std.specs.Prelude.{ℕ, List, [], ◌++◌, if◌then◌else◌, codes, Option, Some, None}
 use Rattle.sil_ast.specs.declared.type_name.TypeName.{TypeName}
 use Rattle.sil_ast.specs.declared.decl.Case.{Case}
 use Rattle.sil_ast.specs.declared.decl.Decl.{Decl}
@@ -31,7 +31,12 @@ case_text c = codes "case " ++ c.name ++ if_there [] payload_text c.payload
 abbrev pub braced : {A : Type 0} → List ℕ → List ℕ → (A → List ℕ) → List A → List ℕ
 braced word name text members = opening word name ++ indented text members ++ line (codes "}")
 
+-- the name of a class, with its superclass: `Leaf : Node`
+abbrev pub heading : List ℕ → Option (List ℕ) → List ℕ
+heading name None = name
+heading name (Some superclass) = name ++ codes " : " ++ superclass
+
 abbrev pub decl_text : Decl → List ℕ
 decl_text (Struct name fields) = braced (codes "struct ") name field_text fields
 decl_text (Enum name cases) = braced (codes "enum ") name case_text cases
-decl_text (Class name fields) = braced (codes "class ") name field_text fields
+decl_text (Class name superclass fields) = braced (codes "class ") (heading name superclass) field_text fields

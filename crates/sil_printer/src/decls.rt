@@ -1,12 +1,12 @@
 //! The texts of declared types.
 
-ghost use Rattle.std.specs.Prelude.{◌≡◌, ◌++◌, OnOk};
+ghost use Rattle.std.specs.Prelude.{◌≡◌, ◌++◌, OnOk, codes};
 ghost use Rattle.sil_printer.specs.Words.{if_there};
-ghost use Rattle.sil_printer.specs.CanonicalDecls.{storage_text, field_text, payload_text, case_text, braced, decl_text};
+ghost use Rattle.sil_printer.specs.CanonicalDecls.{storage_text, field_text, payload_text, case_text, braced, heading, decl_text};
 
 use crate::pieces::{Canonical, push_bytes, push_indented, push_opening};
 use crate::types::{is_long_tuple, push_type};
-use sil_ast::{Case, Decl, Exhausted, Field, Storage, TypeName};
+use sil_ast::{Case, Decl, Exhausted, Field, Storage, Text, TypeName};
 
 impl Canonical for Decl {
     ghost text = { decl_text };
@@ -25,14 +25,42 @@ impl Canonical for Decl {
                 name.as_slice(),
                 cases.as_slice(),
             ),
-            Decl::Class { name, fields } => push_braced(
-                out,
-                b"class ",
-                name.as_slice(),
-                fields.as_slice(),
-            ),
+            Decl::Class {
+                name,
+                superclass,
+                fields,
+            } => push_class(out, name.as_slice(), superclass, fields.as_slice()),
         }
     }
+}
+
+/// Puts the name of a class, with its superclass.
+fn push_heading(out: &mut Vec<u8>, name: &[u8], superclass: &Option<Text>) -> Result<(), Exhausted>
+    ensures { OnOk result (out.new.items ≡ out.old.items ++ heading name.now superclass.now) }
+{
+    push_bytes(out, name)?;
+    match superclass {
+        None => Ok(()),
+        Some(superclass) => {
+            push_bytes(out, b" : ")?;
+            push_bytes(out, superclass.as_slice())
+        }
+    }
+}
+
+fn push_class(
+    out: &mut Vec<u8>,
+    name: &[u8],
+    superclass: &Option<Text>,
+    fields: &[Field],
+) -> Result<(), Exhausted>
+    ensures { OnOk result (out.new.items ≡ out.old.items ++ braced (codes "class ") (heading name.now superclass.now) field_text fields.now) }
+{
+    push_bytes(out, b"class ")?;
+    push_heading(out, name, superclass)?;
+    push_bytes(out, b" {\n")?;
+    push_indented(out, fields)?;
+    push_bytes(out, b"}\n")
 }
 
 fn push_braced<T: Canonical>(

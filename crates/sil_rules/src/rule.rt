@@ -68,23 +68,23 @@ pub enum Rule {
     ConsumedWhileBorrowed,
     /// 505: a scope begins again while it is open.
     ScopeOverwritten,
-    /// 601: a location is read, assigned, lent for `inout` or taken while it isn't initialised.
+    /// 601: a location is read, assigned, taken, or handed to a call that needs it full, while it isn't initialised.
     LoadUninitialised,
     /// 602: an initialised location is initialised again.
     InitTwice,
-    /// 603: a stack slot is deallocated while it holds a nontrivial value.
+    /// 603: a stack slot is deallocated, or a `return` finds the location of an `@in` argument, while it holds a nontrivial value.
     LeftInitialised,
     /// 604: a slot is allocated twice, or deallocated while it isn't the last one allocated.
     StackOrder,
     /// 605: a `return` with a slot allocated.
     StackLeft,
-    /// 606: a location is written, taken, lent for `inout` or deallocated while an overlapping borrow is open.
+    /// 606: a location is written, taken, deallocated, or handed to a call that may change it, while an overlapping borrow is open.
     WriteWhileBorrowed,
     /// 607: a new object is used before all of its fields are written.
     FieldNotBuilt,
-    /// 608: two `inout` operands of one call overlap.
+    /// 608: two locations that one call is handed overlap, and it may change one of them.
     InoutOverlap,
-    /// 609: a `return` with an `inout` location not initialised.
+    /// 609: a `return` with the location of an `@inout` or `@out` argument not initialised.
     InoutLeftUninitialised,
     /// 610: an address is an operand while its scope is closed or its slot isn't allocated.
     AddressOutsideScope,

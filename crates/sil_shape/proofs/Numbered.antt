@@ -46,7 +46,7 @@ each_look f = list_all f all_looks
 
 -- how many productions there are but the rows
 abbrev FIXED_PRODUCTIONS : ℕ
-FIXED_PRODUCTIONS = 179
+FIXED_PRODUCTIONS = 181
 
 -- a number of its own for each production, those of rows last
 unfoldable pub production_number : Production → ℕ
@@ -65,170 +65,172 @@ production_number p.StructItem = 11
 production_number p.EnumItem = 12
 production_number p.FunctionItem = 13
 production_number p.VtableItem = 14
-production_number p.MembersMore = 15
-production_number p.MembersEnd = 16
-production_number p.StoredMember = 17
-production_number p.FinalMember = 18
-production_number p.PlainMember = 19
-production_number p.DeinitMember = 20
-production_number p.InitMember = 21
-production_number p.ModifiedStored = 22
-production_number p.ModifiedFinal = 23
-production_number p.ModifiedVariable = 24
-production_number p.WeakVariable = 25
-production_number p.UnownedVariable = 26
-production_number p.StrongVariable = 27
-production_number p.VarBinding = 28
-production_number p.LetBinding = 29
-production_number p.FieldsMore = 30
-production_number p.FieldsEnd = 31
-production_number p.StoredField = 32
-production_number p.PlainField = 33
-production_number p.AccessorsSome = 34
-production_number p.AccessorsNone = 35
-production_number p.SetterSome = 36
-production_number p.SetterNone = 37
-production_number p.CasesMore = 38
-production_number p.CasesEnd = 39
-production_number p.PayloadSome = 40
-production_number p.PayloadNone = 41
-production_number p.BareType = 42
-production_number p.ParenType = 43
-production_number p.BaseOpen = 44
-production_number p.WeakOpen = 45
-production_number p.UnownedOpen = 46
-production_number p.BuiltinBase = 47
-production_number p.OptionalBase = 48
-production_number p.NamedBase = 49
-production_number p.BuiltinInt = 50
-production_number p.BuiltinName = 51
-production_number p.OptionalOf = 52
-production_number p.OptionalName = 53
-production_number p.Width1 = 54
-production_number p.Width8 = 55
-production_number p.Width16 = 56
-production_number p.Width32 = 57
-production_number p.Width64 = 58
-production_number p.QuestionsMore = 59
-production_number p.QuestionsEnd = 60
-production_number p.TypesSome = 61
-production_number p.TypesNone = 62
-production_number p.MoreTypesMore = 63
-production_number p.MoreTypesEnd = 64
-production_number p.LinkageHidden = 65
-production_number p.LinkagePrivate = 66
-production_number p.LinkageShared = 67
-production_number p.LinkagePublic = 68
-production_number p.LinkagePlain = 69
-production_number p.AttributesMore = 70
-production_number p.AttributesEnd = 71
-production_number p.BodySome = 72
-production_number p.BodyNone = 73
-production_number p.WholeFunctionType = 74
-production_number p.Thin = 75
-production_number p.Method = 76
-production_number p.ParamsSome = 77
-production_number p.ParamsNone = 78
-production_number p.MoreParamsMore = 79
-production_number p.MoreParamsEnd = 80
-production_number p.ParamOwned = 81
-production_number p.ParamGuaranteed = 82
-production_number p.ParamInout = 83
-production_number p.ParamIn = 84
-production_number p.ParamInGuaranteed = 85
-production_number p.ParamPlain = 86
-production_number p.ResultList = 87
-production_number p.ResultOwned = 88
-production_number p.ResultOut = 89
-production_number p.ResultPlain = 90
-production_number p.InsideSome = 91
-production_number p.InsideNone = 92
-production_number p.MoreGivensMore = 93
-production_number p.MoreGivensEnd = 94
-production_number p.GivenOwned = 95
-production_number p.GivenOut = 96
-production_number p.GivenPlain = 97
-production_number p.WholeBlock = 98
-production_number p.BlocksMore = 99
-production_number p.BlocksEnd = 100
-production_number p.BlockArgsSome = 101
-production_number p.BlockArgsNone = 102
-production_number p.MoreBlockArgsMore = 103
-production_number p.MoreBlockArgsEnd = 104
-production_number p.WholeBlockArg = 105
-production_number p.OwnershipOwned = 106
-production_number p.OwnershipGuaranteed = 107
-production_number p.OwnershipNone = 108
-production_number p.StarSome = 109
-production_number p.StarNone = 110
-production_number p.CodeInst = 111
-production_number p.CodeEnd = 112
-production_number p.InstOneName = 113
-production_number p.InstNames = 114
-production_number p.InstUnnamed = 115
-production_number p.NamesSome = 116
-production_number p.NamesNone = 117
-production_number p.MoreNamesMore = 118
-production_number p.MoreNamesEnd = 119
-production_number p.WholeOperand = 120
-production_number p.OperandsSome = 121
-production_number p.OperandsNone = 122
-production_number p.MoreOperandsMore = 123
-production_number p.MoreOperandsEnd = 124
-production_number p.BareNamesSome = 125
-production_number p.BareNamesNone = 126
-production_number p.WholeEdge = 127
-production_number p.EdgeArgsSome = 128
-production_number p.EdgeArgsNone = 129
-production_number p.SwitchCase = 130
-production_number p.SwitchDefault = 131
-production_number p.SwitchMoreSome = 132
-production_number p.SwitchMoreEnd = 133
-production_number p.WholeEnumElement = 134
-production_number p.SuffixSome = 135
-production_number p.SuffixNone = 136
-production_number p.EnumOperandSome = 137
-production_number p.EnumOperandNone = 138
-production_number p.WholeMemberName = 139
-production_number p.FlagsSome = 140
-production_number p.FlagsNone = 141
-production_number p.LexicalFirst = 142
-production_number p.VarDeclFirst = 143
-production_number p.VarDeclAfterSome = 144
-production_number p.VarDeclAfterNone = 145
-production_number p.LexicalAfterSome = 146
-production_number p.LexicalAfterNone = 147
-production_number p.QualifierSome = 148
-production_number p.QualifierNone = 149
-production_number p.QualifierCopy = 150
-production_number p.QualifierTake = 151
-production_number p.QualifierTrivial = 152
-production_number p.QualifierInit = 153
-production_number p.QualifierAssign = 154
-production_number p.TakeFlagSome = 155
-production_number p.TakeFlagNone = 156
-production_number p.InitFlagSome = 157
-production_number p.InitFlagNone = 158
-production_number p.InitShort = 159
-production_number p.InitLong = 160
-production_number p.DebugSome = 161
-production_number p.DebugNone = 162
-production_number p.DebugLet = 163
-production_number p.DebugVar = 164
-production_number p.DebugRest = 165
-production_number p.DebugAfterBindingSome = 166
-production_number p.DebugAfterBindingNone = 167
-production_number p.DebugName = 168
-production_number p.DebugNoName = 169
-production_number p.DebugAfterNameSome = 170
-production_number p.DebugAfterNameNone = 171
-production_number p.DebugNumber = 172
-production_number p.DebugNoNumber = 173
-production_number p.DebugAfterNumberSome = 174
-production_number p.DebugAfterNumberNone = 175
-production_number p.DebugDeref = 176
-production_number p.EntrySome = 177
-production_number p.EntryNone = 178
+production_number p.SuperclassSome = 15
+production_number p.SuperclassNone = 16
+production_number p.MembersMore = 17
+production_number p.MembersEnd = 18
+production_number p.StoredMember = 19
+production_number p.FinalMember = 20
+production_number p.PlainMember = 21
+production_number p.DeinitMember = 22
+production_number p.InitMember = 23
+production_number p.ModifiedStored = 24
+production_number p.ModifiedFinal = 25
+production_number p.ModifiedVariable = 26
+production_number p.WeakVariable = 27
+production_number p.UnownedVariable = 28
+production_number p.StrongVariable = 29
+production_number p.VarBinding = 30
+production_number p.LetBinding = 31
+production_number p.FieldsMore = 32
+production_number p.FieldsEnd = 33
+production_number p.StoredField = 34
+production_number p.PlainField = 35
+production_number p.AccessorsSome = 36
+production_number p.AccessorsNone = 37
+production_number p.SetterSome = 38
+production_number p.SetterNone = 39
+production_number p.CasesMore = 40
+production_number p.CasesEnd = 41
+production_number p.PayloadSome = 42
+production_number p.PayloadNone = 43
+production_number p.BareType = 44
+production_number p.ParenType = 45
+production_number p.BaseOpen = 46
+production_number p.WeakOpen = 47
+production_number p.UnownedOpen = 48
+production_number p.BuiltinBase = 49
+production_number p.OptionalBase = 50
+production_number p.NamedBase = 51
+production_number p.BuiltinInt = 52
+production_number p.BuiltinName = 53
+production_number p.OptionalOf = 54
+production_number p.OptionalName = 55
+production_number p.Width1 = 56
+production_number p.Width8 = 57
+production_number p.Width16 = 58
+production_number p.Width32 = 59
+production_number p.Width64 = 60
+production_number p.QuestionsMore = 61
+production_number p.QuestionsEnd = 62
+production_number p.TypesSome = 63
+production_number p.TypesNone = 64
+production_number p.MoreTypesMore = 65
+production_number p.MoreTypesEnd = 66
+production_number p.LinkageHidden = 67
+production_number p.LinkagePrivate = 68
+production_number p.LinkageShared = 69
+production_number p.LinkagePublic = 70
+production_number p.LinkagePlain = 71
+production_number p.AttributesMore = 72
+production_number p.AttributesEnd = 73
+production_number p.BodySome = 74
+production_number p.BodyNone = 75
+production_number p.WholeFunctionType = 76
+production_number p.Thin = 77
+production_number p.Method = 78
+production_number p.ParamsSome = 79
+production_number p.ParamsNone = 80
+production_number p.MoreParamsMore = 81
+production_number p.MoreParamsEnd = 82
+production_number p.ParamOwned = 83
+production_number p.ParamGuaranteed = 84
+production_number p.ParamInout = 85
+production_number p.ParamIn = 86
+production_number p.ParamInGuaranteed = 87
+production_number p.ParamPlain = 88
+production_number p.ResultList = 89
+production_number p.ResultOwned = 90
+production_number p.ResultOut = 91
+production_number p.ResultPlain = 92
+production_number p.InsideSome = 93
+production_number p.InsideNone = 94
+production_number p.MoreGivensMore = 95
+production_number p.MoreGivensEnd = 96
+production_number p.GivenOwned = 97
+production_number p.GivenOut = 98
+production_number p.GivenPlain = 99
+production_number p.WholeBlock = 100
+production_number p.BlocksMore = 101
+production_number p.BlocksEnd = 102
+production_number p.BlockArgsSome = 103
+production_number p.BlockArgsNone = 104
+production_number p.MoreBlockArgsMore = 105
+production_number p.MoreBlockArgsEnd = 106
+production_number p.WholeBlockArg = 107
+production_number p.OwnershipOwned = 108
+production_number p.OwnershipGuaranteed = 109
+production_number p.OwnershipNone = 110
+production_number p.StarSome = 111
+production_number p.StarNone = 112
+production_number p.CodeInst = 113
+production_number p.CodeEnd = 114
+production_number p.InstOneName = 115
+production_number p.InstNames = 116
+production_number p.InstUnnamed = 117
+production_number p.NamesSome = 118
+production_number p.NamesNone = 119
+production_number p.MoreNamesMore = 120
+production_number p.MoreNamesEnd = 121
+production_number p.WholeOperand = 122
+production_number p.OperandsSome = 123
+production_number p.OperandsNone = 124
+production_number p.MoreOperandsMore = 125
+production_number p.MoreOperandsEnd = 126
+production_number p.BareNamesSome = 127
+production_number p.BareNamesNone = 128
+production_number p.WholeEdge = 129
+production_number p.EdgeArgsSome = 130
+production_number p.EdgeArgsNone = 131
+production_number p.SwitchCase = 132
+production_number p.SwitchDefault = 133
+production_number p.SwitchMoreSome = 134
+production_number p.SwitchMoreEnd = 135
+production_number p.WholeEnumElement = 136
+production_number p.SuffixSome = 137
+production_number p.SuffixNone = 138
+production_number p.EnumOperandSome = 139
+production_number p.EnumOperandNone = 140
+production_number p.WholeMemberName = 141
+production_number p.FlagsSome = 142
+production_number p.FlagsNone = 143
+production_number p.LexicalFirst = 144
+production_number p.VarDeclFirst = 145
+production_number p.VarDeclAfterSome = 146
+production_number p.VarDeclAfterNone = 147
+production_number p.LexicalAfterSome = 148
+production_number p.LexicalAfterNone = 149
+production_number p.QualifierSome = 150
+production_number p.QualifierNone = 151
+production_number p.QualifierCopy = 152
+production_number p.QualifierTake = 153
+production_number p.QualifierTrivial = 154
+production_number p.QualifierInit = 155
+production_number p.QualifierAssign = 156
+production_number p.TakeFlagSome = 157
+production_number p.TakeFlagNone = 158
+production_number p.InitFlagSome = 159
+production_number p.InitFlagNone = 160
+production_number p.InitShort = 161
+production_number p.InitLong = 162
+production_number p.DebugSome = 163
+production_number p.DebugNone = 164
+production_number p.DebugLet = 165
+production_number p.DebugVar = 166
+production_number p.DebugRest = 167
+production_number p.DebugAfterBindingSome = 168
+production_number p.DebugAfterBindingNone = 169
+production_number p.DebugName = 170
+production_number p.DebugNoName = 171
+production_number p.DebugAfterNameSome = 172
+production_number p.DebugAfterNameNone = 173
+production_number p.DebugNumber = 174
+production_number p.DebugNoNumber = 175
+production_number p.DebugAfterNumberSome = 176
+production_number p.DebugAfterNumberNone = 177
+production_number p.DebugDeref = 178
+production_number p.EntrySome = 179
+production_number p.EntryNone = 180
 production_number (p.Row o) = FIXED_PRODUCTIONS + number_of o
 
 all_productions : List Production
@@ -236,37 +238,38 @@ all_productions = fixed_productions ++ map p.Row OPS
   where
     fixed_productions : List Production
     fixed_productions = p.WholeModule ∷ p.StageSome ∷ p.StageNone ∷ p.Raw ∷ p.Canonical ∷ p.ImportsMore ∷ p.ImportsEnd ∷ p.ItemsMore ∷ p.ItemsEnd
-        ∷ p.FinalClass ∷ p.PlainClass ∷ p.StructItem ∷ p.EnumItem ∷ p.FunctionItem ∷ p.VtableItem ∷ p.MembersMore ∷ p.MembersEnd ∷ p.StoredMember
-        ∷ p.FinalMember ∷ p.PlainMember ∷ p.DeinitMember ∷ p.InitMember ∷ p.ModifiedStored ∷ p.ModifiedFinal ∷ p.ModifiedVariable ∷ p.WeakVariable
-        ∷ p.UnownedVariable ∷ p.StrongVariable ∷ p.VarBinding ∷ p.LetBinding ∷ p.FieldsMore ∷ p.FieldsEnd ∷ p.StoredField ∷ p.PlainField
-        ∷ p.AccessorsSome ∷ p.AccessorsNone ∷ p.SetterSome ∷ p.SetterNone ∷ p.CasesMore ∷ p.CasesEnd ∷ p.PayloadSome ∷ p.PayloadNone ∷ p.BareType
-        ∷ p.ParenType ∷ p.BaseOpen ∷ p.WeakOpen ∷ p.UnownedOpen ∷ p.BuiltinBase ∷ p.OptionalBase ∷ p.NamedBase ∷ p.BuiltinInt ∷ p.BuiltinName
-        ∷ p.OptionalOf ∷ p.OptionalName ∷ p.Width1 ∷ p.Width8 ∷ p.Width16 ∷ p.Width32 ∷ p.Width64 ∷ p.QuestionsMore ∷ p.QuestionsEnd ∷ p.TypesSome
-        ∷ p.TypesNone ∷ p.MoreTypesMore ∷ p.MoreTypesEnd ∷ p.LinkageHidden ∷ p.LinkagePrivate ∷ p.LinkageShared ∷ p.LinkagePublic ∷ p.LinkagePlain
-        ∷ p.AttributesMore ∷ p.AttributesEnd ∷ p.BodySome ∷ p.BodyNone ∷ p.WholeFunctionType ∷ p.Thin ∷ p.Method ∷ p.ParamsSome ∷ p.ParamsNone
-        ∷ p.MoreParamsMore ∷ p.MoreParamsEnd ∷ p.ParamOwned ∷ p.ParamGuaranteed ∷ p.ParamInout ∷ p.ParamIn ∷ p.ParamInGuaranteed ∷ p.ParamPlain
-        ∷ p.ResultList ∷ p.ResultOwned ∷ p.ResultOut ∷ p.ResultPlain ∷ p.InsideSome ∷ p.InsideNone ∷ p.MoreGivensMore ∷ p.MoreGivensEnd
-        ∷ p.GivenOwned ∷ p.GivenOut ∷ p.GivenPlain ∷ p.WholeBlock ∷ p.BlocksMore ∷ p.BlocksEnd ∷ p.BlockArgsSome ∷ p.BlockArgsNone
-        ∷ p.MoreBlockArgsMore ∷ p.MoreBlockArgsEnd ∷ p.WholeBlockArg ∷ p.OwnershipOwned ∷ p.OwnershipGuaranteed ∷ p.OwnershipNone ∷ p.StarSome
-        ∷ p.StarNone ∷ p.CodeInst ∷ p.CodeEnd ∷ p.InstOneName ∷ p.InstNames ∷ p.InstUnnamed ∷ p.NamesSome ∷ p.NamesNone ∷ p.MoreNamesMore
-        ∷ p.MoreNamesEnd ∷ p.WholeOperand ∷ p.OperandsSome ∷ p.OperandsNone ∷ p.MoreOperandsMore ∷ p.MoreOperandsEnd ∷ p.BareNamesSome
-        ∷ p.BareNamesNone ∷ p.WholeEdge ∷ p.EdgeArgsSome ∷ p.EdgeArgsNone ∷ p.SwitchCase ∷ p.SwitchDefault ∷ p.SwitchMoreSome ∷ p.SwitchMoreEnd
-        ∷ p.WholeEnumElement ∷ p.SuffixSome ∷ p.SuffixNone ∷ p.EnumOperandSome ∷ p.EnumOperandNone ∷ p.WholeMemberName ∷ p.FlagsSome ∷ p.FlagsNone
-        ∷ p.LexicalFirst ∷ p.VarDeclFirst ∷ p.VarDeclAfterSome ∷ p.VarDeclAfterNone ∷ p.LexicalAfterSome ∷ p.LexicalAfterNone ∷ p.QualifierSome
-        ∷ p.QualifierNone ∷ p.QualifierCopy ∷ p.QualifierTake ∷ p.QualifierTrivial ∷ p.QualifierInit ∷ p.QualifierAssign ∷ p.TakeFlagSome
-        ∷ p.TakeFlagNone ∷ p.InitFlagSome ∷ p.InitFlagNone ∷ p.InitShort ∷ p.InitLong ∷ p.DebugSome ∷ p.DebugNone ∷ p.DebugLet ∷ p.DebugVar
-        ∷ p.DebugRest ∷ p.DebugAfterBindingSome ∷ p.DebugAfterBindingNone ∷ p.DebugName ∷ p.DebugNoName ∷ p.DebugAfterNameSome ∷ p.DebugAfterNameNone
-        ∷ p.DebugNumber ∷ p.DebugNoNumber ∷ p.DebugAfterNumberSome ∷ p.DebugAfterNumberNone ∷ p.DebugDeref ∷ p.EntrySome ∷ p.EntryNone ∷ []
+        ∷ p.FinalClass ∷ p.PlainClass ∷ p.StructItem ∷ p.EnumItem ∷ p.FunctionItem ∷ p.VtableItem ∷ p.SuperclassSome ∷ p.SuperclassNone
+        ∷ p.MembersMore ∷ p.MembersEnd ∷ p.StoredMember ∷ p.FinalMember ∷ p.PlainMember ∷ p.DeinitMember ∷ p.InitMember ∷ p.ModifiedStored
+        ∷ p.ModifiedFinal ∷ p.ModifiedVariable ∷ p.WeakVariable ∷ p.UnownedVariable ∷ p.StrongVariable ∷ p.VarBinding ∷ p.LetBinding ∷ p.FieldsMore
+        ∷ p.FieldsEnd ∷ p.StoredField ∷ p.PlainField ∷ p.AccessorsSome ∷ p.AccessorsNone ∷ p.SetterSome ∷ p.SetterNone ∷ p.CasesMore ∷ p.CasesEnd
+        ∷ p.PayloadSome ∷ p.PayloadNone ∷ p.BareType ∷ p.ParenType ∷ p.BaseOpen ∷ p.WeakOpen ∷ p.UnownedOpen ∷ p.BuiltinBase ∷ p.OptionalBase
+        ∷ p.NamedBase ∷ p.BuiltinInt ∷ p.BuiltinName ∷ p.OptionalOf ∷ p.OptionalName ∷ p.Width1 ∷ p.Width8 ∷ p.Width16 ∷ p.Width32 ∷ p.Width64
+        ∷ p.QuestionsMore ∷ p.QuestionsEnd ∷ p.TypesSome ∷ p.TypesNone ∷ p.MoreTypesMore ∷ p.MoreTypesEnd ∷ p.LinkageHidden ∷ p.LinkagePrivate
+        ∷ p.LinkageShared ∷ p.LinkagePublic ∷ p.LinkagePlain ∷ p.AttributesMore ∷ p.AttributesEnd ∷ p.BodySome ∷ p.BodyNone ∷ p.WholeFunctionType
+        ∷ p.Thin ∷ p.Method ∷ p.ParamsSome ∷ p.ParamsNone ∷ p.MoreParamsMore ∷ p.MoreParamsEnd ∷ p.ParamOwned ∷ p.ParamGuaranteed ∷ p.ParamInout
+        ∷ p.ParamIn ∷ p.ParamInGuaranteed ∷ p.ParamPlain ∷ p.ResultList ∷ p.ResultOwned ∷ p.ResultOut ∷ p.ResultPlain ∷ p.InsideSome ∷ p.InsideNone
+        ∷ p.MoreGivensMore ∷ p.MoreGivensEnd ∷ p.GivenOwned ∷ p.GivenOut ∷ p.GivenPlain ∷ p.WholeBlock ∷ p.BlocksMore ∷ p.BlocksEnd ∷ p.BlockArgsSome
+        ∷ p.BlockArgsNone ∷ p.MoreBlockArgsMore ∷ p.MoreBlockArgsEnd ∷ p.WholeBlockArg ∷ p.OwnershipOwned ∷ p.OwnershipGuaranteed ∷ p.OwnershipNone
+        ∷ p.StarSome ∷ p.StarNone ∷ p.CodeInst ∷ p.CodeEnd ∷ p.InstOneName ∷ p.InstNames ∷ p.InstUnnamed ∷ p.NamesSome ∷ p.NamesNone
+        ∷ p.MoreNamesMore ∷ p.MoreNamesEnd ∷ p.WholeOperand ∷ p.OperandsSome ∷ p.OperandsNone ∷ p.MoreOperandsMore ∷ p.MoreOperandsEnd
+        ∷ p.BareNamesSome ∷ p.BareNamesNone ∷ p.WholeEdge ∷ p.EdgeArgsSome ∷ p.EdgeArgsNone ∷ p.SwitchCase ∷ p.SwitchDefault ∷ p.SwitchMoreSome
+        ∷ p.SwitchMoreEnd ∷ p.WholeEnumElement ∷ p.SuffixSome ∷ p.SuffixNone ∷ p.EnumOperandSome ∷ p.EnumOperandNone ∷ p.WholeMemberName
+        ∷ p.FlagsSome ∷ p.FlagsNone ∷ p.LexicalFirst ∷ p.VarDeclFirst ∷ p.VarDeclAfterSome ∷ p.VarDeclAfterNone ∷ p.LexicalAfterSome
+        ∷ p.LexicalAfterNone ∷ p.QualifierSome ∷ p.QualifierNone ∷ p.QualifierCopy ∷ p.QualifierTake ∷ p.QualifierTrivial ∷ p.QualifierInit
+        ∷ p.QualifierAssign ∷ p.TakeFlagSome ∷ p.TakeFlagNone ∷ p.InitFlagSome ∷ p.InitFlagNone ∷ p.InitShort ∷ p.InitLong ∷ p.DebugSome
+        ∷ p.DebugNone ∷ p.DebugLet ∷ p.DebugVar ∷ p.DebugRest ∷ p.DebugAfterBindingSome ∷ p.DebugAfterBindingNone ∷ p.DebugName ∷ p.DebugNoName
+        ∷ p.DebugAfterNameSome ∷ p.DebugAfterNameNone ∷ p.DebugNumber ∷ p.DebugNoNumber ∷ p.DebugAfterNumberSome ∷ p.DebugAfterNumberNone
+        ∷ p.DebugDeref ∷ p.EntrySome ∷ p.EntryNone ∷ []
 
 all_parts : List Nonterminal
-all_parts = n.Module ∷ n.Stage ∷ n.StageWord ∷ n.Imports ∷ n.Items ∷ n.Item ∷ n.Members ∷ n.Member ∷ n.Modified ∷ n.Variable ∷ n.Binding ∷ n.Fields
-    ∷ n.Field ∷ n.Accessors ∷ n.Setter ∷ n.Cases ∷ n.Payload ∷ n.Type ∷ n.OpenType ∷ n.Base ∷ n.BuiltinTail ∷ n.OptionalTail ∷ n.Width ∷ n.Questions
-    ∷ n.Types ∷ n.MoreTypes ∷ n.Linkage ∷ n.Attributes ∷ n.Body ∷ n.FunctionType ∷ n.Convention ∷ n.Params ∷ n.MoreParams ∷ n.Param ∷ n.Results
-    ∷ n.ResultsInside ∷ n.MoreGivens ∷ n.Given ∷ n.Block ∷ n.Blocks ∷ n.BlockArgs ∷ n.MoreBlockArgs ∷ n.BlockArg ∷ n.Ownership ∷ n.Star ∷ n.Code
-    ∷ n.Inst ∷ n.Names ∷ n.MoreNames ∷ n.Row ∷ n.Terminator ∷ n.Operand ∷ n.Operands ∷ n.MoreOperands ∷ n.BareNames ∷ n.Edge ∷ n.EdgeArgs
-    ∷ n.SwitchPart ∷ n.SwitchMore ∷ n.EnumElement ∷ n.ElementSuffix ∷ n.EnumOperand ∷ n.MemberName ∷ n.Flags ∷ n.FirstFlag ∷ n.VarDeclAfter
-    ∷ n.LexicalAfter ∷ n.Qualifier ∷ n.QualifierWord ∷ n.TakeFlag ∷ n.InitFlag ∷ n.InitWord ∷ n.Debug ∷ n.DebugPart ∷ n.DebugAfterBinding
-    ∷ n.DebugNamePart ∷ n.DebugAfterName ∷ n.DebugNumberPart ∷ n.DebugAfterNumber ∷ n.DebugDerefPart ∷ n.VtableEntry ∷ []
+all_parts = n.Module ∷ n.Stage ∷ n.StageWord ∷ n.Imports ∷ n.Items ∷ n.Item ∷ n.Superclass ∷ n.Members ∷ n.Member ∷ n.Modified ∷ n.Variable
+    ∷ n.Binding ∷ n.Fields ∷ n.Field ∷ n.Accessors ∷ n.Setter ∷ n.Cases ∷ n.Payload ∷ n.Type ∷ n.OpenType ∷ n.Base ∷ n.BuiltinTail ∷ n.OptionalTail
+    ∷ n.Width ∷ n.Questions ∷ n.Types ∷ n.MoreTypes ∷ n.Linkage ∷ n.Attributes ∷ n.Body ∷ n.FunctionType ∷ n.Convention ∷ n.Params ∷ n.MoreParams
+    ∷ n.Param ∷ n.Results ∷ n.ResultsInside ∷ n.MoreGivens ∷ n.Given ∷ n.Block ∷ n.Blocks ∷ n.BlockArgs ∷ n.MoreBlockArgs ∷ n.BlockArg ∷ n.Ownership
+    ∷ n.Star ∷ n.Code ∷ n.Inst ∷ n.Names ∷ n.MoreNames ∷ n.Row ∷ n.Terminator ∷ n.Operand ∷ n.Operands ∷ n.MoreOperands ∷ n.BareNames ∷ n.Edge
+    ∷ n.EdgeArgs ∷ n.SwitchPart ∷ n.SwitchMore ∷ n.EnumElement ∷ n.ElementSuffix ∷ n.EnumOperand ∷ n.MemberName ∷ n.Flags ∷ n.FirstFlag
+    ∷ n.VarDeclAfter ∷ n.LexicalAfter ∷ n.Qualifier ∷ n.QualifierWord ∷ n.TakeFlag ∷ n.InitFlag ∷ n.InitWord ∷ n.Debug ∷ n.DebugPart
+    ∷ n.DebugAfterBinding ∷ n.DebugNamePart ∷ n.DebugAfterName ∷ n.DebugNumberPart ∷ n.DebugAfterNumber ∷ n.DebugDerefPart ∷ n.VtableEntry ∷ []
 
 -- each stands in the list of all, at its number
 pub all_looks-at : (l : Option Class) → slice_index_or all_looks (look_number l) None ≡ l

@@ -32,6 +32,8 @@ written p.StructItem = n.Item
 written p.EnumItem = n.Item
 written p.FunctionItem = n.Item
 written p.VtableItem = n.Item
+written p.SuperclassSome = n.Superclass
+written p.SuperclassNone = n.Superclass
 written p.MembersMore = n.Members
 written p.MembersEnd = n.Members
 written p.StoredMember = n.Member
@@ -209,14 +211,17 @@ body p.ImportsMore = Read (word k.Import) ∷ Read t.AnyWord ∷ Part n.Imports 
 body p.ImportsEnd = []
 body p.ItemsMore = Part n.Item ∷ Part n.Items ∷ []
 body p.ItemsEnd = []
-body p.FinalClass = Read (word k.Final) ∷ Read (word k.Class) ∷ Read t.AnyWord
-    ∷ Read (punctuation m.LeftBrace) ∷ Part n.Members ∷ Read (punctuation m.RightBrace) ∷ []
-body p.PlainClass = Read (word k.Class) ∷ Read t.AnyWord ∷ Read (punctuation m.LeftBrace) ∷ Part n.Members ∷ Read (punctuation m.RightBrace) ∷ []
+body p.FinalClass = Read (word k.Final) ∷ Read (word k.Class) ∷ Read t.AnyWord ∷ Part n.Superclass ∷ Read (punctuation m.LeftBrace) ∷ Part n.Members
+    ∷ Read (punctuation m.RightBrace) ∷ []
+body p.PlainClass = Read (word k.Class) ∷ Read t.AnyWord ∷ Part n.Superclass ∷ Read (punctuation m.LeftBrace) ∷ Part n.Members
+    ∷ Read (punctuation m.RightBrace) ∷ []
 body p.StructItem = Read (word (k.Mnemonic op.Struct)) ∷ Read t.AnyWord ∷ Read (punctuation m.LeftBrace) ∷ Part n.Fields ∷ Read (punctuation m.RightBrace) ∷ []
 body p.EnumItem = Read (word (k.Mnemonic op.Enum)) ∷ Read t.AnyWord ∷ Read (punctuation m.LeftBrace) ∷ Part n.Cases ∷ Read (punctuation m.RightBrace) ∷ []
 body p.FunctionItem = Read (word k.Sil) ∷ Part n.Linkage ∷ Part n.Attributes ∷ Read t.AnyAt
     ∷ Read (punctuation m.Colon) ∷ Read (punctuation m.Dollar) ∷ Part n.FunctionType ∷ Part n.Body ∷ []
 body p.VtableItem = Read (word k.SilVtable) ∷ Read t.AnyWord ∷ Read (punctuation m.LeftBrace) ∷ Part n.VtableEntry ∷ Read (punctuation m.RightBrace) ∷ []
+body p.SuperclassSome = Read (punctuation m.Colon) ∷ Read t.AnyWord ∷ []
+body p.SuperclassNone = []
 body p.MembersMore = Part n.Member ∷ Part n.Members ∷ []
 body p.MembersEnd = []
 body p.StoredMember = Read (at a.HasStorage) ∷ Part n.Modified ∷ []
@@ -394,6 +399,7 @@ alternatives n.StageWord = p.Raw ∷ p.Canonical ∷ []
 alternatives n.Imports = p.ImportsMore ∷ p.ImportsEnd ∷ []
 alternatives n.Items = p.ItemsMore ∷ p.ItemsEnd ∷ []
 alternatives n.Item = p.FinalClass ∷ p.PlainClass ∷ p.StructItem ∷ p.EnumItem ∷ p.FunctionItem ∷ p.VtableItem ∷ []
+alternatives n.Superclass = p.SuperclassSome ∷ p.SuperclassNone ∷ []
 alternatives n.Members = p.MembersMore ∷ p.MembersEnd ∷ []
 alternatives n.Member = p.StoredMember ∷ p.FinalMember ∷ p.PlainMember ∷ p.DeinitMember ∷ p.InitMember ∷ []
 alternatives n.Modified = p.ModifiedStored ∷ p.ModifiedFinal ∷ p.ModifiedVariable ∷ []

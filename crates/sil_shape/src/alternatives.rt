@@ -24,6 +24,7 @@ pub fn alternatives(part: Nonterminal) -> &'static [Production]
             Production::FunctionItem,
             Production::VtableItem,
         ],
+        Nonterminal::Superclass => &[Production::SuperclassSome, Production::SuperclassNone],
         Nonterminal::Members => &[Production::MembersMore, Production::MembersEnd],
         Nonterminal::Member => &[
             Production::StoredMember,

@@ -13,7 +13,7 @@ use std::alloc::{AllocError, Global};
 use token_classes::Class;
 
 /// How many parts the grammar has.
-const PARTS: usize = 81;
+const PARTS: usize = 82;
 
 /// How many lookaheads there are: the end and each class but the mnemonics, and each mnemonic.
 const LOOKAHEADS: usize = 80 + INSTRUCTION_COUNT;

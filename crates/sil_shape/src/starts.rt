@@ -68,6 +68,8 @@ pub fn starts(production: Production) -> &'static [Terminal]
         Production::EnumItem => &[mnemonic!(Enum)],
         Production::FunctionItem => &[word!(Sil)],
         Production::VtableItem => &[word!(SilVtable)],
+        Production::SuperclassSome => &[punctuation!(Colon)],
+        Production::SuperclassNone => &[],
         Production::MembersMore => &[
             word!(Final),
             word!(Deinit),
@@ -293,6 +295,7 @@ pub fn empty_choice(part: Nonterminal) -> Option<Production>
         Nonterminal::Imports => Some(Production::ImportsEnd),
         Nonterminal::Items => Some(Production::ItemsEnd),
         Nonterminal::Item => None,
+        Nonterminal::Superclass => Some(Production::SuperclassNone),
         Nonterminal::Members => Some(Production::MembersEnd),
         Nonterminal::Member => None,
         Nonterminal::Modified => None,

@@ -13,8 +13,7 @@ use Rattle.sil_rules.specs.declared.limit_word.LimitWord.TheVariants as word
 use Rattle.sil_rules.specs.declared.rule.Rule.{Rule}
 use Rattle.sil_rules.specs.declared.rule.Rule.TheVariants as rule
 use Rattle.std.specs.Prelude.{Contains}
-use Rattle.numbered_form.specs.Names.{Name}
-use Rattle.type_definitions.specs.Contained.{containment, held_places, place_list}
+use Rattle.type_definitions.specs.Contained.{containment, lower_places, place_list}
 use Rattle.type_definitions.specs.Declarations.{Declarations, declarations_of, swift_structs, all_names}
 use Rattle.type_definitions.specs.Mentions.{items_of}
 use Rattle.type_definitions.specs.Rules.{HoldsItself, IsWellNamed, Declared, exceeds_depth, exceeds_leaves}
@@ -39,11 +38,11 @@ not_true true h = absurd (h refl)
 not_true false h = refl
 
 -- the structs of `Swift` hold no declaration
-no_swift_parts : (swift : Bool) (names : List Name) (decls : List Decl) (v : ℕ) → v < length (swift_structs swift) → parts_of (map (held_places names) (swift_structs swift ++ decls)) v ≡ []
-no_swift_parts false names decls v lt = absurd (omega arith)
-no_swift_parts true names decls zero lt = ap (λ ns. flat_map (place_list names) (ns ++ [])) (names-Int 64)
-no_swift_parts true names decls (suc zero) lt = ap (λ ns. flat_map (place_list names) (ns ++ [])) (names-Int 1)
-no_swift_parts true names decls (suc (suc v)) lt = absurd (omega arith)
+no_swift_parts : (d : Declarations) (swift : Bool) (decls : List Decl) (v : ℕ) → v < length (swift_structs swift) → parts_of (map (lower_places d) (swift_structs swift ++ decls)) v ≡ []
+no_swift_parts d false decls v lt = absurd (omega arith)
+no_swift_parts d true decls zero lt = ap (λ ns. flat_map (place_list (all_names d)) (ns ++ [])) (names-Int 64)
+no_swift_parts d true decls (suc zero) lt = ap (λ ns. flat_map (place_list (all_names d)) (ns ++ [])) (names-Int 1)
+no_swift_parts d true decls (suc (suc v)) lt = absurd (omega arith)
 
 no_chain : (graph : List (List ℕ)) (v w : ℕ) → parts_of graph v ≡ [] → Chain graph v w → ⊥
 no_chain graph v w e (one _ _ c) = let none : Contains [] w = subst (λ xs. Contains xs w) e c in let lt : none.0 < 0 = none.1 in omega arith
@@ -74,7 +73,7 @@ module _ (m : Module) where
     behind_swift v h = at (cases_lt v offset)
       where
         at : (v < offset) ⊎ (offset ≤ v) → offset ≤ v
-        at (inl lt) = absurd (no_chain (containment d) v v (no_swift_parts m.imports.swift (all_names d) m.decls v lt) h)
+        at (inl lt) = absurd (no_chain (containment d) v v (no_swift_parts d m.imports.swift m.decls v lt) h)
         at (inr le) = le
 
     -- then the first declaration that holds itself

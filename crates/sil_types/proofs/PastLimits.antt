@@ -1,5 +1,5 @@
 -- A module mentions a type past either limit where it mentions one past the limit on depth, or one past the limit on leaves.
-use Rattle.std.proofs.Common.{◌≡◌, List, [], ◌∷◌, refl, sym, ap, ◌∙◌, Bool, true, false}
+use Rattle.std.proofs.Common.{◌≡◌, List, [], ◌∷◌, refl, sym, ap, ap₂, ◌∙◌, Bool, true, false}
 use Rattle.std.specs.Prelude.{◌||◌, Option, Some, None, not, nat_le, min, slice_get, unwrap_or}
 use Rattle.std.proofs.Common.{ℕ, zero, suc, ◌+◌, ◌<◌, map, arith}
 use Rattle.std.proofs.lemmas.Bool.Decides.{leb_tells}
@@ -16,16 +16,26 @@ use Rattle.type_measures.specs.inner.Gathered.{capped}
 use Rattle.type_item_rules.specs.Faults.{is_wrong_type}
 use Rattle.type_item_rules.proofs.NoFaults.{any_of_two, first_of_none, second_of_none}
 use Rattle.type_definitions.specs.Mentions.{mentions_of}
-use Rattle.type_definitions.specs.Rules.{InLimits, exceeds_depth, exceeds_leaves, has_too_many_leaves, is_too_deep}
-use Rattle.sil_types.specs.inner.Limits.{exceeds, is_past}
+use Rattle.type_definitions.specs.Rules.{InLimits, exceeds_depth, exceeds_leaves, has_too_many_leaves, is_too_deep, is_too_low}
+use Rattle.sil_types.specs.inner.Limits.{any_past, exceeds, is_past}
 use Rattle.sil_types.specs.declared.limits.Limit.{Limit}
 use Rattle.sil_types.specs.declared.limits.Limit.TheVariants.{Depth, Leaves, Either}
 
-pub exceeds_either : (m : Module) → list_any (exceeds Either (declarations_of m)) (mentions_of m) ≡ (exceeds_depth m || exceeds_leaves m)
-exceeds_either m = any_of_two (is_too_deep (declarations_of m)) (has_too_many_leaves (declarations_of m)) (mentions_of m)
+last_swapped : (a b c : Bool) → ((a || b) || c) ≡ ((a || c) || b)
+last_swapped true b c = refl
+last_swapped false true true = refl
+last_swapped false true false = refl
+last_swapped false false true = refl
+last_swapped false false false = refl
 
--- where no type is past one of the two, all are within both
-pub within_limits : (m : Module) → list_any (exceeds Either (declarations_of m)) (mentions_of m) ≡ false → InLimits m
+pub exceeds_either : (m : Module) → any_past Either (declarations_of m) m ≡ (exceeds_depth m || exceeds_leaves m)
+exceeds_either m =
+    let d = declarations_of m in
+    ap (λ b. b || list_any (is_too_low d) m.decls) (any_of_two (is_too_deep d) (has_too_many_leaves d) (mentions_of m))
+    ∙ last_swapped (list_any (is_too_deep d) (mentions_of m)) (list_any (has_too_many_leaves d) (mentions_of m)) (list_any (is_too_low d) m.decls)
+
+-- where no type and no chain of classes is past one of the two, all are within both
+pub within_limits : (m : Module) → any_past Either (declarations_of m) m ≡ false → InLimits m
 within_limits m h =
     let none : (exceeds_depth m || exceeds_leaves m) ≡ false = sym (exceeds_either m) ∙ h in
     record {
@@ -34,11 +44,12 @@ within_limits m h =
     }
 
 -- where no type is wrong, none is past a limit, and none breaks a rule
-pub none_past_limit : (m : Module) → list_any (λ t. is_wrong_type (declarations_of m) t || exceeds Either (declarations_of m) t) (mentions_of m) ≡ false → InLimits m
-none_past_limit m h =
+pub none_past_limit : (m : Module) → list_any (λ t. is_wrong_type (declarations_of m) t || exceeds Either (declarations_of m) t) (mentions_of m) ≡ false
+    → list_any (is_too_low (declarations_of m)) m.decls ≡ false → InLimits m
+none_past_limit m h low =
     let d = declarations_of m in
-    within_limits m (second_of_none (list_any (is_wrong_type d) (mentions_of m)) (list_any (exceeds Either d) (mentions_of m))
-    (sym (any_of_two (is_wrong_type d) (exceeds Either d) (mentions_of m)) ∙ h))
+    within_limits m (ap₂ (λ a b. a || b) (second_of_none (list_any (is_wrong_type d) (mentions_of m)) (list_any (exceeds Either d) (mentions_of m))
+    (sym (any_of_two (is_wrong_type d) (exceeds Either d) (mentions_of m)) ∙ h)) low)
 
 pub no_wrong_type : (m : Module) → list_any (λ t. is_wrong_type (declarations_of m) t || exceeds Either (declarations_of m) t) (mentions_of m) ≡ false
     → list_any (is_wrong_type (declarations_of m)) (mentions_of m) ≡ false

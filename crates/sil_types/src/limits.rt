@@ -5,15 +5,17 @@ ghost use Rattle.std.specs.List.{list_any};
 ghost use Rattle.numbered_form.specs.Names.{Name};
 ghost use Rattle.sil_ast.specs.declared.type_name.TypeName.TheVariants as type_of;
 ghost use Rattle.type_definitions.specs.Measures.{measure_of};
-ghost use Rattle.type_definitions.specs.Mentions.{mentions_of};
+ghost use Rattle.type_definitions.specs.Rules as rules;
+ghost use Rattle.type_definitions.specs.Rules.{is_too_low};
 ghost use Rattle.type_definitions.specs.declared.measure.Measure.{Measure};
 ghost use Rattle.type_measures.specs.inner.Gathered.{capped};
 ghost use Rattle.sil_types.specs.inner.Limits as limits;
 ghost use Rattle.sil_types.specs.inner.Limits.{exceeds};
 
 use crate::table::TypeTable;
-use sil_ast::{Given, Module, Operand, Text, TypeName};
+use sil_ast::{Decl, Given, Module, Operand, Text, TypeName};
 use sil_rules::limits::{DEPTH, LEAVES};
+use type_declarations::DeclarationTable;
 use type_definitions::{Measure, Standing};
 use type_mentions::{MentionTest, any_in_module};
 
@@ -109,9 +111,42 @@ impl MentionTest for PastLimit<'_> {
     }
 }
 
-/// Whether a type that the module mentions exceeds the limit.
+fn is_too_low(table: &DeclarationTable, decl: &Decl) -> bool
+    ensures { result ≡ rules.is_too_low table.now decl.now }
+{
+    match decl {
+        Decl::Class { superclass, .. } => table.is_longer(DEPTH - 1, superclass.as_ref()),
+        Decl::Struct { .. } => false,
+        Decl::Enum { .. } => false,
+    }
+}
+
+/// Whether a class has more ancestors than the limit on depth allows.
+pub(crate) fn any_too_low(table: &DeclarationTable, decls: &[Decl]) -> bool
+    ensures { result ≡ list_any (is_too_low table.now) decls.now }
+{
+    for decl in decls {
+        if is_too_low(table, decl) {
+            return true;
+        }
+    }
+    false
+}
+
+/// Whether the limit is one on chains of classes.
+fn counts_classes(what: Limit) -> bool
+    ensures { result ≡ limits.counts_classes what }
+{
+    match what {
+        Limit::Depth | Limit::Either => true,
+        Limit::Leaves => false,
+    }
+}
+
+/// Whether a type that the module mentions, or a chain of classes, exceeds the limit.
 pub(crate) fn any_past(what: Limit, table: &TypeTable, m: &Module) -> bool
-    ensures { result ≡ list_any (exceeds what table.now) (mentions_of m.now) }
+    ensures { result ≡ limits.any_past what table.now m.now }
 {
     any_in_module(&PastLimit::new(what, table), m)
+        || (counts_classes(what) && any_too_low(table.declarations(), m.decls.as_slice()))
 }

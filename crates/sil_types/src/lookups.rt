@@ -1,8 +1,8 @@
 //! What the layers above ask of a table. No call takes memory.
 
-ghost use Rattle.std.specs.Prelude.{◌≡◌, ◌≤◌, option_map};
+ghost use Rattle.std.specs.Prelude.{◌≡◌, ◌≤◌, length, option_map};
 ghost use Rattle.std.specs.Option.{option_copied};
-ghost use Rattle.type_definitions.specs.Declarations.{decl_of};
+ghost use Rattle.type_definitions.specs.Declarations.{decl_of, inherits, superclass_of};
 ghost use Rattle.type_definitions.specs.Lookups as lookups;
 ghost use Rattle.type_definitions.specs.Lookups.{class_place, field_of, payload_of};
 ghost use Rattle.type_definitions.specs.Measures as measures;
@@ -37,14 +37,35 @@ impl TypeTable {
         self.declarations.decl_of(name)
     }
 
-    /// The field with this name of a struct or class.
+    /// The superclass of a class, where it has one.
+    pub fn superclass(&self, class_name: &Text) -> Option<&Text>
+        ensures { option_copied result ≡ superclass_of self.now class_name.now }
+    {
+        self.declarations.superclass(class_name)
+    }
+
+    /// Whether a class inherits from another, through any number of classes.
+    pub fn inherits(&self, class_name: &Text, other: &Text) -> bool
+        ensures { result ≡ inherits self.now class_name.now other.now }
+    {
+        self.declarations.inherits(class_name, other)
+    }
+
+    /// The field with this name that a struct or class declares itself.
     pub fn field(&self, owner: &Text, name: &Text) -> Option<FieldRef<'_>>
         ensures { option_map field_told result ≡ field_of self.now owner.now name.now }
     {
         self.declarations.field(owner, name)
     }
 
-    /// The field at a place of a struct or class.
+    /// How many fields a struct or class has, with the inherited ones.
+    pub fn field_count(&self, owner: &Text) -> usize
+        ensures { result ≡ length (lookups.fields_of self.now owner.now) }
+    {
+        self.declarations.field_count(owner)
+    }
+
+    /// The field at a place of a struct or class, whose inherited fields come first.
     pub fn field_at(&self, owner: &Text, index: u32) -> Option<&Field>
         ensures { option_copied result ≡ lookups.field_at self.now owner.now index }
     {

@@ -11,11 +11,11 @@ ghost use Rattle.type_definitions.specs.Rules.{InLimits};
 ghost use Rattle.type_item_rules.specs.Faults.{BreaksIn, is_wrong_type};
 ghost use Rattle.type_item_rules.specs.declared.by_item.ItemFault.{ItemFault};
 
-use crate::limits::{Limit, PastLimit};
+use crate::limits::{Limit, PastLimit, any_too_low};
 use crate::table::TypeTable;
 use sil_ast::{Given, Module, Operand, Text, TypeName};
 use type_definitions::Standing;
-use type_item_rules::{any_bad_member, any_wrong_vtable, is_wrong_type};
+use type_item_rules::{any_bad_member, any_unknown_superclass, any_wrong_vtable, is_wrong_type};
 use type_mentions::{MentionTest, any_in_module};
 
 /// Finds types that break 101 or 104, or exceed a limit.
@@ -63,7 +63,13 @@ pub(crate) fn any_wrong(table: &TypeTable, m: &Module) -> bool
     if any_wrong_type(table, m) {
         return true;
     }
+    if any_too_low(table.declarations(), m.decls.as_slice()) {
+        return true;
+    }
     let declarations = table.declarations();
+    if any_unknown_superclass(declarations, m.decls.as_slice()) {
+        return true;
+    }
     if any_bad_member(declarations, m.functions.as_slice()) {
         return true;
     }

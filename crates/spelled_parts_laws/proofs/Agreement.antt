@@ -76,6 +76,18 @@ unfolding body written meaning part_fault tailed Means kind_of_part value_parts
 optional_base word (Some t) = record { kind = ((_, other_first word.place t.1), refl); stands = refl; back = λ value m. m }
 optional_base word None = record { kind = ((_, name_kept word), refl); stands = refl; back = λ value m. m }
 
+final_class : (final word name : WrittenToken) (superclass : Option WrittenToken) (left : WrittenToken) (fields : List WrittenField) (right : WrittenToken)
+    → MeansSo p.FinalClass (v.Token final ∷ v.Token word ∷ v.Token name ∷ optional (λ x. v.Token x) superclass ∷ v.Token left ∷ v.Fields fields ∷ v.Token right ∷ [])
+unfolding body written meaning part_fault tailed Means kind_of_part value_parts
+final_class final word name (Some s) left fields right = record { kind = (_, refl); stands = refl; back = λ value m. m }
+final_class final word name None left fields right = record { kind = (_, refl); stands = refl; back = λ value m. m }
+
+plain_class : (word name : WrittenToken) (superclass : Option WrittenToken) (left : WrittenToken) (fields : List WrittenField) (right : WrittenToken)
+    → MeansSo p.PlainClass (v.Token word ∷ v.Token name ∷ optional (λ x. v.Token x) superclass ∷ v.Token left ∷ v.Fields fields ∷ v.Token right ∷ [])
+unfolding body written meaning part_fault tailed Means kind_of_part value_parts
+plain_class word name (Some s) left fields right = record { kind = (_, refl); stands = refl; back = λ value m. m }
+plain_class word name None left fields right = record { kind = (_, refl); stands = refl; back = λ value m. m }
+
 vtable_item : (word name left : WrittenToken) (entry : Option WrittenEntry) (right : WrittenToken)
     → MeansSo p.VtableItem (v.Token word ∷ v.Token name ∷ v.Token left ∷ optional (λ x. v.Entry x) entry ∷ v.Token right ∷ [])
 unfolding body written meaning part_fault tailed Means kind_of_part value_parts
@@ -186,17 +198,21 @@ means_by p.TypesNone xs = record { kind = ((_, none_kept), refl); stands = refl;
 means_by p.MoreTypesEnd xs = record { kind = ((_, none_kept), refl); stands = refl; back = λ value m. m }
 means_by p.BuiltinBase xs = builtin_base xs.0 xs.1.0
 means_by p.OptionalBase xs = optional_base xs.0 xs.1.0
+means_by p.FinalClass xs = final_class xs.0 xs.1.0 xs.1.1.0 xs.1.1.1.0 xs.1.1.1.1.0 xs.1.1.1.1.1.0 xs.1.1.1.1.1.1.0
+means_by p.PlainClass xs = plain_class xs.0 xs.1.0 xs.1.1.0 xs.1.1.1.0 xs.1.1.1.1.0 xs.1.1.1.1.1.0
 means_by p.VtableItem xs = vtable_item xs.0 xs.1.0 xs.1.1.0 xs.1.1.1.0 xs.1.1.1.1.0
 means_by p.MembersMore xs = members_more xs.0 xs.1.0
 means_by p.CasesMore xs = cases_more xs.0 xs.1.0 xs.1.1.0 xs.1.1.1.0
 means_by p.WholeBlockArg xs = block_arg xs.0 xs.1.0 xs.1.1.0 xs.1.1.1.0 xs.1.1.1.1.0 xs.1.1.1.1.1.0
 means_by p.WholeOperand xs = operand xs.0 xs.1.0 xs.1.1.0 xs.1.1.1.0 xs.1.1.1.1.0
+means_by p.SuperclassNone xs = record { kind = (None, refl); stands = refl; back = λ value m. m }
 means_by p.EntryNone xs = record { kind = (None, refl); stands = refl; back = λ value m. m }
 means_by p.DeinitMember xs = record { kind = (None, refl); stands = refl; back = λ value m. m }
 means_by p.InitMember xs = record { kind = (None, refl); stands = refl; back = λ value m. m }
 means_by p.PayloadNone xs = record { kind = (None, refl); stands = refl; back = λ value m. m }
 means_by p.BuiltinName xs = record { kind = (None, refl); stands = refl; back = λ value m. m }
 means_by p.OptionalName xs = record { kind = (None, refl); stands = refl; back = λ value m. m }
+means_by p.SuperclassSome xs = record { kind = (Some _, refl); stands = refl; back = λ value m. m }
 means_by p.EntrySome xs = record { kind = (Some _, refl); stands = refl; back = λ value m. m }
 means_by p.StoredMember xs = record { kind = (Some _, refl); stands = refl; back = λ value m. m }
 means_by p.FinalMember xs = record { kind = (Some _, refl); stands = refl; back = λ value m. m }

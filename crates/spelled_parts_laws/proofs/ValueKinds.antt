@@ -132,6 +132,7 @@ kind_of_part n.StageWord = stage_word
 kind_of_part n.Imports = record { Content = imports.Imports; value = λ x. v.Imports x }
 kind_of_part n.Items = record { Content = List WrittenItem; value = λ x. v.Items x }
 kind_of_part n.Item = record { Content = WrittenItem; value = λ x. v.Item x }
+kind_of_part n.Superclass = record { Content = Option WrittenToken; value = optional (λ x. v.Token x) }
 kind_of_part n.Members = fields
 kind_of_part n.Member = record { Content = Option WrittenField; value = optional (λ x. v.Field x) }
 kind_of_part n.Modified = field

@@ -40,8 +40,8 @@ AreFaultsOf p.WholeModule (_ ∷ _ ∷ v.Items items ∷ []) faults =
     faults ≡ past limit.Declarations DECLARATIONS (map token_place (flat_map decl_names items))
     ++ past limit.Functions FUNCTIONS (map token_place (flat_map function_names items))
 -- members of a declaration
-AreFaultsOf p.FinalClass (_ ∷ _ ∷ _ ∷ _ ∷ v.Fields fields ∷ _ ∷ []) faults = faults ≡ past limit.Members MEMBERS (map field_place fields)
-AreFaultsOf p.PlainClass (_ ∷ _ ∷ _ ∷ v.Fields fields ∷ _ ∷ []) faults = faults ≡ past limit.Members MEMBERS (map field_place fields)
+AreFaultsOf p.FinalClass (_ ∷ _ ∷ _ ∷ _ ∷ _ ∷ v.Fields fields ∷ _ ∷ []) faults = faults ≡ past limit.Members MEMBERS (map field_place fields)
+AreFaultsOf p.PlainClass (_ ∷ _ ∷ _ ∷ _ ∷ v.Fields fields ∷ _ ∷ []) faults = faults ≡ past limit.Members MEMBERS (map field_place fields)
 AreFaultsOf p.StructItem (_ ∷ _ ∷ _ ∷ v.Fields fields ∷ _ ∷ []) faults = faults ≡ past limit.Members MEMBERS (map field_place fields)
 AreFaultsOf p.EnumItem (_ ∷ _ ∷ _ ∷ v.Cases cases ∷ _ ∷ []) faults = faults ≡ past limit.Members MEMBERS (map case_place cases)
 -- attributes of a function, its blocks, and its instructions and values in all blocks

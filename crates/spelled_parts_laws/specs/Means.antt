@@ -41,8 +41,14 @@ Means p.ImportsEnd [] value = value ≡ v.Imports (record { builtin = false; swi
 Means p.ItemsMore (v.Item i ∷ v.Items others ∷ []) value = value ≡ v.Items (i ∷ others)
 Means p.ItemsEnd [] value = value ≡ v.Items []
 -- declarations: `final` is dropped
-Means p.FinalClass (_ ∷ _ ∷ v.Token name ∷ _ ∷ v.Fields fields ∷ _ ∷ []) value = value ≡ v.Item (item.Decl (decl.Class name fields))
-Means p.PlainClass (_ ∷ v.Token name ∷ _ ∷ v.Fields fields ∷ _ ∷ []) value = value ≡ v.Item (item.Decl (decl.Class name fields))
+Means p.FinalClass (_ ∷ _ ∷ v.Token name ∷ v.Token superclass ∷ _ ∷ v.Fields fields ∷ _ ∷ []) value =
+    value ≡ v.Item (item.Decl (decl.Class name (Some superclass) fields))
+Means p.FinalClass (_ ∷ _ ∷ v.Token name ∷ v.Nothing ∷ _ ∷ v.Fields fields ∷ _ ∷ []) value = value ≡ v.Item (item.Decl (decl.Class name None fields))
+Means p.PlainClass (_ ∷ v.Token name ∷ v.Token superclass ∷ _ ∷ v.Fields fields ∷ _ ∷ []) value =
+    value ≡ v.Item (item.Decl (decl.Class name (Some superclass) fields))
+Means p.PlainClass (_ ∷ v.Token name ∷ v.Nothing ∷ _ ∷ v.Fields fields ∷ _ ∷ []) value = value ≡ v.Item (item.Decl (decl.Class name None fields))
+Means p.SuperclassSome (_ ∷ v.Token name ∷ []) value = value ≡ v.Token name
+Means p.SuperclassNone [] value = value ≡ v.Nothing
 Means p.StructItem (_ ∷ v.Token name ∷ _ ∷ v.Fields fields ∷ _ ∷ []) value = value ≡ v.Item (item.Decl (decl.Struct name fields))
 Means p.EnumItem (_ ∷ v.Token name ∷ _ ∷ v.Cases cases ∷ _ ∷ []) value = value ≡ v.Item (item.Decl (decl.Enum name cases))
 -- a function: `[ossa]` is read with its attributes and isn't counted among them

@@ -112,7 +112,11 @@ static BY_LETTER: [&[Keyword]; 24] = [
         Mnemonic(Op::TupleElementAddr),
         Mnemonic(Op::TupleExtract),
     ], // t
-    &[Keyword::Unowned, Mnemonic(Op::Unreachable)], // u
+    &[
+        Keyword::Unowned,
+        Mnemonic(Op::Unreachable),
+        Mnemonic(Op::Upcast),
+    ], // u
     &[Keyword::Var, Keyword::VarDecl], // v
     &[Keyword::Weak], // w to z
 ];

@@ -2,6 +2,7 @@
 //! It knows of no rule and measures nothing.
 #![tactic(auto)]
 
+mod ancestors;
 mod build;
 mod lookups;
 mod name_index;

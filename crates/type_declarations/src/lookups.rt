@@ -1,7 +1,8 @@
 //! Fields, payloads, deinitialisers and classes, each found by its name or its place.
 
-ghost use Rattle.std.specs.Prelude.{◌≡◌, length, option_map, slice_get};
+ghost use Rattle.std.specs.Prelude.{◌≡◌, ◌≤◌, ◌*◌, length, option_map, slice_get};
 ghost use Rattle.std.specs.Option.{option_copied};
+ghost use Rattle.sil_rules.specs.declared.limits.TheConstants.{DEPTH, MEMBERS};
 ghost use Rattle.type_definitions.specs.Declarations.{all_decls, optional_cases, place_of, swift_structs};
 ghost use Rattle.type_definitions.specs.Lookups as lookups;
 ghost use Rattle.type_definitions.specs.Lookups.{class_place, field_at_place, field_of, payload_at, payload_of};
@@ -11,7 +12,7 @@ ghost use Rattle.type_declarations.specs.inner.Found.{field_told, payload_told};
 use crate::table::DeclarationTable;
 use sil_ast::{Case, Decl, Field, FuncId, Text, TypeName};
 
-/// A field, with its place among those of its owner.
+/// A field, with its place among all fields of its owner.
 #[derive(Drop)]
 pub struct FieldRef<'t> {
     pub index: u32,
@@ -25,12 +26,18 @@ pub struct PayloadRef<'t> {
     pub ty: Option<&'t TypeName>,
 }
 
-fn field_ref(fields: &[Field], place: Option<u32>) -> Option<FieldRef<'_>>
-    ensures { option_map field_told result ≡ field_at_place fields.now place }
+/// The field at a place among these, before which some others stand.
+fn field_ref(before: usize, fields: &[Field], place: Option<u32>) -> Option<FieldRef<'_>>
+    requires before { before ≤ DEPTH * MEMBERS }
+    requires few { length fields.now ≤ MEMBERS }
+    ensures { option_map field_told result ≡ field_at_place before fields.now place }
 {
     match place {
         Some(index) => match fields.get(index as usize) {
-            Some(field) => Some(FieldRef { index, field }),
+            Some(field) => Some(FieldRef {
+                index: before as u32 + index,
+                field,
+            }),
             None => None,
         },
         None => None,
@@ -78,30 +85,26 @@ impl DeclarationTable {
         }
     }
 
-    /// The field with this name of a struct or class.
+    /// The field with this name that a struct or class declares itself.
+    #[tactic(auto, unfolding(type_definitions::specs::Declarations::ancestors_of))]
     pub fn field(&self, owner: &Text, name: &Text) -> Option<FieldRef<'_>>
         ensures { option_map field_told result ≡ field_of self.now owner.now name.now }
     {
         let place = self.names.place(owner)?;
         match self.all.get(place) {
             Some(Decl::Struct { fields, .. }) => {
-                field_ref(fields.as_slice(), self.member_at(place, name))
+                field_ref(0, fields.as_slice(), self.member_at(place, name))
             }
-            Some(Decl::Class { fields, .. }) => {
-                field_ref(fields.as_slice(), self.member_at(place, name))
+            Some(
+                Decl::Class {
+                    superclass,
+                    fields,
+                    ..
+                },
+            ) => {
+                let before = self.count_from(superclass.as_ref());
+                field_ref(before, fields.as_slice(), self.member_at(place, name))
             }
-            Some(Decl::Enum { .. }) => None,
-            None => None,
-        }
-    }
-
-    /// The field at a place of a struct or class.
-    pub fn field_at(&self, owner: &Text, index: u32) -> Option<&Field>
-        ensures { option_copied result ≡ lookups.field_at self.now owner.now index }
-    {
-        match self.decl_of(owner) {
-            Some(Decl::Struct { fields, .. }) => fields.get(index as usize),
-            Some(Decl::Class { fields, .. }) => fields.get(index as usize),
             Some(Decl::Enum { .. }) => None,
             None => None,
         }

@@ -26,7 +26,9 @@ pub struct DeclarationTable {
 
 impl Model for DeclarationTable {
     ghost use Rattle.std.specs.Prelude.{◌≡◌, map};
+    ghost use Rattle.numbered_form.specs.Lists.{Each};
     ghost use Rattle.numbered_form.specs.Names.{decl_name, member_names, class_name};
+    ghost use Rattle.numbered_form.specs.inner.Limits.{IsDeclInLimits};
     ghost use Rattle.type_definitions.specs.Declarations.{Declarations};
     ghost use Rattle.type_declarations.specs.inner.Table.{in_text, IsSplit};
     ghost use Rattle.std.specs.Coded.{codes};
@@ -39,7 +41,7 @@ impl Model for DeclarationTable {
     ghost view = { λ t. record { swift = t.swift; decls = in_text t.swift t.all; vtables = t.vtables } };
 
     ghost invariant = { λ t. IsSplit t.swift t.all × (t.names ≡ map decl_name t.all) × (t.members ≡ map member_names t.all)
-        × (t.classes ≡ map class_name t.vtables) };
+        × (t.classes ≡ map class_name t.vtables) × Each IsDeclInLimits t.all };
 }
 
 impl DeclarationTable {

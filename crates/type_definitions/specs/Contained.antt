@@ -1,5 +1,5 @@
--- Which declarations hold values of which others, with no class between.
-use Rattle.std.specs.Prelude.{ℕ, List, [], ◌∷◌, ◌++◌, Option, map}
+-- Which declarations hold values of which others, with no class between, and which classes inherit from which.
+use Rattle.std.specs.Prelude.{ℕ, List, [], ◌∷◌, ◌++◌, Option, map, cond}
 use Rattle.std.specs.List.{flat_map}
 use Rattle.std.specs.Option.{option_to_list}
 use Rattle.sil_ast.specs.declared.decl.Case.{Case}
@@ -8,8 +8,8 @@ use Rattle.sil_ast.specs.declared.decl.Decl.TheVariants.{Struct, Enum, Class}
 use Rattle.sil_ast.specs.declared.decl.Field.{Field}
 use Rattle.sil_ast.specs.declared.type_name.TypeName.{TypeName, fold-TypeName}
 use Rattle.sil_ast.specs.declared.type_name.TypeName.TheOpen.{TypeName-F, Int, Named, Optional, Tuple, Weak, Unowned, Address}
-use Rattle.numbered_form.specs.Names.{Name}
-use Rattle.type_definitions.specs.Declarations.{Declarations, all_decls, all_names, place_of}
+use Rattle.numbered_form.specs.Names.{Name, superclass_in}
+use Rattle.type_definitions.specs.Declarations.{Declarations, all_decls, all_names, is_class, place_of}
 
 abbrev pub itself : List Name → List Name
 itself names = names
@@ -37,7 +37,7 @@ payload_types c = option_to_list c.payload
 abbrev pub held_types : Decl → List TypeName
 held_types (Struct name fields) = map field_type fields
 held_types (Enum name cases) = flat_map payload_types cases
-held_types (Class name fields) = []
+held_types (Class name superclass fields) = []
 
 abbrev pub held_names : Decl → List Name
 held_names d = flat_map names_in (held_types d)
@@ -49,6 +49,18 @@ place_list names name = option_to_list (place_of names name)
 abbrev pub held_places : List Name → Decl → List ℕ
 held_places names d = flat_map (place_list names) (held_names d)
 
--- for each declaration the places of those that it holds
+abbrev pub class_list : Declarations → Name → List ℕ
+class_list d name = cond (is_class d name) (place_list (all_names d) name) []
+
+-- the superclass of a class, by its place, where it is a class
+abbrev pub superclass_places : Declarations → Decl → List ℕ
+superclass_places d x = flat_map (class_list d) (option_to_list (superclass_in x))
+
+-- the declarations that a declaration holds or inherits from
+abbrev pub lower_places : Declarations → Decl → List ℕ
+lower_places d x = superclass_places d x ++ held_places (all_names d) x
+
+-- for each declaration the places of those that it holds or inherits from. From a class only classes follow, so that a ring is one of structs and
+-- enums, each of which holds the next, or one of classes, each of which inherits from the next
 abbrev pub containment : Declarations → List (List ℕ)
-containment d = map (held_places (all_names d)) (all_decls d)
+containment d = map (lower_places d) (all_decls d)

@@ -1,6 +1,7 @@
 -- What a module declares, and what a name finds there.
-use Rattle.std.specs.Prelude.{ℕ, List, [], ◌∷◌, ◌++◌, Bool, true, false, ◌&&◌, Option, Some, None, map}
+use Rattle.std.specs.Prelude.{ℕ, zero, suc, List, [], ◌∷◌, ◌++◌, Bool, true, false, ◌&&◌, Option, Some, None, map}
 use Rattle.std.specs.Prelude.{position, slice_get, is_some, option_map, codes, if◌then◌else◌}
+use Rattle.std.specs.List.{list_any}
 use Rattle.std.specs.Str.{bytes_eq}
 use Rattle.sil_ast.specs.declared.decl.Case.{Case}
 use Rattle.sil_ast.specs.declared.decl.Decl.{Decl}
@@ -10,7 +11,8 @@ use Rattle.sil_ast.specs.declared.decl.Storage.TheVariants.{Strong}
 use Rattle.sil_ast.specs.declared.module.Module.{Module}
 use Rattle.sil_ast.specs.declared.type_name.TypeName.TheVariants as type
 use Rattle.sil_ast.specs.declared.vtable.Vtable.{Vtable}
-use Rattle.numbered_form.specs.Names.{Name, decl_name, field_name, case_name, member_names, class_name}
+use Rattle.sil_rules.specs.declared.limits.TheConstants.{DEPTH}
+use Rattle.numbered_form.specs.Names.{Name, decl_name, field_name, case_name, member_names, class_name, superclass_in}
 
 -- what a module declares, with whether it imports `Swift`
 pub record Declarations : Type 0 where
@@ -53,7 +55,7 @@ decl_of d name = at_place (all_decls d) (place_of (all_names d) name)
 abbrev pub is_class_decl : Decl → Bool
 is_class_decl (Struct name fields) = false
 is_class_decl (Enum name cases) = false
-is_class_decl (Class name fields) = true
+is_class_decl (Class name superclass fields) = true
 
 abbrev pub is_class_found : Option Decl → Bool
 is_class_found None = false
@@ -62,6 +64,34 @@ is_class_found (Some d) = is_class_decl d
 -- the name is that of a class
 abbrev pub is_class : Declarations → Name → Bool
 is_class d name = is_class_found (decl_of d name)
+
+abbrev pub superclass_found : Option Decl → Option Name
+superclass_found None = None
+superclass_found (Some d) = superclass_in d
+
+-- the superclass of the class with this name, where it has one
+abbrev pub superclass_of : Declarations → Name → Option Name
+superclass_of d class = superclass_found (decl_of d class)
+
+-- a class and those above it, each the superclass of the one before: so many at most
+abbrev pub chain : Declarations → ℕ → Option Name → List Name
+chain d zero class = []
+chain d (suc n) None = []
+chain d (suc n) (Some class) = class ∷ chain d n (superclass_of d class)
+
+-- more than n classes stand in the chain that begins with this one
+abbrev pub is_longer : Declarations → ℕ → Option Name → Bool
+is_longer d n None = false
+is_longer d zero (Some class) = true
+is_longer d (suc n) (Some class) = is_longer d n (superclass_of d class)
+
+-- the ancestors of a class, the nearest first: all of them, where no chain is longer than the limit on depth
+unfoldable pub ancestors_of : Declarations → Name → List Name
+ancestors_of d class = chain d DEPTH (superclass_of d class)
+
+-- the other one is an ancestor of the class
+abbrev pub inherits : Declarations → Name → Name → Bool
+inherits d class other = list_any (bytes_eq other) (ancestors_of d class)
 
 -- the cases of the enum `Optional` that comes with `import Swift`
 abbrev pub optional_cases : List Name

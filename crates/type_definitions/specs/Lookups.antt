@@ -1,5 +1,5 @@
 -- What look-ups give: fields, payloads, deinitialisers, and classes by their places.
-use Rattle.std.specs.Prelude.{ℕ, ◌-◌, List, [], ◌∷◌, Bool, true, false, Option, Some, None, map}
+use Rattle.std.specs.Prelude.{ℕ, ◌+◌, ◌-◌, ◌++◌, List, [], ◌∷◌, Bool, true, false, Option, Some, None, map}
 use Rattle.std.specs.Prelude.{slice_get, codes, option_map, cond, if◌then◌else◌, ◌==◌, length}
 use Rattle.std.specs.Str.{bytes_eq}
 use Rattle.sil_ast.specs.declared.decl.Case.{Case}
@@ -12,40 +12,54 @@ use Rattle.sil_ast.specs.declared.type_name.TypeName.TheOpen.{TypeName-F, Int, N
 use Rattle.sil_ast.specs.declared.vtable.DeinitEntry.{DeinitEntry}
 use Rattle.sil_ast.specs.declared.vtable.Vtable.{Vtable}
 use Rattle.numbered_form.specs.Names.{Name, decl_name, field_name, case_name, class_name}
-use Rattle.type_definitions.specs.Declarations.{Declarations, all_names, decl_of, at_place, place_of, is_class, is_class_decl, optional_cases, swift_structs}
+use Rattle.type_definitions.specs.Declarations.{Declarations, all_names, ancestors_of, at_place, decl_of, is_class, is_class_decl}
+use Rattle.type_definitions.specs.Declarations.{optional_cases, place_of, swift_structs}
 
 abbrev pub decl_fields : Option Decl → List Field
 decl_fields None = []
 decl_fields (Some (Struct name fields)) = fields
 decl_fields (Some (Enum name cases)) = []
-decl_fields (Some (Class name fields)) = fields
+decl_fields (Some (Class name superclass fields)) = fields
 
 abbrev pub decl_cases : Option Decl → List Case
 decl_cases None = []
 decl_cases (Some (Struct name fields)) = []
 decl_cases (Some (Enum name cases)) = cases
-decl_cases (Some (Class name fields)) = []
+decl_cases (Some (Class name superclass fields)) = []
 
--- the fields of a struct or class
+-- the fields that a struct or class declares itself
+abbrev pub own_fields : Declarations → Name → List Field
+own_fields d owner = decl_fields (decl_of d owner)
+
+-- those of classes of which each is the superclass of the one before: the last one's come first
+abbrev pub chain_fields : Declarations → List Name → List Field
+chain_fields d [] = []
+chain_fields d (class ∷ above) = chain_fields d above ++ own_fields d class
+
+-- the fields of a class's ancestors
+abbrev pub inherited_fields : Declarations → Name → List Field
+inherited_fields d owner = chain_fields d (ancestors_of d owner)
+
+-- the fields of a struct or class: those of a class's ancestors, the root's first, and then its own
 abbrev pub fields_of : Declarations → Name → List Field
-fields_of d owner = decl_fields (decl_of d owner)
+fields_of d owner = inherited_fields d owner ++ own_fields d owner
 
 -- the cases of an enum that the text declares
 abbrev pub cases_of : Declarations → Name → List Case
 cases_of d owner = decl_cases (decl_of d owner)
 
--- a field, with its place among those of its owner
+-- a field, with its place among all fields of its owner
 pub record FoundField : Type 0 where
   pub place : ℕ
   pub field : Field
 
-abbrev pub field_at_place : List Field → Option ℕ → Option FoundField
-field_at_place fields None = None
-field_at_place fields (Some place) = option_map (λ f. record { place = place; field = f }) (slice_get fields place)
+abbrev pub field_at_place : ℕ → List Field → Option ℕ → Option FoundField
+field_at_place before fields None = None
+field_at_place before fields (Some place) = option_map (λ f. record { place = before + place; field = f }) (slice_get fields place)
 
--- the field with this name of a struct or class
+-- the field with this name that a struct or class declares itself. Its place is behind the inherited ones
 abbrev pub field_of : Declarations → Name → Name → Option FoundField
-field_of d owner name = field_at_place (fields_of d owner) (place_of (map field_name (fields_of d owner)) name)
+field_of d owner name = field_at_place (length (inherited_fields d owner)) (own_fields d owner) (place_of (map field_name (own_fields d owner)) name)
 
 -- the field of a struct or class at a place
 abbrev pub field_at : Declarations → Name → ℕ → Option Field

@@ -76,7 +76,7 @@ measure_with known = fold-TypeName Measure (measure_over known)
 abbrev pub from_held : Decl → List Measure → Measure
 from_held (Struct name fields) ms = of_members ms
 from_held (Enum name cases) ms = of_payloads ms
-from_held (Class name fields) ms = of_reference
+from_held (Class name superclass fields) ms = of_reference
 
 -- of a declared type, by what is known of the names in it
 abbrev pub measure_decl : (Name → Measure) → Decl → Measure

@@ -57,7 +57,7 @@ in_case c = if_there Object c.payload
 abbrev pub in_members : Decl → List Mention
 in_members (Struct name fields) = map in_field fields
 in_members (Enum name cases) = flat_map in_case cases
-in_members (Class name fields) = map in_field fields
+in_members (Class name superclass fields) = map in_field fields
 
 -- a declaration mentions the type that it declares, and those of its fields and payloads
 abbrev pub in_decl : Decl → List Mention

@@ -1,8 +1,9 @@
 -- The rules on declarations and on the types that a module mentions, and the limits on types.
-use Rattle.std.specs.Prelude.{◌≡◌, ℕ, ◌+◌, ◌≤◌, ◌<◌, List, Bool, true, false, not, ◌&&◌, ◌||◌, Option, Some, None, IsTrue, All, length, slice_get, nat_le}
+use Rattle.std.specs.Prelude.{◌≡◌, ℕ, ◌+◌, ◌-◌, ◌≤◌, ◌<◌, List, Bool, true, false, not, ◌&&◌, ◌||◌, Option, Some, None, IsTrue, All, length, slice_get, nat_le}
 use Rattle.std.specs.List.{list_any, list_all}
 use Rattle.std.specs.Option.{option_to_list}
 use Rattle.std.specs.Str.{bytes_eq}
+use Rattle.sil_ast.specs.declared.decl.Decl.{Decl}
 use Rattle.sil_ast.specs.declared.member.Member.{Member}
 use Rattle.sil_ast.specs.declared.module.Module.{Module}
 use Rattle.sil_ast.specs.declared.type_name.TypeName.{TypeName, fold-TypeName, out-TypeName}
@@ -11,10 +12,11 @@ use Rattle.sil_ast.specs.declared.vtable.DeinitEntry.{DeinitEntry}
 use Rattle.sil_ast.specs.declared.vtable.Vtable.{Vtable}
 use Rattle.containment.specs.Chains.{IsCyclic}
 use Rattle.sil_rules.specs.declared.limits.TheConstants.{DEPTH, LEAVES}
+use Rattle.numbered_form.specs.Names.{superclass_in}
 use Rattle.type_definitions.specs.declared.standing.Standing.{Standing}
 use Rattle.type_definitions.specs.declared.standing.Standing.TheVariants.{Object, WeakField, UnownedField, Slot, Value, Unwritten}
 use Rattle.type_definitions.specs.Contained.{containment}
-use Rattle.type_definitions.specs.Declarations.{Declarations, declarations_of, swift_structs, decl_of, is_class, members_of, has_member}
+use Rattle.type_definitions.specs.Declarations.{Declarations, declarations_of, swift_structs, decl_of, is_class, is_longer, members_of, has_member}
 use Rattle.type_definitions.specs.Measures.{leaves_of, depth_of}
 use Rattle.type_definitions.specs.Mentions.{Mention, Item, decl, function, vtable, items_of, mentioned_by, members_named_by, mentions_of}
 use Rattle.std.specs.Prelude.{is_some}
@@ -45,12 +47,16 @@ is_unknown d t = is_written t.standing && not (is_declared d t.ty)
 abbrev pub has_unknown_owner : Declarations → Member → Bool
 has_unknown_owner d r = not (is_some (members_of d r.owner))
 
-abbrev pub is_of_unknown_class : Declarations → Item → Bool
-is_of_unknown_class d (decl x) = false
-is_of_unknown_class d (function f) = false
-is_of_unknown_class d (vtable v) = not (is_class d v.class_name)
+abbrev pub is_no_class : Declarations → List ℕ → Bool
+is_no_class d name = not (is_class d name)
 
--- 101: a type, the T of an instruction's `#T.m`, or a vtable's class isn't declared
+-- its superclass is no class, or it is the vtable of none
+abbrev pub is_of_unknown_class : Declarations → Item → Bool
+is_of_unknown_class d (decl x) = list_any (is_no_class d) (option_to_list (superclass_in x))
+is_of_unknown_class d (function f) = false
+is_of_unknown_class d (vtable v) = is_no_class d v.class_name
+
+-- 101: a type, the T of an instruction's `#T.m`, a superclass, or a vtable's class isn't declared
 abbrev pub has_unknown_type : Declarations → Item → Bool
 has_unknown_type d i = list_any (is_unknown d) (mentioned_by i) || list_any (has_unknown_owner d) (members_named_by i) || is_of_unknown_class d i
 
@@ -136,7 +142,8 @@ has_misplaced_storage d i = list_any (is_misplaced d) (mentioned_by i)
 
 -- 102
 
--- 102: the declaration with this number among those of the text is a struct or enum that holds itself without a class between
+-- 102: the declaration with this number among those of the text is a struct or enum that holds itself without a class between, or a class that
+-- is its own ancestor
 abbrev pub HoldsItself : Declarations → ℕ → Type 0
 HoldsItself d n = IsCyclic (containment d) (length (swift_structs d.swift) + n)
 
@@ -161,15 +168,19 @@ is_too_deep d t = not (nat_le (depth_of d t.ty) DEPTH)
 abbrev pub has_too_many_leaves : Declarations → Mention → Bool
 has_too_many_leaves d t = not (nat_le (leaves_of d t.ty) LEAVES)
 
--- a type that the module mentions is deeper than the limit
+-- a class that stands with its ancestors in a chain that is longer than the limit
+abbrev pub is_too_low : Declarations → Decl → Bool
+is_too_low d x = is_longer d (DEPTH - 1) (superclass_in x)
+
+-- a type that the module mentions is deeper than the limit, or a chain of classes is longer
 abbrev pub exceeds_depth : Module → Bool
-exceeds_depth m = list_any (is_too_deep (declarations_of m)) (mentions_of m)
+exceeds_depth m = list_any (is_too_deep (declarations_of m)) (mentions_of m) || list_any (is_too_low (declarations_of m)) m.decls
 
 -- a type that the module mentions has more leaves than the limit
 abbrev pub exceeds_leaves : Module → Bool
 exceeds_leaves m = list_any (has_too_many_leaves (declarations_of m)) (mentions_of m)
 
--- every type that the module mentions is within the limits on depth and leaves
+-- every type that the module mentions is within the limits on depth and leaves, and every class has fewer ancestors than the limit on depth
 pub record InLimits (m : Module) : Type 0 where
   pub depth : exceeds_depth m ≡ false
   pub leaves : exceeds_leaves m ≡ false

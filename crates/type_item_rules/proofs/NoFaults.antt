@@ -13,7 +13,7 @@ use Rattle.sil_rules.specs.declared.rule.Rule.TheVariants as rule
 use Rattle.numbered_form.specs.Names.{Name}
 use Rattle.type_definitions.specs.Declarations.{Declarations, has_name, members_of}
 use Rattle.type_definitions.specs.Mentions.{Item, Mention, decl, function, vtable, function_members, in_decl, in_function, mentions_of}
-use Rattle.type_definitions.specs.Rules.{has_bad_member, has_misplaced_storage, has_unknown_owner, has_unknown_type, is_misplaced, is_no_member, is_unknown}
+use Rattle.type_definitions.specs.Rules.{has_bad_member, has_misplaced_storage, has_unknown_owner, has_unknown_type, is_misplaced, is_no_member, is_of_unknown_class, is_unknown}
 use Rattle.type_item_rules.specs.declared.by_item.ItemFault.{ItemFault}
 use Rattle.type_item_rules.specs.Faults.{BreaksIn, broken_by, fault_from, fault_or, is_wrong_type}
 use Rattle.type_item_rules.proofs.FirstFaults.{first_of_parts}
@@ -62,10 +62,10 @@ module _ (d : Declarations) where
       ap (λ b. b || list_any (has_unknown_owner d) rs) (owner_known r.name (members_of d r.owner) (first_of_none (is_no_member d r) (list_any (is_no_member d) rs) h))
       ∙ owners_known rs (second_of_none (is_no_member d r) (list_any (is_no_member d) rs) h)
 
-  decl_clean : (x : Decl) → list_any (is_wrong_type d) (in_decl x) ≡ false → broken_by d (decl x) ≡ None
-  decl_clean x types =
+  decl_clean : (x : Decl) → list_any (is_wrong_type d) (in_decl x) ≡ false → is_of_unknown_class d (decl x) ≡ false → broken_by d (decl x) ≡ None
+  decl_clean x types above =
       no_rule (has_unknown_type d (decl x)) (has_bad_member d (decl x)) (has_misplaced_storage d (decl x))
-      (ap (λ b. b || false || false) (none_unknown (in_decl x) types))
+      (ap (λ b. b || false || is_of_unknown_class d (decl x)) (none_unknown (in_decl x) types) ∙ above)
       refl
       (none_misplaced (in_decl x) types)
 
@@ -77,14 +77,17 @@ module _ (d : Declarations) where
       (ap (λ b. b || false) members)
       (none_misplaced (in_function f) types)
 
-  decls_clean : (n : ℕ) (xs : List Decl) → list_any (is_wrong_type d) (flat_map in_decl xs) ≡ false → fault_from d n (map decl xs) ≡ None
-  decls_clean n [] types = refl
-  decls_clean n (x ∷ xs) types =
+  decls_clean : (n : ℕ) (xs : List Decl) → list_any (is_wrong_type d) (flat_map in_decl xs) ≡ false → list_any (is_of_unknown_class d) (map decl xs) ≡ false
+      → fault_from d n (map decl xs) ≡ None
+  decls_clean n [] types above = refl
+  decls_clean n (x ∷ xs) types above =
+      let inherited = is_of_unknown_class d (decl x) in
+      let others = list_any (is_of_unknown_class d) (map decl xs) in
       let own = list_any (is_wrong_type d) (in_decl x) in
       let rest = list_any (is_wrong_type d) (flat_map in_decl xs) in
       let both : (own || rest) ≡ false = sym (list_any-append (is_wrong_type d) (in_decl x) (flat_map in_decl xs)) ∙ types in
-      ap (λ r. fault_or n r (fault_from d (n + 1) (map decl xs))) (decl_clean x (first_of_none own rest both))
-      ∙ decls_clean (n + 1) xs (second_of_none own rest both)
+      ap (λ r. fault_or n r (fault_from d (n + 1) (map decl xs))) (decl_clean x (first_of_none own rest both) (first_of_none inherited others above))
+      ∙ decls_clean (n + 1) xs (second_of_none own rest both) (second_of_none inherited others above)
 
   functions_clean : (n : ℕ) (fs : List Function) → list_any (is_wrong_type d) (flat_map in_function fs) ≡ false → list_any (is_no_member d) (flat_map function_members fs) ≡ false
       → fault_from d n (map function fs) ≡ None
@@ -109,16 +112,17 @@ module _ (d : Declarations) where
       by None rest h = rest h
       by (Some r) rest h = absurd (true≢false h)
 
-  pub none_broken : (m : Module) → list_any (is_wrong_type d) (mentions_of m) ≡ false → list_any (is_no_member d) (flat_map function_members m.functions) ≡ false →
+  pub none_broken : (m : Module) → list_any (is_wrong_type d) (mentions_of m) ≡ false → list_any (is_of_unknown_class d) (map decl m.decls) ≡ false →
+      list_any (is_no_member d) (flat_map function_members m.functions) ≡ false →
       is_some (fault_from d 0 (map vtable m.vtables)) ≡ false →
       (f : ItemFault) → BreaksIn d m f → ⊥
-  none_broken m types members vtables =
+  none_broken m types above members vtables =
       let declared = list_any (is_wrong_type d) (flat_map in_decl m.decls) in
       let used = list_any (is_wrong_type d) (flat_map in_function m.functions) in
       let both : (declared || used) ≡ false = sym (list_any-append (is_wrong_type d) (flat_map in_decl m.decls) (flat_map in_function m.functions)) ∙ types in
       let count = length m.decls in
       let behind = count + length m.functions in
       first_of_parts d m None (sym (
-      ap (λ o. option_or (option_or o (fault_from d count (map function m.functions))) (fault_from d behind (map vtable m.vtables))) (decls_clean 0 m.decls (first_of_none declared used both))
+      ap (λ o. option_or (option_or o (fault_from d count (map function m.functions))) (fault_from d behind (map vtable m.vtables))) (decls_clean 0 m.decls (first_of_none declared used both) above)
       ∙ ap (λ o. option_or o (fault_from d behind (map vtable m.vtables))) (functions_clean count m.functions (second_of_none declared used both) members)
       ∙ none_from 0 behind (map vtable m.vtables) vtables))

@@ -4,7 +4,7 @@ ghost use Rattle.std.specs.Prelude.{◌≡◌};
 ghost use Rattle.std.specs.List.{list_any};
 ghost use Rattle.type_definitions.specs.Mentions as item;
 ghost use Rattle.type_item_rules.specs.Faults.{broken_by};
-ghost use Rattle.type_definitions.specs.Rules.{names_other_class};
+ghost use Rattle.type_definitions.specs.Rules.{is_of_unknown_class, names_other_class};
 ghost use Rattle.std.specs.Option.{option_to_list};
 
 use crate::storage::MisplacedStorage;
@@ -20,10 +20,28 @@ pub(crate) fn broken_by_decl(table: &DeclarationTable, decl: &Decl) -> Option<Ru
     if any_in_decl(&UnknownTypes { table }, decl) {
         return Some(Rule::UnknownType);
     }
+    if inherits_unknown(table, decl) {
+        return Some(Rule::UnknownType);
+    }
     if any_in_decl(&MisplacedStorage { table }, decl) {
         return Some(Rule::WeakOrUnownedOutsideStorage);
     }
     None
+}
+
+/// Whether the declaration is a class whose superclass is no class.
+pub(crate) fn inherits_unknown(table: &DeclarationTable, decl: &Decl) -> bool
+    ensures { result ≡ is_of_unknown_class table.now (item.decl decl.now) }
+{
+    match decl {
+        Decl::Class {
+            superclass: Some(name),
+            ..
+        } => !table.is_class(name),
+        Decl::Class { .. } => false,
+        Decl::Struct { .. } => false,
+        Decl::Enum { .. } => false,
+    }
 }
 
 pub(crate) fn broken_by_function(table: &DeclarationTable, function: &Function) -> Option<Rule>

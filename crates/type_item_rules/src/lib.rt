@@ -9,4 +9,4 @@ mod types;
 mod wrong;
 
 pub use by_item::{ItemFault, first_fault};
-pub use wrong::{any_bad_member, any_wrong_vtable, is_wrong_type};
+pub use wrong::{any_bad_member, any_unknown_superclass, any_wrong_vtable, is_wrong_type};

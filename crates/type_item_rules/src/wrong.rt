@@ -4,14 +4,15 @@ ghost use Rattle.std.specs.Prelude.{◌≡◌, ◌<◌, ◌^◌, is_some, length
 ghost use Rattle.std.specs.List.{flat_map, list_any};
 ghost use Rattle.type_definitions.specs.Mentions.{function_members, mention};
 ghost use Rattle.type_definitions.specs.Mentions as item;
-ghost use Rattle.type_definitions.specs.Rules.{is_no_member};
+ghost use Rattle.type_definitions.specs.Rules.{is_no_member, is_of_unknown_class};
 ghost use Rattle.type_item_rules.specs.Faults as faults;
 ghost use Rattle.type_item_rules.specs.Faults.{fault_from};
 
 use crate::by_item::first_of_vtables;
+use crate::items::inherits_unknown;
 use crate::storage::is_misplaced;
 use crate::types::{BadMembers, is_unknown};
-use sil_ast::{Function, TypeName, Vtable};
+use sil_ast::{Decl, Function, TypeName, Vtable};
 use type_declarations::DeclarationTable;
 use type_definitions::Standing;
 use type_mentions::any_member_in_function;
@@ -35,6 +36,18 @@ pub fn any_bad_member(table: &DeclarationTable, functions: &[Function]) -> bool
 {
     for function in functions {
         if any_member_in_function(&BadMembers { table }, function) {
+            return true;
+        }
+    }
+    false
+}
+
+/// Whether the superclass of a class is no class.
+pub fn any_unknown_superclass(table: &DeclarationTable, decls: &[Decl]) -> bool
+    ensures { result ≡ list_any (is_of_unknown_class table.now) (map item.decl decls.now) }
+{
+    for decl in decls {
+        if inherits_unknown(table, decl) {
             return true;
         }
     }

@@ -162,7 +162,7 @@ module _ (seen : Measure → Measure) (parts : GoesByParts seen) (a b : Name →
       parts.members (map (measure_with a) (held_types (decl.Struct name fields))) (map (measure_with b) (held_types (decl.Struct name fields))) (all_agree (held_types (decl.Struct name fields)) agree)
   decl_agrees (decl.Enum name cases) agree =
       parts.payloads (map (measure_with a) (held_types (decl.Enum name cases))) (map (measure_with b) (held_types (decl.Enum name cases))) (all_agree (held_types (decl.Enum name cases)) agree)
-  decl_agrees (decl.Class name fields) agree = refl
+  decl_agrees (decl.Class name superclass fields) agree = refl
 
 -- no type or several are a tuple
 pub together_many : (ts : List TypeName) → (length ts ≡ 1 → ⊥) → together ts ≡ Tuple ts

@@ -9,20 +9,20 @@ use Rattle.containment.specs.inner.Order.{IsOrder}
 use Rattle.sil_ast.specs.declared.decl.Decl.{Decl}
 use Rattle.sil_ast.specs.declared.decl.Decl.TheVariants as decl
 use Rattle.numbered_form.specs.Names.{Name}
-use Rattle.type_definitions.specs.Contained.{containment, held_names, held_places}
+use Rattle.type_definitions.specs.Contained.{containment, held_names, held_places, lower_places}
 use Rattle.type_definitions.specs.Declarations.{Declarations, all_decls, all_names, at_place, place_of}
 use Rattle.type_definitions.specs.Measures.{measure_at, measure_decl, measures_of, measures_within, unmeasured}
 use Rattle.type_measures.specs.inner.ByParts.{AreByParts}
 use Rattle.type_measures.specs.inner.Gathered.{known_at}
 use Rattle.type_measures.proofs.Agreement.{decl_agrees, exactly, itself_seen, measure-Named}
-use Rattle.type_measures.proofs.Ordered.{held_at, known_is, length_of, length_within, other_default, parts_are, take_short, within_next}
+use Rattle.type_measures.proofs.Ordered.{held_at, known_is, length_of, length_within, other_default, held_part, take_short, within_next}
 
 no_decl : Decl
 no_decl = decl.Struct [] []
 
 module _ (d : Declarations) (order : List ℕ) (o : IsOrder (containment d) order) where
   many : length (containment d) ≡ length (all_decls d)
-  many = length-map (all_decls d) (held_places (all_names d))
+  many = length-map (all_decls d) (lower_places d)
 
   -- what stands at this place of the order has one measure, whichever number of declarations is looked through, if it is enough
   abbrev IsSettled : ℕ → Type 0
@@ -32,7 +32,7 @@ module _ (d : Declarations) (order : List ℕ) (o : IsOrder (containment d) orde
       (is : x ≡ get_or (all_decls d) (get_or order i 0) x) (k l : ℕ) (far : i ≤ k) (too : i ≤ l) where
     same_part : (w : ℕ) → Contains (held_places (all_names d) x) w → known_at (measures_within d k) w ≡ known_at (measures_within d l) w
     same_part w c = at (All-contains (Contains (take i order)) (parts_of (containment d) (get_or order i 0)) w (o.parts i here)
-        (subst (λ ps. Contains ps w) (sym (parts_are (all_names d) (all_decls d) (get_or order i 0) x inside is)) c))
+        (held_part d (get_or order i 0) x inside is w c))
       where
         at : Contains (take i order) w → known_at (measures_within d k) w ≡ known_at (measures_within d l) w
         at (j, lt, e) =

@@ -12,7 +12,7 @@ use Rattle.containment.specs.Chains.{parts_of}
 use Rattle.containment.specs.inner.Order.{ArePartsBefore, IsOrder}
 use Rattle.sil_ast.specs.declared.decl.Decl.{Decl}
 use Rattle.numbered_form.specs.Names.{Name}
-use Rattle.type_definitions.specs.Contained.{containment, held_names, held_places, place_list}
+use Rattle.type_definitions.specs.Contained.{containment, held_names, held_places, lower_places, place_list, superclass_places}
 use Rattle.type_definitions.specs.Declarations.{Declarations, all_decls, all_names, at_place, place_of}
 use Rattle.type_definitions.specs.Measures.{measure_at, measure_decl, measure_of, measure_with, measures_of, measures_within, unmeasured}
 use Rattle.type_definitions.specs.declared.measure.Measure.{Measure}
@@ -42,8 +42,12 @@ held_at names (x ∷ ns) n w e (zero, lt, is) =
     Contains-append_left (place_list names x) (flat_map (place_list names) ns) w (subst (λ o. Contains (option_to_list o) w) (sym (ap (place_of names) is ∙ e)) (0, omega arith, refl))
 held_at names (x ∷ ns) n w e (suc k, lt, is) = Contains-append_right (place_list names x) (flat_map (place_list names) ns) w (held_at names ns n w e (k, omega arith, is))
 
-pub parts_are : (names : List Name) (decls : List Decl) (v : ℕ) (x : Decl) → v < length decls → x ≡ get_or decls v x → parts_of (map (held_places names) decls) v ≡ held_places names x
-parts_are names decls v x lt is = get_or-map (held_places names) decls v x [] lt ∙ ap (held_places names) (sym is)
+-- what a declaration holds is among its parts
+pub held_part : (d : Declarations) (v : ℕ) (x : Decl) → v < length (all_decls d) → x ≡ get_or (all_decls d) v x
+    → (w : ℕ) → Contains (held_places (all_names d) x) w → Contains (parts_of (containment d) v) w
+held_part d v x lt is w c =
+    let parts_are : parts_of (containment d) v ≡ lower_places d x = get_or-map (lower_places d) (all_decls d) v x [] lt ∙ ap (lower_places d) (sym is) in
+    subst (λ ps. Contains ps w) (sym parts_are) (Contains-append_right (superclass_places d x) (held_places (all_names d) x) w c)
 
 -- one declaration more is looked through
 pub within_next : (d : Declarations) (v k : ℕ) (x : Decl) → v < length (all_decls d) → x ≡ get_or (all_decls d) v x →
@@ -59,7 +63,7 @@ module _ (d : Declarations) (order : List ℕ) (parts : ArePartsBefore (containm
       (is : x ≡ get_or (all_decls d) (get_or order i 0) x) (k : ℕ) (far : i ≤ k) where
     known_part : (w : ℕ) → Contains (held_places (all_names d) x) w → capped (known_at ms w) ≡ capped (known_at (measures_within d k) w)
     known_part w c = at (All-contains (Contains (take i order)) (parts_of (containment d) (get_or order i 0)) w (parts i here)
-        (subst (λ ps. Contains ps w) (sym (parts_are (all_names d) (all_decls d) (get_or order i 0) x inside is)) c))
+        (held_part d (get_or order i 0) x inside is w c))
       where
         at : Contains (take i order) w → capped (known_at ms w) ≡ capped (known_at (measures_within d k) w)
         at (j, lt, e) =
@@ -135,12 +139,12 @@ all_measured d order ms o size up_to =
     ∙ sym (get_or-map capped (measures_of d) v unmeasured unmeasured (omega arith)))
   where
     each : (v : ℕ) → v < length ms → known_at ms v ≡ capped (known_at (measures_of d) v)
-    each v lt = at (o.all v (let many : length (containment d) ≡ length (all_decls d) = length-map (all_decls d) (held_places (all_names d)) in omega arith))
+    each v lt = at (o.all v (let many : length (containment d) ≡ length (all_decls d) = length-map (all_decls d) (lower_places d) in omega arith))
       where
         at : Contains order v → known_at ms v ≡ capped (known_at (measures_of d) v)
         at (j, inside, e) =
             let same : get_or order j 0 ≡ v = other_default order j 0 v inside ∙ e in
-            let many : length (containment d) ≡ length (all_decls d) = length-map (all_decls d) (held_places (all_names d)) in
+            let many : length (containment d) ≡ length (all_decls d) = length-map (all_decls d) (lower_places d) in
             let few : length order ≤ length (containment d) = o.once in
             subst (λ w. known_at ms w ≡ capped (known_at (measures_of d) w)) same (up_to j inside (length (all_decls d)) (omega arith))
 

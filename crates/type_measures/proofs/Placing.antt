@@ -11,8 +11,9 @@ use Rattle.containment.specs.Chains.{IsInRange, parts_of}
 use Rattle.sil_ast.specs.declared.decl.Decl.{Decl}
 use Rattle.std.specs.List.{flat_map}
 use Rattle.sil_ast.specs.declared.type_name.TypeName.{TypeName}
-use Rattle.numbered_form.specs.Names.{Name}
-use Rattle.type_definitions.specs.Contained.{names_in, place_list, itself, held_places, held_names}
+use Rattle.numbered_form.specs.Names.{Name, decl_name, superclass_in}
+use Rattle.type_definitions.specs.Contained.{class_list, containment, names_in, place_list, itself, held_places, held_names, lower_places, superclass_places}
+use Rattle.type_definitions.specs.Declarations.{Declarations, all_decls, all_names, is_class}
 use Rattle.type_measures.specs.inner.Places.{places_in}
 use Rattle.type_measures.proofs.Agreement.{names-Tuple}
 use Rattle.sil_ast.specs.declared.type_name.TypeName.TheVariants.{Tuple}
@@ -75,13 +76,27 @@ places_inside : (names ns : List Name) → All (λ w. w < length names) (flat_ma
 places_inside names [] = λ k d lt. absurd (omega arith)
 places_inside names (n ∷ ns) = All-append (λ w. w < length names) (place_list names n) (flat_map (place_list names) ns) (place_inside names n) (places_inside names ns)
 
--- what declarations hold are declarations
-pub graph_in_range : (names : List Name) (decls : List Decl) → length names ≡ length decls → IsInRange (map (held_places names) decls)
-graph_in_range names decls same v lt =
-    let inside : length (map (held_places names) decls) ≡ length decls = length-map decls (held_places names) in
-    subst (λ n. All (λ w. w < n) (parts_of (map (held_places names) decls) v)) (same ∙ sym inside) (part decls v (omega arith))
+class_inside : (d : Declarations) (n : Name) → All (λ w. w < length (all_names d)) (class_list d n)
+class_inside d n = by (is_class d n)
   where
-    part : (ds : List Decl) (i : ℕ) → i < length ds → All (λ w. w < length names) (parts_of (map (held_places names) ds) i)
+    by : (b : Bool) → All (λ w. w < length (all_names d)) (cond b (place_list (all_names d) n) [])
+    by true = place_inside (all_names d) n
+    by false = λ k e lt. absurd (omega arith)
+
+classes_inside : (d : Declarations) (ns : List Name) → All (λ w. w < length (all_names d)) (flat_map (class_list d) ns)
+classes_inside d [] = λ k e lt. absurd (omega arith)
+classes_inside d (n ∷ ns) = All-append (λ w. w < length (all_names d)) (class_list d n) (flat_map (class_list d) ns) (class_inside d n) (classes_inside d ns)
+
+-- what declarations hold, and what classes inherit from, are declarations
+pub graph_in_range : (d : Declarations) → IsInRange (containment d)
+graph_in_range d v lt =
+    let same : length (all_names d) ≡ length (all_decls d) = length-map (all_decls d) decl_name in
+    let inside : length (containment d) ≡ length (all_decls d) = length-map (all_decls d) (lower_places d) in
+    subst (λ n. All (λ w. w < n) (parts_of (containment d) v)) (same ∙ sym inside) (part (all_decls d) v (omega arith))
+  where
+    part : (ds : List Decl) (i : ℕ) → i < length ds → All (λ w. w < length (all_names d)) (parts_of (map (lower_places d) ds) i)
     part [] i h = absurd (omega arith)
-    part (x ∷ ds) zero h = places_inside names (held_names x)
+    part (x ∷ ds) zero h =
+        All-append (λ w. w < length (all_names d)) (superclass_places d x) (held_places (all_names d) x)
+        (classes_inside d (option_to_list (superclass_in x))) (places_inside (all_names d) (held_names x))
     part (x ∷ ds) (suc i) h = part ds i (omega arith)

@@ -1,42 +1,63 @@
-//! For each declaration the places of those that it holds.
+//! For each declaration the places of those that it holds or inherits from.
 
 ghost use Rattle.std.specs.Prelude.{◌≡◌, ◌++◌, map, IfOk, OnOk};
 ghost use Rattle.std.specs.List.{flat_map};
 ghost use Rattle.std.specs.Option.{option_to_list};
 ghost use Rattle.containment.specs.Chains.{IsInRange};
 ghost use Rattle.type_definitions.specs.Contained as contained;
-ghost use Rattle.type_definitions.specs.Contained.{field_type, held_places, names_in, payload_types, place_list};
+ghost use Rattle.type_definitions.specs.Contained.{class_list, field_type, lower_places, names_in, payload_types, place_list};
 ghost use Rattle.type_definitions.specs.Declarations.{all_names};
 ghost use Rattle.type_measures.specs.inner.Places.{places_in};
 
-use sil_ast::{Case, Decl, Exhausted, Field, List, TypeName};
+use sil_ast::{Case, Decl, Exhausted, Field, List, Text, TypeName};
 use std::alloc::Global;
 use type_declarations::DeclarationTable;
 
-/// For each declaration the places of those that it holds, a name as often as it stands there.
+/// For each declaration the places of those that it holds, a name as often as it stands there, and of a class that of its superclass.
 pub fn containment(alloc: Global, table: &DeclarationTable) -> Result<List<List<usize>>, Exhausted>
     ensures graph { IfOk result (λ graph. graph ≡ contained.containment table.now) }
     ensures range { IfOk result IsInRange }
 {
     let mut graph = List::new(alloc);
     for decl in table.decls() {
-        graph.push(held_places(alloc, table, decl)?)?;
+        graph.push(lower_places(alloc, table, decl)?)?;
     }
     Ok(graph)
 }
 
-fn held_places(
+fn lower_places(
     alloc: Global,
     table: &DeclarationTable,
     decl: &Decl,
 ) -> Result<List<usize>, Exhausted>
-    ensures { IfOk result (λ places. places ≡ held_places (all_names table.now) decl.now) }
+    ensures { IfOk result (λ places. places ≡ lower_places table.now decl.now) }
 {
     match decl {
         Decl::Struct { fields, .. } => field_places(alloc, table, fields.as_slice()),
         Decl::Enum { cases, .. } => payload_places(alloc, table, cases.as_slice()),
+        Decl::Class {
+            superclass: Some(name),
+            ..
+        } => superclass_places(alloc, table, name),
         Decl::Class { .. } => Ok(List::new(alloc)),
     }
+}
+
+/// The place of a superclass, where it is a class.
+fn superclass_places(
+    alloc: Global,
+    table: &DeclarationTable,
+    name: &Text,
+) -> Result<List<usize>, Exhausted>
+    ensures { IfOk result (λ places. places ≡ class_list table.now name.now) }
+{
+    let mut places = List::new(alloc);
+    if table.is_class(name) {
+        if let Some(place) = table.place(name) {
+            places.push(place)?;
+        }
+    }
+    Ok(places)
 }
 
 fn field_places(

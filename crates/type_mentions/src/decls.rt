@@ -19,7 +19,7 @@ pub fn any_in_decl<T: MentionTest>(test: &T, decl: &Decl) -> bool
         Decl::Enum { name, cases } => {
             test.of_declared(name) || any_in_cases(test, cases.as_slice())
         }
-        Decl::Class { name, fields } => {
+        Decl::Class { name, fields, .. } => {
             test.of_declared(name) || any_in_fields(test, fields.as_slice())
         }
     }

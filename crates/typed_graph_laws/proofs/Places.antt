@@ -72,7 +72,7 @@ few_cases_at decls (Some i) h = at (slice_get decls i) refl
     at : (x : Option Decl) → slice_get decls i ≡ x → length (decl_cases x) ≤ MEMBERS
     at None e = omega arith
     at (Some (Struct name fields)) e = omega arith
-    at (Some (Class name fields)) e = omega arith
+    at (Some (Class name superclass fields)) e = omega arith
     at (Some (Enum name cases)) e = let within : length (map case_name cases) ≤ MEMBERS = each_at IsDeclInLimits decls i (Enum name cases) h e in omega (arith, within, length-map cases case_name)
 
 each_all : (d : Declarations) → Each IsDeclInLimits d.decls → Each IsDeclInLimits (all_decls d)

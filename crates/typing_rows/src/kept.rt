@@ -70,6 +70,46 @@ pub(crate) fn where_destroyed<'a>(
     ty.filter(|ty| is_nontrivial(table, ty) || is_storage(ty))
 }
 
+/// The type, where it is a class from which the class of the value inherits.
+pub(crate) fn where_base<'a>(
+    table: &TypeTable,
+    value: Option<&TypeName>,
+    ty: Option<&'a TypeName>,
+) -> Option<&'a TypeName>
+    ensures { option_copied result ≡ where_it (rows.is_base table.now (option_copied value.entry)) (option_copied ty.entry) }
+{
+    match ty {
+        Some(ty) => {
+            if is_base(table, value, ty) {
+                Some(ty)
+            } else {
+                None
+            }
+        }
+        None => None,
+    }
+}
+
+/// Whether it is a class from which the class of the value inherits.
+fn is_base(table: &TypeTable, value: Option<&TypeName>, ty: &TypeName) -> bool
+    ensures { result ≡ rows.is_base table.now (option_copied value.entry) ty.now }
+{
+    match value {
+        Some(value) => is_derived(table, value, ty),
+        None => false,
+    }
+}
+
+/// Whether both types are classes, of which the first inherits from the second.
+fn is_derived(table: &TypeTable, ty: &TypeName, other: &TypeName) -> bool
+    ensures { result ≡ rows.is_derived table.now ty.now other.now }
+{
+    match (ty, other) {
+        (TypeName::Named(class), TypeName::Named(other)) => table.inherits(class, other),
+        _ => false,
+    }
+}
+
 pub(crate) fn target_behind(ty: Option<&TypeName>) -> Option<&TypeName>
     ensures { option_copied result ≡ option_and_then shapes.target (option_copied ty.entry) }
 {

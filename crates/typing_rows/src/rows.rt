@@ -9,9 +9,9 @@ ghost use Rattle.typing_rows.specs.inner.Views.{made_told};
 use crate::aggregates::{of_enum, of_struct, of_tuple};
 use crate::builtin_rows::of_builtin;
 use crate::kept::{
-    element_within, object_behind, target_behind, unowned_behind, weak_behind, where_bit,
-    where_class, where_counted, where_destroyed, where_enum, where_integer, where_nontrivial,
-    where_object,
+    element_within, object_behind, target_behind, unowned_behind, weak_behind, where_base,
+    where_bit, where_class, where_counted, where_destroyed, where_enum, where_integer,
+    where_nontrivial, where_object,
 };
 use crate::made::{
     all_elements, all_fields, gives, gives_address, gives_address_of_field, gives_by_signature,
@@ -101,5 +101,6 @@ pub fn row_types<'a>(table: &'a TypeTable, inst: &'a Inst) -> Option<Made<'a>>
         Op::SwitchEnum => takes(where_enum(table, written(inst, 0))),
         Op::Return => Some(Made::Nothing),
         Op::Unreachable => Some(Made::Nothing),
+        Op::Upcast => gives(where_base(table, written(inst, 0), inst.ty.as_ref())),
     }
 }

@@ -9,9 +9,10 @@ ghost use Rattle.written_values.specs.declared.value.Value.TheVariants as v;
 ghost use Rattle.written_values.specs.inner.Meaning as meant;
 ghost use Rattle.written_values.specs.inner.PartFaults.{part_fault};
 ghost use Rattle.written_values.specs.inner.Reduced.{parts_of, reduced};
-ghost use Rattle.written_values.specs.Values.{field_before, field_of, fields_of, token_of};
+ghost use Rattle.written_values.specs.Values.{field_before, field_of, fields_of, superclass_of, token_of};
 ghost use Rattle.written_tree.specs.Faults as faults;
 ghost use Rattle.written_tree.specs.Places as placed;
+ghost use Rattle.written_tree.specs.declared.written_declarations.WrittenDecl.TheVariants as decl;
 ghost use Rattle.written_tree.specs.declared.written_module.WrittenItem.TheVariants as item;
 
 use sil_ast::{Boxed, Exhausted, List, Storage};
@@ -40,32 +41,51 @@ fn put_declared(
     put(Reduced { value, fault }, values)
 }
 
-/// The name of a class or a struct, and its fields.
+/// The fields of a class or a struct.
 #[derive(Drop)]
 struct Fielded {
-    name: WrittenToken,
     fields: List<WrittenField>,
     /// The fault of fields that become too many.
     fault: Option<Fault>,
 }
 
-/// Takes a name away, and the fields in braces behind it.
-fn named_fields(alloc: Global, values: &mut Prepended<Value>) -> Fielded
-    requires { 4 ≤ length values.old }
-    ensures { (name opening fields closing : Value) × (values.old ≡ name ∷ opening ∷ fields ∷ closing ∷ values.new)
-        × (result.name ≡ token_of name) × (result.fields ≡ fields_of fields)
+/// Takes the fields in braces away.
+fn braced_fields(alloc: Global, values: &mut Prepended<Value>) -> Fielded
+    requires { 3 ≤ length values.old }
+    ensures { (opening fields closing : Value) × (values.old ≡ opening ∷ fields ∷ closing ∷ values.new)
+        × (result.fields ≡ fields_of fields)
         × (result.fault ≡ faults.passed limit.Members MEMBERS (map placed.field_place (fields_of fields))) }
 {
-    let name = values.pop_front().into_token();
     skip(values);
     let fields = values.pop_front().into_fields(alloc);
     skip(values);
     let fault = too_many(LimitWord::Members, &fields, limits::MEMBERS);
     Fielded {
-        name,
         fields: fields.into_list(),
         fault,
     }
+}
+
+/// Puts a class, whose name is the first value.
+#[inline(never)]
+fn put_class(alloc: Global, values: &mut Prepended<Value>) -> Result<Option<Fault>, Exhausted>
+    requires { 5 ≤ length values.old }
+    ensures values { OnOk result ((name superclass opening fields closing : Value) × (rest : List Value)
+        × (values.old ≡ name ∷ superclass ∷ opening ∷ fields ∷ closing ∷ rest)
+        × (values.new ≡ v.Item (item.Decl (decl.Class (token_of name) (superclass_of superclass) (fields_of fields))) ∷ rest)) }
+    ensures fault { IfOk result (λ fault. (name superclass opening fields closing : Value) × (rest : List Value)
+        × (values.old ≡ name ∷ superclass ∷ opening ∷ fields ∷ closing ∷ rest)
+        × (fault ≡ faults.passed limit.Members MEMBERS (map placed.field_place (fields_of fields)))) }
+{
+    let name = values.pop_front().into_token();
+    let superclass = values.pop_front().into_superclass();
+    let Fielded { fields, fault } = braced_fields(alloc, values);
+    let decl = WrittenDecl::Class {
+        name,
+        superclass,
+        fields,
+    };
+    put_declared(alloc, decl, fault, values)
 }
 
 /// Puts a class that isn't final.
@@ -75,17 +95,12 @@ pub(crate) fn plain_class(
     alloc: Global,
     values: &mut Prepended<Value>,
 ) -> Result<Option<Fault>, Exhausted>
-    requires { 5 ≤ length values.old }
+    requires { 6 ≤ length values.old }
     ensures values { OnOk result (values.new ≡ reduced Production.PlainClass values.old) }
     ensures fault { IfOk result (λ fault. fault ≡ part_fault Production.PlainClass (parts_of Production.PlainClass values.old)) }
 {
     skip(values);
-    let Fielded {
-        name,
-        fields,
-        fault,
-    } = named_fields(alloc, values);
-    put_declared(alloc, WrittenDecl::Class { name, fields }, fault, values)
+    put_class(alloc, values)
 }
 
 /// Puts a final class.
@@ -95,18 +110,25 @@ pub(crate) fn final_class(
     alloc: Global,
     values: &mut Prepended<Value>,
 ) -> Result<Option<Fault>, Exhausted>
-    requires { 6 ≤ length values.old }
+    requires { 7 ≤ length values.old }
     ensures values { OnOk result (values.new ≡ reduced Production.FinalClass values.old) }
     ensures fault { IfOk result (λ fault. fault ≡ part_fault Production.FinalClass (parts_of Production.FinalClass values.old)) }
 {
     skip(values);
     skip(values);
-    let Fielded {
-        name,
-        fields,
-        fault,
-    } = named_fields(alloc, values);
-    put_declared(alloc, WrittenDecl::Class { name, fields }, fault, values)
+    put_class(alloc, values)
+}
+
+/// Puts the name of a superclass.
+#[inline(never)]
+#[tactic(auto, unfolding(written_values::specs::inner::Reduced::reduced, written_values::specs::inner::Meaning::meaning, sil_shape::specs::Grammar::body))]
+pub(crate) fn superclass(values: &mut Prepended<Value>) -> Result<(), Exhausted>
+    requires { 2 ≤ length values.old }
+    ensures values { OnOk result (values.new ≡ reduced Production.SuperclassSome values.old) }
+{
+    skip(values);
+    let name = values.pop_front().into_token();
+    put_value(Value::Token(name), values)
 }
 
 /// Puts a struct.
@@ -121,11 +143,8 @@ pub(crate) fn struct_item(
     ensures fault { IfOk result (λ fault. fault ≡ part_fault Production.StructItem (parts_of Production.StructItem values.old)) }
 {
     skip(values);
-    let Fielded {
-        name,
-        fields,
-        fault,
-    } = named_fields(alloc, values);
+    let name = values.pop_front().into_token();
+    let Fielded { fields, fault } = braced_fields(alloc, values);
     put_declared(alloc, WrittenDecl::Struct { name, fields }, fault, values)
 }
 

@@ -47,6 +47,7 @@ pub fn reduce_declaration(
         Production::FinalClass => return build_declarations::final_class(alloc, values),
         Production::PlainClass => return build_declarations::plain_class(alloc, values),
         Production::StructItem => return build_declarations::struct_item(alloc, values),
+        Production::SuperclassSome => build_declarations::superclass(values)?,
         Production::EnumItem => return build_declarations::enum_item(alloc, values),
         Production::FunctionItem => return build_module::function(alloc, values),
         Production::VtableItem => build_module::vtable(alloc, values)?,
@@ -95,9 +96,10 @@ pub fn reduce_declaration(
             skip(values);
             put_nothing(values)?
         },
-        Production::AccessorsNone | Production::SetterNone | Production::EntryNone => put_nothing(
-            values,
-        )?,
+        Production::SuperclassNone
+        | Production::AccessorsNone
+        | Production::SetterNone
+        | Production::EntryNone => put_nothing(values)?,
         _ => unreachable!(),
     }
     Ok(None)

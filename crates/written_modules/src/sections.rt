@@ -23,6 +23,8 @@ pub(crate) fn section_of(production: Production) -> Section
         | Production::ItemsEnd
         | Production::FinalClass
         | Production::PlainClass
+        | Production::SuperclassSome
+        | Production::SuperclassNone
         | Production::StructItem
         | Production::EnumItem
         | Production::FunctionItem

@@ -25,7 +25,7 @@ abbrev pub token_place : WrittenToken → Place
 token_place t = t.place
 
 abbrev pub name_of_decl : WrittenDecl → WrittenToken
-name_of_decl (decl.Class name fields) = name
+name_of_decl (decl.Class name superclass fields) = name
 name_of_decl (decl.Struct name fields) = name
 name_of_decl (decl.Enum name cases) = name
 

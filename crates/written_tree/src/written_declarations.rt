@@ -23,11 +23,12 @@ impl WrittenToken {
     }
 }
 
-/// `class C { .. }`, `struct S { .. }` or `enum E { .. }`. Words that a module doesn't keep are gone.
+/// `class D : C { .. }`, `struct S { .. }` or `enum E { .. }`. Words that a module doesn't keep are gone.
 #[derive(Drop)]
 pub enum WrittenDecl {
     Class {
         name: WrittenToken,
+        superclass: Option<WrittenToken>,
         fields: List<WrittenField>,
     },
     Struct {

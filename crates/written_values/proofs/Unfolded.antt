@@ -5,11 +5,11 @@ use Rattle.written_values.specs.Values.{edges_of, entry_of, field_before, field_
 use Rattle.written_values.specs.Values.{givens_of, imports_of, inst_of, insts_of, item_of, items_of, linkage_of, member_of}
 use Rattle.written_values.specs.Values.{operand_of, operands_of, ownership_of, param_before, params_of, payload_of}
 use Rattle.written_values.specs.Values.{qualifier_of, questions_of, signature_of, stage_of, starred, terminator_of, token_of}
-use Rattle.written_values.specs.Values.{tokens_of, type_of, types_of}
+use Rattle.written_values.specs.Values.{superclass_of, tokens_of, type_of, types_of}
 
 -- what stands in a value, asked only where its variant stands: in one of declarations, of types, of code, and of any kind
 unfoldable pub declared_parts : ⊤
-unfolding token_of tokens_of stage_of imports_of items_of item_of fields_of field_of field_before cases_of linkage_of entry_of
+unfolding token_of superclass_of tokens_of stage_of imports_of items_of item_of fields_of field_of field_before cases_of linkage_of entry_of
 declared_parts = tt
 
 unfoldable pub typed_parts : ⊤

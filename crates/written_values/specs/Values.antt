@@ -95,6 +95,11 @@ unfoldable pub token_of : Value → WrittenToken
 token_of (v.Token token) = token
 token_of _ = no_token
 
+-- the name of a superclass, where there is one
+unfoldable pub superclass_of : Value → Option WrittenToken
+superclass_of (v.Token token) = Some token
+superclass_of _ = None
+
 unfoldable pub stage_of : Value → Stage
 stage_of (v.Stage s) = s
 stage_of _ = stage.Canonical
@@ -109,7 +114,7 @@ items_of _ = []
 
 unfoldable pub item_of : Value → WrittenItem
 item_of (v.Item i) = i
-item_of _ = item.Decl (decl.Class no_token [])
+item_of _ = item.Decl (decl.Class no_token None [])
 
 unfoldable pub fields_of : Value → List WrittenField
 fields_of (v.Fields fields) = fields

@@ -3,7 +3,8 @@
 ghost use Rattle.std.specs.Prelude.{◌≡◌, IfOk};
 ghost use Rattle.written_values.specs.declared.value.Value.TheVariants as v;
 ghost use Rattle.written_tree.specs.declared.written_module.WrittenModule.{WrittenModule};
-ghost use Rattle.written_values.specs.Values.{token_of, stage_of, imports_of, items_of, item_of, fields_of, field_of, cases_of, type_of, payload_of};
+ghost use Rattle.written_values.specs.Values.{token_of, superclass_of, stage_of, imports_of, items_of, item_of, fields_of, field_of};
+ghost use Rattle.written_values.specs.Values.{cases_of, type_of, payload_of};
 ghost use Rattle.written_values.specs.Values.{types_of, questions_of, linkage_of, tokens_of, convention_of, params_of, givens_of, signature_of};
 
 use crate::nothing::{discard, no_givens, no_params, no_token, no_type, no_types};
@@ -37,6 +38,20 @@ impl Value {
         ensures { IfOk result (λ text. text ≡ (token_of self).text) }
     {
         self.into_token().text.to_text(alloc)
+    }
+
+    /// The name of a superclass, where there is one.
+    #[tactic(auto, unfolding(crate::specs::Values::superclass_of))]
+    pub fn into_superclass(self) -> Option<WrittenToken>
+        ensures { result ≡ superclass_of self }
+    {
+        match self {
+            Value::Token(kept) => Some(kept),
+            other => {
+                discard(other);
+                None
+            }
+        }
     }
 
     #[tactic(auto, unfolding(crate::specs::Values::stage_of))]
@@ -91,6 +106,7 @@ impl Value {
                 discard(other);
                 WrittenItem::Decl(WrittenDecl::Class {
                     name: no_token(),
+                    superclass: None,
                     fields: List::new(alloc),
                 })
             }

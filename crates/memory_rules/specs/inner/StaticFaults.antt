@@ -13,7 +13,7 @@ use Rattle.point_checks.specs.declared.fault.PointFault.{PointFault}
 use Rattle.memory_accesses.specs.declared.access.Operated.{Operated}
 use Rattle.memory_accesses.specs.declared.columns.AccessKind.{AccessKind}
 use Rattle.memory_accesses.specs.declared.columns.AccessKind.TheVariants.{NoAccess, AllocatesSlot, AllocatesObject, DeallocatesSlot}
-use Rattle.memory_accesses.specs.declared.columns.AccessKind.TheVariants.{LendsValue, LendsLocation, NamesField, NamesMember, NamesElement}
+use Rattle.memory_accesses.specs.declared.columns.AccessKind.TheVariants.{LendsValue, Upcasts, LendsLocation, NamesField, NamesMember, NamesElement}
 use Rattle.memory_accesses.specs.declared.columns.AccessKind.TheVariants.{Loads, Stores, Destroys, Passes}
 use Rattle.memory_accesses.specs.declared.source.Source.{Source}
 use Rattle.memory_accesses.specs.Operations.{access_kind_of, addresses_of, deallocates, operations_of}
@@ -27,6 +27,7 @@ is_idle_by AllocatesSlot = true
 is_idle_by AllocatesObject = true
 is_idle_by DeallocatesSlot = false
 is_idle_by LendsValue = true
+is_idle_by Upcasts = true
 is_idle_by LendsLocation = false
 is_idle_by NamesField = true
 is_idle_by NamesMember = true

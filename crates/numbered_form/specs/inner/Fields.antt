@@ -13,7 +13,7 @@ IsStrong f = f.storage ≡ Strong
 abbrev pub HasStrongFields : Decl → Type 0
 HasStrongFields (Struct name fields) = Each IsStrong fields
 HasStrongFields (Enum name cases) = ⊤
-HasStrongFields (Class name fields) = ⊤
+HasStrongFields (Class name superclass fields) = ⊤
 
 abbrev pub AreStructFieldsStrong : Module → Type 0
 AreStructFieldsStrong m = Each HasStrongFields m.decls

@@ -76,7 +76,7 @@ HasPayloadType c = IfSome c.payload IsPlainType
 abbrev pub HasDeclTypes : Decl → Type 0
 HasDeclTypes (decl.Struct name fields) = Each HasFieldType fields
 HasDeclTypes (decl.Enum name cases) = Each HasPayloadType cases
-HasDeclTypes (decl.Class name fields) = Each HasFieldType fields
+HasDeclTypes (decl.Class name superclass fields) = Each HasFieldType fields
 
 abbrev pub HasParamType : Param → Type 0
 HasParamType p = IsPlainType p.ty

@@ -9,16 +9,17 @@ use Rattle.sil_ast.specs.declared.member.Member.{Member}
 use Rattle.instruction_table.specs.declared.op.Op.{Op}
 use Rattle.instruction_table.specs.declared.op.Op.TheVariants as op
 use Rattle.sil_ast.specs.declared.operands.Operand.{Operand}
-use Rattle.sil_ast.specs.declared.type_name.TypeName.{TypeName}
+use Rattle.sil_ast.specs.declared.type_name.TypeName.{TypeName, out-TypeName}
 use Rattle.sil_ast.specs.declared.type_name.TypeName.TheVariants as type
-use Rattle.type_definitions.specs.Declarations.{Declarations}
+use Rattle.numbered_form.specs.Names.{Name}
+use Rattle.type_definitions.specs.Declarations.{Declarations, inherits}
 use Rattle.type_definitions.specs.Lookups.{Payload}
 use Rattle.type_definitions.specs.Mentions.{given_type}
 use Rattle.type_definitions.specs.Rules.{is_class_type}
 use Rattle.sil_types.specs.Typing.Builtins.{Builtin, builtin_named, builtin_operands, builtin_result}
 use Rattle.sil_types.specs.Typing.Same.{is_same_type, are_same_types}
 use Rattle.sil_types.specs.Typing.Shapes.{where_it, is_object, is_nontrivial, is_storage, is_integer, is_bit, target, object_at, weak_at, unowned_at, elements}
-use Rattle.sil_types.specs.Typing.Shapes.{element_of, fields_of_struct, field_type, field_address, struct_field, class_field, is_enum, case_in}
+use Rattle.sil_types.specs.Typing.Shapes.{element_of, fields_of_struct, field_type, field_address, struct_field, class_field, is_enum, case_in, name_in}
 
 abbrev pub type_of : Operand → Option TypeName
 type_of o = o.ty
@@ -102,6 +103,22 @@ all_fields d t = option_map (map field_type) (fields_of_struct d t)
 abbrev pub is_counted_value : Declarations → TypeName → Bool
 is_counted_value d t = is_nontrivial d t && not (is_class_type d t)
 
+abbrev pub inherits_by : Declarations → Option Name → Option Name → Bool
+inherits_by d None other = false
+inherits_by d (Some class) None = false
+inherits_by d (Some class) (Some other) = inherits d class other
+
+-- the types are classes, of which the first inherits from the second
+abbrev pub is_derived : Declarations → TypeName → TypeName → Bool
+is_derived d t other = inherits_by d (name_in (out-TypeName t)) (name_in (out-TypeName other))
+
+abbrev pub is_base : Declarations → Option TypeName → TypeName → Bool
+is_base d t other = passes (λ value. is_derived d value other) t
+
+-- `upcast V to $B`, where V's class inherits from B
+abbrev pub of_upcast : Declarations → Inst → MadeTypes
+of_upcast d i = gives (where_it (is_base d (written 0 i)) i.ty)
+
 -- by the instruction: what it asks of the types written in it, and what it gives
 abbrev pub given_by : Op → Declarations → Inst → MadeTypes
 given_by op.IntegerLiteral d i = gives (where_it is_integer i.ty)
@@ -145,6 +162,7 @@ given_by op.CondBr d i = Some []
 given_by op.SwitchEnum d i = takes (where_it (is_enum d) (written 0 i))
 given_by op.Return d i = Some []
 given_by op.Unreachable d i = Some []
+given_by op.Upcast d i = of_upcast d i
 
 -- what the row gives of an instruction
 abbrev pub row_types : Declarations → Inst → MadeTypes

@@ -124,13 +124,13 @@ element_of number t = option_and_then (λ ts. element_at ts number) (elements t)
 abbrev pub struct_fields : Decl → Option (List Field)
 struct_fields (Struct name fields) = Some fields
 struct_fields (Enum name cases) = None
-struct_fields (Class name fields) = None
+struct_fields (Class name superclass fields) = None
 
 -- a declaration's fields, where it is a class
 abbrev pub class_fields : Decl → Option (List Field)
 class_fields (Struct name fields) = None
 class_fields (Enum name cases) = None
-class_fields (Class name fields) = Some fields
+class_fields (Class name superclass fields) = Some fields
 
 abbrev pub name_in : TypeName-F TypeName → Option Name
 name_in (Named name) = Some name
@@ -184,7 +184,7 @@ class_field d m t = if is_owner m t && is_some (fields_of_class d t) then field_
 abbrev pub declared_cases : Decl → Option ℕ
 declared_cases (Struct name fields) = None
 declared_cases (Enum name cases) = Some (length cases)
-declared_cases (Class name fields) = None
+declared_cases (Class name superclass fields) = None
 
 abbrev pub case_count_in : Declarations → TypeName-F TypeName → Option ℕ
 case_count_in d (Named name) = option_and_then declared_cases (decl_of d name)

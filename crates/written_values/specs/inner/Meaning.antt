@@ -23,7 +23,7 @@ use Rattle.written_values.specs.Imports.{with_import}
 use Rattle.written_values.specs.inner.Parts.{part, place_at, text_at}
 use Rattle.written_values.specs.inner.RowMeaning.{row}
 use Rattle.written_values.specs.Types.{in_parens, with_questions, named_type, one_deeper, one_token, tailed, type_before}
-use Rattle.written_values.specs.Values.{token_of, stage_of, imports_of, items_of, item_of, fields_of, field_of, field_before, cases_of, type_of}
+use Rattle.written_values.specs.Values.{token_of, superclass_of, stage_of, imports_of, items_of, item_of, fields_of, field_of, field_before, cases_of, type_of}
 use Rattle.written_values.specs.Values.{payload_of, types_of, questions_of, linkage_of, tokens_of, convention_of, params_of, param_before}
 use Rattle.written_values.specs.Values.{givens_of, given_before, signature_of, blocks_of, block_of, args_of, arg_of, ownership_of, starred}
 use Rattle.written_values.specs.Values.{insts_of, terminator_of, inst_of, operands_of, operand_of, edges_of, member_of, flags_of, debug_of}
@@ -60,8 +60,9 @@ meaning p.ImportsMore parts = v.Imports (with_import (text_at 1 parts) (imports_
 meaning p.ImportsEnd parts = v.Imports (record { builtin = false; swift = false })
 meaning p.ItemsMore parts = v.Items (item_of (part 0 parts) ∷ items_of (part 1 parts))
 meaning p.ItemsEnd parts = v.Items []
-meaning p.FinalClass parts = v.Item (item.Decl (decl.Class (token_of (part 2 parts)) (fields_of (part 4 parts))))
-meaning p.PlainClass parts = v.Item (item.Decl (decl.Class (token_of (part 1 parts)) (fields_of (part 3 parts))))
+meaning p.FinalClass parts = v.Item (item.Decl (decl.Class (token_of (part 2 parts)) (superclass_of (part 3 parts)) (fields_of (part 5 parts))))
+meaning p.PlainClass parts = v.Item (item.Decl (decl.Class (token_of (part 1 parts)) (superclass_of (part 2 parts)) (fields_of (part 4 parts))))
+meaning p.SuperclassSome parts = v.Token (token_of (part 1 parts))
 meaning p.StructItem parts = v.Item (item.Decl (decl.Struct (token_of (part 1 parts)) (fields_of (part 3 parts))))
 meaning p.EnumItem parts = v.Item (item.Decl (decl.Enum (token_of (part 1 parts)) (cases_of (part 3 parts))))
 meaning p.FunctionItem parts = v.Item (item.Function (record {

@@ -78,8 +78,8 @@ row_fault o parts = parts_fault o (parts_of o) 1 parts (begun o parts) None
 
 unfoldable pub part_fault : Production → List Value → Option Fault
 part_fault p.WholeModule parts = module_fault (items_of (part 2 parts))
-part_fault p.FinalClass parts = passed limit.Members MEMBERS (map field_place (fields_of (part 4 parts)))
-part_fault p.PlainClass parts = passed limit.Members MEMBERS (map field_place (fields_of (part 3 parts)))
+part_fault p.FinalClass parts = passed limit.Members MEMBERS (map field_place (fields_of (part 5 parts)))
+part_fault p.PlainClass parts = passed limit.Members MEMBERS (map field_place (fields_of (part 4 parts)))
 part_fault p.StructItem parts = passed limit.Members MEMBERS (map field_place (fields_of (part 3 parts)))
 part_fault p.EnumItem parts = passed limit.Members MEMBERS (map case_place (cases_of (part 3 parts)))
 part_fault p.FunctionItem parts = function_fault (tokens_of (part 2 parts)) (blocks_of (part 7 parts))

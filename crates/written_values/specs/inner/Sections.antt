@@ -16,6 +16,7 @@ part_section n.StageWord = Declarations
 part_section n.Imports = Declarations
 part_section n.Items = Declarations
 part_section n.Item = Declarations
+part_section n.Superclass = Declarations
 part_section n.Members = Declarations
 part_section n.Member = Declarations
 part_section n.Modified = Declarations

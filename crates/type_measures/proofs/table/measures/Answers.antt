@@ -1,6 +1,6 @@
 use Rattle.std.proofs.Common.{◌≡◌, ◌<◌, ap, ◌∙◌, arith, length, get_or}
 use Rattle.std.proofs.lemmas.List.{length-map, length-set}
-use Rattle.type_definitions.specs.Contained.{containment, held_places}
+use Rattle.type_definitions.specs.Contained.{containment, lower_places}
 use Rattle.type_definitions.specs.Declarations.{all_decls, all_names}
 use Rattle.type_definitions.specs.Measures.{measure_at, measure_decl}
 use Rattle.type_measures.specs.inner.Gathered.{capped}
@@ -14,7 +14,7 @@ loop-place-preserved c =
     let i = c.loop-place.place-index in
     let ms = c.loop-place.measures.items in
     let x = c.index-decls-place.result in
-    let many : length (containment d) ≡ length (all_decls d) = length-map (all_decls d) (held_places (all_names d)) in
+    let many : length (containment d) ≡ length (all_decls d) = length-map (all_decls d) (lower_places d) in
     let within : get_or order i 0 < length (containment d) = c.requires.inside i 0 c.loop-place-test.true in
     let inside : get_or order i 0 < length (all_decls d) = omega arith in
     let is : x ≡ get_or (all_decls d) (get_or order i 0) x = c.index-decls-place.is ∙ ap (λ ds. get_or ds (get_or order i 0) x) c.decls-decls.ensures in
