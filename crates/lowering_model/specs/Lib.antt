@@ -1,7 +1,0 @@
-pub mod Names
-pub mod NewInsts
-pub mod Extracts
-pub mod LoweredInsts
-pub mod LoweredBlocks
-pub mod Numbers
-pub mod LoweredModules

@@ -1,2 +1,0 @@
-pub mod ValueTexts
-pub mod ReportLines
