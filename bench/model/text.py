@@ -28,6 +28,9 @@ class Inst:
         self.member = None
         self.number = None
         self.callee = None
+        self.text = None           # a builtin's name, or the message of cond_fail
+        self.flags = []            # 'lexical', 'var_decl'
+        self.debug = []            # ('let',), ('name', text), ('argno', number), ('expr', 'op_deref')
         self.edges = []            # (label, [operand], 'br' | ('case', c) | 'default')
 
 
@@ -38,7 +41,10 @@ class Block:
 
 class Func:
     def __init__(self):
-        self.name, self.attrs, self.sig, self.blocks = None, [], None, []
+        self.name, self.linkage, self.attrs, self.sig, self.blocks = None, None, [], None, []
+
+    def form(self):
+        return 'External' if not self.blocks else 'Ossa' if 'ossa' in self.attrs else 'Lowered'
 
 
 class Sig:
@@ -85,8 +91,8 @@ class Reader:
         return t
 
     def base(self):
-        if self.eat('Builtin'):
-            self.take('.')
+        if self.peek() == 'Builtin' and self.peek(1) == '.':
+            self.take(); self.take()
             return ('int', int(self.take()[3:]))
         if self.eat('('):
             ts = []
@@ -184,7 +190,7 @@ class Reader:
         f = Func()
         self.take('sil')
         if self.peek() in ('hidden', 'private', 'shared', 'public'):
-            self.take()
+            f.linkage = self.take()
         while self.eat('['):
             f.attrs.append(self.take())
             self.take(']')
@@ -214,6 +220,18 @@ class Reader:
             if i.op in TERMINATORS:
                 return b
 
+    def vtable(self):
+        self.take('sil_vtable')
+        name, entry = self.take(), None
+        self.take('{')
+        if self.eat('#'):
+            owner = self.take()
+            for mark in ('.', 'deinit', '!', 'destroyer', ':'):
+                self.take(mark)
+            entry = (owner, self.take()[1:])
+        self.take('}')
+        return name, entry
+
     def typed(self):
         v = self.take()
         self.take(':')
@@ -242,10 +260,17 @@ class Reader:
         return out
 
     def debug(self):
+        parts = []
         while self.peek() == ',' and self.peek(1) in ('let', 'var', 'name', 'argno', 'expr'):
             self.take()
-            if self.take() in ('name', 'argno', 'expr'):
-                self.take()
+            word = self.take()
+            if word in ('let', 'var'):
+                parts.append((word,))
+            elif word == 'name':
+                parts.append((word, self.take()[1:-1]))
+            else:
+                parts.append((word, int(self.take()) if word == 'argno' else self.take()))
+        return parts
 
     def mem(self):
         self.take('#')
@@ -261,8 +286,12 @@ class Reader:
         return m
 
     def flags(self):
+        words = []
         while self.peek() == '[' and self.peek(1) in ('lexical', 'var_decl'):
-            self.take(); self.take(); self.take(']')
+            self.take()
+            words.append(self.take())
+            self.take(']')
+        return words
 
     def word(self):
         if self.eat('['):
@@ -294,20 +323,20 @@ class Reader:
         elif op == 'function_ref':
             i.callee = self.take()[1:]; self.take(':'); self.take('$'); i.sig = self.ftype()
         elif op == 'builtin':
-            self.take(); i.operands = self.typed_list(); self.take(':'); i.ty = self.valtype()
+            i.text = self.take()[1:-1]; i.operands = self.typed_list(); self.take(':'); i.ty = self.valtype()
         elif op == 'cond_fail':
-            i.operands = [self.typed()]; self.take(','); self.take()
+            i.operands = [self.typed()]; self.take(','); i.text = self.take()[1:-1]
         elif op == 'upcast':
             i.operands = [self.typed()]; self.take('to'); i.ty = self.valtype()
         elif op == 'alloc_ref':
             i.ty = self.valtype()
         elif op == 'alloc_stack':
-            self.flags(); i.ty = self.valtype(); self.debug()
+            i.flags = self.flags(); i.ty = self.valtype(); i.debug = self.debug()
         elif op in ('dealloc_stack', 'copy_value', 'destroy_value', 'end_borrow', 'load_borrow', 'destroy_addr', 'destructure_struct',
                     'destructure_tuple', 'return', 'strong_retain', 'strong_release', 'retain_value', 'release_value'):
             i.operands = [self.typed()]
         elif op in ('move_value', 'begin_borrow'):
-            self.flags(); i.operands = [self.typed()]
+            i.flags = self.flags(); i.operands = [self.typed()]
         elif op in ('load', 'load_weak', 'load_unowned'):
             i.q = self.word(); i.operands = [self.typed()]
         elif op in ('store', 'store_weak', 'store_unowned'):
@@ -331,7 +360,7 @@ class Reader:
             f = [self.take(), None]
             i.operands = [f] + self.bare_list(); self.take(':'); self.take('$'); i.sig = self.ftype()
         elif op == 'debug_value':
-            i.operands = [self.typed()]; self.debug()
+            i.operands = [self.typed()]; i.debug = self.debug()
         elif op == 'br':
             i.edges = [self.edge()]
         elif op == 'cond_br':
@@ -358,8 +387,9 @@ ONE_RESULT = {'integer_literal', 'function_ref', 'builtin', 'alloc_ref', 'alloc_
 
 class Module:
     def __init__(self):
-        self.decls, self.order, self.functions, self.vtables, self.swift = {}, [], [], [], False
-        self.above = {}
+        self.stage, self.builtin, self.swift = 'canonical', False, False
+        self.decls, self.order, self.above = {}, [], {}
+        self.functions, self.vtables = [], []     # a vtable: its class, and None or (owner, function)
 
     def trivial(self, t):
         k = t[0]
@@ -418,9 +448,11 @@ def number(f):
 def read(text):
     r, m = Reader(text), Module()
     if r.eat('sil_stage'):
-        r.take()
+        m.stage = r.take('raw', 'canonical')
     while r.eat('import'):
-        m.swift |= r.take() == 'Swift'
+        name = r.take()
+        m.swift |= name == 'Swift'
+        m.builtin |= name == 'Builtin'
     if m.swift:
         m.decls['Int'] = ('struct', [('_value', 'strong', ('int', 64))])
         m.decls['Bool'] = ('struct', [('_value', 'strong', ('int', 1))])
@@ -436,9 +468,7 @@ def read(text):
         elif w == 'sil':
             m.functions.append(r.function())
         elif w == 'sil_vtable':
-            r.take(); r.take(); r.take('{')
-            while not r.eat('}'):
-                r.take()
+            m.vtables.append(r.vtable())
         else:
             raise SyntaxError(w)
     for f in m.functions:

@@ -1,0 +1,185 @@
+#!/usr/bin/env python3
+"""Runs a module in two ways, by holders and lowered by stored numbers, and writes the report or the lowered module.
+
+    bench/model/run.py run [--turns N] [--entry NAME] < FILE
+    bench/model/run.py lower < FILE
+    bench/model/run.py audit [--turns N] [--entry NAME] < FILE
+
+The words, answers and statuses are those of `sil`; no rule is checked. Where the two runs differ, both reports are written and the
+status is 99. A fault of the run by holders has one of the names in `holders.py`, one of the lowered run one of those in `counts.py`.
+
+    bench/model/run.py cases FOLDER..
+    bench/model/run.py examples FOLDER..
+
+`cases` compares with the files `stdin`, `args`, `stdout` and `status` in the folders below FOLDER, as far as their words are these modes
+without `--optimize`. `examples` compares with the comments at the heads of the modules in FOLDER, and says which rule refuses a module.
+"""
+import pathlib
+import re
+import sys
+
+import counts
+import holders
+import lower
+import model
+import report
+import text
+import values
+
+DIFFERENT = 99
+
+
+def words_of(words):
+    """The mode, turns and entry of a command line; None where it isn't one."""
+    mode, options = None, {}
+    words = list(words)
+    while words:
+        word = words.pop(0)
+        if word in ('--turns', '--entry'):
+            if not words or word in options:
+                return None
+            options[word] = words.pop(0)
+        elif mode is None:
+            mode = word
+        else:
+            return None
+    if mode not in ('run', 'lower', 'audit') or options and mode == 'lower':
+        return None
+    turns = options.get('--turns', str(values.TURNS))
+    if not re.fullmatch(r'\d{1,7}', turns) or not 1 <= int(turns) <= 1000000:
+        return None
+    return mode, int(turns), options.get('--entry', 'main')
+
+
+def both(module, entry, turns, is_watched=False):
+    """The outcomes of a module of the ownership form: by holders, and lowered."""
+    return holders.run(module, entry, turns, is_watched), counts.run(lower.lower(module), entry, turns, is_watched)
+
+
+def told(module, entry, outcome):
+    return report.lines(module, outcome, values.function_named(module, entry).sig.direct())
+
+
+def answer(words, source):
+    """The text and the status of a command line."""
+    asked = words_of(words)
+    if asked is None:
+        return None, 2
+    mode, turns, entry = asked
+    module = text.read(source)
+    if mode == 'audit':
+        for f in module.functions:
+            if f.form() == 'Ossa':
+                return f'refused 207 MixedForms @{f.name}\n', 1
+    if mode == 'lower':
+        return lower.canonical(lower.lower(module)), 0
+    if values.entry_of(module, entry) is None:
+        return f'no entry {entry}\n', 10
+    if mode == 'audit':
+        outcome = counts.run(module, entry, turns)
+        return '\n'.join(told(module, entry, outcome)) + '\n', report.status(outcome)
+    by_holders, by_counts = both(module, entry, turns)
+    lines = told(module, entry, by_holders)
+    if not by_holders.same(by_counts):
+        return '\n'.join(['by holders:'] + lines + ['lowered:'] + told(module, entry, by_counts)) + '\n', DIFFERENT
+    return '\n'.join(lines) + '\n', report.status(by_holders)
+
+
+# ---- cases
+
+def cases(folders):
+    agree = differ = left_out = 0
+    for folder in folders:
+        for case in sorted(pathlib.Path(folder).rglob('args')):
+            case = case.parent
+            words = (case / 'args').read_text().split('\n')
+            words = words[:-1] if words[-1] == '' else words
+            until = case / 'until'
+            if words[:1] not in (['run'], ['lower'], ['audit']) or '--optimize' in words or until.exists() and int(until.read_text()) < 20:
+                left_out += 1
+                continue
+            got = answer(words, (case / 'stdin').read_text())
+            wanted = (case / 'stdout').read_text(), int((case / 'status').read_text())
+            if got == wanted or got == (None, 2) and wanted[1] == 2:
+                agree += 1
+            else:
+                differ += 1
+                print(f'{case.name}: wanted {wanted}, got {got}')
+    print(f'{agree} agree, {differ} differ, {left_out} left out')
+    return 1 if differ or not agree else 0
+
+
+# ---- examples
+
+class Head:
+    """The comments at the head of an example: what it shows, turns, entry, and the answer or the faults."""
+
+    def __init__(self, source):
+        lines = []
+        for line in source.split('\n'):
+            if not line.startswith('//'):
+                break
+            lines.append(line[3:])
+        self.shows, self.turns, self.entry, self.holders, self.lowered, self.answer = lines[0], values.TURNS, 'main', None, None, []
+        for line in lines[1:]:
+            for key, word in (('turns', 'turns'), ('entry', 'entry'), ('holders', 'fault by holders'), ('lowered', 'lowered fault')):
+                if line.startswith(word + ':'):
+                    setattr(self, key, line[len(word) + 1:].strip())
+                    break
+            else:
+                self.answer.append(line)
+        self.turns = int(self.turns)
+
+
+def example(file):
+    """What is wrong with an example, and the rule that refuses it."""
+    source = file.read_text()
+    head, module = Head(source), text.read(source)
+    wrong = []
+    refused = model.check(module) if any(f.form() == 'Ossa' for f in module.functions) else None
+    rule = refused.rule if refused is not None else None
+    if any(f.form() == 'Ossa' for f in module.functions):
+        by_holders, by_counts = both(module, head.entry, head.turns, True)
+    else:
+        by_holders, by_counts = None, counts.run(module, head.entry, head.turns)
+    for name, outcome, fault in (('holders', by_holders, head.holders), ('lowered', by_counts, head.lowered)):
+        if outcome is None:
+            continue
+        got = told(module, head.entry, outcome)
+        word = outcome.ending[1] if outcome.ending[0] == 'fault' else None
+        if fault is not None and word != fault or fault is None and head.answer and got != head.answer:
+            wrong.append(f'{name}: ' + ' / '.join(got))
+        if fault is None and not head.answer and word is not None:
+            wrong.append(f'{name}: ' + ' / '.join(got))
+        if rule is None and outcome is by_holders and not outcome.is_balanced():
+            wrong.append(f'{name}: not balanced')
+    if by_holders is not None and rule is None and not by_holders.same(by_counts):
+        wrong.append('the runs differ')
+    if rule is None and by_holders is not None and (head.holders or head.lowered):
+        wrong.append('accepted, with a fault')
+    if rule is not None and not (head.holders or head.lowered):
+        wrong.append(f'refused: {refused}')
+    return wrong, rule
+
+
+def examples(folders):
+    agree = differ = 0
+    for folder in folders:
+        for file in sorted(pathlib.Path(folder).rglob('*.sil')):
+            wrong, rule = example(file)
+            agree, differ = agree + (not wrong), differ + bool(wrong)
+            print(f'{file.name}: ' + ('accepted' if rule is None else f'refused by {rule}') + ''.join(f'; {w}' for w in wrong))
+    print(f'{agree} agree, {differ} differ')
+    return 1 if differ or not agree else 0
+
+
+def main():
+    if sys.argv[1:2] in (['cases'], ['examples']):
+        sys.exit((cases if sys.argv[1] == 'cases' else examples)(sys.argv[2:]))
+    written, status = answer(sys.argv[1:], sys.stdin.read())
+    sys.stdout.write(written if written is not None else 'not a command line\n')
+    sys.exit(status)
+
+
+if __name__ == '__main__':
+    main()

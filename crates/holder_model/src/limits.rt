@@ -1,0 +1,4 @@
+//! How much a run may have.
+
+/// Frames at one time, that of the entry function counted.
+pub const FRAMES: usize = 1024;

@@ -1,0 +1,338 @@
+-- A loop counts up to 3: the entry, the loop's block three times, and the last block are just the turns.
+use Rattle.std.proofs.Common.{◌≡◌, refl, List, [], ◌∷◌, Some, true, false, Option, ap, ◌∙◌}
+use Rattle.std.specs.Prelude.{codes, pos, slice_get, map}
+use Rattle.std.specs.List.{flat_map, range_with_len}
+use Rattle.std.specs.Fmt.{digits}
+use Rattle.builtin_names.specs.BuiltinNames.{operation_spelling, width_spelling}
+use Rattle.holder_model.specs.Calling.{value_count}
+use Rattle.holder_model.specs.ModuleFacts.{ModuleFacts, facts_of, function_facts}
+use Rattle.holder_model.specs.ModuleShapes.{value_shape, ClassShape, ModuleShapes, class_shape, function_shapes, shapes_of}
+use Rattle.holder_model.specs.Outcomes.{outcome_with}
+use Rattle.instruction_table.specs.Forms.{result_kind_of}
+use Rattle.instruction_table.specs.declared.op.Op.TheVariants as op
+use Rattle.lowered_run.specs.LowOutcomes.{low_outcome_with}
+use Rattle.lowering_model.specs.LoweredModules.{lowered, lowered_function}
+use Rattle.ownership_chains.specs.Facts.{value_of}
+use Rattle.ownership_chains.specs.declared.definition.Definition.{Definition}
+use Rattle.ownership_chains.specs.declared.facts.Facts.{Facts}
+use Rattle.ownership_kinds.specs.Facts.{facts_by}
+use Rattle.ownership_origins.specs.Origins.{definitions_of, arg_definition_by, result_definition_by}
+use Rattle.ownership_origins.specs.Switched.{switch_to}
+use Rattle.run_examples.proofs.Computed.{both, lowered_with, shapes_told, facts_told, by_holders, of_lowered}
+use Rattle.run_examples.proofs.Opened.{opened}
+use Rattle.run_examples.proofs.Told.{seen_int, seen_tuple, at_int, at_tuple, weighed_int, weighed_tuple, definition_by, compared}
+use Rattle.run_examples.specs.Parts.{v, fn, typed, bare, inst, edge, arg, plain, shapes_with, facts_with}
+use Rattle.run_examples.specs.inner.CountedToThreeInFiveTurns.{CountedToThreeInFiveTurns, counted_to_three_in_five_turns}
+use Rattle.run_examples.specs.inner.CountedToThreeInFiveTurns.{counted_to_three_in_five_turns_answer, fn_main, sig_main}
+use Rattle.run_examples.specs.inner.Reported.{HasReport, returned_shape}
+use Rattle.run_values.specs.Shapes as shape
+use Rattle.run_values.specs.Shapes.{Shape}
+use Rattle.sil_ast.specs.declared.function.ArgKind.TheVariants as kind
+use Rattle.sil_ast.specs.declared.function.Block.{Block}
+use Rattle.sil_ast.specs.declared.function.Form.TheVariants as form
+use Rattle.sil_ast.specs.declared.function.Function.{Function}
+use Rattle.sil_ast.specs.declared.function.Linkage.TheVariants as linkage
+use Rattle.sil_ast.specs.declared.inst.Inst.{Inst}
+use Rattle.sil_ast.specs.declared.module.Module.{Module}
+use Rattle.sil_ast.specs.declared.type_name.TypeName.TheVariants as type
+use Rattle.sil_ast.specs.declared.type_name.TypeName.{TypeName}
+use Rattle.sil_types.specs.Typing.RowTypes.{made_types}
+use Rattle.sil_types.specs.Typing.Values.{value_types}
+use Rattle.type_definitions.specs.Declarations.{ancestors_of, declarations_of}
+use Rattle.type_definitions.specs.Measures.{measured, is_trivial, is_trivial_measure}
+
+abbrev classes : List ClassShape
+classes = []
+
+classes_told : flat_map (class_shape (declarations_of counted_to_three_in_five_turns)) counted_to_three_in_five_turns.decls ≡ classes
+unfolding digits ancestors_of operation_spelling width_spelling
+classes_told = refl
+
+abbrev inst_main_0_0 : Inst
+inst_main_0_0 = record (inst op.IntegerLiteral (v 0 ∷ []) []) { ty = Some (type.Int 1); number = Some (pos 0) }
+
+made_main_0_0 : made_types (declarations_of counted_to_three_in_five_turns) inst_main_0_0 ≡ ((type.Int 1) ∷ [])
+unfolding digits ancestors_of operation_spelling width_spelling
+made_main_0_0 = simp (opened) refl
+
+abbrev inst_main_0_1 : Inst
+inst_main_0_1 = record (inst op.IntegerLiteral (v 1 ∷ []) []) { ty = Some (type.Int 8); number = Some (pos 1) }
+
+made_main_0_1 : made_types (declarations_of counted_to_three_in_five_turns) inst_main_0_1 ≡ ((type.Int 8) ∷ [])
+unfolding digits ancestors_of operation_spelling width_spelling
+made_main_0_1 = simp (opened) refl
+
+abbrev inst_main_0_2 : Inst
+inst_main_0_2 = record (inst op.IntegerLiteral (v 2 ∷ []) []) { ty = Some (type.Int 8); number = Some (pos 3) }
+
+made_main_0_2 : made_types (declarations_of counted_to_three_in_five_turns) inst_main_0_2 ≡ ((type.Int 8) ∷ [])
+unfolding digits ancestors_of operation_spelling width_spelling
+made_main_0_2 = simp (opened) refl
+
+abbrev inst_main_0_3 : Inst
+inst_main_0_3 = record (inst op.IntegerLiteral (v 3 ∷ []) []) { ty = Some (type.Int 8); number = Some (pos 0) }
+
+made_main_0_3 : made_types (declarations_of counted_to_three_in_five_turns) inst_main_0_3 ≡ ((type.Int 8) ∷ [])
+unfolding digits ancestors_of operation_spelling width_spelling
+made_main_0_3 = simp (opened) refl
+
+abbrev inst_main_1_0 : Inst
+inst_main_1_0 = record (inst op.Builtin (v 5 ∷ []) (typed 4 (type.Int 8) ∷ typed 1 (type.Int 8) ∷ typed 0 (type.Int 1) ∷ [])) {
+  ty = Some (type.Tuple ((type.Int 8) ∷ (type.Int 1) ∷ []));
+  text = Some (codes "sadd_with_overflow_Int8");
+}
+
+made_main_1_0 : made_types (declarations_of counted_to_three_in_five_turns) inst_main_1_0 ≡ ((type.Tuple ((type.Int 8) ∷ (type.Int 1) ∷ [])) ∷ [])
+unfolding digits ancestors_of operation_spelling width_spelling
+made_main_1_0 = simp (compared) refl
+
+abbrev inst_main_1_1 : Inst
+inst_main_1_1 = record (inst op.TupleExtract (v 6 ∷ []) (typed 5 (type.Tuple ((type.Int 8) ∷ (type.Int 1) ∷ [])) ∷ [])) { number = Some (pos 0) }
+
+made_main_1_1 : made_types (declarations_of counted_to_three_in_five_turns) inst_main_1_1 ≡ ((type.Int 8) ∷ [])
+unfolding digits ancestors_of operation_spelling width_spelling
+made_main_1_1 = simp (opened) refl
+
+abbrev inst_main_1_2 : Inst
+inst_main_1_2 = record (inst op.Builtin (v 7 ∷ []) (typed 6 (type.Int 8) ∷ typed 2 (type.Int 8) ∷ [])) { ty = Some (type.Int 1); text = Some (codes "cmp_slt_Int8") }
+
+made_main_1_2 : made_types (declarations_of counted_to_three_in_five_turns) inst_main_1_2 ≡ ((type.Int 1) ∷ [])
+unfolding digits ancestors_of operation_spelling width_spelling
+made_main_1_2 = simp (compared) refl
+
+abbrev types_main : List (Option TypeName)
+types_main = Some (type.Int 1) ∷ Some (type.Int 8) ∷ Some (type.Int 8) ∷ Some (type.Int 8) ∷ Some (type.Int 8) ∷ Some (type.Tuple ((type.Int 8) ∷ (type.Int 1) ∷ [])) ∷ Some (type.Int 8) ∷
+    Some (type.Int 1) ∷ []
+
+types_main_told : value_types (declarations_of counted_to_three_in_five_turns) fn_main ≡ types_main
+unfolding digits ancestors_of operation_spelling width_spelling
+types_main_told = (both (ap (λ ts. slice_get ts 0) made_main_0_0) (both (ap (λ ts. slice_get ts 0) made_main_0_1) (both (ap (λ ts. slice_get ts 0) made_main_0_2) (both (ap (λ ts. slice_get
+    ts 0) made_main_0_3) (both refl (both (ap (λ ts. slice_get ts 0) made_main_1_0) (both (ap (λ ts. slice_get ts 0) made_main_1_1) (both (ap (λ ts. slice_get ts 0) made_main_1_2)
+    refl))))))))
+
+abbrev shapes_main : List Shape
+shapes_main = ((shape.Integer 1) ∷ (shape.Integer 8) ∷ (shape.Integer 8) ∷ (shape.Integer 8) ∷ (shape.Integer 8) ∷ (shape.Tuple (shape.Member (shape.Integer 8) (shape.Member (shape.Integer
+    1) shape.NoMember))) ∷ (shape.Integer 8) ∷ (shape.Integer 1) ∷ [])
+
+shapes_main_told : function_shapes (declarations_of counted_to_three_in_five_turns) fn_main ≡ shapes_main
+unfolding digits ancestors_of operation_spelling width_spelling
+shapes_main_told = ap (map (value_shape (declarations_of counted_to_three_in_five_turns))) types_main_told ∙ (both (at_int (declarations_of counted_to_three_in_five_turns) 1 ∙ (seen_int
+    (declarations_of counted_to_three_in_five_turns) 0 1)) (both (at_int (declarations_of counted_to_three_in_five_turns) 8 ∙ (seen_int (declarations_of counted_to_three_in_five_turns) 0 8))
+    (both (at_int (declarations_of counted_to_three_in_five_turns) 8 ∙ (seen_int (declarations_of counted_to_three_in_five_turns) 0 8)) (both (at_int (declarations_of
+    counted_to_three_in_five_turns) 8 ∙ (seen_int (declarations_of counted_to_three_in_five_turns) 0 8)) (both (at_int (declarations_of counted_to_three_in_five_turns) 8 ∙ (seen_int
+    (declarations_of counted_to_three_in_five_turns) 0 8)) (both (at_tuple (declarations_of counted_to_three_in_five_turns) ((type.Int 8) ∷ (type.Int 1) ∷ []) ∙ (seen_tuple (declarations_of
+    counted_to_three_in_five_turns) 0 ((type.Int 8) ∷ (type.Int 1) ∷ []) ((shape.Integer 8) ∷ (shape.Integer 1) ∷ []) (both (seen_int (declarations_of counted_to_three_in_five_turns) 0 8)
+    (both (seen_int (declarations_of counted_to_three_in_five_turns) 0 1) refl)))) (both (at_int (declarations_of counted_to_three_in_five_turns) 8 ∙ (seen_int (declarations_of
+    counted_to_three_in_five_turns) 0 8)) (both (at_int (declarations_of counted_to_three_in_five_turns) 1 ∙ (seen_int (declarations_of counted_to_three_in_five_turns) 0 1)) refl))))))))
+
+trivial_0 : is_trivial (declarations_of counted_to_three_in_five_turns) (type.Int 1) ≡ true
+unfolding digits ancestors_of operation_spelling width_spelling
+trivial_0 = ap is_trivial_measure (weighed_int (declarations_of counted_to_three_in_five_turns) 0 1)
+
+trivial_1 : is_trivial (declarations_of counted_to_three_in_five_turns) (type.Int 8) ≡ true
+unfolding digits ancestors_of operation_spelling width_spelling
+trivial_1 = ap is_trivial_measure (weighed_int (declarations_of counted_to_three_in_five_turns) 0 8)
+
+trivial_2 : is_trivial (declarations_of counted_to_three_in_five_turns) (type.Tuple ((type.Int 8) ∷ (type.Int 1) ∷ [])) ≡ true
+unfolding digits ancestors_of operation_spelling width_spelling
+trivial_2 = ap is_trivial_measure (weighed_tuple (declarations_of counted_to_three_in_five_turns) 0 ((type.Int 8) ∷ (type.Int 1) ∷ []) ((measured true 1 1) ∷ (measured true 1 1) ∷ []) (both
+    (weighed_int (declarations_of counted_to_three_in_five_turns) 0 8) (both (weighed_int (declarations_of counted_to_three_in_five_turns) 0 1) refl)))
+
+abbrev definitions_main : List Definition
+definitions_main = result_definition_by (result_kind_of inst_main_0_0.op) inst_main_0_0 true ∷ result_definition_by (result_kind_of inst_main_0_1.op) inst_main_0_1 true ∷
+    result_definition_by (result_kind_of inst_main_0_2.op) inst_main_0_2 true ∷ result_definition_by (result_kind_of inst_main_0_3.op) inst_main_0_3 true ∷ arg_definition_by false (switch_to
+    fn_main 1) kind.Plain true ∷ result_definition_by (result_kind_of inst_main_1_0.op) inst_main_1_0 true ∷ result_definition_by (result_kind_of inst_main_1_1.op) inst_main_1_1 true ∷
+    result_definition_by (result_kind_of inst_main_1_2.op) inst_main_1_2 true ∷ []
+
+definitions_main_told : definitions_of (declarations_of counted_to_three_in_five_turns) fn_main ≡ definitions_main
+unfolding digits ancestors_of operation_spelling width_spelling
+definitions_main_told = (both (definition_by (declarations_of counted_to_three_in_five_turns) inst_main_0_0 0 ((type.Int 1) ∷ []) true made_main_0_0 trivial_0) (both (definition_by
+    (declarations_of counted_to_three_in_five_turns) inst_main_0_1 0 ((type.Int 8) ∷ []) true made_main_0_1 trivial_1) (both (definition_by (declarations_of counted_to_three_in_five_turns)
+    inst_main_0_2 0 ((type.Int 8) ∷ []) true made_main_0_2 trivial_1) (both (definition_by (declarations_of counted_to_three_in_five_turns) inst_main_0_3 0 ((type.Int 8) ∷ []) true
+    made_main_0_3 trivial_1) (both (ap (arg_definition_by false (switch_to fn_main 1) kind.Plain) trivial_1) (both (definition_by (declarations_of counted_to_three_in_five_turns)
+    inst_main_1_0 0 ((type.Tuple ((type.Int 8) ∷ (type.Int 1) ∷ [])) ∷ []) true made_main_1_0 trivial_2) (both (definition_by (declarations_of counted_to_three_in_five_turns) inst_main_1_1 0
+    ((type.Int 8) ∷ []) true made_main_1_1 trivial_1) (both (definition_by (declarations_of counted_to_three_in_five_turns) inst_main_1_2 0 ((type.Int 1) ∷ []) true made_main_1_2 trivial_0)
+    refl))))))))
+
+abbrev shapes : ModuleShapes
+shapes = shapes_with classes (shapes_main ∷ [])
+
+told : shapes_of counted_to_three_in_five_turns ≡ shapes
+unfolding digits ancestors_of operation_spelling width_spelling
+told = shapes_told counted_to_three_in_five_turns classes_told (both shapes_main_told refl)
+
+abbrev facts_main : List (Option Facts)
+facts_main = (plain [] ∷ plain [] ∷ plain [] ∷ plain [] ∷ plain [] ∷ plain [] ∷ plain [] ∷ plain [] ∷ [])
+
+facts_main_told : function_facts (declarations_of counted_to_three_in_five_turns) fn_main ≡ facts_main
+unfolding digits ancestors_of operation_spelling width_spelling
+facts_main_told = ap (λ defs. map (λ v. facts_by defs (value_of v)) (range_with_len 0 (value_count fn_main))) definitions_main_told
+
+abbrev facts : ModuleFacts
+facts = facts_with shapes (facts_main ∷ [])
+
+all_told : facts_of counted_to_three_in_five_turns ≡ facts
+unfolding digits ancestors_of operation_spelling width_spelling
+all_told = facts_told counted_to_three_in_five_turns told (both facts_main_told refl)
+
+abbrev low_bb_main_0 : Block
+low_bb_main_0 = record {
+  args = [];
+  insts =
+      record (inst op.IntegerLiteral (v 0 ∷ []) []) { ty = Some (type.Int 1); number = Some (pos 0) }
+      ∷ record (inst op.IntegerLiteral (v 1 ∷ []) []) { ty = Some (type.Int 8); number = Some (pos 1) }
+      ∷ record (inst op.IntegerLiteral (v 2 ∷ []) []) { ty = Some (type.Int 8); number = Some (pos 3) }
+      ∷ record (inst op.IntegerLiteral (v 3 ∷ []) []) { ty = Some (type.Int 8); number = Some (pos 0) }
+      ∷ [];
+  terminator = record (inst op.Br [] []) { edges = edge 1 (typed 3 (type.Int 8) ∷ []) ∷ [] };
+}
+
+abbrev low_bb_main_1 : Block
+low_bb_main_1 = record {
+  args = arg 4 kind.Plain (type.Int 8) ∷ [];
+  insts =
+      record (inst op.Builtin (v 5 ∷ []) (typed 4 (type.Int 8) ∷ typed 1 (type.Int 8) ∷ typed 0 (type.Int 1) ∷ [])) {
+        ty = Some (type.Tuple ((type.Int 8) ∷
+            (type.Int 1) ∷ []));
+        text = Some (codes "sadd_with_overflow_Int8");
+      }
+      ∷ record (inst op.TupleExtract (v 6 ∷ []) (typed 5 (type.Tuple ((type.Int 8) ∷ (type.Int 1) ∷ [])) ∷ [])) { number = Some (pos 0) }
+      ∷ record (inst op.Builtin (v 7 ∷ []) (typed 6 (type.Int 8) ∷ typed 2 (type.Int 8) ∷ [])) { ty = Some (type.Int 1); text = Some (codes "cmp_slt_Int8") }
+      ∷ [];
+  terminator = record (inst op.CondBr [] (bare 7 ∷ [])) { edges = edge 1 (typed 6 (type.Int 8) ∷ []) ∷ edge 2 [] ∷ [] };
+}
+
+abbrev low_bb_main_2 : Block
+low_bb_main_2 = record {
+  args = [];
+  insts = [];
+  terminator = inst op.Return [] (typed 6 (type.Int 8) ∷ []);
+}
+
+abbrev low_fn_main : Function
+low_fn_main = record {
+  name = codes "main";
+  form = form.Lowered;
+  linkage = linkage.Plain;
+  attributes = [];
+  signature = sig_main;
+  blocks = low_bb_main_0 ∷ low_bb_main_1 ∷ low_bb_main_2 ∷ [];
+}
+
+abbrev low : Module
+low = record counted_to_three_in_five_turns { functions = low_fn_main ∷ [] }
+
+low_main_is : lowered_function (declarations_of counted_to_three_in_five_turns) fn_main ≡ low_fn_main
+unfolding digits ancestors_of operation_spelling width_spelling
+low_main_is = refl
+
+lowers : lowered counted_to_three_in_five_turns ≡ low
+unfolding digits ancestors_of operation_spelling width_spelling
+lowers = lowered_with counted_to_three_in_five_turns (both low_main_is refl)
+
+abbrev inst_low_main_0_0 : Inst
+inst_low_main_0_0 = record (inst op.IntegerLiteral (v 0 ∷ []) []) { ty = Some (type.Int 1); number = Some (pos 0) }
+
+made_low_main_0_0 : made_types (declarations_of counted_to_three_in_five_turns) inst_low_main_0_0 ≡ ((type.Int 1) ∷ [])
+unfolding digits ancestors_of operation_spelling width_spelling
+made_low_main_0_0 = simp (opened) refl
+
+abbrev inst_low_main_0_1 : Inst
+inst_low_main_0_1 = record (inst op.IntegerLiteral (v 1 ∷ []) []) { ty = Some (type.Int 8); number = Some (pos 1) }
+
+made_low_main_0_1 : made_types (declarations_of counted_to_three_in_five_turns) inst_low_main_0_1 ≡ ((type.Int 8) ∷ [])
+unfolding digits ancestors_of operation_spelling width_spelling
+made_low_main_0_1 = simp (opened) refl
+
+abbrev inst_low_main_0_2 : Inst
+inst_low_main_0_2 = record (inst op.IntegerLiteral (v 2 ∷ []) []) { ty = Some (type.Int 8); number = Some (pos 3) }
+
+made_low_main_0_2 : made_types (declarations_of counted_to_three_in_five_turns) inst_low_main_0_2 ≡ ((type.Int 8) ∷ [])
+unfolding digits ancestors_of operation_spelling width_spelling
+made_low_main_0_2 = simp (opened) refl
+
+abbrev inst_low_main_0_3 : Inst
+inst_low_main_0_3 = record (inst op.IntegerLiteral (v 3 ∷ []) []) { ty = Some (type.Int 8); number = Some (pos 0) }
+
+made_low_main_0_3 : made_types (declarations_of counted_to_three_in_five_turns) inst_low_main_0_3 ≡ ((type.Int 8) ∷ [])
+unfolding digits ancestors_of operation_spelling width_spelling
+made_low_main_0_3 = simp (opened) refl
+
+abbrev inst_low_main_1_0 : Inst
+inst_low_main_1_0 = record (inst op.Builtin (v 5 ∷ []) (typed 4 (type.Int 8) ∷ typed 1 (type.Int 8) ∷ typed 0 (type.Int 1) ∷ [])) {
+  ty = Some (type.Tuple ((type.Int 8) ∷ (type.Int 1) ∷ []));
+  text = Some (codes "sadd_with_overflow_Int8");
+}
+
+made_low_main_1_0 : made_types (declarations_of counted_to_three_in_five_turns) inst_low_main_1_0 ≡ ((type.Tuple ((type.Int 8) ∷ (type.Int 1) ∷ [])) ∷ [])
+unfolding digits ancestors_of operation_spelling width_spelling
+made_low_main_1_0 = simp (compared) refl
+
+abbrev inst_low_main_1_1 : Inst
+inst_low_main_1_1 = record (inst op.TupleExtract (v 6 ∷ []) (typed 5 (type.Tuple ((type.Int 8) ∷ (type.Int 1) ∷ [])) ∷ [])) { number = Some (pos 0) }
+
+made_low_main_1_1 : made_types (declarations_of counted_to_three_in_five_turns) inst_low_main_1_1 ≡ ((type.Int 8) ∷ [])
+unfolding digits ancestors_of operation_spelling width_spelling
+made_low_main_1_1 = simp (opened) refl
+
+abbrev inst_low_main_1_2 : Inst
+inst_low_main_1_2 = record (inst op.Builtin (v 7 ∷ []) (typed 6 (type.Int 8) ∷ typed 2 (type.Int 8) ∷ [])) { ty = Some (type.Int 1); text = Some (codes "cmp_slt_Int8") }
+
+made_low_main_1_2 : made_types (declarations_of counted_to_three_in_five_turns) inst_low_main_1_2 ≡ ((type.Int 1) ∷ [])
+unfolding digits ancestors_of operation_spelling width_spelling
+made_low_main_1_2 = simp (compared) refl
+
+abbrev low_types_main : List (Option TypeName)
+low_types_main = Some (type.Int 1) ∷ Some (type.Int 8) ∷ Some (type.Int 8) ∷ Some (type.Int 8) ∷ Some (type.Int 8) ∷ Some (type.Tuple ((type.Int 8) ∷ (type.Int 1) ∷ [])) ∷ Some (type.Int 8)
+    ∷ Some (type.Int 1) ∷ []
+
+low_types_main_told : value_types (declarations_of counted_to_three_in_five_turns) low_fn_main ≡ low_types_main
+unfolding digits ancestors_of operation_spelling width_spelling
+low_types_main_told = (both (ap (λ ts. slice_get ts 0) made_low_main_0_0) (both (ap (λ ts. slice_get ts 0) made_low_main_0_1) (both (ap (λ ts. slice_get ts 0) made_low_main_0_2) (both (ap (λ
+    ts. slice_get ts 0) made_low_main_0_3) (both refl (both (ap (λ ts. slice_get ts 0) made_low_main_1_0) (both (ap (λ ts. slice_get ts 0) made_low_main_1_1) (both (ap (λ ts. slice_get ts 0)
+    made_low_main_1_2) refl))))))))
+
+abbrev low_shapes_main : List Shape
+low_shapes_main = ((shape.Integer 1) ∷ (shape.Integer 8) ∷ (shape.Integer 8) ∷ (shape.Integer 8) ∷ (shape.Integer 8) ∷ (shape.Tuple (shape.Member (shape.Integer 8) (shape.Member
+    (shape.Integer 1) shape.NoMember))) ∷ (shape.Integer 8) ∷ (shape.Integer 1) ∷ [])
+
+low_shapes_main_told : function_shapes (declarations_of counted_to_three_in_five_turns) low_fn_main ≡ low_shapes_main
+unfolding digits ancestors_of operation_spelling width_spelling
+low_shapes_main_told = ap (map (value_shape (declarations_of counted_to_three_in_five_turns))) low_types_main_told ∙ (both (at_int (declarations_of counted_to_three_in_five_turns) 1 ∙
+    (seen_int (declarations_of counted_to_three_in_five_turns) 0 1)) (both (at_int (declarations_of counted_to_three_in_five_turns) 8 ∙ (seen_int (declarations_of
+    counted_to_three_in_five_turns) 0 8)) (both (at_int (declarations_of counted_to_three_in_five_turns) 8 ∙ (seen_int (declarations_of counted_to_three_in_five_turns) 0 8)) (both (at_int
+    (declarations_of counted_to_three_in_five_turns) 8 ∙ (seen_int (declarations_of counted_to_three_in_five_turns) 0 8)) (both (at_int (declarations_of counted_to_three_in_five_turns) 8 ∙
+    (seen_int (declarations_of counted_to_three_in_five_turns) 0 8)) (both (at_tuple (declarations_of counted_to_three_in_five_turns) ((type.Int 8) ∷ (type.Int 1) ∷ []) ∙ (seen_tuple
+    (declarations_of counted_to_three_in_five_turns) 0 ((type.Int 8) ∷ (type.Int 1) ∷ []) ((shape.Integer 8) ∷ (shape.Integer 1) ∷ []) (both (seen_int (declarations_of
+    counted_to_three_in_five_turns) 0 8) (both (seen_int (declarations_of counted_to_three_in_five_turns) 0 1) refl)))) (both (at_int (declarations_of counted_to_three_in_five_turns) 8 ∙
+    (seen_int (declarations_of counted_to_three_in_five_turns) 0 8)) (both (at_int (declarations_of counted_to_three_in_five_turns) 1 ∙ (seen_int (declarations_of
+    counted_to_three_in_five_turns) 0 1)) refl))))))))
+
+abbrev low_shapes : ModuleShapes
+low_shapes = shapes_with classes (low_shapes_main ∷ [])
+
+low_told : shapes_of low ≡ low_shapes
+unfolding digits ancestors_of operation_spelling width_spelling
+low_told = shapes_told low classes_told (both low_shapes_main_told refl)
+
+abbrev given_shape : Shape
+given_shape = (shape.Integer 8)
+
+given_told : returned_shape counted_to_three_in_five_turns (fn 0) ≡ given_shape
+unfolding digits ancestors_of operation_spelling width_spelling
+given_told = (seen_int (declarations_of counted_to_three_in_five_turns) 0 8)
+
+runs : HasReport counted_to_three_in_five_turns given_shape (outcome_with counted_to_three_in_five_turns facts (fn 0) 5 300) counted_to_three_in_five_turns_answer
+unfolding digits ancestors_of operation_spelling width_spelling
+runs = refl
+
+lowered_runs : HasReport counted_to_three_in_five_turns given_shape (low_outcome_with low low_shapes (fn 0) 5 300) counted_to_three_in_five_turns_answer
+unfolding digits ancestors_of operation_spelling width_spelling
+lowered_runs = refl
+
+pub counted_to_three_in_five_turns_proved : CountedToThreeInFiveTurns
+unfolding digits ancestors_of operation_spelling width_spelling
+counted_to_three_in_five_turns_proved = (
+  by_holders counted_to_three_in_five_turns (fn 0) 5 300 counted_to_three_in_five_turns_answer given_told all_told runs,
+  of_lowered counted_to_three_in_five_turns (fn 0) 5 300 counted_to_three_in_five_turns_answer given_told lowers low_told lowered_runs,
+)

@@ -1,0 +1,342 @@
+-- An object that owns itself stays.
+use Rattle.std.proofs.Common.{◌≡◌, refl, List, [], ◌∷◌, Some, true, false, Option, ap, ◌∙◌}
+use Rattle.std.specs.Prelude.{codes, slice_get, map}
+use Rattle.std.specs.List.{flat_map, range_with_len}
+use Rattle.std.specs.Fmt.{digits}
+use Rattle.holder_model.specs.Calling.{value_count}
+use Rattle.holder_model.specs.ModuleFacts.{ModuleFacts, facts_of, function_facts}
+use Rattle.holder_model.specs.ModuleShapes.{value_shape, ClassShape, ModuleShapes, class_shape, function_shapes, shapes_of}
+use Rattle.holder_model.specs.Outcomes.{outcome_with}
+use Rattle.instruction_table.specs.Forms.{result_kind_of}
+use Rattle.instruction_table.specs.declared.op.Op.TheVariants as op
+use Rattle.lowered_run.specs.LowOutcomes.{low_outcome_with}
+use Rattle.lowering_model.specs.LoweredModules.{lowered, lowered_function}
+use Rattle.ownership_chains.specs.Facts.{value_of}
+use Rattle.ownership_chains.specs.declared.definition.Definition.{Definition}
+use Rattle.ownership_chains.specs.declared.facts.Facts.{Facts}
+use Rattle.ownership_kinds.specs.Facts.{facts_by}
+use Rattle.ownership_origins.specs.Origins.{definitions_of, result_definition_by}
+use Rattle.run_examples.proofs.Computed.{both, lowered_with, shapes_told, facts_told, by_holders, of_lowered}
+use Rattle.run_examples.proofs.Opened.{opened}
+use Rattle.run_examples.proofs.Told.{seen, seen_named, seen_optional, seen_tuple, at_named, at_optional, at_tuple, at_address, weighed, weighed_named}
+use Rattle.run_examples.proofs.Told.{weighed_optional, weighed_tuple, weighed_address, definition_by, compared}
+use Rattle.run_examples.specs.Parts.{v, fn, typed, bare, member, inst, owned, lent, plain, optional, class_with, shapes_with, facts_with}
+use Rattle.run_examples.specs.inner.CycleOfOne.{CycleOfOne, cycle_of_one, cycle_of_one_answer, fn_main, sig_main, ty_C}
+use Rattle.run_examples.specs.inner.Reported.{HasReport, returned_shape}
+use Rattle.run_values.specs.Shapes as shape
+use Rattle.run_values.specs.Shapes.{Shape}
+use Rattle.sil_ast.specs.declared.function.Block.{Block}
+use Rattle.sil_ast.specs.declared.function.Form.TheVariants as form
+use Rattle.sil_ast.specs.declared.function.Function.{Function}
+use Rattle.sil_ast.specs.declared.function.Linkage.TheVariants as linkage
+use Rattle.sil_ast.specs.declared.inst.Inst.{Inst}
+use Rattle.sil_ast.specs.declared.module.Module.{Module}
+use Rattle.sil_ast.specs.declared.type_name.TypeName.TheVariants as type
+use Rattle.sil_ast.specs.declared.type_name.TypeName.{TypeName}
+use Rattle.sil_types.specs.Typing.RowTypes.{made_types}
+use Rattle.sil_types.specs.Typing.Values.{value_types}
+use Rattle.type_definitions.specs.Declarations.{ancestors_of, declarations_of}
+use Rattle.type_definitions.specs.Measures.{of_payloads, of_reference, is_trivial, is_trivial_measure}
+use Rattle.type_definitions.specs.declared.measure.Measure.{Measure}
+
+abbrev shape_C : Shape
+shape_C = shape.Reference (codes "C")
+
+abbrev measure_C : Measure
+measure_C = of_reference
+
+abbrev classes : List ClassShape
+classes = class_with (codes "C") ((optional shape_C) ∷ []) ∷ []
+
+seen_C_3 : seen (declarations_of cycle_of_one) 3 ty_C ≡ shape_C
+unfolding digits ancestors_of
+seen_C_3 = seen_named (declarations_of cycle_of_one) 3 (codes "C")
+
+classes_told : flat_map (class_shape (declarations_of cycle_of_one)) cycle_of_one.decls ≡ classes
+unfolding digits ancestors_of
+classes_told = (both (ap (class_with (codes "C")) (both (seen_optional (declarations_of cycle_of_one) 3 ty_C shape_C seen_C_3) refl)) refl)
+
+abbrev inst_main_0_0 : Inst
+inst_main_0_0 = record (inst op.AllocRef (v 0 ∷ []) []) { ty = Some ty_C }
+
+made_main_0_0 : made_types (declarations_of cycle_of_one) inst_main_0_0 ≡ (ty_C ∷ [])
+unfolding digits ancestors_of
+made_main_0_0 = simp (opened) refl
+
+abbrev inst_main_0_1 : Inst
+inst_main_0_1 = inst op.BeginBorrow (v 1 ∷ []) (typed 0 ty_C ∷ [])
+
+weighed_C_3 : weighed (declarations_of cycle_of_one) 3 ty_C ≡ measure_C
+unfolding digits ancestors_of
+weighed_C_3 = weighed_named (declarations_of cycle_of_one) 3 (codes "C")
+
+trivial_0 : is_trivial (declarations_of cycle_of_one) ty_C ≡ false
+unfolding digits ancestors_of
+trivial_0 = ap is_trivial_measure weighed_C_3
+
+made_main_0_1 : made_types (declarations_of cycle_of_one) inst_main_0_1 ≡ (ty_C ∷ [])
+unfolding digits ancestors_of
+made_main_0_1 = simp (opened, trivial_0) refl
+
+abbrev inst_main_0_2 : Inst
+inst_main_0_2 = record (inst op.RefElementAddr (v 2 ∷ []) (typed 1 ty_C ∷ [])) { member = Some (member (codes "C") (codes "me")) }
+
+made_main_0_2 : made_types (declarations_of cycle_of_one) inst_main_0_2 ≡ ((type.Address (type.Optional ty_C)) ∷ [])
+unfolding digits ancestors_of
+made_main_0_2 = simp (opened) refl
+
+abbrev inst_main_0_3 : Inst
+inst_main_0_3 = record (inst op.Enum (v 3 ∷ []) []) { ty = Some (type.Optional ty_C); member = Some (member (codes "Optional") (codes "none")) }
+
+made_main_0_3 : made_types (declarations_of cycle_of_one) inst_main_0_3 ≡ ((type.Optional ty_C) ∷ [])
+unfolding digits ancestors_of
+made_main_0_3 = simp (opened) refl
+
+abbrev inst_main_0_6 : Inst
+inst_main_0_6 = inst op.CopyValue (v 4 ∷ []) (typed 0 ty_C ∷ [])
+
+made_main_0_6 : made_types (declarations_of cycle_of_one) inst_main_0_6 ≡ (ty_C ∷ [])
+unfolding digits ancestors_of
+made_main_0_6 = simp (opened, trivial_0) refl
+
+abbrev inst_main_0_7 : Inst
+inst_main_0_7 = record (inst op.Enum (v 5 ∷ []) (typed 4 ty_C ∷ [])) { ty = Some (type.Optional ty_C); member = Some (member (codes "Optional") (codes "some")) }
+
+made_main_0_7 : made_types (declarations_of cycle_of_one) inst_main_0_7 ≡ ((type.Optional ty_C) ∷ [])
+unfolding digits ancestors_of
+made_main_0_7 = simp (opened, compared) refl
+
+abbrev inst_main_0_8 : Inst
+inst_main_0_8 = inst op.BeginBorrow (v 6 ∷ []) (typed 0 ty_C ∷ [])
+
+made_main_0_8 : made_types (declarations_of cycle_of_one) inst_main_0_8 ≡ (ty_C ∷ [])
+unfolding digits ancestors_of
+made_main_0_8 = simp (opened, trivial_0) refl
+
+abbrev inst_main_0_9 : Inst
+inst_main_0_9 = record (inst op.RefElementAddr (v 7 ∷ []) (typed 6 ty_C ∷ [])) { member = Some (member (codes "C") (codes "me")) }
+
+made_main_0_9 : made_types (declarations_of cycle_of_one) inst_main_0_9 ≡ ((type.Address (type.Optional ty_C)) ∷ [])
+unfolding digits ancestors_of
+made_main_0_9 = simp (opened) refl
+
+abbrev inst_main_0_13 : Inst
+inst_main_0_13 = inst op.Tuple (v 8 ∷ []) []
+
+made_main_0_13 : made_types (declarations_of cycle_of_one) inst_main_0_13 ≡ ((type.Tuple []) ∷ [])
+unfolding digits ancestors_of
+made_main_0_13 = refl
+
+abbrev types_main : List (Option TypeName)
+types_main = Some ty_C ∷ Some ty_C ∷ Some (type.Address (type.Optional ty_C)) ∷ Some (type.Optional ty_C) ∷ Some ty_C ∷ Some (type.Optional ty_C) ∷ Some ty_C ∷ Some (type.Address
+    (type.Optional ty_C)) ∷ Some (type.Tuple []) ∷ []
+
+types_main_told : value_types (declarations_of cycle_of_one) fn_main ≡ types_main
+unfolding digits ancestors_of
+types_main_told = (both (ap (λ ts. slice_get ts 0) made_main_0_0) (both (ap (λ ts. slice_get ts 0) made_main_0_1) (both (ap (λ ts. slice_get ts 0) made_main_0_2) (both (ap (λ ts. slice_get
+    ts 0) made_main_0_3) (both (ap (λ ts. slice_get ts 0) made_main_0_6) (both (ap (λ ts. slice_get ts 0) made_main_0_7) (both (ap (λ ts. slice_get ts 0) made_main_0_8) (both (ap (λ ts.
+    slice_get ts 0) made_main_0_9) (both (ap (λ ts. slice_get ts 0) made_main_0_13) refl)))))))))
+
+abbrev shapes_main : List Shape
+shapes_main = (shape_C ∷ shape_C ∷ (optional shape_C) ∷ (optional shape_C) ∷ shape_C ∷ (optional shape_C) ∷ shape_C ∷ (optional shape_C) ∷ (shape.Tuple shape.NoMember) ∷ [])
+
+shapes_main_told : function_shapes (declarations_of cycle_of_one) fn_main ≡ shapes_main
+unfolding digits ancestors_of
+shapes_main_told = ap (map (value_shape (declarations_of cycle_of_one))) types_main_told ∙ (both (at_named (declarations_of cycle_of_one) (codes "C") ∙ seen_C_3) (both (at_named
+    (declarations_of cycle_of_one) (codes "C") ∙ seen_C_3) (both (at_address (declarations_of cycle_of_one) (type.Optional ty_C) ∙ (seen_optional (declarations_of cycle_of_one) 3 ty_C
+    shape_C seen_C_3)) (both (at_optional (declarations_of cycle_of_one) ty_C ∙ (seen_optional (declarations_of cycle_of_one) 3 ty_C shape_C seen_C_3)) (both (at_named (declarations_of
+    cycle_of_one) (codes "C") ∙ seen_C_3) (both (at_optional (declarations_of cycle_of_one) ty_C ∙ (seen_optional (declarations_of cycle_of_one) 3 ty_C shape_C seen_C_3)) (both (at_named
+    (declarations_of cycle_of_one) (codes "C") ∙ seen_C_3) (both (at_address (declarations_of cycle_of_one) (type.Optional ty_C) ∙ (seen_optional (declarations_of cycle_of_one) 3 ty_C
+    shape_C seen_C_3)) (both (at_tuple (declarations_of cycle_of_one) [] ∙ (seen_tuple (declarations_of cycle_of_one) 3 [] [] refl)) refl)))))))))
+
+trivial_1 : is_trivial (declarations_of cycle_of_one) (type.Address (type.Optional ty_C)) ≡ false
+unfolding digits ancestors_of
+trivial_1 = ap is_trivial_measure (weighed_address (declarations_of cycle_of_one) 3 (type.Optional ty_C) (of_payloads (measure_C ∷ [])) (weighed_optional (declarations_of cycle_of_one) 3
+    ty_C measure_C weighed_C_3))
+
+trivial_2 : is_trivial (declarations_of cycle_of_one) (type.Optional ty_C) ≡ false
+unfolding digits ancestors_of
+trivial_2 = ap is_trivial_measure (weighed_optional (declarations_of cycle_of_one) 3 ty_C measure_C weighed_C_3)
+
+trivial_3 : is_trivial (declarations_of cycle_of_one) (type.Tuple []) ≡ true
+unfolding digits ancestors_of
+trivial_3 = ap is_trivial_measure (weighed_tuple (declarations_of cycle_of_one) 3 [] [] refl)
+
+abbrev definitions_main : List Definition
+definitions_main = result_definition_by (result_kind_of inst_main_0_0.op) inst_main_0_0 false ∷ result_definition_by (result_kind_of inst_main_0_1.op) inst_main_0_1 false ∷
+    result_definition_by (result_kind_of inst_main_0_2.op) inst_main_0_2 false ∷ result_definition_by (result_kind_of inst_main_0_3.op) inst_main_0_3 false ∷ result_definition_by
+    (result_kind_of inst_main_0_6.op) inst_main_0_6 false ∷ result_definition_by (result_kind_of inst_main_0_7.op) inst_main_0_7 false ∷ result_definition_by (result_kind_of
+    inst_main_0_8.op) inst_main_0_8 false ∷ result_definition_by (result_kind_of inst_main_0_9.op) inst_main_0_9 false ∷ result_definition_by (result_kind_of inst_main_0_13.op)
+    inst_main_0_13 true ∷ []
+
+definitions_main_told : definitions_of (declarations_of cycle_of_one) fn_main ≡ definitions_main
+unfolding digits ancestors_of
+definitions_main_told = (both (definition_by (declarations_of cycle_of_one) inst_main_0_0 0 (ty_C ∷ []) false made_main_0_0 trivial_0) (both (definition_by (declarations_of cycle_of_one)
+    inst_main_0_1 0 (ty_C ∷ []) false made_main_0_1 trivial_0) (both (definition_by (declarations_of cycle_of_one) inst_main_0_2 0 ((type.Address (type.Optional ty_C)) ∷ []) false
+    made_main_0_2 trivial_1) (both (definition_by (declarations_of cycle_of_one) inst_main_0_3 0 ((type.Optional ty_C) ∷ []) false made_main_0_3 trivial_2) (both (definition_by
+    (declarations_of cycle_of_one) inst_main_0_6 0 (ty_C ∷ []) false made_main_0_6 trivial_0) (both (definition_by (declarations_of cycle_of_one) inst_main_0_7 0 ((type.Optional ty_C) ∷ [])
+    false made_main_0_7 trivial_2) (both (definition_by (declarations_of cycle_of_one) inst_main_0_8 0 (ty_C ∷ []) false made_main_0_8 trivial_0) (both (definition_by (declarations_of
+    cycle_of_one) inst_main_0_9 0 ((type.Address (type.Optional ty_C)) ∷ []) false made_main_0_9 trivial_1) (both (definition_by (declarations_of cycle_of_one) inst_main_0_13 0 ((type.Tuple
+    []) ∷ []) true made_main_0_13 trivial_3) refl)))))))))
+
+abbrev shapes : ModuleShapes
+shapes = shapes_with classes (shapes_main ∷ [])
+
+told : shapes_of cycle_of_one ≡ shapes
+unfolding digits ancestors_of
+told = shapes_told cycle_of_one classes_told (both shapes_main_told refl)
+
+abbrev facts_main : List (Option Facts)
+facts_main = (owned 0 ∷ lent (v 1 ∷ []) ∷ plain (v 1 ∷ []) ∷ plain [] ∷ owned 4 ∷ owned 5 ∷ lent (v 6 ∷ []) ∷ plain (v 6 ∷ []) ∷ plain [] ∷ [])
+
+facts_main_told : function_facts (declarations_of cycle_of_one) fn_main ≡ facts_main
+unfolding digits ancestors_of
+facts_main_told = ap (λ defs. map (λ v. facts_by defs (value_of v)) (range_with_len 0 (value_count fn_main))) definitions_main_told
+
+abbrev facts : ModuleFacts
+facts = facts_with shapes (facts_main ∷ [])
+
+all_told : facts_of cycle_of_one ≡ facts
+unfolding digits ancestors_of
+all_told = facts_told cycle_of_one told (both facts_main_told refl)
+
+abbrev low_bb_main_0 : Block
+low_bb_main_0 = record {
+  args = [];
+  insts =
+      record (inst op.AllocRef (v 0 ∷ []) []) { ty = Some ty_C }
+      ∷ record (inst op.RefElementAddr (v 1 ∷ []) (typed 0 ty_C ∷ [])) { member = Some (member (codes "C") (codes "me")) }
+      ∷ record (inst op.Enum (v 2 ∷ []) []) { ty = Some (type.Optional ty_C); member = Some (member (codes "Optional") (codes "none")) }
+      ∷ inst op.Store [] (bare 2 ∷ typed 1 (type.Address (type.Optional ty_C)) ∷ [])
+      ∷ inst op.StrongRetain [] (typed 0 ty_C ∷ [])
+      ∷ record (inst op.Enum (v 3 ∷ []) (typed 0 ty_C ∷ [])) { ty = Some (type.Optional ty_C); member = Some (member (codes "Optional") (codes "some")) }
+      ∷ record (inst op.RefElementAddr (v 4 ∷ []) (typed 0 ty_C ∷ [])) { member = Some (member (codes "C") (codes "me")) }
+      ∷ inst op.Load (v 5 ∷ []) (typed 4 (type.Address (type.Optional ty_C)) ∷ [])
+      ∷ inst op.Store [] (bare 3 ∷ typed 4 (type.Address (type.Optional ty_C)) ∷ [])
+      ∷ inst op.ReleaseValue [] (typed 5 (type.Optional ty_C) ∷ [])
+      ∷ inst op.StrongRelease [] (typed 0 ty_C ∷ [])
+      ∷ inst op.Tuple (v 6 ∷ []) []
+      ∷ [];
+  terminator = inst op.Return [] (typed 6 (type.Tuple []) ∷ []);
+}
+
+abbrev low_fn_main : Function
+low_fn_main = record {
+  name = codes "main";
+  form = form.Lowered;
+  linkage = linkage.Plain;
+  attributes = [];
+  signature = sig_main;
+  blocks = low_bb_main_0 ∷ [];
+}
+
+abbrev low : Module
+low = record cycle_of_one { functions = low_fn_main ∷ [] }
+
+low_main_is : lowered_function (declarations_of cycle_of_one) fn_main ≡ low_fn_main
+unfolding digits ancestors_of
+low_main_is = simp (opened) refl
+
+lowers : lowered cycle_of_one ≡ low
+unfolding digits ancestors_of
+lowers = lowered_with cycle_of_one (both low_main_is refl)
+
+abbrev inst_low_main_0_0 : Inst
+inst_low_main_0_0 = record (inst op.AllocRef (v 0 ∷ []) []) { ty = Some ty_C }
+
+made_low_main_0_0 : made_types (declarations_of cycle_of_one) inst_low_main_0_0 ≡ (ty_C ∷ [])
+unfolding digits ancestors_of
+made_low_main_0_0 = simp (opened) refl
+
+abbrev inst_low_main_0_1 : Inst
+inst_low_main_0_1 = record (inst op.RefElementAddr (v 1 ∷ []) (typed 0 ty_C ∷ [])) { member = Some (member (codes "C") (codes "me")) }
+
+made_low_main_0_1 : made_types (declarations_of cycle_of_one) inst_low_main_0_1 ≡ ((type.Address (type.Optional ty_C)) ∷ [])
+unfolding digits ancestors_of
+made_low_main_0_1 = simp (opened) refl
+
+abbrev inst_low_main_0_2 : Inst
+inst_low_main_0_2 = record (inst op.Enum (v 2 ∷ []) []) { ty = Some (type.Optional ty_C); member = Some (member (codes "Optional") (codes "none")) }
+
+made_low_main_0_2 : made_types (declarations_of cycle_of_one) inst_low_main_0_2 ≡ ((type.Optional ty_C) ∷ [])
+unfolding digits ancestors_of
+made_low_main_0_2 = simp (opened) refl
+
+abbrev inst_low_main_0_5 : Inst
+inst_low_main_0_5 = record (inst op.Enum (v 3 ∷ []) (typed 0 ty_C ∷ [])) { ty = Some (type.Optional ty_C); member = Some (member (codes "Optional") (codes "some")) }
+
+made_low_main_0_5 : made_types (declarations_of cycle_of_one) inst_low_main_0_5 ≡ ((type.Optional ty_C) ∷ [])
+unfolding digits ancestors_of
+made_low_main_0_5 = simp (opened, compared) refl
+
+abbrev inst_low_main_0_6 : Inst
+inst_low_main_0_6 = record (inst op.RefElementAddr (v 4 ∷ []) (typed 0 ty_C ∷ [])) { member = Some (member (codes "C") (codes "me")) }
+
+made_low_main_0_6 : made_types (declarations_of cycle_of_one) inst_low_main_0_6 ≡ ((type.Address (type.Optional ty_C)) ∷ [])
+unfolding digits ancestors_of
+made_low_main_0_6 = simp (opened) refl
+
+abbrev inst_low_main_0_7 : Inst
+inst_low_main_0_7 = inst op.Load (v 5 ∷ []) (typed 4 (type.Address (type.Optional ty_C)) ∷ [])
+
+made_low_main_0_7 : made_types (declarations_of cycle_of_one) inst_low_main_0_7 ≡ ((type.Optional ty_C) ∷ [])
+unfolding digits ancestors_of
+made_low_main_0_7 = simp (opened) refl
+
+abbrev inst_low_main_0_11 : Inst
+inst_low_main_0_11 = inst op.Tuple (v 6 ∷ []) []
+
+made_low_main_0_11 : made_types (declarations_of cycle_of_one) inst_low_main_0_11 ≡ ((type.Tuple []) ∷ [])
+unfolding digits ancestors_of
+made_low_main_0_11 = refl
+
+abbrev low_types_main : List (Option TypeName)
+low_types_main = Some ty_C ∷ Some (type.Address (type.Optional ty_C)) ∷ Some (type.Optional ty_C) ∷ Some (type.Optional ty_C) ∷ Some (type.Address (type.Optional ty_C)) ∷ Some (type.Optional
+    ty_C) ∷ Some (type.Tuple []) ∷ []
+
+low_types_main_told : value_types (declarations_of cycle_of_one) low_fn_main ≡ low_types_main
+unfolding digits ancestors_of
+low_types_main_told = (both (ap (λ ts. slice_get ts 0) made_low_main_0_0) (both (ap (λ ts. slice_get ts 0) made_low_main_0_1) (both (ap (λ ts. slice_get ts 0) made_low_main_0_2) (both (ap (λ
+    ts. slice_get ts 0) made_low_main_0_5) (both (ap (λ ts. slice_get ts 0) made_low_main_0_6) (both (ap (λ ts. slice_get ts 0) made_low_main_0_7) (both (ap (λ ts. slice_get ts 0)
+    made_low_main_0_11) refl)))))))
+
+abbrev low_shapes_main : List Shape
+low_shapes_main = (shape_C ∷ (optional shape_C) ∷ (optional shape_C) ∷ (optional shape_C) ∷ (optional shape_C) ∷ (optional shape_C) ∷ (shape.Tuple shape.NoMember) ∷ [])
+
+low_shapes_main_told : function_shapes (declarations_of cycle_of_one) low_fn_main ≡ low_shapes_main
+unfolding digits ancestors_of
+low_shapes_main_told = ap (map (value_shape (declarations_of cycle_of_one))) low_types_main_told ∙ (both (at_named (declarations_of cycle_of_one) (codes "C") ∙ seen_C_3) (both (at_address
+    (declarations_of cycle_of_one) (type.Optional ty_C) ∙ (seen_optional (declarations_of cycle_of_one) 3 ty_C shape_C seen_C_3)) (both (at_optional (declarations_of cycle_of_one) ty_C ∙
+    (seen_optional (declarations_of cycle_of_one) 3 ty_C shape_C seen_C_3)) (both (at_optional (declarations_of cycle_of_one) ty_C ∙ (seen_optional (declarations_of cycle_of_one) 3 ty_C
+    shape_C seen_C_3)) (both (at_address (declarations_of cycle_of_one) (type.Optional ty_C) ∙ (seen_optional (declarations_of cycle_of_one) 3 ty_C shape_C seen_C_3)) (both (at_optional
+    (declarations_of cycle_of_one) ty_C ∙ (seen_optional (declarations_of cycle_of_one) 3 ty_C shape_C seen_C_3)) (both (at_tuple (declarations_of cycle_of_one) [] ∙ (seen_tuple
+    (declarations_of cycle_of_one) 3 [] [] refl)) refl)))))))
+
+abbrev low_shapes : ModuleShapes
+low_shapes = shapes_with classes (low_shapes_main ∷ [])
+
+low_told : shapes_of low ≡ low_shapes
+unfolding digits ancestors_of
+low_told = shapes_told low classes_told (both low_shapes_main_told refl)
+
+abbrev given_shape : Shape
+given_shape = (shape.Tuple shape.NoMember)
+
+given_told : returned_shape cycle_of_one (fn 0) ≡ given_shape
+unfolding digits ancestors_of
+given_told = (seen_tuple (declarations_of cycle_of_one) 3 [] [] refl)
+
+runs : HasReport cycle_of_one given_shape (outcome_with cycle_of_one facts (fn 0) 100000 300) cycle_of_one_answer
+unfolding digits ancestors_of
+runs = refl
+
+lowered_runs : HasReport cycle_of_one given_shape (low_outcome_with low low_shapes (fn 0) 100000 300) cycle_of_one_answer
+unfolding digits ancestors_of
+lowered_runs = refl
+
+pub cycle_of_one_proved : CycleOfOne
+unfolding digits ancestors_of
+cycle_of_one_proved = (
+  by_holders cycle_of_one (fn 0) 100000 300 cycle_of_one_answer given_told all_told runs,
+  of_lowered cycle_of_one (fn 0) 100000 300 cycle_of_one_answer given_told lowers low_told lowered_runs,
+)

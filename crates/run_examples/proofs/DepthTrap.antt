@@ -1,0 +1,195 @@
+-- The call that would make the 1,025th frame is a trap.
+use Rattle.std.proofs.Common.{◌≡◌, refl, List, [], ◌∷◌, Some, None, true, Option, ap, ◌∙◌}
+use Rattle.std.specs.Prelude.{codes, slice_get, map}
+use Rattle.std.specs.List.{flat_map, range_with_len}
+use Rattle.std.specs.Fmt.{digits}
+use Rattle.holder_model.specs.Calling.{value_count}
+use Rattle.holder_model.specs.ModuleFacts.{ModuleFacts, facts_of, function_facts}
+use Rattle.holder_model.specs.ModuleShapes.{value_shape, ClassShape, ModuleShapes, class_shape, function_shapes, shapes_of}
+use Rattle.holder_model.specs.Outcomes.{outcome_with}
+use Rattle.instruction_table.specs.Forms.{result_kind_of}
+use Rattle.instruction_table.specs.declared.op.Op.TheVariants as op
+use Rattle.lowered_run.specs.LowOutcomes.{low_outcome_with}
+use Rattle.lowering_model.specs.LoweredModules.{lowered, lowered_function}
+use Rattle.ownership_chains.specs.Facts.{value_of}
+use Rattle.ownership_chains.specs.declared.definition.Definition.{Definition}
+use Rattle.ownership_chains.specs.declared.facts.Facts.{Facts}
+use Rattle.ownership_kinds.specs.Facts.{facts_by}
+use Rattle.ownership_origins.specs.Origins.{definitions_of, result_definition_by}
+use Rattle.run_examples.proofs.Computed.{both, lowered_with, shapes_told, facts_told, by_holders, of_lowered}
+use Rattle.run_examples.proofs.Told.{seen_tuple, at_tuple, weighed_tuple, definition_by}
+use Rattle.run_examples.specs.Parts.{v, fn, typed, bare, inst, plain, shapes_with, facts_with}
+use Rattle.run_examples.specs.inner.DepthTrap.{DepthTrap, depth_trap, depth_trap_answer, fn_main, sig_main}
+use Rattle.run_examples.specs.inner.Reported.{HasReport, returned_shape}
+use Rattle.run_values.specs.Shapes as shape
+use Rattle.run_values.specs.Shapes.{Shape}
+use Rattle.sil_ast.specs.declared.function.Block.{Block}
+use Rattle.sil_ast.specs.declared.function.Form.TheVariants as form
+use Rattle.sil_ast.specs.declared.function.Function.{Function}
+use Rattle.sil_ast.specs.declared.function.Linkage.TheVariants as linkage
+use Rattle.sil_ast.specs.declared.inst.Inst.{Inst}
+use Rattle.sil_ast.specs.declared.module.Module.{Module}
+use Rattle.sil_ast.specs.declared.type_name.TypeName.TheVariants as type
+use Rattle.sil_ast.specs.declared.type_name.TypeName.{TypeName}
+use Rattle.sil_types.specs.Typing.RowTypes.{made_types}
+use Rattle.sil_types.specs.Typing.Values.{value_types}
+use Rattle.type_definitions.specs.Declarations.{ancestors_of, declarations_of}
+use Rattle.type_definitions.specs.Measures.{is_trivial, is_trivial_measure}
+
+abbrev classes : List ClassShape
+classes = []
+
+classes_told : flat_map (class_shape (declarations_of depth_trap)) depth_trap.decls ≡ classes
+unfolding digits ancestors_of
+classes_told = refl
+
+abbrev inst_main_0_0 : Inst
+inst_main_0_0 = record (inst op.FunctionRef (v 0 ∷ []) []) { function = Some (fn 0); signature = Some sig_main }
+
+made_main_0_0 : made_types (declarations_of depth_trap) inst_main_0_0 ≡ []
+unfolding digits ancestors_of
+made_main_0_0 = refl
+
+abbrev inst_main_0_1 : Inst
+inst_main_0_1 = record (inst op.Apply (v 1 ∷ []) (bare 0 ∷ [])) { signature = Some sig_main }
+
+made_main_0_1 : made_types (declarations_of depth_trap) inst_main_0_1 ≡ ((type.Tuple []) ∷ [])
+unfolding digits ancestors_of
+made_main_0_1 = refl
+
+abbrev types_main : List (Option TypeName)
+types_main = None ∷ Some (type.Tuple []) ∷ []
+
+types_main_told : value_types (declarations_of depth_trap) fn_main ≡ types_main
+unfolding digits ancestors_of
+types_main_told = (both (ap (λ ts. slice_get ts 0) made_main_0_0) (both (ap (λ ts. slice_get ts 0) made_main_0_1) refl))
+
+abbrev shapes_main : List Shape
+shapes_main = (shape.Unknown ∷ (shape.Tuple shape.NoMember) ∷ [])
+
+shapes_main_told : function_shapes (declarations_of depth_trap) fn_main ≡ shapes_main
+unfolding digits ancestors_of
+shapes_main_told = ap (map (value_shape (declarations_of depth_trap))) types_main_told ∙ (both refl (both (at_tuple (declarations_of depth_trap) [] ∙ (seen_tuple (declarations_of depth_trap)
+    0 [] [] refl)) refl))
+
+trivial_0 : is_trivial (declarations_of depth_trap) (type.Tuple []) ≡ true
+unfolding digits ancestors_of
+trivial_0 = ap is_trivial_measure (weighed_tuple (declarations_of depth_trap) 0 [] [] refl)
+
+abbrev definitions_main : List Definition
+definitions_main = result_definition_by (result_kind_of inst_main_0_0.op) inst_main_0_0 true ∷ result_definition_by (result_kind_of inst_main_0_1.op) inst_main_0_1 true ∷ []
+
+definitions_main_told : definitions_of (declarations_of depth_trap) fn_main ≡ definitions_main
+unfolding digits ancestors_of
+definitions_main_told = (both (definition_by (declarations_of depth_trap) inst_main_0_0 0 [] true made_main_0_0 refl) (both (definition_by (declarations_of depth_trap) inst_main_0_1 0
+    ((type.Tuple []) ∷ []) true made_main_0_1 trivial_0) refl))
+
+abbrev shapes : ModuleShapes
+shapes = shapes_with classes (shapes_main ∷ [])
+
+told : shapes_of depth_trap ≡ shapes
+unfolding digits ancestors_of
+told = shapes_told depth_trap classes_told (both shapes_main_told refl)
+
+abbrev facts_main : List (Option Facts)
+facts_main = (plain [] ∷ plain [] ∷ [])
+
+facts_main_told : function_facts (declarations_of depth_trap) fn_main ≡ facts_main
+unfolding digits ancestors_of
+facts_main_told = ap (λ defs. map (λ v. facts_by defs (value_of v)) (range_with_len 0 (value_count fn_main))) definitions_main_told
+
+abbrev facts : ModuleFacts
+facts = facts_with shapes (facts_main ∷ [])
+
+all_told : facts_of depth_trap ≡ facts
+unfolding digits ancestors_of
+all_told = facts_told depth_trap told (both facts_main_told refl)
+
+abbrev low_bb_main_0 : Block
+low_bb_main_0 = record {
+  args = [];
+  insts =
+      record (inst op.FunctionRef (v 0 ∷ []) []) { function = Some (fn 0); signature = Some sig_main }
+      ∷ record (inst op.Apply (v 1 ∷ []) (bare 0 ∷ [])) { signature = Some sig_main }
+      ∷ [];
+  terminator = inst op.Return [] (typed 1 (type.Tuple []) ∷ []);
+}
+
+abbrev low_fn_main : Function
+low_fn_main = record {
+  name = codes "main";
+  form = form.Lowered;
+  linkage = linkage.Plain;
+  attributes = [];
+  signature = sig_main;
+  blocks = low_bb_main_0 ∷ [];
+}
+
+abbrev low : Module
+low = record depth_trap { functions = low_fn_main ∷ [] }
+
+low_main_is : lowered_function (declarations_of depth_trap) fn_main ≡ low_fn_main
+unfolding digits ancestors_of
+low_main_is = refl
+
+lowers : lowered depth_trap ≡ low
+unfolding digits ancestors_of
+lowers = lowered_with depth_trap (both low_main_is refl)
+
+abbrev inst_low_main_0_0 : Inst
+inst_low_main_0_0 = record (inst op.FunctionRef (v 0 ∷ []) []) { function = Some (fn 0); signature = Some sig_main }
+
+made_low_main_0_0 : made_types (declarations_of depth_trap) inst_low_main_0_0 ≡ []
+unfolding digits ancestors_of
+made_low_main_0_0 = refl
+
+abbrev inst_low_main_0_1 : Inst
+inst_low_main_0_1 = record (inst op.Apply (v 1 ∷ []) (bare 0 ∷ [])) { signature = Some sig_main }
+
+made_low_main_0_1 : made_types (declarations_of depth_trap) inst_low_main_0_1 ≡ ((type.Tuple []) ∷ [])
+unfolding digits ancestors_of
+made_low_main_0_1 = refl
+
+abbrev low_types_main : List (Option TypeName)
+low_types_main = None ∷ Some (type.Tuple []) ∷ []
+
+low_types_main_told : value_types (declarations_of depth_trap) low_fn_main ≡ low_types_main
+unfolding digits ancestors_of
+low_types_main_told = (both (ap (λ ts. slice_get ts 0) made_low_main_0_0) (both (ap (λ ts. slice_get ts 0) made_low_main_0_1) refl))
+
+abbrev low_shapes_main : List Shape
+low_shapes_main = (shape.Unknown ∷ (shape.Tuple shape.NoMember) ∷ [])
+
+low_shapes_main_told : function_shapes (declarations_of depth_trap) low_fn_main ≡ low_shapes_main
+unfolding digits ancestors_of
+low_shapes_main_told = ap (map (value_shape (declarations_of depth_trap))) low_types_main_told ∙ (both refl (both (at_tuple (declarations_of depth_trap) [] ∙ (seen_tuple (declarations_of
+    depth_trap) 0 [] [] refl)) refl))
+
+abbrev low_shapes : ModuleShapes
+low_shapes = shapes_with classes (low_shapes_main ∷ [])
+
+low_told : shapes_of low ≡ low_shapes
+unfolding digits ancestors_of
+low_told = shapes_told low classes_told (both low_shapes_main_told refl)
+
+abbrev given_shape : Shape
+given_shape = (shape.Tuple shape.NoMember)
+
+given_told : returned_shape depth_trap (fn 0) ≡ given_shape
+unfolding digits ancestors_of
+given_told = (seen_tuple (declarations_of depth_trap) 0 [] [] refl)
+
+runs : HasReport depth_trap given_shape (outcome_with depth_trap facts (fn 0) 100000 4000) depth_trap_answer
+unfolding digits ancestors_of
+runs = refl
+
+lowered_runs : HasReport depth_trap given_shape (low_outcome_with low low_shapes (fn 0) 100000 4000) depth_trap_answer
+unfolding digits ancestors_of
+lowered_runs = refl
+
+pub depth_trap_proved : DepthTrap
+unfolding digits ancestors_of
+depth_trap_proved = (
+  by_holders depth_trap (fn 0) 100000 4000 depth_trap_answer given_told all_told runs,
+  of_lowered depth_trap (fn 0) 100000 4000 depth_trap_answer given_told lowers low_told lowered_runs,
+)

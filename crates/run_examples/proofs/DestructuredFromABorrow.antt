@@ -1,0 +1,320 @@
+-- The members of a borrowed tuple are lent; one of them is copied.
+use Rattle.std.proofs.Common.{◌≡◌, refl, List, [], ◌∷◌, Some, true, false, Option, ap, ◌∙◌}
+use Rattle.std.specs.Prelude.{codes, pos, slice_get, map}
+use Rattle.std.specs.List.{flat_map, range_with_len}
+use Rattle.std.specs.Fmt.{digits}
+use Rattle.holder_model.specs.Calling.{value_count}
+use Rattle.holder_model.specs.ModuleFacts.{ModuleFacts, facts_of, function_facts}
+use Rattle.holder_model.specs.ModuleShapes.{value_shape, ClassShape, ModuleShapes, class_shape, function_shapes, shapes_of}
+use Rattle.holder_model.specs.Outcomes.{outcome_with}
+use Rattle.instruction_table.specs.Forms.{result_kind_of}
+use Rattle.instruction_table.specs.declared.op.Op.TheVariants as op
+use Rattle.lowered_run.specs.LowOutcomes.{low_outcome_with}
+use Rattle.lowering_model.specs.LoweredModules.{lowered, lowered_function}
+use Rattle.ownership_chains.specs.Facts.{value_of}
+use Rattle.ownership_chains.specs.declared.definition.Definition.{Definition}
+use Rattle.ownership_chains.specs.declared.facts.Facts.{Facts}
+use Rattle.ownership_kinds.specs.Facts.{facts_by}
+use Rattle.ownership_origins.specs.Origins.{definitions_of, result_definition_by}
+use Rattle.run_examples.proofs.Computed.{both, lowered_with, shapes_told, facts_told, by_holders, of_lowered}
+use Rattle.run_examples.proofs.Opened.{opened}
+use Rattle.run_examples.proofs.Told.{definition_by}
+use Rattle.run_examples.proofs.Told.{seen, seen_int, seen_named, seen_tuple, at_int, at_named, at_tuple, weighed, weighed_int, weighed_named, weighed_tuple}
+use Rattle.run_examples.specs.Parts.{v, fn, typed, inst, owned, lent, plain, class_with, shapes_with, facts_with}
+use Rattle.run_examples.specs.inner.DestructuredFromABorrow.{DestructuredFromABorrow, destructured_from_a_borrow, destructured_from_a_borrow_answer}
+use Rattle.run_examples.specs.inner.DestructuredFromABorrow.{fn_main, sig_main, ty_C}
+use Rattle.run_examples.specs.inner.Reported.{HasReport, returned_shape}
+use Rattle.run_values.specs.Shapes as shape
+use Rattle.run_values.specs.Shapes.{Shape}
+use Rattle.sil_ast.specs.declared.function.Block.{Block}
+use Rattle.sil_ast.specs.declared.function.Form.TheVariants as form
+use Rattle.sil_ast.specs.declared.function.Function.{Function}
+use Rattle.sil_ast.specs.declared.function.Linkage.TheVariants as linkage
+use Rattle.sil_ast.specs.declared.inst.Inst.{Inst}
+use Rattle.sil_ast.specs.declared.module.Module.{Module}
+use Rattle.sil_ast.specs.declared.type_name.TypeName.TheVariants as type
+use Rattle.sil_ast.specs.declared.type_name.TypeName.{TypeName}
+use Rattle.sil_types.specs.Typing.RowTypes.{made_types}
+use Rattle.sil_types.specs.Typing.Values.{value_types}
+use Rattle.type_definitions.specs.Declarations.{ancestors_of, declarations_of}
+use Rattle.type_definitions.specs.Measures.{measured, of_reference, is_trivial, is_trivial_measure}
+use Rattle.type_definitions.specs.declared.measure.Measure.{Measure}
+
+abbrev shape_C : Shape
+shape_C = shape.Reference (codes "C")
+
+abbrev measure_C : Measure
+measure_C = of_reference
+
+abbrev classes : List ClassShape
+classes = class_with (codes "C") [] ∷ []
+
+classes_told : flat_map (class_shape (declarations_of destructured_from_a_borrow)) destructured_from_a_borrow.decls ≡ classes
+unfolding digits ancestors_of
+classes_told = (both (ap (class_with (codes "C")) refl) refl)
+
+abbrev inst_main_0_0 : Inst
+inst_main_0_0 = record (inst op.AllocRef (v 0 ∷ []) []) { ty = Some ty_C }
+
+made_main_0_0 : made_types (declarations_of destructured_from_a_borrow) inst_main_0_0 ≡ (ty_C ∷ [])
+unfolding digits ancestors_of
+made_main_0_0 = simp (opened) refl
+
+abbrev inst_main_0_1 : Inst
+inst_main_0_1 = record (inst op.IntegerLiteral (v 1 ∷ []) []) { ty = Some (type.Int 8); number = Some (pos 1) }
+
+made_main_0_1 : made_types (declarations_of destructured_from_a_borrow) inst_main_0_1 ≡ ((type.Int 8) ∷ [])
+unfolding digits ancestors_of
+made_main_0_1 = simp (opened) refl
+
+abbrev inst_main_0_2 : Inst
+inst_main_0_2 = inst op.Tuple (v 2 ∷ []) (typed 0 ty_C ∷ typed 1 (type.Int 8) ∷ [])
+
+made_main_0_2 : made_types (declarations_of destructured_from_a_borrow) inst_main_0_2 ≡ ((type.Tuple (ty_C ∷ (type.Int 8) ∷ [])) ∷ [])
+unfolding digits ancestors_of
+made_main_0_2 = simp (opened) refl
+
+abbrev inst_main_0_3 : Inst
+inst_main_0_3 = inst op.BeginBorrow (v 3 ∷ []) (typed 2 (type.Tuple (ty_C ∷ (type.Int 8) ∷ [])) ∷ [])
+
+weighed_C_1 : weighed (declarations_of destructured_from_a_borrow) 1 ty_C ≡ measure_C
+unfolding digits ancestors_of
+weighed_C_1 = weighed_named (declarations_of destructured_from_a_borrow) 1 (codes "C")
+
+trivial_0 : is_trivial (declarations_of destructured_from_a_borrow) (type.Tuple (ty_C ∷ (type.Int 8) ∷ [])) ≡ false
+unfolding digits ancestors_of
+trivial_0 = ap is_trivial_measure (weighed_tuple (declarations_of destructured_from_a_borrow) 1 (ty_C ∷ (type.Int 8) ∷ []) (measure_C ∷ (measured true 1 1) ∷ []) (both weighed_C_1 (both
+    (weighed_int (declarations_of destructured_from_a_borrow) 1 8) refl)))
+
+made_main_0_3 : made_types (declarations_of destructured_from_a_borrow) inst_main_0_3 ≡ ((type.Tuple (ty_C ∷ (type.Int 8) ∷ [])) ∷ [])
+unfolding digits ancestors_of
+made_main_0_3 = simp (opened, trivial_0) refl
+
+abbrev inst_main_0_4 : Inst
+inst_main_0_4 = inst op.DestructureTuple (v 4 ∷ v 5 ∷ []) (typed 3 (type.Tuple (ty_C ∷ (type.Int 8) ∷ [])) ∷ [])
+
+made_main_0_4 : made_types (declarations_of destructured_from_a_borrow) inst_main_0_4 ≡ (ty_C ∷ (type.Int 8) ∷ [])
+unfolding digits ancestors_of
+made_main_0_4 = simp (opened) refl
+
+abbrev inst_main_0_5 : Inst
+inst_main_0_5 = inst op.CopyValue (v 6 ∷ []) (typed 4 ty_C ∷ [])
+
+trivial_1 : is_trivial (declarations_of destructured_from_a_borrow) ty_C ≡ false
+unfolding digits ancestors_of
+trivial_1 = ap is_trivial_measure weighed_C_1
+
+made_main_0_5 : made_types (declarations_of destructured_from_a_borrow) inst_main_0_5 ≡ (ty_C ∷ [])
+unfolding digits ancestors_of
+made_main_0_5 = simp (opened, trivial_1) refl
+
+abbrev inst_main_0_9 : Inst
+inst_main_0_9 = inst op.Tuple (v 7 ∷ []) []
+
+made_main_0_9 : made_types (declarations_of destructured_from_a_borrow) inst_main_0_9 ≡ ((type.Tuple []) ∷ [])
+unfolding digits ancestors_of
+made_main_0_9 = refl
+
+abbrev types_main : List (Option TypeName)
+types_main = Some ty_C ∷ Some (type.Int 8) ∷ Some (type.Tuple (ty_C ∷ (type.Int 8) ∷ [])) ∷ Some (type.Tuple (ty_C ∷ (type.Int 8) ∷ [])) ∷ Some ty_C ∷ Some (type.Int 8) ∷ Some ty_C ∷ Some
+    (type.Tuple []) ∷ []
+
+types_main_told : value_types (declarations_of destructured_from_a_borrow) fn_main ≡ types_main
+unfolding digits ancestors_of
+types_main_told = (both (ap (λ ts. slice_get ts 0) made_main_0_0) (both (ap (λ ts. slice_get ts 0) made_main_0_1) (both (ap (λ ts. slice_get ts 0) made_main_0_2) (both (ap (λ ts. slice_get
+    ts 0) made_main_0_3) (both (ap (λ ts. slice_get ts 0) made_main_0_4) (both (ap (λ ts. slice_get ts 1) made_main_0_4) (both (ap (λ ts. slice_get ts 0) made_main_0_5) (both (ap (λ ts.
+    slice_get ts 0) made_main_0_9) refl))))))))
+
+abbrev shapes_main : List Shape
+shapes_main = (shape_C ∷ (shape.Integer 8) ∷ (shape.Tuple (shape.Member shape_C (shape.Member (shape.Integer 8) shape.NoMember))) ∷ (shape.Tuple (shape.Member shape_C (shape.Member
+    (shape.Integer 8) shape.NoMember))) ∷ shape_C ∷ (shape.Integer 8) ∷ shape_C ∷ (shape.Tuple shape.NoMember) ∷ [])
+
+seen_C_1 : seen (declarations_of destructured_from_a_borrow) 1 ty_C ≡ shape_C
+unfolding digits ancestors_of
+seen_C_1 = seen_named (declarations_of destructured_from_a_borrow) 1 (codes "C")
+
+shapes_main_told : function_shapes (declarations_of destructured_from_a_borrow) fn_main ≡ shapes_main
+unfolding digits ancestors_of
+shapes_main_told = ap (map (value_shape (declarations_of destructured_from_a_borrow))) types_main_told ∙ (both (at_named (declarations_of destructured_from_a_borrow) (codes "C") ∙ seen_C_1)
+    (both (at_int (declarations_of destructured_from_a_borrow) 8 ∙ (seen_int (declarations_of destructured_from_a_borrow) 1 8)) (both (at_tuple (declarations_of destructured_from_a_borrow)
+    (ty_C ∷ (type.Int 8) ∷ []) ∙ (seen_tuple (declarations_of destructured_from_a_borrow) 1 (ty_C ∷ (type.Int 8) ∷ []) (shape_C ∷ (shape.Integer 8) ∷ []) (both seen_C_1 (both (seen_int
+    (declarations_of destructured_from_a_borrow) 1 8) refl)))) (both (at_tuple (declarations_of destructured_from_a_borrow) (ty_C ∷ (type.Int 8) ∷ []) ∙ (seen_tuple (declarations_of
+    destructured_from_a_borrow) 1 (ty_C ∷ (type.Int 8) ∷ []) (shape_C ∷ (shape.Integer 8) ∷ []) (both seen_C_1 (both (seen_int (declarations_of destructured_from_a_borrow) 1 8) refl))))
+    (both (at_named (declarations_of destructured_from_a_borrow) (codes "C") ∙ seen_C_1) (both (at_int (declarations_of destructured_from_a_borrow) 8 ∙ (seen_int (declarations_of
+    destructured_from_a_borrow) 1 8)) (both (at_named (declarations_of destructured_from_a_borrow) (codes "C") ∙ seen_C_1) (both (at_tuple (declarations_of destructured_from_a_borrow) [] ∙
+    (seen_tuple (declarations_of destructured_from_a_borrow) 1 [] [] refl)) refl))))))))
+
+trivial_2 : is_trivial (declarations_of destructured_from_a_borrow) (type.Int 8) ≡ true
+unfolding digits ancestors_of
+trivial_2 = ap is_trivial_measure (weighed_int (declarations_of destructured_from_a_borrow) 1 8)
+
+trivial_3 : is_trivial (declarations_of destructured_from_a_borrow) (type.Tuple []) ≡ true
+unfolding digits ancestors_of
+trivial_3 = ap is_trivial_measure (weighed_tuple (declarations_of destructured_from_a_borrow) 1 [] [] refl)
+
+abbrev definitions_main : List Definition
+definitions_main = result_definition_by (result_kind_of inst_main_0_0.op) inst_main_0_0 false ∷ result_definition_by (result_kind_of inst_main_0_1.op) inst_main_0_1 true ∷
+    result_definition_by (result_kind_of inst_main_0_2.op) inst_main_0_2 false ∷ result_definition_by (result_kind_of inst_main_0_3.op) inst_main_0_3 false ∷ result_definition_by
+    (result_kind_of inst_main_0_4.op) inst_main_0_4 false ∷ result_definition_by (result_kind_of inst_main_0_4.op) inst_main_0_4 true ∷ result_definition_by (result_kind_of inst_main_0_5.op)
+    inst_main_0_5 false ∷ result_definition_by (result_kind_of inst_main_0_9.op) inst_main_0_9 true ∷ []
+
+definitions_main_told : definitions_of (declarations_of destructured_from_a_borrow) fn_main ≡ definitions_main
+unfolding digits ancestors_of
+definitions_main_told = (both (definition_by (declarations_of destructured_from_a_borrow) inst_main_0_0 0 (ty_C ∷ []) false made_main_0_0 trivial_1) (both (definition_by (declarations_of
+    destructured_from_a_borrow) inst_main_0_1 0 ((type.Int 8) ∷ []) true made_main_0_1 trivial_2) (both (definition_by (declarations_of destructured_from_a_borrow) inst_main_0_2 0
+    ((type.Tuple (ty_C ∷ (type.Int 8) ∷ [])) ∷ []) false made_main_0_2 trivial_0) (both (definition_by (declarations_of destructured_from_a_borrow) inst_main_0_3 0 ((type.Tuple (ty_C ∷
+    (type.Int 8) ∷ [])) ∷ []) false made_main_0_3 trivial_0) (both (definition_by (declarations_of destructured_from_a_borrow) inst_main_0_4 0 (ty_C ∷ (type.Int 8) ∷ []) false made_main_0_4
+    trivial_1) (both (definition_by (declarations_of destructured_from_a_borrow) inst_main_0_4 1 (ty_C ∷ (type.Int 8) ∷ []) true made_main_0_4 trivial_2) (both (definition_by
+    (declarations_of destructured_from_a_borrow) inst_main_0_5 0 (ty_C ∷ []) false made_main_0_5 trivial_1) (both (definition_by (declarations_of destructured_from_a_borrow) inst_main_0_9 0
+    ((type.Tuple []) ∷ []) true made_main_0_9 trivial_3) refl))))))))
+
+abbrev shapes : ModuleShapes
+shapes = shapes_with classes (shapes_main ∷ [])
+
+told : shapes_of destructured_from_a_borrow ≡ shapes
+unfolding digits ancestors_of
+told = shapes_told destructured_from_a_borrow classes_told (both shapes_main_told refl)
+
+abbrev facts_main : List (Option Facts)
+facts_main = (owned 0 ∷ plain [] ∷ owned 2 ∷ lent (v 3 ∷ []) ∷ lent (v 3 ∷ []) ∷ plain [] ∷ owned 6 ∷ plain [] ∷ [])
+
+facts_main_told : function_facts (declarations_of destructured_from_a_borrow) fn_main ≡ facts_main
+unfolding digits ancestors_of
+facts_main_told = ap (λ defs. map (λ v. facts_by defs (value_of v)) (range_with_len 0 (value_count fn_main))) definitions_main_told
+
+abbrev facts : ModuleFacts
+facts = facts_with shapes (facts_main ∷ [])
+
+all_told : facts_of destructured_from_a_borrow ≡ facts
+unfolding digits ancestors_of
+all_told = facts_told destructured_from_a_borrow told (both facts_main_told refl)
+
+abbrev low_bb_main_0 : Block
+low_bb_main_0 = record {
+  args = [];
+  insts =
+      record (inst op.AllocRef (v 0 ∷ []) []) { ty = Some ty_C }
+      ∷ record (inst op.IntegerLiteral (v 1 ∷ []) []) { ty = Some (type.Int 8); number = Some (pos 1) }
+      ∷ inst op.Tuple (v 2 ∷ []) (typed 0 ty_C ∷ typed 1 (type.Int 8) ∷ [])
+      ∷ record (inst op.TupleExtract (v 3 ∷ []) (typed 2 (type.Tuple (ty_C ∷ (type.Int 8) ∷ [])) ∷ [])) { number = Some (pos 0) }
+      ∷ record (inst op.TupleExtract (v 4 ∷ []) (typed 2 (type.Tuple (ty_C ∷ (type.Int 8) ∷ [])) ∷ [])) { number = Some (pos 1) }
+      ∷ inst op.StrongRetain [] (typed 3 ty_C ∷ [])
+      ∷ inst op.ReleaseValue [] (typed 2 (type.Tuple (ty_C ∷ (type.Int 8) ∷ [])) ∷ [])
+      ∷ inst op.StrongRelease [] (typed 3 ty_C ∷ [])
+      ∷ inst op.Tuple (v 5 ∷ []) []
+      ∷ [];
+  terminator = inst op.Return [] (typed 5 (type.Tuple []) ∷ []);
+}
+
+abbrev low_fn_main : Function
+low_fn_main = record {
+  name = codes "main";
+  form = form.Lowered;
+  linkage = linkage.Plain;
+  attributes = [];
+  signature = sig_main;
+  blocks = low_bb_main_0 ∷ [];
+}
+
+abbrev low : Module
+low = record destructured_from_a_borrow { functions = low_fn_main ∷ [] }
+
+low_main_is : lowered_function (declarations_of destructured_from_a_borrow) fn_main ≡ low_fn_main
+unfolding digits ancestors_of
+low_main_is = simp (opened) refl
+
+lowers : lowered destructured_from_a_borrow ≡ low
+unfolding digits ancestors_of
+lowers = lowered_with destructured_from_a_borrow (both low_main_is refl)
+
+abbrev inst_low_main_0_0 : Inst
+inst_low_main_0_0 = record (inst op.AllocRef (v 0 ∷ []) []) { ty = Some ty_C }
+
+made_low_main_0_0 : made_types (declarations_of destructured_from_a_borrow) inst_low_main_0_0 ≡ (ty_C ∷ [])
+unfolding digits ancestors_of
+made_low_main_0_0 = simp (opened) refl
+
+abbrev inst_low_main_0_1 : Inst
+inst_low_main_0_1 = record (inst op.IntegerLiteral (v 1 ∷ []) []) { ty = Some (type.Int 8); number = Some (pos 1) }
+
+made_low_main_0_1 : made_types (declarations_of destructured_from_a_borrow) inst_low_main_0_1 ≡ ((type.Int 8) ∷ [])
+unfolding digits ancestors_of
+made_low_main_0_1 = simp (opened) refl
+
+abbrev inst_low_main_0_2 : Inst
+inst_low_main_0_2 = inst op.Tuple (v 2 ∷ []) (typed 0 ty_C ∷ typed 1 (type.Int 8) ∷ [])
+
+made_low_main_0_2 : made_types (declarations_of destructured_from_a_borrow) inst_low_main_0_2 ≡ ((type.Tuple (ty_C ∷ (type.Int 8) ∷ [])) ∷ [])
+unfolding digits ancestors_of
+made_low_main_0_2 = simp (opened) refl
+
+abbrev inst_low_main_0_3 : Inst
+inst_low_main_0_3 = record (inst op.TupleExtract (v 3 ∷ []) (typed 2 (type.Tuple (ty_C ∷ (type.Int 8) ∷ [])) ∷ [])) { number = Some (pos 0) }
+
+made_low_main_0_3 : made_types (declarations_of destructured_from_a_borrow) inst_low_main_0_3 ≡ (ty_C ∷ [])
+unfolding digits ancestors_of
+made_low_main_0_3 = simp (opened) refl
+
+abbrev inst_low_main_0_4 : Inst
+inst_low_main_0_4 = record (inst op.TupleExtract (v 4 ∷ []) (typed 2 (type.Tuple (ty_C ∷ (type.Int 8) ∷ [])) ∷ [])) { number = Some (pos 1) }
+
+made_low_main_0_4 : made_types (declarations_of destructured_from_a_borrow) inst_low_main_0_4 ≡ ((type.Int 8) ∷ [])
+unfolding digits ancestors_of
+made_low_main_0_4 = simp (opened) refl
+
+abbrev inst_low_main_0_8 : Inst
+inst_low_main_0_8 = inst op.Tuple (v 5 ∷ []) []
+
+made_low_main_0_8 : made_types (declarations_of destructured_from_a_borrow) inst_low_main_0_8 ≡ ((type.Tuple []) ∷ [])
+unfolding digits ancestors_of
+made_low_main_0_8 = refl
+
+abbrev low_types_main : List (Option TypeName)
+low_types_main = Some ty_C ∷ Some (type.Int 8) ∷ Some (type.Tuple (ty_C ∷ (type.Int 8) ∷ [])) ∷ Some ty_C ∷ Some (type.Int 8) ∷ Some (type.Tuple []) ∷ []
+
+low_types_main_told : value_types (declarations_of destructured_from_a_borrow) low_fn_main ≡ low_types_main
+unfolding digits ancestors_of
+low_types_main_told = (both (ap (λ ts. slice_get ts 0) made_low_main_0_0) (both (ap (λ ts. slice_get ts 0) made_low_main_0_1) (both (ap (λ ts. slice_get ts 0) made_low_main_0_2) (both (ap (λ
+    ts. slice_get ts 0) made_low_main_0_3) (both (ap (λ ts. slice_get ts 0) made_low_main_0_4) (both (ap (λ ts. slice_get ts 0) made_low_main_0_8) refl))))))
+
+abbrev low_shapes_main : List Shape
+low_shapes_main = (shape_C ∷ (shape.Integer 8) ∷ (shape.Tuple (shape.Member shape_C (shape.Member (shape.Integer 8) shape.NoMember))) ∷ shape_C ∷ (shape.Integer 8) ∷ (shape.Tuple
+    shape.NoMember) ∷ [])
+
+low_shapes_main_told : function_shapes (declarations_of destructured_from_a_borrow) low_fn_main ≡ low_shapes_main
+unfolding digits ancestors_of
+low_shapes_main_told = ap (map (value_shape (declarations_of destructured_from_a_borrow))) low_types_main_told ∙ (both (at_named (declarations_of destructured_from_a_borrow) (codes "C") ∙
+    seen_C_1) (both (at_int (declarations_of destructured_from_a_borrow) 8 ∙ (seen_int (declarations_of destructured_from_a_borrow) 1 8)) (both (at_tuple (declarations_of
+    destructured_from_a_borrow) (ty_C ∷ (type.Int 8) ∷ []) ∙ (seen_tuple (declarations_of destructured_from_a_borrow) 1 (ty_C ∷ (type.Int 8) ∷ []) (shape_C ∷ (shape.Integer 8) ∷ []) (both
+    seen_C_1 (both (seen_int (declarations_of destructured_from_a_borrow) 1 8) refl)))) (both (at_named (declarations_of destructured_from_a_borrow) (codes "C") ∙ seen_C_1) (both (at_int
+    (declarations_of destructured_from_a_borrow) 8 ∙ (seen_int (declarations_of destructured_from_a_borrow) 1 8)) (both (at_tuple (declarations_of destructured_from_a_borrow) [] ∙
+    (seen_tuple (declarations_of destructured_from_a_borrow) 1 [] [] refl)) refl))))))
+
+abbrev low_shapes : ModuleShapes
+low_shapes = shapes_with classes (low_shapes_main ∷ [])
+
+low_told : shapes_of low ≡ low_shapes
+unfolding digits ancestors_of
+low_told = shapes_told low classes_told (both low_shapes_main_told refl)
+
+abbrev given_shape : Shape
+given_shape = (shape.Tuple shape.NoMember)
+
+given_told : returned_shape destructured_from_a_borrow (fn 0) ≡ given_shape
+unfolding digits ancestors_of
+given_told = (seen_tuple (declarations_of destructured_from_a_borrow) 1 [] [] refl)
+
+runs : HasReport destructured_from_a_borrow given_shape (outcome_with destructured_from_a_borrow facts (fn 0) 100000 300) destructured_from_a_borrow_answer
+unfolding digits ancestors_of
+runs = refl
+
+lowered_runs : HasReport destructured_from_a_borrow given_shape (low_outcome_with low low_shapes (fn 0) 100000 300) destructured_from_a_borrow_answer
+unfolding digits ancestors_of
+lowered_runs = refl
+
+pub destructured_from_a_borrow_proved : DestructuredFromABorrow
+unfolding digits ancestors_of
+destructured_from_a_borrow_proved = (
+  by_holders destructured_from_a_borrow (fn 0) 100000 300 destructured_from_a_borrow_answer given_told all_told runs,
+  of_lowered destructured_from_a_borrow (fn 0) 100000 300 destructured_from_a_borrow_answer given_told lowers low_told lowered_runs,
+)

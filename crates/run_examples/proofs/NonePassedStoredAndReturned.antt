@@ -1,0 +1,363 @@
+-- A None value of nontrivial type is passed as owned and as guaranteed, stored, taken and returned.
+use Rattle.std.proofs.Common.{◌≡◌, refl, List, [], ◌∷◌, Some, None, true, false, Option, ap, ◌∙◌}
+use Rattle.std.specs.Prelude.{codes, slice_get, map}
+use Rattle.std.specs.List.{flat_map, range_with_len}
+use Rattle.std.specs.Fmt.{digits}
+use Rattle.holder_model.specs.Calling.{value_count}
+use Rattle.holder_model.specs.ModuleFacts.{ModuleFacts, facts_of, function_facts}
+use Rattle.holder_model.specs.ModuleShapes.{value_shape, ClassShape, ModuleShapes, class_shape, function_shapes, shapes_of}
+use Rattle.holder_model.specs.Outcomes.{outcome_with}
+use Rattle.instruction_table.specs.Forms.{result_kind_of}
+use Rattle.instruction_table.specs.declared.op.Op.TheVariants as op
+use Rattle.lowered_run.specs.LowOutcomes.{low_outcome_with}
+use Rattle.lowering_model.specs.LoweredModules.{lowered, lowered_function}
+use Rattle.ownership_chains.specs.Facts.{value_of}
+use Rattle.ownership_chains.specs.declared.definition.Definition.{Definition}
+use Rattle.ownership_chains.specs.declared.facts.Facts.{Facts}
+use Rattle.ownership_kinds.specs.Facts.{facts_by}
+use Rattle.ownership_origins.specs.Origins.{definitions_of, arg_definition_by, result_definition_by}
+use Rattle.ownership_origins.specs.Switched.{switch_to}
+use Rattle.run_examples.proofs.Computed.{both, lowered_with, shapes_told, facts_told, by_holders, of_lowered}
+use Rattle.run_examples.proofs.Opened.{opened}
+use Rattle.run_examples.proofs.Told.{definition_by}
+use Rattle.run_examples.proofs.Told.{seen, seen_named, seen_optional, at_optional, at_address, weighed, weighed_named, weighed_optional, weighed_address}
+use Rattle.run_examples.specs.Parts.{v, fn, typed, bare, member, inst, arg, owned, lent, plain, optional, class_with, shapes_with, facts_with}
+use Rattle.run_examples.specs.inner.NonePassedStoredAndReturned.{NonePassedStoredAndReturned, fn_f, fn_main, none_passed_stored_and_returned}
+use Rattle.run_examples.specs.inner.NonePassedStoredAndReturned.{none_passed_stored_and_returned_answer, sig_f, sig_main, ty_C}
+use Rattle.run_examples.specs.inner.Reported.{HasReport, returned_shape}
+use Rattle.run_values.specs.Shapes as shape
+use Rattle.run_values.specs.Shapes.{Shape}
+use Rattle.sil_ast.specs.declared.function.ArgKind.TheVariants as kind
+use Rattle.sil_ast.specs.declared.function.Block.{Block}
+use Rattle.sil_ast.specs.declared.function.Form.TheVariants as form
+use Rattle.sil_ast.specs.declared.function.Function.{Function}
+use Rattle.sil_ast.specs.declared.function.Linkage.TheVariants as linkage
+use Rattle.sil_ast.specs.declared.inst.Inst.{Inst}
+use Rattle.sil_ast.specs.declared.inst.Qualifier.TheVariants as qualifier
+use Rattle.sil_ast.specs.declared.module.Module.{Module}
+use Rattle.sil_ast.specs.declared.type_name.TypeName.TheVariants as type
+use Rattle.sil_ast.specs.declared.type_name.TypeName.{TypeName}
+use Rattle.sil_types.specs.Typing.RowTypes.{made_types}
+use Rattle.sil_types.specs.Typing.Values.{value_types}
+use Rattle.type_definitions.specs.Declarations.{ancestors_of, declarations_of}
+use Rattle.type_definitions.specs.Measures.{of_payloads, of_reference, is_trivial, is_trivial_measure}
+use Rattle.type_definitions.specs.declared.measure.Measure.{Measure}
+
+abbrev shape_C : Shape
+shape_C = shape.Reference (codes "C")
+
+abbrev measure_C : Measure
+measure_C = of_reference
+
+abbrev classes : List ClassShape
+classes = class_with (codes "C") [] ∷ []
+
+classes_told : flat_map (class_shape (declarations_of none_passed_stored_and_returned)) none_passed_stored_and_returned.decls ≡ classes
+unfolding digits ancestors_of
+classes_told = (both (ap (class_with (codes "C")) refl) refl)
+
+abbrev types_f : List (Option TypeName)
+types_f = Some (type.Optional ty_C) ∷ Some (type.Optional ty_C) ∷ []
+
+types_f_told : value_types (declarations_of none_passed_stored_and_returned) fn_f ≡ types_f
+unfolding digits ancestors_of
+types_f_told = (both refl (both refl refl))
+
+abbrev shapes_f : List Shape
+shapes_f = ((optional shape_C) ∷ (optional shape_C) ∷ [])
+
+seen_C_3 : seen (declarations_of none_passed_stored_and_returned) 3 ty_C ≡ shape_C
+unfolding digits ancestors_of
+seen_C_3 = seen_named (declarations_of none_passed_stored_and_returned) 3 (codes "C")
+
+shapes_f_told : function_shapes (declarations_of none_passed_stored_and_returned) fn_f ≡ shapes_f
+unfolding digits ancestors_of
+shapes_f_told = ap (map (value_shape (declarations_of none_passed_stored_and_returned))) types_f_told ∙ (both (at_optional (declarations_of none_passed_stored_and_returned) ty_C ∙
+    (seen_optional (declarations_of none_passed_stored_and_returned) 3 ty_C shape_C seen_C_3)) (both (at_optional (declarations_of none_passed_stored_and_returned) ty_C ∙ (seen_optional
+    (declarations_of none_passed_stored_and_returned) 3 ty_C shape_C seen_C_3)) refl))
+
+weighed_C_3 : weighed (declarations_of none_passed_stored_and_returned) 3 ty_C ≡ measure_C
+unfolding digits ancestors_of
+weighed_C_3 = weighed_named (declarations_of none_passed_stored_and_returned) 3 (codes "C")
+
+trivial_0 : is_trivial (declarations_of none_passed_stored_and_returned) (type.Optional ty_C) ≡ false
+unfolding digits ancestors_of
+trivial_0 = ap is_trivial_measure (weighed_optional (declarations_of none_passed_stored_and_returned) 3 ty_C measure_C weighed_C_3)
+
+abbrev definitions_f : List Definition
+definitions_f = arg_definition_by true (switch_to fn_f 0) kind.Owned false ∷ arg_definition_by true (switch_to fn_f 0) kind.Guaranteed false ∷ []
+
+definitions_f_told : definitions_of (declarations_of none_passed_stored_and_returned) fn_f ≡ definitions_f
+unfolding digits ancestors_of
+definitions_f_told = (both (ap (arg_definition_by true (switch_to fn_f 0) kind.Owned) trivial_0) (both (ap (arg_definition_by true (switch_to fn_f 0) kind.Guaranteed) trivial_0) refl))
+
+abbrev inst_main_0_0 : Inst
+inst_main_0_0 = record (inst op.Enum (v 0 ∷ []) []) { ty = Some (type.Optional ty_C); member = Some (member (codes "Optional") (codes "none")) }
+
+made_main_0_0 : made_types (declarations_of none_passed_stored_and_returned) inst_main_0_0 ≡ ((type.Optional ty_C) ∷ [])
+unfolding digits ancestors_of
+made_main_0_0 = simp (opened) refl
+
+abbrev inst_main_0_1 : Inst
+inst_main_0_1 = record (inst op.FunctionRef (v 1 ∷ []) []) { function = Some (fn 0); signature = Some sig_f }
+
+made_main_0_1 : made_types (declarations_of none_passed_stored_and_returned) inst_main_0_1 ≡ []
+unfolding digits ancestors_of
+made_main_0_1 = refl
+
+abbrev inst_main_0_2 : Inst
+inst_main_0_2 = record (inst op.Apply (v 2 ∷ []) (bare 1 ∷ bare 0 ∷ bare 0 ∷ [])) { signature = Some sig_f }
+
+made_main_0_2 : made_types (declarations_of none_passed_stored_and_returned) inst_main_0_2 ≡ ((type.Optional ty_C) ∷ [])
+unfolding digits ancestors_of
+made_main_0_2 = refl
+
+abbrev inst_main_0_3 : Inst
+inst_main_0_3 = record (inst op.AllocStack (v 3 ∷ []) []) { ty = Some (type.Optional ty_C) }
+
+made_main_0_3 : made_types (declarations_of none_passed_stored_and_returned) inst_main_0_3 ≡ ((type.Address (type.Optional ty_C)) ∷ [])
+unfolding digits ancestors_of
+made_main_0_3 = refl
+
+abbrev inst_main_0_5 : Inst
+inst_main_0_5 = record (inst op.Load (v 4 ∷ []) (typed 3 (type.Address (type.Optional ty_C)) ∷ [])) { qualifier = qualifier.Take }
+
+made_main_0_5 : made_types (declarations_of none_passed_stored_and_returned) inst_main_0_5 ≡ ((type.Optional ty_C) ∷ [])
+unfolding digits ancestors_of
+made_main_0_5 = simp (opened) refl
+
+abbrev types_main : List (Option TypeName)
+types_main = Some (type.Optional ty_C) ∷ None ∷ Some (type.Optional ty_C) ∷ Some (type.Address (type.Optional ty_C)) ∷ Some (type.Optional ty_C) ∷ []
+
+types_main_told : value_types (declarations_of none_passed_stored_and_returned) fn_main ≡ types_main
+unfolding digits ancestors_of
+types_main_told = (both (ap (λ ts. slice_get ts 0) made_main_0_0) (both (ap (λ ts. slice_get ts 0) made_main_0_1) (both (ap (λ ts. slice_get ts 0) made_main_0_2) (both (ap (λ ts. slice_get
+    ts 0) made_main_0_3) (both (ap (λ ts. slice_get ts 0) made_main_0_5) refl)))))
+
+abbrev shapes_main : List Shape
+shapes_main = ((optional shape_C) ∷ shape.Unknown ∷ (optional shape_C) ∷ (optional shape_C) ∷ (optional shape_C) ∷ [])
+
+shapes_main_told : function_shapes (declarations_of none_passed_stored_and_returned) fn_main ≡ shapes_main
+unfolding digits ancestors_of
+shapes_main_told = ap (map (value_shape (declarations_of none_passed_stored_and_returned))) types_main_told ∙ (both (at_optional (declarations_of none_passed_stored_and_returned) ty_C ∙
+    (seen_optional (declarations_of none_passed_stored_and_returned) 3 ty_C shape_C seen_C_3)) (both refl (both (at_optional (declarations_of none_passed_stored_and_returned) ty_C ∙
+    (seen_optional (declarations_of none_passed_stored_and_returned) 3 ty_C shape_C seen_C_3)) (both (at_address (declarations_of none_passed_stored_and_returned) (type.Optional ty_C) ∙
+    (seen_optional (declarations_of none_passed_stored_and_returned) 3 ty_C shape_C seen_C_3)) (both (at_optional (declarations_of none_passed_stored_and_returned) ty_C ∙ (seen_optional
+    (declarations_of none_passed_stored_and_returned) 3 ty_C shape_C seen_C_3)) refl)))))
+
+trivial_1 : is_trivial (declarations_of none_passed_stored_and_returned) (type.Address (type.Optional ty_C)) ≡ false
+unfolding digits ancestors_of
+trivial_1 = ap is_trivial_measure (weighed_address (declarations_of none_passed_stored_and_returned) 3 (type.Optional ty_C) (of_payloads (measure_C ∷ [])) (weighed_optional (declarations_of
+    none_passed_stored_and_returned) 3 ty_C measure_C weighed_C_3))
+
+abbrev definitions_main : List Definition
+definitions_main = result_definition_by (result_kind_of inst_main_0_0.op) inst_main_0_0 false ∷ result_definition_by (result_kind_of inst_main_0_1.op) inst_main_0_1 true ∷
+    result_definition_by (result_kind_of inst_main_0_2.op) inst_main_0_2 false ∷ result_definition_by (result_kind_of inst_main_0_3.op) inst_main_0_3 false ∷ result_definition_by
+    (result_kind_of inst_main_0_5.op) inst_main_0_5 false ∷ []
+
+definitions_main_told : definitions_of (declarations_of none_passed_stored_and_returned) fn_main ≡ definitions_main
+unfolding digits ancestors_of
+definitions_main_told = (both (definition_by (declarations_of none_passed_stored_and_returned) inst_main_0_0 0 ((type.Optional ty_C) ∷ []) false made_main_0_0 trivial_0) (both (definition_by
+    (declarations_of none_passed_stored_and_returned) inst_main_0_1 0 [] true made_main_0_1 refl) (both (definition_by (declarations_of none_passed_stored_and_returned) inst_main_0_2 0
+    ((type.Optional ty_C) ∷ []) false made_main_0_2 trivial_0) (both (definition_by (declarations_of none_passed_stored_and_returned) inst_main_0_3 0 ((type.Address (type.Optional ty_C)) ∷
+    []) false made_main_0_3 trivial_1) (both (definition_by (declarations_of none_passed_stored_and_returned) inst_main_0_5 0 ((type.Optional ty_C) ∷ []) false made_main_0_5 trivial_0)
+    refl)))))
+
+abbrev shapes : ModuleShapes
+shapes = shapes_with classes (shapes_f ∷ shapes_main ∷ [])
+
+told : shapes_of none_passed_stored_and_returned ≡ shapes
+unfolding digits ancestors_of
+told = shapes_told none_passed_stored_and_returned classes_told (both shapes_f_told (both shapes_main_told refl))
+
+abbrev facts_f : List (Option Facts)
+facts_f = (owned 0 ∷ lent (v 1 ∷ []) ∷ [])
+
+facts_f_told : function_facts (declarations_of none_passed_stored_and_returned) fn_f ≡ facts_f
+unfolding digits ancestors_of
+facts_f_told = ap (λ defs. map (λ v. facts_by defs (value_of v)) (range_with_len 0 (value_count fn_f))) definitions_f_told
+
+abbrev facts_main : List (Option Facts)
+facts_main = (plain [] ∷ plain [] ∷ owned 2 ∷ plain [] ∷ owned 4 ∷ [])
+
+facts_main_told : function_facts (declarations_of none_passed_stored_and_returned) fn_main ≡ facts_main
+unfolding digits ancestors_of
+facts_main_told = ap (λ defs. map (λ v. facts_by defs (value_of v)) (range_with_len 0 (value_count fn_main))) definitions_main_told
+
+abbrev facts : ModuleFacts
+facts = facts_with shapes (facts_f ∷ facts_main ∷ [])
+
+all_told : facts_of none_passed_stored_and_returned ≡ facts
+unfolding digits ancestors_of
+all_told = facts_told none_passed_stored_and_returned told (both facts_f_told (both facts_main_told refl))
+
+abbrev low_bb_f_0 : Block
+low_bb_f_0 = record {
+  args =
+      arg 0 kind.Plain (type.Optional ty_C)
+      ∷ arg 1 kind.Plain (type.Optional ty_C)
+      ∷ [];
+  insts = [];
+  terminator = inst op.Return [] (typed 0 (type.Optional ty_C) ∷ []);
+}
+
+abbrev low_fn_f : Function
+low_fn_f = record {
+  name = codes "f";
+  form = form.Lowered;
+  linkage = linkage.Plain;
+  attributes = [];
+  signature = sig_f;
+  blocks = low_bb_f_0 ∷ [];
+}
+
+abbrev low_bb_main_0 : Block
+low_bb_main_0 = record {
+  args = [];
+  insts =
+      record (inst op.Enum (v 0 ∷ []) []) { ty = Some (type.Optional ty_C); member = Some (member (codes "Optional") (codes "none")) }
+      ∷ record (inst op.FunctionRef (v 1 ∷ []) []) { function = Some (fn 0); signature = Some sig_f }
+      ∷ record (inst op.Apply (v 2 ∷ []) (bare 1 ∷ bare 0 ∷ bare 0 ∷ [])) { signature = Some sig_f }
+      ∷ record (inst op.AllocStack (v 3 ∷ []) []) { ty = Some (type.Optional ty_C) }
+      ∷ inst op.Store [] (bare 2 ∷ typed 3 (type.Address (type.Optional ty_C)) ∷ [])
+      ∷ inst op.Load (v 4 ∷ []) (typed 3 (type.Address (type.Optional ty_C)) ∷ [])
+      ∷ inst op.Store [] (bare 0 ∷ typed 3 (type.Address (type.Optional ty_C)) ∷ [])
+      ∷ inst op.Load (v 5 ∷ []) (typed 3 (type.Address (type.Optional ty_C)) ∷ [])
+      ∷ inst op.ReleaseValue [] (typed 5 (type.Optional ty_C) ∷ [])
+      ∷ inst op.DeallocStack [] (typed 3 (type.Address (type.Optional ty_C)) ∷ [])
+      ∷ inst op.ReleaseValue [] (typed 4 (type.Optional ty_C) ∷ [])
+      ∷ [];
+  terminator = inst op.Return [] (typed 0 (type.Optional ty_C) ∷ []);
+}
+
+abbrev low_fn_main : Function
+low_fn_main = record {
+  name = codes "main";
+  form = form.Lowered;
+  linkage = linkage.Plain;
+  attributes = [];
+  signature = sig_main;
+  blocks = low_bb_main_0 ∷ [];
+}
+
+abbrev low : Module
+low = record none_passed_stored_and_returned { functions = low_fn_f ∷ low_fn_main ∷ [] }
+
+low_f_is : lowered_function (declarations_of none_passed_stored_and_returned) fn_f ≡ low_fn_f
+unfolding digits ancestors_of
+low_f_is = refl
+
+low_main_is : lowered_function (declarations_of none_passed_stored_and_returned) fn_main ≡ low_fn_main
+unfolding digits ancestors_of
+low_main_is = simp (opened) refl
+
+lowers : lowered none_passed_stored_and_returned ≡ low
+unfolding digits ancestors_of
+lowers = lowered_with none_passed_stored_and_returned (both low_f_is (both low_main_is refl))
+
+abbrev low_types_f : List (Option TypeName)
+low_types_f = Some (type.Optional ty_C) ∷ Some (type.Optional ty_C) ∷ []
+
+low_types_f_told : value_types (declarations_of none_passed_stored_and_returned) low_fn_f ≡ low_types_f
+unfolding digits ancestors_of
+low_types_f_told = (both refl (both refl refl))
+
+abbrev low_shapes_f : List Shape
+low_shapes_f = ((optional shape_C) ∷ (optional shape_C) ∷ [])
+
+low_shapes_f_told : function_shapes (declarations_of none_passed_stored_and_returned) low_fn_f ≡ low_shapes_f
+unfolding digits ancestors_of
+low_shapes_f_told = ap (map (value_shape (declarations_of none_passed_stored_and_returned))) low_types_f_told ∙ (both (at_optional (declarations_of none_passed_stored_and_returned) ty_C ∙
+    (seen_optional (declarations_of none_passed_stored_and_returned) 3 ty_C shape_C seen_C_3)) (both (at_optional (declarations_of none_passed_stored_and_returned) ty_C ∙ (seen_optional
+    (declarations_of none_passed_stored_and_returned) 3 ty_C shape_C seen_C_3)) refl))
+
+abbrev inst_low_main_0_0 : Inst
+inst_low_main_0_0 = record (inst op.Enum (v 0 ∷ []) []) { ty = Some (type.Optional ty_C); member = Some (member (codes "Optional") (codes "none")) }
+
+made_low_main_0_0 : made_types (declarations_of none_passed_stored_and_returned) inst_low_main_0_0 ≡ ((type.Optional ty_C) ∷ [])
+unfolding digits ancestors_of
+made_low_main_0_0 = simp (opened) refl
+
+abbrev inst_low_main_0_1 : Inst
+inst_low_main_0_1 = record (inst op.FunctionRef (v 1 ∷ []) []) { function = Some (fn 0); signature = Some sig_f }
+
+made_low_main_0_1 : made_types (declarations_of none_passed_stored_and_returned) inst_low_main_0_1 ≡ []
+unfolding digits ancestors_of
+made_low_main_0_1 = refl
+
+abbrev inst_low_main_0_2 : Inst
+inst_low_main_0_2 = record (inst op.Apply (v 2 ∷ []) (bare 1 ∷ bare 0 ∷ bare 0 ∷ [])) { signature = Some sig_f }
+
+made_low_main_0_2 : made_types (declarations_of none_passed_stored_and_returned) inst_low_main_0_2 ≡ ((type.Optional ty_C) ∷ [])
+unfolding digits ancestors_of
+made_low_main_0_2 = refl
+
+abbrev inst_low_main_0_3 : Inst
+inst_low_main_0_3 = record (inst op.AllocStack (v 3 ∷ []) []) { ty = Some (type.Optional ty_C) }
+
+made_low_main_0_3 : made_types (declarations_of none_passed_stored_and_returned) inst_low_main_0_3 ≡ ((type.Address (type.Optional ty_C)) ∷ [])
+unfolding digits ancestors_of
+made_low_main_0_3 = refl
+
+abbrev inst_low_main_0_5 : Inst
+inst_low_main_0_5 = inst op.Load (v 4 ∷ []) (typed 3 (type.Address (type.Optional ty_C)) ∷ [])
+
+made_low_main_0_5 : made_types (declarations_of none_passed_stored_and_returned) inst_low_main_0_5 ≡ ((type.Optional ty_C) ∷ [])
+unfolding digits ancestors_of
+made_low_main_0_5 = simp (opened) refl
+
+abbrev inst_low_main_0_7 : Inst
+inst_low_main_0_7 = inst op.Load (v 5 ∷ []) (typed 3 (type.Address (type.Optional ty_C)) ∷ [])
+
+made_low_main_0_7 : made_types (declarations_of none_passed_stored_and_returned) inst_low_main_0_7 ≡ ((type.Optional ty_C) ∷ [])
+unfolding digits ancestors_of
+made_low_main_0_7 = simp (opened) refl
+
+abbrev low_types_main : List (Option TypeName)
+low_types_main = Some (type.Optional ty_C) ∷ None ∷ Some (type.Optional ty_C) ∷ Some (type.Address (type.Optional ty_C)) ∷ Some (type.Optional ty_C) ∷ Some (type.Optional ty_C) ∷ []
+
+low_types_main_told : value_types (declarations_of none_passed_stored_and_returned) low_fn_main ≡ low_types_main
+unfolding digits ancestors_of
+low_types_main_told = (both (ap (λ ts. slice_get ts 0) made_low_main_0_0) (both (ap (λ ts. slice_get ts 0) made_low_main_0_1) (both (ap (λ ts. slice_get ts 0) made_low_main_0_2) (both (ap (λ
+    ts. slice_get ts 0) made_low_main_0_3) (both (ap (λ ts. slice_get ts 0) made_low_main_0_5) (both (ap (λ ts. slice_get ts 0) made_low_main_0_7) refl))))))
+
+abbrev low_shapes_main : List Shape
+low_shapes_main = ((optional shape_C) ∷ shape.Unknown ∷ (optional shape_C) ∷ (optional shape_C) ∷ (optional shape_C) ∷ (optional shape_C) ∷ [])
+
+low_shapes_main_told : function_shapes (declarations_of none_passed_stored_and_returned) low_fn_main ≡ low_shapes_main
+unfolding digits ancestors_of
+low_shapes_main_told = ap (map (value_shape (declarations_of none_passed_stored_and_returned))) low_types_main_told ∙ (both (at_optional (declarations_of none_passed_stored_and_returned)
+    ty_C ∙ (seen_optional (declarations_of none_passed_stored_and_returned) 3 ty_C shape_C seen_C_3)) (both refl (both (at_optional (declarations_of none_passed_stored_and_returned) ty_C ∙
+    (seen_optional (declarations_of none_passed_stored_and_returned) 3 ty_C shape_C seen_C_3)) (both (at_address (declarations_of none_passed_stored_and_returned) (type.Optional ty_C) ∙
+    (seen_optional (declarations_of none_passed_stored_and_returned) 3 ty_C shape_C seen_C_3)) (both (at_optional (declarations_of none_passed_stored_and_returned) ty_C ∙ (seen_optional
+    (declarations_of none_passed_stored_and_returned) 3 ty_C shape_C seen_C_3)) (both (at_optional (declarations_of none_passed_stored_and_returned) ty_C ∙ (seen_optional (declarations_of
+    none_passed_stored_and_returned) 3 ty_C shape_C seen_C_3)) refl))))))
+
+abbrev low_shapes : ModuleShapes
+low_shapes = shapes_with classes (low_shapes_f ∷ low_shapes_main ∷ [])
+
+low_told : shapes_of low ≡ low_shapes
+unfolding digits ancestors_of
+low_told = shapes_told low classes_told (both low_shapes_f_told (both low_shapes_main_told refl))
+
+abbrev given_shape : Shape
+given_shape = (optional shape_C)
+
+given_told : returned_shape none_passed_stored_and_returned (fn 1) ≡ given_shape
+unfolding digits ancestors_of
+given_told = (seen_optional (declarations_of none_passed_stored_and_returned) 3 ty_C shape_C seen_C_3)
+
+runs : HasReport none_passed_stored_and_returned given_shape (outcome_with none_passed_stored_and_returned facts (fn 1) 100000 300) none_passed_stored_and_returned_answer
+unfolding digits ancestors_of
+runs = refl
+
+lowered_runs : HasReport none_passed_stored_and_returned given_shape (low_outcome_with low low_shapes (fn 1) 100000 300) none_passed_stored_and_returned_answer
+unfolding digits ancestors_of
+lowered_runs = refl
+
+pub none_passed_stored_and_returned_proved : NonePassedStoredAndReturned
+unfolding digits ancestors_of
+none_passed_stored_and_returned_proved = (
+  by_holders none_passed_stored_and_returned (fn 1) 100000 300 none_passed_stored_and_returned_answer given_told all_told runs,
+  of_lowered none_passed_stored_and_returned (fn 1) 100000 300 none_passed_stored_and_returned_answer given_told lowers low_told lowered_runs,
+)

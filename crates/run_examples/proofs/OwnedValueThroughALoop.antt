@@ -1,0 +1,286 @@
+-- A loop hands two objects on to itself, and they change places.
+use Rattle.std.proofs.Common.{◌≡◌, refl, List, [], ◌∷◌, Some, true, false, Option, ap, ◌∙◌}
+use Rattle.std.specs.Prelude.{codes, pos, negsuc, slice_get, map}
+use Rattle.std.specs.List.{flat_map, range_with_len}
+use Rattle.std.specs.Fmt.{digits}
+use Rattle.holder_model.specs.Calling.{value_count}
+use Rattle.holder_model.specs.ModuleFacts.{ModuleFacts, facts_of, function_facts}
+use Rattle.holder_model.specs.ModuleShapes.{value_shape, ClassShape, ModuleShapes, class_shape, function_shapes, shapes_of}
+use Rattle.holder_model.specs.Outcomes.{outcome_with}
+use Rattle.instruction_table.specs.Forms.{result_kind_of}
+use Rattle.instruction_table.specs.declared.op.Op.TheVariants as op
+use Rattle.lowered_run.specs.LowOutcomes.{low_outcome_with}
+use Rattle.lowering_model.specs.LoweredModules.{lowered, lowered_function}
+use Rattle.ownership_chains.specs.Facts.{value_of}
+use Rattle.ownership_chains.specs.declared.definition.Definition.{Definition}
+use Rattle.ownership_chains.specs.declared.facts.Facts.{Facts}
+use Rattle.ownership_kinds.specs.Facts.{facts_by}
+use Rattle.ownership_origins.specs.Origins.{definitions_of, arg_definition_by, result_definition_by}
+use Rattle.ownership_origins.specs.Switched.{switch_to}
+use Rattle.run_examples.proofs.Computed.{both, lowered_with, shapes_told, facts_told, by_holders, of_lowered}
+use Rattle.run_examples.proofs.Opened.{opened}
+use Rattle.run_examples.proofs.Told.{seen, seen_int, seen_named, at_int, at_named, weighed, weighed_int, weighed_named, definition_by}
+use Rattle.run_examples.specs.Parts.{v, fn, typed, bare, inst, edge, arg, owned, plain, class_with, shapes_with, facts_with}
+use Rattle.run_examples.specs.inner.OwnedValueThroughALoop.{OwnedValueThroughALoop, fn_main, owned_value_through_a_loop, owned_value_through_a_loop_answer}
+use Rattle.run_examples.specs.inner.OwnedValueThroughALoop.{sig_main, ty_C}
+use Rattle.run_examples.specs.inner.Reported.{HasReport, returned_shape}
+use Rattle.run_values.specs.Shapes as shape
+use Rattle.run_values.specs.Shapes.{Shape}
+use Rattle.sil_ast.specs.declared.function.ArgKind.TheVariants as kind
+use Rattle.sil_ast.specs.declared.function.Block.{Block}
+use Rattle.sil_ast.specs.declared.function.Form.TheVariants as form
+use Rattle.sil_ast.specs.declared.function.Function.{Function}
+use Rattle.sil_ast.specs.declared.function.Linkage.TheVariants as linkage
+use Rattle.sil_ast.specs.declared.inst.Inst.{Inst}
+use Rattle.sil_ast.specs.declared.module.Module.{Module}
+use Rattle.sil_ast.specs.declared.type_name.TypeName.TheVariants as type
+use Rattle.sil_ast.specs.declared.type_name.TypeName.{TypeName}
+use Rattle.sil_types.specs.Typing.RowTypes.{made_types}
+use Rattle.sil_types.specs.Typing.Values.{value_types}
+use Rattle.type_definitions.specs.Declarations.{ancestors_of, declarations_of}
+use Rattle.type_definitions.specs.Measures.{of_reference, is_trivial, is_trivial_measure}
+use Rattle.type_definitions.specs.declared.measure.Measure.{Measure}
+
+abbrev shape_C : Shape
+shape_C = shape.Reference (codes "C")
+
+abbrev measure_C : Measure
+measure_C = of_reference
+
+abbrev classes : List ClassShape
+classes = class_with (codes "C") [] ∷ []
+
+classes_told : flat_map (class_shape (declarations_of owned_value_through_a_loop)) owned_value_through_a_loop.decls ≡ classes
+unfolding digits ancestors_of
+classes_told = (both (ap (class_with (codes "C")) refl) refl)
+
+abbrev inst_main_0_0 : Inst
+inst_main_0_0 = record (inst op.IntegerLiteral (v 0 ∷ []) []) { ty = Some (type.Int 1); number = Some (negsuc 0) }
+
+made_main_0_0 : made_types (declarations_of owned_value_through_a_loop) inst_main_0_0 ≡ ((type.Int 1) ∷ [])
+unfolding digits ancestors_of
+made_main_0_0 = simp (opened) refl
+
+abbrev inst_main_0_1 : Inst
+inst_main_0_1 = record (inst op.IntegerLiteral (v 1 ∷ []) []) { ty = Some (type.Int 1); number = Some (pos 0) }
+
+made_main_0_1 : made_types (declarations_of owned_value_through_a_loop) inst_main_0_1 ≡ ((type.Int 1) ∷ [])
+unfolding digits ancestors_of
+made_main_0_1 = simp (opened) refl
+
+abbrev inst_main_0_2 : Inst
+inst_main_0_2 = record (inst op.AllocRef (v 2 ∷ []) []) { ty = Some ty_C }
+
+made_main_0_2 : made_types (declarations_of owned_value_through_a_loop) inst_main_0_2 ≡ (ty_C ∷ [])
+unfolding digits ancestors_of
+made_main_0_2 = simp (opened) refl
+
+abbrev inst_main_0_3 : Inst
+inst_main_0_3 = record (inst op.AllocRef (v 3 ∷ []) []) { ty = Some ty_C }
+
+made_main_0_3 : made_types (declarations_of owned_value_through_a_loop) inst_main_0_3 ≡ (ty_C ∷ [])
+unfolding digits ancestors_of
+made_main_0_3 = simp (opened) refl
+
+abbrev types_main : List (Option TypeName)
+types_main = Some (type.Int 1) ∷ Some (type.Int 1) ∷ Some ty_C ∷ Some ty_C ∷ Some (type.Int 1) ∷ Some ty_C ∷ Some ty_C ∷ []
+
+types_main_told : value_types (declarations_of owned_value_through_a_loop) fn_main ≡ types_main
+unfolding digits ancestors_of
+types_main_told = (both (ap (λ ts. slice_get ts 0) made_main_0_0) (both (ap (λ ts. slice_get ts 0) made_main_0_1) (both (ap (λ ts. slice_get ts 0) made_main_0_2) (both (ap (λ ts. slice_get
+    ts 0) made_main_0_3) (both refl (both refl (both refl refl)))))))
+
+abbrev shapes_main : List Shape
+shapes_main = ((shape.Integer 1) ∷ (shape.Integer 1) ∷ shape_C ∷ shape_C ∷ (shape.Integer 1) ∷ shape_C ∷ shape_C ∷ [])
+
+seen_C_1 : seen (declarations_of owned_value_through_a_loop) 1 ty_C ≡ shape_C
+unfolding digits ancestors_of
+seen_C_1 = seen_named (declarations_of owned_value_through_a_loop) 1 (codes "C")
+
+shapes_main_told : function_shapes (declarations_of owned_value_through_a_loop) fn_main ≡ shapes_main
+unfolding digits ancestors_of
+shapes_main_told = ap (map (value_shape (declarations_of owned_value_through_a_loop))) types_main_told ∙ (both (at_int (declarations_of owned_value_through_a_loop) 1 ∙ (seen_int
+    (declarations_of owned_value_through_a_loop) 1 1)) (both (at_int (declarations_of owned_value_through_a_loop) 1 ∙ (seen_int (declarations_of owned_value_through_a_loop) 1 1)) (both
+    (at_named (declarations_of owned_value_through_a_loop) (codes "C") ∙ seen_C_1) (both (at_named (declarations_of owned_value_through_a_loop) (codes "C") ∙ seen_C_1) (both (at_int
+    (declarations_of owned_value_through_a_loop) 1 ∙ (seen_int (declarations_of owned_value_through_a_loop) 1 1)) (both (at_named (declarations_of owned_value_through_a_loop) (codes "C") ∙
+    seen_C_1) (both (at_named (declarations_of owned_value_through_a_loop) (codes "C") ∙ seen_C_1) refl)))))))
+
+trivial_0 : is_trivial (declarations_of owned_value_through_a_loop) (type.Int 1) ≡ true
+unfolding digits ancestors_of
+trivial_0 = ap is_trivial_measure (weighed_int (declarations_of owned_value_through_a_loop) 1 1)
+
+weighed_C_1 : weighed (declarations_of owned_value_through_a_loop) 1 ty_C ≡ measure_C
+unfolding digits ancestors_of
+weighed_C_1 = weighed_named (declarations_of owned_value_through_a_loop) 1 (codes "C")
+
+trivial_1 : is_trivial (declarations_of owned_value_through_a_loop) ty_C ≡ false
+unfolding digits ancestors_of
+trivial_1 = ap is_trivial_measure weighed_C_1
+
+abbrev definitions_main : List Definition
+definitions_main = result_definition_by (result_kind_of inst_main_0_0.op) inst_main_0_0 true ∷ result_definition_by (result_kind_of inst_main_0_1.op) inst_main_0_1 true ∷
+    result_definition_by (result_kind_of inst_main_0_2.op) inst_main_0_2 false ∷ result_definition_by (result_kind_of inst_main_0_3.op) inst_main_0_3 false ∷ arg_definition_by false
+    (switch_to fn_main 1) kind.Plain true ∷ arg_definition_by false (switch_to fn_main 1) kind.Owned false ∷ arg_definition_by false (switch_to fn_main 1) kind.Owned false ∷ []
+
+definitions_main_told : definitions_of (declarations_of owned_value_through_a_loop) fn_main ≡ definitions_main
+unfolding digits ancestors_of
+definitions_main_told = (both (definition_by (declarations_of owned_value_through_a_loop) inst_main_0_0 0 ((type.Int 1) ∷ []) true made_main_0_0 trivial_0) (both (definition_by
+    (declarations_of owned_value_through_a_loop) inst_main_0_1 0 ((type.Int 1) ∷ []) true made_main_0_1 trivial_0) (both (definition_by (declarations_of owned_value_through_a_loop)
+    inst_main_0_2 0 (ty_C ∷ []) false made_main_0_2 trivial_1) (both (definition_by (declarations_of owned_value_through_a_loop) inst_main_0_3 0 (ty_C ∷ []) false made_main_0_3 trivial_1)
+    (both (ap (arg_definition_by false (switch_to fn_main 1) kind.Plain) trivial_0) (both (ap (arg_definition_by false (switch_to fn_main 1) kind.Owned) trivial_1) (both (ap
+    (arg_definition_by false (switch_to fn_main 1) kind.Owned) trivial_1) refl)))))))
+
+abbrev shapes : ModuleShapes
+shapes = shapes_with classes (shapes_main ∷ [])
+
+told : shapes_of owned_value_through_a_loop ≡ shapes
+unfolding digits ancestors_of
+told = shapes_told owned_value_through_a_loop classes_told (both shapes_main_told refl)
+
+abbrev facts_main : List (Option Facts)
+facts_main = (plain [] ∷ plain [] ∷ owned 2 ∷ owned 3 ∷ plain [] ∷ owned 5 ∷ owned 6 ∷ [])
+
+facts_main_told : function_facts (declarations_of owned_value_through_a_loop) fn_main ≡ facts_main
+unfolding digits ancestors_of
+facts_main_told = ap (λ defs. map (λ v. facts_by defs (value_of v)) (range_with_len 0 (value_count fn_main))) definitions_main_told
+
+abbrev facts : ModuleFacts
+facts = facts_with shapes (facts_main ∷ [])
+
+all_told : facts_of owned_value_through_a_loop ≡ facts
+unfolding digits ancestors_of
+all_told = facts_told owned_value_through_a_loop told (both facts_main_told refl)
+
+abbrev low_bb_main_0 : Block
+low_bb_main_0 = record {
+  args = [];
+  insts =
+      record (inst op.IntegerLiteral (v 0 ∷ []) []) { ty = Some (type.Int 1); number = Some (negsuc 0) }
+      ∷ record (inst op.IntegerLiteral (v 1 ∷ []) []) { ty = Some (type.Int 1); number = Some (pos 0) }
+      ∷ record (inst op.AllocRef (v 2 ∷ []) []) { ty = Some ty_C }
+      ∷ record (inst op.AllocRef (v 3 ∷ []) []) { ty = Some ty_C }
+      ∷ [];
+  terminator = record (inst op.Br [] []) { edges = edge 1 (typed 0 (type.Int 1) ∷ typed 2 ty_C ∷ typed 3 ty_C ∷ []) ∷ [] };
+}
+
+abbrev low_bb_main_1 : Block
+low_bb_main_1 = record {
+  args =
+      arg 4 kind.Plain (type.Int 1)
+      ∷ arg 5 kind.Plain ty_C
+      ∷ arg 6 kind.Plain ty_C
+      ∷ [];
+  insts = [];
+  terminator = record (inst op.CondBr [] (bare 4 ∷ [])) { edges = edge 2 [] ∷ edge 3 [] ∷ [] };
+}
+
+abbrev low_bb_main_2 : Block
+low_bb_main_2 = record {
+  args = [];
+  insts = [];
+  terminator = record (inst op.Br [] []) { edges = edge 1 (typed 1 (type.Int 1) ∷ typed 6 ty_C ∷ typed 5 ty_C ∷ []) ∷ [] };
+}
+
+abbrev low_bb_main_3 : Block
+low_bb_main_3 = record {
+  args = [];
+  insts = inst op.StrongRelease [] (typed 5 ty_C ∷ []) ∷ [];
+  terminator = inst op.Return [] (typed 6 ty_C ∷ []);
+}
+
+abbrev low_fn_main : Function
+low_fn_main = record {
+  name = codes "main";
+  form = form.Lowered;
+  linkage = linkage.Plain;
+  attributes = [];
+  signature = sig_main;
+  blocks = low_bb_main_0 ∷ low_bb_main_1 ∷ low_bb_main_2 ∷ low_bb_main_3 ∷ [];
+}
+
+abbrev low : Module
+low = record owned_value_through_a_loop { functions = low_fn_main ∷ [] }
+
+low_main_is : lowered_function (declarations_of owned_value_through_a_loop) fn_main ≡ low_fn_main
+unfolding digits ancestors_of
+low_main_is = simp (opened) refl
+
+lowers : lowered owned_value_through_a_loop ≡ low
+unfolding digits ancestors_of
+lowers = lowered_with owned_value_through_a_loop (both low_main_is refl)
+
+abbrev inst_low_main_0_0 : Inst
+inst_low_main_0_0 = record (inst op.IntegerLiteral (v 0 ∷ []) []) { ty = Some (type.Int 1); number = Some (negsuc 0) }
+
+made_low_main_0_0 : made_types (declarations_of owned_value_through_a_loop) inst_low_main_0_0 ≡ ((type.Int 1) ∷ [])
+unfolding digits ancestors_of
+made_low_main_0_0 = simp (opened) refl
+
+abbrev inst_low_main_0_1 : Inst
+inst_low_main_0_1 = record (inst op.IntegerLiteral (v 1 ∷ []) []) { ty = Some (type.Int 1); number = Some (pos 0) }
+
+made_low_main_0_1 : made_types (declarations_of owned_value_through_a_loop) inst_low_main_0_1 ≡ ((type.Int 1) ∷ [])
+unfolding digits ancestors_of
+made_low_main_0_1 = simp (opened) refl
+
+abbrev inst_low_main_0_2 : Inst
+inst_low_main_0_2 = record (inst op.AllocRef (v 2 ∷ []) []) { ty = Some ty_C }
+
+made_low_main_0_2 : made_types (declarations_of owned_value_through_a_loop) inst_low_main_0_2 ≡ (ty_C ∷ [])
+unfolding digits ancestors_of
+made_low_main_0_2 = simp (opened) refl
+
+abbrev inst_low_main_0_3 : Inst
+inst_low_main_0_3 = record (inst op.AllocRef (v 3 ∷ []) []) { ty = Some ty_C }
+
+made_low_main_0_3 : made_types (declarations_of owned_value_through_a_loop) inst_low_main_0_3 ≡ (ty_C ∷ [])
+unfolding digits ancestors_of
+made_low_main_0_3 = simp (opened) refl
+
+abbrev low_types_main : List (Option TypeName)
+low_types_main = Some (type.Int 1) ∷ Some (type.Int 1) ∷ Some ty_C ∷ Some ty_C ∷ Some (type.Int 1) ∷ Some ty_C ∷ Some ty_C ∷ []
+
+low_types_main_told : value_types (declarations_of owned_value_through_a_loop) low_fn_main ≡ low_types_main
+unfolding digits ancestors_of
+low_types_main_told = (both (ap (λ ts. slice_get ts 0) made_low_main_0_0) (both (ap (λ ts. slice_get ts 0) made_low_main_0_1) (both (ap (λ ts. slice_get ts 0) made_low_main_0_2) (both (ap (λ
+    ts. slice_get ts 0) made_low_main_0_3) (both refl (both refl (both refl refl)))))))
+
+abbrev low_shapes_main : List Shape
+low_shapes_main = ((shape.Integer 1) ∷ (shape.Integer 1) ∷ shape_C ∷ shape_C ∷ (shape.Integer 1) ∷ shape_C ∷ shape_C ∷ [])
+
+low_shapes_main_told : function_shapes (declarations_of owned_value_through_a_loop) low_fn_main ≡ low_shapes_main
+unfolding digits ancestors_of
+low_shapes_main_told = ap (map (value_shape (declarations_of owned_value_through_a_loop))) low_types_main_told ∙ (both (at_int (declarations_of owned_value_through_a_loop) 1 ∙ (seen_int
+    (declarations_of owned_value_through_a_loop) 1 1)) (both (at_int (declarations_of owned_value_through_a_loop) 1 ∙ (seen_int (declarations_of owned_value_through_a_loop) 1 1)) (both
+    (at_named (declarations_of owned_value_through_a_loop) (codes "C") ∙ seen_C_1) (both (at_named (declarations_of owned_value_through_a_loop) (codes "C") ∙ seen_C_1) (both (at_int
+    (declarations_of owned_value_through_a_loop) 1 ∙ (seen_int (declarations_of owned_value_through_a_loop) 1 1)) (both (at_named (declarations_of owned_value_through_a_loop) (codes "C") ∙
+    seen_C_1) (both (at_named (declarations_of owned_value_through_a_loop) (codes "C") ∙ seen_C_1) refl)))))))
+
+abbrev low_shapes : ModuleShapes
+low_shapes = shapes_with classes (low_shapes_main ∷ [])
+
+low_told : shapes_of low ≡ low_shapes
+unfolding digits ancestors_of
+low_told = shapes_told low classes_told (both low_shapes_main_told refl)
+
+abbrev given_shape : Shape
+given_shape = shape_C
+
+given_told : returned_shape owned_value_through_a_loop (fn 0) ≡ given_shape
+unfolding digits ancestors_of
+given_told = seen_C_1
+
+runs : HasReport owned_value_through_a_loop given_shape (outcome_with owned_value_through_a_loop facts (fn 0) 100000 300) owned_value_through_a_loop_answer
+unfolding digits ancestors_of
+runs = refl
+
+lowered_runs : HasReport owned_value_through_a_loop given_shape (low_outcome_with low low_shapes (fn 0) 100000 300) owned_value_through_a_loop_answer
+unfolding digits ancestors_of
+lowered_runs = refl
+
+pub owned_value_through_a_loop_proved : OwnedValueThroughALoop
+unfolding digits ancestors_of
+owned_value_through_a_loop_proved = (
+  by_holders owned_value_through_a_loop (fn 0) 100000 300 owned_value_through_a_loop_answer given_told all_told runs,
+  of_lowered owned_value_through_a_loop (fn 0) 100000 300 owned_value_through_a_loop_answer given_told lowers low_told lowered_runs,
+)

@@ -1,0 +1,306 @@
+-- The references of a case's payload are dropped in leaf order.
+use Rattle.std.proofs.Common.{◌≡◌, refl, List, [], ◌∷◌, Some, true, false, Option, ap, ◌∙◌}
+use Rattle.std.specs.Prelude.{codes, slice_get, map}
+use Rattle.std.specs.List.{flat_map, range_with_len}
+use Rattle.std.specs.Fmt.{digits}
+use Rattle.holder_model.specs.Calling.{value_count}
+use Rattle.holder_model.specs.ModuleFacts.{ModuleFacts, facts_of, function_facts}
+use Rattle.holder_model.specs.ModuleShapes.{value_shape, ClassShape, ModuleShapes, class_shape, function_shapes, shapes_of}
+use Rattle.holder_model.specs.Outcomes.{outcome_with}
+use Rattle.instruction_table.specs.Forms.{result_kind_of}
+use Rattle.instruction_table.specs.declared.op.Op.TheVariants as op
+use Rattle.lowered_run.specs.LowOutcomes.{low_outcome_with}
+use Rattle.lowering_model.specs.LoweredModules.{lowered, lowered_function}
+use Rattle.ownership_chains.specs.Facts.{value_of}
+use Rattle.ownership_chains.specs.declared.definition.Definition.{Definition}
+use Rattle.ownership_chains.specs.declared.facts.Facts.{Facts}
+use Rattle.ownership_kinds.specs.Facts.{facts_by}
+use Rattle.ownership_origins.specs.Origins.{definitions_of, result_definition_by}
+use Rattle.run_examples.proofs.Computed.{both, lowered_with, shapes_told, facts_told, by_holders, of_lowered}
+use Rattle.run_examples.proofs.Opened.{opened}
+use Rattle.run_examples.proofs.Told.{enum_seen, payloads_weighed}
+use Rattle.run_examples.proofs.Told.{seen, seen_named, seen_tuple, at_named, at_tuple, weighed, weighed_named, weighed_tuple, definition_by, compared}
+use Rattle.run_examples.specs.Parts.{full_case, plain_case, v, fn, typed, member, inst, owned, plain, class_with, shapes_with, facts_with}
+use Rattle.run_examples.specs.inner.PayloadDropped.{PayloadDropped, fn_main, payload_dropped, payload_dropped_answer, sig_main, ty_C, ty_E}
+use Rattle.run_examples.specs.inner.Reported.{HasReport, returned_shape}
+use Rattle.run_values.specs.Shapes as shape
+use Rattle.run_values.specs.Shapes.{Shape}
+use Rattle.sil_ast.specs.declared.function.Block.{Block}
+use Rattle.sil_ast.specs.declared.function.Form.TheVariants as form
+use Rattle.sil_ast.specs.declared.function.Function.{Function}
+use Rattle.sil_ast.specs.declared.function.Linkage.TheVariants as linkage
+use Rattle.sil_ast.specs.declared.inst.Inst.{Inst}
+use Rattle.sil_ast.specs.declared.module.Module.{Module}
+use Rattle.sil_ast.specs.declared.type_name.TypeName.TheVariants as type
+use Rattle.sil_ast.specs.declared.type_name.TypeName.{TypeName}
+use Rattle.sil_types.specs.Typing.RowTypes.{made_types}
+use Rattle.sil_types.specs.Typing.Values.{value_types}
+use Rattle.type_definitions.specs.Declarations.{ancestors_of, declarations_of}
+use Rattle.type_definitions.specs.Measures.{of_members, of_payloads, of_reference, is_trivial, is_trivial_measure}
+use Rattle.type_definitions.specs.declared.measure.Measure.{Measure}
+
+abbrev shape_C : Shape
+shape_C = shape.Reference (codes "C")
+
+abbrev measure_C : Measure
+measure_C = of_reference
+
+abbrev shape_E : Shape
+shape_E = shape.Enum (codes "E") (shape.FullCase (codes "pair") (shape.Tuple (shape.Member shape_C (shape.Member shape_C shape.NoMember))) (shape.PlainCase (codes "none") shape.NoCase))
+
+abbrev measure_E : Measure
+measure_E = of_payloads ((of_members (measure_C ∷ measure_C ∷ [])) ∷ [])
+
+abbrev classes : List ClassShape
+classes = class_with (codes "C") [] ∷ []
+
+classes_told : flat_map (class_shape (declarations_of payload_dropped)) payload_dropped.decls ≡ classes
+unfolding digits ancestors_of
+classes_told = (both (ap (class_with (codes "C")) refl) refl)
+
+abbrev inst_main_0_0 : Inst
+inst_main_0_0 = record (inst op.AllocRef (v 0 ∷ []) []) { ty = Some ty_C }
+
+made_main_0_0 : made_types (declarations_of payload_dropped) inst_main_0_0 ≡ (ty_C ∷ [])
+unfolding digits ancestors_of
+made_main_0_0 = simp (opened) refl
+
+abbrev inst_main_0_1 : Inst
+inst_main_0_1 = record (inst op.AllocRef (v 1 ∷ []) []) { ty = Some ty_C }
+
+made_main_0_1 : made_types (declarations_of payload_dropped) inst_main_0_1 ≡ (ty_C ∷ [])
+unfolding digits ancestors_of
+made_main_0_1 = simp (opened) refl
+
+abbrev inst_main_0_2 : Inst
+inst_main_0_2 = inst op.Tuple (v 2 ∷ []) (typed 0 ty_C ∷ typed 1 ty_C ∷ [])
+
+made_main_0_2 : made_types (declarations_of payload_dropped) inst_main_0_2 ≡ ((type.Tuple (ty_C ∷ ty_C ∷ [])) ∷ [])
+unfolding digits ancestors_of
+made_main_0_2 = simp (opened) refl
+
+abbrev inst_main_0_3 : Inst
+inst_main_0_3 = record (inst op.Enum (v 3 ∷ []) (typed 2 (type.Tuple (ty_C ∷ ty_C ∷ [])) ∷ [])) { ty = Some ty_E; member = Some (member (codes "E") (codes "pair")) }
+
+made_main_0_3 : made_types (declarations_of payload_dropped) inst_main_0_3 ≡ (ty_E ∷ [])
+unfolding digits ancestors_of
+made_main_0_3 = simp (opened, compared) refl
+
+abbrev inst_main_0_5 : Inst
+inst_main_0_5 = inst op.Tuple (v 4 ∷ []) []
+
+made_main_0_5 : made_types (declarations_of payload_dropped) inst_main_0_5 ≡ ((type.Tuple []) ∷ [])
+unfolding digits ancestors_of
+made_main_0_5 = refl
+
+abbrev types_main : List (Option TypeName)
+types_main = Some ty_C ∷ Some ty_C ∷ Some (type.Tuple (ty_C ∷ ty_C ∷ [])) ∷ Some ty_E ∷ Some (type.Tuple []) ∷ []
+
+types_main_told : value_types (declarations_of payload_dropped) fn_main ≡ types_main
+unfolding digits ancestors_of
+types_main_told = (both (ap (λ ts. slice_get ts 0) made_main_0_0) (both (ap (λ ts. slice_get ts 0) made_main_0_1) (both (ap (λ ts. slice_get ts 0) made_main_0_2) (both (ap (λ ts. slice_get
+    ts 0) made_main_0_3) (both (ap (λ ts. slice_get ts 0) made_main_0_5) refl)))))
+
+abbrev shapes_main : List Shape
+shapes_main = (shape_C ∷ shape_C ∷ (shape.Tuple (shape.Member shape_C (shape.Member shape_C shape.NoMember))) ∷ shape_E ∷ (shape.Tuple shape.NoMember) ∷ [])
+
+seen_C_2 : seen (declarations_of payload_dropped) 2 ty_C ≡ shape_C
+unfolding digits ancestors_of
+seen_C_2 = seen_named (declarations_of payload_dropped) 2 (codes "C")
+
+seen_C_1 : seen (declarations_of payload_dropped) 1 ty_C ≡ shape_C
+unfolding digits ancestors_of
+seen_C_1 = seen_named (declarations_of payload_dropped) 1 (codes "C")
+
+seen_E_2 : seen (declarations_of payload_dropped) 2 ty_E ≡ shape_E
+unfolding digits ancestors_of
+seen_E_2 = seen_named (declarations_of payload_dropped) 2 (codes "E") ∙ enum_seen (codes "E") (full_case (codes "pair") (seen (declarations_of payload_dropped) 1 (type.Tuple (ty_C ∷ ty_C ∷
+    []))) ∷ plain_case (codes "none") ∷ []) (full_case (codes "pair") (shape.Tuple (shape.Member shape_C (shape.Member shape_C shape.NoMember))) ∷ plain_case (codes "none") ∷ []) (both (ap
+    (full_case (codes "pair")) (seen_tuple (declarations_of payload_dropped) 1 (ty_C ∷ ty_C ∷ []) (shape_C ∷ shape_C ∷ []) (both seen_C_1 (both seen_C_1 refl)))) (both refl refl))
+
+shapes_main_told : function_shapes (declarations_of payload_dropped) fn_main ≡ shapes_main
+unfolding digits ancestors_of
+shapes_main_told = ap (map (value_shape (declarations_of payload_dropped))) types_main_told ∙ (both (at_named (declarations_of payload_dropped) (codes "C") ∙ seen_C_2) (both (at_named
+    (declarations_of payload_dropped) (codes "C") ∙ seen_C_2) (both (at_tuple (declarations_of payload_dropped) (ty_C ∷ ty_C ∷ []) ∙ (seen_tuple (declarations_of payload_dropped) 2 (ty_C ∷
+    ty_C ∷ []) (shape_C ∷ shape_C ∷ []) (both seen_C_2 (both seen_C_2 refl)))) (both (at_named (declarations_of payload_dropped) (codes "E") ∙ seen_E_2) (both (at_tuple (declarations_of
+    payload_dropped) [] ∙ (seen_tuple (declarations_of payload_dropped) 2 [] [] refl)) refl)))))
+
+weighed_C_2 : weighed (declarations_of payload_dropped) 2 ty_C ≡ measure_C
+unfolding digits ancestors_of
+weighed_C_2 = weighed_named (declarations_of payload_dropped) 2 (codes "C")
+
+trivial_0 : is_trivial (declarations_of payload_dropped) ty_C ≡ false
+unfolding digits ancestors_of
+trivial_0 = ap is_trivial_measure weighed_C_2
+
+trivial_1 : is_trivial (declarations_of payload_dropped) (type.Tuple (ty_C ∷ ty_C ∷ [])) ≡ false
+unfolding digits ancestors_of
+trivial_1 = ap is_trivial_measure (weighed_tuple (declarations_of payload_dropped) 2 (ty_C ∷ ty_C ∷ []) (measure_C ∷ measure_C ∷ []) (both weighed_C_2 (both weighed_C_2 refl)))
+
+weighed_C_1 : weighed (declarations_of payload_dropped) 1 ty_C ≡ measure_C
+unfolding digits ancestors_of
+weighed_C_1 = weighed_named (declarations_of payload_dropped) 1 (codes "C")
+
+weighed_E_2 : weighed (declarations_of payload_dropped) 2 ty_E ≡ measure_E
+unfolding digits ancestors_of
+weighed_E_2 = weighed_named (declarations_of payload_dropped) 2 (codes "E") ∙ payloads_weighed (weighed (declarations_of payload_dropped) 1 (type.Tuple (ty_C ∷ ty_C ∷ [])) ∷ []) ((of_members
+    (measure_C ∷ measure_C ∷ [])) ∷ []) (both (weighed_tuple (declarations_of payload_dropped) 1 (ty_C ∷ ty_C ∷ []) (measure_C ∷ measure_C ∷ []) (both weighed_C_1 (both weighed_C_1 refl)))
+    refl)
+
+trivial_2 : is_trivial (declarations_of payload_dropped) ty_E ≡ false
+unfolding digits ancestors_of
+trivial_2 = ap is_trivial_measure weighed_E_2
+
+trivial_3 : is_trivial (declarations_of payload_dropped) (type.Tuple []) ≡ true
+unfolding digits ancestors_of
+trivial_3 = ap is_trivial_measure (weighed_tuple (declarations_of payload_dropped) 2 [] [] refl)
+
+abbrev definitions_main : List Definition
+definitions_main = result_definition_by (result_kind_of inst_main_0_0.op) inst_main_0_0 false ∷ result_definition_by (result_kind_of inst_main_0_1.op) inst_main_0_1 false ∷
+    result_definition_by (result_kind_of inst_main_0_2.op) inst_main_0_2 false ∷ result_definition_by (result_kind_of inst_main_0_3.op) inst_main_0_3 false ∷ result_definition_by
+    (result_kind_of inst_main_0_5.op) inst_main_0_5 true ∷ []
+
+definitions_main_told : definitions_of (declarations_of payload_dropped) fn_main ≡ definitions_main
+unfolding digits ancestors_of
+definitions_main_told = (both (definition_by (declarations_of payload_dropped) inst_main_0_0 0 (ty_C ∷ []) false made_main_0_0 trivial_0) (both (definition_by (declarations_of
+    payload_dropped) inst_main_0_1 0 (ty_C ∷ []) false made_main_0_1 trivial_0) (both (definition_by (declarations_of payload_dropped) inst_main_0_2 0 ((type.Tuple (ty_C ∷ ty_C ∷ [])) ∷ [])
+    false made_main_0_2 trivial_1) (both (definition_by (declarations_of payload_dropped) inst_main_0_3 0 (ty_E ∷ []) false made_main_0_3 trivial_2) (both (definition_by (declarations_of
+    payload_dropped) inst_main_0_5 0 ((type.Tuple []) ∷ []) true made_main_0_5 trivial_3) refl)))))
+
+abbrev shapes : ModuleShapes
+shapes = shapes_with classes (shapes_main ∷ [])
+
+told : shapes_of payload_dropped ≡ shapes
+unfolding digits ancestors_of
+told = shapes_told payload_dropped classes_told (both shapes_main_told refl)
+
+abbrev facts_main : List (Option Facts)
+facts_main = (owned 0 ∷ owned 1 ∷ owned 2 ∷ owned 3 ∷ plain [] ∷ [])
+
+facts_main_told : function_facts (declarations_of payload_dropped) fn_main ≡ facts_main
+unfolding digits ancestors_of
+facts_main_told = ap (λ defs. map (λ v. facts_by defs (value_of v)) (range_with_len 0 (value_count fn_main))) definitions_main_told
+
+abbrev facts : ModuleFacts
+facts = facts_with shapes (facts_main ∷ [])
+
+all_told : facts_of payload_dropped ≡ facts
+unfolding digits ancestors_of
+all_told = facts_told payload_dropped told (both facts_main_told refl)
+
+abbrev low_bb_main_0 : Block
+low_bb_main_0 = record {
+  args = [];
+  insts =
+      record (inst op.AllocRef (v 0 ∷ []) []) { ty = Some ty_C }
+      ∷ record (inst op.AllocRef (v 1 ∷ []) []) { ty = Some ty_C }
+      ∷ inst op.Tuple (v 2 ∷ []) (typed 0 ty_C ∷ typed 1 ty_C ∷ [])
+      ∷ record (inst op.Enum (v 3 ∷ []) (typed 2 (type.Tuple (ty_C ∷ ty_C ∷ [])) ∷ [])) { ty = Some ty_E; member = Some (member (codes "E") (codes "pair")) }
+      ∷ inst op.ReleaseValue [] (typed 3 ty_E ∷ [])
+      ∷ inst op.Tuple (v 4 ∷ []) []
+      ∷ [];
+  terminator = inst op.Return [] (typed 4 (type.Tuple []) ∷ []);
+}
+
+abbrev low_fn_main : Function
+low_fn_main = record {
+  name = codes "main";
+  form = form.Lowered;
+  linkage = linkage.Plain;
+  attributes = [];
+  signature = sig_main;
+  blocks = low_bb_main_0 ∷ [];
+}
+
+abbrev low : Module
+low = record payload_dropped { functions = low_fn_main ∷ [] }
+
+low_main_is : lowered_function (declarations_of payload_dropped) fn_main ≡ low_fn_main
+unfolding digits ancestors_of
+low_main_is = simp (opened) refl
+
+lowers : lowered payload_dropped ≡ low
+unfolding digits ancestors_of
+lowers = lowered_with payload_dropped (both low_main_is refl)
+
+abbrev inst_low_main_0_0 : Inst
+inst_low_main_0_0 = record (inst op.AllocRef (v 0 ∷ []) []) { ty = Some ty_C }
+
+made_low_main_0_0 : made_types (declarations_of payload_dropped) inst_low_main_0_0 ≡ (ty_C ∷ [])
+unfolding digits ancestors_of
+made_low_main_0_0 = simp (opened) refl
+
+abbrev inst_low_main_0_1 : Inst
+inst_low_main_0_1 = record (inst op.AllocRef (v 1 ∷ []) []) { ty = Some ty_C }
+
+made_low_main_0_1 : made_types (declarations_of payload_dropped) inst_low_main_0_1 ≡ (ty_C ∷ [])
+unfolding digits ancestors_of
+made_low_main_0_1 = simp (opened) refl
+
+abbrev inst_low_main_0_2 : Inst
+inst_low_main_0_2 = inst op.Tuple (v 2 ∷ []) (typed 0 ty_C ∷ typed 1 ty_C ∷ [])
+
+made_low_main_0_2 : made_types (declarations_of payload_dropped) inst_low_main_0_2 ≡ ((type.Tuple (ty_C ∷ ty_C ∷ [])) ∷ [])
+unfolding digits ancestors_of
+made_low_main_0_2 = simp (opened) refl
+
+abbrev inst_low_main_0_3 : Inst
+inst_low_main_0_3 = record (inst op.Enum (v 3 ∷ []) (typed 2 (type.Tuple (ty_C ∷ ty_C ∷ [])) ∷ [])) { ty = Some ty_E; member = Some (member (codes "E") (codes "pair")) }
+
+made_low_main_0_3 : made_types (declarations_of payload_dropped) inst_low_main_0_3 ≡ (ty_E ∷ [])
+unfolding digits ancestors_of
+made_low_main_0_3 = simp (opened, compared) refl
+
+abbrev inst_low_main_0_5 : Inst
+inst_low_main_0_5 = inst op.Tuple (v 4 ∷ []) []
+
+made_low_main_0_5 : made_types (declarations_of payload_dropped) inst_low_main_0_5 ≡ ((type.Tuple []) ∷ [])
+unfolding digits ancestors_of
+made_low_main_0_5 = refl
+
+abbrev low_types_main : List (Option TypeName)
+low_types_main = Some ty_C ∷ Some ty_C ∷ Some (type.Tuple (ty_C ∷ ty_C ∷ [])) ∷ Some ty_E ∷ Some (type.Tuple []) ∷ []
+
+low_types_main_told : value_types (declarations_of payload_dropped) low_fn_main ≡ low_types_main
+unfolding digits ancestors_of
+low_types_main_told = (both (ap (λ ts. slice_get ts 0) made_low_main_0_0) (both (ap (λ ts. slice_get ts 0) made_low_main_0_1) (both (ap (λ ts. slice_get ts 0) made_low_main_0_2) (both (ap (λ
+    ts. slice_get ts 0) made_low_main_0_3) (both (ap (λ ts. slice_get ts 0) made_low_main_0_5) refl)))))
+
+abbrev low_shapes_main : List Shape
+low_shapes_main = (shape_C ∷ shape_C ∷ (shape.Tuple (shape.Member shape_C (shape.Member shape_C shape.NoMember))) ∷ shape_E ∷ (shape.Tuple shape.NoMember) ∷ [])
+
+low_shapes_main_told : function_shapes (declarations_of payload_dropped) low_fn_main ≡ low_shapes_main
+unfolding digits ancestors_of
+low_shapes_main_told = ap (map (value_shape (declarations_of payload_dropped))) low_types_main_told ∙ (both (at_named (declarations_of payload_dropped) (codes "C") ∙ seen_C_2) (both
+    (at_named (declarations_of payload_dropped) (codes "C") ∙ seen_C_2) (both (at_tuple (declarations_of payload_dropped) (ty_C ∷ ty_C ∷ []) ∙ (seen_tuple (declarations_of payload_dropped) 2
+    (ty_C ∷ ty_C ∷ []) (shape_C ∷ shape_C ∷ []) (both seen_C_2 (both seen_C_2 refl)))) (both (at_named (declarations_of payload_dropped) (codes "E") ∙ seen_E_2) (both (at_tuple
+    (declarations_of payload_dropped) [] ∙ (seen_tuple (declarations_of payload_dropped) 2 [] [] refl)) refl)))))
+
+abbrev low_shapes : ModuleShapes
+low_shapes = shapes_with classes (low_shapes_main ∷ [])
+
+low_told : shapes_of low ≡ low_shapes
+unfolding digits ancestors_of
+low_told = shapes_told low classes_told (both low_shapes_main_told refl)
+
+abbrev given_shape : Shape
+given_shape = (shape.Tuple shape.NoMember)
+
+given_told : returned_shape payload_dropped (fn 0) ≡ given_shape
+unfolding digits ancestors_of
+given_told = (seen_tuple (declarations_of payload_dropped) 2 [] [] refl)
+
+runs : HasReport payload_dropped given_shape (outcome_with payload_dropped facts (fn 0) 100000 300) payload_dropped_answer
+unfolding digits ancestors_of
+runs = refl
+
+lowered_runs : HasReport payload_dropped given_shape (low_outcome_with low low_shapes (fn 0) 100000 300) payload_dropped_answer
+unfolding digits ancestors_of
+lowered_runs = refl
+
+pub payload_dropped_proved : PayloadDropped
+unfolding digits ancestors_of
+payload_dropped_proved = (
+  by_holders payload_dropped (fn 0) 100000 300 payload_dropped_answer given_told all_told runs,
+  of_lowered payload_dropped (fn 0) 100000 300 payload_dropped_answer given_told lowers low_told lowered_runs,
+)

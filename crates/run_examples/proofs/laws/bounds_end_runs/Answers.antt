@@ -1,0 +1,40 @@
+-- For the law `bounds_end_runs`.
+use Rattle.run_examples.proofs.BoundComesBeforeTheDepthTrap.{bound_comes_before_the_depth_trap_proved}
+use Rattle.run_examples.proofs.CalledFunctionInTwoTurns.{called_function_in_two_turns_proved}
+use Rattle.run_examples.proofs.CalledFunctionOneTurnShort.{called_function_one_turn_short_proved}
+use Rattle.run_examples.proofs.CountedToThreeInFiveTurns.{counted_to_three_in_five_turns_proved}
+use Rattle.run_examples.proofs.CycleOfTwoInOneTurn.{cycle_of_two_in_one_turn_proved}
+use Rattle.run_examples.proofs.DeinitialisationInTwoTurns.{deinitialisation_in_two_turns_proved}
+use Rattle.run_examples.proofs.DeinitialisationOneTurnShort.{deinitialisation_one_turn_short_proved}
+use Rattle.run_examples.proofs.DeinitialiserInThreeTurns.{deinitialiser_in_three_turns_proved}
+use Rattle.run_examples.proofs.DeinitialiserOneTurnShort.{deinitialiser_one_turn_short_proved}
+use Rattle.run_examples.proofs.EndlessLoopRunsOutOfTurns.{endless_loop_runs_out_of_turns_proved}
+use Rattle.run_examples.proofs.OldValueSeesTheNewOneInFiveTurns.{old_value_sees_the_new_one_in_five_turns_proved}
+use Rattle.run_examples.proofs.OldValueSeesTheNewOneOneTurnShort.{old_value_sees_the_new_one_one_turn_short_proved}
+use Rattle.run_examples.proofs.OutputCallInTwoTurns.{output_call_in_two_turns_proved}
+use Rattle.run_examples.proofs.OutputCallOneTurnShort.{output_call_one_turn_short_proved}
+use Rattle.run_examples.proofs.SelfEscapesToItsBoxOneTurnShort.{self_escapes_to_its_box_one_turn_short_proved}
+use Rattle.run_examples.proofs.TwoBlocksInTwoTurns.{two_blocks_in_two_turns_proved}
+use Rattle.run_examples.proofs.TwoBlocksOneTurnShort.{two_blocks_one_turn_short_proved}
+use Rattle.run_examples.proofs.laws.bounds_end_runs.Goals as goal
+
+pub returns : goal.returns
+returns c = record {
+  bound_comes_before_the_depth_trap = bound_comes_before_the_depth_trap_proved;
+  called_function_in_two_turns = called_function_in_two_turns_proved;
+  called_function_one_turn_short = called_function_one_turn_short_proved;
+  counted_to_three_in_five_turns = counted_to_three_in_five_turns_proved;
+  cycle_of_two_in_one_turn = cycle_of_two_in_one_turn_proved;
+  deinitialisation_in_two_turns = deinitialisation_in_two_turns_proved;
+  deinitialisation_one_turn_short = deinitialisation_one_turn_short_proved;
+  deinitialiser_in_three_turns = deinitialiser_in_three_turns_proved;
+  deinitialiser_one_turn_short = deinitialiser_one_turn_short_proved;
+  endless_loop_runs_out_of_turns = endless_loop_runs_out_of_turns_proved;
+  old_value_sees_the_new_one_in_five_turns = old_value_sees_the_new_one_in_five_turns_proved;
+  old_value_sees_the_new_one_one_turn_short = old_value_sees_the_new_one_one_turn_short_proved;
+  output_call_in_two_turns = output_call_in_two_turns_proved;
+  output_call_one_turn_short = output_call_one_turn_short_proved;
+  self_escapes_to_its_box_one_turn_short = self_escapes_to_its_box_one_turn_short_proved;
+  two_blocks_in_two_turns = two_blocks_in_two_turns_proved;
+  two_blocks_one_turn_short = two_blocks_one_turn_short_proved;
+}

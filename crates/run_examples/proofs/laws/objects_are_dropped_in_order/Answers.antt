@@ -1,0 +1,32 @@
+-- For the law `objects_are_dropped_in_order`.
+use Rattle.run_examples.proofs.CycleOfOne.{cycle_of_one_proved}
+use Rattle.run_examples.proofs.DeinitialisersMostDerivedFirst.{deinitialisers_most_derived_first_proved}
+use Rattle.run_examples.proofs.FieldsDroppedBeforeTheNextReference.{fields_dropped_before_the_next_reference_proved}
+use Rattle.run_examples.proofs.InheritedFieldsDroppedFirst.{inherited_fields_dropped_first_proved}
+use Rattle.run_examples.proofs.ObjectKeptAndLetGoByItsAncestorsDeinitialiser.{object_kept_and_let_go_by_its_ancestors_deinitialiser_proved}
+use Rattle.run_examples.proofs.ObjectLeftByTheReturn.{object_left_by_the_return_proved}
+use Rattle.run_examples.proofs.ObjectMadeAndDestroyed.{object_made_and_destroyed_proved}
+use Rattle.run_examples.proofs.ObjectMadeAndDroppedByADeinitialiser.{object_made_and_dropped_by_a_deinitialiser_proved}
+use Rattle.run_examples.proofs.ObjectTwiceInOneList.{object_twice_in_one_list_proved}
+use Rattle.run_examples.proofs.OldValueDroppedBehindTheAssignment.{old_value_dropped_behind_the_assignment_proved}
+use Rattle.run_examples.proofs.PayloadDropped.{payload_dropped_proved}
+use Rattle.run_examples.proofs.ReferencesDroppedInLeafOrder.{references_dropped_in_leaf_order_proved}
+use Rattle.run_examples.proofs.SelfCopiedInItsDeinitialiser.{self_copied_in_its_deinitialiser_proved}
+use Rattle.run_examples.proofs.laws.objects_are_dropped_in_order.Goals as goal
+
+pub returns : goal.returns
+returns c = record {
+  cycle_of_one = cycle_of_one_proved;
+  deinitialisers_most_derived_first = deinitialisers_most_derived_first_proved;
+  fields_dropped_before_the_next_reference = fields_dropped_before_the_next_reference_proved;
+  inherited_fields_dropped_first = inherited_fields_dropped_first_proved;
+  object_kept_and_let_go_by_its_ancestors_deinitialiser = object_kept_and_let_go_by_its_ancestors_deinitialiser_proved;
+  object_left_by_the_return = object_left_by_the_return_proved;
+  object_made_and_destroyed = object_made_and_destroyed_proved;
+  object_made_and_dropped_by_a_deinitialiser = object_made_and_dropped_by_a_deinitialiser_proved;
+  object_twice_in_one_list = object_twice_in_one_list_proved;
+  old_value_dropped_behind_the_assignment = old_value_dropped_behind_the_assignment_proved;
+  payload_dropped = payload_dropped_proved;
+  references_dropped_in_leaf_order = references_dropped_in_leaf_order_proved;
+  self_copied_in_its_deinitialiser = self_copied_in_its_deinitialiser_proved;
+}

@@ -1,0 +1,26 @@
+-- For the law `traps_are_reported`.
+use Rattle.run_examples.proofs.CondFailTrapsWhereItIsSet.{cond_fail_traps_where_it_is_set_proved}
+use Rattle.run_examples.proofs.DepthTrap.{depth_trap_proved}
+use Rattle.run_examples.proofs.DepthTrapComesBeforeTheBound.{depth_trap_comes_before_the_bound_proved}
+use Rattle.run_examples.proofs.LeftHalfBuiltAtUnreachable.{left_half_built_at_unreachable_proved}
+use Rattle.run_examples.proofs.ObjectKeptByItsAncestorsDeinitialiser.{object_kept_by_its_ancestors_deinitialiser_proved}
+use Rattle.run_examples.proofs.ObjectKeptByItsOwnDeinitialiser.{object_kept_by_its_own_deinitialiser_proved}
+use Rattle.run_examples.proofs.SelfEscapesToItsBoxInThreeTurns.{self_escapes_to_its_box_in_three_turns_proved}
+use Rattle.run_examples.proofs.UnownedLoadAfterDeathTraps.{unowned_load_after_death_traps_proved}
+use Rattle.run_examples.proofs.UnownedLoadOfADeinitialisingObjectTraps.{unowned_load_of_a_deinitialising_object_traps_proved}
+use Rattle.run_examples.proofs.UnreachableWithAnObjectHeld.{unreachable_with_an_object_held_proved}
+use Rattle.run_examples.proofs.laws.traps_are_reported.Goals as goal
+
+pub returns : goal.returns
+returns c = record {
+  cond_fail_traps_where_it_is_set = cond_fail_traps_where_it_is_set_proved;
+  depth_trap = depth_trap_proved;
+  depth_trap_comes_before_the_bound = depth_trap_comes_before_the_bound_proved;
+  left_half_built_at_unreachable = left_half_built_at_unreachable_proved;
+  object_kept_by_its_ancestors_deinitialiser = object_kept_by_its_ancestors_deinitialiser_proved;
+  object_kept_by_its_own_deinitialiser = object_kept_by_its_own_deinitialiser_proved;
+  self_escapes_to_its_box_in_three_turns = self_escapes_to_its_box_in_three_turns_proved;
+  unowned_load_after_death_traps = unowned_load_after_death_traps_proved;
+  unowned_load_of_a_deinitialising_object_traps = unowned_load_of_a_deinitialising_object_traps_proved;
+  unreachable_with_an_object_held = unreachable_with_an_object_held_proved;
+}

@@ -1,0 +1,26 @@
+-- For the law `weak_and_unowned_names`.
+use Rattle.run_examples.proofs.DeadObjectKeptByAWeakField.{dead_object_kept_by_a_weak_field_proved}
+use Rattle.run_examples.proofs.DeadObjectKeptByAnUnownedField.{dead_object_kept_by_an_unowned_field_proved}
+use Rattle.run_examples.proofs.UnownedSlotTaken.{unowned_slot_taken_proved}
+use Rattle.run_examples.proofs.UnownedSlotWhileTheObjectLives.{unowned_slot_while_the_object_lives_proved}
+use Rattle.run_examples.proofs.WeakFieldOfTheObjectItself.{weak_field_of_the_object_itself_proved}
+use Rattle.run_examples.proofs.WeakFieldsCeaseWithTheirObject.{weak_fields_cease_with_their_object_proved}
+use Rattle.run_examples.proofs.WeakLoadOfADeinitialisingObject.{weak_load_of_a_deinitialising_object_proved}
+use Rattle.run_examples.proofs.WeakSlotBeforeAndAfterDeath.{weak_slot_before_and_after_death_proved}
+use Rattle.run_examples.proofs.WeakSlotTaken.{weak_slot_taken_proved}
+use Rattle.run_examples.proofs.WeakSlotWrittenAnew.{weak_slot_written_anew_proved}
+use Rattle.run_examples.proofs.laws.weak_and_unowned_names.Goals as goal
+
+pub returns : goal.returns
+returns c = record {
+  dead_object_kept_by_a_weak_field = dead_object_kept_by_a_weak_field_proved;
+  dead_object_kept_by_an_unowned_field = dead_object_kept_by_an_unowned_field_proved;
+  unowned_slot_taken = unowned_slot_taken_proved;
+  unowned_slot_while_the_object_lives = unowned_slot_while_the_object_lives_proved;
+  weak_field_of_the_object_itself = weak_field_of_the_object_itself_proved;
+  weak_fields_cease_with_their_object = weak_fields_cease_with_their_object_proved;
+  weak_load_of_a_deinitialising_object = weak_load_of_a_deinitialising_object_proved;
+  weak_slot_before_and_after_death = weak_slot_before_and_after_death_proved;
+  weak_slot_taken = weak_slot_taken_proved;
+  weak_slot_written_anew = weak_slot_written_anew_proved;
+}

@@ -1,0 +1,78 @@
+-- Lowered text: a copy of an object, destroyed before it.
+use Rattle.std.specs.Prelude.{ℕ, List, [], ◌∷◌, Some, None, false, codes}
+use Rattle.instruction_table.specs.declared.op.Op.TheVariants as op
+use Rattle.sil_ast.specs.declared.debug.Binding.TheVariants as binding
+use Rattle.sil_ast.specs.declared.decl.Decl.TheVariants as decl
+use Rattle.sil_ast.specs.declared.decl.Decl.{Decl}
+use Rattle.sil_ast.specs.declared.function.Block.{Block}
+use Rattle.sil_ast.specs.declared.function.Form.TheVariants as form
+use Rattle.sil_ast.specs.declared.function.Function.{Function}
+use Rattle.sil_ast.specs.declared.function.Linkage.TheVariants as linkage
+use Rattle.sil_ast.specs.declared.module.Module.{Module}
+use Rattle.sil_ast.specs.declared.module.Stage.TheVariants as stage
+use Rattle.sil_ast.specs.declared.signature.Convention.TheVariants as convention
+use Rattle.sil_ast.specs.declared.signature.Signature.{Signature}
+use Rattle.sil_ast.specs.declared.type_name.TypeName.TheVariants as type
+use Rattle.sil_ast.specs.declared.type_name.TypeName.{TypeName}
+use Rattle.run_examples.specs.Parts.{v, fn, typed, inst, signed_as, imports}
+use Rattle.run_examples.specs.inner.Reported.{ReportsLowered}
+
+abbrev pub ty_C : TypeName
+ty_C = type.Named (codes "C")
+
+abbrev pub decl_C : Decl
+decl_C = decl.Class (codes "C") None []
+
+abbrev pub sig_main : Signature
+sig_main = signed_as convention.Thin [] []
+
+abbrev pub bb_main_0 : Block
+bb_main_0 = record {
+  args = [];
+  insts =
+      record (inst op.AllocRef (v 0 ∷ []) []) { ty = Some ty_C }
+      ∷ inst op.StrongRetain [] (typed 0 ty_C ∷ [])
+      ∷ record (inst op.DebugValue [] (typed 0 ty_C ∷ [])) {
+        debug = record {
+          name = Some (codes "c");
+          binding = Some binding.Let;
+          argno = None;
+          deref = false;
+        };
+      }
+      ∷ inst op.StrongRelease [] (typed 0 ty_C ∷ [])
+      ∷ inst op.StrongRelease [] (typed 0 ty_C ∷ [])
+      ∷ inst op.Tuple (v 1 ∷ []) []
+      ∷ [];
+  terminator = inst op.Return [] (typed 1 (type.Tuple []) ∷ []);
+}
+
+abbrev pub fn_main : Function
+fn_main = record {
+  name = codes "main";
+  form = form.Lowered;
+  linkage = linkage.Plain;
+  attributes = [];
+  signature = sig_main;
+  blocks = bb_main_0 ∷ [];
+}
+
+abbrev pub lowered_copy_inside_its_source : Module
+lowered_copy_inside_its_source = record {
+  stage = stage.Canonical;
+  imports = imports false false;
+  decls = decl_C ∷ [];
+  functions = fn_main ∷ [];
+  vtables = [];
+}
+
+abbrev pub lowered_copy_inside_its_source_answer : List (List ℕ)
+lowered_copy_inside_its_source_answer =
+    codes "deinit C#0"
+    ∷ codes "returned ()"
+    ∷ codes "objects 0"
+    ∷ codes "retains 1 releases 2"
+    ∷ []
+
+abbrev pub LoweredCopyInsideItsSource : Type 0
+LoweredCopyInsideItsSource = ReportsLowered lowered_copy_inside_its_source (fn 0) 100000 300 lowered_copy_inside_its_source_answer

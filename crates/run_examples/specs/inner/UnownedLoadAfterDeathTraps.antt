@@ -1,0 +1,73 @@
+-- load_unowned of a dead object is a trap.
+use Rattle.std.specs.Prelude.{ℕ, List, [], ◌∷◌, Some, None, false, codes}
+use Rattle.instruction_table.specs.declared.op.Op.TheVariants as op
+use Rattle.sil_ast.specs.declared.decl.Decl.TheVariants as decl
+use Rattle.sil_ast.specs.declared.decl.Decl.{Decl}
+use Rattle.sil_ast.specs.declared.function.Block.{Block}
+use Rattle.sil_ast.specs.declared.function.Form.TheVariants as form
+use Rattle.sil_ast.specs.declared.function.Function.{Function}
+use Rattle.sil_ast.specs.declared.function.Linkage.TheVariants as linkage
+use Rattle.sil_ast.specs.declared.inst.Qualifier.TheVariants as qualifier
+use Rattle.sil_ast.specs.declared.module.Module.{Module}
+use Rattle.sil_ast.specs.declared.module.Stage.TheVariants as stage
+use Rattle.sil_ast.specs.declared.signature.Convention.TheVariants as convention
+use Rattle.sil_ast.specs.declared.signature.Signature.{Signature}
+use Rattle.sil_ast.specs.declared.type_name.TypeName.TheVariants as type
+use Rattle.sil_ast.specs.declared.type_name.TypeName.{TypeName}
+use Rattle.run_examples.specs.Parts.{v, fn, typed, bare, inst, signed_as, imports}
+use Rattle.run_examples.specs.inner.Reported.{ReportsBothWays}
+
+abbrev pub ty_C : TypeName
+ty_C = type.Named (codes "C")
+
+abbrev pub decl_C : Decl
+decl_C = decl.Class (codes "C") None []
+
+abbrev pub sig_main : Signature
+sig_main = signed_as convention.Thin [] []
+
+abbrev pub bb_main_0 : Block
+bb_main_0 = record {
+  args = [];
+  insts =
+      record (inst op.AllocRef (v 0 ∷ []) []) { ty = Some ty_C }
+      ∷ record (inst op.AllocStack (v 1 ∷ []) []) { ty = Some (type.Unowned ty_C) }
+      ∷ record (inst op.StoreUnowned [] (bare 0 ∷ typed 1 (type.Address (type.Unowned ty_C)) ∷ [])) { qualifier = qualifier.Init }
+      ∷ inst op.DestroyValue [] (typed 0 ty_C ∷ [])
+      ∷ inst op.LoadUnowned (v 2 ∷ []) (typed 1 (type.Address (type.Unowned ty_C)) ∷ [])
+      ∷ inst op.DestroyValue [] (typed 2 ty_C ∷ [])
+      ∷ inst op.DestroyAddr [] (typed 1 (type.Address (type.Unowned ty_C)) ∷ [])
+      ∷ inst op.DeallocStack [] (typed 1 (type.Address (type.Unowned ty_C)) ∷ [])
+      ∷ inst op.Tuple (v 3 ∷ []) []
+      ∷ [];
+  terminator = inst op.Return [] (typed 3 (type.Tuple []) ∷ []);
+}
+
+abbrev pub fn_main : Function
+fn_main = record {
+  name = codes "main";
+  form = form.Ossa;
+  linkage = linkage.Plain;
+  attributes = [];
+  signature = sig_main;
+  blocks = bb_main_0 ∷ [];
+}
+
+abbrev pub unowned_load_after_death_traps : Module
+unowned_load_after_death_traps = record {
+  stage = stage.Canonical;
+  imports = imports false false;
+  decls = decl_C ∷ [];
+  functions = fn_main ∷ [];
+  vtables = [];
+}
+
+abbrev pub unowned_load_after_death_traps_answer : List (List ℕ)
+unowned_load_after_death_traps_answer =
+    codes "deinit C#0"
+    ∷ codes "trap unowned"
+    ∷ codes "retains 0 releases 1"
+    ∷ []
+
+abbrev pub UnownedLoadAfterDeathTraps : Type 0
+UnownedLoadAfterDeathTraps = ReportsBothWays unowned_load_after_death_traps (fn 0) 100000 300 300 unowned_load_after_death_traps_answer

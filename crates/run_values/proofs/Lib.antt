@@ -1,0 +1,7 @@
+mod Forms
+mod Fronts
+mod Related
+mod Counts
+mod LeavesBack
+mod CellsBack
+mod Sizes

@@ -1,0 +1,48 @@
+-- Laws of values: they come back from their leaves and from their cells. And the size of a type's shape is the one measured on the type.
+use Rattle.std.specs.Prelude.{◌≡◌, ◌<◌, Bool, true, false, Some, length}
+use Rattle.std.specs.List.{list_all}
+use Rattle.sil_ast.specs.declared.decl.Decl.{Decl}
+use Rattle.sil_ast.specs.declared.type_name.TypeName.{TypeName, fold-TypeName}
+use Rattle.sil_ast.specs.declared.type_name.TypeName.TheOpen.{TypeName-F, Int, Named, Optional, Tuple, Weak, Unowned, Address}
+use Rattle.type_definitions.specs.Contained.{held_types}
+use Rattle.type_definitions.specs.Declarations.{Declarations, all_decls}
+use Rattle.type_definitions.specs.Measures as measures
+use Rattle.run_values.specs.Cells.{cell_count, in_cells}
+use Rattle.run_values.specs.Fits.{fits}
+use Rattle.run_values.specs.Leaves.{in_leaves, leaves_of, value_of}
+use Rattle.run_values.specs.Shapes.{Shape, shape_of}
+use Rattle.run_values.specs.Values.{Value}
+
+-- a value of a shape has just as many leaves as the shape, and is the value that has them
+abbrev pub LeavesComeBack : Type 0
+LeavesComeBack = (s : Shape) (v : Value) → fits s v ≡ true → (value_of s (leaves_of s v) ≡ Some v) × (length (leaves_of s v) ≡ (in_leaves s).size)
+
+-- it has just as many cells as the shape, and is the value that they keep
+abbrev pub CellsComeBack : Type 0
+CellsComeBack = (s : Shape) (v : Value) → fits s v ≡ true
+    → ((in_cells s).value ((in_cells s).cells v) ≡ Some v) × (length ((in_cells s).cells v) ≡ cell_count s)
+
+-- each shape has a cell
+abbrev pub HaveCells : Type 0
+HaveCells = (s : Shape) → 0 < cell_count s
+
+abbrev pub has_no_address_over : TypeName-F Bool → Bool
+has_no_address_over (Int width) = true
+has_no_address_over (Named name) = true
+has_no_address_over (Optional b) = b
+has_no_address_over (Tuple bs) = list_all (λ b. b) bs
+has_no_address_over (Weak b) = b
+has_no_address_over (Unowned b) = b
+has_no_address_over (Address b) = false
+
+-- no address stands in the type
+abbrev pub has_no_address : TypeName → Bool
+has_no_address = fold-TypeName Bool has_no_address_over
+
+abbrev pub holds_no_address : Decl → Bool
+holds_no_address x = list_all has_no_address (held_types x)
+
+-- where no address stands in declarations or in a type, the size of its shape is the number of leaves that is measured on it
+abbrev pub AreMeasured : Type 0
+AreMeasured = (d : Declarations) (t : TypeName) → list_all holds_no_address (all_decls d) ≡ true → has_no_address t ≡ true
+    → (in_leaves (shape_of d t)).size ≡ measures.leaves_of d t
