@@ -1,0 +1,3 @@
+pub mod ShapeFacts
+pub mod MemberFacts
+pub mod ClassFacts
