@@ -16,7 +16,7 @@ use Rattle.type_definitions.specs.Declarations.{declarations_of, is_class}
 use Rattle.type_definitions.specs.Lookups.{Payload}
 use Rattle.run_typing.specs.RowForms.{IsEnum, IsGroup}
 use Rattle.run_typing.specs.Runnable.{IsRunnable}
-use Rattle.run_typing.proofs.ShapeFacts.{field_shape_of}
+use Rattle.run_typing_laws.proofs.ShapeFacts.{field_shape_of}
 
 pub element_shape : (m : Module) (number : Option ℤ) (t u : TypeName) → element_of number t ≡ Some u
     → (k : ℕ) × (element_place number ≡ Some k) × (slice_get (member_shapes (shape_of (declarations_of m) t)) k ≡ Some (shape_of (declarations_of m) u))

@@ -1,0 +1,59 @@
+-- Blocks, functions, classes and modules, made ready to run.
+use Rattle.std.specs.Prelude.{◌≡◌, ℕ, List, [], ◌∷◌, Option, Some, None, map}
+use Rattle.holder_model.specs.Calling.{value_count}
+use Rattle.holder_model.specs.Dropping.{deinits_of}
+use Rattle.item_operands.specs.Items.{item_defined}
+use Rattle.sil_ast.specs.declared.decl.Decl.{Decl}
+use Rattle.sil_ast.specs.declared.decl.Decl.TheVariants.{Class, Enum, Struct}
+use Rattle.sil_ast.specs.declared.decl.Field.{Field}
+use Rattle.sil_ast.specs.declared.decl.Storage.{Storage}
+use Rattle.sil_ast.specs.declared.function.Block.{Block}
+use Rattle.sil_ast.specs.declared.function.Function.{Function}
+use Rattle.sil_ast.specs.declared.module.Module.{Module}
+use Rattle.sil_ast.specs.declared.place.ValueId.{ValueId}
+use Rattle.sil_cfg.specs.declared.item.Item.TheVariants as item
+use Rattle.type_definitions.specs.Declarations.{Declarations, declarations_of}
+use Rattle.type_definitions.specs.Lookups.{fields_of}
+use Rattle.run_typing.specs.Forms.{Form, OfFunction, OfNothing, OfPlace, OfValue, form_of}
+use Rattle.ready_code.specs.declared.block.ReadyBlock.{ReadyBlock}
+use Rattle.ready_code.specs.declared.function.ReadyClass.{ReadyClass}
+use Rattle.ready_code.specs.declared.function.ReadyFunction.{ReadyFunction}
+use Rattle.ready_code.specs.declared.function.ReadyModule.{ReadyModule}
+use Rattle.ready_code.specs.declared.local.Local.{Local}
+use Rattle.ready_code.specs.Layout.{addresses_before, leaves_before, local}
+use Rattle.ready_code.specs.Matched.{Matched}
+use Rattle.ready_code.specs.ReadyEnds.{IsReadyEnd}
+use Rattle.ready_code.specs.ReadyOps.{IsReadyOp}
+
+pub record IsReadyBlock (m : Module) (f : Function) (b : Block) (ready : ReadyBlock) : Type 0 where
+  pub ops : Matched (IsReadyOp m f) b.insts ready.ops
+  pub end : IsReadyEnd (declarations_of m) f b.terminator ready.end
+
+abbrev pub where_value : Form → Local → Option Local
+where_value (OfValue s) l = Some l
+where_value (OfPlace s) l = None
+where_value (OfFunction g) l = None
+where_value OfNothing l = None
+
+abbrev pub first_local : Declarations → Function → List ValueId → Option Local
+first_local d f [] = None
+first_local d f (v ∷ vs) = where_value (form_of d f v) (local d f v)
+
+pub record IsReadyFunction (m : Module) (f : Function) (ready : ReadyFunction) : Type 0 where
+  pub values : ready.values ≡ value_count f
+  pub leaves : ready.leaves ≡ leaves_before (declarations_of m) f (value_count f)
+  pub addresses : ready.addresses ≡ addresses_before (declarations_of m) f (value_count f)
+  pub first_argument : ready.first_argument ≡ first_local (declarations_of m) f (item_defined f item.Entry)
+  pub blocks : Matched (IsReadyBlock m f) f.blocks ready.blocks
+
+abbrev pub storage_of : Field → Storage
+storage_of f = f.storage
+
+abbrev pub ready_class : Declarations → Decl → ReadyClass
+ready_class d (Struct name fields) = record { deinits = []; fields = [] }
+ready_class d (Enum name cases) = record { deinits = []; fields = [] }
+ready_class d (Class name superclass fields) = record { deinits = deinits_of d name; fields = map storage_of (fields_of d name) }
+
+pub record IsReadyModule (m : Module) (ready : ReadyModule) : Type 0 where
+  pub functions : Matched (IsReadyFunction m) m.functions ready.functions
+  pub classes : ready.classes ≡ map (ready_class (declarations_of m)) m.decls
