@@ -1,0 +1,6 @@
+//! What contracts see of a heap, and what each of its calls makes of it: definitions, with the types of the answers. It has no heap.
+#![tactic(auto)]
+
+mod released;
+
+pub use released::{Released, Underflow};

@@ -1,0 +1,68 @@
+-- How frames come and go.
+use Rattle.std.specs.Prelude.{ℕ, List, [], ◌∷◌, ◌++◌, Bool, false, cond, Option, Some, None, length, map, nat_lt, replicate, take, slice_get}
+use Rattle.holder_model.specs.declared.limits.TheConstants.{FRAMES}
+use Rattle.run_values.specs.declared.leaf.Leaf.{Leaf}
+use Rattle.run_values.specs.declared.leaf.Leaf.TheVariants as leaf
+use Rattle.ready_code.specs.declared.function.ReadyFunction.{ReadyFunction}
+use Rattle.ready_code.specs.declared.local.Carry.{Carry}
+use Rattle.ready_code.specs.declared.local.CarryAddress.{CarryAddress}
+use Rattle.ready_code.specs.declared.local.Local.{Local}
+use Rattle.sil_ast.specs.declared.place.FuncId.{FuncId}
+use Rattle.machine_steps.specs.declared.frame.Frame.{Frame}
+use Rattle.machine_steps.specs.declared.frame.Task.{Task}
+use Rattle.machine_steps.specs.declared.frame.Task.TheVariants as task
+use Rattle.machine_steps.specs.declared.run_end.RunEnd.TheVariants as end
+use Rattle.machine_steps.specs.Operands.{address_in, contents, no_address, put, put_address}
+use Rattle.machine_steps.specs.Turning.{frames_in, turn}
+use Rattle.machine_steps.specs.Views.{Goes, MachineView, Stops, Went}
+
+-- the frame of a function that is called now
+abbrev pub new_frame : MachineView → FuncId → Frame
+new_frame st g = record {
+  function = g;
+  block = 0;
+  index = 0;
+  values = length st.there;
+  leaves = length st.leaves;
+  addresses = length st.addresses;
+  slots = length st.slots;
+}
+
+-- room for the values of the function, none of which is there yet
+abbrev pub with_frame : MachineView → FuncId → ReadyFunction → MachineView
+with_frame st g f = record st {
+  tasks = task.Runs (new_frame st g) ∷ st.tasks;
+  there = st.there ++ replicate f.values false;
+  leaves = st.leaves ++ replicate f.leaves leaf.Blank;
+  addresses = st.addresses ++ replicate f.addresses no_address;
+}
+
+-- values of a frame become values of another one, or of itself, all at once: what they are is read before
+
+abbrev pub put_all : MachineView → Frame → List Carry → List (List Leaf) → MachineView
+put_all st to [] lss = st
+put_all st to (c ∷ cs) [] = st
+put_all st to (c ∷ cs) (ls ∷ lss) = put_all (put st to c.to ls) to cs lss
+
+abbrev pub source_of : Carry → Local
+source_of c = c.from
+
+abbrev pub carried : MachineView → Frame → Frame → List Carry → MachineView
+carried st from to cs = put_all st to cs (map (λ c. contents st from c.from) cs)
+
+abbrev pub addresses_carried : MachineView → Frame → Frame → List CarryAddress → MachineView
+addresses_carried st from to [] = st
+addresses_carried st from to (c ∷ cs) = addresses_carried (put_address st to c.to (address_in st from c.from)) from to cs
+
+-- a call makes a frame, where there may be one more, and enters its first block
+abbrev pub enter : ℕ → MachineView → (MachineView → Went) → Went
+enter bound st go = cond (nat_lt (frames_in st.tasks) FRAMES) (turn bound st go) (Stops end.Depth st)
+
+-- the frame is gone, with its values
+abbrev pub without_frame : MachineView → Frame → List Task → MachineView
+without_frame st fr rest = record st {
+  tasks = rest;
+  there = take fr.values st.there;
+  leaves = take fr.leaves st.leaves;
+  addresses = take fr.addresses st.addresses;
+}
