@@ -13,10 +13,13 @@ is_a d class other = bytes_eq other class || inherits d class other
 
 -- what a run relies on of classes
 pub record ClassesAreSound (m : Module) : Type 0 where
+  pub itself : (a : Name) → is_a (declarations_of m) a a ≡ true
+  pub above : (a b : Name) → is_class (declarations_of m) a ≡ true → is_a (declarations_of m) a b ≡ true → is_class (declarations_of m) b ≡ true
   pub passes : (a b c : Name) → is_a (declarations_of m) a b ≡ true → is_a (declarations_of m) b c ≡ true → is_a (declarations_of m) a c ≡ true
   -- the fields of an ancestor come first
   pub fields : (a b : Name) → is_class (declarations_of m) a ≡ true → is_a (declarations_of m) a b ≡ true
       → (more : List Shape) × (field_shapes (shapes_of m) a ≡ field_shapes (shapes_of m) b ++ more)
   -- the place of a class among the declarations tells its name, and is the only one that does
   pub places : (a : Name) → is_class (declarations_of m) a ≡ true → (k : ℕ) × (class_at (declarations_of m) k ≡ Some a)
+  pub named : (k : ℕ) (a : Name) → class_at (declarations_of m) k ≡ Some a → is_class (declarations_of m) a ≡ true
   pub once : (j k : ℕ) (a : Name) → class_at (declarations_of m) j ≡ Some a → class_at (declarations_of m) k ≡ Some a → j ≡ k

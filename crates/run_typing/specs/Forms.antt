@@ -1,11 +1,8 @@
 -- What the values of a function are to a run, by their types.
 use Rattle.std.specs.Prelude.{List, Bool, Option, Some, None, map}
-use Rattle.std.specs.List.{list_all}
-use Rattle.argument_conventions.specs.Arguments.{Told}
 use Rattle.item_operands.specs.Items.{item_defined}
-use Rattle.run_values.specs.Layers.{CaseLayer, Layer, Integer, Reference, Struct, Tuple, Enum, Stored, Unknown}
-use Rattle.run_values.specs.Shapes.{Shape, by_layers, shape_of}
-use Rattle.run_values.specs.Trivial.{itself, or_true}
+use Rattle.run_values.specs.Shapes.{Shape, shape_of}
+use Rattle.value_parts.specs.inner.Storages.{holds_no_storage}
 use Rattle.sil_ast.specs.declared.function.Function.{Function}
 use Rattle.sil_ast.specs.declared.place.FuncId.{FuncId}
 use Rattle.sil_ast.specs.declared.place.ValueId.{ValueId}
@@ -15,7 +12,6 @@ use Rattle.sil_types.specs.Typing.Shapes.{target}
 use Rattle.sil_types.specs.Typing.Values.{function_at, type_at, value_functions, value_types}
 use Rattle.type_definitions.specs.Declarations.{Declarations}
 use Rattle.type_definitions.specs.Mentions.{given_type}
-use Rattle.std.specs.Prelude.{true, false}
 
 -- a value of a shape; the address of a place of a shape; a function; or nothing that typing tells of
 pub data Form : Type 0 where
@@ -48,20 +44,6 @@ entry_forms d f = forms_of d f (item_defined f item.Entry)
 abbrev pub given_shape : Declarations → Function → Shape
 given_shape d f = shape_of d (given_type f.signature)
 
--- shapes without storage
-
-abbrev pub payload_has_none : CaseLayer Bool → Bool
-payload_has_none c = or_true c.payload
-
-abbrev pub no_storage_layer : Layer Bool → Bool
-no_storage_layer (Integer width) = true
-no_storage_layer (Reference class) = true
-no_storage_layer (Struct name fields) = list_all itself fields
-no_storage_layer (Tuple elements) = list_all itself elements
-no_storage_layer (Enum name cases) = list_all payload_has_none cases
-no_storage_layer (Stored s inner) = false
-no_storage_layer Unknown = true
-
 -- no weak or unowned storage is in the shape
 abbrev pub has_no_storage : Shape → Bool
-has_no_storage s = by_layers no_storage_layer s
+has_no_storage s = holds_no_storage s

@@ -22,6 +22,7 @@ use Rattle.sil_ast.specs.declared.place.FuncId.{FuncId}
 use Rattle.sil_types.specs.Typing.Builtins.{Builtin, Sort, bits, builtin_named, combining, comparing, overflowing, sort_of}
 use Rattle.type_definitions.specs.Declarations.{declarations_of, is_class}
 use Rattle.run_typing.specs.Classes.{is_a}
+use Rattle.run_typing.specs.StorageForms.{FieldShapeIs, IsNamed}
 use Rattle.run_typing.specs.Forms.{Form, OfFunction, OfPlace, OfValue, entry_forms, given_shape, has_no_storage}
 
 abbrev pub bit : Shape
@@ -53,11 +54,6 @@ pub data IsGroup : Shape → List Shape → Type 0 where
 pub data IsEnum : Shape → Type 0 where
   enum : (name : Name) (cases : CaseShapes) → IsEnum (Enum name cases)
 
--- what storage of a kind gives: an Optional of a class, or a class
-pub data IsNamed : Storage → Shape → Type 0 where
-  weak : (class name none some : Name) → IsNamed storage.Weak (Enum name (PlainCase none (FullCase some (Reference class) NoCase)))
-  unowned : (class : Name) → IsNamed storage.Unowned (Reference class)
-
 abbrev pub operation_done : Inst → Option Operation
 operation_done i = operation_by (access_kind_of i.op) i.qualifier
 
@@ -79,7 +75,7 @@ pub data RowForms (m : Module) (i : Inst) : List Form → List Form → Type 0 w
       → RowForms m i (map OfValue (operand_shapes b)) (OfValue (computed_shape b) ∷ [])
   traps : (text : List ℕ) → effect_of i.op ≡ row.TrapsWhereSet → i.text ≡ Some text → RowForms m i (OfValue bit ∷ []) []
   object : (class : Name) → effect_of i.op ≡ row.MakesObject → is_class (declarations_of m) class ≡ true → RowForms m i [] (OfValue (Reference class) ∷ [])
-  slot : (s : Shape) → effect_of i.op ≡ row.MakesSlot → RowForms m i [] (OfPlace s ∷ [])
+  slot : (w : Storage) (s : Shape) → effect_of i.op ≡ row.MakesSlot → FieldShapeIs w s → RowForms m i [] (OfPlace s ∷ [])
   removes : (s : Shape) → effect_of i.op ≡ row.RemovesSlot → RowForms m i (OfPlace s ∷ []) []
   upcast : (class above : Name) → effect_of i.op ≡ row.GivesOperand → is_a (declarations_of m) class above ≡ true
       → RowForms m i (OfValue (Reference class) ∷ []) (OfValue (Reference above) ∷ [])

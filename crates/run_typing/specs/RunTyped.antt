@@ -17,6 +17,7 @@ use Rattle.type_definitions.specs.Declarations.{Declarations, declarations_of}
 use Rattle.type_definitions.specs.Measures.{leaves_of}
 use Rattle.run_typing.specs.CallForms.{DeinitsAreTyped, ItemIsOf}
 use Rattle.run_typing.specs.Classes.{ClassesAreSound}
+use Rattle.run_typing.specs.FieldForms.{AreFieldsTyped}
 use Rattle.run_typing.specs.EndForms.{EndForms, value_in}
 use Rattle.run_typing.specs.Forms.{forms_of}
 use Rattle.run_typing.specs.RowForms.{RowForms}
@@ -42,6 +43,7 @@ pub record RunTyped (m : Module) : Type 0 where
   pub functions : (n : ℕ) (f : Function) → slice_get m.functions n ≡ Some f → FunctionIsTyped m f
   pub deinits : DeinitsAreTyped m
   pub classes : ClassesAreSound m
+  pub fields : AreFieldsTyped m
   pub sizes : SizesAreMeasured (declarations_of m)
 
 -- a runnable module is typed in the words of a run

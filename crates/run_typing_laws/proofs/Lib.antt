@@ -1,3 +1,16 @@
+pub mod Opened
+pub mod SameTypes
+pub mod Finite
+pub mod Whole
+pub mod Declared
+pub mod NoStorage
+pub mod Sizes
 pub mod ShapeFacts
+pub mod Found
+pub mod ClassChains
+pub mod TextClasses
+pub mod FieldShapes
+pub mod Outer
+pub mod FieldFacts
 pub mod MemberFacts
 pub mod ClassFacts

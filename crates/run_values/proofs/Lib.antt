@@ -1,7 +1,7 @@
-mod Forms
-mod Fronts
-mod Related
-mod Counts
-mod LeavesBack
-mod CellsBack
-mod Sizes
+pub mod Forms
+pub mod Fronts
+pub mod Related
+pub mod Counts
+pub mod LeavesBack
+pub mod CellsBack
+pub mod Sizes

@@ -1,0 +1,6 @@
+pub mod Slots
+pub mod Objects
+pub mod Memories
+pub mod Entries
+pub mod Tasks
+pub mod Agreement

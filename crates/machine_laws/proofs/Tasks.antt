@@ -1,0 +1,70 @@
+-- The tasks of a run of lowered code, and those of the machine, which has none where no reference waits.
+use Rattle.std.proofs.Common.{◌≡◌, ◌<◌, ◌+◌, ◌==◌, ◌||◌, ℕ, List, [], ◌∷◌, Bool, true, false, Option, Some, None, length}
+use Rattle.std.specs.Prelude.{drop, reverse, slice_get, take}
+use Rattle.holder_model.specs.declared.row_effect.RowEffect.TheVariants as row
+use Rattle.holder_model.specs.Dropping.{deinits_of}
+use Rattle.holder_model.specs.Effects.{effect_of}
+use Rattle.holder_model.specs.States as low
+use Rattle.item_operands.specs.Parts.{inst_at}
+use Rattle.lowered_run.specs.LowFrames.{LowFrame}
+use Rattle.machine_steps.specs.declared.frame.Frame.{Frame}
+use Rattle.machine_steps.specs.declared.frame.Task.{Task}
+use Rattle.machine_steps.specs.declared.frame.Task.TheVariants as task
+use Rattle.machine_steps.specs.Views.{MachineView}
+use Rattle.run_typing.specs.Forms.{OfValue, form_of, given_shape}
+use Rattle.run_values.specs.Memory.{Memory, object_at}
+use Rattle.run_values.specs.Shapes.{Shape}
+use Rattle.run_values.specs.declared.phase.Phase.TheVariants.{Deiniting}
+use Rattle.sil_ast.specs.declared.function.Function.{Function}
+use Rattle.sil_ast.specs.declared.inst.Inst.{Inst}
+use Rattle.sil_ast.specs.declared.module.Module.{Module}
+use Rattle.sil_ast.specs.declared.place.FuncId.{FuncId}
+use Rattle.sil_ast.specs.declared.place.ObjectId.{ObjectId}
+use Rattle.sil_ast.specs.declared.place.ValueId.{ValueId}
+use Rattle.type_definitions.specs.Declarations.{declarations_of}
+use Rattle.machine_laws.proofs.Entries.{Ends, FrameAgrees}
+use Rattle.machine_laws.proofs.Slots.{Made}
+
+-- what the first task is ready for: to go on, or to take what a callee returns, of a shape
+pub data ReadyFor : Type 0 where
+  to_go_on : ReadyFor
+  to_take : (s : Shape) → ReadyFor
+
+-- a frame waits at a call whose result has the shape
+pub record AwaitsAt (m : Module) (f : Function) (lf : LowFrame) (s : Shape) : Type 0 where
+  pub call : Inst
+  pub there : inst_at f lf.at ≡ Some call
+  pub calls : effect_of call.op ≡ row.CallsFunction
+  pub result : ValueId
+  pub results : call.results ≡ result ∷ []
+  pub form : form_of (declarations_of m) f result ≡ OfValue s
+
+-- the object is being deinitialised by one of the tasks
+abbrev pub is_finishing : ObjectId → List Task → Bool
+is_finishing o [] = false
+is_finishing o (task.Runs fr ∷ rest) = is_finishing o rest
+is_finishing o (task.Drops from ∷ rest) = is_finishing o rest
+is_finishing o (task.Finishes p called ∷ rest) = (o.0 == p.0) || is_finishing o rest
+
+abbrev pub no_ends : Ends
+no_ends = record { values = 0; leaves = 0; addresses = 0; slots = 0; waiting = 0 }
+
+-- what the entry function gives has the shape `entry`
+pub data TasksAgree (m : Module) (entry : Shape) (made : List Made) (mem : Memory) (st : MachineView) : ReadyFor → Ends → List (low.Task LowFrame) → List Task → Type 0 where
+  bottom : TasksAgree m entry made mem st (to_take entry) no_ends [] []
+  runs : (f : Function) (lf : LowFrame) (mf : Frame) (below above : Ends) (rest : List (low.Task LowFrame)) (rest' : List Task)
+      → FrameAgrees m made mem st f lf mf below above → TasksAgree m entry made mem st (to_take (given_shape (declarations_of m) f)) below rest rest'
+      → TasksAgree m entry made mem st to_go_on above (low.Runs lf ∷ rest) (task.Runs mf ∷ rest')
+  waits : (s : Shape) (f : Function) (lf : LowFrame) (mf : Frame) (below above : Ends) (rest : List (low.Task LowFrame)) (rest' : List Task)
+      → FrameAgrees m made mem st f lf mf below above → AwaitsAt m f lf s → TasksAgree m entry made mem st (to_take (given_shape (declarations_of m) f)) below rest rest'
+      → TasksAgree m entry made mem st (to_take s) above (low.Runs lf ∷ rest) (task.Runs mf ∷ rest')
+  drops : (o : ObjectId) (os : List ObjectId) (below above : Ends) (rest : List (low.Task LowFrame)) (rest' : List Task)
+      → above ≡ record below { waiting = below.waiting + length (o ∷ os) } → take (length (o ∷ os)) (drop below.waiting st.waiting) ≡ reverse (o ∷ os)
+      → TasksAgree m entry made mem st to_go_on below rest rest'
+      → TasksAgree m entry made mem st to_go_on above (low.Drops (o ∷ os) ∷ rest) (task.Drops below.waiting ∷ rest')
+  dropped : (ends : Ends) (rest : List (low.Task LowFrame)) (rest' : List Task) → TasksAgree m entry made mem st to_go_on ends rest rest'
+      → TasksAgree m entry made mem st to_go_on ends (low.Drops [] ∷ rest) rest'
+  finishes : (r : ReadyFor) (gs : List FuncId) (o : ObjectId) (called : ℕ) (ends : Ends) (rest : List (low.Task LowFrame)) (rest' : List Task)
+      → o.0 < length mem.objects → (object_at mem o).phase ≡ Deiniting → gs ≡ drop called (deinits_of (declarations_of m) (object_at mem o).class)
+      → is_finishing o rest' ≡ false → TasksAgree m entry made mem st to_go_on ends rest rest'
+      → TasksAgree m entry made mem st r ends (low.Finishes gs o ∷ rest) (task.Finishes o called ∷ rest')

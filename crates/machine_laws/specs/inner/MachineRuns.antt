@@ -1,0 +1,35 @@
+-- The law of the machine: however it stops, the run of lowered code ends so.
+use Rattle.std.specs.Prelude.{◌≡◌, ◌≤◌, ℕ, true, Some, slice_get}
+use Rattle.holder_model.specs.Outcomes.{may_start}
+use Rattle.holder_model.specs.States.{Ending}
+use Rattle.lowered_run.specs.LowOutcomes.{LowEndsSo}
+use Rattle.lowered_run.specs.declared.low_fault.LowFault.{LowFault}
+use Rattle.machine_steps.specs.declared.run_end.RunEnd.{RunEnd}
+use Rattle.machine_steps.specs.Runs.{Leads, begins}
+use Rattle.machine_steps.specs.Views.{MachineView, Stops}
+use Rattle.ready_code.specs.declared.function.ReadyFunction.{ReadyFunction}
+use Rattle.ready_code.specs.declared.function.ReadyModule.{ReadyModule}
+use Rattle.ready_code.specs.ReadyModules.{IsReadyModule}
+use Rattle.run_typing.specs.Forms.{given_shape}
+use Rattle.run_typing.specs.RunTyped.{RunTyped}
+use Rattle.sil_ast.specs.declared.function.Function.{Function}
+use Rattle.sil_ast.specs.declared.module.Module.{Module}
+use Rattle.sil_ast.specs.declared.place.FuncId.{FuncId}
+use Rattle.type_definitions.specs.Declarations.{declarations_of}
+use Rattle.machine_laws.specs.inner.Told.{IsEnding, outcome_told}
+
+-- a run of ready code from an entry function, for a bound of at least one turn
+pub record Started (m : Module) (ready : ReadyModule) (e : FuncId) (bound : ℕ) : Type 0 where
+  pub typed : RunTyped m
+  pub made : IsReadyModule m ready
+  pub entry : Function
+  pub there : slice_get m.functions e.0 ≡ Some entry
+  pub starts : may_start entry ≡ true
+  pub code : ReadyFunction
+  pub ready_there : slice_get ready.functions e.0 ≡ Some code
+  pub some_turns : 1 ≤ bound
+
+abbrev pub MachineRunsSo : Type 0
+MachineRunsSo = (m : Module) (ready : ReadyModule) (e : FuncId) (bound : ℕ) (run : Started m ready e bound) (end : RunEnd) (st : MachineView)
+    → Leads ready bound (begins (declarations_of m) e run.code) (Stops end st)
+    → (x : Ending LowFault) × IsEnding m (given_shape (declarations_of m) run.entry) st end x × LowEndsSo m e bound (outcome_told st end x)

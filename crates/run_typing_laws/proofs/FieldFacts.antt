@@ -1,0 +1,107 @@
+-- The fields of classes: a weak one is storage of an Optional of a class, an unowned one of a class, and no storage stands in any other.
+use Rattle.std.proofs.Common.{◌≡◌, ℕ, List, [], ◌∷◌, ◌++◌, true, false, Option, Some, None, map, refl, sym, ap, ◌∙◌, subst}
+use Rattle.std.specs.Prelude.{codes, option_map, slice_get}
+use Rattle.std.specs.List.{list_any}
+use Rattle.std.proofs.lemmas.Option.{slice_get-map}
+use Rattle.sil_ast.specs.declared.decl.Decl.TheVariants.{Class}
+use Rattle.sil_ast.specs.declared.decl.Field.{Field}
+use Rattle.sil_ast.specs.declared.decl.Storage.{Storage}
+use Rattle.sil_ast.specs.declared.decl.Storage.TheVariants as storage
+use Rattle.sil_ast.specs.declared.module.Module.{Module}
+use Rattle.sil_ast.specs.declared.type_name.TypeName.{TypeName, TypeName-F, out-TypeName}
+use Rattle.numbered_form.specs.Lists.{Each}
+use Rattle.numbered_form.specs.Names.{Name}
+use Rattle.holder_model.specs.ModuleShapes.{field_shape, field_shapes, shapes_of}
+use Rattle.run_values.specs.Shapes.{Enum, FullCase, NoCase, PlainCase, Shape, shape_of}
+use Rattle.sil_types.specs.Typing.Shapes.{stored_as}
+use Rattle.type_definitions.specs.Declarations.{Declarations, declarations_of, is_class}
+use Rattle.type_definitions.specs.Lookups.{chain_fields, decl_fields, fields_of, own_fields}
+use Rattle.type_definitions.specs.Mentions.{field_standing, in_field}
+use Rattle.type_definitions.specs.Rules.{is_class_type, is_misplaced, is_misplaced_at, is_optional_class, is_optional_class_layer}
+use Rattle.run_typing.specs.FieldForms.{AreFieldsTyped}
+use Rattle.run_typing.specs.StorageForms.{FieldShapeIs, named, plain}
+use Rattle.run_typing.specs.StorageForms.{IsNamed, unowned, weak}
+use Rattle.run_typing.specs.Runnable.{IsRunnable}
+use Rattle.run_typing_laws.proofs.ClassChains.{line_of}
+use Rattle.run_typing_laws.proofs.FieldShapes.{field_shapes_are}
+use Rattle.run_typing_laws.proofs.Found.{each_at, neither_first, neither_second, not_false}
+use Rattle.run_typing_laws.proofs.Outer.{is_Optional}
+use Rattle.run_typing_laws.proofs.ShapeFacts.{class_type_shape, no_storage_shape, optional_shape, unowned_shape, weak_shape}
+use Rattle.run_typing_laws.proofs.TextClasses.{in_text, line_of_classes, well_named}
+
+module _ (m : Module) (r : IsRunnable m) where
+  abbrev d : Declarations
+  d = declarations_of m
+
+  abbrev shape : TypeName → Shape
+  shape = shape_of d
+
+  -- an Optional of a class, and a class, are what storage names
+  weak_named : (t : TypeName) → is_optional_class d t ≡ true → IsNamed storage.Weak (shape t)
+  weak_named t h = at (out-TypeName t) refl h
+    where
+      at : (layer : TypeName-F TypeName) → out-TypeName t ≡ layer → is_optional_class_layer d layer ≡ true → IsNamed storage.Weak (shape t)
+      at (TypeName-F.Optional target) e h =
+          let c = class_type_shape m r target h in
+          let is = ap shape (is_Optional t target e) ∙ optional_shape m target ∙ ap (λ s. Enum (codes "Optional") (PlainCase (codes "none") (FullCase (codes "some") s NoCase))) c.3 in
+          subst (IsNamed storage.Weak) (sym is) (weak c.0 (codes "Optional") (codes "none") (codes "some"))
+      at _ e h = cc
+
+  unowned_named : (t : TypeName) → is_class_type d t ≡ true → IsNamed storage.Unowned (shape t)
+  unowned_named t h = let c = class_type_shape m r t h in subst (IsNamed storage.Unowned) (sym c.3) (unowned c.0)
+
+  abbrev IsRight : Field → Type 0
+  IsRight f = FieldShapeIs f.storage (field_shape d f)
+
+  -- a field that stands where it may
+  by_storage : (w : Storage) (t : TypeName) → is_misplaced_at d (field_standing w) t ≡ false → FieldShapeIs w (shape (stored_as w t))
+  by_storage storage.Strong t h = plain (shape t) (no_storage_shape m r t h)
+  by_storage storage.Weak t h =
+      subst (FieldShapeIs storage.Weak) (sym (weak_shape m t)) (named storage.Weak (shape t) (weak_named t (not_false (is_optional_class d t) h)))
+  by_storage storage.Unowned t h =
+      subst (FieldShapeIs storage.Unowned) (sym (unowned_shape m t)) (named storage.Unowned (shape t) (unowned_named t (not_false (is_class_type d t) h)))
+
+  each_right : (fields : List Field) → list_any (is_misplaced d) (map in_field fields) ≡ false → Each IsRight fields
+  each_right [] h = tt
+  each_right (f ∷ fields) h = (
+    by_storage f.storage f.ty (neither_first (is_misplaced d (in_field f)) (list_any (is_misplaced d) (map in_field fields)) h),
+    each_right fields (neither_second (is_misplaced d (in_field f)) (list_any (is_misplaced d) (map in_field fields)) h),
+  )
+
+  own_right : (class : Name) → is_class d class ≡ true → Each IsRight (own_fields d class)
+  own_right class h =
+      let t = in_text d class h in
+      let x = Class class t.superclass t.fields in
+      let stored = (well_named m r t.place x t.there).storage in
+      subst (Each IsRight) (sym (ap decl_fields t.found_so)) (each_right t.fields stored)
+
+  appended : (xs ys : List Field) → Each IsRight xs → Each IsRight ys → Each IsRight (xs ++ ys)
+  appended [] ys h k = k
+  appended (x ∷ xs) ys h k = (h.0, appended xs ys h.1 k)
+
+  chain_right : (classes : List Name) → Each (λ class. is_class d class ≡ true) classes → Each IsRight (chain_fields d classes)
+  chain_right [] h = tt
+  chain_right (class ∷ above) h = appended (chain_fields d above) (own_fields d class) (chain_right above h.1) (own_right class h.0)
+
+  -- each field of a class, inherited or its own, is of the shape that its storage asks for
+  pub each_field : (class : Name) → is_class d class ≡ true → Each (λ f. FieldShapeIs f.storage (field_shape d f)) (fields_of d class)
+  each_field class h = chain_right (line_of d class) (line_of_classes m r class h)
+
+  pub field_at_is : (class : Name) → is_class d class ≡ true → (k : ℕ) (f : Field) → slice_get (fields_of d class) k ≡ Some f → FieldShapeIs f.storage (field_shape d f)
+  field_at_is class h k f e = each_at IsRight (fields_of d class) k f (each_field class h) e
+
+  pub fields_are_typed : AreFieldsTyped m
+  fields_are_typed class h = record { listed = field_shapes_are m r class h; each = each_field class h }
+
+  -- a place of an object, by the field that stands there
+  pub field_shape_at : (class : Name) → is_class d class ≡ true → (k : ℕ) (s : Shape) → slice_get (field_shapes (shapes_of m) class) k ≡ Some s
+      → (f : Field) × (slice_get (fields_of d class) k ≡ Some f) × (s ≡ field_shape d f) × FieldShapeIs f.storage s
+  field_shape_at class h k s e = at (slice_get (fields_of d class) k) refl
+      (sym (slice_get-map (field_shape d) (fields_of d class) k) ∙ ap (λ ss. slice_get ss k) (sym (field_shapes_are m r class h)) ∙ e)
+    where
+      at : (o : Option Field) → slice_get (fields_of d class) k ≡ o → option_map (field_shape d) o ≡ Some s
+          → (f : Field) × (slice_get (fields_of d class) k ≡ Some f) × (s ≡ field_shape d f) × FieldShapeIs f.storage s
+      at None is e = cc
+      at (Some f) is e =
+          let same : s ≡ field_shape d f = cc in
+          (f, is, same, subst (FieldShapeIs f.storage) (sym same) (field_at_is class h k f is))

@@ -1,0 +1,72 @@
+-- What weak and unowned storage keeps, and its one leaf.
+use Rattle.std.proofs.Common.{◌≡◌, ℕ, [], ◌∷◌, Some, Bool, true, false, ◌&&◌, ◌==◌, cond, refl, sym, subst}
+use Rattle.std.proofs.lemmas.Bool.{and_from, and_parts, eqb-true, false≢true}
+use Rattle.sil_ast.specs.declared.decl.Storage.{Storage}
+use Rattle.sil_ast.specs.declared.decl.Storage.TheVariants as storage
+use Rattle.sil_ast.specs.declared.place.ObjectId.{ObjectId}
+use Rattle.run_values.specs.declared.leaf.Leaf.TheVariants as leaf
+use Rattle.run_values.specs.Fits.{is_name}
+use Rattle.run_values.specs.Leaves.{leaves_of, value_of}
+use Rattle.run_values.specs.Shapes.{Shape, Stored}
+use Rattle.run_values.specs.Values.{Value, Int, Object, Group, Case, Full}
+use Rattle.value_parts.specs.inner.StoredNames.{IsUnownedName, IsWeakName}
+use Rattle.value_parts.specs.inner.Suits.{ClassTest, suits}
+
+empty_case : (a b : Bool) → cond a true (b && false) ≡ true → a ≡ true
+empty_case true b h = refl
+empty_case false true h = absurd (false≢true h)
+empty_case false false h = absurd (false≢true h)
+
+full_case : (a b c : Bool) → cond a false (b && c) ≡ true → (b ≡ true) × (c ≡ true)
+full_case true b c h = absurd (false≢true h)
+full_case false b c h = and_parts b c h
+
+weak_payload : (k : ℕ) (x : Value) → is_name storage.Weak (Full k x) ≡ true → IsWeakName (Full k x)
+weak_payload k (Object o) h =
+    let first : k ≡ 1 = eqb-true k 1 (full_case (k == 0) (k == 1) true h).0 in
+    subst (λ n. IsWeakName (Full n (Object o))) (sym first) (IsWeakName.names o)
+weak_payload k (Int n) h = absurd (false≢true (full_case (k == 0) (k == 1) false h).1)
+weak_payload k (Group members) h = absurd (false≢true (full_case (k == 0) (k == 1) false h).1)
+weak_payload k (Case index) h = absurd (false≢true (full_case (k == 0) (k == 1) false h).1)
+weak_payload k (Full index payload) h = absurd (false≢true (full_case (k == 0) (k == 1) false h).1)
+
+pub is_weak_name : (v : Value) → is_name storage.Weak v ≡ true → IsWeakName v
+is_weak_name (Case k) h = subst (λ n. IsWeakName (Case n)) (sym (eqb-true k 0 (empty_case (k == 0) (k == 1) h))) IsWeakName.none
+is_weak_name (Full k x) h = weak_payload k x h
+is_weak_name v h = absurd (false≢true h)
+
+pub is_unowned_name : (v : Value) → is_name storage.Unowned v ≡ true → IsUnownedName v
+is_unowned_name (Object o) h = IsUnownedName.names o
+is_unowned_name v h = absurd (false≢true h)
+
+-- what suits storage is a name in it, and suits what is stored
+
+module _ (test : ClassTest) (s : Storage) (inner : Shape) (v : Value) where
+  pub stored_name : suits test (Stored s inner) v ≡ true → is_name s v ≡ true
+  stored_name h = (and_parts (is_name s v) (suits test inner v) h).0
+
+  pub stored_inner : suits test (Stored s inner) v ≡ true → suits test inner v ≡ true
+  stored_inner h = (and_parts (is_name s v) (suits test inner v) h).1
+
+  pub stored_suits : is_name s v ≡ true → suits test inner v ≡ true → suits test (Stored s inner) v ≡ true
+  stored_suits = and_from (is_name s v) (suits test inner v)
+
+-- the leaf of a name, and back
+
+pub weak_none_leaf : (inner : Shape) → leaves_of (Stored storage.Weak inner) (Case 0) ≡ leaf.Blank ∷ []
+weak_none_leaf inner = refl
+
+pub weak_object_leaf : (inner : Shape) (o : ObjectId) → leaves_of (Stored storage.Weak inner) (Full 1 (Object o)) ≡ leaf.Object o ∷ []
+weak_object_leaf inner o = refl
+
+pub unowned_leaf : (inner : Shape) (o : ObjectId) → leaves_of (Stored storage.Unowned inner) (Object o) ≡ leaf.Object o ∷ []
+unowned_leaf inner o = refl
+
+pub weak_none_back : (inner : Shape) → value_of (Stored storage.Weak inner) (leaf.Blank ∷ []) ≡ Some (Case 0)
+weak_none_back inner = refl
+
+pub weak_object_back : (inner : Shape) (o : ObjectId) → value_of (Stored storage.Weak inner) (leaf.Object o ∷ []) ≡ Some (Full 1 (Object o))
+weak_object_back inner o = refl
+
+pub unowned_back : (inner : Shape) (o : ObjectId) → value_of (Stored storage.Unowned inner) (leaf.Object o ∷ []) ≡ Some (Object o)
+unowned_back inner o = refl

@@ -1,0 +1,43 @@
+-- Integers and references: what suits, and the one leaf.
+use Rattle.std.proofs.Common.{◌≡◌, ℕ, ℤ, [], ◌∷◌, true, refl}
+use Rattle.std.proofs.lemmas.Bool.{false≢true}
+use Rattle.sil_ast.specs.declared.decl.Storage.{Storage}
+use Rattle.sil_ast.specs.declared.place.ObjectId.{ObjectId}
+use Rattle.numbered_form.specs.Names.{Name}
+use Rattle.numbered_form.specs.inner.Literals.{is_residue}
+use Rattle.run_values.specs.declared.leaf.Leaf.TheVariants as leaf
+use Rattle.run_values.specs.Leaves.{leaves_of}
+use Rattle.run_values.specs.Shapes.{Shape, Integer, Reference, Stored}
+use Rattle.run_values.specs.Values.{Value, Int, Object}
+use Rattle.value_parts.specs.inner.Paths.{leaf_count}
+use Rattle.value_parts.specs.inner.Suits.{ClassTest, suits}
+
+module _ (test : ClassTest) where
+  pub suits_integer : (width : ℕ) (v : Value) → suits test (Integer width) v ≡ true → (n : ℤ) × (v ≡ Int n) × (is_residue width n ≡ true)
+  suits_integer width (Int n) h = (n, refl, h)
+  suits_integer width v h = absurd (false≢true h)
+
+  pub integer_suits : (width : ℕ) (n : ℤ) → is_residue width n ≡ true → suits test (Integer width) (Int n) ≡ true
+  integer_suits width n h = h
+
+  pub suits_reference : (class : Name) (v : Value) → suits test (Reference class) v ≡ true → (o : ObjectId) × (v ≡ Object o) × (test class o ≡ true)
+  suits_reference class (Object o) h = (o, refl, h)
+  suits_reference class v h = absurd (false≢true h)
+
+  pub reference_suits : (class : Name) (o : ObjectId) → test class o ≡ true → suits test (Reference class) (Object o) ≡ true
+  reference_suits class o h = h
+
+pub integer_leaf : (width : ℕ) (n : ℤ) → leaves_of (Integer width) (Int n) ≡ leaf.Int n ∷ []
+integer_leaf width n = refl
+
+pub reference_leaf : (class : Name) (o : ObjectId) → leaves_of (Reference class) (Object o) ≡ leaf.Object o ∷ []
+reference_leaf class o = refl
+
+pub integer_size : (width : ℕ) → leaf_count (Integer width) ≡ 1
+integer_size width = refl
+
+pub reference_size : (class : Name) → leaf_count (Reference class) ≡ 1
+reference_size class = refl
+
+pub stored_size : (storage : Storage) (inner : Shape) → leaf_count (Stored storage inner) ≡ 1
+stored_size storage inner = refl
