@@ -109,16 +109,16 @@ fields_hold_none d (x ∷ fields) strong e =
     let here : has_storage x.ty ≡ false = sym (ap (λ s. is_misplaced_at d (field_standing s) x.ty) strong.0) ∙ parts.0 in
     ap (λ b. b || list_any has_storage (map field_type fields)) here ∙ fields_hold_none d fields strong.1 parts.1
 
-payload_holds_none : (d : Declarations) (t : Option TypeName) (more : List item.Mention) (others : List TypeName) → list_any (is_misplaced d) (if_there Object t ++ more) ≡ false
+payload_type_holds_none : (d : Declarations) (t : Option TypeName) (more : List item.Mention) (others : List TypeName) → list_any (is_misplaced d) (if_there Object t ++ more) ≡ false
     → (list_any (is_misplaced d) more ≡ false → list_any has_storage others ≡ false) → list_any has_storage (option_to_list t ++ others) ≡ false
-payload_holds_none d None more others e rest = rest e
-payload_holds_none d (Some t) more others e rest =
+payload_type_holds_none d None more others e rest = rest e
+payload_type_holds_none d (Some t) more others e rest =
     let parts = or_parts (has_storage t) (list_any (is_misplaced d) more) e in
     ap (λ b. b || list_any has_storage others) parts.0 ∙ rest parts.1
 
 cases_hold_none : (d : Declarations) (cases : List Case) → list_any (is_misplaced d) (flat_map in_case cases) ≡ false → list_any has_storage (flat_map payload_types cases) ≡ false
 cases_hold_none d [] e = refl
-cases_hold_none d (c ∷ cases) e = payload_holds_none d c.payload (flat_map in_case cases) (flat_map payload_types cases) e (cases_hold_none d cases)
+cases_hold_none d (c ∷ cases) e = payload_type_holds_none d c.payload (flat_map in_case cases) (flat_map payload_types cases) e (cases_hold_none d cases)
 
 holds_none : (d : Declarations) (x : Decl) → HasStrongFields x → has_misplaced_storage d (item.decl x) ≡ false → HoldsNone x
 holds_none d (decl.Struct name fields) strong e = fields_hold_none d fields strong e
