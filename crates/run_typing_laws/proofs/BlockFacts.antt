@@ -1,12 +1,10 @@
 -- The blocks behind the edges of a terminator: they are there, and their arguments are no addresses.
-use Rattle.std.proofs.Common.{◌≡◌, ℕ, zero, suc, ◌<◌, List, [], ◌∷◌, length, map, refl, sym, ap, ◌∙◌, subst, Bool, true, false, Option, Some, None}
-use Rattle.std.specs.Prelude.{◌&&◌, ◌==◌, drop, option_map, slice_get}
+use Rattle.std.proofs.Common.{◌≡◌, ℕ, zero, suc, ◌<◌, List, [], ◌∷◌, length, map, refl, sym, ap, ◌∙◌, subst, true, false, Option, Some, None}
+use Rattle.std.specs.Prelude.{◌==◌, drop, option_map, slice_get}
 use Rattle.std.specs.List.{list_all, list_any}
 use Rattle.std.proofs.lemmas.Option.{slice_get-map}
-use Rattle.item_operands.specs.Items.{arg_value}
 use Rattle.numbered_form.specs.Numbering.{IsEdgeInRange, values_of}
 use Rattle.numbered_form.specs.inner.Parts.{is_branch, is_typed}
-use Rattle.point_checks.specs.Points.{IsAt}
 use Rattle.sil_ast.specs.Blocks.{args_in, args_of}
 use Rattle.sil_ast.specs.declared.function.Block.{Block}
 use Rattle.sil_ast.specs.declared.function.BlockArg.{BlockArg}
@@ -18,19 +16,20 @@ use Rattle.sil_ast.specs.declared.inst.Inst.{Inst}
 use Rattle.sil_ast.specs.declared.module.Module.{Module}
 use Rattle.sil_ast.specs.declared.type_name.TypeName.{TypeName}
 use Rattle.sil_types.specs.Typing.EdgeRules.{goes_to_entry, has_address_type, has_block_types, is_to_entry, lets_address_escape, takes_address}
-use Rattle.sil_types.specs.Typing.OperandTypes.{are_as_written, edge_is_as_written}
+use Rattle.sil_types.specs.Typing.OperandTypes.{edge_is_as_written}
 use Rattle.sil_types.specs.Typing.RowTypes.{all_written}
 use Rattle.sil_types.specs.Typing.Shapes.{target}
 use Rattle.sil_types.specs.Typing.Values.{arg_type, value_types}
 use Rattle.type_definitions.specs.Declarations.{declarations_of}
-use Rattle.run_values.specs.Shapes.{Shape, shape_of}
-use Rattle.run_typing.specs.EndForms.{EdgeForms, arguments_at, handed_over, value_in}
+use Rattle.run_values.specs.Shapes.{shape_of}
+use Rattle.run_typing.specs.EndForms.{EdgeForms, arguments_at}
 use Rattle.run_typing.specs.Forms.{OfValue, forms_of}
 use Rattle.run_typing_laws.proofs.FunctionFacts.{TypedFunction, TypedInst}
-use Rattle.run_typing_laws.proofs.ListFacts.{all_at, and_second, each_at, none_at}
-use Rattle.run_typing_laws.proofs.Rows.Finding.{none_of}
+use Rattle.run_typing_laws.proofs.Found.{both_second, each_at}
+use Rattle.run_typing_laws.proofs.Rows.Finding.{fails_at, none_of, passes_at}
 use Rattle.run_typing_laws.proofs.SameFacts.{same_type_lists}
-use Rattle.run_typing_laws.proofs.ValueForms.{args_forms, edges_written, type_form, value_forms, written_forms}
+use Rattle.run_typing_laws.proofs.Rows.Forms.{typed_form, written_forms}
+use Rattle.run_typing_laws.proofs.ValueForms.{args_forms, edges_written, value_forms}
 
 -- a function that has a block, and isn't in ownership form, is lowered
 pub lowered_form : (m : Module) (f : Function) (b : ℕ) (block : Block) → TypedFunction m f → slice_get f.blocks b ≡ Some block → f.form ≡ form.Lowered
@@ -50,7 +49,7 @@ no_address (x ∷ bs) (suc b) k a none other e = at (slice_get bs b) refl e
   where
     at : (o : Option Block) → slice_get bs b ≡ o → slice_get (args_in o) k ≡ Some a → target a.ty ≡ None
     at None is e = cc
-    at (Some block) is e = none_of (target a.ty) (none_at has_address_type block.args k a (none_at takes_address bs b block none is) e)
+    at (Some block) is e = none_of (target a.ty) (fails_at has_address_type block.args k a (fails_at takes_address bs b block none is) e)
 
 module _ (m : Module) (f : Function) (typed : TypedFunction m f) (i : Inst) (here : TypedInst m f i) (k : ℕ) (e : Edge) (at : slice_get i.edges k ≡ Some e) where
   range : IsEdgeInRange (length (values_of f.blocks)) (length f.blocks) e
@@ -61,7 +60,7 @@ module _ (m : Module) (f : Function) (typed : TypedFunction m f) (i : Inst) (her
 
   args_are_values : (j : ℕ) (a : BlockArg) → slice_get (args_of f e.block.0) j ≡ Some a → target a.ty ≡ None
   unfolding goes_to_entry lets_address_escape
-  args_are_values j a is = no_address f.blocks e.block.0 j a typed.escapes (none_at is_to_entry i.edges k e here.entry at) is
+  args_are_values j a is = no_address f.blocks e.block.0 j a typed.escapes (fails_at is_to_entry i.edges k e here.entry at) is
 
   types_are_values : (j : ℕ) (t : TypeName) → slice_get (map arg_type (args_of f e.block.0)) j ≡ Some t → target t ≡ None
   types_are_values j t is = from (slice_get (args_of f e.block.0) j) refl (sym (slice_get-map arg_type (args_of f e.block.0) j) ∙ is)
@@ -80,9 +79,9 @@ module _ (m : Module) (f : Function) (typed : TypedFunction m f) (i : Inst) (her
     shapes = map (shape_of (declarations_of m)) (map arg_type (args_of f e.block.0));
     block = block_there;
     given =
-        written_forms (declarations_of m) f e.args (and_second _ (list_all is_typed e.args) branch)
-        (all_at (edge_is_as_written (value_types (declarations_of m) f)) i.edges k e (edges_written m f i here) at)
-        ∙ ap (map (type_form (declarations_of m))) (same_type_lists (all_written e.args) (map arg_type (args_of f e.block.0)) same)
+        written_forms (declarations_of m) f e.args (both_second _ (list_all is_typed e.args) branch)
+        (passes_at (edge_is_as_written (value_types (declarations_of m) f)) i.edges k e (edges_written m f i here) at)
+        ∙ ap (map (typed_form (declarations_of m))) (same_type_lists (all_written e.args) (map arg_type (args_of f e.block.0)) same)
         ∙ value_forms (declarations_of m) (map arg_type (args_of f e.block.0)) types_are_values;
     taken = block_forms;
   }

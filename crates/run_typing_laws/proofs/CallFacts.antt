@@ -1,11 +1,10 @@
 -- Calls: the operands of an `apply` are a function and what the function's entry takes, and its result is what the function gives.
-use Rattle.std.proofs.Common.{◌≡◌, append-nil, ℕ, zero, suc, ◌+◌, ◌<◌, List, [], ◌∷◌, ◌++◌, length, map, replicate, refl, sym, ap, ap₂, ◌∙◌, subst, arith, Bool, true, false, not, Option, Some, None}
+use Rattle.std.proofs.Common.{◌≡◌, append-nil, ℕ, zero, suc, ◌+◌, ◌<◌, List, [], ◌∷◌, ◌++◌, length, map, replicate, refl, sym, ap, ap₂, ◌∙◌, subst, arith, Bool, true, false, Option, Some, None}
 use Rattle.std.specs.Prelude.{◌&&◌, ◌||◌, ◌==◌, drop, is_none, is_some, option_and_then, option_map, slice_get, unwrap_or}
 use Rattle.std.specs.List.{flat_map, list_all, range_with_len}
 use Rattle.std.specs.Option.{option_to_list}
 use Rattle.std.proofs.lemmas.Bool.{eqb-true}
-use Rattle.std.proofs.lemmas.Option.{slice_get-get_or}
-use Rattle.instruction_table.specs.Forms.{bare_operands_of, may_lack_operand, parts_of, results_of}
+use Rattle.instruction_table.specs.Forms.{bare_operands_of, results_of}
 use Rattle.instruction_table.specs.declared.op.Op.{Op}
 use Rattle.instruction_table.specs.declared.op.Op.TheVariants as op
 use Rattle.holder_model.specs.Effects.{effect_of}
@@ -23,31 +22,31 @@ use Rattle.sil_ast.specs.declared.module.Module.{Module}
 use Rattle.sil_ast.specs.declared.operands.Operand.{Operand}
 use Rattle.sil_ast.specs.declared.place.FuncId.{FuncId}
 use Rattle.sil_ast.specs.declared.place.ValueId.{ValueId}
-use Rattle.sil_ast.specs.declared.signature.Signature.{Signature}
 use Rattle.sil_ast.specs.declared.type_name.TypeName.{TypeName}
 use Rattle.sil_ast.specs.declared.type_name.TypeName.TheVariants as type
 use Rattle.sil_types.specs.Typing.OperandTypes.{are_as_asked_by, argument_types, has_type}
 use Rattle.sil_types.specs.Typing.ResultCounts.{is_count_by}
 use Rattle.sil_types.specs.Typing.RowTypes.{given_by, gives, made_types, row_types}
-use Rattle.sil_types.specs.Typing.Same.{all_pairs, is_same_signature}
-use Rattle.sil_types.specs.Typing.Shapes.{target}
+use Rattle.sil_types.specs.Typing.Same.{all_pairs}
 use Rattle.sil_types.specs.Typing.SignatureRules.{callee, callee_value, calls_no_function, calls_none_by, differs_by, differs_from_signature, has_signature_of, is_signature_of, signature_of}
 use Rattle.sil_types.specs.Typing.Values.{arg_functions, arg_has, arg_types, function_at, functions_by, result_functions, result_types, type_at, value_functions, value_types}
 use Rattle.type_definitions.specs.Declarations.{Declarations, declarations_of}
 use Rattle.type_definitions.specs.Mentions.{direct_type, given_type}
 use Rattle.value_tables.specs.ValueRows.{rows_from}
 use Rattle.run_typing.specs.EndForms.{value_in}
-use Rattle.run_typing.specs.Forms.{Form, OfFunction, OfValue, entry_forms, form_by, form_of, forms_of, given_shape}
+use Rattle.run_typing.specs.Forms.{OfFunction, OfValue, form_by, form_of, forms_of, given_shape}
 use Rattle.run_typing.specs.RowForms.{RowForms, calls, calls_out}
 use Rattle.run_typing.specs.Runnable.{IsRunnable}
 use Rattle.run_typing_laws.proofs.FunctionFacts.{TypedFunction, TypedInst, typed_function}
-use Rattle.run_typing_laws.proofs.ListFacts.{and_first, get_below, map_twice, maps_alike, passes_by}
-use Rattle.run_typing_laws.proofs.Rows.Finding.{found_behind, if_some, none_of, some_of}
+use Rattle.run_typing_laws.proofs.Found.{both_first, not_false}
+use Rattle.run_typing_laws.proofs.ListFacts.{get_below, map_twice, maps_alike}
+use Rattle.run_typing_laws.proofs.Rows.Finding.{if_some, some_of}
 use Rattle.run_typing_laws.proofs.Rows.Layers.{target-Int}
 use Rattle.run_typing_laws.proofs.SameFacts.{same_signatures}
 use Rattle.run_typing_laws.proofs.ShapeFacts.{int_shape, tuple_shape}
 use Rattle.run_typing_laws.proofs.SignatureFacts.{entry_forms_are, given_is_value, integers_taken, nothing_given, outer_form}
-use Rattle.run_typing_laws.proofs.ValueForms.{asked_forms, operands_asked, result_form, type_form, value_form, value_forms}
+use Rattle.run_typing_laws.proofs.Rows.Forms.{asked_forms, one_form, typed_form, value_form}
+use Rattle.run_typing_laws.proofs.ValueForms.{operands_asked}
 
 -- a value that stands for a function has no type, and the function is there
 
@@ -161,12 +160,12 @@ module _ (m : Module) (r : IsRunnable m) (n : ℕ) (f : Function) (is_function :
       let body = get_below m.functions found.0.0 (function_only m f typed os.0.value.0 found.0 stands).1 in
       let signature = some_of i.signature (here.parts.signature ∙ ap (row_has is_signature) call) in
       let kept : has_signature_of m (callee (value_functions f) i) i ≡ true =
-      passes_by _ (ap (λ x. differs_by x m f (value_functions f) i) (sym call) ∙ here.signature) in
+      not_false _ (ap (λ x. differs_by x m f (value_functions f) i) (sym call) ∙ here.signature) in
       let tests : (is_signature_of (Some body.0.signature) signature.0 && true) ≡ true =
       ap (λ o. is_signature_of (option_map (λ g. g.signature) o) signature.0 && true) (sym body.1)
       ∙ ap₂ (λ o s. list_all (is_signature_of (option_and_then (signature_of m) o)) (option_to_list s)) (sym found.1) (sym signature.1)
       ∙ kept in
-      let same : signature.0 ≡ body.0.signature = same_signatures signature.0 body.0.signature (and_first _ true tests) in
+      let same : signature.0 ≡ body.0.signature = same_signatures signature.0 body.0.signature (both_first _ true tests) in
       record {
         value = os.0;
         handed = os.1;
@@ -185,7 +184,7 @@ module _ (m : Module) (r : IsRunnable m) (n : ℕ) (f : Function) (is_function :
   body_typed : TypedFunction m called.body
   body_typed = typed_function m r called.named.0 called.body called.there
 
-  operand_forms_are : forms_of (declarations_of m) f (map value_in i.operands) ≡ OfFunction called.named ∷ map (type_form (declarations_of m)) (argument_types called.body.signature)
+  operand_forms_are : forms_of (declarations_of m) f (map value_in i.operands) ≡ OfFunction called.named ∷ map (typed_form (declarations_of m)) (argument_types called.body.signature)
   operand_forms_are =
       let asked : all_pairs (has_type (value_types (declarations_of m) f)) called.handed (argument_types called.body.signature ++ []) ≡ true =
       ap₂ (λ os s. all_pairs (has_type (value_types (declarations_of m) f)) (drop 1 os) (flat_map argument_types (option_to_list s))) (sym called.operands) (sym called.told)
@@ -195,8 +194,8 @@ module _ (m : Module) (r : IsRunnable m) (n : ℕ) (f : Function) (is_function :
       ap₂ (form_by (declarations_of m)) (function_only m f typed called.value.value.0 called.named called.stands_for).0 called.stands_for in
       ap (λ os. forms_of (declarations_of m) f (map value_in os)) called.operands
       ∙ ap₂ (λ x xs. x ∷ xs) first
-        (asked_forms (declarations_of m) f called.handed (argument_types called.body.signature ++ []) asked
-        ∙ ap (map (type_form (declarations_of m))) (append-nil (argument_types called.body.signature)))
+      (asked_forms (declarations_of m) f called.handed (argument_types called.body.signature ++ []) asked
+      ∙ ap (map (typed_form (declarations_of m))) (append-nil (argument_types called.body.signature)))
 
   result_forms_are : forms_of (declarations_of m) f i.results ≡ OfValue (given_shape (declarations_of m) called.body) ∷ []
   result_forms_are =
@@ -204,22 +203,24 @@ module _ (m : Module) (r : IsRunnable m) (n : ℕ) (f : Function) (is_function :
       let made : slice_get (made_types (declarations_of m) i) 0 ≡ Some (given_type called.body.signature) =
       ap (λ x. slice_get (unwrap_or (given_by x (declarations_of m) i) []) 0) call
       ∙ ap (λ s. slice_get (unwrap_or (gives (option_map given_type s)) []) 0) called.told in
-      ap (forms_of (declarations_of m) f) one.1
-      ∙ ap (λ x. x ∷ []) (result_form m f typed block index i 0 one.0 (given_type called.body.signature) at (ap (λ vs. slice_get vs 0) one.1) made
-        ∙ value_form (declarations_of m) (given_type called.body.signature) (given_is_value m called.body body_typed))
+      one_form (declarations_of m) f typed.numbered.values block index i at one.0 one.1
+      ∙ ap (λ t. form_by (declarations_of m) t i.function ∷ []) made
+      ∙ ap (λ x. x ∷ []) (value_form (declarations_of m) (given_type called.body.signature) (given_is_value m called.body body_typed))
 
-  integer_forms : (widths : List ℕ) → map (type_form (declarations_of m)) (map type.Int widths) ≡ map (λ w. OfValue (Integer w)) widths
+  integer_forms : (widths : List ℕ) → map (typed_form (declarations_of m)) (map type.Int widths) ≡ map (λ w. OfValue (Integer w)) widths
   integer_forms widths =
-      map_twice (type_form (declarations_of m)) type.Int widths
-      ∙ maps_alike (λ w. type_form (declarations_of m) (type.Int w)) (λ w. OfValue (Integer w)) widths (λ k w at. value_form (declarations_of m) (type.Int w) (target-Int w) ∙ ap OfValue (int_shape m w))
+      map_twice (typed_form (declarations_of m)) type.Int widths
+      ∙ maps_alike (λ w. typed_form (declarations_of m) (type.Int w)) (λ w. OfValue (Integer w)) widths
+      (λ k w at. value_form (declarations_of m) (type.Int w) (target-Int w) ∙ ap OfValue (int_shape m w))
 
   pub call_row : RowForms m i (forms_of (declarations_of m) f (map value_in i.operands)) (forms_of (declarations_of m) f i.results)
   call_row =
       subst (λ xs. RowForms m i xs (forms_of (declarations_of m) f i.results)) (sym operand_forms_are)
-      (subst (λ ys. RowForms m i (OfFunction called.named ∷ map (type_form (declarations_of m)) (argument_types called.body.signature)) ys) (sym result_forms_are) (by (has_any called.body.blocks) refl))
+      (subst (λ ys. RowForms m i (OfFunction called.named ∷ map (typed_form (declarations_of m)) (argument_types called.body.signature)) ys) (sym result_forms_are)
+      (by (has_any called.body.blocks) refl))
     where
       by : (some : Bool) → has_any called.body.blocks ≡ some
-          → RowForms m i (OfFunction called.named ∷ map (type_form (declarations_of m)) (argument_types called.body.signature)) (OfValue (given_shape (declarations_of m) called.body) ∷ [])
+          → RowForms m i (OfFunction called.named ∷ map (typed_form (declarations_of m)) (argument_types called.body.signature)) (OfValue (given_shape (declarations_of m) called.body) ∷ [])
       by true some =
           subst (λ xs. RowForms m i (OfFunction called.named ∷ xs) (OfValue (given_shape (declarations_of m) called.body) ∷ [])) (entry_forms_are m called.body body_typed some)
           (calls called.named called.body (ap effect_of call) called.there some)
@@ -229,6 +230,6 @@ module _ (m : Module) (r : IsRunnable m) (n : ℕ) (f : Function) (is_function :
           let gives_none : shape_of (declarations_of m) (given_type called.body.signature) ≡ Tuple NoMember =
           ap (λ results. shape_of (declarations_of m) (direct_type results)) (nothing_given m called.body body_typed outer) ∙ tuple_shape m [] in
           subst (λ xs. RowForms m i (OfFunction called.named ∷ xs) (OfValue (given_shape (declarations_of m) called.body) ∷ []))
-          (sym (integer_forms taken.0) ∙ ap (map (type_form (declarations_of m))) (sym taken.1))
+          (sym (integer_forms taken.0) ∙ ap (map (typed_form (declarations_of m))) (sym taken.1))
           (subst (λ s. RowForms m i (OfFunction called.named ∷ map (λ w. OfValue (Integer w)) taken.0) (OfValue s ∷ [])) (sym gives_none)
           (calls_out called.named called.body taken.0 (ap effect_of call) called.there none))

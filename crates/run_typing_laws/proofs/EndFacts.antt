@@ -1,27 +1,22 @@
 -- Terminators: their operands and edges are those that their rows have to do with, and they take all their operands.
-use Rattle.std.proofs.Common.{◌≡◌, ℕ, zero, suc, ◌+◌, ◌<◌, List, [], ◌∷◌, length, map, replicate, refl, sym, ap, ap₂, ◌∙◌, subst, arith, Bool, true, false, Option, Some, None}
+use Rattle.std.proofs.Common.{◌≡◌, ℕ, List, [], ◌∷◌, length, map, refl, sym, ap, ◌∙◌, subst, Bool, true, false, Option, Some, None}
 use Rattle.std.specs.Prelude.{◌&&◌, ◌||◌, ◌==◌, is_some, not, option_and_then, slice_get, take}
 use Rattle.std.specs.List.{list_all}
-use Rattle.std.proofs.lemmas.List.{length-replicate}
-use Rattle.instruction_table.specs.Forms.{bare_operands_of, ending_of, is_terminator, may_lack_operand, parts_of, roles_of}
-use Rattle.instruction_table.specs.declared.entries.Role.TheVariants as role
+use Rattle.instruction_table.specs.Forms.{bare_operands_of, ending_of, is_terminator, roles_of}
 use Rattle.instruction_table.specs.declared.op.Op.{Op}
 use Rattle.instruction_table.specs.declared.op.Op.TheVariants as op
 use Rattle.item_operands.specs.Parts.{terminator_of}
-use Rattle.item_operands.specs.Roles.{by_row, conventions_in, roles_for, taken_by, taken_each}
-use Rattle.item_operands.specs.declared.taken.Treatment.{Treatment}
+use Rattle.item_operands.specs.Roles.{taken_by}
 use Rattle.lowered_run.specs.LowStepParts.{taken_value}
 use Rattle.numbered_form.specs.Lists.{is_empty}
 use Rattle.numbered_form.specs.inner.Parts.{are_cases, are_edges_by, first_then, has_operands, is_bare, is_branch, is_typed}
-use Rattle.point_checks.specs.Points.{IsAt}
-use Rattle.run_values.specs.Shapes.{Integer, shape_of}
+use Rattle.run_values.specs.Shapes.{shape_of}
 use Rattle.sil_ast.specs.declared.function.Block.{Block}
 use Rattle.sil_ast.specs.declared.function.Function.{Function}
 use Rattle.sil_ast.specs.declared.inst.Edge.{Edge}
 use Rattle.sil_ast.specs.declared.inst.Inst.{Inst}
 use Rattle.sil_ast.specs.declared.module.Module.{Module}
 use Rattle.sil_ast.specs.declared.operands.Operand.{Operand}
-use Rattle.sil_ast.specs.declared.place.ValueId.{ValueId}
 use Rattle.sil_ast.specs.declared.type_name.TypeName.{TypeName, TypeName-F, out-TypeName}
 use Rattle.sil_ast.specs.declared.type_name.TypeName.TheVariants as type
 use Rattle.sil_types.specs.Typing.EdgeRules.{has_block_types, has_wrong_edge_arguments, have_wrong_arguments_by}
@@ -35,19 +30,21 @@ use Rattle.sil_types.specs.Typing.Values.{value_functions, value_types}
 use Rattle.type_definitions.specs.Declarations.{Declarations, declarations_of}
 use Rattle.type_definitions.specs.Mentions.{given_type}
 use Rattle.run_typing.specs.EndForms.{EndForms, branch, branches, cases, operand_forms, returns, unreachable, value_in}
-use Rattle.run_typing.specs.Forms.{OfValue, form_of, forms_of, given_shape}
-use Rattle.run_typing.specs.RowForms.{bit}
+use Rattle.run_typing.specs.Forms.{OfValue, form_of, forms_of}
 use Rattle.run_typing.specs.Runnable.{IsRunnable}
 use Rattle.run_typing_laws.proofs.BlockFacts.{edge_forms, lowered_form}
 use Rattle.run_typing_laws.proofs.FunctionFacts.{TypedFunction, TypedInst}
-use Rattle.run_typing_laws.proofs.ListFacts.{all_at, and_first, and_second, empty_is, neither_first, or_second, passes_by}
+use Rattle.run_typing_laws.proofs.Found.{both_first, both_second, not_false}
+use Rattle.run_typing_laws.proofs.ListFacts.{empty_is}
 use Rattle.run_typing_laws.proofs.MemberFacts.{enum_is}
-use Rattle.run_typing_laws.proofs.Rows.Finding.{mapped_some, some_of, where_found}
+use Rattle.run_typing_laws.proofs.Rows.Finding.{mapped_some, passes_at, some_of, where_found}
 use Rattle.run_typing_laws.proofs.Rows.Layers.{target-Int}
 use Rattle.run_typing_laws.proofs.ShapeFacts.{int_shape, same_types}
 use Rattle.run_typing_laws.proofs.SignatureFacts.{given_is_value}
 use Rattle.run_typing_laws.proofs.SwitchFacts.{case_taken, switch_kept}
-use Rattle.run_typing_laws.proofs.ValueForms.{operand_form, operand_written, operands_asked, row_kept, type_form, value_form}
+use Rattle.run_typing_laws.proofs.Rows.Forms.{asked_form, typed_form, value_form}
+use Rattle.run_typing_laws.proofs.Rows.Taking.{ends_for_any, takes_any, takes_none}
+use Rattle.run_typing_laws.proofs.ValueForms.{operand_written, operands_asked, row_kept}
 
 -- operands by the parts of their rows
 
@@ -62,27 +59,21 @@ pub one_operand : (test : Operand → Bool) (os : List Operand) → (first_then 
 one_operand test [] e = cc
 one_operand test (o ∷ os) e =
     let both = either (test o && is_empty os) false e in
-    (o, ap (λ x. o ∷ x) (empty_is os (and_second (test o) (is_empty os) both)), and_first (test o) (is_empty os) both)
-
--- as many roles as operands take them all
-pub all_taken : (os : List Operand) (ts : List Treatment) → length os ≡ length ts → map taken_value (taken_each os ts) ≡ map value_in os
-all_taken [] ts e = refl
-all_taken (o ∷ os) [] e = absurd (omega arith)
-all_taken (o ∷ os) (t ∷ ts) e = ap (λ vs. o.value ∷ vs) (all_taken os ts (omega arith))
+    (o, ap (λ x. o ∷ x) (empty_is os (both_second (test o) (is_empty os) both)), both_first (test o) (is_empty os) both)
 
 -- edges
 
 one_edge : (es : List Edge) → (length es == 1 && list_all is_branch es) ≡ true → (e : Edge) × (slice_get es 0 ≡ Some e) × (is_branch e ≡ true)
 one_edge [] h = cc
-one_edge (e ∷ es) h = (e, refl, and_first (is_branch e) (list_all is_branch es) (and_second (length (e ∷ es) == 1) _ h))
+one_edge (e ∷ es) h = (e, refl, both_first (is_branch e) (list_all is_branch es) (both_second (length (e ∷ es) == 1) _ h))
 
 two_edges : (es : List Edge) → (length es == 2 && list_all is_branch es) ≡ true
     → (e g : Edge) × (slice_get es 0 ≡ Some e) × (slice_get es 1 ≡ Some g) × (is_branch e ≡ true) × (is_branch g ≡ true)
 two_edges [] h = cc
 two_edges (e ∷ []) h = cc
 two_edges (e ∷ g ∷ es) h =
-    let branches = and_second (length (e ∷ g ∷ es) == 2) (list_all is_branch (e ∷ g ∷ es)) h in
-    (e, g, refl, refl, and_first (is_branch e) (list_all is_branch (g ∷ es)) branches, and_first (is_branch g) (list_all is_branch es) (and_second (is_branch e) _ branches))
+    let branches = both_second (length (e ∷ g ∷ es) == 2) (list_all is_branch (e ∷ g ∷ es)) h in
+    (e, g, refl, refl, both_first (is_branch e) (list_all is_branch (g ∷ es)) branches, both_first (is_branch g) (list_all is_branch es) (both_second (is_branch e) _ branches))
 
 -- an enum is no address
 enum_target : (d : Declarations) (t : TypeName) → is_enum d t ≡ true → target t ≡ None
@@ -110,24 +101,25 @@ module _ (m : Module) (r : IsRunnable m) (f : Function) (typed : TypedFunction m
   branch_end : i.op ≡ op.Br → EndForms (declarations_of m) f i
   branch_end e =
       let one = one_edge i.edges (has_edges_of op.Br e) in
-      let same : list_all (has_block_types f) i.edges ≡ true = passes_by _ (edges_kept op.Br e) in
+      let same : list_all (has_block_types f) i.edges ≡ true = not_false _ (edges_kept op.Br e) in
       branch one.0 (ap ending_of e) (no_operand i.operands (has_ops op.Br e)) one.1
-      (edge_forms m f typed i here 0 one.0 one.1 one.2 (all_at (has_block_types f) i.edges 0 one.0 same one.1))
+      (edge_forms m f typed i here 0 one.0 one.1 one.2 (passes_at (has_block_types f) i.edges 0 one.0 same one.1))
 
   branches_end : i.op ≡ op.CondBr → EndForms (declarations_of m) f i
   branches_end e =
       let two = two_edges i.edges (has_edges_of op.CondBr e) in
-      let same : list_all (has_block_types f) i.edges ≡ true = passes_by _ (edges_kept op.CondBr e) in
+      let same : list_all (has_block_types f) i.edges ≡ true = not_false _ (edges_kept op.CondBr e) in
       let one = one_operand is_bare i.operands (has_ops op.CondBr e) in
       let asked : are_as_asked_by (bare_operands_of op.CondBr) (value_types (declarations_of m) f) i ≡ true =
       ap (λ x. are_as_asked_by (bare_operands_of x) (value_types (declarations_of m) f) i) (sym e) ∙ operands_asked m f i here in
       let is_bit : has_type (value_types (declarations_of m) f) one.0 (type.Int 1) ≡ true =
-      and_first (has_type (value_types (declarations_of m) f) one.0 (type.Int 1)) true (ap (λ os. all_pairs (has_type (value_types (declarations_of m) f)) (take 1 os) (type.Int 1 ∷ [])) (sym one.1) ∙ asked) in
-      let form = operand_form (declarations_of m) f one.0 (type.Int 1) is_bit ∙ value_form (declarations_of m) (type.Int 1) (target-Int 1) ∙ ap OfValue (int_shape m 1) in
+      both_first (has_type (value_types (declarations_of m) f) one.0 (type.Int 1)) true
+      (ap (λ os. all_pairs (has_type (value_types (declarations_of m) f)) (take 1 os) (type.Int 1 ∷ [])) (sym one.1) ∙ asked) in
+      let form = asked_form (declarations_of m) f one.0 (type.Int 1) is_bit ∙ value_form (declarations_of m) (type.Int 1) (target-Int 1) ∙ ap OfValue (int_shape m 1) in
       branches two.0 two.1 (ap ending_of e)
       (ap (λ os. forms_of (declarations_of m) f (map value_in os)) one.1 ∙ ap (λ x. x ∷ []) form) two.2 two.3
-      (edge_forms m f typed i here 0 two.0 two.2 two.4 (all_at (has_block_types f) i.edges 0 two.0 same two.2))
-      (edge_forms m f typed i here 1 two.1 two.3 two.5 (all_at (has_block_types f) i.edges 1 two.1 same two.3))
+      (edge_forms m f typed i here 0 two.0 two.2 two.4 (passes_at (has_block_types f) i.edges 0 two.0 same two.2))
+      (edge_forms m f typed i here 1 two.1 two.3 two.5 (passes_at (has_block_types f) i.edges 1 two.1 same two.3))
 
   -- the one operand, with the type that is written at it
   record TypedOperand : Type 0 where
@@ -135,7 +127,7 @@ module _ (m : Module) (r : IsRunnable m) (f : Function) (typed : TypedFunction m
     ty : TypeName
     alone : i.operands ≡ operand ∷ []
     is : written 0 i ≡ Some ty
-    form : form_of (declarations_of m) f operand.value ≡ type_form (declarations_of m) ty
+    form : form_of (declarations_of m) f operand.value ≡ typed_form (declarations_of m) ty
 
   typed_operand : (first_then is_typed is_empty i.operands || (false && is_empty i.operands)) ≡ true → TypedOperand
   typed_operand parts =
@@ -161,7 +153,7 @@ module _ (m : Module) (r : IsRunnable m) (f : Function) (typed : TypedFunction m
       let right : switches_wrongly (declarations_of m) f i.edges (Some o.ty) ≡ false =
       ap (switches_wrongly (declarations_of m) f i.edges) (sym o.is) ∙ ap (λ x. has_wrong_cases_by x (declarations_of m) f i) (sym e) ∙ here.cases in
       cases (shape_of (declarations_of m) o.ty) (ap ending_of e) (operand_is o (enum_target (declarations_of m) o.ty enum)) (enum_is m r o.ty enum)
-      (case_taken m r f typed i here (lowered_form m f b block typed is) o.ty (and_second (not (is_empty i.edges)) (are_cases i.edges) (has_edges_of op.SwitchEnum e))
+      (case_taken m r f typed i here (lowered_form m f b block typed is) o.ty (both_second (not (is_empty i.edges)) (are_cases i.edges) (has_edges_of op.SwitchEnum e))
       (switch_kept m f o.ty i.edges right) enum)
     where
       enum_asked : (w : Option TypeName) (t : TypeName) → w ≡ Some t → is_some (takes (where_it (is_enum (declarations_of m)) w)) ≡ true → is_enum (declarations_of m) t ≡ true
@@ -174,7 +166,7 @@ module _ (m : Module) (r : IsRunnable m) (f : Function) (typed : TypedFunction m
   return_end : i.op ≡ op.Return → EndForms (declarations_of m) f i
   return_end e =
       let o = typed_operand (has_ops op.Return e) in
-      let gives : returns_what_is_given f i ≡ true = passes_by _ (returned op.Return e) in
+      let gives : returns_what_is_given f i ≡ true = not_false _ (returned op.Return e) in
       let same : given_type f.signature ≡ o.ty =
       same_types (given_type f.signature) o.ty (ap (passes (is_same_type (given_type f.signature))) (sym o.is) ∙ gives) in
       returns (ap ending_of e)
@@ -188,29 +180,13 @@ module _ (m : Module) (r : IsRunnable m) (f : Function) (typed : TypedFunction m
   end_by b block is op.Unreachable e ends = unreachable (ap ending_of e)
   end_by b block is _ e ends = absurd (cc)
 
-  taken_at : Op → List ValueId
-  taken_at o = map taken_value (taken_each i.operands (roles_for (roles_of o) (conventions_in i) (length i.operands)))
-
-  none_taken : (o : Op) → i.operands ≡ [] → taken_at o ≡ map value_in i.operands
-  unfolding taken_at
-  none_taken o none =
-      ap (λ os. map taken_value (taken_each os (roles_for (roles_of o) (conventions_in i) (length i.operands)))) none ∙ sym (ap (map value_in) none)
-
-  alike_taken : (t : Treatment) → map taken_value (taken_each i.operands (replicate (length i.operands) t)) ≡ map value_in i.operands
-  alike_taken t = all_taken i.operands (replicate (length i.operands) t) (sym (length-replicate (length i.operands) t))
-
-  taken_by_row : (o : Op) → i.op ≡ o → is_terminator o ≡ true → taken_at o ≡ map value_in i.operands
-  unfolding taken_at
-  taken_by_row op.Br e ends = none_taken op.Br (no_operand i.operands (has_ops op.Br e))
-  taken_by_row op.CondBr e ends = alike_taken (by_row role.Used)
-  taken_by_row op.SwitchEnum e ends = alike_taken (by_row role.Forwarded)
-  taken_by_row op.Return e ends = alike_taken (by_row role.Consumed)
-  taken_by_row op.Unreachable e ends = none_taken op.Unreachable (no_operand i.operands (has_ops op.Unreachable e))
-  taken_by_row _ e ends = absurd (cc)
-
-  takes_all : is_terminator i.op ≡ true → map taken_value (taken_by i) ≡ map value_in i.operands
-  unfolding taken_at
-  takes_all ends = taken_by_row i.op refl ends
+  takes_by : (o : Op) → i.op ≡ o → is_terminator o ≡ true → map taken_value (taken_by i) ≡ map value_in i.operands
+  takes_by op.Br e ends = takes_none i (no_operand i.operands (has_ops op.Br e))
+  takes_by op.CondBr e ends = takes_any i (ap (λ o. ends_for_any (roles_of o)) e)
+  takes_by op.SwitchEnum e ends = takes_any i (ap (λ o. ends_for_any (roles_of o)) e)
+  takes_by op.Return e ends = takes_any i (ap (λ o. ends_for_any (roles_of o)) e)
+  takes_by op.Unreachable e ends = takes_none i (no_operand i.operands (has_ops op.Unreachable e))
+  takes_by _ e ends = absurd (cc)
 
 pub ends : (m : Module) → IsRunnable m → (f : Function) → TypedFunction m f → (b : ℕ) (i : Inst) → terminator_of f b ≡ Some i → EndForms (declarations_of m) f i
 ends m r f typed b i e =
@@ -221,4 +197,4 @@ ends m r f typed b i e =
 pub ends_take : (m : Module) → IsRunnable m → (f : Function) → TypedFunction m f → (b : ℕ) (i : Inst) → terminator_of f b ≡ Some i → map taken_value (taken_by i) ≡ map value_in i.operands
 ends_take m r f typed b i e =
     let at = typed.ends b i e in
-    takes_all m r f typed i (typed.insts b at.0 i at.2) at.1.ends
+    takes_by m r f typed i (typed.insts b at.0 i at.2) i.op refl at.1.ends

@@ -1,13 +1,12 @@
 -- What holds of a function of a runnable module, and of its instructions: rules that aren't broken, and numbered form.
-use Rattle.std.proofs.Common.{◌≡◌, ℕ, zero, suc, ◌<◌, List, [], ◌∷◌, ◌++◌, length, refl, sym, ap, ◌∙◌, subst, Bool, true, false, not, Option, Some, None}
-use Rattle.std.specs.Prelude.{slice_get, IsTrue}
+use Rattle.std.proofs.Common.{◌≡◌, ℕ, List, [], ◌∷◌, length, refl, ap, ◌∙◌, subst, true, false, Option, Some, None}
+use Rattle.std.specs.Prelude.{slice_get}
 use Rattle.instruction_table.specs.Forms.{results_of}
 use Rattle.item_operands.specs.Parts.{inst_at, inst_in, terminator_in, terminator_of}
 use Rattle.numbered_form.specs.Insts.{EachInBlock, EachInFunction, insts_of}
 use Rattle.numbered_form.specs.Lists.{Each}
 use Rattle.numbered_form.specs.Numbering.{IsFunctionNumbered, IsInstInRange, values_of}
 use Rattle.numbered_form.specs.inner.Functions.{IsFormed}
-use Rattle.numbered_form.specs.inner.Literals.{HasLiterals}
 use Rattle.numbered_form.specs.inner.Parts.{BlockHasParts, FunctionHasParts, HasItsParts, IsInside, IsTerminator}
 use Rattle.point_checks.specs.Points.{IsAt}
 use Rattle.sil_ast.specs.declared.function.Block.{Block}
@@ -18,9 +17,8 @@ use Rattle.sil_ast.specs.declared.place.PointId.{PointId}
 use Rattle.sil_rules.specs.declared.rule.Rule.{Rule}
 use Rattle.sil_rules.specs.declared.rule.Rule.TheVariants as rule
 use Rattle.sil_types.specs.Typing.EdgeRules.{goes_to_entry, has_wrong_edge_arguments, lets_address_escape}
-use Rattle.sil_types.specs.Typing.FormRules.{is_annotated_at, is_of_form, is_of_other_form}
-use Rattle.sil_types.specs.Typing.OperandTypes.{has_operand_types, has_wrong_operand_type}
-use Rattle.sil_types.specs.Typing.ResultCounts.{has_wrong_result_count, is_count_by}
+use Rattle.sil_types.specs.Typing.OperandTypes.{has_operand_types}
+use Rattle.sil_types.specs.Typing.ResultCounts.{is_count_by}
 use Rattle.sil_types.specs.Typing.RowTypes.{row_types}
 use Rattle.sil_types.specs.Typing.SignatureRules.{calls_no_function, differs_from_signature, has_wrong_signature, is_no_output_call}
 use Rattle.sil_types.specs.Typing.SwitchRules.{has_wrong_cases}
@@ -28,12 +26,15 @@ use Rattle.sil_types.specs.Typing.Typed.{BreaksAtFunction, BreaksAtPoint, at_fun
 use Rattle.sil_types.specs.Typing.Values.{value_functions, value_types}
 use Rattle.type_definitions.specs.Declarations.{declarations_of}
 use Rattle.run_typing.specs.Runnable.{IsNotOwned, IsRunnable}
-use Rattle.run_typing_laws.proofs.ListFacts.{each_append, each_at, get_front, get_last, neither_first, never_passes, passes_by}
+use Rattle.run_typing_laws.proofs.Declared.{each_append}
+use Rattle.run_typing_laws.proofs.Found.{each_at, not_false}
+use Rattle.run_typing_laws.proofs.Rows.Points.{in_front}
+use Rattle.run_typing_laws.proofs.Rows.Finding.{never_passes}
+use Rattle.run_typing_laws.proofs.ListFacts.{get_last}
 
 -- of an instruction or a terminator of a function
 pub record TypedInst (m : Module) (f : Function) (i : Inst) : Type 0 where
   pub parts : HasItsParts i
-  pub literals : HasLiterals i
   pub range : IsInstInRange (length (values_of f.blocks)) (length f.blocks) (length m.functions) i
   -- 201
   pub operands : has_operand_types (declarations_of m) (value_types (declarations_of m) f) i ≡ true
@@ -45,8 +46,6 @@ pub record TypedInst (m : Module) (f : Function) (i : Inst) : Type 0 where
   pub callee : calls_no_function (value_functions f) i ≡ false
   -- 206
   pub signature : differs_from_signature m f (value_functions f) i ≡ false
-  -- 207
-  pub form : is_of_form f.form i ≡ true
   -- 209
   pub cases : has_wrong_cases (declarations_of m) f i ≡ false
   -- 211
@@ -90,7 +89,8 @@ inside_at f p i each e = at (slice_get f.blocks p.block.0) refl e
     at None is e = cc
     at (Some b) is e = (
       each_at IsInside b.insts p.index i (each_at BlockHasParts f.blocks p.block.0 b each is).insts e,
-      record { within = b; is_block = is; is_inst = get_front b.insts (b.terminator ∷ []) p.index i e })
+      record { within = b; is_block = is; is_inst = in_front b.insts (b.terminator ∷ []) p.index i e },
+    )
 
 end_at : (f : Function) (b : ℕ) (i : Inst) → FunctionHasParts f → terminator_of f b ≡ Some i → (k : ℕ) × IsTerminator i × IsAt f b k i
 end_at f b i each e = at (slice_get f.blocks b) refl e
@@ -99,9 +99,10 @@ end_at f b i each e = at (slice_get f.blocks b) refl e
     at None is e = cc
     at (Some c) is e =
         let same : c.terminator ≡ i = cc in (
-        length c.insts,
-        subst IsTerminator same (each_at BlockHasParts f.blocks b c each is).terminator,
-        record { within = c; is_block = is; is_inst = get_last c.insts c.terminator ∙ ap (λ j. Some j) same })
+          length c.insts,
+          subst IsTerminator same (each_at BlockHasParts f.blocks b c each is).terminator,
+          record { within = c; is_block = is; is_inst = get_last c.insts c.terminator ∙ ap (λ j. Some j) same },
+        )
 
 module _ (m : Module) (r : IsRunnable m) (n : ℕ) (f : Function) (there : slice_get m.functions n ≡ Some f) where
   keeps : (x : Rule) → BreaksAtFunction m f x → ⊥
@@ -119,14 +120,12 @@ module _ (m : Module) (r : IsRunnable m) (n : ℕ) (f : Function) (there : slice
   inst : (b k : ℕ) (i : Inst) → IsAt f b k i → TypedInst m f i
   inst b k i at = record {
     parts = parts_at f b k i parts at;
-    literals = each_inst_at HasLiterals f b k i (each_at (EachInFunction HasLiterals) m.functions n f r.numbered.literals there) at;
     range = each_inst_at (IsInstInRange (length (values_of f.blocks)) (length f.blocks) (length m.functions)) f b k i numbered.used at;
-    operands = passes_by _ (never_passes _ (λ e. keeps_at b k i rule.OperandType at (BreaksAtPoint.operand_type e)));
-    results = passes_by _ (never_passes _ (λ e. keeps_at b k i rule.ResultCount at (BreaksAtPoint.result_count e)));
+    operands = not_false _ (never_passes _ (λ e. keeps_at b k i rule.OperandType at (BreaksAtPoint.operand_type e)));
+    results = not_false _ (never_passes _ (λ e. keeps_at b k i rule.ResultCount at (BreaksAtPoint.result_count e)));
     edges = never_passes _ (λ e. keeps_at b k i rule.EdgeArguments at (BreaksAtPoint.edge_arguments e));
     callee = never_passes _ (λ e. keeps_at b k i rule.Callee at (BreaksAtPoint.callee e));
     signature = never_passes _ (λ e. keeps_at b k i rule.Signature at (BreaksAtPoint.signature e));
-    form = passes_by _ (neither_first _ (is_annotated_at f b k) (never_passes _ (λ e. keeps_at b k i rule.MixedForms at (BreaksAtPoint.mixed_forms e))));
     cases = never_passes _ (λ e. keeps_at b k i rule.SwitchCases at (BreaksAtPoint.switch_cases e));
     entry = never_passes _ (λ e. keeps_at b k i rule.EntryHasPredecessor at (BreaksAtPoint.entry_has_predecessor e));
   }

@@ -1,39 +1,52 @@
 -- What items take and define are values of their function.
-use Rattle.std.proofs.Common.{◌≡◌, ℕ, ◌<◌, List, [], ◌∷◌, ◌++◌, length, map, refl, sym, ap, ◌∙◌, subst, arith, Option, Some, None}
+use Rattle.std.proofs.Common.{◌≡◌, ℕ, suc, ◌+◌, ◌<◌, List, [], ◌∷◌, length, map, refl, ap, subst, arith, Option, Some, None}
 use Rattle.std.specs.Prelude.{slice_get}
-use Rattle.std.proofs.lemmas.Option.{slice_get-get_or, slice_get_within}
+use Rattle.std.specs.List.{flat_map}
+use Rattle.std.proofs.lemmas.List.{length-replicate}
 use Rattle.holder_model.specs.Calling.{value_count}
 use Rattle.item_operands.specs.Items.{arg_value, item_defined, item_taken, taken_along_in, taken_in}
-use Rattle.item_operands.specs.Parts.{args_behind, edge_at, edge_in, inst_at, item_arguments, item_edge, item_inst, item_results, results_in, terminator_of}
-use Rattle.item_operands.specs.Roles.{consumed, taken_by, taken_each}
+use Rattle.item_operands.specs.Parts.{args_behind, edge_at, edge_in, inst_at, item_edge, item_inst, results_in, terminator_of}
+use Rattle.item_operands.specs.Roles.{consumed, taken_each}
 use Rattle.item_operands.specs.declared.taken.Taken.{Taken}
 use Rattle.item_operands.specs.declared.taken.Treatment.{Treatment}
 use Rattle.lowered_run.specs.LowStepParts.{taken_value, values_taken}
 use Rattle.numbered_form.specs.Lists.{Each}
-use Rattle.numbered_form.specs.Numbering.{IsEdgeInRange, IsInstInRange, IsValueBelow, values_of}
-use Rattle.sil_ast.specs.Blocks.{args_of}
-use Rattle.sil_ast.specs.declared.function.BlockArg.{BlockArg}
+use Rattle.numbered_form.specs.Numbering.{AreCountedFrom, IsEdgeInRange, IsInstInRange, IsValueBelow, defined_in, results_of, values_of}
+use Rattle.sil_ast.specs.Blocks.{args_in, args_of}
+use Rattle.sil_ast.specs.declared.function.Block.{Block}
+use Rattle.sil_ast.specs.declared.place.FuncId.{FuncId}
+use Rattle.numbered_form.specs.Insts.{insts_of}
 use Rattle.sil_ast.specs.declared.function.Function.{Function}
 use Rattle.sil_ast.specs.declared.inst.Edge as edge
 use Rattle.sil_ast.specs.declared.inst.Inst as inst
 use Rattle.sil_ast.specs.declared.module.Module.{Module}
 use Rattle.sil_ast.specs.declared.operands.Operand.{Operand}
-use Rattle.point_checks.specs.Points.{IsAt}
 use Rattle.sil_ast.specs.declared.place.PointId.{PointId}
 use Rattle.sil_ast.specs.declared.place.ValueId.{ValueId}
 use Rattle.sil_cfg.specs.declared.item.Item.{Item}
 use Rattle.sil_cfg.specs.declared.item.Item.TheVariants.{Entry, Inst, Edge, Exit}
-use Rattle.sil_types.specs.Typing.Values.{arg_functions, result_functions, value_functions}
+use Rattle.sil_types.specs.Typing.Values.{arg_functions, functions_by, result_functions}
 use Rattle.value_tables.proofs.Rows.{rows_count}
 use Rattle.run_typing.specs.CallForms.{IsOf, ItemIsOf}
 use Rattle.run_typing_laws.proofs.FunctionFacts.{TypedFunction}
-use Rattle.run_typing_laws.proofs.ListFacts.{each_append, each_at, each_by, each_map}
-use Rattle.run_typing_laws.proofs.ValueForms.{arg_function_count, result_function_count}
-use Rattle.run_typing_laws.proofs.ValueRows.{arg_row, result_row}
+use Rattle.run_typing_laws.proofs.Declared.{each_append}
+use Rattle.run_typing_laws.proofs.Found.{each_at}
+use Rattle.run_typing_laws.proofs.ListFacts.{each_map, each_parts, each_within}
 
 -- as many as its blocks define
-pub values_counted : (f : Function) → value_count f ≡ length (values_of f.blocks)
-values_counted f = rows_count arg_functions result_functions arg_function_count result_function_count 0 f.blocks
+values_counted : (f : Function) → value_count f ≡ length (values_of f.blocks)
+values_counted f = rows_count arg_functions result_functions (λ n xs. length-replicate (length xs) None) (λ i. level i.function i.results) 0 f.blocks
+  where
+    level : (g : Option FuncId) (vs : List ValueId) → length (functions_by g vs) ≡ length vs
+    level g [] = refl
+    level g (v ∷ vs) = ap suc (length-replicate (length vs) None)
+
+numbers_below : (n : ℕ) (vs : List ValueId) → AreCountedFrom n vs → Each (λ v. v.0 < n + length vs) vs
+numbers_below n [] h = tt
+numbers_below n (v ∷ vs) h =
+    let first : v.0 ≡ n = h.0 in
+    let same : (n + 1) + length vs ≡ n + suc (length vs) = omega arith in
+    (omega arith, subst (λ k. Each (λ w. w.0 < k) vs) same (numbers_below (n + 1) vs h.1))
 
 -- operands
 
@@ -88,28 +101,26 @@ module _ (m : Module) (f : Function) (typed : TypedFunction m f) where
 
   -- arguments and results
 
-  arg_of : (b k : ℕ) (a : BlockArg) → slice_get (args_of f b) k ≡ Some a → IsOf f a.value
-  arg_of b k a e =
-      let lt : k < length (args_of f b) = slice_get_within (args_of f b) k a e in
-      let count = arg_function_count b (args_of f b) in
-      slice_get_within (value_functions f) a.value.0 _
-      (arg_row arg_functions result_functions arg_function_count result_function_count f typed.numbered.values b k a e
-      ∙ slice_get-get_or (arg_functions b (args_of f b)) k None (omega (arith, count)))
+  all_values : Each (IsOf f) (values_of f.blocks)
+  all_values =
+      let count : 0 + length (values_of f.blocks) ≡ value_count f = let same = values_counted f in omega (arith, same) in
+      subst (λ n. Each (λ v. v.0 < n) (values_of f.blocks)) count (numbers_below 0 (values_of f.blocks) typed.numbered.values)
 
-  result_of : (b j : ℕ) (i : inst.Inst) (k : ℕ) (v : ValueId) → IsAt f b j i → slice_get i.results k ≡ Some v → IsOf f v
-  result_of b j i k v at e =
-      let lt : k < length i.results = slice_get_within i.results k v e in
-      let count = result_function_count i in
-      slice_get_within (value_functions f) v.0 _
-      (result_row arg_functions result_functions arg_function_count result_function_count f typed.numbered.values b j i k v at e
-      ∙ slice_get-get_or (result_functions i) k None (omega (arith, count)))
+  of_block : (b : ℕ) (block : Block) → slice_get f.blocks b ≡ Some block → Each (IsOf f) (map arg_value block.args) × Each (IsOf f) (flat_map results_of (insts_of block))
+  of_block b block is = each_parts (IsOf f) (map arg_value block.args) (flat_map results_of (insts_of block)) (each_within defined_in (IsOf f) f.blocks b block all_values is)
 
   args_of_block : (b : ℕ) → Each (IsOf f) (map arg_value (args_of f b))
-  args_of_block b = each_map arg_value (λ a. IsOf f a.value) (IsOf f) (λ a h. h) (args_of f b) (each_by (λ a. IsOf f a.value) (args_of f b) (arg_of b))
+  args_of_block b = at (slice_get f.blocks b) refl
+    where
+      at : (o : Option Block) → slice_get f.blocks b ≡ o → Each (IsOf f) (map arg_value (args_in o))
+      at None is = tt
+      at (Some block) is = (of_block b block is).0
 
   results_at : (p : PointId) (o : Option inst.Inst) → inst_at f p ≡ o → Each (IsOf f) (results_in o)
   results_at p None e = tt
-  results_at p (Some i) e = each_by (IsOf f) i.results (λ k v at. result_of p.block.0 p.index i k v (typed.inside p i e).1 at)
+  results_at p (Some i) e =
+      let at = (typed.inside p i e).1 in
+      each_within results_of (IsOf f) (insts_of at.within) p.index i (of_block p.block.0 at.within at.is_block).1 at.is_inst
 
   args_along : (o : Option edge.Edge) → Each (IsOf f) (map arg_value (args_behind f o))
   args_along None = tt

@@ -16,7 +16,6 @@ pub mod MemberFacts
 pub mod ClassFacts
 pub mod ListFacts
 pub mod FunctionFacts
-pub mod ValueRows
 pub mod ValueForms
 pub mod ItemFacts
 pub mod Rows
@@ -26,3 +25,5 @@ pub mod SwitchFacts
 pub mod EndFacts
 pub mod SignatureFacts
 pub mod CallFacts
+pub mod DeinitFacts
+pub mod RunnableTyped

@@ -1,5 +1,5 @@
 -- Lists of types that are the same are equal, and so are signatures.
-use Rattle.std.proofs.Common.{◌≡◌, List, [], ◌∷◌, length, map, refl, sym, ap, ap₂, ◌∙◌, subst, Bool, true, false}
+use Rattle.std.proofs.Common.{◌≡◌, List, [], ◌∷◌, refl, ap₂, Bool, true, false}
 use Rattle.std.specs.Prelude.{◌&&◌}
 use Rattle.sil_ast.specs.declared.signature.Convention.{Convention}
 use Rattle.sil_ast.specs.declared.signature.Convention.TheVariants.{Thin, Method}
@@ -10,7 +10,7 @@ use Rattle.sil_ast.specs.declared.signature.Passing.TheVariants as passing
 use Rattle.sil_ast.specs.declared.signature.Signature.{Signature}
 use Rattle.sil_ast.specs.declared.type_name.TypeName.{TypeName}
 use Rattle.sil_types.specs.Typing.Same.{all_pairs, are_same_types, is_same_convention, is_same_flag, is_same_given, is_same_param, is_same_passing, is_same_signature, is_same_type}
-use Rattle.run_typing_laws.proofs.ListFacts.{and_first, and_second}
+use Rattle.run_typing_laws.proofs.Found.{both_first, both_second}
 use Rattle.run_typing_laws.proofs.ShapeFacts.{same_types}
 
 -- lists are equal where pairs that pass the test are
@@ -19,7 +19,7 @@ pairs_equal test same [] [] e = refl
 pairs_equal test same [] (y ∷ ys) e = cc
 pairs_equal test same (x ∷ xs) [] e = cc
 pairs_equal test same (x ∷ xs) (y ∷ ys) e =
-    ap₂ (λ z zs. z ∷ zs) (same x y (and_first (test x y) (all_pairs test xs ys) e)) (pairs_equal test same xs ys (and_second (test x y) (all_pairs test xs ys) e))
+    ap₂ (λ z zs. z ∷ zs) (same x y (both_first (test x y) (all_pairs test xs ys) e)) (pairs_equal test same xs ys (both_second (test x y) (all_pairs test xs ys) e))
 
 pub same_type_lists : (ts us : List TypeName) → are_same_types ts us ≡ true → ts ≡ us
 same_type_lists ts us e = pairs_equal is_same_type same_types ts us e
@@ -47,26 +47,26 @@ same_passings _ _ h = cc
 
 same_params : (p q : Param) → is_same_param p q ≡ true → p ≡ q
 same_params p q h =
-    let passing : p.passing ≡ q.passing = same_passings p.passing q.passing (and_first (is_same_passing p.passing q.passing) (is_same_type p.ty q.ty) h) in
-    let ty : p.ty ≡ q.ty = same_types p.ty q.ty (and_second (is_same_passing p.passing q.passing) (is_same_type p.ty q.ty) h) in
+    let passing : p.passing ≡ q.passing = same_passings p.passing q.passing (both_first (is_same_passing p.passing q.passing) (is_same_type p.ty q.ty) h) in
+    let ty : p.ty ≡ q.ty = same_types p.ty q.ty (both_second (is_same_passing p.passing q.passing) (is_same_type p.ty q.ty) h) in
     λ i. record { passing = passing i; ty = ty i }
 
 same_given : (r s : Given) → is_same_given r s ≡ true → r ≡ s
 same_given r s h =
     let flags = is_same_flag r.owned s.owned && is_same_flag r.out s.out in
-    let both : flags ≡ true = and_first flags (is_same_type r.ty s.ty) h in
-    let owned : r.owned ≡ s.owned = same_flags r.owned s.owned (and_first (is_same_flag r.owned s.owned) (is_same_flag r.out s.out) both) in
-    let out : r.out ≡ s.out = same_flags r.out s.out (and_second (is_same_flag r.owned s.owned) (is_same_flag r.out s.out) both) in
-    let ty : r.ty ≡ s.ty = same_types r.ty s.ty (and_second flags (is_same_type r.ty s.ty) h) in
+    let both : flags ≡ true = both_first flags (is_same_type r.ty s.ty) h in
+    let owned : r.owned ≡ s.owned = same_flags r.owned s.owned (both_first (is_same_flag r.owned s.owned) (is_same_flag r.out s.out) both) in
+    let out : r.out ≡ s.out = same_flags r.out s.out (both_second (is_same_flag r.owned s.owned) (is_same_flag r.out s.out) both) in
+    let ty : r.ty ≡ s.ty = same_types r.ty s.ty (both_second flags (is_same_type r.ty s.ty) h) in
     λ i. record { owned = owned i; out = out i; ty = ty i }
 
 pub same_signatures : (s t : Signature) → is_same_signature s t ≡ true → s ≡ t
 same_signatures s t h =
     let front = is_same_convention s.convention t.convention && all_pairs is_same_param s.params t.params in
-    let both : front ≡ true = and_first front (all_pairs is_same_given s.results t.results) h in
+    let both : front ≡ true = both_first front (all_pairs is_same_given s.results t.results) h in
     let convention : s.convention ≡ t.convention =
-    same_conventions s.convention t.convention (and_first (is_same_convention s.convention t.convention) (all_pairs is_same_param s.params t.params) both) in
+    same_conventions s.convention t.convention (both_first (is_same_convention s.convention t.convention) (all_pairs is_same_param s.params t.params) both) in
     let params : s.params ≡ t.params =
-    pairs_equal is_same_param same_params s.params t.params (and_second (is_same_convention s.convention t.convention) (all_pairs is_same_param s.params t.params) both) in
-    let results : s.results ≡ t.results = pairs_equal is_same_given same_given s.results t.results (and_second front (all_pairs is_same_given s.results t.results) h) in
+    pairs_equal is_same_param same_params s.params t.params (both_second (is_same_convention s.convention t.convention) (all_pairs is_same_param s.params t.params) both) in
+    let results : s.results ≡ t.results = pairs_equal is_same_given same_given s.results t.results (both_second front (all_pairs is_same_given s.results t.results) h) in
     λ i. record { convention = convention i; params = params i; results = results i }

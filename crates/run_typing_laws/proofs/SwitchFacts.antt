@@ -1,7 +1,7 @@
 -- Each case of an enum has its edge in a `switch_enum`, and the edge's block takes the payload.
-use Rattle.std.proofs.Common.{◌≡◌, ℕ, zero, suc, ◌+◌, ◌<◌, ◌≤◌, List, [], ◌∷◌, length, map, get_or, zero-add, refl, sym, ap, ap₂, ◌∙◌, subst, arith, Bool, true, false, not, inl, inr, Option, Some, None}
-use Rattle.std.specs.Prelude.{◌&&◌, ◌||◌, ◌==◌, ◌⊎◌, cond, is_none, is_some, nat_lt, option_and_then, option_map, position, slice_get, unwrap_or, if◌then◌else◌}
-use Rattle.std.specs.List.{cons_option, filter_map, list_all, list_any, position_or_len, prefix_len, range_with_len}
+use Rattle.std.proofs.Common.{◌≡◌, ℕ, zero, suc, ◌<◌, ◌≤◌, List, [], ◌∷◌, length, map, get_or, zero-add, refl, sym, ap, ap₂, ◌∙◌, subst, arith, Bool, true, false, Option, Some, None}
+use Rattle.std.specs.Prelude.{◌&&◌, ◌||◌, ◌==◌, cond, is_none, is_some, nat_lt, option_and_then, option_map, position, slice_get, unwrap_or, if◌then◌else◌}
+use Rattle.std.specs.List.{cons_option, filter_map, list_all, list_any, position_or_len, range_with_len}
 use Rattle.std.specs.Option.{option_or, option_to_list}
 use Rattle.std.proofs.lemmas.Bool.{eq-eqb, eqb-true, ltb-false}
 use Rattle.std.proofs.lemmas.List.Folds.{list_any_none}
@@ -9,7 +9,7 @@ use Rattle.std.proofs.lemmas.List.Sums.{fails_before_first}
 use Rattle.std.proofs.lemmas.List.FromFn.{get_or-range_with_len, length-range_with_len}
 use Rattle.std.proofs.lemmas.List.Quantifiers.{position-Some}
 use Rattle.std.proofs.lemmas.Option.{slice_get-get_or}
-use Rattle.holder_model.specs.Edges.{edge_for, is_at, is_default, is_for}
+use Rattle.holder_model.specs.Edges.{is_at, is_default, is_for}
 use Rattle.holder_model.specs.ModuleShapes.{case_place}
 use Rattle.numbered_form.specs.Lists.{is_empty}
 use Rattle.numbered_form.specs.inner.Parts.{are_cases, is_case, is_default as is_default_edge}
@@ -17,7 +17,6 @@ use Rattle.run_values.specs.Layers.{CaseLayer}
 use Rattle.run_values.specs.Shapes.{Shape, case_shapes, shape_of}
 use Rattle.sil_ast.specs.Blocks.{args_of}
 use Rattle.sil_ast.specs.declared.function.BlockArg.{BlockArg}
-use Rattle.sil_ast.specs.declared.function.Form.{Form}
 use Rattle.sil_ast.specs.declared.function.Form.TheVariants as form
 use Rattle.sil_ast.specs.declared.function.Function.{Function}
 use Rattle.sil_ast.specs.declared.inst.Edge.{Edge}
@@ -32,14 +31,15 @@ use Rattle.sil_types.specs.Typing.SwitchRules.{misfits_default, misfits_payload,
 use Rattle.sil_types.specs.Typing.Values.{arg_type}
 use Rattle.type_definitions.specs.Declarations.{Declarations, declarations_of}
 use Rattle.type_definitions.specs.Lookups.{Payload}
-use Rattle.run_typing.specs.EndForms.{CaseForms, TakenCase, arguments_at, payload_forms}
-use Rattle.run_typing.specs.Forms.{Form as ValueForm, OfValue, forms_of}
+use Rattle.run_typing.specs.EndForms.{CaseForms, TakenCase, payload_forms}
+use Rattle.run_typing.specs.Forms.{OfValue}
 use Rattle.run_typing.specs.Runnable.{IsRunnable}
 use Rattle.run_typing_laws.proofs.BlockFacts.{block_forms, block_there}
 use Rattle.run_typing_laws.proofs.FunctionFacts.{TypedFunction, TypedInst}
-use Rattle.run_typing_laws.proofs.ListFacts.{all_at, and_first, and_second, empty_is, neither_first, neither_second, none_at, or_second, passes_by}
+use Rattle.run_typing_laws.proofs.Found.{both_first, both_second, neither_first, neither_second, not_false}
+use Rattle.run_typing_laws.proofs.ListFacts.{empty_is, or_second}
 use Rattle.run_typing_laws.proofs.MemberFacts.{case_found, cases_counted}
-use Rattle.run_typing_laws.proofs.Rows.Finding.{some_of}
+use Rattle.run_typing_laws.proofs.Rows.Finding.{fails_at, passes_at, some_of}
 use Rattle.run_typing_laws.proofs.SameFacts.{same_type_lists}
 
 -- what is found in lists
@@ -96,11 +96,11 @@ bare_at (x ∷ es) j e cases is = at (is_case x) refl cases j is (λ k more at. 
 
     at : (b : Bool) → is_case x ≡ b → (if b then are_cases es else (is_default_edge x && is_empty es)) ≡ true → (j : ℕ) → slice_get (x ∷ es) j ≡ Some e →
         ((k : ℕ) → are_cases es ≡ true → slice_get es k ≡ Some e → e.args ≡ []) → e.args ≡ []
-    at true case more zero is behind = same_args (cc) (and_second (is_some x.case_of) (is_empty x.args) case)
+    at true case more zero is behind = same_args (cc) (both_second (is_some x.case_of) (is_empty x.args) case)
     at true case more (suc k) is behind = behind k more is
-    at false case more zero is behind = same_args (cc) (and_second (is_none x.case_of) (is_empty x.args) (and_first (is_default_edge x) (is_empty es) more))
+    at false case more zero is behind = same_args (cc) (both_second (is_none x.case_of) (is_empty x.args) (both_first (is_default_edge x) (is_empty es) more))
     at false case more (suc k) is behind =
-        let none : slice_get es k ≡ None = ap (λ ys. slice_get ys k) (empty_is es (and_second (is_default_edge x) (is_empty es) more)) in
+        let none : slice_get es k ≡ None = ap (λ ys. slice_get ys k) (empty_is es (both_second (is_default_edge x) (is_empty es) more)) in
         cc
 
 -- 209, part by part
@@ -117,10 +117,10 @@ switch_kept m f t es right =
     let three = neither_first _ (shares_block f es) four in
     let two = neither_first _ (leaves_out_case (declarations_of m) t es) three in
     record {
-      of_enum = passes_by _ (neither_first _ (repeats_case (declarations_of m) t es) two);
-      all_there = passes_by _ (neither_second (names_other_case (declarations_of m) t es || repeats_case (declarations_of m) t es) _ three);
-      cases = passes_by _ (neither_second (names_other_case (declarations_of m) t es || repeats_case (declarations_of m) t es || leaves_out_case (declarations_of m) t es || shares_block f es) _ five);
-      defaults = passes_by _ (neither_second (names_other_case (declarations_of m) t es || repeats_case (declarations_of m) t es || leaves_out_case (declarations_of m) t es || shares_block f es
+      of_enum = not_false _ (neither_first _ (repeats_case (declarations_of m) t es) two);
+      all_there = not_false _ (neither_second (names_other_case (declarations_of m) t es || repeats_case (declarations_of m) t es) _ three);
+      cases = not_false _ (neither_second (names_other_case (declarations_of m) t es || repeats_case (declarations_of m) t es || leaves_out_case (declarations_of m) t es || shares_block f es) _ five);
+      defaults = not_false _ (neither_second (names_other_case (declarations_of m) t es || repeats_case (declarations_of m) t es || leaves_out_case (declarations_of m) t es || shares_block f es
           || misfits_payload (declarations_of m) f t es) _ right);
     }
 
@@ -161,7 +161,7 @@ module _ (m : Module) (r : IsRunnable m) (f : Function) (typed : TypedFunction m
   case_forms k j e c at there of_case =
       let same : of_case.layer ≡ c = let one = of_case.there in cc in
       let fits : are_same_types (map arg_type (args_of f e.block.0)) (option_to_list of_case.payload.ty) ≡ true =
-      and_first _ true (ap (λ o. list_all (fits_payload f e) (option_to_list o)) (sym of_case.case_is) ∙ all_at (fits_case (declarations_of m) f t) i.edges j e kept.cases at) in
+      both_first _ true (ap (λ o. list_all (fits_payload f e) (option_to_list o)) (sym of_case.case_is) ∙ passes_at (fits_case (declarations_of m) f t) i.edges j e kept.cases at) in
       let types : map arg_type (args_of f e.block.0) ≡ option_to_list of_case.payload.ty = same_type_lists _ _ fits in
       record {
         block = block_there m f typed i here j e at;
@@ -184,14 +184,14 @@ module _ (m : Module) (r : IsRunnable m) (f : Function) (typed : TypedFunction m
   -- the edge of a default, which takes nothing in lowered code
   default_forms : (j : ℕ) (e : Edge) (c : CaseLayer Shape) → slice_get i.edges j ≡ Some e → is_default e ≡ true → CaseForms (declarations_of m) f c e
   default_forms j e c at default = record {
-      block = block_there m f typed i here j e at;
-      bare = bare_at i.edges j e cases at;
-      payload = λ other. cc;
-      nothing = λ again. no_args (args_of f e.block.0) (ap (λ x. is_default_argument x t (args_of f e.block.0)) (sym lowered) ∙ takes);
-    }
+    block = block_there m f typed i here j e at;
+    bare = bare_at i.edges j e cases at;
+    payload = λ other. cc;
+    nothing = λ again. no_args (args_of f e.block.0) (ap (λ x. is_default_argument x t (args_of f e.block.0)) (sym lowered) ∙ takes);
+  }
     where
       takes : is_default_argument f.form t (args_of f e.block.0) ≡ true
-      takes = or_second (is_some e.case_of) _ (names_none e.case_of default) (all_at (fits_default f t) i.edges j e kept.defaults at)
+      takes = or_second (is_some e.case_of) _ (names_none e.case_of default) (passes_at (fits_default f t) i.edges j e kept.defaults at)
         where
           names_none : (o : Option Member) → is_none o ≡ true → is_some o ≡ false
           names_none None h = refl
@@ -207,7 +207,7 @@ module _ (m : Module) (r : IsRunnable m) (f : Function) (typed : TypedFunction m
   named_edge k j e at is = of_name e.case_of refl
     where
       of_enum : is_of_enum (declarations_of m) t e ≡ true
-      of_enum = all_at (is_of_enum (declarations_of m) t) i.edges j e kept.of_enum at
+      of_enum = passes_at (is_of_enum (declarations_of m) t) i.edges j e kept.of_enum at
 
       at_place : (p : Payload) → case_of_edge (declarations_of m) t e ≡ Some p → IsEdgeOf m t e k
       at_place p case =
@@ -238,7 +238,7 @@ module _ (m : Module) (r : IsRunnable m) (f : Function) (typed : TypedFunction m
               let found = edge_of_case m r t e p case in
               let here : p.place ≡ k = let one : p.place ≡ q = cc in one ∙ same in
               let hit : is_for (shape_of (declarations_of m) t) k e ≡ true = ap (is_at k) (found.place ∙ ap (λ n. Some n) here) ∙ eq-eqb k k refl in
-              let miss : is_for (shape_of (declarations_of m) t) k e ≡ false = none_at (is_for (shape_of (declarations_of m) t) k) i.edges j e unnamed at in
+              let miss : is_for (shape_of (declarations_of m) t) k e ≡ false = fails_at (is_for (shape_of (declarations_of m) t) k) i.edges j e unnamed at in
               cc
 
       counted : list_all (has_number (places_of (declarations_of m) t i.edges)) (range_with_len 0 (unwrap_or (case_count (declarations_of m) t) 0)) ≡ true → ⊥
@@ -251,7 +251,7 @@ module _ (m : Module) (r : IsRunnable m) (f : Function) (typed : TypedFunction m
           slice_get-get_or (range_with_len 0 n.0) k 0 (omega (arith, long, lt)) ∙ ap (λ x. Some x) (get_or-range_with_len 0 n.0 k 0 lt ∙ zero-add k) in
           let all_numbers : list_all (has_number (places_of (declarations_of m) t i.edges)) (range_with_len 0 n.0) ≡ true =
           ap (λ o. list_all (has_number (places_of (declarations_of m) t i.edges)) (range_with_len 0 (unwrap_or o 0))) (sym n.1) ∙ all in
-          met (all_at (has_number (places_of (declarations_of m) t i.edges)) (range_with_len 0 n.0) k k all_numbers stands)
+          met (passes_at (has_number (places_of (declarations_of m) t i.edges)) (range_with_len 0 n.0) k k all_numbers stands)
 
       at : (b : Bool) → list_any is_default i.edges ≡ b → are_all_there (declarations_of m) t i.edges ≡ true → b ≡ true
       at true is all = refl

@@ -149,3 +149,14 @@ module _ {A : Type 0} (args : ℕ → List BlockArg → List A) (results : Inst 
         (through (value_rows args results f) (block_rows args results (0 + block) b) (results i) (values_of f.blocks) (defined_in b) i.results
         (in_blocks 0 f.blocks block b here.is_block) in_block)
         (of_results i) counted
+
+    -- of the arguments of the block with this number
+    pub told_of_args : (k : ℕ) (b : Block) → slice_get f.blocks k ≡ Some b → map (row_at d (value_rows args results f)) (map value_of b.args) ≡ args k b.args
+    told_of_args k b e =
+        let here : 0 + k ≡ k = omega arith in
+        let own = args (0 + k) b.args in
+        let in_block = in_front own own (map value_of b.args) (map value_of b.args) (flat_map results (insts_of b)) (flat_map results_of (insts_of b)) (whole own (map value_of b.args)) in
+        told_among d (value_rows args results f) own (values_of f.blocks) (map value_of b.args)
+        (through (value_rows args results f) (block_rows args results (0 + k) b) own (values_of f.blocks) (defined_in b) (map value_of b.args) (in_blocks 0 f.blocks k b e) in_block)
+        (of_args (0 + k) b.args ∙ sym (length-map b.args value_of)) counted
+        ∙ ap (λ n. args n b.args) here
