@@ -4,3 +4,5 @@ pub mod Memories
 pub mod Entries
 pub mod Tasks
 pub mod Agreement
+pub mod Ending
+pub mod RowSteps
