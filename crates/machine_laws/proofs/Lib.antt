@@ -4,3 +4,10 @@ pub mod Memories
 pub mod Entries
 pub mod Tasks
 pub mod Agreement
+pub mod Grows
+pub mod GrowsBy
+pub mod GrowsTasks
+pub mod Puts
+pub mod Operands
+pub mod Pushes
+pub mod PushesSlots
