@@ -4,6 +4,8 @@ pub mod Memories
 pub mod Entries
 pub mod Tasks
 pub mod Agreement
+pub mod LayoutsLists
+pub mod Layouts
 pub mod Grows
 pub mod GrowsBy
 pub mod GrowsTasks
