@@ -6,3 +6,12 @@ pub mod Tasks
 pub mod Agreement
 pub mod Ending
 pub mod RowSteps
+pub mod LayoutsLists
+pub mod Layouts
+pub mod Grows
+pub mod GrowsBy
+pub mod GrowsTasks
+pub mod Puts
+pub mod Operands
+pub mod Pushes
+pub mod PushesSlots
