@@ -4,3 +4,11 @@ pub mod Memories
 pub mod Entries
 pub mod Tasks
 pub mod Agreement
+pub mod Grows
+pub mod Changes
+pub mod Held
+pub mod Writing
+pub mod Emptying
+pub mod SlotChanges
+pub mod ObjectMade
+pub mod Naming
