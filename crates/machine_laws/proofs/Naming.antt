@@ -1,5 +1,5 @@
 -- Addresses of members and of fields name their places.
-use Rattle.std.proofs.Common.{◌≡◌, ◌+◌, ℕ, List, Some, true}
+use Rattle.std.proofs.Common.{◌≡◌, ◌+◌, ℕ, List, Some, true, false}
 use Rattle.std.specs.Prelude.{slice_get}
 use Rattle.holder_model.specs.ModuleShapes.{field_shapes, shapes_of}
 use Rattle.holder_model.specs.Outcomes.{Numbers}
