@@ -1,12 +1,12 @@
 -- What a change of memory leaves: memory and the machine agree, what was made is there still, and the frames are untouched.
 use Rattle.std.proofs.Common.{◌≡◌, ◌<◌, ℕ, List, length, map}
 use Rattle.holder_model.specs.Outcomes.{Numbers}
-use Rattle.machine_steps.specs.declared.address.OpenSlot.{OpenSlot}
 use Rattle.machine_steps.specs.Views.{MachineView}
 use Rattle.run_values.specs.Memory.{Memory, object_at}
 use Rattle.sil_ast.specs.declared.module.Module.{Module}
 use Rattle.sil_ast.specs.declared.place.ObjectId.{ObjectId}
 use Rattle.machine_laws.proofs.Grows.{Grows}
+use Rattle.machine_laws.proofs.GrowsBy.{serial_of}
 use Rattle.machine_laws.proofs.Memories.{MemoryAgrees}
 use Rattle.machine_laws.proofs.Slots.{Made}
 
@@ -25,12 +25,9 @@ pub record SameFrames (st st' : MachineView) : Type 0 where
 pub record Changes (m : Module) (made : List Made) (mem : Memory) (st : MachineView) (mem' : Memory) (numbers' : List Numbers) (st' : MachineView) : Type 0 where
   pub made' : List Made
   pub agrees : MemoryAgrees m made' mem' numbers' st'
-  pub grows : Grows made mem st.slots made' mem' st'.slots
+  pub grows : Grows m made mem st.slots made' mem' st'.slots
   pub phases : (o : ObjectId) → o.0 < length mem.objects → (object_at mem' o).phase ≡ (object_at mem o).phase
   pub frames : SameFrames st st'
-
-abbrev pub serial_of : OpenSlot → ℕ
-serial_of slot = slot.serial
 
 -- the slots of the machine are the same, but for whether they are full
 abbrev pub SameSlots : MachineView → MachineView → Type 0

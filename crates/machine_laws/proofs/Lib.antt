@@ -5,6 +5,7 @@ pub mod Entries
 pub mod Tasks
 pub mod Agreement
 pub mod Grows
+pub mod GrowsBy
 pub mod Changes
 pub mod Held
 pub mod Writing
