@@ -7,6 +7,11 @@ pub mod Agreement
 pub mod Grows
 pub mod GrowsBy
 pub mod Changes
+pub mod Stack
+pub mod HeldFields
+pub mod HeldParts
+pub mod HeldSlots
+pub mod HeldObjects
 pub mod Held
 pub mod Writing
 pub mod Emptying
