@@ -18,3 +18,10 @@ pub mod Emptying
 pub mod SlotChanges
 pub mod ObjectMade
 pub mod Naming
+pub mod LayoutsLists
+pub mod Layouts
+pub mod GrowsTasks
+pub mod Puts
+pub mod Operands
+pub mod Pushes
+pub mod PushesSlots
