@@ -4,3 +4,9 @@ pub mod Memories
 pub mod Entries
 pub mod Tasks
 pub mod Agreement
+pub mod Numbers
+pub mod Counted
+pub mod Named
+pub mod Phases
+pub mod Finished
+pub mod Left
