@@ -4,6 +4,7 @@ pub mod Memories
 pub mod Entries
 pub mod Tasks
 pub mod Agreement
+pub mod NumbersPut
 pub mod Numbers
 pub mod Counted
 pub mod Named
