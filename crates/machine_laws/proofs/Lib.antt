@@ -7,6 +7,9 @@ pub mod Agreement
 pub mod NumbersPut
 pub mod Numbers
 pub mod Counted
+pub mod NamedCells
+pub mod NamedOne
+pub mod NamedLists
 pub mod Named
 pub mod Phases
 pub mod Finished
