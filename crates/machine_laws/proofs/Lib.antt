@@ -11,6 +11,7 @@ pub mod NamedCells
 pub mod NamedOne
 pub mod NamedLists
 pub mod Named
+pub mod PhasesWider
 pub mod Phases
 pub mod Finished
 pub mod Left
