@@ -4,8 +4,6 @@ use Rattle.std.specs.Prelude.{set, slice_get, replicate}
 use Rattle.std.proofs.lemmas.List.{length-append, length-replicate, replicate-append-replicate}
 use Rattle.std.proofs.lemmas.List.Sums.{sum_by-cons}
 use Rattle.std.proofs.lemmas.Option.{none-some, same_Some}
-use Rattle.numbered_form.specs.Names.{Name}
-use Rattle.sil_ast.specs.declared.place.ObjectId.{ObjectId}
 use Rattle.run_values.specs.Cells.{Cell, Empty, cell_count}
 use Rattle.run_values.specs.Places.{offset}
 use Rattle.run_values.specs.Shapes.{Shape}
@@ -13,7 +11,6 @@ use Rattle.run_values.specs.Values.{Value}
 use Rattle.run_values.specs.declared.leaf.Leaf.{Leaf}
 use Rattle.value_parts.specs.inner.Suits.{ClassTest, suits}
 use Rattle.value_parts.proofs.CellParts.{suits_cells_length}
-use Rattle.value_parts.proofs.Suiting.{suits_wider}
 use Rattle.machine_laws.proofs.Objects.{FieldHolds, FieldsHold}
 
 module _ (test : ClassTest) where
@@ -75,13 +72,3 @@ none_written test (s ∷ ss) (suc n) e =
     subst (λ cs. FieldsHold test (s ∷ ss) cs (None ∷ replicate n None))
     (replicate-append-replicate (cell_count s) (sum (map cell_count ss)) Empty ∙ ap (λ k. replicate k Empty) (sym all))
     (FieldsHold.more s ss _ _ None (replicate n None) FieldHolds.unwritten (none_written test ss n (omega arith)))
-
--- what fields hold is held under a wider test
-module _ (test wider : ClassTest) (lets : (class : Name) (o : ObjectId) → test class o ≡ true → wider class o ≡ true) where
-  field_wider : (s : Shape) {own : List Cell} {x : Option (List Leaf)} → FieldHolds test s own x → FieldHolds wider s own x
-  field_wider s FieldHolds.unwritten = FieldHolds.unwritten
-  field_wider s (FieldHolds.written v h) = FieldHolds.written v (suits_wider test wider lets s v h)
-
-  pub fields_wider : {ss : List Shape} {cells : List Cell} {xs : List (Option (List Leaf))} → FieldsHold test ss cells xs → FieldsHold wider ss cells xs
-  fields_wider FieldsHold.none = FieldsHold.none
-  fields_wider (FieldsHold.more s ss own rest x xs held others) = FieldsHold.more s ss own rest x xs (field_wider s held) (fields_wider others)

@@ -25,3 +25,14 @@ pub mod Puts
 pub mod Operands
 pub mod Pushes
 pub mod PushesSlots
+pub mod NumbersPut
+pub mod Numbers
+pub mod Counted
+pub mod NamedCells
+pub mod NamedOne
+pub mod NamedLists
+pub mod Named
+pub mod PhasesWider
+pub mod Phases
+pub mod Finished
+pub mod Left
