@@ -38,5 +38,7 @@ pub mod NamedLists
 pub mod Named
 pub mod PhasesWider
 pub mod Phases
+pub mod FinishedClass
+pub mod FinishedFields
 pub mod Finished
 pub mod Left
