@@ -5,7 +5,6 @@ pub mod Entries
 pub mod Tasks
 pub mod Agreement
 pub mod Ending
-pub mod RowSteps
 pub mod LayoutsLists
 pub mod Layouts
 pub mod Grows
@@ -22,8 +21,6 @@ pub mod Emptying
 pub mod SlotChanges
 pub mod ObjectMade
 pub mod Naming
-pub mod LayoutsLists
-pub mod Layouts
 pub mod GrowsTasks
 pub mod Puts
 pub mod Operands
@@ -42,3 +39,5 @@ pub mod FinishedClass
 pub mod FinishedFields
 pub mod Finished
 pub mod Left
+pub mod FrameSteps
+pub mod RowSteps
