@@ -41,3 +41,5 @@ pub mod Finished
 pub mod Left
 pub mod FrameSteps
 pub mod RowSteps
+pub mod DropTasks
+pub mod FinishTasks
