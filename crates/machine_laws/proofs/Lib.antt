@@ -43,3 +43,5 @@ pub mod FrameSteps
 pub mod RowSteps
 pub mod DropTasks
 pub mod FinishTasks
+pub mod DropSteps
+pub mod FinishSteps
