@@ -40,6 +40,7 @@ pub mod FinishedFields
 pub mod Finished
 pub mod Left
 pub mod FrameSteps
+pub mod FrameReady
 pub mod RowSteps
 pub mod DropTasks
 pub mod FinishTasks
