@@ -46,3 +46,6 @@ pub mod DropTasks
 pub mod FinishTasks
 pub mod DropSteps
 pub mod FinishSteps
+pub mod CallingIn
+pub mod DeinitClasses
+pub mod DeinitSteps
