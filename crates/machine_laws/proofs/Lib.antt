@@ -41,6 +41,7 @@ pub mod Finished
 pub mod Left
 pub mod FrameSteps
 pub mod FrameReady
+pub mod FrameGoes
 pub mod RowSteps
 pub mod DropTasks
 pub mod FinishTasks
