@@ -11,5 +11,6 @@ pub mod GrowsBy
 pub mod GrowsTasks
 pub mod Puts
 pub mod Operands
+pub mod PushesCarried
 pub mod Pushes
 pub mod PushesSlots
