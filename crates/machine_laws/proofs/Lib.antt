@@ -12,5 +12,6 @@ pub mod GrowsTasks
 pub mod Puts
 pub mod Operands
 pub mod PushesCarried
+pub mod PushesAddresses
 pub mod Pushes
 pub mod PushesSlots

@@ -58,7 +58,7 @@ values_put d g [] xs values = values
 values_put d g (w ∷ ws) [] values = values
 values_put d g (w ∷ ws) (x ∷ xs) values = values_put d g ws xs (value_put (form_of d g w) w x values)
 
-abbrev head_form : Form → List Form → Form
+abbrev pub head_form : Form → List Form → Form
 head_form other [] = other
 head_form other (form ∷ forms) = form
 
