@@ -13,5 +13,6 @@ pub mod Puts
 pub mod Operands
 pub mod PushesCarried
 pub mod PushesAddresses
+pub mod PushesData
 pub mod Pushes
 pub mod PushesSlots

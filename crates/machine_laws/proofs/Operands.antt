@@ -82,7 +82,7 @@ module _ (m : Module) (made : List Made) (mem : Memory) (st : MachineView) where
 
 -- what was read is what its form says
 
-abbrev kind_of : Form → ℕ
+abbrev pub kind_of : Form → ℕ
 kind_of (OfValue s) = 0
 kind_of (OfPlace s) = 1
 kind_of (OfFunction g) = 2
