@@ -77,10 +77,13 @@ frame_made m made mem st g callee code there bodied ready = record {
   where
     first : (b : Block) × (slice_get callee.blocks 0 ≡ Some b)
     first = first_of callee.blocks bodied
+
     now : MachineView
     now = with_frame st g code
+
     frame : Frame
     frame = new_frame st g
+
     entry : (v : ValueId) → v.0 < value_count callee → EntryAgrees m made mem now (form_of (declarations_of m) callee v) (value_at (no_values (value_count callee)) v)
         (is_there_in now frame v) (contents now frame (local (declarations_of m) callee v)) (address_in now frame (local_address (declarations_of m) callee v))
     entry v lt =
@@ -113,9 +116,9 @@ all_read_keeps {m = m} {st = st} {st' = st'} {f = f} {mf = mf} {above = above} a
     let leaves_within = local_within d f v (value_count f) are_of.0 in
     more v x vs xs
     (entry_stays (entry_on read st' slots) refl
-      (part_taken st'.leaves st.leaves above.leaves (mf.leaves + (local d f v).at) (local d f v).size keeps.leaves (omega (arith, leaves_within, agrees.leaves, agrees.leaves_end)))
-      (λ s form. at_taken st'.addresses st.addresses above.addresses (mf.addresses + (local_address d f v).at) no_address keeps.addresses
-        (omega (arith, address_within d f v (value_count f) s form are_of.0, agrees.addresses, agrees.addresses_end))))
+    (part_taken st'.leaves st.leaves above.leaves (mf.leaves + (local d f v).at) (local d f v).size keeps.leaves (omega (arith, leaves_within, agrees.leaves, agrees.leaves_end)))
+    (λ s form. at_taken st'.addresses st.addresses above.addresses (mf.addresses + (local_address d f v).at) no_address keeps.addresses
+    (omega (arith, address_within d f v (value_count f) s form are_of.0, agrees.addresses, agrees.addresses_end))))
     (all_read_keeps agrees keeps slots are_of.1 reads)
 
 read_length : {m : Module} {made : List Made} {mem : Memory} {st : MachineView} {f : Function} {mf : Frame} {vs : List ValueId} {xs : List Datum}
@@ -192,10 +195,12 @@ module _ {m : Module} {made : List Made} {mem : Memory} {st : MachineView} {f : 
       let reach = at_most_itself (ends_of opened) in
       let first = carry_values m made mem f callee mf (new_frame st g) (ends_of st) (ends_of opened) opened reads ws are_of' same opened (low.new_frame g (no_values (value_count callee))) made_now reach in
       let then = carry_addresses m made mem f callee mf (new_frame st g) (ends_of st) (ends_of opened) opened lie reads ws are_of are_of' same _ _
-          first.frame (subst (AtMost (ends_of opened)) (sym first.ends) reach) first.keeps first.slots in
+      first.frame (subst (AtMost (ends_of opened)) (sym first.ends) reach) first.keeps first.slots in
       let put = all_put d callee ws xs carries (read_length read ∙ forms_length d f callee vs ws same) (no_values (value_count callee)) in
       let values = addresses_put d callee ws xs (values_put d callee ws xs (no_values (value_count callee))) in
-      let state = entered_state m st mf f callee g code vs ws in
-      (values, put,
+      let state = entered_state m st mf f callee g code vs ws in (
+        values,
+        put,
         subst (λ e. FrameAgrees m made mem state callee (low.new_frame g values) (new_frame st g) (ends_of st) e) (sym (then.ends ∙ first.ends)) then.frame,
-        keeps_then (with_frame_keeps st g code) (keeps_then first.keeps then.keeps))
+        keeps_then (with_frame_keeps st g code) (keeps_then first.keeps then.keeps),
+      )

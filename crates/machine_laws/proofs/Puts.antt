@@ -118,9 +118,11 @@ module _ {m : Module} {made : List Made} {mem : Memory} {st : MachineView} {f : 
     where
       d : Declarations
       d = declarations_of m
+
       Entry : ValueId → Option Datum → Type 0
       Entry v o = EntryAgrees m made mem st' (form_of (declarations_of m) f v) o (is_there_in st' mf v)
           (contents st' mf (local (declarations_of m) f v)) (address_in st' mf (local_address (declarations_of m) f v))
+
       entry : (v : ValueId) → v.0 < value_count f → (v.0 ≡ r.0) ⊎ (v.0 ≡ r.0 → ⊥) → Entry v (value_at (set lf.values r.0 (Some x)) v)
       entry v lt (inl e) =
           let now = at_set lf.values r.0 (Some x) None (omega (arith, is_of, agrees.count)) in
@@ -205,7 +207,7 @@ module _ {m : Module} {made : List Made} {mem : Memory} {st : MachineView} {f : 
           let mine : address_in now mf (local_address (declarations_of m) f r) ≡ a =
           at_set st.addresses at a no_address (omega (arith, within, agrees.addresses, agrees.addresses_end, reach.addresses)) in
           there_given now (place p (contents now mf (local (declarations_of m) f r)) (address_in now mf (local_address (declarations_of m) f r)) form
-            (subst (λ b. NamesPlace m made st.slots mem b p) (sym mine) names)) refl;
+          (subst (λ b. NamesPlace m made st.slots mem b p) (sym mine) names)) refl;
       there = λ v ne. others_there v ne st.there;
       contents = λ v ne. refl;
       address = λ v ne t form'.
