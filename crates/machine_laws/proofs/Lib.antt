@@ -10,6 +10,7 @@ pub mod Grows
 pub mod GrowsBy
 pub mod GrowsTasks
 pub mod Puts
+pub mod GrowsSame
 pub mod Operands
 pub mod PushesCarried
 pub mod PushesAddresses
