@@ -1,8 +1,8 @@
 -- Lists that are the same up to a place, and lists with others laid over them.
 use Rattle.std.proofs.Common.{◌≡◌, ◌≢◌, ◌≤◌, ◌<◌, ◌+◌, ◌-◌, ◌++◌, ◌⊎◌, inl, inr, ℕ, zero, suc, List, Option, None, Some, map, [], ◌∷◌, length, take, drop, refl, sym, ap, ◌∙◌, append_assoc, arith}
 use Rattle.std.specs.Prelude.{option_map, set, slice_get, unwrap_or}
-use Rattle.std.proofs.lemmas.List.{drop-append-le, drop-drop, drop-take, drop_at, get_or-set_other, get_or-set_same, get_or-take, length-append, length-drop, length-take-le}
-use Rattle.std.proofs.lemmas.List.{take-append-drop, take-append-le, take-take, take_all, take_at}
+use Rattle.std.proofs.lemmas.List.{drop-drop, drop-take, drop_at, get_or-set_other, get_or-set_same, get_or-take, length-append, length-drop, length-take-le}
+use Rattle.std.proofs.lemmas.List.{take-append-le, take-take, take_all, take_at}
 use Rattle.std.proofs.lemmas.Option.{none-some, same_Some, slice_get-map, unwrap_or-slice_get}
 use Rattle.machine_steps.specs.Operands.{laid_over}
 
@@ -42,6 +42,11 @@ module _ {A : Type 0} where
   get_take (x ∷ xs) zero i lt = absurd (omega (arith, lt))
   get_take (x ∷ xs) (suc n) zero lt = refl
   get_take (x ∷ xs) (suc n) (suc i) lt = get_take xs n i (omega (arith, lt))
+
+  pub get_drop : (xs : List A) (n i : ℕ) → slice_get (drop n xs) i ≡ slice_get xs (n + i)
+  get_drop xs zero i = let at : i ≡ 0 + i = omega arith in ap (slice_get xs) at
+  get_drop [] (suc n) i = refl
+  get_drop (x ∷ xs) (suc n) i = let at : suc (n + i) ≡ suc n + i = omega arith in get_drop xs n i ∙ ap (slice_get (x ∷ xs)) at
 
   -- parts of lists that are the same up to a place
 

@@ -23,7 +23,11 @@ pub mod ObjectMade
 pub mod Naming
 pub mod GrowsTasks
 pub mod Puts
+pub mod GrowsSame
 pub mod Operands
+pub mod PushesCarried
+pub mod PushesAddresses
+pub mod PushesData
 pub mod Pushes
 pub mod PushesSlots
 pub mod NumbersPut
