@@ -36,3 +36,7 @@ pub mod PhasesWider
 pub mod Phases
 pub mod Finished
 pub mod Left
+pub mod WritingSlots
+pub mod WritingLeaves
+pub mod StackChanges
+pub mod ObjectChanges
