@@ -2,10 +2,10 @@
 
 ghost use Rattle.std.specs.Prelude.{◌≤◌};
 
-use crate::answer::{Answer, add};
+use crate::answer::{Answer, add, line};
 use sil_ast::Exhausted;
 use sil_command::command;
-use sil_io::{MemorySink, MemorySource};
+use sil_io::{MemorySink, MemorySource, NullSink, SteadySource};
 use std::alloc::Global;
 
 /// How many calls of the end fail in turn: more than a short text takes.
@@ -81,4 +81,15 @@ fn told(
     let status = command(alloc, words, &mut source, &mut sink);
     let written = str::from_utf8(sink.bytes()).unwrap_or("bytes that are no text");
     Ok(format!(in alloc; "{status} {written:?}")?)
+}
+
+/// The status of the command over ends that never fail, and of which the sink forgets what it is given.
+pub fn answer_on_steady_ends(
+    alloc: Global,
+    words: &[&str],
+    text: &[u8],
+) -> Result<Answer, Exhausted> {
+    let mut source = SteadySource::new(Vec::from_slice(alloc, text)?);
+    let status = command(alloc, words, &mut source, &mut NullSink::new());
+    line(alloc, "nothing failed", status)
 }

@@ -80,6 +80,7 @@ fn answer_by(alloc: Global, words: &[&str], text: &[u8]) -> Result<Answer, Exhau
             ends::answer_on_faults(alloc, rest, b"", End::Source)
         }
         [_name, "write-faults", rest @ ..] => ends::answer_on_faults(alloc, rest, text, End::Sink),
+        [_name, "steady-ends", rest @ ..] => ends::answer_on_steady_ends(alloc, rest, text),
         _ => answer::line(alloc, "no such call", Status::Usage.code()),
     }
 }

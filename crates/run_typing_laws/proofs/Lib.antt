@@ -14,3 +14,16 @@ pub mod Outer
 pub mod FieldFacts
 pub mod MemberFacts
 pub mod ClassFacts
+pub mod ListFacts
+pub mod FunctionFacts
+pub mod ValueForms
+pub mod ItemFacts
+pub mod Rows
+pub mod SameFacts
+pub mod BlockFacts
+pub mod SwitchFacts
+pub mod EndFacts
+pub mod SignatureFacts
+pub mod CallFacts
+pub mod DeinitFacts
+pub mod RunnableTyped

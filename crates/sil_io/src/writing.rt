@@ -39,39 +39,3 @@ pub fn write_all<K: Sink>(sink: &mut K, bytes: &[u8]) -> Result<(), WriteFault>
     }
     Ok(())
 }
-
-#[cfg(test)]
-mod tests {
-    use super::*;
-    use crate::memory_sink::MemorySink;
-    use crate::steady::NullSink;
-    use std::test::Fail;
-
-    #[test]
-    fn writes_all_or_tells_how_far(rt: HostRuntime) -> Result<(), Fail> {
-        let alloc = rt.alloc();
-        for (room, piece, fails, gone_out) in [
-            (100, 4, 9, b"accept\n".as_slice()),
-            (100, 4, 1, b"".as_slice()),
-            (100, 4, 2, b"acce".as_slice()),
-            (100, 1, 7, b"accept".as_slice()),
-            (5, 4, 9, b"accep".as_slice()),
-            (7, 1, 9, b"accept\n".as_slice()),
-            (0, 1, 9, b"".as_slice()),
-        ] {
-            assert!(rt; piece >= 1);
-            let mut sink = MemorySink::new(alloc, room, piece, [fails].to_vec(alloc)?)?;
-            let answer = write_all(&mut sink, b"accept\n");
-            assert_eq!(rt; sink.bytes(), gone_out, "{room} {piece} {fails}");
-            let written = gone_out.len();
-            let expected = if written == 7 {
-                Ok(())
-            } else {
-                Err(WriteFault { written })
-            };
-            assert_eq!(rt; answer, expected, "{room} {piece} {fails}");
-        }
-        assert_eq!(rt; write_all(&mut NullSink::new(), b"accept\n"), Ok(()));
-        Ok(())
-    }
-}

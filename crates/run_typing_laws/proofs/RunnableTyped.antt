@@ -1,0 +1,23 @@
+-- A runnable module is typed in the words of a run: function by function, and its deinitialisers, classes, fields and sizes.
+use Rattle.run_typing.specs.RunTyped.{RunnableIsTyped}
+use Rattle.run_typing_laws.proofs.ClassFacts.{classes, fields_are_typed}
+use Rattle.run_typing_laws.proofs.DeinitFacts.{deinits}
+use Rattle.run_typing_laws.proofs.EndFacts.{ends, ends_take}
+use Rattle.run_typing_laws.proofs.FunctionFacts.{typed_function}
+use Rattle.run_typing_laws.proofs.ItemFacts.{item_is_of}
+use Rattle.run_typing_laws.proofs.Rows.Insts.{inst_is_typed}
+use Rattle.run_typing_laws.proofs.ShapeFacts.{sizes}
+
+pub runnable_is_typed : RunnableIsTyped
+runnable_is_typed m r = record {
+  functions = λ n f there. let typed = typed_function m r n f there in record {
+    insts = inst_is_typed m r n f there;
+    ends = ends m r f typed;
+    ends_take = ends_take m r f typed;
+    items = item_is_of m f typed;
+  };
+  deinits = deinits m r;
+  classes = classes m r;
+  fields = fields_are_typed m r;
+  sizes = sizes m r;
+}
