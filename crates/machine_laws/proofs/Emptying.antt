@@ -10,12 +10,12 @@ use Rattle.run_values.specs.Places.{Place, emptied}
 use Rattle.run_values.specs.Shapes.{Shape, Stored}
 use Rattle.sil_ast.specs.declared.decl.Storage.{Storage}
 use Rattle.sil_ast.specs.declared.module.Module.{Module}
-use Rattle.machine_laws.proofs.Changes.{Changes, SameSlots}
+use Rattle.machine_laws.proofs.Changes.{HasChanged}
 use Rattle.machine_laws.proofs.Held.{IsReachable}
 use Rattle.machine_laws.proofs.Memories.{MemoryAgrees, NamesPlace}
 use Rattle.machine_laws.proofs.Slots.{Made}
 
 module _ (m : Module) (typed : RunTyped m) {made : List Made} {mem : Memory} {numbers : List Numbers} {st : MachineView} (agrees : MemoryAgrees m made mem numbers st) where
   pub empty_agrees : (a : Address) (p : Place) (w : Storage) (s : Shape) → p.shape ≡ Stored w s → NamesPlace m made st.slots mem a p → IsReachable mem p
-      → Changes m made mem st (emptied mem p) numbers (empty_at st a) × SameSlots st (empty_at st a)
+      → HasChanged m made mem st (emptied mem p) numbers (empty_at st a)
   empty_agrees a p w s stored names reached = ?

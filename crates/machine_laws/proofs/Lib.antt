@@ -40,3 +40,6 @@ pub mod WritingSlots
 pub mod WritingLeaves
 pub mod StackChanges
 pub mod ObjectChanges
+pub mod WritingParts
+pub mod WritingInSlots
+pub mod WritingInFields
