@@ -84,6 +84,14 @@ module _ (m : Module) {made : List Made} {mem : Memory} {numbers : List Numbers}
     pub gone_slot : names.of.content ≡ Gone → is_there_at mem p ≡ false
     gone_slot e = gone_read mem p (has_cells Gone e ∙ same_cells_read names.part cells.Gone)
 
+    pub slot_open : is_there_at mem p ≡ true → is_open names.of ≡ true
+    slot_open there = by names.of.content refl
+      where
+        by : (c : Content) → names.of.content ≡ c → is_open names.of ≡ true
+        by Gone e = absurd (false≢true (sym (gone_slot e) ∙ there))
+        by Empty e = ap is_open_content e
+        by (Full v) e = ap is_open_content e
+
     pub empty_slot : names.of.content ≡ Empty → value_at mem p ≡ None
     empty_slot e = empty_read mem p (has_cells Empty e ∙ same_cells_read names.part cells.Empty)
 

@@ -124,7 +124,7 @@ module _ (m : Module) (typed : RunTyped m) {made : List Made} {mem : Memory} {nu
     with_whole : names.path ≡ [] → HasChanged m made mem st (filled mem p x) numbers (record st { heap = write_field false o k a.from ls st.heap })
     with_whole whole =
         let is = agrees.objects.classes o.0 (object_at mem o) (object_there mem numbers st.heap agrees.objects o names.made).object in
-        let same : size_of names.field ≡ length ls = ap size_of (whole_shape test names.part whole) ∙ sym leaf_size in
+        let same : size_of names.field ≡ length ls = ap size_of (whole_shape names.part whole) ∙ sym leaf_size in
         let size : has_size (length ls) (leaves_at st.heap o k) ≡ true =
             ap (λ z. has_size (length ls) (option_and_then (λ y. slice_get (leaves_by_field st.heap.declarations y.class) k) z)) there
             ∙ ap (λ d. has_size (length ls) (slice_get (leaves_by_field d h.class) k)) agrees.declared

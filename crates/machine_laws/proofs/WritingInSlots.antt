@@ -23,11 +23,11 @@ use Rattle.value_parts.proofs.CellParts.{suits_cells_length}
 use Rattle.value_parts.proofs.LeafParts.{suits_leaves_length}
 use Rattle.value_parts.proofs.Paths.{part_cells_fit, part_leaves_fit}
 use Rattle.machine_laws.proofs.Changes.{HasChanged}
-use Rattle.machine_laws.proofs.Held.{IsReachable, empty_slot, gone_slot}
+use Rattle.machine_laws.proofs.Held.{IsReachable, empty_slot, gone_slot, slot_open}
 use Rattle.machine_laws.proofs.HeldSlots.{all_suit, found_slot, slot_right}
 use Rattle.machine_laws.proofs.Memories.{MemoryAgrees, NamesPlace}
 use Rattle.machine_laws.proofs.Objects.{is_of_class}
-use Rattle.machine_laws.proofs.Slots.{Content, Empty, Full, Gone, Made, NamesSlot, cells_in, is_open, is_open_content, made_cells}
+use Rattle.machine_laws.proofs.Slots.{Content, Empty, Full, Gone, Made, NamesSlot, cells_in, is_open, made_cells}
 use Rattle.machine_laws.proofs.Stack.{content_length}
 use Rattle.machine_laws.proofs.StackChanges.{slot_changed}
 use Rattle.machine_laws.proofs.WritingLeaves.{laid_elsewhere, laid_in_stretch}
@@ -80,12 +80,7 @@ module _ (m : Module) {made : List Made} {mem : Memory} {numbers : List Numbers}
                 (part_written test names.part v x (agrees.slots.suit serial names.of v names.there e) good))
 
     opened : is_open names.of ≡ true
-    opened = by names.of.content refl
-      where
-        by : (c : Content) → names.of.content ≡ c → is_open names.of ≡ true
-        by Gone e = absurd (false≢true (sym (gone_slot m agrees index serial a p names e) ∙ reached.there))
-        by Empty e = ap is_open_content e
-        by (Full v) e = ap is_open_content e
+    opened = slot_open m agrees index serial a p names reached.there
 
     pub write_slot_agrees : HasChanged m made mem st (filled mem p x) numbers (write_slot st index a.from ls (slot_in st index serial))
     write_slot_agrees =

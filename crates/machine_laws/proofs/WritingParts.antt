@@ -1,7 +1,8 @@
 -- A part of a value is written, by cells and by leaves; or the whole.
 use Rattle.std.proofs.Common.{◌≡◌, ◌+◌, ◌++◌, ℕ, List, [], ◌∷◌, Some, true, length, refl, sym, ap, ◌∙◌, subst, arith}
-use Rattle.std.proofs.lemmas.List.{append-nil, drop_all}
-use Rattle.run_values.specs.Cells.{Cell, cell_count, in_cells}
+use Rattle.std.proofs.lemmas.List.{append-nil, drop_all, length-replicate}
+use Rattle.std.specs.Prelude.{replicate}
+use Rattle.run_values.specs.Cells.{Cell, Empty, cell_count, in_cells}
 use Rattle.run_values.specs.Leaves.{leaves_of}
 use Rattle.run_values.specs.Memory.{put_cells}
 use Rattle.run_values.specs.Shapes.{Shape}
@@ -23,6 +24,15 @@ pub record PartWritten (test : ClassTest) (s : Shape) (path : List ℕ) (u : Sha
   pub by_cells : put_cells cells (cells_before s path) ((in_cells u).cells x) ≡ (in_cells s).cells v
   pub by_leaves : spliced leaves (leaves_before s path) (leaves_of u x) ≡ leaves_of s v
 
+pub whole_shape : {s u : Shape} {path : List ℕ} → IsPart s path u → path ≡ [] → s ≡ u
+whole_shape IsPart.here e = refl
+whole_shape (IsPart.inside is part) e = absurd (cc)
+
+pub whole_emptied : {s u : Shape} {path : List ℕ} → IsPart s path u → path ≡ [] → (cells : List Cell) → length cells ≡ cell_count s
+    → put_cells cells (cells_before s path) (replicate (cell_count u) Empty) ≡ replicate (cell_count s) Empty
+whole_emptied {s = s} IsPart.here e cells count = put_all cells (replicate (cell_count s) Empty) (length-replicate (cell_count s) Empty ∙ sym count)
+whole_emptied (IsPart.inside is part) e cells count = absurd (cc)
+
 module _ (test : ClassTest) where
   pub part_written : {s u : Shape} {path : List ℕ} → IsPart s path u → (v x : Value) → suits test s v ≡ true → suits test u x ≡ true
       → PartWritten test s path u x ((in_cells s).cells v) (leaves_of s v)
@@ -32,10 +42,6 @@ module _ (test : ClassTest) where
     by_cells = cells_written test part v x h good;
     by_leaves = leaves_written test part v x h good;
   }
-
-  pub whole_shape : {s u : Shape} {path : List ℕ} → IsPart s path u → path ≡ [] → s ≡ u
-  whole_shape IsPart.here e = refl
-  whole_shape (IsPart.inside is part) e = absurd (cc)
 
   spliced_all : (old new : List Leaf) → length new ≡ length old → spliced old 0 new ≡ new
   spliced_all old new e = ap (λ ls. new ++ ls) (drop_all (0 + length new) old (omega (arith, e))) ∙ append-nil new
