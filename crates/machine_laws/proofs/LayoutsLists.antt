@@ -1,9 +1,9 @@
 -- Lists that are the same up to a place, and lists with others laid over them.
-use Rattle.std.proofs.Common.{◌≡◌, ◌≢◌, ◌≤◌, ◌<◌, ◌+◌, ◌-◌, ◌++◌, ◌⊎◌, inl, inr, ℕ, zero, suc, List, Some, [], ◌∷◌, length, take, drop, refl, sym, ap, ◌∙◌, append_assoc, arith}
-use Rattle.std.specs.Prelude.{set, slice_get, unwrap_or}
-use Rattle.std.proofs.lemmas.List.{drop-append-le, drop-drop, drop-take, drop_at, get_or-set_other, get_or-set_same, get_or-take, length-append, length-drop, length-take-le}
-use Rattle.std.proofs.lemmas.List.{take-append-drop, take-append-le, take-take, take_all, take_at}
-use Rattle.std.proofs.lemmas.Option.{unwrap_or-slice_get}
+use Rattle.std.proofs.Common.{◌≡◌, ◌≢◌, ◌≤◌, ◌<◌, ◌+◌, ◌-◌, ◌++◌, ◌⊎◌, inl, inr, ℕ, zero, suc, List, Option, None, Some, map, [], ◌∷◌, length, take, drop, refl, sym, ap, ◌∙◌, append_assoc, arith}
+use Rattle.std.specs.Prelude.{option_map, set, slice_get, unwrap_or}
+use Rattle.std.proofs.lemmas.List.{drop-drop, drop-take, drop_at, get_or-set_other, get_or-set_same, get_or-take, length-append, length-drop, length-take-le}
+use Rattle.std.proofs.lemmas.List.{take-append-le, take-take, take_all, take_at}
+use Rattle.std.proofs.lemmas.Option.{none-some, same_Some, slice_get-map, unwrap_or-slice_get}
 use Rattle.machine_steps.specs.Operands.{laid_over}
 
 module _ {A : Type 0} where
@@ -23,6 +23,30 @@ module _ {A : Type 0} where
 
   pub at_others : (xs : List A) (i j : ℕ) (x d : A) → j ≢ i → unwrap_or (slice_get (set xs i x) j) d ≡ unwrap_or (slice_get xs j) d
   at_others xs i j x d ne = unwrap_or-slice_get (set xs i x) j d ∙ get_or-set_other xs i j x d ne ∙ sym (unwrap_or-slice_get xs j d)
+
+  pub get_set : (xs : List A) (i : ℕ) (x : A) → i < length xs → slice_get (set xs i x) i ≡ Some x
+  get_set [] i x lt = absurd (omega (arith, lt))
+  get_set (y ∷ xs) zero x lt = refl
+  get_set (y ∷ xs) (suc i) x lt = get_set xs i x (omega (arith, lt))
+
+  pub get_others : (xs : List A) (i j : ℕ) (x : A) → j ≢ i → slice_get (set xs i x) j ≡ slice_get xs j
+  get_others [] i j x ne = refl
+  get_others (y ∷ xs) zero zero x ne = absurd (ne refl)
+  get_others (y ∷ xs) zero (suc j) x ne = refl
+  get_others (y ∷ xs) (suc i) zero x ne = refl
+  get_others (y ∷ xs) (suc i) (suc j) x ne = get_others xs i j x (λ e. ne (ap suc e))
+
+  pub get_take : (xs : List A) (n i : ℕ) → i < n → slice_get (take n xs) i ≡ slice_get xs i
+  get_take [] zero i lt = refl
+  get_take [] (suc n) i lt = refl
+  get_take (x ∷ xs) zero i lt = absurd (omega (arith, lt))
+  get_take (x ∷ xs) (suc n) zero lt = refl
+  get_take (x ∷ xs) (suc n) (suc i) lt = get_take xs n i (omega (arith, lt))
+
+  pub get_drop : (xs : List A) (n i : ℕ) → slice_get (drop n xs) i ≡ slice_get xs (n + i)
+  get_drop xs zero i = let at : i ≡ 0 + i = omega arith in ap (slice_get xs) at
+  get_drop [] (suc n) i = refl
+  get_drop (x ∷ xs) (suc n) i = let at : suc (n + i) ≡ suc n + i = omega arith in get_drop xs n i ∙ ap (slice_get (x ∷ xs)) at
 
   -- parts of lists that are the same up to a place
 
@@ -76,3 +100,14 @@ module _ {A : Type 0} where
   laid_apart from new old le i k (inl below) = laid_before from new old le i k below
   laid_apart from new old le i k (inr (inl above)) = ap (take k) (laid_behind from new old le i above)
   laid_apart from new old le i k (inr (inr none)) = ap (λ n. take n (drop i (laid_over from new old))) none ∙ ap (λ n. take n (drop i old)) (sym none)
+
+-- what a list's elements are told by
+
+pub mapped_some : {A B : Type 0} (g : A → B) (o : Option A) (y : B) → option_map g o ≡ Some y → (x : A) × (o ≡ Some x) × (g x ≡ y)
+mapped_some g None y e = absurd (none-some y e)
+mapped_some g (Some x) y e = (x, refl, same_Some (g x) y e)
+
+pub mapped_at : {A B : Type 0} (g : A → B) (xs ys : List A) (i : ℕ) (x : A) → map g ys ≡ map g xs → slice_get xs i ≡ Some x → (y : A) × (slice_get ys i ≡ Some y) × (g y ≡ g x)
+mapped_at g xs ys i x same there =
+    mapped_some g (slice_get ys i) (g x)
+    (sym (slice_get-map g ys i) ∙ ap (λ zs. slice_get zs i) same ∙ slice_get-map g xs i ∙ ap (option_map g) there)

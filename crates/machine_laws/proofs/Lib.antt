@@ -22,7 +22,11 @@ pub mod LayoutsLists
 pub mod Layouts
 pub mod GrowsTasks
 pub mod Puts
+pub mod GrowsSame
 pub mod Operands
+pub mod PushesCarried
+pub mod PushesAddresses
+pub mod PushesData
 pub mod Pushes
 pub mod PushesSlots
 pub mod NumbersPut
