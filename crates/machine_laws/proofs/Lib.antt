@@ -15,7 +15,7 @@ pub mod HeldObjects
 pub mod Held
 pub mod Writing
 pub mod Emptying
-pub mod SlotChanges
+pub mod SlotMade
 pub mod ObjectMade
 pub mod Naming
 pub mod LayoutsLists
@@ -47,3 +47,6 @@ pub mod ObjectChanges
 pub mod WritingParts
 pub mod WritingInSlots
 pub mod WritingInFields
+pub mod SlotsGone
+pub mod SlotsMade
+pub mod SlotRemoved
