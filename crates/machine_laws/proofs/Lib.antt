@@ -7,13 +7,16 @@ pub mod Agreement
 pub mod NumbersPut
 pub mod Numbers
 pub mod Counted
+pub mod CountedSteps
 pub mod NamedCells
 pub mod NamedOne
 pub mod NamedLists
 pub mod Named
 pub mod PhasesWider
 pub mod Phases
+pub mod PhasesSteps
 pub mod FinishedClass
 pub mod FinishedFields
 pub mod Finished
+pub mod FinishedSteps
 pub mod Left
