@@ -1,5 +1,5 @@
 -- What the machine does when it retains or releases is what the run does.
-use Rattle.std.proofs.Common.{◌≡◌, ◌+◌, ◌-◌, ◌==◌, ◌&&◌, ℕ, zero, suc, List, [], ◌∷◌, Bool, true, false, cond, refl, sym, ap, ◌∙◌, arith}
+use Rattle.std.proofs.Common.{◌≡◌, ◌+◌, ◌==◌, ◌&&◌, ℕ, zero, suc, List, [], ◌∷◌, Bool, true, false, cond, refl, sym, ap, ◌∙◌, arith}
 use Rattle.std.proofs.lemmas.Bool.{and_from, and_left, and_right, cond-false, cond-true, eq-eqb, ne_eqb}
 use Rattle.heap_model.specs.HeapCalls.{released, retained, takes_last}
 use Rattle.heap_model.specs.HeapViews.{HeapView, is_dead_in, strong_in}
@@ -73,6 +73,7 @@ module _ (m : Module) (made : List Made) where
     where
       agree : is_dead_in st.heap o ≡ is_dead s.memory o
       agree = dead_agrees m (is_of_class m s.memory) s.memory s.numbers st.heap o a.memory.objects
+
       at : (b : Bool) → is_dead s.memory o ≡ b
           → RetainsSo (record s { numbers = changed one_more s.numbers o; retains = s.retains + 1 }) (record st { heap = retained st.heap o }) os → RetainsSo s st (o ∷ os)
       at true d others = one_dead o s.numbers s.retains st.heap a (λ go. cond-true (is_dead s.memory o) _ _ d) (λ go. cond-true (is_dead_in st.heap o) _ _ (agree ∙ d))

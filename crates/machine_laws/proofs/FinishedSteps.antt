@@ -1,5 +1,5 @@
 -- The machine finishes a deinitialisation as the run does.
-use Rattle.std.proofs.Common.{◌≡◌, ◌==◌, ℕ, zero, suc, List, Bool, true, false, not, refl, sym, ap, ◌∙◌, arith}
+use Rattle.std.proofs.Common.{◌≡◌, ◌==◌, ℕ, zero, suc, List, true, false, not, refl, sym, ap, ◌∙◌, arith}
 use Rattle.std.proofs.lemmas.Bool.{cond-false, cond-true, eq-eqb, ne_eqb}
 use Rattle.heap_model.specs.HeapViews.{phase_in, strong_in}
 use Rattle.holder_model.specs.Dropping.{ended, field_references, finish_with}

@@ -1,5 +1,5 @@
 -- Weak and unowned storage: the machine counts the object in a leaf as the run counts those that cells keep.
-use Rattle.std.proofs.Common.{◌≡◌, ◌++◌, ℕ, List, [], ◌∷◌, Option, Some, None, true, false, refl, sym, ap, ◌∙◌, subst}
+use Rattle.std.proofs.Common.{◌≡◌, ℕ, List, [], None, true, refl, sym, ap, ◌∙◌, subst}
 use Rattle.std.specs.Prelude.{find, replicate}
 use Rattle.std.proofs.lemmas.Bool.{false≢true}
 use Rattle.std.proofs.lemmas.List.{append-nil}
@@ -9,7 +9,6 @@ use Rattle.lowered_run.specs.Stored.{each_changed, less_unowned, less_weak, more
 use Rattle.machine_steps.specs.Naming.{leaf_named, leaf_unnamed}
 use Rattle.machine_steps.specs.Operands.{first_leaf, object_in_leaf}
 use Rattle.machine_steps.specs.Views.{MachineView}
-use Rattle.run_typing.specs.StorageForms.{IsNamed}
 use Rattle.run_values.specs.Cells as cells
 use Rattle.run_values.specs.Cells.{Cell, in_cells}
 use Rattle.run_values.specs.Fits.{is_name}
@@ -21,7 +20,6 @@ use Rattle.run_values.specs.declared.leaf.Leaf.{Leaf}
 use Rattle.sil_ast.specs.declared.decl.Storage.{Storage}
 use Rattle.sil_ast.specs.declared.decl.Storage.TheVariants as storage
 use Rattle.sil_ast.specs.declared.module.Module.{Module}
-use Rattle.sil_ast.specs.declared.place.ObjectId.{ObjectId}
 use Rattle.value_parts.proofs.Names.{is_unowned_name, is_weak_name, stored_name}
 use Rattle.value_parts.specs.inner.Storages.{holds_no_storage}
 use Rattle.value_parts.specs.inner.StoredNames.{IsUnownedName, IsWeakName}

@@ -1,5 +1,5 @@
 -- What agrees by one test of references agrees by each that lets through more. A memory in which an object of the same class stands in place of another.
-use Rattle.std.proofs.Common.{◌≡◌, ◌<◌, ◌&&◌, ℕ, zero, suc, List, [], ◌∷◌, true, Option, Some, length, nat_lt, refl, sym, ap, ◌∙◌, arith}
+use Rattle.std.proofs.Common.{◌≡◌, ◌<◌, ◌&&◌, ℕ, zero, suc, List, [], ◌∷◌, true, Option, length, nat_lt, refl, ap, ◌∙◌, arith}
 use Rattle.std.specs.Prelude.{set, slice_get, unwrap_or}
 use Rattle.std.proofs.lemmas.List.{length-set}
 use Rattle.heap_model.specs.HeapViews.{HeapObject, HeapView}
@@ -19,7 +19,7 @@ use Rattle.value_parts.proofs.Suiting.{suits_wider}
 use Rattle.value_parts.specs.inner.Suits.{ClassTest}
 use Rattle.machine_laws.proofs.Memories.{MemoryAgrees}
 use Rattle.machine_laws.proofs.NumbersPut.{get_put_other}
-use Rattle.machine_laws.proofs.Objects.{FieldHolds, FieldsHold, KeptAgrees, ObjectAgrees, ObjectsAgree, freed, is_of_class, kept, more, none, unwritten, written}
+use Rattle.machine_laws.proofs.Objects.{FieldHolds, FieldsHold, ObjectAgrees, ObjectsAgree, freed, is_of_class, kept, more, none, unwritten, written}
 use Rattle.machine_laws.proofs.Slots.{Made, SlotsAgree}
 
 abbrev pub LetsMore : ClassTest → ClassTest → Type 0
