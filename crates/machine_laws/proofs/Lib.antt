@@ -12,6 +12,7 @@ pub mod NamedCells
 pub mod NamedOne
 pub mod NamedLists
 pub mod Named
+pub mod NamedValues
 pub mod PhasesWider
 pub mod Phases
 pub mod PhasesSteps
