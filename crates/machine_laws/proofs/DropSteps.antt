@@ -35,8 +35,9 @@ use Rattle.machine_laws.proofs.Counted.{memory_released}
 use Rattle.machine_laws.proofs.DropTasks.{LastOf, drops_left, last_of, one_left, tasks_move}
 use Rattle.machine_laws.proofs.Ending.{Alike, alike_by, both_choose, fault_alike, goes, memory_moves, turn_alike}
 use Rattle.machine_laws.proofs.Entries.{Ends}
-use Rattle.machine_laws.proofs.FinishTasks.{live_not_finishing, object_there, put_stays, tasks_put}
+use Rattle.machine_laws.proofs.FinishTasks.{live_not_finishing, object_there, tasks_put}
 use Rattle.machine_laws.proofs.Grows.{were_made}
+use Rattle.machine_laws.proofs.GrowsBy.{object_changed}
 use Rattle.machine_laws.proofs.Memories.{MemoryAgrees}
 use Rattle.machine_laws.proofs.Numbers.{alive_was_made, dead_agrees, last_agrees, name_agrees, strong_agrees}
 use Rattle.machine_laws.proofs.Objects.{ObjectsAgree, is_of_class}
@@ -91,7 +92,7 @@ module _ (m : Module) (ready : ReadyModule) (entry : Shape) (bound : ℕ) where
           (low.Finishes (deinits_of (declarations_of m) (object_at s.memory o).class) o ∷ s.tasks) (task.Finishes o 0 ∷ st.tasks)
       tasks_then =
           finishes to_go_on (deinits_of (declarations_of m) (object_at s.memory o).class) o 0 (ends_of st) s.tasks st.tasks
-          (omega (arith, alive_was_made s.memory o alive, (put_stays s.memory o dying refl).objects)) (ap (λ x. x.phase) there)
+          (omega (arith, alive_was_made s.memory o alive, (object_changed s.memory o dying refl).objects)) (ap (λ x. x.phase) there)
           (ap (λ x. deinits_of (declarations_of m) x.class) (sym there)) (live_not_finishing agrees.tasks o live)
           (tasks_move {st = st} {st' = next' (record st { turns = st.turns + 1 })} (were_made memory.slots) refl refl refl refl refl
           (tasks_put (were_made memory.slots) o dying refl (live_not_finishing agrees.tasks o live) agrees.tasks))

@@ -23,7 +23,8 @@ use Rattle.machine_laws.proofs.Ending.{memory_moves}
 use Rattle.machine_laws.proofs.Entries.{Ends}
 use Rattle.machine_laws.proofs.Grows.{Grows, WereMade, were_made}
 use Rattle.machine_laws.proofs.GrowsBy.{grows_itself, grows_objects, objects_stay, serial_of}
-use Rattle.machine_laws.proofs.GrowsTasks.{KeepsBelow, keeps_slots, tasks_keep}
+use Rattle.machine_laws.proofs.GrowsSame.{dropping_agrees}
+use Rattle.machine_laws.proofs.GrowsTasks.{keeps_slots, tasks_keep}
 use Rattle.machine_laws.proofs.Slots.{Made}
 use Rattle.machine_laws.proofs.Tasks.{ReadyFor, TasksAgree, dropped, drops, to_go_on}
 
@@ -79,21 +80,6 @@ tasks_move {m = m} {mem = mem} {st = st} {st' = st'} {ends = ends} were there le
     tasks_keep (grows_objects were (objects_stay mem mem refl) (ap (map serial_of) slots))
     (keeps_slots ends st st' there leaves addresses waiting (ap (map serial_of) slots)) (λ o now. refl) tasks
 
-more_keep : (st : MachineView) (os : List ObjectId) (ts : List Task) → KeepsBelow (ends_of st) st (record st { waiting = st.waiting ++ os; tasks = ts })
-more_keep st os ts = record { there = refl; leaves = refl; addresses = refl; serials = refl; waiting = take-append_seam st.waiting os ∙ sym (take-length st.waiting) }
-
--- references begin to wait
-pub dropping_agrees : {m : Module} {entry : Shape} {made : List Made} {mem : Memory} (st : MachineView) → WereMade made st.slots → (os : List ObjectId) (ts : List (low.Task LowFrame))
-    → TasksAgree m entry made mem st to_go_on (ends_of st) ts st.tasks
-    → TasksAgree m entry made mem (dropping os st) to_go_on (ends_of (dropping os st)) (low.dropping os ts) (dropping os st).tasks
-dropping_agrees st were [] ts tasks = tasks
-dropping_agrees {mem = mem} st were (o ∷ os) ts tasks =
-    drops o os (ends_of st) (ends_of (dropping (o ∷ os) st)) ts st.tasks
-    (ap (λ n. record (ends_of st) { waiting = n }) (length-append st.waiting (reverse (o ∷ os)) ∙ ap (λ n. length st.waiting + n) (length-reverse (o ∷ os))))
-    (ap (take (length (o ∷ os))) (drop-append_seam st.waiting (reverse (o ∷ os))) ∙ ap (λ n. take n (reverse (o ∷ os))) (sym (length-reverse (o ∷ os)))
-      ∙ take-length (reverse (o ∷ os)))
-    (tasks_keep {st = st} {st' = dropping (o ∷ os) st} (grows_itself were mem) (more_keep st (reverse (o ∷ os)) (dropping (o ∷ os) st).tasks) (λ p now. refl) tasks)
-
 parts_dropping : {m : Module} {made : List Made} {s : LowState} (st : MachineView) → PartsAgree m made s st → (os : List ObjectId) → PartsAgree m made s (dropping os st)
 parts_dropping st parts [] = parts
 parts_dropping st parts (o ∷ os) = record {
@@ -115,7 +101,7 @@ both_dropping {m = m} {made = made} {s = s} {st = st} agrees os = record {
     retains = moved.retains;
     releases = moved.releases;
   };
-  tasks = dropping_agrees st (were_made agrees.parts.memory.slots) os s.tasks agrees.tasks;
+  tasks = dropping_agrees (were_made agrees.parts.memory.slots) os agrees.tasks;
 }
   where
     moved : PartsAgree m made s (dropping os st)

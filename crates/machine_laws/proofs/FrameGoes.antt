@@ -1,5 +1,5 @@
 -- A frame goes on over the others.
-use Rattle.std.proofs.Common.{◌≡◌, ◌∙◌, ℕ, List, [], ◌∷◌, ◌++◌, Option, Some, None, refl, sym, ap}
+use Rattle.std.proofs.Common.{◌≡◌, ◌∙◌, ℕ, List, [], ◌∷◌, ◌++◌, Option, Some, None, map, refl, sym, ap}
 use Rattle.std.specs.Prelude.{Err, Ok}
 use Rattle.std.specs.declared.result.Result.{Result}
 use Rattle.holder_model.specs.Data.{Datum}
@@ -10,7 +10,7 @@ use Rattle.holder_model.specs.States as low
 use Rattle.item_operands.specs.Items.{item_defined}
 use Rattle.lowered_run.specs.declared.low_fault.LowFault.{LowFault}
 use Rattle.lowered_run.specs.LowFrames.{LowFrame, and_others, put_all, read_all, there, value_at}
-use Rattle.lowered_run.specs.LowStepParts.{LowNext, LowState, numbers_for, on_some}
+use Rattle.lowered_run.specs.LowStepParts.{LowNext, LowState, numbers_for, on_ok, on_some}
 use Rattle.lowered_run.specs.LowSteps.{goes_on}
 use Rattle.machine_steps.specs.declared.frame.Frame.{Frame}
 use Rattle.machine_steps.specs.declared.frame.Task.{Task}
@@ -45,9 +45,9 @@ use Rattle.machine_laws.proofs.Tasks.{TasksAgree, runs, to_go_on, to_take}
 pub frame_moves : {m : Module} {made : List Made} {mem : Memory} {st st' : MachineView} {f : Function} {lf : LowFrame} {mf : Frame} {below above : Ends}
     → WereMade made st.slots → st'.there ≡ st.there → st'.leaves ≡ st.leaves → st'.addresses ≡ st.addresses → st'.slots ≡ st.slots → st'.waiting ≡ st.waiting
     → FrameAgrees m made mem st f lf mf below above → FrameAgrees m made mem st' f lf mf below above
-frame_moves {mem = mem} {st = st} {st' = st'} {above = above} were there leaves addresses slots waiting frame =
+frame_moves {mem = mem} {st = st} {st' = st'} {above = above} were is_there leaves addresses slots waiting frame =
     frame_grows {st = st} {st' = st'} (grows_objects were (objects_stay mem mem refl) (ap (map serial_of) slots))
-    (keeps_slots above st st' there leaves addresses waiting (ap (map serial_of) slots)) frame
+    (keeps_slots above st st' is_there leaves addresses waiting (ap (map serial_of) slots)) frame
 
 -- the frame goes on
 pub frame_goes_on : {m : Module} {entry : Shape} {made : List Made} {s : LowState} {st : MachineView} {f : Function} {lf : LowFrame} {mf : Frame} {below : Ends}
@@ -70,7 +70,17 @@ goes_on_plain m told bound s rest lf f i xs values stay put =
     ap (on_some s (λ values. low.Goes (record s { tasks = low.Runs (record lf { at = behind f i; values = values }) ∷ rest; numbers = numbers_for s.memory s.numbers }))) put
     ∙ ap (λ ns. low.Goes (record s { tasks = low.Runs (record lf { at = behind f i; values = values }) ∷ rest; numbers = ns })) stay
 
--- values that were read, and others behind them
-pub read_append : (values : List (Option Datum)) (vs ws : List ValueId) (xs ys : List Datum) → read_all values vs ≡ Ok xs → read_all values ws ≡ Ok ys
-    → read_all values (vs ++ ws) ≡ Ok (xs ++ ys)
-read_append values vs ws xs ys first then = ?
+-- a value that was read, and others behind it
+
+there_read : (v : ValueId) (d : Option Datum) (x : Datum) → and_others (there v d) (Ok []) ≡ Ok (x ∷ []) → there v d ≡ Ok x
+there_read v None x e = absurd (cc)
+there_read v (Some y) x e = cc
+
+on_others : (s : LowState) (go : List Datum → LowNext) (x : Datum) (r : Result (List Datum) LowFault) → on_ok s go (and_others (Ok x) r) ≡ on_ok s (λ ys. go (x ∷ ys)) r
+on_others s go x (Ok ys) = refl
+on_others s go x (Err f) = refl
+
+pub read_behind : (s : LowState) (go : List Datum → LowNext) (values : List (Option Datum)) (v : ValueId) (x : Datum) (vs : List ValueId) → read_all values (v ∷ []) ≡ Ok (x ∷ [])
+    → on_ok s go (read_all values (v ∷ vs)) ≡ on_ok s (λ ys. go (x ∷ ys)) (read_all values vs)
+read_behind s go values v x vs first =
+    ap (λ y. on_ok s go (and_others y (read_all values vs))) (there_read v (value_at values v) x first) ∙ on_others s go x (read_all values vs)
