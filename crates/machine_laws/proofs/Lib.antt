@@ -50,6 +50,8 @@ pub mod Left
 pub mod FrameSteps
 pub mod FrameReady
 pub mod FrameGoes
+pub mod CallingValues
+pub mod Edging
 pub mod RowSteps
 pub mod DropTasks
 pub mod FinishTasks
