@@ -24,6 +24,8 @@ pub mod Naming
 pub mod GrowsTasks
 pub mod Puts
 pub mod Operands
+pub mod PushesCarried
+pub mod PushesAddresses
 pub mod Pushes
 pub mod PushesSlots
 pub mod NumbersPut
