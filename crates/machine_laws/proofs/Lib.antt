@@ -43,3 +43,7 @@ pub mod Finished
 pub mod Left
 pub mod FrameSteps
 pub mod RowSteps
+pub mod WritingSlots
+pub mod WritingLeaves
+pub mod StackChanges
+pub mod ObjectChanges
