@@ -1,6 +1,6 @@
 -- An object that was deinitialised dies: what its weak and unowned fields name is named no longer, and its strong fields' references are dropped.
-use Rattle.std.proofs.Common.{◌≡◌, List, true, false, Option, Some, None, map, refl, sym, ap, ◌∙◌, subst}
-use Rattle.std.specs.Prelude.{option_and_then, set, slice_get, unwrap_or}
+use Rattle.std.proofs.Common.{◌≡◌, List, false, Option, Some, None, map, refl, sym, ap, ◌∙◌, subst}
+use Rattle.std.specs.Prelude.{option_and_then, slice_get}
 use Rattle.std.proofs.lemmas.Bool.{false≢true}
 use Rattle.heap_model.specs.HeapCalls.{dead, finished, unless_freed}
 use Rattle.heap_model.specs.HeapViews.{HeapObject, HeapView, fields_in, fields_told, object_in}
@@ -16,7 +16,6 @@ use Rattle.run_typing.specs.FieldForms.{HasTypedFields}
 use Rattle.run_typing.specs.RunTyped.{RunTyped}
 use Rattle.run_values.specs.Memory.{Memory, Object, is_dead, is_dead_phase, object_at, with_object}
 use Rattle.sil_ast.specs.declared.decl.Field.{Field}
-use Rattle.sil_ast.specs.declared.decl.Storage.{Storage}
 use Rattle.sil_ast.specs.declared.module.Module.{Module}
 use Rattle.sil_ast.specs.declared.place.ObjectId.{ObjectId}
 use Rattle.type_definitions.specs.Declarations.{declarations_of}

@@ -1,5 +1,5 @@
 -- The class that a module made ready has at the place of a class among the declarations.
-use Rattle.std.proofs.Common.{◌≡◌, ℕ, List, Option, Some, None, map, refl, sym, ap, ◌∙◌}
+use Rattle.std.proofs.Common.{◌≡◌, Option, Some, None, map, ap, ◌∙◌}
 use Rattle.std.specs.Prelude.{option_map, slice_get, unwrap_or}
 use Rattle.std.proofs.lemmas.Option.{none-some, same_Some, slice_get-map}
 use Rattle.heap_model.specs.HeapViews.{HeapView, class_in}

@@ -1,8 +1,7 @@
 -- The fields of an object, in its cells and in the heap: which objects they name and keep, field by field.
-use Rattle.std.proofs.Common.{◌≡◌, ◌-◌, ◌++◌, ℕ, zero, suc, List, [], ◌∷◌, Option, Some, None, true, map, refl, sym, ap, ◌∙◌, subst}
-use Rattle.std.specs.Prelude.{replicate, set, slice_get, unwrap_or}
+use Rattle.std.proofs.Common.{◌≡◌, ◌++◌, ℕ, zero, suc, List, [], ◌∷◌, Option, Some, None, true, map, refl, sym, ap, ◌∙◌, subst}
+use Rattle.std.specs.Prelude.{set, slice_get, unwrap_or}
 use Rattle.std.specs.List.{AllZip}
-use Rattle.std.proofs.lemmas.List.Concat.{flat_map-append}
 use Rattle.heap_model.specs.HeapViews.{HeapView}
 use Rattle.holder_model.specs.ModuleShapes.{field_shape}
 use Rattle.holder_model.specs.Outcomes.{Numbers}
@@ -15,7 +14,7 @@ use Rattle.ready_code.specs.ReadyModules.{storage_of}
 use Rattle.run_typing.specs.FieldForms.{IsTypedField}
 use Rattle.run_typing.specs.StorageForms.{FieldShapeIs, IsNamed, named, plain}
 use Rattle.run_values.specs.Cells as cells
-use Rattle.run_values.specs.Cells.{Cell, cell_count, in_cells}
+use Rattle.run_values.specs.Cells.{Cell, cell_count}
 use Rattle.run_values.specs.Leaves.{leaves_of}
 use Rattle.run_values.specs.Memory.{Memory}
 use Rattle.run_values.specs.Shapes.{Shape, Stored}

@@ -2,7 +2,6 @@
 use Rattle.std.proofs.Common.{◌≡◌, ◌==◌, ◌&&◌, ◌||◌, ℕ, List, [], ◌∷◌, Bool, true, false, not, cond, Option, Some, None, length, refl, sym, ap, ◌∙◌}
 use Rattle.std.specs.Prelude.{is_some, slice_get, unwrap_or}
 use Rattle.std.specs.List.{cons_option, filter_map, range_with_len}
-use Rattle.heap_model.specs.HeapCalls.{is_left}
 use Rattle.heap_model.specs.HeapViews.{HeapObject, HeapView, class_told, object_in, phase_told, strong_told, unowned_told, weak_told}
 use Rattle.holder_model.specs.Outcomes.{Numbers, is_named, left_objects, object_number, unfreed}
 use Rattle.holder_model.specs.declared.left_object.LeftObject.{LeftObject}
@@ -47,7 +46,7 @@ kept_told : (m : Module) (test : ClassTest) (o : ObjectId) (x : Object) (n : Num
     → run_told o x n ≡ Some (told o (unwrap_or (class_at (declarations_of m) h.class) []) (is_dead_phase h.phase) h.strong h.unowned h.weak)
 kept_told m test o x n h k =
     let left : not (is_dead_phase x.phase && n.unowned == 0 && n.weak == 0) ≡ true =
-        rw (sym k.phase, sym k.unowned, sym k.weak) k.left in
+    rw (sym k.phase, sym k.unowned, sym k.weak) k.left in
     let is_told = left_is_named (is_dead_phase x.phase) (n.unowned == 0) (n.weak == 0) left in
     ap (λ b. cond b (Some (told o x.class (is_dead_phase x.phase) n.strong n.unowned n.weak)) None) is_told
     ∙ ap (λ c. Some (told o (unwrap_or c []) (is_dead_phase x.phase) n.strong n.unowned n.weak)) (sym k.class)
@@ -75,9 +74,11 @@ module _ (m : Module) (test : ClassTest) (mem : Memory) (numbers : List Numbers)
       in_heap : (y : Option HeapObject) → object_in h o ≡ y → heap_told (declarations_of m) o y ≡ left_in h o
       in_heap y e =
           ap (λ d. heap_told d o y) (sym declared) ∙ ap (heap_told h.declarations o) (sym e) ∙ sym (heap_tells h.declarations o (object_in h o))
+
       in_run : (x : Option Object) (n : Option Numbers) → slice_get mem.objects o.0 ≡ x → slice_get numbers o.0 ≡ n
           → unfreed mem o (numbers_of numbers o) ≡ run_told o (unwrap_or x no_object) (unwrap_or n no_numbers)
       in_run x n ex en = ap (λ y. run_told o y (numbers_of numbers o)) (object_there mem o x ex) ∙ ap (λ y. run_told o (unwrap_or x no_object) (unwrap_or y no_numbers)) en
+
       at : Found m test mem.objects numbers h.objects a o.0 → unfreed mem o (numbers_of numbers o) ≡ left_in h o
       at (missing ex en eh) = in_run None None ex en ∙ in_heap None (ap (λ y. unwrap_or y None) eh)
       at (there x n y ex en eh agree) = in_run (Some x) (Some n) ex en ∙ object_told m test o x n y agree ∙ in_heap y (ap (λ z. unwrap_or z None) eh)
