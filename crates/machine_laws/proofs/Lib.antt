@@ -51,3 +51,4 @@ pub mod WritingSlots
 pub mod WritingLeaves
 pub mod StackChanges
 pub mod ObjectChanges
+pub mod Rows
