@@ -52,3 +52,5 @@ pub mod WritingLeaves
 pub mod StackChanges
 pub mod ObjectChanges
 pub mod Rows
+pub mod DropTasks
+pub mod FinishTasks
