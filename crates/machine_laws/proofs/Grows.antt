@@ -127,10 +127,13 @@ module _ {m : Module} {made made' : List Made} {mem mem' : Memory} {slots slots'
     where
       place_from : ℕ → Shape → Place
       place_from n s = record { home = OnStack; first = n; shape = s; is_part = false }
+
       below : slot.serial < length made
       below = grows.were_made j slot there
+
       at : (x : Made) × (slice_get made slot.serial ≡ Some x)
       at = there_below made slot.serial below
+
       same_shape : shape_made made' slot.serial ≡ shape_made made slot.serial
       same_shape =
           let y = grows.stays slot.serial at.0 at.1 in

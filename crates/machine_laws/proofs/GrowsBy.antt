@@ -33,6 +33,7 @@ set_stays made k x c there opens j y is = by_place (cases_eq j k)
   where
     new : Made
     new = record x { content = c }
+
     by_place : (j ≡ k) ⊎ (j ≡ k → ⊥) → (z : Made) × (slice_get (set made k new) j ≡ Some z) × (z.shape ≡ y.shape) × (is_open z ≡ true → is_open y ≡ true)
     by_place (inl e) =
         let same : x ≡ y = same_Some x y (sym there ∙ ap (slice_get made) (sym e) ∙ is) in
@@ -107,6 +108,7 @@ module _ {m : Module} where
       where
         gone : Made
         gone = record x { content = Gone }
+
         before : (j : ℕ) (other : OpenSlot) (y : Made) → slice_get slots j ≡ Some other → slice_get (set made slot.serial gone) other.serial ≡ Some y → is_open y ≡ true → j < index
         before j other y there' made_at now = by_place (cases_eq j index)
           where

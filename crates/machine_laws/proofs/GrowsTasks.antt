@@ -134,10 +134,12 @@ same_places {made = made} {made' = made'} {slots = slots} {slots' = slots'} grow
   where
     moved : (made : List Made) (slots : List OpenSlot) → map (slot_place made) (take (to - from) (drop from slots)) ≡ take (to - from) (drop from (map (slot_place made) slots))
     moved made slots = sym (ap (take (to - from)) (drop-map (slot_place made) from slots) ∙ take-map (slot_place made) (to - from) (drop from slots))
+
     at : (j : ℕ) (x x' : OpenSlot) → slice_get (take to slots) j ≡ Some x → x'.serial ≡ x.serial → slot_place made' x' ≡ slot_place made x
     at j x x' there same =
         let within : j < to = omega (arith, slice_get_within (take to slots) j x there, length-take to slots) in
         same_slot_place grows j x x' (sym (get_take slots to j within) ∙ there) same
+
     taken : take to (map (slot_place made') slots') ≡ take to (map (slot_place made) slots)
     taken = take-map (slot_place made') to slots' ∙ same_maps (slot_place made) (slot_place made') (take to slots) (take to slots') serials at ∙ sym (take-map (slot_place made) to slots)
 
@@ -183,7 +185,7 @@ module _ {m : Module} {made made' : List Made} {mem mem' : Memory} {st st' : Mac
         (at_taken st'.there st.there above.values (mf.values + v.0) false keeps.there (omega (arith, lt, agrees.values, agrees.values_end)))
         (part_taken st'.leaves st.leaves above.leaves (mf.leaves + (local d f v).at) (local d f v).size keeps.leaves (omega (arith, leaves_within, agrees.leaves, agrees.leaves_end)))
         (λ s form. at_taken st'.addresses st.addresses above.addresses (mf.addresses + (local_address d f v).at) no_address keeps.addresses
-          (omega (arith, address_within d f v (value_count f) s form lt, agrees.addresses, agrees.addresses_end)));
+        (omega (arith, address_within d f v (value_count f) s form lt, agrees.addresses, agrees.addresses_end)));
     values = agrees.values;
     leaves = agrees.leaves;
     addresses = agrees.addresses;

@@ -43,6 +43,11 @@ module _ {A : Type 0} where
   get_take (x ∷ xs) (suc n) zero lt = refl
   get_take (x ∷ xs) (suc n) (suc i) lt = get_take xs n i (omega (arith, lt))
 
+  pub get_drop : (xs : List A) (n i : ℕ) → slice_get (drop n xs) i ≡ slice_get xs (n + i)
+  get_drop xs zero i = let at : i ≡ 0 + i = omega arith in ap (slice_get xs) at
+  get_drop [] (suc n) i = refl
+  get_drop (x ∷ xs) (suc n) i = let at : suc (n + i) ≡ suc n + i = omega arith in get_drop xs n i ∙ ap (slice_get (x ∷ xs)) at
+
   -- parts of lists that are the same up to a place
 
   pub taken_less : (xs ys : List A) (m n : ℕ) → m ≤ n → take n xs ≡ take n ys → take m xs ≡ take m ys

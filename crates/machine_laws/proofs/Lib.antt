@@ -26,6 +26,7 @@ pub mod Puts
 pub mod Operands
 pub mod PushesCarried
 pub mod PushesAddresses
+pub mod PushesData
 pub mod Pushes
 pub mod PushesSlots
 pub mod NumbersPut

@@ -56,21 +56,27 @@ module _ (m : Module) (made : List Made) (mem : Memory) (st : MachineView) where
     where
       d : Declarations
       d = declarations_of m
+
       x : Option Datum
       x = value_at lf.values v
+
       b : Bool
       b = is_there_in st mf v
+
       by_presence : ((x ≡ None) × (b ≡ false)) ⊎ ((y : Datum) × (x ≡ Some y) × (b ≡ true)) → OperandsRead f lf mf (v ∷ vs)
       by_presence (inl lacks) = missing v (ap (λ c. cond (not c) (Some v) (find (is_missing st mf) vs)) lacks.1) (ap (λ o. and_others (there v o) (read_all lf.values vs)) lacks.0)
       by_presence (inr has) = with_rest rest
         where
           first : read_all lf.values (v ∷ vs) ≡ and_others (Ok has.0) (read_all lf.values vs)
           first = ap (λ o. and_others (there v o) (read_all lf.values vs)) has.1
+
           found : find (is_missing st mf) (v ∷ vs) ≡ find (is_missing st mf) vs
           found = ap (λ c. cond (not c) (Some v) (find (is_missing st mf) vs)) has.2
+
           entry : IsRead f mf v has.0
           entry = subst (λ c. EntryAgrees m made mem st (form_of d f v) (Some has.0) c (contents st mf (local d f v)) (address_in st mf (local_address d f v))) has.2
               (subst (λ o. EntryAgrees m made mem st (form_of d f v) o b (contents st mf (local d f v)) (address_in st mf (local_address d f v))) has.1 (agrees.entries v is_of))
+
           with_rest : OperandsRead f lf mf vs → OperandsRead f lf mf (v ∷ vs)
           with_rest (missing w is fault) = missing w (found ∙ is) (first ∙ ap (and_others (Ok has.0)) fault)
           with_rest (read xs is all entries) = read (has.0 ∷ xs) (found ∙ is) (first ∙ ap (and_others (Ok has.0)) all) (more v has.0 vs xs entry entries)
@@ -82,7 +88,7 @@ module _ (m : Module) (made : List Made) (mem : Memory) (st : MachineView) where
 
 -- what was read is what its form says
 
-abbrev kind_of : Form → ℕ
+abbrev pub kind_of : Form → ℕ
 kind_of (OfValue s) = 0
 kind_of (OfPlace s) = 1
 kind_of (OfFunction g) = 2

@@ -58,7 +58,7 @@ module _ (m : Module) (made : List Made) (mem : Memory) (f g : Function) (mf to 
       → (v w : ValueId) (x : Datum) → IsOf f v → IsOf g w → IsRead m made mem old f mf v x → (cs : List CarryAddress) (ws : List ValueId) (xs : List Datum) → Goes cs ws xs
       → (form : Form) → form_of (declarations_of m) f v ≡ form → form_of (declarations_of m) g w ≡ form
       → Reached m made mem g to below above st (machine.addresses_carried st mf to (address_carried (declarations_of m) f g form (carry_address (declarations_of m) f g v w) ++ cs))
-          (record lf { values = addresses_put (declarations_of m) g ws xs (address_put form w x lf.values) })
+      (record lf { values = addresses_put (declarations_of m) g ws xs (address_put form w x lf.values) })
   carry_one st lf frame reach keeps slots lies v w x is_of is_of' read cs ws xs goes (OfPlace s) e e' =
       let is = read_place read s e in
       let d = declarations_of m in
@@ -92,5 +92,5 @@ module _ (m : Module) (made : List Made) (mem : Memory) (f g : Function) (mf to 
       let form : form_of d f v ≡ form_of d g w = ap (head_form (form_of d g w)) same in
       let others = carry_addresses lies reads ws are_of.1 are_of'.1 (ap (drop 1) same) in
       subst (λ φ. Reached m made mem g to below above st (machine.addresses_carried st mf to (address_carried d f g φ (carry_address d f g v w) ++ addresses_carried d f g vs ws))
-        (record lf { values = addresses_put d g ws xs (address_put (form_of d g w) w x lf.values) })) (sym form)
+      (record lf { values = addresses_put d g ws xs (address_put (form_of d g w) w x lf.values) })) (sym form)
       (carry_one st lf frame reach keeps slots lies v w x are_of.0 are_of'.0 read (addresses_carried d f g vs ws) ws xs others (form_of d g w) form refl)

@@ -79,7 +79,7 @@ module _ (m : Module) (made : List Made) (mem : Memory) (f g : Function) (mf to 
       → (v w : ValueId) (x : Datum) → IsOf g w → IsRead m made mem old f mf v x → (cs : List Carry) (ws : List ValueId) (xs : List Datum) → Goes cs ws xs
       → (form : Form) → form_of (declarations_of m) f v ≡ form → form_of (declarations_of m) g w ≡ form
       → Reached m made mem g to below above st (puts st (value_carried (declarations_of m) f g form (carry (declarations_of m) f g v w) ++ cs))
-          (record lf { values = values_put (declarations_of m) g ws xs (value_put form w x lf.values) })
+      (record lf { values = values_put (declarations_of m) g ws xs (value_put form w x lf.values) })
   carry_one st lf frame reach v w x is_of read cs ws xs goes (OfValue s) e e' =
       let is = read_value read s e in
       let ls = contents old mf (local (declarations_of m) f v) in
@@ -108,5 +108,5 @@ module _ (m : Module) (made : List Made) (mem : Memory) (f g : Function) (mf to 
       let form : form_of d f v ≡ form_of d g w = ap (head_form (form_of d g w)) same in
       let others = carry_values reads ws are_of.1 (ap (drop 1) same) in
       subst (λ φ. Reached m made mem g to below above st (puts st (value_carried d f g φ (carry d f g v w) ++ values_carried d f g vs ws))
-        (record lf { values = values_put d g ws xs (value_put (form_of d g w) w x lf.values) })) (sym form)
+      (record lf { values = values_put d g ws xs (value_put (form_of d g w) w x lf.values) })) (sym form)
       (carry_one st lf frame reach v w x are_of.0 read (values_carried d f g vs ws) ws xs others (form_of d g w) form refl)

@@ -37,14 +37,15 @@ use Rattle.machine_laws.proofs.Memories.{NamesPlace}
 use Rattle.machine_laws.proofs.Objects.{is_of_class}
 use Rattle.machine_laws.proofs.Slots.{Made, slot_place}
 
+pub ends_are : (e f : Ends) → e.values ≡ f.values → e.leaves ≡ f.leaves → e.addresses ≡ f.addresses → e.slots ≡ f.slots → e.waiting ≡ f.waiting → e ≡ f
+ends_are e f values leaves addresses slots waiting =
+    ap (λ n. record e { values = n }) values ∙ ap (λ n. record e { values = f.values; leaves = n }) leaves
+    ∙ ap (λ n. record e { values = f.values; leaves = f.leaves; addresses = n }) addresses
+    ∙ ap (λ n. record f { slots = n; waiting = e.waiting }) slots ∙ ap (λ n. record f { waiting = n }) waiting
+
 pub same_ends : (st st' : MachineView) → length st'.there ≡ length st.there → length st'.leaves ≡ length st.leaves → length st'.addresses ≡ length st.addresses
     → length st'.slots ≡ length st.slots → length st'.waiting ≡ length st.waiting → ends_of st' ≡ ends_of st
-same_ends st st' there leaves addresses slots waiting =
-    ap (λ n. record { values = n; leaves = length st'.leaves; addresses = length st'.addresses; slots = length st'.slots; waiting = length st'.waiting }) there
-    ∙ ap (λ n. record { values = length st.there; leaves = n; addresses = length st'.addresses; slots = length st'.slots; waiting = length st'.waiting }) leaves
-    ∙ ap (λ n. record { values = length st.there; leaves = length st.leaves; addresses = n; slots = length st'.slots; waiting = length st'.waiting }) addresses
-    ∙ ap (λ n. record { values = length st.there; leaves = length st.leaves; addresses = length st.addresses; slots = n; waiting = length st'.waiting }) slots
-    ∙ ap (λ n. record { values = length st.there; leaves = length st.leaves; addresses = length st.addresses; slots = length st.slots; waiting = n }) waiting
+same_ends st st' there leaves addresses slots waiting = ends_are (ends_of st') (ends_of st) there leaves addresses slots waiting
 
 -- an entry depends on the slots alone
 pub entry_on : {m : Module} {made : List Made} {mem : Memory} {st : MachineView} {form : Form} {x : Option Datum} {b : Bool} {ls : List Leaf} {a : Address}
@@ -117,9 +118,11 @@ module _ {m : Module} {made : List Made} {mem : Memory} {st : MachineView} {f : 
     where
       d : Declarations
       d = declarations_of m
+
       Entry : ValueId → Option Datum → Type 0
       Entry v o = EntryAgrees m made mem st' (form_of (declarations_of m) f v) o (is_there_in st' mf v)
           (contents st' mf (local (declarations_of m) f v)) (address_in st' mf (local_address (declarations_of m) f v))
+
       entry : (v : ValueId) → v.0 < value_count f → (v.0 ≡ r.0) ⊎ (v.0 ≡ r.0 → ⊥) → Entry v (value_at (set lf.values r.0 (Some x)) v)
       entry v lt (inl e) =
           let now = at_set lf.values r.0 (Some x) None (omega (arith, is_of, agrees.count)) in
@@ -204,7 +207,7 @@ module _ {m : Module} {made : List Made} {mem : Memory} {st : MachineView} {f : 
           let mine : address_in now mf (local_address (declarations_of m) f r) ≡ a =
           at_set st.addresses at a no_address (omega (arith, within, agrees.addresses, agrees.addresses_end, reach.addresses)) in
           there_given now (place p (contents now mf (local (declarations_of m) f r)) (address_in now mf (local_address (declarations_of m) f r)) form
-            (subst (λ b. NamesPlace m made st.slots mem b p) (sym mine) names)) refl;
+          (subst (λ b. NamesPlace m made st.slots mem b p) (sym mine) names)) refl;
       there = λ v ne. others_there v ne st.there;
       contents = λ v ne. refl;
       address = λ v ne t form'.
