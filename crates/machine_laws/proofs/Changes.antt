@@ -32,3 +32,7 @@ pub record Changes (m : Module) (made : List Made) (mem : Memory) (st : MachineV
 -- the slots of the machine are the same, but for whether they are full
 abbrev pub SameSlots : MachineView → MachineView → Type 0
 SameSlots st st' = map serial_of st'.slots ≡ map serial_of st.slots
+
+pub record HasChanged (m : Module) (made : List Made) (mem : Memory) (st : MachineView) (mem' : Memory) (numbers' : List Numbers) (st' : MachineView) : Type 0 where
+  pub changes : Changes m made mem st mem' numbers' st'
+  pub slots : SameSlots st st'

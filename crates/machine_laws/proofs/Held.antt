@@ -19,7 +19,7 @@ use Rattle.run_values.specs.Cells as cells
 use Rattle.run_values.specs.Cells.{Cell, cell_count}
 use Rattle.run_values.specs.Leaves.{leaves_of}
 use Rattle.run_values.specs.Memory.{Memory, is_dead, is_dead_phase, object_at}
-use Rattle.run_values.specs.Places.{Place, cells_at, home_cells, is_there, is_there_at, value_at}
+use Rattle.run_values.specs.Places.{Inside, Place, cells_at, home_cells, is_there, is_there_at, value_at}
 use Rattle.run_values.specs.Shapes.{Shape}
 use Rattle.run_values.specs.Values.{Value}
 use Rattle.run_values.specs.declared.leaf.Leaf.{Leaf}
@@ -51,6 +51,13 @@ pub record IsReachable (mem : Memory) (p : Place) : Type 0 where
   pub there : is_there_at mem p ≡ true
   pub alive : find (is_dead mem) (home_references p.home) ≡ None
 
+alive_where : (o : ObjectId) (b : Bool) → cond b (Some o) None ≡ None → b ≡ false
+alive_where o true e = cc
+alive_where o false e = refl
+
+pub home_alive : (mem : Memory) (p : Place) (o : ObjectId) → p.home ≡ Inside o → IsReachable mem p → is_dead mem o ≡ false
+home_alive mem p o e reached = alive_where o (is_dead mem o) (sym (ap (λ h. find (is_dead mem) (home_references h)) e) ∙ reached.alive)
+
 pub data HeldIs (m : Module) (mem : Memory) (p : Place) : Held → Type 0 where
   gone : is_there_at mem p ≡ false → HeldIs m mem p held.Gone
   of_dead : (o : ObjectId) → is_there_at mem p ≡ true → home_references p.home ≡ o ∷ [] → is_dead mem o ≡ true → HeldIs m mem p (held.OfDead o)
@@ -71,6 +78,22 @@ module _ (m : Module) {made : List Made} {mem : Memory} {numbers : List Numbers}
     has_cells : (c : Content) → names.of.content ≡ c → cells_at mem p ≡ take (cell_count p.shape) (drop (cells_before names.of.shape names.path) (cells_in names.of.shape c))
     has_cells c e = slot_cells test made mem st.slots index serial a p names agrees.stack (all_suit agrees.slots)
         ∙ ap (λ d. take (cell_count p.shape) (drop (cells_before names.of.shape names.path) (cells_in names.of.shape d))) e
+
+    -- a slot that is there is open, and where the place is empty, so is it
+
+    pub gone_slot : names.of.content ≡ Gone → is_there_at mem p ≡ false
+    gone_slot e = gone_read mem p (has_cells Gone e ∙ same_cells_read names.part cells.Gone)
+
+    pub slot_open : is_there_at mem p ≡ true → is_open names.of ≡ true
+    slot_open there = by names.of.content refl
+      where
+        by : (c : Content) → names.of.content ≡ c → is_open names.of ≡ true
+        by Gone e = absurd (false≢true (sym (gone_slot e) ∙ there))
+        by Empty e = ap is_open_content e
+        by (Full v) e = ap is_open_content e
+
+    pub empty_slot : names.of.content ≡ Empty → value_at mem p ≡ None
+    empty_slot e = empty_read mem p (has_cells Empty e ∙ same_cells_read names.part cells.Empty)
 
     in_no_object : find (is_dead mem) (home_references p.home) ≡ None
     in_no_object = ap (λ h. find (is_dead mem) (home_references h)) names.home
@@ -108,14 +131,13 @@ module _ (m : Module) {made : List Made} {mem : Memory} {numbers : List Numbers}
         let now = names.now open_ in
         subst InSlot (sym (found_slot st.slots index serial now.0 now.1 now.2)) (open_slot names.of.content refl open_ now.0 now.1 now.2)
     in_slot false closed =
-        let read = has_cells Gone (closed_is_gone names.of.content closed) ∙ same_cells_read names.part cells.Gone in
-        subst InSlot (sym (no_slot agrees.slots index serial names.of names.there closed)) (HeldIs.gone (gone_read mem p read))
+        subst InSlot (sym (no_slot agrees.slots index serial names.of names.there closed)) (HeldIs.gone (gone_slot (closed_is_gone names.of.content closed)))
 
   -- in a field
 
   module _ (o : ObjectId) (k : ℕ) (a : Address) (p : Place) (names : NamesField m mem o k a p) where
-    abbrev Inside : Option HeapObject → Type 0
-    Inside h = HeldIs m mem p (cond (is_dead_phase (phase_told h)) (held.OfDead o) (held_in_field a.from (size_of p.shape) (unwrap_or (slice_get (fields_told h) k) None)))
+    abbrev InField : Option HeapObject → Type 0
+    InField h = HeldIs m mem p (cond (is_dead_phase (phase_told h)) (held.OfDead o) (held_in_field a.from (size_of p.shape) (unwrap_or (slice_get (fields_told h) k) None)))
 
     abbrev ss : List Shape
     ss = field_shapes (shapes_of m) (object_at mem o).class
@@ -142,20 +164,25 @@ module _ (m : Module) {made : List Made} {mem : Memory} {numbers : List Numbers}
         HeldIs.full part.x _ (reached (full_there mem p part.x read) alive) (full_read mem p test part.x part.suit read) part.suit
         (ap (λ n. take (size_of p.shape) (drop n (leaves_of names.field v))) names.from ∙ part.by_leaves)
 
-    in_field : (fields : List (Option (List Leaf))) → is_dead mem o ≡ false → FieldAround test ss k names.field (object_at mem o).cells fields
-        → HeldIs m mem p (held_in_field a.from (size_of p.shape) (unwrap_or (slice_get fields k) None))
-    in_field fields alive around =
+    -- the cells of the place are some of its field's
+    pub field_cells : (fields : List (Option (List Leaf))) (around : FieldAround test ss k names.field (object_at mem o).cells fields)
+        → cells_at mem p ≡ take (cell_count p.shape) (drop (cells_before names.field names.path) around.own)
+    field_cells fields around =
         let off = cells_before names.field names.path in
         let fits = part_cells_fit names.part in
         let size = field_length test names.field around.holds in
         let first : p.first ≡ length around.before + off = names.first ∙ omega (arith, around.count) in
-        let read : cells_at mem p ≡ take (cell_count p.shape) (drop off around.own) =
         object_cells ∙ ap (λ cs. take (cell_count p.shape) (drop p.first cs)) around.now
         ∙ ap (λ n. take (cell_count p.shape) (drop n (around.before ++ (around.own ++ around.behind)))) first
-        ∙ read_within around.before around.own around.behind off (cell_count p.shape) (omega (arith, fits, size)) in
-        subst (λ x. HeldIs m mem p (held_in_field a.from (size_of p.shape) (unwrap_or x None))) (sym around.has) (by_holding alive around.own around.x around.holds read)
+        ∙ read_within around.before around.own around.behind off (cell_count p.shape) (omega (arith, fits, size))
 
-    in_kept : (b : Bool) → is_dead mem o ≡ b → (n : Numbers) (h : HeapObject) → KeptAgrees m test (object_at mem o) n h → Inside (Some h)
+    in_field : (fields : List (Option (List Leaf))) → is_dead mem o ≡ false → FieldAround test ss k names.field (object_at mem o).cells fields
+        → HeldIs m mem p (held_in_field a.from (size_of p.shape) (unwrap_or (slice_get fields k) None))
+    in_field fields alive around =
+        subst (λ x. HeldIs m mem p (held_in_field a.from (size_of p.shape) (unwrap_or x None))) (sym around.has)
+            (by_holding alive around.own around.x around.holds (field_cells fields around))
+
+    in_kept : (b : Bool) → is_dead mem o ≡ b → (n : Numbers) (h : HeapObject) → KeptAgrees m test (object_at mem o) n h → InField (Some h)
     in_kept true dead n h agree =
         subst (λ b. HeldIs m mem p (cond b (held.OfDead o) (held_in_field a.from (size_of p.shape) (unwrap_or (slice_get h.fields k) None))))
         (sym (ap is_dead_phase agree.phase ∙ dead)) (in_dead dead (agree.ended dead).0)
@@ -164,10 +191,10 @@ module _ (m : Module) {made : List Made} {mem : Memory} {numbers : List Numbers}
         (sym (ap is_dead_phase agree.phase ∙ alive))
         (in_field h.fields alive (field_around test ss k names.field (object_at mem o).cells h.fields (agree.fields alive) names.there))
 
-    in_object : Inside (object_in st.heap o)
+    in_object : InField (object_in st.heap o)
     in_object =
         let there = object_there mem numbers st.heap agrees.objects o names.made in
-        object_cases Inside there.agrees (λ dead none. in_dead (ap is_dead_phase dead) none) (in_kept (is_dead mem o) refl (numbers_of numbers o))
+        object_cases InField there.agrees (λ dead none. in_dead (ap is_dead_phase dead) none) (in_kept (is_dead mem o) refl (numbers_of numbers o))
 
   pub held_agrees : (a : Address) (p : Place) → NamesPlace m made st.slots mem a p → HeldIs m mem p (held_at st a (size_of p.shape))
   held_agrees a p (NamesPlace.in_slot index serial at names) =

@@ -55,3 +55,6 @@ pub mod ObjectChanges
 pub mod Rows
 pub mod DropTasks
 pub mod FinishTasks
+pub mod WritingParts
+pub mod WritingInSlots
+pub mod WritingInFields

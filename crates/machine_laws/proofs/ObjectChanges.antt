@@ -19,7 +19,7 @@ use Rattle.sil_ast.specs.declared.place.ObjectId.{ObjectId}
 use Rattle.value_parts.specs.inner.Paths.{cells_before}
 use Rattle.value_parts.specs.inner.Suits.{ClassTest}
 use Rattle.value_parts.proofs.Splices.{put_within}
-use Rattle.machine_laws.proofs.Changes.{Changes, SameFrames, SameSlots}
+use Rattle.machine_laws.proofs.Changes.{HasChanged}
 use Rattle.machine_laws.proofs.Grows.{were_made}
 use Rattle.machine_laws.proofs.GrowsBy.{ObjectsStay, grows_objects}
 use Rattle.machine_laws.proofs.HeldFields.{FieldAround, field_around, field_length}
@@ -29,7 +29,6 @@ use Rattle.machine_laws.proofs.NumbersPut.{object_put}
 use Rattle.machine_laws.proofs.Objects.{FieldHolds, FieldsHold, KeptAgrees, NamesField, ObjectAgrees, is_of_class}
 use Rattle.machine_laws.proofs.PhasesWider.{memory_put}
 use Rattle.machine_laws.proofs.Slots.{Made}
-use Rattle.machine_laws.proofs.StackChanges.{HasChanged}
 
 -- what is the same of an object and of the one put in its place is the same of all objects
 part_put : {B : Type 0} (part : Object → B) (xs : List Object) (k j : ℕ) (x : Object) → part x ≡ part (unwrap_or (slice_get xs k) no_object)

@@ -17,7 +17,7 @@ use Rattle.run_values.specs.declared.leaf.Leaf.{Leaf}
 use Rattle.sil_ast.specs.declared.module.Module.{Module}
 use Rattle.value_parts.specs.inner.Paths.{cells_before}
 use Rattle.value_parts.proofs.Splices.{put_within}
-use Rattle.machine_laws.proofs.Changes.{Changes, SameFrames, SameSlots}
+use Rattle.machine_laws.proofs.Changes.{HasChanged}
 use Rattle.machine_laws.proofs.Grows.{were_made}
 use Rattle.machine_laws.proofs.GrowsBy.{grows_content, objects_stay, serial_of}
 use Rattle.machine_laws.proofs.HeldSlots.{all_suit}
@@ -33,10 +33,6 @@ pub serials_with : (slots : List OpenSlot) (index : ℕ) (slot new : OpenSlot) �
 serials_with [] index slot new e same = refl
 serials_with (s ∷ slots) zero slot new e same = ap (λ n. n ∷ map serial_of slots) (same ∙ ap serial_of (sym (same_Some s slot e)))
 serials_with (s ∷ slots) (suc index) slot new e same = ap (λ ns. s.serial ∷ ns) (serials_with slots index slot new e same)
-
-pub record HasChanged (m : Module) (made : List Made) (mem : Memory) (st : MachineView) (mem' : Memory) (numbers : List Numbers) (st' : MachineView) : Type 0 where
-  pub changes : Changes m made mem st mem' numbers st'
-  pub slots : SameSlots st st'
 
 module _ (m : Module) {made : List Made} {mem : Memory} {numbers : List Numbers} {st : MachineView} (agrees : MemoryAgrees m made mem numbers st)
     (index serial : ℕ) (a : Address) (p : Place) (names : NamesSlot made st.slots index serial a p)
