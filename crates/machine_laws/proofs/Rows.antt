@@ -2,3 +2,4 @@ pub mod Forms
 pub mod Steps
 pub mod Makes
 pub mod Effects
+pub mod Gives
