@@ -3,3 +3,4 @@ pub mod Steps
 pub mod Makes
 pub mod Effects
 pub mod Gives
+pub mod Values
