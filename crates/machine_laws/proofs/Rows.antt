@@ -4,3 +4,4 @@ pub mod Makes
 pub mod Effects
 pub mod Gives
 pub mod Values
+pub mod Residues
