@@ -7,3 +7,4 @@ pub mod Values
 pub mod Residues
 pub mod Integers
 pub mod Computing
+pub mod Groups
