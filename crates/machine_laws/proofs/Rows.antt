@@ -8,3 +8,4 @@ pub mod Residues
 pub mod Integers
 pub mod Computing
 pub mod Groups
+pub mod Choices

@@ -96,46 +96,8 @@ module _ {m : Module} {made : List Made} {mem : Memory} {st : MachineView} (f : 
             ap (λ ls. ls ++ flat_map (contents st mf) (map (local (declarations_of m) f) vs)) first.3 ∙ ap (λ ls. leaves_of s first.0 ++ ls) others.leaves;
       }
 
--- the shape that a run has of a value is the one in its form
-
-shape_by : (d : Declarations) (t : Option TypeName) (g : Option FuncId) (s : Shape) → form_by d t g ≡ OfValue s → value_shape d t ≡ s
-shape_by d None None s e = absurd (cc)
-shape_by d None (Some g) s e = absurd (cc)
-shape_by d (Some t) g s e = by_target (target t) e
-  where
-    by_target : (u : Option TypeName) → form_with d t u ≡ OfValue s → shape_of d (unwrap_or u t) ≡ s
-    by_target None is = cc
-    by_target (Some u) is = absurd (cc)
-
-shape_told : (m : Module) (g : FuncId) (f : Function) → slice_get m.functions g.0 ≡ Some f → (v : ValueId) (s : Shape) → form_of (declarations_of m) f v ≡ OfValue s
-    → shape_at (shapes_in (shapes_of m) g) v ≡ s
-shape_told m g f there v s form =
-    ap (λ o. shape_at (unwrap_or o []) v) (slice_get-map (function_shapes (declarations_of m)) m.functions g.0 ∙ ap (option_map (function_shapes (declarations_of m))) there)
-    ∙ ap (λ o. unwrap_or o Unknown) (slice_get-map (value_shape (declarations_of m)) (value_types (declarations_of m) f) v.0)
-    ∙ by_type (slice_get (value_types (declarations_of m) f) v.0) refl
-  where
-    by_type : (t : Option (Option TypeName)) → slice_get (value_types (declarations_of m) f) v.0 ≡ t
-        → unwrap_or (option_map (value_shape (declarations_of m)) t) Unknown ≡ s
-    by_type t e =
-        at t (shape_by (declarations_of m) (unwrap_or t None) (function_at (value_functions f) v.0) s
-        (ap (λ o. form_by (declarations_of m) (unwrap_or o None) (function_at (value_functions f) v.0)) (sym e) ∙ form))
-      where
-        at : (t : Option (Option TypeName)) → value_shape (declarations_of m) (unwrap_or t None) ≡ s → unwrap_or (option_map (value_shape (declarations_of m)) t) Unknown ≡ s
-        at None is = is
-        at (Some t) is = is
-
-same_value_form : (s t : Shape) → OfValue s ≡ OfValue t → s ≡ t
+pub same_value_form : (s t : Shape) → OfValue s ≡ OfValue t → s ≡ t
 same_value_form s t e = cc
-
--- a choice without a payload, and with one
-
-PlainChoice : (m : Module) (i : Inst) → List Form → Type 0
-PlainChoice m i outs =
-    (s : Shape) × (k : ℕ) × (c : CaseLayer Shape) × (case_place s i.member ≡ Some k) × (slice_get (case_shapes s) k ≡ Some c) × (c.payload ≡ None) × (outs ≡ OfValue s ∷ [])
-
-FullChoice : (m : Module) (i : Inst) → Form → List Form → Type 0
-FullChoice m i form outs = (s : Shape) × (t : Shape) × (k : ℕ) × (c : CaseLayer Shape) × (case_place s i.member ≡ Some k) × (slice_get (case_shapes s) k ≡ Some c)
-    × (c.payload ≡ Some t) × (form ≡ OfValue t) × (outs ≡ OfValue s ∷ [])
 
 module _ {m : Module} {entry : Shape} (r : Runs m entry) where
   pub group_alike : (u : ValueId) → effect_of r.i.op ≡ row.Groups → r.i.results ≡ u ∷ []
