@@ -6,6 +6,7 @@ use Rattle.std.proofs.lemmas.Bool.{cond-false, cond-true, eq-eqb, ne_eqb}
 use Rattle.std.proofs.lemmas.List.{length-append, length-drop, length-reverse, length-take-le, reverse-append, take-append-drop}
 use Rattle.holder_model.specs.States as low
 use Rattle.lowered_run.specs.LowFrames.{LowFrame}
+use Rattle.lowered_run.specs.LowStepParts.{LowState}
 use Rattle.machine_steps.specs.declared.frame.Task.{Task}
 use Rattle.machine_steps.specs.declared.frame.Task.TheVariants as task
 use Rattle.machine_steps.specs.Steps.{still_dropping}
@@ -17,11 +18,13 @@ use Rattle.run_values.specs.Shapes.{Shape}
 use Rattle.sil_ast.specs.declared.module.Module.{Module}
 use Rattle.sil_ast.specs.declared.place.ObjectId.{ObjectId}
 use Rattle.sil_cfg.proofs.Gets.{last_get}
-use Rattle.machine_laws.proofs.Agreement.{ends_of}
+use Rattle.machine_laws.proofs.Agreement.{Agrees, PartsAgree, ends_of}
+use Rattle.machine_laws.proofs.Ending.{memory_moves}
 use Rattle.machine_laws.proofs.Entries.{Ends}
-use Rattle.machine_laws.proofs.Grows.{Grows, WereMade}
+use Rattle.machine_laws.proofs.Grows.{Grows, WereMade, were_made}
 use Rattle.machine_laws.proofs.GrowsBy.{grows_itself, grows_objects, objects_stay, serial_of}
-use Rattle.machine_laws.proofs.GrowsTasks.{KeepsBelow, keeps_slots, tasks_keep}
+use Rattle.machine_laws.proofs.GrowsSame.{dropping_agrees}
+use Rattle.machine_laws.proofs.GrowsTasks.{keeps_slots, tasks_keep}
 use Rattle.machine_laws.proofs.Slots.{Made}
 use Rattle.machine_laws.proofs.Tasks.{ReadyFor, TasksAgree, dropped, drops, to_go_on}
 
@@ -77,20 +80,32 @@ tasks_move {m = m} {mem = mem} {st = st} {st' = st'} {ends = ends} were there le
     tasks_keep (grows_objects were (objects_stay mem mem refl) (ap (map serial_of) slots))
     (keeps_slots ends st st' there leaves addresses waiting (ap (map serial_of) slots)) (λ o now. refl) tasks
 
-more_keep : (st : MachineView) (os : List ObjectId) (ts : List Task) → KeepsBelow (ends_of st) st (record st { waiting = st.waiting ++ os; tasks = ts })
-more_keep st os ts = record { there = refl; leaves = refl; addresses = refl; serials = refl; waiting = take-append_seam st.waiting os ∙ sym (take-length st.waiting) }
+parts_dropping : {m : Module} {made : List Made} {s : LowState} (st : MachineView) → PartsAgree m made s st → (os : List ObjectId) → PartsAgree m made s (dropping os st)
+parts_dropping st parts [] = parts
+parts_dropping st parts (o ∷ os) = record {
+  memory = memory_moves parts.memory refl refl refl refl;
+  events = parts.events;
+  turns = parts.turns;
+  retains = parts.retains;
+  releases = parts.releases;
+}
 
--- references begin to wait
-pub dropping_agrees : {m : Module} {entry : Shape} {made : List Made} {mem : Memory} (st : MachineView) → WereMade made st.slots → (os : List ObjectId) (ts : List (low.Task LowFrame))
-    → TasksAgree m entry made mem st to_go_on (ends_of st) ts st.tasks
-    → TasksAgree m entry made mem (dropping os st) to_go_on (ends_of (dropping os st)) (low.dropping os ts) (dropping os st).tasks
-dropping_agrees st were [] ts tasks = tasks
-dropping_agrees {mem = mem} st were (o ∷ os) ts tasks =
-    drops o os (ends_of st) (ends_of (dropping (o ∷ os) st)) ts st.tasks
-    (ap (λ n. record (ends_of st) { waiting = n }) (length-append st.waiting (reverse (o ∷ os)) ∙ ap (λ n. length st.waiting + n) (length-reverse (o ∷ os))))
-    (ap (take (length (o ∷ os))) (drop-append_seam st.waiting (reverse (o ∷ os))) ∙ ap (λ n. take n (reverse (o ∷ os))) (sym (length-reverse (o ∷ os)))
-      ∙ take-length (reverse (o ∷ os)))
-    (tasks_keep {st = st} {st' = dropping (o ∷ os) st} (grows_itself were mem) (more_keep st (reverse (o ∷ os)) (dropping (o ∷ os) st).tasks) (λ p now. refl) tasks)
+-- references begin to wait in both
+pub both_dropping : {m : Module} {entry : Shape} {made : List Made} {s : LowState} {st : MachineView} → Agrees m entry made s st → (os : List ObjectId)
+    → Agrees m entry made (record s { tasks = low.dropping os s.tasks }) (dropping os st)
+both_dropping {m = m} {made = made} {s = s} {st = st} agrees os = record {
+  parts = record {
+    memory = moved.memory;
+    events = moved.events;
+    turns = moved.turns;
+    retains = moved.retains;
+    releases = moved.releases;
+  };
+  tasks = dropping_agrees (were_made agrees.parts.memory.slots) os agrees.tasks;
+}
+  where
+    moved : PartsAgree m made s (dropping os st)
+    moved = parts_dropping st agrees.parts os
 
 -- the next reference leaves
 module _ (ready : ReadyModule) (bound : ℕ) where

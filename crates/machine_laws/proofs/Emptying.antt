@@ -43,7 +43,7 @@ use Rattle.machine_laws.proofs.Objects.{FieldHolds, KeptAgrees, NamesField, is_o
 use Rattle.machine_laws.proofs.Slots.{Empty, Full, Made, NamesSlot, made_cells}
 use Rattle.machine_laws.proofs.Stack.{content_length}
 use Rattle.machine_laws.proofs.StackChanges.{slot_changed}
-use Rattle.machine_laws.proofs.WritingParts.{whole_emptied}
+use Rattle.machine_laws.proofs.WritingParts.{whole_same}
 
 -- no storage lies within a slot or a field: it is the whole
 
@@ -86,7 +86,7 @@ module _ (m : Module) (typed : RunTyped m) {made : List Made} {mem : Memory} {nu
       let part = part_cells_fit names.part in
       subst (λ o. HasChanged m made mem st (emptied mem p) numbers (empty_slot st index o)) (sym (found_slot st.slots index serial now.0 now.1 now.2))
           (slot_changed m agrees index serial a p names now.0 now.1 now.2 opened Empty refl (λ v e. absurd (cc)) new (omega (arith, part, length-replicate (cell_count p.shape) cells.Empty))
-          (whole_emptied names.part whole (made_cells names.of) count) st.slot_leaves (record { count = refl; apart = λ i n away. refl }) (λ v e. absurd (cc)))
+          (whole_same names.part whole cells.Empty (made_cells names.of) count) st.slot_leaves (record { count = refl; apart = λ i n away. refl }) (λ v e. absurd (cc)))
 
   module _ (o : ObjectId) (k : ℕ) (names : NamesField m mem o k a p) where
     alive : is_dead mem o ≡ false
@@ -103,7 +103,7 @@ module _ (m : Module) (typed : RunTyped m) {made : List Made} {mem : Memory} {nu
         let part = part_cells_fit names.part in
         subst (λ x. HasChanged m made mem st (emptied mem p) numbers (record st { heap = with_object_in st.heap o (option_map (with_field_of k None) x) })) (sym there)
             (field_changed m agrees o k a p names alive h there around new (omega (arith, part, length-replicate (cell_count p.shape) cells.Empty)) None
-            (subst (λ cs. FieldHolds test names.field cs None) (sym (whole_emptied names.part whole around.own (field_length test names.field around.holds))) FieldHolds.unwritten))
+            (subst (λ cs. FieldHolds test names.field cs None) (sym (whole_same names.part whole cells.Empty around.own (field_length test names.field around.holds))) FieldHolds.unwritten))
 
     in_field : HasChanged m made mem st (emptied mem p) numbers (record st { heap = without_field st.heap o k })
     in_field =

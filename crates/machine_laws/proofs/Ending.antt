@@ -4,9 +4,11 @@ use Rattle.std.proofs.lemmas.Bool.{cond-false, cond-true}
 use Rattle.holder_model.specs.Outcomes.{Numbers}
 use Rattle.holder_model.specs.States as low
 use Rattle.holder_model.specs.States.{Ending, Faulted, OutOfTurns}
+use Rattle.lowered_run.specs.LowFrames.{LowFrame}
 use Rattle.lowered_run.specs.LowOutcomes.{low_left_by, low_outcome_at}
 use Rattle.lowered_run.specs.LowStepParts.{LowNext, LowState, fails}
 use Rattle.lowered_run.specs.declared.low_fault.LowFault.{LowFault}
+use Rattle.machine_steps.specs.declared.frame.Task.{Task}
 use Rattle.machine_steps.specs.Operands.{faults}
 use Rattle.machine_steps.specs.Turning.{turn}
 use Rattle.machine_steps.specs.Views.{Goes, MachineView, Stops, Went}
@@ -56,6 +58,17 @@ memory_moves {m = m} {made = made} {mem = mem} {numbers = numbers} {st = st} {st
   slots = rw (slots, leaves) a.slots;
   objects = rw heap a.objects;
   declared = rw heap a.declared;
+}
+
+-- all but the tasks agrees whatever the tasks are
+pub parts_with : {m : Module} {made : List Made} {s : LowState} {st : MachineView} → PartsAgree m made s st → (ts : List (low.Task LowFrame)) (ts' : List Task)
+    → PartsAgree m made (record s { tasks = ts }) (record st { tasks = ts' })
+parts_with parts ts ts' = record {
+  memory = memory_moves parts.memory refl refl refl refl;
+  events = parts.events;
+  turns = parts.turns;
+  retains = parts.retains;
+  releases = parts.releases;
 }
 
 -- a turn

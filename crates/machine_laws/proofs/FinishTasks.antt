@@ -2,7 +2,6 @@
 use Rattle.std.proofs.Common.{◌≡◌, ◌<◌, ◌==◌, ◌||◌, ◌⊎◌, ◌∙◌, inl, inr, ℕ, List, Bool, true, false, length, map, refl, sym, ap, subst, arith}
 use Rattle.std.specs.Prelude.{set, slice_get, unwrap_or}
 use Rattle.std.proofs.lemmas.Bool.{cases_eq, eq-eqb, eqb-true, false≢true, or_cases, true≢false}
-use Rattle.std.proofs.lemmas.List.{length-set}
 use Rattle.holder_model.specs.Outcomes.{object_number}
 use Rattle.holder_model.specs.States as low
 use Rattle.lowered_run.specs.LowFrames.{LowFrame}
@@ -15,7 +14,7 @@ use Rattle.sil_ast.specs.declared.module.Module.{Module}
 use Rattle.sil_ast.specs.declared.place.ObjectId.{ObjectId}
 use Rattle.machine_laws.proofs.Entries.{Ends}
 use Rattle.machine_laws.proofs.Grows.{WereMade}
-use Rattle.machine_laws.proofs.GrowsBy.{ObjectsStay, grows_objects, serial_of}
+use Rattle.machine_laws.proofs.GrowsBy.{grows_objects, object_changed}
 use Rattle.machine_laws.proofs.GrowsTasks.{PhasesStay, keeps_itself, tasks_keep}
 use Rattle.machine_laws.proofs.LayoutsLists.{get_set}
 use Rattle.machine_laws.proofs.NumbersPut.{get_put_other}
@@ -56,15 +55,6 @@ object_there mem o x below = ap (λ y. unwrap_or y no_object) (get_set mem.objec
 other_object : (mem : Memory) (o p : ObjectId) (x : Object) → (o.0 ≡ p.0 → ⊥) → object_at (with_object mem o x) p ≡ object_at mem p
 other_object mem o p x ne = ap (λ y. unwrap_or y no_object) (get_put_other mem.objects o.0 p.0 x ne)
 
-pub put_stays : (mem : Memory) (o : ObjectId) (x : Object) → x.class ≡ (object_at mem o).class → ObjectsStay mem (with_object mem o x)
-put_stays mem o x same = record { objects = omega (arith, length-set mem.objects o.0 x); classes = λ p below. at p below (cases_eq o.0 p.0) }
-  where
-    at : (p : ObjectId) → p.0 < length mem.objects → (o.0 ≡ p.0) ⊎ (o.0 ≡ p.0 → ⊥) → (object_at (with_object mem o x) p).class ≡ (object_at mem p).class
-    at p below (inl e) =
-        subst (λ q. q.0 < length mem.objects → (object_at (with_object mem o x) q).class ≡ (object_at mem q).class) (same_object o p e)
-        (λ there. ap (λ y. y.class) (object_there mem o x there) ∙ same) below
-    at p below (inr ne) = ap (λ y. y.class) (other_object mem o p x ne)
-
 phases_put : (mem : Memory) (o : ObjectId) (x : Object) (ts : List Task) → is_finishing o ts ≡ false → PhasesStay mem (with_object mem o x) ts
 phases_put mem o x ts not_now p now = at (cases_eq o.0 p.0)
   where
@@ -76,4 +66,4 @@ pub tasks_put : {m : Module} {entry : Shape} {made : List Made} {mem : Memory} {
     → WereMade made st.slots → (o : ObjectId) (x : Object) → x.class ≡ (object_at mem o).class → is_finishing o ts' ≡ false
     → TasksAgree m entry made mem st r ends ts ts' → TasksAgree m entry made (with_object mem o x) st r ends ts ts'
 tasks_put {mem = mem} {st = st} {ends = ends} {ts' = ts'} were o x same not_now tasks =
-    tasks_keep {st = st} {st' = st} (grows_objects were (put_stays mem o x same) refl) (keeps_itself ends st) (phases_put mem o x ts' not_now) tasks
+    tasks_keep {st = st} {st' = st} (grows_objects were (object_changed mem o x same) refl) (keeps_itself ends st) (phases_put mem o x ts' not_now) tasks

@@ -78,15 +78,22 @@ is_call (op.Call g operands values addresses to) = true
 is_call (op.CallOut g operands args to) = true
 
 -- values are read by both alike
-pub reads_alike : {m : Module} {entry : Shape} {made : List Made} {s : LowState} {st : MachineView} {f : Function} {lf : LowFrame} {mf : Frame} {below above : Ends}
+
+pub reads_known : {m : Module} {entry : Shape} {made : List Made} {s : LowState} {st : MachineView} {f : Function} {lf : LowFrame} {mf : Frame} {below above : Ends}
     → PartsAgree m made s st → FrameAgrees m made s.memory st f lf mf below above → (vs : List ValueId) → Each (IsOf f) vs → (go : List Datum → LowNext) (w : Went)
-    → ((xs : List Datum) → AllRead m made s.memory st f mf vs xs → Alike m entry (go xs) w) → Alike m entry (on_ok s go (read_all lf.values vs)) (with_all st mf vs w)
-reads_alike {m = m} {entry = entry} {made = made} {s = s} {st = st} {f = f} {lf = lf} {mf = mf} parts frame vs are_of go w then =
+    → ((xs : List Datum) → AllRead m made s.memory st f mf vs xs → read_all lf.values vs ≡ Ok xs → Alike m entry (go xs) w)
+    → Alike m entry (on_ok s go (read_all lf.values vs)) (with_all st mf vs w)
+reads_known {m = m} {entry = entry} {made = made} {s = s} {st = st} {f = f} {lf = lf} {mf = mf} parts frame vs are_of go w then =
     at (operands_read m made s.memory st frame vs are_of)
   where
     at : OperandsRead m made s.memory st f lf mf vs → Alike m entry (on_ok s go (read_all lf.values vs)) (with_all st mf vs w)
     at (missing v found err) = alike_by (ap (on_ok s go) err) (ap (λ x. unless_missing x st w) found) (fault_alike parts (fault.Missing v))
-    at (read xs found ok all) = alike_by (ap (on_ok s go) ok) (ap (λ x. unless_missing x st w) found) (then xs all)
+    at (read xs found ok all) = alike_by (ap (on_ok s go) ok) (ap (λ x. unless_missing x st w) found) (then xs all ok)
+
+pub reads_alike : {m : Module} {entry : Shape} {made : List Made} {s : LowState} {st : MachineView} {f : Function} {lf : LowFrame} {mf : Frame} {below above : Ends}
+    → PartsAgree m made s st → FrameAgrees m made s.memory st f lf mf below above → (vs : List ValueId) → Each (IsOf f) vs → (go : List Datum → LowNext) (w : Went)
+    → ((xs : List Datum) → AllRead m made s.memory st f mf vs xs → Alike m entry (go xs) w) → Alike m entry (on_ok s go (read_all lf.values vs)) (with_all st mf vs w)
+reads_alike parts frame vs are_of go w then = reads_known parts frame vs are_of go w (λ xs all ok. then xs all)
 
 -- an instruction reads its operands, and then it does by them what the machine does
 module _ (m : Module) (ready : ReadyModule) (entry : Shape) (bound : ℕ) (typed : RunTyped m) (made : List Made) (s : LowState) (st : MachineView) (f : Function) (lf : LowFrame)
