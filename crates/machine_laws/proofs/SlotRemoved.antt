@@ -2,7 +2,7 @@
 use Rattle.std.proofs.Common.{◌≡◌, ◌≤◌, ◌<◌, ◌+◌, ◌&&◌, ◌==◌, ◌⊎◌, inl, inr, ℕ, zero, suc, List, [], ◌∷◌, Bool, Option, Some, None, Ok, Err, true, false, cond, not, length, map, set, take, sum, refl, sym, ap, ◌∙◌, subst, arith}
 use Rattle.std.specs.Prelude.{nat_le, replicate, slice_get}
 use Rattle.std.proofs.lemmas.Bool.{and_from, and_left, and_right, cases_eq, cases_lt, eq-eqb, false≢true, le-leb, lt-leb, ne_eqb}
-use Rattle.std.proofs.lemmas.List.{length-replicate, length-set}
+use Rattle.std.proofs.lemmas.List.{length-replicate, length-set, take-take}
 use Rattle.std.proofs.lemmas.List.Sums.{sum_by-cons}
 use Rattle.std.proofs.lemmas.Option.{same_Some, slice_get_within}
 use Rattle.holder_model.specs.Effects.{ClosesSlot}
@@ -34,7 +34,8 @@ use Rattle.value_parts.proofs.Paths.{part_cells_fit}
 use Rattle.machine_laws.proofs.Changes.{Changes}
 use Rattle.machine_laws.proofs.Entries.{Ends}
 use Rattle.machine_laws.proofs.Grows.{were_made}
-use Rattle.machine_laws.proofs.GrowsBy.{grows_gone, objects_stay}
+use Rattle.machine_laws.proofs.GrowsBy.{grows_gone, objects_stay, serial_of}
+use Rattle.machine_laws.proofs.GrowsTasks.{KeepsBelow}
 use Rattle.machine_laws.proofs.HeldSlots.{all_suit, found_slot, no_slot}
 use Rattle.machine_laws.proofs.Memories.{MemoryAgrees, NamesPlace}
 use Rattle.machine_laws.proofs.Objects.{NamesField, is_of_class}
@@ -212,3 +213,13 @@ module _ (m : Module) {made : List Made} {mem : Memory} {numbers : List Numbers}
       same_part : NamesPlace m made st.slots mem a p → p.is_part ≡ a.is_part
       same_part (NamesPlace.in_slot index serial at names) = sym names.parts
       same_part (NamesPlace.in_field o k at names) = sym names.parts
+
+-- what lies below stays
+pub slot_removed_keeps : (st : MachineView) (index : ℕ) (slot : OpenSlot) (ends : Ends) → ends.slots ≤ index → KeepsBelow ends st (without_slot st index slot)
+slot_removed_keeps st index slot ends low = record {
+  there = refl;
+  leaves = refl;
+  addresses = refl;
+  serials = ap (map serial_of) (take-take ends.slots index st.slots low);
+  waiting = refl;
+}
