@@ -1,5 +1,5 @@
 -- A new slot in the machine is one in the run.
-use Rattle.std.proofs.Common.{◌≡◌, ◌≤◌, ◌+◌, ◌++◌, ℕ, suc, List, [], ◌∷◌, Some, true, false, length, map, sum, refl, sym, ap, ◌∙◌, arith}
+use Rattle.std.proofs.Common.{◌≡◌, ◌≤◌, ◌+◌, ◌++◌, ℕ, suc, List, [], ◌∷◌, Some, false, length, map, sum, refl, sym, ap, ◌∙◌, arith}
 use Rattle.std.specs.Prelude.{option_map, slice_get, unwrap_or}
 use Rattle.std.proofs.lemmas.List.{flat_map_more, length-append, length_push, take-append-le, take_at}
 use Rattle.std.proofs.lemmas.List.Sums.{sum_by-cons}
