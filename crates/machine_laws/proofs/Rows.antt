@@ -9,3 +9,4 @@ pub mod Integers
 pub mod Computing
 pub mod Groups
 pub mod Choices
+pub mod Addresses
