@@ -65,6 +65,7 @@ pub mod WritingSlots
 pub mod WritingLeaves
 pub mod StackChanges
 pub mod ObjectChanges
+pub mod Rows
 pub mod WritingParts
 pub mod WritingInSlots
 pub mod WritingInFields

@@ -1,7 +1,7 @@
 -- A new slot in the machine is one in the run.
-use Rattle.std.proofs.Common.{◌≡◌, ◌+◌, ◌++◌, ℕ, suc, List, [], ◌∷◌, Some, true, false, length, map, sum, refl, sym, ap, ◌∙◌, arith}
+use Rattle.std.proofs.Common.{◌≡◌, ◌≤◌, ◌+◌, ◌++◌, ℕ, suc, List, [], ◌∷◌, Some, false, length, map, sum, refl, sym, ap, ◌∙◌, arith}
 use Rattle.std.specs.Prelude.{option_map, slice_get, unwrap_or}
-use Rattle.std.proofs.lemmas.List.{flat_map_more, length-append, length_push, take_at}
+use Rattle.std.proofs.lemmas.List.{flat_map_more, length-append, length_push, take-append-le, take_at}
 use Rattle.std.proofs.lemmas.List.Sums.{sum_by-cons}
 use Rattle.holder_model.specs.Outcomes.{Numbers}
 use Rattle.machine_steps.specs.declared.frame.Frame.{Frame}
@@ -18,8 +18,10 @@ use Rattle.sil_ast.specs.declared.module.Module.{Module}
 use Rattle.value_parts.specs.inner.Paths.{IsPart}
 use Rattle.value_parts.specs.inner.Suits.{ClassTest}
 use Rattle.machine_laws.proofs.Changes.{Changes}
+use Rattle.machine_laws.proofs.Entries.{Ends}
 use Rattle.machine_laws.proofs.Grows.{were_made}
-use Rattle.machine_laws.proofs.GrowsBy.{grows_made, objects_stay}
+use Rattle.machine_laws.proofs.GrowsBy.{grows_made, objects_stay, serial_of}
+use Rattle.machine_laws.proofs.GrowsTasks.{KeepsBelow}
 use Rattle.machine_laws.proofs.HeldSlots.{all_suit}
 use Rattle.machine_laws.proofs.Memories.{MemoryAgrees, NamesPlace}
 use Rattle.machine_laws.proofs.ObjectMade.{pushed_last}
@@ -110,3 +112,13 @@ module _ (m : Module) {made : List Made} {mem : Memory} {numbers : List Numbers}
 module _ (m : Module) {made : List Made} {mem : Memory} {numbers : List Numbers} {st : MachineView} (agrees : MemoryAgrees m made mem numbers st) (fr : Frame) (rest : List Task) where
   pub slot_made : (w : Storage) (s : Shape) → FieldShapeIs w s → MakesSlot m made mem numbers st fr rest s
   slot_made w s is = makes m agrees fr rest w s is
+
+-- what lies below stays
+pub slot_made_keeps : (st : MachineView) (fr : Frame) (rest : List Task) (size : ℕ) (ends : Ends) → ends.slots ≤ length st.slots → KeepsBelow ends st (with_slot st fr rest size)
+slot_made_keeps st fr rest size ends low = record {
+  there = refl;
+  leaves = refl;
+  addresses = refl;
+  serials = ap (map serial_of) (take-append-le ends.slots st.slots (new_slot st fr rest ∷ []) low);
+  waiting = refl;
+}

@@ -1,8 +1,9 @@
 -- The newest slot of a frame goes in the machine as in the run; what is no such slot is a fault in both.
-use Rattle.std.proofs.Common.{◌≡◌, ◌≤◌, ◌<◌, ◌+◌, ◌&&◌, ◌==◌, ◌⊎◌, inl, inr, ℕ, zero, suc, List, [], ◌∷◌, Bool, Option, Some, None, Ok, Err, true, false, cond, not, length, map, set, take, sum, refl, sym, ap, ◌∙◌, subst, arith}
+use Rattle.std.proofs.Common.{◌≡◌, ◌≤◌, ◌<◌, ◌+◌, ◌&&◌, ◌==◌, ◌⊎◌, inl, inr}
+use Rattle.std.proofs.Common.{ℕ, zero, suc, List, [], ◌∷◌, Bool, Some, Ok, Err, true, false, cond, not, length, map, set, take, refl, sym, ap, ◌∙◌, subst, arith}
 use Rattle.std.specs.Prelude.{nat_le, replicate, slice_get}
 use Rattle.std.proofs.lemmas.Bool.{and_from, and_left, and_right, cases_eq, cases_lt, eq-eqb, false≢true, le-leb, lt-leb, ne_eqb}
-use Rattle.std.proofs.lemmas.List.{length-replicate, length-set}
+use Rattle.std.proofs.lemmas.List.{length-replicate, length-set, take-take}
 use Rattle.std.proofs.lemmas.List.Sums.{sum_by-cons}
 use Rattle.std.proofs.lemmas.Option.{same_Some, slice_get_within}
 use Rattle.holder_model.specs.Effects.{ClosesSlot}
@@ -12,8 +13,6 @@ use Rattle.lowered_run.specs.declared.low_fault.LowFault.TheVariants as fault
 use Rattle.lowered_run.specs.LowFrames.{LowFrame}
 use Rattle.lowered_run.specs.LowStepParts.{slots_behind}
 use Rattle.machine_steps.specs.declared.address.Address.{Address}
-use Rattle.machine_steps.specs.declared.address.Home.{Home}
-use Rattle.machine_steps.specs.declared.address.Home.TheVariants as home
 use Rattle.machine_steps.specs.declared.address.OpenSlot.{OpenSlot}
 use Rattle.machine_steps.specs.declared.frame.Frame.{Frame}
 use Rattle.machine_steps.specs.declared.frame.Task.{Task}
@@ -24,8 +23,7 @@ use Rattle.machine_steps.specs.Views.{MachineView, Went}
 use Rattle.run_values.specs.Cells as cells
 use Rattle.run_values.specs.Cells.{cell_count}
 use Rattle.run_values.specs.Memory.{Memory, put_cells}
-use Rattle.run_values.specs.Places.{Inside, OnStack, Place, home_cells, removed, with_home_cells}
-use Rattle.run_values.specs.Places as places
+use Rattle.run_values.specs.Places.{Inside, Place, home_cells, removed, with_home_cells}
 use Rattle.sil_ast.specs.declared.module.Module.{Module}
 use Rattle.sil_ast.specs.declared.place.ObjectId.{ObjectId}
 use Rattle.value_parts.specs.inner.Paths.{cells_before}
@@ -34,10 +32,11 @@ use Rattle.value_parts.proofs.Paths.{part_cells_fit}
 use Rattle.machine_laws.proofs.Changes.{Changes}
 use Rattle.machine_laws.proofs.Entries.{Ends}
 use Rattle.machine_laws.proofs.Grows.{were_made}
-use Rattle.machine_laws.proofs.GrowsBy.{grows_gone, objects_stay}
+use Rattle.machine_laws.proofs.GrowsBy.{grows_gone, objects_stay, serial_of}
+use Rattle.machine_laws.proofs.GrowsTasks.{KeepsBelow}
 use Rattle.machine_laws.proofs.HeldSlots.{all_suit, found_slot, no_slot}
 use Rattle.machine_laws.proofs.Memories.{MemoryAgrees, NamesPlace}
-use Rattle.machine_laws.proofs.Objects.{NamesField, is_of_class}
+use Rattle.machine_laws.proofs.Objects.{is_of_class}
 use Rattle.machine_laws.proofs.PushesSlots.{NewestSlot}
 use Rattle.machine_laws.proofs.Slots.{Gone, Made, NamesSlot, first_cell, is_open, made_cells, made_width, slot_place, stack_of}
 use Rattle.machine_laws.proofs.SlotsGone.{slots_agree_without}
@@ -111,18 +110,18 @@ module _ (m : Module) {made : List Made} {mem : Memory} {numbers : List Numbers}
         let low = slice_get_within made serial names.of names.there in
         let high = slice_get_within made slot.serial right.of right.there in
         let apart : p.first == first_cell made slot.serial ≡ false =
-            ne_eqb p.first (first_cell made slot.serial) (λ e. other (one_cell_one_slot made serial slot.serial (omega (arith, low)) (omega (arith, high)) (sym first_is ∙ e))) in
+        ne_eqb p.first (first_cell made slot.serial) (λ e. other (one_cell_one_slot made serial slot.serial (omega (arith, low)) (omega (arith, high)) (sym first_is ∙ e))) in
         ap (slots_behind (ClosesSlot p)) own
         ∙ ap (λ b. cond b (Ok older) (Err fault.Slot))
-            (and_right (on_stack p.home) (not p.is_part && p.first == first_cell made slot.serial) (and_right (not p.is_part) (p.first == first_cell made slot.serial) apart))
+        (and_right (on_stack p.home) (not p.is_part && p.first == first_cell made slot.serial) (and_right (not p.is_part) (p.first == first_cell made slot.serial) apart))
 
     is_newest : (slot : OpenSlot) (older : List Place) → lf.slots ≡ slot_place made slot ∷ older → slot.serial ≡ serial → slots_behind (ClosesSlot p) lf.slots ≡ Ok older
     is_newest slot older own same =
         ap (slots_behind (ClosesSlot p)) own
         ∙ ap (λ b. cond b (Ok older) (Err fault.Slot))
-            (and_from (on_stack p.home) (not p.is_part && p.first == first_cell made slot.serial) (ap on_stack names.home)
-            (and_from (not p.is_part) (p.first == first_cell made slot.serial) (ap not not_part)
-            (eq-eqb p.first (first_cell made slot.serial) (first_is ∙ ap (first_cell made) (sym same)))))
+        (and_from (on_stack p.home) (not p.is_part && p.first == first_cell made slot.serial) (ap on_stack names.home)
+        (and_from (not p.is_part) (p.first == first_cell made slot.serial) (ap not not_part)
+        (eq-eqb p.first (first_cell made slot.serial) (first_is ∙ ap (first_cell made) (sym same)))))
 
     closed_is_none : is_open names.of ≡ false → NewestSlot made st lf below → slots_behind (ClosesSlot p) lf.slots ≡ Err fault.Slot
     closed_is_none closed (NewestSlot.none e whole) = none_own e
@@ -151,7 +150,7 @@ module _ (m : Module) {made : List Made} {mem : Memory} {numbers : List Numbers}
           let part = part_cells_fit names.part in
           let count = content_length (is_of_class m mem) names.of.shape names.of.content (all_suit agrees.slots serial names.of names.there) in
           stack_with (is_of_class m mem) made mem st.slots index serial a p names agrees.stack (all_suit agrees.slots) Gone new
-              (omega (arith, part, length-replicate (cell_count p.shape) cells.Gone)) (whole_same names.part (names.whole not_part) cells.Gone (made_cells names.of) count)
+          (omega (arith, part, length-replicate (cell_count p.shape) cells.Gone)) (whole_same names.part (names.whole not_part) cells.Gone (made_cells names.of) count)
           ∙ ap (λ n. stack_of (set made n gone)) (sym same)
 
       goes_so : index + 1 ≡ length st.slots → Changes m made mem st (removed mem p) numbers (without_slot st index slot)
@@ -180,7 +179,7 @@ module _ (m : Module) {made : List Made} {mem : Memory} {numbers : List Numbers}
           subst Removed (sym (and_left (index + 1 == length st.slots) (nat_le fr.slots index) (ne_eqb (index + 1) (length st.slots) not_last))) (RemovesIs.faulted (none_own e))
       open_slot (inr not_last) (NewestSlot.newest i next older last low there own) =
           subst Removed (sym (and_left (index + 1 == length st.slots) (nat_le fr.slots index) (ne_eqb (index + 1) (length st.slots) not_last)))
-              (RemovesIs.faulted (other_newest i next older there own (other_place i next there (λ e. not_last (ap (λ n. n + 1) e ∙ last)))))
+          (RemovesIs.faulted (other_newest i next older there own (other_place i next there (λ e. not_last (ap (λ n. n + 1) e ∙ last)))))
       open_slot (inl is_last) (NewestSlot.none e whole) =
           subst Removed (sym (and_right (index + 1 == length st.slots) (nat_le fr.slots index) (lt-leb fr.slots index (omega (arith, is_last, whole, same_slots))))) (RemovesIs.faulted (none_own e))
       open_slot (inl is_last) (NewestSlot.newest i next older last low there own) =
@@ -189,13 +188,13 @@ module _ (m : Module) {made : List Made} {mem : Memory} {numbers : List Numbers}
           let mine : lf.slots ≡ slot_place made slot ∷ older = own ∙ ap (λ x. slot_place made x ∷ older) is in
           let within : fr.slots ≤ index = omega (arith, low, here, same_slots) in
           subst Removed (sym (and_from (index + 1 == length st.slots) (nat_le fr.slots index) (eq-eqb (index + 1) (length st.slots) is_last) (le-leb fr.slots index within)))
-              (RemovesIs.goes index slot older at is_last within mine (is_newest slot older mine same) (goes_so is_last))
+          (RemovesIs.goes index slot older at is_last within mine (is_newest slot older mine same) (goes_so is_last))
 
     in_slot : (b : Bool) → is_open names.of ≡ b → Removes (removes_slot st fr rest index (slot_in st index serial))
     in_slot true opened =
         let now = names.now opened in
         subst (λ o. Removes (removes_slot st fr rest index o)) (sym (found_slot st.slots index serial now.0 now.1 now.2))
-            (open_slot now.0 now.1 now.2 (cases_eq (index + 1) (length st.slots)) newest)
+        (open_slot now.0 now.1 now.2 (cases_eq (index + 1) (length st.slots)) newest)
     in_slot false closed =
         subst (λ o. Removes (removes_slot st fr rest index o)) (sym (no_slot agrees.slots index serial names.of names.there closed)) (RemovesIs.faulted (closed_is_none closed newest))
 
@@ -212,3 +211,13 @@ module _ (m : Module) {made : List Made} {mem : Memory} {numbers : List Numbers}
       same_part : NamesPlace m made st.slots mem a p → p.is_part ≡ a.is_part
       same_part (NamesPlace.in_slot index serial at names) = sym names.parts
       same_part (NamesPlace.in_field o k at names) = sym names.parts
+
+-- what lies below stays
+pub slot_removed_keeps : (st : MachineView) (index : ℕ) (slot : OpenSlot) (ends : Ends) → ends.slots ≤ index → KeepsBelow ends st (without_slot st index slot)
+slot_removed_keeps st index slot ends low = record {
+  there = refl;
+  leaves = refl;
+  addresses = refl;
+  serials = ap (map serial_of) (take-take ends.slots index st.slots low);
+  waiting = refl;
+}

@@ -1,8 +1,8 @@
 -- The slots agree where what one of them has changes, in the run and in the machine.
-use Rattle.std.proofs.Common.{◌≡◌, ◌≤◌, ◌<◌, ◌+◌, ◌⊎◌, inl, inr, ℕ, zero, suc, List, [], ◌∷◌, Bool, Some, true, length, take, drop, refl, sym, ap, ◌∙◌, subst, arith}
+use Rattle.std.proofs.Common.{◌≡◌, ◌≤◌, ◌<◌, ◌+◌, ◌⊎◌, inl, inr, ℕ, zero, suc, List, [], ◌∷◌, Some, true, length, take, drop, refl, sym, ap, ◌∙◌, subst, arith}
 use Rattle.std.specs.Prelude.{set, slice_get}
 use Rattle.std.proofs.lemmas.Bool.{cases_eq, cases_lt}
-use Rattle.std.proofs.lemmas.Option.{none-some, same_Some, slice_get_within}
+use Rattle.std.proofs.lemmas.Option.{none-some, same_Some}
 use Rattle.machine_steps.specs.declared.address.OpenSlot.{OpenSlot}
 use Rattle.ready_code.specs.Layout.{size_of}
 use Rattle.run_typing.specs.StorageForms.{FieldShapeIs}
@@ -123,7 +123,7 @@ module _ {test : ClassTest} {made : List Made} {slots : List OpenSlot} {leaves :
       by (inr other) =
           let old = agree.all k x (sym (get_put_other made serial k (with_content of c) other) ∙ e) opened in
           let away : (index ≡ old.0 → ⊥) =
-              λ e. other (sym same ∙ ap (λ s. s.serial) (same_Some slot old.1 (sym at ∙ ap (slice_get slots) e ∙ old.2)) ∙ old.3) in
+          λ e. other (sym same ∙ ap (λ s. s.serial) (same_Some slot old.1 (sym at ∙ ap (slice_get slots) e ∙ old.2)) ∙ old.3) in
           (old.0, old.1, get_put_other slots index old.0 slot' away ∙ old.2, old.3)
 
   right_behind : (j : ℕ) (next : OpenSlot) → slice_get slots' j ≡ Some next → OpenIsRight made' slots' leaves' j next

@@ -1,0 +1,12 @@
+pub mod Forms
+pub mod Steps
+pub mod Makes
+pub mod Effects
+pub mod Gives
+pub mod Values
+pub mod Residues
+pub mod Integers
+pub mod Computing
+pub mod Groups
+pub mod Choices
+pub mod Addresses

@@ -1,0 +1,102 @@
+-- An instruction by what its row does: its operands are read, and then the run and the machine do alike.
+use Rattle.std.proofs.Common.{◌≡◌, ℕ, List, [], ◌∷◌, Some, map, refl, sym, ap, subst}
+use Rattle.std.specs.Prelude.{slice_get}
+use Rattle.holder_model.specs.Data.{Datum}
+use Rattle.holder_model.specs.Effects as effects
+use Rattle.holder_model.specs.Effects.{Effect, effect_by, effect_of}
+use Rattle.holder_model.specs.ModuleShapes.{shapes_in, shapes_of}
+use Rattle.holder_model.specs.States as low
+use Rattle.holder_model.specs.declared.row_effect.RowEffect.{RowEffect}
+use Rattle.item_operands.specs.Parts.{inst_at}
+use Rattle.lowered_run.specs.LowEffects.{at_places, operated_on, stored_by, unless_dead}
+use Rattle.lowered_run.specs.LowFrames.{LowFrame}
+use Rattle.lowered_run.specs.LowStepParts.{LowNext, LowState}
+use Rattle.lowered_run.specs.LowSteps as run
+use Rattle.lowered_run.specs.declared.low_fault.LowFault.{LowFault}
+use Rattle.machine_steps.specs.declared.frame.Frame.{Frame}
+use Rattle.machine_steps.specs.declared.frame.Task.{Task}
+use Rattle.machine_steps.specs.Rows as machine
+use Rattle.machine_steps.specs.Views.{MachineView}
+use Rattle.numbered_form.specs.Lists.{Each}
+use Rattle.ready_code.specs.declared.function.ReadyModule.{ReadyModule}
+use Rattle.ready_code.specs.declared.op.ReadyOp.{ReadyOp}
+use Rattle.ready_code.specs.ReadyOps.{operands_of}
+use Rattle.run_typing.specs.CallForms.{IsOf}
+use Rattle.run_typing.specs.Forms.{forms_of}
+use Rattle.run_typing.specs.RunTyped.{RunTyped}
+use Rattle.run_values.specs.Shapes.{Shape}
+use Rattle.sil_ast.specs.declared.function.Function.{Function}
+use Rattle.sil_ast.specs.declared.inst.Inst.{Inst}
+use Rattle.sil_ast.specs.declared.module.Module.{Module}
+use Rattle.sil_ast.specs.declared.place.ValueId.{ValueId}
+use Rattle.sil_cfg.specs.declared.item.Item.TheVariants as item
+use Rattle.type_definitions.specs.Declarations.{Declarations, declarations_of}
+use Rattle.machine_laws.proofs.Ending.{Alike}
+use Rattle.machine_laws.proofs.Entries.{Ends}
+use Rattle.machine_laws.proofs.FrameSteps.{Running, StandsAt, row_alike}
+use Rattle.machine_laws.proofs.Operands.{AllRead}
+use Rattle.machine_laws.proofs.Rows.Forms.{FormsAt, forms_at}
+use Rattle.machine_laws.proofs.Rows.Steps.{defined_by}
+use Rattle.machine_laws.proofs.Slots.{Made}
+
+-- a frame of a module that is made ready runs
+pub record Runs (m : Module) (entry : Shape) : Type 0 where
+  pub ready : ReadyModule
+  pub bound : ℕ
+  pub typed : RunTyped m
+  pub made : List Made
+  pub s : LowState
+  pub st : MachineView
+  pub f : Function
+  pub lf : LowFrame
+  pub mf : Frame
+  pub below : Ends
+  pub rest : List (low.Task LowFrame)
+  pub rest' : List Task
+  pub running : Running m entry made s st f lf mf below rest rest'
+  pub i : Inst
+
+module _ {m : Module} {entry : Shape} (r : Runs m entry) where
+  abbrev pub d : Declarations
+  d = declarations_of m
+
+  abbrev pub values : List Shape
+  values = shapes_in (shapes_of m) r.lf.function
+
+  -- what the row does by these operands
+  abbrev pub effect_at : RowEffect → List Datum → Effect LowFault
+  effect_at e xs =
+      unless_dead d (shapes_of m) values r.s.memory r.i (operated_on d (shapes_of m) values r.s.memory r.i e xs)
+      (effect_by d (shapes_of m) values r.s.memory r.i (at_places d (shapes_of m) values r.s.memory r.i) e xs)
+
+  abbrev pub named_at : RowEffect → List Datum → LowState
+  named_at e xs = record r.s { numbers = stored_by d (shapes_of m) values r.s.memory r.i e xs r.s.numbers }
+
+  abbrev pub performed : LowState → Effect LowFault → LowNext
+  performed s e = run.performs m (shapes_of m) r.bound s r.rest r.lf r.f (item.Inst r.lf.at) e
+
+  abbrev pub does_at : RowEffect → List Datum → LowNext
+  does_at e xs = performed (named_at e xs) (effect_at e xs)
+
+  abbrev pub RowAlike : ReadyOp → Type 0
+  RowAlike o = Alike m entry (run.does m (shapes_of m) r.bound r.s r.rest r.lf r.f r.i) (machine.performs r.ready r.bound r.st r.mf r.rest' o)
+
+  abbrev pub Reads : List Datum → Type 0
+  Reads xs = AllRead m r.made r.s.memory r.st r.f r.mf (operands_of r.i) xs
+
+  module _ {o : ReadyOp} (stands : StandsAt m r.f r.lf r.i o) (e : RowEffect) (is : effect_of r.i.op ≡ e) where
+    pub row_by : machine.read_by r.ready r.bound r.st r.mf r.rest' o ≡ operands_of r.i
+        → ((xs : List Datum) → Reads xs → Alike m entry (does_at e xs) (machine.does r.ready r.bound r.st r.mf r.rest' o)) → RowAlike o
+    row_by reads then =
+        row_alike m r.ready entry r.bound r.typed r.made r.s r.st r.f r.lf r.mf r.below r.rest r.rest' r.running r.i o stands reads
+        (λ xs all. subst (λ x. Alike m entry (does_at x xs) (machine.does r.ready r.bound r.st r.mf r.rest' o)) (sym is) (then xs all))
+
+    -- the forms of its operands and results
+    pub forms_by : FormsAt m r.i e (forms_of d r.f (operands_of r.i)) (forms_of d r.f r.i.results)
+    forms_by = subst (λ x. FormsAt m r.i x (forms_of d r.f (operands_of r.i)) (forms_of d r.f r.i.results)) is (forms_at m r.i stands.typed.row)
+
+    -- its results are values of the function
+    pub results_of : Each (IsOf r.f) r.i.results
+    results_of =
+        subst (Each (IsOf r.f)) (defined_by r.f r.lf r.i stands.inst)
+        (((r.typed.functions r.lf.function.0 r.f r.running.frame.there).items (item.Inst r.lf.at)).defined)

@@ -1,0 +1,188 @@
+-- A frame that runs: memory changes beside it, it is given a value, and it goes on behind its instruction.
+use Rattle.std.proofs.Common.{◌≡◌, ◌<◌, ◌∙◌, ℕ, suc, List, [], ◌∷◌, ◌++◌, None, true, Option, Some, length, map, refl, sym, ap, subst, arith}
+use Rattle.std.specs.Prelude.{set, slice_get}
+use Rattle.std.proofs.lemmas.List.{append-nil, length-map}
+use Rattle.std.proofs.lemmas.Option.{none-some, slice_get_within}
+use Rattle.holder_model.specs.Data.{AddressOf, FunctionOf, ValueOf}
+use Rattle.holder_model.specs.Outcomes.{Numbers}
+use Rattle.holder_model.specs.Standing.{point_behind}
+use Rattle.holder_model.specs.States as low
+use Rattle.item_operands.specs.Items.{item_defined}
+use Rattle.item_operands.specs.Parts.{inst_at, inst_in, results_in}
+use Rattle.lowered_run.specs.LowFrames.{LowFrame}
+use Rattle.lowered_run.specs.LowStepParts.{LowState}
+use Rattle.machine_steps.specs.declared.address.Address.{Address}
+use Rattle.machine_steps.specs.declared.frame.Frame.{Frame}
+use Rattle.machine_steps.specs.declared.frame.Task.{Task}
+use Rattle.machine_steps.specs.declared.frame.Task.TheVariants as task
+use Rattle.machine_steps.specs.Operands.{behind_op, go_on, put, put_address, put_there}
+use Rattle.machine_steps.specs.Views.{MachineView}
+use Rattle.ready_code.specs.Layout.{local, local_address}
+use Rattle.run_typing.specs.CallForms.{IsOf}
+use Rattle.run_typing.specs.Forms.{OfFunction, OfPlace, OfValue, form_of, given_shape}
+use Rattle.run_values.specs.Leaves.{leaves_of}
+use Rattle.run_values.specs.Memory.{Memory, is_dead_phase}
+use Rattle.run_values.specs.Places.{Place}
+use Rattle.run_values.specs.Shapes.{Shape}
+use Rattle.run_values.specs.Values.{Value}
+use Rattle.run_values.specs.declared.leaf.Leaf.{Leaf}
+use Rattle.sil_ast.specs.declared.function.Block.{Block}
+use Rattle.sil_ast.specs.declared.function.Function.{Function}
+use Rattle.sil_ast.specs.declared.inst.Inst.{Inst}
+use Rattle.sil_ast.specs.declared.module.Module.{Module}
+use Rattle.sil_ast.specs.declared.place.FuncId.{FuncId}
+use Rattle.sil_ast.specs.declared.place.ObjectId.{ObjectId}
+use Rattle.sil_ast.specs.declared.place.ValueId.{ValueId}
+use Rattle.sil_cfg.specs.declared.item.Item.TheVariants as item
+use Rattle.type_definitions.specs.Declarations.{declarations_of}
+use Rattle.value_parts.specs.inner.Suits.{suits}
+use Rattle.machine_laws.proofs.Agreement.{PartsAgree, ends_of}
+use Rattle.machine_laws.proofs.Changes.{Changes, SameSlots}
+use Rattle.machine_laws.proofs.DropTasks.{tasks_move}
+use Rattle.machine_laws.proofs.Ending.{Alike, goes, memory_moves}
+use Rattle.machine_laws.proofs.Entries.{Ends, FrameAgrees}
+use Rattle.machine_laws.proofs.FinishTasks.{finishing_phase}
+use Rattle.machine_laws.proofs.FrameSteps.{Running}
+use Rattle.machine_laws.proofs.Grows.{were_made}
+use Rattle.machine_laws.proofs.GrowsBy.{grows_objects, objects_stay, serial_of}
+use Rattle.machine_laws.proofs.GrowsTasks.{AtMost, KeepsBelow, PhasesStay, at_most_itself, frame_grows, keeps_slots, tasks_keep}
+use Rattle.machine_laws.proofs.Memories.{NamesPlace}
+use Rattle.machine_laws.proofs.Numbers.{alive_was_made}
+use Rattle.machine_laws.proofs.Objects.{is_of_class}
+use Rattle.machine_laws.proofs.Puts.{frame_stands, put_address_agrees, put_address_ends, put_address_keeps, put_agrees, put_ends, put_keeps, put_there_agrees, put_there_ends, put_there_keeps, same_ends}
+use Rattle.machine_laws.proofs.Slots.{Made}
+use Rattle.machine_laws.proofs.Tasks.{TasksAgree, runs, to_go_on, to_take}
+
+-- the block of an instruction, and its point
+
+block_of : (f : Function) (block k : ℕ) (i : Inst) → inst_in (slice_get f.blocks block) k ≡ Some i → (b : Block) × (slice_get f.blocks block ≡ Some b) × (k < length b.insts)
+block_of f block k i e = at (slice_get f.blocks block) refl
+  where
+    at : (b : Option Block) → slice_get f.blocks block ≡ b → (b : Block) × (slice_get f.blocks block ≡ Some b) × (k < length b.insts)
+    at None is = absurd (none-some i (ap (λ b. inst_in b k) (sym is) ∙ e))
+    at (Some b) is = (b, is, slice_get_within b.insts k i (ap (λ b. inst_in b k) (sym is) ∙ e))
+
+-- what an instruction defines are its results
+pub defined_by : (f : Function) (lf : LowFrame) (i : Inst) → inst_at f lf.at ≡ Some i → item_defined f (item.Inst lf.at) ≡ i.results
+defined_by f lf i e = ap (λ o. results_in o ++ []) e ∙ append-nil i.results
+
+module _ {m : Module} {entry : Shape} {made : List Made} {s : LowState} {st : MachineView} {f : Function} {lf : LowFrame} {mf : Frame} {below : Ends}
+    {rest : List (low.Task LowFrame)} {rest' : List Task} (running : Running m entry made s st f lf mf below rest rest') where
+  -- memory changes, and the slots of frames stay
+  pub memory_changes : {mem' : Memory} {numbers' : List Numbers} {st' : MachineView} (changes : Changes m made s.memory st mem' numbers' st') → SameSlots st st'
+      → Running m entry changes.made' (record s { memory = mem'; numbers = numbers' }) st' f lf mf below rest rest'
+  memory_changes {mem' = mem'} {numbers' = numbers'} {st' = st'} changes same = record {
+    parts = record {
+      memory = changes.agrees;
+      events = changes.frames.events ∙ running.parts.events;
+      turns = changes.frames.turns ∙ running.parts.turns;
+      retains = changes.frames.retains ∙ running.parts.retains;
+      releases = changes.frames.releases ∙ running.parts.releases;
+    };
+    frame = subst (λ e. FrameAgrees m changes.made' mem' st' f lf mf below e) (sym ends) (frame_grows changes.grows (keeps (ends_of st)) running.frame);
+    others = tasks_keep changes.grows (keeps below) phases running.others;
+    tasks = changes.frames.tasks ∙ running.tasks;
+  }
+    where
+      ends : ends_of st' ≡ ends_of st
+      ends = same_ends st st' (ap length changes.frames.there) (ap length changes.frames.leaves) (ap length changes.frames.addresses)
+          (sym (length-map st'.slots serial_of) ∙ ap length same ∙ length-map st.slots serial_of) (ap length changes.frames.waiting)
+      keeps : (e : Ends) → KeepsBelow e st st'
+      keeps e = keeps_slots e st st' changes.frames.there changes.frames.leaves changes.frames.addresses changes.frames.waiting same
+      phases : PhasesStay s.memory mem' rest'
+      phases o now = changes.phases o (alive_was_made s.memory o (ap is_dead_phase (finishing_phase running.others o now)))
+
+  -- it is given a value
+
+  parts_move : (st' : MachineView) → st'.slots ≡ st.slots → st'.slot_leaves ≡ st.slot_leaves → st'.heap ≡ st.heap → st'.serials ≡ st.serials → st'.events ≡ st.events
+      → st'.turns ≡ st.turns → PartsAgree m made s st'
+  parts_move st' slots leaves heap serials events turns = record {
+    memory = memory_moves running.parts.memory slots leaves heap serials;
+    events = events ∙ running.parts.events;
+    turns = turns ∙ running.parts.turns;
+    retains = ap (λ h. h.retains) heap ∙ running.parts.retains;
+    releases = ap (λ h. h.releases) heap ∙ running.parts.releases;
+  }
+
+  others_keep : (st' : MachineView) → st'.slots ≡ st.slots → KeepsBelow below st st' → TasksAgree m entry made s.memory st' (to_take (given_shape (declarations_of m) f)) below rest rest'
+  others_keep st' slots keeps =
+      tasks_keep (grows_objects (were_made running.parts.memory.slots) (objects_stay s.memory s.memory refl) (ap (map serial_of) slots)) keeps (λ o now. refl) running.others
+
+  module _ (r : ValueId) (is_of : IsOf f r) where
+    pub value_put : (t : Shape) → form_of (declarations_of m) f r ≡ OfValue t → (x : Value) → suits (is_of_class m s.memory) t x ≡ true → (ls : List Leaf) → ls ≡ leaves_of t x
+        → Running m entry made s (put st mf (local (declarations_of m) f r) ls) f (record lf { values = set lf.values r.0 (Some (ValueOf x)) }) mf below rest rest'
+    value_put t form x fits ls is = record {
+      parts = parts_move st' refl refl refl refl refl refl;
+      frame = subst (λ e. FrameAgrees m made s.memory st' f (record lf { values = set lf.values r.0 (Some (ValueOf x)) }) mf below e)
+          (sym (put_ends running.frame reach r is_of t x ls form fits is)) (put_agrees running.frame reach r is_of t x ls form fits is);
+      others = others_keep st' refl (put_keeps running.frame reach r is_of t x ls form fits is);
+      tasks = running.tasks;
+    }
+      where
+        st' : MachineView
+        st' = put st mf (local (declarations_of m) f r) ls
+        reach : AtMost (ends_of st) (ends_of st)
+        reach = at_most_itself (ends_of st)
+
+    pub address_put : (p : Place) → form_of (declarations_of m) f r ≡ OfPlace p.shape → (a : Address) → NamesPlace m made st.slots s.memory a p
+        → Running m entry made s (put_address st mf (local_address (declarations_of m) f r) a) f (record lf { values = set lf.values r.0 (Some (AddressOf p)) }) mf below rest rest'
+    address_put p form a names = record {
+      parts = parts_move st' refl refl refl refl refl refl;
+      frame = subst (λ e. FrameAgrees m made s.memory st' f (record lf { values = set lf.values r.0 (Some (AddressOf p)) }) mf below e)
+          (sym (put_address_ends running.frame reach r is_of a)) (put_address_agrees running.frame reach r is_of p a form names);
+      others = others_keep st' refl (put_address_keeps running.frame reach r is_of a);
+      tasks = running.tasks;
+    }
+      where
+        st' : MachineView
+        st' = put_address st mf (local_address (declarations_of m) f r) a
+        reach : AtMost (ends_of st) (ends_of st)
+        reach = at_most_itself (ends_of st)
+
+    pub function_put : (g : FuncId) → form_of (declarations_of m) f r ≡ OfFunction g
+        → Running m entry made s (put_there st mf r) f (record lf { values = set lf.values r.0 (Some (FunctionOf g)) }) mf below rest rest'
+    function_put g form = record {
+      parts = parts_move st' refl refl refl refl refl refl;
+      frame = subst (λ e. FrameAgrees m made s.memory st' f (record lf { values = set lf.values r.0 (Some (FunctionOf g)) }) mf below e)
+          (sym (put_there_ends running.frame reach r is_of)) (put_there_agrees running.frame reach r is_of g form);
+      others = others_keep st' refl (put_there_keeps running.frame reach r is_of);
+      tasks = running.tasks;
+    }
+      where
+        st' : MachineView
+        st' = put_there st mf r
+        reach : AtMost (ends_of st) (ends_of st)
+        reach = at_most_itself (ends_of st)
+
+  -- it goes on
+
+  behind_frame : (i : Inst) → inst_at f lf.at ≡ Some i → FrameAgrees m made s.memory st f (record lf { at = point_behind lf.at }) (behind_op mf) below (ends_of st)
+  behind_frame i there =
+      let block = block_of f lf.at.block.0 lf.at.index i there in
+      subst (λ fr. FrameAgrees m made s.memory st f (record lf { at = point_behind lf.at }) fr below (ends_of st)) same
+      (frame_stands running.frame (point_behind lf.at) block.0 block.1 (omega (arith, block.2)))
+    where
+      same : record mf { block = lf.at.block.0; index = suc lf.at.index } ≡ behind_op mf
+      same =
+          ap (λ n. record mf { block = n; index = suc lf.at.index }) (sym running.frame.at_block)
+          ∙ ap (λ n. record mf { index = n }) (omega (arith, running.frame.at_index))
+
+  -- with a view whose tasks are others
+  pub tasks_behind : (i : Inst) → inst_at f lf.at ≡ Some i
+      → TasksAgree m entry made s.memory st to_go_on (ends_of st) (low.Runs (record lf { at = point_behind lf.at }) ∷ rest) (task.Runs (behind_op mf) ∷ rest')
+  tasks_behind i there = runs f (record lf { at = point_behind lf.at }) (behind_op mf) below (ends_of st) rest rest' (behind_frame i there) running.others
+
+  pub goes_behind : (i : Inst) → inst_at f lf.at ≡ Some i → Alike m entry (low.Goes (record s { tasks = low.Runs (record lf { at = point_behind lf.at }) ∷ rest })) (go_on st mf rest')
+  goes_behind i there = goes made (record s { tasks = low.Runs (record lf { at = point_behind lf.at }) ∷ rest }) st' (record {
+    parts = record {
+      memory = memory_moves running.parts.memory refl refl refl refl;
+      events = running.parts.events;
+      turns = running.parts.turns;
+      retains = running.parts.retains;
+      releases = running.parts.releases;
+    };
+    tasks = tasks_move (were_made running.parts.memory.slots) refl refl refl refl refl (tasks_behind i there);
+  })
+    where
+      st' : MachineView
+      st' = record st { tasks = task.Runs (behind_op mf) ∷ rest' }
