@@ -61,6 +61,7 @@ pub mod FinishSteps
 pub mod CallingIn
 pub mod DeinitClasses
 pub mod DeinitSteps
+pub mod EdgingCases
 pub mod WritingSlots
 pub mod WritingLeaves
 pub mod StackChanges
