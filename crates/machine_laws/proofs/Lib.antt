@@ -62,6 +62,7 @@ pub mod CallingIn
 pub mod DeinitClasses
 pub mod DeinitSteps
 pub mod EdgingCases
+pub mod EdgingSwitches
 pub mod WritingSlots
 pub mod WritingLeaves
 pub mod StackChanges
