@@ -63,6 +63,7 @@ pub mod DeinitClasses
 pub mod DeinitSteps
 pub mod EdgingCases
 pub mod EdgingSwitches
+pub mod Returning
 pub mod WritingSlots
 pub mod WritingLeaves
 pub mod StackChanges
