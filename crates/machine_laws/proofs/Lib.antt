@@ -64,6 +64,7 @@ pub mod DeinitSteps
 pub mod EdgingCases
 pub mod EdgingSwitches
 pub mod Returning
+pub mod ReturningEnds
 pub mod WritingSlots
 pub mod WritingLeaves
 pub mod StackChanges
