@@ -3,22 +3,27 @@ use Rattle.std.specs.Prelude.{◌≡◌, true, map}
 use Rattle.holder_model.specs.ModuleShapes.{field_shape, field_shapes, shapes_of}
 use Rattle.numbered_form.specs.Lists.{Each}
 use Rattle.numbered_form.specs.Names.{Name}
-use Rattle.run_values.specs.Shapes.{Shape, Stored}
+use Rattle.run_values.specs.Leaves.{in_leaves}
 use Rattle.sil_ast.specs.declared.decl.Field.{Field}
-use Rattle.sil_ast.specs.declared.decl.Storage.{Storage}
-use Rattle.sil_ast.specs.declared.decl.Storage.TheVariants as storage
 use Rattle.sil_ast.specs.declared.module.Module.{Module}
+use Rattle.sil_types.specs.Typing.Shapes.{stored_as}
 use Rattle.type_definitions.specs.Declarations.{Declarations, declarations_of, is_class}
 use Rattle.type_definitions.specs.Lookups.{fields_of}
+use Rattle.type_definitions.specs.Measures.{leaves_of}
 use Rattle.run_typing.specs.StorageForms.{FieldShapeIs}
 
 abbrev pub IsTypedField : Declarations → Field → Type 0
 IsTypedField d f = FieldShapeIs f.storage (field_shape d f)
 
+-- a field has as many leaves as its type
+abbrev pub IsMeasuredField : Declarations → Field → Type 0
+IsMeasuredField d f = (in_leaves (field_shape d f)).size ≡ leaves_of d (stored_as f.storage f.ty)
+
 -- the shapes of a class's fields are those of its fields, its ancestors' first
 pub record HasTypedFields (m : Module) (class : Name) : Type 0 where
   pub listed : field_shapes (shapes_of m) class ≡ map (field_shape (declarations_of m)) (fields_of (declarations_of m) class)
   pub each : Each (IsTypedField (declarations_of m)) (fields_of (declarations_of m) class)
+  pub measured : Each (IsMeasuredField (declarations_of m)) (fields_of (declarations_of m) class)
 
 abbrev pub AreFieldsTyped : Module → Type 0
 AreFieldsTyped m = (class : Name) → is_class (declarations_of m) class ≡ true → HasTypedFields m class

@@ -15,4 +15,3 @@ pub data IsNamed : Storage → Shape → Type 0 where
 pub data FieldShapeIs : Storage → Shape → Type 0 where
   plain : (s : Shape) → has_no_storage s ≡ true → FieldShapeIs storage.Strong s
   named : (w : Storage) (s : Shape) → IsNamed w s → FieldShapeIs w (Stored w s)
-

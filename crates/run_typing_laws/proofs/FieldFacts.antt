@@ -1,5 +1,5 @@
 -- The fields of classes: a weak one is storage of an Optional of a class, an unowned one of a class, and no storage stands in any other.
-use Rattle.std.proofs.Common.{◌≡◌, ℕ, List, [], ◌∷◌, ◌++◌, true, false, Option, Some, None, map, refl, sym, ap, ◌∙◌, subst}
+use Rattle.std.proofs.Common.{◌≡◌, ℕ, List, [], ◌∷◌, ◌++◌, Bool, true, false, Option, Some, None, map, refl, sym, ap, ◌∙◌, subst}
 use Rattle.std.specs.Prelude.{codes, option_map, slice_get}
 use Rattle.std.specs.List.{list_any}
 use Rattle.std.proofs.lemmas.Option.{slice_get-map}
@@ -11,14 +11,16 @@ use Rattle.sil_ast.specs.declared.module.Module.{Module}
 use Rattle.sil_ast.specs.declared.type_name.TypeName.{TypeName, TypeName-F, out-TypeName}
 use Rattle.numbered_form.specs.Lists.{Each}
 use Rattle.numbered_form.specs.Names.{Name}
+use Rattle.numbered_form.specs.inner.Types.{HasDeclTypes, HasFieldType, is_plain_type}
 use Rattle.holder_model.specs.ModuleShapes.{field_shape, field_shapes, shapes_of}
 use Rattle.run_values.specs.Shapes.{Enum, FullCase, NoCase, PlainCase, Shape, shape_of}
+use Rattle.run_values.specs.inner.Laws.{has_no_address, has_no_address_over}
 use Rattle.sil_types.specs.Typing.Shapes.{stored_as}
 use Rattle.type_definitions.specs.Declarations.{Declarations, declarations_of, is_class}
 use Rattle.type_definitions.specs.Lookups.{chain_fields, decl_fields, fields_of, own_fields}
 use Rattle.type_definitions.specs.Mentions.{field_standing, in_field}
 use Rattle.type_definitions.specs.Rules.{is_class_type, is_misplaced, is_misplaced_at, is_optional_class, is_optional_class_layer}
-use Rattle.run_typing.specs.FieldForms.{AreFieldsTyped}
+use Rattle.run_typing.specs.FieldForms.{AreFieldsTyped, IsMeasuredField}
 use Rattle.run_typing.specs.StorageForms.{FieldShapeIs, named, plain}
 use Rattle.run_typing.specs.StorageForms.{IsNamed, unowned, weak}
 use Rattle.run_typing.specs.Runnable.{IsRunnable}
@@ -26,7 +28,9 @@ use Rattle.run_typing_laws.proofs.ClassChains.{line_of}
 use Rattle.run_typing_laws.proofs.FieldShapes.{field_shapes_are}
 use Rattle.run_typing_laws.proofs.Found.{each_at, neither_first, neither_second, not_false}
 use Rattle.run_typing_laws.proofs.Outer.{is_Optional}
+use Rattle.run_typing_laws.proofs.Opened.{fold-Unowned, fold-Weak}
 use Rattle.run_typing_laws.proofs.ShapeFacts.{class_type_shape, no_storage_shape, optional_shape, unowned_shape, weak_shape}
+use Rattle.run_typing_laws.proofs.Sizes.{plain_type, sizes}
 use Rattle.run_typing_laws.proofs.TextClasses.{in_text, line_of_classes, well_named}
 
 module _ (m : Module) (r : IsRunnable m) where
@@ -75,23 +79,48 @@ module _ (m : Module) (r : IsRunnable m) where
       let stored = (well_named m r t.place x t.there).storage in
       subst (Each IsRight) (sym (ap decl_fields t.found_so)) (each_right t.fields stored)
 
-  appended : (xs ys : List Field) → Each IsRight xs → Each IsRight ys → Each IsRight (xs ++ ys)
-  appended [] ys h k = k
-  appended (x ∷ xs) ys h k = (h.0, appended xs ys h.1 k)
+  abbrev IsMeasured : Field → Type 0
+  IsMeasured = IsMeasuredField d
 
-  chain_right : (classes : List Name) → Each (λ class. is_class d class ≡ true) classes → Each IsRight (chain_fields d classes)
-  chain_right [] h = tt
-  chain_right (class ∷ above) h = appended (chain_fields d above) (own_fields d class) (chain_right above h.1) (own_right class h.0)
+  -- a type is stored without an address where it is written without one
+  plain_stored : (w : Storage) (t : TypeName) → is_plain_type t ≡ true → has_no_address (stored_as w t) ≡ true
+  plain_stored storage.Strong t h = plain_type t h
+  plain_stored storage.Weak t h = fold-Weak Bool has_no_address_over t ∙ plain_type t h
+  plain_stored storage.Unowned t h = fold-Unowned Bool has_no_address_over t ∙ plain_type t h
+
+  each_measured : (fields : List Field) → Each HasFieldType fields → Each IsMeasured fields
+  each_measured [] h = tt
+  each_measured (f ∷ fields) h = (sizes m r (stored_as f.storage f.ty) (plain_stored f.storage f.ty h.0.written), each_measured fields h.1)
+
+  own_measured : (class : Name) → is_class d class ≡ true → Each IsMeasured (own_fields d class)
+  own_measured class h =
+      let t = in_text d class h in
+      let types = each_at HasDeclTypes m.decls t.place (Class class t.superclass t.fields) r.numbered.types.declarations t.there in
+      subst (Each IsMeasured) (sym (ap decl_fields t.found_so)) (each_measured t.fields types)
+
+  -- what holds of each class's own fields holds of those that are inherited too
+  module _ (P : Field → Type 0) (own : (class : Name) → is_class d class ≡ true → Each P (own_fields d class)) where
+    appended : (xs ys : List Field) → Each P xs → Each P ys → Each P (xs ++ ys)
+    appended [] ys h k = k
+    appended (x ∷ xs) ys h k = (h.0, appended xs ys h.1 k)
+
+    chain_each : (classes : List Name) → Each (λ class. is_class d class ≡ true) classes → Each P (chain_fields d classes)
+    chain_each [] h = tt
+    chain_each (class ∷ above) h = appended (chain_fields d above) (own_fields d class) (chain_each above h.1) (own class h.0)
 
   -- each field of a class, inherited or its own, is of the shape that its storage asks for
   pub each_field : (class : Name) → is_class d class ≡ true → Each (λ f. FieldShapeIs f.storage (field_shape d f)) (fields_of d class)
-  each_field class h = chain_right (line_of d class) (line_of_classes m r class h)
+  each_field class h = chain_each IsRight own_right (line_of d class) (line_of_classes m r class h)
 
   pub field_at_is : (class : Name) → is_class d class ≡ true → (k : ℕ) (f : Field) → slice_get (fields_of d class) k ≡ Some f → FieldShapeIs f.storage (field_shape d f)
   field_at_is class h k f e = each_at IsRight (fields_of d class) k f (each_field class h) e
 
   pub fields_are_typed : AreFieldsTyped m
-  fields_are_typed class h = record { listed = field_shapes_are m r class h; each = each_field class h }
+  fields_are_typed class h = record {
+    listed = field_shapes_are m r class h;
+    each = each_field class h;
+    measured = chain_each IsMeasured own_measured (line_of d class) (line_of_classes m r class h);
+  }
 
   -- a place of an object, by the field that stands there
   pub field_shape_at : (class : Name) → is_class d class ≡ true → (k : ℕ) (s : Shape) → slice_get (field_shapes (shapes_of m) class) k ≡ Some s

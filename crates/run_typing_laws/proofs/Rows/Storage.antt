@@ -110,11 +110,15 @@ module _ (m : Module) (r : IsRunnable m) where
       at (TypeName-F.Optional inner) o e = none_within e
       at (TypeName-F.Tuple parts) o e = none_within e
       at (TypeName-F.Weak inner) o e =
-          let same = is_weak t inner o in
-          (storage.Weak, subst (FieldShapeIs storage.Weak) (sym (ap (shape_of (declarations_of m)) same ∙ weak_shape m inner))
-          (named storage.Weak _ (weak_is_named inner (not-false _ e))))
+          let same = is_weak t inner o in (
+            storage.Weak,
+            subst (FieldShapeIs storage.Weak) (sym (ap (shape_of (declarations_of m)) same ∙ weak_shape m inner))
+                (named storage.Weak _ (weak_is_named inner (not-false _ e))),
+          )
       at (TypeName-F.Unowned inner) o e =
-          let same = is_unowned t inner o in
-          (storage.Unowned, subst (FieldShapeIs storage.Unowned) (sym (ap (shape_of (declarations_of m)) same ∙ unowned_shape m inner))
-          (named storage.Unowned _ (unowned_is_named inner (not-false _ e))))
+          let same = is_unowned t inner o in (
+            storage.Unowned,
+            subst (FieldShapeIs storage.Unowned) (sym (ap (shape_of (declarations_of m)) same ∙ unowned_shape m inner))
+                (named storage.Unowned _ (unowned_is_named inner (not-false _ e))),
+          )
       at (TypeName-F.Address inner) o e = none_within e
