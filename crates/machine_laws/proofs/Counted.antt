@@ -1,5 +1,5 @@
 -- Strong references: a retain and a release in the heap are those of the run.
-use Rattle.std.proofs.Common.{◌≡◌, ◌+◌, ◌-◌, ℕ, List, Option, Some, refl, ap}
+use Rattle.std.proofs.Common.{◌+◌, ◌-◌, List, Option, refl, ap}
 use Rattle.std.specs.Prelude.{option_map}
 use Rattle.heap_model.specs.HeapCalls as heap
 use Rattle.heap_model.specs.HeapCalls.{released, retained}

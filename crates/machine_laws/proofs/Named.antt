@@ -1,5 +1,5 @@
 -- Weak and unowned storage: the machine counts the object in a leaf as the run counts those that cells keep.
-use Rattle.std.proofs.Common.{◌≡◌, ◌++◌, ℕ, List, [], ◌∷◌, Option, Some, None, true, false, refl, sym, ap, ◌∙◌, subst}
+use Rattle.std.proofs.Common.{◌≡◌, ℕ, List, [], None, Bool, true, false, cond, refl, sym, ap, ◌∙◌, subst}
 use Rattle.std.specs.Prelude.{find, replicate}
 use Rattle.std.proofs.lemmas.Bool.{false≢true}
 use Rattle.std.proofs.lemmas.List.{append-nil}
@@ -9,7 +9,6 @@ use Rattle.lowered_run.specs.Stored.{each_changed, less_unowned, less_weak, more
 use Rattle.machine_steps.specs.Naming.{leaf_named, leaf_unnamed}
 use Rattle.machine_steps.specs.Operands.{first_leaf, object_in_leaf}
 use Rattle.machine_steps.specs.Views.{MachineView}
-use Rattle.run_typing.specs.StorageForms.{IsNamed}
 use Rattle.run_values.specs.Cells as cells
 use Rattle.run_values.specs.Cells.{Cell, in_cells}
 use Rattle.run_values.specs.Fits.{is_name}
@@ -21,7 +20,6 @@ use Rattle.run_values.specs.declared.leaf.Leaf.{Leaf}
 use Rattle.sil_ast.specs.declared.decl.Storage.{Storage}
 use Rattle.sil_ast.specs.declared.decl.Storage.TheVariants as storage
 use Rattle.sil_ast.specs.declared.module.Module.{Module}
-use Rattle.sil_ast.specs.declared.place.ObjectId.{ObjectId}
 use Rattle.value_parts.proofs.Names.{is_unowned_name, is_weak_name, stored_name}
 use Rattle.value_parts.specs.inner.Storages.{holds_no_storage}
 use Rattle.value_parts.specs.inner.StoredNames.{IsUnownedName, IsWeakName}
@@ -115,3 +113,14 @@ module _ (m : Module) (made : List Made) (mem : Memory) (numbers : List Numbers)
       let as_run = ap (λ os. run_unnamed w os numbers) same_leaf ∙ sym (stored_unnamed w s x numbers) in
       heap_changed m made mem numbers (unnamed ((in_cells (Stored w s)).cells x) numbers) st (leaf_unnamed w leaf st.heap) a (leaf_unnamed_only w leaf st.heap).declarations
       (subst (λ ns. ObjectsAgree m (is_of_class m mem) mem.objects ns (leaf_unnamed w leaf st.heap).objects) as_run agree)
+
+-- storage is written: what it named before, if it isn't written for the first time, is named no longer, and then the new object is named
+pub memory_renamed : (m : Module) (made : List Made) (mem : Memory) (numbers : List Numbers) (st : MachineView) (w : Storage) (s : Shape) (first : Bool) (cs : List Cell) (x y : Value)
+    → cs ≡ (in_cells (Stored w s)).cells y → suits (is_of_class m mem) (Stored w s) y ≡ true → suits (is_of_class m mem) (Stored w s) x ≡ true
+    → find (is_dead mem) (references_of x) ≡ None → MemoryAgrees m made mem numbers st
+    → MemoryAgrees m made mem (named ((in_cells (Stored w s)).cells x) (cond first numbers (unnamed cs numbers)))
+    (record st { heap = leaf_named w (first_leaf (leaves_of (Stored w s) x)) (cond first st.heap (leaf_unnamed w (first_leaf (leaves_of (Stored w s) y)) st.heap)) })
+memory_renamed m made mem numbers st w s true cs x y keeps old fit alive a = memory_named m made mem numbers st w s x fit a alive
+memory_renamed m made mem numbers st w s false cs x y keeps old fit alive a =
+    rw keeps (memory_named m made mem (unnamed ((in_cells (Stored w s)).cells y) numbers)
+    (record st { heap = leaf_unnamed w (first_leaf (leaves_of (Stored w s) y)) st.heap }) w s x fit (memory_unnamed m made mem numbers st w s y old a) alive)

@@ -1,12 +1,11 @@
 -- What the cells of a value keep strongly, in weak storage and in unowned storage.
-use Rattle.std.proofs.Common.{◌≡◌, ◌++◌, ℕ, zero, suc, List, [], ◌∷◌, Some, Bool, true, false, cond, refl, sym, ap, ◌∙◌}
+use Rattle.std.proofs.Common.{◌≡◌, ◌++◌, ℕ, zero, suc, List, [], ◌∷◌, Bool, true, false, refl, ap, ◌∙◌}
 use Rattle.std.specs.Prelude.{replicate, unwrap_or}
 use Rattle.std.specs.List.{AllByRecursion, flat_map, list_all}
 use Rattle.std.proofs.lemmas.Bool.{and_parts, false≢true}
 use Rattle.std.proofs.lemmas.List.{append-nil}
 use Rattle.std.proofs.lemmas.List.Concat.{flat_map-append}
 use Rattle.holder_model.specs.Holders.{kept_references, same_storage}
-use Rattle.numbered_form.specs.Names.{Name}
 use Rattle.run_values.specs.Cells as cells
 use Rattle.run_values.specs.Cells.{Cell, InCells, cells_each, cells_layer, in_cells}
 use Rattle.run_values.specs.Fits.{are_members, fit_each, fits, fits_layer}
@@ -14,7 +13,7 @@ use Rattle.run_values.specs.Shapes.{Shape, Shapes, NoMember, Member, each_by_lay
 use Rattle.run_values.specs.Shapes.{Integer, Reference, Struct, Tuple, Enum, Stored, Unknown}
 use Rattle.run_values.specs.Trivial.{itself}
 use Rattle.run_values.specs.Values as value
-use Rattle.run_values.specs.Values.{Value, Int, Object, Group, Case, Full, Values, NoValue, More, members_of, references_in_each, references_of}
+use Rattle.run_values.specs.Values.{Value, Group, Values, NoValue, More, members_of, references_in_each, references_of}
 use Rattle.sil_ast.specs.declared.decl.Storage.{Storage}
 use Rattle.sil_ast.specs.declared.decl.Storage.TheVariants as storage
 use Rattle.sil_ast.specs.declared.place.ObjectId.{ObjectId}

@@ -1,5 +1,5 @@
 -- One weak or unowned place more or less names an object. An object that is dead is freed where none names it any longer.
-use Rattle.std.proofs.Common.{◌≡◌, ◌+◌, ◌-◌, ◌==◌, ◌&&◌, ℕ, List, [], Bool, true, false, not, cond, Option, Some, None, refl, sym, ap, ◌∙◌}
+use Rattle.std.proofs.Common.{◌≡◌, ◌+◌, ◌-◌, ◌==◌, ◌&&◌, [], Bool, true, false, cond, Option, Some, None, refl, sym, ap, ◌∙◌}
 use Rattle.std.specs.Prelude.{option_and_then, option_map}
 use Rattle.std.proofs.lemmas.Bool.{and_parts, eqb-true, false≢true, not-false}
 use Rattle.heap_model.specs.HeapCalls as heap

@@ -1,5 +1,5 @@
 -- What the heap tells of an object is what the run has of it.
-use Rattle.std.proofs.Common.{◌≡◌, ◌<◌, ◌==◌, ◌&&◌, ℕ, List, [], Bool, true, false, Option, Some, None, cond, length, refl, sym, ap, ◌∙◌, subst}
+use Rattle.std.proofs.Common.{◌≡◌, ◌<◌, ◌==◌, ◌&&◌, List, [], false, Option, Some, None, length, refl, sym, ap, ◌∙◌, subst}
 use Rattle.std.specs.Prelude.{slice_get, unwrap_or}
 use Rattle.std.proofs.lemmas.Bool.{cond-true, eq-eqb, true≢false}
 use Rattle.std.proofs.lemmas.Option.{slice_get_within}
@@ -7,11 +7,10 @@ use Rattle.heap_model.specs.HeapCalls.{takes_last}
 use Rattle.heap_model.specs.HeapViews.{HeapObject, HeapView, class_in, class_told, is_dead_in, phase_in, phase_told, strong_in, strong_told, unowned_in, unowned_told, weak_in, weak_told}
 use Rattle.holder_model.specs.Outcomes.{Numbers}
 use Rattle.lowered_run.specs.LowStepParts.{numbers_for}
-use Rattle.lowered_run.specs.Stored.{no_numbers, numbers_of}
+use Rattle.lowered_run.specs.Stored.{numbers_of}
 use Rattle.machine_steps.specs.Steps.{name_of}
 use Rattle.machine_steps.specs.Views.{MachineView}
 use Rattle.run_values.specs.Memory.{Memory, Object, is_dead, is_dead_phase, is_live, is_live_phase, no_object, object_at, phase_of}
-use Rattle.run_values.specs.declared.phase.Phase.TheVariants.{Dead}
 use Rattle.sil_ast.specs.declared.module.Module.{Module}
 use Rattle.sil_ast.specs.declared.place.ObjectId.{ObjectId}
 use Rattle.type_definitions.specs.Declarations.{declarations_of}
@@ -19,8 +18,8 @@ use Rattle.type_definitions.specs.Lookups.{class_at}
 use Rattle.value_parts.specs.inner.Suits.{ClassTest}
 use Rattle.machine_laws.proofs.Memories.{MemoryAgrees}
 use Rattle.machine_laws.proofs.NumbersPut.{Found, found, missing, there}
-use Rattle.machine_laws.proofs.Objects.{KeptAgrees, ObjectAgrees, ObjectsAgree, freed, is_of_class, kept}
-use Rattle.machine_laws.proofs.Slots.{Made}
+use Rattle.machine_laws.proofs.Objects.{ObjectAgrees, ObjectsAgree, freed, is_of_class, kept}
+use Rattle.machine_laws.proofs.Slots.{Made, SlotsAgree}
 
 -- one object
 
@@ -128,4 +127,15 @@ heap_changed m made mem numbers more st h a same objects = record {
   slots = a.slots;
   objects = objects;
   declared = same ∙ a.declared;
+}
+
+-- a machine with the same slots and heap
+pub memory_same : {m : Module} {made : List Made} {mem : Memory} {numbers : List Numbers} (st st' : MachineView) → st'.serials ≡ st.serials → st'.slots ≡ st.slots
+    → st'.slot_leaves ≡ st.slot_leaves → st'.heap ≡ st.heap → MemoryAgrees m made mem numbers st → MemoryAgrees m made mem numbers st'
+memory_same {m = m} {made = made} {mem = mem} {numbers = numbers} st st' serials slots leaves heap a = record {
+  stack = a.stack;
+  serials = serials ∙ a.serials;
+  slots = subst (λ xs. SlotsAgree (is_of_class m mem) made xs st'.slot_leaves) (sym slots) (subst (λ ls. SlotsAgree (is_of_class m mem) made st.slots ls) (sym leaves) a.slots);
+  objects = subst (λ h. ObjectsAgree m (is_of_class m mem) mem.objects numbers h.objects) (sym heap) a.objects;
+  declared = ap (λ h. h.declarations) heap ∙ a.declared;
 }

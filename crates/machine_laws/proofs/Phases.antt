@@ -1,6 +1,6 @@
 -- An object that isn't dead starts to deinitialise.
 use Rattle.std.proofs.Common.{◌≡◌, List, true, false, Option, Some, None, refl, sym, ap, ◌∙◌}
-use Rattle.std.specs.Prelude.{option_map, set, slice_get}
+use Rattle.std.specs.Prelude.{option_map, slice_get}
 use Rattle.std.proofs.lemmas.Bool.{false≢true}
 use Rattle.heap_model.specs.HeapCalls.{deiniting, started}
 use Rattle.heap_model.specs.HeapViews.{HeapObject, object_in}
@@ -14,7 +14,7 @@ use Rattle.sil_ast.specs.declared.place.ObjectId.{ObjectId}
 use Rattle.type_definitions.specs.Declarations.{declarations_of, is_class}
 use Rattle.value_parts.specs.inner.Suits.{ClassTest}
 use Rattle.machine_laws.proofs.Memories.{MemoryAgrees}
-use Rattle.machine_laws.proofs.Numbers.{alive_there, alive_was_made, object_there}
+use Rattle.machine_laws.proofs.Numbers.{alive_there, object_there}
 use Rattle.machine_laws.proofs.NumbersPut.{Found, found, missing, object_put, there}
 use Rattle.machine_laws.proofs.Objects.{ObjectAgrees, ObjectsAgree, freed, is_of_class, kept}
 use Rattle.machine_laws.proofs.PhasesWider.{memory_put}

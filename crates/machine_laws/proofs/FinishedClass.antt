@@ -1,0 +1,33 @@
+-- The class that a module made ready has at the place of a class among the declarations.
+use Rattle.std.proofs.Common.{◌≡◌, Option, Some, None, map, ap, ◌∙◌}
+use Rattle.std.specs.Prelude.{option_map, slice_get, unwrap_or}
+use Rattle.std.proofs.lemmas.Option.{none-some, same_Some, slice_get-map}
+use Rattle.heap_model.specs.HeapViews.{HeapView, class_in}
+use Rattle.holder_model.specs.Dropping.{deinits_of}
+use Rattle.machine_steps.specs.Steps.{class_of, no_class}
+use Rattle.numbered_form.specs.Names.{Name}
+use Rattle.ready_code.specs.ReadyModules.{IsReadyModule, ready_class, storage_of}
+use Rattle.ready_code.specs.declared.function.ReadyClass.{ReadyClass}
+use Rattle.ready_code.specs.declared.function.ReadyModule.{ReadyModule}
+use Rattle.sil_ast.specs.declared.decl.Decl.{Decl}
+use Rattle.sil_ast.specs.declared.decl.Decl.TheVariants.{Class, Enum, Struct}
+use Rattle.sil_ast.specs.declared.module.Module.{Module}
+use Rattle.sil_ast.specs.declared.place.ObjectId.{ObjectId}
+use Rattle.type_definitions.specs.Declarations.{Declarations, declarations_of}
+use Rattle.type_definitions.specs.Lookups.{class_at, class_named, fields_of}
+
+abbrev pub named_class : Declarations → Name → ReadyClass
+named_class d name = record { deinits = deinits_of d name; fields = map storage_of (fields_of d name) }
+
+class_made : (d : Declarations) (x : Option Decl) (name : Name) → class_named x ≡ Some name → option_map (ready_class d) x ≡ Some (named_class d name)
+class_made d None name e = absurd (none-some name e)
+class_made d (Some (Struct n fields)) name e = absurd (none-some name e)
+class_made d (Some (Enum n cases)) name e = absurd (none-some name e)
+class_made d (Some (Class n superclass fields)) name e = ap (λ z. Some (named_class d z)) (same_Some n name e)
+
+pub class_is_named : (m : Module) (ready : ReadyModule) (h : HeapView) (o : ObjectId) (name : Name) → IsReadyModule m ready
+    → class_at (declarations_of m) (class_in h o) ≡ Some name → class_of ready h o ≡ named_class (declarations_of m) name
+class_is_named m ready h o name is_ready e =
+    ap (λ c. unwrap_or c no_class)
+    (ap (λ cs. slice_get cs (class_in h o)) is_ready.classes ∙ slice_get-map (ready_class (declarations_of m)) m.decls (class_in h o)
+    ∙ class_made (declarations_of m) (slice_get m.decls (class_in h o)) name e)
