@@ -4,6 +4,9 @@ pub mod Memories
 pub mod Entries
 pub mod Tasks
 pub mod Agreement
+pub mod Ending
+pub mod LayoutsLists
+pub mod Layouts
 pub mod Grows
 pub mod GrowsBy
 pub mod Changes
@@ -18,8 +21,6 @@ pub mod Emptying
 pub mod SlotChanges
 pub mod ObjectMade
 pub mod Naming
-pub mod LayoutsLists
-pub mod Layouts
 pub mod GrowsTasks
 pub mod Puts
 pub mod GrowsSame
@@ -53,3 +54,7 @@ pub mod ObjectChanges
 pub mod WritingParts
 pub mod WritingInSlots
 pub mod WritingInFields
+pub mod FrameSteps
+pub mod RowSteps
+pub mod DropTasks
+pub mod FinishTasks

@@ -1,0 +1,116 @@
+-- A frame goes on: it stands at an instruction, and its operands are read.
+use Rattle.std.proofs.Common.{◌≡◌, ◌∙◌, ℕ, List, [], ◌∷◌, Bool, true, false, Some, refl, sym, ap, subst}
+use Rattle.std.specs.Prelude.{Err, Ok, find, slice_get}
+use Rattle.holder_model.specs.Data.{Datum}
+use Rattle.holder_model.specs.ModuleShapes.{shapes_in, shapes_of}
+use Rattle.holder_model.specs.States as low
+use Rattle.item_operands.specs.Parts.{inst_at}
+use Rattle.lowered_run.specs.LowEffects.{low_effect}
+use Rattle.lowered_run.specs.LowFrames.{LowFrame, read_all}
+use Rattle.lowered_run.specs.LowStepParts.{LowNext, LowState, fails, on_ok, values_taken}
+use Rattle.lowered_run.specs.LowSteps as run
+use Rattle.lowered_run.specs.declared.low_fault.LowFault.TheVariants as fault
+use Rattle.machine_steps.specs.declared.frame.Frame.{Frame}
+use Rattle.machine_steps.specs.declared.frame.Task.{Task}
+use Rattle.machine_steps.specs.declared.frame.Task.TheVariants as task
+use Rattle.machine_steps.specs.Operands.{faults, is_missing, unless_missing, with_all}
+use Rattle.machine_steps.specs.Rows as machine
+use Rattle.machine_steps.specs.Views.{MachineView, Went}
+use Rattle.numbered_form.specs.Lists.{Each}
+use Rattle.ready_code.specs.declared.function.ReadyModule.{ReadyModule}
+use Rattle.ready_code.specs.declared.op.ReadyOp.{ReadyOp}
+use Rattle.ready_code.specs.declared.op.ReadyOp.TheVariants as op
+use Rattle.ready_code.specs.ReadyOps.{IsReadyOp, operands_of}
+use Rattle.run_typing.specs.CallForms.{IsOf}
+use Rattle.run_typing.specs.Forms.{given_shape}
+use Rattle.run_typing.specs.RunTyped.{InstIsTyped, RunTyped}
+use Rattle.run_values.specs.Shapes.{Shape}
+use Rattle.sil_ast.specs.declared.function.Function.{Function}
+use Rattle.sil_ast.specs.declared.inst.Inst.{Inst}
+use Rattle.sil_ast.specs.declared.module.Module.{Module}
+use Rattle.sil_ast.specs.declared.place.ValueId.{ValueId}
+use Rattle.sil_cfg.specs.declared.item.Item.TheVariants as item
+use Rattle.type_definitions.specs.Declarations.{declarations_of}
+use Rattle.machine_laws.proofs.Agreement.{PartsAgree, ends_of}
+use Rattle.machine_laws.proofs.Ending.{Alike, alike_by, fault_alike}
+use Rattle.machine_laws.proofs.Entries.{Ends, FrameAgrees}
+use Rattle.machine_laws.proofs.Operands.{AllRead, OperandsRead, missing, operands_read, read}
+use Rattle.machine_laws.proofs.Slots.{Made}
+use Rattle.machine_laws.proofs.Tasks.{TasksAgree, to_take}
+
+-- the first task is a frame of the function f, over others. Of the run's state its tasks don't matter: `does` is told the frame and the others
+pub record Running (m : Module) (entry : Shape) (made : List Made) (s : LowState) (st : MachineView) (f : Function) (lf : LowFrame) (mf : Frame) (below : Ends)
+    (rest : List (low.Task LowFrame)) (rest' : List Task) : Type 0 where
+  pub parts : PartsAgree m made s st
+  pub frame : FrameAgrees m made s.memory st f lf mf below (ends_of st)
+  pub others : TasksAgree m entry made s.memory st (to_take (given_shape (declarations_of m) f)) below rest rest'
+  pub tasks : st.tasks ≡ task.Runs mf ∷ rest'
+
+-- it stands at an instruction, that is made ready
+pub record StandsAt (m : Module) (f : Function) (lf : LowFrame) (i : Inst) (o : ReadyOp) : Type 0 where
+  pub inst : inst_at f lf.at ≡ Some i
+  pub typed : InstIsTyped m f lf.at i
+  pub made_ready : IsReadyOp m f i o
+
+abbrev pub is_call : ReadyOp → Bool
+is_call (op.Look v) = false
+is_call (op.Literal n to) = false
+is_call (op.Function to) = false
+is_call (op.Compute o w left right other to) = false
+is_call (op.TrapWhereSet l) = false
+is_call (op.MakeObject k to) = false
+is_call (op.MakeSlot size to) = false
+is_call (op.RemoveSlot a) = false
+is_call (op.Same from to) = false
+is_call (op.Retain l) = false
+is_call (op.Drop l) = false
+is_call (op.Load a to) = false
+is_call (op.Store from a) = false
+is_call (op.LoadName w takes a to) = false
+is_call (op.StoreName w first from a) = false
+is_call (op.ForgetName w a) = false
+is_call (op.Group ls to) = false
+is_call (op.Choose k payload to) = false
+is_call (op.Member l from to) = false
+is_call (op.MemberAddress a from to) = false
+is_call (op.FieldAddress l k to) = false
+is_call (op.Call g operands values addresses to) = true
+is_call (op.CallOut g operands args to) = true
+
+-- values are read by both alike
+pub reads_alike : {m : Module} {entry : Shape} {made : List Made} {s : LowState} {st : MachineView} {f : Function} {lf : LowFrame} {mf : Frame} {below above : Ends}
+    → PartsAgree m made s st → FrameAgrees m made s.memory st f lf mf below above → (vs : List ValueId) → Each (IsOf f) vs → (go : List Datum → LowNext) (w : Went)
+    → ((xs : List Datum) → AllRead m made s.memory st f mf vs xs → Alike m entry (go xs) w) → Alike m entry (on_ok s go (read_all lf.values vs)) (with_all st mf vs w)
+reads_alike {m = m} {entry = entry} {made = made} {s = s} {st = st} {f = f} {lf = lf} {mf = mf} parts frame vs are_of go w then =
+    at (operands_read m made s.memory st frame vs are_of)
+  where
+    at : OperandsRead m made s.memory st f lf mf vs → Alike m entry (on_ok s go (read_all lf.values vs)) (with_all st mf vs w)
+    at (missing v found err) = alike_by (ap (on_ok s go) err) (ap (λ x. unless_missing x st w) found) (fault_alike parts (fault.Missing v))
+    at (read xs found ok all) = alike_by (ap (on_ok s go) ok) (ap (λ x. unless_missing x st w) found) (then xs all)
+
+-- an instruction reads its operands, and then it does by them what the machine does
+module _ (m : Module) (ready : ReadyModule) (entry : Shape) (bound : ℕ) (typed : RunTyped m) (made : List Made) (s : LowState) (st : MachineView) (f : Function) (lf : LowFrame)
+    (mf : Frame) (below : Ends) (rest : List (low.Task LowFrame)) (rest' : List Task) (running : Running m entry made s st f lf mf below rest rest')
+    (i : Inst) (o : ReadyOp) (stands : StandsAt m f lf i o) where
+  -- with the operands that were read: the run by what the instruction does, and the machine
+  abbrev pub DoAlike : List Datum → Type 0
+  DoAlike xs = Alike m entry
+      (run.performs m (shapes_of m) bound (run.with_names m (shapes_of m) bound s lf i xs) rest lf f (item.Inst lf.at)
+      (low_effect (declarations_of m) (shapes_of m) (shapes_in (shapes_of m) lf.function) s.memory i xs))
+      (machine.does ready bound st mf rest' o)
+
+  operands_are_of : Each (IsOf f) (operands_of i)
+  operands_are_of =
+      subst (Each (IsOf f)) stands.typed.takes ((typed.functions lf.function.0 f running.frame.there).items (item.Inst lf.at)).taken
+
+  pub row_alike : machine.read_by ready bound st mf rest' o ≡ operands_of i
+      → ((xs : List Datum) → AllRead m made s.memory st f mf (operands_of i) xs → DoAlike xs)
+      → Alike m entry (run.does m (shapes_of m) bound s rest lf f i) (machine.performs ready bound st mf rest' o)
+  row_alike reads then =
+      alike_by (ap (λ vs. on_ok s going (read_all lf.values vs)) stands.typed.takes) (ap (λ vs. with_all st mf vs (machine.does ready bound st mf rest' o)) reads)
+      (reads_alike running.parts running.frame (operands_of i) operands_are_of going (machine.does ready bound st mf rest' o) then)
+    where
+      going : List Datum → LowNext
+      going xs =
+          run.performs m (shapes_of m) bound (run.with_names m (shapes_of m) bound s lf i xs) rest lf f (item.Inst lf.at)
+          (low_effect (declarations_of m) (shapes_of m) (shapes_in (shapes_of m) lf.function) s.memory i xs)
