@@ -18,7 +18,7 @@ pub mod HeldObjects
 pub mod Held
 pub mod Writing
 pub mod Emptying
-pub mod SlotChanges
+pub mod SlotMade
 pub mod ObjectMade
 pub mod Naming
 pub mod GrowsTasks
@@ -58,3 +58,6 @@ pub mod FrameSteps
 pub mod RowSteps
 pub mod DropTasks
 pub mod FinishTasks
+pub mod SlotsGone
+pub mod SlotsMade
+pub mod SlotRemoved
