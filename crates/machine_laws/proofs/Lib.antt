@@ -73,6 +73,10 @@ pub mod Rows
 pub mod WritingParts
 pub mod WritingInSlots
 pub mod WritingInFields
+pub mod FrameSteps
+pub mod RowSteps
+pub mod DropTasks
+pub mod FinishTasks
 pub mod SlotsGone
 pub mod SlotsMade
 pub mod SlotRemoved
