@@ -10,3 +10,4 @@ pub mod Computing
 pub mod Groups
 pub mod Choices
 pub mod Addresses
+pub mod References

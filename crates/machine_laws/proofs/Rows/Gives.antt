@@ -90,7 +90,7 @@ module _ {m : Module} {made : List Made} {mem : Memory} {st : MachineView} {f : 
 -- what the instruction gives, in a memory that stays
 
 module _ {m : Module} {entry : Shape} (r : Runs m entry) where
-  same_numbers : numbers_for r.s.memory r.s.numbers ≡ r.s.numbers
+  pub same_numbers : numbers_for r.s.memory r.s.numbers ≡ r.s.numbers
   same_numbers = numbers_stay m (is_of_class m r.s.memory) r.s.memory r.s.numbers r.st.heap r.running.parts.memory.objects
 
   -- a fault of both, whatever the numbers have become
