@@ -52,6 +52,7 @@ pub mod FrameReady
 pub mod FrameGoes
 pub mod CallingValues
 pub mod Edging
+pub mod EdgingBranches
 pub mod RowSteps
 pub mod DropTasks
 pub mod FinishTasks

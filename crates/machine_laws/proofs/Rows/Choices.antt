@@ -66,7 +66,7 @@ shape_by d (Some t) g s e = by_target (target t) e
     by_target None is = cc
     by_target (Some u) is = absurd (cc)
 
-shape_told : (m : Module) (g : FuncId) (f : Function) → slice_get m.functions g.0 ≡ Some f → (v : ValueId) (s : Shape) → form_of (declarations_of m) f v ≡ OfValue s
+pub shape_told : (m : Module) (g : FuncId) (f : Function) → slice_get m.functions g.0 ≡ Some f → (v : ValueId) (s : Shape) → form_of (declarations_of m) f v ≡ OfValue s
     → shape_at (shapes_in (shapes_of m) g) v ≡ s
 shape_told m g f there v s form =
     ap (λ o. shape_at (unwrap_or o []) v) (slice_get-map (function_shapes (declarations_of m)) m.functions g.0 ∙ ap (option_map (function_shapes (declarations_of m))) there)
