@@ -53,35 +53,7 @@ use Rattle.machine_laws.proofs.Rows.Effects.{RowAlike, Runs, d, forms_by, perfor
 use Rattle.machine_laws.proofs.Rows.Forms.{ChoiceForms, FormsAt}
 use Rattle.machine_laws.proofs.Rows.Gives.{first_form, gives_value, none_read, one_of, one_read}
 use Rattle.machine_laws.proofs.Rows.Groups.{same_value_form}
-use Rattle.machine_laws.proofs.Slots.{Made}
-
--- the shape that a run has of a value is the one in its form
-
-shape_by : (d : Declarations) (t : Option TypeName) (g : Option FuncId) (s : Shape) → form_by d t g ≡ OfValue s → value_shape d t ≡ s
-shape_by d None None s e = absurd (cc)
-shape_by d None (Some g) s e = absurd (cc)
-shape_by d (Some t) g s e = by_target (target t) e
-  where
-    by_target : (u : Option TypeName) → form_with d t u ≡ OfValue s → shape_of d (unwrap_or u t) ≡ s
-    by_target None is = cc
-    by_target (Some u) is = absurd (cc)
-
-pub shape_told : (m : Module) (g : FuncId) (f : Function) → slice_get m.functions g.0 ≡ Some f → (v : ValueId) (s : Shape) → form_of (declarations_of m) f v ≡ OfValue s
-    → shape_at (shapes_in (shapes_of m) g) v ≡ s
-shape_told m g f there v s form =
-    ap (λ o. shape_at (unwrap_or o []) v) (slice_get-map (function_shapes (declarations_of m)) m.functions g.0 ∙ ap (option_map (function_shapes (declarations_of m))) there)
-    ∙ ap (λ o. unwrap_or o Unknown) (slice_get-map (value_shape (declarations_of m)) (value_types (declarations_of m) f) v.0)
-    ∙ by_type (slice_get (value_types (declarations_of m) f) v.0) refl
-  where
-    by_type : (t : Option (Option TypeName)) → slice_get (value_types (declarations_of m) f) v.0 ≡ t
-        → unwrap_or (option_map (value_shape (declarations_of m)) t) Unknown ≡ s
-    by_type t e =
-        at t (shape_by (declarations_of m) (unwrap_or t None) (function_at (value_functions f) v.0) s
-        (ap (λ o. form_by (declarations_of m) (unwrap_or o None) (function_at (value_functions f) v.0)) (sym e) ∙ form))
-      where
-        at : (t : Option (Option TypeName)) → value_shape (declarations_of m) (unwrap_or t None) ≡ s → unwrap_or (option_map (value_shape (declarations_of m)) t) Unknown ≡ s
-        at None is = is
-        at (Some t) is = is
+use Rattle.machine_laws.proofs.Rows.Shapes.{shape_in_form, shape_told}
 
 -- a choice without a payload, and with one
 
@@ -105,7 +77,7 @@ module _ {m : Module} {entry : Shape} (r : Runs m entry) where
       → case_place (result_shape_of (d r) (shapes_of m) (values r) r.s.memory r.i r.i.results) r.i.member ≡ Some k
   case_found u s k results form at =
       ap (λ t. case_place t r.i.member)
-      (ap (result_shape_of (d r) (shapes_of m) (values r) r.s.memory r.i) results ∙ shape_told m r.lf.function r.f r.running.frame.there u s form) ∙ at
+      (ap (result_shape_of (d r) (shapes_of m) (values r) r.s.memory r.i) results ∙ shape_told m r.lf.function r.f r.running.frame.there u ∙ ap shape_in_form form) ∙ at
 
   pub chooses_plain_alike : (u : ValueId) (s : Shape) (k : ℕ) → effect_of r.i.op ≡ row.ChoosesCase → operands_of r.i ≡ [] → r.i.results ≡ u ∷ []
       → form_of (d r) r.f u ≡ OfValue s → case_place s r.i.member ≡ Some k → StandsAt m r.f r.lf r.i (op.Choose k None (local (d r) r.f u))

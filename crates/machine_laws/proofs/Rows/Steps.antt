@@ -70,10 +70,11 @@ defined_by f lf i e = ap (λ o. results_in o ++ []) e ∙ append-nil i.results
 
 module _ {m : Module} {entry : Shape} {made : List Made} {s : LowState} {st : MachineView} {f : Function} {lf : LowFrame} {mf : Frame} {below : Ends}
     {rest : List (low.Task LowFrame)} {rest' : List Task} (running : Running m entry made s st f lf mf below rest rest') where
-  -- memory changes, and the slots of frames stay
-  pub memory_changes : {mem' : Memory} {numbers' : List Numbers} {st' : MachineView} (changes : Changes m made s.memory st mem' numbers' st') → SameSlots st st'
-      → Running m entry changes.made' (record s { memory = mem'; numbers = numbers' }) st' f lf mf below rest rest'
-  memory_changes {mem' = mem'} {numbers' = numbers'} {st' = st'} changes same = record {
+  -- memory changes, and the frame agrees with what it has become
+  pub frame_changes : {mem' : Memory} {numbers' : List Numbers} {st' : MachineView} {lf' : LowFrame} (changes : Changes m made s.memory st mem' numbers' st')
+      → FrameAgrees m changes.made' mem' st' f lf' mf below (ends_of st') → KeepsBelow below st st'
+      → Running m entry changes.made' (record s { memory = mem'; numbers = numbers' }) st' f lf' mf below rest rest'
+  frame_changes {mem' = mem'} changes frame keeps = record {
     parts = record {
       memory = changes.agrees;
       events = changes.frames.events ∙ running.parts.events;
@@ -81,18 +82,25 @@ module _ {m : Module} {entry : Shape} {made : List Made} {s : LowState} {st : Ma
       retains = changes.frames.retains ∙ running.parts.retains;
       releases = changes.frames.releases ∙ running.parts.releases;
     };
-    frame = subst (λ e. FrameAgrees m changes.made' mem' st' f lf mf below e) (sym ends) (frame_grows changes.grows (keeps (ends_of st)) running.frame);
-    others = tasks_keep changes.grows (keeps below) phases running.others;
+    frame = frame;
+    others = tasks_keep changes.grows keeps phases running.others;
     tasks = changes.frames.tasks ∙ running.tasks;
   }
+    where
+      phases : PhasesStay s.memory mem' rest'
+      phases o now = changes.phases o (alive_was_made s.memory o (ap is_dead_phase (finishing_phase running.others o now)))
+
+  -- memory changes, and the slots of frames stay
+  pub memory_changes : {mem' : Memory} {numbers' : List Numbers} {st' : MachineView} (changes : Changes m made s.memory st mem' numbers' st') → SameSlots st st'
+      → Running m entry changes.made' (record s { memory = mem'; numbers = numbers' }) st' f lf mf below rest rest'
+  memory_changes {mem' = mem'} {st' = st'} changes same =
+      frame_changes changes (subst (λ e. FrameAgrees m changes.made' mem' st' f lf mf below e) (sym ends) (frame_grows changes.grows (keeps (ends_of st)) running.frame)) (keeps below)
     where
       ends : ends_of st' ≡ ends_of st
       ends = same_ends st st' (ap length changes.frames.there) (ap length changes.frames.leaves) (ap length changes.frames.addresses)
           (sym (length-map st'.slots serial_of) ∙ ap length same ∙ length-map st.slots serial_of) (ap length changes.frames.waiting)
       keeps : (e : Ends) → KeepsBelow e st st'
       keeps e = keeps_slots e st st' changes.frames.there changes.frames.leaves changes.frames.addresses changes.frames.waiting same
-      phases : PhasesStay s.memory mem' rest'
-      phases o now = changes.phases o (alive_was_made s.memory o (ap is_dead_phase (finishing_phase running.others o now)))
 
   -- it is given a value
 
