@@ -12,3 +12,4 @@ pub mod Shapes
 pub mod Choices
 pub mod Addresses
 pub mod References
+pub mod Objects

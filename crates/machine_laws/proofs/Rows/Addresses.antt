@@ -36,9 +36,7 @@ use Rattle.machine_laws.proofs.Objects.{is_of_class}
 use Rattle.machine_laws.proofs.Operands.{read_place, read_value}
 use Rattle.machine_laws.proofs.Rows.Effects.{RowAlike, Runs, d, does_at, forms_by, performed, results_of, row_by, values}
 use Rattle.machine_laws.proofs.Rows.Gives.{faults_alike, first_form, gives_place, one_of, one_read}
-
-same_place_form : (s t : Shape) → OfPlace s ≡ OfPlace t → s ≡ t
-same_place_form s t e = cc
+use Rattle.machine_laws.proofs.Rows.Shapes.{same_place_form}
 
 module _ {m : Module} {entry : Shape} (r : Runs m entry) where
   pub member_address_alike : (v u : ValueId) (s : Shape) (k : ℕ) → effect_of r.i.op ≡ row.AddressesMember → operands_of r.i ≡ v ∷ [] → r.i.results ≡ u ∷ []

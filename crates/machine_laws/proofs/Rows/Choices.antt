@@ -52,8 +52,7 @@ use Rattle.machine_laws.proofs.Operands.{AllRead, more, none, read_value}
 use Rattle.machine_laws.proofs.Rows.Effects.{RowAlike, Runs, d, forms_by, performed, results_of, row_by, values}
 use Rattle.machine_laws.proofs.Rows.Forms.{ChoiceForms, FormsAt}
 use Rattle.machine_laws.proofs.Rows.Gives.{first_form, gives_value, none_read, one_of, one_read}
-use Rattle.machine_laws.proofs.Rows.Groups.{same_value_form}
-use Rattle.machine_laws.proofs.Rows.Shapes.{shape_in_form, shape_told}
+use Rattle.machine_laws.proofs.Rows.Shapes.{same_value_form, shape_in_form, shape_told}
 
 -- a choice without a payload, and with one
 

@@ -52,6 +52,7 @@ use Rattle.machine_laws.proofs.Operands.{AllRead, more, none, read_value}
 use Rattle.machine_laws.proofs.Rows.Effects.{RowAlike, Runs, d, forms_by, performed, results_of, row_by, values}
 use Rattle.machine_laws.proofs.Rows.Forms.{ChoiceForms, FormsAt}
 use Rattle.machine_laws.proofs.Rows.Gives.{first_form, gives_value, none_read, one_of, one_read, other_forms, same_head}
+use Rattle.machine_laws.proofs.Rows.Shapes.{same_value_form}
 use Rattle.machine_laws.proofs.Slots.{Made}
 
 -- groups
@@ -95,9 +96,6 @@ module _ {m : Module} {made : List Made} {mem : Memory} {st : MachineView} (f : 
         leaves =
             ap (λ ls. ls ++ flat_map (contents st mf) (map (local (declarations_of m) f) vs)) first.3 ∙ ap (λ ls. leaves_of s first.0 ++ ls) others.leaves;
       }
-
-pub same_value_form : (s t : Shape) → OfValue s ≡ OfValue t → s ≡ t
-same_value_form s t e = cc
 
 module _ {m : Module} {entry : Shape} (r : Runs m entry) where
   pub group_alike : (u : ValueId) → effect_of r.i.op ≡ row.Groups → r.i.results ≡ u ∷ []

@@ -14,6 +14,12 @@ use Rattle.sil_types.specs.Typing.Shapes.{target}
 use Rattle.sil_types.specs.Typing.Values.{function_at, type_at, value_functions, value_types}
 use Rattle.type_definitions.specs.Declarations.{Declarations, declarations_of}
 
+pub same_value_form : (s t : Shape) → OfValue s ≡ OfValue t → s ≡ t
+same_value_form s t e = cc
+
+pub same_place_form : (s t : Shape) → OfPlace s ≡ OfPlace t → s ≡ t
+same_place_form s t e = cc
+
 -- of a value, or of what is at an address
 abbrev pub shape_in_form : Form → Shape
 shape_in_form (OfValue s) = s
