@@ -1,17 +1,17 @@
 -- Addresses of members and of fields.
-use Rattle.std.proofs.Common.{◌≡◌, ◌∙◌, ℕ, List, [], ◌∷◌, true, false, Bool, Option, None, Some, cond, refl, sym, ap, subst}
+use Rattle.std.proofs.Common.{◌≡◌, ◌∙◌, ℕ, [], ◌∷◌, true, false, Bool, None, Some, cond, refl, sym, ap}
 use Rattle.std.proofs.lemmas.Option.{same_Some}
-use Rattle.std.specs.Prelude.{option_and_then, option_map, slice_get}
-use Rattle.holder_model.specs.Data.{AddressOf, Datum, ValueOf, references_in}
+use Rattle.std.specs.Prelude.{option_map, slice_get}
+use Rattle.holder_model.specs.Data.{AddressOf, ValueOf}
 use Rattle.holder_model.specs.Effects as effects
-use Rattle.holder_model.specs.Effects.{Effect, effect_of, names_field, names_field_of, names_member, part_number, the_place, the_value, with_some}
+use Rattle.holder_model.specs.Effects.{Effect, effect_of, names_field, names_field_of, names_member, part_number, the_place, with_some}
 use Rattle.holder_model.specs.ModuleShapes.{field_shapes, shapes_of}
 use Rattle.holder_model.specs.declared.row_effect.RowEffect.TheVariants as row
 use Rattle.heap_model.specs.HeapViews.{is_dead_in}
 use Rattle.lowered_run.specs.LowEffects.{dead_or, unless_dead}
 use Rattle.lowered_run.specs.declared.low_fault.LowFault.{LowFault}
 use Rattle.lowered_run.specs.declared.low_fault.LowFault.TheVariants as fault
-use Rattle.machine_steps.specs.Operands.{address_in, contents, faults, gives_address, objects_among}
+use Rattle.machine_steps.specs.Operands.{address_in, faults, gives_address, objects_among}
 use Rattle.machine_steps.specs.Places.{field_address}
 use Rattle.machine_steps.specs.Views.{Went}
 use Rattle.ready_code.specs.Layout.{local, local_address}
@@ -20,7 +20,7 @@ use Rattle.ready_code.specs.declared.op.ReadyOp.TheVariants as op
 use Rattle.run_typing.specs.Forms.{OfPlace, OfValue, form_of}
 use Rattle.run_values.specs.Leaves.{leaves_of}
 use Rattle.run_values.specs.Memory.{is_dead}
-use Rattle.run_values.specs.Places.{Place, field_in, member_place, part_of}
+use Rattle.run_values.specs.Places.{field_in, part_of}
 use Rattle.run_values.specs.Shapes.{Reference, Shape, member_shapes}
 use Rattle.run_values.specs.Values as value
 use Rattle.sil_ast.specs.declared.module.Module.{Module}
@@ -29,7 +29,6 @@ use Rattle.sil_ast.specs.declared.place.ValueId.{ValueId}
 use Rattle.value_parts.proofs.Plain.{suits_reference}
 use Rattle.machine_laws.proofs.Ending.{Alike, alike_by}
 use Rattle.machine_laws.proofs.FrameSteps.{StandsAt}
-use Rattle.machine_laws.proofs.Memories.{NamesPlace}
 use Rattle.machine_laws.proofs.Naming.{field_at, field_named, further, member_named}
 use Rattle.machine_laws.proofs.Numbers.{dead_agrees}
 use Rattle.machine_laws.proofs.Objects.{is_of_class}

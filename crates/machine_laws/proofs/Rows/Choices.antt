@@ -1,56 +1,35 @@
 -- The cases of an enum: their leaves are a tag, those of the payload, and blanks.
-use Rattle.std.proofs.Common.{◌≡◌, ◌+◌, ◌-◌, ◌∙◌, ◌++◌, ℕ, List, [], ◌∷◌, true, false, Option, None, Some, length, map, refl, sym, ap, subst, arith}
-use Rattle.std.proofs.lemmas.Bool.{and_from}
-use Rattle.std.proofs.lemmas.Option.{same_Some, slice_get-map}
-use Rattle.std.specs.Prelude.{drop, option_and_then, option_map, replicate, slice_get, take, unwrap_or}
-use Rattle.std.specs.List.{flat_map}
-use Rattle.std.specs.Option.{option_to_list}
-use Rattle.holder_model.specs.Data.{Datum, ValueOf, values_of, with_first}
-use Rattle.holder_model.specs.Effects as effects
-use Rattle.holder_model.specs.Effects.{chooses, effect_of, gives_member, part_number, result_shape_of, the_value, with_some}
-use Rattle.holder_model.specs.ModuleShapes.{case_place, function_shapes, shape_at, shapes_in, shapes_of, value_shape}
+use Rattle.std.proofs.Common.{◌≡◌, ◌+◌, ◌-◌, ◌∙◌, ◌++◌, ℕ, List, [], ◌∷◌, None, Some, length, refl, sym, ap, subst, arith}
+use Rattle.std.proofs.lemmas.Option.{same_Some}
+use Rattle.std.specs.Prelude.{replicate, slice_get}
+use Rattle.holder_model.specs.Data.{values_of}
+use Rattle.holder_model.specs.Effects.{chooses, effect_of, result_shape_of, with_some}
+use Rattle.holder_model.specs.ModuleShapes.{case_place, shapes_of}
 use Rattle.holder_model.specs.declared.row_effect.RowEffect.TheVariants as row
 use Rattle.machine_steps.specs.Operands.{contents}
-use Rattle.machine_steps.specs.Rows.{value_of}
-use Rattle.machine_steps.specs.Views.{MachineView}
-use Rattle.machine_steps.specs.declared.frame.Frame.{Frame}
 use Rattle.ready_code.specs.Layout.{leaves_in, local, size_of}
-use Rattle.ready_code.specs.ReadyOps.{leaf_offset, operands_of}
-use Rattle.ready_code.specs.declared.local.Local.{Local}
+use Rattle.ready_code.specs.ReadyOps.{operands_of}
 use Rattle.ready_code.specs.declared.op.ReadyOp.TheVariants as op
-use Rattle.run_typing.specs.Forms.{Form, OfFunction, OfNothing, OfPlace, OfValue, form_by, form_of, form_with, forms_of}
-use Rattle.run_typing.specs.RowForms.{IsGroup}
-use Rattle.run_values.specs.Fits.{fit_each}
+use Rattle.run_typing.specs.Forms.{Form, OfValue, form_of, forms_of}
 use Rattle.run_values.specs.Layers.{CaseLayer}
 use Rattle.run_values.specs.Leaves.{leaves_of}
-use Rattle.run_values.specs.Memory.{Memory}
-use Rattle.run_values.specs.Shapes.{Shape, Unknown, case_shapes, member_shapes, shape_of}
+use Rattle.run_values.specs.Shapes.{Shape, case_shapes}
 use Rattle.run_values.specs.Values as value
-use Rattle.run_values.specs.Values.{Value, grouped}
+use Rattle.run_values.specs.Values.{Value}
 use Rattle.run_values.specs.declared.leaf.Leaf.{Leaf}
 use Rattle.run_values.specs.declared.leaf.Leaf.TheVariants as leaf
-use Rattle.sil_ast.specs.declared.function.Function.{Function}
 use Rattle.sil_ast.specs.declared.inst.Inst.{Inst}
 use Rattle.sil_ast.specs.declared.module.Module.{Module}
-use Rattle.sil_ast.specs.declared.place.FuncId.{FuncId}
 use Rattle.sil_ast.specs.declared.place.ValueId.{ValueId}
-use Rattle.sil_ast.specs.declared.type_name.TypeName.{TypeName}
-use Rattle.sil_types.specs.Typing.Shapes.{target}
-use Rattle.sil_types.specs.Typing.Values.{function_at, type_at, value_functions, value_types}
-use Rattle.type_definitions.specs.Declarations.{Declarations, declarations_of}
-use Rattle.value_parts.specs.inner.LeafLists.{leaf_lists}
-use Rattle.value_parts.specs.inner.Suits.{ClassTest, suits}
 use Rattle.value_parts.proofs.Cases.{case_leaves, case_suits, full_leaves, full_suits}
-use Rattle.value_parts.proofs.Groups.{member_leaves, struct_leaves, struct_suits, tuple_leaves, tuple_suits}
 use Rattle.value_parts.proofs.LeafParts.{suits_leaves_length}
-use Rattle.value_parts.proofs.Members.{has_member}
 use Rattle.value_parts.proofs.Suiting.{suits_fits}
 use Rattle.machine_laws.proofs.Ending.{alike_by}
 use Rattle.machine_laws.proofs.FrameSteps.{StandsAt}
 use Rattle.machine_laws.proofs.Objects.{is_of_class}
-use Rattle.machine_laws.proofs.Operands.{AllRead, more, none, read_value}
+use Rattle.machine_laws.proofs.Operands.{read_value}
 use Rattle.machine_laws.proofs.Rows.Effects.{RowAlike, Runs, d, forms_by, performed, results_of, row_by, values}
-use Rattle.machine_laws.proofs.Rows.Forms.{ChoiceForms, FormsAt}
+use Rattle.machine_laws.proofs.Rows.Forms.{ChoiceForms}
 use Rattle.machine_laws.proofs.Rows.Gives.{first_form, gives_value, none_read, one_of, one_read}
 use Rattle.machine_laws.proofs.Rows.Shapes.{same_value_form, shape_in_form, shape_told}
 

@@ -1,5 +1,5 @@
 -- Builtin operations: the machine computes the leaves of what the run computes.
-use Rattle.std.proofs.Common.{◌≡◌, ◌∙◌, ℕ, ℤ, List, [], ◌∷◌, Bool, true, false, Option, None, Some, map, not, pos, refl, sym, ap, subst}
+use Rattle.std.proofs.Common.{◌≡◌, ◌∙◌, ℕ, ℤ, List, [], ◌∷◌, Bool, true, Some, map, pos, refl, sym, ap, subst}
 use Rattle.std.proofs.lemmas.Bool.{and_from}
 use Rattle.std.proofs.lemmas.Option.{same_Some}
 use Rattle.std.specs.Prelude.{bit_and, bit_or, bit_xor, option_and_then}
@@ -8,22 +8,20 @@ use Rattle.builtin_names.specs.declared.names.Operation.{Operation}
 use Rattle.builtin_names.specs.declared.names.Operation.TheVariants as o
 use Rattle.builtin_names.specs.declared.names.Width.{Width}
 use Rattle.holder_model.specs.Builtins.{bit, builtin_value, combined, computed, computed_by, magnitude, signed, unsigned}
-use Rattle.holder_model.specs.Data.{Datum, ValueOf, all_of, values_of}
+use Rattle.holder_model.specs.Data.{all_of, values_of}
 use Rattle.holder_model.specs.Effects as effects
 use Rattle.holder_model.specs.Effects.{effect_of, with_some}
 use Rattle.holder_model.specs.declared.row_effect.RowEffect.TheVariants as row
 use Rattle.machine_steps.specs.Computing.{computed_leaves}
-use Rattle.numbered_form.specs.inner.Literals.{is_residue}
 use Rattle.ready_code.specs.Layout.{local}
 use Rattle.ready_code.specs.ReadyOps.{first_of, operands_of}
 use Rattle.ready_code.specs.declared.op.ReadyOp.TheVariants as op
 use Rattle.run_typing.specs.Forms.{Form, OfValue, form_of, forms_of}
 use Rattle.run_typing.specs.RowForms.{computed_shape, operand_shapes, shape_by, shapes_by}
 use Rattle.run_values.specs.Leaves.{leaves_of}
-use Rattle.run_values.specs.Shapes.{Integer, Shape}
+use Rattle.run_values.specs.Shapes.{Shape}
 use Rattle.run_values.specs.Values as value
 use Rattle.run_values.specs.Values.{integer_of}
-use Rattle.run_values.specs.declared.leaf.Leaf.{Leaf}
 use Rattle.sil_ast.specs.declared.module.Module.{Module}
 use Rattle.sil_ast.specs.declared.place.ValueId.{ValueId}
 use Rattle.sil_types.specs.Typing.Builtins.{Builtin, Sort, bits, builtin_named, combining, comparing, overflowing, sort_of}

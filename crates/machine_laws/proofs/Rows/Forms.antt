@@ -1,5 +1,5 @@
 -- What typing says of an instruction, by what its row does: the forms of its operands, and of its results.
-use Rattle.std.proofs.Common.{◌≡◌, ℕ, ℤ, List, [], ◌∷◌, true, None, Option, Some, map, refl, sym, subst}
+use Rattle.std.proofs.Common.{◌≡◌, ℕ, ℤ, List, [], ◌∷◌, true, None, Some, map, refl, sym, subst}
 use Rattle.std.specs.Prelude.{option_and_then, slice_get}
 use Rattle.holder_model.specs.Effects.{effect_of, part_number}
 use Rattle.holder_model.specs.ModuleShapes.{case_place, field_shapes, shapes_of}

@@ -3,7 +3,7 @@ use Rattle.std.proofs.Common.{◌≡◌, ◌∙◌, ℕ, List, [], ◌∷◌, Op
 use Rattle.std.specs.Prelude.{Ok, set}
 use Rattle.holder_model.specs.Data.{AddressOf, Datum, FunctionOf, ValueOf}
 use Rattle.holder_model.specs.Effects.{Change, unchanged}
-use Rattle.holder_model.specs.ModuleShapes.{ModuleShapes, shapes_of}
+use Rattle.holder_model.specs.ModuleShapes.{shapes_of}
 use Rattle.holder_model.specs.Outcomes.{Numbers}
 use Rattle.holder_model.specs.Standing.{point_behind}
 use Rattle.holder_model.specs.States as low

@@ -1,22 +1,18 @@
 -- New objects and slots, and slots that go.
-use Rattle.std.proofs.Common.{◌≡◌, ◌≤◌, ◌∙◌, ◌+◌, ◌++◌, ℕ, List, [], ◌∷◌, true, Option, Some, cond, length, refl, sym, ap, subst, arith}
+use Rattle.std.proofs.Common.{◌≡◌, ◌≤◌, ◌∙◌, ◌+◌, ℕ, [], ◌∷◌, Some, cond, length, refl, sym, ap, subst, arith}
 use Rattle.std.proofs.lemmas.List.{length-append, length-take-le}
-use Rattle.std.proofs.lemmas.Option.{slice_get_within}
-use Rattle.std.specs.Prelude.{Ok, is_some, option_and_then, set}
+use Rattle.std.specs.Prelude.{is_some, option_and_then, set}
 use Rattle.heap_model.specs.HeapCalls.{allocated_in}
-use Rattle.holder_model.specs.Data.{AddressOf, Datum, ValueOf, as_place}
+use Rattle.holder_model.specs.Data.{AddressOf, as_place}
 use Rattle.holder_model.specs.Effects as effects
 use Rattle.holder_model.specs.Effects.{Change, ClosesSlot, OpensSlot, effect_of, makes_object, only, result_shape_of, unchanged, with_some}
 use Rattle.holder_model.specs.ModuleShapes.{shapes_of}
 use Rattle.holder_model.specs.declared.row_effect.RowEffect.TheVariants as row
 use Rattle.item_operands.specs.Parts.{inst_at}
 use Rattle.lowered_run.specs.LowEffects.{removes}
-use Rattle.lowered_run.specs.LowFrames.{LowFrame}
 use Rattle.lowered_run.specs.LowStepParts.{on_ok}
-use Rattle.lowered_run.specs.Stored.{new_numbers}
 use Rattle.lowered_run.specs.declared.low_fault.LowFault.TheVariants as fault
-use Rattle.machine_steps.specs.declared.address.OpenSlot.{OpenSlot}
-use Rattle.machine_steps.specs.Operands.{address_in, faults, gives, gives_address, put_address}
+use Rattle.machine_steps.specs.Operands.{address_in, faults, gives, gives_address}
 use Rattle.machine_steps.specs.Places.{made_object, new_slot, removes_home, slot_address, with_slot}
 use Rattle.machine_steps.specs.Views.{MachineView, Went}
 use Rattle.numbered_form.specs.Names.{Name}
@@ -26,25 +22,20 @@ use Rattle.ready_code.specs.declared.op.ReadyOp.TheVariants as op
 use Rattle.run_typing.specs.CallForms.{IsOf}
 use Rattle.run_typing.specs.Forms.{OfPlace, OfValue, form_of}
 use Rattle.run_typing.specs.StorageForms.{FieldShapeIs}
-use Rattle.run_values.specs.Leaves.{leaves_of}
 use Rattle.run_values.specs.Memory.{Memory, new_object}
 use Rattle.run_values.specs.Places.{Place, removed}
 use Rattle.run_values.specs.Shapes.{Reference, Shape, class_in}
 use Rattle.run_values.specs.Values as value
 use Rattle.run_values.specs.declared.leaf.Leaf.TheVariants as leaf
-use Rattle.sil_ast.specs.declared.decl.Storage.{Storage}
 use Rattle.sil_ast.specs.declared.module.Module.{Module}
-use Rattle.sil_ast.specs.declared.place.ObjectId.{ObjectId}
 use Rattle.sil_ast.specs.declared.place.ValueId.{ValueId}
 use Rattle.type_definitions.specs.Lookups.{class_at}
 use Rattle.machine_laws.proofs.Agreement.{ends_of}
-use Rattle.machine_laws.proofs.Changes.{Changes}
 use Rattle.machine_laws.proofs.Ending.{Alike, alike_by, fault_alike}
 use Rattle.machine_laws.proofs.Entries.{Ends, FrameAgrees}
 use Rattle.machine_laws.proofs.FrameSteps.{Running, StandsAt}
-use Rattle.machine_laws.proofs.Memories.{NamesPlace}
 use Rattle.machine_laws.proofs.Numbers.{numbers_stay}
-use Rattle.machine_laws.proofs.ObjectMade.{MakesObject, object_made, with_new_object}
+use Rattle.machine_laws.proofs.ObjectMade.{MakesObject, object_made}
 use Rattle.machine_laws.proofs.Objects.{is_of_class}
 use Rattle.machine_laws.proofs.Operands.{read_place}
 use Rattle.machine_laws.proofs.PushesSlots.{newest_slot, slot_closes, slot_opens}

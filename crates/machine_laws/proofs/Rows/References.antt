@@ -1,26 +1,21 @@
 -- References are made once more, or dropped.
-use Rattle.std.proofs.Common.{◌≡◌, ◌∙◌, ℕ, List, [], ◌∷◌, true, Some, refl, sym, ap, subst}
-use Rattle.heap_model.specs.HeapViews.{HeapView}
-use Rattle.holder_model.specs.Data.{Datum, ValueOf, references_in}
+use Rattle.std.proofs.Common.{◌≡◌, ◌∙◌, List, [], ◌∷◌, Some, refl, sym, ap}
+use Rattle.holder_model.specs.Data.{references_in}
 use Rattle.holder_model.specs.Effects as effects
 use Rattle.holder_model.specs.Effects.{Change, effect_of, only, unchanged, with_some}
-use Rattle.holder_model.specs.ModuleShapes.{shapes_of}
-use Rattle.holder_model.specs.Outcomes.{Numbers}
 use Rattle.holder_model.specs.Standing.{point_behind}
 use Rattle.holder_model.specs.States as low
 use Rattle.holder_model.specs.declared.row_effect.RowEffect.TheVariants as row
-use Rattle.lowered_run.specs.LowStepParts.{LowNext, retains_each}
 use Rattle.lowered_run.specs.declared.low_fault.LowFault.TheVariants as fault
-use Rattle.machine_steps.specs.Operands.{contents, go_on, objects_among}
+use Rattle.machine_steps.specs.Operands.{go_on, objects_among}
 use Rattle.machine_steps.specs.Places.{drops}
 use Rattle.machine_steps.specs.Turning.{retains_all}
-use Rattle.machine_steps.specs.Views.{Went}
 use Rattle.ready_code.specs.Layout.{local}
 use Rattle.ready_code.specs.ReadyOps.{operands_of}
 use Rattle.ready_code.specs.declared.op.ReadyOp.TheVariants as op
 use Rattle.run_typing.specs.Forms.{OfValue, form_of}
 use Rattle.run_values.specs.Shapes.{Shape}
-use Rattle.run_values.specs.Values.{Value, references_of}
+use Rattle.run_values.specs.Values.{references_of}
 use Rattle.sil_ast.specs.declared.module.Module.{Module}
 use Rattle.sil_ast.specs.declared.place.ObjectId.{ObjectId}
 use Rattle.sil_ast.specs.declared.place.ValueId.{ValueId}

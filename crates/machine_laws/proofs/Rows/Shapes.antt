@@ -1,5 +1,5 @@
 -- The shape that a run has of a function's value is the one in its form.
-use Rattle.std.proofs.Common.{◌≡◌, ◌∙◌, List, [], None, Option, Some, refl, ap}
+use Rattle.std.proofs.Common.{◌≡◌, ◌∙◌, [], None, Option, Some, refl, ap}
 use Rattle.std.proofs.lemmas.Option.{slice_get-map}
 use Rattle.std.specs.Prelude.{option_map, slice_get, unwrap_or}
 use Rattle.holder_model.specs.ModuleShapes.{function_shapes, shape_at, shapes_in, shapes_of, value_shape}

@@ -1,5 +1,5 @@
 -- Instructions that give a value, or look at one: nothing in memory changes.
-use Rattle.std.proofs.Common.{◌≡◌, ◌∙◌, ℕ, ℤ, List, [], ◌∷◌, Bool, true, false, Option, Some, cond, refl, sym, ap, subst}
+use Rattle.std.proofs.Common.{◌≡◌, ◌∙◌, ℕ, ℤ, List, [], ◌∷◌, Bool, true, false, Some, cond, refl, sym, ap, subst}
 use Rattle.std.proofs.lemmas.Bool.{and_from, and_parts}
 use Rattle.std.proofs.lemmas.Option.{same_Some}
 use Rattle.numbered_form.specs.Names.{Name}
@@ -13,7 +13,7 @@ use Rattle.value_parts.specs.inner.Suits.{suits}
 use Rattle.sil_ast.specs.declared.module.Module.{Module}
 use Rattle.std.specs.Prelude.{length, nat_lt, slice_get, unwrap_or}
 use Rattle.holder_model.specs.Builtins.{is_set}
-use Rattle.holder_model.specs.Data.{Datum, FunctionOf, ValueOf}
+use Rattle.holder_model.specs.Data.{FunctionOf, ValueOf}
 use Rattle.holder_model.specs.Effects as effects
 use Rattle.holder_model.specs.Effects.{Effect, effect_of, only, the_value, traps_where, with_some}
 use Rattle.holder_model.specs.ModuleShapes.{shapes_of}
@@ -26,7 +26,7 @@ use Rattle.machine_steps.specs.Operands.{contents, go_on, int_among}
 use Rattle.machine_steps.specs.Rows.{point}
 use Rattle.machine_steps.specs.Views.{Stops, Went}
 use Rattle.machine_steps.specs.declared.run_end.RunEnd.TheVariants as end
-use Rattle.ready_code.specs.Layout.{local, local_address}
+use Rattle.ready_code.specs.Layout.{local}
 use Rattle.ready_code.specs.ReadyOps.{operands_of}
 use Rattle.ready_code.specs.declared.op.ReadyOp.TheVariants as op
 use Rattle.run_typing.specs.Forms.{OfFunction, OfValue, form_of}
@@ -39,7 +39,7 @@ use Rattle.sil_ast.specs.declared.place.PointId.{PointId}
 use Rattle.sil_ast.specs.declared.place.ValueId.{ValueId}
 use Rattle.value_parts.proofs.Plain.{integer_suits, suits_integer, suits_reference}
 use Rattle.machine_laws.specs.inner.Told.{IsEnding, cond_fail}
-use Rattle.machine_laws.proofs.Ending.{Alike, alike_by, both_choose, ends}
+use Rattle.machine_laws.proofs.Ending.{Alike, alike_by, ends}
 use Rattle.machine_laws.proofs.FrameSteps.{StandsAt}
 use Rattle.machine_laws.proofs.Objects.{is_of_class}
 use Rattle.machine_laws.proofs.Operands.{read_value}
