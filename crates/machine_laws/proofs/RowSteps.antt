@@ -57,6 +57,7 @@ row_follows m ready entry bound typed ready_ made s st f lf mf below rest rest' 
       running = running;
       i = i;
     }
+
     by_op : (o : ReadyOp) → IsReadyOp m f i o → StandsAt m f lf i o → is_call o ≡ false → RowAlike r o
     by_op _ (IsReadyOp.look v e operands) stands plain = look_alike r v e operands stands
     by_op _ (IsReadyOp.literal n u e number results) stands plain = literal_alike r n u e number results stands

@@ -50,18 +50,18 @@ module _ {m : Module} {entry : Shape} (r : Runs m entry) where
       let form = first_form (form_of (d r) r.f) r.i.results u [] (OfPlace forms.1) [] results forms.6 in
       row_by r stands row.AddressesMember is (sym operands)
       (λ xs all.
-        let one = one_read v xs operands all in
-        let p = read_place one.2 s from in
-        let there : slice_get (member_shapes p.0.shape) k ≡ Some forms.1 = ap (λ t. slice_get (member_shapes t) k) p.2 ∙ part in
-        let a = address_in r.st r.mf (local_address (d r) r.f v) in
-        alike_by
-        (ap (λ ys. performed r r.s (the_place (d r) (shapes_of m) (values r) r.s.memory r.i (names_member (d r) (shapes_of m) (values r) r.s.memory r.i (part_number (d r) r.i)) ys))
-          (one.1 ∙ ap (λ y. y ∷ []) p.1)
-        ∙ ap (λ n. performed r r.s (names_member (d r) (shapes_of m) (values r) r.s.memory r.i n p.0)) at
-        ∙ ap (λ t. performed r r.s (with_some (λ q. effects.gives r.s.memory (AddressOf q ∷ [])) (option_map (part_of p.0 (member_shapes p.0.shape) k) t))) there)
-        (ap (λ t. gives_address r.st r.mf r.rest' (local_address (d r) r.f u) (further a (leaf_offset (member_shapes t) k))) (sym p.2))
-        (gives_place r stands.inst u results (one_of r.f r.i.results u [] results (results_of r stands row.AddressesMember is))
-        (part_of p.0 (member_shapes p.0.shape) k forms.1) form (further a (leaf_offset (member_shapes p.0.shape) k)) (member_named m a p.0 k forms.1 p.3 there)))
+      let one = one_read v xs operands all in
+      let p = read_place one.2 s from in
+      let there : slice_get (member_shapes p.0.shape) k ≡ Some forms.1 = ap (λ t. slice_get (member_shapes t) k) p.2 ∙ part in
+      let a = address_in r.st r.mf (local_address (d r) r.f v) in
+      alike_by
+      (ap (λ ys. performed r r.s (the_place (d r) (shapes_of m) (values r) r.s.memory r.i (names_member (d r) (shapes_of m) (values r) r.s.memory r.i (part_number (d r) r.i)) ys))
+      (one.1 ∙ ap (λ y. y ∷ []) p.1)
+      ∙ ap (λ n. performed r r.s (names_member (d r) (shapes_of m) (values r) r.s.memory r.i n p.0)) at
+      ∙ ap (λ t. performed r r.s (with_some (λ q. effects.gives r.s.memory (AddressOf q ∷ [])) (option_map (part_of p.0 (member_shapes p.0.shape) k) t))) there)
+      (ap (λ t. gives_address r.st r.mf r.rest' (local_address (d r) r.f u) (further a (leaf_offset (member_shapes t) k))) (sym p.2))
+      (gives_place r stands.inst u results (one_of r.f r.i.results u [] results (results_of r stands row.AddressesMember is))
+      (part_of p.0 (member_shapes p.0.shape) k forms.1) form (further a (leaf_offset (member_shapes p.0.shape) k)) (member_named m a p.0 k forms.1 p.3 there)))
 
   -- an object that is dead is a fault of both
   pub unless_dead_alike : (o : ObjectId) (e : Effect LowFault) (w : Went) → Alike m entry (performed r r.s e) w
@@ -85,19 +85,19 @@ module _ {m : Module} {entry : Shape} (r : Runs m entry) where
       let there : slice_get (field_shapes (shapes_of m) owner) k ≡ Some forms.1 = ap (slice_get (field_shapes (shapes_of m) owner)) (sym (same_Some forms.2 k (sym forms.4 ∙ at))) ∙ forms.5 in
       row_by r stands row.AddressesField is (sym operands)
       (λ xs all.
-        let one = one_read v xs operands all in
-        let x = read_value one.2 (Reference owner) from in
-        let o = suits_reference (is_of_class m r.s.memory) owner x.0 x.2 in
-        alike_by
-        (ap (does_at r row.AddressesField) (one.1 ∙ ap (λ y. y ∷ []) (x.1 ∙ ap ValueOf o.1)))
-        (ap (λ ls. field_address r.st r.mf r.rest' k (objects_among ls) (local_address (d r) r.f u)) (x.3 ∙ ap (leaves_of (Reference owner)) o.1))
-        (unless_dead_alike o.0 (names_field (d r) (shapes_of m) (values r) r.s.memory r.i (value.Object o.0))
-          (gives_address r.st r.mf r.rest' (local_address (d r) r.f u) (field_at o.0 k))
-          (alike_by
-          (ap (λ n. performed r r.s (names_field_of (d r) (shapes_of m) (values r) r.s.memory r.i n (part_number (d r) r.i) o.0)) forms.3
-          ∙ ap (λ n. performed r r.s (names_field_of (d r) (shapes_of m) (values r) r.s.memory r.i (Some forms.0) n o.0)) at
-          ∙ ap (λ t. performed r r.s (with_some (λ q. effects.gives r.s.memory (AddressOf q ∷ [])) (option_map (field_in o.0 (field_shapes (shapes_of m) owner) k) t))) there)
-          refl
-          (gives_place r stands.inst u results (one_of r.f r.i.results u [] results (results_of r stands row.AddressesField is))
-            (field_in o.0 (field_shapes (shapes_of m) owner) k forms.1) form (field_at o.0 k)
-            (field_named m r.typed r.running.parts.memory owner o.0 k forms.1 o.2 there)))))
+      let one = one_read v xs operands all in
+      let x = read_value one.2 (Reference owner) from in
+      let o = suits_reference (is_of_class m r.s.memory) owner x.0 x.2 in
+      alike_by
+      (ap (does_at r row.AddressesField) (one.1 ∙ ap (λ y. y ∷ []) (x.1 ∙ ap ValueOf o.1)))
+      (ap (λ ls. field_address r.st r.mf r.rest' k (objects_among ls) (local_address (d r) r.f u)) (x.3 ∙ ap (leaves_of (Reference owner)) o.1))
+      (unless_dead_alike o.0 (names_field (d r) (shapes_of m) (values r) r.s.memory r.i (value.Object o.0))
+      (gives_address r.st r.mf r.rest' (local_address (d r) r.f u) (field_at o.0 k))
+      (alike_by
+      (ap (λ n. performed r r.s (names_field_of (d r) (shapes_of m) (values r) r.s.memory r.i n (part_number (d r) r.i) o.0)) forms.3
+      ∙ ap (λ n. performed r r.s (names_field_of (d r) (shapes_of m) (values r) r.s.memory r.i (Some forms.0) n o.0)) at
+      ∙ ap (λ t. performed r r.s (with_some (λ q. effects.gives r.s.memory (AddressOf q ∷ [])) (option_map (field_in o.0 (field_shapes (shapes_of m) owner) k) t))) there)
+      refl
+      (gives_place r stands.inst u results (one_of r.f r.i.results u [] results (results_of r stands row.AddressesField is))
+      (field_in o.0 (field_shapes (shapes_of m) owner) k forms.1) form (field_at o.0 k)
+      (field_named m r.typed r.running.parts.memory owner o.0 k forms.1 o.2 there)))))

@@ -62,44 +62,44 @@ module _ {m : Module} {entry : Shape} (r : Runs m entry) where
       → RowAlike r (op.Choose k None (local (d r) r.f u))
   chooses_plain_alike u s k is operands results form at stands =
       let choice = plain_choice m r.i (forms_of (d r) r.f r.i.results)
-          (subst (λ vs. ChoiceForms m r.i (forms_of (d r) r.f vs) (forms_of (d r) r.f r.i.results)) operands (forms_by r stands row.ChoosesCase is)) in
+      (subst (λ vs. ChoiceForms m r.i (forms_of (d r) r.f vs) (forms_of (d r) r.f r.i.results)) operands (forms_by r stands row.ChoosesCase is)) in
       let same : choice.0 ≡ s = same_value_form choice.0 s (sym (first_form (form_of (d r) r.f) r.i.results u [] (OfValue choice.0) [] results choice.6) ∙ form) in
       let numbered : choice.1 ≡ k = same_Some choice.1 k (sym choice.3 ∙ ap (λ t. case_place t r.i.member) same ∙ at) in
       let there : slice_get (case_shapes s) k ≡ Some choice.2 = ap (λ t. slice_get (case_shapes t) k) (sym same) ∙ ap (slice_get (case_shapes choice.0)) (sym numbered) ∙ choice.4 in
       row_by r stands row.ChoosesCase is (sym operands)
       (λ xs all.
-        alike_by
-        (ap (λ n. performed r r.s (with_some (λ j. with_some (chooses (d r) (shapes_of m) (values r) r.s.memory r.i j) (values_of xs)) n)) (case_found u s k results form at)
-        ∙ ap (λ ys. performed r r.s (with_some (chooses (d r) (shapes_of m) (values r) r.s.memory r.i k) (values_of ys))) (none_read xs operands all))
-        refl
-        (gives_value r stands.inst u results (one_of r.f r.i.results u [] results (results_of r stands row.ChoosesCase is)) s form (value.Case k)
-        (case_suits (is_of_class m r.s.memory) s k choice.2 there choice.5)
-        (leaf.Tag k ∷ replicate ((local (d r) r.f u).size - 1) leaf.Blank)
-        (ap (λ n. leaf.Tag k ∷ replicate (n - 1) leaf.Blank) (ap leaves_in form) ∙ sym (case_leaves s k choice.2 there choice.5))))
+      alike_by
+      (ap (λ n. performed r r.s (with_some (λ j. with_some (chooses (d r) (shapes_of m) (values r) r.s.memory r.i j) (values_of xs)) n)) (case_found u s k results form at)
+      ∙ ap (λ ys. performed r r.s (with_some (chooses (d r) (shapes_of m) (values r) r.s.memory r.i k) (values_of ys))) (none_read xs operands all))
+      refl
+      (gives_value r stands.inst u results (one_of r.f r.i.results u [] results (results_of r stands row.ChoosesCase is)) s form (value.Case k)
+      (case_suits (is_of_class m r.s.memory) s k choice.2 there choice.5)
+      (leaf.Tag k ∷ replicate ((local (d r) r.f u).size - 1) leaf.Blank)
+      (ap (λ n. leaf.Tag k ∷ replicate (n - 1) leaf.Blank) (ap leaves_in form) ∙ sym (case_leaves s k choice.2 there choice.5))))
 
   pub chooses_full_alike : (v u : ValueId) (s : Shape) (k : ℕ) → effect_of r.i.op ≡ row.ChoosesCase → operands_of r.i ≡ v ∷ [] → r.i.results ≡ u ∷ []
       → form_of (d r) r.f u ≡ OfValue s → case_place s r.i.member ≡ Some k → StandsAt m r.f r.lf r.i (op.Choose k (Some (local (d r) r.f v)) (local (d r) r.f u))
       → RowAlike r (op.Choose k (Some (local (d r) r.f v)) (local (d r) r.f u))
   chooses_full_alike v u s k is operands results form at stands =
       let choice = full_choice m r.i (form_of (d r) r.f v) (forms_of (d r) r.f r.i.results)
-          (subst (λ vs. ChoiceForms m r.i (forms_of (d r) r.f vs) (forms_of (d r) r.f r.i.results)) operands (forms_by r stands row.ChoosesCase is)) in
+      (subst (λ vs. ChoiceForms m r.i (forms_of (d r) r.f vs) (forms_of (d r) r.f r.i.results)) operands (forms_by r stands row.ChoosesCase is)) in
       let same : choice.0 ≡ s = same_value_form choice.0 s (sym (first_form (form_of (d r) r.f) r.i.results u [] (OfValue choice.0) [] results choice.8) ∙ form) in
       let numbered : choice.2 ≡ k = same_Some choice.2 k (sym choice.4 ∙ ap (λ t. case_place t r.i.member) same ∙ at) in
       let there : slice_get (case_shapes s) k ≡ Some choice.3 = ap (λ t. slice_get (case_shapes t) k) (sym same) ∙ ap (slice_get (case_shapes choice.0)) (sym numbered) ∙ choice.5 in
       row_by r stands row.ChoosesCase is (sym operands)
       (λ xs all.
-        let one = one_read v xs operands all in
-        let x = read_value one.2 choice.1 choice.7 in
-        let test = is_of_class m r.s.memory in
-        alike_by
-        (ap (λ n. performed r r.s (with_some (λ j. with_some (chooses (d r) (shapes_of m) (values r) r.s.memory r.i j) (values_of xs)) n)) (case_found u s k results form at)
-        ∙ ap (λ ys. performed r r.s (with_some (chooses (d r) (shapes_of m) (values r) r.s.memory r.i k) (values_of ys))) (one.1 ∙ ap (λ y. y ∷ []) x.1))
-        refl
-        (gives_value r stands.inst u results (one_of r.f r.i.results u [] results (results_of r stands row.ChoosesCase is)) s form (value.Full k x.0)
-        (full_suits test s k choice.3 choice.1 x.0 there choice.6 x.2)
-        (leaf.Tag k ∷ (contents r.st r.mf (local (d r) r.f v) ++ replicate ((local (d r) r.f u).size - (1 + length (contents r.st r.mf (local (d r) r.f v)))) leaf.Blank))
-        (full_is s choice.1 k x.0 (contents r.st r.mf (local (d r) r.f v)) (local (d r) r.f u).size (ap leaves_in form) x.3 (suits_leaves_length test choice.1 x.0 x.2)
-        ∙ sym (full_leaves s k choice.3 choice.1 x.0 there choice.6 (suits_fits test choice.1 x.0 x.2)))))
+      let one = one_read v xs operands all in
+      let x = read_value one.2 choice.1 choice.7 in
+      let test = is_of_class m r.s.memory in
+      alike_by
+      (ap (λ n. performed r r.s (with_some (λ j. with_some (chooses (d r) (shapes_of m) (values r) r.s.memory r.i j) (values_of xs)) n)) (case_found u s k results form at)
+      ∙ ap (λ ys. performed r r.s (with_some (chooses (d r) (shapes_of m) (values r) r.s.memory r.i k) (values_of ys))) (one.1 ∙ ap (λ y. y ∷ []) x.1))
+      refl
+      (gives_value r stands.inst u results (one_of r.f r.i.results u [] results (results_of r stands row.ChoosesCase is)) s form (value.Full k x.0)
+      (full_suits test s k choice.3 choice.1 x.0 there choice.6 x.2)
+      (leaf.Tag k ∷ (contents r.st r.mf (local (d r) r.f v) ++ replicate ((local (d r) r.f u).size - (1 + length (contents r.st r.mf (local (d r) r.f v)))) leaf.Blank))
+      (full_is s choice.1 k x.0 (contents r.st r.mf (local (d r) r.f v)) (local (d r) r.f u).size (ap leaves_in form) x.3 (suits_leaves_length test choice.1 x.0 x.2)
+      ∙ sym (full_leaves s k choice.3 choice.1 x.0 there choice.6 (suits_fits test choice.1 x.0 x.2)))))
     where
       full_is : (s t : Shape) (k : ℕ) (x : Value) (ls : List Leaf) (n : ℕ) → n ≡ size_of s → ls ≡ leaves_of t x → length (leaves_of t x) ≡ size_of t
           → ◌≡◌ {A = List Leaf} (leaf.Tag k ∷ (ls ++ replicate (n - (1 + length ls)) leaf.Blank)) (leaf.Tag k ∷ (leaves_of t x ++ replicate (size_of s - 1 - size_of t) leaf.Blank))

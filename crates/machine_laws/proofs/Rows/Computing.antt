@@ -101,23 +101,27 @@ module _ {m : Module} {entry : Shape} (r : Runs m entry) where
   computes_alike b v w u others is named operands results stands =
       row_by r stands row.Computes is (ap (λ vs. v ∷ w ∷ vs) (few_more (form_of (d r) r.f) (sort_of b.operation) (bits b.width) v w others from) ∙ sym operands)
       (λ xs all.
-        let read = ints_read r.f r.mf (v ∷ w ∷ others) xs (widths_by (sort_of b.operation) (bits b.width)) from (subst (λ vs. AllRead m r.made r.s.memory r.st r.f r.mf vs xs) operands all) in
-        alike_by
-        (ap (λ ys. performed r r.s (with_some (effects.gives_value r.s.memory) (option_and_then (builtin_value r.i.text) (option_and_then (all_of integer_of) (values_of ys))))) read
-        ∙ ap (λ ns. performed r r.s (with_some (effects.gives_value r.s.memory) (option_and_then (builtin_value r.i.text) ns))) (numbers_listed int (v ∷ w ∷ others))
-        ∙ ap (λ c. performed r r.s (with_some (effects.gives_value r.s.memory) (option_and_then (λ k. computed k (map int (v ∷ w ∷ others))) c))) named)
-        refl
-        (gives_value r stands.inst u results (one_of r.f r.i.results u [] results (results_of r stands row.Computes is)) (computed_shape b) form
-        (computed_by b.operation (bits b.width) (int v) (int w)) (computed_suits (is_of_class m r.s.memory) b.width b.operation (int v) (int w))
-        (computed_leaves b.operation (bits b.width) (int v) (int w)) (computed_as_leaves b.operation (bits b.width) (int v) (int w))))
+      let read = ints_read r.f r.mf (v ∷ w ∷ others) xs (widths_by (sort_of b.operation) (bits b.width)) from (subst (λ vs. AllRead m r.made r.s.memory r.st r.f r.mf vs xs) operands all) in
+      alike_by
+      (ap (λ ys. performed r r.s (with_some (effects.gives_value r.s.memory) (option_and_then (builtin_value r.i.text) (option_and_then (all_of integer_of) (values_of ys))))) read
+      ∙ ap (λ ns. performed r r.s (with_some (effects.gives_value r.s.memory) (option_and_then (builtin_value r.i.text) ns))) (numbers_listed int (v ∷ w ∷ others))
+      ∙ ap (λ c. performed r r.s (with_some (effects.gives_value r.s.memory) (option_and_then (λ k. computed k (map int (v ∷ w ∷ others))) c))) named)
+      refl
+      (gives_value r stands.inst u results (one_of r.f r.i.results u [] results (results_of r stands row.Computes is)) (computed_shape b) form
+      (computed_by b.operation (bits b.width) (int v) (int w)) (computed_suits (is_of_class m r.s.memory) b.width b.operation (int v) (int w))
+      (computed_leaves b.operation (bits b.width) (int v) (int w)) (computed_as_leaves b.operation (bits b.width) (int v) (int w))))
     where
       int : ValueId → ℤ
       int = int_at m r.st r.f r.mf
+
       forms_are : FormsAt m r.i row.Computes (forms_of (d r) r.f (operands_of r.i)) (forms_of (d r) r.f r.i.results)
       forms_are = forms_by r stands row.Computes is
+
       same : forms_are.0 ≡ b
       same = same_Some forms_are.0 b (sym forms_are.1 ∙ named)
+
       from : map (form_of (d r) r.f) (v ∷ w ∷ others) ≡ map of_width (widths_by (sort_of b.operation) (bits b.width))
       from = sym (ap (map (form_of (d r) r.f)) operands) ∙ forms_are.2 ∙ ap (λ c. map OfValue (operand_shapes c)) same ∙ forms_by_width (sort_of b.operation) (bits b.width)
+
       form : form_of (d r) r.f u ≡ OfValue (computed_shape b)
       form = first_form (form_of (d r) r.f) r.i.results u [] (OfValue (computed_shape b)) [] results (forms_are.3 ∙ ap (λ c. OfValue (computed_shape c) ∷ []) same)

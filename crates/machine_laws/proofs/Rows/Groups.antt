@@ -91,14 +91,14 @@ module _ {m : Module} {entry : Shape} (r : Runs m entry) where
       let form = first_form (form_of (d r) r.f) r.i.results u [] (OfValue forms.0) [] results forms.4 in
       row_by r stands row.Groups is (listed_locals m r.f (operands_of r.i))
       (λ xs all.
-        let read = members_read r.f r.mf (operands_of r.i) xs forms.1 forms.3 all in
-        alike_by
-        (ap (λ ys. performed r r.s (with_some (λ vs. effects.gives_value r.s.memory (grouped vs)) (values_of ys))) read.read
-        ∙ ap (λ vs. performed r r.s (with_some (λ vs. effects.gives_value r.s.memory (grouped vs)) vs)) (values_listed read.members))
-        refl
-        (gives_value r stands.inst u results (one_of r.f r.i.results u [] results (results_of r stands row.Groups is)) forms.0 form (grouped read.members)
-        (group_suits (is_of_class m r.s.memory) forms.0 forms.1 forms.2 read.members read.fit)
-        (flat_map (contents r.st r.mf) (map (local (d r) r.f) (operands_of r.i))) (read.leaves ∙ sym (group_leaves forms.0 forms.1 forms.2 read.members))))
+      let read = members_read r.f r.mf (operands_of r.i) xs forms.1 forms.3 all in
+      alike_by
+      (ap (λ ys. performed r r.s (with_some (λ vs. effects.gives_value r.s.memory (grouped vs)) (values_of ys))) read.read
+      ∙ ap (λ vs. performed r r.s (with_some (λ vs. effects.gives_value r.s.memory (grouped vs)) vs)) (values_listed read.members))
+      refl
+      (gives_value r stands.inst u results (one_of r.f r.i.results u [] results (results_of r stands row.Groups is)) forms.0 form (grouped read.members)
+      (group_suits (is_of_class m r.s.memory) forms.0 forms.1 forms.2 read.members read.fit)
+      (flat_map (contents r.st r.mf) (map (local (d r) r.f) (operands_of r.i))) (read.leaves ∙ sym (group_leaves forms.0 forms.1 forms.2 read.members))))
 
   pub member_alike : (v u : ValueId) (s : Shape) (k : ℕ) → effect_of r.i.op ≡ row.GivesMember → operands_of r.i ≡ v ∷ [] → r.i.results ≡ u ∷ [] → form_of (d r) r.f v ≡ OfValue s
       → part_number (d r) r.i ≡ Some k → StandsAt m r.f r.lf r.i (op.Member (local (d r) r.f v) (leaf_offset (member_shapes s) k) (local (d r) r.f u))
@@ -111,17 +111,17 @@ module _ {m : Module} {entry : Shape} (r : Runs m entry) where
       let form = first_form (form_of (d r) r.f) r.i.results u [] (OfValue forms.1) [] results forms.6 in
       row_by r stands row.GivesMember is (sym operands)
       (λ xs all.
-        let one = one_read v xs operands all in
-        let x = read_value one.2 s from in
-        let has = has_member (is_of_class m r.s.memory) s forms.1 k x.0 part x.2 in
-        alike_by
-        (ap (λ ys. performed r r.s (the_value (d r) (shapes_of m) (values r) r.s.memory r.i (gives_member (d r) (shapes_of m) (values r) r.s.memory r.i (part_number (d r) r.i)) ys))
-          (one.1 ∙ ap (λ y. y ∷ []) x.1)
-        ∙ ap (λ n. performed r r.s (gives_member (d r) (shapes_of m) (values r) r.s.memory r.i n x.0)) at
-        ∙ ap (λ y. performed r r.s (with_some (effects.gives_value r.s.memory) y)) has.1)
-        refl
-        (gives_value r stands.inst u results (one_of r.f r.i.results u [] results (results_of r stands row.GivesMember is)) forms.1 form has.0 has.2
-        (take (local (d r) r.f u).size (drop (leaf_offset (member_shapes s) k) (contents r.st r.mf (local (d r) r.f v))))
-        (ap (λ n. take n (drop (leaf_offset (member_shapes s) k) (contents r.st r.mf (local (d r) r.f v)))) (ap leaves_in form)
-        ∙ ap (λ ls. take (size_of forms.1) (drop (leaf_offset (member_shapes s) k) ls)) x.3
-        ∙ member_leaves (is_of_class m r.s.memory) s forms.1 k x.0 has.0 part x.2 has.1)))
+      let one = one_read v xs operands all in
+      let x = read_value one.2 s from in
+      let has = has_member (is_of_class m r.s.memory) s forms.1 k x.0 part x.2 in
+      alike_by
+      (ap (λ ys. performed r r.s (the_value (d r) (shapes_of m) (values r) r.s.memory r.i (gives_member (d r) (shapes_of m) (values r) r.s.memory r.i (part_number (d r) r.i)) ys))
+      (one.1 ∙ ap (λ y. y ∷ []) x.1)
+      ∙ ap (λ n. performed r r.s (gives_member (d r) (shapes_of m) (values r) r.s.memory r.i n x.0)) at
+      ∙ ap (λ y. performed r r.s (with_some (effects.gives_value r.s.memory) y)) has.1)
+      refl
+      (gives_value r stands.inst u results (one_of r.f r.i.results u [] results (results_of r stands row.GivesMember is)) forms.1 form has.0 has.2
+      (take (local (d r) r.f u).size (drop (leaf_offset (member_shapes s) k) (contents r.st r.mf (local (d r) r.f v))))
+      (ap (λ n. take n (drop (leaf_offset (member_shapes s) k) (contents r.st r.mf (local (d r) r.f v)))) (ap leaves_in form)
+      ∙ ap (λ ls. take (size_of forms.1) (drop (leaf_offset (member_shapes s) k) ls)) x.3
+      ∙ member_leaves (is_of_class m r.s.memory) s forms.1 k x.0 has.0 part x.2 has.1)))

@@ -70,11 +70,11 @@ module _ {m : Module} {entry : Shape} (r : Runs m entry) where
       let there : class_at r.st.heap.declarations k ≡ Some class = ap (λ ds. class_at ds k) r.running.parts.memory.declared ∙ at in
       row_by r stands row.MakesObject is (no_values (form_of (d r) r.f) (operands_of r.i) forms.2)
       (λ xs all.
-        alike_by
-        (ap (λ t. performed r r.s (with_some (makes_object (d r) (shapes_of m) (values r) r.s.memory r.i) (class_in t))) (result_told u results ∙ ap shape_in_form form))
-        (ap (λ c. cond (is_some c) (gives (record r.st { heap = allocated_in r.st.heap k }) r.mf r.rest' (local (d r) r.f u) (leaf.Object (made_object r.st r.mf r.rest' k) ∷ [])) (faults fault.Slot r.st)) there)
-        (object_given u class k stands.inst results (one_of r.f r.i.results u [] results (results_of r stands row.MakesObject is)) form
-        (object_made m r.typed r.running.parts.memory r.mf r.rest' k class at)))
+      alike_by
+      (ap (λ t. performed r r.s (with_some (makes_object (d r) (shapes_of m) (values r) r.s.memory r.i) (class_in t))) (result_told u results ∙ ap shape_in_form form))
+      (ap (λ c. cond (is_some c) (gives (record r.st { heap = allocated_in r.st.heap k }) r.mf r.rest' (local (d r) r.f u) (leaf.Object (made_object r.st r.mf r.rest' k) ∷ [])) (faults fault.Slot r.st)) there)
+      (object_given u class k stands.inst results (one_of r.f r.i.results u [] results (results_of r stands row.MakesObject is)) form
+      (object_made m r.typed r.running.parts.memory r.mf r.rest' k class at)))
 
   -- a slot
 
@@ -92,19 +92,25 @@ module _ {m : Module} {entry : Shape} (r : Runs m entry) where
       where
         p : Place
         p = slot_at_end r.s.memory s
+
         mem' : Memory
         mem' = with_slot_at_end r.s.memory s
+
         st' : MachineView
         st' = with_slot r.st r.mf r.rest' (size_of s)
+
         ends : Ends
         ends = record (ends_of r.st) { slots = length r.st.slots + 1 }
+
         same_ends : ends ≡ ends_of st'
         same_ends = ap {A = ℕ} (λ n. record (ends_of r.st) { slots = n }) (sym (length-append r.st.slots (new_slot r.st r.mf r.rest' ∷ [])))
+
         frame : FrameAgrees m new.changes.made' mem' st' r.f (record r.lf { slots = p ∷ r.lf.slots }) r.mf r.below (ends_of st')
         frame =
             subst (λ e. FrameAgrees m new.changes.made' mem' st' r.f (record r.lf { slots = p ∷ r.lf.slots }) r.mf r.below e) same_ends
             (subst (λ q. FrameAgrees m new.changes.made' mem' st' r.f (record r.lf { slots = q ∷ r.lf.slots }) r.mf r.below ends) new.place
             (slot_opens r.running.frame refl new.changes.grows (new_slot r.st r.mf r.rest') refl (slot_made_keeps r.st r.mf r.rest' (size_of s) (ends_of r.st) (omega arith))))
+
         opened : Running m entry new.changes.made' (record r.s { memory = mem' }) st' r.f (record r.lf { slots = p ∷ r.lf.slots }) r.mf r.below r.rest r.rest'
         opened = frame_changes r.running new.changes frame (slot_made_keeps r.st r.mf r.rest' (size_of s) r.below (omega (arith, r.running.frame.slots_end)))
 
@@ -116,11 +122,11 @@ module _ {m : Module} {entry : Shape} (r : Runs m entry) where
       let field : FieldShapeIs forms.0 s = subst (FieldShapeIs forms.0) same forms.2 in
       row_by r stands row.MakesSlot is (no_values (form_of (d r) r.f) (operands_of r.i) forms.3)
       (λ xs all.
-        alike_by
-        (ap (λ t. performed r r.s (effects.Makes (opening (slot_at_end r.s.memory t) (with_slot_at_end r.s.memory t)))) (result_told u results ∙ ap shape_in_form form))
-        refl
-        (slot_given stands.inst u s results (one_of r.f r.i.results u [] results (results_of r stands row.MakesSlot is)) form
-        (slot_made m r.running.parts.memory r.mf r.rest' forms.0 s field)))
+      alike_by
+      (ap (λ t. performed r r.s (effects.Makes (opening (slot_at_end r.s.memory t) (with_slot_at_end r.s.memory t)))) (result_told u results ∙ ap shape_in_form form))
+      refl
+      (slot_given stands.inst u s results (one_of r.f r.i.results u [] results (results_of r stands row.MakesSlot is)) form
+      (slot_made m r.running.parts.memory r.mf r.rest' forms.0 s field)))
 
   -- a slot that goes
 
@@ -136,16 +142,21 @@ module _ {m : Module} {entry : Shape} (r : Runs m entry) where
       where
         mem' : Memory
         mem' = removed r.s.memory p
+
         st' : MachineView
         st' = without_slot r.st index slot
+
         within : r.below.slots ≤ index
         within = omega (arith, low, r.running.frame.slots)
+
         same_ends : record (ends_of r.st) { slots = index } ≡ ends_of st'
         same_ends = ap {A = ℕ} (λ n. record (ends_of r.st) { slots = n }) (sym (length-take-le index r.st.slots (omega (arith, last))))
+
         frame : FrameAgrees m changes.made' mem' st' r.f (record r.lf { slots = older }) r.mf r.below (ends_of st')
         frame =
             subst (λ e. FrameAgrees m changes.made' mem' st' r.f (record r.lf { slots = older }) r.mf r.below e) same_ends
             (slot_closes r.running.frame refl changes.grows index slot older last within at own (slot_removed_keeps r.st index slot (record (ends_of r.st) { slots = index }) (omega arith)))
+
         closed : Running m entry changes.made' (record r.s { memory = mem' }) st' r.f (record r.lf { slots = older }) r.mf r.below r.rest r.rest'
         closed = frame_changes r.running changes frame (slot_removed_keeps r.st index slot r.below within)
 
@@ -158,10 +169,10 @@ module _ {m : Module} {entry : Shape} (r : Runs m entry) where
       let a = address_in r.st r.mf (local_address (d r) r.f v) in
       row_by r stands row.RemovesSlot is (sym operands)
       (λ xs all.
-        let one = one_read v xs operands all in
-        let p = read_place one.2 forms.0 from in
-        alike_by
-        (ap (λ ys. performed r r.s (with_some (removes (d r) (shapes_of m) (values r) r.s.memory r.i) (option_and_then as_place (only ys)))) (one.1 ∙ ap (λ y. y ∷ []) p.1))
-        refl
-        (slot_gone stands.inst results p.0 (removes_home r.st r.mf r.rest' a.is_part a.home)
-        (slot_removed m r.running.parts.memory r.mf r.rest' a p.0 r.lf r.below (newest_slot r.running.frame refl) r.running.frame.slots p.3)))
+      let one = one_read v xs operands all in
+      let p = read_place one.2 forms.0 from in
+      alike_by
+      (ap (λ ys. performed r r.s (with_some (removes (d r) (shapes_of m) (values r) r.s.memory r.i) (option_and_then as_place (only ys)))) (one.1 ∙ ap (λ y. y ∷ []) p.1))
+      refl
+      (slot_gone stands.inst results p.0 (removes_home r.st r.mf r.rest' a.is_part a.home)
+      (slot_removed m r.running.parts.memory r.mf r.rest' a p.0 r.lf r.below (newest_slot r.running.frame refl) r.running.frame.slots p.3)))

@@ -71,12 +71,12 @@ module _ {m : Module} {entry : Shape} (r : Runs m entry) where
       let results = sym (no_values (form_of (d r) r.f) r.i.results forms.2) in
       row_by r stands row.RetainsOperand is (sym operands)
       (λ xs all.
-        let one = one_read v xs operands all in
-        let x = read_value one.2 forms.0 from in
-        alike_by
-        (ap (λ ys. performed r r.s (with_some (λ y. effects.Makes (retaining (references_in y))) (only ys))) (one.1 ∙ ap (λ y. y ∷ []) x.1))
-        (ap (λ os. retains_all os r.st (λ after. go_on after r.mf r.rest')) (ap objects_among x.3 ∙ references_among (is_of_class m r.s.memory) forms.0 x.0 x.2))
-        (retained_alike stands.inst results (references_of x.0) (retains_so m r.made (references_of x.0) r.s r.st r.running.parts)))
+      let one = one_read v xs operands all in
+      let x = read_value one.2 forms.0 from in
+      alike_by
+      (ap (λ ys. performed r r.s (with_some (λ y. effects.Makes (retaining (references_in y))) (only ys))) (one.1 ∙ ap (λ y. y ∷ []) x.1))
+      (ap (λ os. retains_all os r.st (λ after. go_on after r.mf r.rest')) (ap objects_among x.3 ∙ references_among (is_of_class m r.s.memory) forms.0 x.0 x.2))
+      (retained_alike stands.inst results (references_of x.0) (retains_so m r.made (references_of x.0) r.s r.st r.running.parts)))
 
   pub drop_alike : (v : ValueId) → effect_of r.i.op ≡ row.DropsOperand → operands_of r.i ≡ v ∷ [] → StandsAt m r.f r.lf r.i (op.Drop (local (d r) r.f v))
       → RowAlike r (op.Drop (local (d r) r.f v))
@@ -86,9 +86,9 @@ module _ {m : Module} {entry : Shape} (r : Runs m entry) where
       let results = sym (no_values (form_of (d r) r.f) r.i.results forms.2) in
       row_by r stands row.DropsOperand is (sym operands)
       (λ xs all.
-        let one = one_read v xs operands all in
-        let x = read_value one.2 forms.0 from in
-        alike_by
-        (ap (λ ys. performed r r.s (with_some (λ y. effects.Makes (releasing (references_in y))) (only ys))) (one.1 ∙ ap (λ y. y ∷ []) x.1))
-        (ap (drops r.st r.mf r.rest') (ap objects_among x.3 ∙ references_among (is_of_class m r.s.memory) forms.0 x.0 x.2))
-        (dropped_alike stands.inst results (references_of x.0)))
+      let one = one_read v xs operands all in
+      let x = read_value one.2 forms.0 from in
+      alike_by
+      (ap (λ ys. performed r r.s (with_some (λ y. effects.Makes (releasing (references_in y))) (only ys))) (one.1 ∙ ap (λ y. y ∷ []) x.1))
+      (ap (drops r.st r.mf r.rest') (ap objects_among x.3 ∙ references_among (is_of_class m r.s.memory) forms.0 x.0 x.2))
+      (dropped_alike stands.inst results (references_of x.0)))

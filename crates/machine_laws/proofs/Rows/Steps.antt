@@ -99,6 +99,7 @@ module _ {m : Module} {entry : Shape} {made : List Made} {s : LowState} {st : Ma
       ends : ends_of st' ≡ ends_of st
       ends = same_ends st st' (ap length changes.frames.there) (ap length changes.frames.leaves) (ap length changes.frames.addresses)
           (sym (length-map st'.slots serial_of) ∙ ap length same ∙ length-map st.slots serial_of) (ap length changes.frames.waiting)
+
       keeps : (e : Ends) → KeepsBelow e st st'
       keeps e = keeps_slots e st st' changes.frames.there changes.frames.leaves changes.frames.addresses changes.frames.waiting same
 
@@ -141,6 +142,7 @@ module _ {m : Module} {entry : Shape} {made : List Made} {s : LowState} {st : Ma
       where
         st' : MachineView
         st' = put st mf (local (declarations_of m) f r) ls
+
         reach : AtMost (ends_of st) (ends_of st)
         reach = at_most_itself (ends_of st)
 
@@ -156,6 +158,7 @@ module _ {m : Module} {entry : Shape} {made : List Made} {s : LowState} {st : Ma
       where
         st' : MachineView
         st' = put_address st mf (local_address (declarations_of m) f r) a
+
         reach : AtMost (ends_of st) (ends_of st)
         reach = at_most_itself (ends_of st)
 
@@ -171,6 +174,7 @@ module _ {m : Module} {entry : Shape} {made : List Made} {s : LowState} {st : Ma
       where
         st' : MachineView
         st' = put_there st mf r
+
         reach : AtMost (ends_of st) (ends_of st)
         reach = at_most_itself (ends_of st)
 
