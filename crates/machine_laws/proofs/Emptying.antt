@@ -1,5 +1,5 @@
 -- Emptying storage in the machine is emptying its place in the run.
-use Rattle.std.proofs.Common.{◌≡◌, ◌+◌, ℕ, zero, suc, List, [], ◌∷◌, Option, Some, None, true, false, length, map, refl, sym, ap, ◌∙◌, subst, arith}
+use Rattle.std.proofs.Common.{◌≡◌, ℕ, zero, suc, List, [], ◌∷◌, Some, None, true, false, map, refl, sym, ap, ◌∙◌, subst, arith}
 use Rattle.std.specs.Prelude.{option_map, replicate, slice_get}
 use Rattle.std.proofs.lemmas.Bool.{false≢true}
 use Rattle.std.proofs.lemmas.List.{length-replicate}
@@ -27,23 +27,22 @@ use Rattle.sil_ast.specs.declared.module.Module.{Module}
 use Rattle.sil_ast.specs.declared.place.ObjectId.{ObjectId}
 use Rattle.type_definitions.specs.Declarations.{Declarations, declarations_of, is_class}
 use Rattle.type_definitions.specs.Lookups.{fields_of}
-use Rattle.value_parts.specs.inner.Paths.{IsPart, cells_before}
-use Rattle.value_parts.specs.inner.Storages.{holds_no_storage}
+use Rattle.value_parts.specs.inner.Paths.{IsPart}
 use Rattle.value_parts.specs.inner.Suits.{ClassTest}
 use Rattle.value_parts.proofs.Paths.{part_cells_fit}
 use Rattle.value_parts.proofs.Storages.{part_holds_no_storage}
 use Rattle.machine_laws.proofs.Changes.{HasChanged}
 use Rattle.machine_laws.proofs.Held.{IsReachable, home_alive, slot_open}
-use Rattle.machine_laws.proofs.HeldFields.{FieldAround, field_around, field_length}
+use Rattle.machine_laws.proofs.HeldFields.{field_around, field_length}
 use Rattle.machine_laws.proofs.HeldObjects.{object_cases, object_there}
 use Rattle.machine_laws.proofs.HeldSlots.{all_suit, found_slot}
 use Rattle.machine_laws.proofs.Memories.{MemoryAgrees, NamesPlace}
 use Rattle.machine_laws.proofs.ObjectChanges.{field_changed}
 use Rattle.machine_laws.proofs.Objects.{FieldHolds, KeptAgrees, NamesField, is_of_class}
-use Rattle.machine_laws.proofs.Slots.{Empty, Full, Made, NamesSlot, made_cells}
+use Rattle.machine_laws.proofs.Slots.{Empty, Made, NamesSlot, made_cells}
 use Rattle.machine_laws.proofs.Stack.{content_length}
 use Rattle.machine_laws.proofs.StackChanges.{slot_changed}
-use Rattle.machine_laws.proofs.WritingParts.{whole_emptied}
+use Rattle.machine_laws.proofs.WritingParts.{whole_same}
 
 -- no storage lies within a slot or a field: it is the whole
 
@@ -63,6 +62,7 @@ field_is_typed m typed class is k s e =
   where
     d : Declarations
     d = declarations_of m
+
     at : (fs : List Field) (k : ℕ) → Each (IsTypedField d) fs → slice_get (map (field_shape d) fs) k ≡ Some s → (w : Storage) × FieldShapeIs w s
     at [] k h e = absurd (none-some s e)
     at (f ∷ fs) zero h e = (f.storage, subst (FieldShapeIs f.storage) (same_Some (field_shape d f) s e) h.0)
@@ -85,8 +85,8 @@ module _ (m : Module) (typed : RunTyped m) {made : List Made} {mem : Memory} {nu
       let count = content_length test names.of.shape names.of.content (all_suit agrees.slots serial names.of names.there) in
       let part = part_cells_fit names.part in
       subst (λ o. HasChanged m made mem st (emptied mem p) numbers (empty_slot st index o)) (sym (found_slot st.slots index serial now.0 now.1 now.2))
-          (slot_changed m agrees index serial a p names now.0 now.1 now.2 opened Empty refl (λ v e. absurd (cc)) new (omega (arith, part, length-replicate (cell_count p.shape) cells.Empty))
-          (whole_emptied names.part whole (made_cells names.of) count) st.slot_leaves (record { count = refl; apart = λ i n away. refl }) (λ v e. absurd (cc)))
+      (slot_changed m agrees index serial a p names now.0 now.1 now.2 opened Empty refl (λ v e. absurd (cc)) new (omega (arith, part, length-replicate (cell_count p.shape) cells.Empty))
+      (whole_same names.part whole cells.Empty (made_cells names.of) count) st.slot_leaves (record { count = refl; apart = λ i n away. refl }) (λ v e. absurd (cc)))
 
   module _ (o : ObjectId) (k : ℕ) (names : NamesField m mem o k a p) where
     alive : is_dead mem o ≡ false
@@ -102,14 +102,14 @@ module _ (m : Module) (typed : RunTyped m) {made : List Made} {mem : Memory} {nu
         let whole = storage_is_whole typed_as.0 w s names.field typed_as.1 (subst (IsPart names.field names.path) stored names.part) in
         let part = part_cells_fit names.part in
         subst (λ x. HasChanged m made mem st (emptied mem p) numbers (record st { heap = with_object_in st.heap o (option_map (with_field_of k None) x) })) (sym there)
-            (field_changed m agrees o k a p names alive h there around new (omega (arith, part, length-replicate (cell_count p.shape) cells.Empty)) None
-            (subst (λ cs. FieldHolds test names.field cs None) (sym (whole_emptied names.part whole around.own (field_length test names.field around.holds))) FieldHolds.unwritten))
+        (field_changed m agrees o k a p names alive h there around new (omega (arith, part, length-replicate (cell_count p.shape) cells.Empty)) None
+        (subst (λ cs. FieldHolds test names.field cs None) (sym (whole_same names.part whole cells.Empty around.own (field_length test names.field around.holds))) FieldHolds.unwritten))
 
     in_field : HasChanged m made mem st (emptied mem p) numbers (record st { heap = without_field st.heap o k })
     in_field =
         let found = object_there mem numbers st.heap agrees.objects o names.made in
         object_cases (λ h. object_in st.heap o ≡ h → HasChanged m made mem st (emptied mem p) numbers (record st { heap = without_field st.heap o k })) found.agrees
-            (λ dead none there. absurd (false≢true (sym alive ∙ ap is_dead_phase dead))) (of_kept _) refl
+        (λ dead none there. absurd (false≢true (sym alive ∙ ap is_dead_phase dead))) (of_kept _) refl
 
   empties : NamesPlace m made st.slots mem a p → HasChanged m made mem st (emptied mem p) numbers (empty_at st a)
   empties (NamesPlace.in_slot index serial at names) = subst (λ h. HasChanged m made mem st (emptied mem p) numbers (empty_by st h)) (sym at) (in_slot index serial names)

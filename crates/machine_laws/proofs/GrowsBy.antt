@@ -2,14 +2,15 @@
 use Rattle.std.proofs.Common.{◌≡◌, ◌≤◌, ◌<◌, ◌+◌, ◌++◌, ◌⊎◌, inl, inr, ℕ, List, [], ◌∷◌, true, Some, length, map, refl, sym, ap, ◌∙◌, arith}
 use Rattle.std.specs.Prelude.{set, slice_get, take, unwrap_or}
 use Rattle.std.proofs.lemmas.Bool.{cases_eq, false≢true}
+use Rattle.std.proofs.lemmas.List.{length-set, length_push, take-append-le}
 use Rattle.std.proofs.lemmas.Option.{same_Some, slice_get_within}
 use Rattle.machine_steps.specs.declared.address.OpenSlot.{OpenSlot}
-use Rattle.run_values.specs.Memory.{Memory, no_object, object_at}
+use Rattle.run_values.specs.Memory.{Memory, Object, no_object, object_at, with_object}
 use Rattle.sil_ast.specs.declared.module.Module.{Module}
 use Rattle.sil_ast.specs.declared.place.ObjectId.{ObjectId}
 use Rattle.sil_cfg.proofs.Gets.{kept_get}
 use Rattle.machine_laws.proofs.Grows.{Grows, StaysMade, WereMade}
-use Rattle.machine_laws.proofs.LayoutsLists.{get_others, get_set, get_take, mapped_at, there_below}
+use Rattle.machine_laws.proofs.LayoutsLists.{at_others, at_set, at_taken, get_others, get_set, get_take, mapped_at, there_below}
 use Rattle.machine_laws.proofs.Slots.{Content, Gone, Made, is_open, is_open_content, made_shape}
 
 abbrev pub serial_of : OpenSlot → ℕ
@@ -24,6 +25,29 @@ pub objects_stay : (mem mem' : Memory) → mem'.objects ≡ mem.objects → Obje
 objects_stay mem mem' e = record {
   objects = let same : length mem'.objects ≡ length mem.objects = ap length e in omega (arith, same);
   classes = λ o lt. ap (λ objects. (unwrap_or (slice_get objects o.0) no_object).class) e;
+}
+
+-- an object is given anew, of its class
+pub object_changed : (mem : Memory) (o : ObjectId) (x : Object) → x.class ≡ (object_at mem o).class → ObjectsStay mem (with_object mem o x)
+object_changed mem o x same = record {
+  objects = let count : length (set mem.objects o.0 x) ≡ length mem.objects = length-set mem.objects o.0 x in omega (arith, count);
+  classes = λ p lt. by_place p lt (cases_eq p.0 o.0);
+}
+  where
+    by_place : (p : ObjectId) → p.0 < length mem.objects → (p.0 ≡ o.0) ⊎ (p.0 ≡ o.0 → ⊥) → (object_at (with_object mem o x) p).class ≡ (object_at mem p).class
+    by_place p lt (inl e) =
+        ap (λ y. y.class) (ap (λ n. unwrap_or (slice_get (set mem.objects o.0 x) n) no_object) e ∙ at_set mem.objects o.0 x no_object (omega (arith, lt, e)))
+        ∙ same ∙ ap (λ n. (unwrap_or (slice_get mem.objects n) no_object).class) (sym e)
+    by_place p lt (inr ne) = ap (λ y. y.class) (at_others mem.objects o.0 p.0 x no_object ne)
+
+-- an object is made
+pub object_added : (mem mem' : Memory) (x : Object) → mem'.objects ≡ mem.objects ++ x ∷ [] → ObjectsStay mem mem'
+object_added mem mem' x e = record {
+  objects = let count : length mem'.objects ≡ length mem.objects + 1 = ap length e ∙ length_push mem.objects x in omega (arith, count);
+  classes = λ o lt.
+      let front : take (length mem.objects) mem'.objects ≡ take (length mem.objects) mem.objects =
+      ap (take (length mem.objects)) e ∙ take-append-le (length mem.objects) mem.objects (x ∷ []) (omega arith) in
+      ap (λ y. y.class) (at_taken mem'.objects mem.objects (length mem.objects) o.0 no_object front lt);
 }
 
 -- a slot that keeps its shape is opened by nothing that leaves it closed

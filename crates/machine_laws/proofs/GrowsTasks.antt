@@ -1,5 +1,5 @@
 -- Frames and tasks agree as before where memory grows and the machine's stacks are the same below their ends.
-use Rattle.std.proofs.Common.{◌≡◌, ◌≤◌, ◌<◌, ◌+◌, ◌-◌, ◌++◌, ◌==◌, ◌||◌, ℕ, suc, List, [], ◌∷◌, Bool, false, true, Option, Some, length, map, refl, sym, ap, ◌∙◌, subst, arith}
+use Rattle.std.proofs.Common.{◌≡◌, ◌≤◌, ◌<◌, ◌+◌, ◌-◌, ◌==◌, ℕ, suc, List, [], ◌∷◌, Bool, false, true, Option, Some, length, map, refl, sym, ap, ◌∙◌, subst, arith}
 use Rattle.std.specs.Prelude.{drop, reverse, slice_get, take}
 use Rattle.std.proofs.lemmas.Bool.{eq-eqb, or_left, or_right}
 use Rattle.std.proofs.lemmas.List.{drop-map, length-take, take-map}
@@ -25,7 +25,6 @@ use Rattle.sil_ast.specs.declared.function.Function.{Function}
 use Rattle.sil_ast.specs.declared.module.Module.{Module}
 use Rattle.sil_ast.specs.declared.place.ObjectId.{ObjectId}
 use Rattle.type_definitions.specs.Declarations.{declarations_of}
-use Rattle.machine_laws.proofs.Agreement.{ends_of}
 use Rattle.machine_laws.proofs.Entries.{Ends, EntryAgrees, FrameAgrees, absent, function, place, value}
 use Rattle.machine_laws.proofs.Grows.{Grows, names_place_grows, same_slot_place, suits_grows}
 use Rattle.machine_laws.proofs.GrowsBy.{serial_of}

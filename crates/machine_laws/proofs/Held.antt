@@ -180,7 +180,7 @@ module _ (m : Module) {made : List Made} {mem : Memory} {numbers : List Numbers}
         → HeldIs m mem p (held_in_field a.from (size_of p.shape) (unwrap_or (slice_get fields k) None))
     in_field fields alive around =
         subst (λ x. HeldIs m mem p (held_in_field a.from (size_of p.shape) (unwrap_or x None))) (sym around.has)
-            (by_holding alive around.own around.x around.holds (field_cells fields around))
+        (by_holding alive around.own around.x around.holds (field_cells fields around))
 
     in_kept : (b : Bool) → is_dead mem o ≡ b → (n : Numbers) (h : HeapObject) → KeptAgrees m test (object_at mem o) n h → InField (Some h)
     in_kept true dead n h agree =

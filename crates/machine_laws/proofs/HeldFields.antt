@@ -1,5 +1,5 @@
 -- The cells of an object: those of one field lie behind those of the fields before it, and others may take their place.
-use Rattle.std.proofs.Common.{◌≡◌, ◌+◌, ◌++◌, ℕ, zero, suc, List, [], ◌∷◌, Option, Some, None, true, length, map, take, sum, refl, sym, ap, ◌∙◌, subst, append_assoc, arith}
+use Rattle.std.proofs.Common.{◌≡◌, ◌+◌, ◌++◌, ℕ, zero, suc, List, [], ◌∷◌, Option, Some, None, length, map, take, sum, refl, sym, ap, ◌∙◌, subst, append_assoc, arith}
 use Rattle.std.specs.Prelude.{set, slice_get, replicate}
 use Rattle.std.proofs.lemmas.List.{length-append, length-replicate, replicate-append-replicate}
 use Rattle.std.proofs.lemmas.List.Sums.{sum_by-cons}
@@ -7,9 +7,8 @@ use Rattle.std.proofs.lemmas.Option.{none-some, same_Some}
 use Rattle.run_values.specs.Cells.{Cell, Empty, cell_count}
 use Rattle.run_values.specs.Places.{offset}
 use Rattle.run_values.specs.Shapes.{Shape}
-use Rattle.run_values.specs.Values.{Value}
 use Rattle.run_values.specs.declared.leaf.Leaf.{Leaf}
-use Rattle.value_parts.specs.inner.Suits.{ClassTest, suits}
+use Rattle.value_parts.specs.inner.Suits.{ClassTest}
 use Rattle.value_parts.proofs.CellParts.{suits_cells_length}
 use Rattle.machine_laws.proofs.Objects.{FieldHolds, FieldsHold}
 

@@ -1,7 +1,7 @@
 -- An object that was made, as the run and the machine have it.
-use Rattle.std.proofs.Common.{◌≡◌, ◌<◌, ℕ, List, [], Option, Some, None, refl, sym, ap, ◌∙◌, arith}
-use Rattle.std.specs.Prelude.{get_or, length, slice_get, unwrap_or}
-use Rattle.std.proofs.lemmas.Option.{slice_get-get_or, same_Some}
+use Rattle.std.proofs.Common.{◌≡◌, ◌<◌, ℕ, List, [], Option, Some, None, sym, ap, ◌∙◌, arith}
+use Rattle.std.specs.Prelude.{length, slice_get, unwrap_or}
+use Rattle.std.proofs.lemmas.Option.{slice_get-get_or}
 use Rattle.heap_model.specs.HeapViews.{HeapObject, HeapView, object_in}
 use Rattle.holder_model.specs.Outcomes.{Numbers}
 use Rattle.lowered_run.specs.Stored.{no_numbers, numbers_of}

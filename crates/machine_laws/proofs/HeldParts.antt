@@ -1,23 +1,20 @@
 -- Parts of what a slot or a field has: what the run reads of cells, and the machine of leaves.
-use Rattle.std.proofs.Common.{◌≡◌, ◌≤◌, ◌<◌, ◌+◌, ◌-◌, ◌++◌, ℕ, zero, suc, List, [], ◌∷◌, Some, None, true, false, length, take, drop, refl, sym, ap, ◌∙◌, arith}
+use Rattle.std.proofs.Common.{◌≡◌, ◌≤◌, ◌<◌, ◌+◌, ◌-◌, ℕ, zero, suc, List, Some, None, true, false, take, drop, refl, sym, ap, ◌∙◌, arith}
 use Rattle.std.specs.Prelude.{replicate}
 use Rattle.std.specs.List.{list_all}
-use Rattle.std.proofs.lemmas.Bool.{false≢true}
 use Rattle.std.proofs.lemmas.List.{drop-drop, drop-take, take-take}
-use Rattle.run_values.specs.Cells.{Cell, Empty, Gone, cell_count, in_cells}
+use Rattle.run_values.specs.Cells.{Empty, Gone, cell_count, in_cells}
 use Rattle.run_values.specs.Leaves.{leaves_of}
-use Rattle.run_values.specs.Places.{Place, cells_at, home_cells, is_there, is_there_at, value_at}
+use Rattle.run_values.specs.Places.{Place, cells_at, is_there, is_there_at, value_at}
 use Rattle.run_values.specs.Memory.{Memory}
 use Rattle.run_values.specs.Shapes.{Shape}
 use Rattle.run_values.specs.Values.{Value}
-use Rattle.run_values.specs.declared.leaf.Leaf.{Leaf}
 use Rattle.value_parts.specs.inner.Paths.{IsPart, cells_before, leaf_count, leaves_before, part_at}
 use Rattle.value_parts.specs.inner.Suits.{ClassTest, suits}
-use Rattle.value_parts.proofs.CellParts.{cells_read, same_cells_read}
+use Rattle.value_parts.proofs.CellParts.{cells_read}
 use Rattle.value_parts.proofs.Cells.{cells_back, cells_there, empty_is_none, has_cell}
 use Rattle.value_parts.proofs.LeafParts.{leaves_read}
 use Rattle.value_parts.proofs.Parts.{has_part}
-use Rattle.value_parts.proofs.Paths.{part_leaves_fit}
 use Rattle.value_parts.proofs.Suiting.{suits_fits}
 
 all_there : (n : ℕ) → list_all is_there (replicate n Empty) ≡ true

@@ -1,23 +1,20 @@
 -- What the machine finds at a place in a slot.
-use Rattle.std.proofs.Common.{◌≡◌, ◌≤◌, ◌<◌, ◌+◌, ◌++◌, ◌==◌, ℕ, List, [], ◌∷◌, Bool, Option, Some, None, true, false, cond, length, take, drop, refl, sym, ap, ◌∙◌, subst, arith}
+use Rattle.std.proofs.Common.{◌≡◌, ◌+◌, ◌++◌, ℕ, List, Option, Some, None, true, false, cond, length, take, drop, refl, sym, ap, ◌∙◌, arith}
 use Rattle.std.specs.Prelude.{option_and_then, slice_get}
 use Rattle.std.proofs.lemmas.Bool.{eq-eqb, false≢true, ne_eqb}
 use Rattle.std.proofs.lemmas.Option.{same_Some}
 use Rattle.machine_steps.specs.declared.address.Address.{Address}
 use Rattle.machine_steps.specs.declared.address.OpenSlot.{OpenSlot}
 use Rattle.machine_steps.specs.Held.{if_serial}
-use Rattle.ready_code.specs.Layout.{size_of}
-use Rattle.run_values.specs.Cells.{Cell, cell_count}
-use Rattle.run_values.specs.Leaves.{leaves_of}
+use Rattle.run_values.specs.Cells.{cell_count}
 use Rattle.run_values.specs.Memory.{Memory}
 use Rattle.run_values.specs.Places.{Place, cells_at, home_cells}
-use Rattle.run_values.specs.Values.{Value}
 use Rattle.run_values.specs.declared.leaf.Leaf.{Leaf}
 use Rattle.value_parts.specs.inner.Paths.{cells_before}
 use Rattle.value_parts.specs.inner.Suits.{ClassTest}
 use Rattle.value_parts.proofs.Paths.{part_cells_fit}
 use Rattle.value_parts.proofs.Splices.{read_within}
-use Rattle.machine_laws.proofs.Slots.{Content, Empty, Full, Gone, Made, NamesSlot, OpenIsRight, SlotsAgree, is_full_content, is_open, is_open_content, made_cells, stack_of}
+use Rattle.machine_laws.proofs.Slots.{Made, NamesSlot, OpenIsRight, SlotsAgree, is_open, made_cells, stack_of}
 use Rattle.machine_laws.proofs.Stack.{AllSuit, content_length, stack_around}
 
 pub all_suit : {test : ClassTest} {made : List Made} {slots : List OpenSlot} {leaves : List Leaf} → SlotsAgree test made slots leaves → AllSuit test made

@@ -1,8 +1,8 @@
 -- Lists that are the same up to a place, and lists with others laid over them.
 use Rattle.std.proofs.Common.{◌≡◌, ◌≢◌, ◌≤◌, ◌<◌, ◌+◌, ◌-◌, ◌++◌, ◌⊎◌, inl, inr, ℕ, zero, suc, List, Option, None, Some, map, [], ◌∷◌, length, take, drop, refl, sym, ap, ◌∙◌, append_assoc, arith}
 use Rattle.std.specs.Prelude.{option_map, set, slice_get, unwrap_or}
-use Rattle.std.proofs.lemmas.List.{drop-append-le, drop-drop, drop-take, drop_at, get_or-set_other, get_or-set_same, get_or-take, length-append, length-drop, length-take-le}
-use Rattle.std.proofs.lemmas.List.{take-append-drop, take-append-le, take-take, take_all, take_at}
+use Rattle.std.proofs.lemmas.List.{drop-drop, drop-take, drop_at, get_or-set_other, get_or-set_same, get_or-take, length-append, length-drop, length-take-le}
+use Rattle.std.proofs.lemmas.List.{take-append-le, take-take, take_all, take_at}
 use Rattle.std.proofs.lemmas.Option.{none-some, same_Some, slice_get-map, unwrap_or-slice_get}
 use Rattle.machine_steps.specs.Operands.{laid_over}
 

@@ -18,11 +18,12 @@ pub mod HeldObjects
 pub mod Held
 pub mod Writing
 pub mod Emptying
-pub mod SlotChanges
+pub mod SlotMade
 pub mod ObjectMade
 pub mod Naming
 pub mod GrowsTasks
 pub mod Puts
+pub mod GrowsSame
 pub mod Operands
 pub mod PushesCarried
 pub mod PushesAddresses
@@ -58,3 +59,6 @@ pub mod FinishTasks
 pub mod WritingParts
 pub mod WritingInSlots
 pub mod WritingInFields
+pub mod SlotsGone
+pub mod SlotsMade
+pub mod SlotRemoved

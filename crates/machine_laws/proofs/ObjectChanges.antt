@@ -1,5 +1,5 @@
 -- What a field of an object has changes: memory and the machine agree behind it.
-use Rattle.std.proofs.Common.{◌≡◌, ◌≤◌, ◌<◌, ◌+◌, ◌++◌, ℕ, zero, suc, List, [], ◌∷◌, Option, Some, None, true, false, length, map, refl, sym, ap, ◌∙◌, subst, arith}
+use Rattle.std.proofs.Common.{◌≡◌, ◌≤◌, ◌+◌, ◌++◌, ℕ, zero, suc, List, [], ◌∷◌, Option, Some, true, false, length, refl, sym, ap, ◌∙◌, subst, arith}
 use Rattle.std.specs.Prelude.{set, slice_get, unwrap_or}
 use Rattle.std.proofs.lemmas.Bool.{false≢true}
 use Rattle.std.proofs.lemmas.List.{length-set}
@@ -12,7 +12,6 @@ use Rattle.machine_steps.specs.Views.{MachineView}
 use Rattle.run_values.specs.Cells.{Cell, cell_count}
 use Rattle.run_values.specs.Memory.{Memory, Object, is_dead, no_object, object_at, put_cells, with_object}
 use Rattle.run_values.specs.Places.{Place, home_cells, with_cells, with_home_cells}
-use Rattle.run_values.specs.Shapes.{Shape}
 use Rattle.run_values.specs.declared.leaf.Leaf.{Leaf}
 use Rattle.sil_ast.specs.declared.module.Module.{Module}
 use Rattle.sil_ast.specs.declared.place.ObjectId.{ObjectId}
@@ -22,7 +21,7 @@ use Rattle.value_parts.proofs.Splices.{put_within}
 use Rattle.machine_laws.proofs.Changes.{HasChanged}
 use Rattle.machine_laws.proofs.Grows.{were_made}
 use Rattle.machine_laws.proofs.GrowsBy.{ObjectsStay, grows_objects}
-use Rattle.machine_laws.proofs.HeldFields.{FieldAround, field_around, field_length}
+use Rattle.machine_laws.proofs.HeldFields.{FieldAround, field_length}
 use Rattle.machine_laws.proofs.HeldObjects.{object_there}
 use Rattle.machine_laws.proofs.Memories.{MemoryAgrees}
 use Rattle.machine_laws.proofs.NumbersPut.{object_put}
@@ -74,7 +73,8 @@ module _ (m : Module) {made : List Made} {mem : Memory} {numbers : List Numbers}
     weak = agree.weak;
     left = agree.left;
     fields = λ _.
-        subst (λ cs. FieldsHold test (field_shapes (shapes_of m) (object_at mem o).class) cs h'.fields) (sym put_around) (around.with_ (put_cells around.own (cells_before names.field names.path) new) y holds);
+        subst (λ cs. FieldsHold test (field_shapes (shapes_of m) (object_at mem o).class) cs h'.fields) (sym put_around)
+        (around.with_ (put_cells around.own (cells_before names.field names.path) new) y holds);
     ended = λ dead. absurd (false≢true (sym alive ∙ dead));
   }
 
@@ -100,4 +100,5 @@ module _ (m : Module) {made : List Made} {mem : Memory} {numbers : List Numbers}
 
   pub field_changed : HasChanged m made mem st (with_cells mem p new) numbers (record st { heap = with_object_in st.heap o (Some h') })
   field_changed =
-      subst (λ home. HasChanged m made mem st (with_home_cells mem home (put_cells (home_cells mem home) p.first new)) numbers (record st { heap = with_object_in st.heap o (Some h') })) (sym names.home) changed
+      let st' = record st { heap = with_object_in st.heap o (Some h') } in
+      subst (λ home. HasChanged m made mem st (with_home_cells mem home (put_cells (home_cells mem home) p.first new)) numbers st') (sym names.home) changed

@@ -1,10 +1,9 @@
 -- Addresses that are carried from a frame into another one, which lies behind it.
-use Rattle.std.proofs.Common.{◌≡◌, ◌<◌, ◌+◌, ◌++◌, ℕ, List, [], ◌∷◌, Some, Option, length, refl, sym, ap, ◌∙◌, subst, arith}
+use Rattle.std.proofs.Common.{◌≡◌, ◌<◌, ◌+◌, ◌++◌, List, [], ◌∷◌, Some, Option, length, refl, sym, ap, ◌∙◌, subst, arith}
 use Rattle.std.specs.Prelude.{drop, set}
 use Rattle.holder_model.specs.Data.{AddressOf, Datum}
 use Rattle.lowered_run.specs.LowFrames.{LowFrame}
 use Rattle.machine_steps.specs.Calling as machine
-use Rattle.machine_steps.specs.declared.address.Address.{Address}
 use Rattle.machine_steps.specs.declared.frame.Frame.{Frame}
 use Rattle.machine_steps.specs.Operands.{address_in, no_address, put_address}
 use Rattle.machine_steps.specs.Views.{MachineView}
@@ -14,7 +13,6 @@ use Rattle.ready_code.specs.Layout.{address_carried, addresses_carried, carry_ad
 use Rattle.run_typing.specs.CallForms.{IsOf}
 use Rattle.run_typing.specs.Forms.{Form, OfFunction, OfNothing, OfPlace, OfValue, form_of, forms_of}
 use Rattle.run_values.specs.Memory.{Memory}
-use Rattle.run_values.specs.Places.{Place}
 use Rattle.run_values.specs.Shapes.{Shape}
 use Rattle.sil_ast.specs.declared.function.Function.{Function}
 use Rattle.sil_ast.specs.declared.module.Module.{Module}

@@ -1,5 +1,5 @@
 -- Values that are carried from a frame into another one, or into itself: the values' leaves.
-use Rattle.std.proofs.Common.{◌≡◌, ◌≢◌, ◌++◌, ℕ, List, [], ◌∷◌, Some, Option, length, map, refl, sym, ap, ◌∙◌, subst, arith}
+use Rattle.std.proofs.Common.{◌≡◌, ◌++◌, List, [], ◌∷◌, Some, Option, length, map, refl, sym, ap, ◌∙◌, subst, arith}
 use Rattle.std.specs.Prelude.{drop, set}
 use Rattle.holder_model.specs.Data.{Datum, ValueOf}
 use Rattle.lowered_run.specs.LowFrames.{LowFrame}

@@ -1,8 +1,8 @@
 -- What an open slot has changes: memory and the machine agree behind it.
-use Rattle.std.proofs.Common.{◌≡◌, ◌≤◌, ◌+◌, ◌++◌, ℕ, zero, suc, List, [], ◌∷◌, Some, None, true, length, map, take, drop, refl, sym, ap, ◌∙◌, subst, arith}
+use Rattle.std.proofs.Common.{◌≡◌, ◌≤◌, ◌+◌, ◌++◌, ℕ, zero, suc, List, [], ◌∷◌, Some, true, length, map, take, drop, refl, sym, ap, ◌∙◌, subst, arith}
 use Rattle.std.specs.Prelude.{set, slice_get}
 use Rattle.std.proofs.lemmas.List.{length-set}
-use Rattle.std.proofs.lemmas.Option.{none-some, same_Some}
+use Rattle.std.proofs.lemmas.Option.{same_Some}
 use Rattle.holder_model.specs.Outcomes.{Numbers}
 use Rattle.machine_steps.specs.declared.address.Address.{Address}
 use Rattle.machine_steps.specs.declared.address.OpenSlot.{OpenSlot}
@@ -16,6 +16,7 @@ use Rattle.run_values.specs.Values.{Value}
 use Rattle.run_values.specs.declared.leaf.Leaf.{Leaf}
 use Rattle.sil_ast.specs.declared.module.Module.{Module}
 use Rattle.value_parts.specs.inner.Paths.{cells_before}
+use Rattle.value_parts.specs.inner.Suits.{ClassTest}
 use Rattle.value_parts.proofs.Splices.{put_within}
 use Rattle.machine_laws.proofs.Changes.{HasChanged}
 use Rattle.machine_laws.proofs.Grows.{were_made}
@@ -24,7 +25,7 @@ use Rattle.machine_laws.proofs.HeldSlots.{all_suit}
 use Rattle.machine_laws.proofs.Memories.{MemoryAgrees}
 use Rattle.machine_laws.proofs.Objects.{is_of_class}
 use Rattle.machine_laws.proofs.Slots.{Content, Full, Made, NamesSlot, cells_in, is_full_content, is_open, is_open_content, made_cells, stack_of}
-use Rattle.machine_laws.proofs.Stack.{ContentSuits, content_length, stack_around}
+use Rattle.machine_laws.proofs.Stack.{AllSuit, ContentSuits, content_length, stack_around}
 use Rattle.machine_laws.proofs.WritingSlots.{LeavesElsewhere, slots_agree_with, with_content}
 
 -- the serial numbers of slots stay where one is put with the same number
@@ -34,26 +35,28 @@ serials_with [] index slot new e same = refl
 serials_with (s ∷ slots) zero slot new e same = ap (λ n. n ∷ map serial_of slots) (same ∙ ap serial_of (sym (same_Some s slot e)))
 serials_with (s ∷ slots) (suc index) slot new e same = ap (λ ns. s.serial ∷ ns) (serials_with slots index slot new e same)
 
+-- the cells of a place, put among those of its slot, are those of what the slot has now
+pub stack_with : (test : ClassTest) (made : List Made) (mem : Memory) (slots : List OpenSlot) (index serial : ℕ) (a : Address) (p : Place) (names : NamesSlot made slots index serial a p)
+    → mem.stack ≡ stack_of made → AllSuit test made → (c : Content) (new : List Cell) → cells_before names.of.shape names.path + length new ≤ cell_count names.of.shape
+    → put_cells (made_cells names.of) (cells_before names.of.shape names.path) new ≡ cells_in names.of.shape c
+    → put_cells mem.stack p.first new ≡ stack_of (set made serial (with_content names.of c))
+stack_with test made mem slots index serial a p names stack all c new fits put =
+    let around = stack_around test made serial names.of all names.there in
+    let off = cells_before names.of.shape names.path in
+    let size : length (made_cells names.of) ≡ cell_count names.of.shape = content_length test names.of.shape names.of.content (all serial names.of names.there) in
+    let first : p.first ≡ length around.before + off = names.first ∙ omega (arith, around.count) in
+    ap (λ cs. put_cells cs p.first new) (stack ∙ around.now)
+    ∙ ap (λ n. put_cells (around.before ++ (made_cells names.of ++ around.behind)) n new) first
+    ∙ put_within around.before (made_cells names.of) around.behind off new (omega (arith, fits, size))
+    ∙ ap (λ cs. around.before ++ (cs ++ around.behind)) put
+    ∙ sym (around.with_ (with_content names.of c))
+
 module _ (m : Module) {made : List Made} {mem : Memory} {numbers : List Numbers} {st : MachineView} (agrees : MemoryAgrees m made mem numbers st)
     (index serial : ℕ) (a : Address) (p : Place) (names : NamesSlot made st.slots index serial a p)
     (slot : OpenSlot) (at : slice_get st.slots index ≡ Some slot) (same : slot.serial ≡ serial) (opened : is_open names.of ≡ true)
     (c : Content) (open_ : is_open_content c ≡ true) (suit : ContentSuits (is_of_class m mem) names.of.shape c) where
-  -- the cells of the place, put among those of the slot, are those of what it has now
   module _ (new : List Cell) (fits : cells_before names.of.shape names.path + length new ≤ cell_count names.of.shape)
       (put : put_cells (made_cells names.of) (cells_before names.of.shape names.path) new ≡ cells_in names.of.shape c) where
-    stack_with : put_cells mem.stack p.first new ≡ stack_of (set made serial (with_content names.of c))
-    stack_with =
-        let around = stack_around (is_of_class m mem) made serial names.of (all_suit agrees.slots) names.there in
-        let off = cells_before names.of.shape names.path in
-        let size : length (made_cells names.of) ≡ cell_count names.of.shape =
-            content_length (is_of_class m mem) names.of.shape names.of.content (all_suit agrees.slots serial names.of names.there) in
-        let first : p.first ≡ length around.before + off = names.first ∙ omega (arith, around.count) in
-        ap (λ cs. put_cells cs p.first new) (agrees.stack ∙ around.now)
-        ∙ ap (λ n. put_cells (around.before ++ (made_cells names.of ++ around.behind)) n new) first
-        ∙ put_within around.before (made_cells names.of) around.behind off new (omega (arith, fits, size))
-        ∙ ap (λ cs. around.before ++ (cs ++ around.behind)) put
-        ∙ sym (around.with_ (with_content names.of c))
-
     module _ (leaves' : List Leaf) (elsewhere : LeavesElsewhere st.slot_leaves leaves' slot.from (size_of names.of.shape))
         (holds : (v : Value) → c ≡ Full v → take (size_of names.of.shape) (drop slot.from leaves') ≡ leaves_of names.of.shape v) where
       abbrev st' : MachineView
@@ -67,7 +70,7 @@ module _ (m : Module) {made : List Made} {mem : Memory} {numbers : List Numbers}
         changes = record {
           made' = set made serial (with_content names.of c);
           agrees = record {
-            stack = stack_with;
+            stack = stack_with (is_of_class m mem) made mem st.slots index serial a p names agrees.stack (all_suit agrees.slots) c new fits put;
             serials = agrees.serials ∙ sym (length-set made serial (with_content names.of c));
             slots = slots_agree_with agrees.slots index serial names.of slot names.there at same c open_ suit leaves' elsewhere holds;
             objects = agrees.objects;

@@ -1,6 +1,6 @@
 -- Writing a place in a field.
-use Rattle.std.proofs.Common.{◌≡◌, ◌≤◌, ◌+◌, ◌==◌, ℕ, zero, suc, List, [], ◌∷◌, Bool, true, false, Option, Some, None, cond, length, take, drop, map, refl, sym, ap, ◌∙◌, subst, append_assoc, arith}
-use Rattle.std.specs.Prelude.{is_some, nat_le, option_and_then, option_map, slice_get, unwrap_or}
+use Rattle.std.proofs.Common.{◌≡◌, ◌≤◌, ◌+◌, ℕ, zero, suc, List, [], ◌∷◌, Bool, true, false, Option, Some, None, cond, length, take, drop, map, refl, sym, ap, ◌∙◌, subst, append_assoc, arith}
+use Rattle.std.specs.Prelude.{is_some, option_and_then, option_map, slice_get, unwrap_or}
 use Rattle.std.proofs.lemmas.Bool.{eq-eqb, false≢true, le-leb}
 use Rattle.std.proofs.lemmas.Option.{none-some, same_Some}
 use Rattle.heap_model.specs.HeapCalls.{put_leaves, with_field, with_field_of, with_object_in, with_part, with_part_of}
@@ -41,7 +41,7 @@ use Rattle.machine_laws.proofs.HeldObjects.{object_cases, object_there}
 use Rattle.machine_laws.proofs.HeldParts.{empty_read}
 use Rattle.machine_laws.proofs.ObjectChanges.{field_changed}
 use Rattle.machine_laws.proofs.WritingParts.{PartWritten, part_written, whole_held, whole_shape}
-use Rattle.machine_laws.proofs.Memories.{MemoryAgrees, NamesPlace}
+use Rattle.machine_laws.proofs.Memories.{MemoryAgrees}
 use Rattle.machine_laws.proofs.Objects.{FieldHolds, KeptAgrees, NamesField, is_of_class}
 use Rattle.machine_laws.proofs.Slots.{Made}
 
@@ -55,6 +55,7 @@ field_is_measured m typed class is c k s named e =
   where
     d : Declarations
     d = declarations_of m
+
     at : (fs : List Field) (k : ℕ) → Each (IsMeasuredField d) fs → slice_get (map (field_shape d) fs) k ≡ Some s → slice_get (map (field_leaves d) fs) k ≡ Some (size_of s)
     at [] k h e = absurd (none-some s e)
     at (f ∷ fs) zero h e = ap Some (sym h.0 ∙ ap size_of (same_Some (field_shape d f) s e))
@@ -109,32 +110,32 @@ module _ (m : Module) (typed : RunTyped m) {made : List Made} {mem : Memory} {nu
         let old = w.0 in
         let part = part_leaves_fit names.part in
         let room : has_room a.from (length ls) (field_in st.heap o k) ≡ true =
-            ap (λ z. has_room a.from (length ls) (unwrap_or (slice_get (fields_told z) k) None)) there ∙ told_field (has_room a.from (length ls)) ∙ ap (has_room a.from (length ls)) w.1
-            ∙ le-leb (a.from + length ls) (length old) (omega (arith, part, leaf_size, names.from, w.2)) in
+        ap (λ z. has_room a.from (length ls) (unwrap_or (slice_get (fields_told z) k) None)) there ∙ told_field (has_room a.from (length ls)) ∙ ap (has_room a.from (length ls)) w.1
+        ∙ le-leb (a.from + length ls) (length old) (omega (arith, part, leaf_size, names.from, w.2)) in
         let now : option_map (with_part_of k a.from ls) (object_in st.heap o) ≡ Some (with_field_of k (Some (leaves_of names.field w.3.v)) h) =
-            ap (option_map (with_part_of k a.from ls)) there ∙ told_field (λ z. Some (with_field_of k (option_map (put_leaves a.from ls) z) h))
-            ∙ ap (λ z. Some (with_field_of k (option_map (put_leaves a.from ls) z) h)) w.1
-            ∙ ap (λ z. Some (with_field_of k (Some z) h)) (put_is_spliced old ∙ w.3.by_leaves) in
+        ap (option_map (with_part_of k a.from ls)) there ∙ told_field (λ z. Some (with_field_of k (option_map (put_leaves a.from ls) z) h))
+        ∙ ap (λ z. Some (with_field_of k (option_map (put_leaves a.from ls) z) h)) w.1
+        ∙ ap (λ z. Some (with_field_of k (Some z) h)) (put_is_spliced old ∙ w.3.by_leaves) in
         let heap : write_field true o k a.from ls st.heap ≡ with_object_in st.heap o (Some (with_field_of k (Some (leaves_of names.field w.3.v)) h)) =
-            ap (λ b. cond b (with_part st.heap o k a.from ls) st.heap) room ∙ ap (with_object_in st.heap o) now in
+        ap (λ b. cond b (with_part st.heap o k a.from ls) st.heap) room ∙ ap (with_object_in st.heap o) now in
         subst (λ z. HasChanged m made mem st (filled mem p x) numbers (record st { heap = z })) (sym heap)
-            (field_changed m agrees o k a p names alive h there around new cells_fit (Some (leaves_of names.field w.3.v))
-            (subst (λ cs. FieldHolds test names.field cs (Some (leaves_of names.field w.3.v))) (sym w.3.by_cells) (FieldHolds.written w.3.v w.3.suit)))
+        (field_changed m agrees o k a p names alive h there around new cells_fit (Some (leaves_of names.field w.3.v))
+        (subst (λ cs. FieldHolds test names.field cs (Some (leaves_of names.field w.3.v))) (sym w.3.by_cells) (FieldHolds.written w.3.v w.3.suit)))
 
     with_whole : names.path ≡ [] → HasChanged m made mem st (filled mem p x) numbers (record st { heap = write_field false o k a.from ls st.heap })
     with_whole whole =
         let is = agrees.objects.classes o.0 (object_at mem o) (object_there mem numbers st.heap agrees.objects o names.made).object in
         let same : size_of names.field ≡ length ls = ap size_of (whole_shape names.part whole) ∙ sym leaf_size in
         let size : has_size (length ls) (leaves_at st.heap o k) ≡ true =
-            ap (λ z. has_size (length ls) (option_and_then (λ y. slice_get (leaves_by_field st.heap.declarations y.class) k) z)) there
-            ∙ ap (λ d. has_size (length ls) (slice_get (leaves_by_field d h.class) k)) agrees.declared
-            ∙ ap (has_size (length ls)) (field_is_measured m typed (object_at mem o).class is h.class k names.field agree.class names.there)
-            ∙ eq-eqb (size_of names.field) (length ls) same in
+        ap (λ z. has_size (length ls) (option_and_then (λ y. slice_get (leaves_by_field st.heap.declarations y.class) k) z)) there
+        ∙ ap (λ d. has_size (length ls) (slice_get (leaves_by_field d h.class) k)) agrees.declared
+        ∙ ap (has_size (length ls)) (field_is_measured m typed (object_at mem o).class is h.class k names.field agree.class names.there)
+        ∙ eq-eqb (size_of names.field) (length ls) same in
         let heap : write_field false o k a.from ls st.heap ≡ with_object_in st.heap o (Some (with_field_of k (Some ls) h)) =
-            ap (λ b. cond b (with_field st.heap o k ls) st.heap) size ∙ ap (λ z. with_object_in st.heap o (option_map (with_field_of k (Some ls)) z)) there in
+        ap (λ b. cond b (with_field st.heap o k ls) st.heap) size ∙ ap (λ z. with_object_in st.heap o (option_map (with_field_of k (Some ls)) z)) there in
         subst (λ z. HasChanged m made mem st (filled mem p x) numbers (record st { heap = z })) (sym heap)
-            (field_changed m agrees o k a p names alive h there around new cells_fit (Some ls)
-            (whole_held test names.part whole x good around.own (field_length test names.field around.holds)))
+        (field_changed m agrees o k a p names alive h there around new cells_fit (Some ls)
+        (whole_held test names.part whole x good around.own (field_length test names.field around.holds)))
 
     by_part : (b : Bool) → p.is_part ≡ b → HasChanged m made mem st (filled mem p x) numbers (record st { heap = write_field b o k a.from ls st.heap })
     by_part true e = with_a_part (full e)
@@ -145,5 +146,5 @@ module _ (m : Module) (typed : RunTyped m) {made : List Made} {mem : Memory} {nu
       let found = object_there mem numbers st.heap agrees.objects o names.made in
       subst (λ b. HasChanged m made mem st (filled mem p x) numbers (record st { heap = write_field b o k a.from ls st.heap })) (sym names.parts)
       (object_cases (λ h. object_in st.heap o ≡ h → HasChanged m made mem st (filled mem p x) numbers (record st { heap = write_field p.is_part o k a.from ls st.heap })) found.agrees
-          (λ dead none there. absurd (false≢true (sym alive ∙ ap is_dead_phase dead)))
-          (λ h agree there. by_part h there (numbers_of numbers o) agree p.is_part refl) refl)
+      (λ dead none there. absurd (false≢true (sym alive ∙ ap is_dead_phase dead)))
+      (λ h agree there. by_part h there (numbers_of numbers o) agree p.is_part refl) refl)

@@ -25,7 +25,7 @@ use Rattle.value_parts.proofs.Paths.{part_cells_fit, part_leaves_fit}
 use Rattle.machine_laws.proofs.Changes.{HasChanged}
 use Rattle.machine_laws.proofs.Held.{IsReachable, empty_slot, gone_slot, slot_open}
 use Rattle.machine_laws.proofs.HeldSlots.{all_suit, found_slot, slot_right}
-use Rattle.machine_laws.proofs.Memories.{MemoryAgrees, NamesPlace}
+use Rattle.machine_laws.proofs.Memories.{MemoryAgrees}
 use Rattle.machine_laws.proofs.Objects.{is_of_class}
 use Rattle.machine_laws.proofs.Slots.{Content, Empty, Full, Gone, Made, NamesSlot, cells_in, is_open, made_cells}
 use Rattle.machine_laws.proofs.Stack.{content_length}
@@ -73,11 +73,11 @@ module _ (m : Module) {made : List Made} {mem : Memory} {numbers : List Numbers}
         by Gone e = absurd (false≢true (sym (gone_slot m agrees index serial a p names e) ∙ reached.there))
         by Empty e =
             whole_written test names.part (names.whole (has_none p.is_part full (empty_slot m agrees index serial a p names e))) x good (made_cells names.of)
-                (content_length test s names.of.content (all_suit agrees.slots serial names.of names.there)) leaves size
+            (content_length test s names.of.content (all_suit agrees.slots serial names.of names.there)) leaves size
         by (Full v) e =
             subst (λ cs. PartWritten test s path p.shape x cs leaves) (ap (cells_in s) (sym e))
-                (subst (λ old. PartWritten test s path p.shape x ((in_cells s).cells v) old) (sym (holds v e))
-                (part_written test names.part v x (agrees.slots.suit serial names.of v names.there e) good))
+            (subst (λ old. PartWritten test s path p.shape x ((in_cells s).cells v) old) (sym (holds v e))
+            (part_written test names.part v x (agrees.slots.suit serial names.of v names.there e) good))
 
     opened : is_open names.of ≡ true
     opened = slot_open m agrees index serial a p names reached.there
@@ -93,13 +93,13 @@ module _ (m : Module) {made : List Made} {mem : Memory} {numbers : List Numbers}
         let within : slot.from + leaf_count s ≤ length st.slot_leaves = omega (arith, right.0.within, width) in
         let old = take (leaf_count s) (drop slot.from st.slot_leaves) in
         let holds : (v : Value) → names.of.content ≡ Full v → old ≡ leaves_of s v =
-            subst (λ y. (v : Value) → y.content ≡ Full v → take (size_of y.shape) (drop slot.from st.slot_leaves) ≡ leaves_of y.shape v) right.1 right.0.holds in
+        subst (λ y. (v : Value) → y.content ≡ Full v → take (size_of y.shape) (drop slot.from st.slot_leaves) ≡ leaves_of y.shape v) right.1 right.0.holds in
         let size : length old ≡ leaf_count s = length-take-le (leaf_count s) (drop slot.from st.slot_leaves) (omega (arith, within, length-drop slot.from st.slot_leaves)) in
         let w = written old holds size in
         let cells_fit = part_cells_fit names.part in
         let changed = slot_changed m agrees index serial a p names slot now.1 now.2 opened (Full w.v) refl (λ v e. subst (λ y. suits test s y ≡ true) (same_full w.v v e) w.suit)
-                new (omega (arith, cells_fit, cell_size)) w.by_cells (laid_over (slot.from + leaves_before s path) ls st.slot_leaves)
-                (laid_elsewhere st.slot_leaves ls slot.from (leaf_count s) (leaves_before s path) fits within)
-                (λ v e. laid_in_stretch st.slot_leaves ls slot.from (leaf_count s) (leaves_before s path) fits within ∙ w.by_leaves ∙ ap (leaves_of s) (same_full w.v v e)) in
+        new (omega (arith, cells_fit, cell_size)) w.by_cells (laid_over (slot.from + leaves_before s path) ls st.slot_leaves)
+        (laid_elsewhere st.slot_leaves ls slot.from (leaf_count s) (leaves_before s path) fits within)
+        (λ v e. laid_in_stretch st.slot_leaves ls slot.from (leaf_count s) (leaves_before s path) fits within ∙ w.by_leaves ∙ ap (leaves_of s) (same_full w.v v e)) in
         subst (λ o. HasChanged m made mem st (filled mem p x) numbers (write_slot st index a.from ls o)) (sym (found_slot st.slots index serial slot now.1 now.2))
-            (subst (λ n. HasChanged m made mem st (filled mem p x) numbers (write_slot st index n ls (Some slot))) (sym names.from) changed)
+        (subst (λ n. HasChanged m made mem st (filled mem p x) numbers (write_slot st index n ls (Some slot))) (sym names.from) changed)

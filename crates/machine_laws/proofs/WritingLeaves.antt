@@ -1,6 +1,6 @@
 -- Leaves laid over some of a slot's: they stand in its stretch, and nowhere else.
-use Rattle.std.proofs.Common.{◌≡◌, ◌≤◌, ◌+◌, ◌++◌, ◌⊎◌, inl, inr, ℕ, List, length, take, drop, refl, sym, ap, ◌∙◌, arith}
-use Rattle.std.proofs.lemmas.List.{drop-drop, length-drop, length-take-le, take-append-drop}
+use Rattle.std.proofs.Common.{◌≡◌, ◌≤◌, ◌+◌, ◌++◌, ◌⊎◌, inl, inr, ℕ, List, length, take, drop, sym, ap, ◌∙◌, arith}
+use Rattle.std.proofs.lemmas.List.{length-drop, length-take-le, take-append-drop}
 use Rattle.machine_steps.specs.Operands.{laid_over}
 use Rattle.run_values.specs.declared.leaf.Leaf.{Leaf}
 use Rattle.value_parts.specs.inner.LeafLists.{spliced}
@@ -40,9 +40,9 @@ module _ (leaves new : List Leaf) (from size at : ℕ) (fits : at + length new �
   pub laid_in_stretch : take size (drop from leaves') ≡ spliced mid at new
   laid_in_stretch =
       let written : leaves' ≡ front ++ (spliced mid at new ++ back) =
-          laid (from + at) new leaves (omega (arith, fits, within))
-          ∙ ap (λ ls. spliced ls (from + at) new) (sym (in_three leaves from size))
-          ∙ ap (λ i. spliced (front ++ (mid ++ back)) i new) (omega (arith, front_length))
-          ∙ spliced_within front mid back at new (omega (arith, fits, mid_length)) in
+      laid (from + at) new leaves (omega (arith, fits, within))
+      ∙ ap (λ ls. spliced ls (from + at) new) (sym (in_three leaves from size))
+      ∙ ap (λ i. spliced (front ++ (mid ++ back)) i new) (omega (arith, front_length))
+      ∙ spliced_within front mid back at new (omega (arith, fits, mid_length)) in
       ap (λ ls. take size (drop from ls)) written
       ∙ read_middle front (spliced mid at new) back from size front_length (spliced_length mid at new (omega (arith, fits, mid_length)) ∙ mid_length)

@@ -1,8 +1,8 @@
 -- A part of a value is written, by cells and by leaves; or the whole.
-use Rattle.std.proofs.Common.{◌≡◌, ◌+◌, ◌++◌, ℕ, List, [], ◌∷◌, Some, true, length, refl, sym, ap, ◌∙◌, subst, arith}
+use Rattle.std.proofs.Common.{◌≡◌, ◌+◌, ◌++◌, ℕ, List, [], Some, true, length, refl, sym, ap, ◌∙◌, subst, arith}
 use Rattle.std.proofs.lemmas.List.{append-nil, drop_all, length-replicate}
 use Rattle.std.specs.Prelude.{replicate}
-use Rattle.run_values.specs.Cells.{Cell, Empty, cell_count, in_cells}
+use Rattle.run_values.specs.Cells.{Cell, cell_count, in_cells}
 use Rattle.run_values.specs.Leaves.{leaves_of}
 use Rattle.run_values.specs.Memory.{put_cells}
 use Rattle.run_values.specs.Shapes.{Shape}
@@ -28,10 +28,11 @@ pub whole_shape : {s u : Shape} {path : List ℕ} → IsPart s path u → path �
 whole_shape IsPart.here e = refl
 whole_shape (IsPart.inside is part) e = absurd (cc)
 
-pub whole_emptied : {s u : Shape} {path : List ℕ} → IsPart s path u → path ≡ [] → (cells : List Cell) → length cells ≡ cell_count s
-    → put_cells cells (cells_before s path) (replicate (cell_count u) Empty) ≡ replicate (cell_count s) Empty
-whole_emptied {s = s} IsPart.here e cells count = put_all cells (replicate (cell_count s) Empty) (length-replicate (cell_count s) Empty ∙ sym count)
-whole_emptied (IsPart.inside is part) e cells count = absurd (cc)
+-- the whole, where all its cells become the same
+pub whole_same : {s u : Shape} {path : List ℕ} → IsPart s path u → path ≡ [] → (c : Cell) (cells : List Cell) → length cells ≡ cell_count s
+    → put_cells cells (cells_before s path) (replicate (cell_count u) c) ≡ replicate (cell_count s) c
+whole_same {s = s} IsPart.here e c cells count = put_all cells (replicate (cell_count s) c) (length-replicate (cell_count s) c ∙ sym count)
+whole_same (IsPart.inside is part) e c cells count = absurd (cc)
 
 module _ (test : ClassTest) where
   pub part_written : {s u : Shape} {path : List ℕ} → IsPart s path u → (v x : Value) → suits test s v ≡ true → suits test u x ≡ true

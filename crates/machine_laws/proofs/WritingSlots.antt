@@ -1,8 +1,8 @@
 -- The slots agree where what one of them has changes, in the run and in the machine.
-use Rattle.std.proofs.Common.{◌≡◌, ◌≤◌, ◌<◌, ◌+◌, ◌⊎◌, inl, inr, ℕ, zero, suc, List, [], ◌∷◌, Bool, Some, true, length, take, drop, refl, sym, ap, ◌∙◌, subst, arith}
+use Rattle.std.proofs.Common.{◌≡◌, ◌≤◌, ◌<◌, ◌+◌, ◌⊎◌, inl, inr, ℕ, zero, suc, List, [], ◌∷◌, Some, true, length, take, drop, refl, sym, ap, ◌∙◌, subst, arith}
 use Rattle.std.specs.Prelude.{set, slice_get}
 use Rattle.std.proofs.lemmas.Bool.{cases_eq, cases_lt}
-use Rattle.std.proofs.lemmas.Option.{none-some, same_Some, slice_get_within}
+use Rattle.std.proofs.lemmas.Option.{none-some, same_Some}
 use Rattle.machine_steps.specs.declared.address.OpenSlot.{OpenSlot}
 use Rattle.ready_code.specs.Layout.{size_of}
 use Rattle.run_typing.specs.StorageForms.{FieldShapeIs}
@@ -25,6 +25,15 @@ get_put_here : {A : Type 0} (xs : List A) (k : ℕ) (x y : A) → slice_get xs k
 get_put_here [] k x y e = absurd (none-some x e)
 get_put_here (z ∷ xs) zero x y e = refl
 get_put_here (z ∷ xs) (suc k) x y e = get_put_here xs k x y e
+
+-- what holds of each of a list, and of the one that is put, holds of each behind it
+pub each_put : {A : Type 0} (P : ℕ → A → Type 0) (xs : List A) (k : ℕ) (y : A) → ((j : ℕ) (x : A) → slice_get xs j ≡ Some x → P j x) → P k y
+    → (j : ℕ) (x : A) → slice_get (set xs k y) j ≡ Some x → P j x
+each_put P xs k y each here j x e = by (cases_eq k j)
+  where
+    by : (k ≡ j) ⊎ (k ≡ j → ⊥) → P j x
+    by (inl at) = subst (λ n. P n x) at (subst (P k) (get_put_same xs k y x (ap (slice_get (set xs k y)) at ∙ e)) here)
+    by (inr other) = each j x (sym (get_put_other xs k j y other) ∙ e)
 
 abbrev pub with_content : Made → Content → Made
 with_content x c = record x { content = c }
@@ -106,16 +115,6 @@ module _ {test : ClassTest} {made : List Made} {slots : List OpenSlot} {leaves :
         holds = λ v full. elsewhere.apart next.from (size_of mine.of.shape) away.1 ∙ mine.holds v full;
       }
 
-  -- what holds of each that was made, and of the one that is changed, holds of each
-  each_made : (P : ℕ → Made → Type 0) → ((k : ℕ) (x : Made) → slice_get made k ≡ Some x → P k x) → P serial (with_content of c) → (k : ℕ) (x : Made) → slice_get made' k ≡ Some x → P k x
-  each_made P each here k x e = by (cases_eq serial k)
-    where
-      by : (serial ≡ k) ⊎ (serial ≡ k → ⊥) → P k x
-      by (inl at_serial) =
-          let is : with_content of c ≡ x = get_put_same made serial (with_content of c) x (ap (slice_get made') at_serial ∙ e) in
-          subst (λ n. P n x) at_serial (subst (P serial) is here)
-      by (inr other) = each k x (sym (get_put_other made serial k (with_content of c) other) ∙ e)
-
   open_found : (k : ℕ) (x : Made) → slice_get made' k ≡ Some x → is_open x ≡ true → (j : ℕ) × (next : OpenSlot) × (slice_get slots' j ≡ Some next) × (next.serial ≡ k)
   open_found k x e opened = by (cases_eq serial k)
     where
@@ -124,7 +123,7 @@ module _ {test : ClassTest} {made : List Made} {slots : List OpenSlot} {leaves :
       by (inr other) =
           let old = agree.all k x (sym (get_put_other made serial k (with_content of c) other) ∙ e) opened in
           let away : (index ≡ old.0 → ⊥) =
-              λ e. other (sym same ∙ ap (λ s. s.serial) (same_Some slot old.1 (sym at ∙ ap (slice_get slots) e ∙ old.2)) ∙ old.3) in
+          λ e. other (sym same ∙ ap (λ s. s.serial) (same_Some slot old.1 (sym at ∙ ap (slice_get slots) e ∙ old.2)) ∙ old.3) in
           (old.0, old.1, get_put_other slots index old.0 slot' away ∙ old.2, old.3)
 
   right_behind : (j : ℕ) (next : OpenSlot) → slice_get slots' j ≡ Some next → OpenIsRight made' slots' leaves' j next
@@ -138,6 +137,6 @@ module _ {test : ClassTest} {made : List Made} {slots : List OpenSlot} {leaves :
   slots_agree_with = record {
     each = right_behind;
     all = open_found;
-    shapes = each_made (λ k x. (w : Storage) × FieldShapeIs w x.shape) agree.shapes (agree.shapes serial of there);
-    suit = λ k x v e full. each_made (λ k x. ContentSuits test x.shape x.content) (λ k x e v f. agree.suit k x v e f) suit k x e v full;
+    shapes = each_put (λ k x. (w : Storage) × FieldShapeIs w x.shape) made serial (with_content of c) agree.shapes (agree.shapes serial of there);
+    suit = λ k x v e full. each_put (λ k x. ContentSuits test x.shape x.content) made serial (with_content of c) (λ k x e v f. agree.suit k x v e f) suit k x e v full;
   }
