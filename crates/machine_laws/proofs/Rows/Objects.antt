@@ -72,7 +72,8 @@ module _ {m : Module} {entry : Shape} (r : Runs m entry) where
       (λ xs all.
       alike_by
       (ap (λ t. performed r r.s (with_some (makes_object (d r) (shapes_of m) (values r) r.s.memory r.i) (class_in t))) (result_told u results ∙ ap shape_in_form form))
-      (ap (λ c. cond (is_some c) (gives (record r.st { heap = allocated_in r.st.heap k }) r.mf r.rest' (local (d r) r.f u) (leaf.Object (made_object r.st r.mf r.rest' k) ∷ [])) (faults fault.Slot r.st)) there)
+      (ap (λ c. cond (is_some c) (gives (record r.st { heap = allocated_in r.st.heap k }) r.mf r.rest' (local (d r) r.f u)
+        (leaf.Object (made_object r.st r.mf r.rest' k) ∷ [])) (faults fault.Slot r.st)) there)
       (object_given u class k stands.inst results (one_of r.f r.i.results u [] results (results_of r stands row.MakesObject is)) form
       (object_made m r.typed r.running.parts.memory r.mf r.rest' k class at)))
 
@@ -138,7 +139,8 @@ module _ {m : Module} {entry : Shape} (r : Runs m entry) where
     slot_gone p _ (RemovesIs.faulted none_such) = alike_by (ap (on_ok r.s _) none_such) refl (fault_alike r.running.parts fault.Slot)
     slot_gone p _ (RemovesIs.goes index slot older at last low own newest changes) =
         makes_alike m entry r.bound r.f r.lf r.mf r.below r.rest r.rest' r.i there r.s (closing p) r.s r.s.numbers older r.lf.values
-        (λ go. refl) refl (numbers_stay m (is_of_class m mem') mem' r.s.numbers st'.heap changes.agrees.objects) newest (none_put m entry r.bound r.f r.lf r.mf r.below r.rest r.rest' r.i there results r.lf.values) closed
+        (λ go. refl) refl (numbers_stay m (is_of_class m mem') mem' r.s.numbers st'.heap changes.agrees.objects) newest
+        (none_put m entry r.bound r.f r.lf r.mf r.below r.rest r.rest' r.i there results r.lf.values) closed
       where
         mem' : Memory
         mem' = removed r.s.memory p

@@ -51,7 +51,8 @@ use Rattle.machine_laws.proofs.GrowsTasks.{AtMost, KeepsBelow, PhasesStay, at_mo
 use Rattle.machine_laws.proofs.Memories.{NamesPlace}
 use Rattle.machine_laws.proofs.Numbers.{alive_was_made}
 use Rattle.machine_laws.proofs.Objects.{is_of_class}
-use Rattle.machine_laws.proofs.Puts.{frame_stands, put_address_agrees, put_address_ends, put_address_keeps, put_agrees, put_ends, put_keeps, put_there_agrees, put_there_ends, put_there_keeps, same_ends}
+use Rattle.machine_laws.proofs.Puts.{frame_stands, put_address_agrees, put_address_ends, put_address_keeps, put_agrees, put_ends, put_keeps, same_ends}
+use Rattle.machine_laws.proofs.Puts.{put_there_agrees, put_there_ends, put_there_keeps}
 use Rattle.machine_laws.proofs.Slots.{Made}
 use Rattle.machine_laws.proofs.Tasks.{TasksAgree, runs, to_go_on, to_take}
 
