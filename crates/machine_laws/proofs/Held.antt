@@ -1,5 +1,5 @@
 -- What the machine finds at a place is what the run has there.
-use Rattle.std.proofs.Common.{◌≡◌, ◌+◌, ◌++◌, ℕ, List, [], ◌∷◌, Bool, true, false, Option, Some, None, cond, drop, length, take, refl, sym, ap, ◌∙◌, subst, arith}
+use Rattle.std.proofs.Common.{◌≡◌, ◌+◌, ◌++◌, ℕ, List, [], ◌∷◌, Bool, true, false, Option, Some, None, cond, drop, length, take, replicate, refl, sym, ap, ◌∙◌, subst, arith}
 use Rattle.std.specs.Prelude.{find, slice_get, unwrap_or}
 use Rattle.std.specs.List.{list_all}
 use Rattle.std.proofs.lemmas.List.{drop_all, take_all}
@@ -16,7 +16,7 @@ use Rattle.machine_steps.specs.Held.{Held, held_at, held_by, held_in_field, held
 use Rattle.machine_steps.specs.Views.{MachineView}
 use Rattle.ready_code.specs.Layout.{size_of}
 use Rattle.run_values.specs.Cells as cells
-use Rattle.run_values.specs.Cells.{Cell, cell_count}
+use Rattle.run_values.specs.Cells.{Cell, cell_count, in_cells}
 use Rattle.run_values.specs.Leaves.{leaves_of}
 use Rattle.run_values.specs.Memory.{Memory, is_dead, is_dead_phase, object_at}
 use Rattle.run_values.specs.Places.{Inside, Place, cells_at, home_cells, is_there, is_there_at, value_at}
@@ -61,9 +61,9 @@ home_alive mem p o e reached = alive_where o (is_dead mem o) (sym (ap (λ h. fin
 pub data HeldIs (m : Module) (mem : Memory) (p : Place) : Held → Type 0 where
   gone : is_there_at mem p ≡ false → HeldIs m mem p held.Gone
   of_dead : (o : ObjectId) → is_there_at mem p ≡ true → home_references p.home ≡ o ∷ [] → is_dead mem o ≡ true → HeldIs m mem p (held.OfDead o)
-  empty : IsReachable mem p → value_at mem p ≡ None → HeldIs m mem p held.Empty
-  full : (x : Value) (ls : List Leaf) → IsReachable mem p → value_at mem p ≡ Some x → suits (is_of_class m mem) p.shape x ≡ true → ls ≡ leaves_of p.shape x
-      → HeldIs m mem p (held.Full ls)
+  empty : IsReachable mem p → cells_at mem p ≡ replicate (cell_count p.shape) cells.Empty → value_at mem p ≡ None → HeldIs m mem p held.Empty
+  full : (x : Value) (ls : List Leaf) → IsReachable mem p → cells_at mem p ≡ (in_cells p.shape).cells x → value_at mem p ≡ Some x
+      → suits (is_of_class m mem) p.shape x ≡ true → ls ≡ leaves_of p.shape x → HeldIs m mem p (held.Full ls)
 
 module _ (m : Module) {made : List Made} {mem : Memory} {numbers : List Numbers} {st : MachineView} (agrees : MemoryAgrees m made mem numbers st) where
   abbrev test : ClassTest
@@ -114,7 +114,7 @@ module _ (m : Module) {made : List Made} {mem : Memory} {numbers : List Numbers}
         let not_full : slot.is_full ≡ false = sym right.0.full ∙ ap (λ x. is_full_content x.content) right.1 ∙ ap is_full_content e in
         let read = has_cells Empty e ∙ same_cells_read names.part cells.Empty in
         subst (λ b. HeldIs m mem p (cond b (held.Full (take (size_of p.shape) (drop (slot.from + a.from) st.slot_leaves))) held.Empty)) (sym not_full)
-        (HeldIs.empty (record { there = empty_there mem p read; alive = in_no_object }) (empty_read mem p read))
+        (HeldIs.empty (record { there = empty_there mem p read; alive = in_no_object }) read (empty_read mem p read))
     open_slot (Full v) e open_ slot there same =
         let right = slot_right agrees.slots index serial names.of slot names.there there same in
         let full : slot.is_full ≡ true = sym right.0.full ∙ ap (λ x. is_full_content x.content) right.1 ∙ ap is_full_content e in
@@ -123,7 +123,7 @@ module _ (m : Module) {made : List Made} {mem : Memory} {numbers : List Numbers}
         let read = has_cells (Full v) e ∙ part.by_cells in
         let holds = subst (λ x. (v : Value) → x.content ≡ Full v → take (size_of x.shape) (drop slot.from st.slot_leaves) ≡ leaves_of x.shape v) right.1 right.0.holds in
         subst (λ b. HeldIs m mem p (cond b (held.Full (take (size_of p.shape) (drop (slot.from + a.from) st.slot_leaves))) held.Empty)) (sym full)
-        (HeldIs.full part.x _ (record { there = full_there mem p part.x read; alive = in_no_object }) (full_read mem p test part.x part.suit read) part.suit
+        (HeldIs.full part.x _ (record { there = full_there mem p part.x read; alive = in_no_object }) read (full_read mem p test part.x part.suit read) part.suit
         (leaves slot v part.x (holds v e) part.by_leaves))
 
     in_slot : (b : Bool) → is_open names.of ≡ b → InSlot (slot_in st index serial)
@@ -157,11 +157,11 @@ module _ (m : Module) {made : List Made} {mem : Memory} {numbers : List Numbers}
         → cells_at mem p ≡ take (cell_count p.shape) (drop (cells_before names.field names.path) own) → HeldIs m mem p (held_in_field a.from (size_of p.shape) x)
     by_holding alive _ _ FieldHolds.unwritten e =
         let read = e ∙ same_cells_read names.part cells.Empty in
-        HeldIs.empty (reached (empty_there mem p read) alive) (empty_read mem p read)
+        HeldIs.empty (reached (empty_there mem p read) alive) read (empty_read mem p read)
     by_holding alive _ _ (FieldHolds.written v suit) e =
         let part = part_read test names.part v suit in
         let read = e ∙ part.by_cells in
-        HeldIs.full part.x _ (reached (full_there mem p part.x read) alive) (full_read mem p test part.x part.suit read) part.suit
+        HeldIs.full part.x _ (reached (full_there mem p part.x read) alive) read (full_read mem p test part.x part.suit read) part.suit
         (ap (λ n. take (size_of p.shape) (drop n (leaves_of names.field v))) names.from ∙ part.by_leaves)
 
     -- the cells of the place are some of its field's

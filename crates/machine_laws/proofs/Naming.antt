@@ -27,6 +27,10 @@ use Rattle.machine_laws.proofs.Memories.{MemoryAgrees, NamesPlace}
 use Rattle.machine_laws.proofs.Objects.{NamesField, is_of_class}
 use Rattle.machine_laws.proofs.Slots.{Made, NamesSlot}
 
+not_none : {A : Type 0} (xs : List A) (x : A) → xs ++ (x ∷ []) ≡ [] → ⊥
+not_none [] x e = cc
+not_none (y ∷ xs) x e = cc
+
 -- the address of a part that lies so many leaves further on
 abbrev pub further : Address → ℕ → Address
 further a n = record a { from = a.from + n; is_part = true }
@@ -49,6 +53,7 @@ module _ (a : Address) (p : Place) (k : ℕ) (s : Shape) (e : slice_get (member_
     from = ap (λ n. n + leaf_offset (member_shapes p.shape) k) names.from ∙ sym (leaves_before_member names.part k);
     parts = refl;
     whole = λ not_part. absurd (true≢false not_part);
+    no_part = λ none. absurd (not_none names.path k none);
     now = names.now;
   }
 
@@ -64,6 +69,7 @@ module _ (a : Address) (p : Place) (k : ℕ) (s : Shape) (e : slice_get (member_
     from = ap (λ n. n + leaf_offset (member_shapes p.shape) k) names.from ∙ sym (leaves_before_member names.part k);
     parts = refl;
     whole = λ not_part. absurd (true≢false not_part);
+    no_part = λ none. absurd (not_none names.path k none);
   }
 
 pub member_named : (m : Module) {made : List Made} {slots : List OpenSlot} {mem : Memory} (a : Address) (p : Place) (k : ℕ) (s : Shape) → NamesPlace m made slots mem a p
@@ -102,4 +108,5 @@ field_named m typed {mem = mem} {numbers = numbers} {st = st} agrees owner o k s
       from = refl;
       parts = refl;
       whole = λ not_part. refl;
+      no_part = λ none. refl;
     })

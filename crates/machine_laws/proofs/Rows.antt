@@ -8,5 +8,8 @@ pub mod Residues
 pub mod Integers
 pub mod Computing
 pub mod Groups
+pub mod Shapes
 pub mod Choices
 pub mod Addresses
+pub mod References
+pub mod Objects

@@ -1,17 +1,17 @@
 -- Addresses of members and of fields.
-use Rattle.std.proofs.Common.{◌≡◌, ◌∙◌, ℕ, List, [], ◌∷◌, true, false, Bool, Option, None, Some, cond, refl, sym, ap, subst}
+use Rattle.std.proofs.Common.{◌≡◌, ◌∙◌, ℕ, [], ◌∷◌, true, false, Bool, None, Some, cond, refl, sym, ap}
 use Rattle.std.proofs.lemmas.Option.{same_Some}
-use Rattle.std.specs.Prelude.{option_and_then, option_map, slice_get}
-use Rattle.holder_model.specs.Data.{AddressOf, Datum, ValueOf, references_in}
+use Rattle.std.specs.Prelude.{option_map, slice_get}
+use Rattle.holder_model.specs.Data.{AddressOf, ValueOf}
 use Rattle.holder_model.specs.Effects as effects
-use Rattle.holder_model.specs.Effects.{Effect, effect_of, names_field, names_field_of, names_member, part_number, the_place, the_value, with_some}
+use Rattle.holder_model.specs.Effects.{Effect, effect_of, names_field, names_field_of, names_member, part_number, the_place, with_some}
 use Rattle.holder_model.specs.ModuleShapes.{field_shapes, shapes_of}
 use Rattle.holder_model.specs.declared.row_effect.RowEffect.TheVariants as row
 use Rattle.heap_model.specs.HeapViews.{is_dead_in}
 use Rattle.lowered_run.specs.LowEffects.{dead_or, unless_dead}
 use Rattle.lowered_run.specs.declared.low_fault.LowFault.{LowFault}
 use Rattle.lowered_run.specs.declared.low_fault.LowFault.TheVariants as fault
-use Rattle.machine_steps.specs.Operands.{address_in, contents, faults, gives_address, objects_among}
+use Rattle.machine_steps.specs.Operands.{address_in, faults, gives_address, objects_among}
 use Rattle.machine_steps.specs.Places.{field_address}
 use Rattle.machine_steps.specs.Views.{Went}
 use Rattle.ready_code.specs.Layout.{local, local_address}
@@ -20,7 +20,7 @@ use Rattle.ready_code.specs.declared.op.ReadyOp.TheVariants as op
 use Rattle.run_typing.specs.Forms.{OfPlace, OfValue, form_of}
 use Rattle.run_values.specs.Leaves.{leaves_of}
 use Rattle.run_values.specs.Memory.{is_dead}
-use Rattle.run_values.specs.Places.{Place, field_in, member_place, part_of}
+use Rattle.run_values.specs.Places.{field_in, part_of}
 use Rattle.run_values.specs.Shapes.{Reference, Shape, member_shapes}
 use Rattle.run_values.specs.Values as value
 use Rattle.sil_ast.specs.declared.module.Module.{Module}
@@ -29,16 +29,13 @@ use Rattle.sil_ast.specs.declared.place.ValueId.{ValueId}
 use Rattle.value_parts.proofs.Plain.{suits_reference}
 use Rattle.machine_laws.proofs.Ending.{Alike, alike_by}
 use Rattle.machine_laws.proofs.FrameSteps.{StandsAt}
-use Rattle.machine_laws.proofs.Memories.{NamesPlace}
 use Rattle.machine_laws.proofs.Naming.{field_at, field_named, further, member_named}
 use Rattle.machine_laws.proofs.Numbers.{dead_agrees}
 use Rattle.machine_laws.proofs.Objects.{is_of_class}
 use Rattle.machine_laws.proofs.Operands.{read_place, read_value}
 use Rattle.machine_laws.proofs.Rows.Effects.{RowAlike, Runs, d, does_at, forms_by, performed, results_of, row_by, values}
 use Rattle.machine_laws.proofs.Rows.Gives.{faults_alike, first_form, gives_place, one_of, one_read}
-
-same_place_form : (s t : Shape) → OfPlace s ≡ OfPlace t → s ≡ t
-same_place_form s t e = cc
+use Rattle.machine_laws.proofs.Rows.Shapes.{same_place_form}
 
 module _ {m : Module} {entry : Shape} (r : Runs m entry) where
   pub member_address_alike : (v u : ValueId) (s : Shape) (k : ℕ) → effect_of r.i.op ≡ row.AddressesMember → operands_of r.i ≡ v ∷ [] → r.i.results ≡ u ∷ []
@@ -53,18 +50,18 @@ module _ {m : Module} {entry : Shape} (r : Runs m entry) where
       let form = first_form (form_of (d r) r.f) r.i.results u [] (OfPlace forms.1) [] results forms.6 in
       row_by r stands row.AddressesMember is (sym operands)
       (λ xs all.
-        let one = one_read v xs operands all in
-        let p = read_place one.2 s from in
-        let there : slice_get (member_shapes p.0.shape) k ≡ Some forms.1 = ap (λ t. slice_get (member_shapes t) k) p.2 ∙ part in
-        let a = address_in r.st r.mf (local_address (d r) r.f v) in
-        alike_by
-        (ap (λ ys. performed r r.s (the_place (d r) (shapes_of m) (values r) r.s.memory r.i (names_member (d r) (shapes_of m) (values r) r.s.memory r.i (part_number (d r) r.i)) ys))
-          (one.1 ∙ ap (λ y. y ∷ []) p.1)
-        ∙ ap (λ n. performed r r.s (names_member (d r) (shapes_of m) (values r) r.s.memory r.i n p.0)) at
-        ∙ ap (λ t. performed r r.s (with_some (λ q. effects.gives r.s.memory (AddressOf q ∷ [])) (option_map (part_of p.0 (member_shapes p.0.shape) k) t))) there)
-        (ap (λ t. gives_address r.st r.mf r.rest' (local_address (d r) r.f u) (further a (leaf_offset (member_shapes t) k))) (sym p.2))
-        (gives_place r stands.inst u results (one_of r.f r.i.results u [] results (results_of r stands row.AddressesMember is))
-        (part_of p.0 (member_shapes p.0.shape) k forms.1) form (further a (leaf_offset (member_shapes p.0.shape) k)) (member_named m a p.0 k forms.1 p.3 there)))
+      let one = one_read v xs operands all in
+      let p = read_place one.2 s from in
+      let there : slice_get (member_shapes p.0.shape) k ≡ Some forms.1 = ap (λ t. slice_get (member_shapes t) k) p.2 ∙ part in
+      let a = address_in r.st r.mf (local_address (d r) r.f v) in
+      alike_by
+      (ap (λ ys. performed r r.s (the_place (d r) (shapes_of m) (values r) r.s.memory r.i (names_member (d r) (shapes_of m) (values r) r.s.memory r.i (part_number (d r) r.i)) ys))
+      (one.1 ∙ ap (λ y. y ∷ []) p.1)
+      ∙ ap (λ n. performed r r.s (names_member (d r) (shapes_of m) (values r) r.s.memory r.i n p.0)) at
+      ∙ ap (λ t. performed r r.s (with_some (λ q. effects.gives r.s.memory (AddressOf q ∷ [])) (option_map (part_of p.0 (member_shapes p.0.shape) k) t))) there)
+      (ap (λ t. gives_address r.st r.mf r.rest' (local_address (d r) r.f u) (further a (leaf_offset (member_shapes t) k))) (sym p.2))
+      (gives_place r stands.inst u results (one_of r.f r.i.results u [] results (results_of r stands row.AddressesMember is))
+      (part_of p.0 (member_shapes p.0.shape) k forms.1) form (further a (leaf_offset (member_shapes p.0.shape) k)) (member_named m a p.0 k forms.1 p.3 there)))
 
   -- an object that is dead is a fault of both
   pub unless_dead_alike : (o : ObjectId) (e : Effect LowFault) (w : Went) → Alike m entry (performed r r.s e) w
@@ -88,19 +85,19 @@ module _ {m : Module} {entry : Shape} (r : Runs m entry) where
       let there : slice_get (field_shapes (shapes_of m) owner) k ≡ Some forms.1 = ap (slice_get (field_shapes (shapes_of m) owner)) (sym (same_Some forms.2 k (sym forms.4 ∙ at))) ∙ forms.5 in
       row_by r stands row.AddressesField is (sym operands)
       (λ xs all.
-        let one = one_read v xs operands all in
-        let x = read_value one.2 (Reference owner) from in
-        let o = suits_reference (is_of_class m r.s.memory) owner x.0 x.2 in
-        alike_by
-        (ap (does_at r row.AddressesField) (one.1 ∙ ap (λ y. y ∷ []) (x.1 ∙ ap ValueOf o.1)))
-        (ap (λ ls. field_address r.st r.mf r.rest' k (objects_among ls) (local_address (d r) r.f u)) (x.3 ∙ ap (leaves_of (Reference owner)) o.1))
-        (unless_dead_alike o.0 (names_field (d r) (shapes_of m) (values r) r.s.memory r.i (value.Object o.0))
-          (gives_address r.st r.mf r.rest' (local_address (d r) r.f u) (field_at o.0 k))
-          (alike_by
-          (ap (λ n. performed r r.s (names_field_of (d r) (shapes_of m) (values r) r.s.memory r.i n (part_number (d r) r.i) o.0)) forms.3
-          ∙ ap (λ n. performed r r.s (names_field_of (d r) (shapes_of m) (values r) r.s.memory r.i (Some forms.0) n o.0)) at
-          ∙ ap (λ t. performed r r.s (with_some (λ q. effects.gives r.s.memory (AddressOf q ∷ [])) (option_map (field_in o.0 (field_shapes (shapes_of m) owner) k) t))) there)
-          refl
-          (gives_place r stands.inst u results (one_of r.f r.i.results u [] results (results_of r stands row.AddressesField is))
-            (field_in o.0 (field_shapes (shapes_of m) owner) k forms.1) form (field_at o.0 k)
-            (field_named m r.typed r.running.parts.memory owner o.0 k forms.1 o.2 there)))))
+      let one = one_read v xs operands all in
+      let x = read_value one.2 (Reference owner) from in
+      let o = suits_reference (is_of_class m r.s.memory) owner x.0 x.2 in
+      alike_by
+      (ap (does_at r row.AddressesField) (one.1 ∙ ap (λ y. y ∷ []) (x.1 ∙ ap ValueOf o.1)))
+      (ap (λ ls. field_address r.st r.mf r.rest' k (objects_among ls) (local_address (d r) r.f u)) (x.3 ∙ ap (leaves_of (Reference owner)) o.1))
+      (unless_dead_alike o.0 (names_field (d r) (shapes_of m) (values r) r.s.memory r.i (value.Object o.0))
+      (gives_address r.st r.mf r.rest' (local_address (d r) r.f u) (field_at o.0 k))
+      (alike_by
+      (ap (λ n. performed r r.s (names_field_of (d r) (shapes_of m) (values r) r.s.memory r.i n (part_number (d r) r.i) o.0)) forms.3
+      ∙ ap (λ n. performed r r.s (names_field_of (d r) (shapes_of m) (values r) r.s.memory r.i (Some forms.0) n o.0)) at
+      ∙ ap (λ t. performed r r.s (with_some (λ q. effects.gives r.s.memory (AddressOf q ∷ [])) (option_map (field_in o.0 (field_shapes (shapes_of m) owner) k) t))) there)
+      refl
+      (gives_place r stands.inst u results (one_of r.f r.i.results u [] results (results_of r stands row.AddressesField is))
+      (field_in o.0 (field_shapes (shapes_of m) owner) k forms.1) form (field_at o.0 k)
+      (field_named m r.typed r.running.parts.memory owner o.0 k forms.1 o.2 there)))))

@@ -1,87 +1,37 @@
 -- The cases of an enum: their leaves are a tag, those of the payload, and blanks.
-use Rattle.std.proofs.Common.{◌≡◌, ◌+◌, ◌-◌, ◌∙◌, ◌++◌, ℕ, List, [], ◌∷◌, true, false, Option, None, Some, length, map, refl, sym, ap, subst, arith}
-use Rattle.std.proofs.lemmas.Bool.{and_from}
-use Rattle.std.proofs.lemmas.Option.{same_Some, slice_get-map}
-use Rattle.std.specs.Prelude.{drop, option_and_then, option_map, replicate, slice_get, take, unwrap_or}
-use Rattle.std.specs.List.{flat_map}
-use Rattle.std.specs.Option.{option_to_list}
-use Rattle.holder_model.specs.Data.{Datum, ValueOf, values_of, with_first}
-use Rattle.holder_model.specs.Effects as effects
-use Rattle.holder_model.specs.Effects.{chooses, effect_of, gives_member, part_number, result_shape_of, the_value, with_some}
-use Rattle.holder_model.specs.ModuleShapes.{case_place, function_shapes, shape_at, shapes_in, shapes_of, value_shape}
+use Rattle.std.proofs.Common.{◌≡◌, ◌+◌, ◌-◌, ◌∙◌, ◌++◌, ℕ, List, [], ◌∷◌, None, Some, length, refl, sym, ap, subst, arith}
+use Rattle.std.proofs.lemmas.Option.{same_Some}
+use Rattle.std.specs.Prelude.{replicate, slice_get}
+use Rattle.holder_model.specs.Data.{values_of}
+use Rattle.holder_model.specs.Effects.{chooses, effect_of, result_shape_of, with_some}
+use Rattle.holder_model.specs.ModuleShapes.{case_place, shapes_of}
 use Rattle.holder_model.specs.declared.row_effect.RowEffect.TheVariants as row
 use Rattle.machine_steps.specs.Operands.{contents}
-use Rattle.machine_steps.specs.Rows.{value_of}
-use Rattle.machine_steps.specs.Views.{MachineView}
-use Rattle.machine_steps.specs.declared.frame.Frame.{Frame}
 use Rattle.ready_code.specs.Layout.{leaves_in, local, size_of}
-use Rattle.ready_code.specs.ReadyOps.{leaf_offset, operands_of}
-use Rattle.ready_code.specs.declared.local.Local.{Local}
+use Rattle.ready_code.specs.ReadyOps.{operands_of}
 use Rattle.ready_code.specs.declared.op.ReadyOp.TheVariants as op
-use Rattle.run_typing.specs.Forms.{Form, OfFunction, OfNothing, OfPlace, OfValue, form_by, form_of, form_with, forms_of}
-use Rattle.run_typing.specs.RowForms.{IsGroup}
-use Rattle.run_values.specs.Fits.{fit_each}
+use Rattle.run_typing.specs.Forms.{Form, OfValue, form_of, forms_of}
 use Rattle.run_values.specs.Layers.{CaseLayer}
 use Rattle.run_values.specs.Leaves.{leaves_of}
-use Rattle.run_values.specs.Memory.{Memory}
-use Rattle.run_values.specs.Shapes.{Shape, Unknown, case_shapes, member_shapes, shape_of}
+use Rattle.run_values.specs.Shapes.{Shape, case_shapes}
 use Rattle.run_values.specs.Values as value
-use Rattle.run_values.specs.Values.{Value, grouped}
+use Rattle.run_values.specs.Values.{Value}
 use Rattle.run_values.specs.declared.leaf.Leaf.{Leaf}
 use Rattle.run_values.specs.declared.leaf.Leaf.TheVariants as leaf
-use Rattle.sil_ast.specs.declared.function.Function.{Function}
 use Rattle.sil_ast.specs.declared.inst.Inst.{Inst}
 use Rattle.sil_ast.specs.declared.module.Module.{Module}
-use Rattle.sil_ast.specs.declared.place.FuncId.{FuncId}
 use Rattle.sil_ast.specs.declared.place.ValueId.{ValueId}
-use Rattle.sil_ast.specs.declared.type_name.TypeName.{TypeName}
-use Rattle.sil_types.specs.Typing.Shapes.{target}
-use Rattle.sil_types.specs.Typing.Values.{function_at, type_at, value_functions, value_types}
-use Rattle.type_definitions.specs.Declarations.{Declarations, declarations_of}
-use Rattle.value_parts.specs.inner.LeafLists.{leaf_lists}
-use Rattle.value_parts.specs.inner.Suits.{ClassTest, suits}
 use Rattle.value_parts.proofs.Cases.{case_leaves, case_suits, full_leaves, full_suits}
-use Rattle.value_parts.proofs.Groups.{member_leaves, struct_leaves, struct_suits, tuple_leaves, tuple_suits}
 use Rattle.value_parts.proofs.LeafParts.{suits_leaves_length}
-use Rattle.value_parts.proofs.Members.{has_member}
 use Rattle.value_parts.proofs.Suiting.{suits_fits}
 use Rattle.machine_laws.proofs.Ending.{alike_by}
 use Rattle.machine_laws.proofs.FrameSteps.{StandsAt}
 use Rattle.machine_laws.proofs.Objects.{is_of_class}
-use Rattle.machine_laws.proofs.Operands.{AllRead, more, none, read_value}
+use Rattle.machine_laws.proofs.Operands.{read_value}
 use Rattle.machine_laws.proofs.Rows.Effects.{RowAlike, Runs, d, forms_by, performed, results_of, row_by, values}
-use Rattle.machine_laws.proofs.Rows.Forms.{ChoiceForms, FormsAt}
+use Rattle.machine_laws.proofs.Rows.Forms.{ChoiceForms}
 use Rattle.machine_laws.proofs.Rows.Gives.{first_form, gives_value, none_read, one_of, one_read}
-use Rattle.machine_laws.proofs.Rows.Groups.{same_value_form}
-use Rattle.machine_laws.proofs.Slots.{Made}
-
--- the shape that a run has of a value is the one in its form
-
-shape_by : (d : Declarations) (t : Option TypeName) (g : Option FuncId) (s : Shape) → form_by d t g ≡ OfValue s → value_shape d t ≡ s
-shape_by d None None s e = absurd (cc)
-shape_by d None (Some g) s e = absurd (cc)
-shape_by d (Some t) g s e = by_target (target t) e
-  where
-    by_target : (u : Option TypeName) → form_with d t u ≡ OfValue s → shape_of d (unwrap_or u t) ≡ s
-    by_target None is = cc
-    by_target (Some u) is = absurd (cc)
-
-pub shape_told : (m : Module) (g : FuncId) (f : Function) → slice_get m.functions g.0 ≡ Some f → (v : ValueId) (s : Shape) → form_of (declarations_of m) f v ≡ OfValue s
-    → shape_at (shapes_in (shapes_of m) g) v ≡ s
-shape_told m g f there v s form =
-    ap (λ o. shape_at (unwrap_or o []) v) (slice_get-map (function_shapes (declarations_of m)) m.functions g.0 ∙ ap (option_map (function_shapes (declarations_of m))) there)
-    ∙ ap (λ o. unwrap_or o Unknown) (slice_get-map (value_shape (declarations_of m)) (value_types (declarations_of m) f) v.0)
-    ∙ by_type (slice_get (value_types (declarations_of m) f) v.0) refl
-  where
-    by_type : (t : Option (Option TypeName)) → slice_get (value_types (declarations_of m) f) v.0 ≡ t
-        → unwrap_or (option_map (value_shape (declarations_of m)) t) Unknown ≡ s
-    by_type t e =
-        at t (shape_by (declarations_of m) (unwrap_or t None) (function_at (value_functions f) v.0) s
-        (ap (λ o. form_by (declarations_of m) (unwrap_or o None) (function_at (value_functions f) v.0)) (sym e) ∙ form))
-      where
-        at : (t : Option (Option TypeName)) → value_shape (declarations_of m) (unwrap_or t None) ≡ s → unwrap_or (option_map (value_shape (declarations_of m)) t) Unknown ≡ s
-        at None is = is
-        at (Some t) is = is
+use Rattle.machine_laws.proofs.Rows.Shapes.{same_value_form, shape_in_form, shape_told}
 
 -- a choice without a payload, and with one
 
@@ -105,51 +55,51 @@ module _ {m : Module} {entry : Shape} (r : Runs m entry) where
       → case_place (result_shape_of (d r) (shapes_of m) (values r) r.s.memory r.i r.i.results) r.i.member ≡ Some k
   case_found u s k results form at =
       ap (λ t. case_place t r.i.member)
-      (ap (result_shape_of (d r) (shapes_of m) (values r) r.s.memory r.i) results ∙ shape_told m r.lf.function r.f r.running.frame.there u s form) ∙ at
+      (ap (result_shape_of (d r) (shapes_of m) (values r) r.s.memory r.i) results ∙ shape_told m r.lf.function r.f r.running.frame.there u ∙ ap shape_in_form form) ∙ at
 
   pub chooses_plain_alike : (u : ValueId) (s : Shape) (k : ℕ) → effect_of r.i.op ≡ row.ChoosesCase → operands_of r.i ≡ [] → r.i.results ≡ u ∷ []
       → form_of (d r) r.f u ≡ OfValue s → case_place s r.i.member ≡ Some k → StandsAt m r.f r.lf r.i (op.Choose k None (local (d r) r.f u))
       → RowAlike r (op.Choose k None (local (d r) r.f u))
   chooses_plain_alike u s k is operands results form at stands =
       let choice = plain_choice m r.i (forms_of (d r) r.f r.i.results)
-          (subst (λ vs. ChoiceForms m r.i (forms_of (d r) r.f vs) (forms_of (d r) r.f r.i.results)) operands (forms_by r stands row.ChoosesCase is)) in
+      (subst (λ vs. ChoiceForms m r.i (forms_of (d r) r.f vs) (forms_of (d r) r.f r.i.results)) operands (forms_by r stands row.ChoosesCase is)) in
       let same : choice.0 ≡ s = same_value_form choice.0 s (sym (first_form (form_of (d r) r.f) r.i.results u [] (OfValue choice.0) [] results choice.6) ∙ form) in
       let numbered : choice.1 ≡ k = same_Some choice.1 k (sym choice.3 ∙ ap (λ t. case_place t r.i.member) same ∙ at) in
       let there : slice_get (case_shapes s) k ≡ Some choice.2 = ap (λ t. slice_get (case_shapes t) k) (sym same) ∙ ap (slice_get (case_shapes choice.0)) (sym numbered) ∙ choice.4 in
       row_by r stands row.ChoosesCase is (sym operands)
       (λ xs all.
-        alike_by
-        (ap (λ n. performed r r.s (with_some (λ j. with_some (chooses (d r) (shapes_of m) (values r) r.s.memory r.i j) (values_of xs)) n)) (case_found u s k results form at)
-        ∙ ap (λ ys. performed r r.s (with_some (chooses (d r) (shapes_of m) (values r) r.s.memory r.i k) (values_of ys))) (none_read xs operands all))
-        refl
-        (gives_value r stands.inst u results (one_of r.f r.i.results u [] results (results_of r stands row.ChoosesCase is)) s form (value.Case k)
-        (case_suits (is_of_class m r.s.memory) s k choice.2 there choice.5)
-        (leaf.Tag k ∷ replicate ((local (d r) r.f u).size - 1) leaf.Blank)
-        (ap (λ n. leaf.Tag k ∷ replicate (n - 1) leaf.Blank) (ap leaves_in form) ∙ sym (case_leaves s k choice.2 there choice.5))))
+      alike_by
+      (ap (λ n. performed r r.s (with_some (λ j. with_some (chooses (d r) (shapes_of m) (values r) r.s.memory r.i j) (values_of xs)) n)) (case_found u s k results form at)
+      ∙ ap (λ ys. performed r r.s (with_some (chooses (d r) (shapes_of m) (values r) r.s.memory r.i k) (values_of ys))) (none_read xs operands all))
+      refl
+      (gives_value r stands.inst u results (one_of r.f r.i.results u [] results (results_of r stands row.ChoosesCase is)) s form (value.Case k)
+      (case_suits (is_of_class m r.s.memory) s k choice.2 there choice.5)
+      (leaf.Tag k ∷ replicate ((local (d r) r.f u).size - 1) leaf.Blank)
+      (ap (λ n. leaf.Tag k ∷ replicate (n - 1) leaf.Blank) (ap leaves_in form) ∙ sym (case_leaves s k choice.2 there choice.5))))
 
   pub chooses_full_alike : (v u : ValueId) (s : Shape) (k : ℕ) → effect_of r.i.op ≡ row.ChoosesCase → operands_of r.i ≡ v ∷ [] → r.i.results ≡ u ∷ []
       → form_of (d r) r.f u ≡ OfValue s → case_place s r.i.member ≡ Some k → StandsAt m r.f r.lf r.i (op.Choose k (Some (local (d r) r.f v)) (local (d r) r.f u))
       → RowAlike r (op.Choose k (Some (local (d r) r.f v)) (local (d r) r.f u))
   chooses_full_alike v u s k is operands results form at stands =
       let choice = full_choice m r.i (form_of (d r) r.f v) (forms_of (d r) r.f r.i.results)
-          (subst (λ vs. ChoiceForms m r.i (forms_of (d r) r.f vs) (forms_of (d r) r.f r.i.results)) operands (forms_by r stands row.ChoosesCase is)) in
+      (subst (λ vs. ChoiceForms m r.i (forms_of (d r) r.f vs) (forms_of (d r) r.f r.i.results)) operands (forms_by r stands row.ChoosesCase is)) in
       let same : choice.0 ≡ s = same_value_form choice.0 s (sym (first_form (form_of (d r) r.f) r.i.results u [] (OfValue choice.0) [] results choice.8) ∙ form) in
       let numbered : choice.2 ≡ k = same_Some choice.2 k (sym choice.4 ∙ ap (λ t. case_place t r.i.member) same ∙ at) in
       let there : slice_get (case_shapes s) k ≡ Some choice.3 = ap (λ t. slice_get (case_shapes t) k) (sym same) ∙ ap (slice_get (case_shapes choice.0)) (sym numbered) ∙ choice.5 in
       row_by r stands row.ChoosesCase is (sym operands)
       (λ xs all.
-        let one = one_read v xs operands all in
-        let x = read_value one.2 choice.1 choice.7 in
-        let test = is_of_class m r.s.memory in
-        alike_by
-        (ap (λ n. performed r r.s (with_some (λ j. with_some (chooses (d r) (shapes_of m) (values r) r.s.memory r.i j) (values_of xs)) n)) (case_found u s k results form at)
-        ∙ ap (λ ys. performed r r.s (with_some (chooses (d r) (shapes_of m) (values r) r.s.memory r.i k) (values_of ys))) (one.1 ∙ ap (λ y. y ∷ []) x.1))
-        refl
-        (gives_value r stands.inst u results (one_of r.f r.i.results u [] results (results_of r stands row.ChoosesCase is)) s form (value.Full k x.0)
-        (full_suits test s k choice.3 choice.1 x.0 there choice.6 x.2)
-        (leaf.Tag k ∷ (contents r.st r.mf (local (d r) r.f v) ++ replicate ((local (d r) r.f u).size - (1 + length (contents r.st r.mf (local (d r) r.f v)))) leaf.Blank))
-        (full_is s choice.1 k x.0 (contents r.st r.mf (local (d r) r.f v)) (local (d r) r.f u).size (ap leaves_in form) x.3 (suits_leaves_length test choice.1 x.0 x.2)
-        ∙ sym (full_leaves s k choice.3 choice.1 x.0 there choice.6 (suits_fits test choice.1 x.0 x.2)))))
+      let one = one_read v xs operands all in
+      let x = read_value one.2 choice.1 choice.7 in
+      let test = is_of_class m r.s.memory in
+      alike_by
+      (ap (λ n. performed r r.s (with_some (λ j. with_some (chooses (d r) (shapes_of m) (values r) r.s.memory r.i j) (values_of xs)) n)) (case_found u s k results form at)
+      ∙ ap (λ ys. performed r r.s (with_some (chooses (d r) (shapes_of m) (values r) r.s.memory r.i k) (values_of ys))) (one.1 ∙ ap (λ y. y ∷ []) x.1))
+      refl
+      (gives_value r stands.inst u results (one_of r.f r.i.results u [] results (results_of r stands row.ChoosesCase is)) s form (value.Full k x.0)
+      (full_suits test s k choice.3 choice.1 x.0 there choice.6 x.2)
+      (leaf.Tag k ∷ (contents r.st r.mf (local (d r) r.f v) ++ replicate ((local (d r) r.f u).size - (1 + length (contents r.st r.mf (local (d r) r.f v)))) leaf.Blank))
+      (full_is s choice.1 k x.0 (contents r.st r.mf (local (d r) r.f v)) (local (d r) r.f u).size (ap leaves_in form) x.3 (suits_leaves_length test choice.1 x.0 x.2)
+      ∙ sym (full_leaves s k choice.3 choice.1 x.0 there choice.6 (suits_fits test choice.1 x.0 x.2)))))
     where
       full_is : (s t : Shape) (k : ℕ) (x : Value) (ls : List Leaf) (n : ℕ) → n ≡ size_of s → ls ≡ leaves_of t x → length (leaves_of t x) ≡ size_of t
           → ◌≡◌ {A = List Leaf} (leaf.Tag k ∷ (ls ++ replicate (n - (1 + length ls)) leaf.Blank)) (leaf.Tag k ∷ (leaves_of t x ++ replicate (size_of s - 1 - size_of t) leaf.Blank))

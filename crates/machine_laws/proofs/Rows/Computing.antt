@@ -1,5 +1,5 @@
 -- Builtin operations: the machine computes the leaves of what the run computes.
-use Rattle.std.proofs.Common.{◌≡◌, ◌∙◌, ℕ, ℤ, List, [], ◌∷◌, Bool, true, false, Option, None, Some, map, not, pos, refl, sym, ap, subst}
+use Rattle.std.proofs.Common.{◌≡◌, ◌∙◌, ℕ, ℤ, List, [], ◌∷◌, Bool, true, Some, map, pos, refl, sym, ap, subst}
 use Rattle.std.proofs.lemmas.Bool.{and_from}
 use Rattle.std.proofs.lemmas.Option.{same_Some}
 use Rattle.std.specs.Prelude.{bit_and, bit_or, bit_xor, option_and_then}
@@ -8,22 +8,20 @@ use Rattle.builtin_names.specs.declared.names.Operation.{Operation}
 use Rattle.builtin_names.specs.declared.names.Operation.TheVariants as o
 use Rattle.builtin_names.specs.declared.names.Width.{Width}
 use Rattle.holder_model.specs.Builtins.{bit, builtin_value, combined, computed, computed_by, magnitude, signed, unsigned}
-use Rattle.holder_model.specs.Data.{Datum, ValueOf, all_of, values_of}
+use Rattle.holder_model.specs.Data.{all_of, values_of}
 use Rattle.holder_model.specs.Effects as effects
 use Rattle.holder_model.specs.Effects.{effect_of, with_some}
 use Rattle.holder_model.specs.declared.row_effect.RowEffect.TheVariants as row
 use Rattle.machine_steps.specs.Computing.{computed_leaves}
-use Rattle.numbered_form.specs.inner.Literals.{is_residue}
 use Rattle.ready_code.specs.Layout.{local}
 use Rattle.ready_code.specs.ReadyOps.{first_of, operands_of}
 use Rattle.ready_code.specs.declared.op.ReadyOp.TheVariants as op
 use Rattle.run_typing.specs.Forms.{Form, OfValue, form_of, forms_of}
 use Rattle.run_typing.specs.RowForms.{computed_shape, operand_shapes, shape_by, shapes_by}
 use Rattle.run_values.specs.Leaves.{leaves_of}
-use Rattle.run_values.specs.Shapes.{Integer, Shape}
+use Rattle.run_values.specs.Shapes.{Shape}
 use Rattle.run_values.specs.Values as value
 use Rattle.run_values.specs.Values.{integer_of}
-use Rattle.run_values.specs.declared.leaf.Leaf.{Leaf}
 use Rattle.sil_ast.specs.declared.module.Module.{Module}
 use Rattle.sil_ast.specs.declared.place.ValueId.{ValueId}
 use Rattle.sil_types.specs.Typing.Builtins.{Builtin, Sort, bits, builtin_named, combining, comparing, overflowing, sort_of}
@@ -103,23 +101,27 @@ module _ {m : Module} {entry : Shape} (r : Runs m entry) where
   computes_alike b v w u others is named operands results stands =
       row_by r stands row.Computes is (ap (λ vs. v ∷ w ∷ vs) (few_more (form_of (d r) r.f) (sort_of b.operation) (bits b.width) v w others from) ∙ sym operands)
       (λ xs all.
-        let read = ints_read r.f r.mf (v ∷ w ∷ others) xs (widths_by (sort_of b.operation) (bits b.width)) from (subst (λ vs. AllRead m r.made r.s.memory r.st r.f r.mf vs xs) operands all) in
-        alike_by
-        (ap (λ ys. performed r r.s (with_some (effects.gives_value r.s.memory) (option_and_then (builtin_value r.i.text) (option_and_then (all_of integer_of) (values_of ys))))) read
-        ∙ ap (λ ns. performed r r.s (with_some (effects.gives_value r.s.memory) (option_and_then (builtin_value r.i.text) ns))) (numbers_listed int (v ∷ w ∷ others))
-        ∙ ap (λ c. performed r r.s (with_some (effects.gives_value r.s.memory) (option_and_then (λ k. computed k (map int (v ∷ w ∷ others))) c))) named)
-        refl
-        (gives_value r stands.inst u results (one_of r.f r.i.results u [] results (results_of r stands row.Computes is)) (computed_shape b) form
-        (computed_by b.operation (bits b.width) (int v) (int w)) (computed_suits (is_of_class m r.s.memory) b.width b.operation (int v) (int w))
-        (computed_leaves b.operation (bits b.width) (int v) (int w)) (computed_as_leaves b.operation (bits b.width) (int v) (int w))))
+      let read = ints_read r.f r.mf (v ∷ w ∷ others) xs (widths_by (sort_of b.operation) (bits b.width)) from (subst (λ vs. AllRead m r.made r.s.memory r.st r.f r.mf vs xs) operands all) in
+      alike_by
+      (ap (λ ys. performed r r.s (with_some (effects.gives_value r.s.memory) (option_and_then (builtin_value r.i.text) (option_and_then (all_of integer_of) (values_of ys))))) read
+      ∙ ap (λ ns. performed r r.s (with_some (effects.gives_value r.s.memory) (option_and_then (builtin_value r.i.text) ns))) (numbers_listed int (v ∷ w ∷ others))
+      ∙ ap (λ c. performed r r.s (with_some (effects.gives_value r.s.memory) (option_and_then (λ k. computed k (map int (v ∷ w ∷ others))) c))) named)
+      refl
+      (gives_value r stands.inst u results (one_of r.f r.i.results u [] results (results_of r stands row.Computes is)) (computed_shape b) form
+      (computed_by b.operation (bits b.width) (int v) (int w)) (computed_suits (is_of_class m r.s.memory) b.width b.operation (int v) (int w))
+      (computed_leaves b.operation (bits b.width) (int v) (int w)) (computed_as_leaves b.operation (bits b.width) (int v) (int w))))
     where
       int : ValueId → ℤ
       int = int_at m r.st r.f r.mf
+
       forms_are : FormsAt m r.i row.Computes (forms_of (d r) r.f (operands_of r.i)) (forms_of (d r) r.f r.i.results)
       forms_are = forms_by r stands row.Computes is
+
       same : forms_are.0 ≡ b
       same = same_Some forms_are.0 b (sym forms_are.1 ∙ named)
+
       from : map (form_of (d r) r.f) (v ∷ w ∷ others) ≡ map of_width (widths_by (sort_of b.operation) (bits b.width))
       from = sym (ap (map (form_of (d r) r.f)) operands) ∙ forms_are.2 ∙ ap (λ c. map OfValue (operand_shapes c)) same ∙ forms_by_width (sort_of b.operation) (bits b.width)
+
       form : form_of (d r) r.f u ≡ OfValue (computed_shape b)
       form = first_form (form_of (d r) r.f) r.i.results u [] (OfValue (computed_shape b)) [] results (forms_are.3 ∙ ap (λ c. OfValue (computed_shape c) ∷ []) same)

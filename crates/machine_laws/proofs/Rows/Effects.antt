@@ -1,13 +1,10 @@
 -- An instruction by what its row does: its operands are read, and then the run and the machine do alike.
-use Rattle.std.proofs.Common.{◌≡◌, ℕ, List, [], ◌∷◌, Some, map, refl, sym, ap, subst}
-use Rattle.std.specs.Prelude.{slice_get}
+use Rattle.std.proofs.Common.{◌≡◌, ℕ, List, sym, subst}
 use Rattle.holder_model.specs.Data.{Datum}
-use Rattle.holder_model.specs.Effects as effects
 use Rattle.holder_model.specs.Effects.{Effect, effect_by, effect_of}
 use Rattle.holder_model.specs.ModuleShapes.{shapes_in, shapes_of}
 use Rattle.holder_model.specs.States as low
 use Rattle.holder_model.specs.declared.row_effect.RowEffect.{RowEffect}
-use Rattle.item_operands.specs.Parts.{inst_at}
 use Rattle.lowered_run.specs.LowEffects.{at_places, operated_on, stored_by, unless_dead}
 use Rattle.lowered_run.specs.LowFrames.{LowFrame}
 use Rattle.lowered_run.specs.LowStepParts.{LowNext, LowState}
@@ -28,7 +25,6 @@ use Rattle.run_values.specs.Shapes.{Shape}
 use Rattle.sil_ast.specs.declared.function.Function.{Function}
 use Rattle.sil_ast.specs.declared.inst.Inst.{Inst}
 use Rattle.sil_ast.specs.declared.module.Module.{Module}
-use Rattle.sil_ast.specs.declared.place.ValueId.{ValueId}
 use Rattle.sil_cfg.specs.declared.item.Item.TheVariants as item
 use Rattle.type_definitions.specs.Declarations.{Declarations, declarations_of}
 use Rattle.machine_laws.proofs.Ending.{Alike}

@@ -1,5 +1,5 @@
 -- What typing says of an instruction, by what its row does: the forms of its operands, and of its results.
-use Rattle.std.proofs.Common.{◌≡◌, ℕ, ℤ, List, [], ◌∷◌, true, None, Option, Some, map, refl, sym, subst}
+use Rattle.std.proofs.Common.{◌≡◌, ℕ, ℤ, List, [], ◌∷◌, true, None, Some, map, refl, sym, subst}
 use Rattle.std.specs.Prelude.{option_and_then, slice_get}
 use Rattle.holder_model.specs.Effects.{effect_of, part_number}
 use Rattle.holder_model.specs.ModuleShapes.{case_place, field_shapes, shapes_of}
@@ -93,8 +93,15 @@ module _ (m : Module) (i : Inst) where
   forms_at {ins = ins} {outs = outs} (forms.member s part k e at there) = subst (λ r. FormsAt r ins outs) (sym e) (s, part, k, at, there, refl, refl)
   forms_at {ins = ins} {outs = outs} (forms.member_address s part k e at there) = subst (λ r. FormsAt r ins outs) (sym e) (s, part, k, at, there, refl, refl)
   forms_at {ins = ins} {outs = outs} (forms.field_address class told s k e is owner at there) =
-      subst (λ r. FormsAt r ins outs) (sym e)
-      (told, s, k, is, at, subst (λ c. slice_get (field_shapes (shapes_of m) c) k ≡ Some s) (sym owner) there,
-      subst (λ c. OfValue (Reference class) ∷ [] ≡ OfValue (Reference c) ∷ []) (sym owner) refl, refl)
+      subst (λ r. FormsAt r ins outs) (sym e) (
+        told,
+        s,
+        k,
+        is,
+        at,
+        subst (λ c. slice_get (field_shapes (shapes_of m) c) k ≡ Some s) (sym owner) there,
+        subst (λ c. OfValue (Reference class) ∷ [] ≡ OfValue (Reference c) ∷ []) (sym owner) refl,
+        refl,
+      )
   forms_at {ins = ins} {outs = outs} (forms.calls g callee e there bodied) = subst (λ r. FormsAt r ins outs) (sym e) tt
   forms_at {ins = ins} {outs = outs} (forms.calls_out g callee widths e there bodiless) = subst (λ r. FormsAt r ins outs) (sym e) tt

@@ -1,13 +1,12 @@
 -- An instruction that gives one value, and what it reads.
-use Rattle.std.proofs.Common.{◌≡◌, ◌∙◌, ℕ, List, [], ◌∷◌, Some, map, refl, sym, ap, subst, true}
-use Rattle.holder_model.specs.Data.{AddressOf, Datum, FunctionOf, ValueOf}
+use Rattle.std.proofs.Common.{◌≡◌, ◌∙◌, List, [], ◌∷◌, Some, map, refl, sym, ap, subst, true}
+use Rattle.holder_model.specs.Data.{AddressOf, Datum, FunctionOf}
 use Rattle.holder_model.specs.Effects as effects
-use Rattle.holder_model.specs.Effects.{unchanged}
 use Rattle.item_operands.specs.Parts.{inst_at}
-use Rattle.lowered_run.specs.LowStepParts.{LowState, fails, numbers_for}
+use Rattle.lowered_run.specs.LowStepParts.{fails, numbers_for}
 use Rattle.lowered_run.specs.declared.low_fault.LowFault.{LowFault}
 use Rattle.machine_steps.specs.declared.address.Address.{Address}
-use Rattle.machine_steps.specs.Operands.{address_in, contents, faults, gives, gives_address, go_on, put_there}
+use Rattle.machine_steps.specs.Operands.{faults, gives, gives_address, go_on, put_there}
 use Rattle.machine_steps.specs.declared.frame.Frame.{Frame}
 use Rattle.machine_steps.specs.declared.run_end.RunEnd.TheVariants as end
 use Rattle.machine_steps.specs.Views.{MachineView}
@@ -16,7 +15,7 @@ use Rattle.holder_model.specs.Outcomes.{Numbers}
 use Rattle.holder_model.specs.States.{Faulted}
 use Rattle.ready_code.specs.Layout.{local, local_address}
 use Rattle.run_typing.specs.CallForms.{IsOf}
-use Rattle.run_typing.specs.Forms.{Form, OfFunction, OfPlace, OfValue, form_of}
+use Rattle.run_typing.specs.Forms.{OfFunction, OfPlace, OfValue, form_of}
 use Rattle.run_values.specs.Leaves.{leaves_of}
 use Rattle.run_values.specs.Memory.{Memory}
 use Rattle.run_values.specs.Places.{Place}
@@ -27,14 +26,13 @@ use Rattle.sil_ast.specs.declared.function.Function.{Function}
 use Rattle.sil_ast.specs.declared.module.Module.{Module}
 use Rattle.sil_ast.specs.declared.place.FuncId.{FuncId}
 use Rattle.sil_ast.specs.declared.place.ValueId.{ValueId}
-use Rattle.type_definitions.specs.Declarations.{declarations_of}
 use Rattle.value_parts.specs.inner.Suits.{suits}
 use Rattle.machine_laws.specs.inner.Told.{fault}
 use Rattle.machine_laws.proofs.Ending.{Alike, ends}
 use Rattle.machine_laws.proofs.Memories.{NamesPlace}
 use Rattle.machine_laws.proofs.Numbers.{numbers_stay}
 use Rattle.machine_laws.proofs.Objects.{is_of_class}
-use Rattle.machine_laws.proofs.Operands.{AllRead, IsRead, more, none, read_function, read_place, read_value}
+use Rattle.machine_laws.proofs.Operands.{AllRead, IsRead, more, none}
 use Rattle.machine_laws.proofs.Rows.Effects.{Runs, d, performed}
 use Rattle.machine_laws.proofs.Rows.Makes.{address_given, function_given, nothing_given, value_given}
 use Rattle.machine_laws.proofs.Slots.{Made}
@@ -90,7 +88,7 @@ module _ {m : Module} {made : List Made} {mem : Memory} {st : MachineView} {f : 
 -- what the instruction gives, in a memory that stays
 
 module _ {m : Module} {entry : Shape} (r : Runs m entry) where
-  same_numbers : numbers_for r.s.memory r.s.numbers ≡ r.s.numbers
+  pub same_numbers : numbers_for r.s.memory r.s.numbers ≡ r.s.numbers
   same_numbers = numbers_stay m (is_of_class m r.s.memory) r.s.memory r.s.numbers r.st.heap r.running.parts.memory.objects
 
   -- a fault of both, whatever the numbers have become

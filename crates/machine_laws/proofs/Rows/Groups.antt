@@ -1,14 +1,13 @@
 -- Structs, tuples and enums: their leaves are those of their members side by side, or a tag with those of the payload.
-use Rattle.std.proofs.Common.{◌≡◌, ◌+◌, ◌-◌, ◌∙◌, ◌++◌, ℕ, List, [], ◌∷◌, true, false, Option, None, Some, length, map, refl, sym, ap, subst, arith}
+use Rattle.std.proofs.Common.{◌≡◌, ◌∙◌, ◌++◌, ℕ, List, [], ◌∷◌, true, Some, map, refl, sym, ap}
 use Rattle.std.proofs.lemmas.Bool.{and_from}
-use Rattle.std.proofs.lemmas.Option.{same_Some, slice_get-map}
-use Rattle.std.specs.Prelude.{drop, option_and_then, option_map, replicate, slice_get, take, unwrap_or}
+use Rattle.std.proofs.lemmas.Option.{same_Some}
+use Rattle.std.specs.Prelude.{drop, slice_get, take}
 use Rattle.std.specs.List.{flat_map}
-use Rattle.std.specs.Option.{option_to_list}
 use Rattle.holder_model.specs.Data.{Datum, ValueOf, values_of, with_first}
 use Rattle.holder_model.specs.Effects as effects
-use Rattle.holder_model.specs.Effects.{chooses, effect_of, gives_member, part_number, result_shape_of, the_value, with_some}
-use Rattle.holder_model.specs.ModuleShapes.{case_place, function_shapes, shape_at, shapes_in, shapes_of, value_shape}
+use Rattle.holder_model.specs.Effects.{effect_of, gives_member, part_number, the_value, with_some}
+use Rattle.holder_model.specs.ModuleShapes.{shapes_of}
 use Rattle.holder_model.specs.declared.row_effect.RowEffect.TheVariants as row
 use Rattle.machine_steps.specs.Operands.{contents}
 use Rattle.machine_steps.specs.Rows.{value_of}
@@ -16,42 +15,29 @@ use Rattle.machine_steps.specs.Views.{MachineView}
 use Rattle.machine_steps.specs.declared.frame.Frame.{Frame}
 use Rattle.ready_code.specs.Layout.{leaves_in, local, size_of}
 use Rattle.ready_code.specs.ReadyOps.{leaf_offset, operands_of}
-use Rattle.ready_code.specs.declared.local.Local.{Local}
 use Rattle.ready_code.specs.declared.op.ReadyOp.TheVariants as op
-use Rattle.run_typing.specs.Forms.{Form, OfFunction, OfNothing, OfPlace, OfValue, form_by, form_of, form_with, forms_of}
+use Rattle.run_typing.specs.Forms.{OfValue, form_of}
 use Rattle.run_typing.specs.RowForms.{IsGroup}
 use Rattle.run_values.specs.Fits.{fit_each}
-use Rattle.run_values.specs.Layers.{CaseLayer}
 use Rattle.run_values.specs.Leaves.{leaves_of}
 use Rattle.run_values.specs.Memory.{Memory}
-use Rattle.run_values.specs.Shapes.{Shape, Unknown, case_shapes, member_shapes, shape_of}
-use Rattle.run_values.specs.Values as value
+use Rattle.run_values.specs.Shapes.{Shape, member_shapes}
 use Rattle.run_values.specs.Values.{Value, grouped}
-use Rattle.run_values.specs.declared.leaf.Leaf.{Leaf}
-use Rattle.run_values.specs.declared.leaf.Leaf.TheVariants as leaf
 use Rattle.sil_ast.specs.declared.function.Function.{Function}
-use Rattle.sil_ast.specs.declared.inst.Inst.{Inst}
 use Rattle.sil_ast.specs.declared.module.Module.{Module}
-use Rattle.sil_ast.specs.declared.place.FuncId.{FuncId}
 use Rattle.sil_ast.specs.declared.place.ValueId.{ValueId}
-use Rattle.sil_ast.specs.declared.type_name.TypeName.{TypeName}
-use Rattle.sil_types.specs.Typing.Shapes.{target}
-use Rattle.sil_types.specs.Typing.Values.{function_at, type_at, value_functions, value_types}
-use Rattle.type_definitions.specs.Declarations.{Declarations, declarations_of}
+use Rattle.type_definitions.specs.Declarations.{declarations_of}
 use Rattle.value_parts.specs.inner.LeafLists.{leaf_lists}
 use Rattle.value_parts.specs.inner.Suits.{ClassTest, suits}
-use Rattle.value_parts.proofs.Cases.{case_leaves, case_suits, full_leaves, full_suits}
 use Rattle.value_parts.proofs.Groups.{member_leaves, struct_leaves, struct_suits, tuple_leaves, tuple_suits}
-use Rattle.value_parts.proofs.LeafParts.{suits_leaves_length}
 use Rattle.value_parts.proofs.Members.{has_member}
-use Rattle.value_parts.proofs.Suiting.{suits_fits}
 use Rattle.machine_laws.proofs.Ending.{alike_by}
 use Rattle.machine_laws.proofs.FrameSteps.{StandsAt}
 use Rattle.machine_laws.proofs.Objects.{is_of_class}
 use Rattle.machine_laws.proofs.Operands.{AllRead, more, none, read_value}
 use Rattle.machine_laws.proofs.Rows.Effects.{RowAlike, Runs, d, forms_by, performed, results_of, row_by, values}
-use Rattle.machine_laws.proofs.Rows.Forms.{ChoiceForms, FormsAt}
-use Rattle.machine_laws.proofs.Rows.Gives.{first_form, gives_value, none_read, one_of, one_read, other_forms, same_head}
+use Rattle.machine_laws.proofs.Rows.Gives.{first_form, gives_value, one_of, one_read, other_forms}
+use Rattle.machine_laws.proofs.Rows.Shapes.{same_value_form}
 use Rattle.machine_laws.proofs.Slots.{Made}
 
 -- groups
@@ -96,9 +82,6 @@ module _ {m : Module} {made : List Made} {mem : Memory} {st : MachineView} (f : 
             ap (λ ls. ls ++ flat_map (contents st mf) (map (local (declarations_of m) f) vs)) first.3 ∙ ap (λ ls. leaves_of s first.0 ++ ls) others.leaves;
       }
 
-pub same_value_form : (s t : Shape) → OfValue s ≡ OfValue t → s ≡ t
-same_value_form s t e = cc
-
 module _ {m : Module} {entry : Shape} (r : Runs m entry) where
   pub group_alike : (u : ValueId) → effect_of r.i.op ≡ row.Groups → r.i.results ≡ u ∷ []
       → StandsAt m r.f r.lf r.i (op.Group (map (local (d r) r.f) (operands_of r.i)) (local (d r) r.f u))
@@ -108,14 +91,14 @@ module _ {m : Module} {entry : Shape} (r : Runs m entry) where
       let form = first_form (form_of (d r) r.f) r.i.results u [] (OfValue forms.0) [] results forms.4 in
       row_by r stands row.Groups is (listed_locals m r.f (operands_of r.i))
       (λ xs all.
-        let read = members_read r.f r.mf (operands_of r.i) xs forms.1 forms.3 all in
-        alike_by
-        (ap (λ ys. performed r r.s (with_some (λ vs. effects.gives_value r.s.memory (grouped vs)) (values_of ys))) read.read
-        ∙ ap (λ vs. performed r r.s (with_some (λ vs. effects.gives_value r.s.memory (grouped vs)) vs)) (values_listed read.members))
-        refl
-        (gives_value r stands.inst u results (one_of r.f r.i.results u [] results (results_of r stands row.Groups is)) forms.0 form (grouped read.members)
-        (group_suits (is_of_class m r.s.memory) forms.0 forms.1 forms.2 read.members read.fit)
-        (flat_map (contents r.st r.mf) (map (local (d r) r.f) (operands_of r.i))) (read.leaves ∙ sym (group_leaves forms.0 forms.1 forms.2 read.members))))
+      let read = members_read r.f r.mf (operands_of r.i) xs forms.1 forms.3 all in
+      alike_by
+      (ap (λ ys. performed r r.s (with_some (λ vs. effects.gives_value r.s.memory (grouped vs)) (values_of ys))) read.read
+      ∙ ap (λ vs. performed r r.s (with_some (λ vs. effects.gives_value r.s.memory (grouped vs)) vs)) (values_listed read.members))
+      refl
+      (gives_value r stands.inst u results (one_of r.f r.i.results u [] results (results_of r stands row.Groups is)) forms.0 form (grouped read.members)
+      (group_suits (is_of_class m r.s.memory) forms.0 forms.1 forms.2 read.members read.fit)
+      (flat_map (contents r.st r.mf) (map (local (d r) r.f) (operands_of r.i))) (read.leaves ∙ sym (group_leaves forms.0 forms.1 forms.2 read.members))))
 
   pub member_alike : (v u : ValueId) (s : Shape) (k : ℕ) → effect_of r.i.op ≡ row.GivesMember → operands_of r.i ≡ v ∷ [] → r.i.results ≡ u ∷ [] → form_of (d r) r.f v ≡ OfValue s
       → part_number (d r) r.i ≡ Some k → StandsAt m r.f r.lf r.i (op.Member (local (d r) r.f v) (leaf_offset (member_shapes s) k) (local (d r) r.f u))
@@ -128,17 +111,17 @@ module _ {m : Module} {entry : Shape} (r : Runs m entry) where
       let form = first_form (form_of (d r) r.f) r.i.results u [] (OfValue forms.1) [] results forms.6 in
       row_by r stands row.GivesMember is (sym operands)
       (λ xs all.
-        let one = one_read v xs operands all in
-        let x = read_value one.2 s from in
-        let has = has_member (is_of_class m r.s.memory) s forms.1 k x.0 part x.2 in
-        alike_by
-        (ap (λ ys. performed r r.s (the_value (d r) (shapes_of m) (values r) r.s.memory r.i (gives_member (d r) (shapes_of m) (values r) r.s.memory r.i (part_number (d r) r.i)) ys))
-          (one.1 ∙ ap (λ y. y ∷ []) x.1)
-        ∙ ap (λ n. performed r r.s (gives_member (d r) (shapes_of m) (values r) r.s.memory r.i n x.0)) at
-        ∙ ap (λ y. performed r r.s (with_some (effects.gives_value r.s.memory) y)) has.1)
-        refl
-        (gives_value r stands.inst u results (one_of r.f r.i.results u [] results (results_of r stands row.GivesMember is)) forms.1 form has.0 has.2
-        (take (local (d r) r.f u).size (drop (leaf_offset (member_shapes s) k) (contents r.st r.mf (local (d r) r.f v))))
-        (ap (λ n. take n (drop (leaf_offset (member_shapes s) k) (contents r.st r.mf (local (d r) r.f v)))) (ap leaves_in form)
-        ∙ ap (λ ls. take (size_of forms.1) (drop (leaf_offset (member_shapes s) k) ls)) x.3
-        ∙ member_leaves (is_of_class m r.s.memory) s forms.1 k x.0 has.0 part x.2 has.1)))
+      let one = one_read v xs operands all in
+      let x = read_value one.2 s from in
+      let has = has_member (is_of_class m r.s.memory) s forms.1 k x.0 part x.2 in
+      alike_by
+      (ap (λ ys. performed r r.s (the_value (d r) (shapes_of m) (values r) r.s.memory r.i (gives_member (d r) (shapes_of m) (values r) r.s.memory r.i (part_number (d r) r.i)) ys))
+      (one.1 ∙ ap (λ y. y ∷ []) x.1)
+      ∙ ap (λ n. performed r r.s (gives_member (d r) (shapes_of m) (values r) r.s.memory r.i n x.0)) at
+      ∙ ap (λ y. performed r r.s (with_some (effects.gives_value r.s.memory) y)) has.1)
+      refl
+      (gives_value r stands.inst u results (one_of r.f r.i.results u [] results (results_of r stands row.GivesMember is)) forms.1 form has.0 has.2
+      (take (local (d r) r.f u).size (drop (leaf_offset (member_shapes s) k) (contents r.st r.mf (local (d r) r.f v))))
+      (ap (λ n. take n (drop (leaf_offset (member_shapes s) k) (contents r.st r.mf (local (d r) r.f v)))) (ap leaves_in form)
+      ∙ ap (λ ls. take (size_of forms.1) (drop (leaf_offset (member_shapes s) k) ls)) x.3
+      ∙ member_leaves (is_of_class m r.s.memory) s forms.1 k x.0 has.0 part x.2 has.1)))

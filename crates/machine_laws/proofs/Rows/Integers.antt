@@ -1,5 +1,5 @@
 -- Operands that are integers: what the run reads of them is what the machine has in their leaves.
-use Rattle.std.proofs.Common.{◌≡◌, ◌∙◌, ℕ, ℤ, List, [], ◌∷◌, Option, Some, map, refl, sym, ap, subst}
+use Rattle.std.proofs.Common.{◌≡◌, ◌∙◌, ℕ, ℤ, List, [], ◌∷◌, Some, map, refl, sym, ap}
 use Rattle.std.specs.Prelude.{option_and_then}
 use Rattle.holder_model.specs.Data.{Datum, ValueOf, all_of, values_of, with_first}
 use Rattle.machine_steps.specs.Operands.{contents, int_among}

@@ -3,7 +3,7 @@ use Rattle.std.proofs.Common.{◌≡◌, ◌∙◌, ℕ, List, [], ◌∷◌, Op
 use Rattle.std.specs.Prelude.{Ok, set}
 use Rattle.holder_model.specs.Data.{AddressOf, Datum, FunctionOf, ValueOf}
 use Rattle.holder_model.specs.Effects.{Change, unchanged}
-use Rattle.holder_model.specs.ModuleShapes.{ModuleShapes, shapes_of}
+use Rattle.holder_model.specs.ModuleShapes.{shapes_of}
 use Rattle.holder_model.specs.Outcomes.{Numbers}
 use Rattle.holder_model.specs.Standing.{point_behind}
 use Rattle.holder_model.specs.States as low
@@ -53,13 +53,17 @@ module _ (m : Module) (entry : Shape) (bound : ℕ) (f : Function) (lf : LowFram
     state_with values slots s' =
         record s' { tasks = low.dropping c.dropped (low.Runs (frame_with values slots) ∷ rest); memory = c.memory; numbers = numbers_for c.memory s'.numbers }
 
-    pub makes_so : (s' : LowState) (slots : List Place) (values : List (Option Datum)) → ((go : LowState → LowNext) → retains_each c.retained s go ≡ go s')
+    pub makes_with : (slots : List Place) (values : List (Option Datum))
         → slots_behind c.slots lf.slots ≡ Ok slots → put_all (item_defined f (item.Inst lf.at)) c.results lf.values ≡ Some values
-        → run.goes_on m (shapes_of m) bound s rest lf f (item.Inst lf.at) c ≡ low.Goes (state_with values slots s')
-    makes_so s' slots values kept is_slots is_values =
+        → run.goes_on m (shapes_of m) bound s rest lf f (item.Inst lf.at) c ≡ retains_each c.retained s (λ t. low.Goes (state_with values slots t))
+    makes_with slots values is_slots is_values =
         ap (on_ok s (λ ps. on_some s (λ xs. retains_each c.retained s (λ t. low.Goes (state_with xs ps t))) (put_all (item_defined f (item.Inst lf.at)) c.results lf.values))) is_slots
         ∙ ap (on_some s (λ xs. retains_each c.retained s (λ t. low.Goes (state_with xs slots t)))) is_values
-        ∙ kept (λ t. low.Goes (state_with values slots t))
+
+    makes_so : (s' : LowState) (slots : List Place) (values : List (Option Datum)) → ((go : LowState → LowNext) → retains_each c.retained s go ≡ go s')
+        → slots_behind c.slots lf.slots ≡ Ok slots → put_all (item_defined f (item.Inst lf.at)) c.results lf.values ≡ Some values
+        → run.goes_on m (shapes_of m) bound s rest lf f (item.Inst lf.at) c ≡ low.Goes (state_with values slots s')
+    makes_so s' slots values kept is_slots is_values = makes_with slots values is_slots is_values ∙ kept (λ t. low.Goes (state_with values slots t))
 
     -- it has dropped nothing
     pub makes_alike : {made : List Made} {st : MachineView} (s' : LowState) (ns : List Numbers) (slots : List Place) (values : List (Option Datum))

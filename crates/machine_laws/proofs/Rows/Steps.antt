@@ -3,6 +3,7 @@ use Rattle.std.proofs.Common.{◌≡◌, ◌<◌, ◌∙◌, ℕ, suc, List, [],
 use Rattle.std.specs.Prelude.{set, slice_get}
 use Rattle.std.proofs.lemmas.List.{append-nil, length-map}
 use Rattle.std.proofs.lemmas.Option.{none-some, slice_get_within}
+use Rattle.heap_model.specs.HeapViews.{HeapView}
 use Rattle.holder_model.specs.Data.{AddressOf, FunctionOf, ValueOf}
 use Rattle.holder_model.specs.Outcomes.{Numbers}
 use Rattle.holder_model.specs.Standing.{point_behind}
@@ -16,7 +17,8 @@ use Rattle.machine_steps.specs.declared.frame.Frame.{Frame}
 use Rattle.machine_steps.specs.declared.frame.Task.{Task}
 use Rattle.machine_steps.specs.declared.frame.Task.TheVariants as task
 use Rattle.machine_steps.specs.Operands.{behind_op, go_on, put, put_address, put_there}
-use Rattle.machine_steps.specs.Views.{MachineView}
+use Rattle.machine_steps.specs.Turning.{dropping}
+use Rattle.machine_steps.specs.Views.{Goes, MachineView}
 use Rattle.ready_code.specs.Layout.{local, local_address}
 use Rattle.run_typing.specs.CallForms.{IsOf}
 use Rattle.run_typing.specs.Forms.{OfFunction, OfPlace, OfValue, form_of, given_shape}
@@ -36,20 +38,21 @@ use Rattle.sil_ast.specs.declared.place.ValueId.{ValueId}
 use Rattle.sil_cfg.specs.declared.item.Item.TheVariants as item
 use Rattle.type_definitions.specs.Declarations.{declarations_of}
 use Rattle.value_parts.specs.inner.Suits.{suits}
-use Rattle.machine_laws.proofs.Agreement.{PartsAgree, ends_of}
+use Rattle.machine_laws.proofs.Agreement.{Agrees, PartsAgree, ends_of}
 use Rattle.machine_laws.proofs.Changes.{Changes, SameSlots}
-use Rattle.machine_laws.proofs.DropTasks.{tasks_move}
+use Rattle.machine_laws.proofs.DropTasks.{both_dropping, tasks_move}
 use Rattle.machine_laws.proofs.Ending.{Alike, goes, memory_moves}
 use Rattle.machine_laws.proofs.Entries.{Ends, FrameAgrees}
 use Rattle.machine_laws.proofs.FinishTasks.{finishing_phase}
 use Rattle.machine_laws.proofs.FrameSteps.{Running}
 use Rattle.machine_laws.proofs.Grows.{were_made}
-use Rattle.machine_laws.proofs.GrowsBy.{grows_objects, objects_stay, serial_of}
+use Rattle.machine_laws.proofs.GrowsBy.{grows_itself, grows_objects, objects_stay, serial_of}
 use Rattle.machine_laws.proofs.GrowsTasks.{AtMost, KeepsBelow, PhasesStay, at_most_itself, frame_grows, keeps_slots, tasks_keep}
 use Rattle.machine_laws.proofs.Memories.{NamesPlace}
 use Rattle.machine_laws.proofs.Numbers.{alive_was_made}
 use Rattle.machine_laws.proofs.Objects.{is_of_class}
-use Rattle.machine_laws.proofs.Puts.{frame_stands, put_address_agrees, put_address_ends, put_address_keeps, put_agrees, put_ends, put_keeps, put_there_agrees, put_there_ends, put_there_keeps, same_ends}
+use Rattle.machine_laws.proofs.Puts.{frame_stands, put_address_agrees, put_address_ends, put_address_keeps, put_agrees, put_ends, put_keeps, same_ends}
+use Rattle.machine_laws.proofs.Puts.{put_there_agrees, put_there_ends, put_there_keeps}
 use Rattle.machine_laws.proofs.Slots.{Made}
 use Rattle.machine_laws.proofs.Tasks.{TasksAgree, runs, to_go_on, to_take}
 
@@ -68,10 +71,11 @@ defined_by f lf i e = ap (λ o. results_in o ++ []) e ∙ append-nil i.results
 
 module _ {m : Module} {entry : Shape} {made : List Made} {s : LowState} {st : MachineView} {f : Function} {lf : LowFrame} {mf : Frame} {below : Ends}
     {rest : List (low.Task LowFrame)} {rest' : List Task} (running : Running m entry made s st f lf mf below rest rest') where
-  -- memory changes, and the slots of frames stay
-  pub memory_changes : {mem' : Memory} {numbers' : List Numbers} {st' : MachineView} (changes : Changes m made s.memory st mem' numbers' st') → SameSlots st st'
-      → Running m entry changes.made' (record s { memory = mem'; numbers = numbers' }) st' f lf mf below rest rest'
-  memory_changes {mem' = mem'} {numbers' = numbers'} {st' = st'} changes same = record {
+  -- memory changes, and the frame agrees with what it has become
+  pub frame_changes : {mem' : Memory} {numbers' : List Numbers} {st' : MachineView} {lf' : LowFrame} (changes : Changes m made s.memory st mem' numbers' st')
+      → FrameAgrees m changes.made' mem' st' f lf' mf below (ends_of st') → KeepsBelow below st st'
+      → Running m entry changes.made' (record s { memory = mem'; numbers = numbers' }) st' f lf' mf below rest rest'
+  frame_changes {mem' = mem'} changes frame keeps = record {
     parts = record {
       memory = changes.agrees;
       events = changes.frames.events ∙ running.parts.events;
@@ -79,18 +83,26 @@ module _ {m : Module} {entry : Shape} {made : List Made} {s : LowState} {st : Ma
       retains = changes.frames.retains ∙ running.parts.retains;
       releases = changes.frames.releases ∙ running.parts.releases;
     };
-    frame = subst (λ e. FrameAgrees m changes.made' mem' st' f lf mf below e) (sym ends) (frame_grows changes.grows (keeps (ends_of st)) running.frame);
-    others = tasks_keep changes.grows (keeps below) phases running.others;
+    frame = frame;
+    others = tasks_keep changes.grows keeps phases running.others;
     tasks = changes.frames.tasks ∙ running.tasks;
   }
+    where
+      phases : PhasesStay s.memory mem' rest'
+      phases o now = changes.phases o (alive_was_made s.memory o (ap is_dead_phase (finishing_phase running.others o now)))
+
+  -- memory changes, and the slots of frames stay
+  pub memory_changes : {mem' : Memory} {numbers' : List Numbers} {st' : MachineView} (changes : Changes m made s.memory st mem' numbers' st') → SameSlots st st'
+      → Running m entry changes.made' (record s { memory = mem'; numbers = numbers' }) st' f lf mf below rest rest'
+  memory_changes {mem' = mem'} {st' = st'} changes same =
+      frame_changes changes (subst (λ e. FrameAgrees m changes.made' mem' st' f lf mf below e) (sym ends) (frame_grows changes.grows (keeps (ends_of st)) running.frame)) (keeps below)
     where
       ends : ends_of st' ≡ ends_of st
       ends = same_ends st st' (ap length changes.frames.there) (ap length changes.frames.leaves) (ap length changes.frames.addresses)
           (sym (length-map st'.slots serial_of) ∙ ap length same ∙ length-map st.slots serial_of) (ap length changes.frames.waiting)
+
       keeps : (e : Ends) → KeepsBelow e st st'
       keeps e = keeps_slots e st st' changes.frames.there changes.frames.leaves changes.frames.addresses changes.frames.waiting same
-      phases : PhasesStay s.memory mem' rest'
-      phases o now = changes.phases o (alive_was_made s.memory o (ap is_dead_phase (finishing_phase running.others o now)))
 
   -- it is given a value
 
@@ -108,6 +120,16 @@ module _ {m : Module} {entry : Shape} {made : List Made} {s : LowState} {st : Ma
   others_keep st' slots keeps =
       tasks_keep (grows_objects (were_made running.parts.memory.slots) (objects_stay s.memory s.memory refl) (ap (map serial_of) slots)) keeps (λ o now. refl) running.others
 
+  -- what is counted changes
+  pub counts_change : (numbers : List Numbers) (n : ℕ) (h : HeapView) → PartsAgree m made (record s { numbers = numbers; retains = n }) (record st { heap = h })
+      → Running m entry made (record s { numbers = numbers; retains = n }) (record st { heap = h }) f lf mf below rest rest'
+  counts_change numbers n h parts = record {
+    parts = parts;
+    frame = frame_grows (grows_itself (were_made running.parts.memory.slots) s.memory) (keeps_slots (ends_of st) st (record st { heap = h }) refl refl refl refl refl) running.frame;
+    others = others_keep (record st { heap = h }) refl (keeps_slots below st (record st { heap = h }) refl refl refl refl refl);
+    tasks = running.tasks;
+  }
+
   module _ (r : ValueId) (is_of : IsOf f r) where
     pub value_put : (t : Shape) → form_of (declarations_of m) f r ≡ OfValue t → (x : Value) → suits (is_of_class m s.memory) t x ≡ true → (ls : List Leaf) → ls ≡ leaves_of t x
         → Running m entry made s (put st mf (local (declarations_of m) f r) ls) f (record lf { values = set lf.values r.0 (Some (ValueOf x)) }) mf below rest rest'
@@ -121,6 +143,7 @@ module _ {m : Module} {entry : Shape} {made : List Made} {s : LowState} {st : Ma
       where
         st' : MachineView
         st' = put st mf (local (declarations_of m) f r) ls
+
         reach : AtMost (ends_of st) (ends_of st)
         reach = at_most_itself (ends_of st)
 
@@ -136,6 +159,7 @@ module _ {m : Module} {entry : Shape} {made : List Made} {s : LowState} {st : Ma
       where
         st' : MachineView
         st' = put_address st mf (local_address (declarations_of m) f r) a
+
         reach : AtMost (ends_of st) (ends_of st)
         reach = at_most_itself (ends_of st)
 
@@ -151,6 +175,7 @@ module _ {m : Module} {entry : Shape} {made : List Made} {s : LowState} {st : Ma
       where
         st' : MachineView
         st' = put_there st mf r
+
         reach : AtMost (ends_of st) (ends_of st)
         reach = at_most_itself (ends_of st)
 
@@ -168,21 +193,33 @@ module _ {m : Module} {entry : Shape} {made : List Made} {s : LowState} {st : Ma
           ∙ ap (λ n. record mf { index = n }) (omega (arith, running.frame.at_index))
 
   -- with a view whose tasks are others
-  pub tasks_behind : (i : Inst) → inst_at f lf.at ≡ Some i
+  tasks_behind : (i : Inst) → inst_at f lf.at ≡ Some i
       → TasksAgree m entry made s.memory st to_go_on (ends_of st) (low.Runs (record lf { at = point_behind lf.at }) ∷ rest) (task.Runs (behind_op mf) ∷ rest')
   tasks_behind i there = runs f (record lf { at = point_behind lf.at }) (behind_op mf) below (ends_of st) rest rest' (behind_frame i there) running.others
 
-  pub goes_behind : (i : Inst) → inst_at f lf.at ≡ Some i → Alike m entry (low.Goes (record s { tasks = low.Runs (record lf { at = point_behind lf.at }) ∷ rest })) (go_on st mf rest')
-  goes_behind i there = goes made (record s { tasks = low.Runs (record lf { at = point_behind lf.at }) ∷ rest }) st' (record {
-    parts = record {
-      memory = memory_moves running.parts.memory refl refl refl refl;
-      events = running.parts.events;
-      turns = running.parts.turns;
-      retains = running.parts.retains;
-      releases = running.parts.releases;
-    };
-    tasks = tasks_move (were_made running.parts.memory.slots) refl refl refl refl refl (tasks_behind i there);
-  })
-    where
-      st' : MachineView
-      st' = record st { tasks = task.Runs (behind_op mf) ∷ rest' }
+  module _ (i : Inst) (there : inst_at f lf.at ≡ Some i) where
+    abbrev low_behind : LowState
+    low_behind = record s { tasks = low.Runs (record lf { at = point_behind lf.at }) ∷ rest }
+
+    abbrev machine_behind : MachineView
+    machine_behind = record st { tasks = task.Runs (behind_op mf) ∷ rest' }
+
+    agrees_behind : Agrees m entry made low_behind machine_behind
+    agrees_behind = record {
+      parts = record {
+        memory = memory_moves running.parts.memory refl refl refl refl;
+        events = running.parts.events;
+        turns = running.parts.turns;
+        retains = running.parts.retains;
+        releases = running.parts.releases;
+      };
+      tasks = tasks_move (were_made running.parts.memory.slots) refl refl refl refl refl (tasks_behind i there);
+    }
+
+    pub goes_behind : Alike m entry (low.Goes low_behind) (go_on st mf rest')
+    goes_behind = goes made low_behind machine_behind agrees_behind
+
+    -- references are dropped first
+    pub goes_dropping : (os : List ObjectId)
+        → Alike m entry (low.Goes (record s { tasks = low.dropping os (low.Runs (record lf { at = point_behind lf.at }) ∷ rest) })) (Goes (dropping os machine_behind))
+    goes_dropping os = goes made (record low_behind { tasks = low.dropping os low_behind.tasks }) (dropping os machine_behind) (both_dropping agrees_behind os)

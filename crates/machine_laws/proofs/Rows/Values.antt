@@ -1,5 +1,5 @@
 -- Instructions that give a value, or look at one: nothing in memory changes.
-use Rattle.std.proofs.Common.{◌≡◌, ◌∙◌, ℕ, ℤ, List, [], ◌∷◌, Bool, true, false, Option, Some, cond, refl, sym, ap, subst}
+use Rattle.std.proofs.Common.{◌≡◌, ◌∙◌, ℕ, ℤ, List, [], ◌∷◌, Bool, true, false, Some, cond, refl, sym, ap, subst}
 use Rattle.std.proofs.lemmas.Bool.{and_from, and_parts}
 use Rattle.std.proofs.lemmas.Option.{same_Some}
 use Rattle.numbered_form.specs.Names.{Name}
@@ -13,7 +13,7 @@ use Rattle.value_parts.specs.inner.Suits.{suits}
 use Rattle.sil_ast.specs.declared.module.Module.{Module}
 use Rattle.std.specs.Prelude.{length, nat_lt, slice_get, unwrap_or}
 use Rattle.holder_model.specs.Builtins.{is_set}
-use Rattle.holder_model.specs.Data.{Datum, FunctionOf, ValueOf}
+use Rattle.holder_model.specs.Data.{FunctionOf, ValueOf}
 use Rattle.holder_model.specs.Effects as effects
 use Rattle.holder_model.specs.Effects.{Effect, effect_of, only, the_value, traps_where, with_some}
 use Rattle.holder_model.specs.ModuleShapes.{shapes_of}
@@ -26,7 +26,7 @@ use Rattle.machine_steps.specs.Operands.{contents, go_on, int_among}
 use Rattle.machine_steps.specs.Rows.{point}
 use Rattle.machine_steps.specs.Views.{Stops, Went}
 use Rattle.machine_steps.specs.declared.run_end.RunEnd.TheVariants as end
-use Rattle.ready_code.specs.Layout.{local, local_address}
+use Rattle.ready_code.specs.Layout.{local}
 use Rattle.ready_code.specs.ReadyOps.{operands_of}
 use Rattle.ready_code.specs.declared.op.ReadyOp.TheVariants as op
 use Rattle.run_typing.specs.Forms.{OfFunction, OfValue, form_of}
@@ -39,7 +39,7 @@ use Rattle.sil_ast.specs.declared.place.PointId.{PointId}
 use Rattle.sil_ast.specs.declared.place.ValueId.{ValueId}
 use Rattle.value_parts.proofs.Plain.{integer_suits, suits_integer, suits_reference}
 use Rattle.machine_laws.specs.inner.Told.{IsEnding, cond_fail}
-use Rattle.machine_laws.proofs.Ending.{Alike, alike_by, both_choose, ends}
+use Rattle.machine_laws.proofs.Ending.{Alike, alike_by, ends}
 use Rattle.machine_laws.proofs.FrameSteps.{StandsAt}
 use Rattle.machine_laws.proofs.Objects.{is_of_class}
 use Rattle.machine_laws.proofs.Operands.{read_value}
@@ -68,8 +68,8 @@ module _ {m : Module} {entry : Shape} (r : Runs m entry) where
       let within = subst (λ k. is_residue forms.1 k ≡ true) (same_Some forms.0 n (sym forms.2 ∙ number)) forms.3 in
       row_by r stands row.GivesLiteral is (no_values (form_of (d r) r.f) (operands_of r.i) forms.4)
       (λ xs all. alike_by (ap (λ k. performed r r.s (with_some (λ j. effects.gives_value r.s.memory (value.Int j)) k)) number) refl
-        (gives_value r stands.inst v results (one_of r.f r.i.results v [] results (results_of r stands row.GivesLiteral is)) (Integer forms.1) form (value.Int n)
-        (integer_suits (is_of_class m r.s.memory) forms.1 n within) (leaf.Int n ∷ []) refl))
+      (gives_value r stands.inst v results (one_of r.f r.i.results v [] results (results_of r stands row.GivesLiteral is)) (Integer forms.1) form (value.Int n)
+      (integer_suits (is_of_class m r.s.memory) forms.1 n within) (leaf.Int n ∷ []) refl))
 
   pub function_alike : (v : ValueId) → effect_of r.i.op ≡ row.GivesFunction → r.i.results ≡ v ∷ [] → StandsAt m r.f r.lf r.i (op.Function v) → RowAlike r (op.Function v)
   function_alike v is results stands =
@@ -77,7 +77,7 @@ module _ {m : Module} {entry : Shape} (r : Runs m entry) where
       let form = first_form (form_of (d r) r.f) r.i.results v [] (OfFunction forms.0) [] results forms.3 in
       row_by r stands row.GivesFunction is (no_values (form_of (d r) r.f) (operands_of r.i) forms.2)
       (λ xs all. alike_by (ap (λ g. performed r r.s (with_some (λ h. effects.gives r.s.memory (FunctionOf h ∷ [])) g)) forms.1) refl
-        (gives_function r stands.inst v results (one_of r.f r.i.results v [] results (results_of r stands row.GivesFunction is)) forms.0 form))
+      (gives_function r stands.inst v results (one_of r.f r.i.results v [] results (results_of r stands row.GivesFunction is)) forms.0 form))
 
   -- an upcast gives the object that it has
   pub same_alike : (v w : ValueId) → effect_of r.i.op ≡ row.GivesOperand → operands_of r.i ≡ v ∷ [] → r.i.results ≡ w ∷ []
@@ -88,14 +88,14 @@ module _ {m : Module} {entry : Shape} (r : Runs m entry) where
       let form = first_form (form_of (d r) r.f) r.i.results w [] (OfValue (Reference forms.1)) [] results forms.4 in
       row_by r stands row.GivesOperand is (sym operands)
       (λ xs all.
-        let one = one_read v xs operands all in
-        let x = read_value one.2 (Reference forms.0) from in
-        let o = suits_reference (is_of_class m r.s.memory) forms.0 x.0 x.2 in
-        let fits : suits (is_of_class m r.s.memory) (Reference forms.1) x.0 ≡ true =
-        subst (λ y. suits (is_of_class m r.s.memory) (Reference forms.1) y ≡ true) (sym o.1) (upcast r.typed.classes r.s.memory forms.0 forms.1 forms.2 o.0 o.2) in
-        alike_by (ap (λ ys. performed r r.s (with_some (λ y. effects.gives r.s.memory (y ∷ [])) (only ys))) (one.1 ∙ ap (λ y. y ∷ []) x.1)) refl
-        (gives_value r stands.inst w results (one_of r.f r.i.results w [] results (results_of r stands row.GivesOperand is)) (Reference forms.1) form x.0 fits
-        (contents r.st r.mf (local (d r) r.f v)) x.3))
+      let one = one_read v xs operands all in
+      let x = read_value one.2 (Reference forms.0) from in
+      let o = suits_reference (is_of_class m r.s.memory) forms.0 x.0 x.2 in
+      let fits : suits (is_of_class m r.s.memory) (Reference forms.1) x.0 ≡ true =
+      subst (λ y. suits (is_of_class m r.s.memory) (Reference forms.1) y ≡ true) (sym o.1) (upcast r.typed.classes r.s.memory forms.0 forms.1 forms.2 o.0 o.2) in
+      alike_by (ap (λ ys. performed r r.s (with_some (λ y. effects.gives r.s.memory (y ∷ [])) (only ys))) (one.1 ∙ ap (λ y. y ∷ []) x.1)) refl
+      (gives_value r stands.inst w results (one_of r.f r.i.results w [] results (results_of r stands row.GivesOperand is)) (Reference forms.1) form x.0 fits
+      (contents r.st r.mf (local (d r) r.f v)) x.3))
 
   -- the program traps where the bit is set
 
@@ -109,8 +109,8 @@ module _ {m : Module} {entry : Shape} (r : Runs m entry) where
   trapped text there is =
       ends r.s r.st (Trapped (trap.CondFail (unwrap_or r.i.text []))) (end.CondFail r.mf.function (point r.ready r.bound r.st r.mf r.rest'))
       (subst (λ t. IsEnding m entry r.st (end.CondFail r.mf.function (point r.ready r.bound r.st r.mf r.rest')) (Trapped (trap.CondFail (unwrap_or t [])))) (sym is)
-        (cond_fail r.mf.function (point r.ready r.bound r.st r.mf r.rest') r.f r.i text (ap (λ g. slice_get m.functions g.0) r.running.frame.same ∙ r.running.frame.there)
-        (ap (inst_at r.f) at_point ∙ there) is))
+      (cond_fail r.mf.function (point r.ready r.bound r.st r.mf r.rest') r.f r.i text (ap (λ g. slice_get m.functions g.0) r.running.frame.same ∙ r.running.frame.there)
+      (ap (inst_at r.f) at_point ∙ there) is))
       (rw (r.running.parts.events, r.running.parts.retains, r.running.parts.releases))
 
   pub traps_alike : (v : ValueId) → effect_of r.i.op ≡ row.TrapsWhereSet → operands_of r.i ≡ v ∷ [] → StandsAt m r.f r.lf r.i (op.TrapWhereSet (local (d r) r.f v))
@@ -121,15 +121,15 @@ module _ {m : Module} {entry : Shape} (r : Runs m entry) where
       let results = sym (no_values (form_of (d r) r.f) r.i.results forms.3) in
       row_by r stands row.TrapsWhereSet is (sym operands)
       (λ xs all.
-        let one = one_read v xs operands all in
-        let x = read_value one.2 bit from in
-        let n = suits_integer (is_of_class m r.s.memory) 1 x.0 x.2 in
-        let read : int_among (contents r.st r.mf (local (d r) r.f v)) ≡ n.0 = ap int_among (x.3 ∙ ap (leaves_of bit) n.1) in
-        alike_by
-        (ap (λ ys. performed r r.s (the_value (d r) (shapes_of m) (values r) r.s.memory r.i
-          (λ y. with_some (traps_where (d r) (shapes_of m) (values r) r.s.memory r.i) (integer_of y)) ys)) (one.1 ∙ ap (λ y. y ∷ []) (x.1 ∙ ap ValueOf n.1)))
-        (ap (λ k. cond (is_set k) (Stops (end.CondFail r.mf.function (point r.ready r.bound r.st r.mf r.rest')) r.st) (go_on r.st r.mf r.rest')) read)
-        (by_bit (is_set n.0) _ _ _ _ (trapped forms.0 stands.inst forms.1) (gives_nothing r stands.inst results)))
+      let one = one_read v xs operands all in
+      let x = read_value one.2 bit from in
+      let n = suits_integer (is_of_class m r.s.memory) 1 x.0 x.2 in
+      let read : int_among (contents r.st r.mf (local (d r) r.f v)) ≡ n.0 = ap int_among (x.3 ∙ ap (leaves_of bit) n.1) in
+      alike_by
+      (ap (λ ys. performed r r.s (the_value (d r) (shapes_of m) (values r) r.s.memory r.i
+      (λ y. with_some (traps_where (d r) (shapes_of m) (values r) r.s.memory r.i) (integer_of y)) ys)) (one.1 ∙ ap (λ y. y ∷ []) (x.1 ∙ ap ValueOf n.1)))
+      (ap (λ k. cond (is_set k) (Stops (end.CondFail r.mf.function (point r.ready r.bound r.st r.mf r.rest')) r.st) (go_on r.st r.mf r.rest')) read)
+      (by_bit (is_set n.0) _ _ _ _ (trapped forms.0 stands.inst forms.1) (gives_nothing r stands.inst results)))
     where
       by_bit : (b : Bool) (e e' : Effect LowFault) (w w' : Went) → Alike m entry (performed r r.s e) w → Alike m entry (performed r r.s e') w'
           → Alike m entry (performed r r.s (cond b e e')) (cond b w w')
