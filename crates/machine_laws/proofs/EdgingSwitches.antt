@@ -69,7 +69,7 @@ use Rattle.machine_laws.proofs.LayoutsLists.{there_below}
 use Rattle.machine_laws.proofs.Numbers.{numbers_stay}
 use Rattle.machine_laws.proofs.Objects.{is_of_class}
 use Rattle.machine_laws.proofs.Puts.{frame_stands, put_agrees, put_ends, put_keeps}
-use Rattle.machine_laws.proofs.Rows.Choices.{shape_told}
+use Rattle.machine_laws.proofs.Rows.Shapes.{shape_in_form, shape_told}
 use Rattle.machine_laws.proofs.Slots.{Made}
 use Rattle.machine_laws.proofs.Tasks.{TasksAgree, to_take}
 
@@ -155,7 +155,7 @@ module _ (m : Module) (ready : ReadyModule) (entry : Shape) (bound : ℕ) (typed
   switched : (shape : Shape) → form_of (declarations_of m) f v ≡ OfValue shape → switched_shape (shapes_in (shapes_of m) lf.function) i ≡ shape
   switched shape form =
       first_operand (shapes_in (shapes_of m) lf.function) v (slice_get i.operands 0) (sym (slice_get-map value_in i.operands 0) ∙ ap (λ vs. slice_get vs 0) one)
-      ∙ shape_told m lf.function f running.frame.there v shape form
+      ∙ shape_told m lf.function f running.frame.there v ∙ ap shape_in_form form
 
   -- the edge with a number is taken, where the operand was read
   module _ (k : ℕ) (e : Edge) (edge : slice_get i.edges k ≡ Some e) (bare : e.args ≡ []) (block : e.block.0 < length f.blocks) (shape : Shape) (x : Value)

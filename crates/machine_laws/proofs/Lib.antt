@@ -59,6 +59,7 @@ pub mod FinishTasks
 pub mod DropSteps
 pub mod FinishSteps
 pub mod CallingIn
+pub mod CallingOver
 pub mod DeinitClasses
 pub mod DeinitSteps
 pub mod EdgingCases
@@ -73,10 +74,6 @@ pub mod Rows
 pub mod WritingParts
 pub mod WritingInSlots
 pub mod WritingInFields
-pub mod FrameSteps
-pub mod RowSteps
-pub mod DropTasks
-pub mod FinishTasks
 pub mod SlotsGone
 pub mod SlotsMade
 pub mod SlotRemoved
