@@ -59,6 +59,7 @@ pub mod FinishTasks
 pub mod DropSteps
 pub mod FinishSteps
 pub mod CallingIn
+pub mod CallingForms
 pub mod CallingOver
 pub mod DeinitClasses
 pub mod DeinitSteps
