@@ -61,6 +61,7 @@ pub mod FinishSteps
 pub mod CallingIn
 pub mod CallingForms
 pub mod CallingOver
+pub mod CallingOut
 pub mod DeinitClasses
 pub mod DeinitSteps
 pub mod EdgingCases
