@@ -79,3 +79,4 @@ pub mod WritingInFields
 pub mod SlotsGone
 pub mod SlotsMade
 pub mod SlotRemoved
+pub mod Assembly
