@@ -80,3 +80,4 @@ pub mod SlotsGone
 pub mod SlotsMade
 pub mod SlotRemoved
 pub mod Assembly
+pub mod Runs
