@@ -13,3 +13,5 @@ pub mod Choices
 pub mod Addresses
 pub mod References
 pub mod Objects
+pub mod Places
+pub mod Storing
