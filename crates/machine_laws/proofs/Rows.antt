@@ -5,3 +5,5 @@ pub mod Effects
 pub mod Gives
 pub mod Values
 pub mod Residues
+pub mod Places
+pub mod PlacesLoad
