@@ -15,3 +15,4 @@ pub mod References
 pub mod Objects
 pub mod Places
 pub mod Storing
+pub mod PlacesLoad
