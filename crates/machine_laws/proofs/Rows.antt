@@ -15,4 +15,5 @@ pub mod References
 pub mod Objects
 pub mod Places
 pub mod Storing
+pub mod Loading
 pub mod PlacesLoad
