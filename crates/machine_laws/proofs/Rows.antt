@@ -7,3 +7,6 @@ pub mod Values
 pub mod Residues
 pub mod Places
 pub mod PlacesLoad
+pub mod PlacesForms
+pub mod PlacesChanged
+pub mod PlacesStore
