@@ -91,6 +91,7 @@ module _ {m : Module} {made made' : List Made} {mem mem' : Memory} {slots slots'
         from = names.from ∙ ap (λ s. leaves_before s names.path) same;
         parts = names.parts;
         whole = names.whole;
+        no_part = names.no_part;
         now = λ open_.
             let slot = names.now (there.3 open_) in
             let made_at : slice_get made' slot.0.serial ≡ Some there.0 = ap (slice_get made') slot.2 ∙ there.1 in
@@ -113,6 +114,7 @@ module _ {m : Module} {made made' : List Made} {mem mem' : Memory} {slots slots'
         from = names.from;
         parts = names.parts;
         whole = names.whole;
+        no_part = names.no_part;
       }
 
   pub names_place_grows : {a : Address} {p : Place} → NamesPlace m made slots mem a p → NamesPlace m made' slots' mem' a p

@@ -72,3 +72,4 @@ pub record NamesField (m : Module) (mem : Memory) (o : ObjectId) (k : ℕ) (a : 
   pub from : a.from ≡ leaves_before field path
   pub parts : a.is_part ≡ p.is_part
   pub whole : p.is_part ≡ false → path ≡ []
+  pub no_part : path ≡ [] → p.is_part ≡ false

@@ -98,4 +98,5 @@ pub record NamesSlot (made : List Made) (slots : List OpenSlot) (index serial : 
   pub from : a.from ≡ leaves_before of.shape path
   pub parts : a.is_part ≡ p.is_part
   pub whole : p.is_part ≡ false → path ≡ []
+  pub no_part : path ≡ [] → p.is_part ≡ false
   pub now : is_open of ≡ true → (slot : OpenSlot) × (slice_get slots index ≡ Some slot) × (slot.serial ≡ serial)
