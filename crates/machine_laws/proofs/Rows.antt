@@ -17,3 +17,6 @@ pub mod Places
 pub mod Storing
 pub mod Loading
 pub mod PlacesLoad
+pub mod PlacesForms
+pub mod PlacesChanged
+pub mod PlacesStore
