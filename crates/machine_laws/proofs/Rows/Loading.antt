@@ -1,13 +1,12 @@
 -- What weak or unowned storage names is loaded, with one reference more where it is live.
-use Rattle.std.proofs.Common.{◌≡◌, ◌∙◌, ◌+◌, ℕ, List, [], ◌∷◌, true, false, Bool, Option, None, Some, cond, refl, sym, ap, subst}
+use Rattle.std.proofs.Common.{◌≡◌, ◌∙◌, ◌+◌, List, [], ◌∷◌, true, false, Bool, Some, cond, refl, sym, ap, subst}
 use Rattle.std.proofs.lemmas.Bool.{cond-false, false≢true}
-use Rattle.std.proofs.lemmas.Option.{same_Some}
 use Rattle.std.specs.Prelude.{◌&&◌, set}
 use Rattle.heap_model.specs.HeapCalls.{retained}
 use Rattle.heap_model.specs.HeapViews.{phase_in}
-use Rattle.holder_model.specs.Data.{AddressOf, Datum, ValueOf}
+use Rattle.holder_model.specs.Data.{ValueOf}
 use Rattle.holder_model.specs.Effects as effects
-use Rattle.holder_model.specs.Effects.{Change, Effect, effect_of, unchanged, with_some}
+use Rattle.holder_model.specs.Effects.{Effect, effect_of, unchanged, with_some}
 use Rattle.holder_model.specs.MemoryEffects.{all_live, loaded_name, named_again, takes}
 use Rattle.holder_model.specs.ModuleShapes.{shapes_of}
 use Rattle.holder_model.specs.Outcomes.{Numbers}
@@ -16,7 +15,7 @@ use Rattle.holder_model.specs.declared.row_effect.RowEffect.TheVariants as row
 use Rattle.holder_model.specs.declared.trap.Trap.TheVariants as trap
 use Rattle.item_operands.specs.Parts.{inst_at}
 use Rattle.lowered_run.specs.LowEffects.{names_by, place_taken}
-use Rattle.lowered_run.specs.LowStepParts.{LowNext, LowState, fails, numbers_for, retains_each}
+use Rattle.lowered_run.specs.LowStepParts.{LowNext, LowState, retains_each}
 use Rattle.lowered_run.specs.Stored.{changed, one_more, unnamed}
 use Rattle.lowered_run.specs.declared.low_fault.LowFault.{LowFault}
 use Rattle.lowered_run.specs.declared.low_fault.LowFault.TheVariants as fault
@@ -47,7 +46,6 @@ use Rattle.run_values.specs.declared.leaf.Leaf.TheVariants as leaf
 use Rattle.run_values.specs.declared.phase.Phase.{Phase}
 use Rattle.run_values.specs.declared.phase.Phase.TheVariants.{Dead, Deiniting, Live}
 use Rattle.sil_ast.specs.declared.decl.Storage.{Storage}
-use Rattle.sil_ast.specs.declared.decl.Storage.TheVariants as storage
 use Rattle.sil_ast.specs.declared.module.Module.{Module}
 use Rattle.sil_ast.specs.declared.place.ObjectId.{ObjectId}
 use Rattle.sil_ast.specs.declared.place.ValueId.{ValueId}
@@ -60,24 +58,19 @@ use Rattle.machine_laws.proofs.Grows.{suits_grows}
 use Rattle.machine_laws.proofs.Held.{IsReachable}
 use Rattle.machine_laws.proofs.Memories.{NamesPlace}
 use Rattle.machine_laws.proofs.Named.{name_is_leaf}
-use Rattle.machine_laws.proofs.NamedValues.{NameIs, name_suits_inner, optional_shape, stored_name_is}
+use Rattle.machine_laws.proofs.NamedValues.{NameIs, optional_shape, stored_name_is}
 use Rattle.machine_laws.proofs.Numbers.{live_agrees, numbers_stay}
 use Rattle.machine_laws.proofs.Objects.{is_of_class}
 use Rattle.machine_laws.proofs.Operands.{read_place}
 use Rattle.machine_laws.proofs.Rows.Effects.{RowAlike, Runs, d, does_at, forms_by, performed, results_of, row_by, values}
-use Rattle.machine_laws.proofs.Rows.Gives.{faults_alike, first_form, one_of, one_read, same_numbers}
+use Rattle.machine_laws.proofs.Rows.Gives.{faults_alike, first_form, one_of, one_read}
 use Rattle.machine_laws.proofs.Rows.Makes.{makes_alike, one_put, value_given}
 use Rattle.machine_laws.proofs.Rows.Places.{access, access_alike}
+use Rattle.machine_laws.proofs.Rows.PlacesForms.{same_storage, same_stored}
 use Rattle.machine_laws.proofs.Rows.Shapes.{same_place_form}
 use Rattle.machine_laws.proofs.Rows.Steps.{counts_change, value_put}
-use Rattle.machine_laws.proofs.Rows.Storing.{emptied_so, forgotten_numbers, forgotten_runs, held_one}
+use Rattle.machine_laws.proofs.Rows.Storing.{emptied_so, forgotten_runs, held_one}
 use Rattle.machine_laws.proofs.Slots.{Made}
-
-same_storage : (w v : Storage) (s t : Shape) → Stored w s ≡ Stored v t → w ≡ v
-same_storage w v s t e = cc
-
-same_stored : (w v : Storage) (s t : Shape) → Stored w s ≡ Stored v t → s ≡ t
-same_stored w v s t e = cc
 
 live_is_not_dead : (p : Phase) → is_live_phase p ≡ true → is_dead_phase p ≡ false
 live_is_not_dead Live e = refl
@@ -203,18 +196,18 @@ module _ {m : Module} {entry : Shape} (r : Runs m entry) where
   load_name_alike v u w s o is operands results from done stands =
       let forms = forms_by r stands row.LoadsName is in
       let same = same_place_form (Stored forms.0 forms.1) (Stored w s)
-          (sym (first_form (form_of (d r) r.f) (operands_of r.i) v [] (OfPlace (Stored forms.0 forms.1)) [] operands forms.6) ∙ from) in
+      (sym (first_form (form_of (d r) r.f) (operands_of r.i) v [] (OfPlace (Stored forms.0 forms.1)) [] operands forms.6) ∙ from) in
       let inner : forms.1 ≡ s = same_stored forms.0 w forms.1 s same in
       let named : IsNamed w s = subst (λ k. IsNamed k s) (same_storage forms.0 w forms.1 s same) (subst (IsNamed forms.0) inner forms.3) in
       let form = first_form (form_of (d r) r.f) r.i.results u [] (OfValue forms.1) [] results forms.7 ∙ ap OfValue inner in
       row_by r stands row.LoadsName is (sym operands)
       (λ xs all.
-        let one = one_read v xs operands all in
-        let p = read_place one.2 (Stored w s) from in
-        alike_by
-        (ap (does_at r row.LoadsName) (one.1 ∙ ap (λ y. y ∷ []) p.1)
-        ∙ ap (λ o. performed r (record r.s { numbers = place_taken (d r) (shapes_of m) (values r) r.s.memory r.i o (Some p.0) r.s.numbers })
-          (with_some (λ k. names_by (d r) (shapes_of m) (values r) r.s.memory r.i k p.0) o)) done)
-        refl
-        (name_loaded stands.inst u results (one_of r.f r.i.results u [] results (results_of r stands row.LoadsName is)) (address_in r.st r.mf (local_address (d r) r.f v)) p.0 w s
-        p.2 p.3 named form (takes o)))
+      let one = one_read v xs operands all in
+      let p = read_place one.2 (Stored w s) from in
+      alike_by
+      (ap (does_at r row.LoadsName) (one.1 ∙ ap (λ y. y ∷ []) p.1)
+      ∙ ap (λ o. performed r (record r.s { numbers = place_taken (d r) (shapes_of m) (values r) r.s.memory r.i o (Some p.0) r.s.numbers })
+      (with_some (λ k. names_by (d r) (shapes_of m) (values r) r.s.memory r.i k p.0) o)) done)
+      refl
+      (name_loaded stands.inst u results (one_of r.f r.i.results u [] results (results_of r stands row.LoadsName is)) (address_in r.st r.mf (local_address (d r) r.f v)) p.0 w s
+      p.2 p.3 named form (takes o)))

@@ -1,24 +1,18 @@
 -- Weak and unowned storage: its object is named no longer, and it is emptied.
-use Rattle.std.proofs.Common.{◌≡◌, ◌∙◌, ℕ, List, [], ◌∷◌, true, false, Bool, Option, None, Some, cond, refl, sym, ap, subst}
-use Rattle.std.specs.Prelude.{option_and_then}
+use Rattle.std.proofs.Common.{◌≡◌, ◌∙◌, List, [], ◌∷◌, true, Some, refl, sym, ap, subst}
 use Rattle.heap_model.specs.HeapViews.{HeapView}
-use Rattle.holder_model.specs.Data.{AddressOf, Datum, as_place}
 use Rattle.holder_model.specs.Effects as effects
-use Rattle.holder_model.specs.Effects.{effect_of, only, unchanged, with_some}
+use Rattle.holder_model.specs.Effects.{effect_of, unchanged, with_some}
 use Rattle.holder_model.specs.ModuleShapes.{shapes_of}
 use Rattle.holder_model.specs.Outcomes.{Numbers}
-use Rattle.holder_model.specs.States as low
 use Rattle.holder_model.specs.declared.row_effect.RowEffect.TheVariants as row
 use Rattle.item_operands.specs.Parts.{inst_at}
 use Rattle.lowered_run.specs.LowEffects.{destroys_by, place_taken}
-use Rattle.lowered_run.specs.LowFrames.{LowFrame}
-use Rattle.lowered_run.specs.LowStepParts.{LowState, numbers_for}
+use Rattle.lowered_run.specs.LowStepParts.{numbers_for}
 use Rattle.lowered_run.specs.Stored.{unnamed}
 use Rattle.lowered_run.specs.declared.low_fault.LowFault.TheVariants as fault
 use Rattle.machine_steps.specs.declared.address.Address.{Address}
-use Rattle.machine_steps.specs.declared.frame.Frame.{Frame}
-use Rattle.machine_steps.specs.declared.frame.Task.{Task}
-use Rattle.machine_steps.specs.Held.{empty_at, held_at}
+use Rattle.machine_steps.specs.Held.{held_at}
 use Rattle.machine_steps.specs.Naming.{leaf_unnamed}
 use Rattle.machine_steps.specs.Operands.{address_in, first_leaf, go_on}
 use Rattle.machine_steps.specs.Places.{forgets_name, forgotten}
@@ -28,23 +22,19 @@ use Rattle.ready_code.specs.Layout.{local_address, size_of}
 use Rattle.ready_code.specs.ReadyOps.{operands_of}
 use Rattle.ready_code.specs.declared.op.ReadyOp.TheVariants as op
 use Rattle.run_typing.specs.Forms.{OfPlace, form_of}
-use Rattle.run_values.specs.Cells.{Cell, in_cells}
+use Rattle.run_values.specs.Cells.{in_cells}
 use Rattle.run_values.specs.Leaves.{leaves_of}
-use Rattle.run_values.specs.Memory.{Memory}
 use Rattle.run_values.specs.Places.{Place, cells_at, emptied}
 use Rattle.run_values.specs.Shapes.{Shape, Stored}
 use Rattle.run_values.specs.Values.{Value}
 use Rattle.run_values.specs.declared.leaf.Leaf.{Leaf}
 use Rattle.sil_ast.specs.declared.decl.Storage.{Storage}
-use Rattle.sil_ast.specs.declared.function.Function.{Function}
 use Rattle.sil_ast.specs.declared.module.Module.{Module}
 use Rattle.sil_ast.specs.declared.place.ValueId.{ValueId}
 use Rattle.value_parts.specs.inner.Suits.{suits}
-use Rattle.machine_laws.proofs.Agreement.{PartsAgree}
-use Rattle.machine_laws.proofs.Changes.{Changes, HasChanged}
+use Rattle.machine_laws.proofs.Changes.{HasChanged}
 use Rattle.machine_laws.proofs.Emptying.{empty_agrees}
 use Rattle.machine_laws.proofs.Ending.{Alike, alike_by}
-use Rattle.machine_laws.proofs.Entries.{Ends}
 use Rattle.machine_laws.proofs.FrameSteps.{Running, StandsAt}
 use Rattle.machine_laws.proofs.Held.{HeldIs, IsReachable, held_agrees}
 use Rattle.machine_laws.proofs.Memories.{MemoryAgrees, NamesPlace}
@@ -54,11 +44,10 @@ use Rattle.machine_laws.proofs.Numbers.{numbers_stay}
 use Rattle.machine_laws.proofs.Objects.{is_of_class}
 use Rattle.machine_laws.proofs.Operands.{read_place}
 use Rattle.machine_laws.proofs.Rows.Effects.{RowAlike, Runs, d, does_at, forms_by, performed, row_by, values}
-use Rattle.machine_laws.proofs.Rows.Gives.{faults_alike, first_form, no_values, one_read}
+use Rattle.machine_laws.proofs.Rows.Gives.{faults_alike, no_values, one_read}
 use Rattle.machine_laws.proofs.Rows.Makes.{nothing_given}
 use Rattle.machine_laws.proofs.Rows.Places.{access_alike}
 use Rattle.machine_laws.proofs.Rows.Steps.{counts_change, memory_changes}
-use Rattle.machine_laws.proofs.Slots.{Made}
 
 module _ {m : Module} {entry : Shape} (r : Runs m entry) where
   -- the numbers of what is named change
@@ -113,9 +102,9 @@ module _ {m : Module} {entry : Shape} (r : Runs m entry) where
       access_alike r p [] true (effects.Makes (unchanged (emptied r.s.memory p))) (unnamed (cells_at r.s.memory p) r.s.numbers) refl (forgets_name r.st r.mf r.rest' w a) refl (λ o. refl)
       (λ reached cells. faults_alike r (unnamed (cells_at r.s.memory p) r.s.numbers) fault.Empty)
       (λ x ls reached cells is fits leaves.
-        alike_by refl (ap (λ ms. go_on (forgotten r.st r.mf r.rest' w a (first_leaf ms)) r.mf r.rest') leaves)
-        (nothing_given m entry r.bound r.f r.lf r.mf r.below r.rest r.rest' r.i there (record r.s { numbers = unnamed (cells_at r.s.memory p) r.s.numbers })
-        (forgotten_numbers a p w s stored names reached x cells fits) (forgotten_runs a p w s stored names reached x cells fits) results))
+      alike_by refl (ap (λ ms. go_on (forgotten r.st r.mf r.rest' w a (first_leaf ms)) r.mf r.rest') leaves)
+      (nothing_given m entry r.bound r.f r.lf r.mf r.below r.rest r.rest' r.i there (record r.s { numbers = unnamed (cells_at r.s.memory p) r.s.numbers })
+      (forgotten_numbers a p w s stored names reached x cells fits) (forgotten_runs a p w s stored names reached x cells fits) results))
       (held_at r.st a 1) (held_one a p w s stored names)
 
   pub forget_name_alike : (v : ValueId) (w : Storage) (s : Shape) → effect_of r.i.op ≡ row.DestroysPlace → operands_of r.i ≡ v ∷ [] → form_of (d r) r.f v ≡ OfPlace (Stored w s)
@@ -125,10 +114,10 @@ module _ {m : Module} {entry : Shape} (r : Runs m entry) where
       let results = sym (no_values (form_of (d r) r.f) r.i.results forms.5) in
       row_by r stands row.DestroysPlace is (sym operands)
       (λ xs all.
-        let one = one_read v xs operands all in
-        let p = read_place one.2 (Stored w s) from in
-        alike_by
-        (ap (does_at r row.DestroysPlace) (one.1 ∙ ap (λ y. y ∷ []) p.1)
-        ∙ ap (λ o. performed r (record r.s { numbers = place_taken (d r) (shapes_of m) (values r) r.s.memory r.i o (Some p.0) r.s.numbers })
-          (with_some (λ k. destroys_by (d r) (shapes_of m) (values r) r.s.memory r.i k p.0) o)) forms.3)
-        refl (forgets (address_in r.st r.mf (local_address (d r) r.f v)) p.0 w s p.2 p.3 stands.inst results))
+      let one = one_read v xs operands all in
+      let p = read_place one.2 (Stored w s) from in
+      alike_by
+      (ap (does_at r row.DestroysPlace) (one.1 ∙ ap (λ y. y ∷ []) p.1)
+      ∙ ap (λ o. performed r (record r.s { numbers = place_taken (d r) (shapes_of m) (values r) r.s.memory r.i o (Some p.0) r.s.numbers })
+      (with_some (λ k. destroys_by (d r) (shapes_of m) (values r) r.s.memory r.i k p.0) o)) forms.3)
+      refl (forgets (address_in r.st r.mf (local_address (d r) r.f v)) p.0 w s p.2 p.3 stands.inst results))
