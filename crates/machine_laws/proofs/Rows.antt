@@ -10,3 +10,5 @@ pub mod PlacesLoad
 pub mod PlacesForms
 pub mod PlacesChanged
 pub mod PlacesStore
+pub mod PlacesNames
+pub mod PlacesStoreName
