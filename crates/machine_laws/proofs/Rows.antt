@@ -20,3 +20,5 @@ pub mod PlacesLoad
 pub mod PlacesForms
 pub mod PlacesChanged
 pub mod PlacesStore
+pub mod PlacesNames
+pub mod PlacesStoreName

@@ -1,5 +1,5 @@
 -- Memory has changed at a place, and the instruction goes on.
-use Rattle.std.proofs.Common.{◌≡◌, ◌∙◌, List, [], Some, arith}
+use Rattle.std.proofs.Common.{◌≡◌, List, [], Some}
 use Rattle.holder_model.specs.Effects.{Makes, unchanged}
 use Rattle.holder_model.specs.Outcomes.{Numbers}
 use Rattle.item_operands.specs.Parts.{inst_at}
@@ -15,7 +15,6 @@ use Rattle.sil_ast.specs.declared.module.Module.{Module}
 use Rattle.machine_laws.proofs.Changes.{HasChanged}
 use Rattle.machine_laws.proofs.Ending.{Alike}
 use Rattle.machine_laws.proofs.FrameSteps.{Running}
-use Rattle.machine_laws.proofs.GrowsBy.{grows_then}
 use Rattle.machine_laws.proofs.Memories.{NamesPlace}
 use Rattle.machine_laws.proofs.Numbers.{numbers_stay}
 use Rattle.machine_laws.proofs.Objects.{is_of_class}
@@ -28,33 +27,6 @@ use Rattle.machine_laws.proofs.Slots.{Made}
 pub address_part : {m : Module} {made : List Made} {slots : List OpenSlot} {mem : Memory} {a : Address} {p : Place} → NamesPlace m made slots mem a p → a.is_part ≡ p.is_part
 address_part (NamesPlace.in_slot index serial at names) = names.parts
 address_part (NamesPlace.in_field o k at names) = names.parts
-
--- one change behind another
-pub changed_then : {m : Module} {made : List Made} {mem mem' mem'' : Memory} {numbers numbers' : List Numbers} {st st' st'' : MachineView}
-    → (first : HasChanged m made mem st mem' numbers st') → HasChanged m first.changes.made' mem' st' mem'' numbers' st'' → HasChanged m made mem st mem'' numbers' st''
-changed_then first then =
-    let a = first.changes in
-    let b = then.changes in
-    record {
-      changes = record {
-        made' = b.made';
-        agrees = b.agrees;
-        grows = grows_then a.grows b.grows;
-        phases = λ o within. b.phases o (omega (arith, within, a.grows.objects)) ∙ a.phases o within;
-        frames = record {
-          tasks = b.frames.tasks ∙ a.frames.tasks;
-          there = b.frames.there ∙ a.frames.there;
-          leaves = b.frames.leaves ∙ a.frames.leaves;
-          addresses = b.frames.addresses ∙ a.frames.addresses;
-          waiting = b.frames.waiting ∙ a.frames.waiting;
-          events = b.frames.events ∙ a.frames.events;
-          turns = b.frames.turns ∙ a.frames.turns;
-          retains = b.frames.retains ∙ a.frames.retains;
-          releases = b.frames.releases ∙ a.frames.releases;
-        };
-      };
-      slots = then.slots ∙ first.slots;
-    }
 
 module _ {m : Module} {entry : Shape} (r : Runs m entry) {mem' : Memory} {ns : List Numbers} {st' : MachineView} (has : HasChanged m r.made r.s.memory r.st mem' ns st') where
   pub still_running : Running m entry has.changes.made' (record r.s { memory = mem'; numbers = ns }) st' r.f r.lf r.mf r.below r.rest r.rest'

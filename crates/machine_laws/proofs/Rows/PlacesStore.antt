@@ -1,5 +1,6 @@
 -- A value is stored in a place without storage.
 use Rattle.std.proofs.Common.{◌≡◌, ◌∙◌, List, [], ◌∷◌, Bool, true, false, Option, None, Some, cond, refl, sym, ap, subst, map, not}
+use Rattle.std.proofs.lemmas.Bool.{false≢true}
 use Rattle.std.specs.Prelude.{is_some, replicate, ◌||◌}
 use Rattle.holder_model.specs.Data.{ValueOf}
 use Rattle.holder_model.specs.Effects.{Effect, Faults, Makes, effect_of, unchanged, with_some}
@@ -32,7 +33,6 @@ use Rattle.sil_ast.specs.declared.decl.Storage.{Storage}
 use Rattle.sil_ast.specs.declared.module.Module.{Module}
 use Rattle.sil_ast.specs.declared.place.ValueId.{ValueId}
 use Rattle.value_parts.specs.inner.Suits.{suits}
-use Rattle.std.proofs.lemmas.Bool.{false≢true}
 use Rattle.machine_laws.proofs.Ending.{Alike, alike_by}
 use Rattle.machine_laws.proofs.FrameSteps.{StandsAt}
 use Rattle.machine_laws.proofs.Held.{HeldIs, IsReachable, held_agrees}
@@ -48,12 +48,12 @@ use Rattle.machine_laws.proofs.Rows.PlacesForms.{plain_store}
 use Rattle.machine_laws.proofs.Writing.{write_agrees}
 
 module _ {m : Module} {entry : Shape} (r : Runs m entry) where
-  abbrev written : Place → Value → Effect LowFault
+  abbrev pub written : Place → Value → Effect LowFault
   written p x = Makes (unchanged (filled r.s.memory p x))
 
   -- what the run does by its operation, and at a place by the storage that it is
-  abbrev stores : Value → Place → Option Operation → LowNext
-  stores x p o = performed r
+  abbrev pub does_store : Value → Place → Option Operation → LowNext
+  does_store x p o = performed r
       (record r.s { numbers = low_effects.value_stored (d r) (shapes_of m) (values r) r.s.memory r.i o (Some x) (Some p) r.s.numbers })
       (with_some (λ y. low_effects.stores_by (d r) (shapes_of m) (values r) r.s.memory r.i y x p) o)
 
@@ -109,7 +109,7 @@ module _ {m : Module} {entry : Shape} (r : Runs m entry) where
         let bare = subst (λ t. has_no_storage t ≡ true) (sym place.2) forms.bare in
         alike_by
         (ap (does_at r row.StoresValue) (two.2 ∙ ap (λ y. y ∷ two.1 ∷ []) value.1 ∙ ap (λ y. ValueOf x ∷ y ∷ []) place.1)
-        ∙ ap (stores x p) forms.operation
+        ∙ ap (does_store x p) forms.operation
         ∙ ap (λ u. performed r (record r.s { numbers = named ((in_cells p.shape).cells x) (unnamed (cells_at r.s.memory p) r.s.numbers) }) (stores_where x p u))
         (ap storage_in place.2 ∙ none))
         (ap (λ ls. machine.stores r.st r.mf r.rest' a ls (held_at r.st a (local (d r) r.f v).size)) value.3
