@@ -46,7 +46,7 @@ only_then first then = record {
   serials = then.serials ∙ first.serials;
 }
 
-only_put : (st : MachineView) (there : _) (leaves : _) (addresses : _) → OnlyValues st (record st { there = there; leaves = leaves; addresses = addresses })
+pub only_put : (st : MachineView) (there : _) (leaves : _) (addresses : _) → OnlyValues st (record st { there = there; leaves = leaves; addresses = addresses })
 only_put st there leaves addresses =
     record { tasks = refl; slots = refl; slot_leaves = refl; waiting = refl; heap = refl; events = refl; turns = refl; serials = refl }
 

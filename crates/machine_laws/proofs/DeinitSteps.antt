@@ -61,7 +61,7 @@ use Rattle.machine_laws.proofs.Slots.{Made}
 use Rattle.machine_laws.proofs.Tasks.{ReadyFor, TasksAgree, finishes, is_finishing, runs, to_go_on, to_take}
 
 -- one value has the one form
-one_of : {A B : Type 0} (f : A → B) (xs : List A) (y : B) → map f xs ≡ y ∷ [] → (x : A) × (xs ≡ x ∷ []) × (f x ≡ y)
+pub one_of : {A B : Type 0} (f : A → B) (xs : List A) (y : B) → map f xs ≡ y ∷ [] → (x : A) × (xs ≡ x ∷ []) × (f x ≡ y)
 one_of f [] y e = absurd (omega (arith, ap length e))
 one_of f (x ∷ []) y e = (x, refl, same_Some (f x) y (ap (λ ys. slice_get ys 0) e))
 one_of f (x ∷ z ∷ xs) y e = absurd (omega (arith, ap length e))

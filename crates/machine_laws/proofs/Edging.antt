@@ -71,7 +71,7 @@ pub record EdgeThere (m : Module) (f : Function) (lf : LowFrame) (i : Inst) (k :
   pub takes : map taken_value (taken_by i) ≡ map value_in i.operands
 
 module _ {m : Module} {f : Function} {lf : LowFrame} {i : Inst} {k : ℕ} {e : Edge} (there : EdgeThere m f lf i k e) where
-  edge_is : edge_at f (edge_of lf.at k) ≡ Some e
+  pub edge_is : edge_at f (edge_of lf.at k) ≡ Some e
   edge_is = ap (λ t. edge_in t k) there.terminator ∙ there.edge
 
   consumed_values : (os : List Operand) → map taken_value (map consumed os) ≡ map value_in os

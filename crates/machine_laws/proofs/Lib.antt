@@ -59,8 +59,14 @@ pub mod FinishTasks
 pub mod DropSteps
 pub mod FinishSteps
 pub mod CallingIn
+pub mod CallingForms
+pub mod CallingOver
 pub mod DeinitClasses
 pub mod DeinitSteps
+pub mod EdgingCases
+pub mod EdgingSwitches
+pub mod Returning
+pub mod ReturningEnds
 pub mod WritingSlots
 pub mod WritingLeaves
 pub mod StackChanges

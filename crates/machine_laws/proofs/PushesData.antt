@@ -7,7 +7,7 @@ use Rattle.holder_model.specs.Data.{Datum}
 use Rattle.lowered_run.specs.LowFrames.{put_all}
 use Rattle.numbered_form.specs.Lists.{Each}
 use Rattle.ready_code.specs.Layout.{value_number}
-use Rattle.run_typing.specs.Forms.{Form, OfFunction, OfNothing, OfPlace, OfValue, form_of, forms_of}
+use Rattle.run_typing.specs.Forms.{Form, IsCarried, OfFunction, OfNothing, OfPlace, OfValue, form_of, forms_of, is_carried}
 use Rattle.run_values.specs.Shapes.{Shape}
 use Rattle.sil_ast.specs.declared.function.Function.{Function}
 use Rattle.sil_ast.specs.declared.place.ValueId.{ValueId}
@@ -17,14 +17,8 @@ use Rattle.machine_laws.proofs.PushesAddresses.{address_put, addresses_put}
 use Rattle.machine_laws.proofs.PushesCarried.{head_form, value_put, values_put}
 
 -- values and addresses alone are carried
-abbrev pub is_carried : Form → Bool
-is_carried (OfValue s) = true
-is_carried (OfPlace s) = true
-is_carried (OfFunction g) = false
-is_carried OfNothing = false
-
 abbrev pub AreCarried : List Form → Type 0
-AreCarried forms = Each (λ form. is_carried form ≡ true) forms
+AreCarried forms = Each IsCarried forms
 
 module _ (d : Declarations) (g : Function) where
   -- values are put beside an address

@@ -4,6 +4,7 @@ use Rattle.std.specs.Prelude.{drop, reverse, slice_get, take}
 use Rattle.holder_model.specs.declared.row_effect.RowEffect.TheVariants as row
 use Rattle.holder_model.specs.Dropping.{deinits_of}
 use Rattle.holder_model.specs.Effects.{effect_of}
+use Rattle.holder_model.specs.Frames.{has_any}
 use Rattle.holder_model.specs.States as low
 use Rattle.item_operands.specs.Parts.{inst_at}
 use Rattle.lowered_run.specs.LowFrames.{LowFrame}
@@ -11,7 +12,8 @@ use Rattle.machine_steps.specs.declared.frame.Frame.{Frame}
 use Rattle.machine_steps.specs.declared.frame.Task.{Task}
 use Rattle.machine_steps.specs.declared.frame.Task.TheVariants as task
 use Rattle.machine_steps.specs.Views.{MachineView}
-use Rattle.run_typing.specs.Forms.{OfValue, form_of, given_shape}
+use Rattle.ready_code.specs.ReadyOps.{operands_of}
+use Rattle.run_typing.specs.Forms.{OfFunction, OfValue, form_of, given_shape}
 use Rattle.run_values.specs.Memory.{Memory, object_at}
 use Rattle.run_values.specs.Shapes.{Shape}
 use Rattle.run_values.specs.declared.phase.Phase.TheVariants.{Deiniting}
@@ -30,11 +32,19 @@ pub data ReadyFor : Type 0 where
   to_go_on : ReadyFor
   to_take : (s : Shape) → ReadyFor
 
--- a frame waits at a call whose result has the shape
+-- a frame waits at a call of a function with a body, whose result has the shape
 pub record AwaitsAt (m : Module) (f : Function) (lf : LowFrame) (s : Shape) : Type 0 where
   pub call : Inst
   pub there : inst_at f lf.at ≡ Some call
   pub calls : effect_of call.op ≡ row.CallsFunction
+  pub callee : ValueId
+  pub args : List ValueId
+  pub operands : operands_of call ≡ callee ∷ args
+  pub g : FuncId
+  pub names : form_of (declarations_of m) f callee ≡ OfFunction g
+  pub body : Function
+  pub body_there : slice_get m.functions g.0 ≡ Some body
+  pub bodied : has_any body.blocks ≡ true
   pub result : ValueId
   pub results : call.results ≡ result ∷ []
   pub form : form_of (declarations_of m) f result ≡ OfValue s

@@ -1,5 +1,5 @@
 -- What the values of a function are to a run, by their types.
-use Rattle.std.specs.Prelude.{List, Bool, Option, Some, None, map}
+use Rattle.std.specs.Prelude.{◌≡◌, List, Bool, true, false, Option, Some, None, map}
 use Rattle.item_operands.specs.Items.{item_defined}
 use Rattle.run_values.specs.Shapes.{Shape, shape_of}
 use Rattle.value_parts.specs.inner.Storages.{holds_no_storage}
@@ -47,3 +47,13 @@ given_shape d f = shape_of d (given_type f.signature)
 -- no weak or unowned storage is in the shape
 abbrev pub has_no_storage : Shape → Bool
 has_no_storage s = holds_no_storage s
+
+-- a value or an address, which a call hands over
+abbrev pub is_carried : Form → Bool
+is_carried (OfValue s) = true
+is_carried (OfPlace s) = true
+is_carried (OfFunction g) = false
+is_carried OfNothing = false
+
+abbrev pub IsCarried : Form → Type 0
+IsCarried form = is_carried form ≡ true

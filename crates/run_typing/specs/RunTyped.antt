@@ -3,6 +3,7 @@ use Rattle.std.specs.Prelude.{◌≡◌, ℕ, List, [], true, Some, map, slice_g
 use Rattle.item_operands.specs.Parts.{inst_at, terminator_of}
 use Rattle.item_operands.specs.Roles.{taken_by}
 use Rattle.lowered_run.specs.LowStepParts.{taken_value, values_taken}
+use Rattle.numbered_form.specs.Lists.{Each}
 use Rattle.run_values.specs.Leaves.{in_leaves}
 use Rattle.run_values.specs.Shapes.{shape_of}
 use Rattle.run_values.specs.inner.Laws.{has_no_address}
@@ -19,7 +20,7 @@ use Rattle.run_typing.specs.CallForms.{DeinitsAreTyped, ItemIsOf}
 use Rattle.run_typing.specs.Classes.{ClassesAreSound}
 use Rattle.run_typing.specs.FieldForms.{AreFieldsTyped}
 use Rattle.run_typing.specs.EndForms.{EndForms, value_in}
-use Rattle.run_typing.specs.Forms.{forms_of}
+use Rattle.run_typing.specs.Forms.{IsCarried, entry_forms, forms_of}
 use Rattle.run_typing.specs.RowForms.{RowForms}
 use Rattle.run_typing.specs.Runnable.{IsRunnable}
 
@@ -34,6 +35,8 @@ pub record FunctionIsTyped (m : Module) (f : Function) : Type 0 where
   -- so does a terminator
   pub ends_take : (b : ℕ) (i : Inst) → terminator_of f b ≡ Some i → map taken_value (taken_by i) ≡ map value_in i.operands
   pub items : (i : Item) → ItemIsOf f i
+  -- the arguments of its first block are values and addresses
+  pub entry : Each IsCarried (entry_forms (declarations_of m) f)
 
 -- a type without an address has as many leaves as its shape
 abbrev pub SizesAreMeasured : Declarations → Type 0

@@ -7,6 +7,7 @@ use Rattle.run_typing_laws.proofs.FunctionFacts.{typed_function}
 use Rattle.run_typing_laws.proofs.ItemFacts.{item_is_of}
 use Rattle.run_typing_laws.proofs.Rows.Insts.{inst_is_typed}
 use Rattle.run_typing_laws.proofs.ShapeFacts.{sizes}
+use Rattle.run_typing_laws.proofs.SignatureFacts.{entry_carried}
 
 pub runnable_is_typed : RunnableIsTyped
 runnable_is_typed m r = record {
@@ -15,6 +16,7 @@ runnable_is_typed m r = record {
     ends = ends m r f typed;
     ends_take = ends_take m r f typed;
     items = item_is_of m f typed;
+    entry = entry_carried m f typed;
   };
   deinits = deinits m r;
   classes = classes m r;

@@ -1,5 +1,5 @@
 -- What a function's signature says of its entry, and of what it gives.
-use Rattle.std.proofs.Common.{◌≡◌, ℕ, List, [], ◌∷◌, ◌++◌, map, cond, refl, sym, ap, ap₂, ◌∙◌, Bool, true, false, not, None}
+use Rattle.std.proofs.Common.{◌≡◌, ℕ, List, [], ◌∷◌, ◌++◌, map, cond, refl, sym, ap, ap₂, ◌∙◌, subst, Bool, true, false, not, Option, None, Some}
 use Rattle.std.specs.Prelude.{◌&&◌, filter}
 use Rattle.std.specs.List.{flat_map, list_all}
 use Rattle.argument_conventions.specs.Arguments.{Told, argument_type, arguments_of, convention_of, is_direct, out_argument, param_argument}
@@ -26,7 +26,8 @@ use Rattle.sil_types.specs.Typing.SignatureRules.{is_no_output_call, is_plain, i
 use Rattle.sil_types.specs.Typing.Values.{arg_type}
 use Rattle.type_definitions.specs.Declarations.{Declarations, declarations_of}
 use Rattle.type_definitions.specs.Mentions.{direct_types, given_type, result_type, together}
-use Rattle.run_typing.specs.Forms.{entry_forms}
+use Rattle.numbered_form.specs.Lists.{Each}
+use Rattle.run_typing.specs.Forms.{IsCarried, entry_forms, form_with}
 use Rattle.run_typing_laws.proofs.FunctionFacts.{TypedFunction}
 use Rattle.run_typing_laws.proofs.Found.{both_first, both_second, not_false}
 use Rattle.run_typing_laws.proofs.ListFacts.{or_second}
@@ -100,6 +101,18 @@ module _ (m : Module) (f : Function) (typed : TypedFunction m f) where
 
   pub entry_forms_are : has_any f.blocks ≡ true → entry_forms (declarations_of m) f ≡ map (typed_form (declarations_of m)) (argument_types f.signature)
   entry_forms_are some = args_forms m f typed 0 ∙ ap (map (typed_form (declarations_of m))) (entry_types some)
+
+  carried_with : (t : TypeName) (inner : Option TypeName) → IsCarried (form_with (declarations_of m) t inner)
+  carried_with t None = refl
+  carried_with t (Some inner) = refl
+
+  carried_each : (ts : List TypeName) → Each IsCarried (map (typed_form (declarations_of m)) ts)
+  carried_each [] = tt
+  carried_each (t ∷ ts) = (carried_with t (target t), carried_each ts)
+
+  -- its arguments are values and addresses
+  pub entry_carried : Each IsCarried (entry_forms (declarations_of m) f)
+  entry_carried = subst (Each IsCarried) (sym (args_forms m f typed 0)) (carried_each (map arg_type (args_of f 0)))
 
   -- without blocks it takes integers and gives nothing
 

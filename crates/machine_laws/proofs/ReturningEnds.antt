@@ -1,0 +1,110 @@
+-- Terminators.
+use Rattle.std.proofs.Common.{◌≡◌, ◌+◌, ◌==◌, ◌∙◌, ℕ, List, [], ◌∷◌, Bool, true, false, Some, cond, length, map, refl, sym, ap, arith}
+use Rattle.std.specs.Prelude.{slice_get}
+use Rattle.std.proofs.lemmas.Bool.{cond-false, cond-true, eq-eqb, ne_eqb}
+use Rattle.std.proofs.lemmas.Option.{same_Some}
+use Rattle.holder_model.specs.Data.{Datum, ValueOf}
+use Rattle.holder_model.specs.Effects.{only}
+use Rattle.holder_model.specs.Frames.{has_any}
+use Rattle.holder_model.specs.ModuleShapes.{shapes_of}
+use Rattle.holder_model.specs.States as low
+use Rattle.holder_model.specs.declared.trap.Trap.TheVariants as trap
+use Rattle.instruction_table.specs.Forms.{ending_of}
+use Rattle.instruction_table.specs.declared.entries.Ending.TheVariants as ending
+use Rattle.lowered_run.specs.declared.low_fault.LowFault.TheVariants as fault
+use Rattle.lowered_run.specs.LowFrames.{LowFrame, read_all}
+use Rattle.lowered_run.specs.LowStepParts.{LowNext, LowState, fails, on_ok, on_some}
+use Rattle.lowered_run.specs.LowSteps as run
+use Rattle.machine_steps.specs.declared.frame.Frame.{Frame}
+use Rattle.machine_steps.specs.declared.frame.Task.{Task}
+use Rattle.machine_steps.specs.declared.run_end.RunEnd.TheVariants as stop
+use Rattle.machine_steps.specs.Ends as machine
+use Rattle.machine_steps.specs.Operands.{faults}
+use Rattle.machine_steps.specs.Views.{MachineView, Went}
+use Rattle.ready_code.specs.declared.block.ReadyEnd.{ReadyEnd}
+use Rattle.ready_code.specs.declared.block.ReadyEnd.TheVariants as end
+use Rattle.ready_code.specs.declared.function.ReadyModule.{ReadyModule}
+use Rattle.ready_code.specs.Layout.{local}
+use Rattle.ready_code.specs.ReadyEnds.{IsReadyEnd}
+use Rattle.ready_code.specs.ReadyModules.{IsReadyModule}
+use Rattle.ready_code.specs.ReadyOps.{operands_of}
+use Rattle.run_typing.specs.EndForms.{EndForms, branch, branches, cases, operand_forms, returns, unreachable}
+use Rattle.run_typing.specs.Forms.{OfValue, form_of, given_shape}
+use Rattle.run_typing.specs.RunTyped.{RunTyped}
+use Rattle.run_values.specs.Shapes.{Shape}
+use Rattle.sil_ast.specs.declared.function.Function.{Function}
+use Rattle.sil_ast.specs.declared.inst.Inst.{Inst}
+use Rattle.sil_ast.specs.declared.module.Module.{Module}
+use Rattle.sil_ast.specs.declared.place.ValueId.{ValueId}
+use Rattle.type_definitions.specs.Declarations.{Declarations, declarations_of}
+use Rattle.machine_laws.specs.inner.Told as told
+use Rattle.machine_laws.proofs.EdgingBranches.{OperandRead, StandsAtEnd, branch_alike, exit_takes, jump_alike, operand_alike}
+use Rattle.machine_laws.proofs.EdgingSwitches.{switch_alike}
+use Rattle.machine_laws.proofs.Ending.{Alike, alike_by, ends_alike, fault_alike}
+use Rattle.machine_laws.proofs.Entries.{Ends}
+use Rattle.machine_laws.proofs.FrameSteps.{Running}
+use Rattle.machine_laws.proofs.PushesSlots.{NewestSlot, newest, newest_slot, none}
+use Rattle.machine_laws.proofs.Returning.{returns_to_alike}
+use Rattle.machine_laws.proofs.Slots.{Made}
+use Rattle.machine_laws.proofs.Tasks.{to_take}
+
+return_forms : (d : Declarations) (f : Function) (i : Inst) → ending_of i.op ≡ ending.Return → EndForms d f i → operand_forms d f i ≡ OfValue (given_shape d f) ∷ []
+return_forms d f i is (branch e is' bare edge forms) = absurd (cc)
+return_forms d f i is (branches set clear is' operands set_is clear_is set_forms clear_forms) = absurd (cc)
+return_forms d f i is (cases s is' operands shape all) = absurd (cc)
+return_forms d f i is (returns is' operands) = operands
+return_forms d f i is (unreachable is') = absurd (cc)
+
+module _ (m : Module) (ready : ReadyModule) (entry : Shape) (bound : ℕ) (typed : RunTyped m) (is_ready : IsReadyModule m ready) (made : List Made) (s : LowState) (st : MachineView)
+    (f : Function) (lf : LowFrame) (mf : Frame) (below : Ends) (rest : List (low.Task LowFrame)) (rest' : List Task) (running : Running m entry made s st f lf mf below rest rest')
+    (i : Inst) (stands : StandsAtEnd m f lf i) where
+  return_alike : (v : ValueId) → ending_of i.op ≡ ending.Return → operands_of i ≡ v ∷ []
+      → Alike m entry (run.ends_block_by m (shapes_of m) bound (ending_of i.op) s rest lf f i) (machine.ends_with ready bound st mf rest' (end.Return (local (declarations_of m) f v)))
+  return_alike v is one =
+      alike_by
+      (ap (λ x. run.ends_block_by m (shapes_of m) bound x s rest lf f i) is
+        ∙ ap (λ vs. on_ok s giving (read_all lf.values vs)) (exit_takes m ready entry bound typed made s st f lf mf below rest rest' running i stands))
+      refl
+      (operand_alike m ready entry bound typed made s st f lf mf below rest rest' running i stands v shape one form giving
+      (cond (length st.slots == mf.slots) to (faults fault.Slot st)) by)
+    where
+      shape : Shape
+      shape = given_shape (declarations_of m) f
+      form : form_of (declarations_of m) f v ≡ OfValue shape
+      form =
+          same_Some (form_of (declarations_of m) f v) (OfValue shape)
+          (ap (λ vs. slice_get (map (form_of (declarations_of m) f) vs) 0) (sym one) ∙ ap (λ fs. slice_get fs 0) (return_forms (declarations_of m) f i is stands.forms))
+      giving : List Datum → LowNext
+      giving xs = cond (has_any lf.slots) (fails s fault.Slot) (on_some s (λ x. run.returns_to m (shapes_of m) bound s x rest) (only xs))
+      to : Went
+      to = machine.returns_to ready bound st mf rest' (local (declarations_of m) f v) rest'
+      by : (read : OperandRead m ready entry bound typed made s st f lf mf below rest rest' running i stands v shape)
+          → Alike m entry (giving (ValueOf read.value ∷ [])) (cond (length st.slots == mf.slots) to (faults fault.Slot st))
+      by read = at (newest_slot running.frame refl)
+        where
+          there : LowNext
+          there = run.returns_to m (shapes_of m) bound s (ValueOf read.value) rest
+          at : NewestSlot made st lf below → Alike m entry (giving (ValueOf read.value ∷ [])) (cond (length st.slots == mf.slots) to (faults fault.Slot st))
+          at (none bare same) =
+              let empty : length st.slots ≡ mf.slots = sym (running.frame.slots ∙ same) in
+              alike_by (cond-false (has_any lf.slots) (fails s fault.Slot) there (ap has_any bare))
+              (cond-true (length st.slots == mf.slots) to (faults fault.Slot st) (eq-eqb (length st.slots) mf.slots empty))
+              (returns_to_alike m ready entry bound typed is_ready made s st running.parts f lf mf below running.frame rest' empty shape read.value read.fits (local (declarations_of m) f v)
+              read.leaves (to_take shape) below rest rest' refl refl refl running.others)
+          at (newest index slot places last over at_index slots) =
+              alike_by (cond-true (has_any lf.slots) (fails s fault.Slot) there (ap has_any slots))
+              (cond-false (length st.slots == mf.slots) to (faults fault.Slot st) (ne_eqb (length st.slots) mf.slots (λ e. omega (arith, e, running.frame.slots, last, over))))
+              (fault_alike running.parts fault.Slot)
+
+  -- what the terminator does in both
+  pub end_alike : (e : ReadyEnd) → IsReadyEnd (declarations_of m) f i e
+      → Alike m entry (run.ends_block_by m (shapes_of m) bound (ending_of i.op) s rest lf f i) (machine.ends_with ready bound st mf rest' e)
+  end_alike _ (IsReadyEnd.jump e is edge) = jump_alike m ready entry bound typed made s st f lf mf below rest rest' running i stands e is edge
+  end_alike _ (IsReadyEnd.branch v set clear is one set_is clear_is) =
+      branch_alike m ready entry bound typed made s st f lf mf below rest rest' running i stands v set clear is one set_is clear_is
+  end_alike _ (IsReadyEnd.switch v s' cases_ is one form are) =
+      switch_alike m ready entry bound typed made s st f lf mf below rest rest' running i stands is v one s' cases_ form are
+  end_alike _ (IsReadyEnd.returns v is one) = return_alike v is one
+  end_alike _ (IsReadyEnd.unreachable is) =
+      alike_by (ap (λ x. run.ends_block_by m (shapes_of m) bound x s rest lf f i) is) refl
+      (ends_alike running.parts (low.Trapped trap.Unreachable) stop.Unreachable told.unreachable refl)
