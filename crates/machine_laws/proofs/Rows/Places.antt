@@ -1,5 +1,5 @@
 -- An access to a place: where the place isn't as the instruction has it, the run and the machine fault alike, by the same order.
-use Rattle.std.proofs.Common.{◌≡◌, ◌∙◌, ◌++◌, List, [], ◌∷◌, Bool, true, false, Option, None, Some, cond, not, replicate, refl, sym, ap, subst}
+use Rattle.std.proofs.Common.{◌≡◌, ◌∙◌, ◌++◌, List, [], ◌∷◌, Bool, true, false, Option, None, Some, cond, not, replicate, refl, ap}
 use Rattle.std.specs.Prelude.{find, is_some, ◌||◌}
 use Rattle.holder_model.specs.Data.{home_references}
 use Rattle.holder_model.specs.Effects.{Effect, Faults}
@@ -96,16 +96,16 @@ module _ {m : Module} {entry : Shape} (r : Runs m entry) (p : Place) (os : List 
     -- the place is as the machine finds it, and none of the objects that are to be named is dead
     pub access_alike : first_dead os ≡ None → (go : Held → Went) → go held.Gone ≡ faults fault.Slot r.st → ((o : ObjectId) → go (held.OfDead o) ≡ faults (fault.Dead o) r.st)
         → (IsReachable r.s.memory p → cells_at r.s.memory p ≡ replicate (cell_count p.shape) cells.Empty
-          → Alike m entry (performed r (record r.s { numbers = ns }) (where_full None)) (go held.Empty))
+        → Alike m entry (performed r (record r.s { numbers = ns }) (where_full None)) (go held.Empty))
         → ((x : Value) (ls : List Leaf) → IsReachable r.s.memory p → cells_at r.s.memory p ≡ (in_cells p.shape).cells x → value_at r.s.memory p ≡ Some x
-          → suits (is_of_class m r.s.memory) p.shape x ≡ true → ls ≡ leaves_of p.shape x → Alike m entry (performed r (record r.s { numbers = ns }) e) (go (held.Full ls)))
+        → suits (is_of_class m r.s.memory) p.shape x ≡ true → ls ≡ leaves_of p.shape x → Alike m entry (performed r (record r.s { numbers = ns }) e) (go (held.Full ls)))
         → (h : Held) → HeldIs m r.s.memory p h → AccessAlike (go h)
     access_alike alive go at_gone at_dead at_empty at_full _ (HeldIs.gone is) =
         alike_by (ap (performed r (record r.s { numbers = ns })) (gone is)) at_gone (faults_alike r ns fault.Slot)
     access_alike alive go at_gone at_dead at_empty at_full _ (HeldIs.of_dead o is home dead) =
         alike_by
         (ap (performed r (record r.s { numbers = ns })) (there is (Some o)
-          (found_behind (is_dead r.s.memory) os (home_references p.home) alive ∙ ap first_dead home ∙ found_one (is_dead r.s.memory) o dead)))
+        (found_behind (is_dead r.s.memory) os (home_references p.home) alive ∙ ap first_dead home ∙ found_one (is_dead r.s.memory) o dead)))
         (at_dead o) (faults_alike r ns (fault.Dead o))
     access_alike alive go at_gone at_dead at_empty at_full _ (HeldIs.empty reach has none) =
         alike_by (ap (performed r (record r.s { numbers = ns })) (reached alive reach None none)) refl (at_empty reach has)

@@ -1,18 +1,15 @@
 -- A value is loaded from its place.
-use Rattle.std.proofs.Common.{◌≡◌, ◌∙◌, List, [], ◌∷◌, true, Option, None, Some, refl, sym, ap, subst}
-use Rattle.std.specs.Prelude.{option_and_then}
-use Rattle.holder_model.specs.Data.{AddressOf, Datum, ValueOf, as_place}
-use Rattle.holder_model.specs.Effects.{Effect, Makes, effect_of, only, unchanged, with_some}
+use Rattle.std.proofs.Common.{◌≡◌, ◌∙◌, [], ◌∷◌, true, Option, refl, sym, ap}
+use Rattle.holder_model.specs.Data.{ValueOf}
+use Rattle.holder_model.specs.Effects.{Effect, Makes, effect_of, unchanged, with_some}
 use Rattle.holder_model.specs.ModuleShapes.{shapes_of}
 use Rattle.holder_model.specs.declared.row_effect.RowEffect.TheVariants as row
 use Rattle.lowered_run.specs.LowEffects as low_effects
 use Rattle.lowered_run.specs.declared.low_fault.LowFault.{LowFault}
-use Rattle.machine_steps.specs.Held.{Held, held_at}
+use Rattle.machine_steps.specs.Held.{held_at}
 use Rattle.machine_steps.specs.Operands.{address_in}
 use Rattle.machine_steps.specs.Places as machine
-use Rattle.machine_steps.specs.declared.address.Address.{Address}
 use Rattle.memory_accesses.specs.declared.access.Operation.{Operation}
-use Rattle.memory_accesses.specs.declared.access.Operation.TheVariants as operation
 use Rattle.ready_code.specs.Layout.{leaves_in, local, local_address, size_of}
 use Rattle.ready_code.specs.ReadyOps.{operands_of}
 use Rattle.ready_code.specs.declared.op.ReadyOp.TheVariants as op
@@ -47,16 +44,16 @@ module _ {m : Module} {entry : Shape} (r : Runs m entry) where
       let a = address_in r.st r.mf (local_address (d r) r.f v) in
       row_by r stands row.LoadsValue is (sym operands)
       (λ xs all.
-        let one = one_read v xs operands all in
-        let x = read_place one.2 forms.0 from in
-        let p = x.0 in
-        let go = machine.loads r.st r.mf r.rest' (local (d r) r.f w) in
-        alike_by
-        (ap (does_at r row.LoadsValue) (one.1 ∙ ap (λ y. y ∷ []) x.1)
-        ∙ ap (λ o. performed r r.s (loads p o)) forms.1)
-        (ap (λ n. go (held_at r.st a n)) (ap leaves_in form ∙ ap size_of (sym x.2)))
-        (access_alike r p [] true (loaded (value_at r.s.memory p)) r.s.numbers refl go refl (λ o. refl) (λ reach has. faults_alike r r.s.numbers _)
-          (λ y ls reach has at fits leaves.
-            alike_by (ap (λ z. performed r r.s (loaded z)) at) refl
-            (gives_value r stands.inst w results (one_of r.f r.i.results w [] results (results_of r stands row.LoadsValue is)) p.shape (form ∙ ap OfValue (sym x.2)) y fits ls leaves))
-          (held_at r.st a (size_of p.shape)) (held_agrees m r.running.parts.memory a p x.3)))
+      let one = one_read v xs operands all in
+      let x = read_place one.2 forms.0 from in
+      let p = x.0 in
+      let go = machine.loads r.st r.mf r.rest' (local (d r) r.f w) in
+      alike_by
+      (ap (does_at r row.LoadsValue) (one.1 ∙ ap (λ y. y ∷ []) x.1)
+      ∙ ap (λ o. performed r r.s (loads p o)) forms.1)
+      (ap (λ n. go (held_at r.st a n)) (ap leaves_in form ∙ ap size_of (sym x.2)))
+      (access_alike r p [] true (loaded (value_at r.s.memory p)) r.s.numbers refl go refl (λ o. refl) (λ reach has. faults_alike r r.s.numbers _)
+      (λ y ls reach has at fits leaves.
+      alike_by (ap (λ z. performed r r.s (loaded z)) at) refl
+      (gives_value r stands.inst w results (one_of r.f r.i.results w [] results (results_of r stands row.LoadsValue is)) p.shape (form ∙ ap OfValue (sym x.2)) y fits ls leaves))
+      (held_at r.st a (size_of p.shape)) (held_agrees m r.running.parts.memory a p x.3)))

@@ -95,23 +95,23 @@ module _ {m : Module} {entry : Shape} (r : Runs m entry) where
       → StandsAt m r.f r.lf r.i (op.Store (local (d r) r.f v) (local_address (d r) r.f w)) → RowAlike r (op.Store (local (d r) r.f v) (local_address (d r) r.f w))
   stores_alike v w s is operands form none stands =
       let forms = plain_store m r.i (form_of (d r) r.f v) s (forms_by r stands row.StoresValue is)
-          (ap (map (form_of (d r) r.f)) operands ∙ ap (λ y. form_of (d r) r.f v ∷ y ∷ []) form) none in
+      (ap (map (form_of (d r) r.f)) operands ∙ ap (λ y. form_of (d r) r.f v ∷ y ∷ []) form) none in
       let results = sym (no_values (form_of (d r) r.f) r.i.results forms.none) in
       let a = address_in r.st r.mf (local_address (d r) r.f w) in
       row_by r stands row.StoresValue is (sym operands)
       (λ xs all.
-        let two = two_read v w xs operands all in
-        let place = read_place two.4 s form in
-        let p = place.0 in
-        let from = forms.value ∙ ap OfValue (sym place.2) in
-        let value = read_value two.3 p.shape from in
-        let x = value.0 in
-        let bare = subst (λ t. has_no_storage t ≡ true) (sym place.2) forms.bare in
-        alike_by
-        (ap (does_at r row.StoresValue) (two.2 ∙ ap (λ y. y ∷ two.1 ∷ []) value.1 ∙ ap (λ y. ValueOf x ∷ y ∷ []) place.1)
-        ∙ ap (does_store x p) forms.operation
-        ∙ ap (λ u. performed r (record r.s { numbers = named ((in_cells p.shape).cells x) (unnamed (cells_at r.s.memory p) r.s.numbers) }) (stores_where x p u))
-        (ap storage_in place.2 ∙ none))
-        (ap (λ ls. machine.stores r.st r.mf r.rest' a ls (held_at r.st a (local (d r) r.f v).size)) value.3
-        ∙ ap (λ n. machine.stores r.st r.mf r.rest' a (leaves_of p.shape x) (held_at r.st a n)) (ap leaves_in from))
-        (store stands.inst results a p place.3 bare x value.2 (held_at r.st a (size_of p.shape)) (held_agrees m r.running.parts.memory a p place.3)))
+      let two = two_read v w xs operands all in
+      let place = read_place two.4 s form in
+      let p = place.0 in
+      let from = forms.value ∙ ap OfValue (sym place.2) in
+      let value = read_value two.3 p.shape from in
+      let x = value.0 in
+      let bare = subst (λ t. has_no_storage t ≡ true) (sym place.2) forms.bare in
+      alike_by
+      (ap (does_at r row.StoresValue) (two.2 ∙ ap (λ y. y ∷ two.1 ∷ []) value.1 ∙ ap (λ y. ValueOf x ∷ y ∷ []) place.1)
+      ∙ ap (does_store x p) forms.operation
+      ∙ ap (λ u. performed r (record r.s { numbers = named ((in_cells p.shape).cells x) (unnamed (cells_at r.s.memory p) r.s.numbers) }) (stores_where x p u))
+      (ap storage_in place.2 ∙ none))
+      (ap (λ ls. machine.stores r.st r.mf r.rest' a ls (held_at r.st a (local (d r) r.f v).size)) value.3
+      ∙ ap (λ n. machine.stores r.st r.mf r.rest' a (leaves_of p.shape x) (held_at r.st a n)) (ap leaves_in from))
+      (store stands.inst results a p place.3 bare x value.2 (held_at r.st a (size_of p.shape)) (held_agrees m r.running.parts.memory a p place.3)))

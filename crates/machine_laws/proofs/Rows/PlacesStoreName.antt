@@ -129,8 +129,8 @@ module _ {m : Module} {entry : Shape} (r : Runs m entry) where
     in_empty alive true is reach =
         write (leaf_named w leaf r.st.heap) (leaf_named_only w leaf r.st.heap)
         (subst (λ b. MemoryAgrees m r.made r.s.memory (named ((in_cells (Stored w s)).cells x) (cond b r.s.numbers (unnamed (cells_at r.s.memory p) r.s.numbers)))
-            (record r.st { heap = leaf_named w leaf r.st.heap })) (sym is)
-          (memory_named m r.made r.s.memory r.s.numbers r.st w s x fits r.running.parts.memory alive)) reach
+        (record r.st { heap = leaf_named w leaf r.st.heap })) (sym is)
+        (memory_named m r.made r.s.memory r.s.numbers r.st w s x fits r.running.parts.memory alive)) reach
     in_empty alive false is reach = faults_alike r numbers_behind fault.Empty
 
     in_full : find (is_dead r.s.memory) (references_of x) ≡ None → (y : Value) (ls : List Leaf) → IsReachable r.s.memory p → cells_at r.s.memory p ≡ (in_cells p.shape).cells y
@@ -143,7 +143,7 @@ module _ {m : Module} {entry : Shape} (r : Runs m entry) where
         (ap (λ l. machine.named_anew r.st r.mf r.rest' w a leaf (cond first r.st.heap (leaf_unnamed w (first_leaf l) r.st.heap))) (leaves ∙ ap (λ t. leaves_of t y) shape))
         (write (leaf_renamed first w leaf before r.st.heap) (leaf_renamed_only first w leaf before r.st.heap)
         (memory_renamed m r.made r.s.memory r.s.numbers r.st w s first (cells_at r.s.memory p) x y (has ∙ ap (λ t. (in_cells t).cells y) shape)
-          (subst (λ t. suits (is_of_class m r.s.memory) t y ≡ true) shape old) fits alive r.running.parts.memory)
+        (subst (λ t. suits (is_of_class m r.s.memory) t y ≡ true) shape old) fits alive r.running.parts.memory)
         reach)
 
     none_dead : find (is_dead r.s.memory) (references_of x) ≡ None → (h : Held) → HeldIs m r.s.memory p h → Stores h
@@ -167,26 +167,26 @@ module _ {m : Module} {entry : Shape} (r : Runs m entry) where
       → RowAlike r (op.StoreName w (is_first_write o) (local (d r) r.f v) (local_address (d r) r.f u))
   stores_name_alike v u w s o is operands form done stands =
       let forms = name_store m r.i (form_of (d r) r.f v) w s (forms_by r stands row.StoresValue is)
-          (ap (map (form_of (d r) r.f)) operands ∙ ap (λ y. form_of (d r) r.f v ∷ y ∷ []) form) in
+      (ap (map (form_of (d r) r.f)) operands ∙ ap (λ y. form_of (d r) r.f v ∷ y ∷ []) form) in
       let results = sym (no_values (form_of (d r) r.f) r.i.results forms.none) in
       let a = address_in r.st r.mf (local_address (d r) r.f u) in
       let first = is_first_write o in
       row_by r stands row.StoresValue is (sym operands)
       (λ xs all.
-        let two = two_read v u xs operands all in
-        let place = read_place two.4 (Stored w s) form in
-        let p = place.0 in
-        let value = read_value two.3 s forms.value in
-        let x = value.0 in
-        let name = name_is (is_of_class m r.s.memory) w s x forms.named value.2 in
-        let machine_so = machine.stores_name r.st r.mf r.rest' w first a in
-        alike_by
-        (ap (does_at r row.StoresValue) (two.2 ∙ ap (λ y. y ∷ two.1 ∷ []) value.1 ∙ ap (λ y. ValueOf x ∷ y ∷ []) place.1)
-        ∙ ap (does_store r x p) done
-        ∙ ap (λ t. performed r (record r.s { numbers = named ((in_cells t).cells x) (cond first r.s.numbers (unnamed (cells_at r.s.memory p) r.s.numbers)) })
-        (access r p (cond (is_some (storage_in t)) (references_of x) []) (cond (is_some (storage_in t)) (not first) p.is_part) (written r p x))) place.2)
-        (ap (λ ls. machine_so (name_of w ls) (held_at r.st a 1)) value.3
-        ∙ ap (λ l. machine_so l (held_at r.st a 1)) (sym (ap first_leaf (name_leaf_is (is_of_class m r.s.memory) w s x name)))
-        ∙ ap (λ t. machine_so (first_leaf (leaves_of (Stored w s) x)) (held_at r.st a (size_of t))) (sym place.2))
-        (store_name stands.inst results a p place.3 w s place.2 first x (name_suits (is_of_class m r.s.memory) w s x name) (held_at r.st a (size_of p.shape))
-        (held_agrees m r.running.parts.memory a p place.3)))
+      let two = two_read v u xs operands all in
+      let place = read_place two.4 (Stored w s) form in
+      let p = place.0 in
+      let value = read_value two.3 s forms.value in
+      let x = value.0 in
+      let name = name_is (is_of_class m r.s.memory) w s x forms.named value.2 in
+      let machine_so = machine.stores_name r.st r.mf r.rest' w first a in
+      alike_by
+      (ap (does_at r row.StoresValue) (two.2 ∙ ap (λ y. y ∷ two.1 ∷ []) value.1 ∙ ap (λ y. ValueOf x ∷ y ∷ []) place.1)
+      ∙ ap (does_store r x p) done
+      ∙ ap (λ t. performed r (record r.s { numbers = named ((in_cells t).cells x) (cond first r.s.numbers (unnamed (cells_at r.s.memory p) r.s.numbers)) })
+      (access r p (cond (is_some (storage_in t)) (references_of x) []) (cond (is_some (storage_in t)) (not first) p.is_part) (written r p x))) place.2)
+      (ap (λ ls. machine_so (name_of w ls) (held_at r.st a 1)) value.3
+      ∙ ap (λ l. machine_so l (held_at r.st a 1)) (sym (ap first_leaf (name_leaf_is (is_of_class m r.s.memory) w s x name)))
+      ∙ ap (λ t. machine_so (first_leaf (leaves_of (Stored w s) x)) (held_at r.st a (size_of t))) (sym place.2))
+      (store_name stands.inst results a p place.3 w s place.2 first x (name_suits (is_of_class m r.s.memory) w s x name) (held_at r.st a (size_of p.shape))
+      (held_agrees m r.running.parts.memory a p place.3)))
