@@ -1,5 +1,5 @@
 -- Addresses of members and of fields name their places.
-use Rattle.std.proofs.Common.{◌≡◌, ◌≤◌, ◌+◌, ◌++◌, ℕ, zero, suc, List, [], ◌∷◌, Some, true, false, length, map, nat_lt, sum, take, refl, sym, ap, ◌∙◌, arith}
+use Rattle.std.proofs.Common.{length-append, ◌≡◌, ◌≤◌, ◌+◌, ◌++◌, ℕ, zero, suc, List, [], ◌∷◌, Some, true, false, length, map, nat_lt, sum, take, refl, sym, ap, ◌∙◌, arith}
 use Rattle.std.specs.Prelude.{slice_get}
 use Rattle.std.proofs.lemmas.Bool.{and_parts, ltb-true, true≢false}
 use Rattle.std.proofs.lemmas.List.{take-append-le}
@@ -27,13 +27,12 @@ use Rattle.machine_laws.proofs.Memories.{MemoryAgrees, NamesPlace}
 use Rattle.machine_laws.proofs.Objects.{NamesField, is_of_class}
 use Rattle.machine_laws.proofs.Slots.{Made, NamesSlot}
 
-not_none : {A : Type 0} (xs : List A) (x : A) → xs ++ (x ∷ []) ≡ [] → ⊥
-not_none [] x e = cc
-not_none (y ∷ xs) x e = cc
-
 -- the address of a part that lies so many leaves further on
 abbrev pub further : Address → ℕ → Address
 further a n = record a { from = a.from + n; is_part = true }
+
+has_more : (path : List ℕ) (k : ℕ) → path ++ (k ∷ []) ≡ [] → ⊥
+has_more path k e = omega (arith, ap length e, length-append path (k ∷ []))
 
 module _ (a : Address) (p : Place) (k : ℕ) (s : Shape) (e : slice_get (member_shapes p.shape) k ≡ Some s) where
   abbrev member : Place
@@ -53,7 +52,7 @@ module _ (a : Address) (p : Place) (k : ℕ) (s : Shape) (e : slice_get (member_
     from = ap (λ n. n + leaf_offset (member_shapes p.shape) k) names.from ∙ sym (leaves_before_member names.part k);
     parts = refl;
     whole = λ not_part. absurd (true≢false not_part);
-    no_part = λ none. absurd (not_none names.path k none);
+    no_part = λ at_all. absurd (has_more names.path k at_all);
     now = names.now;
   }
 
@@ -69,7 +68,7 @@ module _ (a : Address) (p : Place) (k : ℕ) (s : Shape) (e : slice_get (member_
     from = ap (λ n. n + leaf_offset (member_shapes p.shape) k) names.from ∙ sym (leaves_before_member names.part k);
     parts = refl;
     whole = λ not_part. absurd (true≢false not_part);
-    no_part = λ none. absurd (not_none names.path k none);
+    no_part = λ at_all. absurd (has_more names.path k at_all);
   }
 
 pub member_named : (m : Module) {made : List Made} {slots : List OpenSlot} {mem : Memory} (a : Address) (p : Place) (k : ℕ) (s : Shape) → NamesPlace m made slots mem a p
@@ -108,5 +107,5 @@ field_named m typed {mem = mem} {numbers = numbers} {st = st} agrees owner o k s
       from = refl;
       parts = refl;
       whole = λ not_part. refl;
-      no_part = λ none. refl;
+      no_part = λ at_all. refl;
     })

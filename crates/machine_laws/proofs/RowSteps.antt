@@ -27,8 +27,13 @@ use Rattle.machine_laws.proofs.Rows.Choices.{chooses_full_alike, chooses_plain_a
 use Rattle.machine_laws.proofs.Rows.Computing.{computes_alike}
 use Rattle.machine_laws.proofs.Rows.Effects.{RowAlike, Runs}
 use Rattle.machine_laws.proofs.Rows.Groups.{group_alike, member_alike}
+use Rattle.machine_laws.proofs.Rows.Loading.{load_name_alike}
 use Rattle.machine_laws.proofs.Rows.Objects.{object_alike, removes_alike, slot_alike}
+use Rattle.machine_laws.proofs.Rows.PlacesLoad.{loads_alike}
+use Rattle.machine_laws.proofs.Rows.PlacesStore.{stores_alike}
+use Rattle.machine_laws.proofs.Rows.PlacesStoreName.{stores_name_alike}
 use Rattle.machine_laws.proofs.Rows.References.{drop_alike, retain_alike}
+use Rattle.machine_laws.proofs.Rows.Storing.{forget_name_alike}
 use Rattle.machine_laws.proofs.Rows.Values.{function_alike, literal_alike, look_alike, same_alike, traps_alike}
 use Rattle.machine_laws.proofs.Slots.{Made}
 
@@ -70,11 +75,11 @@ row_follows m ready entry bound typed ready_ made s st f lf mf below rest rest' 
     by_op _ (IsReadyOp.same v u e operands results) stands plain = same_alike r v u e operands results stands
     by_op _ (IsReadyOp.retains v e operands) stands plain = retain_alike r v e operands stands
     by_op _ (IsReadyOp.drops v e operands) stands plain = drop_alike r v e operands stands
-    by_op _ (IsReadyOp.loads v u e operands results) stands plain = ?
-    by_op _ (IsReadyOp.stores v p s e operands form none) stands plain = ?
-    by_op _ (IsReadyOp.loads_name v u w s o e operands results form done) stands plain = ?
-    by_op _ (IsReadyOp.stores_name v p w s o e operands form done) stands plain = ?
-    by_op _ (IsReadyOp.forgets_name v w s e operands form) stands plain = ?
+    by_op _ (IsReadyOp.loads v u e operands results) stands plain = loads_alike r v u e operands results stands
+    by_op _ (IsReadyOp.stores v p s e operands form none) stands plain = stores_alike r v p s e operands form none stands
+    by_op _ (IsReadyOp.loads_name v u w s o e operands results form done) stands plain = load_name_alike r v u w s o e operands results form done stands
+    by_op _ (IsReadyOp.stores_name v p w s o e operands form done) stands plain = stores_name_alike r v p w s o e operands form done stands
+    by_op _ (IsReadyOp.forgets_name v w s e operands form) stands plain = forget_name_alike r v w s e operands form stands
     by_op _ (IsReadyOp.groups u e results) stands plain = group_alike r u e results stands
     by_op _ (IsReadyOp.chooses_plain u s k e operands results form at) stands plain = chooses_plain_alike r u s k e operands results form at stands
     by_op _ (IsReadyOp.chooses_full v u s k e operands results form at) stands plain = chooses_full_alike r v u s k e operands results form at stands

@@ -13,3 +13,12 @@ pub mod Choices
 pub mod Addresses
 pub mod References
 pub mod Objects
+pub mod Places
+pub mod Storing
+pub mod Loading
+pub mod PlacesLoad
+pub mod PlacesForms
+pub mod PlacesChanged
+pub mod PlacesStore
+pub mod PlacesNames
+pub mod PlacesStoreName

@@ -104,7 +104,7 @@ module _ (m : Module) {made : List Made} {mem : Memory} {numbers : List Numbers}
       from = refl;
       parts = refl;
       whole = λ not_part. refl;
-      no_part = λ none. refl;
+      no_part = λ at_all. refl;
       now = λ opened. (new_slot st fr rest, pushed_last st.slots (new_slot st fr rest), refl);
     });
     place = ap (λ n. place_from n (shape_made made' st.serials)) new_first ∙ ap (place_from (length mem.stack)) new_shape;

@@ -73,7 +73,7 @@ module _ {m : Module} {entry : Shape} (r : Runs m entry) where
       alike_by
       (ap (λ t. performed r r.s (with_some (makes_object (d r) (shapes_of m) (values r) r.s.memory r.i) (class_in t))) (result_told u results ∙ ap shape_in_form form))
       (ap (λ c. cond (is_some c) (gives (record r.st { heap = allocated_in r.st.heap k }) r.mf r.rest' (local (d r) r.f u)
-        (leaf.Object (made_object r.st r.mf r.rest' k) ∷ [])) (faults fault.Slot r.st)) there)
+      (leaf.Object (made_object r.st r.mf r.rest' k) ∷ [])) (faults fault.Slot r.st)) there)
       (object_given u class k stands.inst results (one_of r.f r.i.results u [] results (results_of r stands row.MakesObject is)) form
       (object_made m r.typed r.running.parts.memory r.mf r.rest' k class at)))
 
