@@ -20,7 +20,7 @@ use Rattle.machine_laws.specs.inner.Told.{IsEnding, outcome_told}
 use Rattle.machine_laws.proofs.Entries.{Ends}
 use Rattle.machine_laws.proofs.Memories.{MemoryAgrees}
 use Rattle.machine_laws.proofs.Slots.{Made}
-use Rattle.machine_laws.proofs.Tasks.{ReadyFor, TasksAgree, to_go_on}
+use Rattle.machine_laws.proofs.Tasks.{TasksAgree, to_go_on}
 
 -- the machine's stacks end where its first task says
 abbrev pub ends_of : MachineView → Ends

@@ -1,5 +1,5 @@
 -- Whatever step the machine makes of a state that agrees, the run follows: from a lemma for each kind of step.
-use Rattle.std.proofs.Common.{◌≡◌, ◌<◌, ◌+◌, ◌∙◌, ℕ, zero, suc, List, [], ◌∷◌, false, Option, Some, None, drop, length, refl, sym, ap, subst}
+use Rattle.std.proofs.Common.{◌≡◌, ◌<◌, ◌∙◌, ℕ, zero, suc, List, [], ◌∷◌, false, drop, length, refl, sym, ap, subst}
 use Rattle.std.specs.Prelude.{slice_get}
 use Rattle.holder_model.specs.Dropping.{deinits_of}
 use Rattle.holder_model.specs.ModuleShapes.{shapes_of}
@@ -16,15 +16,14 @@ use Rattle.machine_steps.specs.declared.frame.Task.{Task}
 use Rattle.machine_steps.specs.declared.frame.Task.TheVariants as task
 use Rattle.machine_steps.specs.Rows as rows
 use Rattle.machine_steps.specs.Steps as machine
-use Rattle.machine_steps.specs.Views.{Goes, MachineView, Stops, Went}
-use Rattle.ready_code.specs.declared.block.ReadyBlock.{ReadyBlock}
+use Rattle.machine_steps.specs.Views.{MachineView, Went}
 use Rattle.ready_code.specs.declared.function.ReadyModule.{ReadyModule}
 use Rattle.ready_code.specs.declared.op.ReadyOp.{ReadyOp}
 use Rattle.ready_code.specs.ReadyModules.{IsReadyModule}
 use Rattle.ready_code.specs.ReadyOps.{IsReadyOp, calls, calls_out, chooses_full, chooses_plain, computes, drops, field_address, forgets_name, function, groups, literal, loads, loads_name}
 use Rattle.ready_code.specs.ReadyOps.{look, member, member_address, object, removes, retains, same, slot, stores, stores_name, traps}
 use Rattle.run_typing.specs.RunTyped.{FunctionIsTyped, RunTyped}
-use Rattle.run_values.specs.Memory.{is_dead, is_dead_phase, object_at}
+use Rattle.run_values.specs.Memory.{is_dead_phase, object_at}
 use Rattle.run_values.specs.Shapes.{Shape}
 use Rattle.run_values.specs.declared.phase.Phase.TheVariants.{Deiniting}
 use Rattle.sil_ast.specs.declared.function.Function.{Function}
@@ -41,7 +40,6 @@ use Rattle.machine_laws.proofs.CallingOver.{call_alike}
 use Rattle.machine_laws.proofs.DeinitClasses.{first_dropped, none_dropped}
 use Rattle.machine_laws.proofs.DeinitSteps.{deinit_alike}
 use Rattle.machine_laws.proofs.DropSteps.{drop_alike}
-use Rattle.machine_laws.proofs.EdgingBranches.{StandsAtEnd}
 use Rattle.machine_laws.proofs.Ending.{Alike, alike_by, ends, goes, parts_with}
 use Rattle.machine_laws.proofs.Entries.{Ends, FrameAgrees}
 use Rattle.machine_laws.proofs.FinishSteps.{finish_alike}
@@ -66,6 +64,7 @@ module _ (m : Module) (ready : ReadyModule) (entry : Shape) (bound : ℕ) (typed
       where
         by_row : {o : ReadyOp} → StandsAt m f lf i o → is_call o ≡ false → InstAlike i o
         by_row {o = o} stands plain = row_follows m ready entry bound typed is_ready made s st f lf mf below rest rest' running i o stands plain
+
         by : (o : ReadyOp) → StandsAt m f lf i o → IsReadyOp m f i o → InstAlike i o
         by _ stands (calls c r args g callee is operands results names there bodied) =
             let call : CallOf m f i c r args g callee = record { calls = is; operands = operands; results = results; names = names; there = there } in
@@ -114,7 +113,7 @@ module _ (m : Module) (ready : ReadyModule) (entry : Shape) (bound : ℕ) (typed
         by (at_end block i there none inst terminator is_end) =
             alike_by
             (ap (run.acts m (shapes_of m) bound s rest lf f) inst
-              ∙ ap (on_some s (λ i. run.ends_block_by m (shapes_of m) bound (ending_of i.op) s rest lf f i)) terminator)
+            ∙ ap (on_some s (λ i. run.ends_block_by m (shapes_of m) bound (ending_of i.op) s rest lf f i)) terminator)
             (ap (machine.runs_block ready bound st mf rest') there ∙ ap (machine.acts ready bound st mf rest' block) none)
             (end_alike m ready entry bound typed is_ready made s st f lf mf below rest rest' running i
             (record { terminator = terminator; forms = function_typed.ends lf.at.block.0 i terminator; takes = function_typed.ends_take lf.at.block.0 i terminator }) block.end is_end)
@@ -128,14 +127,16 @@ module _ (m : Module) (ready : ReadyModule) (entry : Shape) (bound : ℕ) (typed
     where
       waiting : List FuncId
       waiting = deinits_of (declarations_of m) (object_at s.memory o).class
+
       are : (machine.class_of ready st.heap o).deinits ≡ waiting
       are = deinits_agree m ready typed is_ready made s.memory s.numbers st o (ap is_dead_phase phase) parts.memory
+
       by : (gs : List FuncId) → gs ≡ drop called waiting
           → Alike m entry (run.task_step m (shapes_of m) bound s (low.Finishes gs o ∷ rest)) (machine.task_step ready bound st (task.Finishes o called ∷ rest'))
       by [] left =
           alike_by refl
           (ap (λ ds. machine.deinit_step ready bound st o called rest' (slice_get ds called)) are
-            ∙ ap (machine.deinit_step ready bound st o called rest') (none_dropped waiting called left))
+          ∙ ap (machine.deinit_step ready bound st o called rest') (none_dropped waiting called left))
           (finish_alike m ready entry bound typed is_ready made s st parts o phase rest rest' once others)
       by (g ∷ gs) left =
           let first = first_dropped g gs waiting called left in

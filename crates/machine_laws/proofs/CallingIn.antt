@@ -1,5 +1,5 @@
 -- A call makes a frame in both, where there may be one more.
-use Rattle.std.proofs.Common.{◌≡◌, ◌+◌, ◌∙◌, ℕ, List, [], ◌∷◌, refl, sym, ap, arith}
+use Rattle.std.proofs.Common.{◌≡◌, ◌+◌, ℕ, List, refl, ap, arith}
 use Rattle.std.specs.Prelude.{nat_lt}
 use Rattle.holder_model.specs.declared.limits.TheConstants.{FRAMES}
 use Rattle.holder_model.specs.declared.trap.Trap.TheVariants as trap
@@ -33,7 +33,7 @@ same_frames (finishes r gs o called ends rest rest' was_made phase deinits once 
 pub enter_alike : {m : Module} {entry : Shape} {made : List Made} {s : LowState} {st : MachineView} {r : ReadyFor} {ends : Ends} {ts : List (low.Task LowFrame)}
     → PartsAgree m made s st → TasksAgree m entry made s.memory st r ends ts st.tasks → (bound : ℕ) (go : LowState → LowNext) (go' : MachineView → Went)
     → (PartsAgree m made (record s { turns = s.turns + 1 }) (record st { turns = st.turns + 1 })
-      → Alike m entry (go (record s { turns = s.turns + 1 })) (go' (record st { turns = st.turns + 1 })))
+    → Alike m entry (go (record s { turns = s.turns + 1 })) (go' (record st { turns = st.turns + 1 })))
     → Alike m entry (low.enter bound ts s go) (enter bound st go')
 enter_alike {s = s} {st = st} {ts = ts} parts tasks bound go go' then =
     both_choose (nat_lt (low.frame_count ts) FRAMES) (nat_lt (frames_in st.tasks) FRAMES) (ap (λ n. nat_lt n FRAMES) (same_frames tasks))

@@ -1,6 +1,6 @@
 -- A function without a body is called: a turn, and an event that tells of its integers.
 use Rattle.std.proofs.Common.{◌≡◌, ◌+◌, ◌++◌, ◌∙◌, ℕ, ℤ, List, [], ◌∷◌, false, Some, map, refl, sym, ap, subst}
-use Rattle.std.specs.Prelude.{option_and_then, slice_get}
+use Rattle.std.specs.Prelude.{option_and_then}
 use Rattle.std.proofs.lemmas.Bool.{cond-false}
 use Rattle.holder_model.specs.Data.{Datum, ValueOf, all_of, as_function, values_of}
 use Rattle.holder_model.specs.Effects as effects
@@ -19,8 +19,7 @@ use Rattle.machine_steps.specs.declared.frame.Frame.{Frame}
 use Rattle.machine_steps.specs.declared.frame.Task.{Task}
 use Rattle.machine_steps.specs.Operands.{contents, gives, int_among}
 use Rattle.machine_steps.specs.Rows as machine
-use Rattle.machine_steps.specs.Turning.{turn}
-use Rattle.machine_steps.specs.Views.{MachineView, Went}
+use Rattle.machine_steps.specs.Views.{MachineView}
 use Rattle.numbered_form.specs.Lists.{Each}
 use Rattle.ready_code.specs.declared.function.ReadyModule.{ReadyModule}
 use Rattle.ready_code.specs.declared.local.Local.{Local}
@@ -120,10 +119,10 @@ module _ (m : Module) (ready : ReadyModule) (entry : Shape) (bound : ℕ) (typed
   tells_alike inst _ (more _ x _ xs is all) =
       alike_by
       (ap (λ y. performing (effects.with_some (λ h. effects.Calls h xs) (as_function y))) (read_function is g call.of.names)
-        ∙ ap (on_some s (run.calls m (shapes_of m) bound s rest lf f (item.Inst lf.at) g xs)) call.of.there
-        ∙ cond-false (has_any callee.blocks) (run.calls_in m (shapes_of m) bound s (low.Runs lf ∷ rest) g callee xs)
-          (on_some s (run.calls_out m (shapes_of m) bound s rest lf f (item.Inst lf.at) g) (run.call_numbers m (shapes_of m) bound xs)) call.bodiless
-        ∙ ap (on_some s (run.calls_out m (shapes_of m) bound s rest lf f (item.Inst lf.at) g)) numbers_are)
+      ∙ ap (on_some s (run.calls m (shapes_of m) bound s rest lf f (item.Inst lf.at) g xs)) call.of.there
+      ∙ cond-false (has_any callee.blocks) (run.calls_in m (shapes_of m) bound s (low.Runs lf ∷ rest) g callee xs)
+      (on_some s (run.calls_out m (shapes_of m) bound s rest lf f (item.Inst lf.at) g) (run.call_numbers m (shapes_of m) bound xs)) call.bodiless
+      ∙ ap (on_some s (run.calls_out m (shapes_of m) bound s rest lf f (item.Inst lf.at) g)) numbers_are)
       refl
       (turn_alike running.parts bound (λ s'. run.goes_on m (shapes_of m) bound (told s') rest lf f (item.Inst lf.at) (record (unchanged s'.memory) {
         results = ValueOf (value.Group value.NoValue) ∷ [];
@@ -132,12 +131,26 @@ module _ (m : Module) (ready : ReadyModule) (entry : Shape) (bound : ℕ) (typed
     where
       performing : effects.Effect LowFault → LowNext
       performing e = run.performs m (shapes_of m) bound s rest lf f (item.Inst lf.at) e
+
       numbers_are : option_and_then (all_of integer_of) (values_of xs) ≡ Some numbers
       numbers_are = ap (λ ys. option_and_then (all_of integer_of) (values_of ys)) (ints_read f mf args xs call.widths call.taken all) ∙ numbers_listed (int_at m st f mf) args
+
       runs : PartsAgree m made next next' → Runs m entry
       runs turned = record {
-        ready = ready; bound = bound; typed = typed; made = made; s = told next; st = told' next'; f = f; lf = lf; mf = mf; below = below; rest = rest; rest' = rest';
-        running = running_told turned; i = i;
+        ready = ready;
+        bound = bound;
+        typed = typed;
+        made = made;
+        s = told next;
+        st = told' next';
+        f = f;
+        lf = lf;
+        mf = mf;
+        below = below;
+        rest = rest;
+        rest' = rest';
+        running = running_told turned;
+        i = i;
       }
 
   pub call_out_alike : StandsAt m f lf i the_op → Alike m entry (run.does m (shapes_of m) bound s rest lf f i) (machine.performs ready bound st mf rest' the_op)

@@ -1,8 +1,7 @@
 -- A function with a body is called: its frame begins with the arguments, over the frame that waits at the call.
-use Rattle.std.proofs.Common.{◌≡◌, ◌+◌, ◌∙◌, ℕ, List, [], ◌∷◌, Bool, true, Option, Some, drop, length, map, refl, sym, ap, subst, arith}
+use Rattle.std.proofs.Common.{◌≡◌, ◌+◌, ◌∙◌, ℕ, List, ◌∷◌, true, Option, Some, refl, sym, ap, subst}
 use Rattle.std.specs.Prelude.{slice_get}
 use Rattle.std.proofs.lemmas.Bool.{cond-true}
-use Rattle.std.proofs.lemmas.Option.{same_Some}
 use Rattle.holder_model.specs.Calling.{value_count}
 use Rattle.holder_model.specs.Data.{Datum, as_function}
 use Rattle.holder_model.specs.Effects.{effect_of}
@@ -20,10 +19,9 @@ use Rattle.lowered_run.specs.LowStepParts.{LowNext, LowState, on_some}
 use Rattle.lowered_run.specs.LowSteps as run
 use Rattle.machine_steps.specs.declared.frame.Frame.{Frame}
 use Rattle.machine_steps.specs.declared.frame.Task.{Task}
-use Rattle.machine_steps.specs.declared.frame.Task.TheVariants as task
-use Rattle.machine_steps.specs.Calling.{carried, enter, new_frame, with_frame}
+use Rattle.machine_steps.specs.Calling.{carried, new_frame, with_frame}
 use Rattle.machine_steps.specs.Rows as machine
-use Rattle.machine_steps.specs.Views.{Goes, MachineView, Went}
+use Rattle.machine_steps.specs.Views.{MachineView}
 use Rattle.numbered_form.specs.Lists.{Each}
 use Rattle.ready_code.specs.declared.function.ReadyFunction.{ReadyFunction}
 use Rattle.ready_code.specs.declared.function.ReadyModule.{ReadyModule}
@@ -32,13 +30,10 @@ use Rattle.ready_code.specs.declared.local.Carry.{Carry}
 use Rattle.ready_code.specs.declared.local.CarryAddress.{CarryAddress}
 use Rattle.ready_code.specs.declared.op.ReadyOp.{ReadyOp}
 use Rattle.ready_code.specs.declared.op.ReadyOp.TheVariants as op
-use Rattle.ready_code.specs.ReadyOps.{operands_of}
 use Rattle.ready_code.specs.ReadyModules.{IsReadyFunction, IsReadyModule}
 use Rattle.run_typing.specs.CallForms.{IsOf}
-use Rattle.run_typing.specs.Forms.{OfFunction, OfValue, entry_forms, form_of, forms_of, given_shape}
-use Rattle.run_typing.specs.RowForms.{RowForms}
+use Rattle.run_typing.specs.Forms.{OfValue, entry_forms, form_of, forms_of, given_shape}
 use Rattle.run_typing.specs.RunTyped.{RunTyped}
-use Rattle.run_values.specs.Memory.{Memory}
 use Rattle.run_values.specs.Shapes.{Shape}
 use Rattle.sil_ast.specs.declared.function.Function.{Function}
 use Rattle.sil_ast.specs.declared.inst.Inst.{Inst}
@@ -138,13 +133,17 @@ module _ (m : Module) (ready : ReadyModule) (entry : Shape) (bound : ℕ) (typed
     where
       opened : MachineView
       opened = with_frame next' g code.0
+
       carried_values : MachineView
       carried_values = carried opened mf (new_frame next' g) (values_carried (declarations_of m) f callee args ws)
+
       only : OnlyValues opened (entered code.0)
       only = only_then {st = opened} {st' = carried_values} (only_carried opened mf (new_frame next' g) (values_carried (declarations_of m) f callee args ws))
           (only_addresses carried_values mf (new_frame next' g) (addresses_carried (declarations_of m) f callee args ws))
+
       frame : FrameAgrees m made s.memory next' f lf mf below (ends_of st)
       frame = frame_moves {st = st} {st' = next'} were refl refl refl refl refl running.frame
+
       pushed : (values : _) × (put_all ws xs (no_values (value_count callee)) ≡ Some values)
           × FrameAgrees m made s.memory (entered code.0) callee (steps.new_frame g values) (new_frame next' g) (ends_of st) (ends_of (entered code.0))
           × KeepsBelow (ends_of st) next' (entered code.0)
@@ -168,27 +167,32 @@ module _ (m : Module) (ready : ReadyModule) (entry : Shape) (bound : ℕ) (typed
   enters_alike inst are_of _ (more _ x _ xs is all) =
       alike_by
       (ap (λ y. performing (effects.with_some (λ h. effects.Calls h xs) (as_function y))) (read_function is g call.of.names)
-        ∙ ap (on_some s (run.calls m (shapes_of m) bound s rest lf f (item.Inst lf.at) g xs)) call.of.there
-        ∙ cond-true (has_any callee.blocks) (run.calls_in m (shapes_of m) bound s (low.Runs lf ∷ rest) g callee xs)
-          (on_some s (run.calls_out m (shapes_of m) bound s rest lf f (item.Inst lf.at) g) (run.call_numbers m (shapes_of m) bound xs)) call.bodied
-        ∙ ap (on_some s (λ values. low.enter bound (low.Runs lf ∷ rest) s (to values))) there.put)
+      ∙ ap (on_some s (run.calls m (shapes_of m) bound s rest lf f (item.Inst lf.at) g xs)) call.of.there
+      ∙ cond-true (has_any callee.blocks) (run.calls_in m (shapes_of m) bound s (low.Runs lf ∷ rest) g callee xs)
+      (on_some s (run.calls_out m (shapes_of m) bound s rest lf f (item.Inst lf.at) g) (run.call_numbers m (shapes_of m) bound xs)) call.bodied
+      ∙ ap (on_some s (λ values. low.enter bound (low.Runs lf ∷ rest) s (to values))) there.put)
       refl
       (enter_alike running.parts (waiting m ready entry bound typed is_ready made s st f lf mf below rest rest' running i inst c r args g callee call are_of.1 xs all) bound (to there.values)
       (λ after. machine.entered after mf g carries addresses (slice_get ready.functions g.0))
       (λ turned. alike_by refl (ap (machine.entered (record st { turns = st.turns + 1 }) mf g carries addresses) code_is.1)
-        (goes made (record s { turns = s.turns + 1; tasks = low.Runs (steps.new_frame g there.values) ∷ low.Runs lf ∷ rest })
-        (entered_state m (record st { turns = st.turns + 1 }) mf f callee g code_is.0 args (item_defined callee item.Entry)) (there.agrees turned))))
+      (goes made (record s { turns = s.turns + 1; tasks = low.Runs (steps.new_frame g there.values) ∷ low.Runs lf ∷ rest })
+      (entered_state m (record st { turns = st.turns + 1 }) mf f callee g code_is.0 args (item_defined callee item.Entry)) (there.agrees turned))))
     where
       performing : effects.Effect LowFault → LowNext
       performing e = run.performs m (shapes_of m) bound s rest lf f (item.Inst lf.at) e
+
       to : List (Option Datum) → LowState → LowNext
       to values s' = low.Goes (record s' { tasks = low.Runs (steps.new_frame g values) ∷ low.Runs lf ∷ rest })
+
       carries : List Carry
       carries = values_carried (declarations_of m) f callee args (item_defined callee item.Entry)
+
       addresses : List CarryAddress
       addresses = addresses_carried (declarations_of m) f callee args (item_defined callee item.Entry)
+
       there : Entered m ready entry bound typed is_ready made s st f lf mf below rest rest' running i inst c r args g callee call are_of.1 xs all
       there = entered_is m ready entry bound typed is_ready made s st f lf mf below rest rest' running i inst c r args g callee call are_of.1 xs all
+
       code_is : (code : ReadyFunction) × (slice_get ready.functions g.0 ≡ Some code) × IsReadyFunction m callee code
       code_is = code m ready entry bound typed is_ready made s st f lf mf below rest rest' running i inst c r args g callee call are_of.1 xs all
 
@@ -199,6 +203,7 @@ module _ (m : Module) (ready : ReadyModule) (entry : Shape) (bound : ℕ) (typed
     where
       runs : Runs m entry
       runs = record { ready = ready; bound = bound; typed = typed; made = made; s = s; st = st; f = f; lf = lf; mf = mf; below = below; rest = rest; rest' = rest'; running = running; i = i }
+
       are_of : Each (IsOf f) (c ∷ args)
       are_of =
           subst (Each (IsOf f)) (stands.typed.takes ∙ call.of.operands) ((typed.functions lf.function.0 f running.frame.there).items (item.Inst lf.at)).taken

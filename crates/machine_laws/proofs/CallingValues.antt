@@ -1,10 +1,8 @@
 -- Values that are carried change what frames hold, and nothing else.
-use Rattle.std.proofs.Common.{◌≡◌, ◌∙◌, ℕ, List, [], ◌∷◌, refl, map, sym, ap}
+use Rattle.std.proofs.Common.{◌≡◌, ◌∙◌, ℕ, List, [], ◌∷◌, refl, map, ap}
 use Rattle.holder_model.specs.Data.{Datum}
-use Rattle.lowered_run.specs.LowFrames.{LowFrame}
 use Rattle.lowered_run.specs.LowStepParts.{LowState}
 use Rattle.machine_steps.specs.declared.frame.Frame.{Frame}
-use Rattle.machine_steps.specs.declared.frame.Task.{Task}
 use Rattle.machine_steps.specs.Calling.{addresses_carried, carried, put_all}
 use Rattle.machine_steps.specs.Operands.{address_in, contents, put, put_address}
 use Rattle.machine_steps.specs.Views.{MachineView}

@@ -1,5 +1,5 @@
 -- The deinitialisers that wait are those of the object's class and its ancestors.
-use Rattle.std.proofs.Common.{◌≡◌, ◌+◌, ◌∙◌, ◌||◌, ℕ, zero, suc, List, [], ◌∷◌, ◌++◌, Bool, true, Option, Some, None, drop, length, refl, sym, ap, arith}
+use Rattle.std.proofs.Common.{◌≡◌, ◌+◌, ◌∙◌, ℕ, zero, suc, List, [], ◌∷◌, ◌++◌, true, Option, Some, None, drop, length, refl, sym, ap, arith}
 use Rattle.std.specs.Prelude.{bytes_eq, slice_get}
 use Rattle.std.specs.List.{flat_map, list_any}
 use Rattle.std.specs.Option.{option_to_list}
@@ -40,8 +40,10 @@ found_in {A = A} {B = B} f (x ∷ xs) k y there = at (f x) refl k there (λ l. f
   where
     Found : List A → Type 0
     Found zs = (j : ℕ) × (z : A) × (slice_get zs j ≡ Some z) × (f z ≡ Some y)
+
     further : Found xs → Found (x ∷ xs)
     further (j, z, e, is) = (suc j, z, e, is)
+
     at : (o : Option B) → f x ≡ o → (k : ℕ) → slice_get (option_to_list o ++ flat_map (λ x. option_to_list (f x)) xs) k ≡ Some y
         → ((l : ℕ) → slice_get (flat_map (λ x. option_to_list (f x)) xs) l ≡ Some y → Found xs) → Found (x ∷ xs)
     at None e k there others = further (others k there)

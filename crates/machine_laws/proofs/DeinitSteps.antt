@@ -1,5 +1,5 @@
 -- A deinitialiser of an object is called.
-use Rattle.std.proofs.Common.{◌≡◌, ◌<◌, ◌+◌, ◌&&◌, ◌∙◌, ℕ, List, [], ◌∷◌, Bool, true, false, Option, Some, None, drop, length, map, nat_lt, refl, set, sym, ap, subst, arith}
+use Rattle.std.proofs.Common.{◌≡◌, ◌<◌, ◌+◌, ◌∙◌, ℕ, List, [], ◌∷◌, true, false, Option, Some, drop, length, map, nat_lt, refl, set, sym, ap, subst, arith}
 use Rattle.std.specs.Prelude.{slice_get}
 use Rattle.std.proofs.lemmas.Bool.{and_from, lt-ltb}
 use Rattle.std.proofs.lemmas.Option.{same_Some}
@@ -16,10 +16,10 @@ use Rattle.lowered_run.specs.LowStepParts.{LowNext, LowState, on_some}
 use Rattle.lowered_run.specs.LowSteps as steps
 use Rattle.machine_steps.specs.declared.frame.Task.{Task}
 use Rattle.machine_steps.specs.declared.frame.Task.TheVariants as task
-use Rattle.machine_steps.specs.Calling.{enter, new_frame, with_frame}
+use Rattle.machine_steps.specs.Calling.{new_frame, with_frame}
 use Rattle.machine_steps.specs.Operands.{put}
 use Rattle.machine_steps.specs.Steps as machine
-use Rattle.machine_steps.specs.Views.{Goes, MachineView, Went}
+use Rattle.machine_steps.specs.Views.{Goes, MachineView}
 use Rattle.numbered_form.specs.Lists.{Each}
 use Rattle.numbered_form.specs.Names.{Name}
 use Rattle.ready_code.specs.declared.function.ReadyFunction.{ReadyFunction}
@@ -30,7 +30,7 @@ use Rattle.run_typing.specs.CallForms.{IsOf}
 use Rattle.run_typing.specs.Classes.{is_a}
 use Rattle.run_typing.specs.Forms.{OfValue, form_of, forms_of, given_shape}
 use Rattle.run_typing.specs.RunTyped.{RunTyped}
-use Rattle.run_values.specs.Memory.{is_dead, object_at}
+use Rattle.run_values.specs.Memory.{object_at}
 use Rattle.run_values.specs.Shapes.{Reference, Shape}
 use Rattle.run_values.specs.Values as value
 use Rattle.run_values.specs.declared.leaf.Leaf.TheVariants as leaf
@@ -42,23 +42,21 @@ use Rattle.sil_ast.specs.declared.place.ObjectId.{ObjectId}
 use Rattle.sil_ast.specs.declared.place.ValueId.{ValueId}
 use Rattle.sil_cfg.specs.declared.item.Item.TheVariants as item
 use Rattle.type_definitions.specs.Declarations.{declarations_of}
-use Rattle.value_parts.specs.inner.Suits.{suits}
 use Rattle.machine_laws.proofs.Agreement.{Agrees, PartsAgree, ends_of}
 use Rattle.machine_laws.proofs.CallingIn.{enter_alike}
 use Rattle.machine_laws.proofs.DeinitClasses.{DeinitFrom, deinit_from}
 use Rattle.machine_laws.proofs.DropTasks.{tasks_move}
 use Rattle.machine_laws.proofs.Ending.{Alike, alike_by, goes, memory_moves, parts_with}
-use Rattle.machine_laws.proofs.Entries.{Ends, FrameAgrees}
+use Rattle.machine_laws.proofs.Entries.{FrameAgrees}
 use Rattle.machine_laws.proofs.FrameReady.{code_there}
 use Rattle.machine_laws.proofs.Grows.{were_made}
 use Rattle.machine_laws.proofs.GrowsBy.{grows_itself}
 use Rattle.machine_laws.proofs.GrowsTasks.{KeepsBelow, at_most_itself, keeps_then, tasks_keep}
-use Rattle.machine_laws.proofs.Memories.{MemoryAgrees}
 use Rattle.machine_laws.proofs.Objects.{is_of_class}
 use Rattle.machine_laws.proofs.Pushes.{frame_made, with_frame_keeps}
 use Rattle.machine_laws.proofs.Puts.{put_agrees, put_ends, put_keeps}
 use Rattle.machine_laws.proofs.Slots.{Made}
-use Rattle.machine_laws.proofs.Tasks.{ReadyFor, TasksAgree, finishes, is_finishing, runs, to_go_on, to_take}
+use Rattle.machine_laws.proofs.Tasks.{TasksAgree, finishes, is_finishing, runs, to_go_on, to_take}
 
 -- one value has the one form
 pub one_of : {A B : Type 0} (f : A → B) (xs : List A) (y : B) → map f xs ≡ y ∷ [] → (x : A) × (xs ≡ x ∷ []) × (f x ≡ y)
@@ -118,34 +116,41 @@ module _ (m : Module) (ready : ReadyModule) (entry : Shape) (bound : ℕ) (typed
   calls_alike s st o parts g class body there bodied takes fits tasks =
       alike_by
       (ap (on_some s (λ f. steps.calls_in m (shapes_of m) bound s s.tasks g f (ValueOf (value.Object o) ∷ []))) there
-        ∙ ap (λ vs. on_some s going (put_all vs (ValueOf (value.Object o) ∷ []) (no_values (value_count body)))) takes.defined)
+      ∙ ap (λ vs. on_some s going (put_all vs (ValueOf (value.Object o) ∷ []) (no_values (value_count body)))) takes.defined)
       refl
       (enter_alike parts tasks bound next (λ after. machine.deinit_entered ready bound g o after (slice_get ready.functions g.0)) (λ turned. entering turned))
     where
       code : (code : ReadyFunction) × (slice_get ready.functions g.0 ≡ Some code) × IsReadyFunction m body code
       code = code_there m ready is_ready g body there
+
       argument : ValueId
       argument = takes.argument
+
       first : code.0.first_argument ≡ Some (local (declarations_of m) body argument)
       first =
           code.2.first_argument ∙ ap (first_local (declarations_of m) body) takes.defined
           ∙ ap (λ form. where_value form (local (declarations_of m) body argument)) takes.form
+
       is_of : IsOf body argument
       is_of = (subst (Each (IsOf body)) takes.defined ((typed.functions g.0 body there).items item.Entry).defined).0
+
       next : LowState → LowNext
       next s' = low.Goes (record s' {
         tasks = low.Runs (run.new_frame g (set (no_values (value_count body)) argument.0 (Some (ValueOf (value.Object o))))) ∷ s.tasks;
       })
+
       going : List (Option Datum) → LowNext
       going values = low.enter bound s.tasks s (λ s'. low.Goes (record s' { tasks = low.Runs (run.new_frame g values) ∷ s.tasks }))
+
       turned' : MachineView
       turned' = record st { turns = st.turns + 1 }
+
       entering : PartsAgree m made (record s { turns = s.turns + 1 }) turned'
           → Alike m entry (next (record s { turns = s.turns + 1 })) (machine.deinit_entered ready bound g o turned' (slice_get ready.functions g.0))
       entering turned =
           alike_by refl
           (ap (machine.deinit_entered ready bound g o turned') code.1
-            ∙ ap (λ l. Goes (machine.with_object ready bound (with_frame turned' g code.0) (new_frame turned' g) l o)) first)
+          ∙ ap (λ l. Goes (machine.with_object ready bound (with_frame turned' g code.0) (new_frame turned' g) l o)) first)
           (goes made (record s { turns = s.turns + 1; tasks = low.Runs (run.new_frame g (set (no_values (value_count body)) argument.0 (Some (ValueOf (value.Object o))))) ∷ s.tasks })
           (put (with_frame turned' g code.0) (new_frame turned' g) (local (declarations_of m) body argument) (leaf.Object o ∷ []))
           (entered_agrees m entry made (record s { turns = s.turns + 1 }) turned' turned g body code.0 there bodied code.2 class takes is_of o fits s.tasks
@@ -172,5 +177,6 @@ module _ (m : Module) (ready : ReadyModule) (entry : Shape) (bound : ℕ) (typed
     where
       st' : MachineView
       st' = record st { tasks = task.Finishes o (called + 1) ∷ rest' }
+
       from : DeinitFrom m (object_at s.memory o).class g
       from = deinit_from m typed (object_at s.memory o).class called g there

@@ -1,27 +1,24 @@
 -- A reference is dropped.
-use Rattle.std.proofs.Common.{◌≡◌, ◌<◌, ◌+◌, ◌&&◌, ◌++◌, ◌==◌, ◌∙◌, ℕ, zero, suc, List, [], ◌∷◌, Bool, true, false, Option, Some, None, cond, drop, length, refl, reverse, sym, ap, take, arith, ◌-◌}
-use Rattle.std.specs.Prelude.{slice_get}
+use Rattle.std.proofs.Common.{◌≡◌, ◌+◌, ◌&&◌, ◌++◌, ◌==◌, ◌∙◌, ℕ, zero, suc, List, [], ◌∷◌, true, false, cond, drop, length, refl, reverse, sym, ap, take, arith, ◌-◌}
 use Rattle.std.proofs.Math.Bool.{and-false, and-true}
 use Rattle.std.proofs.lemmas.Bool.{cond-false, cond-true, eq-eqb, false≢true, ne_eqb}
 use Rattle.heap_model.specs.HeapCalls.{released, started, takes_last}
 use Rattle.heap_model.specs.HeapViews.{is_dead_in, strong_in}
-use Rattle.holder_model.specs.declared.event.Event.{Event}
 use Rattle.holder_model.specs.declared.event.Event.TheVariants as event
 use Rattle.holder_model.specs.Dropping as run
 use Rattle.holder_model.specs.Dropping.{deinits_of, in_phase}
 use Rattle.holder_model.specs.ModuleShapes.{shapes_of}
 use Rattle.holder_model.specs.States as low
-use Rattle.lowered_run.specs.declared.low_fault.LowFault.{LowFault}
 use Rattle.lowered_run.specs.declared.low_fault.LowFault.TheVariants as fault
 use Rattle.lowered_run.specs.LowFrames.{LowFrame}
-use Rattle.lowered_run.specs.LowStepParts.{LowNext, LowState}
+use Rattle.lowered_run.specs.LowStepParts.{LowState}
 use Rattle.lowered_run.specs.LowSteps as steps
 use Rattle.lowered_run.specs.Stored.{changed, numbers_of, one_less}
 use Rattle.machine_steps.specs.declared.frame.Task.{Task}
 use Rattle.machine_steps.specs.declared.frame.Task.TheVariants as task
 use Rattle.machine_steps.specs.Operands.{faults}
 use Rattle.machine_steps.specs.Steps as machine
-use Rattle.machine_steps.specs.Views.{Goes, MachineView, Went}
+use Rattle.machine_steps.specs.Views.{Goes, MachineView}
 use Rattle.ready_code.specs.declared.function.ReadyModule.{ReadyModule}
 use Rattle.run_values.specs.Memory.{Object, is_dead, is_dead_phase, is_live, is_live_phase, object_at, phase_of}
 use Rattle.run_values.specs.Shapes.{Shape}
@@ -64,20 +61,26 @@ module _ (m : Module) (ready : ReadyModule) (entry : Shape) (bound : ℕ) where
         memory = in_phase Deiniting s'.memory o;
         events = s'.events ++ event.Deinit (object_at s'.memory o).class o ∷ [];
       }
+
       next' : MachineView → MachineView
       next' after = record after {
         tasks = task.Finishes o 0 ∷ after.tasks;
         heap = started after.heap o;
         events = after.events ++ event.Deinit (machine.name_of after.heap o) o ∷ [];
       }
+
       alive : is_dead s.memory o ≡ false
       alive = live_is_alive (phase_of s.memory o) live
+
       memory : MemoryAgrees m made s.memory s.numbers st
       memory = agrees.parts.memory
+
       dying : Object
       dying = record (object_at s.memory o) { phase = Deiniting }
+
       there : object_at (in_phase Deiniting s.memory o) o ≡ dying
       there = object_there s.memory o dying (alive_was_made s.memory o alive)
+
       parts_then : PartsAgree m made (record s { turns = s.turns + 1 }) (record st { turns = st.turns + 1 })
           → PartsAgree m made (next (record s { turns = s.turns + 1 })) (next' (record st { turns = st.turns + 1 }))
       parts_then parts = record {
@@ -88,6 +91,7 @@ module _ (m : Module) (ready : ReadyModule) (entry : Shape) (bound : ℕ) where
         retains = parts.retains;
         releases = parts.releases;
       }
+
       tasks_then : TasksAgree m entry made (in_phase Deiniting s.memory o) (next' (record st { turns = st.turns + 1 })) to_go_on (ends_of st)
           (low.Finishes (deinits_of (declarations_of m) (object_at s.memory o).class) o ∷ s.tasks) (task.Finishes o 0 ∷ st.tasks)
       tasks_then =
@@ -106,10 +110,13 @@ module _ (m : Module) (ready : ReadyModule) (entry : Shape) (bound : ℕ) where
     where
       next : LowState
       next = record s { numbers = changed one_less s.numbers o; releases = s.releases + 1 }
+
       next' : MachineView
       next' = record st { heap = released st.heap o }
+
       memory : MemoryAgrees m made s.memory s.numbers st
       memory = agrees.parts.memory
+
       agrees_then : Agrees m entry made next next'
       agrees_then = record {
         parts = record {
@@ -121,8 +128,10 @@ module _ (m : Module) (ready : ReadyModule) (entry : Shape) (bound : ℕ) where
         };
         tasks = tasks_move {st = st} {st' = next'} (were_made memory.slots) refl refl refl refl refl agrees.tasks;
       }
+
       is_last : takes_last st.heap o ≡ (is_live s.memory o && (numbers_of s.numbers o).strong == 1)
       is_last = last_agrees m (is_of_class m s.memory) s.memory s.numbers st.heap o memory.objects alive
+
       at : (left : ℕ) → (numbers_of s.numbers o).strong ≡ suc left
           → Alike m entry (run.drop_with (declarations_of m) bound next o left) (machine.releases_alive ready bound st o)
       at zero count =
@@ -132,7 +141,7 @@ module _ (m : Module) (ready : ReadyModule) (entry : Shape) (bound : ℕ) where
           alike_by refl
           (cond-false (takes_last st.heap o) (machine.deinitialises ready bound next' o) (Goes next')
           (is_last ∙ ap (λ n. is_live s.memory o && n == 1) count ∙ ap (λ b. is_live s.memory o && b) (ne_eqb (suc (suc left)) 1 (λ e. omega (arith, e)))
-            ∙ and-false (is_live s.memory o)))
+          ∙ and-false (is_live s.memory o)))
           (goes made next next' agrees_then)
 
   release_alike : (made : List Made) (s : LowState) (st : MachineView) (o : ObjectId) → Agrees m entry made s st
@@ -143,6 +152,7 @@ module _ (m : Module) (ready : ReadyModule) (entry : Shape) (bound : ℕ) where
     where
       objects : ObjectsAgree m (is_of_class m s.memory) s.memory.objects s.numbers st.heap.objects
       objects = agrees.parts.memory.objects
+
       at : is_dead s.memory o ≡ false → (n : ℕ) → (numbers_of s.numbers o).strong ≡ n
           → Alike m entry (steps.releases_with m (shapes_of m) bound s o (numbers_of s.numbers o).strong)
           (cond (strong_in st.heap o == 0) (faults (fault.Underflow o 0) st) (machine.releases_alive ready bound st o))

@@ -1,5 +1,5 @@
 -- References that wait to be dropped: as the tasks of the run have them, and as the machine has them on one stack.
-use Rattle.std.proofs.Common.{◌≡◌, ◌≤◌, ◌+◌, ◌-◌, ◌++◌, ◌==◌, ◌∙◌, ℕ, zero, suc, List, [], ◌∷◌, Bool, true, false, Option, Some, None, cond, drop, length, map, refl, reverse, sym, ap, append_assoc, subst, take, arith}
+use Rattle.std.proofs.Common.{◌≡◌, ◌+◌, ◌-◌, ◌++◌, ◌==◌, ◌∙◌, ℕ, suc, List, [], ◌∷◌, Some, drop, length, map, refl, reverse, sym, ap, append_assoc, subst, take, arith}
 use Rattle.std.specs.Prelude.{slice_get}
 use Rattle.std.proofs.Math.Seq.{drop-append_seam, take-append_seam, take-append-add, take-length}
 use Rattle.std.proofs.lemmas.Bool.{cond-false, cond-true, eq-eqb, ne_eqb}
@@ -21,7 +21,7 @@ use Rattle.sil_cfg.proofs.Gets.{last_get}
 use Rattle.machine_laws.proofs.Agreement.{Agrees, PartsAgree, ends_of}
 use Rattle.machine_laws.proofs.Ending.{memory_moves}
 use Rattle.machine_laws.proofs.Entries.{Ends}
-use Rattle.machine_laws.proofs.Grows.{Grows, WereMade, were_made}
+use Rattle.machine_laws.proofs.Grows.{WereMade, were_made}
 use Rattle.machine_laws.proofs.GrowsBy.{grows_itself, grows_objects, objects_stay, serial_of}
 use Rattle.machine_laws.proofs.GrowsSame.{dropping_agrees}
 use Rattle.machine_laws.proofs.GrowsTasks.{keeps_slots, tasks_keep}
@@ -56,19 +56,26 @@ last_of {A = A} w n x xs long ends = record {
   where
     p : List A
     p = take n w
+
     r : List A
     r = reverse xs
+
     at : length w - 1 ≡ n + length xs
     at = omega (arith, long)
+
     begins : length p ≡ n
     begins = length-take-le n w (omega (arith, long))
+
     up : length (drop n w) ≡ suc (length xs)
     up = omega (arith, length-drop n w, long)
+
     whole : w ≡ p ++ (r ++ x ∷ [])
     whole =
         sym (take-append-drop n w) ∙ ap (λ y. p ++ y) (sym (take-length (drop n w)) ∙ ap (λ j. take j (drop n w)) up ∙ ends ∙ reverse-append (x ∷ []) xs)
+
     same : length p + length r ≡ n + length xs
     same = omega (arith, begins, length-reverse xs)
+
     left_is : take (length w - 1) w ≡ p ++ r
     left_is = ap (λ k. take k w) (at ∙ sym same) ∙ ap (take (length p + length r)) whole ∙ without_last p r x
 
@@ -126,10 +133,12 @@ module _ (ready : ReadyModule) (bound : ℕ) where
     where
       st' : MachineView
       st' = one_left st below.waiting rest'
+
       keeps : {below' : Ends} → below' ≡ below → take below.waiting st'.waiting ≡ take below.waiting st.waiting → TasksAgree m entry made mem st' to_go_on below' rest rest'
       keeps {below' = below'} same waiting =
           subst (λ e. TasksAgree m entry made mem st' to_go_on e rest rest') (sym same)
           (tasks_keep {st = st} {st' = st'} (grows_itself were mem) (record { there = refl; leaves = refl; addresses = refl; serials = refl; waiting = waiting }) (λ p now. refl) tasks)
+
       at : (os : List ObjectId) → ends_of st ≡ record below { waiting = below.waiting + length (o ∷ os) } → LastOf st.waiting below.waiting o os
           → TasksAgree m entry made mem st' to_go_on (ends_of st') (low.Drops os ∷ rest) st'.tasks
       at [] up_to last =

@@ -1,8 +1,8 @@
 -- An edge of a `br` or `cond_br` is taken: a turn, and what it hands over becomes the arguments of its block.
-use Rattle.std.proofs.Common.{◌≡◌, ◌≤◌, ◌<◌, ◌+◌, ◌++◌, ◌∙◌, ℕ, List, [], ◌∷◌, Option, Some, None, drop, length, map, refl, sym, ap, subst, arith}
-use Rattle.std.specs.Prelude.{Ok, option_and_then, slice_get}
+use Rattle.std.proofs.Common.{◌≡◌, ◌+◌, ◌++◌, ◌∙◌, ℕ, List, [], ◌∷◌, Some, drop, length, map, refl, sym, ap, subst, arith}
+use Rattle.std.specs.Prelude.{option_and_then, slice_get}
 use Rattle.std.proofs.Math.Seq.{drop-append_seam}
-use Rattle.std.proofs.lemmas.List.{length-map, map-append}
+use Rattle.std.proofs.lemmas.List.{map-append}
 use Rattle.std.proofs.lemmas.Option.{same_Some}
 use Rattle.holder_model.specs.Data.{Datum}
 use Rattle.holder_model.specs.Edges.{carried_along, carried_by, edge_of}
@@ -19,7 +19,6 @@ use Rattle.lowered_run.specs.LowStepParts.{LowNext, LowState, numbers_for, on_ok
 use Rattle.lowered_run.specs.LowSteps as run
 use Rattle.machine_steps.specs.declared.frame.Frame.{Frame}
 use Rattle.machine_steps.specs.declared.frame.Task.{Task}
-use Rattle.machine_steps.specs.declared.frame.Task.TheVariants as task
 use Rattle.machine_steps.specs.Calling.{carried}
 use Rattle.machine_steps.specs.Ends as machine
 use Rattle.machine_steps.specs.Operands.{with_all}
@@ -140,7 +139,7 @@ module _ (m : Module) (ready : ReadyModule) (entry : Shape) (bound : ℕ) (typed
   arrives turned ys read =
       alike_by
       (goes_on_plain m (shapes_of m) bound next rest lf f (item.Edge eid) ys given.0 stay (ap (λ vs. put_all vs ys lf.values) (edge_defines there) ∙ given.1)
-        ∙ ap (λ p. low.Goes (record next { tasks = low.Runs (record lf { at = p; values = given.0 }) ∷ rest })) (ap (λ x. first_point (target_of x)) (edge_is there)))
+      ∙ ap (λ p. low.Goes (record next { tasks = low.Runs (record lf { at = p; values = given.0 }) ∷ rest })) (ap (λ x. first_point (target_of x)) (edge_is there)))
       refl
       (goes made (record next { tasks = low.Runs (record lf { at = first_point e.block.0; values = given.0 }) ∷ rest })
       (machine.with_top ready bound st mf rest' arrived (machine.in_block mf e.block.0))
@@ -149,18 +148,24 @@ module _ (m : Module) (ready : ReadyModule) (entry : Shape) (bound : ℕ) (typed
     where
       stay : numbers_for s.memory s.numbers ≡ s.numbers
       stay = numbers_stay m (is_of_class m s.memory) s.memory s.numbers st.heap running.parts.memory.objects
+
       only : OnlyValues next' arrived
       only = only_carried next' mf mf carries
+
       frame : FrameAgrees m made s.memory next' f lf mf below (ends_of st)
       frame = frame_moves {st = st} {st' = next'} were refl refl refl refl refl running.frame
+
       given : (values : _) × (put_all (arguments_at f e) ys lf.values ≡ Some values) × FrameAgrees m made s.memory arrived f (record lf { values = values }) mf below (ends_of st)
           × KeepsBelow below next' arrived × (ends_of arrived ≡ ends_of next')
       given =
           carried_agrees frame (at_most_itself (ends_of st)) (handed_over e) (arguments_at f e) ys forms.shapes are_taken are_defined forms.given forms.taken (read_turned were (st.turns + 1) read)
+
       block : (b : Block) × (slice_get f.blocks e.block.0 ≡ Some b)
       block = there_below f.blocks e.block.0 forms.block
+
       stands : FrameAgrees m made s.memory arrived f (record lf { at = first_point e.block.0; values = given.0 }) (machine.in_block mf e.block.0) below (ends_of st)
       stands = frame_stands given.2 (first_point e.block.0) block.0 block.1 (omega arith)
+
       others : TasksAgree m entry made s.memory arrived (to_take (given_shape (declarations_of m) f)) below rest rest'
       others =
           tasks_same {st = next'} {st' = arrived} were only.slots given.3
@@ -194,8 +199,8 @@ module _ (m : Module) (ready : ReadyModule) (entry : Shape) (bound : ℕ) (typed
       (ap (λ vs. with_all st mf vs turning) (carried_values (declarations_of m) f f (handed_over e) (arguments_at f e) forms.shapes forms.given forms.taken))
       (reads_alike running.parts running.frame (handed_over e) are_taken (λ ys. taking (pre ++ ys)) turning
       (λ ys all. alike_by (ap (on_some s carrying) (carried_is rest_carried pre ys long)) refl
-        (turn_alike running.parts bound (λ s'. run.goes_on m (shapes_of m) bound s' rest lf f (item.Edge eid) (record (unchanged s'.memory) { results = ys }))
-        (λ after. Goes (machine.with_top ready bound st mf rest' (carried after mf mf carries) (machine.in_block mf e.block.0))) (λ turned. arrives turned ys all))))
+      (turn_alike running.parts bound (λ s'. run.goes_on m (shapes_of m) bound s' rest lf f (item.Edge eid) (record (unchanged s'.memory) { results = ys }))
+      (λ after. Goes (machine.with_top ready bound st mf rest' (carried after mf mf carries) (machine.in_block mf e.block.0))) (λ turned. arrives turned ys all))))
     where
       turning : Went
       turning = turn bound st (λ after. Goes (machine.with_top ready bound st mf rest' (carried after mf mf carries) (machine.in_block mf e.block.0)))

@@ -1,5 +1,5 @@
 -- Jumps and branches.
-use Rattle.std.proofs.Common.{◌≡◌, ◌++◌, ◌∙◌, ℕ, ℤ, List, [], ◌∷◌, Bool, true, false, Some, cond, drop, length, map, refl, sym, ap, subst, arith, append-nil}
+use Rattle.std.proofs.Common.{◌≡◌, ◌++◌, ◌∙◌, ℕ, ℤ, List, [], ◌∷◌, Bool, true, false, Some, cond, length, map, refl, sym, ap, subst, append-nil}
 use Rattle.std.specs.Prelude.{Ok, slice_get}
 use Rattle.std.proofs.lemmas.List.{length-map}
 use Rattle.std.proofs.lemmas.Option.{same_Some}
@@ -34,7 +34,7 @@ use Rattle.run_typing.specs.RowForms.{bit}
 use Rattle.run_typing.specs.RunTyped.{RunTyped}
 use Rattle.run_values.specs.Leaves.{leaves_of}
 use Rattle.run_values.specs.Shapes.{Shape}
-use Rattle.run_values.specs.Values.{Int, Value}
+use Rattle.run_values.specs.Values.{Value}
 use Rattle.sil_ast.specs.declared.function.Function.{Function}
 use Rattle.sil_ast.specs.declared.inst.Edge.{Edge}
 use Rattle.sil_ast.specs.declared.inst.Inst.{Inst}
@@ -127,22 +127,29 @@ module _ (m : Module) (ready : ReadyModule) (entry : Shape) (bound : ℕ) (typed
     where
       forms : (operand_forms (declarations_of m) f i ≡ OfValue bit ∷ []) × EdgeForms (declarations_of m) f set × EdgeForms (declarations_of m) f clear
       forms = branch_forms (declarations_of m) f i set clear is set_is clear_is stands.forms
+
       form : form_of (declarations_of m) f v ≡ OfValue bit
       form = same_Some (form_of (declarations_of m) f v) (OfValue bit) (ap (λ vs. slice_get (map (form_of (declarations_of m) f) vs) 0) (sym operands) ∙ ap (λ fs. slice_get fs 0) forms.0)
+
       here : ℤ
       here = int_among (contents st mf (local (declarations_of m) f v))
+
       to : Edge → Went
       to e = machine.takes_edge ready bound st mf rest' (ready_edge (declarations_of m) f e)
+
       goes_along : ℕ → LowNext
       goes_along k = run.takes_edge m (shapes_of m) bound s rest lf f (edge_of lf.at k)
+
       chosen : List Datum → LowNext
       chosen = run.chosen_edge m (shapes_of m) bound s branch_of goes_along
+
       along : (k : ℕ) (e : Edge) → slice_get i.edges k ≡ Some e → EdgeForms (declarations_of m) f e → (x : Datum) → read_all lf.values (v ∷ []) ≡ Ok (x ∷ [])
           → Alike m entry (goes_along k) (to e)
       along k e edge edge_forms x known =
           edge_alike m ready entry bound typed made s st f lf mf below rest rest' running i k e (edge_there k e edge) edge_forms (λ xs. ap (λ y. carried_by y f (edge_of lf.at k) e xs) is)
           (x ∷ []) (sym (ap length operands) ∙ length-map i.operands value_in)
           (λ go. ap (λ vs. on_ok s go (read_all lf.values (vs ++ handed_over e))) operands ∙ read_behind s go lf.values v x (handed_over e) known)
+
       by : (read : OperandRead v bit) → Alike m entry (chosen (ValueOf read.value ∷ [])) (cond (is_set here) (to set) (to clear))
       by read =
           let integer = suits_integer (is_of_class m s.memory) 1 read.value read.fits in

@@ -1,9 +1,9 @@
 -- Which case a value of an enum is, and what its edge brings.
-use Rattle.std.proofs.Common.{◌≡◌, ◌<◌, ◌==◌, ◌∙◌, ℕ, List, [], ◌∷◌, Bool, true, false, Option, Some, None, cond, drop, length, map, refl, sym, ap, subst, take, arith}
-use Rattle.std.specs.Prelude.{option_map, slice_get}
+use Rattle.std.proofs.Common.{◌≡◌, ◌==◌, ◌∙◌, ℕ, List, [], ◌∷◌, Bool, true, false, Option, Some, None, cond, drop, length, map, refl, sym, ap, subst, take, arith}
+use Rattle.std.specs.Prelude.{slice_get}
 use Rattle.std.proofs.lemmas.Bool.{cond-false, cond-true}
 use Rattle.std.proofs.lemmas.Option.{same_Some, slice_get_within}
-use Rattle.holder_model.specs.Data.{Datum, ValueOf}
+use Rattle.holder_model.specs.Data.{ValueOf}
 use Rattle.holder_model.specs.Edges.{case_edge, edge_for, is_default, payload_data, switched_data}
 use Rattle.item_operands.specs.Items.{arg_value}
 use Rattle.item_operands.specs.Parts.{args_behind}
@@ -16,10 +16,9 @@ use Rattle.run_typing.specs.Forms.{OfValue, form_of, forms_of}
 use Rattle.run_typing.specs.RowForms.{IsEnum, enum}
 use Rattle.run_values.specs.Layers.{CaseLayer}
 use Rattle.run_values.specs.Leaves.{leaves_of}
-use Rattle.run_values.specs.Shapes.{Enum, Shape, case_shapes, listed_cases}
+use Rattle.run_values.specs.Shapes.{Enum, Shape, case_shapes}
 use Rattle.run_values.specs.Values.{Case, Full, Value}
 use Rattle.run_values.specs.declared.leaf.Leaf.TheVariants as leaf
-use Rattle.sil_ast.specs.Blocks.{args_of}
 use Rattle.sil_ast.specs.declared.function.Function.{Function}
 use Rattle.sil_ast.specs.declared.inst.Edge.{Edge}
 use Rattle.sil_ast.specs.declared.inst.Inst.{Inst}
@@ -94,7 +93,7 @@ module _ (d : Declarations) (f : Function) (test : ClassTest) (s : Shape) (x : V
       at true default =
           nothing (ap (map arg_value) (forms.nothing default))
           (cond-true (is_default e) (cond (length (args_behind f (Some e)) == 0) [] (ValueOf x ∷ [])) (payload_data x) default
-            ∙ ap (λ args. cond (length args == 0) [] (ValueOf x ∷ [])) (forms.nothing default))
+          ∙ ap (λ args. cond (length args == 0) [] (ValueOf x ∷ [])) (forms.nothing default))
 
 -- the ready case of a value's case is that of the edge that it takes
 pub ready_there : (d : Declarations) (f : Function) (i : Inst) (s : Shape) (ready : List ReadyCase) (k : ℕ) (c : CaseLayer Shape) → AreReadyCases d f i s ready

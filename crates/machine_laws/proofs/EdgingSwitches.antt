@@ -1,9 +1,9 @@
 -- Switches.
-use Rattle.std.proofs.Common.{◌≡◌, ◌<◌, ◌≤◌, ◌+◌, ◌++◌, ◌∙◌, ℕ, List, [], ◌∷◌, true, Option, Some, None, drop, length, map, refl, set, sym, ap, subst, take, arith}
+use Rattle.std.proofs.Common.{◌≡◌, ◌<◌, ◌+◌, ◌++◌, ◌∙◌, ℕ, List, [], ◌∷◌, true, Option, Some, None, drop, length, map, refl, set, sym, ap, subst, take, arith}
 use Rattle.std.specs.Prelude.{Ok, option_and_then, option_map, slice_get, unwrap_or}
 use Rattle.std.proofs.lemmas.Option.{none-some, same_Some, slice_get-map}
 use Rattle.holder_model.specs.Data.{Datum, ValueOf}
-use Rattle.holder_model.specs.Edges.{carried_along, carried_by, case_edge, edge_for, edge_of, first_value_of, switched_data}
+use Rattle.holder_model.specs.Edges.{carried_along, carried_by, case_edge, edge_of, switched_data}
 use Rattle.holder_model.specs.Effects.{unchanged}
 use Rattle.holder_model.specs.ModuleShapes.{shape_at, shapes_in, shapes_of}
 use Rattle.holder_model.specs.Standing.{first_point, target_of}
@@ -11,7 +11,6 @@ use Rattle.holder_model.specs.States as low
 use Rattle.holder_model.specs.StepParts.{switched_shape}
 use Rattle.instruction_table.specs.Forms.{ending_of}
 use Rattle.instruction_table.specs.declared.entries.Ending.TheVariants as ending
-use Rattle.item_operands.specs.Items.{item_defined}
 use Rattle.item_operands.specs.Parts.{args_behind, edge_at}
 use Rattle.lowered_run.specs.LowFrames.{LowFrame, put_all, read_all}
 use Rattle.lowered_run.specs.LowStepParts.{LowNext, LowState, numbers_for, on_ok, on_some, values_taken}
@@ -20,18 +19,16 @@ use Rattle.machine_steps.specs.declared.frame.Frame.{Frame}
 use Rattle.machine_steps.specs.declared.frame.Task.{Task}
 use Rattle.machine_steps.specs.Ends as machine
 use Rattle.machine_steps.specs.Operands.{contents, first_leaf, put}
-use Rattle.machine_steps.specs.Turning.{turn}
 use Rattle.machine_steps.specs.Views.{Goes, MachineView, Went}
 use Rattle.numbered_form.specs.Lists.{Each}
 use Rattle.ready_code.specs.declared.block.ReadyCase.{ReadyCase}
 use Rattle.ready_code.specs.declared.block.ReadyEnd.TheVariants as end
 use Rattle.ready_code.specs.declared.function.ReadyModule.{ReadyModule}
-use Rattle.ready_code.specs.declared.local.Local.{Local}
 use Rattle.ready_code.specs.Layout.{leaves_in, local, size_of}
 use Rattle.ready_code.specs.ReadyEnds.{AreReadyCases, ready_case}
 use Rattle.ready_code.specs.ReadyOps.{first_of, operands_of}
 use Rattle.run_typing.specs.CallForms.{IsOf}
-use Rattle.run_typing.specs.EndForms.{CaseForms, EndForms, TakenCase, arguments_at, branch, branches, cases, handed_over, operand_forms, returns, unreachable, value_in}
+use Rattle.run_typing.specs.EndForms.{EndForms, TakenCase, arguments_at, branch, branches, cases, handed_over, returns, unreachable, value_in}
 use Rattle.run_typing.specs.Forms.{OfValue, form_of, given_shape}
 use Rattle.run_typing.specs.RowForms.{IsEnum}
 use Rattle.run_typing.specs.RunTyped.{RunTyped}
@@ -47,7 +44,6 @@ use Rattle.sil_ast.specs.declared.inst.Inst.{Inst}
 use Rattle.sil_ast.specs.declared.module.Module.{Module}
 use Rattle.sil_ast.specs.declared.operands.Operand.{Operand}
 use Rattle.sil_ast.specs.declared.place.EdgeId.{EdgeId}
-use Rattle.sil_ast.specs.declared.place.PointId.{PointId}
 use Rattle.sil_ast.specs.declared.place.ValueId.{ValueId}
 use Rattle.sil_cfg.specs.declared.item.Item.TheVariants as item
 use Rattle.type_definitions.specs.Declarations.{Declarations, declarations_of}
@@ -57,7 +53,7 @@ use Rattle.machine_laws.proofs.CallingValues.{only_put, parts_values}
 use Rattle.machine_laws.proofs.DropTasks.{tasks_move}
 use Rattle.machine_laws.proofs.Edging.{EdgeThere, edge_defines, edge_is, edge_takes}
 use Rattle.machine_laws.proofs.EdgingBranches.{OperandRead, StandsAtEnd, operand_alike}
-use Rattle.machine_laws.proofs.EdgingCases.{Brings, CaseIs, brings, case_is, nothing, payload, ready_there}
+use Rattle.machine_laws.proofs.EdgingCases.{Brings, brings, case_is, nothing, payload, ready_there}
 use Rattle.machine_laws.proofs.Ending.{Alike, alike_by, goes, turn_alike}
 use Rattle.machine_laws.proofs.Entries.{Ends, FrameAgrees}
 use Rattle.machine_laws.proofs.FrameGoes.{frame_goes_on, frame_moves, goes_on_plain}
@@ -128,6 +124,7 @@ module _ (m : Module) (ready : ReadyModule) (entry : Shape) (bound : ℕ) (made 
     where
       after : MachineView
       after = put next' mf (local (declarations_of m) f w) ls
+
       is_of : IsOf f w
       is_of = (subst (Each (IsOf f)) one are_of).0
 
@@ -191,14 +188,19 @@ module _ (m : Module) (ready : ReadyModule) (entry : Shape) (bound : ℕ) (typed
       where
         taking : List Datum → LowNext
         taking xs = on_some s carrying (carried_along f eid xs)
+
         to : MachineView → MachineView
         to after = machine.with_top ready bound st mf rest' (machine.put_payload ready bound st mf rest' (ready_case (declarations_of m) f e).payload ls after) (machine.in_block mf e.block.0)
+
         next : LowState
         next = record s { turns = s.turns + 1 }
+
         stay : numbers_for s.memory s.numbers ≡ s.numbers
         stay = numbers_stay m (is_of_class m s.memory) s.memory s.numbers st.heap running.parts.memory.objects
+
         are_of : Each (IsOf f) (arguments_at f e)
         are_of = subst (Each (IsOf f)) (edge_defines there) ((typed.functions lf.function.0 f running.frame.there).items (item.Edge eid)).defined
+
         by : PartsAgree m made next (record st { turns = st.turns + 1 })
             → Alike m entry (run.goes_on m (shapes_of m) bound next rest lf f (item.Edge eid) (record (unchanged s.memory) { results = ys })) (Goes (to (record st { turns = st.turns + 1 })))
         by turned =
@@ -206,7 +208,7 @@ module _ (m : Module) (ready : ReadyModule) (entry : Shape) (bound : ℕ) (typed
             let arrived = arrives m ready entry bound made s st f lf mf below rest rest' running turned e are_of to_block.0 to_block.1 shape x ls leaves brought in
             alike_by
             (goes_on_plain m (shapes_of m) bound next rest lf f (item.Edge eid) ys arrived.values stay (ap (λ vs. put_all vs ys lf.values) (edge_defines there) ∙ arrived.put)
-              ∙ ap (λ p. low.Goes (record next { tasks = low.Runs (record lf { at = p; values = arrived.values }) ∷ rest })) (ap (λ y. first_point (target_of y)) (edge_is there)))
+            ∙ ap (λ p. low.Goes (record next { tasks = low.Runs (record lf { at = p; values = arrived.values }) ∷ rest })) (ap (λ y. first_point (target_of y)) (edge_is there)))
             refl
             (goes made (record next { tasks = low.Runs (record lf { at = first_point e.block.0; values = arrived.values }) ∷ rest }) (to (record st { turns = st.turns + 1 })) arrived.agrees)
 
@@ -218,14 +220,19 @@ module _ (m : Module) (ready : ReadyModule) (entry : Shape) (bound : ℕ) (typed
     where
       ls : List Leaf
       ls = contents st mf (local (declarations_of m) f v)
+
       to : Went
       to = machine.takes_case ready bound st mf rest' ls (slice_get ready_cases (machine.tag_in_leaf (first_leaf ls)))
+
       goes_along : ℕ → LowNext
       goes_along k = run.takes_edge m (shapes_of m) bound s rest lf f (edge_of lf.at k)
+
       chosen : List Datum → LowNext
       chosen = run.chosen_edge m (shapes_of m) bound s (run.switch_edge m (shapes_of m) bound lf i) goes_along
+
       forms : IsEnum shape × ((k : ℕ) (c : CaseLayer Shape) → slice_get (case_shapes shape) k ≡ Some c → TakenCase (declarations_of m) f i shape k c)
       forms = switch_forms (declarations_of m) f i v shape is one form stands.forms
+
       by : (read : OperandRead m ready entry bound typed made s st f lf mf below rest rest' running i stands v shape) → Alike m entry (chosen (ValueOf read.value ∷ [])) to
       by read =
           let case_ = case_is (is_of_class m s.memory) shape read.value forms.0 read.fits in
@@ -233,6 +240,6 @@ module _ (m : Module) (ready : ReadyModule) (entry : Shape) (bound : ℕ) (typed
           alike_by
           (ap (λ u. on_some s goes_along (case_edge u i.edges read.value)) (switched shape form) ∙ ap (on_some s goes_along) (case_.chosen i.edges ∙ taken.chosen))
           (ap (λ l. machine.takes_case ready bound st mf rest' ls (slice_get ready_cases (machine.tag_in_leaf l))) (ap first_leaf read.leaves ∙ case_.tag)
-            ∙ ap (machine.takes_case ready bound st mf rest' ls) (ready_there (declarations_of m) f i shape ready_cases case_.place case_.case_ are case_.there taken))
+          ∙ ap (machine.takes_case ready bound st mf rest' ls) (ready_there (declarations_of m) f i shape ready_cases case_.place case_.case_ are case_.there taken))
           (case_alike taken.edge taken.to taken.there taken.forms.bare taken.forms.block shape read.value read.known ls read.leaves
           (brings (declarations_of m) f (is_of_class m s.memory) shape read.value taken.to case_.case_ case_.payload taken.forms))

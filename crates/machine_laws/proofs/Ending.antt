@@ -1,6 +1,5 @@
 -- What the run does next, and what the machine does: alike where they lead to states that agree, or end alike.
 use Rattle.std.proofs.Common.{◌≡◌, ◌+◌, ◌∙◌, ℕ, List, Bool, true, false, cond, refl, sym, ap, subst, nat_lt}
-use Rattle.std.proofs.lemmas.Bool.{cond-false, cond-true}
 use Rattle.holder_model.specs.Outcomes.{Numbers}
 use Rattle.holder_model.specs.States as low
 use Rattle.holder_model.specs.States.{Ending, Faulted, OutOfTurns}
@@ -85,7 +84,7 @@ module _ {m : Module} {made : List Made} {s : LowState} {st : MachineView} (part
 
   pub turn_alike : {entry : Shape} (bound : ℕ) (go : LowState → LowNext) (go' : MachineView → Went)
       → (PartsAgree m made (record s { turns = s.turns + 1 }) (record st { turns = st.turns + 1 })
-        → Alike m entry (go (record s { turns = s.turns + 1 })) (go' (record st { turns = st.turns + 1 })))
+      → Alike m entry (go (record s { turns = s.turns + 1 })) (go' (record st { turns = st.turns + 1 })))
       → Alike m entry (low.turn bound s go) (turn bound st go')
   turn_alike bound go go' then =
       both_choose (nat_lt s.turns bound) (nat_lt st.turns bound) (ap (λ n. nat_lt n bound) parts.turns) (λ e. then parts_turned)

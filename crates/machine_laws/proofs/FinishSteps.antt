@@ -1,5 +1,5 @@
 -- The deinitialisers of an object have returned, and its deinitialisation finishes.
-use Rattle.std.proofs.Common.{◌≡◌, ◌==◌, ◌∙◌, ℕ, zero, suc, List, [], ◌∷◌, Bool, true, false, not, cond, refl, set, sym, ap, arith}
+use Rattle.std.proofs.Common.{◌≡◌, ◌==◌, ◌∙◌, ℕ, zero, suc, List, true, false, not, cond, refl, set, sym, ap, arith}
 use Rattle.std.proofs.lemmas.Bool.{cond-false, cond-true, eq-eqb, ne_eqb}
 use Rattle.heap_model.specs.HeapViews.{HeapView, fields_in, phase_in, strong_in}
 use Rattle.holder_model.specs.Dropping.{ended, field_references, finish_with}
@@ -28,11 +28,10 @@ use Rattle.sil_ast.specs.declared.place.ObjectId.{ObjectId}
 use Rattle.machine_laws.specs.inner.Told.{escaped}
 use Rattle.machine_laws.proofs.Agreement.{Agrees, PartsAgree, ends_of}
 use Rattle.machine_laws.proofs.DropTasks.{both_dropping, tasks_move}
-use Rattle.machine_laws.proofs.Ending.{Alike, alike_by, ends, fault_alike, goes, memory_moves}
+use Rattle.machine_laws.proofs.Ending.{Alike, alike_by, ends, goes, memory_moves}
 use Rattle.machine_laws.proofs.FinishTasks.{tasks_put}
 use Rattle.machine_laws.proofs.Finished.{finished_heap, finished_only, memory_finished, references_agree}
 use Rattle.machine_laws.proofs.Grows.{were_made}
-use Rattle.machine_laws.proofs.Memories.{MemoryAgrees}
 use Rattle.machine_laws.proofs.NamedLists.{OnlyObjects}
 use Rattle.machine_laws.proofs.Numbers.{phase_agrees, strong_agrees}
 use Rattle.machine_laws.proofs.Objects.{is_of_class}
@@ -80,15 +79,20 @@ module _ (m : Module) (ready : ReadyModule) (entry : Shape) (bound : ℕ) (typed
     where
       st' : MachineView
       st' = record st { tasks = rest' }
+
       before : LowState
       before = record s { tasks = rest; numbers = unnamed (object_at s.memory o).cells s.numbers }
+
       goes_on : Went
       goes_on =
           Goes (dropping (machine.strong_in_fields (machine.class_of ready st.heap o).fields (fields_in st.heap o)) next')
+
       strong_is : strong_in st.heap o ≡ (numbers_of s.numbers o).strong
       strong_is = strong_agrees m (is_of_class m s.memory) s.memory s.numbers st.heap o parts.memory.objects alive
+
       deiniting : machine.is_deiniting (phase_in st.heap o) ≡ true
       deiniting = ap machine.is_deiniting (phase_agrees m (is_of_class m s.memory) s.memory s.numbers st.heap o parts.memory.objects ∙ phase)
+
       at : (n : ℕ) → (numbers_of s.numbers o).strong ≡ n
           → Alike m entry (steps.finishes m (shapes_of m) bound (record s { tasks = rest }) o) (machine.finishes ready bound st' o)
       at zero count =

@@ -1,7 +1,7 @@
 -- Objects that are being deinitialised by the tasks, and tasks where another object changes.
-use Rattle.std.proofs.Common.{◌≡◌, ◌<◌, ◌==◌, ◌||◌, ◌⊎◌, ◌∙◌, inl, inr, ℕ, List, Bool, true, false, length, map, refl, sym, ap, subst, arith}
-use Rattle.std.specs.Prelude.{set, slice_get, unwrap_or}
-use Rattle.std.proofs.lemmas.Bool.{cases_eq, eq-eqb, eqb-true, false≢true, or_cases, true≢false}
+use Rattle.std.proofs.Common.{◌≡◌, ◌<◌, ◌==◌, ◌⊎◌, ◌∙◌, inl, inr, List, Bool, true, false, length, refl, sym, ap}
+use Rattle.std.specs.Prelude.{unwrap_or}
+use Rattle.std.proofs.lemmas.Bool.{cases_eq, eqb-true, false≢true, or_cases, true≢false}
 use Rattle.holder_model.specs.Outcomes.{object_number}
 use Rattle.holder_model.specs.States as low
 use Rattle.lowered_run.specs.LowFrames.{LowFrame}

@@ -13,7 +13,6 @@ use Rattle.numbered_form.specs.Lists.{Each}
 use Rattle.ready_code.specs.ReadyModules.{storage_of}
 use Rattle.run_typing.specs.FieldForms.{IsTypedField}
 use Rattle.run_typing.specs.StorageForms.{FieldShapeIs, IsNamed, named, plain}
-use Rattle.run_values.specs.Cells as cells
 use Rattle.run_values.specs.Cells.{Cell, cell_count}
 use Rattle.run_values.specs.Leaves.{leaves_of}
 use Rattle.run_values.specs.Memory.{Memory}

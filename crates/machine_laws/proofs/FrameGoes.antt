@@ -1,5 +1,5 @@
 -- A frame goes on over the others.
-use Rattle.std.proofs.Common.{◌≡◌, ◌∙◌, ℕ, List, [], ◌∷◌, ◌++◌, Option, Some, None, map, refl, sym, ap}
+use Rattle.std.proofs.Common.{◌≡◌, ◌∙◌, ℕ, List, [], ◌∷◌, Option, Some, None, map, refl, ap}
 use Rattle.std.specs.Prelude.{Err, Ok}
 use Rattle.std.specs.declared.result.Result.{Result}
 use Rattle.holder_model.specs.Data.{Datum}
@@ -15,15 +15,11 @@ use Rattle.lowered_run.specs.LowSteps.{goes_on}
 use Rattle.machine_steps.specs.declared.frame.Frame.{Frame}
 use Rattle.machine_steps.specs.declared.frame.Task.{Task}
 use Rattle.machine_steps.specs.declared.frame.Task.TheVariants as task
-use Rattle.machine_steps.specs.Calling as calls
 use Rattle.machine_steps.specs.Operands.{put}
 use Rattle.machine_steps.specs.Views.{MachineView}
-use Rattle.ready_code.specs.declared.local.Carry.{Carry}
-use Rattle.ready_code.specs.declared.local.CarryAddress.{CarryAddress}
 use Rattle.run_typing.specs.Forms.{given_shape}
 use Rattle.run_values.specs.Memory.{Memory}
 use Rattle.run_values.specs.Shapes.{Shape}
-use Rattle.run_values.specs.declared.leaf.Leaf.{Leaf}
 use Rattle.sil_ast.specs.declared.function.Function.{Function}
 use Rattle.sil_ast.specs.declared.module.Module.{Module}
 use Rattle.sil_ast.specs.declared.place.ValueId.{ValueId}
@@ -31,14 +27,13 @@ use Rattle.sil_cfg.specs.declared.item.Item.{Item}
 use Rattle.type_definitions.specs.Declarations.{declarations_of}
 use Rattle.machine_laws.proofs.Agreement.{Agrees, PartsAgree, ends_of}
 use Rattle.machine_laws.proofs.DropTasks.{tasks_move}
-use Rattle.machine_laws.proofs.Ending.{memory_moves, parts_with}
+use Rattle.machine_laws.proofs.Ending.{parts_with}
 use Rattle.machine_laws.proofs.Entries.{Ends, FrameAgrees}
 use Rattle.machine_laws.proofs.Grows.{WereMade, were_made}
 use Rattle.machine_laws.proofs.GrowsBy.{grows_objects, objects_stay, serial_of}
-use Rattle.machine_laws.proofs.GrowsTasks.{entry_grows, frame_grows, keeps_slots}
-use Rattle.machine_laws.proofs.Operands.{AllRead, more, none}
+use Rattle.machine_laws.proofs.GrowsTasks.{frame_grows, keeps_slots}
 use Rattle.machine_laws.proofs.Slots.{Made}
-use Rattle.machine_laws.proofs.Tasks.{TasksAgree, runs, to_go_on, to_take}
+use Rattle.machine_laws.proofs.Tasks.{TasksAgree, runs, to_take}
 
 -- a frame and what was read agree with a view whose stacks are the same
 

@@ -1,11 +1,11 @@
 -- Ready code where a frame stands: its function, its block, and its instruction or terminator.
-use Rattle.std.proofs.Common.{◌≡◌, ◌+◌, ◌∙◌, ℕ, zero, suc, List, [], ◌∷◌, Option, Some, None, refl, sym, ap, subst, arith}
+use Rattle.std.proofs.Common.{◌≡◌, ◌∙◌, ℕ, zero, suc, List, ◌∷◌, Option, Some, None, refl, sym, ap, subst}
 use Rattle.std.specs.Prelude.{slice_get}
 use Rattle.std.proofs.lemmas.Option.{none-some, same_Some}
 use Rattle.item_operands.specs.Parts.{inst_at, inst_in, terminator_in, terminator_of}
 use Rattle.lowered_run.specs.LowFrames.{LowFrame}
 use Rattle.machine_steps.specs.declared.frame.Frame.{Frame}
-use Rattle.machine_steps.specs.Ends.{block_at, block_in, op_at}
+use Rattle.machine_steps.specs.Ends.{block_at, block_in}
 use Rattle.machine_steps.specs.Views.{MachineView}
 use Rattle.ready_code.specs.declared.block.ReadyBlock.{ReadyBlock}
 use Rattle.ready_code.specs.declared.function.ReadyFunction.{ReadyFunction}
@@ -15,7 +15,7 @@ use Rattle.ready_code.specs.Matched.{Matched, both, none}
 use Rattle.ready_code.specs.ReadyEnds.{IsReadyEnd}
 use Rattle.ready_code.specs.ReadyModules.{IsReadyBlock, IsReadyFunction, IsReadyModule}
 use Rattle.ready_code.specs.ReadyOps.{IsReadyOp}
-use Rattle.run_typing.specs.RunTyped.{FunctionIsTyped, RunTyped}
+use Rattle.run_typing.specs.RunTyped.{FunctionIsTyped}
 use Rattle.run_values.specs.Memory.{Memory}
 use Rattle.sil_ast.specs.declared.function.Block.{Block}
 use Rattle.sil_ast.specs.declared.function.Function.{Function}
@@ -87,6 +87,7 @@ standing {m = m} {ready = ready} {f = f} {lf = lf} {mf = mf} typed where_ = by (
   where
     in_block : (x : Option Inst) → slice_get where_.block.insts lf.at.index ≡ x → inst_at f lf.at ≡ x
     in_block x e = ap (λ b. inst_in b lf.at.index) where_.block_there ∙ e
+
     by : MatchedAt (IsReadyOp m f) where_.block.insts where_.code.ops lf.at.index → Standing m ready f lf mf
     by (past e e') =
         at_end where_.code where_.block.terminator where_.code_there (ap (slice_get where_.code.ops) where_.index ∙ e') (in_block None e)

@@ -1,19 +1,19 @@
 -- A frame goes on: it stands at an instruction, and its operands are read.
-use Rattle.std.proofs.Common.{◌≡◌, ◌∙◌, ℕ, List, [], ◌∷◌, Bool, true, false, Some, refl, sym, ap, subst}
-use Rattle.std.specs.Prelude.{Err, Ok, find, slice_get}
+use Rattle.std.proofs.Common.{◌≡◌, ℕ, List, ◌∷◌, Bool, true, false, Some, ap, subst}
+use Rattle.std.specs.Prelude.{Ok}
 use Rattle.holder_model.specs.Data.{Datum}
 use Rattle.holder_model.specs.ModuleShapes.{shapes_in, shapes_of}
 use Rattle.holder_model.specs.States as low
 use Rattle.item_operands.specs.Parts.{inst_at}
 use Rattle.lowered_run.specs.LowEffects.{low_effect}
 use Rattle.lowered_run.specs.LowFrames.{LowFrame, read_all}
-use Rattle.lowered_run.specs.LowStepParts.{LowNext, LowState, fails, on_ok, values_taken}
+use Rattle.lowered_run.specs.LowStepParts.{LowNext, LowState, on_ok}
 use Rattle.lowered_run.specs.LowSteps as run
 use Rattle.lowered_run.specs.declared.low_fault.LowFault.TheVariants as fault
 use Rattle.machine_steps.specs.declared.frame.Frame.{Frame}
 use Rattle.machine_steps.specs.declared.frame.Task.{Task}
 use Rattle.machine_steps.specs.declared.frame.Task.TheVariants as task
-use Rattle.machine_steps.specs.Operands.{faults, is_missing, unless_missing, with_all}
+use Rattle.machine_steps.specs.Operands.{unless_missing, with_all}
 use Rattle.machine_steps.specs.Rows as machine
 use Rattle.machine_steps.specs.Views.{MachineView, Went}
 use Rattle.numbered_form.specs.Lists.{Each}

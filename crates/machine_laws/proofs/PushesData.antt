@@ -1,5 +1,5 @@
 -- In the run data are put one after another: as if the values among them came first, and then the addresses.
-use Rattle.std.proofs.Common.{◌≡◌, ◌≢◌, List, [], ◌∷◌, Bool, false, true, Some, Option, length, map, refl, sym, ap, ◌∙◌, arith}
+use Rattle.std.proofs.Common.{◌≡◌, ◌≢◌, List, [], ◌∷◌, true, Some, Option, length, map, refl, sym, ap, ◌∙◌, arith}
 use Rattle.std.specs.Prelude.{drop, set}
 use Rattle.std.proofs.lemmas.Bool.{false≢true}
 use Rattle.std.proofs.lemmas.List.{set_comm}

@@ -1,22 +1,18 @@
 -- Returns: from the run's first frame, to a caller, or from a deinitialiser.
-use Rattle.std.proofs.Common.{◌≡◌, ◌+◌, ◌++◌, ◌==◌, ◌∙◌, ℕ, List, [], ◌∷◌, Bool, true, false, Option, Some, None, cond, drop, length, refl, set, sym, ap, subst, take, zero-add, arith}
+use Rattle.std.proofs.Common.{◌≡◌, ◌+◌, ◌∙◌, ℕ, List, [], ◌∷◌, Bool, true, Option, Some, None, cond, drop, length, refl, set, sym, ap, subst, take, zero-add}
 use Rattle.std.specs.Prelude.{find, option_and_then, slice_get}
 use Rattle.std.proofs.lemmas.Bool.{false≢true}
 use Rattle.std.proofs.lemmas.Option.{none-some, same_Some}
 use Rattle.heap_model.specs.HeapViews.{is_dead_in}
-use Rattle.holder_model.specs.Data.{Datum, ValueOf}
-use Rattle.holder_model.specs.Effects.{effect_of, unchanged}
+use Rattle.holder_model.specs.Data.{ValueOf}
+use Rattle.holder_model.specs.Effects.{unchanged}
 use Rattle.holder_model.specs.Frames.{has_any}
 use Rattle.holder_model.specs.ModuleShapes.{shapes_of}
 use Rattle.holder_model.specs.Outcomes.{left_objects}
-use Rattle.holder_model.specs.declared.row_effect.RowEffect.TheVariants as row
-use Rattle.holder_model.specs.Standing.{point_behind}
 use Rattle.holder_model.specs.States as low
-use Rattle.item_operands.specs.Parts.{inst_at}
 use Rattle.lowered_run.specs.declared.low_fault.LowFault.TheVariants as fault
 use Rattle.lowered_run.specs.LowFrames.{LowFrame, put_all}
-use Rattle.lowered_run.specs.LowOutcomes.{low_outcome_at}
-use Rattle.lowered_run.specs.LowStepParts.{LowNext, LowState, numbers_for, on_some}
+use Rattle.lowered_run.specs.LowStepParts.{LowState, numbers_for, on_some}
 use Rattle.lowered_run.specs.LowSteps as run
 use Rattle.lowered_run.specs.Stored.{numbers_of}
 use Rattle.machine_steps.specs.declared.frame.Frame.{Frame}
@@ -25,8 +21,8 @@ use Rattle.machine_steps.specs.declared.frame.Task.TheVariants as task
 use Rattle.machine_steps.specs.declared.run_end.RunEnd.TheVariants as end
 use Rattle.machine_steps.specs.Calling.{without_frame}
 use Rattle.machine_steps.specs.Ends as machine
-use Rattle.machine_steps.specs.Operands.{contents, objects_among, put}
-use Rattle.machine_steps.specs.Views.{Goes, MachineView, Went}
+use Rattle.machine_steps.specs.Operands.{contents, objects_among}
+use Rattle.machine_steps.specs.Views.{MachineView}
 use Rattle.numbered_form.specs.Lists.{Each}
 use Rattle.ready_code.specs.declared.function.ReadyModule.{ReadyModule}
 use Rattle.ready_code.specs.declared.local.Local.{Local}
@@ -44,17 +40,15 @@ use Rattle.run_values.specs.Shapes.{Shape}
 use Rattle.run_values.specs.Values.{Value, references_of}
 use Rattle.run_values.proofs.LeavesBack.{come_back}
 use Rattle.sil_ast.specs.declared.function.Function.{Function}
-use Rattle.sil_ast.specs.declared.inst.Inst.{Inst}
 use Rattle.sil_ast.specs.declared.module.Module.{Module}
 use Rattle.sil_ast.specs.declared.place.FuncId.{FuncId}
 use Rattle.sil_ast.specs.declared.place.ObjectId.{ObjectId}
-use Rattle.sil_ast.specs.declared.place.ValueId.{ValueId}
 use Rattle.sil_cfg.specs.declared.item.Item.TheVariants as item
 use Rattle.type_definitions.specs.Declarations.{declarations_of}
 use Rattle.value_parts.specs.inner.Suits.{suits}
 use Rattle.value_parts.proofs.Suiting.{suits_fits}
-use Rattle.machine_laws.specs.inner.Told.{all_left, outcome_told, returned}
-use Rattle.machine_laws.proofs.Agreement.{Agrees, PartsAgree, ends_of}
+use Rattle.machine_laws.specs.inner.Told.{all_left, returned}
+use Rattle.machine_laws.proofs.Agreement.{PartsAgree, ends_of}
 use Rattle.machine_laws.proofs.CallingValues.{only_put, parts_values}
 use Rattle.machine_laws.proofs.Ending.{Alike, alike_by, ends, fault_alike, goes, parts_with}
 use Rattle.machine_laws.proofs.Entries.{Ends, FrameAgrees}
@@ -143,19 +137,24 @@ module _ (m : Module) (ready : ReadyModule) (entry : Shape) (bound : ℕ) (typed
     where
       objects : ObjectsAgree m (is_of_class m s.memory) s.memory.objects s.numbers st.heap.objects
       objects = parts.memory.objects
+
       found : find (is_dead_in st.heap) (objects_among (contents st mf l)) ≡ find (is_dead s.memory) (references_of x)
       found =
           ap (λ ls. find (is_dead_in st.heap) (objects_among ls)) leaves
           ∙ ap (find (is_dead_in st.heap)) (references_among (is_of_class m s.memory) shape x fits)
           ∙ find_alike (is_dead_in st.heap) (is_dead s.memory) (λ o. dead_agrees m (is_of_class m s.memory) s.memory s.numbers st.heap o objects) (references_of x)
+
       left : left_objects s.memory (numbers_of s.numbers) ≡ all_left st.heap
       left = left_agrees m (is_of_class m s.memory) s.memory s.numbers st.heap objects parts.memory.declared
+
       zero_ : mf.leaves + l.at ≡ l.at
       zero_ = ap (λ n. n + l.at) (frame.leaves ∙ ap (λ e. e.leaves) bottom_) ∙ zero-add l.at
+
       value : value_of entry (take l.size (drop l.at st.leaves)) ≡ Some x
       value =
           ap (λ n. value_of entry (take l.size (drop n st.leaves))) (sym zero_) ∙ ap (value_of entry) leaves ∙ ap (λ t. value_of t (leaves_of shape x)) gives
           ∙ (come_back shape x (suits_fits (is_of_class m s.memory) shape x fits)).0
+
       at : (o : Option ObjectId) → find (is_dead s.memory) (references_of x) ≡ o
           → Alike m entry (run.returns_to m (shapes_of m) bound s (ValueOf x) []) (machine.returns_to ready bound st mf rest' l [])
       at None e =
@@ -172,17 +171,20 @@ module _ (m : Module) (ready : ReadyModule) (entry : Shape) (bound : ℕ) (typed
   gives_alike f' lf' mf' below' rest rest'' tasks_are frame' awaits others =
       alike_by
       (ap (on_some s (λ f. run.goes_on m (shapes_of m) bound s rest lf' f (item.Inst lf'.at) (record (unchanged s.memory) { results = ValueOf x ∷ [] }))) frame'.there
-        ∙ goes_on_plain m (shapes_of m) bound s rest lf' f' (item.Inst lf'.at) (ValueOf x ∷ []) (set lf'.values awaits.result.0 (Some (ValueOf x))) stay
-          (ap (λ vs. put_all vs (ValueOf x ∷ []) lf'.values) (defined_by f' lf' awaits.call awaits.there ∙ awaits.results)))
+      ∙ goes_on_plain m (shapes_of m) bound s rest lf' f' (item.Inst lf'.at) (ValueOf x ∷ []) (set lf'.values awaits.result.0 (Some (ValueOf x))) stay
+      (ap (λ vs. put_all vs (ValueOf x ∷ []) lf'.values) (defined_by f' lf' awaits.call awaits.there ∙ awaits.results)))
       (ap (machine.given_back ready bound st mf rest' (contents st mf l) mf' rest'') (awaited_there (standing function_typed (ready_where is_ready frame')) awaits))
       (goes_behind (value_put caller awaits.result is_of shape awaits.form x fits (contents st mf l) leaves) awaits.call awaits.there)
     where
       stay : numbers_for s.memory s.numbers ≡ s.numbers
       stay = numbers_stay m (is_of_class m s.memory) s.memory s.numbers st.heap parts.memory.objects
+
       function_typed : FunctionIsTyped m f'
       function_typed = typed.functions lf'.function.0 f' frame'.there
+
       is_of : IsOf f' awaits.result
       is_of = (subst (Each (IsOf f')) (defined_by f' lf' awaits.call awaits.there ∙ awaits.results) (function_typed.items (item.Inst lf'.at)).defined).0
+
       caller : Running m entry made s gone f' lf' mf' below' rest rest''
       caller = record {
         parts = gone_parts;

@@ -1,5 +1,5 @@
 -- Terminators.
-use Rattle.std.proofs.Common.{◌≡◌, ◌+◌, ◌==◌, ◌∙◌, ℕ, List, [], ◌∷◌, Bool, true, false, Some, cond, length, map, refl, sym, ap, arith}
+use Rattle.std.proofs.Common.{◌≡◌, ◌==◌, ◌∙◌, ℕ, List, [], ◌∷◌, cond, length, map, refl, sym, ap, arith}
 use Rattle.std.specs.Prelude.{slice_get}
 use Rattle.std.proofs.lemmas.Bool.{cond-false, cond-true, eq-eqb, ne_eqb}
 use Rattle.std.proofs.lemmas.Option.{same_Some}
@@ -63,27 +63,32 @@ module _ (m : Module) (ready : ReadyModule) (entry : Shape) (bound : ℕ) (typed
   return_alike v is one =
       alike_by
       (ap (λ x. run.ends_block_by m (shapes_of m) bound x s rest lf f i) is
-        ∙ ap (λ vs. on_ok s giving (read_all lf.values vs)) (exit_takes m ready entry bound typed made s st f lf mf below rest rest' running i stands))
+      ∙ ap (λ vs. on_ok s giving (read_all lf.values vs)) (exit_takes m ready entry bound typed made s st f lf mf below rest rest' running i stands))
       refl
       (operand_alike m ready entry bound typed made s st f lf mf below rest rest' running i stands v shape one form giving
       (cond (length st.slots == mf.slots) to (faults fault.Slot st)) by)
     where
       shape : Shape
       shape = given_shape (declarations_of m) f
+
       form : form_of (declarations_of m) f v ≡ OfValue shape
       form =
           same_Some (form_of (declarations_of m) f v) (OfValue shape)
           (ap (λ vs. slice_get (map (form_of (declarations_of m) f) vs) 0) (sym one) ∙ ap (λ fs. slice_get fs 0) (return_forms (declarations_of m) f i is stands.forms))
+
       giving : List Datum → LowNext
       giving xs = cond (has_any lf.slots) (fails s fault.Slot) (on_some s (λ x. run.returns_to m (shapes_of m) bound s x rest) (only xs))
+
       to : Went
       to = machine.returns_to ready bound st mf rest' (local (declarations_of m) f v) rest'
+
       by : (read : OperandRead m ready entry bound typed made s st f lf mf below rest rest' running i stands v shape)
           → Alike m entry (giving (ValueOf read.value ∷ [])) (cond (length st.slots == mf.slots) to (faults fault.Slot st))
       by read = at (newest_slot running.frame refl)
         where
           there : LowNext
           there = run.returns_to m (shapes_of m) bound s (ValueOf read.value) rest
+
           at : NewestSlot made st lf below → Alike m entry (giving (ValueOf read.value ∷ [])) (cond (length st.slots == mf.slots) to (faults fault.Slot st))
           at (none bare same) =
               let empty : length st.slots ≡ mf.slots = sym (running.frame.slots ∙ same) in

@@ -1,45 +1,43 @@
 -- However the machine stops, the run of lowered code ends so: the states at the start agree, and each step of the machine is followed.
-use Rattle.std.proofs.Common.{◌≡◌, ◌&&◌, ◌∙◌, ℕ, zero, suc, List, [], ◌∷◌, not, true, Option, Some, None, refl, sym, ap, subst}
-use Rattle.std.specs.Prelude.{option_and_then, slice_get}
+use Rattle.std.proofs.Common.{◌≡◌, ◌∙◌, ℕ, zero, suc, List, [], not, Some, refl, sym, ap, subst}
+use Rattle.std.specs.Prelude.{option_and_then}
 use Rattle.std.proofs.lemmas.Bool.{and_parts}
 use Rattle.std.proofs.lemmas.Option.{none-some, same_Some}
 use Rattle.argument_conventions.specs.Arguments.{arguments_of}
 use Rattle.holder_model.specs.Calling.{value_count}
 use Rattle.holder_model.specs.Frames.{has_any}
 use Rattle.holder_model.specs.ModuleShapes.{shapes_of}
-use Rattle.holder_model.specs.Outcomes.{may_start, run}
+use Rattle.holder_model.specs.Outcomes.{run}
 use Rattle.holder_model.specs.States as low
 use Rattle.holder_model.specs.States.{Ending, Next}
 use Rattle.lowered_run.specs.declared.low_fault.LowFault.{LowFault}
 use Rattle.lowered_run.specs.LowFrames.{no_values}
-use Rattle.lowered_run.specs.LowOutcomes.{LowEndsSo, low_begins, low_outcome_after, low_outcome_at}
+use Rattle.lowered_run.specs.LowOutcomes.{low_begins, low_outcome_after, low_outcome_at}
 use Rattle.lowered_run.specs.LowStepParts.{LowState, new_frame}
 use Rattle.lowered_run.specs.LowSteps.{low_step}
 use Rattle.machine_steps.specs.declared.run_end.RunEnd.{RunEnd}
 use Rattle.machine_steps.specs.Calling as machine
-use Rattle.machine_steps.specs.Runs.{Leads, begins, no_tasks, steps, went_on}
+use Rattle.machine_steps.specs.Runs.{begins, no_tasks, steps, went_on}
 use Rattle.machine_steps.specs.Steps.{machine_step}
-use Rattle.machine_steps.specs.Views.{Goes, MachineView, Stops, Went}
-use Rattle.ready_code.specs.declared.function.ReadyFunction.{ReadyFunction}
+use Rattle.machine_steps.specs.Views.{MachineView, Stops, Went}
 use Rattle.ready_code.specs.declared.function.ReadyModule.{ReadyModule}
 use Rattle.ready_code.specs.ReadyModules.{IsReadyFunction, IsReadyModule}
 use Rattle.run_typing.specs.Forms.{given_shape}
 use Rattle.run_typing.specs.RunTyped.{RunTyped}
 use Rattle.run_values.specs.Memory.{Memory}
 use Rattle.run_values.specs.Shapes.{Shape}
-use Rattle.sil_ast.specs.declared.function.Function.{Function}
 use Rattle.sil_ast.specs.declared.module.Module.{Module}
 use Rattle.sil_ast.specs.declared.place.FuncId.{FuncId}
 use Rattle.type_definitions.specs.Declarations.{declarations_of}
 use Rattle.machine_laws.specs.inner.MachineRuns.{MachineRunsSo, Started}
 use Rattle.machine_laws.specs.inner.Told.{IsEnding, outcome_told}
-use Rattle.machine_laws.proofs.Agreement.{Agrees, Follows, PartsAgree, ends_of, goes, stops}
+use Rattle.machine_laws.proofs.Agreement.{Agrees, Follows, ends_of, goes, stops}
 use Rattle.machine_laws.proofs.Assembly.{steps_follow}
 use Rattle.machine_laws.proofs.FrameReady.{code_there}
 use Rattle.machine_laws.proofs.Memories.{MemoryAgrees}
 use Rattle.machine_laws.proofs.Pushes.{frame_made}
 use Rattle.machine_laws.proofs.Slots.{Made}
-use Rattle.machine_laws.proofs.Tasks.{TasksAgree, bottom, no_ends, runs, to_go_on}
+use Rattle.machine_laws.proofs.Tasks.{bottom, no_ends, runs}
 
 -- some steps, and then others
 steps_then : {X S : Type 0} (step : S → Next X S) (j : ℕ) (s s' : S) → run step j s ≡ low.Goes s' → (n : ℕ) (end : Next X S) → run step n s' ≡ end → (k : ℕ) × (run step k s ≡ end)
@@ -131,8 +129,12 @@ module _ (m : Module) (ready : ReadyModule) (entry : Shape) (bound : ℕ) (typed
 pub machine_runs_so : MachineRunsSo
 machine_runs_so m ready e bound started end st leads =
     let ended = follow m ready (given_shape (declarations_of m) started.entry) bound started.typed started.made end st leads.0 [] (low_begins e started.entry)
-    (begins (declarations_of m) e started.code) (begins_agree m ready e bound started) leads.1 in
-    (ended.ending, ended.is_ending,
-    (ended.count,
-    ap (option_and_then (λ f. low_outcome_after (run (low_step m (shapes_of m) bound) ended.count (low_begins e f)))) started.there
-      ∙ ap low_outcome_after ended.ends ∙ ap (λ x. Some x) ended.told))
+    (begins (declarations_of m) e started.code) (begins_agree m ready e bound started) leads.1 in (
+      ended.ending,
+      ended.is_ending,
+      (
+        ended.count,
+        ap (option_and_then (λ f. low_outcome_after (run (low_step m (shapes_of m) bound) ended.count (low_begins e f)))) started.there
+            ∙ ap low_outcome_after ended.ends ∙ ap (λ x. Some x) ended.told,
+      ),
+    )

@@ -1,5 +1,5 @@
 -- The slots of a run of lowered code, and those that the machine keeps open.
-use Rattle.std.proofs.Common.{◌≡◌, ◌≤◌, ◌<◌, ◌+◌, ℕ, suc, List, [], ◌∷◌, Bool, true, false, Option, Some, None, map, length}
+use Rattle.std.proofs.Common.{◌≡◌, ◌≤◌, ◌<◌, ◌+◌, ℕ, List, [], Bool, true, false, Some, map, length}
 use Rattle.std.specs.Prelude.{take, drop, slice_get, replicate, sum, unwrap_or, option_map}
 use Rattle.std.specs.List.{flat_map}
 use Rattle.machine_steps.specs.declared.address.Address.{Address}

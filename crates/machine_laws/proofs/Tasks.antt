@@ -1,5 +1,5 @@
 -- The tasks of a run of lowered code, and those of the machine, which has none where no reference waits.
-use Rattle.std.proofs.Common.{◌≡◌, ◌<◌, ◌+◌, ◌==◌, ◌||◌, ℕ, List, [], ◌∷◌, Bool, true, false, Option, Some, None, length}
+use Rattle.std.proofs.Common.{◌≡◌, ◌<◌, ◌+◌, ◌==◌, ◌||◌, ℕ, List, [], ◌∷◌, Bool, true, false, Some, length}
 use Rattle.std.specs.Prelude.{drop, reverse, slice_get, take}
 use Rattle.holder_model.specs.declared.row_effect.RowEffect.TheVariants as row
 use Rattle.holder_model.specs.Dropping.{deinits_of}

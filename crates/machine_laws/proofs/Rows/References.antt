@@ -27,7 +27,7 @@ use Rattle.machine_laws.proofs.FrameSteps.{StandsAt}
 use Rattle.machine_laws.proofs.Numbers.{numbers_stay}
 use Rattle.machine_laws.proofs.Objects.{is_of_class}
 use Rattle.machine_laws.proofs.Operands.{read_value}
-use Rattle.machine_laws.proofs.Rows.Effects.{RowAlike, Runs, d, forms_by, performed, row_by, values}
+use Rattle.machine_laws.proofs.Rows.Effects.{RowAlike, Runs, d, forms_by, performed, row_by}
 use Rattle.machine_laws.proofs.Rows.Gives.{first_form, no_values, one_read, same_numbers}
 use Rattle.machine_laws.proofs.Rows.Makes.{makes_alike, makes_with, none_put}
 use Rattle.machine_laws.proofs.Rows.Steps.{counts_change, goes_dropping}

@@ -1,7 +1,7 @@
 -- What the machine tells of a run when it has stopped.
 use Rattle.std.specs.Prelude.{◌≡◌, ℕ, List, [], Option, Some, None, length, slice_get, drop, take}
 use Rattle.std.specs.List.{filter_map, range_with_len}
-use Rattle.heap_model.specs.HeapViews.{HeapView, class_in, is_dead_in, is_unfreed, strong_in, unowned_in, weak_in}
+use Rattle.heap_model.specs.HeapViews.{HeapView, is_dead_in, is_unfreed, strong_in, unowned_in, weak_in}
 use Rattle.holder_model.specs.declared.left_object.LeftObject.{LeftObject}
 use Rattle.holder_model.specs.declared.trap.Trap.TheVariants as trap
 use Rattle.holder_model.specs.Outcomes.{Outcome, object_number}
