@@ -69,7 +69,8 @@ module _ (m : Module) (ready : ReadyModule) (entry : Shape) (bound : ℕ) (typed
         by _ stands (calls c r args g callee is operands results names there bodied) =
             let call : CallOf m f i c r args g callee = record { calls = is; operands = operands; results = results; names = names; there = there } in
             let told = arguments_taken call stands.typed.row bodied in
-            call_alike m ready entry bound typed is_ready made s st f lf mf below rest rest' running i c r args g callee (record { of = call; bodied = bodied; taken = told.taken; given = told.given }) stands
+            call_alike m ready entry bound typed is_ready made s st f lf mf below rest rest' running i c r args g callee
+            (record { of = call; bodied = bodied; taken = told.taken; given = told.given }) stands
         by _ stands (calls_out c r args g callee is operands results names there bodiless) =
             let call : CallOf m f i c r args g callee = record { calls = is; operands = operands; results = results; names = names; there = there } in
             let told = integers_taken call stands.typed.row bodiless in

@@ -193,7 +193,8 @@ module _ {m : Module} {made : List Made} {mem : Memory} {st : MachineView} {f : 
       let opened = with_frame st g code in
       let reads = all_read_keeps agrees (with_frame_keeps st g code) refl are_of read in
       let reach = at_most_itself (ends_of opened) in
-      let first = carry_values m made mem f callee mf (new_frame st g) (ends_of st) (ends_of opened) opened reads ws are_of' same opened (low.new_frame g (no_values (value_count callee))) made_now reach in
+      let first = carry_values m made mem f callee mf (new_frame st g) (ends_of st) (ends_of opened) opened reads ws are_of' same opened
+      (low.new_frame g (no_values (value_count callee))) made_now reach in
       let then = carry_addresses m made mem f callee mf (new_frame st g) (ends_of st) (ends_of opened) opened lie reads ws are_of are_of' same _ _
       first.frame (subst (AtMost (ends_of opened)) (sym first.ends) reach) first.keeps first.slots in
       let put = all_put d callee ws xs carries (read_length read ∙ forms_length d f callee vs ws same) (no_values (value_count callee)) in
