@@ -3,7 +3,6 @@
 #![tactic(auto)]
 
 mod build;
-mod contents;
 mod items;
 mod limits;
 mod lookups;

@@ -4,7 +4,6 @@
 
 mod ancestors;
 mod build;
-mod contents;
 mod lookups;
 mod name_index;
 mod table;
