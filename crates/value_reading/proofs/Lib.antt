@@ -1,0 +1,10 @@
+mod Firsts
+mod Heights
+mod Members
+mod Sized
+mod Loops
+mod Parts
+mod Shaped
+mod Cases
+mod GivenTypes
+mod Below
