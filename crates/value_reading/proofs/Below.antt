@@ -23,11 +23,10 @@ use Rattle.sil_rules.specs.declared.limits.TheConstants.{LEAVES}
 use Rattle.type_definitions.specs.Contained.{field_type, payload_types}
 use Rattle.type_definitions.specs.Declarations.{Declarations, decl_of}
 use Rattle.type_definitions.specs.Measures.{leaves_of}
-use Rattle.value_reading.specs.Reading.{IsValueOf}
+use Rattle.value_reading.specs.inner.Reading.{IsValueOf}
 use Rattle.value_reading.specs.inner.Levels.{IsReadable}
 use Rattle.value_reading.specs.inner.Payloads.{IsCaseOf, case_layer_of}
-use Rattle.value_reading.proofs.Cases.{case_read, full_read}
-use Rattle.value_reading.proofs.Firsts.{first_is}
+use Rattle.value_reading.proofs.Cases.{case_read, first_is, full_read}
 use Rattle.value_reading.proofs.Parts.{enum_parts, struct_parts, tuple_parts}
 use Rattle.value_reading.proofs.Shaped.{class_is, enum_is, struct_is, tuple_is}
 use Rattle.value_reading.proofs.Sized.{size_measured}
@@ -76,7 +75,7 @@ module _ (d : Declarations) (ls : List Leaf) (result : Result Val Exhausted) whe
       let payload = each_within payload_types (IsReadable d levels) cases k c each there in
       let IsRead : List Leaf → Val → Type 0 = λ ks. IsValueOf (Enum [] (cases_of (map (case_layer_of d) cases))) ks in
       subst (λ ks. IfOk result (IsRead ks)) leaves
-          (if_ok (IsCaseOf k (option_map (shape_of d) c.payload) behind) (IsRead (leaf.Tag k ∷ behind)) (λ v h. case_read d [] cases k c behind v there h) result (read payload))
+      (if_ok (IsCaseOf k (option_map (shape_of d) c.payload) behind) (IsRead (leaf.Tag k ∷ behind)) (λ v h. case_read d [] cases k c behind v there h) result (read payload))
 
 -- the payload is read from the first leaves
 pub full_below : (d : Declarations) (levels k : ℕ) (t : TypeName) (ls first : List Leaf) (count : ℕ) (v payload : Val) → (leaves_of d t ≤ LEAVES → count ≡ leaves_of d t)

@@ -1,5 +1,5 @@
 -- A case is read by its tag, and its payload from the first leaves behind it.
-use Rattle.std.proofs.Common.{◌≡◌, ℕ, List, [], ◌∷◌, Option, Some, None, map, take, refl, sym, ap, ◌∙◌}
+use Rattle.std.proofs.Common.{◌≡◌, ℕ, List, [], ◌∷◌, Option, Some, None, map, take, drop, refl, sym, ap, ◌∙◌}
 use Rattle.std.specs.Prelude.{option_map, slice_get}
 use Rattle.std.proofs.lemmas.Option.{slice_get-map}
 use Rattle.run_values.specs.Layers.{CaseLayer}
@@ -13,8 +13,12 @@ use Rattle.run_values.specs.declared.value.Val.TheVariants as val
 use Rattle.numbered_form.specs.Names.{Name}
 use Rattle.sil_ast.specs.declared.decl.Case.{Case}
 use Rattle.type_definitions.specs.Declarations.{Declarations}
-use Rattle.value_reading.specs.Reading.{IsValueOf}
+use Rattle.value_reading.specs.inner.Reading.{IsValueOf}
 use Rattle.value_reading.specs.inner.Payloads.{IsCaseOf, case_layer_of}
+
+pub first_is : (ls : List Leaf) (l : Leaf) → slice_get ls 0 ≡ Some l → ls ≡ l ∷ drop 1 ls
+first_is [] l e = cc
+first_is (x ∷ ls) l e = let same : x ≡ l = cc in ap (λ y. y ∷ ls) same
 
 abbrev case_in_leaves : CaseLayer Shape → CaseLayer InLeaves
 case_in_leaves c = record { name = c.name; payload = option_map in_leaves c.payload }
@@ -56,6 +60,3 @@ pub full_read : (k : ℕ) (s : Shape) (rest : List Leaf) (v : Val) → IsValueOf
 full_read k s rest v is x e =
     let there = full_there k ((in_leaves s).value (take (in_leaves s).size rest)) x e in
     ap (λ w. val.Chosen k (Some w)) (is there.0 there.1) ∙ ap val_of (sym there.2)
-
-pub plain_read : (k : ℕ) (rest : List Leaf) → IsCaseOf k None rest (val.Chosen k None)
-plain_read k rest x e = let same : chosen k None ≡ x = cc in ap val_of same

@@ -22,7 +22,7 @@ use Rattle.type_definitions.specs.Measures.{depth_of, leaves_of}
 use Rattle.type_definitions.specs.Mentions.{Mention, direct_types, given_type, in_decl, in_function, in_block, in_param, in_result, in_signature, mention, mentions_of, result_type, together}
 use Rattle.type_definitions.specs.Rules.{has_too_many_leaves, is_too_deep, is_too_low}
 use Rattle.type_definitions.specs.declared.standing.Standing.TheVariants.{Unwritten}
-use Rattle.value_reading.specs.Reading.{IsWithinLimits}
+use Rattle.value_reading.specs.inner.Reading.{IsWithinLimits}
 use Rattle.value_reading.specs.inner.Levels.{IsReadable}
 use Rattle.value_reading.proofs.Heights.{height_within}
 use Rattle.value_reading.proofs.Parts.{all_plain}

@@ -1,10 +1,9 @@
-mod Firsts
 mod Heights
 mod Members
 mod Sized
-mod Loops
 mod Parts
 mod Shaped
+mod Loops
 mod Cases
-mod GivenTypes
 mod Below
+mod GivenTypes

@@ -15,7 +15,7 @@ use Rattle.type_definitions.specs.Contained.{field_type}
 use Rattle.type_definitions.specs.Declarations.{Declarations}
 use Rattle.type_definitions.specs.Measures.{leaves_of}
 use Rattle.type_definitions.specs.Mentions.{direct_types, result_type}
-use Rattle.value_reading.specs.Reading.{IsValueOf}
+use Rattle.value_reading.specs.inner.Reading.{IsValueOf}
 use Rattle.value_reading.specs.inner.Levels.{IsReadable}
 use Rattle.value_reading.proofs.Members.{ReadsOn, ends, goes_on, group_read, starts}
 use Rattle.value_reading.proofs.Sized.{size_measured}
@@ -25,17 +25,14 @@ abbrev pub ReadsTypes : Declarations → ℕ → List TypeName → List Leaf →
 ReadsTypes d levels types ls vs more rest =
     Each (IsReadable d levels) types → Each (IsReadable d levels) more × ReadsOn (map (shape_of d) types) ls vs (map (shape_of d) more) rest
 
-first_of : {X : Type 0} (xs : List X) (i : ℕ) (x : X) → i < length xs → x ≡ get_or xs i x → drop i xs ≡ x ∷ drop (i + 1) xs
-first_of xs i x lt is = drop-cons xs i x lt ∙ ap (λ k. get_or xs i x ∷ drop k xs) (sym (add-one i)) ∙ ap (λ y. y ∷ drop (i + 1) xs) (sym is)
-
 -- what is left begins with what stands at the index
+
+pub first_of : {X : Type 0} (xs : List X) (i : ℕ) (x : X) → i < length xs → x ≡ get_or xs i x → drop i xs ≡ x ∷ drop (i + 1) xs
+first_of xs i x lt is = drop-cons xs i x lt ∙ ap (λ k. get_or xs i x ∷ drop k xs) (sym (add-one i)) ∙ ap (λ y. y ∷ drop (i + 1) xs) (sym is)
 
 pub field_left : (fields : List Field) (i : ℕ) (x : Field) → i < length fields → x ≡ get_or fields i x
     → map field_type (drop i fields) ≡ x.ty ∷ map field_type (drop (i + 1) fields)
 field_left fields i x lt is = ap (map field_type) (first_of fields i x lt is)
-
-pub element_left : (ts : List TypeName) (i : ℕ) (t : TypeName) → i < length ts → t ≡ get_or ts i t → drop i ts ≡ t ∷ drop (i + 1) ts
-element_left = first_of
 
 -- a direct result, or one that goes elsewhere
 

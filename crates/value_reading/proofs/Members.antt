@@ -9,7 +9,7 @@ use Rattle.run_values.specs.Values.{Value, grouped, val_of, vals_of, values_of}
 use Rattle.run_values.specs.declared.leaf.Leaf.{Leaf}
 use Rattle.run_values.specs.declared.value.Val.{Val}
 use Rattle.run_values.specs.declared.value.Val.TheVariants as val
-use Rattle.value_reading.specs.Reading.{IsValueOf}
+use Rattle.value_reading.specs.inner.Reading.{IsValueOf}
 
 pub each_in_leaves : (ss : List Shape) → each_by_layers leaves_layer (members_of ss) ≡ map in_leaves ss
 each_in_leaves [] = refl

@@ -1,6 +1,6 @@
 -- The parts of a type that can be read can be read with a level less.
 use Rattle.std.proofs.Common.{◌≡◌, ◌+◌, ◌<◌, ◌≤◌, ◌++◌, ℕ, suc, List, [], ◌∷◌, Bool, true, Option, Some, None, map, sum, length, refl, sym, ap, ap₂, ◌∙◌, subst, arith}
-use Rattle.std.specs.Prelude.{◌&&◌, max, option_map}
+use Rattle.std.specs.Prelude.{◌&&◌, option_map}
 use Rattle.std.specs.List.{flat_map, list_all}
 use Rattle.std.specs.Option.{option_to_list}
 use Rattle.std.proofs.lemmas.Bool.{and_parts}
@@ -9,7 +9,7 @@ use Rattle.numbered_form.specs.Lists.{Each}
 use Rattle.numbered_form.specs.Names.{Name}
 use Rattle.run_typing.specs.Runnable.{IsRunnable}
 use Rattle.run_typing_laws.proofs.ListFacts.{map_twice}
-use Rattle.run_typing_laws.proofs.Opened.{fold-Optional, fold-Tuple}
+use Rattle.run_typing_laws.proofs.Opened.{fold-Tuple}
 use Rattle.run_typing_laws.proofs.Whole.{no_ring, told_named}
 use Rattle.run_values.specs.Layers.{case_with, decl_with, named_within, over}
 use Rattle.run_values.specs.inner.Laws.{has_no_address, has_no_address_over}
@@ -48,14 +48,6 @@ module _ (d : Declarations) (levels : ℕ) where
 
   abbrev known : Name → Measure
   known = measure_at (all_names d) (measures_of d)
-
-  pub optional_part : (t : TypeName) → IsReadable d (levels + 1) (type.Optional t) → IsReadable d levels t
-  optional_part t r =
-      let leaves : leaves_of d (type.Optional t) ≡ 1 + max (leaves_of d t) 0 = ap leaves_in (fold-Optional Measure (measure_over known) t) in
-      let height : height_of d (type.Optional t) ≡ 1 + max (height_of d t) 0 = fold-Optional ℕ (over height_layer named_height) t in
-      let few : leaves_of d (type.Optional t) ≤ LEAVES = r.leaves in
-      let low : height_of d (type.Optional t) < levels + 1 = r.height in
-      record { runnable = r.runnable; plain = sym (fold-Optional Bool has_no_address_over t) ∙ r.plain; leaves = omega arith; height = omega arith }
 
   pub tuple_parts : (ts : List TypeName) → IsReadable d (levels + 1) (type.Tuple ts) → Each (IsReadable d levels) ts
   tuple_parts ts r =
@@ -118,12 +110,12 @@ pub struct_parts : (d : Declarations) → IsOfRunnable d → (levels : ℕ) (nam
     → IsReadable d (levels + 1) (type.Named name) → Each (IsReadable d levels) (map field_type fields)
 struct_parts = of_module
     (λ d. (levels : ℕ) (name n : Name) (fields : List Field) → decl_of d name ≡ Some (decl.Struct n fields)
-        → IsReadable d (levels + 1) (type.Named name) → Each (IsReadable d levels) (map field_type fields))
+    → IsReadable d (levels + 1) (type.Named name) → Each (IsReadable d levels) (map field_type fields))
     fields_readable
 
 pub enum_parts : (d : Declarations) → IsOfRunnable d → (levels : ℕ) (name n : Name) (cases : List Case) → decl_of d name ≡ Some (decl.Enum n cases)
     → IsReadable d (levels + 1) (type.Named name) → Each (IsReadable d levels) (flat_map payload_types cases)
 enum_parts = of_module
     (λ d. (levels : ℕ) (name n : Name) (cases : List Case) → decl_of d name ≡ Some (decl.Enum n cases)
-        → IsReadable d (levels + 1) (type.Named name) → Each (IsReadable d levels) (flat_map payload_types cases))
+    → IsReadable d (levels + 1) (type.Named name) → Each (IsReadable d levels) (flat_map payload_types cases))
     payloads_readable

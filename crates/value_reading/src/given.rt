@@ -10,11 +10,11 @@ ghost use Rattle.std.specs.Prelude.{map};
 ghost use Rattle.sil_rules.specs.declared.limits.TheConstants.{DEPTH};
 ghost use Rattle.type_definitions.specs.Declarations.{declarations_of};
 ghost use Rattle.type_definitions.specs.Mentions.{direct_types};
-ghost use Rattle.value_reading.specs.Reading.{IsValueOf};
+ghost use Rattle.value_reading.specs.inner.Reading.{IsValueOf};
 ghost use Rattle.value_reading.specs.inner.Levels.{IsReadable};
 
-use crate::leaves::{first_leaves, leaves_behind};
-use crate::read::{leaf_count, read_type, read_value};
+use crate::leaves::{first_leaves, leaf_count, leaves_behind};
+use crate::read::{read_type, read_value};
 use run_values::{Leaf, Val};
 use sil_ast::{Boxed, Exhausted, Function, Given, List, Module};
 use sil_rules::limits::DEPTH;

@@ -1,6 +1,6 @@
 //! A value from its leaves, level by level.
 
-ghost use Rattle.std.specs.Prelude.{◌≡◌, ◌≤◌, ◌+◌, [], Some, map, option_map, IfOk};
+ghost use Rattle.std.specs.Prelude.{◌≡◌, ◌+◌, [], Some, map, option_map, IfOk};
 ghost use Rattle.std.specs.List.{flat_map};
 ghost use Rattle.std.specs.Option.{option_to_list};
 ghost use Rattle.numbered_form.specs.Lists.{Each};
@@ -11,16 +11,15 @@ ghost use Rattle.sil_ast.specs.declared.module.Module.{Module};
 ghost use Rattle.sil_ast.specs.declared.type_name.TypeName.TheVariants as type_of;
 ghost use Rattle.type_definitions.specs.Contained.{field_type, payload_types};
 ghost use Rattle.type_definitions.specs.Declarations.{declarations_of};
-ghost use Rattle.type_definitions.specs.Measures.{leaves_of};
-ghost use Rattle.value_reading.specs.Reading.{IsValueOf, IsWithinLimits};
+ghost use Rattle.value_reading.specs.inner.Reading.{IsValueOf, IsWithinLimits};
 ghost use Rattle.value_reading.specs.inner.Levels.{IsReadable};
 ghost use Rattle.value_reading.specs.inner.Payloads.{IsCaseOf, case_layer_of, optional_of};
 
-use crate::leaves::{first_leaves, leaves_behind};
+use crate::leaves::{first_leaves, leaf_count, leaves_behind};
 use crate::single::{integer_at, no_value, object_at, weak_at};
 use run_values::{Leaf, Val};
 use sil_ast::{Boxed, Case, Decl, Exhausted, Field, List, Text, TypeName};
-use sil_rules::limits::{DEPTH, LEAVES};
+use sil_rules::limits::DEPTH;
 use sil_types::TypeTable;
 use std::alloc::Global;
 
@@ -37,17 +36,7 @@ pub fn read_value(
     read_type(alloc, table, DEPTH + 1, ty, leaves)
 }
 
-/// How many leaves a type has, if it is within the limit on them.
-pub(crate) fn leaf_count(table: &TypeTable, ty: &TypeName) -> usize
-    ensures { leaves_of table.now ty.now ≤ LEAVES → result ≡ leaves_of table.now ty.now }
-{
-    match table.leaves_within(ty) {
-        Some(count) => count as usize,
-        None => 0,
-    }
-}
-
-/// The value of a type, of which it has fewer levels than these.
+/// The value of a type whose values have fewer levels than these.
 #[cycle(read)]
 pub(crate) fn read_type(
     alloc: Global,

@@ -14,14 +14,14 @@ loop-given-preserved c =
     let left = direct_types (drop i results) in
     let more = direct_types (drop (i + 1) results) in
     elim c.if-not-given.branch [
-      then-not-given+in_ok-member+in_ok-push w ↦
-        next_read d DEPTH (direct_types results) c.args.leaves.now x.ty left more c.loop-given.members c.if-not-given.members c.loop-given.rest.now
-        w.first_leaves.result.now c.if-not-given.rest.now w.leaf_count-count.result w.in_ok-member.member
-        (direct_left results i x c.loop-given-test.true c.given-item.is w.if-not-given.true) c.loop-given.invariant w.leaf_count-count.ensures w.first_leaves.ensures
-        w.in_ok-member.ensures (w.members-is ∙ w.in_ok-push.ensures.ok) (ap (λ r. r.now) w.rest-is ∙ w.leaves_behind-rest.ensures)
-    | else-not-given w ↦
-        same_read d DEPTH (direct_types results) c.args.leaves.now left more c.loop-given.members c.if-not-given.members c.loop-given.rest.now c.if-not-given.rest.now
-        (out_left results i x c.loop-given-test.true c.given-item.is w.if-not-given.false) c.loop-given.invariant w.members-is (ap (λ r. r.now) w.rest-is)
+      | then-not-given+in_ok-member+in_ok-push w ↦
+          next_read d DEPTH (direct_types results) c.args.leaves.now x.ty left more c.loop-given.members c.if-not-given.members c.loop-given.rest.now
+          w.first_leaves.result.now c.if-not-given.rest.now w.leaf_count-count.result w.in_ok-member.member
+          (direct_left results i x c.loop-given-test.true c.given-item.is w.if-not-given.true) c.loop-given.invariant w.leaf_count-count.ensures w.first_leaves.ensures
+          w.in_ok-member.ensures (w.members-is ∙ w.in_ok-push.ensures.ok) (ap (λ r. r.now) w.rest-is ∙ w.leaves_behind-rest.ensures)
+      | else-not-given w ↦
+          same_read d DEPTH (direct_types results) c.args.leaves.now left more c.loop-given.members c.if-not-given.members c.loop-given.rest.now c.if-not-given.rest.now
+          (out_left results i x c.loop-given-test.true c.given-item.is w.if-not-given.false) c.loop-given.invariant w.members-is (ap (λ r. r.now) w.rest-is)
     ]
 
 pub returns : goal.returns

@@ -6,12 +6,11 @@ use Rattle.run_values.specs.declared.leaf.Leaf.TheVariants as leaf
 use Rattle.type_definitions.specs.Contained.{field_type}
 use Rattle.type_definitions.specs.Declarations.{decl_of}
 use Rattle.sil_ast.specs.declared.decl.Decl.TheVariants as decl
-use Rattle.value_reading.specs.Reading.{IsValueOf}
+use Rattle.value_reading.specs.inner.Reading.{IsValueOf}
 use Rattle.value_reading.specs.inner.Payloads.{case_layer_of}
 use Rattle.value_reading.proofs.Below.{case_below, enum_below, full_below, struct_below, tuple_below}
-use Rattle.value_reading.proofs.Cases.{no_case}
-use Rattle.value_reading.proofs.Firsts.{first_is}
-use Rattle.value_reading.proofs.Loops.{all_read, element_left, field_left, next_read, none_left}
+use Rattle.value_reading.proofs.Cases.{first_is, no_case}
+use Rattle.value_reading.proofs.Loops.{all_read, field_left, first_of, next_read, none_left}
 use Rattle.value_reading.proofs.Shaped.{class_is, integer_is, unknown_is, unowned_is}
 use Rattle.value_reading.proofs.read.+read.Goals as goal
 
@@ -77,7 +76,7 @@ read_elements-loop-element-preserved t c =
     let i = c.loop-element.element-index in
     next_read c.args.table.now c.args.levels elements c.args.leaves.now c.element-item.result (drop i elements) (drop (i + 1) elements)
     c.loop-element.members c.push.new.self c.loop-element.rest.now c.first_leaves.result.now c.leaves_behind-rest.result.now c.leaf_count-count.result c.in_ok-member.member
-    (element_left elements i c.element-item.result c.loop-element-test.true c.element-item.is) c.loop-element.invariant c.leaf_count-count.ensures c.first_leaves.ensures
+    (first_of elements i c.element-item.result c.loop-element-test.true c.element-item.is) c.loop-element.invariant c.leaf_count-count.ensures c.first_leaves.ensures
     c.in_ok-member.ensures c.in_ok-push.ensures.ok c.leaves_behind-rest.ensures
 
 pub read_elements-returns : goal.read_elements-returns
@@ -103,7 +102,7 @@ read_case-returns-in-None t c = λ each.
     let leaves = first_is c.args.leaves.now (leaf.Tag k) (sym c.in-Some-Tag.ensures.value ∙ ap Some c.in-Some-Tag.field-0-is) in
     let none = slice_get_past cases k c.in-None.ensures.lookup.3 in
     subst (λ ls. IsValueOf (Enum [] (cases_of (map (case_layer_of c.args.table.now) cases))) ls c.no_value-in-None.result) (sym leaves)
-        (no_case c.args.table.now [] cases k (drop 1 c.args.leaves.now) c.no_value-in-None.result none)
+    (no_case c.args.table.now [] cases k (drop 1 c.args.leaves.now) c.no_value-in-None.result none)
 
 pub read_full-returns : goal.read_full-returns
 read_full-returns t c =
