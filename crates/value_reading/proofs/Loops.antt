@@ -17,7 +17,7 @@ use Rattle.type_definitions.specs.Measures.{leaves_of}
 use Rattle.type_definitions.specs.Mentions.{direct_types, result_type}
 use Rattle.value_reading.specs.inner.Reading.{IsValueOf}
 use Rattle.value_reading.specs.inner.Levels.{IsReadable}
-use Rattle.value_reading.proofs.Members.{ReadsOn, ends, goes_on, group_read, starts}
+use Rattle.value_reading.proofs.Members.{ReadsOn, ends, goes_on, group_read}
 use Rattle.value_reading.proofs.Sized.{size_measured}
 
 -- of types that can all be read some are read, and others are still to be read from the rest
@@ -55,9 +55,6 @@ none_left (x ∷ xs) zero le = absurd (omega arith)
 none_left (x ∷ xs) (suc i) le = none_left xs i (omega arith)
 
 module _ (d : Declarations) (levels : ℕ) (types : List TypeName) (ls : List Leaf) where
-  pub none_read : ReadsTypes d levels types ls [] types ls
-  none_read h = (h, starts (map (shape_of d) types) ls)
-
   -- the next of them is read from the first leaves of the rest
   pub next_read : (t : TypeName) (left more : List TypeName) (vs longer : List Val) (rest first behind : List Leaf) (count : ℕ) (v : Val) → left ≡ t ∷ more
       → ReadsTypes d levels types ls vs left rest → (leaves_of d t ≤ LEAVES → count ≡ leaves_of d t) → first ≡ take count rest

@@ -39,9 +39,6 @@ one_more s ss ls v vs first others xs e =
 abbrev pub ReadsOn : List Shape → List Leaf → List Val → List Shape → List Leaf → Type 0
 ReadsOn ss ls vs more rest = (tail : List Val) → AreValuesOf more rest tail → AreValuesOf ss ls (vs ++ tail)
 
-pub starts : (ss : List Shape) (ls : List Leaf) → ReadsOn ss ls [] ss ls
-starts ss ls tail h = h
-
 pub goes_on : (ss more : List Shape) (s : Shape) (ls rest : List Leaf) (vs : List Val) (v : Val) → ReadsOn ss ls vs (s ∷ more) rest
     → IsValueOf s (take (in_leaves s).size rest) v → ReadsOn ss ls (vs ++ v ∷ []) more (drop (in_leaves s).size rest)
 goes_on ss more s ls rest vs v on first tail h =

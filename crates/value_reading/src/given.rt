@@ -1,12 +1,11 @@
 //! The value that a function gives, from its leaves.
 
-ghost use Rattle.std.specs.Prelude.{◌≡◌, ℕ, slice_get, IfOk};
+ghost use Rattle.std.specs.Prelude.{◌≡◌, ℕ, map, slice_get, IfOk};
 ghost use Rattle.numbered_form.specs.Lists.{Each};
 ghost use Rattle.run_typing.specs.Forms.{given_shape};
 ghost use Rattle.run_typing.specs.Runnable.{IsRunnable};
 ghost use Rattle.run_values.specs.Shapes as shape;
 ghost use Rattle.run_values.specs.Shapes.{members_of, shape_of};
-ghost use Rattle.std.specs.Prelude.{map};
 ghost use Rattle.sil_rules.specs.declared.limits.TheConstants.{DEPTH};
 ghost use Rattle.type_definitions.specs.Declarations.{declarations_of};
 ghost use Rattle.type_definitions.specs.Mentions.{direct_types};
