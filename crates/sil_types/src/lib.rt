@@ -3,6 +3,7 @@
 #![tactic(auto)]
 
 mod build;
+mod contents;
 mod items;
 mod limits;
 mod lookups;

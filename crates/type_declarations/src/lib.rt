@@ -4,6 +4,7 @@
 
 mod ancestors;
 mod build;
+mod contents;
 mod lookups;
 mod name_index;
 mod table;
