@@ -1,5 +1,5 @@
 -- A value is read as one of its type's parts are.
-use Rattle.std.proofs.Common.{◌≡◌, ◌+◌, ◌≤◌, ℕ, List, [], ◌∷◌, Option, Some, None, map, take, drop, length, sym, ap, ◌∙◌, subst}
+use Rattle.std.proofs.Common.{◌≡◌, ◌+◌, ◌≤◌, ℕ, List, [], ◌∷◌, Some, map, take, drop, sym, ap, ◌∙◌, subst}
 use Rattle.std.specs.Prelude.{IfOk, Result, Ok, Err, option_map, slice_get}
 use Rattle.std.specs.List.{flat_map}
 use Rattle.std.specs.Option.{option_to_list}
@@ -28,7 +28,7 @@ use Rattle.value_reading.specs.inner.Levels.{IsReadable}
 use Rattle.value_reading.specs.inner.Payloads.{IsCaseOf, case_layer_of}
 use Rattle.value_reading.proofs.Cases.{case_read, first_is, full_read}
 use Rattle.value_reading.proofs.Parts.{enum_parts, struct_parts, tuple_parts}
-use Rattle.value_reading.proofs.Shaped.{class_is, enum_is, struct_is, tuple_is}
+use Rattle.value_reading.proofs.Shaped.{enum_is, struct_is, tuple_is}
 use Rattle.value_reading.proofs.Sized.{size_measured}
 
 if_ok : (P Q : Val → Type 0) → ((v : Val) → P v → Q v) → (result : Result Val Exhausted) → IfOk result P → IfOk result Q

@@ -1,17 +1,15 @@
 -- The shapes of types of a runnable module.
-use Rattle.std.proofs.Common.{◌≡◌, ℕ, List, true, None, Option, Some, map, length, sym, ap, ◌∙◌}
+use Rattle.std.proofs.Common.{◌≡◌, ℕ, List, None, Option, Some, map, length, sym, ap, ◌∙◌}
 use Rattle.numbered_form.specs.Names.{Name}
-use Rattle.run_typing.specs.Runnable.{IsRunnable}
 use Rattle.run_typing_laws.proofs.ListFacts.{map_twice}
 use Rattle.run_typing_laws.proofs.ShapeFacts.{class_shape, enum_shape, int_shape, struct_shape, tuple_shape, unowned_shape}
 use Rattle.run_typing_laws.proofs.Whole.{no_ring, told_named}
 use Rattle.run_values.specs.Layers.{decl_with, named_within}
-use Rattle.run_values.specs.Shapes.{Enum, Integer, Reference, Shape, Stored, Struct, Tuple, Unknown, cases_of, members_of, shape_of, shape_with}
+use Rattle.run_values.specs.Shapes.{Enum, Integer, Reference, Stored, Struct, Tuple, Unknown, cases_of, members_of, shape_of, shape_with}
 use Rattle.sil_ast.specs.declared.decl.Case.{Case}
 use Rattle.sil_ast.specs.declared.decl.Decl.TheVariants as decl
 use Rattle.sil_ast.specs.declared.decl.Field.{Field}
 use Rattle.sil_ast.specs.declared.decl.Storage.TheVariants as storage
-use Rattle.sil_ast.specs.declared.module.Module.{Module}
 use Rattle.sil_ast.specs.declared.type_name.TypeName.{TypeName}
 use Rattle.sil_ast.specs.declared.type_name.TypeName.TheVariants as type
 use Rattle.type_definitions.specs.Contained.{field_type}

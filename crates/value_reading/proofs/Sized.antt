@@ -1,6 +1,6 @@
 -- What is measured on types of a runnable module: how many leaves its types have, and that no address stands in what it declares.
 use Rattle.std.proofs.Common.{◌≡◌, ◌+◌, ◌≤◌, ℕ, zero, suc, List, [], ◌∷◌, ◌++◌, Bool, true, Option, Some, None, map, sum, refl, sym, ap, ap₂, ◌∙◌, subst, arith}
-use Rattle.std.specs.Prelude.{◌&&◌, option_map, slice_get}
+use Rattle.std.specs.Prelude.{option_map, slice_get}
 use Rattle.std.specs.List.{flat_map, list_all}
 use Rattle.std.specs.Option.{option_to_list}
 use Rattle.std.proofs.lemmas.Bool.{and_parts}
@@ -9,7 +9,7 @@ use Rattle.run_typing.specs.Runnable.{IsRunnable}
 use Rattle.run_typing_laws.proofs.Declared.{found_at}
 use Rattle.run_typing_laws.proofs.ShapeFacts.{enum_shape, struct_shape}
 use Rattle.run_typing_laws.proofs.Sizes.{no_addresses, sizes}
-use Rattle.run_values.specs.Leaves.{in_leaves, leaves_layer, longest_payload, payload_sizes, size_of}
+use Rattle.run_values.specs.Leaves.{in_leaves, leaves_layer, payload_sizes, size_of}
 use Rattle.run_values.specs.Shapes.{CaseShapes, cases_by_layers, cases_of, each_by_layers, members_of, shape_of, with_case}
 use Rattle.run_values.specs.inner.Laws.{has_no_address, holds_no_address}
 use Rattle.sil_ast.specs.TypeName.{largest}

@@ -1,11 +1,8 @@
 use Rattle.std.proofs.Common.{◌≡◌, ◌+◌, ◌-◌, [], Some, drop, map, length, refl, sym, ap, ◌∙◌, subst, arith}
-use Rattle.std.specs.Prelude.{slice_get}
 use Rattle.std.proofs.lemmas.Option.{slice_get_past, slice_get_read}
 use Rattle.run_values.specs.Shapes.{Enum, cases_of, shape_of}
 use Rattle.run_values.specs.declared.leaf.Leaf.TheVariants as leaf
 use Rattle.type_definitions.specs.Contained.{field_type}
-use Rattle.type_definitions.specs.Declarations.{decl_of}
-use Rattle.sil_ast.specs.declared.decl.Decl.TheVariants as decl
 use Rattle.value_reading.specs.inner.Reading.{IsValueOf}
 use Rattle.value_reading.specs.inner.Payloads.{case_layer_of}
 use Rattle.value_reading.proofs.Below.{case_below, enum_below, full_below, struct_below, tuple_below}
