@@ -1,0 +1,9 @@
+mod Heights
+mod Members
+mod Sized
+mod Parts
+mod Shaped
+mod Loops
+mod Cases
+mod Below
+mod GivenTypes
