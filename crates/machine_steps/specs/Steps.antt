@@ -131,7 +131,7 @@ module _ (ready : ReadyModule) (bound : ℕ) where
       cond (not (strong_in st.heap o == 0)) (Stops end.Escaped st)
       (cond (is_deiniting (phase_in st.heap o))
       (Goes (dropping (strong_in_fields (class_of ready st.heap o).fields (fields_in st.heap o))
-        (record st { heap = finished (fields_unnamed (class_of ready st.heap o).fields (fields_in st.heap o) st.heap) o })))
+      (record st { heap = finished (fields_unnamed (class_of ready st.heap o).fields (fields_in st.heap o) st.heap) o })))
       (faults fault.Slot st))
 
   abbrev pub deinit_step : MachineView → ObjectId → ℕ → List Task → Option FuncId → Went

@@ -91,7 +91,7 @@ pub data IsReadyOp (m : Module) (f : Function) (i : Inst) : ReadyOp → Type 0 w
   calls : (c r : ValueId) (args : List ValueId) (g : FuncId) (callee : Function) → effect_of i.op ≡ row.CallsFunction → operands_of i ≡ c ∷ args
       → i.results ≡ r ∷ [] → form_of (d m f i) f c ≡ OfFunction g → slice_get m.functions g.0 ≡ Some callee → has_any callee.blocks ≡ true
       → IsReadyOp m f i (op.Call g (c ∷ args) (values_carried (d m f i) f callee args (item_defined callee item.Entry))
-          (addresses_carried (d m f i) f callee args (item_defined callee item.Entry)) (L m f i r))
+      (addresses_carried (d m f i) f callee args (item_defined callee item.Entry)) (L m f i r))
   calls_out : (c r : ValueId) (args : List ValueId) (g : FuncId) (callee : Function) → effect_of i.op ≡ row.CallsFunction → operands_of i ≡ c ∷ args
       → i.results ≡ r ∷ [] → form_of (d m f i) f c ≡ OfFunction g → slice_get m.functions g.0 ≡ Some callee → has_any callee.blocks ≡ false
       → IsReadyOp m f i (op.CallOut g (c ∷ args) (map (L m f i) args) (L m f i r))

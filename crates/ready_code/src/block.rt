@@ -21,7 +21,9 @@ pub struct ReadyCase {
 /// A terminator.
 #[derive(Drop)]
 pub enum ReadyEnd {
-    Jump { edge: ReadyEdge },
+    Jump {
+        edge: ReadyEdge,
+    },
     /// The first edge is taken where the condition is set.
     Branch {
         condition: Local,
@@ -29,8 +31,13 @@ pub enum ReadyEnd {
         clear: ReadyEdge,
     },
     /// By the case of the operand, one for each case of its enum.
-    Switch { operand: Local, cases: List<ReadyCase> },
-    Return { operand: Local },
+    Switch {
+        operand: Local,
+        cases: List<ReadyCase>,
+    },
+    Return {
+        operand: Local,
+    },
     Unreachable,
 }
 

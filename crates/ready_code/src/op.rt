@@ -8,11 +8,18 @@ use sil_ast::{FuncId, List, Storage, ValueId};
 #[derive(Drop)]
 pub enum ReadyOp {
     /// The value has to be there, and that is all.
-    Look { value: ValueId },
+    Look {
+        value: ValueId,
+    },
     /// The result is the integer.
-    Literal { number: i64, to: Local },
+    Literal {
+        number: i64,
+        to: Local,
+    },
     /// The result stands for a function. It has no leaves: a call of it knows the function.
-    Function { to: ValueId },
+    Function {
+        to: ValueId,
+    },
     /// The result is what a builtin operation gives. `other` has to be there, and changes nothing.
     Compute {
         operation: Operation,
@@ -23,23 +30,46 @@ pub enum ReadyOp {
         to: Local,
     },
     /// The run ends with a trap where the operand is set.
-    TrapWhereSet { operand: Local },
+    TrapWhereSet {
+        operand: Local,
+    },
     /// The result is a new object of the class with this place among the declarations.
-    MakeObject { class: u32, to: Local },
+    MakeObject {
+        class: u32,
+        to: Local,
+    },
     /// The result is the address of a new slot with so many leaves.
-    MakeSlot { size: u32, to: LocalAddress },
+    MakeSlot {
+        size: u32,
+        to: LocalAddress,
+    },
     /// The newest slot of the frame goes.
-    RemoveSlot { address: LocalAddress },
+    RemoveSlot {
+        address: LocalAddress,
+    },
     /// The result is the operand.
-    Same { from: Local, to: Local },
+    Same {
+        from: Local,
+        to: Local,
+    },
     /// The operand's references are made once more.
-    Retain { operand: Local },
+    Retain {
+        operand: Local,
+    },
     /// The operand's references are dropped.
-    Drop { operand: Local },
+    Drop {
+        operand: Local,
+    },
     /// The result is the value at the place.
-    Load { address: LocalAddress, to: Local },
+    Load {
+        address: LocalAddress,
+        to: Local,
+    },
     /// The value is put at the place.
-    Store { from: Local, address: LocalAddress },
+    Store {
+        from: Local,
+        address: LocalAddress,
+    },
     /// The result is the object that weak or unowned storage names. The storage is emptied where `takes` says so.
     LoadName {
         storage: Storage,
@@ -55,9 +85,15 @@ pub enum ReadyOp {
         address: LocalAddress,
     },
     /// Weak or unowned storage is emptied.
-    ForgetName { storage: Storage, address: LocalAddress },
+    ForgetName {
+        storage: Storage,
+        address: LocalAddress,
+    },
     /// The result has the operands as its members.
-    Group { operands: List<Local>, to: Local },
+    Group {
+        operands: List<Local>,
+        to: Local,
+    },
     /// The result is the case with this place, with its payload if it has one.
     Choose {
         case_index: u32,
@@ -65,7 +101,11 @@ pub enum ReadyOp {
         to: Local,
     },
     /// The result is the part of the operand whose leaves begin at `from`.
-    Member { operand: Local, from: u32, to: Local },
+    Member {
+        operand: Local,
+        from: u32,
+        to: Local,
+    },
     /// The result is the address of the part whose leaves begin at `from` within the place.
     MemberAddress {
         address: LocalAddress,
