@@ -1,0 +1,3 @@
+pub mod ClassFields
+pub mod Layouts
+pub mod inner

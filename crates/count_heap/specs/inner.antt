@@ -1,0 +1,5 @@
+pub mod Objects
+pub mod Kept
+pub mod Allocating
+pub mod Answers
+pub mod Written

@@ -1,0 +1,4 @@
+pub mod Stacks
+pub mod ListParts
+pub mod Freed
+pub mod Pools

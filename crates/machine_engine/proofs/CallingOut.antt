@@ -1,0 +1,54 @@
+-- A call of a function without a body: a turn, an event, and a result without leaves.
+use Rattle.std.proofs.Common.{◌≡◌, ℕ, ℤ, ◌+◌, Bool, true, false, cond, List, [], ◌∷◌, ◌++◌, map, refl, sym, ap, subst, ◌∙◌}
+use Rattle.std.specs.Prelude.{nat_lt}
+use Rattle.std.specs.declared.result.Result.{Result}
+use Rattle.holder_model.specs.declared.event.Event.TheVariants as event
+use Rattle.machine_steps.specs.declared.frame.Frame.{Frame}
+use Rattle.machine_steps.specs.declared.frame.Task.{Task}
+use Rattle.machine_steps.specs.declared.frame.Task.TheVariants.{Runs}
+use Rattle.machine_steps.specs.declared.run_end.RunEnd.TheVariants as end
+use Rattle.machine_steps.specs.Operands.{contents, gives, int_among, put, put_there}
+use Rattle.machine_steps.specs.Turning.{turn}
+use Rattle.machine_steps.specs.Views.{Goes, MachineView, Stops, Went}
+use Rattle.ready_code.specs.declared.local.Local.{Local}
+use Rattle.run_values.specs.declared.leaf.Leaf.{Leaf}
+use Rattle.sil_ast.specs.declared.place.FuncId.{FuncId}
+use Rattle.machine_engine.specs.Performing.{GoesOn}
+use Rattle.machine_engine.specs.Went.{HasGone}
+use Rattle.machine_engine.specs.declared.stop.Stop.{Stop}
+use Rattle.machine_engine.proofs.LaidOver.{laid_over-nil}
+
+pub put_nothing : (st : MachineView) (fr : Frame) (to : Local) → put_there st fr to.value ≡ put st fr to []
+put_nothing st fr to = ap (λ (leaves : List Leaf). put_there (record st { leaves = leaves }) fr to.value) (sym (laid_over-nil (fr.leaves + to.at) st.leaves))
+
+abbrev turned : MachineView → MachineView
+turned st = record st { turns = st.turns + 1 }
+
+turn_by : (b : Bool) (st after : MachineView) → cond b (Goes (turned st)) (Stops end.OutOfTurns st) ≡ Goes after →
+    (after ≡ turned st) × ((go : MachineView → Went) → cond b (go (turned st)) (Stops end.OutOfTurns st) ≡ go after)
+turn_by true st after e = let same : after ≡ turned st = cc in (same, λ go. ap go (sym same))
+turn_by false st after e = cc
+
+-- what goes on behind a turn that was taken
+pub turn_taken : (bound : ℕ) (st after : MachineView) → turn bound st Goes ≡ Goes after →
+    (after ≡ turned st) × ((go : MachineView → Went) → turn bound st go ≡ go after)
+turn_taken bound st after e = turn_by (nat_lt st.turns bound) st after e
+
+abbrev args_in : MachineView → Frame → List Local → List ℤ
+args_in st fr args = map (λ (l : Local). int_among (contents st fr l)) args
+
+abbrev with_call : MachineView → FuncId → List ℤ → MachineView
+with_call st g numbers = record st { events = st.events ++ event.Call g numbers ∷ [] }
+
+pub called_out : (bound : ℕ) (st after shown new : MachineView) (fr : Frame) (rest : List Task) (g : FuncId) (args : List Local) (to : Local)
+    (result : Result (Unit {0}) Stop) → turn bound st Goes ≡ Goes after → shown ≡ with_call after g (args_in after fr args) →
+    GoesOn shown fr (put shown fr to []) result new → st.tasks ≡ Runs fr ∷ rest →
+    HasGone (turn bound st (λ next. gives (with_call next g (args_in st fr args)) fr rest to [])) result new
+called_out bound st after shown new fr rest g args to result taken is goes tasks =
+    let told = turn_taken bound st after taken in
+    let Shown : MachineView → Type 0 = λ next. HasGone (gives (with_call after g (args_in next fr args)) fr rest to []) result new in
+    let over : shown.tasks ≡ Runs fr ∷ rest =
+        ap (λ (it : MachineView). it.tasks) is ∙ ap (λ (it : MachineView). it.tasks) told.0 ∙ tasks in
+    let here : Shown after = subst (λ (it : MachineView). HasGone (gives it fr rest to []) result new) is (goes rest over) in
+    subst (λ (went : Went). HasGone went result new) (sym (told.1 (λ next. gives (with_call next g (args_in st fr args)) fr rest to [])))
+    (subst Shown told.0 here)

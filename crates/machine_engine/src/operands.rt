@@ -1,0 +1,156 @@
+//! How a frame reads its operands and puts its results.
+
+ghost use Rattle.std.specs.Prelude.{◌≡◌, ◌∷◌, [], List, IfErr, OnOk, reverse};
+ghost use Rattle.machine_steps.specs.declared.frame.Task.{Task};
+ghost use Rattle.machine_steps.specs.declared.frame.Task.TheVariants.{Runs};
+ghost use Rattle.machine_steps.specs.Operands.{address_in, contents, first_leaf, int_among, is_there_in, put, put_address, put_there};
+ghost use Rattle.machine_steps.specs.Turning.{frames_in};
+ghost use Rattle.machine_engine.specs.Performing.{GoesOn};
+ghost use Rattle.machine_engine.specs.Raised.{raised};
+ghost use Rattle.machine_engine.specs.declared.stop.Stop.TheVariants.{Memory};
+
+use crate::leaf_lists::{leaf_at, lay_one, lay_over, move_over, window};
+use crate::machine::Machine;
+use crate::stop::Stop;
+use machine_steps::{Address, Frame, Home, Task};
+use ready_code::{Local, LocalAddress};
+use run_values::Leaf;
+use sil_ast::ValueId;
+
+impl Machine {
+    /// Whether a value of the frame is there.
+    #[inline]
+    pub(crate) fn is_there(&self, frame: &Frame, value: ValueId) -> bool
+        ensures { result ≡ is_there_in self.now frame.now value }
+    {
+        match self
+            .there
+            .get(frame.values.saturating_add(value.0 as usize))
+        {
+            Some(there) => *there,
+            None => false,
+        }
+    }
+
+    #[inline]
+    pub(crate) fn put_there(&mut self, frame: &Frame, value: ValueId)
+        ensures { self.new ≡ put_there self.old frame.now value }
+    {
+        let at = frame.values.saturating_add(value.0 as usize);
+        if at < self.there.len() {
+            self.there[at] = true;
+        }
+    }
+
+    /// A value becomes one leaf.
+    #[inline]
+    pub(crate) fn put_leaf(&mut self, frame: &Frame, to: Local, leaf: Leaf)
+        ensures { self.new ≡ put self.old frame.now to (leaf ∷ []) }
+    {
+        lay_one(
+            &mut self.leaves,
+            frame.leaves.saturating_add(to.at as usize),
+            leaf,
+        );
+        self.put_there(frame, to.value);
+    }
+
+    /// A value becomes what another one is.
+    #[inline]
+    pub(crate) fn copy(&mut self, frame: &Frame, from: Local, to: Local)
+        ensures { self.new ≡ put self.old frame.now to (contents self.old frame.now from) }
+    {
+        let at = frame.leaves.saturating_add(from.at as usize);
+        move_over(
+            &mut self.leaves,
+            at,
+            from.size as usize,
+            frame.leaves.saturating_add(to.at as usize),
+        );
+        self.put_there(frame, to.value);
+    }
+
+    /// The address that a value is.
+    #[inline]
+    pub(crate) fn address(&self, frame: &Frame, address: LocalAddress) -> Address
+        ensures { result ≡ address_in self.now frame.now address }
+    {
+        match self
+            .addresses
+            .get(frame.addresses.saturating_add(address.at as usize))
+        {
+            Some(found) => *found,
+            None => Address {
+                home: Home::Slot {
+                    index: 0,
+                    serial: 0,
+                },
+                from: 0,
+                is_part: false,
+            },
+        }
+    }
+
+    #[inline]
+    pub(crate) fn put_address(&mut self, frame: &Frame, to: LocalAddress, address: Address)
+        ensures { self.new ≡ put_address self.old frame.now to address }
+    {
+        let at = frame.addresses.saturating_add(to.at as usize);
+        if at < self.addresses.len() {
+            self.addresses[at] = address;
+        }
+        self.put_there(frame, to.value);
+    }
+
+    /// The frame goes on behind its instruction.
+    #[inline]
+    pub(crate) fn go_on(&mut self) -> Result<(), Stop>
+        ensures { (fr : Frame) → GoesOn self.old fr self.old result self.new }
+    {
+        raise_index(&mut self.tasks)
+    }
+
+    /// The first leaf of a value.
+    #[inline]
+    pub(crate) fn first(&self, frame: &Frame, local: Local) -> Leaf
+        ensures { result ≡ first_leaf (contents self.now frame.now local) }
+    {
+        if local.size == 0 {
+            return Leaf::Blank;
+        }
+        leaf_at(&self.leaves, frame.leaves.saturating_add(local.at as usize))
+    }
+
+    /// The integer that a value is.
+    #[inline]
+    pub(crate) fn int(&self, frame: &Frame, local: Local) -> i64
+        ensures { result ≡ int_among (contents self.now frame.now local) }
+    {
+        match self.first(frame, local) {
+            Leaf::Int(number) => number,
+            Leaf::Object(_) => 0,
+            Leaf::Tag(_) => 0,
+            Leaf::Blank => 0,
+        }
+    }
+}
+
+/// The last task, if it is a frame, goes on behind its instruction.
+#[inline]
+fn raise_index(tasks: &mut [Task]) -> Result<(), Stop>
+    ensures frames { frames_in (reverse tasks.new) ≡ frames_in (reverse tasks.old) }
+    ensures raised { OnOk result (reverse tasks.new ≡ raised (reverse tasks.old)) }
+    ensures full { IfErr result (λ stop. stop ≡ Memory) }
+{
+    let count = tasks.len();
+    if count == 0 {
+        return Ok(());
+    }
+    if let Task::Runs { frame } = &mut tasks[count - 1] {
+        if frame.index == u32::MAX {
+            return Err(Stop::Memory);
+        }
+        frame.index += 1;
+    }
+    Ok(())
+}

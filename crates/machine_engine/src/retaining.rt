@@ -1,0 +1,101 @@
+//! References that are made once more.
+
+ghost use Rattle.std.specs.Prelude.{◌≡◌, false, IfErr, OnOk};
+ghost use Rattle.heap_model.specs.HeapCalls.{retained};
+ghost use Rattle.heap_model.specs.HeapViews.{is_dead_in};
+ghost use Rattle.machine_steps.specs.Operands.{contents, object_in_leaf, objects_among};
+ghost use Rattle.machine_steps.specs.Turning.{retains_all};
+ghost use Rattle.machine_steps.specs.Views.{Goes, MachineView};
+ghost use Rattle.ready_code.specs.declared.op.ReadyOp.TheVariants as op;
+ghost use Rattle.machine_engine.specs.Performing.{Performs};
+ghost use Rattle.machine_engine.specs.Went.{HasGone};
+ghost use Rattle.machine_engine.specs.declared.stop.Stop.TheVariants.{Memory};
+
+use crate::fields::is_dead;
+use crate::heap::Heap;
+use crate::leaf_lists::leaves_from;
+use crate::machine::Machine;
+use crate::stop::{Stop, fault, missing};
+use lowered_run::LowFault;
+use machine_steps::Frame;
+use ready_code::Local;
+use run_values::Leaf;
+use sil_ast::ObjectId;
+
+/// One strong reference more of an object that isn't dead.
+#[inline]
+fn retain(heap: &mut Heap, object: ObjectId) -> Result<(), Stop>
+    requires { is_dead_in heap.old object ≡ false }
+    ensures retained { OnOk result (heap.new ≡ retained heap.old object) }
+    ensures full { IfErr result (λ stop. stop ≡ Memory) }
+{
+    if heap.strong(object) >= 1 << 63 || heap.totals().retains >= 1 << 63 {
+        return Err(Stop::Memory);
+    }
+    heap.retain(object);
+    Ok(())
+}
+
+/// One reference more of the object of a leaf, if it has one. A dead one is a fault.
+#[inline]
+fn retain_leaf(heap: &mut Heap, leaf: Leaf) -> Result<(), Stop>
+    ensures { (st : MachineView) → st.heap ≡ heap.old → HasGone (retains_all (object_in_leaf leaf) st Goes) result (record st { heap = heap.new }) }
+{
+    match leaf {
+        Leaf::Int(_) => Ok(()),
+        Leaf::Object(object) => {
+            if is_dead(heap, object) {
+                return Err(fault(LowFault::Dead { object }));
+            }
+            retain(heap, object)
+        }
+        Leaf::Tag(_) => Ok(()),
+        Leaf::Blank => Ok(()),
+    }
+}
+
+/// One reference more of each object among leaves. A dead one is a fault.
+#[inline]
+fn retain_all(heap: &mut Heap, leaves: &[Leaf]) -> Result<(), Stop>
+    ensures { (st : MachineView) → st.heap ≡ heap.old → HasGone (retains_all (objects_among leaves.now) st Goes) result (record st { heap = heap.new }) }
+{
+    for leaf in leaves {
+        if let Err(stop) = retain_leaf(heap, *leaf) {
+            return Err(stop);
+        }
+    }
+    Ok(())
+}
+
+impl Machine {
+    /// One strong reference more of an object that isn't dead.
+    #[inline]
+    pub(crate) fn retain_one(&mut self, object: ObjectId) -> Result<(), Stop>
+        requires { is_dead_in self.old.heap object ≡ false }
+        ensures retained { OnOk result (self.new ≡ record self.old { heap = retained self.old.heap object }) }
+        ensures full { IfErr result (λ stop. stop ≡ Memory) }
+    {
+        retain(&mut self.heap, object)
+    }
+
+    /// One reference more of each object of a value.
+    #[inline]
+    fn retain_value(&mut self, frame: &Frame, operand: Local) -> Result<(), Stop>
+        ensures { HasGone (retains_all (objects_among (contents self.old frame.now operand)) self.old Goes) result self.new }
+    {
+        retain_all(&mut self.heap, leaves_from(&self.leaves, frame.leaves, operand))
+    }
+
+    #[inline]
+    pub(crate) fn retain(&mut self, frame: &Frame, operand: Local) -> Result<(), Stop>
+        ensures { Performs self.old frame.now (op.Retain operand) result self.new }
+    {
+        if !self.is_there(frame, operand.value) {
+            return Err(missing(operand.value));
+        }
+        match self.retain_value(frame, operand) {
+            Ok(()) => self.go_on(),
+            Err(stop) => Err(stop),
+        }
+    }
+}

@@ -1,0 +1,9 @@
+pub mod Ordered
+pub mod Inserted
+pub mod Removed
+pub mod Walking
+pub mod Changed
+pub mod Found
+pub mod Views
+pub mod Emptiness
+pub mod Widening
