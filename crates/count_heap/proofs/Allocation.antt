@@ -5,7 +5,6 @@ use Rattle.std.proofs.lemmas.Bool.{cases_eq, eq-eqb, ne_eqb}
 use Rattle.std.proofs.lemmas.List.{ext_get_or, get_or-set_same, get_or-set_other, length-map, length-replicate, map-append}
 use Rattle.std.proofs.lemmas.List.Sums.{sum_by-append}
 use Rattle.type_definitions.specs.Declarations.{Declarations}
-use Rattle.type_definitions.specs.Lookups.{class_at}
 use Rattle.run_values.specs.Memory.{is_dead_phase}
 use Rattle.run_values.specs.declared.leaf.Leaf.{Leaf}
 use Rattle.run_values.specs.declared.leaf.Leaf.TheVariants.{Blank}
@@ -14,14 +13,12 @@ use Rattle.weak_unowned.specs.Sides.{idle_count, is_idle, sides_at}
 use Rattle.weak_unowned.specs.declared.side.SlotSides.{SlotSides}
 use Rattle.number_table.specs.Numbers.{Numbers, slot_in, with_next}
 use Rattle.leaf_pool.specs.Pieces.{IsChanged, Pieces, piece_in}
-use Rattle.class_layouts.specs.ClassFields as laid
 use Rattle.class_layouts.specs.ClassFields.{field_leaves, leaves_by_field}
 use Rattle.class_layouts.specs.Layouts.{size_of}
 use Rattle.class_layouts.specs.declared.field_place.FieldPlace.{FieldPlace}
 use Rattle.class_layouts.proofs.Lists.{length_places}
 use Rattle.heap_model.specs.HeapCalls.{allocated_in, new_object}
-use Rattle.heap_model.specs.HeapViews as seen
-use Rattle.heap_model.specs.HeapViews.{HeapObject, HeapView, class_fields, unfreed_count}
+use Rattle.heap_model.specs.HeapViews.{HeapObject, class_fields, unfreed_count}
 use Rattle.count_heap.specs.declared.slot_record.SlotRecord.{SlotRecord}
 use Rattle.count_heap.specs.inner.Kept.{IsAlive, IsHeap, IsKept}
 use Rattle.count_heap.specs.inner.Objects.{field_at, heap_of, is_mark, no_record, object_at, object_of, objects_in, places_of, record_at}

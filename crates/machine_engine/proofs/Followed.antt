@@ -41,7 +41,7 @@ module _ (ready : ReadyModule) (bound : ℕ) where
 
   -- the work that is left
 
-  going : (P : MachineView → Type 0) (w : Went) (new : MachineView) → w ≡ Goes new → OnGoing P w → P new
+  pub going : (P : MachineView → Type 0) (w : Went) (new : MachineView) → w ≡ Goes new → OnGoing P w → P new
   going P w new e h = subst (OnGoing P) e h
 
   task_step-falls : (st : MachineView) (ts : List Task) → st.tasks ≡ ts → is_dropping ts ≡ false → OnGoing (λ after. work ready bound after < work ready bound st) (task_step ready bound st ts)

@@ -25,6 +25,7 @@ pub mod Residues
 pub mod Returned
 pub mod Scattered
 pub mod Stepped
+pub mod Stretched
 pub mod Taken
 pub mod Tasks
 pub mod Terminating

@@ -8,7 +8,7 @@ ghost use Rattle.machine_steps.specs.declared.address.Home.TheVariants as home;
 ghost use Rattle.machine_engine.specs.NameHeld.{as_name, LiesAlive, UnlessDead};
 
 use crate::fields::{empty_field, field_of, is_dead, write_field};
-use crate::heap::Heap;
+use count_heap::Heap;
 use crate::leaf_lists::{lay_one, leaf_at};
 use crate::machine::Machine;
 use crate::store_rows::fill_slot;

@@ -1,6 +1,7 @@
 //! The machine that runs lowered code by stored numbers.
 #![tactic(auto)]
 
+mod begin;
 mod call_rows;
 mod calling;
 mod carrying;
@@ -14,8 +15,6 @@ mod fields;
 mod forgetting;
 mod giving;
 mod group_rows;
-mod heap;
-mod heap_calls;
 mod held;
 mod leaf_lists;
 mod load_rows;
@@ -37,3 +36,6 @@ mod store_rows;
 mod turning;
 mod value_rows;
 mod waiting;
+
+pub use machine::Machine;
+pub use stop::Stop;

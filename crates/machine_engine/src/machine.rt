@@ -1,6 +1,6 @@
 //! The state of the machine.
 
-use crate::heap::Heap;
+use count_heap::Heap;
 use holder_model::Event;
 use machine_steps::{Address, OpenSlot, Task};
 use run_values::Leaf;

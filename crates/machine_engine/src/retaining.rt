@@ -12,7 +12,7 @@ ghost use Rattle.machine_engine.specs.Went.{HasGone};
 ghost use Rattle.machine_engine.specs.declared.stop.Stop.TheVariants.{Memory};
 
 use crate::fields::is_dead;
-use crate::heap::Heap;
+use count_heap::Heap;
 use crate::leaf_lists::leaves_from;
 use crate::machine::Machine;
 use crate::stop::{Stop, fault, missing};
