@@ -56,8 +56,10 @@ fn add_chain(
     most: u32,
     class: Option<&Text>,
 ) -> Result<(), Exhausted>
-    ensures places { OnOk result (places.new.places.items ≡ places.old.places.items ++ places_from places.old.size (map (field_leaves table.now) (chain_fields table.now (chain table.now most (option_copied class.entry))))) }
-    ensures size { OnOk result (places.new.size ≡ places.old.size + size_of (map (field_leaves table.now) (chain_fields table.now (chain table.now most (option_copied class.entry))))) }
+    ensures places { OnOk result (places.new.places.items ≡ places.old.places.items ++ places_from places.old.size (map (field_leaves table.now)
+        (chain_fields table.now (chain table.now most (option_copied class.entry))))) }
+    ensures size { OnOk result (places.new.size ≡ places.old.size + size_of (map (field_leaves table.now) (chain_fields table.now (chain table.now most
+        (option_copied class.entry))))) }
 {
     let Some(class) = class else {
         return Ok(());

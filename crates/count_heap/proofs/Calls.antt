@@ -32,10 +32,12 @@ module _ (d : Declarations) (t : Numbers) (records : List SlotRecord) (sides : L
   heap = heap_of d t records sides pieces a b
 
   pub object_seen : (s : ℕ) → slot_in t o.0 ≡ Some s → object_in heap o ≡ Some (object_at d records sides pieces s)
-  object_seen s is = unwrap_or-slice_get (objects_in d t records sides pieces) o.0 None ∙ mapped_at (object_at d records sides pieces) t.places o.0 ∙ ap (option_map (object_at d records sides pieces)) is
+  object_seen s is = unwrap_or-slice_get (objects_in d t records sides pieces) o.0 None ∙ mapped_at (object_at d records sides pieces) t.places o.0
+      ∙ ap (option_map (object_at d records sides pieces)) is
 
   pub no_object_seen : slot_in t o.0 ≡ None → object_in heap o ≡ None
-  no_object_seen is = unwrap_or-slice_get (objects_in d t records sides pieces) o.0 None ∙ mapped_at (object_at d records sides pieces) t.places o.0 ∙ ap (option_map (object_at d records sides pieces)) is
+  no_object_seen is = unwrap_or-slice_get (objects_in d t records sides pieces) o.0 None ∙ mapped_at (object_at d records sides pieces) t.places o.0
+      ∙ ap (option_map (object_at d records sides pieces)) is
 
   -- an object that isn't freed has a slot
   pub unfreed_is : is_some (slot_in t o.0) ≡ is_unfreed heap o
@@ -159,7 +161,8 @@ module _ (d : Declarations) (t : Numbers) (records : List SlotRecord) (sides_now
   -- ---- strong references
 
   module _ (r : SlotRecord) where
-    module _ (f : SlotRecord → SlotRecord) (r_is : r ≡ f rec) (class : (f rec).class ≡ rec.class) (piece : (f rec).piece ≡ rec.piece) (phase : is_dead_phase (f rec).phase ≡ is_dead_phase rec.phase) where
+    module _ (f : SlotRecord → SlotRecord) (r_is : r ≡ f rec) (class : (f rec).class ≡ rec.class) (piece : (f rec).piece ≡ rec.piece) (phase : is_dead_phase
+        (f rec).phase ≡ is_dead_phase rec.phase) where
       pub record_inv : IsHeap d t (set records s r) sides_now pieces
       record_inv =
           record_heap d t records sides_now pieces inv apart o.0 s is r (ap (λ y. y.class) r_is ∙ class) (ap (λ y. y.piece) r_is ∙ piece) (ap (λ y. is_dead_phase y.phase) r_is ∙ phase)
@@ -223,7 +226,8 @@ module _ (d : Declarations) (t : Numbers) (records : List SlotRecord) (sides_now
         sides_gone =
             ap (λ n. made d (objects_in d (without t o.0) records sides_then pieces) a b n) size
             ∙ ap (λ xs. made d xs a b (length sides_now))
-            (one_freed g (objects_in d (without t o.0) records sides_then pieces) (object_of d rec (f side) pieces) (sides_freed_view d t records sides_now pieces inv apart o.0 s is (f side) marked idle) same
+            (one_freed g (objects_in d (without t o.0) records sides_then pieces) (object_of d rec (f side) pieces) (sides_freed_view d t records sides_now pieces inv apart o.0 s is
+            (f side) marked idle) same
             (left_is d rec (f side) pieces marked_is ∙ ap not idle))
 
   -- ---- death

@@ -1,5 +1,6 @@
 -- The fields of an object after a write to its leaves.
-use Rattle.std.proofs.Common.{◌≡◌, ℕ, zero, suc, ◌+◌, ◌<◌, ◌≤◌, List, [], ◌∷◌, ◌++◌, Bool, true, false, cond, Option, Some, None, inl, inr, length, length-set, set, map, take, drop, get_or, refl, sym, ap, ◌∙◌, arith, append-nil, length-drop}
+use Rattle.std.proofs.Common.{◌≡◌, ℕ, zero, suc, ◌+◌, ◌<◌, ◌≤◌, List, [], ◌∷◌, ◌++◌, Bool, true, false, cond, Option, Some, None, inl, inr, length, length-set, set, map, take, drop, get_or, refl}
+use Rattle.std.proofs.Common.{sym, ap, ◌∙◌, arith, append-nil, length-drop}
 use Rattle.std.specs.Prelude.{slice_index_or}
 use Rattle.std.proofs.lemmas.Bool.{cases_eq, cases_lt}
 use Rattle.std.proofs.lemmas.List.{drop-drop, drop-take, drop_all, ext_get_or, get_or-drop, get_or-set_same, get_or-set_other, get_or-take, length-map, length-take-le}
@@ -25,7 +26,8 @@ in_window w = cond (is_mark (slice_index_or w 0 Blank)) (Some (drop 1 w)) None
 by_window : (leaves : List Leaf) (p : FieldPlace) → field_at leaves p ≡ in_window (window leaves p)
 by_window leaves p =
     let front : slice_index_or (window leaves p) 0 Blank ≡ slice_index_or leaves p.from Blank =
-    get_or-take (1 + p.count) (drop p.from leaves) 0 Blank (omega arith) ∙ get_or-drop p.from leaves 0 Blank ∙ ap (λ n. slice_index_or leaves n Blank) (let e : p.from + 0 ≡ p.from = omega arith in e) in
+    get_or-take (1 + p.count) (drop p.from leaves) 0 Blank (omega arith) ∙ get_or-drop p.from leaves 0 Blank
+    ∙ ap (λ n. slice_index_or leaves n Blank) (let e : p.from + 0 ≡ p.from = omega arith in e) in
     let own : drop 1 (window leaves p) ≡ take p.count (drop (p.from + 1) leaves) = drop-take 1 p.count (drop p.from leaves) ∙ ap (take p.count) (drop-drop 1 p.from leaves) in
     ap (λ x. cond (is_mark x) (Some (take p.count (drop (p.from + 1) leaves))) None) (sym front)
     ∙ ap (λ xs. cond (is_mark (slice_index_or (window leaves p) 0 Blank)) (Some xs) None) (sym own)

@@ -61,12 +61,15 @@ module _ (result : Result (Unit {0}) Stop) (new : MachineView) where
     back-to l caller to (Runs found ∷ below) top at next waits h =
         let below-is : slice_get st.tasks 1 ≡ Some (Runs found) = ap (λ xs. slice_get xs 1) (top ∙ ap (λ ts. Runs fr ∷ ts) at) in
         let same : found ≡ caller = cc in
-        gone-along _ _ (ap (λ fr'. given_back ready bound st fr rest (contents st fr l) fr' below (awaited ready fr')) same ∙ ap (λ o. given_back ready bound st fr rest (contents st fr l) caller below o) waits)
+        gone-along _ _ (ap (λ fr'. given_back ready bound st fr rest (contents st fr l) fr' below (awaited ready fr')) same
+            ∙ ap (λ o. given_back ready bound st fr rest (contents st fr l) caller below o) waits)
         (h rest below top (at ∙ ap (λ fr'. Runs fr' ∷ below) same))
     back-to l caller to (Drops from ∷ below) top at next waits h = let below-is : slice_get st.tasks 1 ≡ Some (Drops from) = ap (λ xs. slice_get xs 1) (top ∙ ap (λ ts. Runs fr ∷ ts) at) in absurd (cc)
-    back-to l caller to (Finishes o called ∷ below) top at next waits h = let below-is : slice_get st.tasks 1 ≡ Some (Finishes o called) = ap (λ xs. slice_get xs 1) (top ∙ ap (λ ts. Runs fr ∷ ts) at) in absurd (cc)
+    back-to l caller to (Finishes o called ∷ below) top at next waits h = let below-is : slice_get st.tasks 1 ≡ Some (Finishes o called) = ap (λ xs. slice_get xs 1) (top
+        ∙ ap (λ ts. Runs fr ∷ ts) at) in absurd (cc)
 
-    pub gone-to_caller : (l : Local) (caller : Frame) (to : Local) → length st.slots ≡ fr.slots → st.tasks ≡ Runs fr ∷ rest → slice_get st.tasks 1 ≡ Some (Runs caller) → awaited ready caller ≡ Some to →
+    pub gone-to_caller : (l : Local) (caller : Frame) (to : Local) → length st.slots ≡ fr.slots → st.tasks ≡ Runs fr ∷ rest → slice_get st.tasks 1 ≡ Some (Runs caller)
+        → awaited ready caller ≡ Some to →
         ((above below : List Task) → st.tasks ≡ Runs fr ∷ above → above ≡ Runs caller ∷ below → HasGone (gives (without_frame st fr above) caller below to (contents st fr l)) result new) →
         HasGone (returns ready bound st fr rest l) result new
     gone-to_caller l caller to slots top next waits h = gone-back l slots (back-to l caller to rest top refl next waits h)

@@ -10,7 +10,8 @@ use Rattle.machine_steps.specs.Computing.{overflow_leaves}
 use Rattle.numbered_form.specs.inner.Literals.{is_residue}
 use Rattle.run_values.specs.declared.leaf.Leaf.TheVariants as leaf
 use Rattle.sil_types.specs.Typing.Builtins.{bits}
-use Rattle.machine_engine.proofs.Residues.{HasModulus, back_same, is_within, one_bit, eight_bits, sixteen_bits, thirty_two_bits, sixty_four_bits, same_back, signed_twice, within_negsuc, within_pos, negsuc_within, pos_within, half, whole}
+use Rattle.machine_engine.proofs.Residues.{HasModulus, back_same, is_within, one_bit, eight_bits, sixteen_bits, thirty_two_bits, sixty_four_bits, same_back, signed_twice, within_negsuc}
+use Rattle.machine_engine.proofs.Residues.{within_pos, negsuc_within, pos_within, half, whole}
 
 pub width_has : (w : Width) → (h : ℕ) × (m : ℕ) × HasModulus (bits w) h m
 width_has width.Int1 = (1, 2, one_bit)

@@ -38,7 +38,8 @@ module _ (from to cap : ℕ) (leaves now moving : List Leaf) (cs : List Carry) (
     f = carried_from from leaves
 
     size-is : length read ≡ length (f c)
-    size-is = ap length read-is ∙ length-window c.from.size at now ∙ (let e : min c.from.size (length now - at) ≡ min c.from.size (length leaves - (from + c.from.at)) = omega arith in e) ∙ sym (length-window c.from.size (from + c.from.at) leaves)
+    size-is = ap length read-is ∙ length-window c.from.size at now ∙ (let e : min c.from.size (length now - at) ≡ min c.from.size (length leaves - (from + c.from.at)) = omega arith in e)
+        ∙ sym (length-window c.from.size (from + c.from.at) leaves)
 
     pub within : begin + length read ≤ length moving
     within = omega (arith, size-is, ap length gathered, length-flat_map-take f cs i d in_list)

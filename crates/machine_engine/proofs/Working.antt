@@ -41,7 +41,8 @@ pub frame-positive : (ready : ReadyModule) (fr : Frame) → 1 ≤ left_of ready 
 frame-positive ready fr = behind-positive fr.index (block_at ready fr.function fr.block)
 
 -- behind an instruction there is less
-pub behind_op-less : (ready : ReadyModule) (fr : Frame) (b : ReadyBlock) → block_at ready fr.function fr.block ≡ Some b → fr.index < length b.ops → left_of ready (Runs (behind_op fr)) < left_of ready (Runs fr)
+pub behind_op-less : (ready : ReadyModule) (fr : Frame) (b : ReadyBlock) → block_at ready fr.function fr.block ≡ Some b → fr.index < length b.ops
+    → left_of ready (Runs (behind_op fr)) < left_of ready (Runs fr)
 behind_op-less ready fr b e h = let P : Option ReadyBlock → Type 0 = λ x. left_behind (fr.index + 1) x < left_behind fr.index x in subst P (sym e) (omega arith)
 
 -- work
@@ -66,7 +67,8 @@ module _ (ready : ReadyModule) (bound : ℕ) where
   turned t k h = let e : bound - t ≡ (bound - (t + 1)) + 1 = omega arith in rw e (one_turn (bound - (t + 1)) k)
 
   -- a turn is taken, and what is left of the tasks rises by less than a turn is worth
-  pub work-turn : (st after : MachineView) → st.turns < bound → after.turns ≡ st.turns + 1 → left_in ready after.tasks ≤ left_in ready st.tasks + (longest ready + 2) → work ready bound after < work ready bound st
+  pub work-turn : (st after : MachineView) → st.turns < bound → after.turns ≡ st.turns + 1 → left_in ready after.tasks ≤ left_in ready st.tasks + (longest ready + 2)
+      → work ready bound after < work ready bound st
   unfolding work
   work-turn st after h e less =
       let k = longest ready + 3 in

@@ -128,7 +128,8 @@ impl Machine {
 
     /// The next of the references that wait is dropped. With the last one of its drop, the drop is gone.
     pub(crate) fn drop_next(&mut self, bound: u32, from: usize) -> Result<(), Stop>
-        ensures { (ready : ReadyModule) (rest : List Task) → self.old.tasks ≡ Drops from ∷ rest → HasGone (drops ready bound self.old from rest) result self.new }
+        ensures { (ready : ReadyModule) (rest : List Task) → self.old.tasks ≡ Drops from ∷ rest
+            → HasGone (drops ready bound self.old from rest) result self.new }
     {
         let Some(object) = self.next_waiting() else {
             self.pop_task();

@@ -60,7 +60,8 @@ impl Machine {
         requires { is_dead_in self.old.heap object ≡ false }
         ensures written { result ≡ is_some (field_in self.old.heap object field) }
         ensures put {
-            MatchOption (field_in self.old.heap object field) (self.new ≡ self.old) (λ leaves. self.new ≡ put self.old frame.now to (take to.size (drop from leaves)))
+            MatchOption (field_in self.old.heap object field) (self.new ≡ self.old) (λ leaves. self.new ≡ put self.old frame.now to (take to.size
+                (drop from leaves)))
         }
     {
         let place = frame.leaves.saturating_add(to.at as usize);
@@ -79,7 +80,8 @@ impl Machine {
     /// The result is what a field holds.
     #[inline]
     fn load_field(&mut self, frame: &Frame, object: ObjectId, field: u32, from: u32, to: Local) -> Result<(), Stop>
-        ensures { GoesOver self.old frame.now (λ rest. loads self.old frame.now rest to (held_by self.old from to.size (home.Field object field))) result self.new }
+        ensures { GoesOver self.old frame.now (λ rest. loads self.old frame.now rest to (held_by self.old from to.size
+            (home.Field object field))) result self.new }
     {
         if self.is_dead(object) {
             return Err(fault(LowFault::Dead { object }));

@@ -102,7 +102,8 @@ impl Machine {
     fn give_named(&mut self, frame: &Frame, storage: Storage, takes: bool, place: Address, to: Local, leaf: Leaf) -> Result<(), Stop>
         requires { LiesAlive self.old.heap place.home }
         ensures { GoesOver self.old frame.now (λ rest.
-            given self.old frame.now rest storage (cond takes (forgotten self.old frame.now rest storage place leaf) self.old) to (object_in_leaf leaf)) result self.new }
+            given self.old frame.now rest storage (cond takes (forgotten self.old frame.now rest storage place leaf) self.old) to
+                (object_in_leaf leaf)) result self.new }
     {
         if is_strong(storage) {
             return Err(fault(LowFault::Empty));
@@ -115,7 +116,8 @@ impl Machine {
     /// The result is what storage gives that holds this.
     fn load_held(&mut self, frame: &Frame, storage: Storage, takes: bool, place: Address, to: Local, held: NameHeld) -> Result<(), Stop>
         requires { UnlessDead held (LiesAlive self.old.heap place.home) }
-        ensures { (x : Held) → held ≡ as_name x → GoesOver self.old frame.now (λ rest. loads_name self.old frame.now rest storage takes place to x) result self.new }
+        ensures { (x : Held) → held ≡ as_name x → GoesOver self.old frame.now
+            (λ rest. loads_name self.old frame.now rest storage takes place to x) result self.new }
     {
         match held {
             NameHeld::Gone => Err(fault(LowFault::Slot)),
@@ -199,7 +201,8 @@ impl Machine {
     /// Storage that holds this is to name the object of a leaf.
     fn store_held(&mut self, frame: &Frame, storage: Storage, first: bool, place: Address, leaf: Leaf, held: NameHeld) -> Result<(), Stop>
         requires { UnlessDead held (LiesAlive self.old.heap place.home) }
-        ensures { (x : Held) → held ≡ as_name x → GoesOver self.old frame.now (λ rest. stores_name self.old frame.now rest storage first place leaf x) result self.new }
+        ensures { (x : Held) → held ≡ as_name x → GoesOver self.old frame.now
+            (λ rest. stores_name self.old frame.now rest storage first place leaf x) result self.new }
     {
         if is_gone(held) {
             return Err(fault(LowFault::Slot));

@@ -59,7 +59,8 @@ impl Machine {
     #[inline]
     fn give_field_address(&mut self, frame: &Frame, object: Option<ObjectId>, field: u32, to: LocalAddress) -> Result<(), Stop>
         ensures {
-            (os : List ObjectId) → object ≡ slice_get os 0 → GoesOver self.old frame.now (λ rest. field_address self.old frame.now rest field os to) result self.new
+            (os : List ObjectId) → object ≡ slice_get os 0 → GoesOver self.old frame.now
+                (λ rest. field_address self.old frame.now rest field os to) result self.new
         }
     {
         let Some(object) = object else {

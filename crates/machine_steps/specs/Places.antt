@@ -39,7 +39,8 @@ use Rattle.machine_steps.specs.declared.run_end.RunEnd.TheVariants as end
 use Rattle.machine_steps.specs.Calling.{addresses_carried, carried, enter, new_frame, with_frame}
 use Rattle.machine_steps.specs.Held.{Empty, Full, Gone, Held, OfDead, empty_at, held_at, slot_in, write_at}
 use Rattle.machine_steps.specs.Naming.{leaf_named, leaf_unnamed, name_of, none_leaves, some_leaves}
-use Rattle.machine_steps.specs.Operands.{address_in, behind_op, contents, faults, first_leaf, gives, gives_address, go_on, int_among, object_in_leaf, objects_among}
+use Rattle.machine_steps.specs.Operands.{address_in, behind_op, contents, faults, first_leaf, gives, gives_address, go_on, int_among, object_in_leaf}
+use Rattle.machine_steps.specs.Operands.{objects_among}
 use Rattle.machine_steps.specs.Operands.{put, put_there, with_all}
 use Rattle.machine_steps.specs.Turning.{dropping, retains_all, turn}
 use Rattle.machine_steps.specs.Views.{Goes, MachineView, Stops, Went}

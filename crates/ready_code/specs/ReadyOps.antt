@@ -82,7 +82,8 @@ pub data IsReadyOp (m : Module) (f : Function) (i : Inst) : ReadyOp → Type 0 w
   chooses_full : (v r : ValueId) (s : Shape) (k : ℕ) → effect_of i.op ≡ row.ChoosesCase → operands_of i ≡ v ∷ [] → i.results ≡ r ∷ []
       → form_of (d m f i) f r ≡ OfValue s → case_place s i.member ≡ Some k → IsReadyOp m f i (op.Choose k (Some (L m f i v)) (L m f i r))
   member : (v r : ValueId) (s : Shape) (k : ℕ) → effect_of i.op ≡ row.GivesMember → operands_of i ≡ v ∷ [] → i.results ≡ r ∷ []
-      → form_of (d m f i) f v ≡ OfValue s → part_number (d m f i) i ≡ Some k → IsReadyOp m f i (op.Member (L m f i v) (leaf_offset (member_shapes s) k) (L m f i r))
+      → form_of (d m f i) f v ≡ OfValue s → part_number (d m f i) i ≡ Some k
+      → IsReadyOp m f i (op.Member (L m f i v) (leaf_offset (member_shapes s) k) (L m f i r))
   member_address : (v r : ValueId) (s : Shape) (k : ℕ) → effect_of i.op ≡ row.AddressesMember → operands_of i ≡ v ∷ [] → i.results ≡ r ∷ []
       → form_of (d m f i) f v ≡ OfPlace s → part_number (d m f i) i ≡ Some k
       → IsReadyOp m f i (op.MemberAddress (A m f i v) (leaf_offset (member_shapes s) k) (A m f i r))

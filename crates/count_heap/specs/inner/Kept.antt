@@ -20,13 +20,15 @@ pub record IsKept (d : Declarations) (records : List SlotRecord) (sides : List S
   pub there : s < length sides
   pub marked : (sides_at sides s).marked ≡ is_dead_phase (record_at records s).phase
   pub taken : is_idle_at sides s ≡ false
-  pub piece : IsAlive records s → option_map (λ ls. length ls) (piece_in pieces (record_at records s).piece) ≡ Some (size_of (leaves_by_field d (record_at records s).class))
+  pub piece : IsAlive records s → option_map (λ ls. length ls) (piece_in pieces (record_at records s).piece) ≡ Some (size_of (leaves_by_field d
+      (record_at records s).class))
 
 pub record IsHeap (d : Declarations) (t : Numbers) (records : List SlotRecord) (sides : List SlotSides) (pieces : Pieces) : Type 0 where
   pub slots : length sides ≤ t.slots
   pub records_are : length sides ≤ length records
   pub kept : (n s : ℕ) → slot_in t n ≡ Some s → IsKept d records sides pieces s
   -- no two objects have one piece
-  pub apart : (n m s u : ℕ) → slot_in t n ≡ Some s → slot_in t m ≡ Some u → IsAlive records s → IsAlive records u → (record_at records s).piece ≡ (record_at records u).piece → s ≡ u
+  pub apart : (n m s u : ℕ) → slot_in t n ≡ Some s → slot_in t m ≡ Some u → IsAlive records s → IsAlive records u
+      → (record_at records s).piece ≡ (record_at records u).piece → s ≡ u
   -- each slot is an object's, or idle
   pub count : count_by is_some t.places + idle_count sides ≡ length sides

@@ -1,5 +1,6 @@
 -- How pieces lie in the leaves.
-use Rattle.std.specs.Prelude.{◌≡◌, ◌<◌, ◌≤◌, ◌+◌, ◌^◌, ◌==◌, ℕ, List, Bool, Option, None, Some, cond, count_by, drop, length, map, slice_index_or, take, ◌&&◌, not}
+use Rattle.std.specs.Prelude.{◌≡◌, ◌<◌, ◌≤◌, ◌+◌, ◌^◌, ◌==◌, ℕ, List, Bool, Option, None, Some, cond, count_by, drop, length, map, slice_index_or, take}
+use Rattle.std.specs.Prelude.{◌&&◌, not}
 use Rattle.run_values.specs.declared.leaf.Leaf.{Leaf}
 use Rattle.leaf_pool.specs.Pieces.{Pieces}
 use Rattle.leaf_pool.specs.declared.piece.Piece.{Piece}

@@ -11,7 +11,8 @@ pub returns-clause-places : goal.returns-clause-places
 returns-clause-places t c =
     let d = c.args.table.now in
     let some : 1 ≤ c.args.most = omega arith in
-    let now : c.add_chain.new.places.places.items ≡ c.args.places.now.places.items ++ places_from c.args.places.now.size (map (field_leaves d) (chain_fields d (chain d (c.args.most - 1) (superclass_of d c.in-Some.class.now)))) =
+    let now : c.add_chain.new.places.places.items ≡ c.args.places.now.places.items ++ places_from c.args.places.now.size (map (field_leaves d) (chain_fields d (chain d (c.args.most - 1)
+    (superclass_of d c.in-Some.class.now)))) =
     c.in_ok-add_chain.ensures.places
     ∙ ap (λ o. c.args.places.now.places.items ++ places_from c.args.places.now.size (map (field_leaves d) (chain_fields d (chain d (c.args.most - 1) o)))) c.superclass.ensures in
     let size : c.add_chain.new.places.size ≡ c.args.places.now.size + size_of (map (field_leaves d) (chain_fields d (chain d (c.args.most - 1) (superclass_of d c.in-Some.class.now)))) =
@@ -29,7 +30,8 @@ pub returns-clause-size : goal.returns-clause-size
 returns-clause-size t c =
     let d = c.args.table.now in
     let some : 1 ≤ c.args.most = omega arith in
-    let now : c.add_chain.new.places.places.items ≡ c.args.places.now.places.items ++ places_from c.args.places.now.size (map (field_leaves d) (chain_fields d (chain d (c.args.most - 1) (superclass_of d c.in-Some.class.now)))) =
+    let now : c.add_chain.new.places.places.items ≡ c.args.places.now.places.items ++ places_from c.args.places.now.size (map (field_leaves d) (chain_fields d (chain d (c.args.most - 1)
+    (superclass_of d c.in-Some.class.now)))) =
     c.in_ok-add_chain.ensures.places
     ∙ ap (λ o. c.args.places.now.places.items ++ places_from c.args.places.now.size (map (field_leaves d) (chain_fields d (chain d (c.args.most - 1) o)))) c.superclass.ensures in
     let size : c.add_chain.new.places.size ≡ c.args.places.now.size + size_of (map (field_leaves d) (chain_fields d (chain d (c.args.most - 1) (superclass_of d c.in-Some.class.now)))) =

@@ -13,7 +13,8 @@ pub returns-clause-places : goal.returns-clause-places
 returns-clause-places c =
     let d = c.args.table.now in
     let now : c.add_chain.new.places.places.items ≡ [] ++ places_from 0 (map (field_leaves d) (chain_fields d (chain d DEPTH (superclass_of d c.args.class.now)))) =
-    c.in_ok-add_chain.ensures.places ∙ ap (λ (ps : List FieldPlace). ps ++ places_from 0 (map (field_leaves d) (chain_fields d (chain d DEPTH (option_copied c.superclass.result))))) c.new.ensures.items
+    c.in_ok-add_chain.ensures.places ∙ ap (λ (ps : List FieldPlace). ps ++ places_from 0 (map (field_leaves d) (chain_fields d (chain d DEPTH
+    (option_copied c.superclass.result))))) c.new.ensures.items
     ∙ ap (λ o. [] ++ places_from 0 (map (field_leaves d) (chain_fields d (chain d DEPTH o)))) c.superclass.ensures in
     let size : c.add_chain.new.places.size ≡ 0 + size_of (map (field_leaves d) (chain_fields d (chain d DEPTH (superclass_of d c.args.class.now)))) =
     c.in_ok-add_chain.ensures.size ∙ ap (λ o. 0 + size_of (map (field_leaves d) (chain_fields d (chain d DEPTH o)))) c.superclass.ensures in
@@ -29,7 +30,8 @@ pub returns-clause-size : goal.returns-clause-size
 returns-clause-size c =
     let d = c.args.table.now in
     let now : c.add_chain.new.places.places.items ≡ [] ++ places_from 0 (map (field_leaves d) (chain_fields d (chain d DEPTH (superclass_of d c.args.class.now)))) =
-    c.in_ok-add_chain.ensures.places ∙ ap (λ (ps : List FieldPlace). ps ++ places_from 0 (map (field_leaves d) (chain_fields d (chain d DEPTH (option_copied c.superclass.result))))) c.new.ensures.items
+    c.in_ok-add_chain.ensures.places ∙ ap (λ (ps : List FieldPlace). ps ++ places_from 0 (map (field_leaves d) (chain_fields d (chain d DEPTH
+    (option_copied c.superclass.result))))) c.new.ensures.items
     ∙ ap (λ o. [] ++ places_from 0 (map (field_leaves d) (chain_fields d (chain d DEPTH o)))) c.superclass.ensures in
     let size : c.add_chain.new.places.size ≡ 0 + size_of (map (field_leaves d) (chain_fields d (chain d DEPTH (superclass_of d c.args.class.now)))) =
     c.in_ok-add_chain.ensures.size ∙ ap (λ o. 0 + size_of (map (field_leaves d) (chain_fields d (chain d DEPTH o)))) c.superclass.ensures in

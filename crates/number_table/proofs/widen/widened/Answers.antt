@@ -9,7 +9,8 @@ use Rattle.number_table.proofs.widen.widened.Goals.{then-key-ne0, else-key-ne0}
 pub insert-requires-clause-absent : goal.insert-requires-clause-absent
 insert-requires-clause-absent c =
     let some : 1 ≤ key_at c.args.entries.now (c.args.mask + 2 + c.slots.s) = omega arith in
-    rw c.deref_mut.ensures.value (key_absent c.args.mask c.args.entries.now c.requires.table c.args.wide c.slots.wider.items c.slots.s c.slots.invariant (key_at c.args.entries.now (c.args.mask + 2 + c.slots.s)) refl some)
+    rw c.deref_mut.ensures.value (key_absent c.args.mask c.args.entries.now c.requires.table c.args.wide c.slots.wider.items c.slots.s c.slots.invariant (key_at c.args.entries.now
+    (c.args.mask + 2 + c.slots.s)) refl some)
 
 pub slots-preserved : goal.slots-preserved
 slots-preserved c = elim c.if-key-ne0.branch [
@@ -18,7 +19,8 @@ slots-preserved c = elim c.if-key-ne0.branch [
       let keys : (e : ℕ) → key_at w.insert.new.entries e ≡ cond (eqb e (c.args.wide + 2 + c.slots.s)) (key_at c.args.entries.now (c.args.mask + 2 + c.slots.s)) (key_at c.slots.wider.items e) =
       λ e. w.insert.ensures.keys e
       ∙ ap (λ xs. cond (eqb e (c.args.wide + 2 + c.slots.s)) (key_at c.args.entries.now (c.args.mask + 2 + c.slots.s)) (key_at xs e)) w.deref_mut.ensures.value in
-      subst (λ xs. IsCopied c.args.mask c.args.entries.now c.args.wide xs (c.slots.s + 1)) (sym (ap (λ (v : Vec Entry Global). v.items) w.wider-is ∙ with_items_is c.slots.wider w.insert.new.entries (omega arith)))
+      subst (λ xs. IsCopied c.args.mask c.args.entries.now c.args.wide xs (c.slots.s + 1)) (sym (ap (λ (v : Vec Entry Global). v.items) w.wider-is
+      ∙ with_items_is c.slots.wider w.insert.new.entries (omega arith)))
       (copied_next c.args.mask c.args.entries.now c.requires.table c.args.wide c.slots.wider.items c.slots.s c.slots.invariant w.insert.new.entries w.insert.ensures.table kept keys)
   | else-key-ne0 w ↦
       subst (λ xs. IsCopied c.args.mask c.args.entries.now c.args.wide xs (c.slots.s + 1)) (sym (ap (λ (v : Vec Entry Global). v.items) w.wider-is))

@@ -17,8 +17,11 @@ invariant_of-self c =
     let pieces = c.self.inside.pool in
     let s = c.slot_of-slot.result in
     let is = c.slot_of-slot.ensures.slot in
-    let taken = alive_slot d t records sides pieces c.self.invariant c.slot_of-slot.ensures.apart c.args.o s is c.self.inside.retains c.self.inside.releases side.more_unowned (ap (λ (v : HeapView). views.is_dead_in v c.args.o) c.self.view_is ∙ c.requires.alive) refl in
-    subst (λ xs. IsHeap d t records xs pieces) (sym c.add_unowned.ensures) (sides_inv d t records sides pieces c.self.invariant c.slot_of-slot.ensures.apart c.args.o s is c.self.inside.retains c.self.inside.releases side.more_unowned refl calls.more_unowned refl taken)
+    let taken = alive_slot d t records sides pieces c.self.invariant c.slot_of-slot.ensures.apart c.args.o s is c.self.inside.retains c.self.inside.releases side.more_unowned (ap (λ
+    (v : HeapView). views.is_dead_in v c.args.o) c.self.view_is ∙ c.requires.alive) refl in
+    subst (λ xs. IsHeap d t records xs pieces) (sym c.add_unowned.ensures)
+    (sides_inv d t records sides pieces c.self.invariant c.slot_of-slot.ensures.apart c.args.o s is c.self.inside.retains c.self.inside.releases side.more_unowned refl calls.more_unowned refl
+    taken)
 
 pub returns : goal.returns
 returns c =
@@ -29,6 +32,8 @@ returns c =
     let pieces = c.self.inside.pool in
     let s = c.slot_of-slot.result in
     let is = c.slot_of-slot.ensures.slot in
-    let taken = alive_slot d t records sides pieces c.self.invariant c.slot_of-slot.ensures.apart c.args.o s is c.self.inside.retains c.self.inside.releases side.more_unowned (ap (λ (v : HeapView). views.is_dead_in v c.args.o) c.self.view_is ∙ c.requires.alive) refl in
+    let taken = alive_slot d t records sides pieces c.self.invariant c.slot_of-slot.ensures.apart c.args.o s is c.self.inside.retains c.self.inside.releases side.more_unowned (ap (λ
+    (v : HeapView). views.is_dead_in v c.args.o) c.self.view_is ∙ c.requires.alive) refl in
     ap (λ xs. heap_of d t records xs pieces c.self.inside.retains c.self.inside.releases) c.add_unowned.ensures
-    ∙ sides_named d t records sides pieces c.self.invariant c.slot_of-slot.ensures.apart c.args.o s is c.self.inside.retains c.self.inside.releases side.more_unowned refl calls.more_unowned refl taken ∙ ap (λ (v : HeapView). calls.unowned_named v c.args.o) c.self.view_is
+    ∙ sides_named d t records sides pieces c.self.invariant c.slot_of-slot.ensures.apart c.args.o s is c.self.inside.retains c.self.inside.releases side.more_unowned refl calls.more_unowned refl
+    taken ∙ ap (λ (v : HeapView). calls.unowned_named v c.args.o) c.self.view_is

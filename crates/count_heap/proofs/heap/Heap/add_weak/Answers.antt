@@ -17,8 +17,10 @@ invariant_of-self c =
     let pieces = c.self.inside.pool in
     let s = c.slot_of-slot.result in
     let is = c.slot_of-slot.ensures.slot in
-    let taken = alive_slot d t records sides pieces c.self.invariant c.slot_of-slot.ensures.apart c.args.o s is c.self.inside.retains c.self.inside.releases side.more_weak (ap (λ (v : HeapView). views.is_dead_in v c.args.o) c.self.view_is ∙ c.requires.alive) refl in
-    subst (λ xs. IsHeap d t records xs pieces) (sym c.add_weak.ensures) (sides_inv d t records sides pieces c.self.invariant c.slot_of-slot.ensures.apart c.args.o s is c.self.inside.retains c.self.inside.releases side.more_weak refl calls.more_weak refl taken)
+    let taken = alive_slot d t records sides pieces c.self.invariant c.slot_of-slot.ensures.apart c.args.o s is c.self.inside.retains c.self.inside.releases side.more_weak (ap (λ
+    (v : HeapView). views.is_dead_in v c.args.o) c.self.view_is ∙ c.requires.alive) refl in
+    subst (λ xs. IsHeap d t records xs pieces) (sym c.add_weak.ensures)
+    (sides_inv d t records sides pieces c.self.invariant c.slot_of-slot.ensures.apart c.args.o s is c.self.inside.retains c.self.inside.releases side.more_weak refl calls.more_weak refl taken)
 
 pub returns : goal.returns
 returns c =
@@ -29,6 +31,8 @@ returns c =
     let pieces = c.self.inside.pool in
     let s = c.slot_of-slot.result in
     let is = c.slot_of-slot.ensures.slot in
-    let taken = alive_slot d t records sides pieces c.self.invariant c.slot_of-slot.ensures.apart c.args.o s is c.self.inside.retains c.self.inside.releases side.more_weak (ap (λ (v : HeapView). views.is_dead_in v c.args.o) c.self.view_is ∙ c.requires.alive) refl in
+    let taken = alive_slot d t records sides pieces c.self.invariant c.slot_of-slot.ensures.apart c.args.o s is c.self.inside.retains c.self.inside.releases side.more_weak (ap (λ
+    (v : HeapView). views.is_dead_in v c.args.o) c.self.view_is ∙ c.requires.alive) refl in
     ap (λ xs. heap_of d t records xs pieces c.self.inside.retains c.self.inside.releases) c.add_weak.ensures
-    ∙ sides_named d t records sides pieces c.self.invariant c.slot_of-slot.ensures.apart c.args.o s is c.self.inside.retains c.self.inside.releases side.more_weak refl calls.more_weak refl taken ∙ ap (λ (v : HeapView). calls.weakly_named v c.args.o) c.self.view_is
+    ∙ sides_named d t records sides pieces c.self.invariant c.slot_of-slot.ensures.apart c.args.o s is c.self.inside.retains c.self.inside.releases side.more_weak refl calls.more_weak refl taken
+    ∙ ap (λ (v : HeapView). calls.weakly_named v c.args.o) c.self.view_is

@@ -18,7 +18,8 @@ invariant_of-self-in-Ok c =
     let e = c.slot_for_new.ensures in
     let s = c.in-Ok.slot in
     let found = fresh d t records sides c.slot_for_new.new.sides pieces c.self.invariant s c.in-Ok.ensures.ok in
-    subst (λ n. IsHeap d n (set c.slot_for_new.new.records.items c.in-Ok.slot (record { strong = 1; piece = c.in_ok-piece.piece; class = c.args.class_index; phase = Live })) c.slot_for_new.new.sides c.take.new.self) (sym c.give.ensures)
+    subst (λ n. IsHeap d n (set c.slot_for_new.new.records.items c.in-Ok.slot
+    (record { strong = 1; piece = c.in_ok-piece.piece; class = c.args.class_index; phase = Live })) c.slot_for_new.new.sides c.take.new.self) (sym c.give.ensures)
     (allocated_heap d t records sides pieces c.self.invariant c.slot_for_new.new.numbers c.slot_for_new.new.records.items c.slot_for_new.new.sides
     c.take.new.self e.numbers e.kept e.slots e.records s found c.in_ok-piece.piece c.args.class_index c.size.result c.size.ensures c.in_ok-piece.ensures.taken c.in_ok-piece.ensures.ok)
 
@@ -32,9 +33,12 @@ returns-in-Ok-clause-heap c =
     let e = c.slot_for_new.ensures in
     let s = c.in-Ok.slot in
     let found = fresh d t records sides c.slot_for_new.new.sides pieces c.self.invariant s c.in-Ok.ensures.ok in
-    ap (λ n. heap_of d n (set c.slot_for_new.new.records.items c.in-Ok.slot (record { strong = 1; piece = c.in_ok-piece.piece; class = c.args.class_index; phase = Live })) c.slot_for_new.new.sides c.take.new.self c.self.inside.retains c.self.inside.releases) c.give.ensures
+    ap (λ n. heap_of d n (set c.slot_for_new.new.records.items c.in-Ok.slot
+    (record { strong = 1; piece = c.in_ok-piece.piece; class = c.args.class_index; phase = Live })) c.slot_for_new.new.sides c.take.new.self c.self.inside.retains c.self.inside.releases)
+    c.give.ensures
     ∙ allocated_view d t records sides pieces c.self.invariant c.slot_for_new.new.numbers c.slot_for_new.new.records.items c.slot_for_new.new.sides
-    c.take.new.self e.numbers e.kept e.slots e.records s found c.in_ok-piece.piece c.args.class_index c.size.result c.size.ensures c.in_ok-piece.ensures.taken c.in_ok-piece.ensures.ok c.self.inside.retains c.self.inside.releases
+    c.take.new.self e.numbers e.kept e.slots e.records s found c.in_ok-piece.piece c.args.class_index c.size.result c.size.ensures c.in_ok-piece.ensures.taken c.in_ok-piece.ensures.ok
+    c.self.inside.retains c.self.inside.releases
     ∙ ap (λ (v : HeapView). allocated_in v c.args.class_index) c.self.view_is
 
 pub invariant_of-self-in-Err : goal.invariant_of-self-in-Err

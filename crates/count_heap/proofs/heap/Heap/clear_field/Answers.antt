@@ -27,7 +27,8 @@ write-requires-clause-within c =
     let is = c.slot_of.ensures.slot in
     let read = read_record d t records sides pieces c.self.invariant c.slot_of.ensures.apart c.args.o s is a b c.index-record.result.now c.index-record.ensures in
     let alive : views.is_dead_in (heap_of d t records sides pieces a b) c.args.o ≡ false = ap (λ (v : HeapView). views.is_dead_in v c.args.o) c.self.view_is ∙ c.requires.alive in
-    let within : c.args.index < length (views.fields_in (heap_of d t records sides pieces a b) c.args.o) = subst (λ (v : HeapView). c.args.index < length (views.fields_in v c.args.o)) (sym c.self.view_is) c.requires.field in
+    let within : c.args.index < length (views.fields_in (heap_of d t records sides pieces a b) c.args.o) = subst (λ (v : HeapView). c.args.index < length (views.fields_in v c.args.o))
+    (sym c.self.view_is) c.requires.field in
     let place_is = ap (λ ps. slice_index_or ps c.args.index no_place) (c.fields.ensures ∙ ap (λ (y : SlotRecord). places_of d y.class) read) in
     subst (λ (p : FieldPlace). IfSome (piece_in pieces c.index-record.result.now.piece) (λ old. p.from + 1 ≤ length old)) (sym place_is)
     (subst (λ (y : SlotRecord). IfSome (piece_in pieces y.piece) (λ old. (place_at 0 (leaves_by_field d (record_at records s).class) c.args.index).from + 1 ≤ length old)) (sym read)
@@ -46,11 +47,14 @@ invariant_of-self c =
     let is = c.slot_of.ensures.slot in
     let read = read_record d t records sides pieces c.self.invariant c.slot_of.ensures.apart c.args.o s is a b c.index-record.result.now c.index-record.ensures in
     let alive : views.is_dead_in (heap_of d t records sides pieces a b) c.args.o ≡ false = ap (λ (v : HeapView). views.is_dead_in v c.args.o) c.self.view_is ∙ c.requires.alive in
-    let within : c.args.index < length (views.fields_in (heap_of d t records sides pieces a b) c.args.o) = subst (λ (v : HeapView). c.args.index < length (views.fields_in v c.args.o)) (sym c.self.view_is) c.requires.field in
+    let within : c.args.index < length (views.fields_in (heap_of d t records sides pieces a b) c.args.o) = subst (λ (v : HeapView). c.args.index < length (views.fields_in v c.args.o))
+    (sym c.self.view_is) c.requires.field in
     let place_is = ap (λ ps. slice_index_or ps c.args.index no_place) (c.fields.ensures ∙ ap (λ (y : SlotRecord). places_of d y.class) read) in
-    let write : IsChanged pieces c.write.new.self (record_at records s).piece (option_map (put_leaves (place_at 0 (leaves_by_field d (record_at records s).class) c.args.index).from (Blank ∷ [])) (piece_in pieces (record_at records s).piece)) =
+    let write : IsChanged pieces c.write.new.self (record_at records s).piece (option_map (put_leaves (place_at 0 (leaves_by_field d (record_at records s).class) c.args.index).from (Blank ∷ []))
+    (piece_in pieces (record_at records s).piece)) =
     subst (λ (p : FieldPlace). IsChanged pieces c.write.new.self (record_at records s).piece (option_map (put_leaves p.from (Blank ∷ [])) (piece_in pieces (record_at records s).piece))) place_is
-    (subst (λ (y : SlotRecord). IsChanged pieces c.write.new.self y.piece (option_map (put_leaves (slice_index_or c.fields.result.now c.args.index no_place).from (Blank ∷ [])) (piece_in pieces y.piece))) read c.write.ensures) in
+    (subst (λ (y : SlotRecord). IsChanged pieces c.write.new.self y.piece (option_map (put_leaves (slice_index_or c.fields.result.now c.args.index no_place).from (Blank ∷ []))
+    (piece_in pieces y.piece))) read c.write.ensures) in
     clear_inv d t records sides pieces c.self.invariant c.slot_of.ensures.apart c.args.o s is a b alive c.args.index within c.write.new.self write
 
 pub returns : goal.returns
@@ -66,10 +70,13 @@ returns c =
     let is = c.slot_of.ensures.slot in
     let read = read_record d t records sides pieces c.self.invariant c.slot_of.ensures.apart c.args.o s is a b c.index-record.result.now c.index-record.ensures in
     let alive : views.is_dead_in (heap_of d t records sides pieces a b) c.args.o ≡ false = ap (λ (v : HeapView). views.is_dead_in v c.args.o) c.self.view_is ∙ c.requires.alive in
-    let within : c.args.index < length (views.fields_in (heap_of d t records sides pieces a b) c.args.o) = subst (λ (v : HeapView). c.args.index < length (views.fields_in v c.args.o)) (sym c.self.view_is) c.requires.field in
+    let within : c.args.index < length (views.fields_in (heap_of d t records sides pieces a b) c.args.o) = subst (λ (v : HeapView). c.args.index < length (views.fields_in v c.args.o))
+    (sym c.self.view_is) c.requires.field in
     let place_is = ap (λ ps. slice_index_or ps c.args.index no_place) (c.fields.ensures ∙ ap (λ (y : SlotRecord). places_of d y.class) read) in
-    let write : IsChanged pieces c.write.new.self (record_at records s).piece (option_map (put_leaves (place_at 0 (leaves_by_field d (record_at records s).class) c.args.index).from (Blank ∷ [])) (piece_in pieces (record_at records s).piece)) =
+    let write : IsChanged pieces c.write.new.self (record_at records s).piece (option_map (put_leaves (place_at 0 (leaves_by_field d (record_at records s).class) c.args.index).from (Blank ∷ []))
+    (piece_in pieces (record_at records s).piece)) =
     subst (λ (p : FieldPlace). IsChanged pieces c.write.new.self (record_at records s).piece (option_map (put_leaves p.from (Blank ∷ [])) (piece_in pieces (record_at records s).piece))) place_is
-    (subst (λ (y : SlotRecord). IsChanged pieces c.write.new.self y.piece (option_map (put_leaves (slice_index_or c.fields.result.now c.args.index no_place).from (Blank ∷ [])) (piece_in pieces y.piece))) read c.write.ensures) in
+    (subst (λ (y : SlotRecord). IsChanged pieces c.write.new.self y.piece (option_map (put_leaves (slice_index_or c.fields.result.now c.args.index no_place).from (Blank ∷ []))
+    (piece_in pieces y.piece))) read c.write.ensures) in
     clear_is d t records sides pieces c.self.invariant c.slot_of.ensures.apart c.args.o s is a b alive c.args.index within c.write.new.self write
     ∙ ap (λ (v : HeapView). calls.changed (calls.with_field_of c.args.index None) v c.args.o) c.self.view_is

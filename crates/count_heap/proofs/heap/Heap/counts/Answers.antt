@@ -16,7 +16,8 @@ returns-in-Some-clause-unowned c =
     let b = c.self.inside.releases in
     let s = c.in-Some.slot in
     let is = sym c.find.ensures ∙ c.in-Some.is in
-    ap (λ (x : Side). x.unowned) c.counts.ensures ∙ sym (ap views.unowned_told (object_seen d t records sides pieces a b c.args.o s is)) ∙ ap (λ (v : HeapView). views.unowned_in v c.args.o) c.self.view_is
+    ap (λ (x : Side). x.unowned) c.counts.ensures ∙ sym (ap views.unowned_told (object_seen d t records sides pieces a b c.args.o s is))
+    ∙ ap (λ (v : HeapView). views.unowned_in v c.args.o) c.self.view_is
 
 pub returns-in-None-clause-unowned : goal.returns-in-None-clause-unowned
 returns-in-None-clause-unowned c =

@@ -19,10 +19,13 @@ invariant_of-self c =
     let s = c.slot_of-slot.result in
     let is = c.slot_of-slot.ensures.slot in
     let seen : is_idle (side.less_unowned (sides_at sides s)) ≡ c.is_idle.result =
-    sym (c.is_idle.ensures ∙ ap (λ xs. is_idle_at xs s) c.drop_unowned.ensures ∙ changed_idle d t records sides pieces c.self.invariant c.slot_of-slot.ensures.apart c.args.o s is c.self.inside.retains c.self.inside.releases side.less_unowned) in
+    sym (c.is_idle.ensures ∙ ap (λ xs. is_idle_at xs s) c.drop_unowned.ensures
+    ∙ changed_idle d t records sides pieces c.self.invariant c.slot_of-slot.ensures.apart c.args.o s is c.self.inside.retains c.self.inside.releases side.less_unowned) in
     let idle = seen ∙ c.if-is_idle.true in
     subst (λ ns. IsHeap d ns records c.drop_unowned.new.self pieces) (sym c.take_out.ensures)
-    (subst (λ xs. IsHeap d (without t c.args.o.0) records xs pieces) (sym c.drop_unowned.ensures) (sides_gone_inv d t records sides pieces c.self.invariant c.slot_of-slot.ensures.apart c.args.o s is c.self.inside.retains c.self.inside.releases side.less_unowned refl calls.less_unowned refl idle))
+    (subst (λ xs. IsHeap d (without t c.args.o.0) records xs pieces) (sym c.drop_unowned.ensures)
+    (sides_gone_inv d t records sides pieces c.self.invariant c.slot_of-slot.ensures.apart c.args.o s is c.self.inside.retains c.self.inside.releases side.less_unowned refl calls.less_unowned
+    refl idle))
 
 pub invariant_of-self-else-is_idle : goal.invariant_of-self-else-is_idle
 invariant_of-self-else-is_idle c =
@@ -34,9 +37,12 @@ invariant_of-self-else-is_idle c =
     let s = c.slot_of-slot.result in
     let is = c.slot_of-slot.ensures.slot in
     let seen : is_idle (side.less_unowned (sides_at sides s)) ≡ c.is_idle.result =
-    sym (c.is_idle.ensures ∙ ap (λ xs. is_idle_at xs s) c.drop_unowned.ensures ∙ changed_idle d t records sides pieces c.self.invariant c.slot_of-slot.ensures.apart c.args.o s is c.self.inside.retains c.self.inside.releases side.less_unowned) in
+    sym (c.is_idle.ensures ∙ ap (λ xs. is_idle_at xs s) c.drop_unowned.ensures
+    ∙ changed_idle d t records sides pieces c.self.invariant c.slot_of-slot.ensures.apart c.args.o s is c.self.inside.retains c.self.inside.releases side.less_unowned) in
     let taken = seen ∙ c.if-is_idle.false in
-    subst (λ xs. IsHeap d t records xs pieces) (sym c.drop_unowned.ensures) (sides_inv d t records sides pieces c.self.invariant c.slot_of-slot.ensures.apart c.args.o s is c.self.inside.retains c.self.inside.releases side.less_unowned refl calls.less_unowned refl taken)
+    subst (λ xs. IsHeap d t records xs pieces) (sym c.drop_unowned.ensures)
+    (sides_inv d t records sides pieces c.self.invariant c.slot_of-slot.ensures.apart c.args.o s is c.self.inside.retains c.self.inside.releases side.less_unowned refl calls.less_unowned refl
+    taken)
 
 pub returns-then-is_idle : goal.returns-then-is_idle
 returns-then-is_idle c =
@@ -48,11 +54,13 @@ returns-then-is_idle c =
     let s = c.slot_of-slot.result in
     let is = c.slot_of-slot.ensures.slot in
     let seen : is_idle (side.less_unowned (sides_at sides s)) ≡ c.is_idle.result =
-    sym (c.is_idle.ensures ∙ ap (λ xs. is_idle_at xs s) c.drop_unowned.ensures ∙ changed_idle d t records sides pieces c.self.invariant c.slot_of-slot.ensures.apart c.args.o s is c.self.inside.retains c.self.inside.releases side.less_unowned) in
+    sym (c.is_idle.ensures ∙ ap (λ xs. is_idle_at xs s) c.drop_unowned.ensures
+    ∙ changed_idle d t records sides pieces c.self.invariant c.slot_of-slot.ensures.apart c.args.o s is c.self.inside.retains c.self.inside.releases side.less_unowned) in
     let idle = seen ∙ c.if-is_idle.true in
     ap (λ ns. heap_of d ns records c.drop_unowned.new.self pieces c.self.inside.retains c.self.inside.releases) c.take_out.ensures
     ∙ ap (λ xs. heap_of d (without t c.args.o.0) records xs pieces c.self.inside.retains c.self.inside.releases) c.drop_unowned.ensures
-    ∙ sides_gone d t records sides pieces c.self.invariant c.slot_of-slot.ensures.apart c.args.o s is c.self.inside.retains c.self.inside.releases side.less_unowned refl calls.less_unowned refl idle ∙ ap (λ (v : HeapView). calls.unowned_unnamed v c.args.o) c.self.view_is
+    ∙ sides_gone d t records sides pieces c.self.invariant c.slot_of-slot.ensures.apart c.args.o s is c.self.inside.retains c.self.inside.releases side.less_unowned refl calls.less_unowned refl
+    idle ∙ ap (λ (v : HeapView). calls.unowned_unnamed v c.args.o) c.self.view_is
 
 pub returns-else-is_idle : goal.returns-else-is_idle
 returns-else-is_idle c =
@@ -64,7 +72,9 @@ returns-else-is_idle c =
     let s = c.slot_of-slot.result in
     let is = c.slot_of-slot.ensures.slot in
     let seen : is_idle (side.less_unowned (sides_at sides s)) ≡ c.is_idle.result =
-    sym (c.is_idle.ensures ∙ ap (λ xs. is_idle_at xs s) c.drop_unowned.ensures ∙ changed_idle d t records sides pieces c.self.invariant c.slot_of-slot.ensures.apart c.args.o s is c.self.inside.retains c.self.inside.releases side.less_unowned) in
+    sym (c.is_idle.ensures ∙ ap (λ xs. is_idle_at xs s) c.drop_unowned.ensures
+    ∙ changed_idle d t records sides pieces c.self.invariant c.slot_of-slot.ensures.apart c.args.o s is c.self.inside.retains c.self.inside.releases side.less_unowned) in
     let taken = seen ∙ c.if-is_idle.false in
     ap (λ xs. heap_of d t records xs pieces c.self.inside.retains c.self.inside.releases) c.drop_unowned.ensures
-    ∙ sides_left d t records sides pieces c.self.invariant c.slot_of-slot.ensures.apart c.args.o s is c.self.inside.retains c.self.inside.releases side.less_unowned refl calls.less_unowned refl taken ∙ ap (λ (v : HeapView). calls.unowned_unnamed v c.args.o) c.self.view_is
+    ∙ sides_left d t records sides pieces c.self.invariant c.slot_of-slot.ensures.apart c.args.o s is c.self.inside.retains c.self.inside.releases side.less_unowned refl calls.less_unowned refl
+    taken ∙ ap (λ (v : HeapView). calls.unowned_unnamed v c.args.o) c.self.view_is

@@ -19,10 +19,13 @@ invariant_of-self c =
     let s = c.slot_of-slot.result in
     let is = c.slot_of-slot.ensures.slot in
     let seen : is_idle (side.less_weak (sides_at sides s)) ≡ c.is_idle.result =
-    sym (c.is_idle.ensures ∙ ap (λ xs. is_idle_at xs s) c.drop_weak.ensures ∙ changed_idle d t records sides pieces c.self.invariant c.slot_of-slot.ensures.apart c.args.o s is c.self.inside.retains c.self.inside.releases side.less_weak) in
+    sym (c.is_idle.ensures ∙ ap (λ xs. is_idle_at xs s) c.drop_weak.ensures
+    ∙ changed_idle d t records sides pieces c.self.invariant c.slot_of-slot.ensures.apart c.args.o s is c.self.inside.retains c.self.inside.releases side.less_weak) in
     let idle = seen ∙ c.if-is_idle.true in
     subst (λ ns. IsHeap d ns records c.drop_weak.new.self pieces) (sym c.take_out.ensures)
-    (subst (λ xs. IsHeap d (without t c.args.o.0) records xs pieces) (sym c.drop_weak.ensures) (sides_gone_inv d t records sides pieces c.self.invariant c.slot_of-slot.ensures.apart c.args.o s is c.self.inside.retains c.self.inside.releases side.less_weak refl calls.less_weak refl idle))
+    (subst (λ xs. IsHeap d (without t c.args.o.0) records xs pieces) (sym c.drop_weak.ensures)
+    (sides_gone_inv d t records sides pieces c.self.invariant c.slot_of-slot.ensures.apart c.args.o s is c.self.inside.retains c.self.inside.releases side.less_weak refl calls.less_weak refl
+    idle))
 
 pub invariant_of-self-else-is_idle : goal.invariant_of-self-else-is_idle
 invariant_of-self-else-is_idle c =
@@ -34,9 +37,11 @@ invariant_of-self-else-is_idle c =
     let s = c.slot_of-slot.result in
     let is = c.slot_of-slot.ensures.slot in
     let seen : is_idle (side.less_weak (sides_at sides s)) ≡ c.is_idle.result =
-    sym (c.is_idle.ensures ∙ ap (λ xs. is_idle_at xs s) c.drop_weak.ensures ∙ changed_idle d t records sides pieces c.self.invariant c.slot_of-slot.ensures.apart c.args.o s is c.self.inside.retains c.self.inside.releases side.less_weak) in
+    sym (c.is_idle.ensures ∙ ap (λ xs. is_idle_at xs s) c.drop_weak.ensures
+    ∙ changed_idle d t records sides pieces c.self.invariant c.slot_of-slot.ensures.apart c.args.o s is c.self.inside.retains c.self.inside.releases side.less_weak) in
     let taken = seen ∙ c.if-is_idle.false in
-    subst (λ xs. IsHeap d t records xs pieces) (sym c.drop_weak.ensures) (sides_inv d t records sides pieces c.self.invariant c.slot_of-slot.ensures.apart c.args.o s is c.self.inside.retains c.self.inside.releases side.less_weak refl calls.less_weak refl taken)
+    subst (λ xs. IsHeap d t records xs pieces) (sym c.drop_weak.ensures)
+    (sides_inv d t records sides pieces c.self.invariant c.slot_of-slot.ensures.apart c.args.o s is c.self.inside.retains c.self.inside.releases side.less_weak refl calls.less_weak refl taken)
 
 pub returns-then-is_idle : goal.returns-then-is_idle
 returns-then-is_idle c =
@@ -48,11 +53,13 @@ returns-then-is_idle c =
     let s = c.slot_of-slot.result in
     let is = c.slot_of-slot.ensures.slot in
     let seen : is_idle (side.less_weak (sides_at sides s)) ≡ c.is_idle.result =
-    sym (c.is_idle.ensures ∙ ap (λ xs. is_idle_at xs s) c.drop_weak.ensures ∙ changed_idle d t records sides pieces c.self.invariant c.slot_of-slot.ensures.apart c.args.o s is c.self.inside.retains c.self.inside.releases side.less_weak) in
+    sym (c.is_idle.ensures ∙ ap (λ xs. is_idle_at xs s) c.drop_weak.ensures
+    ∙ changed_idle d t records sides pieces c.self.invariant c.slot_of-slot.ensures.apart c.args.o s is c.self.inside.retains c.self.inside.releases side.less_weak) in
     let idle = seen ∙ c.if-is_idle.true in
     ap (λ ns. heap_of d ns records c.drop_weak.new.self pieces c.self.inside.retains c.self.inside.releases) c.take_out.ensures
     ∙ ap (λ xs. heap_of d (without t c.args.o.0) records xs pieces c.self.inside.retains c.self.inside.releases) c.drop_weak.ensures
-    ∙ sides_gone d t records sides pieces c.self.invariant c.slot_of-slot.ensures.apart c.args.o s is c.self.inside.retains c.self.inside.releases side.less_weak refl calls.less_weak refl idle ∙ ap (λ (v : HeapView). calls.weakly_unnamed v c.args.o) c.self.view_is
+    ∙ sides_gone d t records sides pieces c.self.invariant c.slot_of-slot.ensures.apart c.args.o s is c.self.inside.retains c.self.inside.releases side.less_weak refl calls.less_weak refl idle
+    ∙ ap (λ (v : HeapView). calls.weakly_unnamed v c.args.o) c.self.view_is
 
 pub returns-else-is_idle : goal.returns-else-is_idle
 returns-else-is_idle c =
@@ -64,7 +71,9 @@ returns-else-is_idle c =
     let s = c.slot_of-slot.result in
     let is = c.slot_of-slot.ensures.slot in
     let seen : is_idle (side.less_weak (sides_at sides s)) ≡ c.is_idle.result =
-    sym (c.is_idle.ensures ∙ ap (λ xs. is_idle_at xs s) c.drop_weak.ensures ∙ changed_idle d t records sides pieces c.self.invariant c.slot_of-slot.ensures.apart c.args.o s is c.self.inside.retains c.self.inside.releases side.less_weak) in
+    sym (c.is_idle.ensures ∙ ap (λ xs. is_idle_at xs s) c.drop_weak.ensures
+    ∙ changed_idle d t records sides pieces c.self.invariant c.slot_of-slot.ensures.apart c.args.o s is c.self.inside.retains c.self.inside.releases side.less_weak) in
     let taken = seen ∙ c.if-is_idle.false in
     ap (λ xs. heap_of d t records xs pieces c.self.inside.retains c.self.inside.releases) c.drop_weak.ensures
-    ∙ sides_left d t records sides pieces c.self.invariant c.slot_of-slot.ensures.apart c.args.o s is c.self.inside.retains c.self.inside.releases side.less_weak refl calls.less_weak refl taken ∙ ap (λ (v : HeapView). calls.weakly_unnamed v c.args.o) c.self.view_is
+    ∙ sides_left d t records sides pieces c.self.invariant c.slot_of-slot.ensures.apart c.args.o s is c.self.inside.retains c.self.inside.releases side.less_weak refl calls.less_weak refl taken
+    ∙ ap (λ (v : HeapView). calls.weakly_unnamed v c.args.o) c.self.view_is

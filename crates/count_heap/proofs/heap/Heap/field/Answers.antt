@@ -24,8 +24,11 @@ leaves-requires c =
     let pieces = c.self.inside.pool in
     let s = c.slot_of.result in
     let is = c.slot_of.ensures.slot in
-    let read = read_record d t records sides pieces c.self.invariant c.slot_of.ensures.apart c.args.o s is c.self.inside.retains c.self.inside.releases c.index-record.result.now c.index-record.ensures in
-    subst (λ (y : SlotRecord). is_some (piece_in pieces y.piece) ≡ true) (sym read) (piece_there d t records sides pieces c.self.invariant c.slot_of.ensures.apart c.args.o s is c.self.inside.retains c.self.inside.releases (ap (λ (v : HeapView). views.is_dead_in v c.args.o) c.self.view_is ∙ c.requires.alive))
+    let read = read_record d t records sides pieces c.self.invariant c.slot_of.ensures.apart c.args.o s is c.self.inside.retains c.self.inside.releases c.index-record.result.now
+    c.index-record.ensures in
+    subst (λ (y : SlotRecord). is_some (piece_in pieces y.piece) ≡ true) (sym read)
+    (piece_there d t records sides pieces c.self.invariant c.slot_of.ensures.apart c.args.o s is c.self.inside.retains c.self.inside.releases (ap (λ
+    (v : HeapView). views.is_dead_in v c.args.o) c.self.view_is ∙ c.requires.alive))
 
 pub field_at-requires : goal.field_at-requires
 field_at-requires c =
@@ -36,15 +39,22 @@ field_at-requires c =
     let pieces = c.self.inside.pool in
     let s = c.slot_of.result in
     let is = c.slot_of.ensures.slot in
-    let read = read_record d t records sides pieces c.self.invariant c.slot_of.ensures.apart c.args.o s is c.self.inside.retains c.self.inside.releases c.index-record.result.now c.index-record.ensures in
+    let read = read_record d t records sides pieces c.self.invariant c.slot_of.ensures.apart c.args.o s is c.self.inside.retains c.self.inside.releases c.index-record.result.now
+    c.index-record.ensures in
     let lt : c.args.index < length (leaves_by_field d (record_at records s).class) =
-    subst (λ n. c.args.index < n) (sym (ap (λ (v : HeapView). length (views.fields_in v c.args.o)) c.self.view_is) ∙ field_count_is d t records sides pieces c.self.invariant c.slot_of.ensures.apart c.args.o s is c.self.inside.retains c.self.inside.releases (ap (λ (v : HeapView). views.is_dead_in v c.args.o) c.self.view_is ∙ c.requires.alive)) c.requires.field in
+    subst (λ n. c.args.index < n) (sym (ap (λ (v : HeapView). length (views.fields_in v c.args.o)) c.self.view_is)
+    ∙ field_count_is d t records sides pieces c.self.invariant c.slot_of.ensures.apart c.args.o s is c.self.inside.retains c.self.inside.releases (ap (λ
+    (v : HeapView). views.is_dead_in v c.args.o) c.self.view_is ∙ c.requires.alive)) c.requires.field in
     let place_is = ap (λ ps. slice_index_or ps c.args.index no_place) (c.fields.ensures ∙ ap (λ (y : SlotRecord). places_of d y.class) read) in
-    let held : Some c.leaves.result.now ≡ Some (leaves_in pieces (record_at records s).piece) = sym c.leaves.ensures ∙ ap (λ (y : SlotRecord). piece_in pieces y.piece) read ∙ piece_is d t records sides pieces c.self.invariant c.slot_of.ensures.apart c.args.o s is c.self.inside.retains c.self.inside.releases (ap (λ (v : HeapView). views.is_dead_in v c.args.o) c.self.view_is ∙ c.requires.alive) in
+    let held : Some c.leaves.result.now ≡ Some (leaves_in pieces (record_at records s).piece) = sym c.leaves.ensures ∙ ap (λ (y : SlotRecord). piece_in pieces y.piece) read
+    ∙ piece_is d t records sides pieces c.self.invariant c.slot_of.ensures.apart c.args.o s is c.self.inside.retains c.self.inside.releases (ap (λ
+    (v : HeapView). views.is_dead_in v c.args.o) c.self.view_is ∙ c.requires.alive) in
     let leaves : c.leaves.result.now ≡ leaves_in pieces (record_at records s).piece = cc in
     subst (λ (p : FieldPlace). p.from + 1 + p.count ≤ length c.leaves.result.now) (sym place_is)
-    (subst (λ (ls : List Leaf). (place_at 0 (leaves_by_field d (record_at records s).class) c.args.index).from + 1 + (place_at 0 (leaves_by_field d (record_at records s).class) c.args.index).count ≤ length ls) (sym leaves)
-    (place_fits d t records sides pieces c.self.invariant c.slot_of.ensures.apart c.args.o s is c.self.inside.retains c.self.inside.releases (ap (λ (v : HeapView). views.is_dead_in v c.args.o) c.self.view_is ∙ c.requires.alive) c.args.index lt))
+    (subst (λ (ls : List Leaf). (place_at 0 (leaves_by_field d (record_at records s).class) c.args.index).from + 1 + (place_at 0 (leaves_by_field d
+    (record_at records s).class) c.args.index).count ≤ length ls) (sym leaves)
+    (place_fits d t records sides pieces c.self.invariant c.slot_of.ensures.apart c.args.o s is c.self.inside.retains c.self.inside.releases (ap (λ
+    (v : HeapView). views.is_dead_in v c.args.o) c.self.view_is ∙ c.requires.alive) c.args.index lt))
 
 pub returns : goal.returns
 returns c =
@@ -55,11 +65,17 @@ returns c =
     let pieces = c.self.inside.pool in
     let s = c.slot_of.result in
     let is = c.slot_of.ensures.slot in
-    let read = read_record d t records sides pieces c.self.invariant c.slot_of.ensures.apart c.args.o s is c.self.inside.retains c.self.inside.releases c.index-record.result.now c.index-record.ensures in
+    let read = read_record d t records sides pieces c.self.invariant c.slot_of.ensures.apart c.args.o s is c.self.inside.retains c.self.inside.releases c.index-record.result.now
+    c.index-record.ensures in
     let lt : c.args.index < length (leaves_by_field d (record_at records s).class) =
-    subst (λ n. c.args.index < n) (sym (ap (λ (v : HeapView). length (views.fields_in v c.args.o)) c.self.view_is) ∙ field_count_is d t records sides pieces c.self.invariant c.slot_of.ensures.apart c.args.o s is c.self.inside.retains c.self.inside.releases (ap (λ (v : HeapView). views.is_dead_in v c.args.o) c.self.view_is ∙ c.requires.alive)) c.requires.field in
+    subst (λ n. c.args.index < n) (sym (ap (λ (v : HeapView). length (views.fields_in v c.args.o)) c.self.view_is)
+    ∙ field_count_is d t records sides pieces c.self.invariant c.slot_of.ensures.apart c.args.o s is c.self.inside.retains c.self.inside.releases (ap (λ
+    (v : HeapView). views.is_dead_in v c.args.o) c.self.view_is ∙ c.requires.alive)) c.requires.field in
     let place_is = ap (λ ps. slice_index_or ps c.args.index no_place) (c.fields.ensures ∙ ap (λ (y : SlotRecord). places_of d y.class) read) in
-    let held : Some c.leaves.result.now ≡ Some (leaves_in pieces (record_at records s).piece) = sym c.leaves.ensures ∙ ap (λ (y : SlotRecord). piece_in pieces y.piece) read ∙ piece_is d t records sides pieces c.self.invariant c.slot_of.ensures.apart c.args.o s is c.self.inside.retains c.self.inside.releases (ap (λ (v : HeapView). views.is_dead_in v c.args.o) c.self.view_is ∙ c.requires.alive) in
+    let held : Some c.leaves.result.now ≡ Some (leaves_in pieces (record_at records s).piece) = sym c.leaves.ensures ∙ ap (λ (y : SlotRecord). piece_in pieces y.piece) read
+    ∙ piece_is d t records sides pieces c.self.invariant c.slot_of.ensures.apart c.args.o s is c.self.inside.retains c.self.inside.releases (ap (λ
+    (v : HeapView). views.is_dead_in v c.args.o) c.self.view_is ∙ c.requires.alive) in
     let leaves : c.leaves.result.now ≡ leaves_in pieces (record_at records s).piece = cc in
     c.field_at.ensures ∙ ap (field_at c.leaves.result.now) place_is ∙ ap (λ ls. field_at ls (place_at 0 (leaves_by_field d (record_at records s).class) c.args.index)) leaves
-    ∙ sym (field_seen d t records sides pieces c.self.invariant c.slot_of.ensures.apart c.args.o s is c.self.inside.retains c.self.inside.releases (ap (λ (v : HeapView). views.is_dead_in v c.args.o) c.self.view_is ∙ c.requires.alive) c.args.index lt) ∙ ap (λ (v : HeapView). views.field_in v c.args.o c.args.index) c.self.view_is
+    ∙ sym (field_seen d t records sides pieces c.self.invariant c.slot_of.ensures.apart c.args.o s is c.self.inside.retains c.self.inside.releases (ap (λ
+    (v : HeapView). views.is_dead_in v c.args.o) c.self.view_is ∙ c.requires.alive) c.args.index lt) ∙ ap (λ (v : HeapView). views.field_in v c.args.o c.args.index) c.self.view_is

@@ -18,5 +18,6 @@ returns c =
     let is = c.slot_of.ensures.slot in
     let read = read_record d t records sides pieces c.self.invariant c.slot_of.ensures.apart c.args.o s is c.self.inside.retains c.self.inside.releases c.index.result.now c.index.ensures in
     c.field_count.ensures ∙ ap (λ (y : SlotRecord). length (leaves_by_field d y.class)) read
-    ∙ sym (field_count_is d t records sides pieces c.self.invariant c.slot_of.ensures.apart c.args.o s is c.self.inside.retains c.self.inside.releases (ap (λ (v : HeapView). views.is_dead_in v c.args.o) c.self.view_is ∙ c.requires))
+    ∙ sym (field_count_is d t records sides pieces c.self.invariant c.slot_of.ensures.apart c.args.o s is c.self.inside.retains c.self.inside.releases (ap (λ
+    (v : HeapView). views.is_dead_in v c.args.o) c.self.view_is ∙ c.requires))
     ∙ ap (λ (v : HeapView). length (views.fields_in v c.args.o)) c.self.view_is

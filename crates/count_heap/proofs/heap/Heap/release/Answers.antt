@@ -17,8 +17,10 @@ invariant_of-self c =
     let pieces = c.self.inside.pool in
     let s = c.slot_of.result in
     let is = c.slot_of.ensures.slot in
-    let read = read_record d t records sides pieces c.self.invariant c.slot_of.ensures.apart c.args.o s is c.self.inside.retains c.self.inside.releases c.index_mut-record.result.now c.index_mut-record.ensures.value in
-    record_inv d t records sides pieces c.self.invariant c.slot_of.ensures.apart c.args.o s is c.self.inside.retains c.self.inside.releases _ (λ (y : SlotRecord). record y { strong = y.strong - 1 }) (ap (λ (y : SlotRecord). record y { strong = y.strong - 1 }) read) refl refl refl
+    let read = read_record d t records sides pieces c.self.invariant c.slot_of.ensures.apart c.args.o s is c.self.inside.retains c.self.inside.releases c.index_mut-record.result.now
+    c.index_mut-record.ensures.value in
+    record_inv d t records sides pieces c.self.invariant c.slot_of.ensures.apart c.args.o s is c.self.inside.retains c.self.inside.releases _ (λ
+    (y : SlotRecord). record y { strong = y.strong - 1 }) (ap (λ (y : SlotRecord). record y { strong = y.strong - 1 }) read) refl refl refl
 
 pub returns-clause-answer : goal.returns-clause-answer
 returns-clause-answer c =
@@ -29,9 +31,11 @@ returns-clause-answer c =
     let pieces = c.self.inside.pool in
     let s = c.slot_of.result in
     let is = c.slot_of.ensures.slot in
-    let read = read_record d t records sides pieces c.self.invariant c.slot_of.ensures.apart c.args.o s is c.self.inside.retains c.self.inside.releases c.index_mut-record.result.now c.index_mut-record.ensures.value in
+    let read = read_record d t records sides pieces c.self.invariant c.slot_of.ensures.apart c.args.o s is c.self.inside.retains c.self.inside.releases c.index_mut-record.result.now
+    c.index_mut-record.ensures.value in
     let count : 1 ≤ (record_at records s).strong =
-    subst (λ n. 1 ≤ n) (sym (ap (λ (v : HeapView). views.strong_in v c.args.o) c.self.view_is) ∙ strong_is d t records sides pieces c.self.inside.retains c.self.inside.releases c.args.o s is) c.requires.count in
+    subst (λ n. 1 ≤ n) (sym (ap (λ (v : HeapView). views.strong_in v c.args.o) c.self.view_is)
+    ∙ strong_is d t records sides pieces c.self.inside.retains c.self.inside.releases c.args.o s is) c.requires.count in
     c.answer_of.ensures ∙ ap (λ (y : SlotRecord). left_answer y.phase (y.strong - 1)) read ∙ answer_is d t records sides pieces c.self.inside.retains c.self.inside.releases c.args.o s is count
     ∙ ap (λ (v : HeapView). calls.release_answer v c.args.o) c.self.view_is
 
@@ -44,6 +48,8 @@ returns-clause-heap c =
     let pieces = c.self.inside.pool in
     let s = c.slot_of.result in
     let is = c.slot_of.ensures.slot in
-    let read = read_record d t records sides pieces c.self.invariant c.slot_of.ensures.apart c.args.o s is c.self.inside.retains c.self.inside.releases c.index_mut-record.result.now c.index_mut-record.ensures.value in
-    released_is d t records sides pieces c.self.invariant c.slot_of.ensures.apart c.args.o s is c.self.inside.retains c.self.inside.releases _ (ap (λ (y : SlotRecord). record y { strong = y.strong - 1 }) read)
+    let read = read_record d t records sides pieces c.self.invariant c.slot_of.ensures.apart c.args.o s is c.self.inside.retains c.self.inside.releases c.index_mut-record.result.now
+    c.index_mut-record.ensures.value in
+    released_is d t records sides pieces c.self.invariant c.slot_of.ensures.apart c.args.o s is c.self.inside.retains c.self.inside.releases _ (ap (λ
+    (y : SlotRecord). record y { strong = y.strong - 1 }) read)
     ∙ ap (λ (v : HeapView). calls.released v c.args.o) c.self.view_is

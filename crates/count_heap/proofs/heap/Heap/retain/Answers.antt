@@ -14,8 +14,10 @@ invariant_of-self c =
     let pieces = c.self.inside.pool in
     let s = c.slot_of.result in
     let is = c.slot_of.ensures.slot in
-    let read = read_record d t records sides pieces c.self.invariant c.slot_of.ensures.apart c.args.o s is c.self.inside.retains c.self.inside.releases c.index_mut-record.result.now c.index_mut-record.ensures.value in
-    record_inv d t records sides pieces c.self.invariant c.slot_of.ensures.apart c.args.o s is c.self.inside.retains c.self.inside.releases _ (λ (y : SlotRecord). record y { strong = y.strong + 1 }) (ap (λ (y : SlotRecord). record y { strong = y.strong + 1 }) read) refl refl refl
+    let read = read_record d t records sides pieces c.self.invariant c.slot_of.ensures.apart c.args.o s is c.self.inside.retains c.self.inside.releases c.index_mut-record.result.now
+    c.index_mut-record.ensures.value in
+    record_inv d t records sides pieces c.self.invariant c.slot_of.ensures.apart c.args.o s is c.self.inside.retains c.self.inside.releases _ (λ
+    (y : SlotRecord). record y { strong = y.strong + 1 }) (ap (λ (y : SlotRecord). record y { strong = y.strong + 1 }) read) refl refl refl
 
 pub returns : goal.returns
 returns c =
@@ -26,6 +28,8 @@ returns c =
     let pieces = c.self.inside.pool in
     let s = c.slot_of.result in
     let is = c.slot_of.ensures.slot in
-    let read = read_record d t records sides pieces c.self.invariant c.slot_of.ensures.apart c.args.o s is c.self.inside.retains c.self.inside.releases c.index_mut-record.result.now c.index_mut-record.ensures.value in
-    retained_is d t records sides pieces c.self.invariant c.slot_of.ensures.apart c.args.o s is c.self.inside.retains c.self.inside.releases _ (ap (λ (y : SlotRecord). record y { strong = y.strong + 1 }) read)
+    let read = read_record d t records sides pieces c.self.invariant c.slot_of.ensures.apart c.args.o s is c.self.inside.retains c.self.inside.releases c.index_mut-record.result.now
+    c.index_mut-record.ensures.value in
+    retained_is d t records sides pieces c.self.invariant c.slot_of.ensures.apart c.args.o s is c.self.inside.retains c.self.inside.releases _ (ap (λ
+    (y : SlotRecord). record y { strong = y.strong + 1 }) read)
     ∙ ap (λ (v : HeapView). calls.retained v c.args.o) c.self.view_is

@@ -26,9 +26,11 @@ bounds-fields-index c =
     let pieces = c.self.inside.pool in
     let s = c.slot_of.result in
     let is = c.slot_of.ensures.slot in
-    let read = read_record d t records sides pieces c.self.invariant c.slot_of.ensures.apart c.args.o s is c.self.inside.retains c.self.inside.releases c.index-record.result.now c.index-record.ensures in
+    let read = read_record d t records sides pieces c.self.invariant c.slot_of.ensures.apart c.args.o s is c.self.inside.retains c.self.inside.releases c.index-record.result.now
+    c.index-record.ensures in
     let told = ap (λ (v : HeapView). views.leaves_at v c.args.o c.args.index) c.self.view_is ∙ c.requires.fits in
-    let lt : c.args.index < length (leaves_by_field d (record_at records s).class) = index_there d t records sides pieces c.self.invariant c.slot_of.ensures.apart c.args.o s is c.self.inside.retains c.self.inside.releases (ap (λ (v : HeapView). views.is_dead_in v c.args.o) c.self.view_is ∙ c.requires.alive) c.args.index c.args.leaves.now told in
+    let lt : c.args.index < length (leaves_by_field d (record_at records s).class) = index_there d t records sides pieces c.self.invariant c.slot_of.ensures.apart c.args.o s is
+    c.self.inside.retains c.self.inside.releases (ap (λ (v : HeapView). views.is_dead_in v c.args.o) c.self.view_is ∙ c.requires.alive) c.args.index c.args.leaves.now told in
     omega (arith, lt, length_places 0 (leaves_by_field d (record_at records s).class), ap (λ ps. length ps) (c.fields.ensures ∙ ap (λ (y : SlotRecord). places_of d y.class) read))
 
 pub write_field-requires-clause-there : goal.write_field-requires-clause-there
@@ -40,8 +42,11 @@ write_field-requires-clause-there c =
     let pieces = c.self.inside.pool in
     let s = c.slot_of.result in
     let is = c.slot_of.ensures.slot in
-    let read = read_record d t records sides pieces c.self.invariant c.slot_of.ensures.apart c.args.o s is c.self.inside.retains c.self.inside.releases c.index-record.result.now c.index-record.ensures in
-    subst (λ (y : SlotRecord). is_some (piece_in pieces y.piece) ≡ true) (sym read) (piece_there d t records sides pieces c.self.invariant c.slot_of.ensures.apart c.args.o s is c.self.inside.retains c.self.inside.releases (ap (λ (v : HeapView). views.is_dead_in v c.args.o) c.self.view_is ∙ c.requires.alive))
+    let read = read_record d t records sides pieces c.self.invariant c.slot_of.ensures.apart c.args.o s is c.self.inside.retains c.self.inside.releases c.index-record.result.now
+    c.index-record.ensures in
+    subst (λ (y : SlotRecord). is_some (piece_in pieces y.piece) ≡ true) (sym read)
+    (piece_there d t records sides pieces c.self.invariant c.slot_of.ensures.apart c.args.o s is c.self.inside.retains c.self.inside.releases (ap (λ
+    (v : HeapView). views.is_dead_in v c.args.o) c.self.view_is ∙ c.requires.alive))
 
 pub write_field-requires-clause-within : goal.write_field-requires-clause-within
 write_field-requires-clause-within c =
@@ -52,12 +57,15 @@ write_field-requires-clause-within c =
     let pieces = c.self.inside.pool in
     let s = c.slot_of.result in
     let is = c.slot_of.ensures.slot in
-    let read = read_record d t records sides pieces c.self.invariant c.slot_of.ensures.apart c.args.o s is c.self.inside.retains c.self.inside.releases c.index-record.result.now c.index-record.ensures in
+    let read = read_record d t records sides pieces c.self.invariant c.slot_of.ensures.apart c.args.o s is c.self.inside.retains c.self.inside.releases c.index-record.result.now
+    c.index-record.ensures in
     let told = ap (λ (v : HeapView). views.leaves_at v c.args.o c.args.index) c.self.view_is ∙ c.requires.fits in
     let place_is = ap (λ ps. slice_index_or ps c.args.index no_place) (c.fields.ensures ∙ ap (λ (y : SlotRecord). places_of d y.class) read) in
     subst (λ (p : FieldPlace). IfSome (piece_in pieces c.index-record.result.now.piece) (λ old. p.from + 1 + length c.args.leaves.now ≤ length old)) (sym place_is)
-    (subst (λ (y : SlotRecord). IfSome (piece_in pieces y.piece) (λ old. (place_at 0 (leaves_by_field d (record_at records s).class) c.args.index).from + 1 + length c.args.leaves.now ≤ length old)) (sym read)
-    (field_fits d t records sides pieces c.self.invariant c.slot_of.ensures.apart c.args.o s is c.self.inside.retains c.self.inside.releases (ap (λ (v : HeapView). views.is_dead_in v c.args.o) c.self.view_is ∙ c.requires.alive) c.args.index c.args.leaves.now told))
+    (subst (λ (y : SlotRecord). IfSome (piece_in pieces y.piece) (λ old. (place_at 0 (leaves_by_field d
+    (record_at records s).class) c.args.index).from + 1 + length c.args.leaves.now ≤ length old)) (sym read)
+    (field_fits d t records sides pieces c.self.invariant c.slot_of.ensures.apart c.args.o s is c.self.inside.retains c.self.inside.releases (ap (λ
+    (v : HeapView). views.is_dead_in v c.args.o) c.self.view_is ∙ c.requires.alive) c.args.index c.args.leaves.now told))
 
 pub invariant_of-self : goal.invariant_of-self
 invariant_of-self c =
@@ -68,13 +76,17 @@ invariant_of-self c =
     let pieces = c.self.inside.pool in
     let s = c.slot_of.result in
     let is = c.slot_of.ensures.slot in
-    let read = read_record d t records sides pieces c.self.invariant c.slot_of.ensures.apart c.args.o s is c.self.inside.retains c.self.inside.releases c.index-record.result.now c.index-record.ensures in
+    let read = read_record d t records sides pieces c.self.invariant c.slot_of.ensures.apart c.args.o s is c.self.inside.retains c.self.inside.releases c.index-record.result.now
+    c.index-record.ensures in
     let told = ap (λ (v : HeapView). views.leaves_at v c.args.o c.args.index) c.self.view_is ∙ c.requires.fits in
     let place_is = ap (λ ps. slice_index_or ps c.args.index no_place) (c.fields.ensures ∙ ap (λ (y : SlotRecord). places_of d y.class) read) in
-    let write : IsChanged pieces c.write_field.new.pool (record_at records s).piece (option_map (written (place_at 0 (leaves_by_field d (record_at records s).class) c.args.index) c.args.leaves.now) (piece_in pieces (record_at records s).piece)) =
+    let write : IsChanged pieces c.write_field.new.pool (record_at records s).piece (option_map (written (place_at 0 (leaves_by_field d
+    (record_at records s).class) c.args.index) c.args.leaves.now) (piece_in pieces (record_at records s).piece)) =
     subst (λ (p : FieldPlace). IsChanged pieces c.write_field.new.pool (record_at records s).piece (option_map (written p c.args.leaves.now) (piece_in pieces (record_at records s).piece))) place_is
-    (subst (λ (y : SlotRecord). IsChanged pieces c.write_field.new.pool y.piece (option_map (written (slice_index_or c.fields.result.now c.args.index no_place) c.args.leaves.now) (piece_in pieces y.piece))) read c.write_field.ensures) in
-    set_field_inv d t records sides pieces c.self.invariant c.slot_of.ensures.apart c.args.o s is c.self.inside.retains c.self.inside.releases (ap (λ (v : HeapView). views.is_dead_in v c.args.o) c.self.view_is ∙ c.requires.alive) c.args.index c.args.leaves.now told c.write_field.new.pool write
+    (subst (λ (y : SlotRecord). IsChanged pieces c.write_field.new.pool y.piece (option_map (written (slice_index_or c.fields.result.now c.args.index no_place) c.args.leaves.now)
+    (piece_in pieces y.piece))) read c.write_field.ensures) in
+    set_field_inv d t records sides pieces c.self.invariant c.slot_of.ensures.apart c.args.o s is c.self.inside.retains c.self.inside.releases (ap (λ
+    (v : HeapView). views.is_dead_in v c.args.o) c.self.view_is ∙ c.requires.alive) c.args.index c.args.leaves.now told c.write_field.new.pool write
 
 pub returns : goal.returns
 returns c =
@@ -85,11 +97,15 @@ returns c =
     let pieces = c.self.inside.pool in
     let s = c.slot_of.result in
     let is = c.slot_of.ensures.slot in
-    let read = read_record d t records sides pieces c.self.invariant c.slot_of.ensures.apart c.args.o s is c.self.inside.retains c.self.inside.releases c.index-record.result.now c.index-record.ensures in
+    let read = read_record d t records sides pieces c.self.invariant c.slot_of.ensures.apart c.args.o s is c.self.inside.retains c.self.inside.releases c.index-record.result.now
+    c.index-record.ensures in
     let told = ap (λ (v : HeapView). views.leaves_at v c.args.o c.args.index) c.self.view_is ∙ c.requires.fits in
     let place_is = ap (λ ps. slice_index_or ps c.args.index no_place) (c.fields.ensures ∙ ap (λ (y : SlotRecord). places_of d y.class) read) in
-    let write : IsChanged pieces c.write_field.new.pool (record_at records s).piece (option_map (written (place_at 0 (leaves_by_field d (record_at records s).class) c.args.index) c.args.leaves.now) (piece_in pieces (record_at records s).piece)) =
+    let write : IsChanged pieces c.write_field.new.pool (record_at records s).piece (option_map (written (place_at 0 (leaves_by_field d
+    (record_at records s).class) c.args.index) c.args.leaves.now) (piece_in pieces (record_at records s).piece)) =
     subst (λ (p : FieldPlace). IsChanged pieces c.write_field.new.pool (record_at records s).piece (option_map (written p c.args.leaves.now) (piece_in pieces (record_at records s).piece))) place_is
-    (subst (λ (y : SlotRecord). IsChanged pieces c.write_field.new.pool y.piece (option_map (written (slice_index_or c.fields.result.now c.args.index no_place) c.args.leaves.now) (piece_in pieces y.piece))) read c.write_field.ensures) in
-    set_field_is d t records sides pieces c.self.invariant c.slot_of.ensures.apart c.args.o s is c.self.inside.retains c.self.inside.releases (ap (λ (v : HeapView). views.is_dead_in v c.args.o) c.self.view_is ∙ c.requires.alive) c.args.index c.args.leaves.now told c.write_field.new.pool write
+    (subst (λ (y : SlotRecord). IsChanged pieces c.write_field.new.pool y.piece (option_map (written (slice_index_or c.fields.result.now c.args.index no_place) c.args.leaves.now)
+    (piece_in pieces y.piece))) read c.write_field.ensures) in
+    set_field_is d t records sides pieces c.self.invariant c.slot_of.ensures.apart c.args.o s is c.self.inside.retains c.self.inside.releases (ap (λ
+    (v : HeapView). views.is_dead_in v c.args.o) c.self.view_is ∙ c.requires.alive) c.args.index c.args.leaves.now told c.write_field.new.pool write
     ∙ ap (λ (v : HeapView). calls.with_field v c.args.o c.args.index c.args.leaves.now) c.self.view_is

@@ -24,8 +24,11 @@ write-requires-clause-there c =
     let pieces = c.self.inside.pool in
     let s = c.slot_of.result in
     let is = c.slot_of.ensures.slot in
-    let read = read_record d t records sides pieces c.self.invariant c.slot_of.ensures.apart c.args.o s is c.self.inside.retains c.self.inside.releases c.index-record.result.now c.index-record.ensures in
-    subst (λ (y : SlotRecord). is_some (piece_in pieces y.piece) ≡ true) (sym read) (piece_there d t records sides pieces c.self.invariant c.slot_of.ensures.apart c.args.o s is c.self.inside.retains c.self.inside.releases (ap (λ (v : HeapView). views.is_dead_in v c.args.o) c.self.view_is ∙ c.requires.alive))
+    let read = read_record d t records sides pieces c.self.invariant c.slot_of.ensures.apart c.args.o s is c.self.inside.retains c.self.inside.releases c.index-record.result.now
+    c.index-record.ensures in
+    subst (λ (y : SlotRecord). is_some (piece_in pieces y.piece) ≡ true) (sym read)
+    (piece_there d t records sides pieces c.self.invariant c.slot_of.ensures.apart c.args.o s is c.self.inside.retains c.self.inside.releases (ap (λ
+    (v : HeapView). views.is_dead_in v c.args.o) c.self.view_is ∙ c.requires.alive))
 
 pub write-requires-clause-within : goal.write-requires-clause-within
 write-requires-clause-within c =
@@ -36,14 +39,19 @@ write-requires-clause-within c =
     let pieces = c.self.inside.pool in
     let s = c.slot_of.result in
     let is = c.slot_of.ensures.slot in
-    let read = read_record d t records sides pieces c.self.invariant c.slot_of.ensures.apart c.args.o s is c.self.inside.retains c.self.inside.releases c.index-record.result.now c.index-record.ensures in
-    let there : is_some (views.field_in (heap_of d t records sides pieces c.self.inside.retains c.self.inside.releases) c.args.o c.args.index) ≡ true = ap (λ (v : HeapView). is_some (views.field_in v c.args.o c.args.index)) c.self.view_is ∙ c.requires.written in
-    let fits : IfSome (views.field_in (heap_of d t records sides pieces c.self.inside.retains c.self.inside.releases) c.args.o c.args.index) (λ old. c.args.from + length c.args.leaves.now ≤ length old) =
+    let read = read_record d t records sides pieces c.self.invariant c.slot_of.ensures.apart c.args.o s is c.self.inside.retains c.self.inside.releases c.index-record.result.now
+    c.index-record.ensures in
+    let there : is_some (views.field_in (heap_of d t records sides pieces c.self.inside.retains c.self.inside.releases) c.args.o c.args.index) ≡ true = ap (λ (v : HeapView). is_some
+    (views.field_in v c.args.o c.args.index)) c.self.view_is ∙ c.requires.written in
+    let fits : IfSome (views.field_in (heap_of d t records sides pieces c.self.inside.retains c.self.inside.releases) c.args.o c.args.index)
+    (λ old. c.args.from + length c.args.leaves.now ≤ length old) =
     subst (λ (v : HeapView). IfSome (views.field_in v c.args.o c.args.index) (λ old. c.args.from + length c.args.leaves.now ≤ length old)) (sym c.self.view_is) c.requires.fits in
     let place_is = ap (λ ps. slice_index_or ps c.args.index no_place) (c.fields.ensures ∙ ap (λ (y : SlotRecord). places_of d y.class) read) in
     subst (λ (p : FieldPlace). IfSome (piece_in pieces c.index-record.result.now.piece) (λ old. p.from + 1 + c.args.from + length c.args.leaves.now ≤ length old)) (sym place_is)
-    (subst (λ (y : SlotRecord). IfSome (piece_in pieces y.piece) (λ old. (place_at 0 (leaves_by_field d (record_at records s).class) c.args.index).from + 1 + c.args.from + length c.args.leaves.now ≤ length old)) (sym read)
-    (part_fits d t records sides pieces c.self.invariant c.slot_of.ensures.apart c.args.o s is c.self.inside.retains c.self.inside.releases (ap (λ (v : HeapView). views.is_dead_in v c.args.o) c.self.view_is ∙ c.requires.alive) c.args.index c.args.from c.args.leaves.now there fits))
+    (subst (λ (y : SlotRecord). IfSome (piece_in pieces y.piece) (λ old. (place_at 0 (leaves_by_field d
+    (record_at records s).class) c.args.index).from + 1 + c.args.from + length c.args.leaves.now ≤ length old)) (sym read)
+    (part_fits d t records sides pieces c.self.invariant c.slot_of.ensures.apart c.args.o s is c.self.inside.retains c.self.inside.releases (ap (λ
+    (v : HeapView). views.is_dead_in v c.args.o) c.self.view_is ∙ c.requires.alive) c.args.index c.args.from c.args.leaves.now there fits))
 
 pub invariant_of-self : goal.invariant_of-self
 invariant_of-self c =
@@ -54,15 +62,22 @@ invariant_of-self c =
     let pieces = c.self.inside.pool in
     let s = c.slot_of.result in
     let is = c.slot_of.ensures.slot in
-    let read = read_record d t records sides pieces c.self.invariant c.slot_of.ensures.apart c.args.o s is c.self.inside.retains c.self.inside.releases c.index-record.result.now c.index-record.ensures in
-    let there : is_some (views.field_in (heap_of d t records sides pieces c.self.inside.retains c.self.inside.releases) c.args.o c.args.index) ≡ true = ap (λ (v : HeapView). is_some (views.field_in v c.args.o c.args.index)) c.self.view_is ∙ c.requires.written in
-    let fits : IfSome (views.field_in (heap_of d t records sides pieces c.self.inside.retains c.self.inside.releases) c.args.o c.args.index) (λ old. c.args.from + length c.args.leaves.now ≤ length old) =
+    let read = read_record d t records sides pieces c.self.invariant c.slot_of.ensures.apart c.args.o s is c.self.inside.retains c.self.inside.releases c.index-record.result.now
+    c.index-record.ensures in
+    let there : is_some (views.field_in (heap_of d t records sides pieces c.self.inside.retains c.self.inside.releases) c.args.o c.args.index) ≡ true = ap (λ (v : HeapView). is_some
+    (views.field_in v c.args.o c.args.index)) c.self.view_is ∙ c.requires.written in
+    let fits : IfSome (views.field_in (heap_of d t records sides pieces c.self.inside.retains c.self.inside.releases) c.args.o c.args.index)
+    (λ old. c.args.from + length c.args.leaves.now ≤ length old) =
     subst (λ (v : HeapView). IfSome (views.field_in v c.args.o c.args.index) (λ old. c.args.from + length c.args.leaves.now ≤ length old)) (sym c.self.view_is) c.requires.fits in
     let place_is = ap (λ ps. slice_index_or ps c.args.index no_place) (c.fields.ensures ∙ ap (λ (y : SlotRecord). places_of d y.class) read) in
-    let write : IsChanged pieces c.write.new.self (record_at records s).piece (option_map (put_leaves ((place_at 0 (leaves_by_field d (record_at records s).class) c.args.index).from + 1 + c.args.from) c.args.leaves.now) (piece_in pieces (record_at records s).piece)) =
-    subst (λ (p : FieldPlace). IsChanged pieces c.write.new.self (record_at records s).piece (option_map (put_leaves (p.from + 1 + c.args.from) c.args.leaves.now) (piece_in pieces (record_at records s).piece))) place_is
-    (subst (λ (y : SlotRecord). IsChanged pieces c.write.new.self y.piece (option_map (put_leaves ((slice_index_or c.fields.result.now c.args.index no_place).from + 1 + c.args.from) c.args.leaves.now) (piece_in pieces y.piece))) read c.write.ensures) in
-    set_part_inv d t records sides pieces c.self.invariant c.slot_of.ensures.apart c.args.o s is c.self.inside.retains c.self.inside.releases (ap (λ (v : HeapView). views.is_dead_in v c.args.o) c.self.view_is ∙ c.requires.alive) c.args.index c.args.from c.args.leaves.now there fits c.write.new.self write
+    let write : IsChanged pieces c.write.new.self (record_at records s).piece (option_map (put_leaves ((place_at 0 (leaves_by_field d
+    (record_at records s).class) c.args.index).from + 1 + c.args.from) c.args.leaves.now) (piece_in pieces (record_at records s).piece)) =
+    subst (λ (p : FieldPlace). IsChanged pieces c.write.new.self (record_at records s).piece (option_map (put_leaves (p.from + 1 + c.args.from) c.args.leaves.now) (piece_in pieces
+    (record_at records s).piece))) place_is
+    (subst (λ (y : SlotRecord). IsChanged pieces c.write.new.self y.piece (option_map (put_leaves
+    ((slice_index_or c.fields.result.now c.args.index no_place).from + 1 + c.args.from) c.args.leaves.now) (piece_in pieces y.piece))) read c.write.ensures) in
+    set_part_inv d t records sides pieces c.self.invariant c.slot_of.ensures.apart c.args.o s is c.self.inside.retains c.self.inside.releases (ap (λ
+    (v : HeapView). views.is_dead_in v c.args.o) c.self.view_is ∙ c.requires.alive) c.args.index c.args.from c.args.leaves.now there fits c.write.new.self write
 
 pub returns : goal.returns
 returns c =
@@ -73,13 +88,20 @@ returns c =
     let pieces = c.self.inside.pool in
     let s = c.slot_of.result in
     let is = c.slot_of.ensures.slot in
-    let read = read_record d t records sides pieces c.self.invariant c.slot_of.ensures.apart c.args.o s is c.self.inside.retains c.self.inside.releases c.index-record.result.now c.index-record.ensures in
-    let there : is_some (views.field_in (heap_of d t records sides pieces c.self.inside.retains c.self.inside.releases) c.args.o c.args.index) ≡ true = ap (λ (v : HeapView). is_some (views.field_in v c.args.o c.args.index)) c.self.view_is ∙ c.requires.written in
-    let fits : IfSome (views.field_in (heap_of d t records sides pieces c.self.inside.retains c.self.inside.releases) c.args.o c.args.index) (λ old. c.args.from + length c.args.leaves.now ≤ length old) =
+    let read = read_record d t records sides pieces c.self.invariant c.slot_of.ensures.apart c.args.o s is c.self.inside.retains c.self.inside.releases c.index-record.result.now
+    c.index-record.ensures in
+    let there : is_some (views.field_in (heap_of d t records sides pieces c.self.inside.retains c.self.inside.releases) c.args.o c.args.index) ≡ true = ap (λ (v : HeapView). is_some
+    (views.field_in v c.args.o c.args.index)) c.self.view_is ∙ c.requires.written in
+    let fits : IfSome (views.field_in (heap_of d t records sides pieces c.self.inside.retains c.self.inside.releases) c.args.o c.args.index)
+    (λ old. c.args.from + length c.args.leaves.now ≤ length old) =
     subst (λ (v : HeapView). IfSome (views.field_in v c.args.o c.args.index) (λ old. c.args.from + length c.args.leaves.now ≤ length old)) (sym c.self.view_is) c.requires.fits in
     let place_is = ap (λ ps. slice_index_or ps c.args.index no_place) (c.fields.ensures ∙ ap (λ (y : SlotRecord). places_of d y.class) read) in
-    let write : IsChanged pieces c.write.new.self (record_at records s).piece (option_map (put_leaves ((place_at 0 (leaves_by_field d (record_at records s).class) c.args.index).from + 1 + c.args.from) c.args.leaves.now) (piece_in pieces (record_at records s).piece)) =
-    subst (λ (p : FieldPlace). IsChanged pieces c.write.new.self (record_at records s).piece (option_map (put_leaves (p.from + 1 + c.args.from) c.args.leaves.now) (piece_in pieces (record_at records s).piece))) place_is
-    (subst (λ (y : SlotRecord). IsChanged pieces c.write.new.self y.piece (option_map (put_leaves ((slice_index_or c.fields.result.now c.args.index no_place).from + 1 + c.args.from) c.args.leaves.now) (piece_in pieces y.piece))) read c.write.ensures) in
-    set_part_is d t records sides pieces c.self.invariant c.slot_of.ensures.apart c.args.o s is c.self.inside.retains c.self.inside.releases (ap (λ (v : HeapView). views.is_dead_in v c.args.o) c.self.view_is ∙ c.requires.alive) c.args.index c.args.from c.args.leaves.now there fits c.write.new.self write
+    let write : IsChanged pieces c.write.new.self (record_at records s).piece (option_map (put_leaves ((place_at 0 (leaves_by_field d
+    (record_at records s).class) c.args.index).from + 1 + c.args.from) c.args.leaves.now) (piece_in pieces (record_at records s).piece)) =
+    subst (λ (p : FieldPlace). IsChanged pieces c.write.new.self (record_at records s).piece (option_map (put_leaves (p.from + 1 + c.args.from) c.args.leaves.now) (piece_in pieces
+    (record_at records s).piece))) place_is
+    (subst (λ (y : SlotRecord). IsChanged pieces c.write.new.self y.piece (option_map (put_leaves
+    ((slice_index_or c.fields.result.now c.args.index no_place).from + 1 + c.args.from) c.args.leaves.now) (piece_in pieces y.piece))) read c.write.ensures) in
+    set_part_is d t records sides pieces c.self.invariant c.slot_of.ensures.apart c.args.o s is c.self.inside.retains c.self.inside.releases (ap (λ
+    (v : HeapView). views.is_dead_in v c.args.o) c.self.view_is ∙ c.requires.alive) c.args.index c.args.from c.args.leaves.now there fits c.write.new.self write
     ∙ ap (λ (v : HeapView). calls.with_part v c.args.o c.args.index c.args.from c.args.leaves.now) c.self.view_is

@@ -18,10 +18,13 @@ invariant_of-self c =
     let pieces = c.self.inside.pool in
     let s = c.slot_of.result in
     let is = c.slot_of.ensures.slot in
-    let read = read_record d t records sides pieces c.self.invariant c.slot_of.ensures.apart c.args.o s is c.self.inside.retains c.self.inside.releases c.index_mut-record.result.now c.index_mut-record.ensures.value in
+    let read = read_record d t records sides pieces c.self.invariant c.slot_of.ensures.apart c.args.o s is c.self.inside.retains c.self.inside.releases c.index_mut-record.result.now
+    c.index_mut-record.ensures.value in
     let live : (record_at records s).phase ≡ Live =
-    sym (ap views.phase_told (object_seen d t records sides pieces c.self.inside.retains c.self.inside.releases c.args.o s is)) ∙ ap (λ (v : HeapView). views.phase_in v c.args.o) c.self.view_is ∙ c.requires.live in
-    record_inv d t records sides pieces c.self.invariant c.slot_of.ensures.apart c.args.o s is c.self.inside.retains c.self.inside.releases _ (λ (y : SlotRecord). record y { phase = Deiniting }) (ap (λ (y : SlotRecord). record y { phase = Deiniting }) read) refl refl (sym (ap is_dead_phase live))
+    sym (ap views.phase_told (object_seen d t records sides pieces c.self.inside.retains c.self.inside.releases c.args.o s is)) ∙ ap (λ (v : HeapView). views.phase_in v c.args.o) c.self.view_is
+    ∙ c.requires.live in
+    record_inv d t records sides pieces c.self.invariant c.slot_of.ensures.apart c.args.o s is c.self.inside.retains c.self.inside.releases _ (λ (y : SlotRecord). record y { phase = Deiniting })
+    (ap (λ (y : SlotRecord). record y { phase = Deiniting }) read) refl refl (sym (ap is_dead_phase live))
 
 pub returns : goal.returns
 returns c =
@@ -32,8 +35,11 @@ returns c =
     let pieces = c.self.inside.pool in
     let s = c.slot_of.result in
     let is = c.slot_of.ensures.slot in
-    let read = read_record d t records sides pieces c.self.invariant c.slot_of.ensures.apart c.args.o s is c.self.inside.retains c.self.inside.releases c.index_mut-record.result.now c.index_mut-record.ensures.value in
+    let read = read_record d t records sides pieces c.self.invariant c.slot_of.ensures.apart c.args.o s is c.self.inside.retains c.self.inside.releases c.index_mut-record.result.now
+    c.index_mut-record.ensures.value in
     let live : (record_at records s).phase ≡ Live =
-    sym (ap views.phase_told (object_seen d t records sides pieces c.self.inside.retains c.self.inside.releases c.args.o s is)) ∙ ap (λ (v : HeapView). views.phase_in v c.args.o) c.self.view_is ∙ c.requires.live in
-    started_is d t records sides pieces c.self.invariant c.slot_of.ensures.apart c.args.o s is c.self.inside.retains c.self.inside.releases _ (ap (λ (y : SlotRecord). record y { phase = Deiniting }) read) live
+    sym (ap views.phase_told (object_seen d t records sides pieces c.self.inside.retains c.self.inside.releases c.args.o s is)) ∙ ap (λ (v : HeapView). views.phase_in v c.args.o) c.self.view_is
+    ∙ c.requires.live in
+    started_is d t records sides pieces c.self.invariant c.slot_of.ensures.apart c.args.o s is c.self.inside.retains c.self.inside.releases _ (ap (λ
+    (y : SlotRecord). record y { phase = Deiniting }) read) live
     ∙ ap (λ (v : HeapView). calls.started v c.args.o) c.self.view_is

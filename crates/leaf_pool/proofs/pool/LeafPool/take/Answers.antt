@@ -27,7 +27,8 @@ invariant_of-self c =
     let items_leaves = with_items_is c.self.inside.leaves c.blank_part.new.leaves (omega arith) in
     let laid : AreLaidOut (length c.pop.new.pieces) (length c.blank_part.new.leaves) (first_at c.pop.new.pieces) (size_at c.pop.new.pieces) =
     subst (λ ps. AreLaidOut (length ps) (length c.blank_part.new.leaves) (first_at ps) (size_at ps)) (sym taken)
-    (subst (λ n. AreLaidOut (length (set pieces p (given_out (piece_at pieces p)))) n (first_at (set pieces p (given_out (piece_at pieces p)))) (size_at (set pieces p (given_out (piece_at pieces p))))) (sym kept_leaves)
+    (subst (λ n. AreLaidOut (length (set pieces p (given_out (piece_at pieces p)))) n (first_at (set pieces p (given_out (piece_at pieces p)))) (size_at (set pieces p (given_out
+    (piece_at pieces p))))) (sym kept_leaves)
     (set_laid leaves pieces c.self.invariant.laid_out p (given_out (piece_at pieces p)) there refl refl)) in
     subst (λ ls. IsPool ls (with_items c.self.inside.pieces c.pop.new.pieces).items (with_items c.self.inside.tops c.pop.new.tops).items) (sym items_leaves)
     (subst (λ ps. IsPool c.blank_part.new.leaves ps (with_items c.self.inside.tops c.pop.new.tops).items) (sym items)
@@ -55,8 +56,10 @@ returns-in-Some-clause-ok c =
     ∙ ap (λ n. put_leaves (first_at pieces p) (replicate n Blank) c.deref_mut-in-Some.result.now) size_is
     ∙ ap (put_leaves (first_at pieces p) (replicate (size_at pieces p) Blank)) c.deref_mut-in-Some.ensures.value in
     let items_leaves = with_items_is c.self.inside.leaves c.blank_part.new.leaves (omega arith) ∙ after in
-    subst (λ v. IsChanged v (pieces_in (with_items c.self.inside.leaves c.blank_part.new.leaves).items (with_items c.self.inside.pieces c.pop.new.pieces).items) p (Some (replicate c.args.size Blank))) c.self.view_is
+    subst (λ v. IsChanged v (pieces_in (with_items c.self.inside.leaves c.blank_part.new.leaves).items (with_items c.self.inside.pieces c.pop.new.pieces).items) p (Some
+    (replicate c.args.size Blank))) c.self.view_is
     (subst (λ ls. IsChanged (pieces_in leaves pieces) (pieces_in ls (with_items c.self.inside.pieces c.pop.new.pieces).items) p (Some (replicate c.args.size Blank))) (sym items_leaves)
     (subst (λ ps. IsChanged (pieces_in leaves pieces) (pieces_in (put_leaves (first_at pieces p) (replicate (size_at pieces p) Blank) leaves) ps) p (Some (replicate c.args.size Blank))) (sym items)
-    (subst (λ n. IsChanged (pieces_in leaves pieces) (pieces_in (put_leaves (first_at pieces p) (replicate (size_at pieces p) Blank) leaves) (set pieces p (given_out (piece_at pieces p)))) p (Some (replicate n Blank))) size
+    (subst (λ n. IsChanged (pieces_in leaves pieces) (pieces_in (put_leaves (first_at pieces p) (replicate (size_at pieces p) Blank) leaves) (set pieces p (given_out (piece_at pieces p)))) p (Some
+    (replicate n Blank))) size
     (taken_view leaves pieces c.self.invariant.laid_out p there free))))

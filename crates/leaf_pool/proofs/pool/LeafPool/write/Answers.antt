@@ -24,6 +24,7 @@ returns c =
     ∙ ap (put_leaves (first_at pieces c.args.p + c.args.from) c.args.leaves.now) c.deref_mut.ensures.value in
     let kept : length c.put_part.new.leaves ≡ length leaves = c.put_part.auto.leaves ∙ ap (λ xs. length xs) c.deref_mut.ensures.value in
     let items = with_items_is c.self.inside.leaves c.put_part.new.leaves (omega arith) ∙ after in
-    subst (λ v. IsChanged v (pieces_in (with_items c.self.inside.leaves c.put_part.new.leaves).items pieces) c.args.p (option_map (put_leaves c.args.from c.args.leaves.now) (piece_in v c.args.p))) c.self.view_is
+    subst (λ v. IsChanged v (pieces_in (with_items c.self.inside.leaves c.put_part.new.leaves).items pieces) c.args.p (option_map (put_leaves c.args.from c.args.leaves.now)
+    (piece_in v c.args.p))) c.self.view_is
     (subst (λ xs. IsChanged (pieces_in leaves pieces) (pieces_in xs pieces) c.args.p (option_map (put_leaves c.args.from c.args.leaves.now) (piece_in (pieces_in leaves pieces) c.args.p))) (sym items)
     (put_view leaves pieces laid c.args.p c.args.from c.args.leaves.now out.0 fits out.1))

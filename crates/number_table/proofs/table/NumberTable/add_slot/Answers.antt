@@ -5,4 +5,9 @@ use Rattle.number_table.proofs.table.NumberTable.add_slot.Goals as goal
 pub invariant_of-self-2 : goal.invariant_of-self-2
 invariant_of-self-2 c =
     let few : length c.self-2.inside.entries.items < 2 ^ 32 = omega arith in
-    rw c.in_ok-push.ensures.items (more_is_table c.self-2.inside.mask c.self-2.inside.entries.items c.self-2.invariant.0 few, more_given c.self-2.inside.mask c.self-2.inside.entries.items c.self-2.inside.given c.self-2.invariant.1, c.self-2.invariant.2)
+    rw c.in_ok-push.ensures.items (
+      more_is_table c.self-2.inside.mask c.self-2.inside.entries.items c.self-2.invariant.0 few,
+      more_given c.self-2.inside.mask c.self-2.inside.entries.items
+          c.self-2.inside.given c.self-2.invariant.1,
+      c.self-2.invariant.2,
+    )

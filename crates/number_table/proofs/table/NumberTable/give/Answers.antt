@@ -51,7 +51,8 @@ invariant_of-self c =
     let keys : (e : ℕ) → key_at c.insert.new.entries e ≡ cond (eqb e (c.self.inside.mask + 2 + c.args.slot)) (c.self.inside.given + 1) (key_at c.self.inside.entries.items e) =
     λ e. c.insert.ensures.keys e ∙ ap (λ s. cond (eqb e s) (c.self.inside.given + 1) (key_at c.as_mut_slice.result.now e)) place
     ∙ ap (λ xs. cond (eqb e (c.self.inside.mask + 2 + c.args.slot)) (c.self.inside.given + 1) (key_at xs e)) c.as_mut_slice.ensures.value in
-    subst (λ xs. IsTable c.self.inside.mask xs × AreGiven c.self.inside.mask xs (c.self.inside.given + 1) × (c.self.inside.given + 1 ≤ 2 ^ 63)) (sym (with_items_is c.self.inside.entries c.insert.new.entries (omega arith))) (
+    subst (λ xs. IsTable c.self.inside.mask xs × AreGiven c.self.inside.mask xs (c.self.inside.given + 1) × (c.self.inside.given + 1 ≤ 2 ^ 63)) (sym
+    (with_items_is c.self.inside.entries c.insert.new.entries (omega arith))) (
       c.insert.ensures.table,
       given_then c.self.inside.mask c.self.inside.entries.items c.self.inside.given c.self.invariant.0 c.self.invariant.1 c.args.slot free c.insert.new.entries c.insert.ensures.table kept keys,
       omega (arith, few, count_given c.self.inside.mask c.self.inside.entries.items c.self.inside.given),

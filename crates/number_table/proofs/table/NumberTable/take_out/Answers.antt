@@ -19,22 +19,27 @@ find_present-entry-requires-clause-present c =
 
 pub invariant_of-self : goal.invariant_of-self
 invariant_of-self c =
-    let key : key_at c.self.inside.entries.items c.find_present-entry.result ≡ c.args.number + 1 = subst (λ xs. key_at xs c.find_present-entry.result ≡ c.args.number + 1) c.as_slice.ensures.value c.find_present-entry.ensures.key in
+    let key : key_at c.self.inside.entries.items c.find_present-entry.result ≡ c.args.number + 1 = subst
+    (λ xs. key_at xs c.find_present-entry.result ≡ c.args.number + 1) c.as_slice.ensures.value c.find_present-entry.ensures.key in
     let kept : length c.remove.new.entries ≡ length c.self.inside.entries.items = c.remove.auto.entries ∙ ap (λ xs. length xs) c.as_mut_slice.ensures.value in
     let keys : (e : ℕ) → key_at c.remove.new.entries e ≡ cond (eqb e c.find_present-entry.result) 0 (key_at c.self.inside.entries.items e) =
     λ e. c.remove.ensures.keys e ∙ ap (λ xs. cond (eqb e c.find_present-entry.result) 0 (key_at xs e)) c.as_mut_slice.ensures.value in
-    subst (λ xs. IsTable c.self.inside.mask xs × AreGiven c.self.inside.mask xs c.self.inside.given × (c.self.inside.given ≤ 2 ^ 63)) (sym (with_items_is c.self.inside.entries c.remove.new.entries (omega arith))) (
+    subst (λ xs. IsTable c.self.inside.mask xs × AreGiven c.self.inside.mask xs c.self.inside.given × (c.self.inside.given ≤ 2 ^ 63)) (sym (with_items_is c.self.inside.entries c.remove.new.entries
+    (omega arith))) (
       c.remove.ensures.table,
-      taken_then c.self.inside.mask c.self.inside.entries.items c.self.inside.given c.self.invariant.0 c.self.invariant.1 c.args.number c.find_present-entry.result c.find_present-entry.ensures.slot key c.remove.new.entries c.remove.ensures.table kept keys,
+      taken_then c.self.inside.mask c.self.inside.entries.items c.self.inside.given c.self.invariant.0 c.self.invariant.1 c.args.number c.find_present-entry.result c.find_present-entry.ensures.slot
+          key c.remove.new.entries c.remove.ensures.table kept keys,
       c.self.invariant.2,
     )
 
 pub returns : goal.returns
 returns c =
-    let key : key_at c.self.inside.entries.items c.find_present-entry.result ≡ c.args.number + 1 = subst (λ xs. key_at xs c.find_present-entry.result ≡ c.args.number + 1) c.as_slice.ensures.value c.find_present-entry.ensures.key in
+    let key : key_at c.self.inside.entries.items c.find_present-entry.result ≡ c.args.number + 1 = subst
+    (λ xs. key_at xs c.find_present-entry.result ≡ c.args.number + 1) c.as_slice.ensures.value c.find_present-entry.ensures.key in
     let kept : length c.remove.new.entries ≡ length c.self.inside.entries.items = c.remove.auto.entries ∙ ap (λ xs. length xs) c.as_mut_slice.ensures.value in
     let keys : (e : ℕ) → key_at c.remove.new.entries e ≡ cond (eqb e c.find_present-entry.result) 0 (key_at c.self.inside.entries.items e) =
     λ e. c.remove.ensures.keys e ∙ ap (λ xs. cond (eqb e c.find_present-entry.result) 0 (key_at xs e)) c.as_mut_slice.ensures.value in
     ap (λ xs. numbers_in c.self.inside.mask xs c.self.inside.given) (with_items_is c.self.inside.entries c.remove.new.entries (omega arith))
-    ∙ taken_view c.self.inside.mask c.self.inside.entries.items c.self.inside.given c.self.invariant.0 c.self.invariant.1 c.args.number c.find_present-entry.result c.find_present-entry.ensures.slot key c.remove.new.entries c.remove.ensures.table kept keys
+    ∙ taken_view c.self.inside.mask c.self.inside.entries.items c.self.inside.given c.self.invariant.0 c.self.invariant.1 c.args.number c.find_present-entry.result c.find_present-entry.ensures.slot
+    key c.remove.new.entries c.remove.ensures.table kept keys
     ∙ ap (λ t. without t c.args.number) c.self.view_is
