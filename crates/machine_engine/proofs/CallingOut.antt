@@ -48,7 +48,7 @@ called_out bound st after shown new fr rest g args to result taken is goes tasks
     let told = turn_taken bound st after taken in
     let Shown : MachineView → Type 0 = λ next. HasGone (gives (with_call after g (args_in next fr args)) fr rest to []) result new in
     let over : shown.tasks ≡ Runs fr ∷ rest =
-        ap (λ (it : MachineView). it.tasks) is ∙ ap (λ (it : MachineView). it.tasks) told.0 ∙ tasks in
+    ap (λ (it : MachineView). it.tasks) is ∙ ap (λ (it : MachineView). it.tasks) told.0 ∙ tasks in
     let here : Shown after = subst (λ (it : MachineView). HasGone (gives it fr rest to []) result new) is (goes rest over) in
     subst (λ (went : Went). HasGone went result new) (sym (told.1 (λ next. gives (with_call next g (args_in st fr args)) fr rest to [])))
     (subst Shown told.0 here)

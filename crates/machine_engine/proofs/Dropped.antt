@@ -40,7 +40,7 @@ module _ (result : Result (Unit {0}) Stop) (new : MachineView) (ready : ReadyMod
   pub next-dropped : (st taken ended : MachineView) (from : ℕ) (rest : List Task) (o : ObjectId) → st.tasks ≡ task.Drops from ∷ rest →
       Some o ≡ slice_get st.waiting (length st.waiting - 1) → taken ≡ record st { waiting = take (length st.waiting - 1) st.waiting } →
       ((ready' : ReadyModule) (bound' : ℕ) (rest' : List Task) → taken.tasks ≡ task.Drops from ∷ rest'
-          → ended ≡ record taken { tasks = still_dropping ready' bound' from (length taken.waiting) rest' }) →
+      → ended ≡ record taken { tasks = still_dropping ready' bound' from (length taken.waiting) rest' }) →
       HasGone (releases ready bound ended o) result new → HasGone (drops ready bound st from rest) result new
   next-dropped st taken ended from rest o top next taking ending h =
       let left = length st.waiting - 1 in

@@ -127,7 +127,7 @@ laid_same from i x ys =
     let one = laid_one (from + i) x (laid from (replicate i x) ys) in
     let both = laid-append from (replicate i x) (x ∷ []) ys in
     let more : laid from (replicate (i + 1) x) ys ≡ laid (from + i) (x ∷ []) (laid from (replicate i x) ys) =
-        ap (λ zs. laid from zs ys) (sym (replicate_more i x)) ∙ both ∙ ap (λ n. laid (from + n) (x ∷ []) (laid from (replicate i x) ys)) (length-replicate i x) in
+    ap (λ zs. laid from zs ys) (sym (replicate_more i x)) ∙ both ∙ ap (λ n. laid (from + n) (x ∷ []) (laid from (replicate i x) ys)) (length-replicate i x) in
     ap (λ zs. set zs (from + i) x) (laid_is from (replicate i x) ys) ∙ sym one ∙ sym more ∙ sym (laid_is from (replicate (i + 1) x) ys)
 
 -- where such a loop comes to the list's end
@@ -135,9 +135,9 @@ pub laid_full : {A : Type 0} (from i count : ℕ) (x : A) (ys : List A) → i �
     laid_over from (replicate i x) ys ≡ laid_over from (replicate count x) ys
 laid_full from i count x ys h past =
     let whole : replicate i x ++ replicate (count - i) x ≡ replicate count x =
-        replicate-append-replicate i (count - i) x ∙ ap (λ n. replicate n x) (omega arith) in
+    replicate-append-replicate i (count - i) x ∙ ap (λ n. replicate n x) (omega arith) in
     let rest : laid (from + length (replicate i x)) (replicate (count - i) x) (laid from (replicate i x) ys) ≡ laid from (replicate i x) ys =
-        laid_past _ _ _ (simp (length-laid, length-replicate) past) in
+    laid_past _ _ _ (simp (length-laid, length-replicate) past) in
     laid_is from (replicate i x) ys ∙ sym rest ∙ sym (laid-append from (replicate i x) (replicate (count - i) x) ys)
     ∙ ap (λ zs. laid from zs ys) whole ∙ sym (laid_is from (replicate count x) ys)
 
@@ -148,9 +148,9 @@ case_laid to tag payload blanks ys =
     let next : to + 1 ≡ suc to = omega arith in
     let behind : to + 1 + length payload ≡ to + suc (length payload) = omega arith in
     let first : laid_over to (tag ∷ []) (laid_over (to + 1) payload ys) ≡ laid to (tag ∷ payload) ys =
-        one_laid_over to tag (laid_over (to + 1) payload ys)
-        ∙ ap (λ zs. set zs to tag) (laid_is (to + 1) payload ys ∙ ap (λ k. laid k payload ys) next)
-        ∙ laid_before to tag payload ys in
+    one_laid_over to tag (laid_over (to + 1) payload ys)
+    ∙ ap (λ zs. set zs to tag) (laid_is (to + 1) payload ys ∙ ap (λ k. laid k payload ys) next)
+    ∙ laid_before to tag payload ys in
     ap (laid_over (to + 1 + length payload) blanks) first
     ∙ laid_is (to + 1 + length payload) blanks (laid to (tag ∷ payload) ys)
     ∙ ap (λ k. laid k blanks (laid to (tag ∷ payload) ys)) behind

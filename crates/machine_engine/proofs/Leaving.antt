@@ -62,7 +62,7 @@ module _ (result : Result (Unit {0}) Stop) (new : MachineView) where
         let below-is : slice_get st.tasks 1 ≡ Some (Runs found) = ap (λ xs. slice_get xs 1) (top ∙ ap (λ ts. Runs fr ∷ ts) at) in
         let same : found ≡ caller = cc in
         gone-along _ _ (ap (λ fr'. given_back ready bound st fr rest (contents st fr l) fr' below (awaited ready fr')) same
-            ∙ ap (λ o. given_back ready bound st fr rest (contents st fr l) caller below o) waits)
+        ∙ ap (λ o. given_back ready bound st fr rest (contents st fr l) caller below o) waits)
         (h rest below top (at ∙ ap (λ fr'. Runs fr' ∷ below) same))
     back-to l caller to (Drops from ∷ below) top at next waits h = let below-is : slice_get st.tasks 1 ≡ Some (Drops from) = ap (λ xs. slice_get xs 1) (top ∙ ap (λ ts. Runs fr ∷ ts) at) in absurd (cc)
     back-to l caller to (Finishes o called ∷ below) top at next waits h = let below-is : slice_get st.tasks 1 ≡ Some (Finishes o called) = ap (λ xs. slice_get xs 1) (top

@@ -23,10 +23,10 @@ pub retained_then : (os ps : List ObjectId) (st after : MachineView) (go : Machi
 retained_then [] ps st after go e = let same : st ≡ after = cc in ap (λ it. retains_all ps it go) same
 retained_then (o ∷ os) ps st after go e =
     elim (is_dead_in st.heap o) as (λ b.
-        cond b (faults (fault.Dead o) st) (retains_all os (with_heap st (retained st.heap o)) Goes) ≡ Goes after →
-        cond b (faults (fault.Dead o) st) (retains_all (os ++ ps) (with_heap st (retained st.heap o)) go) ≡ retains_all ps after go) [
-      true ↦ λ f. cc
-    | false ↦ λ f. retained_then os ps (with_heap st (retained st.heap o)) after go f
+    cond b (faults (fault.Dead o) st) (retains_all os (with_heap st (retained st.heap o)) Goes) ≡ Goes after →
+    cond b (faults (fault.Dead o) st) (retains_all (os ++ ps) (with_heap st (retained st.heap o)) go) ≡ retains_all ps after go) [
+      | true ↦ λ f. cc
+      | false ↦ λ f. retained_then os ps (with_heap st (retained st.heap o)) after go f
     ] e
 
 pub retained_stops : (os ps : List ObjectId) (st after : MachineView) (end : RunEnd) (go : MachineView → Went) → retains_all os st Goes ≡ Stops end after →
@@ -34,10 +34,10 @@ pub retained_stops : (os ps : List ObjectId) (st after : MachineView) (end : Run
 retained_stops [] ps st after end go e = cc
 retained_stops (o ∷ os) ps st after end go e =
     elim (is_dead_in st.heap o) as (λ b.
-        cond b (faults (fault.Dead o) st) (retains_all os (with_heap st (retained st.heap o)) Goes) ≡ Stops end after →
-        cond b (faults (fault.Dead o) st) (retains_all (os ++ ps) (with_heap st (retained st.heap o)) go) ≡ Stops end after) [
-      true ↦ λ f. f
-    | false ↦ λ f. retained_stops os ps (with_heap st (retained st.heap o)) after end go f
+    cond b (faults (fault.Dead o) st) (retains_all os (with_heap st (retained st.heap o)) Goes) ≡ Stops end after →
+    cond b (faults (fault.Dead o) st) (retains_all (os ++ ps) (with_heap st (retained st.heap o)) go) ≡ Stops end after) [
+      | true ↦ λ f. f
+      | false ↦ λ f. retained_stops os ps (with_heap st (retained st.heap o)) after end go f
     ] e
 
 among_more : (ls : List Leaf) (i : ℕ) (d : Leaf) → i < length ls → objects_among (drop i ls) ≡ object_in_leaf (get_or ls i d) ++ objects_among (drop (i + 1) ls)
@@ -72,6 +72,6 @@ pub retained_tasks : (os : List ObjectId) (st after : MachineView) → retains_a
 retained_tasks [] st after e = let same : after ≡ st = cc in ap (λ (it : MachineView). it.tasks) same
 retained_tasks (o ∷ os) st after e =
     elim (is_dead_in st.heap o) as (λ b. cond b (faults (fault.Dead o) st) (retains_all os (with_heap st (retained st.heap o)) Goes) ≡ Goes after → after.tasks ≡ st.tasks) [
-      true ↦ λ f. cc
-    | false ↦ λ f. retained_tasks os (with_heap st (retained st.heap o)) after f
+      | true ↦ λ f. cc
+      | false ↦ λ f. retained_tasks os (with_heap st (retained st.heap o)) after f
     ] e

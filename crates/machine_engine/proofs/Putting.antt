@@ -14,11 +14,11 @@ use Rattle.machine_engine.proofs.LaidOver.{laid_is, laid_past}
 pub laid_saturated : {A : Type 0} (at place : ℕ) (xs ys : List A) → at ≡ min place 18446744073709551615 → length ys < 18446744073709551616 →
     laid_over at xs ys ≡ laid_over place xs ys
 laid_saturated at place xs ys e short = elim (cases_lt at (length ys)) as (λ _. laid_over at xs ys ≡ laid_over place xs ys) [
-    inl h ↦ let same : at ≡ place = omega arith in ap (λ k. laid_over k xs ys) same
+  | inl h ↦ let same : at ≡ place = omega arith in ap (λ k. laid_over k xs ys) same
   | inr h ↦
       laid_is at xs ys ∙ laid_past at xs ys h
       ∙ sym (laid_past place xs ys (omega arith)) ∙ sym (laid_is place xs ys)
-  ]
+]
 
 -- a value becomes these leaves
 pub put_laid : (st : MachineView) (fr : Frame) (to : Local) (ls new : List Leaf) (at : ℕ) → at ≡ min (fr.leaves + to.at) 18446744073709551615 →

@@ -21,9 +21,9 @@ first_of_window at (suc n) xs h = first_at at xs n
 pub first_saturated : (xs : List Leaf) (at place size : ℕ) → at ≡ min place 18446744073709551615 → length xs < 18446744073709551616 → 0 < size →
     get_or xs at leaf.Blank ≡ first_leaf (take size (drop place xs))
 first_saturated xs at place size e short some = elim (cases_lt at (length xs)) as (λ _. get_or xs at leaf.Blank ≡ first_leaf (take size (drop place xs))) [
-    inl h ↦ let same : at ≡ place = omega arith in ap (λ k. get_or xs k leaf.Blank) same ∙ sym (first_of_window place size xs some)
+  | inl h ↦ let same : at ≡ place = omega arith in ap (λ k. get_or xs k leaf.Blank) same ∙ sym (first_of_window place size xs some)
   | inr h ↦ get_or_past xs at leaf.Blank h ∙ sym (get_or_past xs place leaf.Blank (omega arith)) ∙ sym (first_of_window place size xs some)
-  ]
+]
 
 take_nil : {A : Type 0} (n : ℕ) → take {A = A} n [] ≡ []
 take_nil zero = refl

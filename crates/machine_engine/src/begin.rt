@@ -57,7 +57,11 @@ impl Machine {
     pub fn returned(&self, operand: Local) -> &[Leaf]
         ensures { result.now ≡ take operand.size (drop operand.at self.now.leaves) }
     {
-        window(self.leaves.as_slice(), operand.at as usize, operand.size as usize)
+        window(
+            self.leaves.as_slice(),
+            operand.at as usize,
+            operand.size as usize,
+        )
     }
 
     /// The events in their order, and the heap.

@@ -28,11 +28,9 @@ impl Machine {
         values: &[Carry],
         addresses: &[CarryAddress],
     ) -> Result<(), Exhausted>
-        ensures {
-            let callee = new_frame self.old function in
+        ensures { let callee = new_frame self.old function in
             let filled = carried (with_frame self.old function f.now) frame.now callee values.now in
-            OnOk result (self.new ≡ addresses_carried filled frame.now callee addresses.now)
-        }
+            OnOk result (self.new ≡ addresses_carried filled frame.now callee addresses.now) }
     {
         let callee = self.add_frame(function, f)?;
         self.carry(frame, &callee, values)?;
@@ -78,7 +76,14 @@ impl Machine {
         if let Some(value) = self.first_missing(frame, operands.as_slice()) {
             return Err(missing(value));
         }
-        self.call_in(ready, bound, frame, function, values.as_slice(), addresses.as_slice())
+        self.call_in(
+            ready,
+            bound,
+            frame,
+            function,
+            values.as_slice(),
+            addresses.as_slice(),
+        )
     }
 
     /// The integers that values are.
@@ -93,11 +98,14 @@ impl Machine {
     }
 
     /// A call of a function without a body is shown.
-    fn show_call(&mut self, frame: &Frame, function: FuncId, args: &[Local]) -> Result<(), Exhausted>
-        ensures {
-            let shown = event.Call function (map (λ l. int_among (contents self.old frame.now l)) args.now) in
-            OnOk result (self.new ≡ record self.old { events = self.old.events ++ shown ∷ [] })
-        }
+    fn show_call(
+        &mut self,
+        frame: &Frame,
+        function: FuncId,
+        args: &[Local],
+    ) -> Result<(), Exhausted>
+        ensures { let shown = event.Call function (map (λ l. int_among (contents self.old frame.now l)) args.now) in
+            OnOk result (self.new ≡ record self.old { events = self.old.events ++ shown ∷ [] }) }
     {
         let args = self.ints(frame, args)?;
         self.events.push(Event::Call { function, args })

@@ -6,8 +6,18 @@ ghost use Rattle.heap_model.specs.HeapViews.{fields_in, is_dead_in, phase_in, st
 ghost use Rattle.run_values.specs.declared.phase.Phase.TheVariants.{Deiniting};
 ghost use Rattle.machine_steps.specs.declared.frame.Task.{Task};
 ghost use Rattle.machine_steps.specs.declared.frame.Task.TheVariants.{Finishes};
-ghost use Rattle.machine_steps.specs.Steps.{calls_deinit, class_of, deinit_entered, deinit_step, fields_unnamed, finishes, is_deiniting, no_class,
-    strong_in_fields, with_object};
+ghost use Rattle.machine_steps.specs.Steps.{
+  calls_deinit,
+  class_of,
+  deinit_entered,
+  deinit_step,
+  fields_unnamed,
+  finishes,
+  is_deiniting,
+  no_class,
+  strong_in_fields,
+  with_object,
+};
 ghost use Rattle.ready_code.specs.declared.function.ReadyModule.{ReadyModule};
 ghost use Rattle.machine_engine.specs.Went.{HasGone};
 

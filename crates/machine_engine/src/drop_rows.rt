@@ -22,16 +22,17 @@ impl Machine {
     fn gather_value(&mut self, frame: &Frame, operand: Local) -> Result<(), Exhausted>
         ensures { OnOk result (self.new ≡ record self.old { waiting = self.old.waiting ++ objects_among (contents self.old frame.now operand) }) }
     {
-        gather_objects(&mut self.waiting, leaves_from(&self.leaves, frame.leaves, operand))
+        gather_objects(
+            &mut self.waiting,
+            leaves_from(&self.leaves, frame.leaves, operand),
+        )
     }
 
     /// The frame goes on behind its instruction, before what else is to be done.
     #[inline]
     fn step_on(&mut self) -> Result<(), Exhausted>
-        ensures {
-            (fr : Frame) (rest : List Task) → self.old.tasks ≡ Runs fr ∷ rest →
-            OnOk result (self.new ≡ record self.old { tasks = Runs (behind_op fr) ∷ rest })
-        }
+        ensures { (fr : Frame) (rest : List Task) → self.old.tasks ≡ Runs fr ∷ rest →
+            OnOk result (self.new ≡ record self.old { tasks = Runs (behind_op fr) ∷ rest }) }
     {
         match self.go_on() {
             Ok(()) => Ok(()),

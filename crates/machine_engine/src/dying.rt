@@ -5,9 +5,9 @@ ghost use Rattle.heap_model.specs.HeapViews.{field_in, fields_in, is_dead_in, ph
 ghost use Rattle.machine_steps.specs.Steps.{field_unnamed, fields_unnamed, strong_in_field, strong_in_fields};
 
 use crate::fields::field_of;
-use count_heap::Heap;
 use crate::naming::unname_leaf;
 use crate::waiting::gather_objects;
+use count_heap::Heap;
 use run_values::Leaf;
 use sil_ast::{Exhausted, ObjectId, Storage};
 

@@ -6,8 +6,18 @@ ghost use Rattle.holder_model.specs.Builtins.{is_set};
 ghost use Rattle.machine_steps.specs.declared.frame.Frame.{Frame};
 ghost use Rattle.machine_steps.specs.declared.frame.Task.{Task};
 ghost use Rattle.machine_steps.specs.declared.frame.Task.TheVariants.{Runs};
-ghost use Rattle.machine_steps.specs.Ends.{carried_value, ends_with, given_back, in_block, leaves_run, returns, returns_to, tag_in_leaf, takes_case,
-    takes_edge};
+ghost use Rattle.machine_steps.specs.Ends.{
+  carried_value,
+  ends_with,
+  given_back,
+  in_block,
+  leaves_run,
+  returns,
+  returns_to,
+  tag_in_leaf,
+  takes_case,
+  takes_edge,
+};
 ghost use Rattle.machine_steps.specs.Operands.{contents, first_leaf, int_among, is_missing, objects_among};
 ghost use Rattle.ready_code.specs.declared.function.ReadyModule.{ReadyModule};
 ghost use Rattle.machine_engine.specs.Performing.{GoesOver};

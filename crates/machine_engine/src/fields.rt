@@ -27,12 +27,23 @@ pub(crate) fn field_of(heap: &Heap, object: ObjectId, field: u32) -> Option<&[Le
     requires { is_dead_in heap.now object ≡ false }
     ensures { option_copied result ≡ field_in heap.now object field }
 {
-    if field < heap.field_count(object) { heap.field(object, field) } else { None }
+    if field < heap.field_count(object) {
+        heap.field(object, field)
+    } else {
+        None
+    }
 }
 
 /// A field becomes these leaves, or a part of it from a place on, as far as it has them.
 #[inline]
-pub(crate) fn write_field(heap: &mut Heap, is_part: bool, object: ObjectId, field: u32, from: u32, leaves: &[Leaf])
+pub(crate) fn write_field(
+    heap: &mut Heap,
+    is_part: bool,
+    object: ObjectId,
+    field: u32,
+    from: u32,
+    leaves: &[Leaf],
+)
     requires { is_dead_in heap.old object ≡ false }
     ensures { heap.new ≡ write_field is_part object field from leaves.now heap.old }
 {

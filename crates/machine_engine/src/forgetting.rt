@@ -38,7 +38,14 @@ impl Machine {
 
     /// The same, where it is to be emptied.
     #[inline]
-    pub(crate) fn forget_if(&mut self, takes: bool, frame: &Frame, storage: Storage, place: Address, leaf: Leaf)
+    pub(crate) fn forget_if(
+        &mut self,
+        takes: bool,
+        frame: &Frame,
+        storage: Storage,
+        place: Address,
+        leaf: Leaf,
+    )
         requires { LiesAlive self.old.heap place.home }
         ensures { self.new ≡ cond takes (forgotten self.old frame.now [] storage place leaf) self.old }
     {
@@ -59,7 +66,14 @@ impl Machine {
                 None => Ok(()),
             },
             Home::Field { object, field } => {
-                write_field(&mut self.heap, place.is_part, object, field, place.from, &[leaf]);
+                write_field(
+                    &mut self.heap,
+                    place.is_part,
+                    object,
+                    field,
+                    place.from,
+                    &[leaf],
+                );
                 Ok(())
             }
         }
@@ -67,7 +81,13 @@ impl Machine {
 
     /// A slot becomes one leaf, at a place.
     #[inline]
-    fn write_leaf_in_slot(&mut self, index: u32, slot: OpenSlot, from: u32, leaf: Leaf) -> Result<(), Exhausted>
+    fn write_leaf_in_slot(
+        &mut self,
+        index: u32,
+        slot: OpenSlot,
+        from: u32,
+        leaf: Leaf,
+    ) -> Result<(), Exhausted>
         ensures { OnOk result (self.new ≡ write_slot self.old index from (leaf ∷ []) (Some slot)) }
     {
         let Some(begin) = slot.from.checked_add(from as usize) else {
@@ -92,7 +112,12 @@ impl Machine {
 
     /// Storage names the object of a leaf, which isn't dead.
     #[inline]
-    pub(crate) fn name_anew(&mut self, storage: Storage, place: Address, leaf: Leaf) -> Result<(), Exhausted>
+    pub(crate) fn name_anew(
+        &mut self,
+        storage: Storage,
+        place: Address,
+        leaf: Leaf,
+    ) -> Result<(), Exhausted>
         requires alive { find (is_dead_in self.old.heap) (object_in_leaf leaf) ≡ None }
         requires lies { LiesAlive self.old.heap place.home }
         ensures { OnOk result (self.new ≡ write_at (record self.old { heap = leaf_named storage leaf self.old.heap }) place (leaf ∷ [])) }

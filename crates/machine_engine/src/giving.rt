@@ -34,7 +34,12 @@ impl Machine {
 
     /// The result is an address.
     #[inline]
-    pub(crate) fn give_address(&mut self, frame: &Frame, to: LocalAddress, address: Address) -> Result<(), Stop>
+    pub(crate) fn give_address(
+        &mut self,
+        frame: &Frame,
+        to: LocalAddress,
+        address: Address,
+    ) -> Result<(), Stop>
         ensures { GoesOn self.old frame.now (put_address self.old frame.now to address) result self.new }
     {
         self.put_address(frame, to, address);
@@ -43,18 +48,34 @@ impl Machine {
 
     /// The result is what a builtin operation gave.
     #[inline]
-    pub(crate) fn give_computed(&mut self, frame: &Frame, to: Local, given: Computed) -> Result<(), Stop>
+    pub(crate) fn give_computed(
+        &mut self,
+        frame: &Frame,
+        to: Local,
+        given: Computed,
+    ) -> Result<(), Stop>
         ensures { GoesOn self.old frame.now (put self.old frame.now to (leaves_of given)) result self.new }
     {
         match given {
             Computed::One(number) => self.give_leaf(frame, to, Leaf::Int(number)),
-            Computed::Two(first, second) => self.give_two(frame, to, Leaf::Int(first), Leaf::Int(second)),
+            Computed::Two(first, second) => self.give_two(
+                frame,
+                to,
+                Leaf::Int(first),
+                Leaf::Int(second),
+            ),
         }
     }
 
     /// The result is two leaves.
     #[inline]
-    pub(crate) fn give_two(&mut self, frame: &Frame, to: Local, first: Leaf, second: Leaf) -> Result<(), Stop>
+    pub(crate) fn give_two(
+        &mut self,
+        frame: &Frame,
+        to: Local,
+        first: Leaf,
+        second: Leaf,
+    ) -> Result<(), Stop>
         ensures { GoesOn self.old frame.now (put self.old frame.now to (first ∷ second ∷ [])) result self.new }
     {
         self.put_two(frame, to, first, second);
@@ -66,13 +87,23 @@ impl Machine {
     fn put_two(&mut self, frame: &Frame, to: Local, first: Leaf, second: Leaf)
         ensures { self.new ≡ put self.old frame.now to (first ∷ second ∷ []) }
     {
-        lay_over(&mut self.leaves, frame.leaves.saturating_add(to.at as usize), &[first, second]);
+        lay_over(
+            &mut self.leaves,
+            frame.leaves.saturating_add(to.at as usize),
+            &[first, second],
+        );
         self.put_there(frame, to.value);
     }
 
     /// The result is a part of another value.
     #[inline]
-    pub(crate) fn give_part(&mut self, frame: &Frame, operand: Local, from: u32, to: Local) -> Result<(), Stop>
+    pub(crate) fn give_part(
+        &mut self,
+        frame: &Frame,
+        operand: Local,
+        from: u32,
+        to: Local,
+    ) -> Result<(), Stop>
         ensures { GoesOn self.old frame.now (put self.old frame.now to (take to.size (drop from (contents self.old frame.now operand)))) result self.new }
     {
         let Some(at) = operand.at.checked_add(from) else {

@@ -8,10 +8,10 @@ ghost use Rattle.machine_steps.specs.declared.address.Home.TheVariants as home;
 ghost use Rattle.machine_engine.specs.NameHeld.{as_name, LiesAlive, UnlessDead};
 
 use crate::fields::{empty_field, field_of, is_dead, write_field};
-use count_heap::Heap;
 use crate::leaf_lists::{lay_one, leaf_at};
 use crate::machine::Machine;
 use crate::store_rows::fill_slot;
+use count_heap::Heap;
 use machine_steps::{Address, Home, OpenSlot};
 use run_values::Leaf;
 use sil_ast::{Exhausted, ObjectId};
@@ -69,7 +69,10 @@ impl Machine {
         ensures alive { UnlessDead result (LiesAlive self.now.heap place.home) }
     {
         match place.home {
-            Home::Slot { index, serial } => self.held_in_slot(self.open_slot(index, serial), place.from),
+            Home::Slot { index, serial } => self.held_in_slot(
+                self.open_slot(index, serial),
+                place.from,
+            ),
             Home::Field { object, field } => held_in_field(&self.heap, object, field, place.from),
         }
     }

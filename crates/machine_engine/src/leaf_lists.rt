@@ -29,7 +29,11 @@ pub(crate) fn window(leaves: &[Leaf], from: usize, size: usize) -> &[Leaf]
 pub(crate) fn leaves_from(leaves: &[Leaf], base: usize, local: Local) -> &[Leaf]
     ensures { result.now ≡ leaves_from base leaves.now local }
 {
-    window(leaves, base.saturating_add(local.at as usize), local.size as usize)
+    window(
+        leaves,
+        base.saturating_add(local.at as usize),
+        local.size as usize,
+    )
 }
 
 /// The leaf at a place, where there is one.
@@ -37,7 +41,11 @@ pub(crate) fn leaves_from(leaves: &[Leaf], base: usize, local: Local) -> &[Leaf]
 pub(crate) fn leaf_at(leaves: &[Leaf], at: usize) -> Leaf
     ensures { result ≡ slice_index_or leaves.now at Blank }
 {
-    if at < leaves.len() { leaves[at] } else { Leaf::Blank }
+    if at < leaves.len() {
+        leaves[at]
+    } else {
+        Leaf::Blank
+    }
 }
 
 /// One leaf is laid over another.
@@ -123,11 +131,16 @@ fn lay_blanks(leaves: &mut [Leaf], from: usize, count: usize)
 
 /// A case of an enum is laid over leaves: its tag, its payload, which are leaves of the list, and blank ones up to its size.
 #[inline]
-pub(crate) fn lay_case(leaves: &mut [Leaf], tag: u32, from: usize, count: usize, size: usize, to: usize)
-    ensures {
-        let payload = take count (drop from leaves.old) in
-        leaves.new ≡ laid_over to (Tag tag ∷ payload ++ replicate (size - (1 + length payload)) Blank) leaves.old
-    }
+pub(crate) fn lay_case(
+    leaves: &mut [Leaf],
+    tag: u32,
+    from: usize,
+    count: usize,
+    size: usize,
+    to: usize,
+)
+    ensures { let payload = take count (drop from leaves.old) in
+        leaves.new ≡ laid_over to (Tag tag ∷ payload ++ replicate (size - (1 + length payload)) Blank) leaves.old }
 {
     if to >= leaves.len() {
         return;

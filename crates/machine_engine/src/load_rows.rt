@@ -25,13 +25,23 @@ impl Machine {
         ensures { self.new ≡ put self.old frame.now to (take to.size (drop from self.old.slot_leaves)) }
     {
         let place = frame.leaves.saturating_add(to.at as usize);
-        lay_over(&mut self.leaves, place, window(&self.slot_leaves, from, to.size as usize));
+        lay_over(
+            &mut self.leaves,
+            place,
+            window(&self.slot_leaves, from, to.size as usize),
+        );
         self.put_there(frame, to.value);
     }
 
     /// The result is what a slot holds.
     #[inline]
-    fn load_slot(&mut self, frame: &Frame, from: u32, to: Local, slot: Option<OpenSlot>) -> Result<(), Stop>
+    fn load_slot(
+        &mut self,
+        frame: &Frame,
+        from: u32,
+        to: Local,
+        slot: Option<OpenSlot>,
+    ) -> Result<(), Stop>
         ensures { GoesOver self.old frame.now (λ rest. loads self.old frame.now rest to (held_in_slot self.old from to.size slot)) result self.new }
     {
         let Some(slot) = slot else {
@@ -56,18 +66,27 @@ impl Machine {
 
     /// A value becomes what a field holds, if it is written.
     #[inline]
-    fn put_from_field(&mut self, frame: &Frame, object: ObjectId, field: u32, from: u32, to: Local) -> bool
+    fn put_from_field(
+        &mut self,
+        frame: &Frame,
+        object: ObjectId,
+        field: u32,
+        from: u32,
+        to: Local,
+    ) -> bool
         requires { is_dead_in self.old.heap object ≡ false }
         ensures written { result ≡ is_some (field_in self.old.heap object field) }
-        ensures put {
-            MatchOption (field_in self.old.heap object field) (self.new ≡ self.old) (λ leaves. self.new ≡ put self.old frame.now to (take to.size
-                (drop from leaves)))
-        }
+        ensures put { MatchOption (field_in self.old.heap object field) (self.new ≡ self.old) (λ leaves. self.new ≡ put self.old frame.now to (take to.size
+            (drop from leaves))) }
     {
         let place = frame.leaves.saturating_add(to.at as usize);
         match field_of(&self.heap, object, field) {
             Some(leaves) => {
-                lay_over(&mut self.leaves, place, window(leaves, from as usize, to.size as usize));
+                lay_over(
+                    &mut self.leaves,
+                    place,
+                    window(leaves, from as usize, to.size as usize),
+                );
             }
             None => {
                 return false;
@@ -79,7 +98,14 @@ impl Machine {
 
     /// The result is what a field holds.
     #[inline]
-    fn load_field(&mut self, frame: &Frame, object: ObjectId, field: u32, from: u32, to: Local) -> Result<(), Stop>
+    fn load_field(
+        &mut self,
+        frame: &Frame,
+        object: ObjectId,
+        field: u32,
+        from: u32,
+        to: Local,
+    ) -> Result<(), Stop>
         ensures { GoesOver self.old frame.now (λ rest. loads self.old frame.now rest to (held_by self.old from to.size
             (home.Field object field))) result self.new }
     {
@@ -107,7 +133,12 @@ impl Machine {
     }
 
     #[inline]
-    pub(crate) fn load(&mut self, frame: &Frame, address: LocalAddress, to: Local) -> Result<(), Stop>
+    pub(crate) fn load(
+        &mut self,
+        frame: &Frame,
+        address: LocalAddress,
+        to: Local,
+    ) -> Result<(), Stop>
         ensures { Performs self.old frame.now (op.Load address to) result self.new }
     {
         if !self.is_there(frame, address.value) {

@@ -87,7 +87,13 @@ impl Machine {
     }
 
     /// What storage of a kind gives that names this object, if it is live.
-    fn give_live(&mut self, frame: &Frame, storage: Storage, to: Local, live: Option<ObjectId>) -> Result<(), Stop>
+    fn give_live(
+        &mut self,
+        frame: &Frame,
+        storage: Storage,
+        to: Local,
+        live: Option<ObjectId>,
+    ) -> Result<(), Stop>
         requires { IfSome live (λ o. is_dead_in self.old.heap o ≡ false) }
         ensures { GoesOver self.old frame.now (live_given storage self.old frame.now to live) result self.new }
     {
@@ -99,11 +105,19 @@ impl Machine {
     }
 
     /// The result is what storage gives that keeps this leaf. It is emptied where `takes` says so.
-    fn give_named(&mut self, frame: &Frame, storage: Storage, takes: bool, place: Address, to: Local, leaf: Leaf) -> Result<(), Stop>
+    fn give_named(
+        &mut self,
+        frame: &Frame,
+        storage: Storage,
+        takes: bool,
+        place: Address,
+        to: Local,
+        leaf: Leaf,
+    ) -> Result<(), Stop>
         requires { LiesAlive self.old.heap place.home }
         ensures { GoesOver self.old frame.now (λ rest.
             given self.old frame.now rest storage (cond takes (forgotten self.old frame.now rest storage place leaf) self.old) to
-                (object_in_leaf leaf)) result self.new }
+            (object_in_leaf leaf)) result self.new }
     {
         if is_strong(storage) {
             return Err(fault(LowFault::Empty));
@@ -114,7 +128,15 @@ impl Machine {
     }
 
     /// The result is what storage gives that holds this.
-    fn load_held(&mut self, frame: &Frame, storage: Storage, takes: bool, place: Address, to: Local, held: NameHeld) -> Result<(), Stop>
+    fn load_held(
+        &mut self,
+        frame: &Frame,
+        storage: Storage,
+        takes: bool,
+        place: Address,
+        to: Local,
+        held: NameHeld,
+    ) -> Result<(), Stop>
         requires { UnlessDead held (LiesAlive self.old.heap place.home) }
         ensures { (x : Held) → held ≡ as_name x → GoesOver self.old frame.now
             (λ rest. loads_name self.old frame.now rest storage takes place to x) result self.new }
@@ -127,7 +149,14 @@ impl Machine {
         }
     }
 
-    pub(crate) fn load_name(&mut self, frame: &Frame, storage: Storage, takes: bool, address: LocalAddress, to: Local) -> Result<(), Stop>
+    pub(crate) fn load_name(
+        &mut self,
+        frame: &Frame,
+        storage: Storage,
+        takes: bool,
+        address: LocalAddress,
+        to: Local,
+    ) -> Result<(), Stop>
         ensures { Performs self.old frame.now (op.LoadName storage takes address to) result self.new }
     {
         if !self.is_there(frame, address.value) {
@@ -139,7 +168,13 @@ impl Machine {
     }
 
     /// Storage that holds this is emptied.
-    fn forget_held(&mut self, frame: &Frame, storage: Storage, place: Address, held: NameHeld) -> Result<(), Stop>
+    fn forget_held(
+        &mut self,
+        frame: &Frame,
+        storage: Storage,
+        place: Address,
+        held: NameHeld,
+    ) -> Result<(), Stop>
         requires { UnlessDead held (LiesAlive self.old.heap place.home) }
         ensures { (x : Held) → held ≡ as_name x → GoesOver self.old frame.now (λ rest. forgets_name self.old frame.now rest storage place x) result self.new }
     {
@@ -154,7 +189,12 @@ impl Machine {
         }
     }
 
-    pub(crate) fn forget_name(&mut self, frame: &Frame, storage: Storage, address: LocalAddress) -> Result<(), Stop>
+    pub(crate) fn forget_name(
+        &mut self,
+        frame: &Frame,
+        storage: Storage,
+        address: LocalAddress,
+    ) -> Result<(), Stop>
         ensures { Performs self.old frame.now (op.ForgetName storage address) result self.new }
     {
         if !self.is_there(frame, address.value) {
@@ -183,13 +223,18 @@ impl Machine {
     }
 
     /// The same, of storage that held a leaf. Its object is named no longer, unless the storage named none before.
-    fn give_other_name(&mut self, storage: Storage, first: bool, place: Address, leaf: Leaf, held: Leaf) -> Result<(), Stop>
+    fn give_other_name(
+        &mut self,
+        storage: Storage,
+        first: bool,
+        place: Address,
+        leaf: Leaf,
+        held: Leaf,
+    ) -> Result<(), Stop>
         requires alive { find (is_dead_in self.old.heap) (object_in_leaf leaf) ≡ None }
         requires lies { LiesAlive self.old.heap place.home }
-        ensures {
-            let heap = cond first self.old.heap (leaf_unnamed storage held self.old.heap) in
-            (fr : Frame) → GoesOver self.old fr (λ rest. named_anew self.old fr rest storage place leaf heap) result self.new
-        }
+        ensures { let heap = cond first self.old.heap (leaf_unnamed storage held self.old.heap) in
+            (fr : Frame) → GoesOver self.old fr (λ rest. named_anew self.old fr rest storage place leaf heap) result self.new }
     {
         if first {
             return self.give_name(storage, place, leaf);
@@ -199,7 +244,15 @@ impl Machine {
     }
 
     /// Storage that holds this is to name the object of a leaf.
-    fn store_held(&mut self, frame: &Frame, storage: Storage, first: bool, place: Address, leaf: Leaf, held: NameHeld) -> Result<(), Stop>
+    fn store_held(
+        &mut self,
+        frame: &Frame,
+        storage: Storage,
+        first: bool,
+        place: Address,
+        leaf: Leaf,
+        held: NameHeld,
+    ) -> Result<(), Stop>
         requires { UnlessDead held (LiesAlive self.old.heap place.home) }
         ensures { (x : Held) → held ≡ as_name x → GoesOver self.old frame.now
             (λ rest. stores_name self.old frame.now rest storage first place leaf x) result self.new }
@@ -219,11 +272,20 @@ impl Machine {
                 }
                 self.give_name(storage, place, leaf)
             }
-            NameHeld::Full { leaf: held } => self.give_other_name(storage, first, place, leaf, held),
+            NameHeld::Full { leaf: held } => self.give_other_name(
+                storage, first, place, leaf, held,
+            ),
         }
     }
 
-    pub(crate) fn store_name(&mut self, frame: &Frame, storage: Storage, first: bool, from: Local, address: LocalAddress) -> Result<(), Stop>
+    pub(crate) fn store_name(
+        &mut self,
+        frame: &Frame,
+        storage: Storage,
+        first: bool,
+        from: Local,
+        address: LocalAddress,
+    ) -> Result<(), Stop>
         ensures { Performs self.old frame.now (op.StoreName storage first from address) result self.new }
     {
         if !self.is_there(frame, from.value) {

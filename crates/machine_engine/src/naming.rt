@@ -6,8 +6,8 @@ ghost use Rattle.machine_steps.specs.Naming.{leaf_named, leaf_unnamed, less_name
 ghost use Rattle.machine_steps.specs.Operands.{contents, object_in_leaf};
 ghost use Rattle.machine_engine.specs.declared.stop.Stop.TheVariants.{Memory};
 
-use count_heap::Heap;
 use crate::stop::Stop;
+use count_heap::Heap;
 use run_values::Leaf;
 use sil_ast::{ObjectId, Storage};
 

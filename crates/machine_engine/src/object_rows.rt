@@ -57,11 +57,15 @@ impl Machine {
 
     /// The result is the address of a field of an object.
     #[inline]
-    fn give_field_address(&mut self, frame: &Frame, object: Option<ObjectId>, field: u32, to: LocalAddress) -> Result<(), Stop>
-        ensures {
-            (os : List ObjectId) → object ≡ slice_get os 0 → GoesOver self.old frame.now
-                (λ rest. field_address self.old frame.now rest field os to) result self.new
-        }
+    fn give_field_address(
+        &mut self,
+        frame: &Frame,
+        object: Option<ObjectId>,
+        field: u32,
+        to: LocalAddress,
+    ) -> Result<(), Stop>
+        ensures { (os : List ObjectId) → object ≡ slice_get os 0 → GoesOver self.old frame.now
+            (λ rest. field_address self.old frame.now rest field os to) result self.new }
     {
         let Some(object) = object else {
             return Err(fault(LowFault::Empty));
@@ -78,7 +82,13 @@ impl Machine {
     }
 
     #[inline]
-    pub(crate) fn field_address(&mut self, frame: &Frame, operand: Local, field: u32, to: LocalAddress) -> Result<(), Stop>
+    pub(crate) fn field_address(
+        &mut self,
+        frame: &Frame,
+        operand: Local,
+        field: u32,
+        to: LocalAddress,
+    ) -> Result<(), Stop>
         ensures { Performs self.old frame.now (op.FieldAddress operand field to) result self.new }
     {
         if !self.is_there(frame, operand.value) {

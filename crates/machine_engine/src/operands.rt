@@ -9,7 +9,7 @@ ghost use Rattle.machine_engine.specs.Performing.{GoesOn};
 ghost use Rattle.machine_engine.specs.Raised.{raised};
 ghost use Rattle.machine_engine.specs.declared.stop.Stop.TheVariants.{Memory};
 
-use crate::leaf_lists::{leaf_at, lay_one, lay_over, move_over, window};
+use crate::leaf_lists::{lay_one, lay_over, leaf_at, move_over, window};
 use crate::machine::Machine;
 use crate::stop::Stop;
 use machine_steps::{Address, Frame, Home, Task};

@@ -12,10 +12,10 @@ ghost use Rattle.machine_engine.specs.Went.{HasGone};
 ghost use Rattle.machine_engine.specs.declared.stop.Stop.TheVariants.{Memory};
 
 use crate::fields::is_dead;
-use count_heap::Heap;
 use crate::leaf_lists::leaves_from;
 use crate::machine::Machine;
 use crate::stop::{Stop, fault, missing};
+use count_heap::Heap;
 use lowered_run::LowFault;
 use machine_steps::Frame;
 use ready_code::Local;
@@ -83,7 +83,10 @@ impl Machine {
     fn retain_value(&mut self, frame: &Frame, operand: Local) -> Result<(), Stop>
         ensures { HasGone (retains_all (objects_among (contents self.old frame.now operand)) self.old Goes) result self.new }
     {
-        retain_all(&mut self.heap, leaves_from(&self.leaves, frame.leaves, operand))
+        retain_all(
+            &mut self.heap,
+            leaves_from(&self.leaves, frame.leaves, operand),
+        )
     }
 
     #[inline]

@@ -9,7 +9,13 @@ use ready_code::{ReadyModule, ReadyOp};
 
 impl Machine {
     /// The instruction before which the frame stands is performed.
-    pub(crate) fn perform(&mut self, ready: &ReadyModule, bound: u32, frame: &Frame, op: &ReadyOp) -> Result<(), Stop>
+    pub(crate) fn perform(
+        &mut self,
+        ready: &ReadyModule,
+        bound: u32,
+        frame: &Frame,
+        op: &ReadyOp,
+    ) -> Result<(), Stop>
         ensures { PerformsIn ready.now bound self.old frame.now op.now result self.new }
     {
         match op {
@@ -65,7 +71,9 @@ impl Machine {
                 values,
                 addresses,
                 to,
-            } => self.call(ready, bound, frame, *function, operands, values, addresses, *to),
+            } => self.call(
+                ready, bound, frame, *function, operands, values, addresses, *to,
+            ),
             ReadyOp::CallOut {
                 function,
                 operands,

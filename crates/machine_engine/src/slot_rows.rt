@@ -21,7 +21,11 @@ impl Machine {
         ensures { result ≡ slot_in self.now index serial }
     {
         let slot = *self.slots.get(index as usize)?;
-        if slot.serial == serial { Some(slot) } else { None }
+        if slot.serial == serial {
+            Some(slot)
+        } else {
+            None
+        }
     }
 
     /// A new slot with so many leaves, and its address.
@@ -37,7 +41,11 @@ impl Machine {
             return Err(Exhausted);
         };
         let from = self.slot_leaves.len();
-        self.slots.push(OpenSlot { serial, from, is_full: false })?;
+        self.slots.push(OpenSlot {
+            serial,
+            from,
+            is_full: false,
+        })?;
         self.slot_leaves.resize(from + size as usize, Leaf::Blank)?;
         self.serials = serials;
         Ok(Address {
@@ -47,7 +55,12 @@ impl Machine {
         })
     }
 
-    pub(crate) fn make_slot(&mut self, frame: &Frame, size: u32, to: LocalAddress) -> Result<(), Stop>
+    pub(crate) fn make_slot(
+        &mut self,
+        frame: &Frame,
+        size: u32,
+        to: LocalAddress,
+    ) -> Result<(), Stop>
         ensures { Performs self.old frame.now (op.MakeSlot size to) result self.new }
     {
         let address = self.add_slot(frame, size)?;
@@ -63,7 +76,12 @@ impl Machine {
     }
 
     /// The newest slot of the frame goes.
-    fn remove_open_slot(&mut self, frame: &Frame, index: u32, slot: Option<OpenSlot>) -> Result<(), Stop>
+    fn remove_open_slot(
+        &mut self,
+        frame: &Frame,
+        index: u32,
+        slot: Option<OpenSlot>,
+    ) -> Result<(), Stop>
         ensures { GoesOver self.old frame.now (λ rest. removes_slot self.old frame.now rest index slot) result self.new }
     {
         let Some(slot) = slot else {

@@ -38,18 +38,30 @@ impl Machine {
     #[inline]
     fn put_in_slot(&mut self, frame: &Frame, from: Local, begin: usize, index: u32, slot: OpenSlot)
         ensures { self.new ≡ record self.old {
-            slots = set self.old.slots index (record slot { is_full = true });
-            slot_leaves = laid_over begin (contents self.old frame.now from) self.old.slot_leaves
+          slots = set self.old.slots index (record slot { is_full = true });
+          slot_leaves = laid_over begin (contents self.old frame.now from) self.old.slot_leaves;
         } }
     {
         let at = frame.leaves.saturating_add(from.at as usize);
-        lay_over(&mut self.slot_leaves, begin, window(&self.leaves, at, from.size as usize));
+        lay_over(
+            &mut self.slot_leaves,
+            begin,
+            window(&self.leaves, at, from.size as usize),
+        );
         fill_slot(&mut self.slots, index, slot);
     }
 
     /// A value is put into a slot.
     #[inline]
-    fn store_in_slot(&mut self, frame: &Frame, from: Local, at: u32, is_part: bool, index: u32, serial: u64) -> Result<(), Stop>
+    fn store_in_slot(
+        &mut self,
+        frame: &Frame,
+        from: Local,
+        at: u32,
+        is_part: bool,
+        index: u32,
+        serial: u64,
+    ) -> Result<(), Stop>
         ensures { GoesOver self.old frame.now (stores_at self.old frame.now from (placed (home.Slot index serial) at is_part)) result self.new }
     {
         let Some(slot) = self.open_slot(index, serial) else {
@@ -76,22 +88,43 @@ impl Machine {
 
     /// A field becomes what a value is, or a part of it does.
     #[inline]
-    fn put_in_field(&mut self, frame: &Frame, from: Local, at: u32, is_part: bool, object: ObjectId, field: u32)
+    fn put_in_field(
+        &mut self,
+        frame: &Frame,
+        from: Local,
+        at: u32,
+        is_part: bool,
+        object: ObjectId,
+        field: u32,
+    )
         requires { is_dead_in self.old.heap object ≡ false }
         ensures { self.new ≡ record self.old { heap = write_field is_part object field at (contents self.old frame.now from) self.old.heap } }
     {
         let begin = frame.leaves.saturating_add(from.at as usize);
-        write_field(&mut self.heap, is_part, object, field, at, window(&self.leaves, begin, from.size as usize));
+        write_field(
+            &mut self.heap,
+            is_part,
+            object,
+            field,
+            at,
+            window(&self.leaves, begin, from.size as usize),
+        );
     }
 
     /// A field becomes what a value is, or a part of it does, and the frame goes on.
     #[inline]
-    fn write_in_field(&mut self, frame: &Frame, from: Local, at: u32, is_part: bool, object: ObjectId, field: u32) -> Result<(), Stop>
+    fn write_in_field(
+        &mut self,
+        frame: &Frame,
+        from: Local,
+        at: u32,
+        is_part: bool,
+        object: ObjectId,
+        field: u32,
+    ) -> Result<(), Stop>
         requires { is_dead_in self.old.heap object ≡ false }
-        ensures {
-            let heap = write_field is_part object field at (contents self.old frame.now from) self.old.heap in
-            GoesOn self.old frame.now (record self.old { heap = heap }) result self.new
-        }
+        ensures { let heap = write_field is_part object field at (contents self.old frame.now from) self.old.heap in
+            GoesOn self.old frame.now (record self.old { heap = heap }) result self.new }
     {
         self.put_in_field(frame, from, at, is_part, object, field);
         self.go_on()
@@ -99,7 +132,15 @@ impl Machine {
 
     /// A value is put into a field.
     #[inline]
-    fn store_in_field(&mut self, frame: &Frame, from: Local, at: u32, is_part: bool, object: ObjectId, field: u32) -> Result<(), Stop>
+    fn store_in_field(
+        &mut self,
+        frame: &Frame,
+        from: Local,
+        at: u32,
+        is_part: bool,
+        object: ObjectId,
+        field: u32,
+    ) -> Result<(), Stop>
         ensures { GoesOver self.old frame.now (stores_at self.old frame.now from (placed (home.Field object field) at is_part)) result self.new }
     {
         if self.is_dead(object) {
@@ -117,13 +158,32 @@ impl Machine {
         ensures { GoesOver self.old frame.now (stores_at self.old frame.now from place) result self.new }
     {
         match place.home {
-            Home::Slot { index, serial } => self.store_in_slot(frame, from, place.from, place.is_part, index, serial),
-            Home::Field { object, field } => self.store_in_field(frame, from, place.from, place.is_part, object, field),
+            Home::Slot { index, serial } => self.store_in_slot(
+                frame,
+                from,
+                place.from,
+                place.is_part,
+                index,
+                serial,
+            ),
+            Home::Field { object, field } => self.store_in_field(
+                frame,
+                from,
+                place.from,
+                place.is_part,
+                object,
+                field,
+            ),
         }
     }
 
     #[inline]
-    pub(crate) fn store(&mut self, frame: &Frame, from: Local, address: LocalAddress) -> Result<(), Stop>
+    pub(crate) fn store(
+        &mut self,
+        frame: &Frame,
+        from: Local,
+        address: LocalAddress,
+    ) -> Result<(), Stop>
         ensures { Performs self.old frame.now (op.Store from address) result self.new }
     {
         if !self.is_there(frame, from.value) {

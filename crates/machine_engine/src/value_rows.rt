@@ -43,7 +43,13 @@ impl Machine {
 
     /// The first of an operation's operands that isn't there.
     #[inline]
-    fn missing_among(&self, frame: &Frame, left: ValueId, right: ValueId, other: Option<ValueId>) -> Option<ValueId>
+    fn missing_among(
+        &self,
+        frame: &Frame,
+        left: ValueId,
+        right: ValueId,
+        other: Option<ValueId>,
+    ) -> Option<ValueId>
         ensures { result ≡ find (is_missing self.now frame.now) (left ∷ right ∷ option_to_list other) }
     {
         if !self.is_there(frame, left) {
@@ -52,7 +58,11 @@ impl Machine {
         if !self.is_there(frame, right) {
             return Some(right);
         }
-        if self.is_there(frame, other?) { None } else { other }
+        if self.is_there(frame, other?) {
+            None
+        } else {
+            other
+        }
     }
 
     #[inline]
@@ -71,7 +81,12 @@ impl Machine {
         if let Some(value) = self.missing_among(frame, left.value, right.value, other) {
             return Err(missing(value));
         }
-        let given = compute(operation, width, self.int(frame, left), self.int(frame, right));
+        let given = compute(
+            operation,
+            width,
+            self.int(frame, left),
+            self.int(frame, right),
+        );
         self.give_computed(frame, to, given)
     }
 
@@ -105,7 +120,13 @@ impl Machine {
     }
 
     #[inline]
-    pub(crate) fn member(&mut self, frame: &Frame, operand: Local, from: u32, to: Local) -> Result<(), Stop>
+    pub(crate) fn member(
+        &mut self,
+        frame: &Frame,
+        operand: Local,
+        from: u32,
+        to: Local,
+    ) -> Result<(), Stop>
         ensures { Performs self.old frame.now (op.Member operand from to) result self.new }
     {
         if !self.is_there(frame, operand.value) {
@@ -115,7 +136,13 @@ impl Machine {
     }
 
     #[inline]
-    pub(crate) fn member_address(&mut self, frame: &Frame, address: LocalAddress, from: u32, to: LocalAddress) -> Result<(), Stop>
+    pub(crate) fn member_address(
+        &mut self,
+        frame: &Frame,
+        address: LocalAddress,
+        from: u32,
+        to: LocalAddress,
+    ) -> Result<(), Stop>
         ensures { Performs self.old frame.now (op.MemberAddress address from to) result self.new }
     {
         if !self.is_there(frame, address.value) {
@@ -125,6 +152,14 @@ impl Machine {
         let Some(from) = whole.from.checked_add(from) else {
             return Err(Stop::Memory);
         };
-        self.give_address(frame, to, Address { home: whole.home, from, is_part: true })
+        self.give_address(
+            frame,
+            to,
+            Address {
+                home: whole.home,
+                from,
+                is_part: true,
+            },
+        )
     }
 }

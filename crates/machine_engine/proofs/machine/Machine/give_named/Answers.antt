@@ -14,8 +14,8 @@ pub give_live-requires : goal.give_live-requires
 give_live-requires c =
     let still = live_still c.args.self.now c.args.frame.now [] c.args.storage c.args.place c.args.leaf c.args.takes in
     let here = subst (λ (x : Option ObjectId). IfSome x (λ o. is_dead_in (cond c.args.takes
-        (forgotten c.args.self.now c.args.frame.now [] c.args.storage c.args.place c.args.leaf) c.args.self.now).heap o ≡ false))
-        (sym c.live_object-live.ensures) still in
+    (forgotten c.args.self.now c.args.frame.now [] c.args.storage c.args.place c.args.leaf) c.args.self.now).heap o ≡ false))
+    (sym c.live_object-live.ensures) still in
     subst (λ (st : MachineView). IfSome c.live_object-live.result (λ o. is_dead_in st.heap o ≡ false)) (sym c.forget_if.ensures) here
 
 pub returns : goal.returns

@@ -10,7 +10,7 @@ pub returns : goal.returns
 returns c = λ fr rest h.
     let st = c.args.self.now in
     let Named : MachineView → Type 0 = λ it.
-        GoesOver it fr (λ next. named_anew it fr next c.args.storage c.args.place c.args.leaf it.heap) c.give_name-2.result c.give_name-2.new.self in
+    GoesOver it fr (λ next. named_anew it fr next c.args.storage c.args.place c.args.leaf it.heap) c.give_name-2.result c.give_name-2.new.self in
     subst (λ (first : Bool). HasGone (named_anew st fr rest c.args.storage c.args.place c.args.leaf (cond first st.heap
-        (leaf_unnamed c.args.storage c.args.held st.heap))) c.give_name-2.result c.give_name-2.new.self)
+    (leaf_unnamed c.args.storage c.args.held st.heap))) c.give_name-2.result c.give_name-2.new.self)
     (sym c.if-first.false) (subst Named c.unname.ensures (c.give_name-2.ensures fr) rest h)

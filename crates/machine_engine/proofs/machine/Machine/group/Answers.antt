@@ -13,6 +13,6 @@ returns c = λ ready bound rest h.
     let st = c.args.self.now in
     let fr = c.args.frame.now in
     subst (λ (ls : List Local). HasGone (unless_missing (find (is_missing st fr) (map value_of ls)) st (go_on (put st fr c.args.to
-        (all_contents st fr [] ls)) fr rest)) c.give_group.result c.give_group.new.self)
+    (all_contents st fr [] ls)) fr rest)) c.give_group.result c.give_group.new.self)
     c.as_slice-operands.ensures
     (all_there _ _ _ _ _ c.in_default.ensures (c.give_group.ensures rest h))

@@ -8,7 +8,7 @@ pub returns-in-Look : goal.returns-in-Look
 returns-in-Look c = performed c.args.ready.now c.args.bound c.args.self.now _ c.args.frame.now _ c.args.op.now _ c.in-Look.is (c.look.ensures c.args.ready.now c.args.bound)
 
 pub returns-in-Literal : goal.returns-in-Literal
-returns-in-Literal c = 
+returns-in-Literal c =
     let fits : SFits w64 c.in-Literal.number = search rules in
     performed c.args.ready.now c.args.bound c.args.self.now _ c.args.frame.now _ c.args.op.now _ c.in-Literal.is (simp to_z-of_z at (c.literal.ensures c.args.ready.now c.args.bound))
 

@@ -11,5 +11,5 @@ returns c =
     let fr = c.args.frame.now in
     let laid = rw (c.deref_mut.ensures.value, c.deref-2.ensures.value, c.in_ok-gather_group.ensures, c.deref.ensures.value) at c.lay_over.ensures in
     let here = c.put_there.ensures ∙ put_laid_in c.self.inside.leaves (the_view c.self.inside) fr c.args.to _ c.lay_over.new.leaves c.saturating_add.result c.saturating_add.ensures (omega arith)
-        (omega arith) laid in
+    (omega arith) laid in
     subst (λ (st : MachineView). c.put_there.new.self ≡ put st fr c.args.to (all_contents st fr [] c.args.operands.now)) c.self.view_is here

@@ -40,7 +40,7 @@ returns-in-Err-clause-led c =
 pub returns-then-task_count-count-clause-led : goal.returns-then-task_count-count-clause-led
 returns-then-task_count-count-clause-led c =
     leads-on c.args.ready.now c.args.bound c.args.self.now c.loop-frame.self _ c.loop-frame.invariant.led (gone-on (goal.at.returns-then-task_count-count-clause-led c).In_default-perform
-        (performed (goal.at.returns-then-task_count-count-clause-led c).After-perform))
+    (performed (goal.at.returns-then-task_count-count-clause-led c).After-perform))
 
 pub returns-then-task_count-count-clause-work : goal.returns-then-task_count-count-clause-work
 returns-then-task_count-count-clause-work c = less-work (goal.at.returns-then-task_count-count-clause-work c).In_default-perform (performed

@@ -14,5 +14,5 @@ pub returns-in-Field : goal.returns-in-Field
 returns-in-Field c =
     let a = c.args.place in
     subst (λ (h : Home). GoesOver c.args.self.now c.args.frame.now (stores_at c.args.self.now c.args.frame.now c.args.from
-        (placed h a.from a.is_part)) c.store_in_field.result c.store_in_field.new.self)
+    (placed h a.from a.is_part)) c.store_in_field.result c.store_in_field.new.self)
     (sym c.in-Field.is) c.store_in_field.ensures
