@@ -5,3 +5,4 @@ pub mod NewSlot
 pub mod Allocation
 pub mod FieldWrites
 pub mod FieldCalls
+pub mod HeapLaws

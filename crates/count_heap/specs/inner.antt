@@ -3,3 +3,4 @@ pub mod Kept
 pub mod Allocating
 pub mod Answers
 pub mod Written
+pub mod Laws

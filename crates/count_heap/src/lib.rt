@@ -5,6 +5,7 @@
 mod allocate;
 mod fields;
 mod heap;
+mod laws;
 mod life;
 mod lookups;
 mod parts;
@@ -15,5 +16,6 @@ mod totals;
 
 pub use heap::Heap;
 pub use heap_model::{Released, Underflow};
+pub use laws::{finished_objects_are_dead, freed_objects_are_dead, slots_are_few};
 pub use totals::Totals;
 pub use weak_unowned::Side;
