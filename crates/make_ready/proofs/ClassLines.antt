@@ -21,10 +21,12 @@ one_more : (items : List (Bor Name)) (class : Bor Name) → names_told (items ++
 one_more items class = map-append told items (class ∷ [])
 
 module _ (d : Declarations) where
-  pub line_begun : (items first : List (Bor Name)) (class : Bor Name) (above : Option Name) → items ≡ first ++ class ∷ [] → first ≡ [] → above ≡ superclass_of d class.now
+  pub line_begun : (items first : List (Bor Name)) (class : Bor Name) (above : Option Name) → items ≡ first ++ class ∷ []
+      → first ≡ [] → above ≡ superclass_of d class.now
       → names_told items ++ chain d (DEPTH - 0) above ≡ class.now ∷ ancestors_of d class.now
   line_begun items first class above is none next =
-      ap (λ xs. names_told xs ++ chain d (DEPTH - 0) above) (is ∙ ap (λ xs. xs ++ class ∷ []) none) ∙ ap (λ cs. class.now ∷ cs) (chain_is d class.now above next)
+      ap (λ xs. names_told xs ++ chain d (DEPTH - 0) above) (is ∙ ap (λ xs. xs ++ class ∷ []) none)
+          ∙ ap (λ cs. class.now ∷ cs) (chain_is d class.now above next)
 
   pub line_next : (most i : ℕ) → i < most → (items more : List (Bor Name)) (class : Bor Name) (at above : Option Name) (line : List Name)
       → at ≡ Some class.now → more ≡ items ++ class ∷ [] → above ≡ superclass_of d class.now
@@ -36,7 +38,8 @@ module _ (d : Declarations) where
       ∙ ap (λ cs. names_told items ++ cs) (sym (chain_on d most i lt class.now) ∙ ap (chain d (most - i)) (sym is)) ∙ so_far
 
   -- the fields of the last class come before those of the classes that are left
-  fields_next : (rest : List (Bor Name)) (class : Bor Name) → chain_fields d (names_told (rest ++ class ∷ [])) ≡ own_fields d class.now ++ chain_fields d (names_told rest)
+  fields_next : (rest : List (Bor Name)) (class : Bor Name)
+      → chain_fields d (names_told (rest ++ class ∷ [])) ≡ own_fields d class.now ++ chain_fields d (names_told rest)
   fields_next rest class = ap (chain_fields d) (one_more rest class) ∙ fields_split d (names_told rest) (class.now ∷ [])
 
   pub storages_next : (items rest : List (Bor Name)) (last : Option (Bor Name)) (class : Bor Name) (own : List Field) (storages more all : List Storage)
@@ -47,5 +50,6 @@ module _ (d : Declarations) where
       let items_is = is ∙ ap (λ o. rest ++ option_to_list o) there in
       ap (λ xs. xs ++ map storage_of left) next
       ∙ append_assoc storages (map storage_of own) (map storage_of left)
-      ∙ ap (λ xs. storages ++ xs) (sym (map-append storage_of own left) ∙ ap (λ xs. map storage_of (xs ++ left)) own_is ∙ ap (map storage_of) (sym (fields_next rest class) ∙ ap (λ xs. chain_fields d (names_told xs)) (sym items_is)))
+      ∙ ap (λ xs. storages ++ xs) (sym (map-append storage_of own left) ∙ ap (λ xs. map storage_of (xs ++ left)) own_is
+          ∙ ap (map storage_of) (sym (fields_next rest class) ∙ ap (λ xs. chain_fields d (names_told xs)) (sym items_is)))
       ∙ so_far

@@ -15,7 +15,8 @@ use Rattle.run_typing_laws.proofs.Opened.{out-Named}
 use Rattle.run_typing_laws.proofs.Rows.Finding.{mapped_from}
 
 behind_swift : (swift : Bool) (decls : List Decl) (w : ℕ) (name : Name) (superclass : Option Name) (fields : List Field)
-    → slice_get (swift_structs swift ++ decls) w ≡ Some (Class name superclass fields) → slice_get decls (w - length (swift_structs swift)) ≡ Some (Class name superclass fields)
+    → slice_get (swift_structs swift ++ decls) w ≡ Some (Class name superclass fields)
+    → slice_get decls (w - length (swift_structs swift)) ≡ Some (Class name superclass fields)
 behind_swift false decls w name superclass fields e = let same : w - 0 ≡ w = omega arith in ap (slice_get decls) same ∙ e
 behind_swift true decls zero name superclass fields e = absurd (cc)
 behind_swift true decls (suc zero) name superclass fields e = absurd (cc)
@@ -24,7 +25,8 @@ behind_swift true decls (suc (suc w)) name superclass fields e = let same : suc 
 pub class_indexed : (d : Declarations) (name : Name) (k : ℕ) → class_place d name ≡ Some k → class_at d k ≡ Some name
 class_indexed d name k e = at (is_class d name) refl e
   where
-    at : (b : Bool) → is_class d name ≡ b → cond b (option_map (λ p. p - length (swift_structs d.swift)) (place_of (all_names d) name)) None ≡ Some k → class_at d k ≡ Some name
+    at : (b : Bool) → is_class d name ≡ b → cond b (option_map (λ p. p - length (swift_structs d.swift)) (place_of (all_names d) name)) None ≡ Some k
+        → class_at d k ≡ Some name
     at false is e = absurd (cc)
     at true is e =
         let found = class_found d name is in
@@ -35,7 +37,8 @@ class_indexed d name k e = at (is_class d name) refl e
         ap (λ p. class_named (slice_get d.decls p)) place ∙ ap class_named (behind_swift d.swift d.decls there.0 name found.0 found.1 there.2)
 
 -- the place that is found for a type which is a class tells the class
-pub class_of_type : (d : Declarations) (ty : TypeName) (name : Name) (k : ℕ) → ty ≡ type.Named name → Some k ≡ option_and_then (class_place d) (name_in (out-TypeName ty)) → class_at d k ≡ Some name
+pub class_of_type : (d : Declarations) (ty : TypeName) (name : Name) (k : ℕ) → ty ≡ type.Named name
+    → Some k ≡ option_and_then (class_place d) (name_in (out-TypeName ty)) → class_at d k ≡ Some name
 class_of_type d ty name k is e =
     let own : name_in (out-TypeName ty) ≡ Some name = ap (λ t. name_in (out-TypeName t)) is ∙ ap name_in (out-Named name) in
     class_indexed d name k (sym (e ∙ ap (option_and_then (class_place d)) own))

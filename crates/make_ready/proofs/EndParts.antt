@@ -27,16 +27,17 @@ use Rattle.run_typing_laws.proofs.Rows.Finding.{found_behind, where_found}
 use Rattle.run_typing_laws.proofs.Rows.Shares.{taken_from}
 use Rattle.run_typing_laws.proofs.ValueForms.{operand_written, row_kept}
 use Rattle.ready_code.specs.ReadyOps.{operands_of}
+use Rattle.frame_layouts.proofs.Lists.{element_there}
 use Rattle.make_ready.specs.inner.Cases.{CaseEdge, HaveEdges}
 use Rattle.make_ready.specs.inner.Ends.{HasEnd, Parts}
-use Rattle.make_ready.proofs.Lists.{element_there}
 use Rattle.make_ready.proofs.OneByOne.{OneValue, one_value}
 
 switches : (o : Op) → ending_of o ≡ ending.Cases → o ≡ op.SwitchEnum
 switches op.SwitchEnum e = refl
 switches _ e = absurd (cc)
 
-module _ (m : Module) (r : IsRunnable m) (n : ℕ) (f : Function) (there : slice_get m.functions n ≡ Some f) (b : ℕ) (i : Inst) (here : terminator_of f b ≡ Some i) where
+module _ (m : Module) (r : IsRunnable m) (n : ℕ) (f : Function) (there : slice_get m.functions n ≡ Some f)
+    (b : ℕ) (i : Inst) (here : terminator_of f b ≡ Some i) where
   abbrev d : Declarations
   d = declarations_of m
 

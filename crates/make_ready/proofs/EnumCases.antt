@@ -1,5 +1,6 @@
 -- The cases of an enum: the place that is found for a name is that among the cases of its shape, and there are as many.
-use Rattle.std.proofs.Common.{◌≡◌, ℕ, zero, suc, ◌<◌, List, [], ◌∷◌, length, map, get_or, refl, sym, ap, ◌∙◌, subst, arith, Bool, true, false, Option, Some, None}
+use Rattle.std.proofs.Common.{◌≡◌, ℕ, zero, suc, ◌<◌, List, [], ◌∷◌, length, map, get_or, refl, sym, ap, ◌∙◌, subst, arith, Bool, true, false, Option}
+use Rattle.std.proofs.Common.{Some, None}
 use Rattle.std.specs.Prelude.{codes, is_some, option_and_then, option_map, position, slice_get, unwrap_or}
 use Rattle.std.proofs.lemmas.Bool.{false≢true}
 use Rattle.std.proofs.lemmas.List.{length-map}
@@ -56,7 +57,8 @@ place_kept : (cases : List Case) (o : Option ℕ) → ((i : ℕ) → o ≡ Some 
 place_kept cases None h = refl
 place_kept cases (Some i) h = at (slice_get cases i) refl
   where
-    at : (x : Option Case) → slice_get cases i ≡ x → option_map place_in (option_map (λ (c : Case). let p : Payload = record { place = i; ty = case_payload c } in p) x) ≡ Some i
+    at : (x : Option Case) → slice_get cases i ≡ x
+        → option_map place_in (option_map (λ (c : Case). let p : Payload = record { place = i; ty = case_payload c } in p) x) ≡ Some i
     at (Some c) is = refl
     at None is = absurd (never cases i (h i refl) is)
       where
@@ -70,13 +72,15 @@ optional_kept target None = refl
 optional_kept target (Some i) = refl
 
 module _ (m : Module) (r : IsRunnable m) where
-  of_declared : (t : TypeName) (owner n : Name) (cases : List Case) → out-TypeName t ≡ TypeName-F.Named owner → decl_of (declarations_of m) owner ≡ Some (Enum n cases) → HasCases m t
+  of_declared : (t : TypeName) (owner n : Name) (cases : List Case) → out-TypeName t ≡ TypeName-F.Named owner
+      → decl_of (declarations_of m) owner ≡ Some (Enum n cases) → HasCases m t
   of_declared t owner n cases is there =
       let d = declarations_of m in
       record {
         names = map case_name cases;
         layers = map (case_layer_of m) cases;
-        shapes = ap (λ u. case_shapes (shape_of d u)) (is_named t owner is) ∙ ap case_shapes (enum_shape m r owner n cases there) ∙ listed_all (map (case_layer_of m) cases);
+        shapes = ap (λ u. case_shapes (shape_of d u)) (is_named t owner is) ∙ ap case_shapes (enum_shape m r owner n cases there)
+            ∙ listed_all (map (case_layer_of m) cases);
         same = same_names m cases;
         count = ap (case_count_in d) is ∙ ap (option_and_then declared_cases) there ∙ ap Some (sym (length-map cases case_name));
         found = λ name.
@@ -101,7 +105,8 @@ module _ (m : Module) (r : IsRunnable m) where
   pub has_cases : (t : TypeName) → is_enum (declarations_of m) t ≡ true → HasCases m t
   has_cases t e = at (out-TypeName t) refl e
     where
-      by : (owner : Name) → out-TypeName t ≡ TypeName-F.Named owner → (x : Option Decl) → decl_of (declarations_of m) owner ≡ x → is_some (option_and_then declared_cases x) ≡ true → HasCases m t
+      by : (owner : Name) → out-TypeName t ≡ TypeName-F.Named owner → (x : Option Decl) → decl_of (declarations_of m) owner ≡ x
+          → is_some (option_and_then declared_cases x) ≡ true → HasCases m t
       by owner is None there e = absurd (false≢true e)
       by owner is (Some (Struct n fields)) there e = absurd (false≢true e)
       by owner is (Some (Enum n cases)) there e = of_declared t owner n cases is there
@@ -122,7 +127,8 @@ module _ (m : Module) (r : IsRunnable m) where
       ∙ position-map (bytes_eq named.name) layer_name has.layers
       ∙ ap (position (is_case named.name)) (sym has.shapes)
 
-  pub cases_counted : (t : TypeName) → is_enum (declarations_of m) t ≡ true → case_count (declarations_of m) t ≡ Some (length (case_shapes (shape_of (declarations_of m) t)))
+  pub cases_counted : (t : TypeName) → is_enum (declarations_of m) t ≡ true
+      → case_count (declarations_of m) t ≡ Some (length (case_shapes (shape_of (declarations_of m) t)))
   cases_counted t e =
       let has = has_cases t e in
       has.count ∙ ap (λ names. Some (length names)) (sym has.same) ∙ ap Some (length-map has.layers layer_name) ∙ ap (λ ls. Some (length ls)) (sym has.shapes)

@@ -25,7 +25,8 @@ not_found_here p f xs i d h e = found_step p f xs i d h ∙ ap (λ o. option_or 
 -- tests that agree on the builtins of an operation find the same
 pub find_alike : {A B : Type 0} (p q : B → Bool) (f : A → B) → ((x : A) → p (f x) ≡ q (f x)) → (xs : List A) → find p (map f xs) ≡ find q (map f xs)
 find_alike p q f alike [] = refl
-find_alike p q f alike (x ∷ xs) = ap (λ b. cond b (Some (f x)) (find p (map f xs))) (alike x) ∙ ap (λ o. cond (q (f x)) (Some (f x)) o) (find_alike p q f alike xs)
+find_alike p q f alike (x ∷ xs) = ap (λ b. cond b (Some (f x)) (find p (map f xs))) (alike x)
+    ∙ ap (λ o. cond (q (f x)) (Some (f x)) o) (find_alike p q f alike xs)
 
 pub find_none : {A B : Type 0} (p : B → Bool) (f : A → B) → ((x : A) → false ≡ p (f x)) → (xs : List A) → None ≡ find p (map f xs)
 find_none p f none [] = refl

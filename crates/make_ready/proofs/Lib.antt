@@ -1,16 +1,10 @@
 pub mod BlockRows
-pub mod Carrying
 pub mod CaseRuns
 pub mod ClassLines
 pub mod ClassPlaces
-pub mod Counts
 pub mod EndParts
 pub mod EnumCases
-pub mod FieldsFit
 mod Finding
-pub mod Fitting
-pub mod Laying
-pub mod Lists
 pub mod MadeCalls
 pub mod MadeEnds
 pub mod MadeGroups
@@ -20,9 +14,4 @@ pub mod Noting
 pub mod Offsets
 pub mod OneByOne
 pub mod RowParts
-pub mod RowsFit
-pub mod Spots
-pub mod StoredShapes
-pub mod Targets
 pub mod TypedRows
-pub mod ValueSizes

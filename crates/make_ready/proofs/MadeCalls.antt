@@ -36,7 +36,8 @@ module _ (m : Module) (f : Function) (i : Inst) (does : effect_of i.op ≡ row.C
   abbrev This : Type 0
   This = CallsThis d f i m.functions g callee
 
-  pub call_made : This → has_any callee.blocks ≡ true → (r : ValueId) (operands : List ValueId) (values : List Carry) (addresses : List CarryAddress) (to : Local)
+  pub call_made : This → has_any callee.blocks ≡ true
+      → (r : ValueId) (operands : List ValueId) (values : List Carry) (addresses : List CarryAddress) (to : Local)
       → operands ≡ operands_of i
       → values ≡ values_carried d f callee (map value_in (drop 1 i.operands)) (map arg_value (args_of callee 0))
       → addresses ≡ addresses_carried d f callee (map value_in (drop 1 i.operands)) (map arg_value (args_of callee 0))
@@ -44,7 +45,8 @@ module _ (m : Module) (f : Function) (i : Inst) (does : effect_of i.op ≡ row.C
   call_made has bodied r operands values addresses to is_operands is_values is_addresses at is =
       let args : map value_in (drop 1 i.operands) ≡ has.args = args_are i.operands has.callee has.args has.operands in
       subst (λ x. IsReadyOp m f i (op.Call g x values addresses to)) (sym (is_operands ∙ has.operands))
-      (subst (λ x. IsReadyOp m f i (op.Call g (has.callee ∷ has.args) x addresses to)) (sym (is_values ∙ ap (λ vs. values_carried d f callee vs (map arg_value (args_of callee 0))) args))
+      (subst (λ x. IsReadyOp m f i (op.Call g (has.callee ∷ has.args) x addresses to))
+          (sym (is_values ∙ ap (λ vs. values_carried d f callee vs (map arg_value (args_of callee 0))) args))
       (subst (λ x. IsReadyOp m f i (op.Call g (has.callee ∷ has.args) (values_carried d f callee has.args (map arg_value (args_of callee 0))) x to))
       (sym (is_addresses ∙ ap (λ vs. addresses_carried d f callee vs (map arg_value (args_of callee 0))) args))
       (subst (λ x. IsReadyOp m f i (op.Call g (has.callee ∷ has.args) (values_carried d f callee has.args (map arg_value (args_of callee 0)))
@@ -52,10 +54,12 @@ module _ (m : Module) (f : Function) (i : Inst) (does : effect_of i.op ≡ row.C
       (made.calls has.callee has.result has.args g callee does has.operands has.results has.form has.there bodied))))
 
   pub call_out_made : This → has_any callee.blocks ≡ false → (r : ValueId) (operands : List ValueId) (args : List Local) (to : Local) → operands ≡ operands_of i
-      → args ≡ map (local d f) (map value_in (drop 1 i.operands)) → slice_get i.results 0 ≡ Some r → to ≡ local d f r → IsReadyOp m f i (op.CallOut g operands args to)
+      → args ≡ map (local d f) (map value_in (drop 1 i.operands)) → slice_get i.results 0 ≡ Some r → to ≡ local d f r
+      → IsReadyOp m f i (op.CallOut g operands args to)
   call_out_made has bare r operands args to is_operands is_args at is =
       let own : map value_in (drop 1 i.operands) ≡ has.args = args_are i.operands has.callee has.args has.operands in
       subst (λ x. IsReadyOp m f i (op.CallOut g x args to)) (sym (is_operands ∙ has.operands))
       (subst (λ x. IsReadyOp m f i (op.CallOut g (has.callee ∷ has.args) x to)) (sym (is_args ∙ ap (map (local d f)) own))
-      (subst (λ x. IsReadyOp m f i (op.CallOut g (has.callee ∷ has.args) (map (local d f) has.args) x)) (sym (result_local m f i r has.result to has.results at is))
+      (subst (λ x. IsReadyOp m f i (op.CallOut g (has.callee ∷ has.args) (map (local d f) has.args) x))
+          (sym (result_local m f i r has.result to has.results at is))
       (made.calls_out has.callee has.result has.args g callee does has.operands has.results has.form has.there bare)))

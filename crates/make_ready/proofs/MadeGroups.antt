@@ -42,30 +42,39 @@ module _ (m : Module) (f : Function) (i : Inst) where
   abbrev Row : RowEffect → Type 0
   Row effect = HasRow m f i effect
 
-  pub compute_made : Row row.Computes → (b : Builtin) (v w r : ValueId) (left right to : Local) (other : Option ValueId) → Some b ≡ option_and_then builtin_named i.text
+  pub compute_made : Row row.Computes → (b : Builtin) (v w r : ValueId) (left right to : Local) (other : Option ValueId)
+      → Some b ≡ option_and_then builtin_named i.text
       → slice_get (operands_of i) 0 ≡ Some v → slice_get (operands_of i) 1 ≡ Some w → slice_get i.results 0 ≡ Some r → left ≡ local d f v → right ≡ local d f w
       → other ≡ slice_get (operands_of i) 2 → to ≡ local d f r → Made (op.Compute b.operation b.width left right other to)
   compute_made h b v w r left right to other named at second gives is_left is_right is_other is_to =
       let has = h.has in
       let same : b ≡ has.builtin = (let e : Some b ≡ Some has.builtin = named ∙ has.named in cc) in
       subst (λ (x : Builtin). Made (op.Compute x.operation x.width left right other to)) (sym same)
-      (subst (λ x. Made (op.Compute has.builtin.operation has.builtin.width x right other to)) (sym (operand_local m f i v has.left (has.right ∷ has.more) left has.operands at is_left))
-      (subst (λ x. Made (op.Compute has.builtin.operation has.builtin.width (local d f has.left) x other to)) (sym (second_local m f i w has.right has.left has.more right has.operands second is_right))
-      (subst (λ x. Made (op.Compute has.builtin.operation has.builtin.width (local d f has.left) (local d f has.right) x to)) (sym (is_other ∙ third_is (operands_of i) has.more has.left has.right has.operands))
-      (subst (λ x. Made (op.Compute has.builtin.operation has.builtin.width (local d f has.left) (local d f has.right) (first_of has.more) x)) (sym (result_local m f i r has.result to has.results gives is_to))
+      (subst (λ x. Made (op.Compute has.builtin.operation has.builtin.width x right other to))
+          (sym (operand_local m f i v has.left (has.right ∷ has.more) left has.operands at is_left))
+      (subst (λ x. Made (op.Compute has.builtin.operation has.builtin.width (local d f has.left) x other to))
+          (sym (second_local m f i w has.right has.left has.more right has.operands second is_right))
+      (subst (λ x. Made (op.Compute has.builtin.operation has.builtin.width (local d f has.left) (local d f has.right) x to))
+          (sym (is_other ∙ third_is (operands_of i) has.more has.left has.right has.operands))
+      (subst (λ x. Made (op.Compute has.builtin.operation has.builtin.width (local d f has.left) (local d f has.right) (first_of has.more) x))
+          (sym (result_local m f i r has.result to has.results gives is_to))
       (made.computes has.builtin has.left has.right has.result has.more h.does has.named has.operands has.results)))))
 
-  pub object_made : (h : Row row.MakesObject) → (k : ℕ) (r : ValueId) (to : Local) → class_at d k ≡ Some h.has.class → slice_get i.results 0 ≡ Some r → to ≡ local d f r → Made (op.MakeObject k to)
+  pub object_made : (h : Row row.MakesObject) → (k : ℕ) (r : ValueId) (to : Local) → class_at d k ≡ Some h.has.class
+      → slice_get i.results 0 ≡ Some r → to ≡ local d f r → Made (op.MakeObject k to)
   object_made h k r to class at is =
       let has = h.has in
-      subst (λ x. Made (op.MakeObject k x)) (sym (result_local m f i r has.result to has.results at is)) (made.object has.class k has.result h.does has.results has.form class)
+      subst (λ x. Made (op.MakeObject k x)) (sym (result_local m f i r has.result to has.results at is))
+          (made.object has.class k has.result h.does has.results has.form class)
 
-  pub group_made : Row row.Groups → (r : ValueId) (operands : List Local) (to : Local) → operands ≡ map (local d f) (operands_of i) → slice_get i.results 0 ≡ Some r → to ≡ local d f r
+  pub group_made : Row row.Groups → (r : ValueId) (operands : List Local) (to : Local) → operands ≡ map (local d f) (operands_of i)
+      → slice_get i.results 0 ≡ Some r → to ≡ local d f r
       → Made (op.Group operands to)
   group_made h r operands to is_operands at is =
       let has = h.has in
       subst (λ x. Made (op.Group x to)) (sym is_operands)
-      (subst (λ x. Made (op.Group (map (local d f) (operands_of i)) x)) (sym (result_local m f i r has.result to has.results at is)) (made.groups has.result h.does has.results))
+      (subst (λ x. Made (op.Group (map (local d f) (operands_of i)) x)) (sym (result_local m f i r has.result to has.results at is))
+          (made.groups has.result h.does has.results))
 
   few_values : length i.operands ≤ 1 → length (operands_of i) ≤ 1
   few_values le = let e = length-map i.operands value_in in omega (arith, e, le)
@@ -90,27 +99,34 @@ module _ (m : Module) (f : Function) (i : Inst) where
       by (v ∷ w ∷ vs) e le = absurd (omega arith)
 
   pub member_made : (h : Row row.GivesMember) → (v r : ValueId) (ty : TypeName) (k from : ℕ) (operand to : Local) → ty ≡ h.has.ty → k ≡ h.has.place
-      → from ≡ leaf_offset (member_shapes (shape_of d ty)) k → slice_get (operands_of i) 0 ≡ Some v → slice_get i.results 0 ≡ Some r → operand ≡ local d f v → to ≡ local d f r
+      → from ≡ leaf_offset (member_shapes (shape_of d ty)) k → slice_get (operands_of i) 0 ≡ Some v
+      → slice_get i.results 0 ≡ Some r → operand ≡ local d f v → to ≡ local d f r
       → Made (op.Member operand from to)
   member_made h v r ty k from operand to is_ty is_k is_from at gives is_operand is_to =
       let has = h.has in
       subst (λ n. Made (op.Member operand n to)) (sym (is_from ∙ ap₂ (λ t n. leaf_offset (member_shapes (shape_of d t)) n) is_ty is_k))
-      (subst (λ x. Made (op.Member x (leaf_offset (member_shapes (shape_of d has.ty)) has.place) to)) (sym (operand_local m f i v has.operand [] operand has.operands at is_operand))
-      (subst (λ x. Made (op.Member (local d f has.operand) (leaf_offset (member_shapes (shape_of d has.ty)) has.place) x)) (sym (result_local m f i r has.result to has.results gives is_to))
+      (subst (λ x. Made (op.Member x (leaf_offset (member_shapes (shape_of d has.ty)) has.place) to))
+          (sym (operand_local m f i v has.operand [] operand has.operands at is_operand))
+      (subst (λ x. Made (op.Member (local d f has.operand) (leaf_offset (member_shapes (shape_of d has.ty)) has.place) x))
+          (sym (result_local m f i r has.result to has.results gives is_to))
       (made.member has.operand has.result (shape_of d has.ty) has.place h.does has.operands has.results has.form has.number)))
 
-  pub member_address_made : (h : Row row.AddressesMember) → (v r : ValueId) (ty : TypeName) (k from : ℕ) (address to : LocalAddress) → ty ≡ h.has.inner → k ≡ h.has.place
-      → from ≡ leaf_offset (member_shapes (shape_of d ty)) k → slice_get (operands_of i) 0 ≡ Some v → slice_get i.results 0 ≡ Some r → address ≡ local_address d f v → to ≡ local_address d f r
+  pub member_address_made : (h : Row row.AddressesMember) → (v r : ValueId) (ty : TypeName) (k from : ℕ) (address to : LocalAddress)
+      → ty ≡ h.has.inner → k ≡ h.has.place
+      → from ≡ leaf_offset (member_shapes (shape_of d ty)) k → slice_get (operands_of i) 0 ≡ Some v
+      → slice_get i.results 0 ≡ Some r → address ≡ local_address d f v → to ≡ local_address d f r
       → Made (op.MemberAddress address from to)
   member_address_made h v r ty k from address to is_ty is_k is_from at gives is_address is_to =
       let has = h.has in
       subst (λ n. Made (op.MemberAddress address n to)) (sym (is_from ∙ ap₂ (λ t n. leaf_offset (member_shapes (shape_of d t)) n) is_ty is_k))
-      (subst (λ x. Made (op.MemberAddress x (leaf_offset (member_shapes (shape_of d has.inner)) has.place) to)) (sym (operand_address m f i v has.address [] address has.operands at is_address))
+      (subst (λ x. Made (op.MemberAddress x (leaf_offset (member_shapes (shape_of d has.inner)) has.place) to))
+          (sym (operand_address m f i v has.address [] address has.operands at is_address))
       (subst (λ x. Made (op.MemberAddress (local_address d f has.address) (leaf_offset (member_shapes (shape_of d has.inner)) has.place) x))
       (sym (result_address m f i r has.result to has.results gives is_to))
       (made.member_address has.address has.result (shape_of d has.inner) has.place h.does has.operands has.results has.form has.number)))
 
-  pub field_address_made : (h : Row row.AddressesField) → (v r : ValueId) (k : ℕ) (operand : Local) (to : LocalAddress) → k ≡ h.has.place → slice_get (operands_of i) 0 ≡ Some v
+  pub field_address_made : (h : Row row.AddressesField) → (v r : ValueId) (k : ℕ) (operand : Local) (to : LocalAddress)
+      → k ≡ h.has.place → slice_get (operands_of i) 0 ≡ Some v
       → slice_get i.results 0 ≡ Some r → operand ≡ local d f v → to ≡ local_address d f r → Made (op.FieldAddress operand k to)
   field_address_made h v r k operand to is_k at gives is_operand is_to =
       let has = h.has in

@@ -2,7 +2,7 @@
 use Rattle.std.proofs.Common.{◌≡◌, ℕ, ◌+◌, ◌<◌, ◌≤◌, List, [], ◌∷◌, ◌++◌, length, take, get_or, refl, sym, subst}
 use Rattle.std.proofs.lemmas.List.{take_all}
 use Rattle.ready_code.specs.Matched.{Matched, none, both}
-use Rattle.make_ready.proofs.Lists.{further}
+use Rattle.frame_layouts.proofs.Lists.{further}
 
 module _ {A B : Type 0} (match_ : A → B → Type 0) where
   matched_more : (xs : List A) (ys : List B) (x : A) (y : B) → Matched match_ xs ys → match_ x y → Matched match_ (xs ++ x ∷ []) (ys ++ y ∷ [])

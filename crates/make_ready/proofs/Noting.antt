@@ -1,5 +1,6 @@
 -- The first edge of each case, noted edge by edge.
-use Rattle.std.proofs.Common.{◌≡◌, ℕ, zero, suc, ◌+◌, ◌<◌, ◌≤◌, List, [], ◌∷◌, ◌++◌, length, take, set, get_or, refl, sym, ap, ap₂, ◌∙◌, subst, arith, Bool, true, false, Option, Some, None, eqb, inl, inr}
+use Rattle.std.proofs.Common.{◌≡◌, ℕ, zero, suc, ◌+◌, ◌<◌, ◌≤◌, List, [], ◌∷◌, ◌++◌, length, take, set, get_or, refl, sym, ap, ap₂, ◌∙◌, subst, arith}
+use Rattle.std.proofs.Common.{Bool, true, false, Option, Some, None, eqb, inl, inr}
 use Rattle.std.specs.Prelude.{◌==◌, ◌⊎◌, cond, is_some, option_map, position, slice_get, replicate}
 use Rattle.std.specs.List.{position_from}
 use Rattle.std.specs.Option.{option_or}
@@ -59,16 +60,20 @@ noted_at cs p e k c at = by (eqb_tells k p)
 
 -- the first that passes, among one more
 
-first_more : {A : Type 0} (test : A → Bool) (i : ℕ) (xs : List A) (x : A) → position_from test i (xs ++ x ∷ []) ≡ option_or (position_from test i xs) (cond (test x) (Some (i + length xs)) None)
+first_more : {A : Type 0} (test : A → Bool) (i : ℕ) (xs : List A) (x : A)
+    → position_from test i (xs ++ x ∷ []) ≡ option_or (position_from test i xs) (cond (test x) (Some (i + length xs)) None)
 first_more test i [] x = let e : i ≡ i + 0 = omega arith in ap (λ n. cond (test x) (Some n) None) e
 first_more test i (y ∷ xs) x = at (test y) (first_more test (i + 1) xs x)
   where
     at : (b : Bool) → position_from test (i + 1) (xs ++ x ∷ []) ≡ option_or (position_from test (i + 1) xs) (cond (test x) (Some ((i + 1) + length xs)) None)
-        → cond b (Some i) (position_from test (i + 1) (xs ++ x ∷ [])) ≡ option_or (cond b (Some i) (position_from test (i + 1) xs)) (cond (test x) (Some (i + suc (length xs))) None)
+        → cond b (Some i) (position_from test (i + 1) (xs ++ x ∷ [])) ≡ option_or (cond b (Some i) (position_from test (i + 1) xs))
+            (cond (test x) (Some (i + suc (length xs))) None)
     at true h = refl
-    at false h = let e : (i + 1) + length xs ≡ i + suc (length xs) = omega arith in h ∙ ap (λ n. option_or (position_from test (i + 1) xs) (cond (test x) (Some n) None)) e
+    at false h = let e : (i + 1) + length xs ≡ i + suc (length xs) = omega arith in h
+        ∙ ap (λ n. option_or (position_from test (i + 1) xs) (cond (test x) (Some n) None)) e
 
-position_more : {A : Type 0} (test : A → Bool) (xs : List A) (x : A) → position test (xs ++ x ∷ []) ≡ option_or (position test xs) (cond (test x) (Some (length xs)) None)
+position_more : {A : Type 0} (test : A → Bool) (xs : List A) (x : A)
+    → position test (xs ++ x ∷ []) ≡ option_or (position test xs) (cond (test x) (Some (length xs)) None)
 position_more test xs x =
     position_from-zero test (xs ++ x ∷ []) ∙ first_more test 0 xs x
     ∙ ap₂ (λ o n. option_or o (cond (test x) (Some n) None)) (sym (position_from-zero test xs)) (let e : 0 + length xs ≡ length xs = omega arith in e)
@@ -92,11 +97,13 @@ module _ (s : Shape) (edges : List Edge) (count : ℕ) where
       each (suc n) zero lt = refl
       each (suc n) (suc k) lt = each n k (omega arith)
 
-  module _ (j : ℕ) (e : Edge) (more : take (j + 1) edges ≡ take j edges ++ e ∷ []) (inside : j < length edges) (chosen : List (Option ℕ)) (by : By j chosen) where
+  module _ (j : ℕ) (e : Edge) (more : take (j + 1) edges ≡ take j edges ++ e ∷ []) (inside : j < length edges)
+      (chosen : List (Option ℕ)) (by : By j chosen) where
     long : length (take j edges) ≡ j
     long = length-take-le j edges (omega arith)
 
-    further : (k : ℕ) (o : Option ℕ) → case_place s e.case_of ≡ o → position (is_for s k) (take (j + 1) edges) ≡ option_or (position (is_for s k) (take j edges)) (cond (is_at k o) (Some j) None)
+    further : (k : ℕ) (o : Option ℕ) → case_place s e.case_of ≡ o
+        → position (is_for s k) (take (j + 1) edges) ≡ option_or (position (is_for s k) (take j edges)) (cond (is_at k o) (Some j) None)
     further k o is =
         ap (position (is_for s k)) more ∙ position_more (is_for s k) (take j edges) e
         ∙ ap₂ (λ x n. option_or (position (is_for s k) (take j edges)) (cond (is_at k x) (Some n) None)) is long

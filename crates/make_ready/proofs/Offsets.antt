@@ -27,10 +27,10 @@ use Rattle.run_typing_laws.proofs.Opened.{fold-Address, fold-Int, fold-Named, fo
 use Rattle.run_typing_laws.proofs.Rows.Finding.{found_behind}
 use Rattle.run_typing_laws.proofs.Rows.Layers.{is_int, is_named, is_optional, is_unowned, is_weak, named_type, tuple_type}
 use Rattle.run_typing_laws.proofs.ShapeFacts.{field_shape_of, struct_shape, tuple_shape}
-use Rattle.make_ready.specs.inner.Sized.{HasSize}
-use Rattle.make_ready.proofs.FieldsFit.{FieldFits, elements_fit, fields_fit}
-use Rattle.make_ready.proofs.Fitting.{Fits, has_size}
-use Rattle.make_ready.proofs.Targets.{is_address}
+use Rattle.frame_layouts.specs.inner.Sized.{HasSize}
+use Rattle.frame_layouts.proofs.FieldsFit.{FieldFits, elements_fit, fields_fit}
+use Rattle.frame_layouts.proofs.Fitting.{Fits, has_size}
+use Rattle.frame_layouts.proofs.Targets.{is_address}
 
 listed_members : (ss : List Shape) → listed (members_of ss) ≡ ss
 listed_members [] = refl
@@ -70,24 +70,28 @@ module _ (m : Module) (r : IsRunnable m) where
         ∙ ap (λ ys. sum (map size_of ys)) (sym (take-map shape k xs))
         ∙ ap (λ ys. leaf_offset ys k) (sym is)
 
-    within_by : (total : ℕ) (xs front : List A) (k : ℕ) → Each MemberFits xs → total ≡ sum (map size_of (map (λ x. shape_of d (type_in x)) xs)) → total ≤ LEAVES → front ≡ take k xs
+    within_by : (total : ℕ) (xs front : List A) (k : ℕ) → Each MemberFits xs → total ≡ sum (map size_of (map (λ x. shape_of d (type_in x)) xs))
+        → total ≤ LEAVES → front ≡ take k xs
         → sum (map (leaves_of d) (map type_in front)) ≤ LEAVES
     within_by total xs front k h all le e =
         let same : sum (map (leaves_of d) (map type_in xs)) ≡ total = sym (all ∙ ap sum (measured_each xs h)) in
         let own : sum (map (leaves_of d) (map type_in front)) ≡ sum (take k (map (leaves_of d) (map type_in xs))) =
-        ap (λ ys. sum (map (leaves_of d) (map type_in ys))) e ∙ ap (λ ys. sum (map (leaves_of d) ys)) (sym (take-map type_in k xs)) ∙ ap sum (sym (take-map (leaves_of d) k (map type_in xs))) in
+        ap (λ ys. sum (map (leaves_of d) (map type_in ys))) e ∙ ap (λ ys. sum (map (leaves_of d) ys)) (sym (take-map type_in k xs))
+            ∙ ap sum (sym (take-map (leaves_of d) k (map type_in xs))) in
         let front_le = front_within (map (leaves_of d) (map type_in xs)) k (omega arith) in
         omega arith
 
   -- structs
 
-  struct_is : (t : TypeName) (fields : List Field) → fields_of_struct d t ≡ Some fields → (n : Name) × (shape_of d t ≡ shapes.Struct n (members_of (map (field_shape_of m) fields)))
+  struct_is : (t : TypeName) (fields : List Field) → fields_of_struct d t ≡ Some fields
+      → (n : Name) × (shape_of d t ≡ shapes.Struct n (members_of (map (field_shape_of m) fields)))
   struct_is t fields e =
       let found = found_behind struct_fields (decl_of_type d t) fields e in
       let named = found_behind (decl_of d) (name_in (out-TypeName t)) found.0 found.1 in
       at found.0 found.2 named.0 (named_type t named.0 named.1) named.2
     where
-      at : (x : Decl) → struct_fields x ≡ Some fields → (name : Name) → t ≡ type.Named name → decl_of d name ≡ Some x → (n : Name) × (shape_of d t ≡ shapes.Struct n (members_of (map (field_shape_of m) fields)))
+      at : (x : Decl) → struct_fields x ≡ Some fields → (name : Name) → t ≡ type.Named name → decl_of d name ≡ Some x
+          → (n : Name) × (shape_of d t ≡ shapes.Struct n (members_of (map (field_shape_of m) fields)))
       at (Struct n own) same name is there =
           let own_is : own ≡ fields = cc in
           (n, ap (shape_of d) is ∙ struct_shape m r name n fields (there ∙ ap (λ fs. Some (Struct n fs)) own_is))
@@ -106,7 +110,8 @@ module _ (m : Module) (r : IsRunnable m) where
       → sum (map (leaves_of d) (map field_type front)) ≡ leaf_offset (member_shapes (shape_of d t)) k
   struct_offset t fields front k e is =
       let shape = struct_is t fields e in
-      offset_by field_type (shape_of d t) fields front k (fields_fit m r t fields e) (ap member_shapes shape.1 ∙ listed_members (map (field_shape_of m) fields)) is
+      offset_by field_type (shape_of d t) fields front k (fields_fit m r t fields e) (ap member_shapes shape.1
+          ∙ listed_members (map (field_shape_of m) fields)) is
 
   -- tuples
 
@@ -119,10 +124,13 @@ module _ (m : Module) (r : IsRunnable m) where
   elements_are : (t : TypeName) (ts : List TypeName) → HasSize d t → elements t ≡ Some ts → Each (Fits m) ts
   elements_are t ts size e = elements_fit m ts (subst (Fits m) (tuple_type t ts e) (record { plain = size.plain; within = size.within }))
 
-  pub tuple_within : (t : TypeName) (ts front : List TypeName) (k : ℕ) → HasSize d t → elements t ≡ Some ts → front ≡ take k ts → sum (map (leaves_of d) front) ≤ LEAVES
+  pub tuple_within : (t : TypeName) (ts front : List TypeName) (k : ℕ) → HasSize d t → elements t ≡ Some ts
+      → front ≡ take k ts → sum (map (leaves_of d) front) ≤ LEAVES
   tuple_within t ts front k size e is =
-      let total : leaves_of d t ≡ sum (map size_of (map (shape_of d) ts)) = sym size.measured ∙ ap size_of (tuple_is t ts e) ∙ ap sum (sizes_each (map (shape_of d) ts)) in
-      let own : sum (map (leaves_of d) (map itself front)) ≤ LEAVES = within_by itself (leaves_of d t) ts front k (elements_are t ts size e) total size.within is in
+      let total : leaves_of d t ≡ sum (map size_of (map (shape_of d) ts)) = sym size.measured ∙ ap size_of (tuple_is t ts e)
+          ∙ ap sum (sizes_each (map (shape_of d) ts)) in
+      let own : sum (map (leaves_of d) (map itself front)) ≤ LEAVES =
+          within_by itself (leaves_of d t) ts front k (elements_are t ts size e) total size.within is in
       subst (λ xs. sum (map (leaves_of d) xs) ≤ LEAVES) (map-id front) own
 
   pub tuple_offset : (t : TypeName) (ts front : List TypeName) (k : ℕ) → HasSize d t → elements t ≡ Some ts → front ≡ take k ts
@@ -153,10 +161,12 @@ module _ (d : Declarations) where
   memberless : (t : TypeName) → fields_of_struct d t ≡ None → elements t ≡ None → member_shapes (shape_of d t) ≡ []
   memberless t no_fields no_elements = at (out-TypeName t) refl no_fields no_elements
     where
-      at : (x : TypeName-F TypeName) → out-TypeName t ≡ x → option_and_then struct_fields (option_and_then (decl_of d) (name_in x)) ≡ None → elements_in x ≡ None → member_shapes (shape_of d t) ≡ []
+      at : (x : TypeName-F TypeName) → out-TypeName t ≡ x → option_and_then struct_fields (option_and_then (decl_of d) (name_in x)) ≡ None
+          → elements_in x ≡ None → member_shapes (shape_of d t) ≡ []
       at (TypeName-F.Int w) is f e = ap (λ u. member_shapes (shape_of d u)) (is_int t w is) ∙ ap member_shapes (fold-Int Shape step w)
       at (TypeName-F.Named name) is f e = ap (λ u. member_shapes (shape_of d u)) (is_named t name is) ∙ none_named name f
-      at (TypeName-F.Optional inner) is f e = ap (λ u. member_shapes (shape_of d u)) (is_optional t inner is) ∙ ap member_shapes (fold-Optional Shape step inner)
+      at (TypeName-F.Optional inner) is f e = ap (λ u. member_shapes (shape_of d u)) (is_optional t inner is)
+          ∙ ap member_shapes (fold-Optional Shape step inner)
       at (TypeName-F.Tuple parts) is f e = absurd (cc)
       at (TypeName-F.Weak inner) is f e = ap (λ u. member_shapes (shape_of d u)) (is_weak t inner is) ∙ ap member_shapes (fold-Weak Shape step inner)
       at (TypeName-F.Unowned inner) is f e = ap (λ u. member_shapes (shape_of d u)) (is_unowned t inner is) ∙ ap member_shapes (fold-Unowned Shape step inner)

@@ -30,11 +30,11 @@ use Rattle.run_typing.specs.RowForms.{RowForms, operand_shapes, operation_done, 
 use Rattle.run_typing.specs.Runnable.{IsRunnable}
 use Rattle.run_typing_laws.proofs.Rows.Finding.{mapped_from}
 use Rattle.ready_code.specs.ReadyOps.{operands_of}
+use Rattle.frame_layouts.specs.inner.Sized.{HasSize, HaveSizes}
+use Rattle.frame_layouts.proofs.Targets.{of_address, of_other}
 use Rattle.make_ready.specs.inner.Rows.{HasRow, Parts}
-use Rattle.make_ready.specs.inner.Sized.{HasSize, HaveSizes}
 use Rattle.make_ready.proofs.EnumCases.{case_named, place_in}
 use Rattle.make_ready.proofs.OneByOne.{FirstValue, OneValue, TwoValues, first_value, just_two, one_value, two_values}
-use Rattle.make_ready.proofs.Targets.{of_address, of_other}
 use Rattle.make_ready.proofs.TypedRows.{NewCase, NewObject, Told, WrittenOperand}
 
 -- the rows that load names load, and those that store values store
@@ -70,13 +70,16 @@ module _ (m : Module) (runnable : IsRunnable m) (f : Function) (sizes : HaveSize
       → forms_of d f (operands_of i) ≡ map OfValue (shapes_by s (bits b.width)) → (r : ValueId) → i.results ≡ r ∷ [] → Made
   computed b overflowing e named is r results =
       let w = two_values d f (operands_of i) _ _ _ is in
-      made row.Computes e (record { builtin = b; left = w.left; right = w.right; more = w.more; result = r; named = named; operands = w.all; results = results })
+      made row.Computes e (record { builtin = b; left = w.left; right = w.right; more = w.more; result = r;
+          named = named; operands = w.all; results = results })
   computed b comparing e named is r results =
       let w = two_values d f (operands_of i) _ _ _ is in
-      made row.Computes e (record { builtin = b; left = w.left; right = w.right; more = w.more; result = r; named = named; operands = w.all; results = results })
+      made row.Computes e (record { builtin = b; left = w.left; right = w.right; more = w.more; result = r;
+          named = named; operands = w.all; results = results })
   computed b combining e named is r results =
       let w = two_values d f (operands_of i) _ _ _ is in
-      made row.Computes e (record { builtin = b; left = w.left; right = w.right; more = w.more; result = r; named = named; operands = w.all; results = results })
+      made row.Computes e (record { builtin = b; left = w.left; right = w.right; more = w.more; result = r;
+          named = named; operands = w.all; results = results })
 
   object : effect_of i.op ≡ row.MakesObject → NewObject m f i → Made
   object e new =
@@ -98,13 +101,15 @@ module _ (m : Module) (runnable : IsRunnable m) (f : Function) (sizes : HaveSize
       at (o ∷ []) e = omega arith
       at (o ∷ p ∷ os) e = absurd (cc)
 
-  chosen : (s : Shape) (k : ℕ) → effect_of i.op ≡ row.ChoosesCase → length i.operands ≤ 1 → forms_of d f i.results ≡ OfValue s ∷ [] → case_place s i.member ≡ Some k → NewCase m f i → Made
+  chosen : (s : Shape) (k : ℕ) → effect_of i.op ≡ row.ChoosesCase → length i.operands ≤ 1
+      → forms_of d f i.results ≡ OfValue s ∷ [] → case_place s i.member ≡ Some k → NewCase m f i → Made
   chosen s k e few so place new =
       let r = one_value d f i.results _ new.form in
       let same : OfValue s ≡ OfValue (shape_of d new.ty) = (let both : OfValue s ∷ [] ≡ OfValue (shape_of d new.ty) ∷ [] = sym so ∙ new.form in cc) in
       let shape : s ≡ shape_of d new.ty = cc in
       let at : case_place (shape_of d new.ty) i.member ≡ Some k = subst (λ x. case_place x i.member ≡ Some k) shape place in
-      let found = mapped_from place_in (payload_of d new.ty new.named.name) k (case_named m runnable new.ty new.kind new.named ∙ ap (case_place (shape_of d new.ty)) (sym new.member) ∙ at) in
+      let found = mapped_from place_in (payload_of d new.ty new.named.name) k
+          (case_named m runnable new.ty new.kind new.named ∙ ap (case_place (shape_of d new.ty)) (sym new.member) ∙ at) in
       made row.ChoosesCase e (record {
         result = r.value;
         ty = new.ty;
@@ -120,7 +125,8 @@ module _ (m : Module) (runnable : IsRunnable m) (f : Function) (sizes : HaveSize
       })
 
   -- the form of the one operand, by its type
-  operand_form : (w : WrittenOperand m f i) (x : Form) → forms_of d f (operands_of i) ≡ x ∷ [] → (form_of d f w.operand ≡ x) × (form_with d w.ty (target w.ty) ≡ x)
+  operand_form : (w : WrittenOperand m f i) (x : Form) → forms_of d f (operands_of i) ≡ x ∷ []
+      → (form_of d f w.operand ≡ x) × (form_with d w.ty (target w.ty) ≡ x)
   operand_form w x is =
       let own : form_of d f w.operand ∷ [] ≡ x ∷ [] = ap (forms_of d f) (sym w.only) ∙ is in
       let form : form_of d f w.operand ≡ x = cc in
@@ -174,7 +180,8 @@ module _ (m : Module) (runnable : IsRunnable m) (f : Function) (sizes : HaveSize
         size = subst (HasSize d) (of_address w.ty shape.0 shape.1) (sizes w.operand.0 w.ty w.typed);
       })
 
-  field_address : (k : ℕ) → effect_of i.op ≡ row.AddressesField → part_number d i ≡ Some k → {of to : Form} → forms_of d f (operands_of i) ≡ of ∷ [] → forms_of d f i.results ≡ to ∷ []
+  field_address : (k : ℕ) → effect_of i.op ≡ row.AddressesField → part_number d i ≡ Some k → {of to : Form}
+      → forms_of d f (operands_of i) ≡ of ∷ [] → forms_of d f i.results ≡ to ∷ []
       → detail_of i.op ≡ detail.Field → Made
   field_address k e number is so named =
       let v = one_value d f (operands_of i) _ is in
@@ -190,22 +197,28 @@ module _ (m : Module) (runnable : IsRunnable m) (f : Function) (sizes : HaveSize
       })
 
   pub parts : (xs ys : List Form) → RowForms m i xs ys → forms_of d f (operands_of i) ≡ xs → forms_of d f i.results ≡ ys → Told m f i (effect_of i.op) → Made
-  parts xs ys (typed.looks form e) is so more = let v = one_value d f (operands_of i) form is in made row.NoEffect e (record { operand = v.value; operands = v.only })
+  parts xs ys (typed.looks form e) is so more = let v = one_value d f (operands_of i) form is in
+      made row.NoEffect e (record { operand = v.value; operands = v.only })
   parts xs ys (typed.literal n w e number fits) is so more =
       let r = one_value d f i.results _ so in made row.GivesLiteral e (record { number = n; result = r.value; written = number; results = r.only })
-  parts xs ys (typed.function g e named) is so more = let r = one_value d f i.results _ so in made row.GivesFunction e (record { result = r.value; results = r.only })
+  parts xs ys (typed.function g e named) is so more = let r = one_value d f i.results _ so in
+      made row.GivesFunction e (record { result = r.value; results = r.only })
   parts xs ys (typed.computes b e named) is so more = let r = one_value d f i.results _ so in computed b (sort_of b.operation) e named is r.value r.only
-  parts xs ys (typed.traps text e named) is so more = let v = one_value d f (operands_of i) _ is in made row.TrapsWhereSet e (record { operand = v.value; operands = v.only })
+  parts xs ys (typed.traps text e named) is so more = let v = one_value d f (operands_of i) _ is in
+      made row.TrapsWhereSet e (record { operand = v.value; operands = v.only })
   parts xs ys (typed.object class e is_class) is so more = object e (subst (Told m f i) e more)
   parts xs ys (typed.slot w s e kept) is so more =
       let r = one_value d f i.results _ so in made row.MakesSlot e (record { result = r.value; shape = s; results = r.only; form = r.form })
-  parts xs ys (typed.removes s e) is so more = let v = one_value d f (operands_of i) _ is in made row.RemovesSlot e (record { operand = v.value; operands = v.only })
+  parts xs ys (typed.removes s e) is so more = let v = one_value d f (operands_of i) _ is in
+      made row.RemovesSlot e (record { operand = v.value; operands = v.only })
   parts xs ys (typed.upcast class above e is_a) is so more =
       let v = one_value d f (operands_of i) _ is in
       let r = one_value d f i.results _ so in
       made row.GivesOperand e (record { operand = v.value; result = r.value; operands = v.only; results = r.only })
-  parts xs ys (typed.retains s e none) is so more = let v = one_value d f (operands_of i) _ is in made row.RetainsOperand e (record { operand = v.value; operands = v.only })
-  parts xs ys (typed.drops s e none) is so more = let v = one_value d f (operands_of i) _ is in made row.DropsOperand e (record { operand = v.value; operands = v.only })
+  parts xs ys (typed.retains s e none) is so more = let v = one_value d f (operands_of i) _ is in
+      made row.RetainsOperand e (record { operand = v.value; operands = v.only })
+  parts xs ys (typed.drops s e none) is so more = let v = one_value d f (operands_of i) _ is in
+      made row.DropsOperand e (record { operand = v.value; operands = v.only })
   parts xs ys (typed.loads s e done none) is so more =
       let v = one_value d f (operands_of i) _ is in
       let r = one_value d f i.results _ so in
@@ -216,12 +229,15 @@ module _ (m : Module) (runnable : IsRunnable m) (f : Function) (sizes : HaveSize
   parts xs ys (typed.loads_name w s o e named done loads) is so more =
       let v = one_value d f (operands_of i) _ is in
       let r = one_value d f i.results _ so in
-      made row.LoadsName e (record { address = v.value; result = r.value; storage = w; shape = s; operands = v.only; results = r.only; form = v.form; operation = loaded e })
+      made row.LoadsName e (record { address = v.value; result = r.value; storage = w; shape = s; operands = v.only;
+          results = r.only; form = v.form; operation = loaded e })
   parts xs ys (typed.stores_name w s o e named done stores) is so more =
       let both = just_two d f (operands_of i) _ _ is in
-      made row.StoresValue e (record { value = both.0.left; address = both.0.right; shape = Stored w s; operands = both.1; form = both.0.form; operation = stored e })
+      made row.StoresValue e (record { value = both.0.left; address = both.0.right; shape = Stored w s;
+          operands = both.1; form = both.0.form; operation = stored e })
   parts xs ys (typed.destroys_name w s e named done) is so more =
-      let v = one_value d f (operands_of i) _ is in made row.DestroysPlace e (record { address = v.value; storage = w; shape = s; operands = v.only; form = v.form })
+      let v = one_value d f (operands_of i) _ is in
+          made row.DestroysPlace e (record { address = v.value; storage = w; shape = s; operands = v.only; form = v.form })
   parts xs ys (typed.groups s ss e group) is so more = let r = one_value d f i.results _ so in made row.Groups e (record { result = r.value; results = r.only })
   parts xs ys (typed.chooses_plain s k c e listed place there none) is so more = chosen s k e (none_given is) so place (subst (Told m f i) e more)
   parts xs ys (typed.chooses_full s payload k c e listed place there some) is so more = chosen s k e (one_given is) so place (subst (Told m f i) e more)

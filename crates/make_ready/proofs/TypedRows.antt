@@ -110,7 +110,8 @@ module _ (m : Module) (f : Function) (i : Inst) where
           class = class.0;
           ty = found.0 ∙ ap Some class.1;
           is = class.2;
-          form = gives_form m f i op.AllocRef k refl it.0 (ap gives it.1) ∙ ap (λ x. x ∷ []) (value_form d it.0 (ap target class.1 ∙ target-Named class.0) ∙ ap OfValue class.3);
+          form = gives_form m f i op.AllocRef k refl it.0 (ap gives it.1)
+              ∙ ap (λ x. x ∷ []) (value_form d it.0 (ap target class.1 ∙ target-Named class.0) ∙ ap OfValue class.3);
         }
 
     new_case : Known m f i op.Enum → NewCase

@@ -1,10 +1,7 @@
 pub mod Bodies
 pub mod BuiltinsTold
-pub mod Carried
 pub mod Cases
 pub mod Ends
-pub mod Layouts
 pub mod Names
 pub mod Parts
 pub mod Rows
-pub mod Sized

@@ -2,10 +2,10 @@
 
 ghost use Rattle.std.specs.Prelude.{◌≡◌};
 ghost use Rattle.run_typing.specs.Forms.{form_of};
+ghost use Rattle.frame_layouts.specs.inner.Layouts.{kept_of};
 ghost use Rattle.make_ready.specs.inner.Bodies.{IsBody, declared, local, local_address};
-ghost use Rattle.make_ready.specs.inner.Layouts.{kept_of};
 
-use crate::layout::{Kept, Layout};
+use frame_layouts::{Kept, Layout};
 use ready_code::{Local, LocalAddress};
 use sil_ast::{Function, Module, ValueId};
 use sil_types::TypeTable;
@@ -14,7 +14,7 @@ use sil_types::TypeTable;
 #[derive(Clone, Copy)]
 pub(crate) struct Body<'a> {
     pub table: &'a TypeTable,
-    pub module: &'a Module,
+    pub m: &'a Module,
     pub layouts: &'a [Layout],
     pub function: &'a Function,
     pub layout: &'a Layout,

@@ -8,9 +8,8 @@ ghost use Rattle.sil_ast.specs.declared.function.Function.{Function};
 ghost use Rattle.make_ready.specs.inner.Bodies.{Calls, HasRow, IsBody, IsReadyOp};
 
 use crate::body::Body;
-use crate::carried::{addresses_carried, values_carried};
-use crate::layout::Kept;
 use crate::parts::{first_result, locals_of, operand, values_of};
+use frame_layouts::{Kept, addresses_carried, values_carried};
 use ready_code::ReadyOp;
 use sil_ast::{Exhausted, FuncId, Function, Inst, Operand};
 use std::alloc::Global;
@@ -81,7 +80,7 @@ pub(crate) fn call(alloc: Global, body: &Body<'_>, inst: &Inst) -> Result<ReadyO
 {
     match body.kept(operand(inst, 0)) {
         Kept::Function(function) => {
-            let callee = &body.module.functions.as_slice()[function.0 as usize];
+            let callee = &body.m.functions.as_slice()[function.0 as usize];
             if callee.blocks.is_empty() {
                 call_out(alloc, body, inst, function)
             } else {

@@ -13,7 +13,7 @@ ghost use Rattle.make_ready.specs.inner.Bodies.{IsBody, declared};
 ghost use Rattle.make_ready.specs.inner.Cases.{AreByCase, HaveEdges, noted};
 
 use crate::body::Body;
-use crate::carried::values_carried;
+use frame_layouts::values_carried;
 use ready_code::{ReadyCase, ReadyEdge};
 use sil_ast::{Edge, Exhausted, Inst, List, TypeName};
 use sil_types::shapes::case_count;

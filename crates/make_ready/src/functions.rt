@@ -8,13 +8,13 @@ ghost use Rattle.sil_cfg.specs.declared.item.Item.TheVariants as item;
 ghost use Rattle.type_definitions.specs.Declarations.{declarations_of};
 ghost use Rattle.ready_code.specs.Matched.{Matched};
 ghost use Rattle.ready_code.specs.ReadyModules.{IsReadyBlock, IsReadyFunction, first_local};
+ghost use Rattle.frame_layouts.specs.inner.Layouts.{layout_of};
 ghost use Rattle.make_ready.specs.inner.Bodies.{HasOwnRow, HasRows, IsBody, IsReadyOp, declared};
-ghost use Rattle.make_ready.specs.inner.Layouts.{layout_of};
 
 use crate::body::Body;
 use crate::ends::ready_end;
-use crate::layout::{Kept, Layout};
 use crate::ops::ready_op;
+use frame_layouts::{Kept, Layout};
 use ready_code::{Local, ReadyBlock, ReadyFunction, ReadyOp};
 use sil_ast::{Block, Boxed, Exhausted, Function, Inst, List, Module};
 use sil_types::TypeTable;
@@ -39,7 +39,7 @@ fn ready_ops(
 fn ready_block(alloc: Global, body: &Body<'_>, block: &Block) -> Result<ReadyBlock, Exhausted>
     requires body { IsBody body.now }
     requires rows { HasRows body.now block.now }
-    ensures { IfOk result (IsReadyBlock body.now.module.now body.now.function.now block.now) }
+    ensures { IfOk result (IsReadyBlock body.now.m.now body.now.function.now block.now) }
 {
     let ops = ready_ops(alloc, body, block.insts.as_slice())?;
     Ok(ReadyBlock {
@@ -50,7 +50,7 @@ fn ready_block(alloc: Global, body: &Body<'_>, block: &Block) -> Result<ReadyBlo
 
 fn ready_blocks(alloc: Global, body: &Body<'_>) -> Result<List<ReadyBlock>, Exhausted>
     requires { IsBody body.now }
-    ensures { IfOk result (λ blocks. Matched (IsReadyBlock body.now.module.now body.now.function.now) body.now.function.now.blocks blocks) }
+    ensures { IfOk result (λ blocks. Matched (IsReadyBlock body.now.m.now body.now.function.now) body.now.function.now.blocks blocks) }
 {
     let mut blocks = List::with_capacity(alloc, body.function.blocks.len())?;
     for block in body.function.blocks.as_slice() {
@@ -77,7 +77,7 @@ fn first_argument(body: &Body<'_>) -> Option<Local>
 
 fn ready_function(alloc: Global, body: &Body<'_>) -> Result<ReadyFunction, Exhausted>
     requires { IsBody body.now }
-    ensures { IfOk result (IsReadyFunction body.now.module.now body.now.function.now) }
+    ensures { IfOk result (IsReadyFunction body.now.m.now body.now.function.now) }
 {
     Ok(ReadyFunction {
         values: body.layout.spots.len() as u32,
@@ -104,7 +104,7 @@ pub(crate) fn ready_functions(
     for (number, f) in m.functions.as_slice().iter().enumerate() {
         let body = Body {
             table,
-            module: m,
+            m,
             layouts,
             function: f,
             layout: &layouts[number],

@@ -1,14 +1,17 @@
 //! Where the leaves of a member begin.
 
-ghost use Rattle.std.specs.Prelude.{◌≡◌, take};
+ghost use Rattle.std.specs.Prelude.{◌≡◌, ◌≤◌, map, sum, take};
 ghost use Rattle.run_values.specs.Shapes.{member_shapes, shape_of};
 ghost use Rattle.ready_code.specs.ReadyOps.{leaf_offset};
+ghost use Rattle.sil_rules.specs.declared.limits.TheConstants.{LEAVES};
+ghost use Rattle.sil_types.specs.Typing.Shapes.{field_type};
+ghost use Rattle.type_definitions.specs.Measures.{leaves_of};
+ghost use Rattle.frame_layouts.specs.inner.Sized.{HasSize};
 ghost use Rattle.make_ready.specs.inner.Bodies.{IsBody, declared};
-ghost use Rattle.make_ready.specs.inner.Sized.{HasSize};
 
 use crate::body::Body;
-use crate::sizes::{leaves_of_fields, leaves_of_types};
-use sil_ast::TypeName;
+use sil_ast::{Field, TypeName};
+use sil_types::TypeTable;
 use sil_types::members::fields_of_struct;
 use sil_types::shapes::elements;
 
@@ -17,6 +20,30 @@ fn front<T>(items: &[T], count: usize) -> &[T]
     ensures { result.now ≡ take count items.now }
 {
     items.get(..count).unwrap_or(items)
+}
+
+/// How many leaves some fields have together.
+fn leaves_of_fields(table: &TypeTable, fields: &[Field]) -> u32
+    requires { sum (map (leaves_of table.now) (map field_type fields.now)) ≤ LEAVES }
+    ensures { result ≡ sum (map (leaves_of table.now) (map field_type fields.now)) }
+{
+    let mut leaves = 0;
+    for field in fields {
+        leaves += table.leaves(&field.ty);
+    }
+    leaves
+}
+
+/// How many leaves some types have together.
+fn leaves_of_types(table: &TypeTable, types: &[TypeName]) -> u32
+    requires { sum (map (leaves_of table.now) types.now) ≤ LEAVES }
+    ensures { result ≡ sum (map (leaves_of table.now) types.now) }
+{
+    let mut leaves = 0;
+    for ty in types {
+        leaves += table.leaves(ty);
+    }
+    leaves
 }
 
 /// How many leaves lie before the member at a place of a type.

@@ -7,7 +7,7 @@ ghost use Rattle.ready_code.specs.ReadyModules.{IsReadyModule};
 
 use crate::classes::ready_classes;
 use crate::functions::ready_functions;
-use crate::layouts::layouts_of;
+use frame_layouts::layouts_of;
 use ready_code::ReadyModule;
 use sil_ast::{Exhausted, Module};
 use sil_types::TypeTable;

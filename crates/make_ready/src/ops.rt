@@ -19,11 +19,11 @@ ghost use Rattle.make_ready.specs.inner.BuiltinsTold.{builtin_told};
 use crate::body::Body;
 use crate::builtins::{BuiltinAt, builtin_in};
 use crate::calls::call;
-use crate::layout::Kept;
 use crate::members::leaf_offset;
 use crate::parts::{
     effect_of, field_number, first_result, local_at, locals_of, operand, part_number, value_at,
 };
+use frame_layouts::Kept;
 use holder_model::RowEffect;
 use ready_code::ReadyOp;
 use sil_ast::{Exhausted, Inst, Qualifier, TypeName};

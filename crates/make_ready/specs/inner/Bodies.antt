@@ -19,24 +19,24 @@ use Rattle.ready_code.specs.declared.block.ReadyEnd.{ReadyEnd}
 use Rattle.ready_code.specs.declared.local.Local.{Local}
 use Rattle.ready_code.specs.declared.local.LocalAddress.{LocalAddress}
 use Rattle.ready_code.specs.declared.op.ReadyOp.{ReadyOp}
+use Rattle.frame_layouts.specs.inner.Layouts.{layout_of}
 use Rattle.make_ready.specs.declared.body.Body.{Body}
 use Rattle.make_ready.specs.inner.Ends as end_parts
-use Rattle.make_ready.specs.inner.Layouts.{layout_of}
 use Rattle.make_ready.specs.inner.Parts.{CallsThis}
 use Rattle.make_ready.specs.inner.Rows as rows
 
 -- the module is runnable, the table is the module's, the function is one of it, and the layouts are its functions'
 pub record IsBody (b : Body) : Type 0 where
-  pub runnable : IsRunnable b.module.now
-  pub table : b.table.now ≡ declarations_of b.module.now
-  pub layouts : b.layouts.now ≡ map (layout_of (declarations_of b.module.now)) b.module.now.functions
+  pub runnable : IsRunnable b.m.now
+  pub table : b.table.now ≡ declarations_of b.m.now
+  pub layouts : b.layouts.now ≡ map (layout_of (declarations_of b.m.now)) b.m.now.functions
   pub number : ℕ
-  pub there : slice_get b.module.now.functions number ≡ Some b.function.now
-  pub layout : b.layout.now ≡ layout_of (declarations_of b.module.now) b.function.now
+  pub there : slice_get b.m.now.functions number ≡ Some b.function.now
+  pub layout : b.layout.now ≡ layout_of (declarations_of b.m.now) b.function.now
 
 module _ (b : Body) where
   abbrev pub declared : Declarations
-  declared = declarations_of b.module.now
+  declared = declarations_of b.m.now
 
   abbrev pub local : ValueId → Local
   local v = layout.local declared b.function.now v
@@ -46,7 +46,7 @@ module _ (b : Body) where
 
   -- the instruction's row does this, and it has what such a row has
   abbrev pub HasRow : Inst → RowEffect → Type 0
-  HasRow i effect = rows.HasRow b.module.now b.function.now i effect
+  HasRow i effect = rows.HasRow b.m.now b.function.now i effect
 
   -- the terminator's row ends so, and it has what such a row has
   abbrev pub HasEnd : Inst → Ending → Type 0
@@ -65,10 +65,10 @@ module _ (b : Body) where
 
   -- the instruction calls this function, which is there
   abbrev pub Calls : Inst → FuncId → Function → Type 0
-  Calls i g callee = CallsThis declared b.function.now i b.module.now.functions g callee
+  Calls i g callee = CallsThis declared b.function.now i b.m.now.functions g callee
 
   abbrev pub IsReadyOp : Inst → ReadyOp → Type 0
-  IsReadyOp i op = ops.IsReadyOp b.module.now b.function.now i op
+  IsReadyOp i op = ops.IsReadyOp b.m.now b.function.now i op
 
   abbrev pub IsReadyEnd : Inst → ReadyEnd → Type 0
   IsReadyEnd i end = ends.IsReadyEnd declared b.function.now i end

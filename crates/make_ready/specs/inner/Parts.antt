@@ -22,7 +22,7 @@ use Rattle.sil_types.specs.Typing.Shapes.{target}
 use Rattle.type_definitions.specs.Declarations.{Declarations, is_class}
 use Rattle.type_definitions.specs.Lookups.{Payload, payload_of}
 use Rattle.ready_code.specs.ReadyOps.{operands_of}
-use Rattle.make_ready.specs.inner.Sized.{HasSize}
+use Rattle.frame_layouts.specs.inner.Sized.{HasSize}
 
 pub record TakesOne (i : Inst) : Type 0 where
   pub operand : ValueId

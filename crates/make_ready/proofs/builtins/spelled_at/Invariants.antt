@@ -5,4 +5,5 @@ use Rattle.make_ready.specs.inner.BuiltinsTold.{is_spelled_by}
 use Rattle.make_ready.proofs.builtins.spelled_at.Given as goal
 
 abbrev pub invariant-loop-width : goal.invariant-loop-width
-invariant-loop-width l = find (is_spelled_by l.text) (map (at_width l.operation) l.widths) ≡ find (is_spelled_by l.text) (map (at_width l.operation) (drop l.width-index l.widths))
+invariant-loop-width l = find (is_spelled_by l.text) (map (at_width l.operation) l.widths)
+    ≡ find (is_spelled_by l.text) (map (at_width l.operation) (drop l.width-index l.widths))

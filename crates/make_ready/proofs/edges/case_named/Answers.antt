@@ -12,7 +12,7 @@ use Rattle.make_ready.proofs.edges.case_named.Goals as goal
 pub returns-in-Some-payload : goal.returns-in-Some-payload
 returns-in-Some-payload c =
     let ty = c.args.ty.now in
-    let m = c.args.body.now.module.now in
+    let m = c.args.body.now.m.now in
     let runnable = c.requires.body.runnable in
     ap (option_map place_in) c.in-Some-payload.ensures
     ∙ ap₂ (λ d (n : Member). option_map place_in (payload_of d ty n.name)) c.requires.body.table c.get.ensures
@@ -22,7 +22,7 @@ returns-in-Some-payload c =
 pub returns-in-None-payload : goal.returns-in-None-payload
 returns-in-None-payload c =
     let ty = c.args.ty.now in
-    let m = c.args.body.now.module.now in
+    let m = c.args.body.now.m.now in
     let runnable = c.requires.body.runnable in
     ap (option_map place_in) c.in-None-payload.ensures
     ∙ ap₂ (λ d (n : Member). option_map place_in (payload_of d ty n.name)) c.requires.body.table c.get.ensures

@@ -2,8 +2,8 @@ use Rattle.std.proofs.Common.{◌≡◌, Some, ◌∙◌, sym}
 use Rattle.std.specs.Prelude.{slice_get}
 use Rattle.type_definitions.specs.Declarations.{declarations_of}
 use Rattle.ready_code.specs.ReadyModules.{IsReadyFunction}
-use Rattle.make_ready.specs.inner.Layouts.{layout_of}
-use Rattle.make_ready.proofs.Lists.{item_at, mapped_at}
+use Rattle.frame_layouts.specs.inner.Layouts.{layout_of}
+use Rattle.frame_layouts.proofs.Lists.{item_at, mapped_at}
 use Rattle.make_ready.proofs.Matching.{matched_all, matched_further, matched_none}
 use Rattle.make_ready.proofs.functions.ready_functions.Goals as goal
 
@@ -22,10 +22,13 @@ ready_function-requires c =
       layouts = c.requires.laid;
       number = n;
       there = at;
-      layout = c.index-layouts-number.is ∙ mapped_at (layout_of (declarations_of m)) m.functions c.args.layouts.now n f c.index-layouts-number.result c.requires.laid at;
+      layout = c.index-layouts-number.is ∙ mapped_at
+          (layout_of (declarations_of m)) m.functions c.args.layouts.now n f c.index-layouts-number.result c.requires.laid at;
     }
 
 pub loop-number-preserved : goal.loop-number-preserved
 loop-number-preserved c =
-    matched_further (IsReadyFunction c.args.m.now) c.args.m.now.functions c.as_slice-f-items.result.now c.loop-number.number c.f-item.result c.loop-number.functions c.push.new.self
-    c.in_ok-ready_function.field-0 c.as_slice-f-items.ensures c.loop-number-test.true c.f-item.is c.loop-number.invariant c.in_ok-push.ensures.ok c.in_ok-ready_function.ensures
+    matched_further (IsReadyFunction c.args.m.now) c.args.m.now.functions c.as_slice-f-items.result.now
+        c.loop-number.number c.f-item.result c.loop-number.functions c.push.new.self
+    c.in_ok-ready_function.field-0 c.as_slice-f-items.ensures c.loop-number-test.true c.f-item.is c.loop-number.invariant
+        c.in_ok-push.ensures.ok c.in_ok-ready_function.ensures

@@ -1,6 +1,6 @@
 use Rattle.std.proofs.Common.{◌∙◌}
+use Rattle.frame_layouts.proofs.Spots.{local_told}
 use Rattle.make_ready.specs.inner.Bodies.{declared}
-use Rattle.make_ready.proofs.Spots.{local_told}
 use Rattle.make_ready.proofs.body.Body.local.Goals as goal
 
 pub returns : goal.returns
