@@ -53,7 +53,6 @@ ends one os args k so_far whole le told =
     sym (append-nil so_far) ∙ sym (ap (λ xs. so_far ++ between one xs (drop k args)) (drop_all k os le)) ∙ told
 
 module _ (d : Declarations) (f g : Function) (from to : Layout) (is_from : from ≡ layout_of d f) (is_to : to ≡ layout_of d g) where
-
   values_by : (x : Form) (c : Carry) → option_to_list (where_leaves (kept_of x) c) ≡ value_carried d f g x c
   values_by (OfValue s) c = refl
   values_by (OfPlace s) c = refl
@@ -78,7 +77,7 @@ module _ (d : Declarations) (f g : Function) (from to : Layout) (is_from : from 
   values_meant (o ∷ os) (a ∷ args) =
       ap₂ (λ xs ys. xs ++ ys)
       (ap₂ (λ k c. option_to_list (where_leaves k c)) (kept_told d f from is_from o.value)
-          (ap₂ carried (local_told d f from is_from o.value) (local_told d g to is_to a.value))
+      (ap₂ carried (local_told d f from is_from o.value) (local_told d g to is_to a.value))
       ∙ values_by (form_of d f o.value) (carry d f g o.value a.value))
       (values_meant os args)
 
@@ -89,6 +88,6 @@ module _ (d : Declarations) (f g : Function) (from to : Layout) (is_from : from 
   addresses_meant (o ∷ os) (a ∷ args) =
       ap₂ (λ xs ys. xs ++ ys)
       (ap₂ (λ k c. option_to_list (where_address k c)) (kept_told d f from is_from o.value)
-          (ap₂ handed (address_told d f from is_from o.value) (address_told d g to is_to a.value))
+      (ap₂ handed (address_told d f from is_from o.value) (address_told d g to is_to a.value))
       ∙ addresses_by (form_of d f o.value) (carry_address d f g o.value a.value))
       (addresses_meant os args)

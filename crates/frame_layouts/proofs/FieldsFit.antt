@@ -59,8 +59,10 @@ module _ (m : Module) where
   weak_fits t plain = record { plain = fold-Weak Bool has_no_address_over t ∙ plain; within = (let e = leaves-Weak (declarations_of m) t in omega arith) }
 
   pub unowned_fits : (t : TypeName) → has_no_address t ≡ true → Fits m (type.Unowned t)
-  unowned_fits t plain = record { plain = fold-Unowned Bool has_no_address_over t ∙ plain;
-      within = (let e = leaves-Unowned (declarations_of m) t in omega arith) }
+  unowned_fits t plain = record {
+    plain = fold-Unowned Bool has_no_address_over t ∙ plain;
+    within = (let e = leaves-Unowned (declarations_of m) t in omega arith);
+  }
 
   elements_fit_by : (ts : List TypeName) → list_all (λ b. b) (map has_no_address ts) ≡ true
       → sum (map (leaves_of (declarations_of m)) ts) ≤ LEAVES → Each (Fits m) ts
@@ -104,7 +106,7 @@ module _ (m : Module) where
         each_append DeclFits (swift_structs m.imports.swift) m.decls (swift_fit m.imports.swift)
         (each_from DeclFits m.decls (λ k x is. decl_fits x (each_at HasDeclTypes m.decls k x r.numbered.types.declarations is)
         (or_parts (overfull m (mention Unwritten (type.Named (decl_name x)))) (list_any (overfull m) (in_members x))
-            (none_in_any (overfull m) in_decl m.decls k x (in_decls m r) is)).1))
+        (none_in_any (overfull m) in_decl m.decls k x (in_decls m r) is)).1))
 
     found_fits : (name : Name) (x : Option Decl) → decl_of (declarations_of m) name ≡ x → Each FieldFits (decl_fields x)
     found_fits name None e = tt
@@ -119,7 +121,7 @@ module _ (m : Module) where
         let d = declarations_of m in
         let it = mapped_from found_field (field_of d named.owner named.name) f e in
         at (length (inherited_fields d named.owner)) (own_fields d named.owner) (own_fit named.owner)
-            (place_of (map field_name (own_fields d named.owner)) named.name) it.0 it.1 it.2
+        (place_of (map field_name (own_fields d named.owner)) named.name) it.0 it.1 it.2
       where
         at : (before : ℕ) (fields : List Field) → Each FieldFits fields → (place : Option ℕ) (found : FoundField)
             → field_at_place before fields place ≡ Some found → found.field ≡ f → FieldFits f

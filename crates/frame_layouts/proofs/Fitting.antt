@@ -112,7 +112,7 @@ module _ (m : Module) where
             none_in_both overfull (map in_arg b.args) (flat_map in_inst (insts_of b))
             (none_in_any overfull in_block f.blocks k b
             (none_in_both overfull (in_signature f.signature) (flat_map in_block f.blocks)
-                (none_in_any overfull in_function m.functions n f mentioned.1 there)).1 is_block)
+            (none_in_any overfull in_function m.functions n f mentioned.1 there)).1 is_block)
 
         block_types : HasBlockTypes b
         block_types = each_at HasBlockTypes f.blocks k b types.blocks is_block
@@ -181,9 +181,9 @@ module _ (m : Module) where
           given_within : (s : Signature) → i.signature ≡ Some s → leaves_of (declarations_of m) (given_type s) ≤ LEAVES
           given_within s e =
               let own : list_any overfull (in_signature s ++ []) ≡ false =
-                  subst (λ o. list_any overfull (flat_map in_signature (option_to_list o)) ≡ false) e before_signature.1 in
+              subst (λ o. list_any overfull (flat_map in_signature (option_to_list o)) ≡ false) e before_signature.1 in
               let last = none_in_both overfull (map in_param s.params ++ map in_result s.results)
-                  (mention Unwritten (given_type s) ∷ []) (none_in_both overfull (in_signature s) [] own).0 in
+              (mention Unwritten (given_type s) ∷ []) (none_in_both overfull (in_signature s) [] own).0 in
               not_overfull Unwritten (given_type s) (or_parts (overfull (mention Unwritten (given_type s))) false last.1).0
 
           pub signature_fits : (s : Signature) → i.signature ≡ Some s → Fits m (given_type s)

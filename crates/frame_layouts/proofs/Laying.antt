@@ -49,10 +49,10 @@ module _ (d : Declarations) (types : List (Option TypeName)) (functions : List (
   one_more n =
       let x = form_at d types functions n in
       ap₂ (λ a b. made (map (spot_at d types functions) (range_with_len 0 n) ++ spot_at d types functions n ∷ [])
-          (leaves_to d types functions n + a) (addresses_to d types functions n + b))
+      (leaves_to d types functions n + a) (addresses_to d types functions n + b))
       (leaves_of_kept x) (addresses_of_kept x)
       ∙ ap (λ s. made s (leaves_to d types functions n + leaves_in x) (addresses_to d types functions n + addresses_in x))
-          (sym (map-range_with_len_more (spot_at d types functions) 0 n n (omega arith)))
+      (sym (map-range_with_len_more (spot_at d types functions) 0 n n (omega arith)))
       ∙ ap₂ (λ a b. made (map (spot_at d types functions) (range_with_len 0 (n + 1))) a b)
       (sym (sum_to (λ k. leaves_in (form_at d types functions k)) n)) (sym (sum_to (λ k. addresses_in (form_at d types functions k)) n))
 

@@ -171,7 +171,7 @@ module _ (m : Module) (r : IsRunnable m) (n : ℕ) (f : Function) (there : slice
       let fits : Fits m (type.Unowned x) = subst (Fits m) is (target_fits 0 t it.0 e it.1) in
       let placed = subst (λ y. is_misplaced_in_storage (declarations_of m) y ≡ false) is (placed_at 0 t it.0 e it.1) in
       by_size storage.Unowned x (sym (fold-Unowned Bool has_no_address_over x) ∙ fits.plain)
-          (unowned_is_named m r x (in_unowned_storage (declarations_of m) x placed))
+      (unowned_is_named m r x (in_unowned_storage (declarations_of m) x placed))
 
   element_fits : (t x : TypeName) → Fits m t → element_of i.number t ≡ Some x → Fits m x
   element_fits t x fits e =
@@ -223,7 +223,7 @@ module _ (m : Module) (r : IsRunnable m) (n : ℕ) (f : Function) (there : slice
       let own = flat_map operand_types i.operands in
       let mentioned : list_any (overfull m) (mention Unwritten (together own) ∷ []) ≡ false =
       subst (λ o. list_any (overfull m) (if makes_tuple o then mention Unwritten (together own) ∷ [] else []) ≡ false) is
-          (tuple_within m r n f there k b is_block j i is_inst) in
+      (tuple_within m r n f there k b is_block j i is_inst) in
       let same : together own ≡ type.Tuple ts = ap together (objects_themselves i.operands both.1) ∙ together_itself ts both.0 in
       record {
         plain = tuple_plain ts (written_plain i.operands operands_fit both.1);
@@ -273,7 +273,7 @@ module _ (m : Module) (r : IsRunnable m) (n : ℕ) (f : Function) (there : slice
   row_fits op.AllocStack is ts e =
       of_gives m (option_map address_of i.ty) ts
       (λ t at. let it = mapped_from address_of i.ty t at in
-          subst (ValueFits m) it.2 (address_fits m it.0 (type_fits m r n f there k b is_block j i is_inst it.0 it.1))) e
+      subst (ValueFits m) it.2 (address_fits m it.0 (type_fits m r n f there k b is_block j i is_inst it.0 it.1))) e
   row_fits op.CopyValue is ts e = of_gives m (where_it (is_nontrivial d) (written 0 i)) ts (where_written (is_nontrivial d)) e
   row_fits op.MoveValue is ts e = of_gives m (where_it is_object (written 0 i)) ts (where_written is_object) e
   row_fits op.BeginBorrow is ts e = of_gives m (where_it (is_nontrivial d) (written 0 i)) ts (where_written (is_nontrivial d)) e
@@ -304,7 +304,7 @@ module _ (m : Module) (r : IsRunnable m) (n : ℕ) (f : Function) (there : slice
       fits_each m ts (elements_fit m ts (subst (Fits m) (target_of-Tuple ts) (subst (ValueFits m) own (written_fits 0 it.0 it.1))))
   row_fits op.StructElementAddr is ts e =
       of_member m (struct_field d) address_of_field i (option_and_then target (written 0 i)) ts
-          (λ named t fl at. address_fits m fl.ty (struct_field_fits m r named t fl at)) e
+      (λ named t fl at. address_fits m fl.ty (struct_field_fits m r named t fl at)) e
   row_fits op.TupleElementAddr is ts e =
       of_gives m (option_map address_of (option_and_then (element_of i.number) (option_and_then target (written 0 i)))) ts
       (λ t at. let it = mapped_from address_of (option_and_then (element_of i.number) (option_and_then target (written 0 i))) t at in

@@ -33,7 +33,7 @@ use Rattle.frame_layouts.proofs.Laying.{leaves_of_kept, sum_to}
 types_counted : (d : Declarations) (f : Function) → length (value_types d f) ≡ value_count f
 types_counted d f =
     rows_count arg_types (result_types d) (λ n xs. length-map xs arg_has)
-        (λ i. length-map-range_with_len (slice_get (made_types d i)) 0 (length i.results)) 0 f.blocks
+    (λ i. length-map-range_with_len (slice_get (made_types d i)) 0 (length i.results)) 0 f.blocks
     ∙ sym (values_counted f)
 
 module _ (d : Declarations) (types : List (Option TypeName)) (functions : List (Option FuncId)) (count : ℕ)
@@ -91,7 +91,7 @@ module _ (d : Declarations) (types : List (Option TypeName)) (functions : List (
           let e : count + (n - count) ≡ n = omega arith in
           let leaves : leaves_to d types functions count ≡ leaves_to d types functions n = sym (leaves_past (n - count)) ∙ ap (leaves_to d types functions) e in
           let addresses : addresses_to d types functions count ≡ addresses_to d types functions n =
-              sym (addresses_past (n - count)) ∙ ap (addresses_to d types functions) e in
+          sym (addresses_past (n - count)) ∙ ap (addresses_to d types functions) e in
           ap (λ o. unwrap_or o behind) (slice_get_past spots n (let e = long in omega arith))
           ∙ ap₂ (λ x y. made x y kept.Nothing) leaves addresses
           ∙ ap (made (leaves_to d types functions n) (addresses_to d types functions n)) (sym (ap kept_of (nothing n le)))
@@ -107,7 +107,7 @@ module _ (d : Declarations) (f : Function) (l : Layout) (is : l ≡ layout_of d 
   local_told =
       ap (λ (s : Spot). let x : Local = record { value = v; at = s.at; size = leaves_kept s.kept } in x) told
       ∙ ap (λ n. let x : Local = record { value = v; at = leaves_to d (value_types d f) (value_functions f) v.0; size = n } in x)
-          (leaves_of_kept (form_of d f v))
+      (leaves_of_kept (form_of d f v))
 
   pub address_told : address_in l v ≡ local_address d f v
   address_told = ap (λ (s : Spot). let x : LocalAddress = record { value = v; at = s.address_at } in x) told

@@ -48,7 +48,7 @@ module _ (m : Module) where
   insts_told [] h = tt
   insts_told (i ∷ is) h =
       each_append RowFits (result_types (declarations_of m) i) (flat_map (result_types (declarations_of m)) is)
-          (h 0 i refl) (insts_told is (λ j x e. h (suc j) x e))
+      (h 0 i refl) (insts_told is (λ j x e. h (suc j) x e))
 
   rows_told : (k : ℕ) (bs : List Block) → ((j : ℕ) (b : Block) → slice_get bs j ≡ Some b → (q : ℕ)
       → Each RowFits (block_rows arg_types (result_types (declarations_of m)) q b))
@@ -56,14 +56,14 @@ module _ (m : Module) where
   rows_told k [] h = tt
   rows_told k (b ∷ bs) h =
       each_append RowFits (block_rows arg_types (result_types (declarations_of m)) k b)
-          (rows_from arg_types (result_types (declarations_of m)) (k + 1) bs) (h 0 b refl k)
+      (rows_from arg_types (result_types (declarations_of m)) (k + 1) bs) (h 0 b refl k)
       (rows_told (k + 1) bs (λ j x e q. h (suc j) x e q))
 
   module _ (r : IsRunnable m) (n : ℕ) (f : Function) (there : slice_get m.functions n ≡ Some f) where
     block_told : (k : ℕ) (b : Block) → slice_get f.blocks k ≡ Some b → (q : ℕ) → Each RowFits (block_rows arg_types (result_types (declarations_of m)) q b)
     block_told k b is_block q =
         each_append RowFits (arg_types q b.args) (flat_map (result_types (declarations_of m)) (insts_of b))
-            (args_told b.args (args_fit m r n f there k b is_block))
+        (args_told b.args (args_fit m r n f there k b is_block))
         (insts_told (insts_of b) (λ j i is_inst.
         let given = made (row_types (declarations_of m) i) (row_fits m r n f there k b is_block j i is_inst i.op refl) in
         picked (unwrap_or (row_types (declarations_of m) i) []) given (range_with_len 0 (length i.results))))

@@ -68,11 +68,7 @@ fn layout_of<'a>(
 }
 
 /// The layouts of all functions of a module.
-pub fn layouts_of(
-    alloc: Global,
-    m: &Module,
-    table: &TypeTable,
-) -> Result<List<Layout>, Exhausted>
+pub fn layouts_of(alloc: Global, m: &Module, table: &TypeTable) -> Result<List<Layout>, Exhausted>
     requires runnable { IsRunnable m.now }
     requires of_it { table.now ≡ declarations_of m.now }
     ensures { IfOk result (λ ls. ls ≡ map (spec.layout_of (declarations_of m.now)) m.now.functions) }

@@ -27,6 +27,6 @@ pub loop-f-preserved : goal.loop-f-preserved
 loop-f-preserved c =
     let f = c.f-item.result in
     mapped_further (layout_of (declarations_of c.args.m.now)) c.args.m.now.functions c.as_slice-f-items.result.now
-        c.loop-f.f-index f c.loop-f.layouts c.push.new.self c.in_ok-layout_of.field-0
+    c.loop-f.f-index f c.loop-f.layouts c.push.new.self c.in_ok-layout_of.field-0
     c.as_slice-f-items.ensures c.loop-f-test.true c.f-item.is c.loop-f.invariant c.in_ok-push.ensures.ok
     (c.in_ok-layout_of.ensures ∙ ap (λ d. layout_of d f) c.requires.of_it)
