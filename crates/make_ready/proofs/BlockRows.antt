@@ -31,4 +31,4 @@ has_rows b is k block there = record {
         let here : inst_at f p ≡ Some i = ap (λ o. inst_in o j) there ∙ at in
         let row = (((runnable_is_typed m is.runnable).functions is.number f is.there).insts p i here).row in
         parts m is.runnable f (value_sizes m is.runnable is.number f is.there) i _ _ row refl refl
-            (row_told m f i is.runnable (known m is.runnable is.number f is.there p i here))
+        (row_told m f i is.runnable (known m is.runnable is.number f is.there p i here))

@@ -25,9 +25,9 @@ module _ (d : Declarations) (f : Function) (s : Shape) (edges : List Edge) where
   pub one_ready : (cases more : List ReadyCase) (k : ℕ) (c : ReadyCase) → AreReadyTo d f s edges k cases
       → more ≡ cases ++ c ∷ [] → IsCase d f s edges k c → AreReadyTo d f s edges (k + 1) more
   one_ready cases more k c so_far is own = subst (AreReadyTo d f s edges (k + 1)) (sym is) (record {
-      all = length-append cases (c ∷ []) ∙ ap (λ n. n + 1) so_far.all;
-      each = each_more cases c IsCaseAt so_far.each (subst (λ n. IsCaseAt n c) (sym so_far.all) own);
-    })
+    all = length-append cases (c ∷ []) ∙ ap (λ n. n + 1) so_far.all;
+    each = each_more cases c IsCaseAt so_far.each (subst (λ n. IsCaseAt n c) (sym so_far.all) own);
+  })
 
   -- the edge that is noted of a case, or the default
   module _ (count : ℕ) (chosen items : List (Option ℕ)) (by : AreByCase s edges count chosen)
@@ -39,7 +39,7 @@ module _ (d : Declarations) (f : Function) (s : Shape) (edges : List Edge) where
         → (own : CaseEdge s edges k) → option_or (get_or items k None) default ≡ Some own.chosen
     taken_is k lt default is own =
         let at : slice_get items k ≡ Some (position (is_for s k) edges) =
-            (let a = ap (λ (xs : List (Option ℕ)). length xs) same ∙ by.all in ap (λ xs. slice_get xs k) same ∙ by.each k (omega arith)) in
+        (let a = ap (λ (xs : List (Option ℕ)). length xs) same ∙ by.all in ap (λ xs. slice_get xs k) same ∙ by.each k (omega arith)) in
         ap₂ option_or (get_or_from_slice_get items k (position (is_for s k) edges) None at) is ∙ own.taken
 
     pub is_taken : (k : ℕ) → k < length items → (default : Option ℕ) → default ≡ position is_default edges → (own : CaseEdge s edges k)
@@ -54,9 +54,13 @@ module _ (d : Declarations) (f : Function) (s : Shape) (edges : List Edge) where
     pub ready_all : (i : Inst) → edges ≡ i.edges → (k : ℕ) → k ≡ length items → (cases : List ReadyCase)
         → AreReadyTo d f s edges k cases → AreReadyCases d f i s cases
     ready_all i is k done cases made = record {
-        all = made.all ∙ done ∙ ap (λ (xs : List (Option ℕ)). length xs) same ∙ by.all ∙ all;
-        each = λ k c at.
-            let own = made.each k c at in
-            (own.own.chosen, own.own.edge, subst (λ es. edge_for s es k ≡ Some own.own.chosen) is own.own.taken,
-                subst (λ es. slice_get es own.own.chosen ≡ Some own.own.edge) is own.own.there, own.made);
-      }
+      all = made.all ∙ done ∙ ap (λ (xs : List (Option ℕ)). length xs) same ∙ by.all ∙ all;
+      each = λ k c at.
+          let own = made.each k c at in (
+            own.own.chosen,
+            own.own.edge,
+            subst (λ es. edge_for s es k ≡ Some own.own.chosen) is own.own.taken,
+            subst (λ es. slice_get es own.own.chosen ≡ Some own.own.edge) is own.own.there,
+            own.made,
+          );
+    }

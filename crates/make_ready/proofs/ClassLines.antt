@@ -26,7 +26,7 @@ module _ (d : Declarations) where
       → names_told items ++ chain d (DEPTH - 0) above ≡ class.now ∷ ancestors_of d class.now
   line_begun items first class above is none next =
       ap (λ xs. names_told xs ++ chain d (DEPTH - 0) above) (is ∙ ap (λ xs. xs ++ class ∷ []) none)
-          ∙ ap (λ cs. class.now ∷ cs) (chain_is d class.now above next)
+      ∙ ap (λ cs. class.now ∷ cs) (chain_is d class.now above next)
 
   pub line_next : (most i : ℕ) → i < most → (items more : List (Bor Name)) (class : Bor Name) (at above : Option Name) (line : List Name)
       → at ≡ Some class.now → more ≡ items ++ class ∷ [] → above ≡ superclass_of d class.now
@@ -51,5 +51,5 @@ module _ (d : Declarations) where
       ap (λ xs. xs ++ map storage_of left) next
       ∙ append_assoc storages (map storage_of own) (map storage_of left)
       ∙ ap (λ xs. storages ++ xs) (sym (map-append storage_of own left) ∙ ap (λ xs. map storage_of (xs ++ left)) own_is
-          ∙ ap (map storage_of) (sym (fields_next rest class) ∙ ap (λ xs. chain_fields d (names_told xs)) (sym items_is)))
+      ∙ ap (map storage_of) (sym (fields_next rest class) ∙ ap (λ xs. chain_fields d (names_told xs)) (sym items_is)))
       ∙ so_far

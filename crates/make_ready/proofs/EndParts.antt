@@ -70,7 +70,7 @@ module _ (m : Module) (r : IsRunnable m) (n : ℕ) (f : Function) (there : slice
       let at = found_behind type_of (slice_get i.operands 0) it.0 found.0 in
       let v = one_value d f (operands_of i) (OfValue s) form in
       let of_type : form_with d it.0 (target it.0) ≡ OfValue s =
-          sym (operand_written m f i typed 0 at.0 it.0 at.1 at.2) ∙ ap (form_of d f) (same_value at.0 v.value at.1 v.only) ∙ v.form in
+      sym (operand_written m f i typed 0 at.0 it.0 at.1 at.2) ∙ ap (form_of d f) (same_value at.0 v.value at.1 v.only) ∙ v.form in
       let shape : s ≡ shape_of d it.0 = of_value it.0 s (target it.0) of_type in
       made ending.Cases e (record {
         takes = record { operand = v.value; operands = v.only };

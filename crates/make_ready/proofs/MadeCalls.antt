@@ -46,7 +46,7 @@ module _ (m : Module) (f : Function) (i : Inst) (does : effect_of i.op ≡ row.C
       let args : map value_in (drop 1 i.operands) ≡ has.args = args_are i.operands has.callee has.args has.operands in
       subst (λ x. IsReadyOp m f i (op.Call g x values addresses to)) (sym (is_operands ∙ has.operands))
       (subst (λ x. IsReadyOp m f i (op.Call g (has.callee ∷ has.args) x addresses to))
-          (sym (is_values ∙ ap (λ vs. values_carried d f callee vs (map arg_value (args_of callee 0))) args))
+      (sym (is_values ∙ ap (λ vs. values_carried d f callee vs (map arg_value (args_of callee 0))) args))
       (subst (λ x. IsReadyOp m f i (op.Call g (has.callee ∷ has.args) (values_carried d f callee has.args (map arg_value (args_of callee 0))) x to))
       (sym (is_addresses ∙ ap (λ vs. addresses_carried d f callee vs (map arg_value (args_of callee 0))) args))
       (subst (λ x. IsReadyOp m f i (op.Call g (has.callee ∷ has.args) (values_carried d f callee has.args (map arg_value (args_of callee 0)))
@@ -61,5 +61,5 @@ module _ (m : Module) (f : Function) (i : Inst) (does : effect_of i.op ≡ row.C
       subst (λ x. IsReadyOp m f i (op.CallOut g x args to)) (sym (is_operands ∙ has.operands))
       (subst (λ x. IsReadyOp m f i (op.CallOut g (has.callee ∷ has.args) x to)) (sym (is_args ∙ ap (map (local d f)) own))
       (subst (λ x. IsReadyOp m f i (op.CallOut g (has.callee ∷ has.args) (map (local d f) has.args) x))
-          (sym (result_local m f i r has.result to has.results at is))
+      (sym (result_local m f i r has.result to has.results at is))
       (made.calls_out has.callee has.result has.args g callee does has.operands has.results has.form has.there bare)))

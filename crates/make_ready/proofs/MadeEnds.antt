@@ -58,7 +58,7 @@ module _ (d : Declarations) (f : Function) (i : Inst) where
       let same : ty ≡ parts.ty = (let e : Some ty ≡ Some parts.ty = sym of ∙ parts.of in cc) in
       subst (λ x. Made (end.Switch x cases)) (sym (operand_is v taken.operand [] l taken.operands at is))
       (made.switch taken.operand (shape_of d parts.ty) cases has.ends taken.operands parts.form
-          (subst (λ t. AreReadyCases d f i (shape_of d t) cases) same ready))
+      (subst (λ t. AreReadyCases d f i (shape_of d t) cases) same ready))
 
   pub return_made : (has : HasEnd d f i ending.Return) (v : ValueId) (l : Local) → slice_get (operands_of i) 0 ≡ Some v → l ≡ local d f v → Made (end.Return l)
   return_made has v l at is =

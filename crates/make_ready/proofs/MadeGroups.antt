@@ -51,13 +51,13 @@ module _ (m : Module) (f : Function) (i : Inst) where
       let same : b ≡ has.builtin = (let e : Some b ≡ Some has.builtin = named ∙ has.named in cc) in
       subst (λ (x : Builtin). Made (op.Compute x.operation x.width left right other to)) (sym same)
       (subst (λ x. Made (op.Compute has.builtin.operation has.builtin.width x right other to))
-          (sym (operand_local m f i v has.left (has.right ∷ has.more) left has.operands at is_left))
+      (sym (operand_local m f i v has.left (has.right ∷ has.more) left has.operands at is_left))
       (subst (λ x. Made (op.Compute has.builtin.operation has.builtin.width (local d f has.left) x other to))
-          (sym (second_local m f i w has.right has.left has.more right has.operands second is_right))
+      (sym (second_local m f i w has.right has.left has.more right has.operands second is_right))
       (subst (λ x. Made (op.Compute has.builtin.operation has.builtin.width (local d f has.left) (local d f has.right) x to))
-          (sym (is_other ∙ third_is (operands_of i) has.more has.left has.right has.operands))
+      (sym (is_other ∙ third_is (operands_of i) has.more has.left has.right has.operands))
       (subst (λ x. Made (op.Compute has.builtin.operation has.builtin.width (local d f has.left) (local d f has.right) (first_of has.more) x))
-          (sym (result_local m f i r has.result to has.results gives is_to))
+      (sym (result_local m f i r has.result to has.results gives is_to))
       (made.computes has.builtin has.left has.right has.result has.more h.does has.named has.operands has.results)))))
 
   pub object_made : (h : Row row.MakesObject) → (k : ℕ) (r : ValueId) (to : Local) → class_at d k ≡ Some h.has.class
@@ -65,7 +65,7 @@ module _ (m : Module) (f : Function) (i : Inst) where
   object_made h k r to class at is =
       let has = h.has in
       subst (λ x. Made (op.MakeObject k x)) (sym (result_local m f i r has.result to has.results at is))
-          (made.object has.class k has.result h.does has.results has.form class)
+      (made.object has.class k has.result h.does has.results has.form class)
 
   pub group_made : Row row.Groups → (r : ValueId) (operands : List Local) (to : Local) → operands ≡ map (local d f) (operands_of i)
       → slice_get i.results 0 ≡ Some r → to ≡ local d f r
@@ -74,7 +74,7 @@ module _ (m : Module) (f : Function) (i : Inst) where
       let has = h.has in
       subst (λ x. Made (op.Group x to)) (sym is_operands)
       (subst (λ x. Made (op.Group (map (local d f) (operands_of i)) x)) (sym (result_local m f i r has.result to has.results at is))
-          (made.groups has.result h.does has.results))
+      (made.groups has.result h.does has.results))
 
   few_values : length i.operands ≤ 1 → length (operands_of i) ≤ 1
   few_values le = let e = length-map i.operands value_in in omega (arith, e, le)
@@ -106,9 +106,9 @@ module _ (m : Module) (f : Function) (i : Inst) where
       let has = h.has in
       subst (λ n. Made (op.Member operand n to)) (sym (is_from ∙ ap₂ (λ t n. leaf_offset (member_shapes (shape_of d t)) n) is_ty is_k))
       (subst (λ x. Made (op.Member x (leaf_offset (member_shapes (shape_of d has.ty)) has.place) to))
-          (sym (operand_local m f i v has.operand [] operand has.operands at is_operand))
+      (sym (operand_local m f i v has.operand [] operand has.operands at is_operand))
       (subst (λ x. Made (op.Member (local d f has.operand) (leaf_offset (member_shapes (shape_of d has.ty)) has.place) x))
-          (sym (result_local m f i r has.result to has.results gives is_to))
+      (sym (result_local m f i r has.result to has.results gives is_to))
       (made.member has.operand has.result (shape_of d has.ty) has.place h.does has.operands has.results has.form has.number)))
 
   pub member_address_made : (h : Row row.AddressesMember) → (v r : ValueId) (ty : TypeName) (k from : ℕ) (address to : LocalAddress)
@@ -120,7 +120,7 @@ module _ (m : Module) (f : Function) (i : Inst) where
       let has = h.has in
       subst (λ n. Made (op.MemberAddress address n to)) (sym (is_from ∙ ap₂ (λ t n. leaf_offset (member_shapes (shape_of d t)) n) is_ty is_k))
       (subst (λ x. Made (op.MemberAddress x (leaf_offset (member_shapes (shape_of d has.inner)) has.place) to))
-          (sym (operand_address m f i v has.address [] address has.operands at is_address))
+      (sym (operand_address m f i v has.address [] address has.operands at is_address))
       (subst (λ x. Made (op.MemberAddress (local_address d f has.address) (leaf_offset (member_shapes (shape_of d has.inner)) has.place) x))
       (sym (result_address m f i r has.result to has.results gives is_to))
       (made.member_address has.address has.result (shape_of d has.inner) has.place h.does has.operands has.results has.form has.number)))

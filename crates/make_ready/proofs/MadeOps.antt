@@ -116,7 +116,7 @@ module _ (m : Module) (f : Function) (i : Inst) where
       let has = h.has in
       subst (λ x. Made (op.Same x to)) (sym (operand_local v has.operand [] from has.operands at is_from))
       (subst (λ y. Made (op.Same (local d f has.operand) y)) (sym (result_local r has.result to has.results gives is_to))
-          (made.same has.operand has.result h.does has.operands has.results))
+      (made.same has.operand has.result h.does has.operands has.results))
 
   pub load_made : Row row.LoadsValue → (v r : ValueId) (address : LocalAddress) (to : Local)
       → slice_get (operands_of i) 0 ≡ Some v → slice_get i.results 0 ≡ Some r
@@ -125,7 +125,7 @@ module _ (m : Module) (f : Function) (i : Inst) where
       let has = h.has in
       subst (λ x. Made (op.Load x to)) (sym (operand_address v has.operand [] address has.operands at is_from))
       (subst (λ y. Made (op.Load (local_address d f has.operand) y)) (sym (result_local r has.result to has.results gives is_to))
-          (made.loads has.operand has.result h.does has.operands has.results))
+      (made.loads has.operand has.result h.does has.operands has.results))
 
   -- what the place of a value is, by what is kept of it
 
@@ -142,7 +142,7 @@ module _ (m : Module) (f : Function) (i : Inst) where
       let sizes : size ≡ size_of has.shape = cc in
       subst (λ n. Made (op.MakeSlot n to)) (sym sizes)
       (subst (λ x. Made (op.MakeSlot (size_of has.shape) x)) (sym (result_address r has.result to has.results at place))
-          (made.slot has.shape has.result h.does has.results has.form))
+      (made.slot has.shape has.result h.does has.results has.form))
 
   pub store_made : Row row.StoresValue → (v p : ValueId) (size : ℕ) (from : Local) (address : LocalAddress)
       → slice_get (operands_of i) 0 ≡ Some v → slice_get (operands_of i) 1 ≡ Some p
@@ -175,7 +175,7 @@ module _ (m : Module) (f : Function) (i : Inst) where
       let inner = stored_shape has.shape w storage in
       subst (λ x. Made (op.StoreName w x from address)) (sym is_first)
       (subst (λ x. Made (op.StoreName w (is_first_write (store_operation i.qualifier)) x address))
-          (sym (operand_local v has.value (has.address ∷ []) from has.operands at is_from))
+      (sym (operand_local v has.value (has.address ∷ []) from has.operands at is_from))
       (subst (λ x. Made (op.StoreName w (is_first_write (store_operation i.qualifier)) (local d f has.value) x))
       (sym (second_address p has.address has.value [] address has.operands second is_address))
       (made.stores_name has.value has.address w inner.0 (store_operation i.qualifier) h.does has.operands (has.form ∙ ap OfPlace inner.1) has.operation)))
@@ -187,21 +187,21 @@ module _ (m : Module) (f : Function) (i : Inst) where
   load_name_made h p r size w taking address to at gives is is_taking is_address is_to =
       let has = h.has in
       let same = kept_place p has.address size (Some w) (Stored has.storage has.shape)
-          (first_is (operands_of i) [] has.address p has.operands at) is has.form in
+      (first_is (operands_of i) [] has.address p has.operands at) is has.form in
       let own : has.storage ≡ w = cc in
       subst (λ x. Made (op.LoadName w x address to)) (sym is_taking)
       (subst (λ x. Made (op.LoadName w (takes (load_operation i.qualifier)) x to)) (sym (operand_address p has.address [] address has.operands at is_address))
       (subst (λ x. Made (op.LoadName w (takes (load_operation i.qualifier)) (local_address d f has.address) x))
-          (sym (result_local r has.result to has.results gives is_to))
+      (sym (result_local r has.result to has.results gives is_to))
       (made.loads_name has.address has.result w has.shape (load_operation i.qualifier) h.does has.operands has.results
-          (has.form ∙ ap (λ x. OfPlace (Stored x has.shape)) own) has.operation)))
+      (has.form ∙ ap (λ x. OfPlace (Stored x has.shape)) own) has.operation)))
 
   pub forget_made : Row row.DestroysPlace → (p : ValueId) (size : ℕ) (w : Storage) (address : LocalAddress) → slice_get (operands_of i) 0 ≡ Some p
       → kept.Address size (Some w) ≡ kept_of (form_of d f p) → address ≡ local_address d f p → Made (op.ForgetName w address)
   forget_made h p size w address at is is_address =
       let has = h.has in
       let same = kept_place p has.address size (Some w) (Stored has.storage has.shape)
-          (first_is (operands_of i) [] has.address p has.operands at) is has.form in
+      (first_is (operands_of i) [] has.address p has.operands at) is has.form in
       let own : has.storage ≡ w = cc in
       subst (λ x. Made (op.ForgetName w x)) (sym (operand_address p has.address [] address has.operands at is_address))
       (made.forgets_name has.address w has.shape h.does has.operands (has.form ∙ ap (λ x. OfPlace (Stored x has.shape)) own))

@@ -67,7 +67,7 @@ first_more test i (y ∷ xs) x = at (test y) (first_more test (i + 1) xs x)
   where
     at : (b : Bool) → position_from test (i + 1) (xs ++ x ∷ []) ≡ option_or (position_from test (i + 1) xs) (cond (test x) (Some ((i + 1) + length xs)) None)
         → cond b (Some i) (position_from test (i + 1) (xs ++ x ∷ [])) ≡ option_or (cond b (Some i) (position_from test (i + 1) xs))
-            (cond (test x) (Some (i + suc (length xs))) None)
+        (cond (test x) (Some (i + suc (length xs))) None)
     at true h = refl
     at false h = let e : (i + 1) + length xs ≡ i + suc (length xs) = omega arith in h
         ∙ ap (λ n. option_or (position_from test (i + 1) xs) (cond (test x) (Some n) None)) e

@@ -77,7 +77,7 @@ module _ (m : Module) (r : IsRunnable m) where
         let same : sum (map (leaves_of d) (map type_in xs)) ≡ total = sym (all ∙ ap sum (measured_each xs h)) in
         let own : sum (map (leaves_of d) (map type_in front)) ≡ sum (take k (map (leaves_of d) (map type_in xs))) =
         ap (λ ys. sum (map (leaves_of d) (map type_in ys))) e ∙ ap (λ ys. sum (map (leaves_of d) ys)) (sym (take-map type_in k xs))
-            ∙ ap sum (sym (take-map (leaves_of d) k (map type_in xs))) in
+        ∙ ap sum (sym (take-map (leaves_of d) k (map type_in xs))) in
         let front_le = front_within (map (leaves_of d) (map type_in xs)) k (omega arith) in
         omega arith
 
@@ -111,7 +111,7 @@ module _ (m : Module) (r : IsRunnable m) where
   struct_offset t fields front k e is =
       let shape = struct_is t fields e in
       offset_by field_type (shape_of d t) fields front k (fields_fit m r t fields e) (ap member_shapes shape.1
-          ∙ listed_members (map (field_shape_of m) fields)) is
+      ∙ listed_members (map (field_shape_of m) fields)) is
 
   -- tuples
 
@@ -128,9 +128,9 @@ module _ (m : Module) (r : IsRunnable m) where
       → front ≡ take k ts → sum (map (leaves_of d) front) ≤ LEAVES
   tuple_within t ts front k size e is =
       let total : leaves_of d t ≡ sum (map size_of (map (shape_of d) ts)) = sym size.measured ∙ ap size_of (tuple_is t ts e)
-          ∙ ap sum (sizes_each (map (shape_of d) ts)) in
+      ∙ ap sum (sizes_each (map (shape_of d) ts)) in
       let own : sum (map (leaves_of d) (map itself front)) ≤ LEAVES =
-          within_by itself (leaves_of d t) ts front k (elements_are t ts size e) total size.within is in
+      within_by itself (leaves_of d t) ts front k (elements_are t ts size e) total size.within is in
       subst (λ xs. sum (map (leaves_of d) xs) ≤ LEAVES) (map-id front) own
 
   pub tuple_offset : (t : TypeName) (ts front : List TypeName) (k : ℕ) → HasSize d t → elements t ≡ Some ts → front ≡ take k ts

@@ -70,16 +70,40 @@ module _ (m : Module) (runnable : IsRunnable m) (f : Function) (sizes : HaveSize
       → forms_of d f (operands_of i) ≡ map OfValue (shapes_by s (bits b.width)) → (r : ValueId) → i.results ≡ r ∷ [] → Made
   computed b overflowing e named is r results =
       let w = two_values d f (operands_of i) _ _ _ is in
-      made row.Computes e (record { builtin = b; left = w.left; right = w.right; more = w.more; result = r;
-          named = named; operands = w.all; results = results })
+      made row.Computes e (record {
+        builtin = b;
+        left = w.left;
+        right = w.right;
+        more = w.more;
+        result = r;
+        named = named;
+        operands = w.all;
+        results = results;
+      })
   computed b comparing e named is r results =
       let w = two_values d f (operands_of i) _ _ _ is in
-      made row.Computes e (record { builtin = b; left = w.left; right = w.right; more = w.more; result = r;
-          named = named; operands = w.all; results = results })
+      made row.Computes e (record {
+        builtin = b;
+        left = w.left;
+        right = w.right;
+        more = w.more;
+        result = r;
+        named = named;
+        operands = w.all;
+        results = results;
+      })
   computed b combining e named is r results =
       let w = two_values d f (operands_of i) _ _ _ is in
-      made row.Computes e (record { builtin = b; left = w.left; right = w.right; more = w.more; result = r;
-          named = named; operands = w.all; results = results })
+      made row.Computes e (record {
+        builtin = b;
+        left = w.left;
+        right = w.right;
+        more = w.more;
+        result = r;
+        named = named;
+        operands = w.all;
+        results = results;
+      })
 
   object : effect_of i.op ≡ row.MakesObject → NewObject m f i → Made
   object e new =
@@ -109,7 +133,7 @@ module _ (m : Module) (runnable : IsRunnable m) (f : Function) (sizes : HaveSize
       let shape : s ≡ shape_of d new.ty = cc in
       let at : case_place (shape_of d new.ty) i.member ≡ Some k = subst (λ x. case_place x i.member ≡ Some k) shape place in
       let found = mapped_from place_in (payload_of d new.ty new.named.name) k
-          (case_named m runnable new.ty new.kind new.named ∙ ap (case_place (shape_of d new.ty)) (sym new.member) ∙ at) in
+      (case_named m runnable new.ty new.kind new.named ∙ ap (case_place (shape_of d new.ty)) (sym new.member) ∙ at) in
       made row.ChoosesCase e (record {
         result = r.value;
         ty = new.ty;
@@ -229,15 +253,29 @@ module _ (m : Module) (runnable : IsRunnable m) (f : Function) (sizes : HaveSize
   parts xs ys (typed.loads_name w s o e named done loads) is so more =
       let v = one_value d f (operands_of i) _ is in
       let r = one_value d f i.results _ so in
-      made row.LoadsName e (record { address = v.value; result = r.value; storage = w; shape = s; operands = v.only;
-          results = r.only; form = v.form; operation = loaded e })
+      made row.LoadsName e (record {
+        address = v.value;
+        result = r.value;
+        storage = w;
+        shape = s;
+        operands = v.only;
+        results = r.only;
+        form = v.form;
+        operation = loaded e;
+      })
   parts xs ys (typed.stores_name w s o e named done stores) is so more =
       let both = just_two d f (operands_of i) _ _ is in
-      made row.StoresValue e (record { value = both.0.left; address = both.0.right; shape = Stored w s;
-          operands = both.1; form = both.0.form; operation = stored e })
+      made row.StoresValue e (record {
+        value = both.0.left;
+        address = both.0.right;
+        shape = Stored w s;
+        operands = both.1;
+        form = both.0.form;
+        operation = stored e;
+      })
   parts xs ys (typed.destroys_name w s e named done) is so more =
       let v = one_value d f (operands_of i) _ is in
-          made row.DestroysPlace e (record { address = v.value; storage = w; shape = s; operands = v.only; form = v.form })
+      made row.DestroysPlace e (record { address = v.value; storage = w; shape = s; operands = v.only; form = v.form })
   parts xs ys (typed.groups s ss e group) is so more = let r = one_value d f i.results _ so in made row.Groups e (record { result = r.value; results = r.only })
   parts xs ys (typed.chooses_plain s k c e listed place there none) is so more = chosen s k e (none_given is) so place (subst (Told m f i) e more)
   parts xs ys (typed.chooses_full s payload k c e listed place there some) is so more = chosen s k e (one_given is) so place (subst (Told m f i) e more)

@@ -36,11 +36,7 @@ fn class_chain<'t>(
 }
 
 /// The deinitialisers of some classes, those that there are.
-fn deinits_of(
-    alloc: Global,
-    table: &TypeTable,
-    chain: &[&Text],
-) -> Result<List<FuncId>, Exhausted>
+fn deinits_of(alloc: Global, table: &TypeTable, chain: &[&Text]) -> Result<List<FuncId>, Exhausted>
     ensures { IfOk result (λ deinits. deinits ≡ flat_map (deinits_of_class table.now) (names_told chain.now)) }
 {
     let mut deinits = List::new(alloc);
@@ -90,11 +86,7 @@ fn storages_of(
 }
 
 /// The class with this name.
-fn ready_class_named(
-    alloc: Global,
-    table: &TypeTable,
-    name: &Text,
-) -> Result<ReadyClass, Exhausted>
+fn ready_class_named(alloc: Global, table: &TypeTable, name: &Text) -> Result<ReadyClass, Exhausted>
     ensures { IfOk result (λ class. class ≡ class_named table.now name.now) }
 {
     let chain = class_chain(alloc, table, name)?;

@@ -125,10 +125,7 @@ pub(crate) fn part_number(table: &TypeTable, inst: &Inst) -> Option<usize>
             None => None,
         },
         Detail::Element => element_number(inst.number),
-        Detail::NoDetail
-        | Detail::Literal
-        | Detail::Operation
-        | Detail::Message
-        | Detail::Case => None,
+        Detail::NoDetail | Detail::Literal | Detail::Operation | Detail::Message | Detail::Case =>
+            None,
     }
 }

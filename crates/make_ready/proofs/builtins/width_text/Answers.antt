@@ -13,7 +13,7 @@ returns-in_default-strip_prefix c = λ width.
     let h = c.in-Some.ensures.cases in
     no_front c.in-Some.rest.now (codes "_Int") _ (width_spelling width) refl c.in_default-strip_prefix.ensures.cases
     ∙ with_front c.args.name.now c.operation_spelling.result.now c.in-Some.rest.now _
-        (codes "_Int" ++ width_spelling width) c.operation_spelling.ensures h.0 h.1
+    (codes "_Int" ++ width_spelling width) c.operation_spelling.ensures h.0 h.1
 
 pub returns : goal.returns
 returns c = λ width.
@@ -21,4 +21,4 @@ returns c = λ width.
     let g = c.in-Some-strip_prefix.ensures.cases in
     with_front c.in-Some.rest.now (codes "_Int") c.in-Some-strip_prefix.text.now _ (width_spelling width) refl g.0 g.1
     ∙ with_front c.args.name.now c.operation_spelling.result.now c.in-Some.rest.now _
-        (codes "_Int" ++ width_spelling width) c.operation_spelling.ensures h.0 h.1
+    (codes "_Int" ++ width_spelling width) c.operation_spelling.ensures h.0 h.1

@@ -16,13 +16,13 @@ returns c =
     let d : Declarations = declarations_of m in
     let to : get_or c.args.body.now.layouts.now c.args.function.0 c.index-body-function.result ≡ layout_of d g =
     mapped_at (layout_of d) m.functions c.args.body.now.layouts.now c.args.function.0 g c.index-body-function.result
-        c.requires.body.layouts c.requires.call.there in
+    c.requires.body.layouts c.requires.call.there in
     call_made m f c.args.inst.now c.requires.does c.args.function g c.requires.call c.requires.bodied
-        c.first_result.result c.in_ok-values_of.field-0 c.in_ok-values.values
+    c.first_result.result c.in_ok-values_of.field-0 c.in_ok-values.values
     c.in_ok-addresses.addresses c.local.result
     (c.in_ok-values_of.ensures ∙ ap (map value_in) c.as_slice.ensures)
     (c.in_ok-values.ensures d f g c.requires.body.layout to
-        ∙ ap₂ (λ os xs. values_carried d f g (map value_in os) (map arg_value xs)) c.args_of-operands.ensures c.args_of-args.ensures)
+    ∙ ap₂ (λ os xs. values_carried d f g (map value_in os) (map arg_value xs)) c.args_of-operands.ensures c.args_of-args.ensures)
     (c.in_ok-addresses.ensures d f g c.requires.body.layout to
-        ∙ ap₂ (λ os xs. addresses_carried d f g (map value_in os) (map arg_value xs)) c.args_of-operands.ensures c.args_of-args.ensures)
+    ∙ ap₂ (λ os xs. addresses_carried d f g (map value_in os) (map arg_value xs)) c.args_of-operands.ensures c.args_of-args.ensures)
     c.first_result.ensures c.local.ensures

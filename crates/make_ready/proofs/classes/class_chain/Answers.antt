@@ -14,6 +14,6 @@ pub loop-preserved : goal.loop-preserved
 loop-preserved c =
     let class = c.args.class.now in
     line_next c.args.table.now DEPTH c.loop.counter c.loop-test.true c.loop.chain.items c.push-in-loop.new.self.items c.in-Some.class
-        (option_copied c.loop.above)
+    (option_copied c.loop.above)
     (option_copied c.superclass-above-in-loop.result) (class ∷ ancestors_of c.args.table.now class) (ap option_copied c.in-Some.is) c.in_ok-push-2.ensures.items
     c.superclass-above-in-loop.ensures c.loop.invariant

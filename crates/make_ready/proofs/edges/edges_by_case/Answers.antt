@@ -21,15 +21,15 @@ loop-number-preserved c =
     let more = further edges edges j e refl c.loop-number-test.true c.index-edges-number.is in
     let before = c.loop-number.chosen.items in
     elim c.match-case_named.branch [
-      in-Some w ↦
+      | in-Some w ↦
           let place_is : case_place s e.case_of ≡ Some w.in-Some.place = sym w.in-Some.ensures in
           let noted_is : c.match-case_named.chosen.items ≡ noted before w.in-Some.place j =
-              ap items_of w.chosen-is ∙ with_items_is c.loop-number.chosen w.note.new.chosen (w.note.auto.chosen ∙ w.as_mut_slice.ensures.len)
-                  ∙ w.note.ensures ∙ ap (λ xs. noted xs w.in-Some.place j) w.as_mut_slice.ensures.value in
+          ap items_of w.chosen-is ∙ with_items_is c.loop-number.chosen w.note.new.chosen (w.note.auto.chosen ∙ w.as_mut_slice.ensures.len)
+          ∙ w.note.ensures ∙ ap (λ xs. noted xs w.in-Some.place j) w.as_mut_slice.ensures.value in
           subst (AreByCase s (take (j + 1) edges) c.args.count) (sym noted_is)
-            (noted_more s edges c.args.count j e more c.loop-number-test.true before c.loop-number.invariant w.in-Some.place place_is)
+          (noted_more s edges c.args.count j e more c.loop-number-test.true before c.loop-number.invariant w.in-Some.place place_is)
       | in_default w ↦
           let place_is : case_place s e.case_of ≡ None = sym w.in_default.ensures in
           subst (λ v. AreByCase s (take (j + 1) edges) c.args.count (items_of v)) (sym w.chosen-is)
-            (same_more s edges c.args.count j e more c.loop-number-test.true before c.loop-number.invariant place_is)
+          (same_more s edges c.args.count j e more c.loop-number-test.true before c.loop-number.invariant place_is)
     ]

@@ -7,6 +7,6 @@ returns-then-is_none c = noted_new c.args.chosen.now c.args.place c.args.edge c.
 
 pub returns-else-place-chosen : goal.returns-else-place-chosen
 returns-else-place-chosen c = elim c.else-place-chosen.branch [
-  else-place-chosen-via-then-place-chosen+else-is_none w ↦ noted_old c.args.chosen.now c.args.place c.args.edge w.if-is_none.ensures
+  | else-place-chosen-via-then-place-chosen+else-is_none w ↦ noted_old c.args.chosen.now c.args.place c.args.edge w.if-is_none.ensures
   | else-place-chosen-via-else-place-chosen w ↦ noted_past c.args.chosen.now c.args.place c.args.edge w.if-place-chosen.false
 ]

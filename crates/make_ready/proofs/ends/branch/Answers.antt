@@ -9,5 +9,5 @@ pub returns : goal.returns
 returns c =
     let has = c.requires.has.has in
     branch_made (declared c.args.body.now) c.args.body.now.function.now c.args.inst.now c.requires.has
-        c.operand.result c.local.result c.in_ok-edge_at.field-0 c.in_ok-edge_at-2.field-0
+    c.operand.result c.local.result c.in_ok-edge_at.field-0 c.in_ok-edge_at-2.field-0
     c.operand.ensures c.local.ensures (c.in_ok-edge_at.ensures has.set.edge has.set.there) (c.in_ok-edge_at-2.ensures has.clear.edge has.clear.there)

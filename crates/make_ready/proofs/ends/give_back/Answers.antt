@@ -5,4 +5,4 @@ use Rattle.make_ready.proofs.ends.give_back.Goals as goal
 pub returns : goal.returns
 returns c =
     return_made (declared c.args.body.now) c.args.body.now.function.now c.args.inst.now c.requires.has
-        c.operand.result c.local.result c.operand.ensures c.local.ensures
+    c.operand.result c.local.result c.operand.ensures c.local.ensures

@@ -6,4 +6,4 @@ pub returns : goal.returns
 returns c =
     let has = c.requires.has.has in
     jump_made (declared c.args.body.now) c.args.body.now.function.now c.args.inst.now c.requires.has c.in_ok-edge_at.field-0
-        (c.in_ok-edge_at.ensures has.edge has.there)
+    (c.in_ok-edge_at.ensures has.edge has.there)

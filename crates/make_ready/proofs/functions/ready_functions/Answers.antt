@@ -29,6 +29,6 @@ ready_function-requires c =
 pub loop-number-preserved : goal.loop-number-preserved
 loop-number-preserved c =
     matched_further (IsReadyFunction c.args.m.now) c.args.m.now.functions c.as_slice-f-items.result.now
-        c.loop-number.number c.f-item.result c.loop-number.functions c.push.new.self
+    c.loop-number.number c.f-item.result c.loop-number.functions c.push.new.self
     c.in_ok-ready_function.field-0 c.as_slice-f-items.ensures c.loop-number-test.true c.f-item.is c.loop-number.invariant
-        c.in_ok-push.ensures.ok c.in_ok-ready_function.ensures
+    c.in_ok-push.ensures.ok c.in_ok-ready_function.ensures

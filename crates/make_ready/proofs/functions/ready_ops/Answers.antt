@@ -11,5 +11,5 @@ loop-inst-preserved c =
     let made = IsReadyOp c.args.body.now in
     let insts = c.args.insts.now in
     matched_further made insts insts c.loop-inst.inst-index c.inst-item.result c.loop-inst.ops c.push.new.self
-        c.in_ok-ready_op.field-0 refl c.loop-inst-test.true c.inst-item.is
+    c.in_ok-ready_op.field-0 refl c.loop-inst-test.true c.inst-item.is
     c.loop-inst.invariant c.in_ok-push.ensures.ok (subst (λ i. made i c.in_ok-ready_op.field-0) c.get.ensures c.in_ok-ready_op.ensures)

@@ -24,14 +24,14 @@ pub leaves_of_types-requires : goal.leaves_of_types-requires
 leaves_of_types-requires c =
     subst (λ d. sum (map (leaves_of d) c.front-in-Some-elements.result.now) ≤ LEAVES) (sym c.requires.body.table)
     (tuple_within c.args.body.now.m.now c.requires.body.runnable c.args.ty.now c.in-Some-elements.types.now
-        c.front-in-Some-elements.result.now c.args.place c.requires.size
+    c.front-in-Some-elements.result.now c.args.place c.requires.size
     (sym c.in-Some-elements.ensures) c.front-in-Some-elements.ensures)
 
 pub returns-in-Some-elements : goal.returns-in-Some-elements
 returns-in-Some-elements c =
     c.leaves_of_types.ensures ∙ ap (λ d. sum (map (leaves_of d) c.front-in-Some-elements.result.now)) c.requires.body.table
     ∙ tuple_offset c.args.body.now.m.now c.requires.body.runnable c.args.ty.now c.in-Some-elements.types.now
-        c.front-in-Some-elements.result.now c.args.place c.requires.size
+    c.front-in-Some-elements.result.now c.args.place c.requires.size
     (sym c.in-Some-elements.ensures) c.front-in-Some-elements.ensures
 
 pub returns-in-None-elements : goal.returns-in-None-elements

@@ -7,4 +7,4 @@ pub returns : goal.returns
 returns c =
     forget_made c.args.body.now.m.now c.args.body.now.function.now c.args.inst.now c.requires.has
     c.operand-place.result c.in-Address-default-Some.size c.in-Address-default-Some.storage c.address.result c.operand-place.ensures
-        (ap (kept.Address c.in-Address-default-Some.size) (sym c.in-Address-default-Some.storage-is) ∙ c.in-Address-default-Some.ensures) c.address.ensures
+    (ap (kept.Address c.in-Address-default-Some.size) (sym c.in-Address-default-Some.storage-is) ∙ c.in-Address-default-Some.ensures) c.address.ensures

@@ -9,4 +9,4 @@ pub returns : goal.returns
 returns c =
     subst (λ n. IsReadyOp c.args.body.now c.args.inst.now (Literal n c.local.result)) (sym (to_z-of_z c.ranges.number))
     (literal_made c.args.body.now.m.now c.args.body.now.function.now c.args.inst.now c.requires.has c.args.number
-        c.first_result.result c.local.result c.requires.written c.first_result.ensures c.local.ensures)
+    c.first_result.result c.local.result c.requires.written c.first_result.ensures c.local.ensures)

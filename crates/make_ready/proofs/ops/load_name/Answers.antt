@@ -8,4 +8,4 @@ returns c =
     load_name_made c.args.body.now.m.now c.args.body.now.function.now c.args.inst.now c.requires.has
     c.operand-place.result c.first_result.result c.in-Address-default-Some.size c.in-Address-default-Some.storage c.takes.result c.address.result c.local.result
     c.operand-place.ensures c.first_result.ensures (ap (kept.Address c.in-Address-default-Some.size) (sym c.in-Address-default-Some.storage-is)
-        ∙ c.in-Address-default-Some.ensures) c.takes.ensures c.address.ensures c.local.ensures
+    ∙ c.in-Address-default-Some.ensures) c.takes.ensures c.address.ensures c.local.ensures

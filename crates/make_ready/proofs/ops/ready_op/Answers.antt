@@ -12,5 +12,5 @@ returns-in-NoEffect c =
 pub returns-in-GivesFunction : goal.returns-in-GivesFunction
 returns-in-GivesFunction c =
     let row : HasRow c.args.body.now c.args.inst.now row.GivesFunction =
-        subst (HasRow c.args.body.now c.args.inst.now) (sym c.in-GivesFunction.ensures) c.requires.has in
+    subst (HasRow c.args.body.now c.args.inst.now) (sym c.in-GivesFunction.ensures) c.requires.has in
     function_made c.args.body.now.m.now c.args.body.now.function.now c.args.inst.now row c.first_result.result c.first_result.ensures
