@@ -42,11 +42,11 @@ use Rattle.lowered_numbering_laws.proofs.Sound.{IsSound, Uses, new_sound}
 -- what holds of all elements holds of those that are kept
 each_kept : {A : Type 0} (P : A → Type 0) (test : A → Bool) (xs : List A) → Each P xs → Each P (filter test xs)
 each_kept P test [] h = tt
-each_kept {A} P test (x ∷ xs) h = at (test x)
+each_kept {A} P test (x ∷ xs) h = at (test x) (each_kept P test xs h.1)
   where
-    at : (b : Bool) → Each P (cond b (x ∷ filter test xs) (filter test xs))
-    at true = (h.0, each_kept P test xs h.1)
-    at false = each_kept P test xs h.1
+    at : (b : Bool) → Each P (filter test xs) → Each P (cond b (x ∷ filter test xs) (filter test xs))
+    at true rest = (h.0, rest)
+    at false rest = rest
 
 each_from_map : {A B : Type 0} (g : A → B) (P : B → Type 0) (xs : List A) → Each P (map g xs) → Each (λ x. P (g x)) xs
 each_from_map g P [] h = tt

@@ -3,7 +3,7 @@ use Rattle.std.proofs.Common.{◌≡◌, ℕ, suc, ◌+◌, ◌≤◌, List, [],
 use Rattle.std.proofs.Common.{true, false, cond, ◌⊎◌, inl, inr}
 use Rattle.std.specs.Prelude.{◌||◌, filter}
 use Rattle.std.specs.List.{flat_map, list_any}
-use Rattle.std.proofs.lemmas.Bool.{eqb-true}
+use Rattle.std.proofs.lemmas.Bool.{eqb-true, false≢true, or_left, or_right}
 use Rattle.std.proofs.lemmas.Grind.{flat_map-append}
 use Rattle.sil_ast.specs.declared.function.Block.{Block}
 use Rattle.sil_ast.specs.declared.function.BlockArg.{BlockArg}
@@ -30,27 +30,24 @@ use Rattle.lowering_laws.proofs.Rising.{AreRising, Rises, rises_along, rises_fur
 module _ {A : Type 0} (test : A → Bool) where
   pub any_left : (xs ys : List A) → list_any test xs ≡ true → list_any test (xs ++ ys) ≡ true
   any_left [] ys e = absurd (cc)
-  any_left (x ∷ xs) ys e = at (test x) e
+  any_left (x ∷ xs) ys e = at (test x) (λ h. any_left xs ys h) e
     where
-      at : (b : Bool) → (b || list_any test xs) ≡ true → (b || list_any test (xs ++ ys)) ≡ true
-      at true h = refl
-      at false h = any_left xs ys h
+      at : (b : Bool) → (list_any test xs ≡ true → list_any test (xs ++ ys) ≡ true) → (b || list_any test xs) ≡ true → (b || list_any test (xs ++ ys)) ≡ true
+      at true rest h = refl
+      at false rest h = rest h
 
   pub any_right : (xs ys : List A) → list_any test ys ≡ true → list_any test (xs ++ ys) ≡ true
   any_right [] ys e = e
-  any_right (x ∷ xs) ys e = at (test x)
-    where
-      at : (b : Bool) → (b || list_any test (xs ++ ys)) ≡ true
-      at true = refl
-      at false = any_right xs ys e
+  any_right (x ∷ xs) ys e = or_right (test x) (list_any test (xs ++ ys)) (any_right xs ys e)
 
   pub any_cases : (xs ys : List A) → list_any test (xs ++ ys) ≡ true → (list_any test xs ≡ true) ⊎ (list_any test ys ≡ true)
   any_cases [] ys e = inr e
-  any_cases (x ∷ xs) ys e = at (test x) e
+  any_cases (x ∷ xs) ys e = at (test x) (λ h. any_cases xs ys h) e
     where
-      at : (b : Bool) → (b || list_any test (xs ++ ys)) ≡ true → ((b || list_any test xs) ≡ true) ⊎ (list_any test ys ≡ true)
-      at true h = inl refl
-      at false h = any_cases xs ys h
+      at : (b : Bool) → (list_any test (xs ++ ys) ≡ true → (list_any test xs ≡ true) ⊎ (list_any test ys ≡ true)) → (b || list_any test (xs ++ ys)) ≡ true
+          → ((b || list_any test xs) ≡ true) ⊎ (list_any test ys ≡ true)
+      at true rest h = inl refl
+      at false rest h = rest h
 
 module _ (own : ValueId → Bool) where
   -- the values of the first that have names of their own are among the second
@@ -59,17 +56,17 @@ module _ (own : ValueId → Bool) where
 
   covers_kept : (vs : List ValueId) → Covers vs (filter own vs)
   covers_kept [] v o e = e
-  covers_kept (x ∷ vs) v o e = at (own x) refl (is_value v x) refl e
+  covers_kept (x ∷ vs) v o e = at (own x) refl (is_value v x) refl (λ h. covers_kept vs v o h) e
     where
       here : is_value v x ≡ true → own x ≡ true
       here is = let number : v.0 ≡ x.0 = eqb-true v.0 x.0 is in ap (λ n. own (value_with n)) (sym number) ∙ o
 
-      at : (b : Bool) → own x ≡ b → (c : Bool) → is_value v x ≡ c → (c || list_any (is_value v) vs) ≡ true
-          → list_any (is_value v) (cond b (x ∷ filter own vs) (filter own vs)) ≡ true
-      at true is true same h = ap (λ t. t || list_any (is_value v) (filter own vs)) same
-      at true is false same h = any_right (is_value v) (x ∷ []) (filter own vs) (covers_kept vs v o h)
-      at false is true same h = absurd (let yes : own x ≡ true = here same in cc)
-      at false is false same h = covers_kept vs v o h
+      at : (b : Bool) → own x ≡ b → (c : Bool) → is_value v x ≡ c → (list_any (is_value v) vs ≡ true → list_any (is_value v) (filter own vs) ≡ true)
+          → (c || list_any (is_value v) vs) ≡ true → list_any (is_value v) (cond b (x ∷ filter own vs) (filter own vs)) ≡ true
+      at true is true same rest h = or_left (is_value v x) (list_any (is_value v) (filter own vs)) same
+      at true is false same rest h = or_right (is_value v x) (list_any (is_value v) (filter own vs)) (rest h)
+      at false is true same rest h = absurd (false≢true (sym is ∙ here same))
+      at false is false same rest h = rest h
 
   covers_both : (vs ws xs ys : List ValueId) → Covers vs ws → Covers xs ys → Covers (vs ++ xs) (ws ++ ys)
   covers_both vs ws xs ys g h v o e = at (any_cases (is_value v) vs xs e)
@@ -85,12 +82,13 @@ no_more is t none = flat_map-append results_of is (t ∷ []) ∙ ap (λ vs. flat
 
 args_define : (renamings : List Definition) (args : List BlockArg) → map value_of (args_become renamings args) ≡ filter (has_name renamings) (map value_of args)
 args_define renamings [] = refl
-args_define renamings (a ∷ args) = at (has_own_name renamings a)
+args_define renamings (a ∷ args) = at (has_own_name renamings a) (args_define renamings args)
   where
-    at : (b : Bool) → map value_of (map without_annotation (cond b (a ∷ filter (has_own_name renamings) args) (filter (has_own_name renamings) args)))
+    at : (b : Bool) → map value_of (args_become renamings args) ≡ filter (has_name renamings) (map value_of args)
+        → map value_of (map without_annotation (cond b (a ∷ filter (has_own_name renamings) args) (filter (has_own_name renamings) args)))
         ≡ cond b (a.value ∷ filter (has_name renamings) (map value_of args)) (filter (has_name renamings) (map value_of args))
-    at true = ap (λ vs. a.value ∷ vs) (args_define renamings args)
-    at false = args_define renamings args
+    at true rest = ap (λ vs. a.value ∷ vs) rest
+    at false rest = rest
 
 module _ (d : Declarations) (f : Function) where
   abbrev pub own : ValueId → Bool
@@ -121,7 +119,7 @@ module _ (d : Declarations) (f : Function) where
   spares_cover takes spare vs v o e = any_right (is_value v) (spare_values_by takes spare) (filter own vs) (covers_kept own vs v o e)
 
   insts_cover : (spare : ℕ) (is : List Inst) → Each (Known d f) is → Covers own (flat_map results_of is) (New spare is)
-  insts_cover spare [] k v o e = e
+  insts_cover spare [] k = λ v o e. e
   insts_cover spare (i ∷ is) k =
       subst (Covers own (flat_map results_of (i ∷ is))) (sym (next_define spare i is k.0))
       (covers_both own i.results _ (flat_map results_of is) (New (spare + 1) is) (spares_cover (takes_spare i) (value_with spare) i.results)
@@ -136,7 +134,7 @@ module _ (d : Declarations) (f : Function) where
 
   pub blocks_cover : (spare : ℕ) (bs : List Block) → Each (KnownBlock d f) bs
       → Covers own (values_of bs) (values_of (blocks_become d (renamings_of f) spare bs))
-  blocks_cover spare [] k v o e = e
+  blocks_cover spare [] k = λ v o e. e
   blocks_cover spare (b ∷ bs) k =
       covers_both own (defined_in b) _ (values_of bs) _ (block_covers spare b k.0) (blocks_cover (spare + length b.insts) bs k.1)
 

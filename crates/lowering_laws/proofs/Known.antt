@@ -18,6 +18,7 @@ use Rattle.ownership_origins.specs.Renamings.{arg_renaming, arg_renamings, renam
 use Rattle.ownership_origins.specs.Switched.{switch_to}
 use Rattle.value_tables.specs.FirstValue.{value_of}
 use Rattle.type_definitions.specs.Declarations.{Declarations}
+use Rattle.point_checks.specs.Points.{IsAt}
 use Rattle.lowering_model.specs.Names.{is_other_name}
 use Rattle.run_typing_laws.proofs.Rows.Tables.{row_at, told_of_results}
 use Rattle.lowering_laws.specs.Lowerable.{IsLowerable, IsLowerableBlock, IsLowerableInst}
@@ -63,7 +64,7 @@ module _ (functions : ℕ) (d : Declarations) (f : Function) (l : IsLowerable fu
   module _ (n : ℕ) (b : Block) (is_block : slice_get f.blocks n ≡ Some b) where
     known_at : (k : ℕ) (i : Inst) → slice_get b.insts k ≡ Some i → Known d f i
     known_at k i is_inst =
-        let here = record { within = b; is_block = is_block; is_inst = in_front b.insts (b.terminator ∷ []) k i is_inst } in
+        let here : IsAt f n k i = record { within = b; is_block = is_block; is_inst = in_front b.insts (b.terminator ∷ []) k i is_inst } in
         let rows = told_of_results (arg_renamings f) result_renamings (λ n xs. length-map xs (arg_renaming (switch_to f n)))
         (λ j. length-replicate (length j.results) (renamed (names_in j))) (renamed []) f l.numbered.values n k i here in
         record {

@@ -55,7 +55,7 @@ module _ (m : Module) (n : ℕ) (f : Function) (numbered : IsNumbered m) (typed 
 
     inst : (j : ℕ) (i : Inst) → slice_get b.insts j ≡ Some i → IsLowerableInst d i
     inst j i is_inst =
-        let here = record { within = b; is_block = is_block; is_inst = in_front b.insts (b.terminator ∷ []) j i is_inst } in
+        let here : IsAt f k j i = record { within = b; is_block = is_block; is_inst = in_front b.insts (b.terminator ∷ []) j i is_inst } in
         record {
           inside = each_at IsInside b.insts j i own.insts is_inst;
           keeps = row_kept k j i here;

@@ -3,7 +3,7 @@ use Rattle.std.proofs.Common.{◌≡◌, ℕ, zero, suc, ◌+◌, ◌<◌, ◌�
 use Rattle.std.proofs.Common.{Option, Some, None}
 use Rattle.std.specs.Prelude.{◌||◌, is_some, not, option_map, slice_get, unwrap_or}
 use Rattle.std.specs.List.{list_any}
-use Rattle.std.proofs.lemmas.Bool.{eq-eqb}
+use Rattle.std.proofs.lemmas.Bool.{cases_lt, eqb-false, or_left, or_right}
 use Rattle.std.proofs.lemmas.Option.{slice_get-map}
 use Rattle.sil_ast.specs.declared.function.Function.{Function}
 use Rattle.sil_ast.specs.declared.place.ValueId.{ValueId}
@@ -31,16 +31,20 @@ use Rattle.run_typing_laws.proofs.Rows.Finding.{each_at, mapped_from}
 -- a value that is counted is among those that are
 pub any_counted : (n : ℕ) (vs : List ValueId) (v : ValueId) → AreCountedFrom n vs → n ≤ v.0 → v.0 < n + length vs → list_any (is_value v) vs ≡ true
 any_counted n [] v c from to = absurd (omega arith)
-any_counted n (x ∷ vs) v c from to = at (is_value v x) refl
+any_counted n (x ∷ vs) v c from to = at (is_value v x) refl (λ lt. any_counted (n + 1) vs v c.1 lt (omega arith))
   where
     first : x.0 ≡ n
     first = c.0
 
-    at : (b : Bool) → is_value v x ≡ b → (is_value v x || list_any (is_value v) vs) ≡ true
-    at true is = ap (λ b. b || list_any (is_value v) vs) is
-    at false is =
-        let other : v.0 ≡ x.0 → ⊥ = λ e. (let same : is_value v x ≡ true = eq-eqb v.0 x.0 e in absurd (cc)) in
-        ap (λ b. b || list_any (is_value v) vs) is ∙ any_counted (n + 1) vs v c.1 (omega arith) (omega arith)
+    at_least : (n < v.0) ⊎ (v.0 ≤ n) → (v.0 ≡ x.0 → ⊥) → n + 1 ≤ v.0
+    at_least (inl lt) other = omega arith
+    at_least (inr le) other = absurd (other (omega arith))
+
+    at : (b : Bool) → is_value v x ≡ b → (n + 1 ≤ v.0 → list_any (is_value v) vs ≡ true) → (is_value v x || list_any (is_value v) vs) ≡ true
+    at true is rest = or_left (is_value v x) (list_any (is_value v) vs) is
+    at false is rest =
+        let other : v.0 ≡ x.0 → ⊥ = eqb-false v.0 x.0 is in
+        or_right (is_value v x) (list_any (is_value v) vs) (rest (at_least (cases_lt n v.0) other))
 
 no_name : (o : Option ValueId) → not (is_some o) ≡ true → o ≡ None
 no_name None e = refl

@@ -40,11 +40,12 @@ module _ (v : ValueId) where
   -- a value of several lists together is in one of them
   in_piece : {A : Type 0} (g : A → List ValueId) (xs : List A) → IsAmong (flat_map g xs) → (k : ℕ) × (x : A) × (slice_get xs k ≡ Some x) × IsAmong (g x)
   in_piece g [] e = absurd (cc)
-  in_piece {A} g (x ∷ xs) e = at (any_cases (is_value v) (g x) (flat_map g xs) e)
+  in_piece {A} g (x ∷ xs) e = at (any_cases (is_value v) (g x) (flat_map g xs) e) (λ h. in_piece g xs h)
     where
-      at : IsAmong (g x) ⊎ IsAmong (flat_map g xs) → (k : ℕ) × (y : A) × (slice_get (x ∷ xs) k ≡ Some y) × IsAmong (g y)
-      at (inl h) = (0, x, refl, h)
-      at (inr h) = let rest = in_piece g xs h in (suc rest.0, rest.1, rest.2, rest.3)
+      at : IsAmong (g x) ⊎ IsAmong (flat_map g xs) → (IsAmong (flat_map g xs) → (k : ℕ) × (y : A) × (slice_get xs k ≡ Some y) × IsAmong (g y))
+          → (k : ℕ) × (y : A) × (slice_get (x ∷ xs) k ≡ Some y) × IsAmong (g y)
+      at (inl h) among = (0, x, refl, h)
+      at (inr h) among = let rest = among h in (suc rest.0, rest.1, rest.2, rest.3)
 
   contains_it : (vs : List ValueId) → IsAmong vs → Contains vs v
   contains_it vs e = let there = stands_somewhere vs v e in contained vs there.0 v there.1

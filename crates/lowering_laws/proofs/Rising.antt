@@ -38,11 +38,11 @@ place_found vs k v h e = ap value_with (found_at vs k v h e)
 -- the value that a test of all finds stands somewhere
 pub stands_somewhere : (vs : List ValueId) (v : ValueId) → list_any (is_value v) vs ≡ true → (k : ℕ) × (slice_get vs k ≡ Some v)
 stands_somewhere [] v e = absurd (cc)
-stands_somewhere (x ∷ vs) v e = at (is_value v x) refl
+stands_somewhere (x ∷ vs) v e = at (is_value v x) refl (λ h. stands_somewhere vs v h)
   where
-    at : (b : Bool) → is_value v x ≡ b → (k : ℕ) × (slice_get (x ∷ vs) k ≡ Some v)
-    at true is = let number : v.0 ≡ x.0 = eqb-true v.0 x.0 is in (0, ap (λ n. Some (value_with n)) (sym number))
-    at false is = let rest = stands_somewhere vs v (sym (ap (λ b. b || list_any (is_value v) vs) is) ∙ e) in (suc rest.0, rest.1)
+    at : (b : Bool) → is_value v x ≡ b → (list_any (is_value v) vs ≡ true → (k : ℕ) × (slice_get vs k ≡ Some v)) → (k : ℕ) × (slice_get (x ∷ vs) k ≡ Some v)
+    at true is among = let number : v.0 ≡ x.0 = eqb-true v.0 x.0 is in (0, ap (λ n. Some (value_with n)) (sym number))
+    at false is among = let rest = among (sym (ap (λ b. b || list_any (is_value v) vs) is) ∙ e) in (suc rest.0, rest.1)
 
 -- ---- rising values
 
@@ -57,8 +57,8 @@ module _ (bound : ℕ) (own : ValueId → Bool) where
 
   all_later : (old spare n k : ℕ) → n ≤ old → k ≤ spare → (vs : List ValueId) → AreRising old spare vs → Each (IsLater n k) vs
   all_later old spare n k le less [] h = tt
-  all_later old spare n k le less (v ∷ vs) (inl h) = let from : old ≤ v.0 =
-      h.0 in (inl (omega arith, h.1), all_later (v.0 + 1) spare n k (omega arith) less vs h.3)
+  all_later old spare n k le less (v ∷ vs) (inl h) =
+      let from : old ≤ v.0 = h.0 in (inl (omega arith, h.1), all_later (v.0 + 1) spare n k (omega arith) less vs h.3)
   all_later old spare n k le less (v ∷ vs) (inr h) = let from : spare ≤ v.0 = h.0 in (inr (omega arith), all_later old (v.0 + 1) n k le (omega arith) vs h.1)
 
   differs : (v : ValueId) (vs : List ValueId) → Each (λ w. w.0 ≡ v.0 → ⊥) vs → Each (λ w. is_value w v ≡ false) vs
@@ -126,17 +126,13 @@ module _ (bound : ℕ) (own : ValueId → Bool) where
   pub rises_kept : (old spare : ℕ) (vs : List ValueId) → AreCountedFrom old vs → old + length vs ≤ bound
       → Rises old spare (filter own vs) (old + length vs) spare
   rises_kept old spare [] c le rest h = from_less (old + 0) spare old spare (omega arith) (omega arith) rest h
-  rises_kept old spare (v ∷ vs) c le rest h = at (own v) refl
+  rises_kept old spare (v ∷ vs) c le rest h =
+      let same : (old + 1) + length vs ≡ old + suc (length vs) = omega arith in
+      at (own v) refl (rises_kept (old + 1) spare vs c.1 (omega arith) rest (subst (λ n. AreRising n spare rest) (sym same) h))
     where
       first : v.0 ≡ old
       first = c.0
 
-      same : (old + 1) + length vs ≡ old + suc (length vs)
-      same = omega arith
-
-      behind : AreRising (old + 1) spare (filter own vs ++ rest)
-      behind = rises_kept (old + 1) spare vs c.1 (omega arith) rest (subst (λ n. AreRising n spare rest) (sym same) h)
-
-      at : (b : Bool) → own v ≡ b → AreRising old spare (cond b (v ∷ filter own vs) (filter own vs) ++ rest)
-      at true e = inl (omega arith, omega arith, e, subst (λ n. AreRising (n + 1) spare (filter own vs ++ rest)) (sym first) behind)
-      at false e = from_less (old + 1) spare old spare (omega arith) (omega arith) (filter own vs ++ rest) behind
+      at : (b : Bool) → own v ≡ b → AreRising (old + 1) spare (filter own vs ++ rest) → AreRising old spare (cond b (v ∷ filter own vs) (filter own vs) ++ rest)
+      at true e behind = inl (omega arith, omega arith, e, subst (λ n. AreRising (n + 1) spare (filter own vs ++ rest)) (sym first) behind)
+      at false e behind = from_less (old + 1) spare old spare (omega arith) (omega arith) (filter own vs ++ rest) behind
