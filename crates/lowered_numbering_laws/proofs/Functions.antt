@@ -1,5 +1,5 @@
 -- A lowered function of a typed module in numbered form: its values are numbered, its instructions have the parts of their rows, and the limits are kept.
-use Rattle.std.proofs.Common.{◌≡◌, ℕ, ◌+◌, ◌<◌, ◌≤◌, List, [], ◌∷◌, length, map, refl, sym, ap, ◌∙◌, subst, arith, Some}
+use Rattle.std.proofs.Common.{◌≡◌, ℕ, ◌+◌, ◌<◌, ◌≤◌, List, [], ◌∷◌, length, map, refl, sym, ap, ◌∙◌, subst, suc, arith, true, Some}
 use Rattle.std.specs.Prelude.{◌++◌, slice_get}
 use Rattle.std.specs.List.{flat_map}
 use Rattle.std.proofs.lemmas.List.{length-map}
@@ -51,13 +51,12 @@ use Rattle.run_typing_laws.proofs.ListFacts.{get_last}
 use Rattle.run_typing_laws.proofs.Rows.Points.{in_front}
 use Rattle.lowered_numbering_laws.proofs.Blocks.{IsSoundBlock, block_limits, block_mentions, block_parts, block_types, blocks_sound, each_from_map}
 use Rattle.lowered_numbering_laws.proofs.Blocks.{in_block_each, members_in_block, new_blocks}
-use Rattle.lowered_numbering_laws.proofs.Kinds.{IsSoundInside}
 use Rattle.lowered_numbering_laws.proofs.Sizes.{blocks_less, blocks_short, renumbered_count}
-use Rattle.lowered_numbering_laws.proofs.Sound.{IsSound, Uses, UsesAlong}
+use Rattle.lowered_numbering_laws.proofs.Sound.{IsSound, IsSoundInside, Uses, UsesAlong}
 
 as_many_blocks : (d : Declarations) (f : Function) (spare : ℕ) (bs : List Block) → length (blocks_become d (renamings_of f) spare bs) ≡ length bs
 as_many_blocks d f spare [] = refl
-as_many_blocks d f spare (b ∷ bs) = ap (λ n. n + 1) (as_many_blocks d f (spare + length b.insts) bs)
+as_many_blocks d f spare (b ∷ bs) = ap suc (as_many_blocks d f (spare + length b.insts) bs)
 
 pub as_many_blocks_of_body : (d : Declarations) (f : Function) → length (lowered_body d f).blocks ≡ length f.blocks
 as_many_blocks_of_body d f =

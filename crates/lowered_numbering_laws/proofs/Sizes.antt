@@ -119,11 +119,8 @@ module _ (d : Declarations) (spare : ValueId) (i : Inst) (few_operands : length 
 none_take : (is : List Inst) → Each (λ i. inst_takes_value i ≡ false) is → count_by inst_takes_value is ≡ 0
 none_take [] h = refl
 none_take (i ∷ is) h =
-    let here : cond (inst_takes_value i) 1 0 ≡ 0 = ap (λ b. cond b 1 0) h.0 in
-    let rest : count_by inst_takes_value is ≡ 0 = none_take is h.1 in
-    let all : count_by inst_takes_value (i ∷ is) ≡ cond (inst_takes_value i) 1 0 + count_by inst_takes_value is =
-    sum_by-cons (λ j. cond (inst_takes_value j) 1 0) i is in
-    omega arith
+    sum_by-cons (λ j. cond (inst_takes_value j) 1 0) i is ∙ ap₂ (λ a b. a + b) (ap (λ b. cond b 1 0) h.0) (none_take is h.1)
+
 release_takes_none : (b : Bool) → takes_value (cond b op.StrongRelease op.ReleaseValue) word.Plain ≡ false
 release_takes_none true = refl
 release_takes_none false = refl
@@ -229,9 +226,11 @@ module _ (d : Declarations) (spare : ValueId) (i : Inst) where
 counted_append : (xs ys : List Inst) → count_by inst_takes_value (xs ++ ys) ≡ count_by inst_takes_value xs + count_by inst_takes_value ys
 counted_append xs ys = sum_by-append (λ j. cond (inst_takes_value j) 1 0) xs ys
 
-pub kept_few : (test : ValueId → Bool) (vs : List ValueId) → length (filter test vs) ≤ length vs
-kept_few test vs = let same : length (filter test vs) ≡ count_by test vs = length-filter test vs in let le : count_by test vs ≤ length vs =
-    count_by-le-length test vs in omega arith
+pub kept_few : {A : Type 0} (test : A → Bool) (xs : List A) → length (filter test xs) ≤ length xs
+kept_few test xs =
+    let same : length (filter test xs) ≡ count_by test xs = length-filter test xs in
+    let le : count_by test xs ≤ length xs = count_by-le-length test xs in
+    omega arith
 
 spares_are : (takes : Bool) (spare : ValueId) → length (spare_values_by takes spare) ≡ cond takes 1 0
 spares_are true spare = refl

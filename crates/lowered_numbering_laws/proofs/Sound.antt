@@ -4,7 +4,7 @@ use Rattle.std.specs.Prelude.{◌&&◌, ◌||◌, ◌==◌, IfSome, IsTrue, is_n
 use Rattle.std.specs.List.{flat_map, list_all}
 use Rattle.std.specs.Option.{option_to_list}
 use Rattle.std.proofs.lemmas.List.{length-map}
-use Rattle.instruction_table.specs.Forms.{ending_of, has_one_result, makes_tuple, may_lack_operand, parts_of}
+use Rattle.instruction_table.specs.Forms.{ending_of, has_one_result, is_terminator, makes_tuple, may_lack_operand, parts_of}
 use Rattle.instruction_table.specs.declared.entries.Ending.{Ending}
 use Rattle.instruction_table.specs.declared.entries.Ending.TheVariants as ending
 use Rattle.instruction_table.specs.declared.forms.Part.{Part}
@@ -51,6 +51,10 @@ pub record IsSound (K : ValueId → Type 0) (T : Mention → Type 0) (M : Member
   pub uses : Uses K blocks functions i
   pub mentioned : Each T (in_inst i)
   pub named : Each M (inst_members i)
+
+-- it ends no block, and all holds of it
+abbrev pub IsSoundInside : (ValueId → Type 0) → (Mention → Type 0) → (Member → Type 0) → ℕ → ℕ → Inst → Type 0
+IsSoundInside K T M blocks functions i = (is_terminator i.op ≡ false) × IsSound K T M blocks functions i
 
 -- ---- lists with something in the places of their elements
 
