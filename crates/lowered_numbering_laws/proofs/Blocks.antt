@@ -1,5 +1,5 @@
 -- What holds of the blocks of a module in numbered form holds of what lowering makes of them, and of these with new numbers.
-use Rattle.std.proofs.Common.{◌≡◌, ℕ, ◌+◌, ◌≤◌, List, [], ◌∷◌, ◌++◌, length, map, refl, sym, ap, ◌∙◌, subst, arith, Bool, true, false, cond, Some}
+use Rattle.std.proofs.Common.{◌≡◌, ℕ, ◌+◌, ◌≤◌, List, [], ◌∷◌, ◌++◌, length, map, sym, ap, subst, arith, Bool, true, false, cond, Some}
 use Rattle.std.specs.Prelude.{filter}
 use Rattle.std.specs.List.{flat_map}
 use Rattle.std.proofs.lemmas.List.{length-map}
@@ -20,7 +20,7 @@ use Rattle.numbered_form.specs.Lists.{Each}
 use Rattle.numbered_form.specs.Names.{IsMemberSpelled}
 use Rattle.numbered_form.specs.Numbering.{defined_in, results_of, value_of, values_of}
 use Rattle.numbered_form.specs.inner.Limits.{IsBlockInLimits, IsInstInLimits}
-use Rattle.numbered_form.specs.inner.Parts.{BlockHasParts, HasItsParts, IsInside, IsTerminator}
+use Rattle.numbered_form.specs.inner.Parts.{BlockHasParts, IsInside, IsTerminator}
 use Rattle.numbered_form.specs.inner.Types.{HasArgType, HasBlockTypes, HasInstTypes, IsPlacedType}
 use Rattle.ownership_origins.specs.Renamings.{renamings_of}
 use Rattle.sil_types.specs.Typing.Shapes.{is_object, target}

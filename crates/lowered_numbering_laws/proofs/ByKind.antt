@@ -1,6 +1,6 @@
 -- Whatever lowering makes of an instruction, all holds of it that holds of instructions: kind by kind.
-use Rattle.std.proofs.Common.{◌≡◌, ℕ, ◌+◌, ◌≤◌, List, [], ◌∷◌, ◌++◌, length, map, refl, sym, ap, ◌∙◌, subst, arith, Bool, true, false, not, Option, Some, None}
-use Rattle.std.specs.Prelude.{◌||◌, IfSome, is_some, option_and_then, slice_get}
+use Rattle.std.proofs.Common.{◌≡◌, ℕ, ◌+◌, ◌≤◌, List, [], ◌∷◌, ◌++◌, length, map, refl, sym, ap, ◌∙◌, subst, arith, Bool, true, false, not, Some}
+use Rattle.std.specs.Prelude.{IfSome, is_some, option_and_then, slice_get}
 use Rattle.std.specs.List.{flat_map}
 use Rattle.std.specs.Option.{option_to_list}
 use Rattle.instruction_table.specs.declared.op.Op.{Op}
@@ -15,7 +15,7 @@ use Rattle.sil_ast.specs.declared.operands.Operand.{Operand}
 use Rattle.sil_ast.specs.declared.place.ValueId.{ValueId}
 use Rattle.sil_ast.specs.declared.type_name.TypeName.{TypeName}
 use Rattle.lowering_model.specs.Extracts.{element_extracts, extracts_elements, extracts_fields, field_extracts, member_of}
-use Rattle.lowering_model.specs.LoweredInsts.{assigns, becomes, becomes_by, destroys_by, loads_by, lowering_of, operand_at, plain_load, plain_store}
+use Rattle.lowering_model.specs.LoweredInsts.{assigns, becomes, becomes_by, destroys_by, loads_by, lowering_of, plain_load, plain_store}
 use Rattle.lowering_model.specs.LoweredInsts.{releases_at, retains_loaded, stores_by}
 use Rattle.lowering_model.specs.NewInsts.{load, loaded_from, release, retain}
 use Rattle.numbered_form.specs.Lists.{Each}
@@ -27,9 +27,9 @@ use Rattle.sil_types.specs.Typing.FormRules.{is_at_storage}
 use Rattle.sil_types.specs.Typing.RowTypes.{given_by}
 use Rattle.sil_types.specs.Typing.Shapes.{is_object, target}
 use Rattle.type_definitions.specs.Declarations.{Declarations}
-use Rattle.type_definitions.specs.Mentions.{Mention, if_there, in_edge, in_inst, in_operand, in_signature, in_tuple, mention, standing_in}
+use Rattle.type_definitions.specs.Mentions.{Mention, if_there, in_edge, in_operand, in_signature, in_tuple, mention, standing_in}
 use Rattle.type_definitions.specs.declared.standing.Standing.TheVariants.{Value}
-use Rattle.lowering_laws.proofs.Known.{Known, OneTyped, ThenTyped, one_operand, two_operands}
+use Rattle.lowering_laws.proofs.Known.{Known, OneTyped, one_operand, two_operands}
 use Rattle.lowering_laws.proofs.NewValues.{members_of_operand, takes_spare, takes_spare_by}
 use Rattle.lowering_laws.proofs.Structs.{IsStruct, TakesApart, takes_apart}
 use Rattle.run_typing_laws.proofs.Declared.{each_append}

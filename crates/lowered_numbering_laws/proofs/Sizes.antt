@@ -1,8 +1,8 @@
 -- How many instructions and values there are in lowered code: no more values than the limit counts, and few instructions for each.
-use Rattle.std.proofs.Common.{◌≡◌, ℕ, suc, ◌+◌, ◌*◌, ◌<◌, ◌≤◌, List, [], ◌∷◌, ◌++◌, length, map, append-nil, length-append, refl, sym, ap, ap₂, ◌∙◌, subst}
+use Rattle.std.proofs.Common.{◌≡◌, ℕ, suc, ◌+◌, ◌*◌, ◌<◌, ◌≤◌, List, [], ◌∷◌, ◌++◌, length, map, length-append, refl, sym, ap, ap₂, ◌∙◌}
 use Rattle.std.proofs.Common.{arith, Bool, true, false, not, cond, Option, Some, None}
 use Rattle.std.specs.Prelude.{count_by, filter, slice_get}
-use Rattle.std.specs.List.{flat_map, sum_by}
+use Rattle.std.specs.List.{flat_map}
 use Rattle.std.specs.Option.{option_to_list}
 use Rattle.std.proofs.Math.Nat.{mul-suc}
 use Rattle.std.proofs.lemmas.List.{length-map, map-append}
@@ -35,7 +35,7 @@ use Rattle.sil_types.specs.Typing.RowTypes.{passes}
 use Rattle.type_definitions.specs.Declarations.{Declarations}
 use Rattle.type_definitions.specs.Rules.{is_class_type}
 use Rattle.lowering_laws.proofs.Covered.{New, new_defines, next_define, old_defines, own}
-use Rattle.lowering_laws.proofs.Known.{Known, KnownBlock, has_name}
+use Rattle.lowering_laws.proofs.Known.{Known, KnownBlock}
 use Rattle.lowering_laws.proofs.NewValues.{spare_values_by, takes_spare, takes_spare_by}
 use Rattle.lowering_laws.proofs.Renumbered.{renumbered_values}
 use Rattle.run_typing.specs.Runnable.{IsShort}
