@@ -1,0 +1,4 @@
+pub mod Lists
+pub mod SelfSame
+pub mod Sound
+pub mod Renumbered

@@ -1,0 +1,191 @@
+-- The types of what the instructions define that stand in the place of one.
+use Rattle.std.proofs.Common.{◌≡◌, ℕ, suc, ◌+◌, List, [], ◌∷◌, ◌++◌, length, map, refl, sym, ap, ap₂, ◌∙◌, subst, append-nil, append_assoc, length-append, arith, true, Option, Some, None}
+use Rattle.std.specs.Prelude.{◌&&◌, ◌<◌, pos, is_some, option_and_then, option_map, slice_get, unwrap_or, if◌then◌else◌}
+use Rattle.std.specs.List.{flat_map, range_with_len}
+use Rattle.std.proofs.lemmas.Bool.{and_parts}
+use Rattle.std.proofs.lemmas.List.{length-map}
+use Rattle.instruction_table.specs.declared.op.Op.{Op}
+use Rattle.instruction_table.specs.declared.op.Op.TheVariants as op
+use Rattle.numbered_form.specs.Names.{AreMembersOnce, AreOnce, Name, field_name}
+use Rattle.numbered_form.specs.Lists.{Each}
+use Rattle.numbered_form.specs.Numbering.{results_of}
+use Rattle.sil_ast.specs.declared.decl.Decl.{Decl}
+use Rattle.sil_ast.specs.declared.decl.Decl.TheVariants as decl
+use Rattle.sil_ast.specs.declared.decl.Field.{Field}
+use Rattle.sil_ast.specs.declared.function.Form.TheVariants.{Ossa}
+use Rattle.sil_ast.specs.declared.function.Function.{Function}
+use Rattle.sil_ast.specs.declared.inst.Inst.{Inst}
+use Rattle.sil_ast.specs.declared.module.Module.{Module}
+use Rattle.sil_ast.specs.declared.operands.Operand.{Operand}
+use Rattle.sil_ast.specs.declared.place.ValueId.{ValueId}
+use Rattle.sil_ast.specs.declared.type_name.TypeName.{TypeName, TypeName-F, out-TypeName}
+use Rattle.type_definitions.specs.Declarations.{Declarations, decl_of, declarations_of, place_of}
+use Rattle.type_definitions.specs.Lookups.{decl_fields, field_at_place, inherited_fields}
+use Rattle.sil_types.specs.Typing.RowTypes.{MadeTypes, all_fields, given_by, gives, made_types, type_of, written}
+use Rattle.sil_types.specs.Typing.Shapes.{element_of, element_at, elements, field_named, field_type, fields_of_struct, found_field, is_object, is_owner, is_owner_layer, name_in, object_at, struct_field, struct_fields, where_it}
+use Rattle.sil_types.specs.Typing.Values.{arg_has, result_types}
+use Rattle.lowering_model.specs.Extracts.{element_extracts, field_extracts, member_of}
+use Rattle.lowering_model.specs.LoweredBlocks.{value_with}
+use Rattle.lowering_model.specs.LoweredInsts.{becomes, lowering_of, plain_load, plain_store}
+use Rattle.lowering_model.specs.NewInsts.{load, struct_extract, tuple_extract}
+use Rattle.lowering_model.specs.declared.lowering.Lowering.{Lowering}
+use Rattle.lowering_model.specs.declared.lowering.Lowering.TheVariants as lowering
+use Rattle.run_typing_laws.proofs.Found.{place_once, same_name}
+use Rattle.run_typing_laws.proofs.ListFacts.{get_below}
+use Rattle.lowered_typing_laws.proofs.Becomes.{Becomes, IsCounted, IsLoad, IsOne, at_storage, assigns, becomes_so, copies, destroys, fields, loads, no_results, object_there, parts, releases, retains, stays, stores, vanishes}
+use Rattle.lowered_typing_laws.proofs.Lists.{each_all, get_behind}
+use Rattle.lowered_typing_laws.proofs.Sound.{Sound}
+use Rattle.lowered_typing_laws.proofs.Told.{InstTold}
+
+-- the type of the spare value, where an instruction takes one: that of what is at its place
+abbrev spare_by : Lowering → Inst → Option TypeName
+spare_by lowering.Stores i = option_and_then object_at (written 1 i)
+spare_by lowering.Destroys i = option_and_then object_at (written 0 i)
+spare_by _ i = None
+
+abbrev pub spare_type : Inst → Option TypeName
+spare_type i = spare_by (lowering_of i.op) i
+
+-- ---- lists
+
+slices : {A : Type 0} (before xs : List A) → map (slice_get (before ++ xs)) (range_with_len (length before) (length xs)) ≡ map (λ x. Some x) xs
+slices before [] = refl
+slices before (x ∷ xs) =
+    let none : length before + 0 ≡ length before = omega arith in
+    ap₂ (λ y ys. y ∷ ys) (get_behind before (x ∷ xs) 0 (length before) none)
+    (ap₂ (λ l n. map (slice_get l) (range_with_len n (length xs))) (sym (append_assoc before (x ∷ []) xs)) (sym (length-append before (x ∷ [])))
+    ∙ slices (before ++ x ∷ []) xs)
+
+some_types : (fs : List Field) → map (λ t. Some t) (map field_type fs) ≡ map (λ (x : Field). Some x.ty) fs
+some_types [] = refl
+some_types (x ∷ fs) = ap (λ ts. Some x.ty ∷ ts) (some_types fs)
+
+module _ (d : Declarations) where
+  -- ---- a field is found again by its name
+
+  own_named : (x : Decl) (fs : List Field) → struct_fields x ≡ Some fs → AreMembersOnce x → (decl_fields (Some x) ≡ fs) × AreOnce (map field_name fs)
+  own_named (decl.Struct n fields) fs e once = let same : fields ≡ fs = cc in (same, subst (λ xs. AreOnce (map field_name xs)) same once)
+  own_named (decl.Enum n cases) fs e once = cc
+  own_named (decl.Class n superclass fields) fs e once = cc
+
+  layer_named : (layer : TypeName-F TypeName) (name : Name) → name_in layer ≡ Some name → is_owner_layer name layer ≡ true
+  layer_named (TypeName-F.Named n) name e = let same : n ≡ name = cc in ap (λ x. is_owner_layer name (TypeName-F.Named x)) same ∙ same_name name
+  layer_named _ name e = cc
+
+  field_again : (t : TypeName) (name : Name) (x : Decl) (fs : List Field) → name_in (out-TypeName t) ≡ Some name → decl_of d name ≡ Some x → struct_fields x ≡ Some fs → AreMembersOnce x
+      → (k : ℕ) (y : Field) → slice_get fs k ≡ Some y → struct_field d (member_of name y) t ≡ Some y
+  field_again t name x fs named declared struct once k y there =
+      let own = own_named x fs struct once in
+      let fields : fields_of_struct d t ≡ Some fs = ap (λ n. option_and_then struct_fields (option_and_then (decl_of d) n)) named ∙ ap (option_and_then struct_fields) declared ∙ struct in
+      let owner : is_owner (member_of name y) t ≡ true = layer_named (out-TypeName t) name named in
+      let place : place_of (map field_name fs) y.name ≡ Some k = place_once field_name fs k y own.1 there in
+      ap₂ (λ a b. if a && is_some b then field_named d (member_of name y) else None) owner fields
+      ∙ ap (λ l. option_map found_field (field_at_place (length (inherited_fields d name)) l (place_of (map field_name l) y.name))) (ap decl_fields declared ∙ own.0)
+      ∙ ap (λ o. option_map found_field (field_at_place (length (inherited_fields d name)) fs o)) place
+      ∙ ap (λ o. option_map found_field (option_map (λ g. record { place = length (inherited_fields d name) + k; field = g }) o)) there
+
+module _ (m : Module) (f : Function) (owned : f.form ≡ Ossa) (once : (name : Name) (x : Decl) → decl_of (declarations_of m) name ≡ Some x → AreMembersOnce x)
+    (i : Inst) (sound : Sound m f i) (g : ValueId → Option TypeName) (s : ℕ) (told : InstTold arg_has (result_types (declarations_of m)) spare_type g s i) where
+  abbrev d : Declarations
+  d = declarations_of m
+
+  made_by : (o : Op) → i.op ≡ o → made_types d i ≡ unwrap_or (given_by o d i) []
+  made_by o is = ap (λ x. unwrap_or (given_by x d i) []) is
+
+  -- what is loaded is of the type of what is at the place
+  load_types : (place : Operand) (p t : TypeName) (v : ValueId) → IsLoad d i place p t v → map g i.results ≡ result_types d (plain_load i)
+  load_types place p t v load =
+      let made : made_types d (plain_load i) ≡ t ∷ [] =
+      ap (λ os. unwrap_or (gives (option_and_then object_at (option_and_then type_of (slice_get os 0)))) []) load.one.only
+      ∙ ap (λ w. unwrap_or (gives (option_and_then object_at w)) []) load.one.typed ∙ ap (λ w. unwrap_or (gives w) []) load.at in
+      let given : made_types d i ≡ t ∷ [] = ap (λ (r : MadeTypes). unwrap_or r []) load.row in
+      told.own ∙ ap (λ ts. map (slice_get ts) (range_with_len 0 (length i.results))) (given ∙ sym made)
+
+  object_counted : (place : Operand) (p t : TypeName) → IsCounted d place p t → option_and_then object_at place.ty ≡ Some t
+  object_counted place p t c = ap (option_and_then object_at) c.typed ∙ object_there p t c.at (and_parts (is_object t) _ c.nontrivial).0
+
+  spare_loaded : (place : Operand) (p t : TypeName) → IsCounted d place p t → spare_type i ≡ Some t → result_types d (load place (value_with s)) ≡ g (value_with s) ∷ []
+  spare_loaded place p t c spare =
+      ap (λ w. map (slice_get (unwrap_or (gives w) [])) (range_with_len 0 1)) (object_counted place p t c) ∙ ap (λ w. w ∷ []) (sym spare ∙ sym told.new)
+
+  module _ (o : Operand) (t : TypeName) (typed : o.ty ≡ Some t) where
+    field_types : (name : Name) (fs : List Field) (vs : List ValueId) → Each (λ x. struct_field d (member_of name x) t ≡ Some x) fs → length fs ≡ length vs → map g vs ≡ map (λ x. Some x.ty) fs
+        → map g (flat_map results_of (field_extracts o (map (member_of name) fs) vs)) ≡ flat_map (result_types d) (field_extracts o (map (member_of name) fs) vs)
+    field_types name [] vs found size e = refl
+    field_types name (x ∷ fs) [] found size e = refl
+    field_types name (x ∷ fs) (v ∷ vs) found size e =
+        let one : result_types d (struct_extract o (member_of name x) v) ≡ Some x.ty ∷ [] =
+        ap (λ w. map (slice_get (unwrap_or (gives (option_map field_type (option_and_then (struct_field d (member_of name x)) w))) [])) (range_with_len 0 1)) typed
+        ∙ ap (λ w. map (slice_get (unwrap_or (gives (option_map field_type w)) [])) (range_with_len 0 1)) found.0 in
+        let first : g v ≡ Some x.ty = cc in
+        ap₂ (λ y ys. y ∷ ys) first (field_types name fs vs found.1 (omega arith) (cc)) ∙ ap (λ ys. ys ++ _) (sym one)
+
+    part_types : (ts : List TypeName) (n : ℕ) (vs : List ValueId) → elements t ≡ Some ts → n + length vs ≡ length ts → map g vs ≡ map (slice_get ts) (range_with_len n (length vs))
+        → map g (flat_map results_of (element_extracts o n vs)) ≡ flat_map (result_types d) (element_extracts o n vs)
+    part_types ts n [] are size e = refl
+    part_types ts n (v ∷ vs) are size e =
+        let u = get_below ts n (omega arith) in
+        let one : result_types d (tuple_extract o n v) ≡ Some u.0 ∷ [] =
+        ap (λ w. map (slice_get (unwrap_or (gives (option_and_then (element_of (Some (pos n))) w)) [])) (range_with_len 0 1)) typed
+        ∙ ap (λ w. map (slice_get (unwrap_or (gives (option_and_then (λ xs. element_at xs (Some (pos n))) w)) [])) (range_with_len 0 1)) are
+        ∙ ap (λ w. map (slice_get (unwrap_or (gives w) [])) (range_with_len 0 1)) u.1 in
+        let first : g v ≡ slice_get ts n = cc in
+        ap₂ (λ y ys. y ∷ ys) (first ∙ u.1) (part_types ts (n + 1) vs are (omega arith) (cc)) ∙ ap (λ ys. ys ++ _) (sym one)
+
+  pub spare_stored : (x place : Operand) (p t : TypeName) → i.op ≡ op.Store → i.operands ≡ x ∷ place ∷ [] → IsCounted d place p t → spare_type i ≡ Some t
+  spare_stored x place p t is both counted =
+      ap (λ o. spare_by (lowering_of o) i) is ∙ ap (λ os. option_and_then object_at (option_and_then type_of (slice_get os 1))) both ∙ object_counted place p t counted
+
+  pub spare_destroyed : (place : Operand) (p t : TypeName) → i.op ≡ op.DestroyAddr → i.operands ≡ place ∷ [] → IsCounted d place p t → spare_type i ≡ Some t
+  spare_destroyed place p t is one counted =
+      ap (λ o. spare_by (lowering_of o) i) is ∙ ap (λ os. option_and_then object_at (option_and_then type_of (slice_get os 0))) one ∙ object_counted place p t counted
+
+  types_so : (js : List Inst) → Becomes d i (value_with s) js → map g (flat_map results_of js) ≡ flat_map (result_types d) js
+  types_so js (stays e) = ap (map g) (append-nil i.results) ∙ told.own ∙ sym (append-nil (result_types d i))
+  types_so js (at_storage is e) = ap (map g) (append-nil i.results) ∙ told.own ∙ sym (append-nil (result_types d i))
+  types_so js vanishes = refl
+  types_so js (retains o t one nontrivial) = refl
+  types_so js (releases o t one nontrivial) = refl
+  types_so js (loads place p t v load) = ap (map g) (append-nil i.results) ∙ load_types place p t v load ∙ sym (append-nil (result_types d (plain_load i)))
+  types_so js (copies place p t v load counted) = ap (map g) (append-nil i.results) ∙ load_types place p t v load ∙ sym (append-nil (result_types d (plain_load i)))
+  types_so js (stores is) = nothing (no_results m f owned i sound op.Store is refl)
+    where
+      nothing : i.results ≡ [] → map g (i.results ++ []) ≡ result_types d (plain_store i) ++ []
+      nothing none = ap (λ vs. map g (vs ++ [])) none ∙ sym (ap (λ (vs : List ValueId). map (slice_get (made_types d (plain_store i))) (range_with_len 0 (length vs)) ++ []) none)
+  types_so js (assigns x place p t is both counted) = two (no_results m f owned i sound op.Store is refl)
+    where
+      two : i.results ≡ [] → g (value_with s) ∷ map g (i.results ++ []) ≡ result_types d (load place (value_with s)) ++ (result_types d (plain_store i) ++ [])
+      two none =
+          ap (λ vs. g (value_with s) ∷ map g (vs ++ [])) none
+          ∙ ap₂ (λ a b. a ++ (b ++ [])) (sym (spare_loaded place p t counted (spare_stored x place p t is both counted)))
+          (sym (ap (λ (vs : List ValueId). map (slice_get (made_types d (plain_store i))) (range_with_len 0 (length vs))) none))
+  types_so js (destroys place p t is one counted) = ap (λ ts. ts ++ []) (sym (spare_loaded place p t counted (spare_destroyed place p t is one counted)))
+  types_so js (fields o t name x fs is one named declared struct size) =
+      field_types o t one.typed name fs i.results
+      (each_all (λ y. struct_field d (member_of name y) t ≡ Some y) fs (field_again d t name x fs named declared struct (once name x declared)))
+      size given
+    where
+      all : made_types d i ≡ map field_type fs
+      all = made_by op.DestructureStruct is
+          ∙ ap (λ os. unwrap_or (option_and_then (all_fields d) (option_and_then type_of (slice_get os 0))) []) one.only
+          ∙ ap (λ w. unwrap_or (option_and_then (all_fields d) w) []) one.typed
+          ∙ ap (λ n. unwrap_or (option_map (map field_type) (option_and_then struct_fields (option_and_then (decl_of d) n))) []) named
+          ∙ ap (λ y. unwrap_or (option_map (map field_type) (option_and_then struct_fields y)) []) declared
+          ∙ ap (λ y. unwrap_or (option_map (map field_type) y) []) struct
+
+      given : map g i.results ≡ map (λ y. Some y.ty) fs
+      given =
+          let count : length i.results ≡ length (map field_type fs) = sym size ∙ sym (length-map fs field_type) in
+          told.own ∙ ap₂ (λ ts n. map (slice_get ts) (range_with_len 0 n)) all count ∙ slices [] (map field_type fs) ∙ some_types fs
+  types_so js (parts o t ts is one are size) =
+      part_types o t one.typed ts 0 i.results are (let same : 0 + length i.results ≡ length ts = omega arith in same)
+      (told.own ∙ ap (λ xs. map (slice_get xs) (range_with_len 0 (length i.results))) all)
+    where
+      all : made_types d i ≡ ts
+      all = made_by op.DestructureTuple is
+          ∙ ap (λ os. unwrap_or (option_and_then elements (option_and_then type_of (slice_get os 0))) []) one.only
+          ∙ ap (λ w. unwrap_or (option_and_then elements w) []) one.typed
+          ∙ ap (λ w. unwrap_or w []) are
+
+  pub new_types : map g (flat_map results_of (becomes d (value_with s) i)) ≡ flat_map (result_types d) (becomes d (value_with s) i)
+  new_types = types_so (becomes d (value_with s) i) (becomes_so m f owned i sound (value_with s))
