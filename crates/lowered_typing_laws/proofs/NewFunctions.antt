@@ -62,18 +62,18 @@ module _ (m : Module) (f : Function) (owned : f.form ≡ Ossa) (i : Inst) (sound
   no_one o is none = told.own ∙ ap (λ g. functions_by g i.results) (named_none o is none) ∙ none_by i.results
 
   functions_so : (js : List Inst) → Becomes d i (value_with s) js → map h (flat_map results_of js) ≡ flat_map result_functions js
-  functions_so js (stays e) = own
-  functions_so js (at_storage is e) = own
-  functions_so js vanishes = refl
-  functions_so js (retains o t one nontrivial) = refl
-  functions_so js (releases o t one nontrivial) = refl
-  functions_so js (loads place p t v load) = own
-  functions_so js (copies place p t v load counted) = own
-  functions_so js (stores is) = own
-  functions_so js (assigns x place p t is both counted) = ap₂ (λ y ys. y ∷ ys) told.new own
-  functions_so js (destroys place p t is one counted) = ap (λ y. y ∷ []) told.new
-  functions_so js (fields o t name x fs is one named declared struct size) = field_functions o (map (member_of name) fs) i.results (no_one op.DestructureStruct is refl)
-  functions_so js (parts o t ts is one are size) = part_functions o 0 i.results (no_one op.DestructureTuple is refl)
+  functions_so _ (stays e) = own
+  functions_so _ (at_storage is e) = own
+  functions_so _ vanishes = refl
+  functions_so _ (retains o t one nontrivial) = refl
+  functions_so _ (releases o t one nontrivial) = refl
+  functions_so _ (loads place p t v load) = own
+  functions_so _ (copies place p t v load counted) = own
+  functions_so _ (stores is) = own
+  functions_so _ (assigns x place p t is both counted) = ap₂ (λ y ys. y ∷ ys) told.new own
+  functions_so _ (destroys place p t is one counted) = ap (λ y. y ∷ []) told.new
+  functions_so _ (fields o t name x fs is one named declared struct size) = field_functions o (map (member_of name) fs) i.results (no_one op.DestructureStruct is refl)
+  functions_so _ (parts o t ts is one are size) = part_functions o 0 i.results (no_one op.DestructureTuple is refl)
 
   pub new_functions : map h (flat_map results_of (becomes d (value_with s) i)) ≡ flat_map result_functions (becomes d (value_with s) i)
   new_functions = functions_so (becomes d (value_with s) i) (becomes_so m f owned i sound (value_with s))

@@ -141,26 +141,26 @@ module _ (m : Module) (f : Function) (owned : f.form ≡ Ossa) (once : (name : N
       ap (λ o. spare_by (lowering_of o) i) is ∙ ap (λ os. option_and_then object_at (option_and_then type_of (slice_get os 0))) one ∙ object_counted place p t counted
 
   types_so : (js : List Inst) → Becomes d i (value_with s) js → map g (flat_map results_of js) ≡ flat_map (result_types d) js
-  types_so js (stays e) = ap (map g) (append-nil i.results) ∙ told.own ∙ sym (append-nil (result_types d i))
-  types_so js (at_storage is e) = ap (map g) (append-nil i.results) ∙ told.own ∙ sym (append-nil (result_types d i))
-  types_so js vanishes = refl
-  types_so js (retains o t one nontrivial) = refl
-  types_so js (releases o t one nontrivial) = refl
-  types_so js (loads place p t v load) = ap (map g) (append-nil i.results) ∙ load_types place p t v load ∙ sym (append-nil (result_types d (plain_load i)))
-  types_so js (copies place p t v load counted) = ap (map g) (append-nil i.results) ∙ load_types place p t v load ∙ sym (append-nil (result_types d (plain_load i)))
-  types_so js (stores is) = nothing (no_results m f owned i sound op.Store is refl)
+  types_so _ (stays e) = ap (map g) (append-nil i.results) ∙ told.own ∙ sym (append-nil (result_types d i))
+  types_so _ (at_storage is e) = ap (map g) (append-nil i.results) ∙ told.own ∙ sym (append-nil (result_types d i))
+  types_so _ vanishes = refl
+  types_so _ (retains o t one nontrivial) = refl
+  types_so _ (releases o t one nontrivial) = refl
+  types_so _ (loads place p t v load) = ap (map g) (append-nil i.results) ∙ load_types place p t v load ∙ sym (append-nil (result_types d (plain_load i)))
+  types_so _ (copies place p t v load counted) = ap (map g) (append-nil i.results) ∙ load_types place p t v load ∙ sym (append-nil (result_types d (plain_load i)))
+  types_so _ (stores is) = nothing (no_results m f owned i sound op.Store is refl)
     where
       nothing : i.results ≡ [] → map g (i.results ++ []) ≡ result_types d (plain_store i) ++ []
       nothing none = ap (λ vs. map g (vs ++ [])) none ∙ sym (ap (λ (vs : List ValueId). map (slice_get (made_types d (plain_store i))) (range_with_len 0 (length vs)) ++ []) none)
-  types_so js (assigns x place p t is both counted) = two (no_results m f owned i sound op.Store is refl)
+  types_so _ (assigns x place p t is both counted) = two (no_results m f owned i sound op.Store is refl)
     where
       two : i.results ≡ [] → g (value_with s) ∷ map g (i.results ++ []) ≡ result_types d (load place (value_with s)) ++ (result_types d (plain_store i) ++ [])
       two none =
           ap (λ vs. g (value_with s) ∷ map g (vs ++ [])) none
           ∙ ap₂ (λ a b. a ++ (b ++ [])) (sym (spare_loaded place p t counted (spare_stored x place p t is both counted)))
           (sym (ap (λ (vs : List ValueId). map (slice_get (made_types d (plain_store i))) (range_with_len 0 (length vs))) none))
-  types_so js (destroys place p t is one counted) = ap (λ ts. ts ++ []) (sym (spare_loaded place p t counted (spare_destroyed place p t is one counted)))
-  types_so js (fields o t name x fs is one named declared struct size) =
+  types_so _ (destroys place p t is one counted) = ap (λ ts. ts ++ []) (sym (spare_loaded place p t counted (spare_destroyed place p t is one counted)))
+  types_so _ (fields o t name x fs is one named declared struct size) =
       field_types o t one.typed name fs i.results
       (each_all (λ y. struct_field d (member_of name y) t ≡ Some y) fs (field_again d t name x fs named declared struct (once name x declared)))
       size given
@@ -177,7 +177,7 @@ module _ (m : Module) (f : Function) (owned : f.form ≡ Ossa) (once : (name : N
       given =
           let count : length i.results ≡ length (map field_type fs) = sym size ∙ sym (length-map fs field_type) in
           told.own ∙ ap₂ (λ ts n. map (slice_get ts) (range_with_len 0 n)) all count ∙ slices [] (map field_type fs) ∙ some_types fs
-  types_so js (parts o t ts is one are size) =
+  types_so _ (parts o t ts is one are size) =
       part_types o t one.typed ts 0 i.results are (let same : 0 + length i.results ≡ length ts = omega arith in same)
       (told.own ∙ ap (λ xs. map (slice_get xs) (range_with_len 0 (length i.results))) all)
     where

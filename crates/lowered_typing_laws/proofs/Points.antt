@@ -95,13 +95,14 @@ module _ (m : Module) (f : Function) (num : ValueId → ValueId) (new : List (Op
 
   -- it stood in the function, or is one of those that lowering writes
   pub data Rest (j : Inst) : Type 0 where
-    same : Sound m f j → Rest j
-    made : is_made j.op ≡ true → j.edges ≡ [] → Rest j
+    same : Sound m f j → is_terminator j.op ≡ false → Rest j
+    made : is_made j.op ≡ true → Rest j
 
   pub record Low (j : Inst) : Type 0 where
     pub operands : has_operand_types d new (renumbered_inst num j) ≡ true
     pub results : is_count_by (results_of j.op) (row_types d j) (length j.results) ≡ true
     pub form : may_stand_lowered (forms_of j.op) j ≡ true
+    pub edges : j.edges ≡ []
     pub rest : Rest j
 
   -- ---- the instructions that lowering writes
@@ -122,7 +123,8 @@ module _ (m : Module) (f : Function) (num : ValueId → ValueId) (new : List (Op
         operands = four _ _ _ _ keeps (has_type_here o t typed value) refl (ap (λ b. are_as_asked_by b new (renumbered_inst num j)) bare);
         results = ap (λ r. is_count_by r (row_types d j) 0) none;
         form = ap (λ x. may_stand_lowered x j) form;
-        rest = made is refl;
+        edges = refl;
+        rest = made is;
       }
 
   pub retain_low : (o : Operand) (t : TypeName) → o.ty ≡ Some t → is_nontrivial d t ≡ true → type_at new (num o.value).0 ≡ Some t → Low (retain d o)
@@ -157,7 +159,8 @@ module _ (m : Module) (f : Function) (num : ValueId → ValueId) (new : List (Op
         (ap (λ o. are_as_asked_by (bare_operands_of o) new (renumbered_inst num j)) is);
     results = ap (λ o. is_count_by (results_of o) (row_types d j) (length j.results)) is ∙ ap (λ (vs : List ValueId). length vs == 1) result;
     form = ap (λ o. may_stand_lowered (forms_of o) j) is ∙ ap has_no_word plain;
-    rest = made (ap is_made is) none;
+    edges = none;
+    rest = made (ap is_made is);
   }
 
   field_low : (o : Operand) (t : TypeName) (named : Member) (v : ValueId) (x : Field) → o.ty ≡ Some t → type_at new (num o.value).0 ≡ Some t → struct_field d named t ≡ Some x
@@ -168,7 +171,8 @@ module _ (m : Module) (f : Function) (num : ValueId → ValueId) (new : List (Op
         (has_type_here o t typed value) refl refl;
     results = refl;
     form = refl;
-    rest = made refl refl;
+    edges = refl;
+    rest = made refl;
   }
 
   part_low : (o : Operand) (t : TypeName) (ts : List TypeName) (n : ℕ) (v : ValueId) → o.ty ≡ Some t → type_at new (num o.value).0 ≡ Some t → elements t ≡ Some ts → n < length ts
@@ -182,7 +186,8 @@ module _ (m : Module) (f : Function) (num : ValueId → ValueId) (new : List (Op
             (has_type_here o t typed value) refl refl;
         results = refl;
         form = refl;
-        rest = made refl refl;
+            edges = refl;
+        rest = made refl;
       }
 
   fields_low : (o : Operand) (t : TypeName) (name : Name) (fs : List Field) (vs : List ValueId) → o.ty ≡ Some t → type_at new (num o.value).0 ≡ Some t
@@ -217,7 +222,7 @@ module _ (m : Module) (f : Function) (num : ValueId → ValueId) (new : List (Op
         typed_alike num (value_types d f) new d i alike (subst (λ es. Each (AreSameAlong num (value_types d f) new) es) (sym no_edge) tt) ∙ here.sound.operands
 
     kept_low : may_stand_lowered (forms_of i.op) i ≡ true → Low i
-    kept_low form = record { operands = own_operands; results = here.sound.results; form = form; rest = same here.sound }
+    kept_low form = record { operands = own_operands; results = here.sound.results; form = form; edges = no_edge; rest = same here.sound here.inside }
 
     plain_load_low : (place : Operand) (p t : TypeName) (v : ValueId) → IsLoad d i place p t v → Low (plain_load i)
     plain_load_low place p t v l = load_low (plain_load i) place p t v refl refl l.one.only l.one.typed l.at l.result no_edge (value_one place p l.one)
@@ -232,7 +237,8 @@ module _ (m : Module) (f : Function) (num : ValueId → ValueId) (new : List (Op
       results = ap (λ o. is_count_by (results_of o) (given_by o d (plain_store i)) (length i.results)) is
           ∙ sym (ap (λ o. is_count_by (results_of o) (given_by o d i) (length i.results)) is) ∙ here.sound.results;
       form = ap (λ o. may_stand_lowered (forms_of o) (plain_store i)) is;
-      rest = made (ap is_made is) no_edge;
+      edges = no_edge;
+      rest = made (ap is_made is);
     }
 
     -- what was loaded from a place under this name
@@ -247,34 +253,34 @@ module _ (m : Module) (f : Function) (num : ValueId → ValueId) (new : List (Op
         is_object_of t e = (and_parts (is_object t) _ e).0
 
     lows : (js : List Inst) → Becomes d i (value_with s) js → Each IsPlaced (flat_map values_of_results js) → Each Low js
-    lows js (stays e) placed = (kept_low (stays_form i.op i e (subst (λ x. is_of_form x i ≡ true) owned here.sound.form)), tt)
-    lows js (at_storage is e) placed = (kept_low (ap (λ o. may_stand_lowered (forms_of o) i) is ∙ e), tt)
-    lows js vanishes placed = tt
-    lows js (retains o t one nontrivial) placed = (retain_low o t one.typed nontrivial (value_one o t one), tt)
-    lows js (releases o t one nontrivial) placed = (release_low o t one.typed nontrivial (value_one o t one), tt)
-    lows js (loads place p t v l) placed = (plain_load_low place p t v l, tt)
-    lows js (copies place p t v l c) placed =
+    lows _ (stays e) placed = (kept_low (stays_form i.op i e (subst (λ x. is_of_form x i ≡ true) owned here.sound.form)), tt)
+    lows _ (at_storage is e) placed = (kept_low (ap (λ o. may_stand_lowered (forms_of o) i) is ∙ e), tt)
+    lows _ vanishes placed = tt
+    lows _ (retains o t one nontrivial) placed = (retain_low o t one.typed nontrivial (value_one o t one), tt)
+    lows _ (releases o t one nontrivial) placed = (release_low o t one.typed nontrivial (value_one o t one), tt)
+    lows _ (loads place p t v l) placed = (plain_load_low place p t v l, tt)
+    lows _ (copies place p t v l c) placed =
         let first : Each IsPlaced ((v ∷ []) ++ []) = subst (λ vs. Each IsPlaced (vs ++ [])) l.result placed in
         let own : map g (v ∷ []) ≡ map (slice_get (t ∷ [])) (range_with_len 0 (length (v ∷ []))) =
         ap (map g) (sym l.result) ∙ told.own ∙ ap₂ (λ (r : MadeTypes) (vs : List ValueId). map (slice_get (unwrap_or r [])) (range_with_len 0 (length vs))) l.row l.result in
         let loaded : g v ≡ Some t = cc in
         (plain_load_low place p t v l, retain_low (loaded_from place v) t (loaded_type place p t c v) c.nontrivial (first.0 ∙ loaded), tt)
-    lows js (stores is) placed = (store_low is, tt)
-    lows js (assigns x place p t is both c) placed =
+    lows _ (stores is) placed = (store_low is, tt)
+    lows _ (assigns x place p t is both c) placed =
         (spare_low place p t 1 (ap (λ os. slice_get os 1) both) c,
         store_low is,
         release_low (loaded_from place (value_with s)) t (loaded_type place p t c (value_with s)) c.nontrivial
         (placed.0 ∙ told.new ∙ spare_stored m f owned once i here.sound g s told x place p t is both c),
         tt)
-    lows js (destroys place p t is one c) placed =
+    lows _ (destroys place p t is one c) placed =
         (spare_low place p t 0 (ap (λ os. slice_get os 0) one) c,
         release_low (loaded_from place (value_with s)) t (loaded_type place p t c (value_with s)) c.nontrivial
         (placed.0 ∙ told.new ∙ spare_destroyed m f owned once i here.sound g s told place p t is one c),
         tt)
-    lows js (fields o t name x fs is one named declared struct size) placed =
+    lows _ (fields o t name x fs is one named declared struct size) placed =
         fields_low o t name fs i.results one.typed (value_one o t one)
         (each_all (λ y. struct_field d (member_of name y) t ≡ Some y) fs (field_again d t name x fs named declared struct (once name x declared)))
-    lows js (parts o t ts is one are size) placed =
+    lows _ (parts o t ts is one are size) placed =
         parts_low o t ts 0 i.results one.typed (value_one o t one) are (let all : 0 + length i.results ≡ length ts = omega arith in all)
 
     pub becomes_low : Each IsPlaced (flat_map values_of_results (becomes d (value_with s) i)) → Each Low (becomes d (value_with s) i)

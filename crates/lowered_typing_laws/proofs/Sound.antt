@@ -67,6 +67,7 @@ pub record SoundInside (m : Module) (f : Function) (i : Inst) : Type 0 where
 
 pub record SoundEnd (m : Module) (f : Function) (i : Inst) : Type 0 where
   pub sound : Sound m f i
+  pub ends : is_terminator i.op ≡ true
   pub no_results : i.results ≡ []
 
 pub record SoundBlock (m : Module) (f : Function) (b : Block) : Type 0 where
@@ -92,7 +93,7 @@ module _ (m : Module) (numbered : IsNumbered m) (typed : Typed m) (n : ℕ) (f :
   pub keeps_function : (x : Rule) → BreaksAtFunction m f x → ⊥
   keeps_function x broken = typed (at_function n) x (function n f x there broken)
 
-  keeps_at : (b k : ℕ) (i : Inst) (x : Rule) → IsAt f b k i → BreaksAtPoint m f b k i x → ⊥
+  pub keeps_at : (b k : ℕ) (i : Inst) (x : Rule) → IsAt f b k i → BreaksAtPoint m f b k i x → ⊥
   keeps_at b k i x at broken = typed (at_point n b k) x (point n f b k i x there at broken)
 
   function_numbered : IsFunctionNumbered (length m.functions) f
@@ -143,6 +144,7 @@ module _ (m : Module) (numbered : IsNumbered m) (typed : Typed m) (n : ℕ) (f :
         });
         end = record {
           sound = sound_at k (length b.insts) b.terminator (record { within = b; is_block = is; is_inst = get_last b.insts b.terminator });
+          ends = parts.terminator.ends;
           no_results = parts.terminator.no_results;
         };
       }
