@@ -69,9 +69,9 @@ pub data Becomes (d : Declarations) (i : Inst) (s : ValueId) : List Inst → Typ
   assigns : (x place : Operand) (p t : TypeName) → i.op ≡ op.Store → i.operands ≡ x ∷ place ∷ [] → IsCounted d place p t →
       Becomes d i s (loads_spare d s place ∷ plain_store i ∷ releases_spare d s place ∷ [])
   destroys : (place : Operand) (p t : TypeName) → i.op ≡ op.DestroyAddr → i.operands ≡ place ∷ [] → IsCounted d place p t → Becomes d i s (loads_spare d s place ∷ releases_spare d s place ∷ [])
-  fields : (o : Operand) (t : TypeName) (name : Name) (decl : Decl) (fs : List Field) → i.op ≡ op.DestructureStruct → IsOne i o t → name_in (out-TypeName t) ≡ Some name
+  by_fields : (o : Operand) (t : TypeName) (name : Name) (decl : Decl) (fs : List Field) → i.op ≡ op.DestructureStruct → IsOne i o t → name_in (out-TypeName t) ≡ Some name
       → decl_of d name ≡ Some decl → struct_fields decl ≡ Some fs → length fs ≡ length i.results → Becomes d i s (field_extracts o (map (member_of name) fs) i.results)
-  parts : (o : Operand) (t : TypeName) (ts : List TypeName) → i.op ≡ op.DestructureTuple → IsOne i o t → elements t ≡ Some ts → length ts ≡ length i.results
+  by_elements : (o : Operand) (t : TypeName) (ts : List TypeName) → i.op ≡ op.DestructureTuple → IsOne i o t → elements t ≡ Some ts → length ts ≡ length i.results
       → Becomes d i s (element_extracts o 0 i.results)
 
 -- ---- operands by their rows
@@ -92,7 +92,11 @@ two_operands first second (x ∷ os) e = at os (and_parts (first x) (first_then 
         let both = and_parts (second o) (is_empty rest) h in
         (x, o, ap (λ l. x ∷ o ∷ l) (empty_is rest both.1), both.0)
 
-object_there : (p t : TypeName) → target p ≡ Some t → is_object t ≡ true → object_at p ≡ Some t
+pub taken_type : (w : Option TypeName) → is_some (takes w) ≡ true → (t : TypeName) × (w ≡ Some t)
+taken_type None e = cc
+taken_type (Some t) e = (t, refl)
+
+pub object_there : (p t : TypeName) → target p ≡ Some t → is_object t ≡ true → object_at p ≡ Some t
 object_there p t e o = ap (where_it is_object) e ∙ ap (λ b. if b then Some t else None) o
 
 no_more : {A : Type 0} (xs : List A) → (length xs == 1) ≡ true → (x : A) × (xs ≡ x ∷ [])
@@ -176,9 +180,9 @@ module _ (m : Module) (f : Function) (owned : f.form ≡ Ossa) (i : Inst) (sound
         let place = l.0 in
         let v = l.3 in
         let load : IsLoad d i place l.1 l.2 v = l.4 in
-        let word : passes (is_read_word d word.Copy) (option_and_then target (written 0 i)) ≡ true =
+        let fits : passes (is_read_word d word.Copy) (option_and_then target (written 0 i)) ≡ true =
         subst (λ x. passes (is_read_word d x) (option_and_then target (written 0 i)) ≡ true) q (word_by op.Load is) in
-        let it = passed (is_read_word d word.Copy) (option_and_then target (written 0 i)) word in
+        let it = passed (is_read_word d word.Copy) (option_and_then target (written 0 i)) fits in
         let at = where_found is_object (target l.1) l.2 load.at in
         let same : it.0 ≡ l.2 = some_same it.0 l.2 (sym it.1 ∙ ap (λ os. option_and_then target (option_and_then type_of (slice_get os 0))) load.one.only ∙ ap (option_and_then target) load.one.typed ∙ at.0) in
         subst (λ (os : List Operand). Becomes d i s (plain_load i ∷ flat_map (retains_loaded d s i.results) (option_to_list (slice_get os 0)))) (sym load.one.only)
@@ -202,33 +206,23 @@ module _ (m : Module) (f : Function) (owned : f.form ≡ Ossa) (i : Inst) (sound
         let two = two_operands is_bare is_typed i.operands (operands_by op.Store is) in
         let x = two.0 in
         let place = two.1 in
-        let word : passes (is_write_word d word.Assign) (option_and_then target (written 1 i)) ≡ true =
+        let fits : passes (is_write_word d word.Assign) (option_and_then target (written 1 i)) ≡ true =
         subst (λ y. passes (is_write_word d y) (option_and_then target (written 1 i)) ≡ true) q (word_by op.Store is) in
-        let it = passed (is_write_word d word.Assign) (option_and_then target (written 1 i)) word in
+        let it = passed (is_write_word d word.Assign) (option_and_then target (written 1 i)) fits in
         let counted = counted_at 1 place (ap (λ os. option_and_then type_of (slice_get os 1)) (sym two.2)) it.0 it.1 it.2 in
-        subst (λ (os : List Operand). Becomes d i s (flat_map (assigns_in i) (option_to_list (slice_get os 1)))) (sym two.2)
+        subst (λ (os : List Operand). Becomes d i s (flat_map (λ (y : Operand). loads_spare d s y ∷ plain_store i ∷ releases_spare d s y ∷ []) (option_to_list (slice_get os 1)))) (sym two.2)
         (assigns x place counted.0 it.0 is two.2 counted.1)
-      where
-        abbrev assigns_in : Inst → Operand → List Inst
-        assigns_in j place = loads_spare d s place ∷ plain_store j ∷ releases_spare d s place ∷ []
 
     destroy_by : i.op ≡ op.DestroyAddr → (b : Bool) → is_at_storage i ≡ b → Becomes d i s (destroys_by d s b i)
     destroy_by is true at = at_storage is at
     destroy_by is false at =
         let one = one_operand is_typed i.operands (operands_by op.DestroyAddr is) in
-        let it = taken_of (where_it (λ t. is_nontrivial d t || is_storage t) (option_and_then target (written 0 i))) (keeps_by op.DestroyAddr is) in
+        let it = taken_type (where_it (λ t. is_nontrivial d t || is_storage t) (option_and_then target (written 0 i))) (keeps_by op.DestroyAddr is) in
         let found = where_found (λ t. is_nontrivial d t || is_storage t) (option_and_then target (written 0 i)) it.0 it.1 in
         let not_stored : is_storage it.0 ≡ false = subst (λ w. passes is_storage w ≡ false) found.0 at in
         let counted = counted_at 0 one.0 (ap (λ os. option_and_then type_of (slice_get os 0)) (sym one.1)) it.0 found.0 (first_holds (is_nontrivial d it.0) (is_storage it.0) not_stored found.1) in
-        subst (λ (os : List Operand). Becomes d i s (flat_map destroyed os)) (sym one.1) (destroys one.0 counted.0 it.0 is one.1 counted.1)
+        subst (λ (os : List Operand). Becomes d i s (flat_map (λ (y : Operand). loads_spare d s y ∷ releases_spare d s y ∷ []) os)) (sym one.1) (destroys one.0 counted.0 it.0 is one.1 counted.1)
       where
-        abbrev destroyed : Operand → List Inst
-        destroyed place = loads_spare d s place ∷ releases_spare d s place ∷ []
-
-        taken_of : (w : Option TypeName) → is_some (takes w) ≡ true → (t : TypeName) × (w ≡ Some t)
-        taken_of None e = cc
-        taken_of (Some t) e = (t, refl)
-
         first_holds : (a b : Bool) → b ≡ false → (a || b) ≡ true → a ≡ true
         first_holds true b h e = refl
         first_holds false b h e = cc
@@ -242,12 +236,9 @@ module _ (m : Module) (f : Function) (owned : f.form ≡ Ossa) (i : Inst) (sound
         subst (λ (os : List Operand). Becomes d i s (map (retain d) os)) (sym one.1) (retains one.0 it.0 (one_typed one.0 it.0 one.1 found.0) found.1)
     how op.DestroyValue is =
         let one = one_operand is_typed i.operands (operands_by op.DestroyValue is) in
-        let it = mapped_some (λ (ty : TypeName). no_type) (where_it (is_nontrivial d) (written 0 i)) (keeps_by op.DestroyValue is) in
+        let it = taken_type (where_it (is_nontrivial d) (written 0 i)) (keeps_by op.DestroyValue is) in
         let found = where_found (is_nontrivial d) (written 0 i) it.0 it.1 in
         subst (λ (os : List Operand). Becomes d i s (map (release d) os)) (sym one.1) (releases one.0 it.0 (one_typed one.0 it.0 one.1 found.0) found.1)
-      where
-        abbrev no_type : List TypeName
-        no_type = []
     how op.MoveValue is = vanishes
     how op.BeginBorrow is = vanishes
     how op.EndBorrow is = vanishes
@@ -277,8 +268,8 @@ module _ (m : Module) (f : Function) (owned : f.form ≡ Ossa) (i : Inst) (sound
         let count : length ts.0 ≡ length i.results = eqb-true (length ts.0) (length i.results) (subst (λ g. is_count_of g (length i.results) ≡ true) ts.1 (counted_by op.DestructureStruct is)) in
         let long : length (map field_type fs.0) ≡ length fs.0 = length-map fs.0 field_type in
         let all : length (map field_type fs.0) ≡ length ts.0 = ap length fs.2 in
-        subst (Becomes d i s) (sym (members one.0 t fs.0 name.0 typed name.1 fs.1))
-        (fields one.0 t name.0 x.0 fs.0 is typed name.1 name.2 x.2 (omega arith))
+        subst (Becomes d i s) {x = field_extracts one.0 (map (member_of name.0) fs.0) i.results} (sym (members one.0 t fs.0 name.0 typed name.1 fs.1))
+        (by_fields one.0 t name.0 x.0 fs.0 is typed name.1 name.2 x.2 (omega arith))
       where
         members : (o : Operand) (t : TypeName) (fs : List Field) (name : Name) → IsOne i o t → name_in (out-TypeName t) ≡ Some name → fields_of_struct d t ≡ Some fs
             → flat_map (extracts_fields d i.results) i.operands ≡ field_extracts o (map (member_of name) fs) i.results
@@ -296,7 +287,7 @@ module _ (m : Module) (f : Function) (owned : f.form ≡ Ossa) (i : Inst) (sound
         let at = found_behind elements (written 0 i) ts.0 ts.1 in
         let count : length ts.0 ≡ length i.results = eqb-true (length ts.0) (length i.results) (subst (λ g. is_count_of g (length i.results) ≡ true) ts.1 (counted_by op.DestructureTuple is)) in
         subst (Becomes d i s) (sym (ap (λ os. flat_map (extracts_elements i.results) os) one.1 ∙ append-nil _))
-        (parts one.0 at.0 ts.0 is (one_typed one.0 at.0 one.1 at.1) at.2 count)
+        (by_elements one.0 at.0 ts.0 is (one_typed one.0 at.0 one.1 at.1) at.2 count)
     how _ is = stays (ap lowering_of is)
 
     pub becomes_so : Becomes d i s (becomes d s i)

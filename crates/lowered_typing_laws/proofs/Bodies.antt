@@ -22,6 +22,7 @@ use Rattle.sil_ast.specs.declared.function.Function.{Function}
 use Rattle.sil_ast.specs.declared.inst.Inst.{Inst}
 use Rattle.sil_ast.specs.declared.module.Module.{Module}
 use Rattle.sil_ast.specs.declared.place.ValueId.{ValueId}
+use Rattle.sil_ast.specs.declared.type_name.TypeName.{TypeName}
 use Rattle.type_definitions.specs.Declarations.{Declarations, decl_of, declarations_of}
 use Rattle.sil_types.specs.Typing.EdgeRules.{has_address_type, lets_address_escape, takes_address}
 use Rattle.sil_types.specs.Typing.Same.{all_pairs, is_same_type}
@@ -58,10 +59,10 @@ module _ (m : Module) (f : Function) (owned : f.form ≡ Ossa) (once : (name : N
   abbrev num : ValueId → ValueId
   num = new_number (numbering_of d f)
 
-  abbrev table : List (Option _)
+  abbrev table : List (Option TypeName)
   table = new_table m f owned once sound new_placed old_placed
 
-  abbrev told : ValueId → Option _
+  abbrev told : ValueId → Option TypeName
   told = type_told m f owned once sound new_placed old_placed
 
   abbrev pub LowHere : Inst → Type 0

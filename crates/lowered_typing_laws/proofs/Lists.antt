@@ -106,35 +106,42 @@ where_true false o x e = cc
 
 -- ---- how many pass a test
 
+abbrev one_if : Bool → ℕ
+one_if b = cond b 1 0
+
 module _ {A : Type 0} (test : A → Bool) where
+  count-cons : (x : A) (xs : List A) → count_by test (x ∷ xs) ≡ one_if (test x) + count_by test xs
+  count-cons x xs = sum_by-cons (λ z. cond (test z) 1 0) x xs
+
+  counts_first : (y x : A) (xs : List A) → y ≡ x → test x ≡ true → count_by test (y ∷ xs) ≡ 1 + count_by test xs
+  counts_first y x xs same t = count-cons y xs ∙ ap (λ z. one_if (test z) + count_by test xs) same ∙ ap (λ b. one_if b + count_by test xs) t
+
+  counts_rest : (x : A) (xs : List A) → count_by test xs ≤ count_by test (x ∷ xs)
+  counts_rest x xs = let sum = count-cons x xs in omega (arith, sum)
+
   pub counts_one : (xs : List A) (k : ℕ) (x : A) → slice_get xs k ≡ Some x → test x ≡ true → 1 ≤ count_by test xs
   counts_one [] k x e t = cc
-  counts_one (y ∷ xs) zero x e t =
-      let one : cond (test y) 1 0 ≡ 1 = let same : y ≡ x = cc in ap (λ z. cond (test z) 1 0) same ∙ ap (λ b. cond b 1 0) t in
-      let sum : count_by test (y ∷ xs) ≡ cond (test y) 1 0 + count_by test xs = sum_by-cons (λ z. cond (test z) 1 0) y xs in
-      omega arith
+  counts_one (y ∷ xs) zero x e t = let sum = counts_first y x xs (cc) t in omega (arith, sum)
   counts_one (y ∷ xs) (suc k) x e t =
       let rest : 1 ≤ count_by test xs = counts_one xs k x e t in
-      let sum : count_by test (y ∷ xs) ≡ cond (test y) 1 0 + count_by test xs = sum_by-cons (λ z. cond (test z) 1 0) y xs in
-      omega arith
+      let more = counts_rest y xs in
+      omega (arith, rest, more)
 
   -- where no more than one passes, two that pass are one
   pub only_one : (xs : List A) (k l : ℕ) (x y : A) → count_by test xs ≤ 1 → slice_get xs k ≡ Some x → test x ≡ true → slice_get xs l ≡ Some y → test y ≡ true → x ≡ y
   only_one [] k l x y le e t g u = cc
   only_one (z ∷ xs) zero zero x y le e t g u = cc
   only_one (z ∷ xs) zero (suc l) x y le e t g u =
-      let one : cond (test z) 1 0 ≡ 1 = let same : z ≡ x = cc in ap (λ w. cond (test w) 1 0) same ∙ ap (λ b. cond b 1 0) t in
-      let sum : count_by test (z ∷ xs) ≡ cond (test z) 1 0 + count_by test xs = sum_by-cons (λ w. cond (test w) 1 0) z xs in
+      let sum = counts_first z x xs (cc) t in
       let more : 1 ≤ count_by test xs = counts_one xs l y g u in
-      absurd (omega arith)
+      absurd (omega (arith, sum, more, le))
   only_one (z ∷ xs) (suc k) zero x y le e t g u =
-      let one : cond (test z) 1 0 ≡ 1 = let same : z ≡ y = cc in ap (λ w. cond (test w) 1 0) same ∙ ap (λ b. cond b 1 0) u in
-      let sum : count_by test (z ∷ xs) ≡ cond (test z) 1 0 + count_by test xs = sum_by-cons (λ w. cond (test w) 1 0) z xs in
+      let sum = counts_first z y xs (cc) u in
       let more : 1 ≤ count_by test xs = counts_one xs k x e t in
-      absurd (omega arith)
+      absurd (omega (arith, sum, more, le))
   only_one (z ∷ xs) (suc k) (suc l) x y le e t g u =
-      let sum : count_by test (z ∷ xs) ≡ cond (test z) 1 0 + count_by test xs = sum_by-cons (λ w. cond (test w) 1 0) z xs in
-      only_one xs k l x y (omega arith) e t g u
+      let more = counts_rest z xs in
+      only_one xs k l x y (omega (arith, more, le)) e t g u
 
 module _ {A B : Type 0} (g : A → List B) (test : B → Bool) where
   counts_within : (xs : List A) (k j : ℕ) (x : A) (u : B) → slice_get xs k ≡ Some x → slice_get (g x) j ≡ Some u → test u ≡ true → 1 ≤ count_by test (flat_map g xs)

@@ -24,6 +24,7 @@ use Rattle.sil_ast.specs.declared.module.Module.{Module}
 use Rattle.sil_ast.specs.declared.place.FuncId.{FuncId}
 use Rattle.sil_ast.specs.declared.place.ValueId.{ValueId}
 use Rattle.sil_ast.specs.declared.vtable.Vtable.{Vtable}
+use Rattle.sil_ast.specs.declared.type_name.TypeName.{TypeName}
 use Rattle.sil_rules.specs.declared.rule.Rule.{Rule}
 use Rattle.sil_rules.specs.declared.rule.Rule.TheVariants as rule
 use Rattle.sil_types.specs.Typing.EdgeRules.{goes_to_entry, has_wrong_edge_arguments, have_wrong_arguments_by, is_to_entry}
@@ -85,7 +86,7 @@ module _ (m : Module) (f : Function) (owned : f.form ≡ Ossa) (once : (name : N
   abbrev low : Function
   low = lowered_body d f
 
-  abbrev table : List (Option _)
+  abbrev table : List (Option TypeName)
   table = new_table m f owned once sound new_placed old_placed
 
   -- 207
@@ -217,20 +218,17 @@ module _ (m : Module) (f : Function) where
   stays_itself forms _ (address_escapes e) = address_escapes e
 
 module _ (m : Module) (numbered : IsNumbered m) (typed : Typed m) (placed : ArePlaced m) where
-  abbrev d : Declarations
-  d = declarations_of m
-
-  once : (name : Name) (x : Decl) → decl_of d name ≡ Some x → AreMembersOnce x
+  once : (name : Name) (x : Decl) → decl_of (declarations_of m) name ≡ Some x → AreMembersOnce x
   once = members_once m numbered
 
   module _ (n : ℕ) (f : Function) (there : slice_get m.functions n ≡ Some f) where
-    itself : (o : Form) → f.form ≡ o → mixes_forms (lowered m) (lowered_by o d f) ≡ false → (x : Rule) → BreaksAtFunction (lowered m) (lowered_by o d f) x → ⊥
+    itself : (o : Form) → f.form ≡ o → mixes_forms (lowered m) (lowered_by o (declarations_of m) f) ≡ false → (x : Rule) → BreaksAtFunction (lowered m) (lowered_by o (declarations_of m) f) x → ⊥
     itself Ossa is forms x broken =
         let p = placed n f there is in body_itself m f is once (sound_function m numbered typed n f there) p.0 p.1 forms x broken
     itself Lowered is forms x broken = keeps_function m numbered typed n f there x (stays_itself m f forms x broken)
     itself External is forms x broken = keeps_function m numbered typed n f there x (stays_itself m f forms x broken)
 
-    at_points : (o : Form) → f.form ≡ o → (block index : ℕ) (i : Inst) (x : Rule) → IsAt (lowered_by o d f) block index i → BreaksAtPoint (lowered m) (lowered_by o d f) block index i x → ⊥
+    at_points : (o : Form) → f.form ≡ o → (block index : ℕ) (i : Inst) (x : Rule) → IsAt (lowered_by o (declarations_of m) f) block index i → BreaksAtPoint (lowered m) (lowered_by o (declarations_of m) f) block index i x → ⊥
     at_points Ossa is block index i x at broken =
         let p = placed n f there is in body_kept m f is once (sound_function m numbered typed n f there) p.0 p.1 block index i x at broken
     at_points Lowered is block index i x at broken = keeps_at m numbered typed n f there block index i x at (stays_at m f block index i x broken)
@@ -241,10 +239,10 @@ module _ (m : Module) (numbered : IsNumbered m) (typed : Typed m) (placed : AreP
 
   all_kept : (where_it_is : Site) (x : Rule) → BreaksAt (lowered m) where_it_is x → ⊥
   all_kept _ _ (function n g x there broken) =
-      let f = from_mapped (lowered_function d) m.functions n g there in
+      let f = from_mapped (lowered_function (declarations_of m)) m.functions n g there in
       itself n f.0 f.1 f.0.form refl (forms_same m f.0) x (subst (λ z. BreaksAtFunction (lowered m) z x) (sym f.2) broken)
   all_kept _ _ (point n g block index i x there at broken) =
-      let f = from_mapped (lowered_function d) m.functions n g there in
+      let f = from_mapped (lowered_function (declarations_of m)) m.functions n g there in
       at_points n f.0 f.1 f.0.form refl block index i x (subst (λ z. IsAt z block index i) (sym f.2) at) (subst (λ z. BreaksAtPoint (lowered m) z block index i x) (sym f.2) broken)
   all_kept _ _ (vtable n v x there broken) = vtable_kept n v x there broken
 

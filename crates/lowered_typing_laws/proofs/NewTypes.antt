@@ -32,7 +32,7 @@ use Rattle.lowering_model.specs.declared.lowering.Lowering.{Lowering}
 use Rattle.lowering_model.specs.declared.lowering.Lowering.TheVariants as lowering
 use Rattle.run_typing_laws.proofs.Found.{place_once, same_name}
 use Rattle.run_typing_laws.proofs.ListFacts.{get_below}
-use Rattle.lowered_typing_laws.proofs.Becomes.{Becomes, IsCounted, IsLoad, IsOne, at_storage, assigns, becomes_so, copies, destroys, fields, loads, no_results, object_there, parts, releases, retains, stays, stores, vanishes}
+use Rattle.lowered_typing_laws.proofs.Becomes.{Becomes, IsCounted, IsLoad, IsOne, at_storage, assigns, becomes_so, by_elements, by_fields, copies, destroys, loads, no_results, object_there, releases, retains, stays, stores, vanishes}
 use Rattle.lowered_typing_laws.proofs.Lists.{each_all, get_behind}
 use Rattle.lowered_typing_laws.proofs.Sound.{Sound}
 use Rattle.lowered_typing_laws.proofs.Told.{InstTold}
@@ -72,7 +72,7 @@ module _ (d : Declarations) where
   layer_named (TypeName-F.Named n) name e = let same : n ≡ name = cc in ap (λ x. is_owner_layer name (TypeName-F.Named x)) same ∙ same_name name
   layer_named _ name e = cc
 
-  field_again : (t : TypeName) (name : Name) (x : Decl) (fs : List Field) → name_in (out-TypeName t) ≡ Some name → decl_of d name ≡ Some x → struct_fields x ≡ Some fs → AreMembersOnce x
+  pub field_again : (t : TypeName) (name : Name) (x : Decl) (fs : List Field) → name_in (out-TypeName t) ≡ Some name → decl_of d name ≡ Some x → struct_fields x ≡ Some fs → AreMembersOnce x
       → (k : ℕ) (y : Field) → slice_get fs k ≡ Some y → struct_field d (member_of name y) t ≡ Some y
   field_again t name x fs named declared struct once k y there =
       let own = own_named x fs struct once in
@@ -118,7 +118,8 @@ module _ (m : Module) (f : Function) (owned : f.form ≡ Ossa) (once : (name : N
         ap (λ w. map (slice_get (unwrap_or (gives (option_map field_type (option_and_then (struct_field d (member_of name x)) w))) [])) (range_with_len 0 1)) typed
         ∙ ap (λ w. map (slice_get (unwrap_or (gives (option_map field_type w)) [])) (range_with_len 0 1)) found.0 in
         let first : g v ≡ Some x.ty = cc in
-        ap₂ (λ y ys. y ∷ ys) first (field_types name fs vs found.1 (omega arith) (cc)) ∙ ap (λ ys. ys ++ _) (sym one)
+        ap₂ (λ y ys. y ∷ ys) first (field_types name fs vs found.1 (omega arith) (cc))
+        ∙ ap (λ ys. ys ++ flat_map (result_types d) (field_extracts o (map (member_of name) fs) vs)) (sym one)
 
     part_types : (ts : List TypeName) (n : ℕ) (vs : List ValueId) → elements t ≡ Some ts → n + length vs ≡ length ts → map g vs ≡ map (slice_get ts) (range_with_len n (length vs))
         → map g (flat_map results_of (element_extracts o n vs)) ≡ flat_map (result_types d) (element_extracts o n vs)
@@ -130,7 +131,8 @@ module _ (m : Module) (f : Function) (owned : f.form ≡ Ossa) (once : (name : N
         ∙ ap (λ w. map (slice_get (unwrap_or (gives (option_and_then (λ xs. element_at xs (Some (pos n))) w)) [])) (range_with_len 0 1)) are
         ∙ ap (λ w. map (slice_get (unwrap_or (gives w) [])) (range_with_len 0 1)) u.1 in
         let first : g v ≡ slice_get ts n = cc in
-        ap₂ (λ y ys. y ∷ ys) (first ∙ u.1) (part_types ts (n + 1) vs are (omega arith) (cc)) ∙ ap (λ ys. ys ++ _) (sym one)
+        ap₂ (λ y ys. y ∷ ys) (first ∙ u.1) (part_types ts (n + 1) vs are (omega arith) (cc))
+        ∙ ap (λ ys. ys ++ flat_map (result_types d) (element_extracts o (n + 1) vs)) (sym one)
 
   pub spare_stored : (x place : Operand) (p t : TypeName) → i.op ≡ op.Store → i.operands ≡ x ∷ place ∷ [] → IsCounted d place p t → spare_type i ≡ Some t
   spare_stored x place p t is both counted =
@@ -160,7 +162,7 @@ module _ (m : Module) (f : Function) (owned : f.form ≡ Ossa) (once : (name : N
           ∙ ap₂ (λ a b. a ++ (b ++ [])) (sym (spare_loaded place p t counted (spare_stored x place p t is both counted)))
           (sym (ap (λ (vs : List ValueId). map (slice_get (made_types d (plain_store i))) (range_with_len 0 (length vs))) none))
   types_so _ (destroys place p t is one counted) = ap (λ ts. ts ++ []) (sym (spare_loaded place p t counted (spare_destroyed place p t is one counted)))
-  types_so _ (fields o t name x fs is one named declared struct size) =
+  types_so _ (by_fields o t name x fs is one named declared struct size) =
       field_types o t one.typed name fs i.results
       (each_all (λ y. struct_field d (member_of name y) t ≡ Some y) fs (field_again d t name x fs named declared struct (once name x declared)))
       size given
@@ -177,7 +179,7 @@ module _ (m : Module) (f : Function) (owned : f.form ≡ Ossa) (once : (name : N
       given =
           let count : length i.results ≡ length (map field_type fs) = sym size ∙ sym (length-map fs field_type) in
           told.own ∙ ap₂ (λ ts n. map (slice_get ts) (range_with_len 0 n)) all count ∙ slices [] (map field_type fs) ∙ some_types fs
-  types_so _ (parts o t ts is one are size) =
+  types_so _ (by_elements o t ts is one are size) =
       part_types o t one.typed ts 0 i.results are (let same : 0 + length i.results ≡ length ts = omega arith in same)
       (told.own ∙ ap (λ xs. map (slice_get xs) (range_with_len 0 (length i.results))) all)
     where

@@ -14,7 +14,7 @@ none_there : (name : Name) → Contains [] name → ⊥
 none_there name c = let lt : c.0 < 0 = c.1 in omega arith
 
 swift_once : (swift : Bool) → Each AreMembersOnce (swift_structs swift)
-swift_once true = ((none_there (codes "_value"), tt), (none_there (codes "_value"), tt), tt)
+swift_once true = ((none_there (codes "_value"), tt), ((none_there (codes "_value"), tt), tt))
 swift_once false = tt
 
 pub members_once : (m : Module) → IsNumbered m → (name : Name) (x : Decl) → decl_of (declarations_of m) name ≡ Some x → AreMembersOnce x

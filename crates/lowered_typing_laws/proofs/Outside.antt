@@ -83,12 +83,13 @@ module _ (m : Module) where
 
   first_lowered : (fs : List Function) → list_all (is_same_form Lowered) (option_to_list (option_map form_of (find has_body (map (lowered_function d) fs)))) ≡ true
   first_lowered [] = refl
-  first_lowered (f ∷ fs) = at (is_external (lowered_function d f).form) refl
+  first_lowered (f ∷ fs) = at (is_external (lowered_function d f).form) refl (first_lowered fs)
     where
       at : (b : Bool) → is_external (lowered_function d f).form ≡ b
+          → list_all (is_same_form Lowered) (option_to_list (option_map form_of (find has_body (map (lowered_function d) fs)))) ≡ true
           → list_all (is_same_form Lowered) (option_to_list (option_map form_of (cond (not b) (Some (lowered_function d f)) (find has_body (map (lowered_function d) fs))))) ≡ true
-      at true e = first_lowered fs
-      at false e = ap (λ x. is_same_form Lowered x && true) (lowered_form f e)
+      at true e rest = rest
+      at false e rest = ap (λ x. is_same_form Lowered x && true) (lowered_form f e)
 
   pub forms_same : (f : Function) → mixes_forms (lowered m) (lowered_function d f) ≡ false
   forms_same f = at (is_external (lowered_function d f).form) refl

@@ -44,7 +44,7 @@ use Rattle.lowering_model.specs.Numbers.{renumbered_edge, renumbered_inst, renum
 use Rattle.lowering_model.specs.declared.lowering.Lowering.TheVariants as lowering
 use Rattle.run_typing_laws.proofs.Found.{each_at}
 use Rattle.run_typing_laws.proofs.ListFacts.{empty_is, get_below}
-use Rattle.lowered_typing_laws.proofs.Becomes.{Becomes, IsCounted, IsLoad, IsOne, at_storage, assigns, becomes_so, copies, destroys, fields, loads, object_there, parts, releases, retains, stays, stores, vanishes}
+use Rattle.lowered_typing_laws.proofs.Becomes.{Becomes, IsCounted, IsLoad, IsOne, at_storage, assigns, becomes_so, by_elements, by_fields, copies, destroys, loads, object_there, releases, retains, stays, stores, vanishes}
 use Rattle.lowered_typing_laws.proofs.Lists.{each_all}
 use Rattle.lowered_typing_laws.proofs.NewTypes.{field_again, spare_destroyed, spare_stored, spare_type}
 use Rattle.lowered_typing_laws.proofs.Operands.{typed_at}
@@ -264,23 +264,23 @@ module _ (m : Module) (f : Function) (num : ValueId → ValueId) (new : List (Op
         let own : map g (v ∷ []) ≡ map (slice_get (t ∷ [])) (range_with_len 0 (length (v ∷ []))) =
         ap (map g) (sym l.result) ∙ told.own ∙ ap₂ (λ (r : MadeTypes) (vs : List ValueId). map (slice_get (unwrap_or r [])) (range_with_len 0 (length vs))) l.row l.result in
         let loaded : g v ≡ Some t = cc in
-        (plain_load_low place p t v l, retain_low (loaded_from place v) t (loaded_type place p t c v) c.nontrivial (first.0 ∙ loaded), tt)
+        (plain_load_low place p t v l, (retain_low (loaded_from place v) t (loaded_type place p t c v) c.nontrivial (first.0 ∙ loaded), tt))
     lows _ (stores is) placed = (store_low is, tt)
     lows _ (assigns x place p t is both c) placed =
         (spare_low place p t 1 (ap (λ os. slice_get os 1) both) c,
-        store_low is,
-        release_low (loaded_from place (value_with s)) t (loaded_type place p t c (value_with s)) c.nontrivial
+        (store_low is,
+        (release_low (loaded_from place (value_with s)) t (loaded_type place p t c (value_with s)) c.nontrivial
         (placed.0 ∙ told.new ∙ spare_stored m f owned once i here.sound g s told x place p t is both c),
-        tt)
+        tt)))
     lows _ (destroys place p t is one c) placed =
         (spare_low place p t 0 (ap (λ os. slice_get os 0) one) c,
-        release_low (loaded_from place (value_with s)) t (loaded_type place p t c (value_with s)) c.nontrivial
+        (release_low (loaded_from place (value_with s)) t (loaded_type place p t c (value_with s)) c.nontrivial
         (placed.0 ∙ told.new ∙ spare_destroyed m f owned once i here.sound g s told place p t is one c),
-        tt)
-    lows _ (fields o t name x fs is one named declared struct size) placed =
+        tt))
+    lows _ (by_fields o t name x fs is one named declared struct size) placed =
         fields_low o t name fs i.results one.typed (value_one o t one)
         (each_all (λ y. struct_field d (member_of name y) t ≡ Some y) fs (field_again d t name x fs named declared struct (once name x declared)))
-    lows _ (parts o t ts is one are size) placed =
+    lows _ (by_elements o t ts is one are size) placed =
         parts_low o t ts 0 i.results one.typed (value_one o t one) are (let all : 0 + length i.results ≡ length ts = omega arith in all)
 
     pub becomes_low : Each IsPlaced (flat_map values_of_results (becomes d (value_with s) i)) → Each Low (becomes d (value_with s) i)

@@ -84,7 +84,7 @@ record Renames (m : Module) (i : Inst) : Type 0 where
   count : length i.results ≡ 1
 
 renames_one : (m : Module) (f : Function) (i : Inst) → Sound m f i → renames i.op ≡ true → Renames m i
-renames_one m f i sound yes = at i.op refl yes
+renames_one m f i sound renaming = at i.op refl renaming
   where
     with_type : (o : Op) → i.op ≡ o → results_of o ≡ OneResult → (t : TypeName) → written 0 i ≡ Some t → given_by o (declarations_of m) i ≡ Some (t ∷ []) → Renames m i
     with_type o is one t typed given = record {
@@ -103,10 +103,10 @@ renames_one m f i sound yes = at i.op refl yes
         with_type o is one it.0 found.0 (gives ∙ ap (option_map (λ ty. ty ∷ [])) it.1)
 
     at : (o : Op) → i.op ≡ o → renames o ≡ true → Renames m i
-    at op.CopyValue is yes = tested op.CopyValue is refl (is_nontrivial (declarations_of m)) refl
-    at op.MoveValue is yes = tested op.MoveValue is refl is_object refl
-    at op.BeginBorrow is yes = tested op.BeginBorrow is refl (is_nontrivial (declarations_of m)) refl
-    at _ is yes = cc
+    at op.CopyValue is e = tested op.CopyValue is refl (is_nontrivial (declarations_of m)) refl
+    at op.MoveValue is e = tested op.MoveValue is refl is_object refl
+    at op.BeginBorrow is e = tested op.BeginBorrow is refl (is_nontrivial (declarations_of m)) refl
+    at _ is e = cc
 
 module _ (m : Module) (f : Function) (sound : SoundFunction m f) where
   abbrev types : List (Option TypeName)
@@ -119,12 +119,12 @@ module _ (m : Module) (f : Function) (sound : SoundFunction m f) where
   no_name : (t : Option TypeName) → HasNameOf (renamed []) t
   no_name t w e = cc
 
+  abbrev IsNamed : Option Switched → BlockArg → Type 0
+  IsNamed o a = HasNameOf (arg_renaming o a) (Some a.ty)
+
   args_named : (k : ℕ) (b : Block) → slice_get f.blocks k ≡ Some b → AllZip HasNameOf (arg_renamings f k b.args) (map arg_has b.args)
   args_named k b is = zip_maps HasNameOf (arg_renaming (switch_to f k)) arg_has b.args (at (switch_to f k) refl)
     where
-      abbrev IsNamed : Option Switched → BlockArg → Type 0
-      IsNamed o a = HasNameOf (arg_renaming o a) (Some a.ty)
-
       at : (o : Option Switched) → switch_to f k ≡ o → Each (IsNamed o) b.args
       at None e = each_all (IsNamed None) b.args (λ j a at. no_name (Some a.ty))
       at (Some s) e = by s.is_default refl
@@ -193,11 +193,12 @@ module _ (m : Module) (f : Function) (sound : SoundFunction m f) where
 
     within_same : (n : ℕ) (v : ValueId) → type_in (stands_within (renamings_of f) n v) ≡ type_in v
     within_same zero v = refl
-    within_same (suc n) v = at (renamed_from (renamings_of f) v) refl
+    within_same (suc n) v = at (renamed_from (renamings_of f) v) refl (within_same n)
       where
-        at : (o : Option ValueId) → renamed_from (renamings_of f) v ≡ o → type_in (unless_renamed (stands_within (renamings_of f) n) v o) ≡ type_in v
-        at None e = refl
-        at (Some w) e = within_same n w ∙ renamed_same v w e
+        at : (o : Option ValueId) → renamed_from (renamings_of f) v ≡ o → ((w : ValueId) → type_in (stands_within (renamings_of f) n w) ≡ type_in w)
+            → type_in (unless_renamed (stands_within (renamings_of f) n) v o) ≡ type_in v
+        at None e further = refl
+        at (Some w) e further = further w ∙ renamed_same v w e
 
     pub stands_same : (v : ValueId) → type_in (stands_for (renamings_of f) v) ≡ type_in v
     stands_same v = within_same (length (renamings_of f)) v
@@ -221,17 +222,14 @@ module _ (m : Module) (f : Function) (sound : SoundFunction m f) where
   results_unnamed : (i : Inst) → Sound m f i → AllZip HasNoName (result_renamings i) (result_functions i)
   results_unnamed i s = at i.results
     where
-      abbrev def : Definition
-      def = renamed (cond (renames i.op) (map value_of i.operands) [])
-
-      first : HasNoName def i.function
+      first : HasNoName (renamed (cond (renames i.op) (map value_of i.operands) [])) i.function
       first g e =
           let callee : row_has is_callee i.op ≡ true = sym s.parts.function ∙ ap is_some e in
           ap (λ b. slice_get (cond b (map value_of i.operands) []) 0) (callee_named i.op callee)
 
-      at : (vs : List ValueId) → AllZip HasNoName (replicate (length vs) def) (functions_by i.function vs)
+      at : (vs : List ValueId) → AllZip HasNoName (replicate (length vs) (renamed (cond (renames i.op) (map value_of i.operands) []))) (functions_by i.function vs)
       at [] = tt
-      at (v ∷ vs) = (first, no_functions def (length vs))
+      at (v ∷ vs) = (first, no_functions _ (length vs))
 
   all_unnamed : AllZip HasNoName (renamings_of f) functions
   all_unnamed = zip_rows HasNoName (arg_renamings f) (λ k. map no_function) result_renamings result_functions 0 f.blocks (λ k b is.

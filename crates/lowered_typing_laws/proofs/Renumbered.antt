@@ -1,6 +1,6 @@
 -- What typing says of an instruction, it says of it with new numbers too: it speaks of values only through their types.
 use Rattle.std.proofs.Common.{◌≡◌, ℕ, zero, suc, List, [], ◌∷◌, ◌++◌, length, map, refl, ap, ap₂, ◌∙◌, Bool, true, false, Option, Some, None}
-use Rattle.std.specs.Prelude.{◌&&◌, ◌||◌, option_and_then, option_map, slice_get, is_some, if◌then◌else◌}
+use Rattle.std.specs.Prelude.{◌&&◌, ◌||◌, option_and_then, option_map, slice_get, is_some, unwrap_or, if◌then◌else◌}
 use Rattle.std.specs.List.{list_all, range_with_len}
 use Rattle.std.specs.Option.{option_to_list}
 use Rattle.std.proofs.lemmas.List.{length-map}
@@ -90,11 +90,7 @@ module _ (num : ValueId → ValueId) where
 
     pub result_types_same : (i : Inst) → result_types d (renumbered_inst num i) ≡ result_types d i
     result_types_same i =
-        ap₂ (λ (r : MadeTypes) (n : ℕ). map (slice_get (made_of r)) (range_with_len 0 n)) (row_same i) (length-map i.results num)
-      where
-        abbrev made_of : MadeTypes → List TypeName
-        made_of None = []
-        made_of (Some ts) = ts
+        ap₂ (λ (r : MadeTypes) (n : ℕ). map (slice_get (unwrap_or r [])) (range_with_len 0 n)) (row_same i) (length-map i.results num)
 
   -- ---- the types of values
 

@@ -14,6 +14,7 @@ use Rattle.sil_ast.specs.declared.function.Block.{Block}
 use Rattle.sil_ast.specs.declared.function.Function.{Function}
 use Rattle.sil_ast.specs.declared.inst.Inst.{Inst}
 use Rattle.sil_ast.specs.declared.module.Module.{Module}
+use Rattle.sil_ast.specs.declared.type_name.TypeName.{TypeName}
 use Rattle.sil_rules.specs.declared.rule.Rule.{Rule}
 use Rattle.sil_rules.specs.declared.rule.Rule.TheVariants as rule
 use Rattle.sil_types.specs.Typing.EdgeRules.{goes_to_entry, has_wrong_edge_arguments, lets_address_escape}
@@ -108,7 +109,7 @@ module _ (m : Module) (numbered : IsNumbered m) (typed : Typed m) (n : ℕ) (f :
   sound_at : (b k : ℕ) (i : Inst) → IsAt f b k i → Sound m f i
   sound_at b k i at =
       let range = each_at (EachInBlock InRange) f.blocks b at.within function_numbered.used at.is_block in
-      let types : List (Option _) = value_types (declarations_of m) f in
+      let types : List (Option TypeName) = value_types (declarations_of m) f in
       let keeps : Bool = keeps_row (declarations_of m) i in
       let written : Bool = are_as_written types i.operands in
       let edges : Bool = list_all (edge_is_as_written types) i.edges in

@@ -38,6 +38,7 @@ use Rattle.run_typing_laws.proofs.Found.{both_second, each_at}
 use Rattle.run_typing_laws.proofs.ListFacts.{or_second}
 use Rattle.run_typing_laws.proofs.Rows.Finding.{fails_at, mapped_from, passes_at, some_of, where_found}
 use Rattle.run_typing_laws.proofs.SameTypes.{same_types}
+use Rattle.lowered_typing_laws.proofs.Becomes.{taken_type}
 use Rattle.lowered_typing_laws.proofs.Lists.{first_from, kept_first, only_within, some_first, some_kept, where_true}
 use Rattle.lowered_typing_laws.proofs.Operands.{typed_at}
 use Rattle.lowered_typing_laws.proofs.Sound.{Sound, SoundBlock, SoundFunction}
@@ -129,14 +130,10 @@ module _ (m : Module) (f : Function) (sound : SoundFunction m f) where
 
   pub is_switch : (i : Inst) → Sound m f i → i.op ≡ op.SwitchEnum → IsSwitch i
   is_switch i s is =
-      let it = taken_of (where_it (is_enum (declarations_of m)) (written 0 i)) (subst (λ o. is_some (given_by o (declarations_of m) i) ≡ true) is s.keeps) in
+      let it = taken_type (where_it (is_enum (declarations_of m)) (written 0 i)) (subst (λ o. is_some (given_by o (declarations_of m) i) ≡ true) is s.keeps) in
       let found = where_found (is_enum (declarations_of m)) (written 0 i) it.0 it.1 in
       let right : switches_wrongly (declarations_of m) f i.edges (written 0 i) ≡ false = subst (λ o. has_wrong_cases_by o (declarations_of m) f i ≡ false) is s.cases in
       record { ty = it.0; typed = found.0; kept = kept_parts m f it.0 i.edges (subst (λ w. switches_wrongly (declarations_of m) f i.edges w ≡ false) found.0 right) }
-    where
-      taken_of : (w : Option TypeName) → is_some (takes w) ≡ true → (t : TypeName) × (w ≡ Some t)
-      taken_of None e = cc
-      taken_of (Some t) e = (t, refl)
 
   -- an edge to the block of a case or a default is the one of the switch
   pub lone : (k l i j : ℕ) (b c : Block) (e x : Edge) → slice_get f.blocks k ≡ Some b → slice_get b.terminator.edges i ≡ Some e → b.terminator.op ≡ op.SwitchEnum

@@ -36,7 +36,7 @@ use Rattle.lowered_typing_laws.proofs.NewTypes.{new_types, spare_type}
 use Rattle.lowered_typing_laws.proofs.Renamed.{function_stands, stands_same}
 use Rattle.lowered_typing_laws.proofs.Renumbered.{IsSame, result_types_same}
 use Rattle.lowered_typing_laws.proofs.Sound.{SoundBlock, SoundFunction, SoundInside}
-use Rattle.lowered_typing_laws.proofs.Told.{BlocksTold, all_told, blocks_rows, told, told_own, own_rows}
+use Rattle.lowered_typing_laws.proofs.Told.{BlocksTold, all_told, blocks_rows, spare_rows, told, told_own}
 
 -- ---- new numbers change no row
 
@@ -58,10 +58,10 @@ module _ {A : Type 0} (num : ValueId → ValueId) (arg : BlockArg → Option A) 
       (ap (flat_map results) (sym (map-append (renumbered_inst num) b.insts (b.terminator ∷ []))) ∙ insts_same (insts_of b)))
       (rows_same (n + 1) bs)
 
-types_level : (d : Declarations) (i : Inst) → length (result_types d i) ≡ length i.results
+pub types_level : (d : Declarations) (i : Inst) → length (result_types d i) ≡ length i.results
 types_level d i = length-map-range_with_len (slice_get (made_types d i)) 0 (length i.results)
 
-functions_level : (i : Inst) → length (result_functions i) ≡ length i.results
+pub functions_level : (i : Inst) → length (result_functions i) ≡ length i.results
 functions_level i = at i.function i.results
   where
     at : (g : Option FuncId) (vs : List ValueId) → length (functions_by g vs) ≡ length vs
@@ -147,7 +147,7 @@ module _ (m : Module) (f : Function) (owned : f.form ≡ Ossa) (once : (name : N
   type_kept v lt =
       let it = old_placed v lt in
       type_at_place it.0 (stands_for (renamings_of f) v) v it.1 it.2
-      ∙ stands_same m f sound _ v
+      ∙ stands_same m f sound (spare_rows arg_has (result_types d) spare_type (types_level d) f sound.numbered.values) v
       ∙ sym (told_own arg_has (result_types d) spare_type (types_level d) f sound.numbered.values v lt)
 
   pub operands_kept : (os : List Operand) → Each (IsValueBelow count) os → Each (IsSame num old_types new_table) os

@@ -112,13 +112,13 @@ module _ {A : Type 0} (arg : BlockArg → Option A) (results : Inst → List (Op
 
 module _ {A : Type 0} (arg : BlockArg → Option A) (results : Inst → List (Option A)) (spare : Inst → Option A)
     (level : (i : Inst) → length (results i) ≡ length i.results) (f : Function) (counted : AreCountedFrom 0 (values_of f.blocks)) where
-  abbrev own_rows : List (Option A)
+  abbrev pub own_rows : List (Option A)
   own_rows = value_rows (λ k. map arg) results f
 
   abbrev block_spares : Block → List (Option A)
   block_spares b = map spare b.insts
 
-  abbrev spare_rows : List (Option A)
+  abbrev pub spare_rows : List (Option A)
   spare_rows = flat_map block_spares f.blocks
 
   -- of a value, by its number
