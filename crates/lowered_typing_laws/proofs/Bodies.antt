@@ -35,7 +35,7 @@ use Rattle.lowering_model.specs.Numbers.{new_number, numbering_of, renumbered, r
 use Rattle.run_typing_laws.proofs.Declared.{each_append}
 use Rattle.run_typing_laws.proofs.Found.{each_at}
 use Rattle.run_typing_laws.proofs.ListFacts.{each_parts, or_second}
-use Rattle.lowered_typing_laws.specs.LoweredTyped.{AreNewPlaced, AreOldPlaced}
+use Rattle.lowering_laws.specs.Lowerable.{IsLowerable}
 use Rattle.lowered_typing_laws.proofs.Args.{args_stay, lowered_args}
 use Rattle.lowered_typing_laws.proofs.Lists.{from_mapped}
 use Rattle.lowered_typing_laws.proofs.NewTypes.{spare_type}
@@ -52,7 +52,7 @@ in_or_last (z ∷ xs) x zero y e = inl e
 in_or_last (z ∷ xs) x (suc k) y e = in_or_last xs x k y e
 
 module _ (m : Module) (f : Function) (owned : f.form ≡ Ossa) (once : (name : Name) (x : Decl) → decl_of (declarations_of m) name ≡ Some x → AreMembersOnce x) (sound : SoundFunction m f)
-    (new_placed : AreNewPlaced (declarations_of m) f) (old_placed : AreOldPlaced (declarations_of m) f) where
+    (lowerable : IsLowerable (length m.functions) (declarations_of m) f) where
   abbrev d : Declarations
   d = declarations_of m
 
@@ -60,10 +60,10 @@ module _ (m : Module) (f : Function) (owned : f.form ≡ Ossa) (once : (name : N
   num = new_number (numbering_of d f)
 
   abbrev table : List (Option TypeName)
-  table = new_table m f owned once sound new_placed old_placed
+  table = new_table m f owned once sound lowerable
 
   abbrev told : ValueId → Option TypeName
-  told = type_told m f owned once sound new_placed old_placed
+  told = type_told m f owned once sound lowerable
 
   abbrev pub LowHere : Inst → Type 0
   LowHere = Low m f num table
@@ -79,7 +79,7 @@ module _ (m : Module) (f : Function) (owned : f.form ≡ Ossa) (once : (name : N
       let rest = insts_become d (renamings_of f) (s + 1) is in
       let both = each_parts IsPlaced (flat_map results_of here) (flat_map results_of rest) (subst (Each IsPlaced) (flat_map-append results_of here rest) placed) in
       each_append LowHere here rest
-      (becomes_low m f num table owned once i h.0 told s t.0 (operands_kept m f owned once sound new_placed old_placed i.operands h.0.sound.range.operands) both.0)
+      (becomes_low m f num table owned once i h.0 told s t.0 (operands_kept m f owned once sound lowerable i.operands h.0.sound.range.operands) both.0)
       (insts_low (s + 1) is h.1 t.1 both.1)
 
   abbrev AreLow : Block → Type 0
@@ -98,8 +98,8 @@ module _ (m : Module) (f : Function) (owned : f.form ≡ Ossa) (once : (name : N
 
   all_low : Each AreLow (lowered_blocks d f)
   all_low =
-      blocks_low (length (values_of f.blocks)) f.blocks sound.blocks (blocks_typed m f owned once sound new_placed old_placed)
-      (defined_typed m f owned once sound new_placed old_placed)
+      blocks_low (length (values_of f.blocks)) f.blocks sound.blocks (blocks_typed m f owned once sound lowerable)
+      (defined_typed m f owned once sound lowerable)
 
   -- ---- what stands at a point
 

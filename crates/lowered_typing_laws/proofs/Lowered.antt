@@ -41,7 +41,9 @@ use Rattle.sil_types.specs.Typing.Values.{value_functions, value_types}
 use Rattle.type_definitions.specs.Declarations.{Declarations, decl_of, declarations_of}
 use Rattle.lowering_model.specs.LoweredModules.{lowered, lowered_body, lowered_by, lowered_function}
 use Rattle.lowering_model.specs.Numbers.{new_number, numbering_of, renumbered_edge, renumbered_inst}
-use Rattle.lowered_typing_laws.specs.LoweredTyped.{AreNewPlaced, AreOldPlaced, ArePlaced, LoweredIsTyped}
+use Rattle.lowering_laws.specs.Lowerable.{HasNoRings, IsLowerable}
+use Rattle.lowering_laws.proofs.Lowerable.{functions_are_lowerable}
+use Rattle.lowered_typing_laws.specs.LoweredTyped.{LoweredIsTyped}
 use Rattle.lowered_typing_laws.proofs.Args.{not_annotated}
 use Rattle.lowered_typing_laws.proofs.Bodies.{LowHere, StandsAt, addresses_stay, signature_fits, stands_at}
 use Rattle.lowered_typing_laws.proofs.Bodies.StandsAt.{inside as inside_at, end as end_at}
@@ -76,7 +78,7 @@ ends_form op.DestructureTuple i e = cc
 ends_form _ i e = refl
 
 module _ (m : Module) (f : Function) (owned : f.form ≡ Ossa) (once : (name : Name) (x : Decl) → decl_of (declarations_of m) name ≡ Some x → AreMembersOnce x) (sound : SoundFunction m f)
-    (new_placed : AreNewPlaced (declarations_of m) f) (old_placed : AreOldPlaced (declarations_of m) f) where
+    (lowerable : IsLowerable (length m.functions) (declarations_of m) f) where
   abbrev d : Declarations
   d = declarations_of m
 
@@ -87,7 +89,7 @@ module _ (m : Module) (f : Function) (owned : f.form ≡ Ossa) (once : (name : N
   low = lowered_body d f
 
   abbrev table : List (Option TypeName)
-  table = new_table m f owned once sound new_placed old_placed
+  table = new_table m f owned once sound lowerable
 
   -- 207
   form_kept : (block index : ℕ) (j : Inst) → may_stand_lowered (forms_of j.op) j ≡ true → is_of_other_form low block index (renumbered_inst num j) ≡ false
@@ -97,7 +99,7 @@ module _ (m : Module) (f : Function) (owned : f.form ≡ Ossa) (once : (name : N
       (and_right (true && (index == 0)) (list_any is_annotated (args_of low block)) (not_annotated d f block))
 
   -- an instruction that stands in the place of one
-  module _ (j : Inst) (h : LowHere m f owned once sound new_placed old_placed j) where
+  module _ (j : Inst) (h : LowHere m f owned once sound lowerable j) where
     inside : is_terminator j.op ≡ false
     inside = at h.rest
       where
@@ -110,7 +112,7 @@ module _ (m : Module) (f : Function) (owned : f.form ≡ Ossa) (once : (name : N
     calls = at h.rest
       where
         at : Rest m f num table j → calls_no_function (value_functions low) (renumbered_inst num j) ≡ false
-        at (same s e) = calls_kept num m f (λ v g lt is. function_kept m f owned once sound new_placed old_placed v g lt is) j s
+        at (same s e) = calls_kept num m f (λ v g lt is. function_kept m f owned once sound lowerable v g lt is) j s
         at (made e) = made_calls j.op (value_functions low) (renumbered_inst num j) e
 
     agrees : differs_from_signature (lowered m) low (value_functions low) (renumbered_inst num j) ≡ false
@@ -118,7 +120,7 @@ module _ (m : Module) (f : Function) (owned : f.form ≡ Ossa) (once : (name : N
     agrees = at h.rest
       where
         at : Rest m f num table j → differs_from_signature (lowered m) low (value_functions low) (renumbered_inst num j) ≡ false
-        at (same s e) = signature_kept num m f (λ v g lt is. function_kept m f owned once sound new_placed old_placed v g lt is) j s
+        at (same s e) = signature_kept num m f (λ v g lt is. function_kept m f owned once sound lowerable v g lt is) j s
         at (made e) = made_agrees j.op (lowered m) low (value_functions low) (renumbered_inst num j) e
 
     edges : has_wrong_edge_arguments low (renumbered_inst num j) ≡ false
@@ -151,11 +153,11 @@ module _ (m : Module) (f : Function) (owned : f.form ≡ Ossa) (once : (name : N
     along : Each (AreSameAlong num (value_types d f) table) i.edges
     along =
         each_weaker (IsEdgeInRange (length (values_of f.blocks)) (length f.blocks)) (AreSameAlong num (value_types d f) table)
-        (λ e r. operands_kept m f owned once sound new_placed old_placed e.args r.args) i.edges end.sound.range.edges
+        (λ e r. operands_kept m f owned once sound lowerable e.args r.args) i.edges end.sound.range.edges
 
     operands : has_operand_types d table (renumbered_inst num i) ≡ true
     operands =
-        typed_alike num (value_types d f) table d i (operands_kept m f owned once sound new_placed old_placed i.operands end.sound.range.operands) along ∙ end.sound.operands
+        typed_alike num (value_types d f) table d i (operands_kept m f owned once sound lowerable i.operands end.sound.range.operands) along ∙ end.sound.operands
 
     end_entry : goes_to_entry (renumbered_inst num i) ≡ false
     unfolding goes_to_entry
@@ -165,19 +167,19 @@ module _ (m : Module) (f : Function) (owned : f.form ≡ Ossa) (once : (name : N
     end_kept block index _ (operand_type e) = never _ (not_from_true _ operands) e
     end_kept block index _ (result_count e) = never _ (not_from_true _ (counts_same num d i ∙ end.sound.results)) e
     end_kept block index _ (edge_arguments e) = never _ (arguments_kept m f sound n b is_block) e
-    end_kept block index _ (callee e) = never _ (calls_kept num m f (λ v g lt is. function_kept m f owned once sound new_placed old_placed v g lt is) i end.sound) e
-    end_kept block index _ (point_signature e) = never _ (signature_kept num m f (λ v g lt is. function_kept m f owned once sound new_placed old_placed v g lt is) i end.sound) e
+    end_kept block index _ (callee e) = never _ (calls_kept num m f (λ v g lt is. function_kept m f owned once sound lowerable v g lt is) i end.sound) e
+    end_kept block index _ (point_signature e) = never _ (signature_kept num m f (λ v g lt is. function_kept m f owned once sound lowerable v g lt is) i end.sound) e
     end_kept block index _ (point_mixed e) = never _ (form_kept block index i (ends_form i.op i end.ends)) e
     end_kept block index _ (switch_cases e) = never _ (cases_kept m f sound n b is_block) e
     end_kept block index _ (entry_has_predecessor e) = never _ end_entry e
     end_kept block index _ (qualifier e) = never _ refl e
 
-  point_kept : (block index : ℕ) (j : Inst) (x : Rule) → StandsAt m f owned once sound new_placed old_placed block j → BreaksAtPoint (lowered m) low block index j x → ⊥
+  point_kept : (block index : ℕ) (j : Inst) (x : Rule) → StandsAt m f owned once sound lowerable block j → BreaksAtPoint (lowered m) low block index j x → ⊥
   point_kept block index j x (inside_at k h e) broken = inside_kept k h block index x (subst (λ z. BreaksAtPoint (lowered m) low block index z x) (sym e) broken)
   point_kept block index j x (end_at b is e) broken = end_kept block b is block index x (subst (λ z. BreaksAtPoint (lowered m) low block index z x) (sym e) broken)
 
   pub body_kept : (block index : ℕ) (j : Inst) (x : Rule) → IsAt low block index j → BreaksAtPoint (lowered m) low block index j x → ⊥
-  body_kept block index j x at broken = point_kept block index j x (stands_at m f owned once sound new_placed old_placed block index j at) broken
+  body_kept block index j x at broken = point_kept block index j x (stands_at m f owned once sound lowerable block index j at) broken
 
   no_output : is_no_output_call low ≡ false
   unfolding is_no_output_call
@@ -185,9 +187,9 @@ module _ (m : Module) (f : Function) (owned : f.form ≡ Ossa) (once : (name : N
 
   pub body_itself : mixes_forms (lowered m) low ≡ false → (x : Rule) → BreaksAtFunction (lowered m) low x → ⊥
   body_itself forms _ (external e) = never _ no_output e
-  body_itself forms _ (function_signature e) = never _ (signature_fits m f owned once sound new_placed old_placed) e
+  body_itself forms _ (function_signature e) = never _ (signature_fits m f owned once sound lowerable) e
   body_itself forms _ (function_mixed e) = never _ forms e
-  body_itself forms _ (address_escapes e) = never _ (addresses_stay m f owned once sound new_placed old_placed) e
+  body_itself forms _ (address_escapes e) = never _ (addresses_stay m f owned once sound lowerable) e
 
 -- a function that stays breaks no rule that it kept
 module _ (m : Module) (f : Function) where
@@ -217,20 +219,20 @@ module _ (m : Module) (f : Function) where
   stays_itself forms _ (function_mixed e) = absurd (never _ forms e)
   stays_itself forms _ (address_escapes e) = address_escapes e
 
-module _ (m : Module) (numbered : IsNumbered m) (typed : Typed m) (placed : ArePlaced m) where
+module _ (m : Module) (numbered : IsNumbered m) (typed : Typed m) (rings : HasNoRings m) where
   once : (name : Name) (x : Decl) → decl_of (declarations_of m) name ≡ Some x → AreMembersOnce x
   once = members_once m numbered
 
   module _ (n : ℕ) (f : Function) (there : slice_get m.functions n ≡ Some f) where
     itself : (o : Form) → f.form ≡ o → mixes_forms (lowered m) (lowered_by o (declarations_of m) f) ≡ false → (x : Rule) → BreaksAtFunction (lowered m) (lowered_by o (declarations_of m) f) x → ⊥
     itself Ossa is forms x broken =
-        let p = placed n f there is in body_itself m f is once (sound_function m numbered typed n f there) p.0 p.1 forms x broken
+        body_itself m f is once (sound_function m numbered typed n f there) (functions_are_lowerable m n f numbered typed rings there) forms x broken
     itself Lowered is forms x broken = keeps_function m numbered typed n f there x (stays_itself m f forms x broken)
     itself External is forms x broken = keeps_function m numbered typed n f there x (stays_itself m f forms x broken)
 
     at_points : (o : Form) → f.form ≡ o → (block index : ℕ) (i : Inst) (x : Rule) → IsAt (lowered_by o (declarations_of m) f) block index i → BreaksAtPoint (lowered m) (lowered_by o (declarations_of m) f) block index i x → ⊥
     at_points Ossa is block index i x at broken =
-        let p = placed n f there is in body_kept m f is once (sound_function m numbered typed n f there) p.0 p.1 block index i x at broken
+        body_kept m f is once (sound_function m numbered typed n f there) (functions_are_lowerable m n f numbered typed rings there) block index i x at broken
     at_points Lowered is block index i x at broken = keeps_at m numbered typed n f there block index i x at (stays_at m f block index i x broken)
     at_points External is block index i x at broken = keeps_at m numbered typed n f there block index i x at (stays_at m f block index i x broken)
 
@@ -247,4 +249,4 @@ module _ (m : Module) (numbered : IsNumbered m) (typed : Typed m) (placed : AreP
   all_kept _ _ (vtable n v x there broken) = vtable_kept n v x there broken
 
 pub lowered_is_typed : LoweredIsTyped
-lowered_is_typed m numbered typed placed = all_kept m numbered typed placed
+lowered_is_typed m numbered typed rings = all_kept m numbered typed rings

@@ -29,7 +29,8 @@ use Rattle.lowering_model.specs.LoweredBlocks.{lowered_blocks, value_with}
 use Rattle.lowering_model.specs.LoweredModules.{lowered_body}
 use Rattle.lowering_model.specs.Names.{stands_for}
 use Rattle.lowering_model.specs.Numbers.{new_number, numbering_of, renumbered, renumbered_arg, renumbered_block, renumbered_inst}
-use Rattle.lowered_typing_laws.specs.LoweredTyped.{AreNewPlaced, AreOldPlaced}
+use Rattle.lowering_laws.specs.Lowerable.{IsLowerable}
+use Rattle.lowering_laws.proofs.Placed.{defined_are_placed, old_are_placed}
 use Rattle.lowered_typing_laws.proofs.Lists.{each_all, each_weaker, mapped_at}
 use Rattle.lowered_typing_laws.proofs.NewFunctions.{new_functions, no_function, no_spare}
 use Rattle.lowered_typing_laws.proofs.NewTypes.{new_types, spare_type}
@@ -77,7 +78,7 @@ functions_rows f = same_args arg_functions (λ k. map no_function) result_functi
     none (x ∷ xs) = ap (λ ys. None ∷ ys) (none xs)
 
 module _ (m : Module) (f : Function) (owned : f.form ≡ Ossa) (once : (name : Name) (x : Decl) → decl_of (declarations_of m) name ≡ Some x → AreMembersOnce x) (sound : SoundFunction m f)
-    (new_placed : AreNewPlaced (declarations_of m) f) (old_placed : AreOldPlaced (declarations_of m) f) where
+    (lowerable : IsLowerable (length m.functions) (declarations_of m) f) where
   abbrev d : Declarations
   d = declarations_of m
 
@@ -141,11 +142,11 @@ module _ (m : Module) (f : Function) (owned : f.form ≡ Ossa) (once : (name : N
       ap (λ w. type_at new_table w.0) place ∙ ap (λ rows. type_at rows k) types_are ∙ ap (λ o. unwrap_or o None) (mapped_at type_told defined k u at)
 
   pub defined_typed : Each (λ v. type_at new_table (num v).0 ≡ type_told v) defined
-  defined_typed = each_all (λ v. type_at new_table (num v).0 ≡ type_told v) defined (λ k v at. type_at_place k v v at (new_placed k v at).1)
+  defined_typed = each_all (λ v. type_at new_table (num v).0 ≡ type_told v) defined (λ k v at. type_at_place k v v at (defined_are_placed (length m.functions) d f k v lowerable at).1)
 
   pub type_kept : (v : ValueId) → v.0 < count → type_at new_table (num v).0 ≡ type_at old_types v.0
   type_kept v lt =
-      let it = old_placed v lt in
+      let it = old_are_placed (length m.functions) d f v lowerable lt in
       type_at_place it.0 (stands_for (renamings_of f) v) v it.1 it.2
       ∙ stands_same m f sound (spare_rows arg_has (result_types d) spare_type (types_level d) f sound.numbered.values) v
       ∙ sym (told_own arg_has (result_types d) spare_type (types_level d) f sound.numbered.values v lt)
@@ -155,7 +156,7 @@ module _ (m : Module) (f : Function) (owned : f.form ≡ Ossa) (once : (name : N
 
   pub function_kept : (v : ValueId) (g : FuncId) → v.0 < count → function_at (value_functions f) v.0 ≡ Some g → function_at (value_functions (lowered_body d f)) (num v).0 ≡ Some g
   function_kept v g lt e =
-      let it = old_placed v lt in
+      let it = old_are_placed (length m.functions) d f v lowerable lt in
       let own : unwrap_or (slice_get (value_rows (λ k. map no_function) result_functions f) v.0) None ≡ Some g = ap (λ rows. function_at rows v.0) (sym (functions_rows f)) ∙ e in
       ap (λ w. function_at (value_functions (lowered_body d f)) w.0) it.2
       ∙ ap (λ rows. function_at rows it.0) functions_are

@@ -1,0 +1,124 @@
+-- The values of lowered blocks stand for themselves, their places are their new numbers, and each old value stands for one of them.
+use Rattle.std.proofs.Common.{◌≡◌, ℕ, zero, suc, ◌+◌, ◌<◌, ◌≤◌, List, [], ◌∷◌, length, map, refl, sym, ap, ◌∙◌, subst, arith, Bool, true, false, ◌⊎◌, inl, inr}
+use Rattle.std.proofs.Common.{Option, Some, None}
+use Rattle.std.specs.Prelude.{◌||◌, is_some, not, option_map, slice_get, unwrap_or}
+use Rattle.std.specs.List.{list_any}
+use Rattle.std.proofs.lemmas.Bool.{cases_lt, eqb-false, or_left, or_right}
+use Rattle.std.proofs.lemmas.Option.{slice_get-map}
+use Rattle.sil_ast.specs.declared.function.Function.{Function}
+use Rattle.sil_ast.specs.declared.place.ValueId.{ValueId}
+use Rattle.lowering_model.specs.LoweredBlocks.{lowered_blocks, value_with}
+use Rattle.lowering_model.specs.LoweredModules.{lowered_body}
+use Rattle.lowering_model.specs.Names.{renamed_from, stands_for}
+use Rattle.lowering_model.specs.Numbers.{is_value, new_number, numbering_of, place_among}
+use Rattle.numbered_form.specs.Lists.{Each}
+use Rattle.numbered_form.specs.Numbering.{AreCountedFrom, values_of}
+use Rattle.ownership_chains.specs.Chains.{operands_at}
+use Rattle.ownership_chains.specs.declared.definition.Definition.{Definition}
+use Rattle.ownership_origins.proofs.Counts.{are_of_values}
+use Rattle.ownership_origins.specs.Renamings.{renamings_of}
+use Rattle.type_definitions.specs.Declarations.{Declarations}
+use Rattle.lowering_laws.specs.Lowerable.{IsLowerable}
+use Rattle.lowering_laws.specs.inner.Laws.{AreDefinedPlaced, AreNewCounted, AreOldPlaced, defined_by}
+use Rattle.lowering_laws.proofs.Covered.{blocks_cover, blocks_rise}
+use Rattle.lowering_laws.proofs.Ends.{names_end, stands_itself}
+use Rattle.lowering_laws.proofs.Known.{has_name, known_blocks}
+use Rattle.lowering_laws.proofs.Lists.{counted_from}
+use Rattle.lowering_laws.proofs.Renumbered.{renumbered_values}
+use Rattle.lowering_laws.proofs.Rising.{AreApart, AreRising, all_own, place_found, rising_apart, stands_somewhere}
+use Rattle.run_typing_laws.proofs.Rows.Finding.{each_at, mapped_from}
+
+-- a value that is counted is among those that are
+pub any_counted : (n : ℕ) (vs : List ValueId) (v : ValueId) → AreCountedFrom n vs → n ≤ v.0 → v.0 < n + length vs → list_any (is_value v) vs ≡ true
+any_counted n [] v c from to = absurd (omega arith)
+any_counted n (x ∷ vs) v c from to = at (is_value v x) refl (λ lt. any_counted (n + 1) vs v c.1 lt (omega arith))
+  where
+    first : x.0 ≡ n
+    first = c.0
+
+    at_least : (n < v.0) ⊎ (v.0 ≤ n) → (v.0 ≡ x.0 → ⊥) → n + 1 ≤ v.0
+    at_least (inl lt) other = omega arith
+    at_least (inr le) other = absurd (other (omega arith))
+
+    at : (b : Bool) → is_value v x ≡ b → (n + 1 ≤ v.0 → list_any (is_value v) vs ≡ true) → (is_value v x || list_any (is_value v) vs) ≡ true
+    at true is rest = or_left (is_value v x) (list_any (is_value v) vs) is
+    at false is rest =
+        let other : v.0 ≡ x.0 → ⊥ = eqb-false v.0 x.0 is in
+        or_right (is_value v x) (list_any (is_value v) vs) (rest (at_least (cases_lt n v.0) other))
+
+no_name : (o : Option ValueId) → not (is_some o) ≡ true → o ≡ None
+no_name None e = refl
+no_name (Some v) e = absurd (cc)
+
+-- a value beyond the function is another name of none
+pub no_operands : (defs : List Definition) (v : ValueId) → length defs ≤ v.0 → operands_at defs v ≡ []
+no_operands defs v le = at defs v.0 le
+  where
+    at : (defs : List Definition) (n : ℕ) → length defs ≤ n → unwrap_or (slice_get (map (λ x. x.operands) defs) n) [] ≡ []
+    at [] zero le = refl
+    at [] (suc n) le = refl
+    at (x ∷ defs) zero le = absurd (omega arith)
+    at (x ∷ defs) (suc n) le = at defs n (omega arith)
+
+beyond : (defs : List Definition) (v : ValueId) → length defs ≤ v.0 → renamed_from defs v ≡ None
+beyond defs v le = ap (λ vs. slice_get vs 0) (no_operands defs v le)
+
+module _ (functions : ℕ) (d : Declarations) (f : Function) (l : IsLowerable functions d f) where
+  abbrev bound : ℕ
+  bound = length (values_of f.blocks)
+
+  pub rising : AreRising bound (has_name (renamings_of f)) 0 bound (defined_by d f)
+  rising = blocks_rise d f bound 0 bound f.blocks (known_blocks functions d f l) l.numbered.values (omega arith)
+
+  pub apart : AreApart (defined_by d f)
+  apart = rising_apart bound (has_name (renamings_of f)) 0 bound (defined_by d f) (omega arith) rising
+
+  abbrev HasName : ValueId → Type 0
+  HasName v = (has_name (renamings_of f) v ≡ true) ⊎ (bound ≤ v.0)
+
+  named : (v : ValueId) → HasName v → renamed_from (renamings_of f) v ≡ None
+  named v (inl own) = no_name (renamed_from (renamings_of f) v) own
+  named v (inr le) = let count : length (renamings_of f) ≡ length (values_of f.blocks) = (are_of_values d f).1 in beyond (renamings_of f) v (omega arith)
+
+  own_name : (k : ℕ) (v : ValueId) → slice_get (defined_by d f) k ≡ Some v → renamed_from (renamings_of f) v ≡ None
+  own_name k v e =
+      named v (each_at HasName (defined_by d f) k v (all_own bound (has_name (renamings_of f)) 0 bound (defined_by d f) (omega arith) rising) e)
+
+  placed : (k : ℕ) (v : ValueId) → slice_get (defined_by d f) k ≡ Some v
+      → (stands_for (renamings_of f) v ≡ v) × (new_number (numbering_of d f) v ≡ value_with k)
+  placed k v e =
+      let itself = stands_itself (renamings_of f) v (own_name k v e) in
+      (itself, ap (place_among (defined_by d f)) itself ∙ place_found (defined_by d f) k v apart e)
+
+  old_placed : (v : ValueId) → v.0 < bound
+      → (k : ℕ) × (slice_get (defined_by d f) k ≡ Some (stands_for (renamings_of f) v)) × (new_number (numbering_of d f) v ≡ value_with k)
+  old_placed v lt =
+      let count : length (renamings_of f) ≡ length (values_of f.blocks) = (are_of_values d f).1 in
+      let w : ValueId = stands_for (renamings_of f) v in
+      let end = names_end f v l.ends (omega arith) in
+      let inside : w.0 < length (renamings_of f) = end.0 in
+      let there = stands_somewhere (defined_by d f) w
+      (blocks_cover d f bound f.blocks (known_blocks functions d f l) w (ap (λ o. not (is_some o)) end.1)
+      (any_counted 0 (values_of f.blocks) w l.numbered.values (omega arith) (omega arith))) in
+      (there.0, there.1, place_found (defined_by d f) there.0 w apart there.1)
+
+  counted : AreCountedFrom 0 (values_of (lowered_body d f).blocks)
+  counted =
+      subst (AreCountedFrom 0) (sym (renumbered_values (new_number (numbering_of d f)) (lowered_blocks d f)))
+      (counted_from 0 (map (new_number (numbering_of d f)) (defined_by d f)) at)
+    where
+      at : (k : ℕ) (u : ValueId) → slice_get (map (new_number (numbering_of d f)) (defined_by d f)) k ≡ Some u → u.0 ≡ 0 + k
+      at k u e =
+          let from = mapped_from (new_number (numbering_of d f)) (slice_get (defined_by d f) k) u
+          (sym (slice_get-map (new_number (numbering_of d f)) (defined_by d f) k) ∙ e) in
+          let number : u.0 ≡ k = ap (λ v. v.0) (sym from.2 ∙ (placed k from.0 from.1).1) in
+          omega arith
+
+pub defined_are_placed : AreDefinedPlaced
+defined_are_placed functions d f k v l e = placed functions d f l k v e
+
+pub old_are_placed : AreOldPlaced
+old_are_placed functions d f v l lt = old_placed functions d f l v lt
+
+pub new_values_are_counted : AreNewCounted
+new_values_are_counted functions d f l = counted functions d f l

@@ -1,0 +1,2 @@
+pub mod Lowerable
+pub mod inner
