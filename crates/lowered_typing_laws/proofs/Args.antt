@@ -1,5 +1,5 @@
 -- The arguments of lowered blocks: those of a default's block go, and all others stay, without annotation.
-use Rattle.std.proofs.Common.{◌≡◌, ℕ, zero, suc, ◌+◌, List, [], ◌∷◌, length, map, refl, sym, ap, ap₂, ◌∙◌, subst, arith, cond, Bool, true, false, not, Option, Some, None}
+use Rattle.std.proofs.Common.{◌≡◌, ℕ, zero, suc, ◌+◌, List, [], ◌∷◌, length, map, refl, sym, ap, ◌∙◌, cond, Bool, true, false, not, Option, Some, None}
 use Rattle.std.specs.Prelude.{filter, is_some, slice_get, unwrap_or}
 use Rattle.std.specs.List.{list_any}
 use Rattle.std.proofs.lemmas.List.{length-map, length-replicate}
@@ -7,9 +7,7 @@ use Rattle.sil_ast.specs.Blocks.{args_in, args_of}
 use Rattle.sil_ast.specs.declared.function.Block.{Block}
 use Rattle.sil_ast.specs.declared.function.BlockArg.{BlockArg}
 use Rattle.sil_ast.specs.declared.function.Function.{Function}
-use Rattle.sil_ast.specs.declared.inst.Inst.{Inst}
 use Rattle.sil_ast.specs.declared.place.ValueId.{ValueId}
-use Rattle.sil_ast.specs.declared.type_name.TypeName.{TypeName}
 use Rattle.numbered_form.specs.Lists.{Each}
 use Rattle.numbered_form.specs.Numbering.{AreCountedFrom, value_of, values_of}
 use Rattle.ownership_chains.specs.Chains.{operands_at}
@@ -19,10 +17,10 @@ use Rattle.ownership_origins.specs.Switched.{switch_to}
 use Rattle.type_definitions.specs.Declarations.{Declarations}
 use Rattle.sil_types.specs.Typing.FormRules.{is_annotated}
 use Rattle.sil_types.specs.Typing.Values.{arg_type}
-use Rattle.lowering_model.specs.LoweredBlocks.{args_become, block_becomes, blocks_become, has_own_name, lowered_blocks, without_annotation}
+use Rattle.lowering_model.specs.LoweredBlocks.{args_become, blocks_become, has_own_name, lowered_blocks, without_annotation}
 use Rattle.lowering_model.specs.LoweredModules.{lowered_body}
-use Rattle.lowering_model.specs.Names.{is_other_name, renamed_from}
-use Rattle.lowering_model.specs.Numbers.{new_number, numbering_of, renumbered, renumbered_arg, renumbered_block}
+use Rattle.lowering_model.specs.Names.{renamed_from}
+use Rattle.lowering_model.specs.Numbers.{new_number, numbering_of, renumbered, renumbered_arg}
 use Rattle.run_typing_laws.proofs.ListFacts.{map_twice}
 use Rattle.run_typing_laws.proofs.Rows.Tables.{row_at, told_of_args}
 use Rattle.lowered_typing_laws.proofs.Lists.{each_weaker}
@@ -47,7 +45,6 @@ row_operands defs v = at defs v.0
     at (x ∷ defs) (suc k) = at defs k
 
 module _ (f : Function) (counted : AreCountedFrom 0 (values_of f.blocks)) where
-
   -- an argument is another name just where a default goes to its block
   arg_names : (k : ℕ) (b : Block) → slice_get f.blocks k ≡ Some b → Each (λ a. renamed_from (renamings_of f) a.value ≡ slice_get (default_operand (switch_to f k)) 0) b.args
   arg_names k b is =

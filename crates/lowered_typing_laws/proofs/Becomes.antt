@@ -1,13 +1,12 @@
 -- What a typed instruction of a function in ownership form becomes, kind by kind, with what typing says of its operands.
-use Rattle.std.proofs.Common.{◌≡◌, ℕ, suc, List, [], ◌∷◌, ◌++◌, length, map, refl, sym, ap, ap₂, ◌∙◌, subst, append-nil, arith, Bool, true, false, not, Option, Some, None}
-use Rattle.std.specs.Prelude.{◌&&◌, ◌||◌, ◌==◌, is_some, option_and_then, option_map, slice_get, unwrap_or, if◌then◌else◌}
-use Rattle.std.specs.List.{flat_map, range_with_len}
+use Rattle.std.proofs.Common.{◌≡◌, ℕ, suc, List, [], ◌∷◌, ◌++◌, length, map, refl, sym, ap, ◌∙◌, subst, append-nil, arith, Bool, true, false, not, Option, Some, None}
+use Rattle.std.specs.Prelude.{◌&&◌, ◌||◌, ◌==◌, is_some, option_and_then, slice_get, unwrap_or, if◌then◌else◌}
+use Rattle.std.specs.List.{flat_map}
 use Rattle.std.specs.Option.{option_to_list}
-use Rattle.std.proofs.lemmas.Bool.{and_parts, eqb-true, not-false, or_cases}
+use Rattle.std.proofs.lemmas.Bool.{and_parts, eqb-true, not-false}
 use Rattle.std.proofs.lemmas.List.{length-map}
-use Rattle.instruction_table.specs.Forms.{is_terminator, results_of, type_words_of}
-use Rattle.instruction_table.specs.declared.entries.Results.TheVariants.{NoResult, OneResult, ResultList}
-use Rattle.instruction_table.specs.declared.forms.Part.TheVariants as part
+use Rattle.instruction_table.specs.Forms.{results_of, type_words_of}
+use Rattle.instruction_table.specs.declared.entries.Results.TheVariants.{NoResult, OneResult}
 use Rattle.instruction_table.specs.declared.op.Op.{Op}
 use Rattle.instruction_table.specs.declared.op.Op.TheVariants as op
 use Rattle.numbered_form.specs.Names.{Name}
@@ -25,9 +24,9 @@ use Rattle.sil_ast.specs.declared.operands.Operand.{Operand}
 use Rattle.sil_ast.specs.declared.place.ValueId.{ValueId}
 use Rattle.sil_ast.specs.declared.type_name.TypeName.{TypeName, out-TypeName}
 use Rattle.type_definitions.specs.Declarations.{Declarations, decl_of, declarations_of}
-use Rattle.sil_types.specs.Typing.FormRules.{has_word_by, is_at_storage, is_of_form, is_owned_form, is_read_word, is_write_word}
+use Rattle.sil_types.specs.Typing.FormRules.{has_word_by, is_at_storage, is_owned_form, is_read_word, is_write_word}
 use Rattle.sil_types.specs.Typing.ResultCounts.{is_count_by, is_count_of}
-use Rattle.sil_types.specs.Typing.RowTypes.{MadeTypes, all_fields, given_by, gives, passes, row_types, takes, type_of, written}
+use Rattle.sil_types.specs.Typing.RowTypes.{all_fields, given_by, gives, passes, row_types, takes, type_of, written}
 use Rattle.sil_types.specs.Typing.Shapes.{decl_of_type, elements, field_type, fields_of_struct, is_nontrivial, is_object, is_storage, name_in, object_at, struct_fields, target, where_it}
 use Rattle.lowering_model.specs.Extracts.{element_extracts, extracts_elements, extracts_fields, field_extracts, member_of, members_of_struct}
 use Rattle.lowering_model.specs.LoweredInsts.{becomes, becomes_by, destroys_by, loads_by, loads_spare, lowering_of, plain_load, plain_store, releases_spare, retains_loaded, stores_by}
@@ -226,7 +225,6 @@ module _ (m : Module) (f : Function) (owned : f.form ≡ Ossa) (i : Inst) (sound
         first_holds : (a b : Bool) → b ≡ false → (a || b) ≡ true → a ≡ true
         first_holds true b h e = refl
         first_holds false b h e = cc
-
 
     how : (o : Op) → i.op ≡ o → Becomes d i s (becomes_by d s (lowering_of o) i)
     how op.CopyValue is =

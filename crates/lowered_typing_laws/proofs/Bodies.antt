@@ -1,16 +1,14 @@
 -- What stands at the points of a lowered body: an instruction that stands in the place of one, or a terminator; and what is asked of the body itself.
-use Rattle.std.proofs.Common.{◌≡◌, ℕ, zero, suc, ◌+◌, List, [], ◌∷◌, ◌++◌, length, map, refl, sym, ap, ap₂, ◌∙◌, subst, cond, Bool, true, false, not, Option, Some, None, ◌⊎◌, inl, inr}
+use Rattle.std.proofs.Common.{◌≡◌, ℕ, zero, suc, ◌+◌, List, [], ◌∷◌, ◌++◌, length, map, refl, sym, ap, ap₂, ◌∙◌, subst, cond, Bool, true, false, not, Option, Some, ◌⊎◌, inl, inr}
 use Rattle.std.specs.Prelude.{◌&&◌, ◌||◌, drop, filter, slice_get}
-use Rattle.std.specs.List.{flat_map, list_all, list_any}
+use Rattle.std.specs.List.{flat_map, list_any}
 use Rattle.std.proofs.lemmas.Bool.{and_from, and_parts, not-false, or_parts}
-use Rattle.std.proofs.lemmas.List.{map-append}
 use Rattle.std.proofs.lemmas.List.Concat.{flat_map-append}
 use Rattle.argument_conventions.specs.Arguments.{Told, argument_type, arguments_of}
 use Rattle.numbered_form.specs.Insts.{insts_of}
 use Rattle.numbered_form.specs.Lists.{Each}
 use Rattle.numbered_form.specs.Names.{AreMembersOnce, Name}
 use Rattle.numbered_form.specs.Numbering.{defined_in, results_of, value_of, values_of}
-use Rattle.ownership_chains.specs.declared.definition.Definition.{Definition}
 use Rattle.ownership_origins.specs.Renamings.{renamings_of}
 use Rattle.point_checks.specs.Points.{IsAt}
 use Rattle.sil_ast.specs.Blocks.{args_of}

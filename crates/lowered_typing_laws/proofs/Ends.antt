@@ -1,20 +1,18 @@
 -- The terminators of lowered blocks are typed: what their edges hand over, and the cases of switches.
-use Rattle.std.proofs.Common.{◌≡◌, ℕ, zero, suc, ◌+◌, List, [], ◌∷◌, ◌++◌, length, map, refl, sym, ap, ap₂, ◌∙◌, subst, cond, Bool, true, false, not, Option, Some, None}
-use Rattle.std.specs.Prelude.{◌&&◌, ◌||◌, ◌==◌, is_none, is_some, option_and_then, slice_get, count_by, unwrap_or}
-use Rattle.std.specs.List.{cons_option, filter_map, flat_map, list_all, list_any, range_with_len}
+use Rattle.std.proofs.Common.{◌≡◌, ℕ, suc, ◌+◌, List, [], ◌∷◌, length, map, refl, sym, ap, ap₂, ◌∙◌, cond, Bool, true, false, not, Option, Some, None}
+use Rattle.std.specs.Prelude.{◌&&◌, ◌||◌, ◌==◌, is_some, option_and_then, slice_get, count_by, unwrap_or}
+use Rattle.std.specs.List.{cons_option, flat_map, list_all, list_any, range_with_len}
 use Rattle.std.specs.Option.{option_to_list}
-use Rattle.std.proofs.lemmas.Bool.{and_from, not-false, or_from, or_left}
+use Rattle.std.proofs.lemmas.Bool.{and_from, or_from, or_left}
 use Rattle.std.proofs.lemmas.List.Folds.{list_all-map}
 use Rattle.std.proofs.lemmas.List.Sums.{sum_by-append, sum_by-cons}
 use Rattle.instruction_table.specs.declared.op.Op.{Op}
 use Rattle.instruction_table.specs.declared.op.Op.TheVariants as op
 use Rattle.numbered_form.specs.Numbering.{values_of}
 use Rattle.ownership_chains.specs.declared.definition.Definition.{Definition}
-use Rattle.ownership_origins.specs.Renamings.{default_operand, renamings_of}
-use Rattle.ownership_origins.specs.Switched.{switch_to}
+use Rattle.ownership_origins.specs.Renamings.{renamings_of}
 use Rattle.sil_ast.specs.Blocks.{args_of}
 use Rattle.sil_ast.specs.declared.function.Block.{Block}
-use Rattle.sil_ast.specs.declared.function.BlockArg.{BlockArg}
 use Rattle.sil_ast.specs.declared.function.Form.TheVariants.{Lowered}
 use Rattle.sil_ast.specs.declared.function.Function.{Function}
 use Rattle.sil_ast.specs.declared.inst.Edge.{Edge}
@@ -26,21 +24,20 @@ use Rattle.sil_ast.specs.declared.type_name.TypeName.{TypeName}
 use Rattle.type_definitions.specs.Declarations.{Declarations, declarations_of}
 use Rattle.type_definitions.specs.Lookups.{Payload}
 use Rattle.sil_types.specs.Typing.EdgeRules.{has_block_types, has_wrong_edge_arguments, have_wrong_arguments_by}
-use Rattle.sil_types.specs.Typing.RowTypes.{all_written, written}
+use Rattle.sil_types.specs.Typing.RowTypes.{written}
 use Rattle.sil_types.specs.Typing.Same.{are_same_types}
 use Rattle.sil_types.specs.Typing.Shapes.{case_count, case_in}
-use Rattle.sil_types.specs.Typing.SwitchRules.{case_of_edge, edges_of, edges_of_block, fits_case, fits_default, fits_payload, has_case, has_number, has_wrong_cases, has_wrong_cases_by}
-use Rattle.sil_types.specs.Typing.SwitchRules.{incoming, is_alone, is_default, is_default_argument, is_of_enum, is_to, leaves_out_case, misfits_default, misfits_payload}
+use Rattle.sil_types.specs.Typing.SwitchRules.{case_of_edge, edges_of_block, fits_case, fits_default, fits_payload, has_case, has_number, has_wrong_cases, has_wrong_cases_by}
+use Rattle.sil_types.specs.Typing.SwitchRules.{is_alone, is_default, is_default_argument, is_of_enum, is_to, leaves_out_case, misfits_default, misfits_payload}
 use Rattle.sil_types.specs.Typing.SwitchRules.{names_other_case, place_in_enum, places_of, repeats_case, shares_block, switches_wrongly, are_once}
-use Rattle.sil_types.specs.Typing.Values.{arg_type}
-use Rattle.lowering_model.specs.LoweredBlocks.{blocks_become, lowered_blocks}
+use Rattle.lowering_model.specs.LoweredBlocks.{blocks_become}
 use Rattle.lowering_model.specs.LoweredModules.{lowered_body}
 use Rattle.lowering_model.specs.Numbers.{new_number, numbering_of, renumbered, renumbered_edge, renumbered_inst}
 use Rattle.run_typing_laws.proofs.Rows.Finding.{passes_at}
 use Rattle.lowered_typing_laws.proofs.Args.{default_gone, types_stay}
 use Rattle.lowered_typing_laws.proofs.Renumbered.{all_written_same, written_same}
 use Rattle.lowered_typing_laws.proofs.Sound.{Sound, SoundFunction}
-use Rattle.lowered_typing_laws.proofs.Switches.{IsSwitch, Kept, branch_kept, case_kept, default_goes, is_switch, sound_block}
+use Rattle.lowered_typing_laws.proofs.Switches.{IsSwitch, branch_kept, case_kept, default_goes, is_switch, sound_block}
 
 all_pass : {A : Type 0} (test : A → Bool) (xs : List A) → ((k : ℕ) (x : A) → slice_get xs k ≡ Some x → test x ≡ true) → list_all test xs ≡ true
 all_pass test [] h = refl

@@ -1,7 +1,7 @@
 -- Facts on lists: what stands in them, what holds of each element, and how many pass a test.
 use Rattle.std.proofs.Common.{◌≡◌, ℕ, zero, suc, ◌+◌, ◌≤◌, List, [], ◌∷◌, ◌++◌, length, map, replicate, refl, sym, ap, ap₂, ◌∙◌, subst, arith, cond, Bool, true, false, Option, Some, None}
-use Rattle.std.specs.Prelude.{is_some, option_and_then, option_map, slice_get, count_by, if◌then◌else◌, ◌&&◌}
-use Rattle.std.specs.List.{AllZip, cons_option, filter_map, flat_map, list_all, list_any, range_with_len}
+use Rattle.std.specs.Prelude.{is_some, option_map, slice_get, count_by, if◌then◌else◌}
+use Rattle.std.specs.List.{AllZip, cons_option, filter_map, flat_map, range_with_len}
 use Rattle.std.proofs.lemmas.List.Sums.{sum_by-append, sum_by-cons}
 use Rattle.std.proofs.lemmas.Option.{slice_get-map}
 use Rattle.numbered_form.specs.Lists.{Each}

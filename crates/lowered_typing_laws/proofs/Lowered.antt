@@ -1,6 +1,6 @@
 -- Lowering keeps a module typed: rule by rule, at functions, at points and at vtables.
-use Rattle.std.proofs.Common.{◌≡◌, ℕ, List, [], ◌∷◌, ◌++◌, length, map, refl, sym, ap, ap₂, ◌∙◌, subst, Bool, true, false, not, Option, Some, None}
-use Rattle.std.specs.Prelude.{◌&&◌, ◌||◌, ◌==◌, slice_get}
+use Rattle.std.proofs.Common.{◌≡◌, ℕ, List, length, map, refl, sym, ap, ◌∙◌, subst, Bool, true, false, not, Option, Some}
+use Rattle.std.specs.Prelude.{◌&&◌, ◌==◌, slice_get}
 use Rattle.std.specs.List.{list_all, list_any}
 use Rattle.std.specs.Option.{option_to_list}
 use Rattle.std.proofs.lemmas.Bool.{and_right, not_from_true, or_from}
@@ -18,7 +18,6 @@ use Rattle.sil_ast.specs.declared.function.Block.{Block}
 use Rattle.sil_ast.specs.declared.function.Form.{Form}
 use Rattle.sil_ast.specs.declared.function.Form.TheVariants.{Ossa, Lowered, External}
 use Rattle.sil_ast.specs.declared.function.Function.{Function}
-use Rattle.sil_ast.specs.declared.inst.Edge.{Edge}
 use Rattle.sil_ast.specs.declared.inst.Inst.{Inst}
 use Rattle.sil_ast.specs.declared.module.Module.{Module}
 use Rattle.sil_ast.specs.declared.place.FuncId.{FuncId}
@@ -31,7 +30,7 @@ use Rattle.sil_types.specs.Typing.EdgeRules.{goes_to_entry, has_wrong_edge_argum
 use Rattle.sil_types.specs.Typing.FormRules.{is_annotated, is_annotated_at, is_of_other_form, may_stand_lowered, mixes_forms}
 use Rattle.sil_types.specs.Typing.OperandTypes.{has_operand_types}
 use Rattle.sil_types.specs.Typing.SignatureRules.{callee as callee_of, calls_no_function, differs_by, differs_from_signature, is_no_output_call, is_signature_of}
-use Rattle.sil_types.specs.Typing.Typed.{BreaksAt, BreaksAtFunction, BreaksAtPoint, BreaksAtVtable, Site, Typed, at_function, at_point, at_vtable}
+use Rattle.sil_types.specs.Typing.Typed.{BreaksAt, BreaksAtFunction, BreaksAtPoint, BreaksAtVtable, Site, Typed, at_vtable}
 use Rattle.sil_types.specs.Typing.Typed.BreaksAt.{function, point, vtable}
 use Rattle.sil_types.specs.Typing.Typed.BreaksAtFunction.{external, address_escapes, signature as function_signature, mixed_forms as function_mixed}
 use Rattle.sil_types.specs.Typing.Typed.BreaksAtPoint.{operand_type, result_count, edge_arguments, callee, switch_cases, entry_has_predecessor}
@@ -43,7 +42,7 @@ use Rattle.lowering_model.specs.LoweredModules.{lowered, lowered_body, lowered_b
 use Rattle.lowering_model.specs.Numbers.{new_number, numbering_of, renumbered_edge, renumbered_inst}
 use Rattle.lowering_laws.specs.Lowerable.{HasNoRings, IsLowerable}
 use Rattle.lowering_laws.proofs.Lowerable.{functions_are_lowerable}
-use Rattle.lowered_typing_laws.specs.LoweredTyped.{LoweredIsTyped}
+use Rattle.lowered_typing_laws.specs.inner.LoweredTyped.{LoweredIsTyped}
 use Rattle.lowered_typing_laws.proofs.Args.{not_annotated}
 use Rattle.lowered_typing_laws.proofs.Bodies.{LowHere, StandsAt, addresses_stay, signature_fits, stands_at}
 use Rattle.lowered_typing_laws.proofs.Bodies.StandsAt.{inside as inside_at, end as end_at}
@@ -53,9 +52,9 @@ use Rattle.lowered_typing_laws.proofs.Once.{members_once}
 use Rattle.lowered_typing_laws.proofs.Outside.{deinits_stay, forms_same, signatures_behind}
 use Rattle.lowered_typing_laws.proofs.Points.{Rest}
 use Rattle.lowered_typing_laws.proofs.Points.Rest.{same, made}
-use Rattle.lowered_typing_laws.proofs.Renumbered.{AreSameAlong, IsSame, form_alike, typed_alike}
+use Rattle.lowered_typing_laws.proofs.Renumbered.{AreSameAlong, form_alike, typed_alike}
 use Rattle.lowered_typing_laws.proofs.Rules.{calls_kept, counts_same, entry_same, made_agrees, made_calls, made_inside, no_arguments, no_switch, signature_kept}
-use Rattle.lowered_typing_laws.proofs.Sound.{Sound, SoundEnd, SoundFunction, keeps_at, keeps_function, sound_function}
+use Rattle.lowered_typing_laws.proofs.Sound.{SoundEnd, SoundFunction, keeps_at, keeps_function, sound_function}
 use Rattle.lowered_typing_laws.proofs.Switches.{sound_block}
 use Rattle.lowered_typing_laws.proofs.Tables.{function_kept, new_table, operands_kept}
 

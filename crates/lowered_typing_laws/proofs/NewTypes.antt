@@ -1,6 +1,6 @@
 -- The types of what the instructions define that stand in the place of one.
-use Rattle.std.proofs.Common.{◌≡◌, ℕ, suc, ◌+◌, List, [], ◌∷◌, ◌++◌, length, map, refl, sym, ap, ap₂, ◌∙◌, subst, append-nil, append_assoc, length-append, arith, true, Option, Some, None}
-use Rattle.std.specs.Prelude.{◌&&◌, ◌<◌, pos, is_some, option_and_then, option_map, slice_get, unwrap_or, if◌then◌else◌}
+use Rattle.std.proofs.Common.{◌≡◌, ℕ, ◌+◌, List, [], ◌∷◌, ◌++◌, length, map, refl, sym, ap, ap₂, ◌∙◌, subst, append-nil, append_assoc, length-append, arith, true, Option, Some, None}
+use Rattle.std.specs.Prelude.{◌&&◌, pos, is_some, option_and_then, option_map, slice_get, unwrap_or, if◌then◌else◌}
 use Rattle.std.specs.List.{flat_map, range_with_len}
 use Rattle.std.proofs.lemmas.Bool.{and_parts}
 use Rattle.std.proofs.lemmas.List.{length-map}
@@ -22,7 +22,7 @@ use Rattle.sil_ast.specs.declared.type_name.TypeName.{TypeName, TypeName-F, out-
 use Rattle.type_definitions.specs.Declarations.{Declarations, decl_of, declarations_of, place_of}
 use Rattle.type_definitions.specs.Lookups.{decl_fields, field_at_place, inherited_fields}
 use Rattle.sil_types.specs.Typing.RowTypes.{MadeTypes, all_fields, given_by, gives, made_types, type_of, written}
-use Rattle.sil_types.specs.Typing.Shapes.{element_of, element_at, elements, field_named, field_type, fields_of_struct, found_field, is_object, is_owner, is_owner_layer, name_in, object_at, struct_field, struct_fields, where_it}
+use Rattle.sil_types.specs.Typing.Shapes.{element_of, element_at, elements, field_named, field_type, fields_of_struct, found_field, is_object, is_owner, is_owner_layer, name_in, object_at, struct_field, struct_fields}
 use Rattle.sil_types.specs.Typing.Values.{arg_has, result_types}
 use Rattle.lowering_model.specs.Extracts.{element_extracts, field_extracts, member_of}
 use Rattle.lowering_model.specs.LoweredBlocks.{value_with}
@@ -32,7 +32,7 @@ use Rattle.lowering_model.specs.declared.lowering.Lowering.{Lowering}
 use Rattle.lowering_model.specs.declared.lowering.Lowering.TheVariants as lowering
 use Rattle.run_typing_laws.proofs.Found.{place_once, same_name}
 use Rattle.run_typing_laws.proofs.ListFacts.{get_below}
-use Rattle.lowered_typing_laws.proofs.Becomes.{Becomes, IsCounted, IsLoad, IsOne, at_storage, assigns, becomes_so, by_elements, by_fields, copies, destroys, loads, no_results, object_there, releases, retains, stays, stores, vanishes}
+use Rattle.lowered_typing_laws.proofs.Becomes.{Becomes, IsCounted, IsLoad, at_storage, assigns, becomes_so, by_elements, by_fields, copies, destroys, loads, no_results, object_there, releases, retains, stays, stores, vanishes}
 use Rattle.lowered_typing_laws.proofs.Lists.{each_all, get_behind}
 use Rattle.lowered_typing_laws.proofs.Sound.{Sound}
 use Rattle.lowered_typing_laws.proofs.Told.{InstTold}

@@ -1,5 +1,5 @@
 -- No declaration has two members of one name: those of `Swift` have one member.
-use Rattle.std.proofs.Common.{◌≡◌, ℕ, List, [], ◌∷◌, ◌++◌, length, arith, Bool, true, false, Some}
+use Rattle.std.proofs.Common.{◌≡◌, [], arith, Bool, true, false, Some}
 use Rattle.std.specs.Prelude.{◌<◌, Contains, codes}
 use Rattle.numbered_form.specs.Lists.{Each}
 use Rattle.numbered_form.specs.Names.{AreMembersOnce, Name}

@@ -1,5 +1,5 @@
 -- What lowering leaves of functions and vtables: signatures, which functions have bodies, and their deinitialisers.
-use Rattle.std.proofs.Common.{◌≡◌, ℕ, List, [], ◌∷◌, map, refl, sym, ap, ap₂, ◌∙◌, subst, cond, Bool, true, false, not, Option, Some, None}
+use Rattle.std.proofs.Common.{◌≡◌, List, [], ◌∷◌, map, refl, sym, ap, ap₂, ◌∙◌, cond, Bool, true, false, not, Option, Some, None}
 use Rattle.std.specs.Prelude.{◌&&◌, find, option_and_then, option_map, slice_get}
 use Rattle.std.specs.List.{list_all}
 use Rattle.std.specs.Option.{option_to_list}
@@ -9,16 +9,15 @@ use Rattle.sil_ast.specs.declared.function.Form.TheVariants.{Ossa, Lowered, Exte
 use Rattle.sil_ast.specs.declared.function.Function.{Function}
 use Rattle.sil_ast.specs.declared.module.Module.{Module}
 use Rattle.sil_ast.specs.declared.place.FuncId.{FuncId}
-use Rattle.sil_ast.specs.declared.signature.Signature.{Signature}
 use Rattle.sil_ast.specs.declared.vtable.DeinitEntry.{DeinitEntry}
 use Rattle.sil_ast.specs.declared.vtable.Vtable.{Vtable}
 use Rattle.numbered_form.specs.Names.{Name}
 use Rattle.type_definitions.specs.Declarations.{Declarations, declarations_of}
-use Rattle.sil_types.specs.Typing.FormRules.{first_form, form_of, has_body, has_other_form, is_same_form, mixes_forms}
+use Rattle.sil_types.specs.Typing.FormRules.{first_form, form_of, has_body, is_same_form, mixes_forms}
 use Rattle.sil_types.specs.Typing.RowTypes.{passes}
 use Rattle.sil_types.specs.Typing.SignatureRules.{deinit_signature, has_wrong_deinitialiser, is_deinitialiser, is_external, names_deinitialiser, signature_of}
 use Rattle.sil_types.specs.Typing.Same.{is_same_signature}
-use Rattle.lowering_model.specs.LoweredModules.{lowered, lowered_body, lowered_by, lowered_function}
+use Rattle.lowering_model.specs.LoweredModules.{lowered, lowered_by, lowered_function}
 
 module _ (d : Declarations) (f : Function) where
   by_form : (x : Form) → (lowered_by x d f).signature ≡ f.signature

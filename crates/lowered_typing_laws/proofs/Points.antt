@@ -1,5 +1,5 @@
 -- The instructions that stand in the place of one are typed with new numbers, and of lowered form.
-use Rattle.std.proofs.Common.{◌≡◌, ℕ, suc, ◌+◌, List, [], ◌∷◌, ◌++◌, length, map, refl, sym, ap, ap₂, ◌∙◌, subst, append-nil, arith, cond, Bool, true, false, not, Option, Some, None}
+use Rattle.std.proofs.Common.{◌≡◌, ℕ, ◌+◌, List, [], ◌∷◌, ◌++◌, length, map, refl, sym, ap, ap₂, ◌∙◌, subst, arith, cond, Bool, true, false, not, Option, Some, None}
 use Rattle.std.specs.Prelude.{◌&&◌, ◌<◌, ◌==◌, pos, is_some, option_and_then, option_map, slice_get, unwrap_or, if◌then◌else◌}
 use Rattle.std.specs.List.{flat_map, list_all, range_with_len}
 use Rattle.std.proofs.lemmas.Bool.{and_from, and_parts}
@@ -26,11 +26,11 @@ use Rattle.sil_ast.specs.declared.member.Member.{Member}
 use Rattle.sil_ast.specs.declared.module.Module.{Module}
 use Rattle.sil_ast.specs.declared.operands.Operand.{Operand}
 use Rattle.sil_ast.specs.declared.place.ValueId.{ValueId}
-use Rattle.sil_ast.specs.declared.type_name.TypeName.{TypeName, out-TypeName}
+use Rattle.sil_ast.specs.declared.type_name.TypeName.{TypeName}
 use Rattle.type_definitions.specs.Declarations.{Declarations, decl_of, declarations_of}
 use Rattle.type_definitions.specs.Rules.{is_class_type}
 use Rattle.sil_types.specs.Typing.FormRules.{has_no_word, is_of_form, may_stand_lowered, may_stand_owned}
-use Rattle.sil_types.specs.Typing.OperandTypes.{are_as_asked_by, are_as_written, edge_is_as_written, has_operand_types, has_type, is_as_written_by}
+use Rattle.sil_types.specs.Typing.OperandTypes.{are_as_asked_by, are_as_written, edge_is_as_written, has_operand_types, is_as_written_by}
 use Rattle.sil_types.specs.Typing.ResultCounts.{is_count_by}
 use Rattle.sil_types.specs.Typing.RowTypes.{MadeTypes, given_by, gives, is_counted_value, passes, row_types, takes, type_of}
 use Rattle.sil_types.specs.Typing.Same.{is_same_type}
@@ -186,7 +186,7 @@ module _ (m : Module) (f : Function) (num : ValueId → ValueId) (new : List (Op
             (has_type_here o t typed value) refl refl;
         results = refl;
         form = refl;
-            edges = refl;
+        edges = refl;
         rest = made refl;
       }
 
@@ -266,17 +266,25 @@ module _ (m : Module) (f : Function) (num : ValueId → ValueId) (new : List (Op
         let loaded : g v ≡ Some t = cc in
         (plain_load_low place p t v l, (retain_low (loaded_from place v) t (loaded_type place p t c v) c.nontrivial (first.0 ∙ loaded), tt))
     lows _ (stores is) placed = (store_low is, tt)
-    lows _ (assigns x place p t is both c) placed =
-        (spare_low place p t 1 (ap (λ os. slice_get os 1) both) c,
-        (store_low is,
-        (release_low (loaded_from place (value_with s)) t (loaded_type place p t c (value_with s)) c.nontrivial
-        (placed.0 ∙ told.new ∙ spare_stored m f owned once i here.sound g s told x place p t is both c),
-        tt)))
-    lows _ (destroys place p t is one c) placed =
-        (spare_low place p t 0 (ap (λ os. slice_get os 0) one) c,
-        (release_low (loaded_from place (value_with s)) t (loaded_type place p t c (value_with s)) c.nontrivial
-        (placed.0 ∙ told.new ∙ spare_destroyed m f owned once i here.sound g s told place p t is one c),
-        tt))
+    lows _ (assigns x place p t is both c) placed = (
+      spare_low place p t 1 (ap (λ os. slice_get os 1) both) c,
+      (
+        store_low is,
+        (
+          release_low (loaded_from place (value_with s)) t (loaded_type place p t c (value_with s)) c.nontrivial
+              (placed.0 ∙ told.new ∙ spare_stored m f owned once i here.sound g s told x place p t is both c),
+          tt,
+        ),
+      ),
+    )
+    lows _ (destroys place p t is one c) placed = (
+      spare_low place p t 0 (ap (λ os. slice_get os 0) one) c,
+      (
+        release_low (loaded_from place (value_with s)) t (loaded_type place p t c (value_with s)) c.nontrivial
+            (placed.0 ∙ told.new ∙ spare_destroyed m f owned once i here.sound g s told place p t is one c),
+        tt,
+      ),
+    )
     lows _ (by_fields o t name x fs is one named declared struct size) placed =
         fields_low o t name fs i.results one.typed (value_one o t one)
         (each_all (λ y. struct_field d (member_of name y) t ≡ Some y) fs (field_again d t name x fs named declared struct (once name x declared)))

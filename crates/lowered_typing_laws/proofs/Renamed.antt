@@ -1,6 +1,6 @@
 -- A value has the type of the value for which it is another name, and none that stands for a function is another name.
 use Rattle.std.proofs.Common.{◌≡◌, ℕ, zero, suc, ◌+◌, List, [], ◌∷◌, ◌++◌, length, map, replicate, refl, sym, ap, ◌∙◌, subst, arith, cond, Bool, true, false, Option, Some, None}
-use Rattle.std.specs.Prelude.{◌==◌, is_some, option_and_then, option_map, slice_get, unwrap_or}
+use Rattle.std.specs.Prelude.{is_some, option_and_then, option_map, slice_get, unwrap_or}
 use Rattle.std.specs.List.{AllZip, flat_map, range_with_len}
 use Rattle.std.proofs.lemmas.Bool.{eqb-true}
 use Rattle.std.proofs.lemmas.Option.{slice_get-map}
@@ -10,11 +10,10 @@ use Rattle.instruction_table.specs.declared.op.Op.{Op}
 use Rattle.instruction_table.specs.declared.op.Op.TheVariants as op
 use Rattle.numbered_form.specs.Insts.{insts_of}
 use Rattle.numbered_form.specs.Lists.{Each}
-use Rattle.numbered_form.specs.Numbering.{AreCountedFrom, values_of}
 use Rattle.numbered_form.specs.inner.Parts.{is_callee, row_has}
 use Rattle.ownership_chains.specs.Chains.{operands_at}
 use Rattle.ownership_chains.specs.declared.definition.Definition.{Definition}
-use Rattle.ownership_origins.specs.Renamings.{arg_renaming, arg_renamings, default_operand, renamed, renames, renamings_of, result_renamings}
+use Rattle.ownership_origins.specs.Renamings.{arg_renaming, arg_renamings, renamed, renames, renamings_of, result_renamings}
 use Rattle.ownership_origins.specs.Switched.{switch_to}
 use Rattle.ownership_origins.specs.declared.switched.Switched.{Switched}
 use Rattle.sil_ast.specs.Blocks.{args_in, args_of}
@@ -23,7 +22,6 @@ use Rattle.sil_ast.specs.declared.function.BlockArg.{BlockArg}
 use Rattle.sil_ast.specs.declared.function.Function.{Function}
 use Rattle.sil_ast.specs.declared.inst.Inst.{Inst}
 use Rattle.sil_ast.specs.declared.module.Module.{Module}
-use Rattle.sil_ast.specs.declared.operands.Operand.{Operand}
 use Rattle.sil_ast.specs.declared.place.FuncId.{FuncId}
 use Rattle.sil_ast.specs.declared.place.ValueId.{ValueId}
 use Rattle.sil_ast.specs.declared.type_name.TypeName.{TypeName}
@@ -31,12 +29,11 @@ use Rattle.type_definitions.specs.Declarations.{declarations_of}
 use Rattle.value_tables.specs.FirstValue.{value_of}
 use Rattle.value_tables.specs.ValueRows.{rows_from, value_rows}
 use Rattle.sil_types.specs.Typing.ResultCounts.{is_count_by}
-use Rattle.sil_types.specs.Typing.RowTypes.{given_by, made_types, row_types, type_of, written}
+use Rattle.sil_types.specs.Typing.RowTypes.{given_by, made_types, type_of, written}
 use Rattle.sil_types.specs.Typing.Shapes.{is_nontrivial, is_object, where_it}
 use Rattle.sil_types.specs.Typing.Values.{arg_has, functions_by, result_functions, result_types, type_at, value_types}
 use Rattle.lowering_model.specs.Names.{renamed_from, stands_for, stands_within, unless_renamed}
-use Rattle.run_typing_laws.proofs.ListFacts.{get_last}
-use Rattle.run_typing_laws.proofs.Rows.Finding.{found_behind, mapped_from, mapped_some, none_of, where_found}
+use Rattle.run_typing_laws.proofs.Rows.Finding.{mapped_from, mapped_some, where_found}
 use Rattle.run_typing_laws.proofs.Rows.Points.{in_front}
 use Rattle.lowered_typing_laws.proofs.Lists.{each_all, each_weaker, zip_append, zip_at, zip_flat, zip_maps, zip_repeat}
 use Rattle.lowered_typing_laws.proofs.NewFunctions.{no_function}
@@ -56,9 +53,9 @@ zip_rows R args others results more n (b ∷ bs) h =
     (zip_append R (args n b.args) (flat_map results (insts_of b)) (others n b.args) (flat_map more (insts_of b))
     (subst (λ k. AllZip R (args k b.args) (others k b.args)) same here.0) (zip_flat R results more (insts_of b) here.1))
     (zip_rows R args others results more (n + 1) bs (λ k c is.
-        let next : n + suc k ≡ (n + 1) + k = omega arith in
-        let there = h (suc k) c is in
-        (subst (λ j. AllZip R (args j c.args) (others j c.args)) next there.0, there.1)))
+    let next : n + suc k ≡ (n + 1) + k = omega arith in
+    let there = h (suc k) c is in
+    (subst (λ j. AllZip R (args j c.args) (others j c.args)) next there.0, there.1)))
 
 pub operands_row : (defs : List Definition) (k : ℕ) (def : Definition) → slice_get defs k ≡ Some def → unwrap_or (slice_get (map (λ (x : Definition). x.operands) defs) k) [] ≡ def.operands
 operands_row defs k def e = ap (λ o. unwrap_or o []) (slice_get-map (λ (x : Definition). x.operands) defs k ∙ ap (option_map (λ (x : Definition). x.operands)) e)
@@ -134,9 +131,9 @@ module _ (m : Module) (f : Function) (sound : SoundFunction m f) where
               let it = default_typed m f sound k s e d in
               let same : args_of f k ≡ b.args = ap args_in is in
               each_weaker (λ a. a.ty ≡ it.ty) (IsNamed (Some s)) (λ a ty w there.
-                  let one : slice_get (s.operand ∷ []) 0 ≡ Some w = ap (λ x. slice_get (cond x (s.operand ∷ []) []) 0) (sym d) ∙ there in
-                  let value : s.operand ≡ w = cc in
-                  (it.ty, ap Some ty, ap (λ v. type_at types v.0) (sym value) ∙ it.value))
+              let one : slice_get (s.operand ∷ []) 0 ≡ Some w = ap (λ x. slice_get (cond x (s.operand ∷ []) []) 0) (sym d) ∙ there in
+              let value : s.operand ≡ w = cc in
+              (it.ty, ap Some ty, ap (λ v. type_at types v.0) (sym value) ∙ it.value))
               b.args (subst (Each (λ a. a.ty ≡ it.ty)) same it.args)
           by false d = each_all (IsNamed (Some s)) b.args (λ j a at w there.
               let none : slice_get (cond false (s.operand ∷ []) []) 0 ≡ Some w = ap (λ x. slice_get (cond x (s.operand ∷ []) []) 0) (sym d) ∙ there in
@@ -167,9 +164,10 @@ module _ (m : Module) (f : Function) (sound : SoundFunction m f) where
 
   all_named : AllZip HasNameOf (renamings_of f) types
   all_named = zip_rows HasNameOf (arg_renamings f) (λ k. map arg_has) result_renamings (result_types (declarations_of m)) 0 f.blocks (λ k b is.
-      let here : 0 + k ≡ k = omega arith in
-      (subst (λ n. AllZip HasNameOf (arg_renamings f n b.args) (map arg_has b.args)) (sym here) (args_named k b is),
-      each_sound b (sound_block m f sound k b is) (λ i. AllZip HasNameOf (result_renamings i) (result_types (declarations_of m) i)) results_named))
+      let here : 0 + k ≡ k = omega arith in (
+        subst (λ n. AllZip HasNameOf (arg_renamings f n b.args) (map arg_has b.args)) (sym here) (args_named k b is),
+        each_sound b (sound_block m f sound k b is) (λ i. AllZip HasNameOf (result_renamings i) (result_types (declarations_of m) i)) results_named,
+      ))
 
   some_row : (rows : List (Option TypeName)) (k : ℕ) (u : TypeName) → type_at rows k ≡ Some u → slice_get rows k ≡ Some (Some u)
   some_row rows k u e = at (slice_get rows k) refl e
@@ -232,9 +230,10 @@ module _ (m : Module) (f : Function) (sound : SoundFunction m f) where
       at (v ∷ vs) = (first, no_functions _ (length vs))
 
   all_unnamed : AllZip HasNoName (renamings_of f) functions
-  all_unnamed = zip_rows HasNoName (arg_renamings f) (λ k. map no_function) result_renamings result_functions 0 f.blocks (λ k b is.
-      (zip_maps HasNoName (arg_renaming (switch_to f (0 + k))) no_function b.args (each_all (λ a. HasNoName (arg_renaming (switch_to f (0 + k)) a) (no_function a)) b.args (λ j a at g e. cc)),
-      each_sound b (sound_block m f sound k b is) (λ i. AllZip HasNoName (result_renamings i) (result_functions i)) results_unnamed))
+  all_unnamed = zip_rows HasNoName (arg_renamings f) (λ k. map no_function) result_renamings result_functions 0 f.blocks (λ k b is. (
+    zip_maps HasNoName (arg_renaming (switch_to f (0 + k))) no_function b.args (each_all (λ a. HasNoName (arg_renaming (switch_to f (0 + k)) a) (no_function a)) b.args (λ j a at g e. cc)),
+    each_sound b (sound_block m f sound k b is) (λ i. AllZip HasNoName (result_renamings i) (result_functions i)) results_unnamed,
+  ))
 
   -- what stands for a function stands for itself
   pub function_stands : (v : ValueId) (g : FuncId) → unwrap_or (slice_get functions v.0) None ≡ Some g → stands_for (renamings_of f) v ≡ v

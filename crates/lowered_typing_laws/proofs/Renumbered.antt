@@ -1,5 +1,5 @@
 -- What typing says of an instruction, it says of it with new numbers too: it speaks of values only through their types.
-use Rattle.std.proofs.Common.{◌≡◌, ℕ, zero, suc, List, [], ◌∷◌, ◌++◌, length, map, refl, ap, ap₂, ◌∙◌, Bool, true, false, Option, Some, None}
+use Rattle.std.proofs.Common.{◌≡◌, ℕ, zero, suc, List, [], ◌∷◌, ◌++◌, map, refl, ap, ap₂, ◌∙◌, Option, Some, None}
 use Rattle.std.specs.Prelude.{◌&&◌, ◌||◌, option_and_then, option_map, slice_get, is_some, unwrap_or, if◌then◌else◌}
 use Rattle.std.specs.List.{list_all, range_with_len}
 use Rattle.std.specs.Option.{option_to_list}
@@ -21,10 +21,10 @@ use Rattle.sil_ast.specs.declared.type_name.TypeName.TheVariants as type
 use Rattle.type_definitions.specs.Declarations.{Declarations}
 use Rattle.type_definitions.specs.Rules.{is_class_type}
 use Rattle.sil_types.specs.Typing.Builtins.{builtin_named, builtin_operands, builtin_result}
-use Rattle.sil_types.specs.Typing.FormRules.{is_at_storage, may_stand_lowered}
+use Rattle.sil_types.specs.Typing.FormRules.{may_stand_lowered}
 use Rattle.sil_types.specs.Typing.OperandTypes.{are_as_asked_by, are_as_written, asked_by, bare_by, edge_is_as_written, has_operand_types, has_type, is_as_written_by}
 use Rattle.sil_types.specs.Typing.RowTypes.{MadeTypes, address_of, address_of_field, all_fields, all_written, are_elements, given_by, gives, is_base, is_counted_value, is_payload, is_struct_of}
-use Rattle.sil_types.specs.Typing.RowTypes.{keeps_row, made_types, member_type, passes, row_types, takes, type_of, written}
+use Rattle.sil_types.specs.Typing.RowTypes.{member_type, passes, row_types, takes, type_of, written}
 use Rattle.sil_types.specs.Typing.Same.{all_pairs, are_same_types, is_same_type}
 use Rattle.sil_types.specs.Typing.Shapes.{case_in, class_field, element_of, elements, field_address, field_type, is_bit, is_enum, is_nontrivial, is_object, is_storage}
 use Rattle.sil_types.specs.Typing.Shapes.{object_at, struct_field, target, unowned_at, weak_at, where_it}

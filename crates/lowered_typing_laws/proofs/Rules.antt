@@ -1,9 +1,8 @@
 -- The rules at instructions that speak of no block: they are kept with new numbers where they were kept with old ones.
-use Rattle.std.proofs.Common.{◌≡◌, ℕ, List, [], ◌∷◌, length, map, refl, sym, ap, ap₂, ◌∙◌, subst, Bool, true, false, not, Option, Some, None}
-use Rattle.std.specs.Prelude.{◌<◌, ◌&&◌, ◌||◌, ◌==◌, is_none, option_and_then, slice_get}
+use Rattle.std.proofs.Common.{◌≡◌, List, [], ◌∷◌, length, map, refl, sym, ap, ap₂, ◌∙◌, subst, true, false, not, Option, Some, None}
+use Rattle.std.specs.Prelude.{◌<◌, ◌||◌, is_none, option_and_then, slice_get}
 use Rattle.std.specs.List.{list_all, list_any}
 use Rattle.std.specs.Option.{option_to_list}
-use Rattle.std.proofs.lemmas.Bool.{not-false}
 use Rattle.std.proofs.lemmas.List.{length-map}
 use Rattle.instruction_table.specs.Forms.{is_terminator, results_of}
 use Rattle.instruction_table.specs.declared.op.Op.{Op}
@@ -13,7 +12,6 @@ use Rattle.sil_ast.specs.declared.function.Function.{Function}
 use Rattle.sil_ast.specs.declared.inst.Edge.{Edge}
 use Rattle.sil_ast.specs.declared.inst.Inst.{Inst}
 use Rattle.sil_ast.specs.declared.module.Module.{Module}
-use Rattle.sil_ast.specs.declared.operands.Operand.{Operand}
 use Rattle.sil_ast.specs.declared.place.FuncId.{FuncId}
 use Rattle.sil_ast.specs.declared.place.ValueId.{ValueId}
 use Rattle.type_definitions.specs.Declarations.{Declarations, declarations_of}
@@ -22,7 +20,7 @@ use Rattle.sil_types.specs.Typing.EdgeRules.{have_wrong_arguments_by, is_to_entr
 use Rattle.sil_types.specs.Typing.ResultCounts.{is_count_by}
 use Rattle.sil_types.specs.Typing.RowTypes.{passes, row_types}
 use Rattle.sil_types.specs.Typing.Same.{is_same_type}
-use Rattle.sil_types.specs.Typing.SignatureRules.{callee, callee_value, calls_no_function, calls_none_by, differs_by, differs_from_signature, has_signature_of, is_signature_of, signature_of}
+use Rattle.sil_types.specs.Typing.SignatureRules.{callee, callee_value, calls_no_function, calls_none_by, differs_by, differs_from_signature, has_signature_of, is_signature_of}
 use Rattle.sil_types.specs.Typing.SwitchRules.{has_wrong_cases_by}
 use Rattle.sil_types.specs.Typing.Values.{function_at, value_functions}
 use Rattle.lowering_model.specs.LoweredModules.{lowered, lowered_body}
@@ -78,7 +76,7 @@ module _ (num : ValueId → ValueId) where
 
   module _ (m : Module) (f : Function)
       (kept : (v : ValueId) (g : FuncId) → v.0 < length (values_of f.blocks) → function_at (value_functions f) v.0 ≡ Some g
-          → function_at (value_functions (lowered_body (declarations_of m) f)) (num v).0 ≡ Some g) (i : Inst) (s : Sound m f i) where
+      → function_at (value_functions (lowered_body (declarations_of m) f)) (num v).0 ≡ Some g) (i : Inst) (s : Sound m f i) where
     abbrev old : List (Option FuncId)
     old = value_functions f
 

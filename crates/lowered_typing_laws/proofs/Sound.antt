@@ -1,14 +1,14 @@
 -- What holds of a function of a typed module, and of its instructions: rules that aren't broken, and numbered form.
-use Rattle.std.proofs.Common.{◌≡◌, ℕ, List, [], ◌∷◌, ◌++◌, length, refl, ap, ◌∙◌, subst, Bool, true, false, not, Option, Some}
+use Rattle.std.proofs.Common.{◌≡◌, ℕ, List, [], ◌∷◌, length, Bool, true, false, not, Option, Some}
 use Rattle.std.specs.Prelude.{◌&&◌, slice_get}
 use Rattle.std.specs.List.{list_all}
 use Rattle.std.proofs.lemmas.Bool.{and_parts, not-false, or_parts}
-use Rattle.instruction_table.specs.Forms.{bare_operands_of, is_terminator, results_of}
+use Rattle.instruction_table.specs.Forms.{is_terminator, results_of}
 use Rattle.numbered_form.specs.Insts.{EachInBlock, insts_of}
 use Rattle.numbered_form.specs.Lists.{Each}
 use Rattle.numbered_form.specs.Numbering.{IsFunctionNumbered, IsInstInRange, values_of}
 use Rattle.numbered_form.specs.inner.NumberedForm.{IsNumbered}
-use Rattle.numbered_form.specs.inner.Parts.{BlockHasParts, FunctionHasParts, HasItsParts, IsInside, IsTerminator}
+use Rattle.numbered_form.specs.inner.Parts.{BlockHasParts, FunctionHasParts, HasItsParts, IsInside}
 use Rattle.point_checks.specs.Points.{IsAt}
 use Rattle.sil_ast.specs.declared.function.Block.{Block}
 use Rattle.sil_ast.specs.declared.function.Function.{Function}
@@ -18,11 +18,11 @@ use Rattle.sil_ast.specs.declared.type_name.TypeName.{TypeName}
 use Rattle.sil_rules.specs.declared.rule.Rule.{Rule}
 use Rattle.sil_rules.specs.declared.rule.Rule.TheVariants as rule
 use Rattle.sil_types.specs.Typing.EdgeRules.{goes_to_entry, has_wrong_edge_arguments, lets_address_escape}
-use Rattle.sil_types.specs.Typing.FormRules.{has_wrong_qualifier, is_annotated_at, is_of_form, is_of_other_form}
+use Rattle.sil_types.specs.Typing.FormRules.{has_wrong_qualifier, is_annotated_at, is_of_form}
 use Rattle.sil_types.specs.Typing.OperandTypes.{are_as_asked, are_as_written, edge_is_as_written, has_operand_types}
 use Rattle.sil_types.specs.Typing.ResultCounts.{is_count_by}
 use Rattle.sil_types.specs.Typing.RowTypes.{keeps_row, row_types}
-use Rattle.sil_types.specs.Typing.SignatureRules.{calls_no_function, differs_from_signature, has_wrong_signature, is_no_output_call}
+use Rattle.sil_types.specs.Typing.SignatureRules.{calls_no_function, differs_from_signature, has_wrong_signature}
 use Rattle.sil_types.specs.Typing.SwitchRules.{has_wrong_cases}
 use Rattle.sil_types.specs.Typing.Typed.{BreaksAtFunction, BreaksAtPoint, Typed, at_function, at_point, function, point}
 use Rattle.sil_types.specs.Typing.Values.{value_functions, value_types}

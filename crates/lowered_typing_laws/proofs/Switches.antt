@@ -1,7 +1,7 @@
 -- The switch that goes to a block, and whether the block's arguments are other names for what is switched.
-use Rattle.std.proofs.Common.{◌≡◌, ℕ, ◌≤◌, List, [], ◌∷◌, refl, sym, ap, ◌∙◌, subst, arith, cond, Bool, true, false, not, Option, Some, None}
+use Rattle.std.proofs.Common.{◌≡◌, ℕ, ◌≤◌, List, [], ◌∷◌, refl, sym, ap, ◌∙◌, subst, arith, cond, true, false, not, Option, Some, None}
 use Rattle.std.specs.Prelude.{◌||◌, ◌==◌, is_none, is_some, option_and_then, option_map, slice_get, count_by, if◌then◌else◌}
-use Rattle.std.specs.List.{filter_map, flat_map, list_all}
+use Rattle.std.specs.List.{flat_map, list_all}
 use Rattle.std.proofs.lemmas.Bool.{eq-eqb, eqb-true, not-false, or_parts}
 use Rattle.instruction_table.specs.Forms.{ending_of}
 use Rattle.instruction_table.specs.declared.entries.Ending.{Ending}
@@ -28,7 +28,7 @@ use Rattle.type_definitions.specs.Declarations.{declarations_of}
 use Rattle.value_tables.specs.FirstValue.{first_value, value_of}
 use Rattle.sil_types.specs.Typing.EdgeRules.{goes_to_entry, is_to_entry}
 use Rattle.sil_types.specs.Typing.FormRules.{is_lowered}
-use Rattle.sil_types.specs.Typing.RowTypes.{given_by, takes, type_of, written}
+use Rattle.sil_types.specs.Typing.RowTypes.{given_by, type_of, written}
 use Rattle.sil_types.specs.Typing.Same.{is_same_type}
 use Rattle.sil_types.specs.Typing.Shapes.{is_enum, where_it}
 use Rattle.sil_types.specs.Typing.SwitchRules.{edges_of_block, fits_case, fits_default, has_case, has_wrong_cases_by, incoming, is_alone, is_default_argument, is_to, leaves_out_case}
@@ -36,7 +36,7 @@ use Rattle.sil_types.specs.Typing.SwitchRules.{misfits_default, misfits_payload,
 use Rattle.sil_types.specs.Typing.Values.{type_at, value_types}
 use Rattle.run_typing_laws.proofs.Found.{both_second, each_at}
 use Rattle.run_typing_laws.proofs.ListFacts.{or_second}
-use Rattle.run_typing_laws.proofs.Rows.Finding.{fails_at, mapped_from, passes_at, some_of, where_found}
+use Rattle.run_typing_laws.proofs.Rows.Finding.{fails_at, mapped_from, passes_at, where_found}
 use Rattle.run_typing_laws.proofs.SameTypes.{same_types}
 use Rattle.lowered_typing_laws.proofs.Becomes.{taken_type}
 use Rattle.lowered_typing_laws.proofs.Lists.{first_from, kept_first, only_within, some_first, some_kept, where_true}

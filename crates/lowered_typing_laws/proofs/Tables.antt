@@ -1,13 +1,13 @@
 -- What the tables of a lowered function tell of a new number, they told of the old one.
-use Rattle.std.proofs.Common.{◌≡◌, ℕ, suc, ◌+◌, ◌<◌, List, [], ◌∷◌, ◌++◌, length, map, replicate, refl, sym, ap, ap₂, ◌∙◌, subst, arith, Option, Some, None}
+use Rattle.std.proofs.Common.{◌≡◌, ℕ, suc, ◌+◌, ◌<◌, List, [], ◌∷◌, ◌++◌, length, map, replicate, refl, sym, ap, ap₂, ◌∙◌, Option, Some, None}
 use Rattle.std.specs.Prelude.{slice_get, unwrap_or}
-use Rattle.std.specs.List.{flat_map, range_with_len}
+use Rattle.std.specs.List.{flat_map}
 use Rattle.std.proofs.lemmas.List.{length-map, length-replicate, map-append}
 use Rattle.std.proofs.lemmas.List.FromFn.{length-map-range_with_len}
 use Rattle.numbered_form.specs.Insts.{insts_of}
 use Rattle.numbered_form.specs.Lists.{Each}
 use Rattle.numbered_form.specs.Names.{AreMembersOnce, Name}
-use Rattle.numbered_form.specs.Numbering.{IsValueBelow, results_of, values_of}
+use Rattle.numbered_form.specs.Numbering.{IsValueBelow, values_of}
 use Rattle.ownership_origins.specs.Renamings.{renamings_of}
 use Rattle.sil_ast.specs.declared.decl.Decl.{Decl}
 use Rattle.sil_ast.specs.declared.function.Block.{Block}
@@ -24,11 +24,11 @@ use Rattle.type_definitions.specs.Declarations.{Declarations, decl_of, declarati
 use Rattle.value_tables.proofs.Rows.{same_args}
 use Rattle.value_tables.specs.ValueRows.{rows_from, value_rows}
 use Rattle.sil_types.specs.Typing.RowTypes.{made_types}
-use Rattle.sil_types.specs.Typing.Values.{arg_functions, arg_has, arg_types, function_at, functions_by, result_functions, result_types, type_at, value_functions, value_types}
+use Rattle.sil_types.specs.Typing.Values.{arg_functions, arg_has, function_at, functions_by, result_functions, result_types, type_at, value_functions, value_types}
 use Rattle.lowering_model.specs.LoweredBlocks.{lowered_blocks, value_with}
 use Rattle.lowering_model.specs.LoweredModules.{lowered_body}
 use Rattle.lowering_model.specs.Names.{stands_for}
-use Rattle.lowering_model.specs.Numbers.{new_number, numbering_of, renumbered, renumbered_arg, renumbered_block, renumbered_inst}
+use Rattle.lowering_model.specs.Numbers.{new_number, numbering_of, renumbered, renumbered_arg, renumbered_inst}
 use Rattle.lowering_laws.specs.Lowerable.{IsLowerable}
 use Rattle.lowering_laws.proofs.Placed.{defined_are_placed, old_are_placed}
 use Rattle.lowered_typing_laws.proofs.Lists.{each_all, each_weaker, mapped_at}

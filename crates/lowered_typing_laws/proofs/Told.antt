@@ -1,5 +1,5 @@
 -- What a table tells of a function's values, and of a spare value for each instruction behind them.
-use Rattle.std.proofs.Common.{◌≡◌, ℕ, zero, suc, ◌+◌, ◌<◌, List, [], ◌∷◌, ◌++◌, length, map, refl, sym, ap, ap₂, ◌∙◌, subst, arith, append_assoc, append-nil, length-append, cond, Bool, true, false, Option, Some, None}
+use Rattle.std.proofs.Common.{◌≡◌, ℕ, suc, ◌+◌, ◌<◌, List, [], ◌∷◌, ◌++◌, length, map, refl, sym, ap, ap₂, ◌∙◌, subst, arith, append_assoc, append-nil, length-append, cond, Bool, true, false, Option, Some, None}
 use Rattle.std.specs.Prelude.{filter, slice_get, unwrap_or}
 use Rattle.std.specs.List.{flat_map}
 use Rattle.std.proofs.lemmas.List.{length-map, map-append}
@@ -62,7 +62,7 @@ module _ {A : Type 0} (arg : BlockArg → Option A) (results : Inst → List (Op
 
   module _ (d : Declarations) (renamings : List Definition) (arg_kept : (a : BlockArg) → arg (without_annotation a) ≡ arg a)
       (Q : Inst → Type 0) (each_becomes : (s : ℕ) (i : Inst) → Q i → InstTold s i
-          → map value (flat_map results_of (becomes d (value_with s) i)) ≡ flat_map results (becomes d (value_with s) i)) where
+      → map value (flat_map results_of (becomes d (value_with s) i)) ≡ flat_map results (becomes d (value_with s) i)) where
     args_rows : (args : List BlockArg) → Each (λ a. value a.value ≡ arg a) args → map value (map value_of (args_become renamings args)) ≡ map arg (args_become renamings args)
     args_rows [] h = refl
     args_rows (a ∷ args) h = at (has_own_name renamings a) (args_rows args h.1)
@@ -189,9 +189,10 @@ module _ {A : Type 0} (arg : BlockArg → Option A) (results : Inst → List (Op
   insts_spared before after [] s split start = tt
   insts_spared before after (i ∷ is) s split start =
       let long = length-append before (spare i ∷ []) in
-      let next : length (before ++ spare i ∷ []) ≡ length before + 1 = long in
-      (spare_there before (map spare is ++ after) (spare i) s split start,
-      insts_spared (before ++ spare i ∷ []) after is (s + 1) (split ∙ sym (append_assoc before (spare i ∷ []) (map spare is ++ after))) (omega arith))
+      let next : length (before ++ spare i ∷ []) ≡ length before + 1 = long in (
+        spare_there before (map spare is ++ after) (spare i) s split start,
+        insts_spared (before ++ spare i ∷ []) after is (s + 1) (split ∙ sym (append_assoc before (spare i ∷ []) (map spare is ++ after))) (omega arith),
+      )
 
   abbrev BlocksSpared : ℕ → List Block → Type 0
   BlocksSpared s [] = Unit {0}
@@ -201,9 +202,10 @@ module _ {A : Type 0} (arg : BlockArg → Option A) (results : Inst → List (Op
   blocks_spared before [] s split start = tt
   blocks_spared before (b ∷ bs) s split start =
       let long = length-append before (block_spares b) in
-      let each : length (block_spares b) ≡ length b.insts = length-map b.insts spare in
-      (insts_spared before (flat_map block_spares bs) b.insts s split start,
-      blocks_spared (before ++ block_spares b) bs (s + length b.insts) (split ∙ sym (append_assoc before (block_spares b) (flat_map block_spares bs))) (omega arith))
+      let each : length (block_spares b) ≡ length b.insts = length-map b.insts spare in (
+        insts_spared before (flat_map block_spares bs) b.insts s split start,
+        blocks_spared (before ++ block_spares b) bs (s + length b.insts) (split ∙ sym (append_assoc before (block_spares b) (flat_map block_spares bs))) (omega arith),
+      )
 
   -- ---- both together
 

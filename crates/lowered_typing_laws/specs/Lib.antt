@@ -1,1 +1,1 @@
-pub mod LoweredTyped
+pub mod inner
