@@ -23,7 +23,7 @@ use Rattle.lowering_model.specs.Names.{renamed_from}
 use Rattle.lowering_model.specs.Numbers.{new_number, numbering_of, renumbered, renumbered_arg}
 use Rattle.run_typing_laws.proofs.ListFacts.{map_twice}
 use Rattle.run_typing_laws.proofs.Rows.Tables.{row_at, told_of_args}
-use Rattle.lowered_typing_laws.proofs.Lists.{each_weaker}
+use Rattle.lowering_laws.proofs.Lists.{each_weaker}
 use Rattle.lowered_typing_laws.proofs.Told.{each_of_maps}
 
 -- where each argument passes or fails
@@ -39,14 +39,16 @@ all_go test (a ∷ args) h = ap (λ b. cond b (a ∷ filter test args) (filter t
 row_operands : (defs : List Definition) (v : ValueId) → operands_at defs v ≡ (row_at (renamed []) defs v).operands
 row_operands defs v = at defs v.0
   where
-    at : (defs : List Definition) (k : ℕ) → unwrap_or (slice_get (map (λ (x : Definition). x.operands) defs) k) [] ≡ (unwrap_or (slice_get defs k) (renamed [])).operands
+    at : (defs : List Definition) (k : ℕ)
+        → unwrap_or (slice_get (map (λ (x : Definition). x.operands) defs) k) [] ≡ (unwrap_or (slice_get defs k) (renamed [])).operands
     at [] k = refl
     at (x ∷ defs) zero = refl
     at (x ∷ defs) (suc k) = at defs k
 
 module _ (f : Function) (counted : AreCountedFrom 0 (values_of f.blocks)) where
   -- an argument is another name just where a default goes to its block
-  arg_names : (k : ℕ) (b : Block) → slice_get f.blocks k ≡ Some b → Each (λ a. renamed_from (renamings_of f) a.value ≡ slice_get (default_operand (switch_to f k)) 0) b.args
+  arg_names : (k : ℕ) (b : Block) → slice_get f.blocks k ≡ Some b
+      → Each (λ a. renamed_from (renamings_of f) a.value ≡ slice_get (default_operand (switch_to f k)) 0) b.args
   arg_names k b is =
       let told = told_of_args (arg_renamings f) result_renamings (λ n xs. length-map xs (arg_renaming (switch_to f n))) (λ i. length-replicate (length i.results) _) (renamed []) f counted k b is in
       let each = each_of_maps (λ a. row_at (renamed []) (renamings_of f) a.value) (arg_renaming (switch_to f k)) b.args (sym (map_twice (row_at (renamed []) (renamings_of f)) value_of b.args) ∙ told) in
@@ -81,7 +83,8 @@ module _ (d : Declarations) (f : Function) where
   abbrev num : ValueId → ValueId
   num = new_number (numbering_of d f)
 
-  become_args : (s : ℕ) (bs : List Block) (k : ℕ) → args_in (slice_get (blocks_become d (renamings_of f) s bs) k) ≡ args_become (renamings_of f) (args_in (slice_get bs k))
+  become_args : (s : ℕ) (bs : List Block) (k : ℕ)
+      → args_in (slice_get (blocks_become d (renamings_of f) s bs) k) ≡ args_become (renamings_of f) (args_in (slice_get bs k))
   become_args s [] k = refl
   become_args s (b ∷ bs) zero = refl
   become_args s (b ∷ bs) (suc k) = become_args (s + length b.insts) bs k

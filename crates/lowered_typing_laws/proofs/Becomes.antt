@@ -1,12 +1,13 @@
 -- What a typed instruction of a function in ownership form becomes, kind by kind, with what typing says of its operands.
-use Rattle.std.proofs.Common.{◌≡◌, ℕ, suc, List, [], ◌∷◌, ◌++◌, length, map, refl, sym, ap, ◌∙◌, subst, append-nil, arith, Bool, true, false, not, Option, Some, None}
+use Rattle.std.proofs.Common.{◌≡◌, ℕ, suc, List, [], ◌∷◌, ◌++◌, length, map, refl, sym, ap, ◌∙◌, subst, append-nil, arith, Bool, true, false, not, Option, Some}
+use Rattle.std.proofs.Common.{None}
 use Rattle.std.specs.Prelude.{◌&&◌, ◌||◌, ◌==◌, is_some, option_and_then, slice_get, unwrap_or, if◌then◌else◌}
 use Rattle.std.specs.List.{flat_map}
 use Rattle.std.specs.Option.{option_to_list}
 use Rattle.std.proofs.lemmas.Bool.{and_parts, eqb-true, not-false}
 use Rattle.std.proofs.lemmas.List.{length-map}
 use Rattle.instruction_table.specs.Forms.{results_of, type_words_of}
-use Rattle.instruction_table.specs.declared.entries.Results.TheVariants.{NoResult, OneResult}
+use Rattle.instruction_table.specs.declared.entries.Results.TheVariants.{NoResult, OneResult, ResultList}
 use Rattle.instruction_table.specs.declared.op.Op.{Op}
 use Rattle.instruction_table.specs.declared.op.Op.TheVariants as op
 use Rattle.numbered_form.specs.Names.{Name}
@@ -27,15 +28,18 @@ use Rattle.type_definitions.specs.Declarations.{Declarations, decl_of, declarati
 use Rattle.sil_types.specs.Typing.FormRules.{has_word_by, is_at_storage, is_owned_form, is_read_word, is_write_word}
 use Rattle.sil_types.specs.Typing.ResultCounts.{is_count_by, is_count_of}
 use Rattle.sil_types.specs.Typing.RowTypes.{all_fields, given_by, gives, passes, row_types, takes, type_of, written}
-use Rattle.sil_types.specs.Typing.Shapes.{decl_of_type, elements, field_type, fields_of_struct, is_nontrivial, is_object, is_storage, name_in, object_at, struct_fields, target, where_it}
+use Rattle.sil_types.specs.Typing.Shapes.{decl_of_type, elements, field_type, fields_of_struct, is_nontrivial, is_object, is_storage, name_in, object_at}
+use Rattle.sil_types.specs.Typing.Shapes.{struct_fields, target, where_it}
 use Rattle.lowering_model.specs.Extracts.{element_extracts, extracts_elements, extracts_fields, field_extracts, member_of, members_of_struct}
-use Rattle.lowering_model.specs.LoweredInsts.{becomes, becomes_by, destroys_by, loads_by, loads_spare, lowering_of, plain_load, plain_store, releases_spare, retains_loaded, stores_by}
+use Rattle.lowering_model.specs.LoweredInsts.{becomes, becomes_by, destroys_by, loads_by, loads_spare, lowering_of, plain_load, plain_store, releases_spare}
+use Rattle.lowering_model.specs.LoweredInsts.{retains_loaded, stores_by}
 use Rattle.lowering_model.specs.NewInsts.{loaded_from, release, retain}
 use Rattle.lowering_model.specs.declared.lowering.Lowering.TheVariants as lowering
 use Rattle.run_typing_laws.proofs.EndFacts.{one_operand}
 use Rattle.run_typing_laws.proofs.ListFacts.{empty_is}
 use Rattle.run_typing_laws.proofs.Rows.Finding.{found_behind, mapped_from, mapped_some, passed, some_of, where_found}
-use Rattle.lowered_typing_laws.proofs.Sound.{Sound}
+use Rattle.lowering_laws.proofs.Structs.{IsStruct, struct_is}
+use Rattle.lowered_typing_laws.proofs.Sound.{Sound, Source}
 
 -- the operand with this type alone
 pub record IsOne (i : Inst) (o : Operand) (t : TypeName) : Type 0 where
@@ -63,14 +67,18 @@ pub data Becomes (d : Declarations) (i : Inst) (s : ValueId) : List Inst → Typ
   retains : (o : Operand) (t : TypeName) → IsOne i o t → is_nontrivial d t ≡ true → Becomes d i s (retain d o ∷ [])
   releases : (o : Operand) (t : TypeName) → IsOne i o t → is_nontrivial d t ≡ true → Becomes d i s (release d o ∷ [])
   loads : (place : Operand) (p t : TypeName) (v : ValueId) → IsLoad d i place p t v → Becomes d i s (plain_load i ∷ [])
-  copies : (place : Operand) (p t : TypeName) (v : ValueId) → IsLoad d i place p t v → IsCounted d place p t → Becomes d i s (plain_load i ∷ retain d (loaded_from place v) ∷ [])
+  copies : (place : Operand) (p t : TypeName) (v : ValueId) → IsLoad d i place p t v → IsCounted d place p t
+      → Becomes d i s (plain_load i ∷ retain d (loaded_from place v) ∷ [])
   stores : i.op ≡ op.Store → Becomes d i s (plain_store i ∷ [])
   assigns : (x place : Operand) (p t : TypeName) → i.op ≡ op.Store → i.operands ≡ x ∷ place ∷ [] → IsCounted d place p t →
       Becomes d i s (loads_spare d s place ∷ plain_store i ∷ releases_spare d s place ∷ [])
-  destroys : (place : Operand) (p t : TypeName) → i.op ≡ op.DestroyAddr → i.operands ≡ place ∷ [] → IsCounted d place p t → Becomes d i s (loads_spare d s place ∷ releases_spare d s place ∷ [])
-  by_fields : (o : Operand) (t : TypeName) (name : Name) (decl : Decl) (fs : List Field) → i.op ≡ op.DestructureStruct → IsOne i o t → name_in (out-TypeName t) ≡ Some name
-      → decl_of d name ≡ Some decl → struct_fields decl ≡ Some fs → length fs ≡ length i.results → Becomes d i s (field_extracts o (map (member_of name) fs) i.results)
-  by_elements : (o : Operand) (t : TypeName) (ts : List TypeName) → i.op ≡ op.DestructureTuple → IsOne i o t → elements t ≡ Some ts → length ts ≡ length i.results
+  destroys : (place : Operand) (p t : TypeName) → i.op ≡ op.DestroyAddr → i.operands ≡ place ∷ [] → IsCounted d place p t
+      → Becomes d i s (loads_spare d s place ∷ releases_spare d s place ∷ [])
+  by_fields : (o : Operand) (t : TypeName) (fs : List Field) (struct : IsStruct d t fs) → i.op ≡ op.DestructureStruct → IsOne i o t
+      → length fs ≡ length i.results
+      → Becomes d i s (field_extracts o (map (member_of struct.name) fs) i.results)
+  by_elements : (o : Operand) (t : TypeName) (ts : List TypeName) → i.op ≡ op.DestructureTuple → IsOne i o t → elements t ≡ Some ts
+      → length ts ≡ length i.results
       → Becomes d i s (element_extracts o 0 i.results)
 
 -- ---- operands by their rows
@@ -107,7 +115,7 @@ pub none_left : {A : Type 0} (xs : List A) → (length xs == 0) ≡ true → xs 
 none_left [] e = refl
 none_left (x ∷ xs) e = let none : suc (length xs) ≡ 0 = eqb-true (suc (length xs)) 0 e in absurd (omega arith)
 
-module _ (m : Module) (f : Function) (owned : f.form ≡ Ossa) (i : Inst) (sound : Sound m f i) where
+module _ (m : Module) (f : Function) (source : Source m f) (i : Inst) (sound : Sound m f i) where
   abbrev d : Declarations
   d = declarations_of m
 
@@ -123,7 +131,7 @@ module _ (m : Module) (f : Function) (owned : f.form ≡ Ossa) (i : Inst) (sound
   word_by : (o : Op) → i.op ≡ o → has_word_by (type_words_of o) d i ≡ true
   word_by o is =
       subst (λ x. has_word_by (type_words_of x) d i ≡ true) is
-      (not-false (has_word_by (type_words_of i.op) d i) (subst (λ x. (is_owned_form x && not (has_word_by (type_words_of i.op) d i)) ≡ false) owned sound.words))
+      (not-false (has_word_by (type_words_of i.op) d i) (subst (λ x. (is_owned_form x && not (has_word_by (type_words_of i.op) d i)) ≡ false) source.owned sound.words))
 
   pub no_results : (o : Op) → i.op ≡ o → results_of o ≡ NoResult → i.results ≡ []
   no_results o is none = none_left i.results (subst (λ x. is_count_by x (given_by o d i) (length i.results) ≡ true) none (counted_by o is))
@@ -136,7 +144,8 @@ module _ (m : Module) (f : Function) (owned : f.form ≡ Ossa) (i : Inst) (sound
   one_typed o w only is = record { only = only; typed = ap (λ os. option_and_then type_of (slice_get os 0)) (sym only) ∙ is }
 
   -- a nontrivial value at the place that is written
-  counted_at : (n : ℕ) (place : Operand) → option_and_then type_of (Some place) ≡ written n i → (t : TypeName) → option_and_then target (written n i) ≡ Some t → is_nontrivial d t ≡ true
+  counted_at : (n : ℕ) (place : Operand) → option_and_then type_of (Some place) ≡ written n i → (t : TypeName) → option_and_then target (written n i) ≡ Some t
+      → is_nontrivial d t ≡ true
       → (p : TypeName) × IsCounted d place p t
   counted_at n place is t e nontrivial =
       let behind = found_behind target (written n i) t e in
@@ -145,7 +154,8 @@ module _ (m : Module) (f : Function) (owned : f.form ≡ Ossa) (i : Inst) (sound
   module _ (s : ValueId) where
     module _ (o : Op) (is : i.op ≡ o) (one : (x : Operand) × (i.operands ≡ x ∷ [])) where
       -- a load, where the row gives what is at the place
-      load_of : results_of o ≡ OneResult → (p t : TypeName) → written 0 i ≡ Some p → object_at p ≡ Some t → given_by o d i ≡ Some (t ∷ []) → (v : ValueId) × IsLoad d i one.0 p t v
+      load_of : results_of o ≡ OneResult → (p t : TypeName) → written 0 i ≡ Some p → object_at p ≡ Some t → given_by o d i ≡ Some (t ∷ [])
+          → (v : ValueId) × IsLoad d i one.0 p t v
       load_of result p t at there given =
           let v = one_result o is result in
           (v.0, record { one = one_typed one.0 p one.1 at; at = there; result = v.1; row = subst (λ x. given_by x d i ≡ Some (t ∷ [])) (sym is) given })
@@ -226,6 +236,23 @@ module _ (m : Module) (f : Function) (owned : f.form ≡ Ossa) (i : Inst) (sound
         first_holds true b h e = refl
         first_holds false b h e = cc
 
+    -- as many results as the row gives
+    counted_list : (o : Op) → i.op ≡ o → results_of o ≡ ResultList → (ts : List TypeName) → given_by o d i ≡ Some ts → length ts ≡ length i.results
+    counted_list o is many ts given =
+        let by_row = subst (λ r. is_count_by r (given_by o d i) (length i.results) ≡ true) many (counted_by o is) in
+        eqb-true (length ts) (length i.results) (subst (λ g. is_count_of g (length i.results) ≡ true) given by_row)
+
+    taken_apart : i.op ≡ op.DestructureStruct → (o : Operand) (t : TypeName) (fs : List Field) → IsOne i o t → (struct : IsStruct d t fs)
+        → length fs ≡ length i.results
+        → Becomes d i s (flat_map (extracts_fields d i.results) i.operands)
+    taken_apart is o t fs one struct size =
+        let extracts : flat_map (extracts_fields d i.results) i.operands ≡ field_extracts o (map (member_of struct.name) fs) i.results =
+        ap (λ os. flat_map (extracts_fields d i.results) os) one.only
+        ∙ append-nil (extracts_fields d i.results o)
+        ∙ ap (λ w. field_extracts o (flat_map (members_of_struct d) (option_to_list w)) i.results) one.typed
+        ∙ ap (λ x. field_extracts o x i.results) (append-nil (members_of_struct d t) ∙ struct.members) in
+        subst (Becomes d i s) (sym extracts) (by_fields o t fs struct is one size)
+
     how : (o : Op) → i.op ≡ o → Becomes d i s (becomes_by d s (lowering_of o) i)
     how op.CopyValue is =
         let one = one_operand is_typed i.operands (operands_by op.CopyValue is) in
@@ -258,34 +285,17 @@ module _ (m : Module) (f : Function) (owned : f.form ≡ Ossa) (i : Inst) (sound
         let one = one_operand is_typed i.operands (operands_by op.DestructureStruct is) in
         let ts = some_of (option_and_then (all_fields d) (written 0 i)) (keeps_by op.DestructureStruct is) in
         let at = found_behind (all_fields d) (written 0 i) ts.0 ts.1 in
-        let t = at.0 in
-        let fs = mapped_from (map field_type) (fields_of_struct d t) ts.0 at.2 in
-        let x = found_behind struct_fields (decl_of_type d t) fs.0 fs.1 in
-        let name = found_behind (decl_of d) (name_in (out-TypeName t)) x.0 x.1 in
-        let typed = one_typed one.0 t one.1 at.1 in
-        let count : length ts.0 ≡ length i.results = eqb-true (length ts.0) (length i.results) (subst (λ g. is_count_of g (length i.results) ≡ true) ts.1 (counted_by op.DestructureStruct is)) in
+        let fs = mapped_from (map field_type) (fields_of_struct d at.0) ts.0 at.2 in
+        let count : length ts.0 ≡ length i.results = counted_list op.DestructureStruct is refl ts.0 ts.1 in
         let long : length (map field_type fs.0) ≡ length fs.0 = length-map fs.0 field_type in
         let all : length (map field_type fs.0) ≡ length ts.0 = ap length fs.2 in
-        subst (Becomes d i s) {x = field_extracts one.0 (map (member_of name.0) fs.0) i.results} (sym (members one.0 t fs.0 name.0 typed name.1 fs.1))
-        (by_fields one.0 t name.0 x.0 fs.0 is typed name.1 name.2 x.2 (omega arith))
-      where
-        members : (o : Operand) (t : TypeName) (fs : List Field) (name : Name) → IsOne i o t → name_in (out-TypeName t) ≡ Some name → fields_of_struct d t ≡ Some fs
-            → flat_map (extracts_fields d i.results) i.operands ≡ field_extracts o (map (member_of name) fs) i.results
-        members o t fs name typed named there =
-            let ms : members_of_struct d t ≡ map (member_of name) fs =
-            ap (λ n. flat_map (λ k. map (member_of k) (unwrap_or (fields_of_struct d t) [])) (option_to_list n)) named
-            ∙ append-nil _ ∙ ap (λ x. map (member_of name) (unwrap_or x [])) there in
-            ap (λ os. flat_map (extracts_fields d i.results) os) typed.only
-            ∙ append-nil _
-            ∙ ap (λ w. field_extracts o (flat_map (members_of_struct d) (option_to_list w)) i.results) typed.typed
-            ∙ ap (λ x. field_extracts o x i.results) (append-nil (members_of_struct d t) ∙ ms)
+        taken_apart is one.0 at.0 fs.0 (one_typed one.0 at.0 one.1 at.1) (struct_is d at.0 fs.0 fs.1) (omega arith)
     how op.DestructureTuple is =
         let one = one_operand is_typed i.operands (operands_by op.DestructureTuple is) in
         let ts = some_of (option_and_then elements (written 0 i)) (keeps_by op.DestructureTuple is) in
         let at = found_behind elements (written 0 i) ts.0 ts.1 in
-        let count : length ts.0 ≡ length i.results = eqb-true (length ts.0) (length i.results) (subst (λ g. is_count_of g (length i.results) ≡ true) ts.1 (counted_by op.DestructureTuple is)) in
         subst (Becomes d i s) (sym (ap (λ os. flat_map (extracts_elements i.results) os) one.1 ∙ append-nil _))
-        (by_elements one.0 at.0 ts.0 is (one_typed one.0 at.0 one.1 at.1) at.2 count)
+        (by_elements one.0 at.0 ts.0 is (one_typed one.0 at.0 one.1 at.1) at.2 (counted_list op.DestructureTuple is refl ts.0 ts.1))
     how _ is = stays (ap lowering_of is)
 
     pub becomes_so : Becomes d i s (becomes d s i)

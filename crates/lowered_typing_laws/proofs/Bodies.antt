@@ -1,5 +1,6 @@
 -- What stands at the points of a lowered body: an instruction that stands in the place of one, or a terminator; and what is asked of the body itself.
-use Rattle.std.proofs.Common.{◌≡◌, ℕ, zero, suc, ◌+◌, List, [], ◌∷◌, ◌++◌, length, map, refl, sym, ap, ap₂, ◌∙◌, subst, cond, Bool, true, false, not, Option, Some, ◌⊎◌, inl, inr}
+use Rattle.std.proofs.Common.{◌≡◌, ℕ, zero, suc, ◌+◌, List, [], ◌∷◌, ◌++◌, length, map, refl, sym, ap, ap₂, ◌∙◌, subst, cond, Bool, true, false, not, Option}
+use Rattle.std.proofs.Common.{Some, ◌⊎◌, inl, inr}
 use Rattle.std.specs.Prelude.{◌&&◌, ◌||◌, drop, filter, slice_get}
 use Rattle.std.specs.List.{flat_map, list_any}
 use Rattle.std.proofs.lemmas.Bool.{and_from, and_parts, not-false, or_parts}
@@ -24,9 +25,11 @@ use Rattle.sil_ast.specs.declared.type_name.TypeName.{TypeName}
 use Rattle.type_definitions.specs.Declarations.{Declarations, decl_of, declarations_of}
 use Rattle.sil_types.specs.Typing.EdgeRules.{has_address_type, lets_address_escape, takes_address}
 use Rattle.sil_types.specs.Typing.Same.{all_pairs, is_same_type}
-use Rattle.sil_types.specs.Typing.SignatureRules.{has_entry_arguments, has_fitting_conventions, has_wrong_signature, is_annotated_for, is_argument_for, is_external}
+use Rattle.sil_types.specs.Typing.SignatureRules.{has_entry_arguments, has_fitting_conventions, has_wrong_signature, is_annotated_for, is_argument_for}
+use Rattle.sil_types.specs.Typing.SignatureRules.{is_external}
 use Rattle.sil_types.specs.Typing.Values.{arg_has, result_types, type_at}
-use Rattle.lowering_model.specs.LoweredBlocks.{args_become, block_becomes, blocks_become, has_own_name, insts_become, lowered_blocks, value_with, without_annotation}
+use Rattle.lowering_model.specs.LoweredBlocks.{args_become, block_becomes, blocks_become, has_own_name, insts_become, lowered_blocks, value_with}
+use Rattle.lowering_model.specs.LoweredBlocks.{without_annotation}
 use Rattle.lowering_model.specs.LoweredInsts.{becomes}
 use Rattle.lowering_model.specs.LoweredModules.{lowered_body}
 use Rattle.lowering_model.specs.Numbers.{new_number, numbering_of, renumbered, renumbered_arg, renumbered_block, renumbered_inst}
@@ -38,7 +41,7 @@ use Rattle.lowered_typing_laws.proofs.Args.{args_stay, lowered_args}
 use Rattle.lowered_typing_laws.proofs.Lists.{from_mapped}
 use Rattle.lowered_typing_laws.proofs.NewTypes.{spare_type}
 use Rattle.lowered_typing_laws.proofs.Points.{Low, becomes_low}
-use Rattle.lowered_typing_laws.proofs.Sound.{SoundBlock, SoundFunction, SoundInside}
+use Rattle.lowered_typing_laws.proofs.Sound.{SoundBlock, SoundInside, Source}
 use Rattle.lowered_typing_laws.proofs.Switches.{entry_kept}
 use Rattle.lowered_typing_laws.proofs.Tables.{blocks_typed, defined_typed, new_table, operands_kept, type_told}
 use Rattle.lowered_typing_laws.proofs.Told.{BlocksTold, InstsTold}
@@ -49,8 +52,7 @@ in_or_last [] x (suc k) y e = cc
 in_or_last (z ∷ xs) x zero y e = inl e
 in_or_last (z ∷ xs) x (suc k) y e = in_or_last xs x k y e
 
-module _ (m : Module) (f : Function) (owned : f.form ≡ Ossa) (once : (name : Name) (x : Decl) → decl_of (declarations_of m) name ≡ Some x → AreMembersOnce x) (sound : SoundFunction m f)
-    (lowerable : IsLowerable (length m.functions) (declarations_of m) f) where
+module _ (m : Module) (f : Function) (source : Source m f) where
   abbrev d : Declarations
   d = declarations_of m
 
@@ -58,10 +60,10 @@ module _ (m : Module) (f : Function) (owned : f.form ≡ Ossa) (once : (name : N
   num = new_number (numbering_of d f)
 
   abbrev table : List (Option TypeName)
-  table = new_table m f owned once sound lowerable
+  table = new_table m f source
 
   abbrev told : ValueId → Option TypeName
-  told = type_told m f owned once sound lowerable
+  told = type_told m f source
 
   abbrev pub LowHere : Inst → Type 0
   LowHere = Low m f num table
@@ -77,7 +79,7 @@ module _ (m : Module) (f : Function) (owned : f.form ≡ Ossa) (once : (name : N
       let rest = insts_become d (renamings_of f) (s + 1) is in
       let both = each_parts IsPlaced (flat_map results_of here) (flat_map results_of rest) (subst (Each IsPlaced) (flat_map-append results_of here rest) placed) in
       each_append LowHere here rest
-      (becomes_low m f num table owned once i h.0 told s t.0 (operands_kept m f owned once sound lowerable i.operands h.0.sound.range.operands) both.0)
+      (becomes_low m f num table source i h.0 told s t.0 (operands_kept m f source i.operands h.0.sound.range.operands) both.0)
       (insts_low (s + 1) is h.1 t.1 both.1)
 
   abbrev AreLow : Block → Type 0
@@ -96,8 +98,8 @@ module _ (m : Module) (f : Function) (owned : f.form ≡ Ossa) (once : (name : N
 
   all_low : Each AreLow (lowered_blocks d f)
   all_low =
-      blocks_low (length (values_of f.blocks)) f.blocks sound.blocks (blocks_typed m f owned once sound lowerable)
-      (defined_typed m f owned once sound lowerable)
+      blocks_low (length (values_of f.blocks)) f.blocks source.sound.blocks (blocks_typed m f source)
+      (defined_typed m f source)
 
   -- ---- what stands at a point
 
@@ -105,7 +107,8 @@ module _ (m : Module) (f : Function) (owned : f.form ≡ Ossa) (once : (name : N
     inside : (j : Inst) → LowHere j → renumbered_inst num j ≡ i → StandsAt block i
     end : (b : Block) → slice_get f.blocks block ≡ Some b → renumbered_inst num b.terminator ≡ i → StandsAt block i
 
-  block_from : (s : ℕ) (bs : List Block) (k : ℕ) (b : Block) → slice_get (blocks_become d (renamings_of f) s bs) k ≡ Some b → (c : Block) × (slice_get bs k ≡ Some c) × (c.terminator ≡ b.terminator)
+  block_from : (s : ℕ) (bs : List Block) (k : ℕ) (b : Block) → slice_get (blocks_become d (renamings_of f) s bs) k ≡ Some b
+      → (c : Block) × (slice_get bs k ≡ Some c) × (c.terminator ≡ b.terminator)
   block_from s [] k b e = cc
   block_from s (c ∷ bs) zero b e = let same : block_becomes d (renamings_of f) s c ≡ b = cc in (c, refl, ap (λ x. x.terminator) same)
   block_from s (c ∷ bs) (suc k) b e = block_from (s + length c.insts) bs k b e
@@ -138,15 +141,16 @@ module _ (m : Module) (f : Function) (owned : f.form ≡ Ossa) (once : (name : N
   pub signature_fits : has_wrong_signature d (lowered_body d f) ≡ false
   unfolding has_wrong_signature
   signature_fits =
-      let both = and_parts (has_fitting_conventions d f.signature) (has_entry_arguments f) (not-false _ sound.signature) in
+      let both = and_parts (has_fitting_conventions d f.signature) (has_entry_arguments f) (not-false _ source.sound.signature) in
       let entry : all_pairs (is_argument_for Ossa) (args_of f 0) (arguments_of f.signature) ≡ true =
-      subst (λ x. all_pairs (is_argument_for x) (args_of f 0) (arguments_of f.signature) ≡ true) owned
-      (or_second (is_external f.form) _ (ap is_external owned) both.1) in
-      let args = lowered_args d f 0 ∙ ap (map (renumbered_arg num)) (args_stay f sound.numbered.values 0 (entry_kept m f sound)) in
+      subst (λ x. all_pairs (is_argument_for x) (args_of f 0) (arguments_of f.signature) ≡ true) source.owned
+      (or_second (is_external f.form) _ (ap is_external source.owned) both.1) in
+      let args = lowered_args d f 0 ∙ ap (map (renumbered_arg num)) (args_stay f source.sound.numbered.values 0 (entry_kept m f source.sound)) in
       ap not (and_from (has_fitting_conventions d f.signature) _ both.0
       (ap (λ xs. all_pairs (is_argument_for Lowered) xs (arguments_of f.signature)) args ∙ args_fit (args_of f 0) (arguments_of f.signature) entry))
 
-  no_addresses : (args : List BlockArg) → list_any has_address_type args ≡ false → list_any has_address_type (map (renumbered_arg num) (args_become (renamings_of f) args)) ≡ false
+  no_addresses : (args : List BlockArg) → list_any has_address_type args ≡ false
+      → list_any has_address_type (map (renumbered_arg num) (args_become (renamings_of f) args)) ≡ false
   no_addresses [] e = refl
   no_addresses (a ∷ args) e =
       let both = or_parts (has_address_type a) (list_any has_address_type args) e in
@@ -157,7 +161,8 @@ module _ (m : Module) (f : Function) (owned : f.form ≡ Ossa) (once : (name : N
       at true here rest = ap₂ (λ x y. x || y) here rest
       at false here rest = rest
 
-  none_escape : (s : ℕ) (bs : List Block) → list_any takes_address bs ≡ false → list_any takes_address (renumbered num (blocks_become d (renamings_of f) s bs)) ≡ false
+  none_escape : (s : ℕ) (bs : List Block) → list_any takes_address bs ≡ false
+      → list_any takes_address (renumbered num (blocks_become d (renamings_of f) s bs)) ≡ false
   none_escape s [] e = refl
   none_escape s (b ∷ bs) e =
       let both = or_parts (takes_address b) (list_any takes_address bs) e in
@@ -165,8 +170,9 @@ module _ (m : Module) (f : Function) (owned : f.form ≡ Ossa) (once : (name : N
 
   pub addresses_stay : lets_address_escape (lowered_body d f) ≡ false
   unfolding lets_address_escape
-  addresses_stay = at (length (values_of f.blocks)) f.blocks sound.escapes
+  addresses_stay = at (length (values_of f.blocks)) f.blocks source.sound.escapes
     where
-      at : (s : ℕ) (bs : List Block) → list_any takes_address (drop 1 bs) ≡ false → list_any takes_address (drop 1 (renumbered num (blocks_become d (renamings_of f) s bs))) ≡ false
+      at : (s : ℕ) (bs : List Block) → list_any takes_address (drop 1 bs) ≡ false
+          → list_any takes_address (drop 1 (renumbered num (blocks_become d (renamings_of f) s bs))) ≡ false
       at s [] e = refl
       at s (b ∷ bs) e = none_escape (s + length b.insts) bs e

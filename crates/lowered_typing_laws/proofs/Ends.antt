@@ -27,7 +27,8 @@ use Rattle.sil_types.specs.Typing.EdgeRules.{has_block_types, has_wrong_edge_arg
 use Rattle.sil_types.specs.Typing.RowTypes.{written}
 use Rattle.sil_types.specs.Typing.Same.{are_same_types}
 use Rattle.sil_types.specs.Typing.Shapes.{case_count, case_in}
-use Rattle.sil_types.specs.Typing.SwitchRules.{case_of_edge, edges_of_block, fits_case, fits_default, fits_payload, has_case, has_number, has_wrong_cases, has_wrong_cases_by}
+use Rattle.sil_types.specs.Typing.SwitchRules.{case_of_edge, edges_of_block, fits_case, fits_default, fits_payload, has_case, has_number, has_wrong_cases}
+use Rattle.sil_types.specs.Typing.SwitchRules.{has_wrong_cases_by}
 use Rattle.sil_types.specs.Typing.SwitchRules.{is_alone, is_default, is_default_argument, is_of_enum, is_to, leaves_out_case, misfits_default, misfits_payload}
 use Rattle.sil_types.specs.Typing.SwitchRules.{names_other_case, place_in_enum, places_of, repeats_case, shares_block, switches_wrongly, are_once}
 use Rattle.lowering_model.specs.LoweredBlocks.{blocks_become}
@@ -91,11 +92,13 @@ module _ (m : Module) (f : Function) (sound : SoundFunction m f) (n : ℕ) (b : 
 
   -- ---- 203
 
-  block_types : (j : ℕ) (e : Edge) → slice_get i.edges j ≡ Some e → (i.op ≡ op.SwitchEnum → ⊥) → has_block_types low (renumbered_edge num e) ≡ has_block_types f e
+  block_types : (j : ℕ) (e : Edge) → slice_get i.edges j ≡ Some e → (i.op ≡ op.SwitchEnum → ⊥)
+      → has_block_types low (renumbered_edge num e) ≡ has_block_types f e
   block_types j e at other =
       ap₂ are_same_types (all_written_same num e.args) (types_stay d f sound.numbered.values e.block.0 (branch_kept m f sound n j b e is_block at other))
 
-  all_fit : (i.op ≡ op.SwitchEnum → ⊥) → (es : List Edge) → ((j : ℕ) (e : Edge) → slice_get es j ≡ Some e → has_block_types low (renumbered_edge num e) ≡ has_block_types f e)
+  all_fit : (i.op ≡ op.SwitchEnum → ⊥) → (es : List Edge)
+      → ((j : ℕ) (e : Edge) → slice_get es j ≡ Some e → has_block_types low (renumbered_edge num e) ≡ has_block_types f e)
       → list_all (has_block_types low) (map (renumbered_edge num) es) ≡ list_all (has_block_types f) es
   all_fit other [] same = refl
   all_fit other (e ∷ es) same = ap₂ (λ x y. x && y) (same 0 e refl) (all_fit other es (λ j x at. same (suc j) x at))

@@ -3,6 +3,7 @@ pub mod SelfSame
 pub mod Sound
 pub mod Operands
 pub mod Renumbered
+pub mod Fields
 pub mod Becomes
 pub mod Told
 pub mod NewTypes
@@ -16,5 +17,4 @@ pub mod Outside
 pub mod Rules
 pub mod Ends
 pub mod Bodies
-pub mod Once
 pub mod Lowered

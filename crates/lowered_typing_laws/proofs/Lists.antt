@@ -1,5 +1,6 @@
 -- Facts on lists: what stands in them, what holds of each element, and how many pass a test.
-use Rattle.std.proofs.Common.{◌≡◌, ℕ, zero, suc, ◌+◌, ◌≤◌, List, [], ◌∷◌, ◌++◌, length, map, replicate, refl, sym, ap, ap₂, ◌∙◌, subst, arith, cond, Bool, true, false, Option, Some, None}
+use Rattle.std.proofs.Common.{◌≡◌, ℕ, zero, suc, ◌+◌, ◌≤◌, List, [], ◌∷◌, ◌++◌, length, map, replicate, refl, sym, ap, ap₂, ◌∙◌, subst, arith, cond, Bool, true}
+use Rattle.std.proofs.Common.{false, Option, Some, None}
 use Rattle.std.specs.Prelude.{is_some, option_map, slice_get, count_by, if◌then◌else◌}
 use Rattle.std.specs.List.{AllZip, cons_option, filter_map, flat_map, range_with_len}
 use Rattle.std.proofs.lemmas.List.Sums.{sum_by-append, sum_by-cons}
@@ -8,25 +9,6 @@ use Rattle.numbered_form.specs.Lists.{Each}
 use Rattle.run_typing_laws.proofs.Rows.Finding.{mapped_from}
 
 -- ---- what holds of each
-
-pub each_all : {A : Type 0} (P : A → Type 0) (xs : List A) → ((k : ℕ) (x : A) → slice_get xs k ≡ Some x → P x) → Each P xs
-each_all P [] h = tt
-each_all P (x ∷ xs) h = (h 0 x refl, each_all P xs (λ k y at. h (suc k) y at))
-
--- each element stands somewhere
-abbrev pub StandsIn : {A : Type 0} → List A → A → Type 0
-StandsIn xs x = (k : ℕ) × (slice_get xs k ≡ Some x)
-
-pub each_stands : {A : Type 0} (xs : List A) → Each (StandsIn xs) xs
-each_stands xs = each_all (StandsIn xs) xs (λ k x at. (k, at))
-
-pub each_weaker : {A : Type 0} (P Q : A → Type 0) → ((x : A) → P x → Q x) → (xs : List A) → Each P xs → Each Q xs
-each_weaker P Q e [] h = tt
-each_weaker P Q e (x ∷ xs) h = (e x h.0, each_weaker P Q e xs h.1)
-
-pub each_both : {A : Type 0} (P Q : A → Type 0) (xs : List A) → Each P xs → Each Q xs → Each (λ x. P x × Q x) xs
-each_both P Q [] g h = tt
-each_both P Q (x ∷ xs) g h = ((g.0, h.0), each_both P Q xs g.1 h.1)
 
 pub maps_same : {A B : Type 0} (f g : A → B) (xs : List A) → Each (λ x. f x ≡ g x) xs → map f xs ≡ map g xs
 maps_same f g [] e = refl
@@ -51,7 +33,8 @@ get_behind (x ∷ xs) ys k zero e = absurd (omega arith)
 get_behind (x ∷ xs) ys k (suc n) e = get_behind xs ys k n (omega arith)
 
 -- the first of some lists together is the first of one of them
-pub first_from : {A B : Type 0} (g : A → List B) (xs : List A) (y : B) → slice_get (flat_map g xs) 0 ≡ Some y → (k : ℕ) × (x : A) × (slice_get xs k ≡ Some x) × (slice_get (g x) 0 ≡ Some y)
+pub first_from : {A B : Type 0} (g : A → List B) (xs : List A) (y : B) → slice_get (flat_map g xs) 0 ≡ Some y
+    → (k : ℕ) × (x : A) × (slice_get xs k ≡ Some x) × (slice_get (g x) 0 ≡ Some y)
 first_from g [] y e = cc
 first_from {A} {B} g (x ∷ xs) y e = at (g x) refl e (λ h. first_from g xs y h)
   where
@@ -62,7 +45,8 @@ first_from {A} {B} g (x ∷ xs) y e = at (g x) refl e (λ h. first_from g xs y h
     at (z ∷ zs) is e behind = (0, x, refl, ap (λ l. slice_get l 0) is ∙ e)
 
 -- some lists together have a first where one of them has
-pub some_first : {A B : Type 0} (g : A → List B) (xs : List A) (k : ℕ) (x : A) → slice_get xs k ≡ Some x → is_some (slice_get (g x) 0) ≡ true → is_some (slice_get (flat_map g xs) 0) ≡ true
+pub some_first : {A B : Type 0} (g : A → List B) (xs : List A) (k : ℕ) (x : A) → slice_get xs k ≡ Some x → is_some (slice_get (g x) 0) ≡ true
+    → is_some (slice_get (flat_map g xs) 0) ≡ true
 some_first g [] k x e some = cc
 some_first {A} {B} g (y ∷ xs) zero x e some =
     let same : y ≡ x = cc in at (g y) (subst (λ z. is_some (slice_get (g z) 0) ≡ true) (sym same) some)
@@ -77,7 +61,8 @@ some_first {A} {B} g (y ∷ xs) (suc k) x e some = at (g y) (some_first g xs k x
     at (z ∷ zs) h = refl
 
 -- the first of those that are kept is made of an element
-pub kept_first : {A B : Type 0} (g : A → Option B) (xs : List A) (y : B) → slice_get (filter_map g xs) 0 ≡ Some y → (k : ℕ) × (x : A) × (slice_get xs k ≡ Some x) × (g x ≡ Some y)
+pub kept_first : {A B : Type 0} (g : A → Option B) (xs : List A) (y : B) → slice_get (filter_map g xs) 0 ≡ Some y
+    → (k : ℕ) × (x : A) × (slice_get xs k ≡ Some x) × (g x ≡ Some y)
 kept_first g [] y e = cc
 kept_first {A} {B} g (x ∷ xs) y e = at (g x) refl e (λ h. kept_first g xs y h)
   where
@@ -87,7 +72,8 @@ kept_first {A} {B} g (x ∷ xs) y e = at (g x) refl e (λ h. kept_first g xs y h
     at None is e behind = let r = behind e in (suc r.0, r.1, r.2, r.3)
     at (Some z) is e behind = (0, x, refl, is ∙ e)
 
-pub some_kept : {A B : Type 0} (g : A → Option B) (xs : List A) (k : ℕ) (x : A) → slice_get xs k ≡ Some x → is_some (g x) ≡ true → is_some (slice_get (filter_map g xs) 0) ≡ true
+pub some_kept : {A B : Type 0} (g : A → Option B) (xs : List A) (k : ℕ) (x : A) → slice_get xs k ≡ Some x → is_some (g x) ≡ true
+    → is_some (slice_get (filter_map g xs) 0) ≡ true
 some_kept g [] k x e some = cc
 some_kept {A} {B} g (y ∷ xs) zero x e some = let same : y ≡ x = cc in at (g y) (subst (λ z. is_some (g z) ≡ true) (sym same) some)
   where
@@ -128,7 +114,8 @@ module _ {A : Type 0} (test : A → Bool) where
       omega (arith, rest, more)
 
   -- where no more than one passes, two that pass are one
-  pub only_one : (xs : List A) (k l : ℕ) (x y : A) → count_by test xs ≤ 1 → slice_get xs k ≡ Some x → test x ≡ true → slice_get xs l ≡ Some y → test y ≡ true → x ≡ y
+  pub only_one : (xs : List A) (k l : ℕ) (x y : A) → count_by test xs ≤ 1 → slice_get xs k ≡ Some x → test x ≡ true → slice_get xs l ≡ Some y → test y ≡ true
+      → x ≡ y
   only_one [] k l x y le e t g u = cc
   only_one (z ∷ xs) zero zero x y le e t g u = cc
   only_one (z ∷ xs) zero (suc l) x y le e t g u =
@@ -144,7 +131,8 @@ module _ {A : Type 0} (test : A → Bool) where
       only_one xs k l x y (omega (arith, more, le)) e t g u
 
 module _ {A B : Type 0} (g : A → List B) (test : B → Bool) where
-  counts_within : (xs : List A) (k j : ℕ) (x : A) (u : B) → slice_get xs k ≡ Some x → slice_get (g x) j ≡ Some u → test u ≡ true → 1 ≤ count_by test (flat_map g xs)
+  counts_within : (xs : List A) (k j : ℕ) (x : A) (u : B) → slice_get xs k ≡ Some x → slice_get (g x) j ≡ Some u → test u ≡ true
+      → 1 ≤ count_by test (flat_map g xs)
   counts_within [] k j x u e i t = cc
   counts_within (y ∷ xs) zero j x u e i t =
       let same : y ≡ x = cc in
@@ -157,7 +145,8 @@ module _ {A B : Type 0} (g : A → List B) (test : B → Bool) where
       omega arith
 
   -- where of all lists together no more than one passes, two that pass are one, and of one list
-  pub only_within : (xs : List A) (k l i j : ℕ) (x y : A) (u v : B) → count_by test (flat_map g xs) ≤ 1 → slice_get xs k ≡ Some x → slice_get (g x) i ≡ Some u → test u ≡ true
+  pub only_within : (xs : List A) (k l i j : ℕ) (x y : A) (u v : B) → count_by test (flat_map g xs) ≤ 1 → slice_get xs k ≡ Some x → slice_get (g x) i ≡ Some u
+      → test u ≡ true
       → slice_get xs l ≡ Some y → slice_get (g y) j ≡ Some v → test v ≡ true → (x ≡ y) × (u ≡ v)
   only_within [] k l i j x y u v le e a t h b s = cc
   only_within (z ∷ xs) zero zero i j x y u v le e a t h b s =
@@ -193,15 +182,18 @@ pub zip_maps : {X A B : Type 0} (R : A → B → Type 0) (f : X → A) (g : X �
 zip_maps R f g [] h = tt
 zip_maps R f g (x ∷ xs) h = (h.0, zip_maps R f g xs h.1)
 
-pub zip_flat : {X A B : Type 0} (R : A → B → Type 0) (f : X → List A) (g : X → List B) (xs : List X) → Each (λ x. AllZip R (f x) (g x)) xs → AllZip R (flat_map f xs) (flat_map g xs)
+pub zip_flat : {X A B : Type 0} (R : A → B → Type 0) (f : X → List A) (g : X → List B) (xs : List X) → Each (λ x. AllZip R (f x) (g x)) xs
+    → AllZip R (flat_map f xs) (flat_map g xs)
 zip_flat R f g [] h = tt
 zip_flat R f g (x ∷ xs) h = zip_append R (f x) (flat_map f xs) (g x) (flat_map g xs) h.0 (zip_flat R f g xs h.1)
 
-pub zip_repeat : {A B : Type 0} (R : A → B → Type 0) (x : A) (of : ℕ → B) → ((k : ℕ) → R x (of k)) → (start n : ℕ) → AllZip R (replicate n x) (map of (range_with_len start n))
+pub zip_repeat : {A B : Type 0} (R : A → B → Type 0) (x : A) (of : ℕ → B) → ((k : ℕ) → R x (of k)) → (start n : ℕ)
+    → AllZip R (replicate n x) (map of (range_with_len start n))
 zip_repeat R x of h start zero = tt
 zip_repeat R x of h start (suc n) = (h start, zip_repeat R x of h (start + 1) n)
 
-pub zip_at : {A B : Type 0} (R : A → B → Type 0) (xs : List A) (ys : List B) (k : ℕ) (x : A) → AllZip R xs ys → slice_get xs k ≡ Some x → (y : B) × (slice_get ys k ≡ Some y) × R x y
+pub zip_at : {A B : Type 0} (R : A → B → Type 0) (xs : List A) (ys : List B) (k : ℕ) (x : A) → AllZip R xs ys → slice_get xs k ≡ Some x
+    → (y : B) × (slice_get ys k ≡ Some y) × R x y
 zip_at R [] ys k x h e = cc
 zip_at R (z ∷ xs) [] k x h e = absurd h
 zip_at R (z ∷ xs) (y ∷ ys) zero x h e = let same : z ≡ x = cc in (y, refl, subst (λ w. R w y) same h.0)

@@ -29,7 +29,8 @@ use Rattle.sil_rules.specs.declared.rule.Rule.TheVariants as rule
 use Rattle.sil_types.specs.Typing.EdgeRules.{goes_to_entry, has_wrong_edge_arguments, have_wrong_arguments_by, is_to_entry}
 use Rattle.sil_types.specs.Typing.FormRules.{is_annotated, is_annotated_at, is_of_other_form, may_stand_lowered, mixes_forms}
 use Rattle.sil_types.specs.Typing.OperandTypes.{has_operand_types}
-use Rattle.sil_types.specs.Typing.SignatureRules.{callee as callee_of, calls_no_function, differs_by, differs_from_signature, is_no_output_call, is_signature_of}
+use Rattle.sil_types.specs.Typing.SignatureRules.{callee as callee_of, calls_no_function, differs_by, differs_from_signature, is_no_output_call}
+use Rattle.sil_types.specs.Typing.SignatureRules.{is_signature_of}
 use Rattle.sil_types.specs.Typing.Typed.{BreaksAt, BreaksAtFunction, BreaksAtPoint, BreaksAtVtable, Site, Typed, at_vtable}
 use Rattle.sil_types.specs.Typing.Typed.BreaksAt.{function, point, vtable}
 use Rattle.sil_types.specs.Typing.Typed.BreaksAtFunction.{external, address_escapes, signature as function_signature, mixed_forms as function_mixed}
@@ -42,19 +43,20 @@ use Rattle.lowering_model.specs.LoweredModules.{lowered, lowered_body, lowered_b
 use Rattle.lowering_model.specs.Numbers.{new_number, numbering_of, renumbered_edge, renumbered_inst}
 use Rattle.lowering_laws.specs.Lowerable.{HasNoRings, IsLowerable}
 use Rattle.lowering_laws.proofs.Lowerable.{functions_are_lowerable}
+use Rattle.lowering_laws.proofs.Lists.{each_weaker}
 use Rattle.lowered_typing_laws.specs.inner.LoweredTyped.{LoweredIsTyped}
 use Rattle.lowered_typing_laws.proofs.Args.{not_annotated}
 use Rattle.lowered_typing_laws.proofs.Bodies.{LowHere, StandsAt, addresses_stay, signature_fits, stands_at}
 use Rattle.lowered_typing_laws.proofs.Bodies.StandsAt.{inside as inside_at, end as end_at}
 use Rattle.lowered_typing_laws.proofs.Ends.{arguments_kept, cases_kept}
-use Rattle.lowered_typing_laws.proofs.Lists.{each_weaker, from_mapped}
-use Rattle.lowered_typing_laws.proofs.Once.{members_once}
+use Rattle.lowered_typing_laws.proofs.Lists.{from_mapped}
+use Rattle.lowered_typing_laws.proofs.Fields.{members_once}
 use Rattle.lowered_typing_laws.proofs.Outside.{deinits_stay, forms_same, signatures_behind}
 use Rattle.lowered_typing_laws.proofs.Points.{Rest}
 use Rattle.lowered_typing_laws.proofs.Points.Rest.{same, made}
 use Rattle.lowered_typing_laws.proofs.Renumbered.{AreSameAlong, form_alike, typed_alike}
 use Rattle.lowered_typing_laws.proofs.Rules.{calls_kept, counts_same, entry_same, made_agrees, made_calls, made_inside, no_arguments, no_switch, signature_kept}
-use Rattle.lowered_typing_laws.proofs.Sound.{SoundEnd, SoundFunction, keeps_at, keeps_function, sound_function}
+use Rattle.lowered_typing_laws.proofs.Sound.{SoundEnd, Source, keeps_at, keeps_function, sound_function}
 use Rattle.lowered_typing_laws.proofs.Switches.{sound_block}
 use Rattle.lowered_typing_laws.proofs.Tables.{function_kept, new_table, operands_kept}
 
@@ -76,8 +78,7 @@ ends_form op.DestructureStruct i e = cc
 ends_form op.DestructureTuple i e = cc
 ends_form _ i e = refl
 
-module _ (m : Module) (f : Function) (owned : f.form ≡ Ossa) (once : (name : Name) (x : Decl) → decl_of (declarations_of m) name ≡ Some x → AreMembersOnce x) (sound : SoundFunction m f)
-    (lowerable : IsLowerable (length m.functions) (declarations_of m) f) where
+module _ (m : Module) (f : Function) (source : Source m f) where
   abbrev d : Declarations
   d = declarations_of m
 
@@ -88,7 +89,7 @@ module _ (m : Module) (f : Function) (owned : f.form ≡ Ossa) (once : (name : N
   low = lowered_body d f
 
   abbrev table : List (Option TypeName)
-  table = new_table m f owned once sound lowerable
+  table = new_table m f source
 
   -- 207
   form_kept : (block index : ℕ) (j : Inst) → may_stand_lowered (forms_of j.op) j ≡ true → is_of_other_form low block index (renumbered_inst num j) ≡ false
@@ -98,7 +99,7 @@ module _ (m : Module) (f : Function) (owned : f.form ≡ Ossa) (once : (name : N
       (and_right (true && (index == 0)) (list_any is_annotated (args_of low block)) (not_annotated d f block))
 
   -- an instruction that stands in the place of one
-  module _ (j : Inst) (h : LowHere m f owned once sound lowerable j) where
+  module _ (j : Inst) (h : LowHere m f source j) where
     inside : is_terminator j.op ≡ false
     inside = at h.rest
       where
@@ -111,7 +112,7 @@ module _ (m : Module) (f : Function) (owned : f.form ≡ Ossa) (once : (name : N
     calls = at h.rest
       where
         at : Rest m f num table j → calls_no_function (value_functions low) (renumbered_inst num j) ≡ false
-        at (same s e) = calls_kept num m f (λ v g lt is. function_kept m f owned once sound lowerable v g lt is) j s
+        at (same s e) = calls_kept num m f (λ v g lt is. function_kept m f source v g lt is) j s
         at (made e) = made_calls j.op (value_functions low) (renumbered_inst num j) e
 
     agrees : differs_from_signature (lowered m) low (value_functions low) (renumbered_inst num j) ≡ false
@@ -119,7 +120,7 @@ module _ (m : Module) (f : Function) (owned : f.form ≡ Ossa) (once : (name : N
     agrees = at h.rest
       where
         at : Rest m f num table j → differs_from_signature (lowered m) low (value_functions low) (renumbered_inst num j) ≡ false
-        at (same s e) = signature_kept num m f (λ v g lt is. function_kept m f owned once sound lowerable v g lt is) j s
+        at (same s e) = signature_kept num m f (λ v g lt is. function_kept m f source v g lt is) j s
         at (made e) = made_agrees j.op (lowered m) low (value_functions low) (renumbered_inst num j) e
 
     edges : has_wrong_edge_arguments low (renumbered_inst num j) ≡ false
@@ -147,16 +148,16 @@ module _ (m : Module) (f : Function) (owned : f.form ≡ Ossa) (once : (name : N
     i = b.terminator
 
     end : SoundEnd m f i
-    end = (sound_block m f sound n b is_block).end
+    end = (sound_block m f source.sound n b is_block).end
 
     along : Each (AreSameAlong num (value_types d f) table) i.edges
     along =
         each_weaker (IsEdgeInRange (length (values_of f.blocks)) (length f.blocks)) (AreSameAlong num (value_types d f) table)
-        (λ e r. operands_kept m f owned once sound lowerable e.args r.args) i.edges end.sound.range.edges
+        (λ e r. operands_kept m f source e.args r.args) i.edges end.sound.range.edges
 
     operands : has_operand_types d table (renumbered_inst num i) ≡ true
     operands =
-        typed_alike num (value_types d f) table d i (operands_kept m f owned once sound lowerable i.operands end.sound.range.operands) along ∙ end.sound.operands
+        typed_alike num (value_types d f) table d i (operands_kept m f source i.operands end.sound.range.operands) along ∙ end.sound.operands
 
     end_entry : goes_to_entry (renumbered_inst num i) ≡ false
     unfolding goes_to_entry
@@ -165,20 +166,20 @@ module _ (m : Module) (f : Function) (owned : f.form ≡ Ossa) (once : (name : N
     end_kept : (block index : ℕ) (x : Rule) → BreaksAtPoint (lowered m) low block index (renumbered_inst num i) x → ⊥
     end_kept block index _ (operand_type e) = never _ (not_from_true _ operands) e
     end_kept block index _ (result_count e) = never _ (not_from_true _ (counts_same num d i ∙ end.sound.results)) e
-    end_kept block index _ (edge_arguments e) = never _ (arguments_kept m f sound n b is_block) e
-    end_kept block index _ (callee e) = never _ (calls_kept num m f (λ v g lt is. function_kept m f owned once sound lowerable v g lt is) i end.sound) e
-    end_kept block index _ (point_signature e) = never _ (signature_kept num m f (λ v g lt is. function_kept m f owned once sound lowerable v g lt is) i end.sound) e
+    end_kept block index _ (edge_arguments e) = never _ (arguments_kept m f source.sound n b is_block) e
+    end_kept block index _ (callee e) = never _ (calls_kept num m f (λ v g lt is. function_kept m f source v g lt is) i end.sound) e
+    end_kept block index _ (point_signature e) = never _ (signature_kept num m f (λ v g lt is. function_kept m f source v g lt is) i end.sound) e
     end_kept block index _ (point_mixed e) = never _ (form_kept block index i (ends_form i.op i end.ends)) e
-    end_kept block index _ (switch_cases e) = never _ (cases_kept m f sound n b is_block) e
+    end_kept block index _ (switch_cases e) = never _ (cases_kept m f source.sound n b is_block) e
     end_kept block index _ (entry_has_predecessor e) = never _ end_entry e
     end_kept block index _ (qualifier e) = never _ refl e
 
-  point_kept : (block index : ℕ) (j : Inst) (x : Rule) → StandsAt m f owned once sound lowerable block j → BreaksAtPoint (lowered m) low block index j x → ⊥
+  point_kept : (block index : ℕ) (j : Inst) (x : Rule) → StandsAt m f source block j → BreaksAtPoint (lowered m) low block index j x → ⊥
   point_kept block index j x (inside_at k h e) broken = inside_kept k h block index x (subst (λ z. BreaksAtPoint (lowered m) low block index z x) (sym e) broken)
   point_kept block index j x (end_at b is e) broken = end_kept block b is block index x (subst (λ z. BreaksAtPoint (lowered m) low block index z x) (sym e) broken)
 
   pub body_kept : (block index : ℕ) (j : Inst) (x : Rule) → IsAt low block index j → BreaksAtPoint (lowered m) low block index j x → ⊥
-  body_kept block index j x at broken = point_kept block index j x (stands_at m f owned once sound lowerable block index j at) broken
+  body_kept block index j x at broken = point_kept block index j x (stands_at m f source block index j at) broken
 
   no_output : is_no_output_call low ≡ false
   unfolding is_no_output_call
@@ -186,9 +187,9 @@ module _ (m : Module) (f : Function) (owned : f.form ≡ Ossa) (once : (name : N
 
   pub body_itself : mixes_forms (lowered m) low ≡ false → (x : Rule) → BreaksAtFunction (lowered m) low x → ⊥
   body_itself forms _ (external e) = never _ no_output e
-  body_itself forms _ (function_signature e) = never _ (signature_fits m f owned once sound lowerable) e
+  body_itself forms _ (function_signature e) = never _ (signature_fits m f source) e
   body_itself forms _ (function_mixed e) = never _ forms e
-  body_itself forms _ (address_escapes e) = never _ (addresses_stay m f owned once sound lowerable) e
+  body_itself forms _ (address_escapes e) = never _ (addresses_stay m f source) e
 
 -- a function that stays breaks no rule that it kept
 module _ (m : Module) (f : Function) where
@@ -219,19 +220,24 @@ module _ (m : Module) (f : Function) where
   stays_itself forms _ (address_escapes e) = address_escapes e
 
 module _ (m : Module) (numbered : IsNumbered m) (typed : Typed m) (rings : HasNoRings m) where
-  once : (name : Name) (x : Decl) → decl_of (declarations_of m) name ≡ Some x → AreMembersOnce x
-  once = members_once m numbered
-
   module _ (n : ℕ) (f : Function) (there : slice_get m.functions n ≡ Some f) where
-    itself : (o : Form) → f.form ≡ o → mixes_forms (lowered m) (lowered_by o (declarations_of m) f) ≡ false → (x : Rule) → BreaksAtFunction (lowered m) (lowered_by o (declarations_of m) f) x → ⊥
-    itself Ossa is forms x broken =
-        body_itself m f is once (sound_function m numbered typed n f there) (functions_are_lowerable m n f numbered typed rings there) forms x broken
+    source : f.form ≡ Ossa → Source m f
+    source is = record {
+      owned = is;
+      sound = sound_function m numbered typed n f there;
+      lowerable = functions_are_lowerable m n f numbered typed rings there;
+      once = members_once m numbered;
+    }
+
+    itself : (o : Form) → f.form ≡ o → mixes_forms (lowered m) (lowered_by o (declarations_of m) f) ≡ false → (x : Rule)
+        → BreaksAtFunction (lowered m) (lowered_by o (declarations_of m) f) x → ⊥
+    itself Ossa is forms x broken = body_itself m f (source is) forms x broken
     itself Lowered is forms x broken = keeps_function m numbered typed n f there x (stays_itself m f forms x broken)
     itself External is forms x broken = keeps_function m numbered typed n f there x (stays_itself m f forms x broken)
 
-    at_points : (o : Form) → f.form ≡ o → (block index : ℕ) (i : Inst) (x : Rule) → IsAt (lowered_by o (declarations_of m) f) block index i → BreaksAtPoint (lowered m) (lowered_by o (declarations_of m) f) block index i x → ⊥
-    at_points Ossa is block index i x at broken =
-        body_kept m f is once (sound_function m numbered typed n f there) (functions_are_lowerable m n f numbered typed rings there) block index i x at broken
+    at_points : (o : Form) → f.form ≡ o → (block index : ℕ) (i : Inst) (x : Rule) → IsAt (lowered_by o (declarations_of m) f) block index i
+        → BreaksAtPoint (lowered m) (lowered_by o (declarations_of m) f) block index i x → ⊥
+    at_points Ossa is block index i x at broken = body_kept m f (source is) block index i x at broken
     at_points Lowered is block index i x at broken = keeps_at m numbered typed n f there block index i x at (stays_at m f block index i x broken)
     at_points External is block index i x at broken = keeps_at m numbered typed n f there block index i x at (stays_at m f block index i x broken)
 

@@ -20,8 +20,9 @@ use Rattle.lowering_model.specs.Extracts.{element_extracts, field_extracts, memb
 use Rattle.lowering_model.specs.LoweredBlocks.{value_with}
 use Rattle.lowering_model.specs.LoweredInsts.{becomes}
 use Rattle.run_typing_laws.proofs.Rows.Finding.{none_of}
-use Rattle.lowered_typing_laws.proofs.Becomes.{Becomes, at_storage, assigns, becomes_so, by_elements, by_fields, copies, destroys, loads, releases, retains, stays, stores, vanishes}
-use Rattle.lowered_typing_laws.proofs.Sound.{Sound}
+use Rattle.lowered_typing_laws.proofs.Becomes.{Becomes, at_storage, assigns, becomes_so, by_elements, by_fields, copies, destroys, loads, releases, retains}
+use Rattle.lowered_typing_laws.proofs.Becomes.{stays, stores, vanishes}
+use Rattle.lowered_typing_laws.proofs.Sound.{Sound, Source}
 use Rattle.lowered_typing_laws.proofs.Told.{InstTold}
 
 -- no argument stands for a function, and no spare value does
@@ -31,7 +32,7 @@ no_function a = None
 abbrev pub no_spare : Inst → Option FuncId
 no_spare i = None
 
-module _ (m : Module) (f : Function) (owned : f.form ≡ Ossa) (i : Inst) (sound : Sound m f i) (h : ValueId → Option FuncId) (s : ℕ)
+module _ (m : Module) (f : Function) (source : Source m f) (i : Inst) (sound : Sound m f i) (h : ValueId → Option FuncId) (s : ℕ)
     (told : InstTold no_function result_functions no_spare h s i) where
   abbrev d : Declarations
   d = declarations_of m
@@ -71,8 +72,8 @@ module _ (m : Module) (f : Function) (owned : f.form ≡ Ossa) (i : Inst) (sound
   functions_so _ (stores is) = own
   functions_so _ (assigns x place p t is both counted) = ap₂ (λ y ys. y ∷ ys) told.new own
   functions_so _ (destroys place p t is one counted) = ap (λ y. y ∷ []) told.new
-  functions_so _ (by_fields o t name x fs is one named declared struct size) = field_functions o (map (member_of name) fs) i.results (no_one op.DestructureStruct is refl)
+  functions_so _ (by_fields o t fs struct is one size) = field_functions o (map (member_of struct.name) fs) i.results (no_one op.DestructureStruct is refl)
   functions_so _ (by_elements o t ts is one are size) = part_functions o 0 i.results (no_one op.DestructureTuple is refl)
 
   pub new_functions : map h (flat_map results_of (becomes d (value_with s) i)) ≡ flat_map result_functions (becomes d (value_with s) i)
-  new_functions = functions_so (becomes d (value_with s) i) (becomes_so m f owned i sound (value_with s))
+  new_functions = functions_so (becomes d (value_with s) i) (becomes_so m f source i sound (value_with s))

@@ -1,5 +1,6 @@
 -- The types of what the instructions define that stand in the place of one.
-use Rattle.std.proofs.Common.{◌≡◌, ℕ, ◌+◌, List, [], ◌∷◌, ◌++◌, length, map, refl, sym, ap, ap₂, ◌∙◌, subst, append-nil, append_assoc, length-append, arith, true, Option, Some, None}
+use Rattle.std.proofs.Common.{◌≡◌, ℕ, ◌+◌, List, [], ◌∷◌, ◌++◌, length, map, refl, sym, ap, ap₂, ◌∙◌, subst, append-nil, append_assoc, length-append, arith}
+use Rattle.std.proofs.Common.{true, Option, Some, None}
 use Rattle.std.specs.Prelude.{◌&&◌, pos, is_some, option_and_then, option_map, slice_get, unwrap_or, if◌then◌else◌}
 use Rattle.std.specs.List.{flat_map, range_with_len}
 use Rattle.std.proofs.lemmas.Bool.{and_parts}
@@ -22,7 +23,8 @@ use Rattle.sil_ast.specs.declared.type_name.TypeName.{TypeName, TypeName-F, out-
 use Rattle.type_definitions.specs.Declarations.{Declarations, decl_of, declarations_of, place_of}
 use Rattle.type_definitions.specs.Lookups.{decl_fields, field_at_place, inherited_fields}
 use Rattle.sil_types.specs.Typing.RowTypes.{MadeTypes, all_fields, given_by, gives, made_types, type_of, written}
-use Rattle.sil_types.specs.Typing.Shapes.{element_of, element_at, elements, field_named, field_type, fields_of_struct, found_field, is_object, is_owner, is_owner_layer, name_in, object_at, struct_field, struct_fields}
+use Rattle.sil_types.specs.Typing.Shapes.{element_of, element_at, elements, field_named, field_type, fields_of_struct, found_field, is_object, is_owner}
+use Rattle.sil_types.specs.Typing.Shapes.{is_owner_layer, name_in, object_at, struct_field, struct_fields}
 use Rattle.sil_types.specs.Typing.Values.{arg_has, result_types}
 use Rattle.lowering_model.specs.Extracts.{element_extracts, field_extracts, member_of}
 use Rattle.lowering_model.specs.LoweredBlocks.{value_with}
@@ -30,11 +32,14 @@ use Rattle.lowering_model.specs.LoweredInsts.{becomes, lowering_of, plain_load, 
 use Rattle.lowering_model.specs.NewInsts.{load, struct_extract, tuple_extract}
 use Rattle.lowering_model.specs.declared.lowering.Lowering.{Lowering}
 use Rattle.lowering_model.specs.declared.lowering.Lowering.TheVariants as lowering
+use Rattle.run_typing_laws.proofs.Declared.{each_from}
 use Rattle.run_typing_laws.proofs.Found.{place_once, same_name}
 use Rattle.run_typing_laws.proofs.ListFacts.{get_below}
-use Rattle.lowered_typing_laws.proofs.Becomes.{Becomes, IsCounted, IsLoad, at_storage, assigns, becomes_so, by_elements, by_fields, copies, destroys, loads, no_results, object_there, releases, retains, stays, stores, vanishes}
-use Rattle.lowered_typing_laws.proofs.Lists.{each_all, get_behind}
-use Rattle.lowered_typing_laws.proofs.Sound.{Sound}
+use Rattle.lowered_typing_laws.proofs.Becomes.{Becomes, IsCounted, IsLoad, at_storage, assigns, becomes_so, by_elements, by_fields, copies, destroys, loads}
+use Rattle.lowered_typing_laws.proofs.Becomes.{no_results, object_there, releases, retains, stays, stores, vanishes}
+use Rattle.lowered_typing_laws.proofs.Fields.{fields_again, fields_are}
+use Rattle.lowered_typing_laws.proofs.Lists.{get_behind}
+use Rattle.lowered_typing_laws.proofs.Sound.{Sound, Source}
 use Rattle.lowered_typing_laws.proofs.Told.{InstTold}
 
 -- the type of the spare value, where an instruction takes one: that of what is at its place
@@ -60,32 +65,7 @@ some_types : (fs : List Field) → map (λ t. Some t) (map field_type fs) ≡ ma
 some_types [] = refl
 some_types (x ∷ fs) = ap (λ ts. Some x.ty ∷ ts) (some_types fs)
 
-module _ (d : Declarations) where
-  -- ---- a field is found again by its name
-
-  own_named : (x : Decl) (fs : List Field) → struct_fields x ≡ Some fs → AreMembersOnce x → (decl_fields (Some x) ≡ fs) × AreOnce (map field_name fs)
-  own_named (decl.Struct n fields) fs e once = let same : fields ≡ fs = cc in (same, subst (λ xs. AreOnce (map field_name xs)) same once)
-  own_named (decl.Enum n cases) fs e once = cc
-  own_named (decl.Class n superclass fields) fs e once = cc
-
-  layer_named : (layer : TypeName-F TypeName) (name : Name) → name_in layer ≡ Some name → is_owner_layer name layer ≡ true
-  layer_named (TypeName-F.Named n) name e = let same : n ≡ name = cc in ap (λ x. is_owner_layer name (TypeName-F.Named x)) same ∙ same_name name
-  layer_named _ name e = cc
-
-  pub field_again : (t : TypeName) (name : Name) (x : Decl) (fs : List Field) → name_in (out-TypeName t) ≡ Some name → decl_of d name ≡ Some x → struct_fields x ≡ Some fs → AreMembersOnce x
-      → (k : ℕ) (y : Field) → slice_get fs k ≡ Some y → struct_field d (member_of name y) t ≡ Some y
-  field_again t name x fs named declared struct once k y there =
-      let own = own_named x fs struct once in
-      let fields : fields_of_struct d t ≡ Some fs = ap (λ n. option_and_then struct_fields (option_and_then (decl_of d) n)) named ∙ ap (option_and_then struct_fields) declared ∙ struct in
-      let owner : is_owner (member_of name y) t ≡ true = layer_named (out-TypeName t) name named in
-      let place : place_of (map field_name fs) y.name ≡ Some k = place_once field_name fs k y own.1 there in
-      ap₂ (λ a b. if a && is_some b then field_named d (member_of name y) else None) owner fields
-      ∙ ap (λ l. option_map found_field (field_at_place (length (inherited_fields d name)) l (place_of (map field_name l) y.name))) (ap decl_fields declared ∙ own.0)
-      ∙ ap (λ o. option_map found_field (field_at_place (length (inherited_fields d name)) fs o)) place
-      ∙ ap (λ o. option_map found_field (option_map (λ g. record { place = length (inherited_fields d name) + k; field = g }) o)) there
-
-module _ (m : Module) (f : Function) (owned : f.form ≡ Ossa) (once : (name : Name) (x : Decl) → decl_of (declarations_of m) name ≡ Some x → AreMembersOnce x)
-    (i : Inst) (sound : Sound m f i) (g : ValueId → Option TypeName) (s : ℕ) (told : InstTold arg_has (result_types (declarations_of m)) spare_type g s i) where
+module _ (m : Module) (f : Function) (source : Source m f) (i : Inst) (sound : Sound m f i) (g : ValueId → Option TypeName) (s : ℕ) (told : InstTold arg_has (result_types (declarations_of m)) spare_type g s i) where
   abbrev d : Declarations
   d = declarations_of m
 
@@ -104,12 +84,14 @@ module _ (m : Module) (f : Function) (owned : f.form ≡ Ossa) (once : (name : N
   object_counted : (place : Operand) (p t : TypeName) → IsCounted d place p t → option_and_then object_at place.ty ≡ Some t
   object_counted place p t c = ap (option_and_then object_at) c.typed ∙ object_there p t c.at (and_parts (is_object t) _ c.nontrivial).0
 
-  spare_loaded : (place : Operand) (p t : TypeName) → IsCounted d place p t → spare_type i ≡ Some t → result_types d (load place (value_with s)) ≡ g (value_with s) ∷ []
+  spare_loaded : (place : Operand) (p t : TypeName) → IsCounted d place p t → spare_type i ≡ Some t
+      → result_types d (load place (value_with s)) ≡ g (value_with s) ∷ []
   spare_loaded place p t c spare =
       ap (λ w. map (slice_get (unwrap_or (gives w) [])) (range_with_len 0 1)) (object_counted place p t c) ∙ ap (λ w. w ∷ []) (sym spare ∙ sym told.new)
 
   module _ (o : Operand) (t : TypeName) (typed : o.ty ≡ Some t) where
-    field_types : (name : Name) (fs : List Field) (vs : List ValueId) → Each (λ x. struct_field d (member_of name x) t ≡ Some x) fs → length fs ≡ length vs → map g vs ≡ map (λ x. Some x.ty) fs
+    field_types : (name : Name) (fs : List Field) (vs : List ValueId) → Each (λ x. struct_field d (member_of name x) t ≡ Some x) fs → length fs ≡ length vs
+        → map g vs ≡ map (λ x. Some x.ty) fs
         → map g (flat_map results_of (field_extracts o (map (member_of name) fs) vs)) ≡ flat_map (result_types d) (field_extracts o (map (member_of name) fs) vs)
     field_types name [] vs found size e = refl
     field_types name (x ∷ fs) [] found size e = refl
@@ -121,7 +103,8 @@ module _ (m : Module) (f : Function) (owned : f.form ≡ Ossa) (once : (name : N
         ap₂ (λ y ys. y ∷ ys) first (field_types name fs vs found.1 (omega arith) (cc))
         ∙ ap (λ ys. ys ++ flat_map (result_types d) (field_extracts o (map (member_of name) fs) vs)) (sym one)
 
-    part_types : (ts : List TypeName) (n : ℕ) (vs : List ValueId) → elements t ≡ Some ts → n + length vs ≡ length ts → map g vs ≡ map (slice_get ts) (range_with_len n (length vs))
+    part_types : (ts : List TypeName) (n : ℕ) (vs : List ValueId) → elements t ≡ Some ts → n + length vs ≡ length ts
+        → map g vs ≡ map (slice_get ts) (range_with_len n (length vs))
         → map g (flat_map results_of (element_extracts o n vs)) ≡ flat_map (result_types d) (element_extracts o n vs)
     part_types ts n [] are size e = refl
     part_types ts n (v ∷ vs) are size e =
@@ -150,11 +133,11 @@ module _ (m : Module) (f : Function) (owned : f.form ≡ Ossa) (once : (name : N
   types_so _ (releases o t one nontrivial) = refl
   types_so _ (loads place p t v load) = ap (map g) (append-nil i.results) ∙ load_types place p t v load ∙ sym (append-nil (result_types d (plain_load i)))
   types_so _ (copies place p t v load counted) = ap (map g) (append-nil i.results) ∙ load_types place p t v load ∙ sym (append-nil (result_types d (plain_load i)))
-  types_so _ (stores is) = nothing (no_results m f owned i sound op.Store is refl)
+  types_so _ (stores is) = nothing (no_results m f source i sound op.Store is refl)
     where
       nothing : i.results ≡ [] → map g (i.results ++ []) ≡ result_types d (plain_store i) ++ []
       nothing none = ap (λ vs. map g (vs ++ [])) none ∙ sym (ap (λ (vs : List ValueId). map (slice_get (made_types d (plain_store i))) (range_with_len 0 (length vs)) ++ []) none)
-  types_so _ (assigns x place p t is both counted) = two (no_results m f owned i sound op.Store is refl)
+  types_so _ (assigns x place p t is both counted) = two (no_results m f source i sound op.Store is refl)
     where
       two : i.results ≡ [] → g (value_with s) ∷ map g (i.results ++ []) ≡ result_types d (load place (value_with s)) ++ (result_types d (plain_store i) ++ [])
       two none =
@@ -162,18 +145,14 @@ module _ (m : Module) (f : Function) (owned : f.form ≡ Ossa) (once : (name : N
           ∙ ap₂ (λ a b. a ++ (b ++ [])) (sym (spare_loaded place p t counted (spare_stored x place p t is both counted)))
           (sym (ap (λ (vs : List ValueId). map (slice_get (made_types d (plain_store i))) (range_with_len 0 (length vs))) none))
   types_so _ (destroys place p t is one counted) = ap (λ ts. ts ++ []) (sym (spare_loaded place p t counted (spare_destroyed place p t is one counted)))
-  types_so _ (by_fields o t name x fs is one named declared struct size) =
-      field_types o t one.typed name fs i.results
-      (each_all (λ y. struct_field d (member_of name y) t ≡ Some y) fs (field_again d t name x fs named declared struct (once name x declared)))
-      size given
+  types_so _ (by_fields o t fs struct is one size) =
+      field_types o t one.typed struct.name fs i.results (fields_again d t fs struct (source.once struct.name struct.declared struct.is_declared)) size given
     where
       all : made_types d i ≡ map field_type fs
       all = made_by op.DestructureStruct is
           ∙ ap (λ os. unwrap_or (option_and_then (all_fields d) (option_and_then type_of (slice_get os 0))) []) one.only
           ∙ ap (λ w. unwrap_or (option_and_then (all_fields d) w) []) one.typed
-          ∙ ap (λ n. unwrap_or (option_map (map field_type) (option_and_then struct_fields (option_and_then (decl_of d) n))) []) named
-          ∙ ap (λ y. unwrap_or (option_map (map field_type) (option_and_then struct_fields y)) []) declared
-          ∙ ap (λ y. unwrap_or (option_map (map field_type) y) []) struct
+          ∙ ap (λ x. unwrap_or (option_map (map field_type) x) []) (fields_are d t fs struct)
 
       given : map g i.results ≡ map (λ y. Some y.ty) fs
       given =
@@ -190,4 +169,4 @@ module _ (m : Module) (f : Function) (owned : f.form ≡ Ossa) (once : (name : N
           ∙ ap (λ w. unwrap_or w []) are
 
   pub new_types : map g (flat_map results_of (becomes d (value_with s) i)) ≡ flat_map (result_types d) (becomes d (value_with s) i)
-  new_types = types_so (becomes d (value_with s) i) (becomes_so m f owned i sound (value_with s))
+  new_types = types_so (becomes d (value_with s) i) (becomes_so m f source i sound (value_with s))

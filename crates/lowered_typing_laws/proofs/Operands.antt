@@ -9,7 +9,8 @@ use Rattle.sil_types.specs.Typing.Values.{type_at, type_of_value}
 use Rattle.run_typing_laws.proofs.Rows.Finding.{passed, passes_at}
 use Rattle.run_typing_laws.proofs.SameTypes.{same_types}
 
-pub typed_at : (types : List (Option TypeName)) (os : List Operand) → are_as_written types os ≡ true → (k : ℕ) (o : Operand) (t : TypeName) → slice_get os k ≡ Some o → o.ty ≡ Some t
+pub typed_at : (types : List (Option TypeName)) (os : List Operand) → are_as_written types os ≡ true → (k : ℕ) (o : Operand) (t : TypeName)
+    → slice_get os k ≡ Some o → o.ty ≡ Some t
     → type_at types o.value.0 ≡ Some t
 typed_at types os written k o t at typed =
     let here = subst (λ w. is_as_written_by types o w ≡ true) typed (passes_at (is_as_written types) os k o written at) in

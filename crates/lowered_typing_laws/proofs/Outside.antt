@@ -66,7 +66,8 @@ module _ (m : Module) where
   unfolding has_wrong_deinitialiser
   deinits_stay v = ap not (at v.entry)
     where
-      at : (o : Option DeinitEntry) → list_all (names_deinitialiser (lowered m) v.class_name) (option_to_list o) ≡ list_all (names_deinitialiser m v.class_name) (option_to_list o)
+      at : (o : Option DeinitEntry)
+          → list_all (names_deinitialiser (lowered m) v.class_name) (option_to_list o) ≡ list_all (names_deinitialiser m v.class_name) (option_to_list o)
       at None = refl
       at (Some e) = ap (λ b. b && true) (deinit_named v.class_name e)
 
@@ -80,7 +81,8 @@ module _ (m : Module) where
       at Lowered e h = e
       at External e h = let other : is_external f.form ≡ true = ap is_external e in cc
 
-  first_lowered : (fs : List Function) → list_all (is_same_form Lowered) (option_to_list (option_map form_of (find has_body (map (lowered_function d) fs)))) ≡ true
+  first_lowered : (fs : List Function)
+      → list_all (is_same_form Lowered) (option_to_list (option_map form_of (find has_body (map (lowered_function d) fs)))) ≡ true
   first_lowered [] = refl
   first_lowered (f ∷ fs) = at (is_external (lowered_function d f).form) refl (first_lowered fs)
     where

@@ -1,5 +1,6 @@
 -- The instructions that stand in the place of one are typed with new numbers, and of lowered form.
-use Rattle.std.proofs.Common.{◌≡◌, ℕ, ◌+◌, List, [], ◌∷◌, ◌++◌, length, map, refl, sym, ap, ap₂, ◌∙◌, subst, arith, cond, Bool, true, false, not, Option, Some, None}
+use Rattle.std.proofs.Common.{◌≡◌, ℕ, ◌+◌, List, [], ◌∷◌, ◌++◌, length, map, refl, sym, ap, ap₂, ◌∙◌, subst, arith, cond, Bool, true, false, not, Option, Some}
+use Rattle.std.proofs.Common.{None}
 use Rattle.std.specs.Prelude.{◌&&◌, ◌<◌, ◌==◌, pos, is_some, option_and_then, option_map, slice_get, unwrap_or, if◌then◌else◌}
 use Rattle.std.specs.List.{flat_map, list_all, range_with_len}
 use Rattle.std.proofs.lemmas.Bool.{and_from, and_parts}
@@ -42,15 +43,17 @@ use Rattle.lowering_model.specs.LoweredInsts.{becomes, lowering_of, plain_load, 
 use Rattle.lowering_model.specs.NewInsts.{load, loaded_from, release, retain, struct_extract, tuple_extract, with_operands}
 use Rattle.lowering_model.specs.Numbers.{renumbered_edge, renumbered_inst, renumbered_operand}
 use Rattle.lowering_model.specs.declared.lowering.Lowering.TheVariants as lowering
+use Rattle.run_typing_laws.proofs.Declared.{each_from}
 use Rattle.run_typing_laws.proofs.Found.{each_at}
 use Rattle.run_typing_laws.proofs.ListFacts.{empty_is, get_below}
-use Rattle.lowered_typing_laws.proofs.Becomes.{Becomes, IsCounted, IsLoad, IsOne, at_storage, assigns, becomes_so, by_elements, by_fields, copies, destroys, loads, object_there, releases, retains, stays, stores, vanishes}
-use Rattle.lowered_typing_laws.proofs.Lists.{each_all}
-use Rattle.lowered_typing_laws.proofs.NewTypes.{field_again, spare_destroyed, spare_stored, spare_type}
+use Rattle.lowered_typing_laws.proofs.Becomes.{Becomes, IsCounted, IsLoad, IsOne, at_storage, assigns, becomes_so, by_elements, by_fields, copies, destroys}
+use Rattle.lowered_typing_laws.proofs.Becomes.{loads, object_there, releases, retains, stays, stores, vanishes}
+use Rattle.lowered_typing_laws.proofs.Fields.{fields_again}
+use Rattle.lowered_typing_laws.proofs.NewTypes.{spare_destroyed, spare_stored, spare_type}
 use Rattle.lowered_typing_laws.proofs.Operands.{typed_at}
 use Rattle.lowered_typing_laws.proofs.Renumbered.{AreSameAlong, IsSame, typed_alike}
 use Rattle.lowered_typing_laws.proofs.SelfSame.{same_self}
-use Rattle.lowered_typing_laws.proofs.Sound.{Sound, SoundInside}
+use Rattle.lowered_typing_laws.proofs.Sound.{Sound, SoundInside, Source}
 use Rattle.lowered_typing_laws.proofs.Told.{InstTold}
 
 -- the instructions that lowering writes anew
@@ -107,7 +110,8 @@ module _ (m : Module) (f : Function) (num : ValueId → ValueId) (new : List (Op
 
   -- ---- the instructions that lowering writes
 
-  has_type_here : (o : Operand) (t : TypeName) → o.ty ≡ Some t → type_at new (num o.value).0 ≡ Some t → are_as_written new (renumbered_operand num o ∷ []) ≡ true
+  has_type_here : (o : Operand) (t : TypeName) → o.ty ≡ Some t → type_at new (num o.value).0 ≡ Some t
+      → are_as_written new (renumbered_operand num o ∷ []) ≡ true
   has_type_here o t typed value =
       and_from (is_as_written_by new (renumbered_operand num o) o.ty) true
       (ap (is_as_written_by new (renumbered_operand num o)) typed ∙ ap (passes (is_same_type t)) value ∙ same_self t) refl
@@ -115,7 +119,8 @@ module _ (m : Module) (f : Function) (num : ValueId → ValueId) (new : List (Op
   four : (a b c e : Bool) → a ≡ true → b ≡ true → c ≡ true → e ≡ true → (a && b && c && e) ≡ true
   four a b c e x y z w = and_from (a && b && c) e (and_from (a && b) c (and_from a b x y) z) w
 
-  counted_low : (c : Op) (o : Operand) (t : TypeName) → o.ty ≡ Some t → type_at new (num o.value).0 ≡ Some t → bare_operands_of c ≡ NoBare → results_of c ≡ NoResult
+  counted_low : (c : Op) (o : Operand) (t : TypeName) → o.ty ≡ Some t → type_at new (num o.value).0 ≡ Some t → bare_operands_of c ≡ NoBare
+      → results_of c ≡ NoResult
       → forms_of c ≡ LoweredForm → is_made c ≡ true → is_some (given_by c d (renumbered_inst num (with_operands c [] (o ∷ [])))) ≡ true → Low (with_operands c [] (o ∷ []))
   counted_low c o t typed value bare none form is keeps =
       let j = with_operands c [] (o ∷ []) in
@@ -147,7 +152,8 @@ module _ (m : Module) (f : Function) (num : ValueId → ValueId) (new : List (Op
       at false e = counted_low op.ReleaseValue o t typed value refl refl refl refl
           (ap (λ w. is_some (takes (where_it (is_counted_value d) w))) typed ∙ ap₂ (λ a b. is_some (takes (if a && not b then Some t else None))) nontrivial e)
 
-  pub load_low : (j : Inst) (place : Operand) (p t : TypeName) (v : ValueId) → j.op ≡ op.Load → j.qualifier ≡ word.Plain → j.operands ≡ place ∷ [] → place.ty ≡ Some p → object_at p ≡ Some t
+  pub load_low : (j : Inst) (place : Operand) (p t : TypeName) (v : ValueId) → j.op ≡ op.Load → j.qualifier ≡ word.Plain → j.operands ≡ place ∷ []
+      → place.ty ≡ Some p → object_at p ≡ Some t
       → j.results ≡ v ∷ [] → j.edges ≡ [] → type_at new (num place.value).0 ≡ Some p → Low j
   load_low j place p t v is plain only typed at result none value = record {
     operands = four _ _ _ _
@@ -163,7 +169,8 @@ module _ (m : Module) (f : Function) (num : ValueId → ValueId) (new : List (Op
     rest = made (ap is_made is);
   }
 
-  field_low : (o : Operand) (t : TypeName) (named : Member) (v : ValueId) (x : Field) → o.ty ≡ Some t → type_at new (num o.value).0 ≡ Some t → struct_field d named t ≡ Some x
+  field_low : (o : Operand) (t : TypeName) (named : Member) (v : ValueId) (x : Field) → o.ty ≡ Some t → type_at new (num o.value).0 ≡ Some t
+      → struct_field d named t ≡ Some x
       → Low (struct_extract o named v)
   field_low o t named v x typed value found = record {
     operands = four _ _ _ _
@@ -175,7 +182,8 @@ module _ (m : Module) (f : Function) (num : ValueId → ValueId) (new : List (Op
     rest = made refl;
   }
 
-  part_low : (o : Operand) (t : TypeName) (ts : List TypeName) (n : ℕ) (v : ValueId) → o.ty ≡ Some t → type_at new (num o.value).0 ≡ Some t → elements t ≡ Some ts → n < length ts
+  part_low : (o : Operand) (t : TypeName) (ts : List TypeName) (n : ℕ) (v : ValueId) → o.ty ≡ Some t → type_at new (num o.value).0 ≡ Some t
+      → elements t ≡ Some ts → n < length ts
       → Low (tuple_extract o n v)
   part_low o t ts n v typed value are lt =
       let u = get_below ts n lt in
@@ -196,14 +204,15 @@ module _ (m : Module) (f : Function) (num : ValueId → ValueId) (new : List (Op
   fields_low o t name (x ∷ fs) [] typed value found = tt
   fields_low o t name (x ∷ fs) (v ∷ vs) typed value found = (field_low o t (member_of name x) v x typed value found.0, fields_low o t name fs vs typed value found.1)
 
-  parts_low : (o : Operand) (t : TypeName) (ts : List TypeName) (n : ℕ) (vs : List ValueId) → o.ty ≡ Some t → type_at new (num o.value).0 ≡ Some t → elements t ≡ Some ts
+  parts_low : (o : Operand) (t : TypeName) (ts : List TypeName) (n : ℕ) (vs : List ValueId) → o.ty ≡ Some t → type_at new (num o.value).0 ≡ Some t
+      → elements t ≡ Some ts
       → n + length vs ≡ length ts → Each Low (element_extracts o n vs)
   parts_low o t ts n [] typed value are size = tt
   parts_low o t ts n (v ∷ vs) typed value are size = (part_low o t ts n v typed value are (omega arith), parts_low o t ts (n + 1) vs typed value are (omega arith))
 
   -- ---- what stands in the place of an instruction
 
-  module _ (owned : f.form ≡ Ossa) (once : (name : Name) (x : Decl) → decl_of d name ≡ Some x → AreMembersOnce x) (i : Inst) (here : SoundInside m f i)
+  module _ (source : Source m f) (i : Inst) (here : SoundInside m f i)
       (g : ValueId → Option TypeName) (s : ℕ) (told : InstTold arg_has (result_types d) spare_type g s i) (alike : Each (IsSame num (value_types d f) new) i.operands) where
     abbrev IsPlaced : ValueId → Type 0
     IsPlaced v = type_at new (num v).0 ≡ g v
@@ -253,7 +262,7 @@ module _ (m : Module) (f : Function) (num : ValueId → ValueId) (new : List (Op
         is_object_of t e = (and_parts (is_object t) _ e).0
 
     lows : (js : List Inst) → Becomes d i (value_with s) js → Each IsPlaced (flat_map values_of_results js) → Each Low js
-    lows _ (stays e) placed = (kept_low (stays_form i.op i e (subst (λ x. is_of_form x i ≡ true) owned here.sound.form)), tt)
+    lows _ (stays e) placed = (kept_low (stays_form i.op i e (subst (λ x. is_of_form x i ≡ true) source.owned here.sound.form)), tt)
     lows _ (at_storage is e) placed = (kept_low (ap (λ o. may_stand_lowered (forms_of o) i) is ∙ e), tt)
     lows _ vanishes placed = tt
     lows _ (retains o t one nontrivial) placed = (retain_low o t one.typed nontrivial (value_one o t one), tt)
@@ -272,7 +281,7 @@ module _ (m : Module) (f : Function) (num : ValueId → ValueId) (new : List (Op
         store_low is,
         (
           release_low (loaded_from place (value_with s)) t (loaded_type place p t c (value_with s)) c.nontrivial
-              (placed.0 ∙ told.new ∙ spare_stored m f owned once i here.sound g s told x place p t is both c),
+              (placed.0 ∙ told.new ∙ spare_stored m f source i here.sound g s told x place p t is both c),
           tt,
         ),
       ),
@@ -281,15 +290,14 @@ module _ (m : Module) (f : Function) (num : ValueId → ValueId) (new : List (Op
       spare_low place p t 0 (ap (λ os. slice_get os 0) one) c,
       (
         release_low (loaded_from place (value_with s)) t (loaded_type place p t c (value_with s)) c.nontrivial
-            (placed.0 ∙ told.new ∙ spare_destroyed m f owned once i here.sound g s told place p t is one c),
+            (placed.0 ∙ told.new ∙ spare_destroyed m f source i here.sound g s told place p t is one c),
         tt,
       ),
     )
-    lows _ (by_fields o t name x fs is one named declared struct size) placed =
-        fields_low o t name fs i.results one.typed (value_one o t one)
-        (each_all (λ y. struct_field d (member_of name y) t ≡ Some y) fs (field_again d t name x fs named declared struct (once name x declared)))
+    lows _ (by_fields o t fs struct is one size) placed =
+        fields_low o t struct.name fs i.results one.typed (value_one o t one) (fields_again d t fs struct (source.once struct.name struct.declared struct.is_declared))
     lows _ (by_elements o t ts is one are size) placed =
         parts_low o t ts 0 i.results one.typed (value_one o t one) are (let all : 0 + length i.results ≡ length ts = omega arith in all)
 
     pub becomes_low : Each IsPlaced (flat_map values_of_results (becomes d (value_with s) i)) → Each Low (becomes d (value_with s) i)
-    becomes_low placed = lows (becomes d (value_with s) i) (becomes_so m f owned i here.sound (value_with s)) placed
+    becomes_low placed = lows (becomes d (value_with s) i) (becomes_so m f source i here.sound (value_with s)) placed

@@ -1,5 +1,6 @@
 -- A value has the type of the value for which it is another name, and none that stands for a function is another name.
-use Rattle.std.proofs.Common.{◌≡◌, ℕ, zero, suc, ◌+◌, List, [], ◌∷◌, ◌++◌, length, map, replicate, refl, sym, ap, ◌∙◌, subst, arith, cond, Bool, true, false, Option, Some, None}
+use Rattle.std.proofs.Common.{◌≡◌, ℕ, zero, suc, ◌+◌, List, [], ◌∷◌, ◌++◌, length, map, replicate, refl, sym, ap, ◌∙◌, subst, arith, cond, Bool, true, false}
+use Rattle.std.proofs.Common.{Option, Some, None}
 use Rattle.std.specs.Prelude.{is_some, option_and_then, option_map, slice_get, unwrap_or}
 use Rattle.std.specs.List.{AllZip, flat_map, range_with_len}
 use Rattle.std.proofs.lemmas.Bool.{eqb-true}
@@ -33,9 +34,11 @@ use Rattle.sil_types.specs.Typing.RowTypes.{given_by, made_types, type_of, writt
 use Rattle.sil_types.specs.Typing.Shapes.{is_nontrivial, is_object, where_it}
 use Rattle.sil_types.specs.Typing.Values.{arg_has, functions_by, result_functions, result_types, type_at, value_types}
 use Rattle.lowering_model.specs.Names.{renamed_from, stands_for, stands_within, unless_renamed}
+use Rattle.run_typing_laws.proofs.Declared.{each_from}
 use Rattle.run_typing_laws.proofs.Rows.Finding.{mapped_from, mapped_some, where_found}
 use Rattle.run_typing_laws.proofs.Rows.Points.{in_front}
-use Rattle.lowered_typing_laws.proofs.Lists.{each_all, each_weaker, zip_append, zip_at, zip_flat, zip_maps, zip_repeat}
+use Rattle.lowering_laws.proofs.Lists.{each_weaker}
+use Rattle.lowered_typing_laws.proofs.Lists.{zip_append, zip_at, zip_flat, zip_maps, zip_repeat}
 use Rattle.lowered_typing_laws.proofs.NewFunctions.{no_function}
 use Rattle.lowered_typing_laws.proofs.Operands.{typed_at}
 use Rattle.lowered_typing_laws.proofs.Sound.{Sound, SoundBlock, SoundFunction, SoundInside}
@@ -57,14 +60,16 @@ zip_rows R args others results more n (b ∷ bs) h =
     let there = h (suc k) c is in
     (subst (λ j. AllZip R (args j c.args) (others j c.args)) next there.0, there.1)))
 
-pub operands_row : (defs : List Definition) (k : ℕ) (def : Definition) → slice_get defs k ≡ Some def → unwrap_or (slice_get (map (λ (x : Definition). x.operands) defs) k) [] ≡ def.operands
+pub operands_row : (defs : List Definition) (k : ℕ) (def : Definition) → slice_get defs k ≡ Some def
+    → unwrap_or (slice_get (map (λ (x : Definition). x.operands) defs) k) [] ≡ def.operands
 operands_row defs k def e = ap (λ o. unwrap_or o []) (slice_get-map (λ (x : Definition). x.operands) defs k ∙ ap (option_map (λ (x : Definition). x.operands)) e)
 
 no_operands_row : (defs : List Definition) (k : ℕ) → slice_get defs k ≡ None → unwrap_or (slice_get (map (λ (x : Definition). x.operands) defs) k) [] ≡ []
 no_operands_row defs k e = ap (λ o. unwrap_or o []) (slice_get-map (λ (x : Definition). x.operands) defs k ∙ ap (option_map (λ (x : Definition). x.operands)) e)
 
 -- a value that is another name has its row among the renamings
-renaming_row : (defs : List Definition) (v w : ValueId) → renamed_from defs v ≡ Some w → (def : Definition) × (slice_get defs v.0 ≡ Some def) × (slice_get def.operands 0 ≡ Some w)
+renaming_row : (defs : List Definition) (v w : ValueId) → renamed_from defs v ≡ Some w
+    → (def : Definition) × (slice_get defs v.0 ≡ Some def) × (slice_get def.operands 0 ≡ Some w)
 renaming_row defs v w e = at (slice_get defs v.0) refl
   where
     at : (o : Option Definition) → slice_get defs v.0 ≡ o → (def : Definition) × (o ≡ Some def) × (slice_get def.operands 0 ≡ Some w)
@@ -83,7 +88,8 @@ record Renames (m : Module) (i : Inst) : Type 0 where
 renames_one : (m : Module) (f : Function) (i : Inst) → Sound m f i → renames i.op ≡ true → Renames m i
 renames_one m f i sound renaming = at i.op refl renaming
   where
-    with_type : (o : Op) → i.op ≡ o → results_of o ≡ OneResult → (t : TypeName) → written 0 i ≡ Some t → given_by o (declarations_of m) i ≡ Some (t ∷ []) → Renames m i
+    with_type : (o : Op) → i.op ≡ o → results_of o ≡ OneResult → (t : TypeName) → written 0 i ≡ Some t → given_by o (declarations_of m) i ≡ Some (t ∷ [])
+        → Renames m i
     with_type o is one t typed given = record {
       ty = t;
       typed = typed;
@@ -93,7 +99,8 @@ renames_one m f i sound renaming = at i.op refl renaming
           ∙ subst (λ x. is_count_by (results_of x) (given_by x (declarations_of m) i) (length i.results) ≡ true) is sound.results);
     }
 
-    tested : (o : Op) → i.op ≡ o → results_of o ≡ OneResult → (test : TypeName → Bool) → given_by o (declarations_of m) i ≡ option_map (λ ty. ty ∷ []) (where_it test (written 0 i)) → Renames m i
+    tested : (o : Op) → i.op ≡ o → results_of o ≡ OneResult → (test : TypeName → Bool)
+        → given_by o (declarations_of m) i ≡ option_map (λ ty. ty ∷ []) (where_it test (written 0 i)) → Renames m i
     tested o is one test gives =
         let it = mapped_some (λ ty. ty ∷ []) (where_it test (written 0 i)) (ap is_some (sym gives) ∙ subst (λ x. is_some (given_by x (declarations_of m) i) ≡ true) is sound.keeps) in
         let found = where_found test (written 0 i) it.0 it.1 in
@@ -123,7 +130,7 @@ module _ (m : Module) (f : Function) (sound : SoundFunction m f) where
   args_named k b is = zip_maps HasNameOf (arg_renaming (switch_to f k)) arg_has b.args (at (switch_to f k) refl)
     where
       at : (o : Option Switched) → switch_to f k ≡ o → Each (IsNamed o) b.args
-      at None e = each_all (IsNamed None) b.args (λ j a at. no_name (Some a.ty))
+      at None e = each_from (IsNamed None) b.args (λ j a at. no_name (Some a.ty))
       at (Some s) e = by s.is_default refl
         where
           by : (d : Bool) → s.is_default ≡ d → Each (IsNamed (Some s)) b.args
@@ -135,14 +142,15 @@ module _ (m : Module) (f : Function) (sound : SoundFunction m f) where
               let value : s.operand ≡ w = cc in
               (it.ty, ap Some ty, ap (λ v. type_at types v.0) (sym value) ∙ it.value))
               b.args (subst (Each (λ a. a.ty ≡ it.ty)) same it.args)
-          by false d = each_all (IsNamed (Some s)) b.args (λ j a at w there.
+          by false d = each_from (IsNamed (Some s)) b.args (λ j a at w there.
               let none : slice_get (cond false (s.operand ∷ []) []) 0 ≡ Some w = ap (λ x. slice_get (cond x (s.operand ∷ []) []) 0) (sym d) ∙ there in
               cc)
 
   results_named : (i : Inst) → Sound m f i → AllZip HasNameOf (result_renamings i) (result_types (declarations_of m) i)
   results_named i s = at (renames i.op) refl
     where
-      at : (b : Bool) → renames i.op ≡ b → AllZip HasNameOf (replicate (length i.results) (renamed (cond b (map value_of i.operands) []))) (result_types (declarations_of m) i)
+      at : (b : Bool) → renames i.op ≡ b
+          → AllZip HasNameOf (replicate (length i.results) (renamed (cond b (map value_of i.operands) []))) (result_types (declarations_of m) i)
       at false e = zip_repeat HasNameOf (renamed []) (slice_get (made_types (declarations_of m) i)) (λ k. no_name _) 0 (length i.results)
       at true e =
           let r = renames_one m f i s e in
@@ -225,13 +233,14 @@ module _ (m : Module) (f : Function) (sound : SoundFunction m f) where
           let callee : row_has is_callee i.op ≡ true = sym s.parts.function ∙ ap is_some e in
           ap (λ b. slice_get (cond b (map value_of i.operands) []) 0) (callee_named i.op callee)
 
-      at : (vs : List ValueId) → AllZip HasNoName (replicate (length vs) (renamed (cond (renames i.op) (map value_of i.operands) []))) (functions_by i.function vs)
+      at : (vs : List ValueId)
+          → AllZip HasNoName (replicate (length vs) (renamed (cond (renames i.op) (map value_of i.operands) []))) (functions_by i.function vs)
       at [] = tt
       at (v ∷ vs) = (first, no_functions _ (length vs))
 
   all_unnamed : AllZip HasNoName (renamings_of f) functions
   all_unnamed = zip_rows HasNoName (arg_renamings f) (λ k. map no_function) result_renamings result_functions 0 f.blocks (λ k b is. (
-    zip_maps HasNoName (arg_renaming (switch_to f (0 + k))) no_function b.args (each_all (λ a. HasNoName (arg_renaming (switch_to f (0 + k)) a) (no_function a)) b.args (λ j a at g e. cc)),
+    zip_maps HasNoName (arg_renaming (switch_to f (0 + k))) no_function b.args (each_from (λ a. HasNoName (arg_renaming (switch_to f (0 + k)) a) (no_function a)) b.args (λ j a at g e. cc)),
     each_sound b (sound_block m f sound k b is) (λ i. AllZip HasNoName (result_renamings i) (result_functions i)) results_unnamed,
   ))
 

@@ -22,11 +22,14 @@ use Rattle.type_definitions.specs.Declarations.{Declarations}
 use Rattle.type_definitions.specs.Rules.{is_class_type}
 use Rattle.sil_types.specs.Typing.Builtins.{builtin_named, builtin_operands, builtin_result}
 use Rattle.sil_types.specs.Typing.FormRules.{may_stand_lowered}
-use Rattle.sil_types.specs.Typing.OperandTypes.{are_as_asked_by, are_as_written, asked_by, bare_by, edge_is_as_written, has_operand_types, has_type, is_as_written_by}
-use Rattle.sil_types.specs.Typing.RowTypes.{MadeTypes, address_of, address_of_field, all_fields, all_written, are_elements, given_by, gives, is_base, is_counted_value, is_payload, is_struct_of}
+use Rattle.sil_types.specs.Typing.OperandTypes.{are_as_asked_by, are_as_written, asked_by, bare_by, edge_is_as_written, has_operand_types, has_type}
+use Rattle.sil_types.specs.Typing.OperandTypes.{is_as_written_by}
+use Rattle.sil_types.specs.Typing.RowTypes.{MadeTypes, address_of, address_of_field, all_fields, all_written, are_elements, given_by, gives, is_base}
+use Rattle.sil_types.specs.Typing.RowTypes.{is_counted_value, is_payload, is_struct_of}
 use Rattle.sil_types.specs.Typing.RowTypes.{member_type, passes, row_types, takes, type_of, written}
 use Rattle.sil_types.specs.Typing.Same.{all_pairs, are_same_types, is_same_type}
-use Rattle.sil_types.specs.Typing.Shapes.{case_in, class_field, element_of, elements, field_address, field_type, is_bit, is_enum, is_nontrivial, is_object, is_storage}
+use Rattle.sil_types.specs.Typing.Shapes.{case_in, class_field, element_of, elements, field_address, field_type, is_bit, is_enum, is_nontrivial, is_object}
+use Rattle.sil_types.specs.Typing.Shapes.{is_storage}
 use Rattle.sil_types.specs.Typing.Shapes.{object_at, struct_field, target, unowned_at, weak_at, where_it}
 use Rattle.sil_types.specs.Typing.Values.{result_types, type_at}
 use Rattle.lowering_model.specs.Numbers.{renumbered_edge, renumbered_inst, renumbered_operand}
@@ -113,21 +116,25 @@ module _ (num : ValueId → ValueId) where
     written_alike [] h = refl
     written_alike (o ∷ os) h = ap₂ (λ a b. a && b) (as_written_by o o.ty h.0) (written_alike os h.1)
 
-    pub edges_alike : (es : List Edge) → Each AreSameAlong es → list_all (edge_is_as_written new) (map (renumbered_edge num) es) ≡ list_all (edge_is_as_written old) es
+    pub edges_alike : (es : List Edge) → Each AreSameAlong es
+        → list_all (edge_is_as_written new) (map (renumbered_edge num) es) ≡ list_all (edge_is_as_written old) es
     edges_alike [] h = refl
     edges_alike (e ∷ es) h = ap₂ (λ a b. a && b) (written_alike e.args h.0) (edges_alike es h.1)
 
-    pairs_alike : (os : List Operand) (ts : List TypeName) → Each IsSame os → all_pairs (has_type new) (map (renumbered_operand num) os) ts ≡ all_pairs (has_type old) os ts
+    pairs_alike : (os : List Operand) (ts : List TypeName) → Each IsSame os
+        → all_pairs (has_type new) (map (renumbered_operand num) os) ts ≡ all_pairs (has_type old) os ts
     pairs_alike [] [] h = refl
     pairs_alike [] (t ∷ ts) h = refl
     pairs_alike (o ∷ os) [] h = refl
     pairs_alike (o ∷ os) (t ∷ ts) h = ap₂ (λ a b. a && b) (has_type_same o t h.0) (pairs_alike os ts h.1)
 
-    first_alike : (os : List Operand) (ts : List TypeName) → Each IsSame os → all_pairs (has_type new) (bare_by StoredValue (map (renumbered_operand num) os)) ts ≡ all_pairs (has_type old) (bare_by StoredValue os) ts
+    first_alike : (os : List Operand) (ts : List TypeName) → Each IsSame os
+        → all_pairs (has_type new) (bare_by StoredValue (map (renumbered_operand num) os)) ts ≡ all_pairs (has_type old) (bare_by StoredValue os) ts
     first_alike [] ts h = pairs_alike [] ts tt
     first_alike (o ∷ os) ts h = pairs_alike (o ∷ []) ts (h.0, tt)
 
-    behind_alike : (os : List Operand) (ts : List TypeName) → Each IsSame os → all_pairs (has_type new) (bare_by Arguments (map (renumbered_operand num) os)) ts ≡ all_pairs (has_type old) (bare_by Arguments os) ts
+    behind_alike : (os : List Operand) (ts : List TypeName) → Each IsSame os
+        → all_pairs (has_type new) (bare_by Arguments (map (renumbered_operand num) os)) ts ≡ all_pairs (has_type old) (bare_by Arguments os) ts
     behind_alike [] ts h = pairs_alike [] ts tt
     behind_alike (o ∷ os) ts h = pairs_alike os ts h.1
 
@@ -146,7 +153,8 @@ module _ (num : ValueId → ValueId) where
     asked_alike Arguments i h = behind_alike i.operands (asked_by Arguments i) h
 
     -- 201
-    pub typed_alike : (d : Declarations) (i : Inst) → Each IsSame i.operands → Each AreSameAlong i.edges → has_operand_types d new (renumbered_inst num i) ≡ has_operand_types d old i
+    pub typed_alike : (d : Declarations) (i : Inst) → Each IsSame i.operands → Each AreSameAlong i.edges
+        → has_operand_types d new (renumbered_inst num i) ≡ has_operand_types d old i
     typed_alike d i h along =
         ap₂ (λ a b. a && b)
         (ap₂ (λ a b. a && b) (ap₂ (λ a b. a && b) (ap is_some (row_same d i)) (written_alike i.operands h)) (edges_alike i.edges along))

@@ -20,7 +20,8 @@ use Rattle.sil_types.specs.Typing.EdgeRules.{have_wrong_arguments_by, is_to_entr
 use Rattle.sil_types.specs.Typing.ResultCounts.{is_count_by}
 use Rattle.sil_types.specs.Typing.RowTypes.{passes, row_types}
 use Rattle.sil_types.specs.Typing.Same.{is_same_type}
-use Rattle.sil_types.specs.Typing.SignatureRules.{callee, callee_value, calls_no_function, calls_none_by, differs_by, differs_from_signature, has_signature_of, is_signature_of}
+use Rattle.sil_types.specs.Typing.SignatureRules.{callee, callee_value, calls_no_function, calls_none_by, differs_by, differs_from_signature, has_signature_of}
+use Rattle.sil_types.specs.Typing.SignatureRules.{is_signature_of}
 use Rattle.sil_types.specs.Typing.SwitchRules.{has_wrong_cases_by}
 use Rattle.sil_types.specs.Typing.Values.{function_at, value_functions}
 use Rattle.lowering_model.specs.LoweredModules.{lowered, lowered_body}
@@ -66,7 +67,8 @@ made_agrees _ m f functions i e = refl
 
 module _ (num : ValueId → ValueId) where
   -- 202
-  pub counts_same : (d : Declarations) (j : Inst) → is_count_by (results_of j.op) (row_types d (renumbered_inst num j)) (length (map num j.results)) ≡ is_count_by (results_of j.op) (row_types d j) (length j.results)
+  pub counts_same : (d : Declarations) (j : Inst)
+      → is_count_by (results_of j.op) (row_types d (renumbered_inst num j)) (length (map num j.results)) ≡ is_count_by (results_of j.op) (row_types d j) (length j.results)
   counts_same d j = ap₂ (is_count_by (results_of j.op)) (row_same num d j) (length-map j.results num)
 
   -- 211

@@ -6,11 +6,14 @@ use Rattle.std.proofs.lemmas.Bool.{and_parts, not-false, or_parts}
 use Rattle.instruction_table.specs.Forms.{is_terminator, results_of}
 use Rattle.numbered_form.specs.Insts.{EachInBlock, insts_of}
 use Rattle.numbered_form.specs.Lists.{Each}
+use Rattle.numbered_form.specs.Names.{AreMembersOnce, Name}
 use Rattle.numbered_form.specs.Numbering.{IsFunctionNumbered, IsInstInRange, values_of}
 use Rattle.numbered_form.specs.inner.NumberedForm.{IsNumbered}
 use Rattle.numbered_form.specs.inner.Parts.{BlockHasParts, FunctionHasParts, HasItsParts, IsInside}
 use Rattle.point_checks.specs.Points.{IsAt}
+use Rattle.sil_ast.specs.declared.decl.Decl.{Decl}
 use Rattle.sil_ast.specs.declared.function.Block.{Block}
+use Rattle.sil_ast.specs.declared.function.Form.TheVariants.{Ossa}
 use Rattle.sil_ast.specs.declared.function.Function.{Function}
 use Rattle.sil_ast.specs.declared.inst.Inst.{Inst}
 use Rattle.sil_ast.specs.declared.module.Module.{Module}
@@ -26,13 +29,13 @@ use Rattle.sil_types.specs.Typing.SignatureRules.{calls_no_function, differs_fro
 use Rattle.sil_types.specs.Typing.SwitchRules.{has_wrong_cases}
 use Rattle.sil_types.specs.Typing.Typed.{BreaksAtFunction, BreaksAtPoint, Typed, at_function, at_point, function, point}
 use Rattle.sil_types.specs.Typing.Values.{value_functions, value_types}
-use Rattle.type_definitions.specs.Declarations.{declarations_of}
-use Rattle.run_typing_laws.proofs.Declared.{each_append}
+use Rattle.type_definitions.specs.Declarations.{decl_of, declarations_of}
+use Rattle.lowering_laws.specs.Lowerable.{IsLowerable}
+use Rattle.run_typing_laws.proofs.Declared.{each_append, each_from}
 use Rattle.run_typing_laws.proofs.Found.{each_at}
 use Rattle.run_typing_laws.proofs.ListFacts.{get_last}
 use Rattle.run_typing_laws.proofs.Rows.Finding.{never_passes}
 use Rattle.run_typing_laws.proofs.Rows.Points.{in_front}
-use Rattle.lowered_typing_laws.proofs.Lists.{each_all}
 
 -- of an instruction or a terminator of a function
 pub record Sound (m : Module) (f : Function) (i : Inst) : Type 0 where
@@ -82,6 +85,13 @@ pub record SoundFunction (m : Module) (f : Function) : Type 0 where
   -- 210
   pub escapes : lets_address_escape f ≡ false
   pub blocks : Each (SoundBlock m f) f.blocks
+
+-- a function in ownership form, which is lowered
+pub record Source (m : Module) (f : Function) : Type 0 where
+  pub owned : f.form ≡ Ossa
+  pub sound : SoundFunction m f
+  pub lowerable : IsLowerable (length m.functions) (declarations_of m) f
+  pub once : (name : Name) (x : Decl) → decl_of (declarations_of m) name ≡ Some x → AreMembersOnce x
 
 parts_in : (b : Block) → BlockHasParts b → Each HasItsParts (insts_of b)
 parts_in b h = each_append HasItsParts b.insts (b.terminator ∷ []) (inner b.insts h.insts) (h.terminator.parts, tt)
@@ -139,7 +149,7 @@ module _ (m : Module) (numbered : IsNumbered m) (typed : Typed m) (n : ℕ) (f :
   sound_block k b is =
       let parts = each_at BlockHasParts f.blocks k b parts is in
       record {
-        insts = each_all (SoundInside m f) b.insts (λ j i at. record {
+        insts = each_from (SoundInside m f) b.insts (λ j i at. record {
           sound = sound_at k j i (record { within = b; is_block = is; is_inst = in_front b.insts (b.terminator ∷ []) j i at });
           inside = (each_at IsInside b.insts j i parts.insts at).goes_on;
         });
@@ -155,5 +165,5 @@ module _ (m : Module) (numbered : IsNumbered m) (typed : Typed m) (n : ℕ) (f :
     numbered = function_numbered;
     signature = never_passes _ (λ e. keeps_function rule.Signature (BreaksAtFunction.signature e));
     escapes = never_passes _ (λ e. keeps_function rule.AddressEscapes (BreaksAtFunction.address_escapes e));
-    blocks = each_all (SoundBlock m f) f.blocks sound_block;
+    blocks = each_from (SoundBlock m f) f.blocks sound_block;
   }

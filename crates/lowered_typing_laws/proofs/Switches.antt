@@ -31,7 +31,8 @@ use Rattle.sil_types.specs.Typing.FormRules.{is_lowered}
 use Rattle.sil_types.specs.Typing.RowTypes.{given_by, type_of, written}
 use Rattle.sil_types.specs.Typing.Same.{is_same_type}
 use Rattle.sil_types.specs.Typing.Shapes.{is_enum, where_it}
-use Rattle.sil_types.specs.Typing.SwitchRules.{edges_of_block, fits_case, fits_default, has_case, has_wrong_cases_by, incoming, is_alone, is_default_argument, is_to, leaves_out_case}
+use Rattle.sil_types.specs.Typing.SwitchRules.{edges_of_block, fits_case, fits_default, has_case, has_wrong_cases_by, incoming, is_alone, is_default_argument}
+use Rattle.sil_types.specs.Typing.SwitchRules.{is_to, leaves_out_case}
 use Rattle.sil_types.specs.Typing.SwitchRules.{misfits_default, misfits_payload, names_other_case, repeats_case, shares_block, switches_wrongly}
 use Rattle.sil_types.specs.Typing.Values.{type_at, value_types}
 use Rattle.run_typing_laws.proofs.Found.{both_second, each_at}
@@ -65,7 +66,8 @@ switch_from f block s e =
     let r = first_from (switches_from block) f.blocks s e in
     at r.0 r.1 r.2 (ending_of r.1.terminator.op) refl r.3
   where
-    at : (k : ℕ) (b : Block) → slice_get f.blocks k ≡ Some b → (x : Ending) → ending_of b.terminator.op ≡ x → slice_get (switches_by x block b.terminator) 0 ≡ Some s → SwitchFrom f block s
+    at : (k : ℕ) (b : Block) → slice_get f.blocks k ≡ Some b → (x : Ending) → ending_of b.terminator.op ≡ x
+        → slice_get (switches_by x block b.terminator) 0 ≡ Some s → SwitchFrom f block s
     at k b is ending.Inside x e = cc
     at k b is ending.OneBranch x e = cc
     at k b is ending.TwoBranches x e = cc
@@ -136,7 +138,8 @@ module _ (m : Module) (f : Function) (sound : SoundFunction m f) where
       record { ty = it.0; typed = found.0; kept = kept_parts m f it.0 i.edges (subst (λ w. switches_wrongly (declarations_of m) f i.edges w ≡ false) found.0 right) }
 
   -- an edge to the block of a case or a default is the one of the switch
-  pub lone : (k l i j : ℕ) (b c : Block) (e x : Edge) → slice_get f.blocks k ≡ Some b → slice_get b.terminator.edges i ≡ Some e → b.terminator.op ≡ op.SwitchEnum
+  pub lone : (k l i j : ℕ) (b c : Block) (e x : Edge) → slice_get f.blocks k ≡ Some b → slice_get b.terminator.edges i ≡ Some e
+      → b.terminator.op ≡ op.SwitchEnum
       → slice_get f.blocks l ≡ Some c → slice_get c.terminator.edges j ≡ Some x → is_to e.block.0 x ≡ true → (b ≡ c) × (e ≡ x)
   lone k l i j b c e x is at switch other there goes =
       let s = is_switch b.terminator (sound_block k b is).end.sound switch in
@@ -160,7 +163,8 @@ module _ (m : Module) (f : Function) (sound : SoundFunction m f) where
           cc
 
   -- a branch goes to a block to which no switch goes
-  pub branch_kept : (k j : ℕ) (b : Block) (e : Edge) → slice_get f.blocks k ≡ Some b → slice_get b.terminator.edges j ≡ Some e → (b.terminator.op ≡ op.SwitchEnum → ⊥)
+  pub branch_kept : (k j : ℕ) (b : Block) (e : Edge) → slice_get f.blocks k ≡ Some b → slice_get b.terminator.edges j ≡ Some e
+      → (b.terminator.op ≡ op.SwitchEnum → ⊥)
       → default_operand (switch_to f e.block.0) ≡ []
   branch_kept k j b e is at other = by (switch_to f e.block.0) refl
     where
@@ -180,7 +184,8 @@ module _ (m : Module) (f : Function) (sound : SoundFunction m f) where
       let one = lone k x.place j x.index b x.from e x.edge is at switch x.is_block x.is_edge x.goes in
       x.default ∙ ap (λ (y : Edge). is_none y.case_of) (sym one.1)
 
-  pub case_kept : (k j : ℕ) (b : Block) (e : Edge) → slice_get f.blocks k ≡ Some b → slice_get b.terminator.edges j ≡ Some e → b.terminator.op ≡ op.SwitchEnum → has_case e ≡ true
+  pub case_kept : (k j : ℕ) (b : Block) (e : Edge) → slice_get f.blocks k ≡ Some b → slice_get b.terminator.edges j ≡ Some e → b.terminator.op ≡ op.SwitchEnum
+      → has_case e ≡ true
       → default_operand (switch_to f e.block.0) ≡ []
   case_kept k j b e is at switch case = by (switch_to f e.block.0) refl
     where
@@ -191,7 +196,8 @@ module _ (m : Module) (f : Function) (sound : SoundFunction m f) where
           ap (λ d. cond d (s.operand ∷ []) []) none
 
   -- a default's block has a switch that goes to it by its default
-  pub default_goes : (k j : ℕ) (b : Block) (e : Edge) → slice_get f.blocks k ≡ Some b → slice_get b.terminator.edges j ≡ Some e → b.terminator.op ≡ op.SwitchEnum → has_case e ≡ false
+  pub default_goes : (k j : ℕ) (b : Block) (e : Edge) → slice_get f.blocks k ≡ Some b → slice_get b.terminator.edges j ≡ Some e
+      → b.terminator.op ≡ op.SwitchEnum → has_case e ≡ false
       → (v : ValueId) × (default_operand (switch_to f e.block.0) ≡ v ∷ [])
   default_goes k j b e is at switch default = by (switch_to f e.block.0) refl
     where

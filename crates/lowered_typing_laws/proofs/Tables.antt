@@ -24,19 +24,22 @@ use Rattle.type_definitions.specs.Declarations.{Declarations, decl_of, declarati
 use Rattle.value_tables.proofs.Rows.{same_args}
 use Rattle.value_tables.specs.ValueRows.{rows_from, value_rows}
 use Rattle.sil_types.specs.Typing.RowTypes.{made_types}
-use Rattle.sil_types.specs.Typing.Values.{arg_functions, arg_has, function_at, functions_by, result_functions, result_types, type_at, value_functions, value_types}
+use Rattle.sil_types.specs.Typing.Values.{arg_functions, arg_has, function_at, functions_by, result_functions, result_types, type_at, value_functions}
+use Rattle.sil_types.specs.Typing.Values.{value_types}
 use Rattle.lowering_model.specs.LoweredBlocks.{lowered_blocks, value_with}
 use Rattle.lowering_model.specs.LoweredModules.{lowered_body}
 use Rattle.lowering_model.specs.Names.{stands_for}
 use Rattle.lowering_model.specs.Numbers.{new_number, numbering_of, renumbered, renumbered_arg, renumbered_inst}
 use Rattle.lowering_laws.specs.Lowerable.{IsLowerable}
 use Rattle.lowering_laws.proofs.Placed.{defined_are_placed, old_are_placed}
-use Rattle.lowered_typing_laws.proofs.Lists.{each_all, each_weaker, mapped_at}
+use Rattle.run_typing_laws.proofs.Declared.{each_from}
+use Rattle.lowering_laws.proofs.Lists.{each_weaker}
+use Rattle.lowered_typing_laws.proofs.Lists.{mapped_at}
 use Rattle.lowered_typing_laws.proofs.NewFunctions.{new_functions, no_function, no_spare}
 use Rattle.lowered_typing_laws.proofs.NewTypes.{new_types, spare_type}
 use Rattle.lowered_typing_laws.proofs.Renamed.{function_stands, stands_same}
 use Rattle.lowered_typing_laws.proofs.Renumbered.{IsSame, result_types_same}
-use Rattle.lowered_typing_laws.proofs.Sound.{SoundBlock, SoundFunction, SoundInside}
+use Rattle.lowered_typing_laws.proofs.Sound.{SoundBlock, SoundInside, Source}
 use Rattle.lowered_typing_laws.proofs.Told.{BlocksTold, all_told, blocks_rows, spare_rows, told, told_own}
 
 -- ---- new numbers change no row
@@ -77,8 +80,7 @@ functions_rows f = same_args arg_functions (λ k. map no_function) result_functi
     none [] = refl
     none (x ∷ xs) = ap (λ ys. None ∷ ys) (none xs)
 
-module _ (m : Module) (f : Function) (owned : f.form ≡ Ossa) (once : (name : Name) (x : Decl) → decl_of (declarations_of m) name ≡ Some x → AreMembersOnce x) (sound : SoundFunction m f)
-    (lowerable : IsLowerable (length m.functions) (declarations_of m) f) where
+module _ (m : Module) (f : Function) (source : Source m f) where
   abbrev d : Declarations
   d = declarations_of m
 
@@ -99,19 +101,19 @@ module _ (m : Module) (f : Function) (owned : f.form ≡ Ossa) (once : (name : N
 
   -- the type of a value by its old number, or of a spare one
   abbrev pub type_told : ValueId → Option TypeName
-  type_told = told arg_has (result_types d) spare_type (types_level d) f sound.numbered.values
+  type_told = told arg_has (result_types d) spare_type (types_level d) f source.sound.numbered.values
 
   abbrev function_told : ValueId → Option FuncId
-  function_told = told no_function result_functions no_spare functions_level f sound.numbered.values
+  function_told = told no_function result_functions no_spare functions_level f source.sound.numbered.values
 
   pub blocks_typed : BlocksTold arg_has (result_types d) spare_type type_told count f.blocks
-  blocks_typed = all_told arg_has (result_types d) spare_type (types_level d) f sound.numbered.values
+  blocks_typed = all_told arg_has (result_types d) spare_type (types_level d) f source.sound.numbered.values
 
   blocks_functions : BlocksTold no_function result_functions no_spare function_told count f.blocks
-  blocks_functions = all_told no_function result_functions no_spare functions_level f sound.numbered.values
+  blocks_functions = all_told no_function result_functions no_spare functions_level f source.sound.numbered.values
 
   insts_sound : Each (λ b. Each (SoundInside m f) b.insts) f.blocks
-  insts_sound = each_weaker (SoundBlock m f) (λ b. Each (SoundInside m f) b.insts) (λ b s. s.insts) f.blocks sound.blocks
+  insts_sound = each_weaker (SoundBlock m f) (λ b. Each (SoundInside m f) b.insts) (λ b s. s.insts) f.blocks source.sound.blocks
 
   -- ---- the tables
 
@@ -119,7 +121,7 @@ module _ (m : Module) (f : Function) (owned : f.form ≡ Ossa) (once : (name : N
   types_are =
       rows_same num arg_has (result_types d) (λ a. refl) (result_types_same num d) 0 (lowered_blocks d f)
       ∙ sym (blocks_rows arg_has (result_types d) spare_type type_told d (renamings_of f) (λ a. refl) (SoundInside m f)
-      (λ s i h t. new_types m f owned once i h.sound type_told s t) 0 count f.blocks insts_sound blocks_typed)
+      (λ s i h t. new_types m f source i h.sound type_told s t) 0 count f.blocks insts_sound blocks_typed)
 
   functions_same : (i : Inst) → result_functions (renumbered_inst num i) ≡ result_functions i
   functions_same i = at i.results
@@ -133,7 +135,7 @@ module _ (m : Module) (f : Function) (owned : f.form ≡ Ossa) (once : (name : N
       functions_rows (lowered_body d f)
       ∙ rows_same num no_function result_functions (λ a. refl) functions_same 0 (lowered_blocks d f)
       ∙ sym (blocks_rows no_function result_functions no_spare function_told d (renamings_of f) (λ a. refl) (SoundInside m f)
-      (λ s i h t. new_functions m f owned i h.sound function_told s t) 0 count f.blocks insts_sound blocks_functions)
+      (λ s i h t. new_functions m f source i h.sound function_told s t) 0 count f.blocks insts_sound blocks_functions)
 
   -- ---- what they tell
 
@@ -142,25 +144,26 @@ module _ (m : Module) (f : Function) (owned : f.form ≡ Ossa) (once : (name : N
       ap (λ w. type_at new_table w.0) place ∙ ap (λ rows. type_at rows k) types_are ∙ ap (λ o. unwrap_or o None) (mapped_at type_told defined k u at)
 
   pub defined_typed : Each (λ v. type_at new_table (num v).0 ≡ type_told v) defined
-  defined_typed = each_all (λ v. type_at new_table (num v).0 ≡ type_told v) defined (λ k v at. type_at_place k v v at (defined_are_placed (length m.functions) d f k v lowerable at).1)
+  defined_typed = each_from (λ v. type_at new_table (num v).0 ≡ type_told v) defined (λ k v at. type_at_place k v v at (defined_are_placed (length m.functions) d f k v source.lowerable at).1)
 
   pub type_kept : (v : ValueId) → v.0 < count → type_at new_table (num v).0 ≡ type_at old_types v.0
   type_kept v lt =
-      let it = old_are_placed (length m.functions) d f v lowerable lt in
+      let it = old_are_placed (length m.functions) d f v source.lowerable lt in
       type_at_place it.0 (stands_for (renamings_of f) v) v it.1 it.2
-      ∙ stands_same m f sound (spare_rows arg_has (result_types d) spare_type (types_level d) f sound.numbered.values) v
-      ∙ sym (told_own arg_has (result_types d) spare_type (types_level d) f sound.numbered.values v lt)
+      ∙ stands_same m f source.sound (spare_rows arg_has (result_types d) spare_type (types_level d) f source.sound.numbered.values) v
+      ∙ sym (told_own arg_has (result_types d) spare_type (types_level d) f source.sound.numbered.values v lt)
 
   pub operands_kept : (os : List Operand) → Each (IsValueBelow count) os → Each (IsSame num old_types new_table) os
   operands_kept os below = each_weaker (IsValueBelow count) (IsSame num old_types new_table) (λ o lt. type_kept o.value lt) os below
 
-  pub function_kept : (v : ValueId) (g : FuncId) → v.0 < count → function_at (value_functions f) v.0 ≡ Some g → function_at (value_functions (lowered_body d f)) (num v).0 ≡ Some g
+  pub function_kept : (v : ValueId) (g : FuncId) → v.0 < count → function_at (value_functions f) v.0 ≡ Some g
+      → function_at (value_functions (lowered_body d f)) (num v).0 ≡ Some g
   function_kept v g lt e =
-      let it = old_are_placed (length m.functions) d f v lowerable lt in
+      let it = old_are_placed (length m.functions) d f v source.lowerable lt in
       let own : unwrap_or (slice_get (value_rows (λ k. map no_function) result_functions f) v.0) None ≡ Some g = ap (λ rows. function_at rows v.0) (sym (functions_rows f)) ∙ e in
       ap (λ w. function_at (value_functions (lowered_body d f)) w.0) it.2
       ∙ ap (λ rows. function_at rows it.0) functions_are
       ∙ ap (λ o. unwrap_or o None) (mapped_at function_told defined it.0 (stands_for (renamings_of f) v) it.1)
-      ∙ ap function_told (function_stands m f sound v g own)
-      ∙ sym (told_own no_function result_functions no_spare functions_level f sound.numbered.values v lt)
+      ∙ ap function_told (function_stands m f source.sound v g own)
+      ∙ sym (told_own no_function result_functions no_spare functions_level f source.sound.numbered.values v lt)
       ∙ own

@@ -1,5 +1,6 @@
 -- What a table tells of a function's values, and of a spare value for each instruction behind them.
-use Rattle.std.proofs.Common.{◌≡◌, ℕ, suc, ◌+◌, ◌<◌, List, [], ◌∷◌, ◌++◌, length, map, refl, sym, ap, ap₂, ◌∙◌, subst, arith, append_assoc, append-nil, length-append, cond, Bool, true, false, Option, Some, None}
+use Rattle.std.proofs.Common.{◌≡◌, ℕ, suc, ◌+◌, ◌<◌, List, [], ◌∷◌, ◌++◌, length, map, refl, sym, ap, ap₂, ◌∙◌, subst, arith, append_assoc, append-nil}
+use Rattle.std.proofs.Common.{length-append, cond, Bool, true, false, Option, Some, None}
 use Rattle.std.specs.Prelude.{filter, slice_get, unwrap_or}
 use Rattle.std.specs.List.{flat_map}
 use Rattle.std.proofs.lemmas.List.{length-map, map-append}
@@ -19,25 +20,16 @@ use Rattle.value_tables.proofs.Rows.{rows_count}
 use Rattle.value_tables.specs.ValueRows.{rows_from, value_rows}
 use Rattle.lowering_model.specs.LoweredBlocks.{args_become, block_becomes, blocks_become, has_own_name, insts_become, value_with, without_annotation}
 use Rattle.lowering_model.specs.LoweredInsts.{becomes}
-use Rattle.run_typing_laws.proofs.ListFacts.{each_parts, each_within, get_below, get_last}
+use Rattle.run_typing_laws.proofs.Declared.{each_from}
+use Rattle.run_typing_laws.proofs.ListFacts.{each_parts, each_within, get_below, get_last, map_twice}
 use Rattle.run_typing_laws.proofs.Rows.Points.{in_front}
 use Rattle.run_typing_laws.proofs.Rows.Tables.{row_at, told_of_args, told_of_results}
-use Rattle.lowered_typing_laws.proofs.Lists.{each_all, get_behind, maps_same}
+use Rattle.lowering_laws.proofs.Lists.{counted_below}
+use Rattle.lowered_typing_laws.proofs.Lists.{get_behind, maps_same}
 
 pub each_of_maps : {X A : Type 0} (f g : X → A) (xs : List X) → map f xs ≡ map g xs → Each (λ x. f x ≡ g x) xs
 each_of_maps f g [] e = tt
 each_of_maps f g (x ∷ xs) e = (cc, each_of_maps f g xs (cc))
-
-twice : {X Y A : Type 0} (f : Y → A) (g : X → Y) (xs : List X) → map f (map g xs) ≡ map (λ x. f (g x)) xs
-twice f g [] = refl
-twice f g (x ∷ xs) = ap (λ ys. f (g x) ∷ ys) (twice f g xs)
-
-counted_below : (n : ℕ) (vs : List ValueId) → AreCountedFrom n vs → Each (λ v. v.0 < n + length vs) vs
-counted_below n [] h = tt
-counted_below n (v ∷ vs) h =
-    let first : v.0 ≡ n = h.0 in
-    let same : (n + 1) + length vs ≡ n + suc (length vs) = omega arith in
-    (omega arith, subst (λ k. Each (λ w. w.0 < k) vs) same (counted_below (n + 1) vs h.1))
 
 -- what is told of the arguments of a block, of the results of its instructions, and of its spare values, the first of which has this number
 module _ {A : Type 0} (arg : BlockArg → Option A) (results : Inst → List (Option A)) (spare : Inst → Option A) (value : ValueId → Option A) where
@@ -63,7 +55,8 @@ module _ {A : Type 0} (arg : BlockArg → Option A) (results : Inst → List (Op
   module _ (d : Declarations) (renamings : List Definition) (arg_kept : (a : BlockArg) → arg (without_annotation a) ≡ arg a)
       (Q : Inst → Type 0) (each_becomes : (s : ℕ) (i : Inst) → Q i → InstTold s i
       → map value (flat_map results_of (becomes d (value_with s) i)) ≡ flat_map results (becomes d (value_with s) i)) where
-    args_rows : (args : List BlockArg) → Each (λ a. value a.value ≡ arg a) args → map value (map value_of (args_become renamings args)) ≡ map arg (args_become renamings args)
+    args_rows : (args : List BlockArg) → Each (λ a. value a.value ≡ arg a) args
+        → map value (map value_of (args_become renamings args)) ≡ map arg (args_become renamings args)
     args_rows [] h = refl
     args_rows (a ∷ args) h = at (has_own_name renamings a) (args_rows args h.1)
       where
@@ -147,7 +140,8 @@ module _ {A : Type 0} (arg : BlockArg → Option A) (results : Inst → List (Op
   pub values_below : Each (λ v. v.0 < count) (values_of f.blocks)
   values_below = let same : 0 + count ≡ count = omega arith in subst (λ n. Each (λ v. v.0 < n) (values_of f.blocks)) same (counted_below 0 (values_of f.blocks) counted)
 
-  pub block_below : (k : ℕ) (b : Block) → slice_get f.blocks k ≡ Some b → Each (λ v. v.0 < count) (map value_of b.args) × Each (λ v. v.0 < count) (flat_map results_of (insts_of b))
+  pub block_below : (k : ℕ) (b : Block) → slice_get f.blocks k ≡ Some b
+      → Each (λ v. v.0 < count) (map value_of b.args) × Each (λ v. v.0 < count) (flat_map results_of (insts_of b))
   block_below k b is =
       each_parts (λ v. v.0 < count) (map value_of b.args) (flat_map results_of (insts_of b)) (each_within defined_in (λ v. v.0 < count) f.blocks k b values_below is)
 
@@ -166,13 +160,14 @@ module _ {A : Type 0} (arg : BlockArg → Option A) (results : Inst → List (Op
   args_told : (k : ℕ) (b : Block) → slice_get f.blocks k ≡ Some b → Each (λ a. told a.value ≡ arg a) b.args
   args_told k b is =
       each_of_maps (λ a. told a.value) arg b.args
-      (sym (twice told value_of b.args)
+      (sym (map_twice told value_of b.args)
       ∙ sym (maps_same (row_at None own_rows) told (map value_of b.args) (own_each (map value_of b.args) (block_below k b is).0))
       ∙ told_of_args (λ n. map arg) results args_level level None f counted k b is)
 
   -- ---- spare values
 
-  spare_there : (before after : List (Option A)) (x : Option A) (s : ℕ) → spare_rows ≡ before ++ (x ∷ after) → count + length before ≡ s → told (value_with s) ≡ x
+  spare_there : (before after : List (Option A)) (x : Option A) (s : ℕ) → spare_rows ≡ before ++ (x ∷ after) → count + length before ≡ s
+      → told (value_with s) ≡ x
   spare_there before after x s split start =
       let long = rows_level in
       let none : length before + 0 ≡ length before = omega arith in
@@ -185,7 +180,8 @@ module _ {A : Type 0} (arg : BlockArg → Option A) (results : Inst → List (Op
   InstsSpared s [] = Unit {0}
   InstsSpared s (i ∷ is) = (told (value_with s) ≡ spare i) × InstsSpared (s + 1) is
 
-  insts_spared : (before after : List (Option A)) (is : List Inst) (s : ℕ) → spare_rows ≡ before ++ (map spare is ++ after) → count + length before ≡ s → InstsSpared s is
+  insts_spared : (before after : List (Option A)) (is : List Inst) (s : ℕ) → spare_rows ≡ before ++ (map spare is ++ after) → count + length before ≡ s
+      → InstsSpared s is
   insts_spared before after [] s split start = tt
   insts_spared before after (i ∷ is) s split start =
       let long = length-append before (spare i ∷ []) in
@@ -198,7 +194,8 @@ module _ {A : Type 0} (arg : BlockArg → Option A) (results : Inst → List (Op
   BlocksSpared s [] = Unit {0}
   BlocksSpared s (b ∷ bs) = InstsSpared s b.insts × BlocksSpared (s + length b.insts) bs
 
-  blocks_spared : (before : List (Option A)) (bs : List Block) (s : ℕ) → spare_rows ≡ before ++ flat_map block_spares bs → count + length before ≡ s → BlocksSpared s bs
+  blocks_spared : (before : List (Option A)) (bs : List Block) (s : ℕ) → spare_rows ≡ before ++ flat_map block_spares bs → count + length before ≡ s
+      → BlocksSpared s bs
   blocks_spared before [] s split start = tt
   blocks_spared before (b ∷ bs) s split start =
       let long = length-append before (block_spares b) in
@@ -217,7 +214,7 @@ module _ {A : Type 0} (arg : BlockArg → Option A) (results : Inst → List (Op
   block_own : (k : ℕ) (b : Block) → slice_get f.blocks k ≡ Some b → BlockOwn b
   block_own k b is = record {
     args = args_told k b is;
-    insts = each_all (λ i. map told i.results ≡ results i) b.insts (λ j i at. results_told k j i (record { within = b; is_block = is; is_inst = in_front b.insts (b.terminator ∷ []) j i at }));
+    insts = each_from (λ i. map told i.results ≡ results i) b.insts (λ j i at. results_told k j i (record { within = b; is_block = is; is_inst = in_front b.insts (b.terminator ∷ []) j i at }));
     end = results_told k (length b.insts) b.terminator (record { within = b; is_block = is; is_inst = get_last b.insts b.terminator });
   }
 
@@ -235,4 +232,4 @@ module _ {A : Type 0} (arg : BlockArg → Option A) (results : Inst → List (Op
   pub all_told : BlocksTold arg results spare told count f.blocks
   all_told =
       let none : count + 0 ≡ count = omega arith in
-      blocks_both count f.blocks (each_all BlockOwn f.blocks block_own) (blocks_spared [] f.blocks count refl none)
+      blocks_both count f.blocks (each_from BlockOwn f.blocks block_own) (blocks_spared [] f.blocks count refl none)
