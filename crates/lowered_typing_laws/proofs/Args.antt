@@ -50,9 +50,14 @@ module _ (f : Function) (counted : AreCountedFrom 0 (values_of f.blocks)) where
   arg_names : (k : ℕ) (b : Block) → slice_get f.blocks k ≡ Some b
       → Each (λ a. renamed_from (renamings_of f) a.value ≡ slice_get (default_operand (switch_to f k)) 0) b.args
   arg_names k b is =
-      let told = told_of_args (arg_renamings f) result_renamings (λ n xs. length-map xs (arg_renaming (switch_to f n))) (λ i. length-replicate (length i.results) _) (renamed []) f counted k b is in
-      let each = each_of_maps (λ a. row_at (renamed []) (renamings_of f) a.value) (arg_renaming (switch_to f k)) b.args (sym (map_twice (row_at (renamed []) (renamings_of f)) value_of b.args) ∙ told) in
-      each_weaker (λ a. row_at (renamed []) (renamings_of f) a.value ≡ arg_renaming (switch_to f k) a) (λ a. renamed_from (renamings_of f) a.value ≡ slice_get (default_operand (switch_to f k)) 0)
+      let told =
+      told_of_args (arg_renamings f) result_renamings (λ n xs. length-map xs (arg_renaming (switch_to f n))) (λ i. length-replicate (length i.results) _)
+      (renamed []) f counted k b is in
+      let each =
+      each_of_maps (λ a. row_at (renamed []) (renamings_of f) a.value) (arg_renaming (switch_to f k)) b.args
+      (sym (map_twice (row_at (renamed []) (renamings_of f)) value_of b.args) ∙ told) in
+      each_weaker (λ a. row_at (renamed []) (renamings_of f) a.value ≡ arg_renaming (switch_to f k) a)
+      (λ a. renamed_from (renamings_of f) a.value ≡ slice_get (default_operand (switch_to f k)) 0)
       (λ a e. ap (λ l. slice_get l 0) (row_operands (renamings_of f) a.value ∙ ap (λ x. x.operands) e)) b.args each
 
   pub args_stay : (k : ℕ) → default_operand (switch_to f k) ≡ [] → args_become (renamings_of f) (args_of f k) ≡ map without_annotation (args_of f k)
@@ -63,7 +68,8 @@ module _ (f : Function) (counted : AreCountedFrom 0 (values_of f.blocks)) where
       at (Some b) is =
           ap (map without_annotation)
           (all_stay (has_own_name (renamings_of f)) b.args
-          (each_weaker (λ a. renamed_from (renamings_of f) a.value ≡ slice_get (default_operand (switch_to f k)) 0) (λ a. has_own_name (renamings_of f) a ≡ true)
+          (each_weaker (λ a. renamed_from (renamings_of f) a.value ≡ slice_get (default_operand (switch_to f k)) 0)
+          (λ a. has_own_name (renamings_of f) a ≡ true)
           (λ a e. ap (λ o. not (is_some o)) (e ∙ ap (λ l. slice_get l 0) none)) b.args (arg_names k b is)))
 
   pub args_go : (k : ℕ) (v : ValueId) → default_operand (switch_to f k) ≡ v ∷ [] → args_become (renamings_of f) (args_of f k) ≡ []
@@ -74,7 +80,8 @@ module _ (f : Function) (counted : AreCountedFrom 0 (values_of f.blocks)) where
       at (Some b) is =
           ap (map without_annotation)
           (all_go (has_own_name (renamings_of f)) b.args
-          (each_weaker (λ a. renamed_from (renamings_of f) a.value ≡ slice_get (default_operand (switch_to f k)) 0) (λ a. has_own_name (renamings_of f) a ≡ false)
+          (each_weaker (λ a. renamed_from (renamings_of f) a.value ≡ slice_get (default_operand (switch_to f k)) 0)
+          (λ a. has_own_name (renamings_of f) a ≡ false)
           (λ a e. ap (λ o. not (is_some o)) (e ∙ ap (λ l. slice_get l 0) some)) b.args (arg_names k b is)))
 
 -- ---- the arguments of a lowered block

@@ -1,7 +1,7 @@
 -- What a typed instruction of a function in ownership form becomes, kind by kind, with what typing says of its operands.
 use Rattle.std.proofs.Common.{◌≡◌, ℕ, suc, List, [], ◌∷◌, ◌++◌, length, map, refl, sym, ap, ◌∙◌, subst, append-nil, arith, Bool, true, false, not, Option, Some}
 use Rattle.std.proofs.Common.{None}
-use Rattle.std.specs.Prelude.{◌&&◌, ◌||◌, ◌==◌, is_some, option_and_then, slice_get, unwrap_or, if◌then◌else◌}
+use Rattle.std.specs.Prelude.{◌&&◌, ◌||◌, ◌==◌, is_some, option_and_then, slice_get, if◌then◌else◌}
 use Rattle.std.specs.List.{flat_map}
 use Rattle.std.specs.Option.{option_to_list}
 use Rattle.std.proofs.lemmas.Bool.{and_parts, eqb-true, not-false}
@@ -10,12 +10,9 @@ use Rattle.instruction_table.specs.Forms.{results_of, type_words_of}
 use Rattle.instruction_table.specs.declared.entries.Results.TheVariants.{NoResult, OneResult, ResultList}
 use Rattle.instruction_table.specs.declared.op.Op.{Op}
 use Rattle.instruction_table.specs.declared.op.Op.TheVariants as op
-use Rattle.numbered_form.specs.Names.{Name}
 use Rattle.numbered_form.specs.Lists.{is_empty}
 use Rattle.numbered_form.specs.inner.Parts.{first_then, has_operands, is_bare, is_typed, may_have}
-use Rattle.sil_ast.specs.declared.decl.Decl.{Decl}
 use Rattle.sil_ast.specs.declared.decl.Field.{Field}
-use Rattle.sil_ast.specs.declared.function.Form.TheVariants.{Ossa}
 use Rattle.sil_ast.specs.declared.function.Function.{Function}
 use Rattle.sil_ast.specs.declared.inst.Inst.{Inst}
 use Rattle.sil_ast.specs.declared.inst.Qualifier.{Qualifier}
@@ -23,13 +20,13 @@ use Rattle.sil_ast.specs.declared.inst.Qualifier.TheVariants as word
 use Rattle.sil_ast.specs.declared.module.Module.{Module}
 use Rattle.sil_ast.specs.declared.operands.Operand.{Operand}
 use Rattle.sil_ast.specs.declared.place.ValueId.{ValueId}
-use Rattle.sil_ast.specs.declared.type_name.TypeName.{TypeName, out-TypeName}
-use Rattle.type_definitions.specs.Declarations.{Declarations, decl_of, declarations_of}
+use Rattle.sil_ast.specs.declared.type_name.TypeName.{TypeName}
+use Rattle.type_definitions.specs.Declarations.{Declarations, declarations_of}
 use Rattle.sil_types.specs.Typing.FormRules.{has_word_by, is_at_storage, is_owned_form, is_read_word, is_write_word}
 use Rattle.sil_types.specs.Typing.ResultCounts.{is_count_by, is_count_of}
 use Rattle.sil_types.specs.Typing.RowTypes.{all_fields, given_by, gives, passes, row_types, takes, type_of, written}
-use Rattle.sil_types.specs.Typing.Shapes.{decl_of_type, elements, field_type, fields_of_struct, is_nontrivial, is_object, is_storage, name_in, object_at}
-use Rattle.sil_types.specs.Typing.Shapes.{struct_fields, target, where_it}
+use Rattle.sil_types.specs.Typing.Shapes.{elements, field_type, fields_of_struct, is_nontrivial, is_object, is_storage, object_at}
+use Rattle.sil_types.specs.Typing.Shapes.{target, where_it}
 use Rattle.lowering_model.specs.Extracts.{element_extracts, extracts_elements, extracts_fields, field_extracts, member_of, members_of_struct}
 use Rattle.lowering_model.specs.LoweredInsts.{becomes, becomes_by, destroys_by, loads_by, loads_spare, lowering_of, plain_load, plain_store, releases_spare}
 use Rattle.lowering_model.specs.LoweredInsts.{retains_loaded, stores_by}
@@ -131,7 +128,8 @@ module _ (m : Module) (f : Function) (source : Source m f) (i : Inst) (sound : S
   word_by : (o : Op) → i.op ≡ o → has_word_by (type_words_of o) d i ≡ true
   word_by o is =
       subst (λ x. has_word_by (type_words_of x) d i ≡ true) is
-      (not-false (has_word_by (type_words_of i.op) d i) (subst (λ x. (is_owned_form x && not (has_word_by (type_words_of i.op) d i)) ≡ false) source.owned sound.words))
+      (not-false (has_word_by (type_words_of i.op) d i)
+      (subst (λ x. (is_owned_form x && not (has_word_by (type_words_of i.op) d i)) ≡ false) source.owned sound.words))
 
   pub no_results : (o : Op) → i.op ≡ o → results_of o ≡ NoResult → i.results ≡ []
   no_results o is none = none_left i.results (subst (λ x. is_count_by x (given_by o d i) (length i.results) ≡ true) none (counted_by o is))
@@ -193,8 +191,13 @@ module _ (m : Module) (f : Function) (source : Source m f) (i : Inst) (sound : S
         subst (λ x. passes (is_read_word d x) (option_and_then target (written 0 i)) ≡ true) q (word_by op.Load is) in
         let it = passed (is_read_word d word.Copy) (option_and_then target (written 0 i)) fits in
         let at = where_found is_object (target l.1) l.2 load.at in
-        let same : it.0 ≡ l.2 = some_same it.0 l.2 (sym it.1 ∙ ap (λ os. option_and_then target (option_and_then type_of (slice_get os 0))) load.one.only ∙ ap (option_and_then target) load.one.typed ∙ at.0) in
-        subst (λ (os : List Operand). Becomes d i s (plain_load i ∷ flat_map (retains_loaded d s i.results) (option_to_list (slice_get os 0)))) (sym load.one.only)
+        let same : it.0 ≡ l.2 =
+        some_same it.0 l.2
+        (sym it.1
+        ∙ ap (λ os. option_and_then target (option_and_then type_of (slice_get os 0))) load.one.only
+        ∙ ap (option_and_then target) load.one.typed ∙ at.0) in
+        subst (λ (os : List Operand). Becomes d i s (plain_load i ∷ flat_map (retains_loaded d s i.results) (option_to_list (slice_get os 0))))
+        (sym load.one.only)
         (subst (λ (vs : List ValueId). Becomes d i s (plain_load i ∷ (retains_loaded d s vs place ++ []))) (sym load.result)
         (copies place l.1 l.2 v load (record { typed = load.one.typed; at = at.0; nontrivial = subst (λ t. is_nontrivial d t ≡ true) same it.2 })))
       where
@@ -219,7 +222,8 @@ module _ (m : Module) (f : Function) (source : Source m f) (i : Inst) (sound : S
         subst (λ y. passes (is_write_word d y) (option_and_then target (written 1 i)) ≡ true) q (word_by op.Store is) in
         let it = passed (is_write_word d word.Assign) (option_and_then target (written 1 i)) fits in
         let counted = counted_at 1 place (ap (λ os. option_and_then type_of (slice_get os 1)) (sym two.2)) it.0 it.1 it.2 in
-        subst (λ (os : List Operand). Becomes d i s (flat_map (λ (y : Operand). loads_spare d s y ∷ plain_store i ∷ releases_spare d s y ∷ []) (option_to_list (slice_get os 1)))) (sym two.2)
+        subst (λ (os : List Operand). Becomes d i s (flat_map (λ (y : Operand). loads_spare d s y ∷ plain_store i ∷ releases_spare d s y ∷ [])
+        (option_to_list (slice_get os 1)))) (sym two.2)
         (assigns x place counted.0 it.0 is two.2 counted.1)
 
     destroy_by : i.op ≡ op.DestroyAddr → (b : Bool) → is_at_storage i ≡ b → Becomes d i s (destroys_by d s b i)
@@ -229,8 +233,11 @@ module _ (m : Module) (f : Function) (source : Source m f) (i : Inst) (sound : S
         let it = taken_type (where_it (λ t. is_nontrivial d t || is_storage t) (option_and_then target (written 0 i))) (keeps_by op.DestroyAddr is) in
         let found = where_found (λ t. is_nontrivial d t || is_storage t) (option_and_then target (written 0 i)) it.0 it.1 in
         let not_stored : is_storage it.0 ≡ false = subst (λ w. passes is_storage w ≡ false) found.0 at in
-        let counted = counted_at 0 one.0 (ap (λ os. option_and_then type_of (slice_get os 0)) (sym one.1)) it.0 found.0 (first_holds (is_nontrivial d it.0) (is_storage it.0) not_stored found.1) in
-        subst (λ (os : List Operand). Becomes d i s (flat_map (λ (y : Operand). loads_spare d s y ∷ releases_spare d s y ∷ []) os)) (sym one.1) (destroys one.0 counted.0 it.0 is one.1 counted.1)
+        let counted =
+        counted_at 0 one.0 (ap (λ os. option_and_then type_of (slice_get os 0)) (sym one.1)) it.0 found.0
+        (first_holds (is_nontrivial d it.0) (is_storage it.0) not_stored found.1) in
+        subst (λ (os : List Operand). Becomes d i s (flat_map (λ (y : Operand). loads_spare d s y ∷ releases_spare d s y ∷ []) os)) (sym one.1)
+        (destroys one.0 counted.0 it.0 is one.1 counted.1)
       where
         first_holds : (a b : Bool) → b ≡ false → (a || b) ≡ true → a ≡ true
         first_holds true b h e = refl
@@ -274,7 +281,8 @@ module _ (m : Module) (f : Function) (source : Source m f) (i : Inst) (sound : S
         borrow_by : (q : Qualifier) → i.qualifier ≡ q → Becomes d i s (loads_by d s q i)
         borrow_by word.Plain q = just_loads (is_borrow is)
         borrow_by word.Copy q =
-            let none : may_have op.LoadBorrow word.Copy ≡ true = subst (λ x. may_have op.LoadBorrow x ≡ true) q (subst (λ o. may_have o i.qualifier ≡ true) is sound.parts.qualifier) in
+            let none : may_have op.LoadBorrow word.Copy ≡ true =
+            subst (λ x. may_have op.LoadBorrow x ≡ true) q (subst (λ o. may_have o i.qualifier ≡ true) is sound.parts.qualifier) in
             cc
         borrow_by word.Take q = just_loads (is_borrow is)
         borrow_by word.Trivial q = just_loads (is_borrow is)

@@ -8,12 +8,10 @@ use Rattle.std.proofs.lemmas.List.Concat.{flat_map-append}
 use Rattle.argument_conventions.specs.Arguments.{Told, argument_type, arguments_of}
 use Rattle.numbered_form.specs.Insts.{insts_of}
 use Rattle.numbered_form.specs.Lists.{Each}
-use Rattle.numbered_form.specs.Names.{AreMembersOnce, Name}
 use Rattle.numbered_form.specs.Numbering.{defined_in, results_of, value_of, values_of}
 use Rattle.ownership_origins.specs.Renamings.{renamings_of}
 use Rattle.point_checks.specs.Points.{IsAt}
 use Rattle.sil_ast.specs.Blocks.{args_of}
-use Rattle.sil_ast.specs.declared.decl.Decl.{Decl}
 use Rattle.sil_ast.specs.declared.function.Block.{Block}
 use Rattle.sil_ast.specs.declared.function.BlockArg.{BlockArg}
 use Rattle.sil_ast.specs.declared.function.Form.TheVariants.{Ossa, Lowered}
@@ -22,7 +20,7 @@ use Rattle.sil_ast.specs.declared.inst.Inst.{Inst}
 use Rattle.sil_ast.specs.declared.module.Module.{Module}
 use Rattle.sil_ast.specs.declared.place.ValueId.{ValueId}
 use Rattle.sil_ast.specs.declared.type_name.TypeName.{TypeName}
-use Rattle.type_definitions.specs.Declarations.{Declarations, decl_of, declarations_of}
+use Rattle.type_definitions.specs.Declarations.{Declarations, declarations_of}
 use Rattle.sil_types.specs.Typing.EdgeRules.{has_address_type, lets_address_escape, takes_address}
 use Rattle.sil_types.specs.Typing.Same.{all_pairs, is_same_type}
 use Rattle.sil_types.specs.Typing.SignatureRules.{has_entry_arguments, has_fitting_conventions, has_wrong_signature, is_annotated_for, is_argument_for}
@@ -36,7 +34,6 @@ use Rattle.lowering_model.specs.Numbers.{new_number, numbering_of, renumbered, r
 use Rattle.run_typing_laws.proofs.Declared.{each_append}
 use Rattle.run_typing_laws.proofs.Found.{each_at}
 use Rattle.run_typing_laws.proofs.ListFacts.{each_parts, or_second}
-use Rattle.lowering_laws.specs.Lowerable.{IsLowerable}
 use Rattle.lowered_typing_laws.proofs.Args.{args_stay, lowered_args}
 use Rattle.lowered_typing_laws.proofs.Lists.{from_mapped}
 use Rattle.lowered_typing_laws.proofs.NewTypes.{spare_type}
@@ -77,7 +74,8 @@ module _ (m : Module) (f : Function) (source : Source m f) where
   insts_low s (i ∷ is) h t placed =
       let here = becomes d (value_with s) i in
       let rest = insts_become d (renamings_of f) (s + 1) is in
-      let both = each_parts IsPlaced (flat_map results_of here) (flat_map results_of rest) (subst (Each IsPlaced) (flat_map-append results_of here rest) placed) in
+      let both =
+      each_parts IsPlaced (flat_map results_of here) (flat_map results_of rest) (subst (Each IsPlaced) (flat_map-append results_of here rest) placed) in
       each_append LowHere here rest
       (becomes_low m f num table source i h.0 told s t.0 (operands_kept m f source i.operands h.0.sound.range.operands) both.0)
       (insts_low (s + 1) is h.1 t.1 both.1)
@@ -118,7 +116,8 @@ module _ (m : Module) (f : Function) (source : Source m f) where
       let b = from_mapped (renumbered_block num) (lowered_blocks d f) block at.within at.is_block in
       let c = block_from (length (values_of f.blocks)) f.blocks block b.0 b.1 in
       let low : AreLow b.0 = each_at AreLow (lowered_blocks d f) block b.0 all_low b.1 in
-      let there : slice_get (map (renumbered_inst num) b.0.insts ++ renumbered_inst num b.0.terminator ∷ []) index ≡ Some i = ap (λ x. slice_get (insts_of x) index) b.2 ∙ at.is_inst in
+      let there : slice_get (map (renumbered_inst num) b.0.insts ++ renumbered_inst num b.0.terminator ∷ []) index ≡ Some i =
+      ap (λ x. slice_get (insts_of x) index) b.2 ∙ at.is_inst in
       by b.0 c.0 c.1 c.2 low (in_or_last (map (renumbered_inst num) b.0.insts) (renumbered_inst num b.0.terminator) index i there)
     where
       by : (b c : Block) → slice_get f.blocks block ≡ Some c → c.terminator ≡ b.terminator → AreLow b
@@ -157,7 +156,9 @@ module _ (m : Module) (f : Function) (source : Source m f) where
       at (has_own_name (renamings_of f) a) both.0 (no_addresses args both.1)
     where
       at : (b : Bool) → has_address_type a ≡ false → list_any has_address_type (map (renumbered_arg num) (args_become (renamings_of f) args)) ≡ false
-          → list_any has_address_type (map (renumbered_arg num) (map without_annotation (cond b (a ∷ filter (has_own_name (renamings_of f)) args) (filter (has_own_name (renamings_of f)) args)))) ≡ false
+          → list_any has_address_type
+          (map (renumbered_arg num)
+          (map without_annotation (cond b (a ∷ filter (has_own_name (renamings_of f)) args) (filter (has_own_name (renamings_of f)) args)))) ≡ false
       at true here rest = ap₂ (λ x y. x || y) here rest
       at false here rest = rest
 

@@ -70,7 +70,8 @@ module _ (num : ValueId → ValueId) where
       → count_by (is_to k) (flat_map edges_of_block (renumbered num (blocks_become d renamings s bs))) ≡ count_by (is_to k) (flat_map edges_of_block bs)
   edges_same d renamings k s [] = refl
   edges_same d renamings k s (b ∷ bs) =
-      sum_by-append (λ x. cond (is_to k x) 1 0) (map (renumbered_edge num) b.terminator.edges) (flat_map edges_of_block (renumbered num (blocks_become d renamings (s + length b.insts) bs)))
+      sum_by-append (λ x. cond (is_to k x) 1 0) (map (renumbered_edge num) b.terminator.edges)
+      (flat_map edges_of_block (renumbered num (blocks_become d renamings (s + length b.insts) bs)))
       ∙ ap₂ (λ x y. x + y) (count_same k b.terminator.edges) (edges_same d renamings k (s + length b.insts) bs)
       ∙ sym (sum_by-append (λ x. cond (is_to k x) 1 0) b.terminator.edges (flat_map edges_of_block bs))
 
@@ -126,7 +127,8 @@ module _ (m : Module) (f : Function) (sound : SoundFunction m f) (n : ℕ) (b : 
         alone_same e ∙ passes_at (is_alone f) i.edges j e sw.kept.alone at)
 
     payloads : list_all (fits_case d low sw.ty) (map (renumbered_edge num) i.edges) ≡ true
-    payloads = list_all-map (fits_case d low sw.ty) (renumbered_edge num) i.edges ∙ all_pass (λ e. fits_case d low sw.ty (renumbered_edge num e)) i.edges (λ j e at.
+    payloads =
+        list_all-map (fits_case d low sw.ty) (renumbered_edge num) i.edges ∙ all_pass (λ e. fits_case d low sw.ty (renumbered_edge num e)) i.edges (λ j e at.
         by j e at e.case_of refl)
       where
         by : (j : ℕ) (e : Edge) → slice_get i.edges j ≡ Some e → (o : Option Member) → e.case_of ≡ o → fits_case d low sw.ty (renumbered_edge num e) ≡ true
@@ -137,7 +139,9 @@ module _ (m : Module) (f : Function) (sound : SoundFunction m f) (n : ℕ) (b : 
             ∙ passes_at (fits_case d f sw.ty) i.edges j e sw.kept.cases at
 
     defaults : list_all (fits_default low sw.ty) (map (renumbered_edge num) i.edges) ≡ true
-    defaults = list_all-map (fits_default low sw.ty) (renumbered_edge num) i.edges ∙ all_pass (λ e. fits_default low sw.ty (renumbered_edge num e)) i.edges (λ j e at. by j e at (has_case e) refl)
+    defaults =
+        list_all-map (fits_default low sw.ty) (renumbered_edge num) i.edges
+        ∙ all_pass (λ e. fits_default low sw.ty (renumbered_edge num e)) i.edges (λ j e at. by j e at (has_case e) refl)
       where
         by : (j : ℕ) (e : Edge) → slice_get i.edges j ≡ Some e → (c : Bool) → has_case e ≡ c → fits_default low sw.ty (renumbered_edge num e) ≡ true
         by j e at true case = or_left (has_case e) (is_default_argument Lowered sw.ty (args_of low e.block.0)) case
@@ -158,8 +162,12 @@ module _ (m : Module) (f : Function) (sound : SoundFunction m f) (n : ℕ) (b : 
         (or_from four (misfits_payload d low t es)
         (or_from three (shares_block low es)
         (or_from two (leaves_out_case d t es)
-        (or_from one (repeats_case d t es) (ap not (enum_same num d t i.edges) ∙ sw.kept.of_enum) (ap (λ ns. not (are_once ns)) (places_same num d t i.edges) ∙ sw.kept.once))
-        (ap₂ (λ x ns. not (x || list_all (has_number ns) (range_with_len 0 (unwrap_or (case_count d t) 0)))) (default_same num i.edges) (places_same num d t i.edges) ∙ sw.kept.all_there))
+        (or_from one (repeats_case d t es)
+        (ap not (enum_same num d t i.edges) ∙ sw.kept.of_enum)
+        (ap (λ ns. not (are_once ns)) (places_same num d t i.edges) ∙ sw.kept.once))
+        (ap₂ (λ x ns. not (x || list_all (has_number ns) (range_with_len 0 (unwrap_or (case_count d t) 0))))
+        (default_same num i.edges) (places_same num d t i.edges)
+        ∙ sw.kept.all_there))
         (ap not alone))
         (ap not payloads))
         (ap not defaults)

@@ -137,11 +137,13 @@ module _ {A B : Type 0} (g : A → List B) (test : B → Bool) where
   counts_within (y ∷ xs) zero j x u e i t =
       let same : y ≡ x = cc in
       let here : 1 ≤ count_by test (g y) = counts_one test (g y) j u (ap (λ z. slice_get (g z) j) same ∙ i) t in
-      let sum : count_by test (flat_map g (y ∷ xs)) ≡ count_by test (g y) + count_by test (flat_map g xs) = sum_by-append (λ z. cond (test z) 1 0) (g y) (flat_map g xs) in
+      let sum : count_by test (flat_map g (y ∷ xs)) ≡ count_by test (g y) + count_by test (flat_map g xs) =
+      sum_by-append (λ z. cond (test z) 1 0) (g y) (flat_map g xs) in
       omega arith
   counts_within (y ∷ xs) (suc k) j x u e i t =
       let rest : 1 ≤ count_by test (flat_map g xs) = counts_within xs k j x u e i t in
-      let sum : count_by test (flat_map g (y ∷ xs)) ≡ count_by test (g y) + count_by test (flat_map g xs) = sum_by-append (λ z. cond (test z) 1 0) (g y) (flat_map g xs) in
+      let sum : count_by test (flat_map g (y ∷ xs)) ≡ count_by test (g y) + count_by test (flat_map g xs) =
+      sum_by-append (λ z. cond (test z) 1 0) (g y) (flat_map g xs) in
       omega arith
 
   -- where of all lists together no more than one passes, two that pass are one, and of one list
@@ -152,22 +154,26 @@ module _ {A B : Type 0} (g : A → List B) (test : B → Bool) where
   only_within (z ∷ xs) zero zero i j x y u v le e a t h b s =
       let one : z ≡ x = cc in
       let two : z ≡ y = cc in
-      let sum : count_by test (flat_map g (z ∷ xs)) ≡ count_by test (g z) + count_by test (flat_map g xs) = sum_by-append (λ w. cond (test w) 1 0) (g z) (flat_map g xs) in
+      let sum : count_by test (flat_map g (z ∷ xs)) ≡ count_by test (g z) + count_by test (flat_map g xs) =
+      sum_by-append (λ w. cond (test w) 1 0) (g z) (flat_map g xs) in
       (sym one ∙ two, only_one test (g z) i j u v (omega arith) (ap (λ w. slice_get (g w) i) one ∙ a) t (ap (λ w. slice_get (g w) j) two ∙ b) s)
   only_within (z ∷ xs) zero (suc l) i j x y u v le e a t h b s =
       let one : z ≡ x = cc in
       let here : 1 ≤ count_by test (g z) = counts_one test (g z) i u (ap (λ w. slice_get (g w) i) one ∙ a) t in
       let more : 1 ≤ count_by test (flat_map g xs) = counts_within xs l j y v h b s in
-      let sum : count_by test (flat_map g (z ∷ xs)) ≡ count_by test (g z) + count_by test (flat_map g xs) = sum_by-append (λ w. cond (test w) 1 0) (g z) (flat_map g xs) in
+      let sum : count_by test (flat_map g (z ∷ xs)) ≡ count_by test (g z) + count_by test (flat_map g xs) =
+      sum_by-append (λ w. cond (test w) 1 0) (g z) (flat_map g xs) in
       absurd (omega arith)
   only_within (z ∷ xs) (suc k) zero i j x y u v le e a t h b s =
       let two : z ≡ y = cc in
       let here : 1 ≤ count_by test (g z) = counts_one test (g z) j v (ap (λ w. slice_get (g w) j) two ∙ b) s in
       let more : 1 ≤ count_by test (flat_map g xs) = counts_within xs k i x u e a t in
-      let sum : count_by test (flat_map g (z ∷ xs)) ≡ count_by test (g z) + count_by test (flat_map g xs) = sum_by-append (λ w. cond (test w) 1 0) (g z) (flat_map g xs) in
+      let sum : count_by test (flat_map g (z ∷ xs)) ≡ count_by test (g z) + count_by test (flat_map g xs) =
+      sum_by-append (λ w. cond (test w) 1 0) (g z) (flat_map g xs) in
       absurd (omega arith)
   only_within (z ∷ xs) (suc k) (suc l) i j x y u v le e a t h b s =
-      let sum : count_by test (flat_map g (z ∷ xs)) ≡ count_by test (g z) + count_by test (flat_map g xs) = sum_by-append (λ w. cond (test w) 1 0) (g z) (flat_map g xs) in
+      let sum : count_by test (flat_map g (z ∷ xs)) ≡ count_by test (g z) + count_by test (flat_map g xs) =
+      sum_by-append (λ w. cond (test w) 1 0) (g z) (flat_map g xs) in
       only_within xs k l i j x y u v (omega arith) e a t h b s
 
 -- ---- pair by pair

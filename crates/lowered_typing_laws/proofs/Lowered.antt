@@ -5,7 +5,6 @@ use Rattle.std.specs.List.{list_all, list_any}
 use Rattle.std.specs.Option.{option_to_list}
 use Rattle.std.proofs.lemmas.Bool.{and_right, not_from_true, or_from}
 use Rattle.numbered_form.specs.Lists.{Each}
-use Rattle.numbered_form.specs.Names.{AreMembersOnce, Name}
 use Rattle.numbered_form.specs.inner.NumberedForm.{IsNumbered}
 use Rattle.numbered_form.specs.Numbering.{IsEdgeInRange, values_of}
 use Rattle.point_checks.specs.Points.{IsAt}
@@ -13,7 +12,6 @@ use Rattle.instruction_table.specs.Forms.{forms_of, is_terminator}
 use Rattle.instruction_table.specs.declared.op.Op.{Op}
 use Rattle.instruction_table.specs.declared.op.Op.TheVariants as op
 use Rattle.sil_ast.specs.Blocks.{args_of}
-use Rattle.sil_ast.specs.declared.decl.Decl.{Decl}
 use Rattle.sil_ast.specs.declared.function.Block.{Block}
 use Rattle.sil_ast.specs.declared.function.Form.{Form}
 use Rattle.sil_ast.specs.declared.function.Form.TheVariants.{Ossa, Lowered, External}
@@ -38,10 +36,10 @@ use Rattle.sil_types.specs.Typing.Typed.BreaksAtPoint.{operand_type, result_coun
 use Rattle.sil_types.specs.Typing.Typed.BreaksAtPoint.{qualifier, signature as point_signature, mixed_forms as point_mixed}
 use Rattle.sil_types.specs.Typing.Typed.BreaksAtVtable.{deinit_signature}
 use Rattle.sil_types.specs.Typing.Values.{value_functions, value_types}
-use Rattle.type_definitions.specs.Declarations.{Declarations, decl_of, declarations_of}
+use Rattle.type_definitions.specs.Declarations.{Declarations, declarations_of}
 use Rattle.lowering_model.specs.LoweredModules.{lowered, lowered_body, lowered_by, lowered_function}
 use Rattle.lowering_model.specs.Numbers.{new_number, numbering_of, renumbered_edge, renumbered_inst}
-use Rattle.lowering_laws.specs.Lowerable.{HasNoRings, IsLowerable}
+use Rattle.lowering_laws.specs.Lowerable.{HasNoRings}
 use Rattle.lowering_laws.proofs.Lowerable.{functions_are_lowerable}
 use Rattle.lowering_laws.proofs.Lists.{each_weaker}
 use Rattle.lowered_typing_laws.specs.inner.LoweredTyped.{LoweredIsTyped}
@@ -175,8 +173,10 @@ module _ (m : Module) (f : Function) (source : Source m f) where
     end_kept block index _ (qualifier e) = never _ refl e
 
   point_kept : (block index : ℕ) (j : Inst) (x : Rule) → StandsAt m f source block j → BreaksAtPoint (lowered m) low block index j x → ⊥
-  point_kept block index j x (inside_at k h e) broken = inside_kept k h block index x (subst (λ z. BreaksAtPoint (lowered m) low block index z x) (sym e) broken)
-  point_kept block index j x (end_at b is e) broken = end_kept block b is block index x (subst (λ z. BreaksAtPoint (lowered m) low block index z x) (sym e) broken)
+  point_kept block index j x (inside_at k h e) broken =
+      inside_kept k h block index x (subst (λ z. BreaksAtPoint (lowered m) low block index z x) (sym e) broken)
+  point_kept block index j x (end_at b is e) broken =
+      end_kept block b is block index x (subst (λ z. BreaksAtPoint (lowered m) low block index z x) (sym e) broken)
 
   pub body_kept : (block index : ℕ) (j : Inst) (x : Rule) → IsAt low block index j → BreaksAtPoint (lowered m) low block index j x → ⊥
   body_kept block index j x at broken = point_kept block index j x (stands_at m f source block index j at) broken
@@ -242,7 +242,8 @@ module _ (m : Module) (numbered : IsNumbered m) (typed : Typed m) (rings : HasNo
     at_points External is block index i x at broken = keeps_at m numbered typed n f there block index i x at (stays_at m f block index i x broken)
 
   vtable_kept : (n : ℕ) (v : Vtable) (x : Rule) → slice_get m.vtables n ≡ Some v → BreaksAtVtable (lowered m) v x → ⊥
-  vtable_kept n v _ there (deinit_signature e) = typed (at_vtable n) rule.DeinitSignature (vtable n v rule.DeinitSignature there (deinit_signature (sym (deinits_stay m v) ∙ e)))
+  vtable_kept n v _ there (deinit_signature e) =
+      typed (at_vtable n) rule.DeinitSignature (vtable n v rule.DeinitSignature there (deinit_signature (sym (deinits_stay m v) ∙ e)))
 
   all_kept : (where_it_is : Site) (x : Rule) → BreaksAt (lowered m) where_it_is x → ⊥
   all_kept _ _ (function n g x there broken) =
@@ -250,7 +251,8 @@ module _ (m : Module) (numbered : IsNumbered m) (typed : Typed m) (rings : HasNo
       itself n f.0 f.1 f.0.form refl (forms_same m f.0) x (subst (λ z. BreaksAtFunction (lowered m) z x) (sym f.2) broken)
   all_kept _ _ (point n g block index i x there at broken) =
       let f = from_mapped (lowered_function (declarations_of m)) m.functions n g there in
-      at_points n f.0 f.1 f.0.form refl block index i x (subst (λ z. IsAt z block index i) (sym f.2) at) (subst (λ z. BreaksAtPoint (lowered m) z block index i x) (sym f.2) broken)
+      at_points n f.0 f.1 f.0.form refl block index i x (subst (λ z. IsAt z block index i) (sym f.2) at)
+      (subst (λ z. BreaksAtPoint (lowered m) z block index i x) (sym f.2) broken)
   all_kept _ _ (vtable n v x there broken) = vtable_kept n v x there broken
 
 pub lowered_is_typed : LoweredIsTyped

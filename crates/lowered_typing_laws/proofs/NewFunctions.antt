@@ -6,7 +6,6 @@ use Rattle.instruction_table.specs.declared.op.Op.TheVariants as op
 use Rattle.numbered_form.specs.Numbering.{results_of}
 use Rattle.numbered_form.specs.inner.Parts.{is_callee, row_has}
 use Rattle.sil_ast.specs.declared.function.BlockArg.{BlockArg}
-use Rattle.sil_ast.specs.declared.function.Form.TheVariants.{Ossa}
 use Rattle.sil_ast.specs.declared.function.Function.{Function}
 use Rattle.sil_ast.specs.declared.inst.Inst.{Inst}
 use Rattle.sil_ast.specs.declared.member.Member.{Member}

@@ -1,30 +1,26 @@
 -- The types of what the instructions define that stand in the place of one.
-use Rattle.std.proofs.Common.{◌≡◌, ℕ, ◌+◌, List, [], ◌∷◌, ◌++◌, length, map, refl, sym, ap, ap₂, ◌∙◌, subst, append-nil, append_assoc, length-append, arith}
-use Rattle.std.proofs.Common.{true, Option, Some, None}
-use Rattle.std.specs.Prelude.{◌&&◌, pos, is_some, option_and_then, option_map, slice_get, unwrap_or, if◌then◌else◌}
+use Rattle.std.proofs.Common.{◌≡◌, ℕ, ◌+◌, List, [], ◌∷◌, ◌++◌, length, map, refl, sym, ap, ap₂, ◌∙◌, append-nil, append_assoc, length-append, arith}
+use Rattle.std.proofs.Common.{Option, Some, None}
+use Rattle.std.specs.Prelude.{pos, option_and_then, option_map, slice_get, unwrap_or}
 use Rattle.std.specs.List.{flat_map, range_with_len}
 use Rattle.std.proofs.lemmas.Bool.{and_parts}
 use Rattle.std.proofs.lemmas.List.{length-map}
 use Rattle.instruction_table.specs.declared.op.Op.{Op}
 use Rattle.instruction_table.specs.declared.op.Op.TheVariants as op
-use Rattle.numbered_form.specs.Names.{AreMembersOnce, AreOnce, Name, field_name}
+use Rattle.numbered_form.specs.Names.{Name}
 use Rattle.numbered_form.specs.Lists.{Each}
 use Rattle.numbered_form.specs.Numbering.{results_of}
-use Rattle.sil_ast.specs.declared.decl.Decl.{Decl}
-use Rattle.sil_ast.specs.declared.decl.Decl.TheVariants as decl
 use Rattle.sil_ast.specs.declared.decl.Field.{Field}
-use Rattle.sil_ast.specs.declared.function.Form.TheVariants.{Ossa}
 use Rattle.sil_ast.specs.declared.function.Function.{Function}
 use Rattle.sil_ast.specs.declared.inst.Inst.{Inst}
 use Rattle.sil_ast.specs.declared.module.Module.{Module}
 use Rattle.sil_ast.specs.declared.operands.Operand.{Operand}
 use Rattle.sil_ast.specs.declared.place.ValueId.{ValueId}
-use Rattle.sil_ast.specs.declared.type_name.TypeName.{TypeName, TypeName-F, out-TypeName}
-use Rattle.type_definitions.specs.Declarations.{Declarations, decl_of, declarations_of, place_of}
-use Rattle.type_definitions.specs.Lookups.{decl_fields, field_at_place, inherited_fields}
+use Rattle.sil_ast.specs.declared.type_name.TypeName.{TypeName}
+use Rattle.type_definitions.specs.Declarations.{Declarations, declarations_of}
 use Rattle.sil_types.specs.Typing.RowTypes.{MadeTypes, all_fields, given_by, gives, made_types, type_of, written}
-use Rattle.sil_types.specs.Typing.Shapes.{element_of, element_at, elements, field_named, field_type, fields_of_struct, found_field, is_object, is_owner}
-use Rattle.sil_types.specs.Typing.Shapes.{is_owner_layer, name_in, object_at, struct_field, struct_fields}
+use Rattle.sil_types.specs.Typing.Shapes.{element_of, element_at, elements, field_type, is_object}
+use Rattle.sil_types.specs.Typing.Shapes.{object_at, struct_field}
 use Rattle.sil_types.specs.Typing.Values.{arg_has, result_types}
 use Rattle.lowering_model.specs.Extracts.{element_extracts, field_extracts, member_of}
 use Rattle.lowering_model.specs.LoweredBlocks.{value_with}
@@ -32,8 +28,6 @@ use Rattle.lowering_model.specs.LoweredInsts.{becomes, lowering_of, plain_load, 
 use Rattle.lowering_model.specs.NewInsts.{load, struct_extract, tuple_extract}
 use Rattle.lowering_model.specs.declared.lowering.Lowering.{Lowering}
 use Rattle.lowering_model.specs.declared.lowering.Lowering.TheVariants as lowering
-use Rattle.run_typing_laws.proofs.Declared.{each_from}
-use Rattle.run_typing_laws.proofs.Found.{place_once, same_name}
 use Rattle.run_typing_laws.proofs.ListFacts.{get_below}
 use Rattle.lowered_typing_laws.proofs.Becomes.{Becomes, IsCounted, IsLoad, at_storage, assigns, becomes_so, by_elements, by_fields, copies, destroys, loads}
 use Rattle.lowered_typing_laws.proofs.Becomes.{no_results, object_there, releases, retains, stays, stores, vanishes}
@@ -61,11 +55,16 @@ slices before (x ∷ xs) =
     (ap₂ (λ l n. map (slice_get l) (range_with_len n (length xs))) (sym (append_assoc before (x ∷ []) xs)) (sym (length-append before (x ∷ [])))
     ∙ slices (before ++ x ∷ []) xs)
 
+-- the type of one result
+abbrev first_of : List TypeName → List (Option TypeName)
+first_of made = map (slice_get made) (range_with_len 0 1)
+
 some_types : (fs : List Field) → map (λ t. Some t) (map field_type fs) ≡ map (λ (x : Field). Some x.ty) fs
 some_types [] = refl
 some_types (x ∷ fs) = ap (λ ts. Some x.ty ∷ ts) (some_types fs)
 
-module _ (m : Module) (f : Function) (source : Source m f) (i : Inst) (sound : Sound m f i) (g : ValueId → Option TypeName) (s : ℕ) (told : InstTold arg_has (result_types (declarations_of m)) spare_type g s i) where
+module _ (m : Module) (f : Function) (source : Source m f) (i : Inst) (sound : Sound m f i) (g : ValueId → Option TypeName) (s : ℕ)
+    (told : InstTold arg_has (result_types (declarations_of m)) spare_type g s i) where
   abbrev d : Declarations
   d = declarations_of m
 
@@ -87,18 +86,19 @@ module _ (m : Module) (f : Function) (source : Source m f) (i : Inst) (sound : S
   spare_loaded : (place : Operand) (p t : TypeName) → IsCounted d place p t → spare_type i ≡ Some t
       → result_types d (load place (value_with s)) ≡ g (value_with s) ∷ []
   spare_loaded place p t c spare =
-      ap (λ w. map (slice_get (unwrap_or (gives w) [])) (range_with_len 0 1)) (object_counted place p t c) ∙ ap (λ w. w ∷ []) (sym spare ∙ sym told.new)
+      ap (λ w. first_of (unwrap_or (gives w) [])) (object_counted place p t c) ∙ ap (λ w. w ∷ []) (sym spare ∙ sym told.new)
 
   module _ (o : Operand) (t : TypeName) (typed : o.ty ≡ Some t) where
     field_types : (name : Name) (fs : List Field) (vs : List ValueId) → Each (λ x. struct_field d (member_of name x) t ≡ Some x) fs → length fs ≡ length vs
         → map g vs ≡ map (λ x. Some x.ty) fs
-        → map g (flat_map results_of (field_extracts o (map (member_of name) fs) vs)) ≡ flat_map (result_types d) (field_extracts o (map (member_of name) fs) vs)
+        → map g (flat_map results_of (field_extracts o (map (member_of name) fs) vs))
+        ≡ flat_map (result_types d) (field_extracts o (map (member_of name) fs) vs)
     field_types name [] vs found size e = refl
     field_types name (x ∷ fs) [] found size e = refl
     field_types name (x ∷ fs) (v ∷ vs) found size e =
         let one : result_types d (struct_extract o (member_of name x) v) ≡ Some x.ty ∷ [] =
-        ap (λ w. map (slice_get (unwrap_or (gives (option_map field_type (option_and_then (struct_field d (member_of name x)) w))) [])) (range_with_len 0 1)) typed
-        ∙ ap (λ w. map (slice_get (unwrap_or (gives (option_map field_type w)) [])) (range_with_len 0 1)) found.0 in
+        ap (λ w. first_of (unwrap_or (gives (option_map field_type (option_and_then (struct_field d (member_of name x)) w))) [])) typed
+        ∙ ap (λ w. first_of (unwrap_or (gives (option_map field_type w)) [])) found.0 in
         let first : g v ≡ Some x.ty = cc in
         ap₂ (λ y ys. y ∷ ys) first (field_types name fs vs found.1 (omega arith) (cc))
         ∙ ap (λ ys. ys ++ flat_map (result_types d) (field_extracts o (map (member_of name) fs) vs)) (sym one)
@@ -110,20 +110,22 @@ module _ (m : Module) (f : Function) (source : Source m f) (i : Inst) (sound : S
     part_types ts n (v ∷ vs) are size e =
         let u = get_below ts n (omega arith) in
         let one : result_types d (tuple_extract o n v) ≡ Some u.0 ∷ [] =
-        ap (λ w. map (slice_get (unwrap_or (gives (option_and_then (element_of (Some (pos n))) w)) [])) (range_with_len 0 1)) typed
-        ∙ ap (λ w. map (slice_get (unwrap_or (gives (option_and_then (λ xs. element_at xs (Some (pos n))) w)) [])) (range_with_len 0 1)) are
-        ∙ ap (λ w. map (slice_get (unwrap_or (gives w) [])) (range_with_len 0 1)) u.1 in
+        ap (λ w. first_of (unwrap_or (gives (option_and_then (element_of (Some (pos n))) w)) [])) typed
+        ∙ ap (λ w. first_of (unwrap_or (gives (option_and_then (λ xs. element_at xs (Some (pos n))) w)) [])) are
+        ∙ ap (λ w. first_of (unwrap_or (gives w) [])) u.1 in
         let first : g v ≡ slice_get ts n = cc in
         ap₂ (λ y ys. y ∷ ys) (first ∙ u.1) (part_types ts (n + 1) vs are (omega arith) (cc))
         ∙ ap (λ ys. ys ++ flat_map (result_types d) (element_extracts o (n + 1) vs)) (sym one)
 
   pub spare_stored : (x place : Operand) (p t : TypeName) → i.op ≡ op.Store → i.operands ≡ x ∷ place ∷ [] → IsCounted d place p t → spare_type i ≡ Some t
   spare_stored x place p t is both counted =
-      ap (λ o. spare_by (lowering_of o) i) is ∙ ap (λ os. option_and_then object_at (option_and_then type_of (slice_get os 1))) both ∙ object_counted place p t counted
+      ap (λ o. spare_by (lowering_of o) i) is ∙ ap (λ os. option_and_then object_at (option_and_then type_of (slice_get os 1))) both
+      ∙ object_counted place p t counted
 
   pub spare_destroyed : (place : Operand) (p t : TypeName) → i.op ≡ op.DestroyAddr → i.operands ≡ place ∷ [] → IsCounted d place p t → spare_type i ≡ Some t
   spare_destroyed place p t is one counted =
-      ap (λ o. spare_by (lowering_of o) i) is ∙ ap (λ os. option_and_then object_at (option_and_then type_of (slice_get os 0))) one ∙ object_counted place p t counted
+      ap (λ o. spare_by (lowering_of o) i) is ∙ ap (λ os. option_and_then object_at (option_and_then type_of (slice_get os 0))) one
+      ∙ object_counted place p t counted
 
   types_so : (js : List Inst) → Becomes d i (value_with s) js → map g (flat_map results_of js) ≡ flat_map (result_types d) js
   types_so _ (stays e) = ap (map g) (append-nil i.results) ∙ told.own ∙ sym (append-nil (result_types d i))
@@ -132,11 +134,14 @@ module _ (m : Module) (f : Function) (source : Source m f) (i : Inst) (sound : S
   types_so _ (retains o t one nontrivial) = refl
   types_so _ (releases o t one nontrivial) = refl
   types_so _ (loads place p t v load) = ap (map g) (append-nil i.results) ∙ load_types place p t v load ∙ sym (append-nil (result_types d (plain_load i)))
-  types_so _ (copies place p t v load counted) = ap (map g) (append-nil i.results) ∙ load_types place p t v load ∙ sym (append-nil (result_types d (plain_load i)))
+  types_so _ (copies place p t v load counted) =
+      ap (map g) (append-nil i.results) ∙ load_types place p t v load ∙ sym (append-nil (result_types d (plain_load i)))
   types_so _ (stores is) = nothing (no_results m f source i sound op.Store is refl)
     where
       nothing : i.results ≡ [] → map g (i.results ++ []) ≡ result_types d (plain_store i) ++ []
-      nothing none = ap (λ vs. map g (vs ++ [])) none ∙ sym (ap (λ (vs : List ValueId). map (slice_get (made_types d (plain_store i))) (range_with_len 0 (length vs)) ++ []) none)
+      nothing none =
+          ap (λ vs. map g (vs ++ [])) none
+          ∙ sym (ap (λ (vs : List ValueId). map (slice_get (made_types d (plain_store i))) (range_with_len 0 (length vs)) ++ []) none)
   types_so _ (assigns x place p t is both counted) = two (no_results m f source i sound op.Store is refl)
     where
       two : i.results ≡ [] → g (value_with s) ∷ map g (i.results ++ []) ≡ result_types d (load place (value_with s)) ++ (result_types d (plain_store i) ++ [])

@@ -56,7 +56,8 @@ module _ (m : Module) where
 
   -- 208
   deinit_named : (class : Name) (e : DeinitEntry) → names_deinitialiser (lowered m) class e ≡ names_deinitialiser m class e
-  deinit_named class e = ap (passes (is_deinitialiser class)) (slice_get-map (lowered_function d) m.functions e.function.0) ∙ at (slice_get m.functions e.function.0)
+  deinit_named class e =
+      ap (passes (is_deinitialiser class)) (slice_get-map (lowered_function d) m.functions e.function.0) ∙ at (slice_get m.functions e.function.0)
     where
       at : (o : Option Function) → passes (is_deinitialiser class) (option_map (lowered_function d) o) ≡ passes (is_deinitialiser class) o
       at None = refl
@@ -88,7 +89,8 @@ module _ (m : Module) where
     where
       at : (b : Bool) → is_external (lowered_function d f).form ≡ b
           → list_all (is_same_form Lowered) (option_to_list (option_map form_of (find has_body (map (lowered_function d) fs)))) ≡ true
-          → list_all (is_same_form Lowered) (option_to_list (option_map form_of (cond (not b) (Some (lowered_function d f)) (find has_body (map (lowered_function d) fs))))) ≡ true
+          → list_all (is_same_form Lowered)
+          (option_to_list (option_map form_of (cond (not b) (Some (lowered_function d f)) (find has_body (map (lowered_function d) fs))))) ≡ true
       at true e rest = rest
       at false e rest = ap (λ x. is_same_form Lowered x && true) (lowered_form f e)
 

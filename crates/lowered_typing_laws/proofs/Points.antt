@@ -13,12 +13,10 @@ use Rattle.instruction_table.specs.declared.entries.Results.TheVariants.{NoResul
 use Rattle.instruction_table.specs.declared.op.Op.{Op}
 use Rattle.instruction_table.specs.declared.op.Op.TheVariants as op
 use Rattle.numbered_form.specs.Lists.{Each}
-use Rattle.numbered_form.specs.Names.{AreMembersOnce, Name}
+use Rattle.numbered_form.specs.Names.{Name}
 use Rattle.numbered_form.specs.Numbering.{results_of as values_of_results}
 use Rattle.numbered_form.specs.inner.Parts.{are_edges_by}
-use Rattle.sil_ast.specs.declared.decl.Decl.{Decl}
 use Rattle.sil_ast.specs.declared.decl.Field.{Field}
-use Rattle.sil_ast.specs.declared.function.Form.TheVariants.{Ossa}
 use Rattle.sil_ast.specs.declared.function.Function.{Function}
 use Rattle.sil_ast.specs.declared.inst.Edge.{Edge}
 use Rattle.sil_ast.specs.declared.inst.Inst.{Inst}
@@ -28,7 +26,7 @@ use Rattle.sil_ast.specs.declared.module.Module.{Module}
 use Rattle.sil_ast.specs.declared.operands.Operand.{Operand}
 use Rattle.sil_ast.specs.declared.place.ValueId.{ValueId}
 use Rattle.sil_ast.specs.declared.type_name.TypeName.{TypeName}
-use Rattle.type_definitions.specs.Declarations.{Declarations, decl_of, declarations_of}
+use Rattle.type_definitions.specs.Declarations.{Declarations, declarations_of}
 use Rattle.type_definitions.specs.Rules.{is_class_type}
 use Rattle.sil_types.specs.Typing.FormRules.{has_no_word, is_of_form, may_stand_lowered, may_stand_owned}
 use Rattle.sil_types.specs.Typing.OperandTypes.{are_as_asked_by, are_as_written, edge_is_as_written, has_operand_types, is_as_written_by}
@@ -43,7 +41,6 @@ use Rattle.lowering_model.specs.LoweredInsts.{becomes, lowering_of, plain_load, 
 use Rattle.lowering_model.specs.NewInsts.{load, loaded_from, release, retain, struct_extract, tuple_extract, with_operands}
 use Rattle.lowering_model.specs.Numbers.{renumbered_edge, renumbered_inst, renumbered_operand}
 use Rattle.lowering_model.specs.declared.lowering.Lowering.TheVariants as lowering
-use Rattle.run_typing_laws.proofs.Declared.{each_from}
 use Rattle.run_typing_laws.proofs.Found.{each_at}
 use Rattle.run_typing_laws.proofs.ListFacts.{empty_is, get_below}
 use Rattle.lowered_typing_laws.proofs.Becomes.{Becomes, IsCounted, IsLoad, IsOne, at_storage, assigns, becomes_so, by_elements, by_fields, copies, destroys}
@@ -121,7 +118,8 @@ module _ (m : Module) (f : Function) (num : ValueId → ValueId) (new : List (Op
 
   counted_low : (c : Op) (o : Operand) (t : TypeName) → o.ty ≡ Some t → type_at new (num o.value).0 ≡ Some t → bare_operands_of c ≡ NoBare
       → results_of c ≡ NoResult
-      → forms_of c ≡ LoweredForm → is_made c ≡ true → is_some (given_by c d (renumbered_inst num (with_operands c [] (o ∷ [])))) ≡ true → Low (with_operands c [] (o ∷ []))
+      → forms_of c ≡ LoweredForm → is_made c ≡ true
+      → is_some (given_by c d (renumbered_inst num (with_operands c [] (o ∷ [])))) ≡ true → Low (with_operands c [] (o ∷ []))
   counted_low c o t typed value bare none form is keeps =
       let j = with_operands c [] (o ∷ []) in
       record {
@@ -144,7 +142,8 @@ module _ (m : Module) (f : Function) (num : ValueId → ValueId) (new : List (Op
 
   pub release_low : (o : Operand) (t : TypeName) → o.ty ≡ Some t → is_nontrivial d t ≡ true → type_at new (num o.value).0 ≡ Some t → Low (release d o)
   release_low o t typed nontrivial value =
-      subst (λ w. Low (with_operands (cond (passes (is_class_type d) w) op.StrongRelease op.ReleaseValue) [] (o ∷ []))) (sym typed) (at (is_class_type d t) refl)
+      subst (λ w. Low (with_operands (cond (passes (is_class_type d) w) op.StrongRelease op.ReleaseValue) [] (o ∷ []))) (sym typed)
+      (at (is_class_type d t) refl)
     where
       at : (b : Bool) → is_class_type d t ≡ b → Low (with_operands (cond b op.StrongRelease op.ReleaseValue) [] (o ∷ []))
       at true e = counted_low op.StrongRelease o t typed value refl refl refl refl
@@ -174,7 +173,8 @@ module _ (m : Module) (f : Function) (num : ValueId → ValueId) (new : List (Op
       → Low (struct_extract o named v)
   field_low o t named v x typed value found = record {
     operands = four _ _ _ _
-        (ap (λ w. is_some (gives (option_map field_type (option_and_then (struct_field d named) w)))) typed ∙ ap (λ w. is_some (gives (option_map field_type w))) found)
+        (ap (λ w. is_some (gives (option_map field_type (option_and_then (struct_field d named) w)))) typed
+        ∙ ap (λ w. is_some (gives (option_map field_type w))) found)
         (has_type_here o t typed value) refl refl;
     results = refl;
     form = refl;
@@ -202,18 +202,21 @@ module _ (m : Module) (f : Function) (num : ValueId → ValueId) (new : List (Op
       → Each (λ x. struct_field d (member_of name x) t ≡ Some x) fs → Each Low (field_extracts o (map (member_of name) fs) vs)
   fields_low o t name [] vs typed value found = tt
   fields_low o t name (x ∷ fs) [] typed value found = tt
-  fields_low o t name (x ∷ fs) (v ∷ vs) typed value found = (field_low o t (member_of name x) v x typed value found.0, fields_low o t name fs vs typed value found.1)
+  fields_low o t name (x ∷ fs) (v ∷ vs) typed value found =
+      (field_low o t (member_of name x) v x typed value found.0, fields_low o t name fs vs typed value found.1)
 
   parts_low : (o : Operand) (t : TypeName) (ts : List TypeName) (n : ℕ) (vs : List ValueId) → o.ty ≡ Some t → type_at new (num o.value).0 ≡ Some t
       → elements t ≡ Some ts
       → n + length vs ≡ length ts → Each Low (element_extracts o n vs)
   parts_low o t ts n [] typed value are size = tt
-  parts_low o t ts n (v ∷ vs) typed value are size = (part_low o t ts n v typed value are (omega arith), parts_low o t ts (n + 1) vs typed value are (omega arith))
+  parts_low o t ts n (v ∷ vs) typed value are size =
+      (part_low o t ts n v typed value are (omega arith), parts_low o t ts (n + 1) vs typed value are (omega arith))
 
   -- ---- what stands in the place of an instruction
 
   module _ (source : Source m f) (i : Inst) (here : SoundInside m f i)
-      (g : ValueId → Option TypeName) (s : ℕ) (told : InstTold arg_has (result_types d) spare_type g s i) (alike : Each (IsSame num (value_types d f) new) i.operands) where
+      (g : ValueId → Option TypeName) (s : ℕ) (told : InstTold arg_has (result_types d) spare_type g s i)
+      (alike : Each (IsSame num (value_types d f) new) i.operands) where
     abbrev IsPlaced : ValueId → Type 0
     IsPlaced v = type_at new (num v).0 ≡ g v
 
@@ -221,7 +224,8 @@ module _ (m : Module) (f : Function) (num : ValueId → ValueId) (new : List (Op
     no_edge = no_edges (ending_of i.op) i.edges here.inside here.sound.parts.edges
 
     value_at : (k : ℕ) (o : Operand) (t : TypeName) → slice_get i.operands k ≡ Some o → o.ty ≡ Some t → type_at new (num o.value).0 ≡ Some t
-    value_at k o t at typed = each_at (IsSame num (value_types d f) new) i.operands k o alike at ∙ typed_at (value_types d f) i.operands here.sound.written k o t at typed
+    value_at k o t at typed =
+        each_at (IsSame num (value_types d f) new) i.operands k o alike at ∙ typed_at (value_types d f) i.operands here.sound.written k o t at typed
 
     value_one : (o : Operand) (t : TypeName) → IsOne i o t → type_at new (num o.value).0 ≡ Some t
     value_one o t one = value_at 0 o t (ap (λ os. slice_get os 0) one.only) one.typed
@@ -238,7 +242,8 @@ module _ (m : Module) (f : Function) (num : ValueId → ValueId) (new : List (Op
 
     -- 201 of an instruction, were it this one
     abbrev typed_as : Op → Inst → Bool
-    typed_as o j = is_some (given_by o d j) && are_as_written new j.operands && list_all (edge_is_as_written new) j.edges && are_as_asked_by (bare_operands_of o) new j
+    typed_as o j =
+        is_some (given_by o d j) && are_as_written new j.operands && list_all (edge_is_as_written new) j.edges && are_as_asked_by (bare_operands_of o) new j
 
     store_low : i.op ≡ op.Store → Low (plain_store i)
     store_low is = record {
@@ -256,7 +261,8 @@ module _ (m : Module) (f : Function) (num : ValueId → ValueId) (new : List (Op
 
     spare_low : (place : Operand) (p t : TypeName) (k : ℕ) → slice_get i.operands k ≡ Some place → IsCounted d place p t → Low (load place (value_with s))
     spare_low place p t k at c =
-        load_low (load place (value_with s)) place p t (value_with s) refl refl refl c.typed (object_there p t c.at (is_object_of t c.nontrivial)) refl refl (value_at k place p at c.typed)
+        load_low (load place (value_with s)) place p t (value_with s) refl refl refl c.typed (object_there p t c.at (is_object_of t c.nontrivial)) refl refl
+        (value_at k place p at c.typed)
       where
         is_object_of : (t : TypeName) → is_nontrivial d t ≡ true → is_object t ≡ true
         is_object_of t e = (and_parts (is_object t) _ e).0
@@ -271,7 +277,8 @@ module _ (m : Module) (f : Function) (num : ValueId → ValueId) (new : List (Op
     lows _ (copies place p t v l c) placed =
         let first : Each IsPlaced ((v ∷ []) ++ []) = subst (λ vs. Each IsPlaced (vs ++ [])) l.result placed in
         let own : map g (v ∷ []) ≡ map (slice_get (t ∷ [])) (range_with_len 0 (length (v ∷ []))) =
-        ap (map g) (sym l.result) ∙ told.own ∙ ap₂ (λ (r : MadeTypes) (vs : List ValueId). map (slice_get (unwrap_or r [])) (range_with_len 0 (length vs))) l.row l.result in
+        ap (map g) (sym l.result) ∙ told.own
+        ∙ ap₂ (λ (r : MadeTypes) (vs : List ValueId). map (slice_get (unwrap_or r [])) (range_with_len 0 (length vs))) l.row l.result in
         let loaded : g v ≡ Some t = cc in
         (plain_load_low place p t v l, (retain_low (loaded_from place v) t (loaded_type place p t c v) c.nontrivial (first.0 ∙ loaded), tt))
     lows _ (stores is) placed = (store_low is, tt)
@@ -295,7 +302,8 @@ module _ (m : Module) (f : Function) (num : ValueId → ValueId) (new : List (Op
       ),
     )
     lows _ (by_fields o t fs struct is one size) placed =
-        fields_low o t struct.name fs i.results one.typed (value_one o t one) (fields_again d t fs struct (source.once struct.name struct.declared struct.is_declared))
+        fields_low o t struct.name fs i.results one.typed (value_one o t one)
+        (fields_again d t fs struct (source.once struct.name struct.declared struct.is_declared))
     lows _ (by_elements o t ts is one are size) placed =
         parts_low o t ts 0 i.results one.typed (value_one o t one) are (let all : 0 + length i.results ≡ length ts = omega arith in all)
 

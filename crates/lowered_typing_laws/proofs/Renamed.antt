@@ -45,14 +45,17 @@ use Rattle.lowered_typing_laws.proofs.Sound.{Sound, SoundBlock, SoundFunction, S
 use Rattle.lowered_typing_laws.proofs.Switches.{default_typed, sound_block}
 
 -- rows of two tables, side by side
-zip_rows : {A B : Type 0} (R : A → B → Type 0) (args : ℕ → List BlockArg → List A) (others : ℕ → List BlockArg → List B) (results : Inst → List A) (more : Inst → List B)
-    (n : ℕ) (bs : List Block) → ((k : ℕ) (b : Block) → slice_get bs k ≡ Some b → AllZip R (args (n + k) b.args) (others (n + k) b.args) × Each (λ i. AllZip R (results i) (more i)) (insts_of b))
+zip_rows : {A B : Type 0} (R : A → B → Type 0) (args : ℕ → List BlockArg → List A) (others : ℕ → List BlockArg → List B) (results : Inst → List A)
+    (more : Inst → List B) (n : ℕ) (bs : List Block)
+    → ((k : ℕ) (b : Block) → slice_get bs k ≡ Some b
+    → AllZip R (args (n + k) b.args) (others (n + k) b.args) × Each (λ i. AllZip R (results i) (more i)) (insts_of b))
     → AllZip R (rows_from args results n bs) (rows_from others more n bs)
 zip_rows R args others results more n [] h = tt
 zip_rows R args others results more n (b ∷ bs) h =
     let here = h 0 b refl in
     let same : n + 0 ≡ n = omega arith in
-    zip_append R (args n b.args ++ flat_map results (insts_of b)) (rows_from args results (n + 1) bs) (others n b.args ++ flat_map more (insts_of b)) (rows_from others more (n + 1) bs)
+    zip_append R (args n b.args ++ flat_map results (insts_of b)) (rows_from args results (n + 1) bs) (others n b.args ++ flat_map more (insts_of b))
+    (rows_from others more (n + 1) bs)
     (zip_append R (args n b.args) (flat_map results (insts_of b)) (others n b.args) (flat_map more (insts_of b))
     (subst (λ k. AllZip R (args k b.args) (others k b.args)) same here.0) (zip_flat R results more (insts_of b) here.1))
     (zip_rows R args others results more (n + 1) bs (λ k c is.
@@ -62,7 +65,8 @@ zip_rows R args others results more n (b ∷ bs) h =
 
 pub operands_row : (defs : List Definition) (k : ℕ) (def : Definition) → slice_get defs k ≡ Some def
     → unwrap_or (slice_get (map (λ (x : Definition). x.operands) defs) k) [] ≡ def.operands
-operands_row defs k def e = ap (λ o. unwrap_or o []) (slice_get-map (λ (x : Definition). x.operands) defs k ∙ ap (option_map (λ (x : Definition). x.operands)) e)
+operands_row defs k def e =
+    ap (λ o. unwrap_or o []) (slice_get-map (λ (x : Definition). x.operands) defs k ∙ ap (option_map (λ (x : Definition). x.operands)) e)
 
 no_operands_row : (defs : List Definition) (k : ℕ) → slice_get defs k ≡ None → unwrap_or (slice_get (map (λ (x : Definition). x.operands) defs) k) [] ≡ []
 no_operands_row defs k e = ap (λ o. unwrap_or o []) (slice_get-map (λ (x : Definition). x.operands) defs k ∙ ap (option_map (λ (x : Definition). x.operands)) e)
@@ -102,7 +106,9 @@ renames_one m f i sound renaming = at i.op refl renaming
     tested : (o : Op) → i.op ≡ o → results_of o ≡ OneResult → (test : TypeName → Bool)
         → given_by o (declarations_of m) i ≡ option_map (λ ty. ty ∷ []) (where_it test (written 0 i)) → Renames m i
     tested o is one test gives =
-        let it = mapped_some (λ ty. ty ∷ []) (where_it test (written 0 i)) (ap is_some (sym gives) ∙ subst (λ x. is_some (given_by x (declarations_of m) i) ≡ true) is sound.keeps) in
+        let it =
+        mapped_some (λ ty. ty ∷ []) (where_it test (written 0 i))
+        (ap is_some (sym gives) ∙ subst (λ x. is_some (given_by x (declarations_of m) i) ≡ true) is sound.keeps) in
         let found = where_found test (written 0 i) it.0 it.1 in
         with_type o is one it.0 found.0 (gives ∙ ap (option_map (λ ty. ty ∷ [])) it.1)
 
@@ -154,7 +160,8 @@ module _ (m : Module) (f : Function) (sound : SoundFunction m f) where
       at false e = zip_repeat HasNameOf (renamed []) (slice_get (made_types (declarations_of m) i)) (λ k. no_name _) 0 (length i.results)
       at true e =
           let r = renames_one m f i s e in
-          subst (λ n. AllZip HasNameOf (replicate n (renamed (map value_of i.operands))) (map (slice_get (made_types (declarations_of m) i)) (range_with_len 0 n))) (sym r.count)
+          let made = made_types (declarations_of m) i in
+          subst (λ n. AllZip HasNameOf (replicate n (renamed (map value_of i.operands))) (map (slice_get made) (range_with_len 0 n))) (sym r.count)
           ((λ w there. one r w there), tt)
         where
           one : (r : Renames m i) → HasNameOf (renamed (map value_of i.operands)) (slice_get (made_types (declarations_of m) i) 0)
@@ -240,7 +247,8 @@ module _ (m : Module) (f : Function) (sound : SoundFunction m f) where
 
   all_unnamed : AllZip HasNoName (renamings_of f) functions
   all_unnamed = zip_rows HasNoName (arg_renamings f) (λ k. map no_function) result_renamings result_functions 0 f.blocks (λ k b is. (
-    zip_maps HasNoName (arg_renaming (switch_to f (0 + k))) no_function b.args (each_from (λ a. HasNoName (arg_renaming (switch_to f (0 + k)) a) (no_function a)) b.args (λ j a at g e. cc)),
+    zip_maps HasNoName (arg_renaming (switch_to f (0 + k))) no_function b.args
+        (each_from (λ a. HasNoName (arg_renaming (switch_to f (0 + k)) a) (no_function a)) b.args (λ j a at g e. cc)),
     each_sound b (sound_block m f sound k b is) (λ i. AllZip HasNoName (result_renamings i) (result_functions i)) results_unnamed,
   ))
 

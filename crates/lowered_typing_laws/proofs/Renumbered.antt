@@ -52,7 +52,9 @@ module _ (num : ValueId → ValueId) where
   module _ (d : Declarations) where
     by_op : (o : Op) (i : Inst) → given_by o d (renumbered_inst num i) ≡ given_by o d i
     by_op op.Builtin i =
-        ap (λ ts. option_and_then (λ b. if are_same_types ts (builtin_operands b) then gives (where_it (is_same_type (builtin_result b)) i.ty) else None) (option_and_then builtin_named i.text))
+        ap (λ ts. option_and_then
+        (λ b. if are_same_types ts (builtin_operands b) then gives (where_it (is_same_type (builtin_result b)) i.ty) else None)
+        (option_and_then builtin_named i.text))
         (all_written_same i.operands)
     by_op op.CondFail i = ap (λ w. takes (where_it is_bit w)) (written_same 0 i)
     by_op op.DeallocStack i = ap (λ w. takes (option_and_then target w)) (written_same 0 i)
@@ -72,7 +74,8 @@ module _ (num : ValueId → ValueId) where
     by_op op.Struct i = ap (λ ts. gives (where_it (is_struct_of d ts) i.ty)) (all_written_same i.operands)
     by_op op.Tuple i = ap (λ ts. if are_elements ts then Some (type.Tuple ts ∷ []) else None) (all_written_same i.operands)
     by_op op.Enum i =
-        ap (λ ts. gives (where_it (λ t. is_enum d t && passes (is_payload ts) (option_and_then (λ m. case_in d m t) i.member)) i.ty)) (all_written_same i.operands)
+        ap (λ ts. gives (where_it (λ t. is_enum d t && passes (is_payload ts) (option_and_then (λ m. case_in d m t) i.member)) i.ty))
+        (all_written_same i.operands)
     by_op op.StructExtract i = ap (λ w. member_type (struct_field d) field_type i w) (written_same 0 i)
     by_op op.TupleExtract i = ap (λ w. gives (option_and_then (element_of i.number) w)) (written_same 0 i)
     by_op op.DestructureStruct i = ap (λ w. option_and_then (all_fields d) w) (written_same 0 i)
@@ -141,13 +144,16 @@ module _ (num : ValueId → ValueId) where
     pub asked_alike : (b : BareOperands) (i : Inst) → Each IsSame i.operands → are_as_asked_by b new (renumbered_inst num i) ≡ are_as_asked_by b old i
     asked_alike NoBare i h = refl
     asked_alike StoredValue i h =
-        ap (λ w. all_pairs (has_type new) (bare_by StoredValue (map (renumbered_operand num) i.operands)) (option_to_list (option_and_then object_at w))) (written_same 1 i)
+        ap (λ w. all_pairs (has_type new) (bare_by StoredValue (map (renumbered_operand num) i.operands)) (option_to_list (option_and_then object_at w)))
+        (written_same 1 i)
         ∙ first_alike i.operands (asked_by StoredValue i) h
     asked_alike WeakValue i h =
-        ap (λ w. all_pairs (has_type new) (bare_by WeakValue (map (renumbered_operand num) i.operands)) (option_to_list (option_and_then weak_at w))) (written_same 1 i)
+        ap (λ w. all_pairs (has_type new) (bare_by WeakValue (map (renumbered_operand num) i.operands)) (option_to_list (option_and_then weak_at w)))
+        (written_same 1 i)
         ∙ first_alike i.operands (asked_by WeakValue i) h
     asked_alike UnownedValue i h =
-        ap (λ w. all_pairs (has_type new) (bare_by UnownedValue (map (renumbered_operand num) i.operands)) (option_to_list (option_and_then unowned_at w))) (written_same 1 i)
+        ap (λ w. all_pairs (has_type new) (bare_by UnownedValue (map (renumbered_operand num) i.operands)) (option_to_list (option_and_then unowned_at w)))
+        (written_same 1 i)
         ∙ first_alike i.operands (asked_by UnownedValue i) h
     asked_alike Condition i h = first_alike i.operands (asked_by Condition i) h
     asked_alike Arguments i h = behind_alike i.operands (asked_by Arguments i) h

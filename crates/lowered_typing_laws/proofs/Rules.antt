@@ -68,7 +68,8 @@ made_agrees _ m f functions i e = refl
 module _ (num : ValueId → ValueId) where
   -- 202
   pub counts_same : (d : Declarations) (j : Inst)
-      → is_count_by (results_of j.op) (row_types d (renumbered_inst num j)) (length (map num j.results)) ≡ is_count_by (results_of j.op) (row_types d j) (length j.results)
+      → is_count_by (results_of j.op) (row_types d (renumbered_inst num j)) (length (map num j.results))
+      ≡ is_count_by (results_of j.op) (row_types d j) (length j.results)
   counts_same d j = ap₂ (is_count_by (results_of j.op)) (row_same num d j) (length-map j.results num)
 
   -- 211

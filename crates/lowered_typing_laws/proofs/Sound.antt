@@ -123,7 +123,8 @@ module _ (m : Module) (numbered : IsNumbered m) (typed : Typed m) (n : ℕ) (f :
       let keeps : Bool = keeps_row (declarations_of m) i in
       let written : Bool = are_as_written types i.operands in
       let edges : Bool = list_all (edge_is_as_written types) i.edges in
-      let typed_operands : has_operand_types (declarations_of m) types i ≡ true = not-false _ (never_passes _ (λ e. keeps_at b k i rule.OperandType at (BreaksAtPoint.operand_type e))) in
+      let typed_operands : has_operand_types (declarations_of m) types i ≡ true =
+      not-false _ (never_passes _ (λ e. keeps_at b k i rule.OperandType at (BreaksAtPoint.operand_type e))) in
       let all = and_parts (keeps && written && edges) (are_as_asked types i) typed_operands in
       let three = and_parts (keeps && written) edges all.0 in
       let two = and_parts keeps written three.0 in
@@ -139,7 +140,10 @@ module _ (m : Module) (numbered : IsNumbered m) (typed : Typed m) (n : ℕ) (f :
         edges = never_passes _ (λ e. keeps_at b k i rule.EdgeArguments at (BreaksAtPoint.edge_arguments e));
         callee = never_passes _ (λ e. keeps_at b k i rule.Callee at (BreaksAtPoint.callee e));
         signature = never_passes _ (λ e. keeps_at b k i rule.Signature at (BreaksAtPoint.signature e));
-        form = not-false _ (or_parts (not (is_of_form f.form i)) (is_annotated_at f b k) (never_passes _ (λ e. keeps_at b k i rule.MixedForms at (BreaksAtPoint.mixed_forms e)))).0;
+        form =
+            not-false _
+            (or_parts (not (is_of_form f.form i)) (is_annotated_at f b k)
+            (never_passes _ (λ e. keeps_at b k i rule.MixedForms at (BreaksAtPoint.mixed_forms e)))).0;
         cases = never_passes _ (λ e. keeps_at b k i rule.SwitchCases at (BreaksAtPoint.switch_cases e));
         entry = never_passes _ (λ e. keeps_at b k i rule.EntryHasPredecessor at (BreaksAtPoint.entry_has_predecessor e));
         words = never_passes _ (λ e. keeps_at b k i rule.Qualifier at (BreaksAtPoint.qualifier e));

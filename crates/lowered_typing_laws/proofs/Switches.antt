@@ -134,8 +134,13 @@ module _ (m : Module) (f : Function) (sound : SoundFunction m f) where
   is_switch i s is =
       let it = taken_type (where_it (is_enum (declarations_of m)) (written 0 i)) (subst (λ o. is_some (given_by o (declarations_of m) i) ≡ true) is s.keeps) in
       let found = where_found (is_enum (declarations_of m)) (written 0 i) it.0 it.1 in
-      let right : switches_wrongly (declarations_of m) f i.edges (written 0 i) ≡ false = subst (λ o. has_wrong_cases_by o (declarations_of m) f i ≡ false) is s.cases in
-      record { ty = it.0; typed = found.0; kept = kept_parts m f it.0 i.edges (subst (λ w. switches_wrongly (declarations_of m) f i.edges w ≡ false) found.0 right) }
+      let right : switches_wrongly (declarations_of m) f i.edges (written 0 i) ≡ false =
+      subst (λ o. has_wrong_cases_by o (declarations_of m) f i ≡ false) is s.cases in
+      record {
+        ty = it.0;
+        typed = found.0;
+        kept = kept_parts m f it.0 i.edges (subst (λ w. switches_wrongly (declarations_of m) f i.edges w ≡ false) found.0 right);
+      }
 
   -- an edge to the block of a case or a default is the one of the switch
   pub lone : (k l i j : ℕ) (b c : Block) (e x : Edge) → slice_get f.blocks k ≡ Some b → slice_get b.terminator.edges i ≡ Some e
@@ -213,7 +218,8 @@ module _ (m : Module) (f : Function) (sound : SoundFunction m f) where
 
       one_there : is_some (edge_to e.block.0 i e) ≡ true
       one_there =
-          ap (λ t. is_some (if t then option_map (switched_by e) (first_value i) else None)) (eq-eqb e.block.0 e.block.0 refl) ∙ mapped (first_value i) has_value
+          ap (λ t. is_some (if t then option_map (switched_by e) (first_value i) else None)) (eq-eqb e.block.0 e.block.0 refl)
+          ∙ mapped (first_value i) has_value
         where
           mapped : (o : Option ValueId) → is_some o ≡ true → is_some (option_map (switched_by e) o) ≡ true
           mapped None h = cc
@@ -251,7 +257,9 @@ module _ (m : Module) (f : Function) (sound : SoundFunction m f) where
       or_second (has_case x.edge) _ none (passes_at (fits_default f sw.ty) i.edges x.index x.edge sw.kept.defaults x.is_edge) in
       record {
         ty = sw.ty;
-        value = ap (λ v. type_at (value_types (declarations_of m) f) v.0) (sym o.2) ∙ typed_at (value_types (declarations_of m) f) i.operands end.written 0 o.0 sw.ty o.1 typed;
+        value =
+            ap (λ v. type_at (value_types (declarations_of m) f) v.0) (sym o.2)
+            ∙ typed_at (value_types (declarations_of m) f) i.operands end.written 0 o.0 sw.ty o.1 typed;
         args = all_of f.form sw.ty (args_of f block) (subst (λ k. is_default_argument f.form sw.ty (args_of f k) ≡ true) there fits);
       }
     where

@@ -6,13 +6,10 @@ use Rattle.std.proofs.lemmas.List.{length-map, length-replicate, map-append}
 use Rattle.std.proofs.lemmas.List.FromFn.{length-map-range_with_len}
 use Rattle.numbered_form.specs.Insts.{insts_of}
 use Rattle.numbered_form.specs.Lists.{Each}
-use Rattle.numbered_form.specs.Names.{AreMembersOnce, Name}
 use Rattle.numbered_form.specs.Numbering.{IsValueBelow, values_of}
 use Rattle.ownership_origins.specs.Renamings.{renamings_of}
-use Rattle.sil_ast.specs.declared.decl.Decl.{Decl}
 use Rattle.sil_ast.specs.declared.function.Block.{Block}
 use Rattle.sil_ast.specs.declared.function.BlockArg.{BlockArg}
-use Rattle.sil_ast.specs.declared.function.Form.TheVariants.{Ossa}
 use Rattle.sil_ast.specs.declared.function.Function.{Function}
 use Rattle.sil_ast.specs.declared.inst.Inst.{Inst}
 use Rattle.sil_ast.specs.declared.module.Module.{Module}
@@ -20,7 +17,7 @@ use Rattle.sil_ast.specs.declared.operands.Operand.{Operand}
 use Rattle.sil_ast.specs.declared.place.FuncId.{FuncId}
 use Rattle.sil_ast.specs.declared.place.ValueId.{ValueId}
 use Rattle.sil_ast.specs.declared.type_name.TypeName.{TypeName}
-use Rattle.type_definitions.specs.Declarations.{Declarations, decl_of, declarations_of}
+use Rattle.type_definitions.specs.Declarations.{Declarations, declarations_of}
 use Rattle.value_tables.proofs.Rows.{same_args}
 use Rattle.value_tables.specs.ValueRows.{rows_from, value_rows}
 use Rattle.sil_types.specs.Typing.RowTypes.{made_types}
@@ -30,7 +27,6 @@ use Rattle.lowering_model.specs.LoweredBlocks.{lowered_blocks, value_with}
 use Rattle.lowering_model.specs.LoweredModules.{lowered_body}
 use Rattle.lowering_model.specs.Names.{stands_for}
 use Rattle.lowering_model.specs.Numbers.{new_number, numbering_of, renumbered, renumbered_arg, renumbered_inst}
-use Rattle.lowering_laws.specs.Lowerable.{IsLowerable}
 use Rattle.lowering_laws.proofs.Placed.{defined_are_placed, old_are_placed}
 use Rattle.run_typing_laws.proofs.Declared.{each_from}
 use Rattle.lowering_laws.proofs.Lists.{each_weaker}
@@ -44,7 +40,8 @@ use Rattle.lowered_typing_laws.proofs.Told.{BlocksTold, all_told, blocks_rows, s
 
 -- ---- new numbers change no row
 
-module _ {A : Type 0} (num : ValueId → ValueId) (arg : BlockArg → Option A) (results : Inst → List (Option A)) (same_arg : (a : BlockArg) → arg (renumbered_arg num a) ≡ arg a)
+module _ {A : Type 0} (num : ValueId → ValueId) (arg : BlockArg → Option A) (results : Inst → List (Option A))
+    (same_arg : (a : BlockArg) → arg (renumbered_arg num a) ≡ arg a)
     (same_results : (i : Inst) → results (renumbered_inst num i) ≡ results i) where
   args_same : (args : List BlockArg) → map arg (map (renumbered_arg num) args) ≡ map arg args
   args_same [] = refl
@@ -144,7 +141,9 @@ module _ (m : Module) (f : Function) (source : Source m f) where
       ap (λ w. type_at new_table w.0) place ∙ ap (λ rows. type_at rows k) types_are ∙ ap (λ o. unwrap_or o None) (mapped_at type_told defined k u at)
 
   pub defined_typed : Each (λ v. type_at new_table (num v).0 ≡ type_told v) defined
-  defined_typed = each_from (λ v. type_at new_table (num v).0 ≡ type_told v) defined (λ k v at. type_at_place k v v at (defined_are_placed (length m.functions) d f k v source.lowerable at).1)
+  defined_typed =
+      each_from (λ v. type_at new_table (num v).0 ≡ type_told v) defined
+      (λ k v at. type_at_place k v v at (defined_are_placed (length m.functions) d f k v source.lowerable at).1)
 
   pub type_kept : (v : ValueId) → v.0 < count → type_at new_table (num v).0 ≡ type_at old_types v.0
   type_kept v lt =
@@ -160,7 +159,8 @@ module _ (m : Module) (f : Function) (source : Source m f) where
       → function_at (value_functions (lowered_body d f)) (num v).0 ≡ Some g
   function_kept v g lt e =
       let it = old_are_placed (length m.functions) d f v source.lowerable lt in
-      let own : unwrap_or (slice_get (value_rows (λ k. map no_function) result_functions f) v.0) None ≡ Some g = ap (λ rows. function_at rows v.0) (sym (functions_rows f)) ∙ e in
+      let own : unwrap_or (slice_get (value_rows (λ k. map no_function) result_functions f) v.0) None ≡ Some g =
+      ap (λ rows. function_at rows v.0) (sym (functions_rows f)) ∙ e in
       ap (λ w. function_at (value_functions (lowered_body d f)) w.0) it.2
       ∙ ap (λ rows. function_at rows it.0) functions_are
       ∙ ap (λ o. unwrap_or o None) (mapped_at function_told defined it.0 (stands_for (renamings_of f) v) it.1)

@@ -1,5 +1,5 @@
 -- What a table tells of a function's values, and of a spare value for each instruction behind them.
-use Rattle.std.proofs.Common.{◌≡◌, ℕ, suc, ◌+◌, ◌<◌, List, [], ◌∷◌, ◌++◌, length, map, refl, sym, ap, ap₂, ◌∙◌, subst, arith, append_assoc, append-nil}
+use Rattle.std.proofs.Common.{◌≡◌, ℕ, ◌+◌, ◌<◌, List, [], ◌∷◌, ◌++◌, length, map, refl, sym, ap, ap₂, ◌∙◌, subst, arith, append_assoc, append-nil}
 use Rattle.std.proofs.Common.{length-append, cond, Bool, true, false, Option, Some, None}
 use Rattle.std.specs.Prelude.{filter, slice_get, unwrap_or}
 use Rattle.std.specs.List.{flat_map}
@@ -81,7 +81,8 @@ module _ {A : Type 0} (arg : BlockArg → Option A) (results : Inst → List (Op
     HasQ b = Each Q b.insts
 
     block_rows : (s : ℕ) (b : Block) → HasQ b → BlockTold s b
-        → map value (defined_in (block_becomes d renamings s b)) ≡ map arg (args_become renamings b.args) ++ flat_map results (insts_of (block_becomes d renamings s b))
+        → map value (defined_in (block_becomes d renamings s b))
+        ≡ map arg (args_become renamings b.args) ++ flat_map results (insts_of (block_becomes d renamings s b))
     block_rows s b q h =
         let args = args_become renamings b.args in
         let is = insts_become d renamings s b.insts in
@@ -138,12 +139,14 @@ module _ {A : Type 0} (arg : BlockArg → Option A) (results : Inst → List (Op
   IsOwn v = row_at None own_rows v ≡ told v
 
   pub values_below : Each (λ v. v.0 < count) (values_of f.blocks)
-  values_below = let same : 0 + count ≡ count = omega arith in subst (λ n. Each (λ v. v.0 < n) (values_of f.blocks)) same (counted_below 0 (values_of f.blocks) counted)
+  values_below =
+      let same : 0 + count ≡ count = omega arith in subst (λ n. Each (λ v. v.0 < n) (values_of f.blocks)) same (counted_below 0 (values_of f.blocks) counted)
 
   pub block_below : (k : ℕ) (b : Block) → slice_get f.blocks k ≡ Some b
       → Each (λ v. v.0 < count) (map value_of b.args) × Each (λ v. v.0 < count) (flat_map results_of (insts_of b))
   block_below k b is =
-      each_parts (λ v. v.0 < count) (map value_of b.args) (flat_map results_of (insts_of b)) (each_within defined_in (λ v. v.0 < count) f.blocks k b values_below is)
+      each_parts (λ v. v.0 < count) (map value_of b.args) (flat_map results_of (insts_of b))
+      (each_within defined_in (λ v. v.0 < count) f.blocks k b values_below is)
 
   pub results_below : (b k : ℕ) (i : Inst) → IsAt f b k i → Each (λ v. v.0 < count) i.results
   results_below b k i at = each_within results_of (λ v. v.0 < count) (insts_of at.within) k i (block_below b at.within at.is_block).1 at.is_inst
@@ -201,7 +204,8 @@ module _ {A : Type 0} (arg : BlockArg → Option A) (results : Inst → List (Op
       let long = length-append before (block_spares b) in
       let each : length (block_spares b) ≡ length b.insts = length-map b.insts spare in (
         insts_spared before (flat_map block_spares bs) b.insts s split start,
-        blocks_spared (before ++ block_spares b) bs (s + length b.insts) (split ∙ sym (append_assoc before (block_spares b) (flat_map block_spares bs))) (omega arith),
+        blocks_spared (before ++ block_spares b) bs (s + length b.insts) (split ∙ sym (append_assoc before (block_spares b) (flat_map block_spares bs)))
+            (omega arith),
       )
 
   -- ---- both together
@@ -214,7 +218,9 @@ module _ {A : Type 0} (arg : BlockArg → Option A) (results : Inst → List (Op
   block_own : (k : ℕ) (b : Block) → slice_get f.blocks k ≡ Some b → BlockOwn b
   block_own k b is = record {
     args = args_told k b is;
-    insts = each_from (λ i. map told i.results ≡ results i) b.insts (λ j i at. results_told k j i (record { within = b; is_block = is; is_inst = in_front b.insts (b.terminator ∷ []) j i at }));
+    insts =
+        each_from (λ i. map told i.results ≡ results i) b.insts
+        (λ j i at. results_told k j i (record { within = b; is_block = is; is_inst = in_front b.insts (b.terminator ∷ []) j i at }));
     end = results_told k (length b.insts) b.terminator (record { within = b; is_block = is; is_inst = get_last b.insts b.terminator });
   }
 
