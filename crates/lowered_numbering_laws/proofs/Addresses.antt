@@ -1,8 +1,7 @@
 -- What stands behind an address: its type is written where the address's is, and the operand of a load or a store is an address.
-use Rattle.std.proofs.Common.{◌≡◌, ◌≤◌, ℕ, List, [], ◌∷◌, refl, sym, ap, ◌∙◌, subst, Bool, true, false, Option, Some, None}
+use Rattle.std.proofs.Common.{◌≡◌, ◌≤◌, ℕ, [], ◌∷◌, refl, sym, ap, ◌∙◌, subst, true, false, Option, Some, None}
 use Rattle.std.specs.Prelude.{◌||◌, is_some, not, option_and_then, slice_get}
 use Rattle.std.proofs.lemmas.Bool.{and_parts}
-use Rattle.instruction_table.specs.declared.op.Op.{Op}
 use Rattle.instruction_table.specs.declared.op.Op.TheVariants as op
 use Rattle.sil_ast.specs.TypeName.{depth_of, depth_over}
 use Rattle.sil_ast.specs.declared.inst.Inst.{Inst}

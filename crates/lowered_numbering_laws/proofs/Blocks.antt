@@ -1,5 +1,5 @@
 -- What holds of the blocks of a module in numbered form holds of what lowering makes of them, and of these with new numbers.
-use Rattle.std.proofs.Common.{◌≡◌, ℕ, ◌+◌, ◌≤◌, List, [], ◌∷◌, ◌++◌, length, map, refl, sym, ap, ◌∙◌, subst, arith, Bool, true, false, cond, Some}
+use Rattle.std.proofs.Common.{◌≡◌, ℕ, ◌+◌, ◌≤◌, List, [], ◌∷◌, ◌++◌, length, map, sym, ap, subst, arith, Bool, true, false, cond, Some}
 use Rattle.std.specs.Prelude.{filter}
 use Rattle.std.specs.List.{flat_map}
 use Rattle.std.proofs.lemmas.List.{length-map}
@@ -20,7 +20,7 @@ use Rattle.numbered_form.specs.Lists.{Each}
 use Rattle.numbered_form.specs.Names.{IsMemberSpelled}
 use Rattle.numbered_form.specs.Numbering.{defined_in, results_of, value_of, values_of}
 use Rattle.numbered_form.specs.inner.Limits.{IsBlockInLimits, IsInstInLimits}
-use Rattle.numbered_form.specs.inner.Parts.{BlockHasParts, HasItsParts, IsInside, IsTerminator}
+use Rattle.numbered_form.specs.inner.Parts.{BlockHasParts, IsInside, IsTerminator}
 use Rattle.numbered_form.specs.inner.Types.{HasArgType, HasBlockTypes, HasInstTypes, IsPlacedType}
 use Rattle.ownership_origins.specs.Renamings.{renamings_of}
 use Rattle.sil_types.specs.Typing.Shapes.{is_object, target}
@@ -35,9 +35,9 @@ use Rattle.lowering_laws.proofs.NewValues.{spare_values_by, takes_spare}
 use Rattle.lowering_laws.proofs.Structs.{IsStruct}
 use Rattle.run_typing_laws.proofs.Declared.{each_append}
 use Rattle.run_typing_laws.proofs.ListFacts.{each_map, each_parts}
-use Rattle.lowered_numbering_laws.proofs.Kinds.{IsSoundInside, becomes_sound}
+use Rattle.lowered_numbering_laws.proofs.ByKind.{becomes_sound}
 use Rattle.lowered_numbering_laws.proofs.Sizes.{kept_few}
-use Rattle.lowered_numbering_laws.proofs.Sound.{IsSound, Uses, new_sound}
+use Rattle.lowered_numbering_laws.proofs.Sound.{IsSound, IsSoundInside, new_sound}
 
 -- what holds of all elements holds of those that are kept
 each_kept : {A : Type 0} (P : A → Type 0) (test : A → Bool) (xs : List A) → Each P xs → Each P (filter test xs)
@@ -48,7 +48,7 @@ each_kept {A} P test (x ∷ xs) h = at (test x) (each_kept P test xs h.1)
     at true rest = (h.0, rest)
     at false rest = rest
 
-each_from_map : {A B : Type 0} (g : A → B) (P : B → Type 0) (xs : List A) → Each P (map g xs) → Each (λ x. P (g x)) xs
+pub each_from_map : {A B : Type 0} (g : A → B) (P : B → Type 0) (xs : List A) → Each P (map g xs) → Each (λ x. P (g x)) xs
 each_from_map g P [] h = tt
 each_from_map g P (x ∷ xs) h = (h.0, each_from_map g P xs h.1)
 

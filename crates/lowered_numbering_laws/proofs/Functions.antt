@@ -1,23 +1,21 @@
 -- A lowered function of a typed module in numbered form: its values are numbered, its instructions have the parts of their rows, and the limits are kept.
-use Rattle.std.proofs.Common.{◌≡◌, ℕ, ◌+◌, ◌<◌, ◌≤◌, List, [], ◌∷◌, length, map, refl, sym, ap, ◌∙◌, subst, arith, Some}
-use Rattle.std.specs.Prelude.{◌++◌, slice_get}
+use Rattle.std.proofs.Common.{◌≡◌, ℕ, ◌+◌, ◌<◌, ◌≤◌, List, [], ◌∷◌, length, map, refl, sym, ap, ◌∙◌, subst, suc, arith, true, Some}
+use Rattle.std.specs.Prelude.{slice_get}
 use Rattle.std.specs.List.{flat_map}
 use Rattle.std.proofs.lemmas.List.{length-map}
 use Rattle.std.proofs.lemmas.Option.{slice_get_within}
 use Rattle.sil_ast.specs.declared.decl.Field.{Field}
 use Rattle.sil_ast.specs.declared.function.Block.{Block}
 use Rattle.sil_ast.specs.declared.function.Function.{Function}
-use Rattle.sil_ast.specs.declared.inst.Edge.{Edge}
 use Rattle.sil_ast.specs.declared.inst.Inst.{Inst}
 use Rattle.sil_ast.specs.declared.member.Member.{Member}
 use Rattle.sil_ast.specs.declared.module.Module.{Module}
-use Rattle.sil_ast.specs.declared.operands.Operand.{Operand}
 use Rattle.sil_ast.specs.declared.place.ValueId.{ValueId}
 use Rattle.sil_ast.specs.declared.type_name.TypeName.{TypeName}
 use Rattle.lowering_model.specs.Extracts.{member_of}
 use Rattle.lowering_model.specs.LoweredBlocks.{blocks_become, lowered_blocks}
 use Rattle.lowering_model.specs.LoweredModules.{lowered_body}
-use Rattle.lowering_model.specs.Numbers.{new_number, numbering_of, renumbered, renumbered_block}
+use Rattle.lowering_model.specs.Numbers.{new_number, numbering_of, renumbered_block}
 use Rattle.numbered_form.specs.Insts.{EachInBlock, EachInFunction, insts_of}
 use Rattle.numbered_form.specs.Lists.{Each}
 use Rattle.numbered_form.specs.Names.{IsInstSpelled, IsMemberSpelled}
@@ -25,7 +23,7 @@ use Rattle.numbered_form.specs.Numbering.{IsEdgeInRange, IsFunctionNumbered, IsI
 use Rattle.numbered_form.specs.inner.Limits.{IsBlockInLimits, IsFunctionInLimits, IsInstInLimits, value_count}
 use Rattle.numbered_form.specs.inner.Literals.{HasLiterals}
 use Rattle.numbered_form.specs.inner.NumberedForm.{IsNumbered}
-use Rattle.numbered_form.specs.inner.Parts.{BlockHasParts, FunctionHasParts, HasItsParts, IsInside}
+use Rattle.numbered_form.specs.inner.Parts.{BlockHasParts, FunctionHasParts, IsInside}
 use Rattle.numbered_form.specs.inner.Types.{HasBlockTypes, HasFunctionTypes, HasInstTypes, IsPlacedType}
 use Rattle.ownership_origins.specs.Renamings.{renamings_of}
 use Rattle.run_typing.specs.Runnable.{IsBodyInLimits}
@@ -45,19 +43,18 @@ use Rattle.lowering_laws.proofs.Placed.{defined_are_placed, new_values_are_count
 use Rattle.lowering_laws.proofs.Renumbered.{renumbered_values}
 use Rattle.lowering_laws.proofs.Structs.{IsStruct}
 use Rattle.run_typing_laws.proofs.Declared.{each_append, each_from}
-use Rattle.run_typing_laws.proofs.ListFacts.{each_map, each_parts, each_within}
+use Rattle.run_typing_laws.proofs.ListFacts.{each_parts, each_within}
 use Rattle.run_typing_laws.proofs.Rows.Finding.{each_at}
 use Rattle.run_typing_laws.proofs.ListFacts.{get_last}
 use Rattle.run_typing_laws.proofs.Rows.Points.{in_front}
 use Rattle.lowered_numbering_laws.proofs.Blocks.{IsSoundBlock, block_limits, block_mentions, block_parts, block_types, blocks_sound, each_from_map}
 use Rattle.lowered_numbering_laws.proofs.Blocks.{in_block_each, members_in_block, new_blocks}
-use Rattle.lowered_numbering_laws.proofs.Kinds.{IsSoundInside}
 use Rattle.lowered_numbering_laws.proofs.Sizes.{blocks_less, blocks_short, renumbered_count}
-use Rattle.lowered_numbering_laws.proofs.Sound.{IsSound, Uses, UsesAlong}
+use Rattle.lowered_numbering_laws.proofs.Sound.{IsSound, IsSoundInside, Uses, UsesAlong}
 
 as_many_blocks : (d : Declarations) (f : Function) (spare : ℕ) (bs : List Block) → length (blocks_become d (renamings_of f) spare bs) ≡ length bs
 as_many_blocks d f spare [] = refl
-as_many_blocks d f spare (b ∷ bs) = ap (λ n. n + 1) (as_many_blocks d f (spare + length b.insts) bs)
+as_many_blocks d f spare (b ∷ bs) = ap suc (as_many_blocks d f (spare + length b.insts) bs)
 
 pub as_many_blocks_of_body : (d : Declarations) (f : Function) → length (lowered_body d f).blocks ≡ length f.blocks
 as_many_blocks_of_body d f =

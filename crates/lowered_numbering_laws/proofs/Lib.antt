@@ -1,7 +1,7 @@
 pub mod Sound
 pub mod New
 pub mod Addresses
-pub mod Kinds
+pub mod ByKind
 pub mod Sizes
 pub mod Blocks
 pub mod Functions

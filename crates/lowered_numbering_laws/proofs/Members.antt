@@ -1,5 +1,5 @@
 -- The members of a struct as extracts name them: each is spelled, its owner is declared, and it is a member of that.
-use Rattle.std.proofs.Common.{◌≡◌, ℕ, zero, suc, ◌<◌, List, [], ◌∷◌, ◌++◌, length, map, refl, sym, ap, ◌∙◌, subst, arith, Bool, true, false, Option, Some, None}
+use Rattle.std.proofs.Common.{◌≡◌, ℕ, zero, suc, ◌<◌, List, [], ◌∷◌, ◌++◌, map, refl, sym, ap, ◌∙◌, subst, arith, Bool, true, false, Some}
 use Rattle.std.specs.Prelude.{◌&&◌, Contains, codes, is_some, not, option_map, slice_get, if◌then◌else◌}
 use Rattle.std.specs.Str.{bytes_eq}
 use Rattle.std.proofs.lemmas.Bool.{false≢true}
@@ -13,7 +13,7 @@ use Rattle.sil_ast.specs.declared.module.Module.{Module}
 use Rattle.sil_ast.specs.declared.type_name.TypeName.{TypeName, TypeName-F, out-TypeName}
 use Rattle.lowering_model.specs.Extracts.{member_of}
 use Rattle.numbered_form.specs.Lists.{Each}
-use Rattle.numbered_form.specs.Names.{AreMembersOnce, AreOnce, IsDeclSpelled, IsMemberSpelled, IsWord, Name, decl_name, field_name, is_word, member_names}
+use Rattle.numbered_form.specs.Names.{AreMembersOnce, AreOnce, IsDeclSpelled, IsMemberSpelled, IsWord, Name, decl_name, field_name, member_names}
 use Rattle.numbered_form.specs.inner.NumberedForm.{IsNumbered}
 use Rattle.numbered_form.specs.inner.Types.{IsPlacedType, is_placed_at, is_plain_type, is_written}
 use Rattle.sil_types.specs.Typing.Shapes.{name_in, struct_fields}

@@ -1,7 +1,7 @@
 -- The instructions that lowering writes anew hold all that holds of instructions: by the row of each, and by its one operand.
 use Rattle.std.proofs.Common.{◌≡◌, ℕ, ◌≤◌, List, [], ◌∷◌, ◌++◌, length, refl, sym, ap, ◌∙◌, subst, arith, ℤ, pos, Bool, true, false, not, cond, Option, Some}
-use Rattle.std.proofs.Common.{None, leb-true}
-use Rattle.std.specs.Prelude.{◌&&◌, ◌||◌, IfSome, IsTrue, int_le, is_some, nat_le, option_and_then, if◌then◌else◌}
+use Rattle.std.proofs.Common.{None}
+use Rattle.std.specs.Prelude.{◌&&◌, ◌||◌, IfSome, IsTrue, int_le, is_some, if◌then◌else◌}
 use Rattle.std.specs.List.{flat_map}
 use Rattle.std.specs.Option.{option_to_list}
 use Rattle.std.proofs.lemmas.Bool.{and_from, le-leb, or_right}
@@ -15,17 +15,15 @@ use Rattle.sil_ast.specs.declared.inst.Qualifier.TheVariants as word
 use Rattle.sil_ast.specs.declared.member.Member.{Member}
 use Rattle.sil_ast.specs.declared.operands.Operand.{Operand}
 use Rattle.sil_ast.specs.declared.place.ValueId.{ValueId}
-use Rattle.sil_ast.specs.declared.type_name.TypeName.{TypeName}
-use Rattle.lowering_model.specs.NewInsts.{by_class, load, loaded_from, release, retain, struct_extract, tuple_extract, with_operands}
+use Rattle.lowering_model.specs.NewInsts.{by_class, load, release, retain, struct_extract, tuple_extract, with_operands}
 use Rattle.numbered_form.specs.Lists.{Each}
 use Rattle.numbered_form.specs.Names.{IsMemberSpelled}
 use Rattle.numbered_form.specs.inner.Literals.{is_number_by, is_number_of, is_text_by}
 use Rattle.numbered_form.specs.inner.Parts.{HasItsParts, has_edges, has_operands, has_results, is_callee, is_debug, is_flags, is_member, is_number}
 use Rattle.numbered_form.specs.inner.Parts.{is_signature, is_silent, is_text, is_type}
 use Rattle.numbered_form.specs.inner.Parts.{is_typed, may_have, row_has}
-use Rattle.numbered_form.specs.inner.Types.{HasOperandType, IsPlacedType}
+use Rattle.numbered_form.specs.inner.Types.{HasOperandType}
 use Rattle.sil_types.specs.Typing.RowTypes.{passes}
-use Rattle.sil_types.specs.Typing.Shapes.{target}
 use Rattle.type_definitions.specs.Declarations.{Declarations}
 use Rattle.type_definitions.specs.Mentions.{Mention, if_there, in_edge, in_inst, in_operand, in_signature, in_tuple, mention, operand_types, standing_in}
 use Rattle.type_definitions.specs.Mentions.{together}

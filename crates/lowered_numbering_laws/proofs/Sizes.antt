@@ -1,8 +1,8 @@
 -- How many instructions and values there are in lowered code: no more values than the limit counts, and few instructions for each.
-use Rattle.std.proofs.Common.{◌≡◌, ℕ, suc, ◌+◌, ◌*◌, ◌<◌, ◌≤◌, List, [], ◌∷◌, ◌++◌, length, map, append-nil, length-append, refl, sym, ap, ap₂, ◌∙◌, subst}
+use Rattle.std.proofs.Common.{◌≡◌, ℕ, suc, ◌+◌, ◌*◌, ◌<◌, ◌≤◌, List, [], ◌∷◌, ◌++◌, length, map, length-append, refl, sym, ap, ap₂, ◌∙◌}
 use Rattle.std.proofs.Common.{arith, Bool, true, false, not, cond, Option, Some, None}
 use Rattle.std.specs.Prelude.{count_by, filter, slice_get}
-use Rattle.std.specs.List.{flat_map, sum_by}
+use Rattle.std.specs.List.{flat_map}
 use Rattle.std.specs.Option.{option_to_list}
 use Rattle.std.proofs.Math.Nat.{mul-suc}
 use Rattle.std.proofs.lemmas.List.{length-map, map-append}
@@ -35,7 +35,7 @@ use Rattle.sil_types.specs.Typing.RowTypes.{passes}
 use Rattle.type_definitions.specs.Declarations.{Declarations}
 use Rattle.type_definitions.specs.Rules.{is_class_type}
 use Rattle.lowering_laws.proofs.Covered.{New, new_defines, next_define, old_defines, own}
-use Rattle.lowering_laws.proofs.Known.{Known, KnownBlock, has_name}
+use Rattle.lowering_laws.proofs.Known.{Known, KnownBlock}
 use Rattle.lowering_laws.proofs.NewValues.{spare_values_by, takes_spare, takes_spare_by}
 use Rattle.lowering_laws.proofs.Renumbered.{renumbered_values}
 use Rattle.run_typing.specs.Runnable.{IsShort}
@@ -119,11 +119,8 @@ module _ (d : Declarations) (spare : ValueId) (i : Inst) (few_operands : length 
 none_take : (is : List Inst) → Each (λ i. inst_takes_value i ≡ false) is → count_by inst_takes_value is ≡ 0
 none_take [] h = refl
 none_take (i ∷ is) h =
-    let here : cond (inst_takes_value i) 1 0 ≡ 0 = ap (λ b. cond b 1 0) h.0 in
-    let rest : count_by inst_takes_value is ≡ 0 = none_take is h.1 in
-    let all : count_by inst_takes_value (i ∷ is) ≡ cond (inst_takes_value i) 1 0 + count_by inst_takes_value is =
-    sum_by-cons (λ j. cond (inst_takes_value j) 1 0) i is in
-    omega arith
+    sum_by-cons (λ j. cond (inst_takes_value j) 1 0) i is ∙ ap₂ (λ a b. a + b) (ap (λ b. cond b 1 0) h.0) (none_take is h.1)
+
 release_takes_none : (b : Bool) → takes_value (cond b op.StrongRelease op.ReleaseValue) word.Plain ≡ false
 release_takes_none true = refl
 release_takes_none false = refl
@@ -229,9 +226,11 @@ module _ (d : Declarations) (spare : ValueId) (i : Inst) where
 counted_append : (xs ys : List Inst) → count_by inst_takes_value (xs ++ ys) ≡ count_by inst_takes_value xs + count_by inst_takes_value ys
 counted_append xs ys = sum_by-append (λ j. cond (inst_takes_value j) 1 0) xs ys
 
-pub kept_few : (test : ValueId → Bool) (vs : List ValueId) → length (filter test vs) ≤ length vs
-kept_few test vs = let same : length (filter test vs) ≡ count_by test vs = length-filter test vs in let le : count_by test vs ≤ length vs =
-    count_by-le-length test vs in omega arith
+pub kept_few : {A : Type 0} (test : A → Bool) (xs : List A) → length (filter test xs) ≤ length xs
+kept_few test xs =
+    let same : length (filter test xs) ≡ count_by test xs = length-filter test xs in
+    let le : count_by test xs ≤ length xs = count_by-le-length test xs in
+    omega arith
 
 spares_are : (takes : Bool) (spare : ValueId) → length (spare_values_by takes spare) ≡ cond takes 1 0
 spares_are true spare = refl

@@ -1,10 +1,10 @@
 -- What holds of each instruction of a module in numbered form, by what is known of its values, mentioned types and members; and that new numbers keep it.
-use Rattle.std.proofs.Common.{◌≡◌, ℕ, ◌<◌, ◌≤◌, List, [], ◌∷◌, ◌++◌, length, map, refl, sym, ap, ap₂, ◌∙◌, subst, Bool, true, false, not}
-use Rattle.std.specs.Prelude.{◌&&◌, ◌||◌, ◌==◌, IfSome, IsTrue, is_none, is_some, if◌then◌else◌}
+use Rattle.std.proofs.Common.{◌≡◌, ℕ, ◌<◌, ◌≤◌, List, [], ◌∷◌, ◌++◌, length, map, refl, sym, ap, ap₂, ◌∙◌, subst, Bool, false, not}
+use Rattle.std.specs.Prelude.{◌&&◌, ◌||◌, ◌==◌, IfSome, is_none, is_some, if◌then◌else◌}
 use Rattle.std.specs.List.{flat_map, list_all}
 use Rattle.std.specs.Option.{option_to_list}
 use Rattle.std.proofs.lemmas.List.{length-map}
-use Rattle.instruction_table.specs.Forms.{ending_of, has_one_result, makes_tuple, may_lack_operand, parts_of}
+use Rattle.instruction_table.specs.Forms.{ending_of, has_one_result, is_terminator, makes_tuple, may_lack_operand, parts_of}
 use Rattle.instruction_table.specs.declared.entries.Ending.{Ending}
 use Rattle.instruction_table.specs.declared.entries.Ending.TheVariants as ending
 use Rattle.instruction_table.specs.declared.forms.Part.{Part}
@@ -20,14 +20,13 @@ use Rattle.numbered_form.specs.Lists.{Each, is_empty}
 use Rattle.numbered_form.specs.Names.{IsEdgeSpelled, IsInstSpelled}
 use Rattle.numbered_form.specs.inner.Limits.{IsEdgeInLimits, IsInstInLimits}
 use Rattle.numbered_form.specs.inner.Literals.{HasLiterals}
-use Rattle.numbered_form.specs.inner.Parts.{HasItsParts, are_cases, are_edges_by, are_of_part, are_of_parts, first_then, has_edges, has_operands, has_results}
+use Rattle.numbered_form.specs.inner.Parts.{HasItsParts, are_cases, are_edges_by, are_of_part, are_of_parts, first_then, has_operands}
 use Rattle.numbered_form.specs.inner.Parts.{is_bare, is_branch, is_case, is_default, is_typed}
 use Rattle.numbered_form.specs.inner.Types.{HasEdgeTypes, HasInstTypes, HasOperandType}
 use Rattle.type_definitions.specs.Mentions.{Mention, edge_members, if_there, in_edge, in_inst, in_operand, in_signature, in_tuple, inst_members, operand_types}
 use Rattle.type_definitions.specs.Mentions.{standing_in, together}
 use Rattle.type_definitions.specs.Mentions as mentions
 use Rattle.type_definitions.specs.declared.standing.Standing.TheVariants.{Unwritten}
-use Rattle.lowering_laws.proofs.Lists.{each_weaker}
 use Rattle.run_typing_laws.proofs.ListFacts.{each_map}
 
 -- the edge goes to one of this many blocks, with values that are known
@@ -51,6 +50,10 @@ pub record IsSound (K : ValueId → Type 0) (T : Mention → Type 0) (M : Member
   pub uses : Uses K blocks functions i
   pub mentioned : Each T (in_inst i)
   pub named : Each M (inst_members i)
+
+-- it ends no block, and all holds of it
+abbrev pub IsSoundInside : (ValueId → Type 0) → (Mention → Type 0) → (Member → Type 0) → ℕ → ℕ → Inst → Type 0
+IsSoundInside K T M blocks functions i = (is_terminator i.op ≡ false) × IsSound K T M blocks functions i
 
 -- ---- lists with something in the places of their elements
 

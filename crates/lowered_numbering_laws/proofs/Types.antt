@@ -1,6 +1,6 @@
 -- The types of a lowered module are declared and within the limits: it mentions no type but those of the module and what stands behind their addresses.
-use Rattle.std.proofs.Common.{◌≡◌, ℕ, List, [], ◌∷◌, ◌++◌, map, refl, sym, ap, ap₂, ◌∙◌, subst, Bool, true, false, not, Some}
-use Rattle.std.specs.Prelude.{◌&&◌, ◌||◌, All, nat_le, slice_get}
+use Rattle.std.proofs.Common.{◌≡◌, ℕ, List, [], ◌∷◌, ◌++◌, map, refl, sym, ap, ◌∙◌, Bool, true, false, not, Some}
+use Rattle.std.specs.Prelude.{◌||◌, All, nat_le, slice_get}
 use Rattle.std.specs.List.{flat_map, list_any}
 use Rattle.std.proofs.lemmas.Bool.{or_from, or_parts}
 use Rattle.std.proofs.lemmas.List.Elements.{All-append, All-map}
@@ -11,7 +11,7 @@ use Rattle.sil_ast.specs.declared.module.Module.{Module}
 use Rattle.sil_ast.specs.declared.type_name.TypeName.{TypeName, TypeName-F, out-TypeName}
 use Rattle.sil_ast.specs.declared.type_name.TypeName.TheVariants as type
 use Rattle.lowering_model.specs.Extracts.{member_of}
-use Rattle.lowering_model.specs.LoweredModules.{lowered, lowered_body, lowered_function}
+use Rattle.lowering_model.specs.LoweredModules.{lowered, lowered_function}
 use Rattle.numbered_form.specs.Lists.{Each}
 use Rattle.numbered_form.specs.Names.{IsMemberSpelled}
 use Rattle.numbered_form.specs.inner.NumberedForm.{IsNumbered}

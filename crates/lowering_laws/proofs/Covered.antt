@@ -13,10 +13,8 @@ use Rattle.sil_ast.specs.declared.place.ValueId.{ValueId}
 use Rattle.lowering_model.specs.LoweredBlocks.{args_become, block_becomes, blocks_become, has_own_name, insts_become, value_with, without_annotation}
 use Rattle.lowering_model.specs.LoweredInsts.{becomes}
 use Rattle.lowering_model.specs.Numbers.{is_value}
-use Rattle.numbered_form.specs.Insts.{insts_of}
 use Rattle.numbered_form.specs.Lists.{Each}
 use Rattle.numbered_form.specs.Numbering.{AreCountedFrom, defined_in, results_of, value_of, values_of}
-use Rattle.numbered_form.specs.inner.Parts.{IsTerminator}
 use Rattle.ownership_chains.specs.declared.definition.Definition.{Definition}
 use Rattle.ownership_origins.specs.Renamings.{renamings_of}
 use Rattle.type_definitions.specs.Declarations.{Declarations}

@@ -1,5 +1,5 @@
 -- Each function of a module that was read and typed, and in which no value is another name of itself, has what lowering asks.
-use Rattle.std.proofs.Common.{◌≡◌, ℕ, List, [], ◌∷◌, length, refl, Bool, true, false, not, Some}
+use Rattle.std.proofs.Common.{◌≡◌, ℕ, List, [], ◌∷◌, length, true, Some}
 use Rattle.std.specs.Prelude.{◌&&◌, Contains, slice_get}
 use Rattle.std.specs.List.{list_all}
 use Rattle.std.proofs.lemmas.Bool.{and_parts}

@@ -1,6 +1,6 @@
 -- What an instruction defines in lowered code: a spare value where it takes one, and those of its results that have names of their own.
 use Rattle.std.proofs.Common.{◌≡◌, ℕ, suc, ◌+◌, ◌≤◌, List, [], ◌∷◌, ◌++◌, length, map, append-nil, refl, sym, ap, ◌∙◌, subst, arith, Bool, true, false, not}
-use Rattle.std.proofs.Common.{cond, Some}
+use Rattle.std.proofs.Common.{cond}
 use Rattle.std.specs.Prelude.{◌==◌, ◌||◌, filter, slice_get}
 use Rattle.std.specs.List.{flat_map}
 use Rattle.std.specs.Option.{option_to_list}

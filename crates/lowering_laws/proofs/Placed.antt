@@ -1,7 +1,7 @@
 -- The values of lowered blocks stand for themselves, their places are their new numbers, and each old value stands for one of them.
 use Rattle.std.proofs.Common.{◌≡◌, ℕ, zero, suc, ◌+◌, ◌<◌, ◌≤◌, List, [], ◌∷◌, length, map, refl, sym, ap, ◌∙◌, subst, arith, Bool, true, false, ◌⊎◌, inl, inr}
 use Rattle.std.proofs.Common.{Option, Some, None}
-use Rattle.std.specs.Prelude.{◌||◌, is_some, not, option_map, slice_get, unwrap_or}
+use Rattle.std.specs.Prelude.{◌||◌, is_some, not, slice_get, unwrap_or}
 use Rattle.std.specs.List.{list_any}
 use Rattle.std.proofs.lemmas.Bool.{cases_lt, eqb-false, or_left, or_right}
 use Rattle.std.proofs.lemmas.Option.{slice_get-map}
@@ -11,7 +11,6 @@ use Rattle.lowering_model.specs.LoweredBlocks.{lowered_blocks, value_with}
 use Rattle.lowering_model.specs.LoweredModules.{lowered_body}
 use Rattle.lowering_model.specs.Names.{renamed_from, stands_for}
 use Rattle.lowering_model.specs.Numbers.{is_value, new_number, numbering_of, place_among}
-use Rattle.numbered_form.specs.Lists.{Each}
 use Rattle.numbered_form.specs.Numbering.{AreCountedFrom, values_of}
 use Rattle.ownership_chains.specs.Chains.{operands_at}
 use Rattle.ownership_chains.specs.declared.definition.Definition.{Definition}

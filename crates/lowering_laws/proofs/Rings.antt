@@ -1,21 +1,17 @@
 -- Where no rule on kinds is broken, no value is another name of itself.
-use Rattle.std.proofs.Common.{◌≡◌, ℕ, zero, suc, ◌+◌, ◌<◌, ◌≤◌, List, [], ◌∷◌, ◌++◌, length, map, refl, sym, ap, ◌∙◌, subst, arith, true, false, ◌⊎◌, inl, inr}
-use Rattle.std.proofs.Common.{Option, Some, None}
-use Rattle.std.specs.Prelude.{Contains, option_map, slice_get}
+use Rattle.std.proofs.Common.{◌≡◌, ℕ, suc, ◌<◌, ◌≤◌, List, [], ◌∷◌, length, map, refl, sym, ◌∙◌, subst, arith, true, ◌⊎◌, inl, inr}
+use Rattle.std.proofs.Common.{Some}
+use Rattle.std.specs.Prelude.{Contains, slice_get}
 use Rattle.std.specs.List.{flat_map, list_any}
 use Rattle.std.proofs.lemmas.Bool.{cases_lt}
 use Rattle.std.proofs.lemmas.Option.{slice_get-map}
 use Rattle.sil_ast.specs.declared.function.Block.{Block}
-use Rattle.sil_ast.specs.declared.function.BlockArg.{BlockArg}
 use Rattle.sil_ast.specs.declared.function.Function.{Function}
-use Rattle.sil_ast.specs.declared.inst.Inst.{Inst}
-use Rattle.sil_ast.specs.declared.module.Module.{Module}
 use Rattle.sil_ast.specs.declared.place.ValueId.{ValueId}
 use Rattle.sil_rules.specs.declared.rule.Rule.TheVariants as rule
 use Rattle.numbered_form.specs.Insts.{insts_of}
 use Rattle.numbered_form.specs.Numbering.{AreCountedFrom, IsFunctionNumbered, defined_in, results_of, value_of, values_of}
-use Rattle.numbered_form.specs.inner.NumberedForm.{IsNumbered}
-use Rattle.ownership_chains.specs.Chains.{Chain, IsCyclic, more, one, operands_at}
+use Rattle.ownership_chains.specs.Chains.{Chain, more, one, operands_at}
 use Rattle.ownership_chains.specs.declared.definition.Definition.{Definition}
 use Rattle.ownership_kinds.specs.Statics.{HasKinds, IsDefinedAt, argument, on_ring, result}
 use Rattle.ownership_origins.proofs.Counts.{are_of_values}

@@ -2,7 +2,7 @@
 -- each is found at its place.
 use Rattle.std.proofs.Common.{◌≡◌, ℕ, zero, suc, ◌+◌, ◌<◌, ◌≤◌, List, [], ◌∷◌, ◌++◌, length, refl, sym, ap, ◌∙◌, subst, arith, append_assoc, Bool, true, false}
 use Rattle.std.proofs.Common.{not, cond, ◌⊎◌, inl, inr, Some}
-use Rattle.std.specs.Prelude.{◌==◌, ◌||◌, ⊤, filter, slice_get}
+use Rattle.std.specs.Prelude.{◌||◌, ⊤, filter, slice_get}
 use Rattle.std.specs.List.{list_any, position_or_len}
 use Rattle.std.proofs.lemmas.Bool.{eq-eqb, eqb-true, ne_eqb}
 use Rattle.sil_ast.specs.declared.place.ValueId.{ValueId}

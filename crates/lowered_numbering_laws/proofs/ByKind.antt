@@ -1,9 +1,8 @@
 -- Whatever lowering makes of an instruction, all holds of it that holds of instructions: kind by kind.
-use Rattle.std.proofs.Common.{◌≡◌, ℕ, ◌+◌, ◌≤◌, List, [], ◌∷◌, ◌++◌, length, map, refl, sym, ap, ◌∙◌, subst, arith, Bool, true, false, not, Option, Some, None}
-use Rattle.std.specs.Prelude.{◌||◌, IfSome, is_some, option_and_then, slice_get}
+use Rattle.std.proofs.Common.{◌≡◌, ℕ, ◌+◌, ◌≤◌, List, [], ◌∷◌, ◌++◌, length, map, refl, sym, ap, ◌∙◌, subst, arith, Bool, true, false, not, Some}
+use Rattle.std.specs.Prelude.{IfSome, is_some, option_and_then, slice_get}
 use Rattle.std.specs.List.{flat_map}
 use Rattle.std.specs.Option.{option_to_list}
-use Rattle.instruction_table.specs.Forms.{is_terminator}
 use Rattle.instruction_table.specs.declared.op.Op.{Op}
 use Rattle.instruction_table.specs.declared.op.Op.TheVariants as op
 use Rattle.sil_ast.specs.declared.decl.Field.{Field}
@@ -16,7 +15,7 @@ use Rattle.sil_ast.specs.declared.operands.Operand.{Operand}
 use Rattle.sil_ast.specs.declared.place.ValueId.{ValueId}
 use Rattle.sil_ast.specs.declared.type_name.TypeName.{TypeName}
 use Rattle.lowering_model.specs.Extracts.{element_extracts, extracts_elements, extracts_fields, field_extracts, member_of}
-use Rattle.lowering_model.specs.LoweredInsts.{assigns, becomes, becomes_by, destroys_by, loads_by, lowering_of, operand_at, plain_load, plain_store}
+use Rattle.lowering_model.specs.LoweredInsts.{assigns, becomes, becomes_by, destroys_by, loads_by, lowering_of, plain_load, plain_store}
 use Rattle.lowering_model.specs.LoweredInsts.{releases_at, retains_loaded, stores_by}
 use Rattle.lowering_model.specs.NewInsts.{load, loaded_from, release, retain}
 use Rattle.numbered_form.specs.Lists.{Each}
@@ -28,9 +27,9 @@ use Rattle.sil_types.specs.Typing.FormRules.{is_at_storage}
 use Rattle.sil_types.specs.Typing.RowTypes.{given_by}
 use Rattle.sil_types.specs.Typing.Shapes.{is_object, target}
 use Rattle.type_definitions.specs.Declarations.{Declarations}
-use Rattle.type_definitions.specs.Mentions.{Mention, if_there, in_edge, in_inst, in_operand, in_signature, in_tuple, mention, standing_in}
+use Rattle.type_definitions.specs.Mentions.{Mention, if_there, in_edge, in_operand, in_signature, in_tuple, mention, standing_in}
 use Rattle.type_definitions.specs.declared.standing.Standing.TheVariants.{Value}
-use Rattle.lowering_laws.proofs.Known.{Known, OneTyped, ThenTyped, one_operand, two_operands}
+use Rattle.lowering_laws.proofs.Known.{Known, OneTyped, one_operand, two_operands}
 use Rattle.lowering_laws.proofs.NewValues.{members_of_operand, takes_spare, takes_spare_by}
 use Rattle.lowering_laws.proofs.Structs.{IsStruct, TakesApart, takes_apart}
 use Rattle.run_typing_laws.proofs.Declared.{each_append}
@@ -39,16 +38,15 @@ use Rattle.run_typing_laws.proofs.Rows.Finding.{if_some}
 use Rattle.lowered_numbering_laws.proofs.Addresses.{IsAddress, borrows_from, destroys_at, loads_from, placed_behind, stores_to}
 use Rattle.lowered_numbering_laws.proofs.New.{IsGood, borrow_row, load_sound, release_row, release_sound, retain_row, retain_sound, reworded_sound, same_row}
 use Rattle.lowered_numbering_laws.proofs.New.{struct_extract_sound, tuple_extract_sound}
-use Rattle.lowered_numbering_laws.proofs.Sound.{IsSound}
+use Rattle.lowered_numbering_laws.proofs.Sound.{IsSound, IsSoundInside}
 
 module _ (K : ValueId → Type 0) (T : Mention → Type 0) (M : Member → Type 0) (blocks functions : ℕ) 
     (behind : (t u : TypeName) → target t ≡ Some u → is_object u ≡ true → T (mention Value t) → T (mention Value u)) where
   abbrev Good : Operand → Type 0
   Good x = IsGood K T M blocks functions x
 
-  -- it ends no block, and all holds of it
-  abbrev pub IsSoundInside : Inst → Type 0
-  IsSoundInside i = (is_terminator i.op ≡ false) × IsSound K T M blocks functions i
+  abbrev Inside : Inst → Type 0
+  Inside i = IsSoundInside K T M blocks functions i
 
   -- ---- operands
 
@@ -94,52 +92,52 @@ module _ (K : ValueId → Type 0) (T : Mention → Type 0) (M : Member → Type 
 
   module _ (d : Declarations) (f : Function) (spare : ValueId) (i : Inst) (k : Known d f i) (s : IsSound K T M blocks functions i)
       (known : Each K i.results) where
-    retains : (x : Operand) → Good x → IsSoundInside (retain d x)
+    retains : (x : Operand) → Good x → Inside (retain d x)
     retains x good = ((retain_row d x).takes.goes_on, retain_sound K T M blocks functions d x good)
 
-    releases : (x : Operand) → Good x → IsSoundInside (release d x)
+    releases : (x : Operand) → Good x → Inside (release d x)
     releases x good = ((release_row d x).takes.goes_on, release_sound K T M blocks functions d x good)
 
-    loads_spare : (place : Operand) → Good place → IsSoundInside (load place spare)
+    loads_spare : (place : Operand) → Good place → Inside (load place spare)
     loads_spare place good = (refl, load_sound K T M blocks functions place spare good)
 
-    loads : (x : Operand) → i.operands ≡ x ∷ [] → Good x → IsAddress x → IsSoundInside (plain_load i) → (q : Qualifier)
-        → Each IsSoundInside (loads_by d spare q i)
+    loads : (x : Operand) → i.operands ≡ x ∷ [] → Good x → IsAddress x → Inside (plain_load i) → (q : Qualifier)
+        → Each Inside (loads_by d spare q i)
     loads x only good a plain word.Copy =
-        (plain, subst (λ os. Each IsSoundInside (flat_map (retains_loaded d spare i.results) (option_to_list (slice_get os 0)))) (sym only)
-        (each_append IsSoundInside (retains_loaded d spare i.results x) []
-        (each_map (λ v. retain d (loaded_from x v)) K IsSoundInside (λ v h. retains (loaded_from x v) (good_loaded x v good a h)) i.results known) tt))
+        (plain, subst (λ os. Each Inside (flat_map (retains_loaded d spare i.results) (option_to_list (slice_get os 0)))) (sym only)
+        (each_append Inside (retains_loaded d spare i.results x) []
+        (each_map (λ v. retain d (loaded_from x v)) K Inside (λ v h. retains (loaded_from x v) (good_loaded x v good a h)) i.results known) tt))
     loads x only good a plain _ = (plain, tt)
 
-    stores : (x y : Operand) → i.operands ≡ x ∷ y ∷ [] → Good y → IsAddress y → IsSoundInside (plain_store i) → (q : Qualifier) → (is_assign q ≡ true → K spare)
-        → Each IsSoundInside (stores_by d spare q i)
+    stores : (x y : Operand) → i.operands ≡ x ∷ y ∷ [] → Good y → IsAddress y → Inside (plain_store i) → (q : Qualifier) → (is_assign q ≡ true → K spare)
+        → Each Inside (stores_by d spare q i)
     stores x y both good a plain word.Assign new =
-        subst (λ os. Each IsSoundInside (flat_map (assigns d spare i) (option_to_list (slice_get os 1)))) (sym both)
+        subst (λ os. Each Inside (flat_map (assigns d spare i) (option_to_list (slice_get os 1)))) (sym both)
         (loads_spare y good, (plain, (releases (loaded_from y spare) (good_loaded y spare good a (new refl)), tt)))
     stores x y both good a plain _ new = (plain, tt)
 
     destroys : (x : Operand) → i.operands ≡ x ∷ [] → Good x → (is_at_storage i ≡ false → IsAddress x) → (stored : Bool) → is_at_storage i ≡ stored
         → (not stored ≡ true → K spare)
-        → Each IsSoundInside (destroys_by d spare stored i)
+        → Each Inside (destroys_by d spare stored i)
     destroys x only good a true e new = ((k.lowerable.inside.goes_on, s), tt)
     destroys x only good a false e new =
-        subst (λ os. Each IsSoundInside (flat_map (releases_at d spare) os)) (sym only)
+        subst (λ os. Each Inside (flat_map (releases_at d spare) os)) (sym only)
         (loads_spare x good, (releases (loaded_from x spare) (good_loaded x spare good (a e) (new refl)), tt))
 
     fields : (x : Operand) → Good x → (ms : List Member) → Each (λ m. IsMemberSpelled m × M m) ms → (vs : List ValueId)
-        → Each IsSoundInside (field_extracts x ms vs)
+        → Each Inside (field_extracts x ms vs)
     fields x good [] h vs = tt
     fields x good (m ∷ ms) h [] = tt
     fields x good (m ∷ ms) h (v ∷ vs) = ((refl, struct_extract_sound K T M blocks functions x m v good h.0.0 h.0.1), fields x good ms h.1 vs)
 
-    elements : (x : Operand) → Good x → (n : ℕ) (vs : List ValueId) → n + length vs ≤ 64 → Each IsSoundInside (element_extracts x n vs)
+    elements : (x : Operand) → Good x → (n : ℕ) (vs : List ValueId) → n + length vs ≤ 64 → Each Inside (element_extracts x n vs)
     elements x good n [] le = tt
     elements x good n (v ∷ vs) le = ((refl, tuple_extract_sound K T M blocks functions x n v good (omega arith)), elements x good (n + 1) vs (omega arith))
 
     module _ (members : (t : TypeName) (fields : List Field) (struct : IsStruct d t fields) → IsPlacedType t
         → Each (λ m. IsMemberSpelled m × M m) (map (member_of struct.name) fields)) where
       abbrev IsWell : Op → Type 0
-      IsWell o = Each IsSoundInside (becomes_by d spare (lowering_of o) i)
+      IsWell o = Each Inside (becomes_by d spare (lowering_of o) i)
 
       keeps : (o : Op) → i.op ≡ o → is_some (given_by o d i) ≡ true
       keeps o e = subst (λ x. is_some (given_by x d i) ≡ true) e k.lowerable.keeps
@@ -147,21 +145,21 @@ module _ (K : ValueId → Type 0) (T : Mention → Type 0) (M : Member → Type 
       good : (x : OneTyped i.operands) → Good x.operand
       good x = good_one i x.operand s x.only x.typed
 
-      takes_struct : (x : Operand) → Good x → i.operands ≡ x ∷ [] → TakesApart d i x → Each IsSoundInside (flat_map (extracts_fields d i.results) i.operands)
+      takes_struct : (x : Operand) → Good x → i.operands ≡ x ∷ [] → TakesApart d i x → Each Inside (flat_map (extracts_fields d i.results) i.operands)
       takes_struct x good only t =
           let named = members t.ty t.fields t.struct (if_some IsPlacedType x.ty t.ty t.is_type good.written) in
-          subst (λ os. Each IsSoundInside (flat_map (extracts_fields d i.results) os)) (sym only)
-          (each_append IsSoundInside (extracts_fields d i.results x) []
-          (subst (λ ms. Each IsSoundInside (field_extracts x ms i.results)) (sym (members_of_operand d i x t))
+          subst (λ os. Each Inside (flat_map (extracts_fields d i.results) os)) (sym only)
+          (each_append Inside (extracts_fields d i.results x) []
+          (subst (λ ms. Each Inside (field_extracts x ms i.results)) (sym (members_of_operand d i x t))
               (fields x good (map (member_of t.struct.name) t.fields) named i.results)) tt)
 
       by : (o : Op) → i.op ≡ o → (takes_spare_by (lowering_of o) i ≡ true → K spare) → IsWell o
       by op.CopyValue e new =
           let x = one_operand d f i k op.CopyValue e (λ os. refl) in
-          subst (λ os. Each IsSoundInside (map (retain d) os)) (sym x.only) (retains x.operand (good x), tt)
+          subst (λ os. Each Inside (map (retain d) os)) (sym x.only) (retains x.operand (good x), tt)
       by op.DestroyValue e new =
           let x = one_operand d f i k op.DestroyValue e (λ os. refl) in
-          subst (λ os. Each IsSoundInside (map (release d) os)) (sym x.only) (releases x.operand (good x), tt)
+          subst (λ os. Each Inside (map (release d) os)) (sym x.only) (releases x.operand (good x), tt)
       by op.MoveValue e new = tt
       by op.BeginBorrow e new = tt
       by op.EndBorrow e new = tt
@@ -187,10 +185,10 @@ module _ (K : ValueId → Type 0) (T : Mention → Type 0) (M : Member → Type 
       by op.DestructureTuple e new =
           let x = one_operand d f i k op.DestructureTuple e (λ os. refl) in
           let few : length i.results ≤ 64 = s.limits.results in
-          subst (λ os. Each IsSoundInside (flat_map (extracts_elements i.results) os)) (sym x.only)
-          (each_append IsSoundInside (extracts_elements i.results x.operand) [] (elements x.operand (good x) 0 i.results (omega arith)) tt)
+          subst (λ os. Each Inside (flat_map (extracts_elements i.results) os)) (sym x.only)
+          (each_append Inside (extracts_elements i.results x.operand) [] (elements x.operand (good x) 0 i.results (omega arith)) tt)
       by o e new = ((k.lowerable.inside.goes_on, s), tt)
 
       -- where the spare value is known that it takes
-      pub becomes_sound : (takes_spare i ≡ true → K spare) → Each IsSoundInside (becomes d spare i)
+      pub becomes_sound : (takes_spare i ≡ true → K spare) → Each Inside (becomes d spare i)
       becomes_sound new = by i.op refl new
