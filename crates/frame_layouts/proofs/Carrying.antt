@@ -1,5 +1,5 @@
 -- What is carried, pair by pair, and that it is what is meant.
-use Rattle.std.proofs.Common.{◌≡◌, ℕ, zero, suc, ◌+◌, ◌<◌, ◌≤◌, List, [], ◌∷◌, ◌++◌, length, map, drop, get_or, refl, sym, ap, ap₂, ◌∙◌, subst, arith}
+use Rattle.std.proofs.Common.{◌≡◌, ℕ, zero, suc, ◌+◌, ◌<◌, ◌≤◌, List, [], ◌∷◌, ◌++◌, length, map, drop, get_or, refl, sym, ap, ap₂, ◌∙◌}
 use Rattle.std.proofs.Common.{append_assoc, add-one, Option, Some, None}
 use Rattle.std.specs.Prelude.{slice_get}
 use Rattle.std.specs.Option.{option_to_list}
@@ -12,14 +12,14 @@ use Rattle.sil_ast.specs.declared.function.BlockArg.{BlockArg}
 use Rattle.sil_ast.specs.declared.function.Function.{Function}
 use Rattle.sil_ast.specs.declared.operands.Operand.{Operand}
 use Rattle.type_definitions.specs.Declarations.{Declarations}
-use Rattle.ready_code.specs.Layout.{address_carried, addresses_carried, carry, carry_address, local, local_address, value_carried, values_carried}
+use Rattle.ready_code.specs.Layout.{address_carried, addresses_carried, carry, carry_address, value_carried, values_carried}
 use Rattle.ready_code.specs.declared.local.Carry.{Carry}
 use Rattle.ready_code.specs.declared.local.CarryAddress.{CarryAddress}
 use Rattle.ready_code.specs.declared.local.Local.{Local}
 use Rattle.ready_code.specs.declared.local.LocalAddress.{LocalAddress}
 use Rattle.frame_layouts.specs.declared.layout.Layout.{Layout}
-use Rattle.frame_layouts.specs.inner.Carried.{address_between, addresses_between, between, value_between, values_between, where_address, where_leaves}
-use Rattle.frame_layouts.specs.inner.Layouts.{address_in, kept_in, kept_of, layout_of, local_in}
+use Rattle.frame_layouts.specs.inner.Carried.{addresses_between, between, values_between, where_address, where_leaves}
+use Rattle.frame_layouts.specs.inner.Layouts.{kept_of, layout_of}
 use Rattle.frame_layouts.proofs.Spots.{address_told, kept_told, local_told}
 
 module _ {A : Type 0} (one : Operand → Option BlockArg → Option A) (no : (o : Operand) → one o None ≡ None) where

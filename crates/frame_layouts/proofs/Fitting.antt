@@ -1,15 +1,14 @@
 -- Types that can be measured: no address stands in them, and they have no more leaves than the limit. So are those that a module mentions.
-use Rattle.std.proofs.Common.{◌≡◌, ℕ, ◌≤◌, List, [], ◌∷◌, ◌++◌, map, refl, sym, ap, ◌∙◌, subst, arith, Bool, true, false, Option, Some, None}
-use Rattle.std.specs.Prelude.{◌&&◌, IfSome, cond, not, nat_le, slice_get}
+use Rattle.std.proofs.Common.{◌≡◌, ℕ, ◌≤◌, List, [], ◌∷◌, ◌++◌, map, refl, ap, ◌∙◌, subst, arith, Bool, true, false, Option, Some}
+use Rattle.std.specs.Prelude.{◌&&◌, cond, nat_le, slice_get}
 use Rattle.std.specs.List.{flat_map, list_all, list_any}
 use Rattle.std.specs.Option.{option_to_list}
 use Rattle.std.proofs.lemmas.Bool.{leb-true, not-false, or_parts}
-use Rattle.numbered_form.specs.Insts.{EachInBlock, insts_of}
+use Rattle.numbered_form.specs.Insts.{insts_of}
 use Rattle.numbered_form.specs.Lists.{Each}
 use Rattle.numbered_form.specs.inner.Types.{HasArgType, HasBlockTypes, HasFunctionTypes, HasInstTypes, HasOperandType, HasSignatureTypes, IsGivenWritten}
 use Rattle.numbered_form.specs.inner.Types.{IsPlacedType, IsPlainType}
 use Rattle.numbered_form.specs.inner.Types.{is_placed_at, is_placed_type}
-use Rattle.point_checks.specs.Points.{IsAt}
 use Rattle.sil_ast.specs.declared.function.Block.{Block}
 use Rattle.sil_ast.specs.declared.function.BlockArg.{BlockArg}
 use Rattle.sil_ast.specs.declared.function.Function.{Function}

@@ -1,6 +1,6 @@
 -- The types that rows give can be measured.
-use Rattle.std.proofs.Common.{◌≡◌, ℕ, zero, suc, ◌≤◌, List, [], ◌∷◌, ◌++◌, map, length, refl, sym, ap, ◌∙◌, subst, arith, Bool, true, false, Option, Some, None}
-use Rattle.std.specs.Prelude.{◌==◌, ◌&&◌, IfSome, ℤ, pos, negsuc, if◌then◌else◌, is_some, not, option_and_then, option_map, slice_get}
+use Rattle.std.proofs.Common.{◌≡◌, ℕ, ◌≤◌, List, [], ◌∷◌, ◌++◌, map, length, refl, sym, ap, ◌∙◌, subst, arith, Bool, true, false, Option, Some, None}
+use Rattle.std.specs.Prelude.{◌==◌, ◌&&◌, IfSome, ℤ, pos, negsuc, if◌then◌else◌, not, option_and_then, option_map, slice_get}
 use Rattle.std.specs.List.{flat_map, list_all, list_any}
 use Rattle.std.specs.Option.{option_to_list}
 use Rattle.std.proofs.lemmas.Bool.{and_parts, false≢true, or_parts}
@@ -19,13 +19,12 @@ use Rattle.sil_ast.specs.declared.inst.Inst.{Inst}
 use Rattle.sil_ast.specs.declared.member.Member.{Member}
 use Rattle.sil_ast.specs.declared.module.Module.{Module}
 use Rattle.sil_ast.specs.declared.operands.Operand.{Operand}
-use Rattle.sil_ast.specs.declared.signature.Signature.{Signature}
-use Rattle.sil_ast.specs.declared.type_name.TypeName.{TypeName, TypeName-F, out-TypeName}
+use Rattle.sil_ast.specs.declared.type_name.TypeName.{TypeName}
 use Rattle.sil_ast.specs.declared.type_name.TypeName.TheVariants as type
 use Rattle.sil_rules.specs.declared.limits.TheConstants.{LEAVES}
 use Rattle.sil_types.specs.Typing.Builtins.{Builtin, builtin_named, builtin_operands, builtin_result}
-use Rattle.sil_types.specs.Typing.RowTypes.{MadeTypes, address_of, address_of_field, all_fields, all_written, are_elements, given_by, gives, gives_builtin}
-use Rattle.sil_types.specs.Typing.RowTypes.{is_base, is_made_by_case, is_struct_of, member_type, of_tuple, takes, type_of, types_of, written}
+use Rattle.sil_types.specs.Typing.RowTypes.{address_of, address_of_field, all_fields, all_written, are_elements, given_by, gives, gives_builtin}
+use Rattle.sil_types.specs.Typing.RowTypes.{is_base, is_made_by_case, is_struct_of, member_type, takes, type_of, written}
 use Rattle.sil_types.specs.Typing.Same.{are_same_types, is_same_type}
 use Rattle.sil_types.specs.Typing.Shapes.{class_field, element_at, element_of, elements, field_address, field_type, fields_of_struct, in_unowned, in_weak}
 use Rattle.sil_types.specs.Typing.Shapes.{is_enum, is_integer, is_nontrivial, is_object}
@@ -49,7 +48,7 @@ use Rattle.run_typing_laws.proofs.Rows.Storage.{behind_address, in_unowned_stora
 use Rattle.run_typing_laws.proofs.Sizes.{sizes}
 use Rattle.frame_layouts.proofs.Fitting.{Fits, not_overfull, operand_fits, overfull, signature_fits, tuple_plain, tuple_within, type_fits}
 use Rattle.frame_layouts.proofs.FieldsFit.{FieldFits, class_field_fits, elements_fit, fields_fit, struct_field_fits, unowned_fits, weak_fits}
-use Rattle.frame_layouts.proofs.Targets.{is_address_of, leaves-target_of, of_address, of_other, target_of-Address, target_of-Tuple}
+use Rattle.frame_layouts.proofs.Targets.{is_address_of, of_address, of_other, target_of-Address, target_of-Tuple}
 
 -- a type without an address points to nothing
 plain_itself : (t : TypeName) → has_no_address t ≡ true → target_of t ≡ t

@@ -3,7 +3,7 @@ use Rattle.std.proofs.Common.{◌≡◌, ℕ, zero, suc, sym, ap, ◌∙◌, ref
 use Rattle.std.specs.Prelude.{length}
 use Rattle.sil_ast.specs.declared.decl.Decl.{Decl}
 use Rattle.sil_ast.specs.declared.decl.Decl.TheVariants.{Struct, Enum, Class}
-use Rattle.sil_ast.specs.declared.type_name.TypeName.{TypeName, TypeName-F, fold-TypeName, fold-roll-TypeName}
+use Rattle.sil_ast.specs.declared.type_name.TypeName.{TypeName-F, fold-TypeName, fold-roll-TypeName}
 use Rattle.sil_ast.specs.declared.type_name.TypeName.TheVariants as type
 use Rattle.sil_ast.specs.declared.type_name.TypeName.TheVariants.{rolls-Named}
 use Rattle.numbered_form.specs.Names.{Name}

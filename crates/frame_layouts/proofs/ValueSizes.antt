@@ -1,5 +1,5 @@
 -- The types of a function's values have sizes.
-use Rattle.std.proofs.Common.{◌≡◌, ℕ, zero, suc, ◌+◌, List, [], ◌∷◌, ◌++◌, map, length, refl, sym, ap, ◌∙◌, subst, Option, Some, None}
+use Rattle.std.proofs.Common.{◌≡◌, ℕ, zero, suc, ◌+◌, List, [], ◌∷◌, map, length, refl, subst, Option, Some, None}
 use Rattle.std.specs.Prelude.{IfSome, slice_get, unwrap_or}
 use Rattle.std.specs.List.{flat_map, range_with_len}
 use Rattle.numbered_form.specs.Insts.{insts_of}
@@ -11,12 +11,12 @@ use Rattle.sil_ast.specs.declared.function.Function.{Function}
 use Rattle.sil_ast.specs.declared.inst.Inst.{Inst}
 use Rattle.sil_ast.specs.declared.module.Module.{Module}
 use Rattle.sil_ast.specs.declared.type_name.TypeName.{TypeName}
-use Rattle.sil_types.specs.Typing.RowTypes.{MadeTypes, given_by, row_types}
+use Rattle.sil_types.specs.Typing.RowTypes.{MadeTypes, row_types}
 use Rattle.sil_types.specs.Typing.Values.{arg_has, arg_types, result_types, value_types}
 use Rattle.type_definitions.specs.Declarations.{declarations_of}
 use Rattle.type_definitions.specs.Mentions.{target_of}
 use Rattle.value_tables.specs.ValueRows.{block_rows, rows_from}
-use Rattle.run_typing_laws.proofs.Declared.{each_append, each_from}
+use Rattle.run_typing_laws.proofs.Declared.{each_append}
 use Rattle.run_typing_laws.proofs.Rows.Finding.{each_at}
 use Rattle.frame_layouts.specs.inner.Sized.{HasSize, HaveSizes}
 use Rattle.frame_layouts.proofs.Fitting.{Fits, args_fit, has_size}

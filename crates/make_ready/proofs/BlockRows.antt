@@ -1,8 +1,7 @@
 -- The instructions of a block of a runnable module have what their rows have.
 use Rattle.std.proofs.Common.{◌≡◌, ℕ, refl, ap, ◌∙◌, Some}
 use Rattle.std.specs.Prelude.{slice_get}
-use Rattle.holder_model.specs.Effects.{effect_of}
-use Rattle.item_operands.specs.Parts.{inst_at, inst_in, terminator_in, terminator_of}
+use Rattle.item_operands.specs.Parts.{inst_at, inst_in, terminator_in}
 use Rattle.sil_ast.specs.declared.function.Block.{Block}
 use Rattle.sil_ast.specs.declared.inst.Inst.{Inst}
 use Rattle.sil_ast.specs.declared.place.PointId.{PointId}
@@ -12,7 +11,6 @@ use Rattle.run_typing_laws.proofs.Rows.Known.{known}
 use Rattle.frame_layouts.proofs.ValueSizes.{value_sizes}
 use Rattle.make_ready.specs.declared.body.Body.{Body}
 use Rattle.make_ready.specs.inner.Bodies.{HasOwnRow, HasRows, IsBody}
-use Rattle.make_ready.specs.inner.Rows.{HasRow}
 use Rattle.make_ready.proofs.EndParts.{has_end}
 use Rattle.make_ready.proofs.RowParts.{parts}
 use Rattle.make_ready.proofs.TypedRows.{row_told}

@@ -13,7 +13,7 @@ use Rattle.type_definitions.specs.Declarations.{Declarations}
 use Rattle.ready_code.specs.declared.block.ReadyCase.{ReadyCase}
 use Rattle.ready_code.specs.ReadyEnds.{AreReadyCases, ready_case}
 use Rattle.frame_layouts.proofs.Lists.{each_more}
-use Rattle.make_ready.specs.inner.Cases.{AreByCase, AreReadyTo, CaseEdge, HaveEdges, IsCase}
+use Rattle.make_ready.specs.inner.Cases.{AreByCase, AreReadyTo, CaseEdge, IsCase}
 
 module _ (d : Declarations) (f : Function) (s : Shape) (edges : List Edge) where
   abbrev IsCaseAt : ℕ → ReadyCase → Type 0

@@ -1,5 +1,5 @@
 -- The place by which a class is told tells it.
-use Rattle.std.proofs.Common.{◌≡◌, ℕ, zero, suc, ◌-◌, List, [], ◌∷◌, ◌++◌, length, refl, sym, ap, ◌∙◌, subst, arith, Bool, true, false, Option, Some, None}
+use Rattle.std.proofs.Common.{◌≡◌, ℕ, zero, suc, ◌-◌, List, ◌++◌, length, refl, sym, ap, ◌∙◌, arith, Bool, true, false, Option, Some, None}
 use Rattle.std.specs.Prelude.{cond, option_and_then, option_map, slice_get}
 use Rattle.numbered_form.specs.Names.{Name}
 use Rattle.sil_ast.specs.declared.decl.Decl.{Decl}

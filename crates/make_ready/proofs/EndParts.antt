@@ -1,6 +1,6 @@
 -- What the row of a terminator has, by what typing tells of it.
-use Rattle.std.proofs.Common.{◌≡◌, ℕ, ◌<◌, List, [], ◌∷◌, length, map, refl, sym, ap, ◌∙◌, subst, true, Option, Some, None}
-use Rattle.std.specs.Prelude.{is_some, option_and_then, slice_get}
+use Rattle.std.proofs.Common.{◌≡◌, ℕ, List, [], ◌∷◌, map, refl, sym, ap, ◌∙◌, subst, true, Option, Some, None}
+use Rattle.std.specs.Prelude.{is_some, slice_get}
 use Rattle.instruction_table.specs.Forms.{ending_of}
 use Rattle.instruction_table.specs.declared.entries.Ending.{Ending}
 use Rattle.instruction_table.specs.declared.entries.Ending.TheVariants as ending
@@ -15,11 +15,11 @@ use Rattle.sil_ast.specs.declared.module.Module.{Module}
 use Rattle.sil_ast.specs.declared.operands.Operand.{Operand}
 use Rattle.sil_ast.specs.declared.place.ValueId.{ValueId}
 use Rattle.sil_ast.specs.declared.type_name.TypeName.{TypeName}
-use Rattle.sil_types.specs.Typing.RowTypes.{given_by, takes, type_of, written}
+use Rattle.sil_types.specs.Typing.RowTypes.{given_by, type_of, written}
 use Rattle.sil_types.specs.Typing.Shapes.{is_enum, target, where_it}
 use Rattle.type_definitions.specs.Declarations.{Declarations, declarations_of}
 use Rattle.run_typing.specs.EndForms.{EndForms, TakenCase, branch, branches, cases, operand_forms, returns, unreachable}
-use Rattle.run_typing.specs.Forms.{Form, OfValue, form_of, form_with}
+use Rattle.run_typing.specs.Forms.{OfValue, form_of, form_with}
 use Rattle.run_typing.specs.Runnable.{IsRunnable}
 use Rattle.run_typing_laws.proofs.FunctionFacts.{TypedInst, typed_function}
 use Rattle.run_typing_laws.proofs.RunnableTyped.{runnable_is_typed}
@@ -28,9 +28,9 @@ use Rattle.run_typing_laws.proofs.Rows.Shares.{taken_from}
 use Rattle.run_typing_laws.proofs.ValueForms.{operand_written, row_kept}
 use Rattle.ready_code.specs.ReadyOps.{operands_of}
 use Rattle.frame_layouts.proofs.Lists.{element_there}
-use Rattle.make_ready.specs.inner.Cases.{CaseEdge, HaveEdges}
+use Rattle.make_ready.specs.inner.Cases.{HaveEdges}
 use Rattle.make_ready.specs.inner.Ends.{HasEnd, Parts}
-use Rattle.make_ready.proofs.OneByOne.{OneValue, one_value}
+use Rattle.make_ready.proofs.OneByOne.{one_value}
 
 switches : (o : Op) → ending_of o ≡ ending.Cases → o ≡ op.SwitchEnum
 switches op.SwitchEnum e = refl

@@ -1,5 +1,5 @@
 -- Calls are made ready as is meant.
-use Rattle.std.proofs.Common.{◌≡◌, ℕ, zero, suc, List, [], ◌∷◌, map, drop, refl, sym, ap, ap₂, ◌∙◌, subst, Bool, true, false, Option, Some, None}
+use Rattle.std.proofs.Common.{◌≡◌, List, [], ◌∷◌, map, drop, sym, ap, ◌∙◌, subst, true, false, Some}
 use Rattle.std.specs.Prelude.{slice_get}
 use Rattle.holder_model.specs.Effects.{effect_of}
 use Rattle.holder_model.specs.Frames.{has_any}

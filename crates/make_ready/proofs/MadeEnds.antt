@@ -1,12 +1,10 @@
 -- Terminators are made ready as is meant, where their parts are those of their rows.
-use Rattle.std.proofs.Common.{◌≡◌, ℕ, ◌<◌, List, [], ◌∷◌, length, refl, sym, ap, ap₂, ◌∙◌, subst, arith, Option, Some, None}
+use Rattle.std.proofs.Common.{◌≡◌, ℕ, ◌<◌, List, [], ◌∷◌, length, sym, ap, ◌∙◌, subst, Some}
 use Rattle.std.specs.Prelude.{slice_get}
 use Rattle.std.proofs.lemmas.Option.{slice_get_within}
-use Rattle.instruction_table.specs.declared.entries.Ending.{Ending}
 use Rattle.instruction_table.specs.declared.entries.Ending.TheVariants as ending
 use Rattle.run_values.specs.Shapes.{shape_of}
 use Rattle.sil_ast.specs.declared.function.Function.{Function}
-use Rattle.sil_ast.specs.declared.inst.Edge.{Edge}
 use Rattle.sil_ast.specs.declared.inst.Inst.{Inst}
 use Rattle.sil_ast.specs.declared.place.ValueId.{ValueId}
 use Rattle.sil_ast.specs.declared.type_name.TypeName.{TypeName}
@@ -21,7 +19,7 @@ use Rattle.ready_code.specs.declared.block.ReadyEdge.{ReadyEdge}
 use Rattle.ready_code.specs.declared.block.ReadyEnd.{ReadyEnd}
 use Rattle.ready_code.specs.declared.block.ReadyEnd.TheVariants as end
 use Rattle.ready_code.specs.declared.local.Local.{Local}
-use Rattle.make_ready.specs.inner.Ends.{Branches, HasEdge, HasEnd}
+use Rattle.make_ready.specs.inner.Ends.{HasEdge, HasEnd}
 use Rattle.make_ready.proofs.MadeOps.{first_is}
 
 module _ (d : Declarations) (f : Function) (i : Inst) where

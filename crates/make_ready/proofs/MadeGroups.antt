@@ -1,12 +1,12 @@
 -- Instructions that compute, that make objects and groups, choose cases, and that read or name members are made ready as is meant.
-use Rattle.std.proofs.Common.{◌≡◌, ℕ, ℤ, zero, suc, ◌≤◌, List, [], ◌∷◌, length, map, refl, sym, ap, ap₂, ◌∙◌, subst, arith, Bool, Option, Some, None}
+use Rattle.std.proofs.Common.{◌≡◌, ℕ, ◌≤◌, List, [], ◌∷◌, length, map, refl, sym, ap, ap₂, ◌∙◌, subst, arith, Option, Some}
 use Rattle.std.specs.Prelude.{option_and_then, option_map, slice_get}
 use Rattle.std.proofs.lemmas.List.{length-map}
 use Rattle.holder_model.specs.ModuleShapes.{case_place}
 use Rattle.holder_model.specs.declared.row_effect.RowEffect.{RowEffect}
 use Rattle.holder_model.specs.declared.row_effect.RowEffect.TheVariants as row
 use Rattle.run_typing.specs.EndForms.{value_in}
-use Rattle.run_values.specs.Shapes.{Shape, member_shapes, shape_of}
+use Rattle.run_values.specs.Shapes.{member_shapes, shape_of}
 use Rattle.sil_ast.specs.declared.function.Function.{Function}
 use Rattle.sil_ast.specs.declared.inst.Inst.{Inst}
 use Rattle.sil_ast.specs.declared.module.Module.{Module}
@@ -23,7 +23,7 @@ use Rattle.ready_code.specs.declared.local.LocalAddress.{LocalAddress}
 use Rattle.ready_code.specs.declared.op.ReadyOp.{ReadyOp}
 use Rattle.ready_code.specs.declared.op.ReadyOp.TheVariants as op
 use Rattle.make_ready.specs.inner.Rows.{HasRow}
-use Rattle.make_ready.proofs.MadeOps.{first_is, operand_address, operand_local, result_address, result_local, second_local}
+use Rattle.make_ready.proofs.MadeOps.{operand_address, operand_local, result_address, result_local, second_local}
 
 third_is : {A : Type 0} (xs rest : List A) (w x : A) → xs ≡ w ∷ x ∷ rest → slice_get xs 2 ≡ first_of rest
 third_is xs rest w x e = subst (λ zs. slice_get zs 2 ≡ first_of rest) (sym e) (at rest)

@@ -1,14 +1,12 @@
 -- Instructions are made ready as is meant, where their parts are those of their rows.
-use Rattle.std.proofs.Common.{◌≡◌, ℕ, ℤ, zero, suc, ◌≤◌, List, [], ◌∷◌, length, map, refl, sym, ap, ap₂, ◌∙◌, subst, arith, Bool, Option, Some, None}
-use Rattle.std.specs.Prelude.{option_and_then, option_map, slice_get}
-use Rattle.builtin_names.specs.declared.names.Operation.{Operation}
-use Rattle.builtin_names.specs.declared.names.Width.{Width}
+use Rattle.std.proofs.Common.{◌≡◌, ℕ, ℤ, List, [], ◌∷◌, sym, ap, ◌∙◌, subst, Bool, Option, Some, None}
+use Rattle.std.specs.Prelude.{slice_get}
 use Rattle.holder_model.specs.MemoryEffects.{takes}
 use Rattle.holder_model.specs.declared.row_effect.RowEffect.{RowEffect}
 use Rattle.holder_model.specs.declared.row_effect.RowEffect.TheVariants as row
 use Rattle.lowered_run.specs.LowEffects.{is_first_write}
 use Rattle.memory_accesses.specs.Operations.{load_operation, store_operation}
-use Rattle.run_typing.specs.Forms.{Form, OfFunction, OfNothing, OfPlace, OfValue, form_of}
+use Rattle.run_typing.specs.Forms.{OfPlace, form_of}
 use Rattle.run_values.specs.Shapes as shapes
 use Rattle.run_values.specs.Shapes.{Shape, Stored, member_shapes, shape_of, storage_in}
 use Rattle.sil_ast.specs.declared.decl.Storage.{Storage}
@@ -24,10 +22,8 @@ use Rattle.ready_code.specs.declared.local.Local.{Local}
 use Rattle.ready_code.specs.declared.local.LocalAddress.{LocalAddress}
 use Rattle.ready_code.specs.declared.op.ReadyOp.{ReadyOp}
 use Rattle.ready_code.specs.declared.op.ReadyOp.TheVariants as op
-use Rattle.frame_layouts.specs.declared.layout.Kept.{Kept}
 use Rattle.frame_layouts.specs.declared.layout.Kept.TheVariants as kept
 use Rattle.frame_layouts.specs.inner.Layouts.{kept_of}
-use Rattle.make_ready.specs.inner.Parts.{TakesOne}
 use Rattle.make_ready.specs.inner.Rows.{HasRow}
 
 pub first_is : {A : Type 0} (xs rest : List A) (x y : A) → xs ≡ x ∷ rest → slice_get xs 0 ≡ Some y → y ≡ x

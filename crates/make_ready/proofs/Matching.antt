@@ -1,5 +1,5 @@
 -- Lists that match element by element, built one by one.
-use Rattle.std.proofs.Common.{◌≡◌, ℕ, ◌+◌, ◌<◌, ◌≤◌, List, [], ◌∷◌, ◌++◌, length, take, get_or, refl, sym, subst}
+use Rattle.std.proofs.Common.{◌≡◌, ℕ, ◌+◌, ◌<◌, ◌≤◌, List, [], ◌∷◌, ◌++◌, length, take, get_or, sym, subst}
 use Rattle.std.proofs.lemmas.List.{take_all}
 use Rattle.ready_code.specs.Matched.{Matched, none, both}
 use Rattle.frame_layouts.proofs.Lists.{further}

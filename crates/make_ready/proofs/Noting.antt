@@ -1,7 +1,7 @@
 -- The first edge of each case, noted edge by edge.
 use Rattle.std.proofs.Common.{◌≡◌, ℕ, zero, suc, ◌+◌, ◌<◌, ◌≤◌, List, [], ◌∷◌, ◌++◌, length, take, set, get_or, refl, sym, ap, ap₂, ◌∙◌, subst, arith}
 use Rattle.std.proofs.Common.{Bool, true, false, Option, Some, None, eqb, inl, inr}
-use Rattle.std.specs.Prelude.{◌==◌, ◌⊎◌, cond, is_some, option_map, position, slice_get, replicate}
+use Rattle.std.specs.Prelude.{◌==◌, ◌⊎◌, cond, is_some, position, slice_get, replicate}
 use Rattle.std.specs.List.{position_from}
 use Rattle.std.specs.Option.{option_or}
 use Rattle.std.proofs.lemmas.Bool.Decides.{eqb_tells}

@@ -28,7 +28,7 @@ use Rattle.run_typing_laws.proofs.Rows.Finding.{found_behind}
 use Rattle.run_typing_laws.proofs.Rows.Layers.{is_int, is_named, is_optional, is_unowned, is_weak, named_type, tuple_type}
 use Rattle.run_typing_laws.proofs.ShapeFacts.{field_shape_of, struct_shape, tuple_shape}
 use Rattle.frame_layouts.specs.inner.Sized.{HasSize}
-use Rattle.frame_layouts.proofs.FieldsFit.{FieldFits, elements_fit, fields_fit}
+use Rattle.frame_layouts.proofs.FieldsFit.{elements_fit, fields_fit}
 use Rattle.frame_layouts.proofs.Fitting.{Fits, has_size}
 use Rattle.frame_layouts.proofs.Targets.{is_address}
 

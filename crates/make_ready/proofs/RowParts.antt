@@ -24,7 +24,7 @@ use Rattle.sil_types.specs.Typing.Values.{function_at, value_functions, value_ty
 use Rattle.type_definitions.specs.Declarations.{Declarations, declarations_of}
 use Rattle.type_definitions.specs.Lookups.{payload_of}
 use Rattle.run_typing.specs.EndForms.{value_in}
-use Rattle.run_typing.specs.Forms.{Form, OfFunction, OfPlace, OfValue, form_by, form_of, form_with, forms_of}
+use Rattle.run_typing.specs.Forms.{Form, OfPlace, OfValue, form_by, form_of, form_with, forms_of}
 use Rattle.run_typing.specs.RowForms as typed
 use Rattle.run_typing.specs.RowForms.{RowForms, operand_shapes, operation_done, shapes_by}
 use Rattle.run_typing.specs.Runnable.{IsRunnable}
@@ -34,7 +34,7 @@ use Rattle.frame_layouts.specs.inner.Sized.{HasSize, HaveSizes}
 use Rattle.frame_layouts.proofs.Targets.{of_address, of_other}
 use Rattle.make_ready.specs.inner.Rows.{HasRow, Parts}
 use Rattle.make_ready.proofs.EnumCases.{case_named, place_in}
-use Rattle.make_ready.proofs.OneByOne.{FirstValue, OneValue, TwoValues, first_value, just_two, one_value, two_values}
+use Rattle.make_ready.proofs.OneByOne.{first_value, just_two, one_value, two_values}
 use Rattle.make_ready.proofs.TypedRows.{NewCase, NewObject, Told, WrittenOperand}
 
 -- the rows that load names load, and those that store values store

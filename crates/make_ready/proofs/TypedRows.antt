@@ -1,5 +1,5 @@
 -- What typing says of rows beside their forms: the class of a new object, the enum of a case, and the type that is written at an operand.
-use Rattle.std.proofs.Common.{◌≡◌, List, [], ◌∷◌, map, refl, sym, ap, ◌∙◌, subst, true, Option, Some, None}
+use Rattle.std.proofs.Common.{◌≡◌, List, [], ◌∷◌, map, refl, sym, ap, ◌∙◌, subst, true, Option, Some}
 use Rattle.std.specs.Prelude.{◌&&◌, option_and_then, slice_get}
 use Rattle.std.proofs.lemmas.Bool.{and_parts}
 use Rattle.instruction_table.specs.Forms.{detail_of}

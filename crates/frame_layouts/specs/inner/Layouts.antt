@@ -1,5 +1,5 @@
 -- What code keeps of where the values of a function stand.
-use Rattle.std.specs.Prelude.{ℕ, ◌+◌, List, [], ◌∷◌, ◌++◌, Option, map, length, slice_get, sum, unwrap_or}
+use Rattle.std.specs.Prelude.{ℕ, ◌+◌, List, [], ◌∷◌, ◌++◌, Option, map, slice_get, sum, unwrap_or}
 use Rattle.std.specs.List.{range_with_len}
 use Rattle.holder_model.specs.Calling.{value_count}
 use Rattle.run_values.specs.Shapes.{storage_in}

@@ -1,10 +1,6 @@
-use Rattle.std.proofs.Common.{◌≡◌, ◌≤◌, ◌++◌, ℕ, List, [], ◌∷◌, length, refl, sym, ap, ◌∙◌, drop, arith, Option, Some, None}
+use Rattle.std.proofs.Common.{◌≡◌, ◌++◌, refl, sym, ap, ◌∙◌}
 use Rattle.std.specs.Option.{option_to_list}
 use Rattle.std.proofs.lemmas.List.{append-nil}
-use Rattle.item_operands.specs.Items.{arg_value}
-use Rattle.sil_ast.specs.declared.function.BlockArg.{BlockArg}
-use Rattle.sil_ast.specs.declared.operands.Operand.{Operand}
-use Rattle.ready_code.specs.declared.local.CarryAddress.{CarryAddress}
 use Rattle.frame_layouts.specs.inner.Carried.{address_between, addresses_between}
 use Rattle.frame_layouts.proofs.Carrying.{ends, addresses_meant, one_more}
 use Rattle.frame_layouts.proofs.carried.addresses_carried.Goals as goal

@@ -1,10 +1,6 @@
-use Rattle.std.proofs.Common.{◌≡◌, ◌≤◌, ◌++◌, ℕ, List, [], ◌∷◌, length, refl, sym, ap, ◌∙◌, drop, arith, Option, Some, None}
+use Rattle.std.proofs.Common.{◌≡◌, ◌++◌, refl, sym, ap, ◌∙◌}
 use Rattle.std.specs.Option.{option_to_list}
 use Rattle.std.proofs.lemmas.List.{append-nil}
-use Rattle.item_operands.specs.Items.{arg_value}
-use Rattle.sil_ast.specs.declared.function.BlockArg.{BlockArg}
-use Rattle.sil_ast.specs.declared.operands.Operand.{Operand}
-use Rattle.ready_code.specs.declared.local.Carry.{Carry}
 use Rattle.frame_layouts.specs.inner.Carried.{value_between, values_between}
 use Rattle.frame_layouts.proofs.Carrying.{ends, values_meant, one_more}
 use Rattle.frame_layouts.proofs.carried.values_carried.Goals as goal

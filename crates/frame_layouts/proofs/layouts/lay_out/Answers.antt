@@ -1,7 +1,7 @@
-use Rattle.std.proofs.Common.{◌≡◌, ◌≤◌, ◌+◌, ◌*◌, ◌<◌, ap, ◌∙◌, arith, get_or, None}
+use Rattle.std.proofs.Common.{◌≤◌, ◌<◌, ap, arith, get_or, None}
 use Rattle.sil_rules.specs.declared.limits.TheConstants.{LEAVES, VALUES}
 use Rattle.typing_values.specs.inner.Told.{types_told}
-use Rattle.frame_layouts.specs.inner.Layouts.{addresses_kept, leaves_kept}
+use Rattle.frame_layouts.specs.inner.Layouts.{leaves_kept}
 use Rattle.frame_layouts.specs.declared.layout.Layout.{Layout}
 use Rattle.frame_layouts.proofs.Laying.{few_addresses, few_leaves, laid_further}
 use Rattle.frame_layouts.proofs.layouts.lay_out.Goals as goal

@@ -1,7 +1,5 @@
-use Rattle.std.proofs.Common.{◌≡◌, sym, ap, ◌∙◌, subst, arith, Some}
-use Rattle.std.specs.Prelude.{slice_get}
+use Rattle.std.proofs.Common.{sym, ap, ◌∙◌, subst}
 use Rattle.sil_types.specs.Typing.Values.{value_types}
-use Rattle.type_definitions.specs.Declarations.{Declarations}
 use Rattle.frame_layouts.specs.inner.Layouts.{layout_of}
 use Rattle.frame_layouts.specs.inner.Sized.{HaveSizes}
 use Rattle.frame_layouts.proofs.Counts.{few_values}

@@ -1,9 +1,8 @@
-use Rattle.std.proofs.Common.{◌≡◌, sym, ap, ap₂, ◌∙◌, subst, Some, None}
+use Rattle.std.proofs.Common.{sym, ap, ap₂, ◌∙◌}
 use Rattle.std.specs.Prelude.{option_map}
 use Rattle.sil_ast.specs.declared.member.Member.{Member}
 use Rattle.holder_model.specs.ModuleShapes.{case_place}
 use Rattle.run_values.specs.Shapes.{shape_of}
-use Rattle.type_definitions.specs.Declarations.{Declarations, declarations_of}
 use Rattle.type_definitions.specs.Lookups.{payload_of}
 use Rattle.make_ready.specs.inner.Bodies.{declared}
 use Rattle.make_ready.proofs.EnumCases.{case_named, place_in}

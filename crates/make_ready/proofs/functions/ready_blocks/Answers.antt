@@ -1,7 +1,7 @@
 use Rattle.ready_code.specs.ReadyModules.{IsReadyBlock}
 use Rattle.frame_layouts.proofs.Lists.{item_at}
 use Rattle.make_ready.proofs.BlockRows.{has_rows}
-use Rattle.make_ready.proofs.Matching.{matched_all, matched_further, matched_none}
+use Rattle.make_ready.proofs.Matching.{matched_further, matched_none}
 use Rattle.make_ready.proofs.functions.ready_blocks.Goals as goal
 
 pub loop-block-init : goal.loop-block-init

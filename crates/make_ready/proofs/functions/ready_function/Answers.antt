@@ -1,6 +1,5 @@
-use Rattle.std.proofs.Common.{◌≡◌, ◌≤◌, ap, ◌∙◌, arith}
+use Rattle.std.proofs.Common.{ap, ◌∙◌, arith}
 use Rattle.std.specs.Prelude.{length}
-use Rattle.sil_rules.specs.declared.limits.TheConstants.{VALUES}
 use Rattle.frame_layouts.specs.declared.layout.Layout.{Layout}
 use Rattle.frame_layouts.proofs.Counts.{few_values}
 use Rattle.frame_layouts.proofs.Laying.{spots_counted}

@@ -1,10 +1,9 @@
-use Rattle.std.proofs.Common.{◌≡◌, Some, ◌∙◌, sym}
-use Rattle.std.specs.Prelude.{slice_get}
+use Rattle.std.proofs.Common.{◌∙◌}
 use Rattle.type_definitions.specs.Declarations.{declarations_of}
 use Rattle.ready_code.specs.ReadyModules.{IsReadyFunction}
 use Rattle.frame_layouts.specs.inner.Layouts.{layout_of}
 use Rattle.frame_layouts.proofs.Lists.{item_at, mapped_at}
-use Rattle.make_ready.proofs.Matching.{matched_all, matched_further, matched_none}
+use Rattle.make_ready.proofs.Matching.{matched_further, matched_none}
 use Rattle.make_ready.proofs.functions.ready_functions.Goals as goal
 
 pub loop-number-init : goal.loop-number-init

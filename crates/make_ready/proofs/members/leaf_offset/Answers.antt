@@ -1,8 +1,7 @@
-use Rattle.std.proofs.Common.{◌≡◌, ◌≤◌, sym, ap, ◌∙◌, subst, map, take, None, Some}
+use Rattle.std.proofs.Common.{◌≤◌, sym, ap, ◌∙◌, subst, map}
 use Rattle.std.specs.Prelude.{sum}
-use Rattle.std.specs.Option.{option_copied}
 use Rattle.sil_rules.specs.declared.limits.TheConstants.{LEAVES}
-use Rattle.sil_types.specs.Typing.Shapes.{elements, field_type, fields_of_struct}
+use Rattle.sil_types.specs.Typing.Shapes.{field_type, fields_of_struct}
 use Rattle.type_definitions.specs.Declarations.{declarations_of}
 use Rattle.type_definitions.specs.Measures.{leaves_of}
 use Rattle.make_ready.proofs.Offsets.{memberless_offset, struct_offset, struct_within, tuple_offset, tuple_within}

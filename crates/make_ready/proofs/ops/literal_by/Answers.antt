@@ -1,4 +1,4 @@
-use Rattle.std.proofs.Common.{sym, ap, ◌∙◌, subst}
+use Rattle.std.proofs.Common.{sym, subst}
 use Rattle.std.proofs.Math.Facts.{to_z-of_z}
 use Rattle.ready_code.specs.declared.op.ReadyOp.TheVariants.{Literal}
 use Rattle.make_ready.specs.inner.Bodies.{IsReadyOp}
