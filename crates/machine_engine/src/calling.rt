@@ -2,11 +2,13 @@
 
 ghost use Rattle.std.specs.Prelude.{◌≡◌, drop, IfOk, OnOk};
 ghost use Rattle.machine_steps.specs.Calling.{addresses_carried, carried, enter, new_frame, with_frame, without_frame};
+ghost use Rattle.machine_steps.specs.Operands.{contents, put};
 ghost use Rattle.machine_steps.specs.Views.{Goes};
 ghost use Rattle.machine_engine.specs.Went.{HasGone};
 
 use crate::carrying::{gather, mark, scatter};
 use crate::machine::Machine;
+use crate::parts::hand_over;
 use crate::stop::Stop;
 use holder_model::FRAMES;
 use machine_steps::{Address, Frame, Home, RunEnd, Task};
@@ -66,6 +68,10 @@ impl Machine {
     ) -> Result<(), Exhausted>
         ensures { OnOk result (self.new ≡ carried self.old from.now to.now values.now) }
     {
+        if values.len() == 1 {
+            self.carry_one(from, to, values[0]);
+            return Ok(());
+        }
         gather(&mut self.moving, &self.leaves, from.leaves, values)?;
         scatter(
             &mut self.leaves,
@@ -76,6 +82,19 @@ impl Machine {
         );
         mark(&mut self.there, to.values, values);
         Ok(())
+    }
+
+    fn carry_one(&mut self, from: &Frame, to: &Frame, carry: Carry)
+        ensures { self.new ≡ put self.old to.now carry.to (contents self.old from.now carry.from) }
+    {
+        hand_over(
+            &mut self.leaves,
+            from.leaves,
+            carry.from,
+            to.leaves,
+            carry.to,
+        );
+        self.put_there(to, carry.to.value);
     }
 
     /// Addresses of a frame are handed to another one.

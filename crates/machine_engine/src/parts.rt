@@ -71,7 +71,7 @@ impl Machine {
 }
 
 /// Leaves of a frame that begin at a base are laid over others of the same frame or of another one.
-fn hand_over(leaves: &mut [Leaf], from: usize, operand: Local, base: usize, to: Local)
+pub(crate) fn hand_over(leaves: &mut [Leaf], from: usize, operand: Local, base: usize, to: Local)
     ensures { leaves.new ≡ laid_over (base + to.at) (take operand.size (drop (from + operand.at) leaves.old)) leaves.old }
 {
     let begin = from.saturating_add(operand.at as usize);

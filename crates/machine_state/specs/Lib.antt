@@ -1,0 +1,3 @@
+pub mod Went
+pub mod GoingOn
+pub mod inner

@@ -1,0 +1,2 @@
+pub mod NameHeld
+pub mod Raised

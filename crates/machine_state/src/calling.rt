@@ -1,0 +1,115 @@
+//! How frames come and go.
+
+ghost use Rattle.std.specs.Prelude.{◌≡◌, drop, IfOk, OnOk};
+ghost use Rattle.machine_steps.specs.Calling.{addresses_carried, carried, new_frame, with_frame, without_frame};
+ghost use Rattle.machine_steps.specs.Operands.{contents, put};
+
+use crate::machine::Machine;
+use leaf_windows::{gather_carried, hand_over, lay_carried, mark_carried};
+use machine_steps::{Address, Frame, Home, Task};
+use ready_code::{Carry, CarryAddress, ReadyFunction};
+use run_values::Leaf;
+use sil_ast::{Exhausted, FuncId};
+
+impl Machine {
+    /// The frame of a function that is called now.
+    fn new_frame(&self, function: FuncId) -> Frame
+        ensures { result ≡ new_frame self.now function }
+    {
+        Frame {
+            function,
+            block: 0,
+            index: 0,
+            values: self.there.len(),
+            leaves: self.leaves.len(),
+            addresses: self.addresses.len(),
+            slots: self.slots.len(),
+        }
+    }
+
+    /// A new frame, with room for the values of the function, none of which is there yet.
+    pub fn add_frame(
+        &mut self,
+        function: FuncId,
+        f: &ReadyFunction,
+    ) -> Result<Frame, Exhausted>
+        ensures frame { IfOk result (λ fr. fr ≡ new_frame self.old function) }
+        ensures room { OnOk result (self.new ≡ with_frame self.old function f.now) }
+    {
+        let frame = self.new_frame(function);
+        self.push_task(Task::Runs { frame })?;
+        self.there.resize(frame.values + f.values as usize, false)?;
+        self.leaves
+            .resize(frame.leaves + f.leaves as usize, Leaf::Blank)?;
+        let no_address = Address {
+            home: Home::Slot {
+                index: 0,
+                serial: 0,
+            },
+            from: 0,
+            is_part: false,
+        };
+        self.addresses
+            .resize(frame.addresses + f.addresses as usize, no_address)?;
+        Ok(frame)
+    }
+
+    /// Values of a frame become values of another one, or of itself, all at once.
+    pub fn carry(
+        &mut self,
+        from: &Frame,
+        to: &Frame,
+        values: &[Carry],
+    ) -> Result<(), Exhausted>
+        ensures { OnOk result (self.new ≡ carried self.old from.now to.now values.now) }
+    {
+        if values.len() == 1 {
+            self.carry_one(from, to, values[0]);
+            return Ok(());
+        }
+        gather_carried(&mut self.moving, &self.leaves, from.leaves, values)?;
+        lay_carried(
+            &mut self.leaves,
+            &self.moving,
+            from.leaves,
+            to.leaves,
+            values,
+        );
+        mark_carried(&mut self.there, to.values, values);
+        Ok(())
+    }
+
+    fn carry_one(&mut self, from: &Frame, to: &Frame, carry: Carry)
+        ensures { self.new ≡ put self.old to.now carry.to (contents self.old from.now carry.from) }
+    {
+        hand_over(
+            &mut self.leaves,
+            from.leaves,
+            carry.from,
+            to.leaves,
+            carry.to,
+        );
+        self.put_there(to, carry.to.value);
+    }
+
+    /// Addresses of a frame are handed to another one.
+    pub fn carry_addresses(&mut self, from: &Frame, to: &Frame, addresses: &[CarryAddress])
+        ensures { self.new ≡ addresses_carried self.old from.now to.now addresses.now }
+    {
+        for carry in addresses {
+            let address = self.address(from, carry.from);
+            self.put_address(to, carry.to, address);
+        }
+    }
+
+    /// The top frame is gone, with its values.
+    #[inline]
+    pub fn remove_frame(&mut self, frame: &Frame)
+        ensures { self.new ≡ without_frame self.old frame.now (drop 1 self.old.tasks) }
+    {
+        self.pop_task();
+        self.there.truncate(frame.values);
+        self.leaves.truncate(frame.leaves);
+        self.addresses.truncate(frame.addresses);
+    }
+}
