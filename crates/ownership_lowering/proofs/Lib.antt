@@ -1,0 +1,5 @@
+mod Chains
+mod Counts
+mod Accepted
+mod Steps
+mod Noting
