@@ -141,5 +141,9 @@ module _ (renamings : List Definition) where
             sym (ap (renamed_from renamings) (along n v w e)) ∙ subst (λ k. renamed_from renamings (stands_within renamings k v) ≡ None) is (names_end v) in
             along n v w e ∙ sym (stays 1 (stands_within renamings n w) ended) ∙ sym (one_more n w)
 
-    pub stands_itself : (v : ValueId) → renamed_from renamings v ≡ None → stands_for renamings v ≡ v
-    stands_itself v e = stays (length renamings) v e
+  pub stands_itself : (v : ValueId) → renamed_from renamings v ≡ None → stands_for renamings v ≡ v
+  stands_itself v e = stays (length renamings) v e
+
+  -- a value beyond those of the function is no other name
+  pub beyond_itself : (v : ValueId) → length renamings ≤ v.0 → stands_for renamings v ≡ v
+  beyond_itself v le = stands_itself v (ap (λ vs. slice_get vs 0) (no_operands renamings v le))

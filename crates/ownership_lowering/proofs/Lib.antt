@@ -1,5 +1,6 @@
 mod Chains
-mod Counts
+mod FewValues
 mod Accepted
 mod Steps
 mod Noting
+mod Numbering

@@ -64,17 +64,17 @@ fn add_assign<'a>(
     table: &TypeTable,
     spare: ValueId,
     inst: &'a Inst,
-    place: &'a Operand,
+    to: &'a Operand,
     drafts: &mut List<Draft<'a>>,
 ) -> Result<(), Exhausted>
-    ensures { OnOk result (told_insts drafts.new ≡ told_insts drafts.old ++ insts.assigns table.now spare inst.now place.now) }
+    ensures { OnOk result (told_insts drafts.new ≡ told_insts drafts.old ++ insts.assigns table.now spare inst.now to.now) }
 {
     drafts.push(Draft::Loaded {
-        place,
+        place: to,
         result: spare,
     })?;
     drafts.push(plain(inst, inst.op))?;
-    add_release_of_old(table, spare, place, drafts)
+    add_release_of_old(table, spare, to, drafts)
 }
 
 /// Adds what becomes of a `store`.

@@ -103,7 +103,12 @@ struct Kept {
 
 fn kept_parts(alloc: Global, inst: &Inst) -> Result<Kept, Exhausted>
     ensures { IfOk result (λ kept. kept ≡ record {
-        text = inst.now.text; member = inst.now.member; debug = inst.now.debug; ty = inst.now.ty; signature = inst.now.signature }) }
+      text = inst.now.text;
+      member = inst.now.member;
+      debug = inst.now.debug;
+      ty = inst.now.ty;
+      signature = inst.now.signature;
+    }) }
 {
     Ok(Kept {
         text: inst.text.try_clone(alloc)?,
@@ -115,11 +120,7 @@ fn kept_parts(alloc: Global, inst: &Inst) -> Result<Kept, Exhausted>
 }
 
 /// A copy of an instruction.
-pub fn renumbered_inst(
-    alloc: Global,
-    numbers: &NewNumbers,
-    inst: &Inst,
-) -> Result<Inst, Exhausted>
+pub fn renumbered_inst(alloc: Global, numbers: &NewNumbers, inst: &Inst) -> Result<Inst, Exhausted>
     ensures { IfOk result (λ copy. copy ≡ renumbered.renumbered_inst (number_in numbers.now) inst.now) }
 {
     let results = renumbered_values(alloc, numbers, inst.results.as_slice())?;
