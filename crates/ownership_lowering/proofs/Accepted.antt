@@ -34,7 +34,7 @@ use Rattle.ownership_kinds.specs.Statics.IsBroken.{on_ring}
 use Rattle.ownership_kinds.specs.Statics.IsDefinedAt.{argument, result}
 use Rattle.sil_verifier.specs.Shown.IsShownIn.{kind}
 use Rattle.sil_verifier.specs.inner.Checked.{IsVerified}
-use Rattle.ownership_lowering.specs.inner.Lowerable.{AreLowerable, IsLowerable, IsLowerableByForm, IsLowerableFunction}
+use Rattle.function_lowering.specs.inner.Lowerable.{AreLowerable, IsLowerable, IsLowerableByForm, IsLowerableFunction}
 
 -- values
 

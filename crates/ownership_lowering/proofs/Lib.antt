@@ -1,6 +1,1 @@
-mod Chains
-mod FewValues
 mod Accepted
-mod Steps
-mod Noting
-mod Numbering

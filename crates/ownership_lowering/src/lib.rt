@@ -1,18 +1,6 @@
-//! Lowers an accepted module: ownership becomes retains and releases, and values are numbered anew.
-//! It knows of no run, and decides nothing.
+//! Lowers an accepted module. What becomes of its functions isn't said here.
 #![tactic(auto)]
 
-mod blocks;
-mod counts;
-mod defined;
-mod draft;
-mod drafting;
-mod extracts;
-mod functions;
 mod lower;
-mod names;
-mod numbers;
-mod words;
-mod writing;
 
 pub use lower::lower;

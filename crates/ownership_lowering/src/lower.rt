@@ -3,8 +3,7 @@
 ghost use Rattle.std.specs.Prelude.{◌≡◌, IfOk};
 ghost use Rattle.lowering_model.specs.LoweredModules.{lowered};
 
-use crate::functions::lowered_functions;
-use ownership_origins::definitions_are_in_range;
+use function_lowering::lowered_functions;
 use sil_ast::{Exhausted, Module, TryClone};
 use sil_verifier::Checked;
 use std::alloc::Global;
@@ -13,7 +12,6 @@ use std::alloc::Global;
 pub fn lower(alloc: Global, c: &Checked) -> Result<Module, Exhausted>
     ensures { IfOk result (λ m. m ≡ lowered c.now) }
 {
-    definitions_are_in_range();
     let m = c.module();
     let functions = lowered_functions(alloc, c.table(), m.functions.as_slice())?;
     Ok(Module {

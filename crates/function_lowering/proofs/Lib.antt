@@ -1,0 +1,5 @@
+mod Chains
+mod FewValues
+mod Steps
+mod Noting
+mod Numbering
