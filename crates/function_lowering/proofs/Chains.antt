@@ -40,11 +40,12 @@ module _ (renamings : List Definition) where
   -- one step more at the end
   one_more : (n : ℕ) (v : ValueId) → stands_within renamings (suc n) v ≡ step (stands_within renamings n v)
   one_more zero v = refl
-  one_more (suc n) v = at (renamed_from renamings v) refl
+  one_more (suc n) v = at (λ w. one_more n w) (renamed_from renamings v) refl
     where
-      at : (o : Option ValueId) → renamed_from renamings v ≡ o → stands_within renamings (suc (suc n)) v ≡ step (stands_within renamings (suc n) v)
-      at None e = stays (suc (suc n)) v e ∙ sym (stays 1 v e) ∙ sym (ap step (stays (suc n) v e))
-      at (Some w) e = along (suc n) v w e ∙ one_more n w ∙ sym (ap step (along n v w e))
+      at : ((w : ValueId) → stands_within renamings (suc n) w ≡ step (stands_within renamings n w)) → (o : Option ValueId) → renamed_from renamings v ≡ o
+          → stands_within renamings (suc (suc n)) v ≡ step (stands_within renamings (suc n) v)
+      at next None e = stays (suc (suc n)) v e ∙ sym (stays 1 v e) ∙ sym (ap step (stays (suc n) v e))
+      at next (Some w) e = along (suc n) v w e ∙ next w ∙ sym (ap step (along n v w e))
 
   module _ (range : IsInRange renamings) (none : HasNoRing renamings) where
     operand : (v w : ValueId) → renamed_from renamings v ≡ Some w → Contains (operands_at renamings v) w
@@ -106,14 +107,14 @@ module _ (renamings : List Definition) where
         at : (o : Option ValueId) → renamed_from renamings v ≡ o → renamed_from renamings v ≡ None
         at None e = e
         at (Some w) e = let less = fewer marks v size reach w e in absurd (omega arith)
-    ends_from (suc n) marks v size few reach = at (renamed_from renamings v) refl
+    ends_from (suc n) marks v size few reach =
+        at (λ w e. ends_from n (set marks w.0 true) w (length-set marks w.0 true ∙ size) (let less = fewer marks v size reach w e in omega arith) (reach_next marks v size reach w e))
+        (renamed_from renamings v) refl
       where
-        at : (o : Option ValueId) → renamed_from renamings v ≡ o → renamed_from renamings (stands_within renamings (suc n) v) ≡ None
-        at None e = ap (renamed_from renamings) (stays (suc n) v e) ∙ e
-        at (Some w) e =
-            let less = fewer marks v size reach w e in
-            ap (renamed_from renamings) (along n v w e)
-            ∙ ends_from n (set marks w.0 true) w (length-set marks w.0 true ∙ size) (omega arith) (reach_next marks v size reach w e)
+        at : ((w : ValueId) → renamed_from renamings v ≡ Some w → renamed_from renamings (stands_within renamings n w) ≡ None) → (o : Option ValueId) → renamed_from renamings v ≡ o
+            → renamed_from renamings (stands_within renamings (suc n) v) ≡ None
+        at next None e = ap (renamed_from renamings) (stays (suc n) v e) ∙ e
+        at next (Some w) e = ap (renamed_from renamings) (along n v w e) ∙ next w e
 
     pub names_end : (v : ValueId) → renamed_from renamings (stands_for renamings v) ≡ None
     names_end v = ends_from (length renamings) marks v (length-replicate (length renamings) false) (let le : count_by not marks ≤ length marks = count_by-le-length not marks in

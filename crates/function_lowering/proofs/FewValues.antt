@@ -1,5 +1,5 @@
 -- Lowered code defines few values: of each instruction at most 4,160, and so no more than numbers can tell apart.
-use Rattle.std.proofs.Common.{◌≡◌, ℕ, ◌+◌, ◌*◌, ◌<◌, ◌≤◌, ◌^◌, List, [], ◌∷◌, ◌++◌, length, map, refl, sym, ap, ◌∙◌, subst, arith, Bool, true, false, Option, Some, None}
+use Rattle.std.proofs.Common.{◌≡◌, ℕ, suc, ◌+◌, ◌*◌, ◌<◌, ◌≤◌, ◌^◌, List, [], ◌∷◌, ◌++◌, length, map, refl, sym, ap, ◌∙◌, subst, arith, Bool, true, false, Option, Some, None}
 use Rattle.std.specs.Prelude.{filter, slice_get}
 use Rattle.std.specs.List.{flat_map}
 use Rattle.std.specs.Option.{option_to_list}
@@ -20,6 +20,8 @@ use Rattle.numbered_form.specs.Lists.{Each}
 use Rattle.numbered_form.specs.Numbering.{defined_in, results_of, value_of, values_of}
 use Rattle.numbered_form.specs.inner.Limits.{IsBlockInLimits, IsFunctionInLimits, IsInstInLimits}
 use Rattle.ownership_chains.specs.declared.definition.Definition.{Definition}
+use Rattle.ownership_origins.proofs.Counts.{are_of_values}
+use Rattle.ownership_origins.specs.Renamings.{renamings_of}
 use Rattle.sil_types.specs.Typing.FormRules.{is_at_storage}
 use Rattle.type_definitions.specs.Declarations.{Declarations}
 use Rattle.lowering_model.specs.declared.lowering.Lowering.{Lowering}
@@ -97,7 +99,7 @@ module _ (d : Declarations) (spare : ValueId) where
 
   places_give : (places : List Operand) → results_in (flat_map (releases_at d spare) places) ≡ length places
   places_give [] = refl
-  places_give (p ∷ places) = ap (λ n. n + 1) (places_give places)
+  places_give (p ∷ places) = ap suc (places_give places)
 
   destroy_gives : (i : Inst) (storage : Bool) → results_in (destroys_by d spare storage i) ≤ length i.results + length i.operands
   destroy_gives i true = omega (arith, alone i)
@@ -168,3 +170,11 @@ module _ (d : Declarations) (renamings : List Definition) where
       let insts = limits.insts in
       let values = limits.values in
       omega arith
+
+-- with a spare value for each instruction they are few enough for numbers
+pub few_values : (d : Declarations) (f : Function) → IsFunctionInLimits f → length (renamings_of f) + length (insts_in f.blocks) < 2 ^ 32
+few_values d f limits =
+    let all = (are_of_values d f).1 in
+    let insts = limits.insts in
+    let values = limits.values in
+    omega arith

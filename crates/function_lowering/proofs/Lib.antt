@@ -3,3 +3,4 @@ mod FewValues
 mod Steps
 mod Noting
 mod Numbering
+mod Told

@@ -20,13 +20,13 @@ module _ (noted : List (Option ValueId)) (at end : ValueId) (room : at.0 < lengt
   elsewhere v other = get_or-set_other noted at.0 v.0 (Some end) None other
 
   pub noted_here : IsNoted with_note at
-  noted_here = subst IsSome (sym (here at refl)) tt
+  noted_here = subst IsSome (sym (here at refl)) refl
 
   pub still_noted : (v : ValueId) → IsNoted noted v → IsNoted with_note v
   still_noted v h = by (cases_eq v.0 at.0)
     where
       by : (v.0 ≡ at.0) ⊎ (v.0 ≢ at.0) → IsNoted with_note v
-      by (inl same) = subst IsSome (sym (here v same)) tt
+      by (inl same) = subst IsSome (sym (here v same)) refl
       by (inr other) = subst IsSome (sym (elsewhere v other)) h
 
   pub right_after : (renamings : List Definition) → stands_for renamings at ≡ end → AreRight renamings noted → AreRight renamings with_note
@@ -43,5 +43,5 @@ pub noted_each : (renamings : List Definition) (noted : List (Option ValueId)) �
 noted_each renamings noted right v h = by (noted_at noted v) refl h
   where
     by : (o : Option ValueId) → noted_at noted v ≡ o → IsSome o → noted_at noted v ≡ Some (stands_for renamings v)
-    by None e some = absurd some
+    by None e some = absurd (cc)
     by (Some end) e some = e ∙ ap Some (right v end e)

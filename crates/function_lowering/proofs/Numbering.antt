@@ -33,15 +33,15 @@ composed renamings noted places numbers all made v = ap (λ ns. get_or ns v.0 pl
     at : (v.0 < length noted) ⊎ (length noted ≤ v.0) →
         get_or (map (number_where places) noted ++ drop (length noted) places.numbers) v.0 places.others ≡ number_in places (stands_for renamings v)
     at (inl lt) =
-        get_or_append_left (map (number_where places) noted) (drop (length noted) places.numbers) places.others v.0 (omega arith)
+        get_or_append_left (map (number_where places) noted) (drop (length noted) places.numbers) places.others v.0 (omega (arith, long))
         ∙ get_or-map (number_where places) noted v.0 None places.others lt
-        ∙ ap (number_where places) (all.each v (omega arith))
+        ∙ ap (number_where places) (all.each v (omega (arith, size)))
     at (inr le) =
         let index : length noted + (v.0 - length noted) ≡ v.0 = omega arith in
         get_or-append_right (map (number_where places) noted) (drop (length noted) places.numbers) (length noted) v.0 places.others long le
         ∙ get_or-drop (length noted) places.numbers (v.0 - length noted) places.others
         ∙ ap (λ n. get_or places.numbers n places.others) index
-        ∙ ap (number_in places) (sym (beyond_itself renamings v (omega arith)))
+        ∙ ap (number_in places) (sym (beyond_itself renamings v (omega (arith, size))))
 
 -- blocks that are made of the lowered ones by such numbers are those of the definition
 pub renumbered_so : (d : Declarations) (f : Function) (blocks : List Block) (places numbers : NewNumbers) → blocks ≡ lowered_blocks d f

@@ -59,7 +59,7 @@ pub(crate) fn numbers_of_names(
     let standings = all_standings(alloc, renamings)?;
     let mut numbers = List::with_capacity(alloc, places.numbers.len())?;
     add_standing_numbers(places, standings.as_slice(), &mut numbers)?;
-    add_numbers_behind(places, standings.len(), &mut numbers)?;
+    add_numbers_behind(places, renamings.len(), &mut numbers)?;
     Ok(NewNumbers {
         numbers,
         others: places.others,

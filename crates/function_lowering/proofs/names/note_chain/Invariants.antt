@@ -5,9 +5,9 @@ use Rattle.function_lowering.proofs.names.note_chain.Given as goal
 
 abbrev pub invariant-loop : goal.invariant-loop
 invariant-loop l = record {
-  same : stands_for l.renamings l.at ≡ l.end;
-  begun : 0 < l.counter → IsNoted l.noted l.value;
-  unmoved : l.counter ≡ 0 → l.at ≡ l.value;
+  same : stands_for l.renamings l.at ≡ l.fn.end;
+  begun : 0 < l.counter → IsNoted l.noted l.fn.value;
+  unmoved : l.counter ≡ 0 → l.at ≡ l.fn.value;
   right : AreRight l.renamings l.noted;
   stays : AreStillNoted l.initial.noted l.noted;
 }
