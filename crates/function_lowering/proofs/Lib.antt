@@ -1,0 +1,6 @@
+mod Chains
+mod FewValues
+mod Steps
+mod Noting
+mod Numbering
+mod Told

@@ -1,0 +1,11 @@
+use Rattle.std.proofs.Common.{◌≡◌, ◌<◌, length}
+use Rattle.sil_ast.specs.declared.place.ValueId.{ValueId}
+use Rattle.function_lowering.specs.inner.Standing.{AreRight, IsNoted}
+use Rattle.function_lowering.proofs.names.all_standings.Given as goal
+
+abbrev pub invariant-loop-number : goal.invariant-loop-number
+invariant-loop-number l = record {
+  size : length l.noted.items ≡ length l.renamings;
+  right : AreRight l.renamings l.noted.items;
+  noted : (v : ValueId) → v.0 < l.number → IsNoted l.noted.items v;
+}

@@ -1,0 +1,4 @@
+pub mod Drafts
+pub mod Standing
+pub mod Numbers
+pub mod Lowerable

@@ -1,0 +1,2 @@
+pub mod NewNumbers
+pub mod Places

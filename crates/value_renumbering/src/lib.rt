@@ -1,0 +1,11 @@
+//! New numbers for the values of a function: a table of them by the old ones, and copies of instructions with new numbers in the places
+//! of old ones. It knows of no lowering, and decides no number but a place in a list.
+#![tactic(auto)]
+
+mod copies;
+mod new_numbers;
+mod places;
+
+pub use copies::{renumbered_inst, renumbered_operand};
+pub use new_numbers::NewNumbers;
+pub use places::numbers_by_place;
