@@ -1,5 +1,5 @@
 -- The kinds of error that `clap` has for words, and its matches, by what a command line says.
-use Rattle.std.proofs.Common.{◌≡◌, ◌∙◌, ◌||◌, ◌≤◌, inl, inr, ℕ, Bool, cond, true, false, not, refl, sym, ap, subst, arith, List, [], ◌∷◌, ◌++◌, length, Option, Some, None, is_some, fold, slice_get, option_to_list, unwrap_or, true≢false, codes}
+use Rattle.std.proofs.Common.{◌≡◌, ◌∙◌, ◌||◌, ◌≤◌, inl, Bool, cond, true, false, not, refl, sym, ap, subst, arith, List, [], ◌∷◌, length, Option, Some, None, is_some, fold, slice_get, option_to_list, unwrap_or, true≢false, codes}
 use Rattle.clap.specs.Faults.{check_fault, default_fault, defaults_fault, entered_fault, fault_of, settle_fault, walk_fault}
 use Rattle.clap.specs.Kinds.{Kinds, or_else}
 use Rattle.clap.specs.Matches.{first_value}
@@ -14,8 +14,8 @@ use Rattle.command_words.specs.inner.ClapCommand.{Matches, declared_app}
 use Rattle.command_words.proofs.Rows.{AtMostOnce, first_of_values, given_of_values, is_there, only_value, rows, some_value}
 use Rattle.command_words.proofs.Parsed.{all_used, cons_not_nil, held, none_in, none_of, once_settles, rule_for, rules, settled_rows_are, settles_once, top}
 use Rattle.command_words.proofs.Steps.{stands}
-use Rattle.command_words.proofs.Taken.{Ends, IsPlace, all_pass}
-use Rattle.command_words.proofs.Read.{IsClear, Reads, between, read_all}
+use Rattle.command_words.proofs.Taken.{all_pass}
+use Rattle.command_words.proofs.Read.{between, read_all}
 
 abbrev app : App
 app = record { top = top; subs = [] }

@@ -1,21 +1,20 @@
 -- The command as it is built for a parse, and what one use of an argument comes to.
-use Rattle.std.proofs.Common.{◌≡◌, ◌∙◌, ◌&&◌, ◌||◌, ◌⊎◌, inl, inr, ℕ, Bool, cond, true, false, refl, sym, ap, subst, List, [], ◌∷◌, ◌++◌, map, Option, Some, None, append-nil, true≢false, codes}
+use Rattle.std.proofs.Common.{◌≡◌, ◌∙◌, ◌&&◌, ℕ, Bool, cond, true, false, refl, sym, ap, List, [], ◌∷◌, ◌++◌, Option, Some, None, append-nil, codes}
 use Rattle.std.proofs.lemmas.List.{map-append}
 use Rattle.std.specs.Str.{bytes_eq}
 use Rattle.clap.specs.Faults.{settle_fault, use_fault}
 use Rattle.clap.specs.Kinds.{Kinds, or_else}
-use Rattle.clap.specs.Simple.{App, Shape, built, is_simple, new_rule}
+use Rattle.clap.specs.Simple.{Shape, built, is_simple, new_rule}
 use Rattle.clap.specs.Faults.{is_simple_and_free}
-use Rattle.clap.specs.Walk.{Held, Row, Rule, Text, arg_by_id, arg_by_long, at_row, has_row, more_values, settled, used}
+use Rattle.clap.specs.Walk.{Held, Row, Rule, Text, arg_by_long, at_row, has_row, more_values, settled, used}
 use Rattle.clap.specs.Values.{reading_of}
 use Rattle.clap.specs.declared.parser.matches.ValueSource.TheVariants.{CommandLine}
 use Rattle.clap.specs.declared.builder.action.ArgAction.TheVariants.{Set}
 use Rattle.clap.specs.declared.builder.value_parser.ValueParser.TheVariants as vp
 use Rattle.clap.specs.declared.error.kind.ErrorKind.TheVariants as kind
-use Rattle.clap.proofs.OnLiterals.{clap_on_literals}
 use Rattle.command_words.specs.CommandLines.{Argument, mode, turns, entry, Given, is_option, name_of}
 use Rattle.command_words.specs.inner.ClapCommand.{bare_app, declared_app}
-use Rattle.command_words.proofs.Rows.{AtMostOnce, IsNew, at_fresh, last_new, once_more, first_once, row, rows, same_name}
+use Rattle.command_words.proofs.Rows.{AtMostOnce, IsNew, at_fresh, last_new, once_more, row, rows, same_name}
 
 -- an argument with one value a use, which may be any text
 abbrev pub built_rule : Text → Option Text → Option ℕ → Bool → Rule

@@ -1,13 +1,11 @@
 -- Where nothing is wrong with words, they give values, and the parse holds them.
-use Rattle.std.proofs.Common.{◌≡◌, ◌∙◌, ◌⊎◌, inl, inr, ℕ, true, refl, sym, ap, ap₂, subst, List, [], ◌∷◌, ◌++◌, map, Option, Some, None, fold, append_assoc, append-nil, slice_get, codes}
-use Rattle.std.specs.Prelude.{◌==◌, Bool, false}
-use Rattle.std.specs.Str.{chars}
+use Rattle.std.proofs.Common.{◌≡◌, ◌∙◌, inl, inr, ℕ, true, refl, sym, ap, subst, List, [], ◌∷◌, ◌++◌, map, Option, Some, None, fold, append_assoc, append-nil}
+use Rattle.std.specs.Prelude.{Bool, false}
 use Rattle.clap.specs.Faults.{option_fault, other_fault, settle_fault, step_fault, turn_fault, use_fault, walk_fault}
-use Rattle.clap.specs.Kinds.{Kinds, or_else}
 use Rattle.clap.specs.Lexer.{name_and_value}
-use Rattle.clap.specs.Walk.{Held, Text, Waiting, Walk, arg_by_index, arg_by_long, idle, option, settled, to_positional, value as a_value, walked}
-use Rattle.command_words.specs.CommandLines.{Argument, mode, Given, Gives, nothing, alone, apart, joined, behind, as_mode, is_option, is_value, name_of, option_word}
-use Rattle.command_words.proofs.Rows.{AtMostOnce, IsNew, once_more, rows}
+use Rattle.clap.specs.Walk.{Held, Text, Waiting, Walk, arg_by_index, arg_by_long, idle, option, to_positional, value as a_value, walked}
+use Rattle.command_words.specs.CommandLines.{Argument, mode, Given, Gives, nothing, alone, apart, joined, behind, as_mode, is_option, is_value, name_of}
+use Rattle.command_words.proofs.Rows.{AtMostOnce, once_more, rows}
 use Rattle.command_words.proofs.Parsed.{Holds, all_used, one_pending, Named, of_option, of_nothing, named, cons_not_nil, held, is_held, none_of, rule_for, rules, settled_rows_are, settles_once, top, use_is_new}
 use Rattle.command_words.proofs.Sorts.{Sort, value, hyphens, long, short, sort_of, Cut, whole, parts, cut_of}
 use Rattle.command_words.proofs.Steps.{stands, turn_is, trailing_turn, trailing_next, first_place, mode_taken, no_short, no_value, unknown_option, option_fault_is, waiting_turn, joined_turn, waits, value_turn, value_next, awaited_next}

@@ -1,10 +1,9 @@
 -- What a word is by its first characters, and where an `=` cuts it.
-use Rattle.std.proofs.Common.{◌≡◌, ◌∙◌, ◌||◌, ◌+◌, ◌==◌, ◌⊎◌, inl, inr, ℕ, Bool, cond, true, false, not, refl, sym, ap, subst, arith, add-one, one-add, eqb-true, List, [], ◌∷◌, ◌++◌, length, take, drop, Option, Some, None, true≢false, slice_get, codes}
-use Rattle.std.specs.Str.{bytes_eq, chars}
+use Rattle.std.proofs.Common.{◌≡◌, ◌∙◌, ◌||◌, ◌+◌, ◌==◌, ℕ, Bool, cond, true, false, not, refl, sym, ap, subst, arith, one-add, eqb-true, List, [], ◌∷◌, ◌++◌, length, take, drop, Some, None, true≢false, slice_get}
+use Rattle.std.specs.Str.{chars}
 use Rattle.std.specs.Prelude.{suc}
 use Rattle.std.specs.List.{after_first, before_first, position_or_len}
 use Rattle.clap.specs.Lexer.{has_byte, name_and_value}
-use Rattle.clap.proofs.OnLiterals.{clap_on_literals}
 use Rattle.command_words.specs.CommandLines.{is_value}
 
 -- a word can be a value, is `--`, names an option, or has a character behind one hyphen

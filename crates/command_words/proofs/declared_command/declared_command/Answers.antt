@@ -1,10 +1,9 @@
-use Rattle.std.proofs.Common.{rules, ap, ap₂, refl, sym, codes, true, Some, ◌≡◌, ◌∙◌, IfOk}
+use Rattle.std.proofs.Common.{rules, ap, ap₂, true, ◌≡◌, ◌∙◌}
 use Rattle.std.proofs.lemmas.Result.{IfOk-weaker}
-use Rattle.clap.specs.Built.{AddsArg}
-use Rattle.clap.specs.Simple.{app_of, app_of_fields, new_app, on_top, with_rule}
+use Rattle.clap.specs.Simple.{app_of, app_of_fields, on_top, with_rule}
 use Rattle.clap.specs.Walk.{rule_of}
 use Rattle.command_words.specs.CommandLines.{turns, entry}
-use Rattle.command_words.specs.inner.ClapCommand.{bare_app, declared_app, mode_rule, option_rule}
+use Rattle.command_words.specs.inner.ClapCommand.{bare_app, mode_rule, option_rule}
 use Rattle.command_words.proofs.declared_command.declared_command.Goals as goal
 
 pub returns : goal.returns
