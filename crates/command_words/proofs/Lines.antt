@@ -1,5 +1,6 @@
 -- The kinds of error that `clap` has for words, and its matches, by what a command line says.
-use Rattle.std.proofs.Common.{◌≡◌, ◌∙◌, ◌||◌, ◌≤◌, inl, Bool, cond, true, false, not, refl, sym, ap, subst, arith, List, [], ◌∷◌, length, Option, Some, None, is_some, fold, slice_get, option_to_list, unwrap_or, true≢false, codes}
+use Rattle.std.proofs.Common.{◌≡◌, ◌∙◌, ◌||◌, ◌≤◌, inl, Bool, cond, true, false, not, refl, sym, ap, subst, arith, List, [], ◌∷◌, length, Option, Some}
+use Rattle.std.proofs.Common.{None, is_some, fold, slice_get, option_to_list, unwrap_or, true≢false, codes}
 use Rattle.clap.specs.Faults.{check_fault, default_fault, defaults_fault, entered_fault, fault_of, settle_fault, walk_fault}
 use Rattle.clap.specs.Kinds.{Kinds, or_else}
 use Rattle.clap.specs.Matches.{first_value}

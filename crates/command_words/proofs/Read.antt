@@ -6,9 +6,11 @@ use Rattle.clap.specs.Lexer.{name_and_value}
 use Rattle.clap.specs.Walk.{Held, Text, Waiting, Walk, arg_by_index, arg_by_long, idle, option, to_positional, value as a_value, walked}
 use Rattle.command_words.specs.CommandLines.{Argument, mode, Given, Gives, nothing, alone, apart, joined, behind, as_mode, is_option, is_value, name_of}
 use Rattle.command_words.proofs.Rows.{AtMostOnce, once_more, rows}
-use Rattle.command_words.proofs.Parsed.{Holds, all_used, one_pending, Named, of_option, of_nothing, named, cons_not_nil, held, is_held, none_of, rule_for, rules, settled_rows_are, settles_once, top, use_is_new}
+use Rattle.command_words.proofs.Parsed.{Holds, all_used, one_pending, Named, of_option, of_nothing, named, cons_not_nil, held, is_held, none_of, rule_for}
+use Rattle.command_words.proofs.Parsed.{rules, settled_rows_are, settles_once, top, use_is_new}
 use Rattle.command_words.proofs.Sorts.{Sort, value, hyphens, long, short, sort_of, Cut, whole, parts, cut_of}
-use Rattle.command_words.proofs.Steps.{stands, turn_is, trailing_turn, trailing_next, first_place, mode_taken, no_short, no_value, unknown_option, option_fault_is, waiting_turn, joined_turn, waits, value_turn, value_next, awaited_next}
+use Rattle.command_words.proofs.Steps.{stands, turn_is, trailing_turn, trailing_next, first_place, mode_taken, no_short, no_value, unknown_option}
+use Rattle.command_words.proofs.Steps.{option_fault_is, waiting_turn, joined_turn, waits, value_turn, value_next, awaited_next}
 use Rattle.command_words.proofs.Taken.{Ends, IsPlace, hyphens_from, hyphens_next, joined_next_is, next_place, place_behind_mode, waits_next}
 
 -- nothing is wrong with the words, nor with what is still to be used after them

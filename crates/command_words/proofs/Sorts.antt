@@ -1,5 +1,6 @@
 -- What a word is by its first characters, and where an `=` cuts it.
-use Rattle.std.proofs.Common.{◌≡◌, ◌∙◌, ◌||◌, ◌+◌, ◌==◌, ℕ, Bool, cond, true, false, not, refl, sym, ap, subst, arith, one-add, eqb-true, List, [], ◌∷◌, ◌++◌, length, take, drop, Some, None, true≢false, slice_get}
+use Rattle.std.proofs.Common.{◌≡◌, ◌∙◌, ◌||◌, ◌+◌, ◌==◌, ℕ, Bool, cond, true, false, not, refl, sym, ap, subst, arith, one-add, eqb-true, List, [], ◌∷◌}
+use Rattle.std.proofs.Common.{◌++◌, length, take, drop, Some, None, true≢false, slice_get}
 use Rattle.std.specs.Str.{chars}
 use Rattle.std.specs.Prelude.{suc}
 use Rattle.std.specs.List.{after_first, before_first, position_or_len}

@@ -1,13 +1,16 @@
 -- One word of a parse: what is wrong with it, and where the parse stands after it.
-use Rattle.std.proofs.Common.{◌≡◌, ◌∙◌, ◌&&◌, ◌||◌, ◌==◌, ℕ, Bool, cond, not, true, false, refl, sym, ap, ap₂, subst, arith, eqb-true, List, [], ◌∷◌, length, Option, Some, None, true≢false, slice_get, codes}
+use Rattle.std.proofs.Common.{◌≡◌, ◌∙◌, ◌&&◌, ◌||◌, ◌==◌, ℕ, Bool, cond, not, true, false, refl, sym, ap, ap₂, subst, arith, eqb-true, List, [], ◌∷◌}
+use Rattle.std.proofs.Common.{length, Option, Some, None, true≢false, slice_get, codes}
 use Rattle.std.specs.Str.{bytes_eq, chars}
 use Rattle.std.specs.Prelude.{option_and_then}
 use Rattle.std.specs.Option.{option_map_or}
 use Rattle.std.specs.Str.{chars_after, continuation_len, lead_bits}
 use Rattle.clap.specs.Lexer.{long_of, long_of_rest, name_and_value, short_of, short_of_rest, strip_byte}
-use Rattle.clap.specs.Faults.{bundle_fault, bundle_step_fault, flag_word_fault, flags_fault, long_fault, option_fault, other_fault, settle_fault, step_fault, turn_fault, use_fault}
+use Rattle.clap.specs.Faults.{bundle_fault, bundle_step_fault, flag_word_fault, flags_fault, long_fault, option_fault, other_fault, settle_fault}
+use Rattle.clap.specs.Faults.{step_fault, turn_fault, use_fault}
 use Rattle.clap.specs.Kinds.{or_else}
-use Rattle.clap.specs.Walk.{Held, Outcome, Row, Step, Text, Waiting, Walk, after_flag, after_step, arg_by_index, arg_by_long, bundle, bundle_met, bundle_step, idle, is_pending, long_met, long_or_other, option, option_met, plain as plain_outcome, short_or_plain}
+use Rattle.clap.specs.Walk.{Held, Outcome, Row, Step, Text, Waiting, Walk, after_flag, after_step, arg_by_index, arg_by_long, bundle, bundle_met}
+use Rattle.clap.specs.Walk.{bundle_step, idle, is_pending, long_met, long_or_other, option, option_met, plain as plain_outcome, short_or_plain}
 use Rattle.clap.specs.Walk.{next, plain_word, pushed, settled, subcommand_met, subcommand_or_other, to_positional, trailing, used, value as a_value, walked}
 use Rattle.clap.specs.declared.error.kind.ErrorKind.TheVariants as kind
 use Rattle.command_words.specs.CommandLines.{Argument, mode, turns, entry, Given, is_value, name_of}

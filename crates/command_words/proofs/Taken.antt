@@ -1,14 +1,18 @@
 -- A parse takes words that give each argument at most once, and then holds what they give.
-use Rattle.std.proofs.Common.{◌≡◌, ◌∙◌, ◌≤◌, ◌||◌, ◌⊎◌, inl, inr, ℕ, Bool, true, false, refl, sym, ap, subst, arith, List, [], ◌∷◌, ◌++◌, map, length, Some, None, fold, append_assoc, append-nil, ap₂, length-append, true≢false, codes}
+use Rattle.std.proofs.Common.{◌≡◌, ◌∙◌, ◌≤◌, ◌||◌, ◌⊎◌, inl, inr, ℕ, Bool, true, false, refl, sym, ap, subst, arith, List, [], ◌∷◌, ◌++◌, map, length}
+use Rattle.std.proofs.Common.{Some, None, fold, append_assoc, append-nil, ap₂, length-append, true≢false, codes}
 use Rattle.clap.specs.Faults.{settle_fault, turn_fault, use_fault, walk_fault}
 use Rattle.clap.specs.Kinds.{or_else}
 use Rattle.clap.specs.Lexer.{name_and_value}
 use Rattle.clap.specs.Faults.{step_fault}
 use Rattle.clap.specs.Walk.{Held, Text, Waiting, Walk, arg_by_index, arg_by_long, idle, option, settled, to_positional, used, value as a_value, walked}
-use Rattle.command_words.specs.CommandLines.{Argument, mode, turns, entry, Given, Gives, nothing, alone, apart, joined, behind, as_mode, is_option, name_of, option_word, values_of}
+use Rattle.command_words.specs.CommandLines.{Argument, mode, turns, entry, Given, Gives, nothing, alone, apart, joined, behind, as_mode, is_option}
+use Rattle.command_words.specs.CommandLines.{name_of, option_word, values_of}
 use Rattle.command_words.proofs.Rows.{AtMostOnce, first_once, last_new, rows, values-append, IsNew}
-use Rattle.command_words.proofs.Parsed.{Holds, all_used, one_pending, held, new_is_use, is_held, nothing_skipped, once_settles, rule_for, rules, settled_rows_are, top, used_row}
-use Rattle.command_words.proofs.Steps.{stands, next_is, trailing_turn, trailing_next, first_place, mode_taken, waiting_turn, waiting_next, joined_turn, joined_next, waits, value_turn, value_next, awaited_turn, awaited_next}
+use Rattle.command_words.proofs.Parsed.{Holds, all_used, one_pending, held, new_is_use, is_held, nothing_skipped, once_settles, rule_for, rules}
+use Rattle.command_words.proofs.Parsed.{settled_rows_are, top, used_row}
+use Rattle.command_words.proofs.Steps.{stands, next_is, trailing_turn, trailing_next, first_place, mode_taken, waiting_turn, waiting_next, joined_turn}
+use Rattle.command_words.proofs.Steps.{joined_next, waits, value_turn, value_next, awaited_turn, awaited_next}
 
 -- the place of the next word that stands by itself
 abbrev pub IsPlace : ℕ → List Given → Type 0

@@ -1,10 +1,11 @@
 -- The texts of members, one after another.
-use Rattle.std.proofs.Common.{◌≡◌, ◌∙◌, ◌+◌, ◌<◌, ◌==◌, ℕ, zero, suc, refl, sym, ap, ap₂, arith, add-one, List, [], ◌∷◌, ◌++◌, map, length, take, Option, Some, None, slice_get, append_assoc, append-nil, cond, codes}
+use Rattle.std.proofs.Common.{◌≡◌, ◌∙◌, ◌+◌, ◌≤◌, ◌==◌, ℕ, zero, suc, refl, sym, ap, ap₂, arith, add-one, List, [], ◌∷◌, ◌++◌, map, length, take, Option, Some, None, slice_get, append_assoc, append-nil, cond, codes}
 use Rattle.std.specs.Prelude.{flat_map}
 use Rattle.std.specs.List.{join_by}
 use Rattle.run_report.specs.ValueTexts.{Writer, text_itself, texts_of}
 use Rattle.run_values.specs.Values.{Value}
-use Rattle.sil_printer.specs.Words.{listed, separator_before}
+use Rattle.sil_printer.specs.Words.{in_parens, listed, separator_before}
+use Rattle.std.proofs.lemmas.List.{take_all}
 
 -- what a further member adds
 abbrev pub further : List ℕ → Writer → Option Value → List ℕ
@@ -52,3 +53,14 @@ module _ {T : Type 0} (text : T → Writer) where
       ∙ append_assoc start (listed text_itself (words (take i ts) vs)) (further (separator_before (codes ", ") i) (text t) (slice_get vs i))
       ∙ ap (λ l. start ++ l) (sym (more_words ts vs i t there))
       ∙ ap (λ n. start ++ listed text_itself (words (take n ts) vs)) (sym (add-one i))
+
+  -- all of them, between parentheses
+  pub all_members : (ts : List T) (vs told : List Value) (i : ℕ) (old start put new : List ℕ) → length ts ≤ i → vs ≡ told → start ≡ old ++ codes "("
+      → put ≡ start ++ listed text_itself (words (take i ts) vs) → new ≡ put ++ codes ")" → new ≡ old ++ in_parens text_itself (words ts told)
+  all_members ts vs told i old start put new past same at_start at_put at_new =
+      at_new ∙ ap (λ l. l ++ codes ")") at_put
+      ∙ ap (λ us. (start ++ listed text_itself (words us vs)) ++ codes ")") (take_all i ts past)
+      ∙ ap (λ xs. (start ++ listed text_itself (words ts xs)) ++ codes ")") same
+      ∙ ap (λ l. (l ++ listed text_itself (words ts told)) ++ codes ")") at_start
+      ∙ ap (λ l. l ++ codes ")") (append_assoc old (codes "(") (listed text_itself (words ts told)))
+      ∙ append_assoc old (codes "(" ++ listed text_itself (words ts told)) (codes ")")
