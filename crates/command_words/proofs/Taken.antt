@@ -40,7 +40,8 @@ passes_more w after word words given none is rest =
 
 pub next_place : (p : ℕ) (given : List Given) (a : Argument) (v : Text) → is_option a ≡ true → IsPlace p given → IsPlace p (given ++ (a, v) ∷ [])
 next_place p given a v opt place =
-    let same : values_of mode (given ++ (a, v) ∷ []) ≡ values_of mode given = values-append mode given ((a, v) ∷ []) ∙ ap (λ l. values_of mode given ++ l) (none a opt) ∙ append-nil (values_of mode given) in
+    let same : values_of mode (given ++ (a, v) ∷ []) ≡ values_of mode given =
+    values-append mode given ((a, v) ∷ []) ∙ ap (λ l. values_of mode given ++ l) (none a opt) ∙ append-nil (values_of mode given) in
     subst (λ vs. ((p ≡ 1) × (length vs ≡ 0)) ⊎ ((p ≡ 2) × (1 ≤ length vs))) (sym same) place
   where
     none : (b : Argument) → is_option b ≡ true → values_of mode ((b, v) ∷ []) ≡ []
