@@ -1,5 +1,6 @@
 -- For the law that what `print` writes reads back.
 use Rattle.std.proofs.Common.{◌≡◌, ℕ, List, arith}
+use Rattle.command_words.specs.Laws.{SayOneThing}
 use Rattle.sil_ast.specs.declared.module.Module.{Module}
 use Rattle.sil_grammar.specs.Spells.{Spells}
 use Rattle.sil_grammar.specs.inner.Laws.{AreSpelledNumbered}
@@ -12,7 +13,7 @@ use Rattle.sil_command.specs.Laws.{ArePrintedReadBack}
 use Rattle.sil_command.proofs.StatusLemmas.{mode_answers}
 use Rattle.sil_command.proofs.Unread.{unread_status}
 
-module _ (are_spelled : ArePrintedSpelled) (are_numbered : AreSpelledNumbered) where
+module _ (one : SayOneThing) (are_spelled : ArePrintedSpelled) (are_numbered : AreSpelledNumbered) where
   answer_spells : (m : Module) (text answer : List ℕ) (status : ℕ) → Spells m text → AnswersPrint m answer status → Spells m answer
   answer_spells m text _ _ spells printed = are_spelled m (are_numbered m text spells)
 
@@ -23,4 +24,4 @@ module _ (are_spelled : ArePrintedSpelled) (are_numbered : AreSpelledNumbered) w
 
   pub printed_texts_read_back : ArePrintedReadBack
   printed_texts_read_back words text answer status asks answers zero =
-      text_read_back text answer status (mode_answers words Print text answer status asks answers) zero
+      text_read_back text answer status (mode_answers one words Print text answer status asks answers) zero

@@ -1,5 +1,6 @@
 -- For the laws on refusals: what `check` writes of a module, and which texts are answered as no module.
 use Rattle.std.proofs.Common.{◌≡◌, ℕ, ◌≤◌, List, length, refl, sym, subst, arith}
+use Rattle.command_words.specs.Laws.{SayOneThing}
 use Rattle.sil_ast.specs.declared.module.Module.{Module}
 use Rattle.sil_grammar.specs.Refusals.{SpellsNone}
 use Rattle.sil_grammar.specs.Spells.{Spells}
@@ -33,9 +34,9 @@ module _ (once : AreSpelledOnce) (m : Module) where
   text_written text answer status within (spelled n _ _ inside known answers) spells other =
       subst (λ k. WritesFirst k answer) (sym (once text n m known spells)) (first_written n answer status answers other)
 
-pub refused_for_the_first : AreSpelledOnce → AreRefusedForTheFirst
-refused_for_the_first once words text answer status asks within answers m spells other =
-    text_written once m text answer status within (mode_answers words Check text answer status asks answers) spells other
+pub refused_for_the_first : SayOneThing → AreSpelledOnce → AreRefusedForTheFirst
+refused_for_the_first one once words text answer status asks within answers m spells other =
+    text_written once m text answer status within (mode_answers one words Check text answer status asks answers) spells other
 
 -- a module is never answered as none
 module_reported : (mode : Mode) (m : Module) (answer : List ℕ) (status : ℕ) → AnswersModule mode m answer status → status ≡ code_of NotAModule → ⊥
@@ -49,6 +50,6 @@ text_reported mode text _ _ (too_long long) three = absurd (omega arith)
 text_reported mode text answer status (unread reason _ _ inside refusal line) three = unread_none text reason answer status refusal line
 text_reported mode text answer status (spelled m _ _ inside spells answers) three = absurd (module_reported mode m answer status answers three)
 
-pub reported_rightly : AreReportedRightly
-reported_rightly words mode text answer status asks answers three =
-    text_reported mode text answer status (mode_answers words mode text answer status asks answers) three
+pub reported_rightly : SayOneThing → AreReportedRightly
+reported_rightly one words mode text answer status asks answers three =
+    text_reported mode text answer status (mode_answers one words mode text answer status asks answers) three

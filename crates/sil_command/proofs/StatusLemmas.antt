@@ -1,6 +1,7 @@
 -- For the laws on statuses: which texts a mode answers with a status.
 use Rattle.std.proofs.Common.{◌≡◌, ◌↔◌, ◌⊎◌, inl, inr, ℕ, ◌≤◌, List, [], ◌∷◌, length, get_or, refl, sym, ap, subst, ◌∙◌, arith}
 use Rattle.std.specs.Prelude.{⊤}
+use Rattle.command_words.specs.Laws.{SayOneThing}
 use Rattle.sil_ast.specs.declared.module.Module.{Module}
 use Rattle.sil_grammar.specs.Spells.{Spells}
 use Rattle.sil_grammar.specs.inner.Laws.{AreSpelledOnce}
@@ -17,26 +18,26 @@ use Rattle.sil_verifier.specs.Findings.{Accepted, limit as found_limit}
 use Rattle.sil_verifier.specs.inner.Laws.{AreAcceptedWhereNothingIsFound}
 use Rattle.sil_command.proofs.Unread.{unread_none, unread_status}
 
-different_words : word_of Check ∷ [] ≡ word_of Print ∷ [] → ⊥
+different_words : word_of Check ≡ word_of Print → ⊥
 different_words e =
-    let first : ◌≡◌ {A = ℕ} 99 112 = ap (λ words. get_or (get_or words 0 []) 0 0) e in
+    let first : ◌≡◌ {A = ℕ} 99 112 = ap (λ word. get_or word 0 0) e in
     omega (arith, first)
 
--- words ask for one mode alone
-one_mode : (words : List (List ℕ)) (mode other : Mode) → AsksFor words mode → AsksFor words other → other ≡ mode
-one_mode words Check Check asks again = refl
-one_mode words Check Print asks again = absurd (different_words (sym asks ∙ again))
-one_mode words Print Check asks again = absurd (different_words (sym again ∙ asks))
-one_mode words Print Print asks again = refl
+-- a word names one mode alone
+one_mode : (mode other : Mode) → word_of mode ≡ word_of other → other ≡ mode
+one_mode Check Check same = refl
+one_mode Check Print same = absurd (different_words same)
+one_mode Print Check same = absurd (different_words (sym same))
+one_mode Print Print same = refl
 
 -- the answer to words that ask for a mode
-pub mode_answers : (words : List (List ℕ)) (mode : Mode) (text answer : List ℕ) (status : ℕ) → AsksFor words mode → Answers words text answer status → AnswersText mode text answer status
-mode_answers words mode text _ _ asks (usage none) = absurd (none (mode, asks))
-mode_answers words mode text answer status asks (in_mode other _ _ again answers) =
-    subst (λ m. AnswersText m text answer status) (one_mode words mode other asks again) answers
+pub mode_answers : SayOneThing → (words : List (List ℕ)) (mode : Mode) (text answer : List ℕ) (status : ℕ) → AsksFor words mode → Answers words text answer status → AnswersText mode text answer status
+mode_answers one words mode text _ _ asks (usage none) = absurd (none (mode, asks))
+mode_answers one words mode text answer status asks (in_mode other _ _ again answers) =
+    subst (λ m. AnswersText m text answer status) (one_mode mode other (one words _ _ _ _ _ _ asks again).0) answers
 
 -- where the status is none of those of a text that isn't read, it tells of a text what it tells of the module
-module _ (once : AreSpelledOnce) (mode : Mode) (wanted : ℕ) (IsSuch : Module → Type 0)
+module _ (one : SayOneThing) (once : AreSpelledOnce) (mode : Mode) (wanted : ℕ) (IsSuch : Module → Type 0)
     (tells : (m : Module) (answer : List ℕ) (status : ℕ) → AnswersModule mode m answer status → IsSuch m ↔ (status ≡ wanted))
     (of_modules : (wanted ≡ code_of NotAModule → ⊥) × (wanted ≡ code_of Limit → ⊥)) where
   spelled_wanted : (text answer : List ℕ) (status : ℕ) → length text ≤ TEXT_BYTES → AnswersText mode text answer status
@@ -57,7 +58,7 @@ module _ (once : AreSpelledOnce) (mode : Mode) (wanted : ℕ) (IsSuch : Module �
 
   answers_exactly : AnswersExactly mode wanted IsSuch
   answers_exactly words text answer status asks within answers =
-      let of_mode : AnswersText mode text answer status = mode_answers words mode text answer status asks answers in
+      let of_mode : AnswersText mode text answer status = mode_answers one words mode text answer status asks answers in
       (spelled_wanted text answer status within of_mode, wanted_spelled text answer status of_mode)
 
 accepted_done : AreAcceptedWhereNothingIsFound → (m : Module) (answer : List ℕ) (status : ℕ) → AnswersCheck m answer status → Accepted m ↔ (status ≡ code_of Done)
@@ -68,8 +69,8 @@ accepted_done law m _ _ (accepted all) = (λ known. refl, λ zero. all)
 printed_done : (m : Module) (answer : List ℕ) (status : ℕ) → AnswersPrint m answer status → ⊤ ↔ (status ≡ code_of Done)
 printed_done m _ _ printed = (λ known. refl, λ zero. tt)
 
-pub accepted_exactly : AreSpelledOnce → AreAcceptedWhereNothingIsFound → AreAcceptedExactly
-accepted_exactly once law = answers_exactly once Check (code_of Done) Accepted (accepted_done law) (λ e. omega arith, λ e. omega arith)
+pub accepted_exactly : SayOneThing → AreSpelledOnce → AreAcceptedWhereNothingIsFound → AreAcceptedExactly
+accepted_exactly one once law = answers_exactly one once Check (code_of Done) Accepted (accepted_done law) (λ e. omega arith, λ e. omega arith)
 
-pub printed_exactly : AreSpelledOnce → ArePrintedExactly
-printed_exactly once = answers_exactly once Print (code_of Done) (λ m. ⊤) printed_done (λ e. omega arith, λ e. omega arith)
+pub printed_exactly : SayOneThing → AreSpelledOnce → ArePrintedExactly
+printed_exactly one once = answers_exactly one once Print (code_of Done) (λ m. ⊤) printed_done (λ e. omega arith, λ e. omega arith)

@@ -3,6 +3,7 @@
 ghost use Rattle.sil_command.specs.Laws.{AreAcceptedExactly, AreRefusedForTheFirst, AreReportedRightly};
 ghost use Rattle.sil_command.specs.Laws.{ArePrintedExactly, ArePrintedReadBack};
 
+use command_words::command_lines_say_one_thing;
 use printed_reading_laws::printed_modules_are_spelled;
 use sil_grammar::{spelled_modules_are_numbered, spelled_once};
 use sil_verifier::accepted_where_nothing_is_found;
@@ -11,6 +12,7 @@ use sil_verifier::accepted_where_nothing_is_found;
 pub fn accepted_exactly()
     ensures { AreAcceptedExactly }
 {
+    command_lines_say_one_thing();
     spelled_once();
     accepted_where_nothing_is_found();
 }
@@ -19,18 +21,22 @@ pub fn accepted_exactly()
 pub fn refused_for_the_first()
     ensures { AreRefusedForTheFirst }
 {
+    command_lines_say_one_thing();
     spelled_once();
 }
 
 /// A text that is answered with status 3, as no module, spells none.
 pub fn reported_rightly()
     ensures { AreReportedRightly }
-{}
+{
+    command_lines_say_one_thing();
+}
 
 /// `print` answers a text that spells a module with status 0, and one that is answered so spells a module.
 pub fn printed_exactly()
     ensures { ArePrintedExactly }
 {
+    command_lines_say_one_thing();
     spelled_once();
 }
 
@@ -38,6 +44,7 @@ pub fn printed_exactly()
 pub fn printed_texts_read_back()
     ensures { ArePrintedReadBack }
 {
+    command_lines_say_one_thing();
     printed_modules_are_spelled();
     spelled_modules_are_numbered();
 }

@@ -1,19 +1,19 @@
 //! The top call: words and bytes in, bytes and a status out. What the answer is, is decided elsewhere.
 
-ghost use Rattle.std.specs.Prelude.{◌≡◌, ◌⊎◌, ◌<◌, map};
+ghost use Rattle.std.specs.Prelude.{◌≡◌, ◌⊎◌, ◌<◌, ℕ, List, map};
 ghost use Rattle.sil_io.specs.Count.{MayFail};
 ghost use Rattle.sil_io.specs.Reading.{TakesWithin};
 ghost use Rattle.sil_rules.specs.declared.limits.TheConstants.{TEXT_BYTES};
 ghost use Rattle.sil_rules.specs.declared.status.Status.TheVariants.{ReadFault, WriteFault, OutOfMemory};
 ghost use Rattle.sil_rules.specs.Statuses.{code_of};
-ghost use Rattle.sil_command.specs.Words.{IsCommandLine};
+ghost use Rattle.sil_command.specs.Words.{AsksFor, IsCommandLine};
 ghost use Rattle.sil_command.specs.Texts.{read_fault_text};
 ghost use Rattle.sil_command.specs.Ends.{TakesText, Gains, GainsFront, WritesAnswer, Exhausts, WritesWhole};
 ghost use Rattle.sil_command.specs.Ends.{WritesFrontOfAnswer, IsStatus, FinishesText, call_between, Ends};
 
 use crate::answer::answer_to;
 use crate::texts;
-use crate::words::mode_of;
+use crate::words::{Mode, mode_of};
 use sil_ast::Exhausted;
 use sil_io::{ReadEnd, Sink, Source, read_all, write_all};
 use sil_rules::{Status, limits};
@@ -81,9 +81,19 @@ fn run<'a, S: Source, K: Sink>(
     ensures source_untouched { ¬ IsCommandLine (map (λ w. w.now) words.entry.now) → source.new ≡ source.old }
     ensures takes { TakesWithin S.gave S.missed TEXT_BYTES source.old source.new }
 {
-    let Some(mode) = mode_of(words) else {
-        return finish(out, texts::usage(), Status::Usage);
-    };
+    match mode_of(alloc, words) {
+        Ok(Some(mode)) => answer_in(alloc, mode, source, out),
+        Ok(None) => finish(out, texts::usage(), Status::Usage),
+        Err(Exhausted) => Status::OutOfMemory.code(),
+    }
+}
+
+/// Takes the text and answers it in this mode.
+fn answer_in<S: Source, K: Sink>(alloc: Global, mode: Mode, source: &mut S, out: &mut K) -> u8
+    ensures ends { (words : List (List ℕ)) → AsksFor words mode → Ends (call_between words S.left S.gave S.faults
+        source.old source.new K.held K.took K.refused K.faults out.old out.new) result }
+    ensures takes { TakesWithin S.gave S.missed TEXT_BYTES source.old source.new }
+{
     match read_all(alloc, source, limits::TEXT_BYTES) {
         Ok(text) => match answer_to(alloc, mode, text) {
             Ok(answer) => finish(out, answer.text.as_slice(), answer.status),

@@ -3,4 +3,4 @@ use Rattle.sil_command.proofs.StatusLemmas.{accepted_exactly}
 use Rattle.sil_command.proofs.laws.accepted_exactly.Goals as goal
 
 pub returns : goal.returns
-returns c = accepted_exactly c.spelled_once.ensures c.accepted_where_nothing_is_found.ensures
+returns c = accepted_exactly c.command_lines_say_one_thing.ensures c.spelled_once.ensures c.accepted_where_nothing_is_found.ensures

@@ -1,0 +1,10 @@
+//! The words of a command line: which word names the mode, and what the options are given. `clap` reads them.
+//! What a mode is, and which options it takes, isn't asked here.
+#![tactic(auto)]
+
+mod declared_command;
+mod laws;
+mod words;
+
+pub use laws::command_lines_say_one_thing;
+pub use words::{CommandWords, read_words};

@@ -1,0 +1,4 @@
+pub mod Members
+pub mod Forms
+pub mod Writable
+pub mod Below
