@@ -92,18 +92,18 @@ module _ (d : Declarations) (f : Function) where
   abbrev pub own : ValueId → Bool
   own = has_name (renamings_of f)
 
+  -- what some instructions define in lowered code
+  abbrev pub New : ℕ → List Inst → List ValueId
+  New spare is = flat_map results_of (insts_become d (renamings_of f) spare is)
+
   pub old_defines : (b : Block) → KnownBlock d f b → defined_in b ≡ map value_of b.args ++ flat_map results_of b.insts
   old_defines b k = ap (λ vs. map value_of b.args ++ vs) (no_more b.insts b.terminator k.terminator.no_results)
 
   pub new_defines : (spare : ℕ) (b : Block) → KnownBlock d f b
-      → defined_in (block_becomes d (renamings_of f) spare b) ≡ filter own (map value_of b.args) ++ flat_map results_of
-      (insts_become d (renamings_of f) spare b.insts)
+      → defined_in (block_becomes d (renamings_of f) spare b) ≡ filter own (map value_of b.args) ++ New spare b.insts
   new_defines spare b k =
       ap₂ (λ vs ws. vs ++ ws) (args_define (renamings_of f) b.args)
       (no_more (insts_become d (renamings_of f) spare b.insts) b.terminator k.terminator.no_results)
-
-  abbrev pub New : ℕ → List Inst → List ValueId
-  New spare is = flat_map results_of (insts_become d (renamings_of f) spare is)
 
   pub next_define : (spare : ℕ) (i : Inst) (is : List Inst) → Known d f i
       → New spare (i ∷ is) ≡ (spare_values_by (takes_spare i) (value_with spare) ++ filter own i.results) ++ New (spare + 1) is
