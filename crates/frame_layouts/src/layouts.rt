@@ -1,0 +1,85 @@
+//! The layouts of all functions of a module.
+
+ghost use Rattle.std.specs.Prelude.{◌≡◌, ◌≤◌, IfOk, length, map};
+ghost use Rattle.sil_rules.specs.declared.limits.TheConstants.{VALUES};
+ghost use Rattle.run_typing.specs.Runnable.{IsRunnable};
+ghost use Rattle.sil_ast.specs.declared.function.Function as function;
+ghost use Rattle.type_definitions.specs.Declarations.{declarations_of};
+ghost use Rattle.sil_types.specs.Typing.Values.{value_types};
+ghost use Rattle.holder_model.specs.Calling.{value_count};
+ghost use Rattle.typing_values.specs.inner.Told.{types_told};
+ghost use Rattle.frame_layouts.specs.inner.Layouts as spec;
+ghost use Rattle.frame_layouts.specs.inner.Layouts.{layout_to};
+ghost use Rattle.frame_layouts.specs.inner.Sized.{HaveSizes};
+
+use crate::kept::kept_of;
+use crate::layout::Layout;
+use sil_ast::{Exhausted, FuncId, Function, List, Module};
+use sil_types::TypeTable;
+use std::alloc::Global;
+use typing_rows::TypeView;
+use typing_signatures::find_value_functions;
+use typing_values::{GivenTypes, find_value_types};
+
+/// Lays out values, by their types and the functions that they stand for.
+fn lay_out(
+    alloc: Global,
+    table: &TypeTable,
+    types: &[Option<TypeView<'_>>],
+    functions: &[Option<FuncId>],
+) -> Result<Layout, Exhausted>
+    requires sizes { HaveSizes table.now (types_told types.now) }
+    requires few { length functions.now ≤ VALUES }
+    ensures { IfOk result (λ l. l ≡ layout_to table.now (types_told types.now) functions.now (length functions.now)) }
+{
+    let mut layout = Layout::new(alloc);
+    for (number, function) in functions.iter().enumerate() {
+        layout.push(kept_of(table, types, number, *function))?;
+    }
+    Ok(layout)
+}
+
+/// What is known of the values of one function.
+#[derive(Drop)]
+struct ValueFacts<'a> {
+    given: GivenTypes<'a>,
+    functions: Vec<Option<FuncId>>,
+}
+
+/// Lays out a function, in the memory of these facts.
+fn layout_of<'a>(
+    alloc: Global,
+    table: &'a TypeTable,
+    f: &'a Function,
+    facts: &mut ValueFacts<'a>,
+) -> Result<Layout, Exhausted>
+    requires sizes { HaveSizes table.now (value_types table.now f.now) }
+    requires few { value_count f.now ≤ VALUES }
+    ensures { IfOk result (λ l. l ≡ spec.layout_of table.now f.now) }
+{
+    find_value_types(&mut facts.given, table, f)?;
+    find_value_functions(&mut facts.functions, f)?;
+    lay_out(
+        alloc,
+        table,
+        facts.given.types.as_slice(),
+        facts.functions.as_slice(),
+    )
+}
+
+/// The layouts of all functions of a module.
+pub fn layouts_of(alloc: Global, m: &Module, table: &TypeTable) -> Result<List<Layout>, Exhausted>
+    requires runnable { IsRunnable m.now }
+    requires of_it { table.now ≡ declarations_of m.now }
+    ensures { IfOk result (λ ls. ls ≡ map (spec.layout_of (declarations_of m.now)) m.now.functions) }
+{
+    let mut facts = ValueFacts {
+        given: GivenTypes::new(alloc),
+        functions: Vec::new(alloc),
+    };
+    let mut layouts = List::new(alloc);
+    for f in m.functions.as_slice() {
+        layouts.push(layout_of(alloc, table, f, &mut facts)?)?;
+    }
+    Ok(layouts)
+}

@@ -1,0 +1,28 @@
+use Rattle.std.proofs.Common.{◌≡◌, ap, ap₂, ◌∙◌, get_or, map}
+use Rattle.item_operands.specs.Items.{arg_value}
+use Rattle.run_typing.specs.EndForms.{value_in}
+use Rattle.ready_code.specs.Layout.{addresses_carried, values_carried}
+use Rattle.type_definitions.specs.Declarations.{Declarations, declarations_of}
+use Rattle.frame_layouts.specs.inner.Layouts.{layout_of}
+use Rattle.frame_layouts.proofs.Lists.{mapped_at}
+use Rattle.make_ready.proofs.MadeCalls.{call_made}
+use Rattle.make_ready.proofs.calls.call_within.Goals as goal
+
+pub returns : goal.returns
+returns c =
+    let m = c.args.body.now.m.now in
+    let f = c.args.body.now.function.now in
+    let g = c.args.callee.now in
+    let d : Declarations = declarations_of m in
+    let to : get_or c.args.body.now.layouts.now c.args.function.0 c.index-body-function.result ≡ layout_of d g =
+    mapped_at (layout_of d) m.functions c.args.body.now.layouts.now c.args.function.0 g c.index-body-function.result
+    c.requires.body.layouts c.requires.call.there in
+    call_made m f c.args.inst.now c.requires.does c.args.function g c.requires.call c.requires.bodied
+    c.first_result.result c.in_ok-values_of.field-0 c.in_ok-values.values
+    c.in_ok-addresses.addresses c.local.result
+    (c.in_ok-values_of.ensures ∙ ap (map value_in) c.as_slice.ensures)
+    (c.in_ok-values.ensures d f g c.requires.body.layout to
+    ∙ ap₂ (λ os xs. values_carried d f g (map value_in os) (map arg_value xs)) c.args_of-operands.ensures c.args_of-args.ensures)
+    (c.in_ok-addresses.ensures d f g c.requires.body.layout to
+    ∙ ap₂ (λ os xs. addresses_carried d f g (map value_in os) (map arg_value xs)) c.args_of-operands.ensures c.args_of-args.ensures)
+    c.first_result.ensures c.local.ensures

@@ -1,0 +1,74 @@
+-- What is known of a function while it is made ready.
+use Rattle.std.specs.Prelude.{◌≡◌, ℕ, Some, map, slice_get}
+use Rattle.sil_ast.specs.declared.function.Block.{Block}
+use Rattle.sil_ast.specs.declared.function.Function.{Function}
+use Rattle.sil_ast.specs.declared.inst.Inst.{Inst}
+use Rattle.sil_ast.specs.declared.place.FuncId.{FuncId}
+use Rattle.sil_ast.specs.declared.place.ValueId.{ValueId}
+use Rattle.holder_model.specs.Effects.{effect_of}
+use Rattle.instruction_table.specs.Forms.{ending_of}
+use Rattle.numbered_form.specs.Lists.{Each}
+use Rattle.holder_model.specs.declared.row_effect.RowEffect.{RowEffect}
+use Rattle.instruction_table.specs.declared.entries.Ending.{Ending}
+use Rattle.type_definitions.specs.Declarations.{Declarations, declarations_of}
+use Rattle.run_typing.specs.Runnable.{IsRunnable}
+use Rattle.ready_code.specs.Layout as layout
+use Rattle.ready_code.specs.ReadyEnds as ends
+use Rattle.ready_code.specs.ReadyOps as ops
+use Rattle.ready_code.specs.declared.block.ReadyEnd.{ReadyEnd}
+use Rattle.ready_code.specs.declared.local.Local.{Local}
+use Rattle.ready_code.specs.declared.local.LocalAddress.{LocalAddress}
+use Rattle.ready_code.specs.declared.op.ReadyOp.{ReadyOp}
+use Rattle.frame_layouts.specs.inner.Layouts.{layout_of}
+use Rattle.make_ready.specs.declared.body.Body.{Body}
+use Rattle.make_ready.specs.inner.Ends as end_parts
+use Rattle.make_ready.specs.inner.Parts.{CallsThis}
+use Rattle.make_ready.specs.inner.Rows as rows
+
+-- the module is runnable, the table is the module's, the function is one of it, and the layouts are its functions'
+pub record IsBody (b : Body) : Type 0 where
+  pub runnable : IsRunnable b.m.now
+  pub table : b.table.now ≡ declarations_of b.m.now
+  pub layouts : b.layouts.now ≡ map (layout_of (declarations_of b.m.now)) b.m.now.functions
+  pub number : ℕ
+  pub there : slice_get b.m.now.functions number ≡ Some b.function.now
+  pub layout : b.layout.now ≡ layout_of (declarations_of b.m.now) b.function.now
+
+module _ (b : Body) where
+  abbrev pub declared : Declarations
+  declared = declarations_of b.m.now
+
+  abbrev pub local : ValueId → Local
+  local v = layout.local declared b.function.now v
+
+  abbrev pub local_address : ValueId → LocalAddress
+  local_address v = layout.local_address declared b.function.now v
+
+  -- the instruction's row does this, and it has what such a row has
+  abbrev pub HasRow : Inst → RowEffect → Type 0
+  HasRow i effect = rows.HasRow b.m.now b.function.now i effect
+
+  -- the terminator's row ends so, and it has what such a row has
+  abbrev pub HasEnd : Inst → Ending → Type 0
+  HasEnd i ending = end_parts.HasEnd declared b.function.now i ending
+
+  abbrev pub HasOwnRow : Inst → Type 0
+  HasOwnRow i = HasRow i (effect_of i.op)
+
+  abbrev pub HasOwnEnd : Inst → Type 0
+  HasOwnEnd i = HasEnd i (ending_of i.op)
+
+  -- the instructions of the block have what their rows have
+  pub record HasRows (block : Block) : Type 0 where
+    pub insts : Each HasOwnRow block.insts
+    pub end : HasOwnEnd block.terminator
+
+  -- the instruction calls this function, which is there
+  abbrev pub Calls : Inst → FuncId → Function → Type 0
+  Calls i g callee = CallsThis declared b.function.now i b.m.now.functions g callee
+
+  abbrev pub IsReadyOp : Inst → ReadyOp → Type 0
+  IsReadyOp i op = ops.IsReadyOp b.m.now b.function.now i op
+
+  abbrev pub IsReadyEnd : Inst → ReadyEnd → Type 0
+  IsReadyEnd i end = ends.IsReadyEnd declared b.function.now i end

@@ -1,0 +1,17 @@
+//! Makes a lowered module ready to run: what each instruction reads and writes in its function's frame, and the deinitialisers and fields of
+//! each class. It knows of no state of a run.
+#![tactic(auto)]
+
+mod body;
+mod builtins;
+mod calls;
+mod classes;
+mod edges;
+mod ends;
+mod functions;
+mod members;
+mod module;
+mod ops;
+mod parts;
+
+pub use module::make_ready;
