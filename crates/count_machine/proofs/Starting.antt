@@ -1,0 +1,47 @@
+-- From the start of the machine to the end of the run.
+use Rattle.std.proofs.Common.{◌≡◌, ◌∙◌, ◌≤◌, ℕ, Some, sym, ap, subst}
+use Rattle.std.specs.Prelude.{slice_get}
+use Rattle.lowered_run.specs.LowOutcomes.{LowEndsSo}
+use Rattle.machine_laws.proofs.FrameReady.{code_there}
+use Rattle.machine_laws.specs.inner.MachineRuns.{MachineRunsSo, Started}
+use Rattle.machine_steps.specs.declared.run_end.RunEnd.{RunEnd}
+use Rattle.machine_steps.specs.Runs.{Leads, begins}
+use Rattle.machine_steps.specs.Views.{MachineView, Stops}
+use Rattle.ready_code.specs.declared.function.ReadyFunction.{ReadyFunction}
+use Rattle.ready_code.specs.declared.function.ReadyModule.{ReadyModule}
+use Rattle.ready_code.specs.ReadyModules.{IsReadyModule}
+use Rattle.run_typing.specs.Forms.{given_shape}
+use Rattle.run_typing.specs.RunTyped.{RunTyped}
+use Rattle.sil_ast.specs.declared.function.Function.{Function}
+use Rattle.sil_ast.specs.declared.module.Module.{Module}
+use Rattle.sil_ast.specs.declared.place.FuncId.{FuncId}
+use Rattle.type_definitions.specs.Declarations.{Declarations, declarations_of}
+use Rattle.count_machine.specs.declared.low_run.LowRun.{LowRun}
+use Rattle.count_machine.specs.LowRuns.{EndsAsTold, MayStartAt, outcome_of}
+use Rattle.count_machine.specs.inner.Stopped.{TellsOf}
+
+-- the machine is at the beginning of the entry function's ready code
+abbrev pub HasBegun : Declarations → ReadyModule → FuncId → MachineView → Type 0
+HasBegun d ready e st = (code : ReadyFunction) → slice_get ready.functions e.0 ≡ Some code → st ≡ begins d e code
+
+module _ (m : Module) (ready : ReadyModule) (e : FuncId) (bound : ℕ) (law : MachineRunsSo) (typed : RunTyped m) (made : IsReadyModule m ready)
+    (starts : MayStartAt m e) (some_turns : 1 ≤ bound) where
+  pub ends_told : (d : Declarations) → d ≡ declarations_of m → (first : MachineView) → HasBegun d ready e first
+      → (end : RunEnd) (last : MachineView) → Leads ready bound first (Stops end last)
+      → (run : LowRun) → TellsOf m (given_shape (declarations_of m) starts.entry) last end run → EndsAsTold m e bound run
+  ends_told d same first begun end last leads run tells =
+      let code = code_there m ready made e starts.entry starts.there in
+      let started : Started m ready e bound = record {
+        typed = typed;
+        made = made;
+        entry = starts.entry;
+        there = starts.there;
+        starts = starts.may;
+        code = code.0;
+        ready_there = code.1;
+        some_turns = some_turns;
+      } in
+      let from_start = subst (λ st. Leads ready bound st (Stops end last)) (begun code.0 code.1 ∙ ap (λ d. begins d e code.0) same) leads in
+      let ends = law m ready e bound started end last from_start in
+      let told = tells ends.0 ends.1 in
+      record { ending = ends.0; told = told.ending; ends = subst (LowEndsSo m e bound) (sym told.outcome) ends.2 }

@@ -1,0 +1,2 @@
+pub mod LowRuns
+pub mod inner

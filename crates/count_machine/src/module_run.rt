@@ -1,0 +1,78 @@
+//! The run of a lowered module.
+
+ghost use Rattle.std.specs.Prelude.{◌≡◌, ◌≤◌, ℕ, IfOk, slice_get};
+ghost use Rattle.run_typing.specs.Forms.{given_shape};
+ghost use Rattle.run_typing.specs.Runnable.{IsRunnable};
+ghost use Rattle.type_definitions.specs.Declarations.{declarations_of};
+ghost use Rattle.count_machine.specs.LowRuns.{EndsAsTold, HeapIsAsTold, MayStartAt};
+ghost use Rattle.count_machine.specs.inner.Stopped.{TellsOf};
+
+use crate::ending::ending_of;
+use crate::left::left_after;
+use crate::low_run::LowRun;
+use machine_engine::{Machine, Stop};
+use machine_laws::machine_runs_so;
+use machine_steps::RunEnd;
+use make_ready::make_ready;
+use run_typing_laws::runnable_is_typed;
+use sil_ast::{Exhausted, FuncId, Function, Module};
+use sil_types::TypeTable;
+use std::alloc::Global;
+
+/// Runs a lowered module from an entry function that has a body and no arguments, for a bound on turns: the run of lowered code by stored
+/// numbers, as `docs/RUNS.md` defines it. Memory for frames, slots, objects and events is taken as the run needs it.
+pub fn run(
+    alloc: Global,
+    m: &Module,
+    table: &TypeTable,
+    entry: FuncId,
+    turns: u32,
+) -> Result<LowRun, Exhausted>
+    requires runnable { IsRunnable m.now }
+    requires of_it { table.now ≡ declarations_of m.now }
+    requires starts { MayStartAt m.now entry }
+    requires some_turns { 1 ≤ turns }
+    ensures outcome { IfOk result (EndsAsTold m.now entry turns) }
+    ensures heap { IfOk result HeapIsAsTold }
+{
+    runnable_is_typed();
+    machine_runs_so();
+    let ready = make_ready(alloc, m, table)?;
+    let mut machine = Machine::begin(alloc, table, &ready, entry)?;
+    match machine.run_to_end(&ready, turns) {
+        Stop::Ends(stop) => {
+            let entry = &m.functions.as_slice()[entry.0 as usize];
+            told(alloc, m, table, entry, machine, stop)
+        }
+        Stop::Memory => Err(Exhausted),
+    }
+}
+
+/// What is told of a run that stopped so.
+fn told(
+    alloc: Global,
+    m: &Module,
+    table: &TypeTable,
+    entry: &Function,
+    machine: Machine,
+    stop: RunEnd,
+) -> Result<LowRun, Exhausted>
+    requires runnable { IsRunnable m.now }
+    requires of_it { table.now ≡ declarations_of m.now }
+    requires there { (n : ℕ) × (slice_get m.now.functions n ≡ Some entry.now) }
+    ensures outcome { IfOk result (TellsOf m.now (given_shape (declarations_of m.now) entry.now) machine stop) }
+    ensures heap { IfOk result HeapIsAsTold }
+{
+    let ending = ending_of(alloc, m, table, entry, &machine, stop)?;
+    let (events, heap) = machine.into_events_and_heap();
+    let left = left_after(alloc, &heap, &ending)?;
+    let totals = heap.totals();
+    Ok(LowRun {
+        events,
+        ending,
+        left,
+        retains: totals.retains,
+        releases: totals.releases,
+        heap,
+    })
+}
