@@ -14,7 +14,11 @@ use sil_ast::{Exhausted, List, ObjectId, Text, TryClone};
 use std::alloc::Global;
 
 /// The objects that are told after this ending: after a return all that aren't freed, in the order of their numbers.
-pub(crate) fn left_after(alloc: Global, heap: &Heap, ending: &LowEnd) -> Result<List<LeftObject>, Exhausted>
+pub(crate) fn left_after(
+    alloc: Global,
+    heap: &Heap,
+    ending: &LowEnd,
+) -> Result<List<LeftObject>, Exhausted>
     ensures { IfOk result (λ left. left ≡ runs.left_after heap.now ending.now) }
 {
     match ending {
