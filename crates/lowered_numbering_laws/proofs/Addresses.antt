@@ -101,4 +101,4 @@ destroys_at d i x only e stored =
     let found = where_found (λ u. is_nontrivial d u || is_storage u) at t.0 t.1 in
     let no_storage : is_storage t.0 ≡ false = ap (passes is_storage) (sym found.0) ∙ stored in
     address_from x (written 0 i) t.0 (first_written i x only) found.0
-        (nontrivial_object d t.0 (or_first (is_nontrivial d t.0) (is_storage t.0) no_storage found.1))
+    (nontrivial_object d t.0 (or_first (is_nontrivial d t.0) (is_storage t.0) no_storage found.1))

@@ -97,7 +97,7 @@ module _ (K : ValueId → Type 0) (T : Mention → Type 0) (M : Member → Type 
 
   module _ (behind : (t u : TypeName) → target t ≡ Some u → is_object u ≡ true → T (mention Value t) → T (mention Value u)) (d : Declarations) (f : Function)
       (members : (t : TypeName) (fields : List Field) (struct : IsStruct d t fields) → IsPlacedType t
-          → Each (λ m. IsMemberSpelled m × M m) (map (member_of struct.name) fields)) where
+      → Each (λ m. IsMemberSpelled m × M m) (map (member_of struct.name) fields)) where
     spare_known : (takes : Bool) (spare : ValueId) → Each K (spare_values_by takes spare) → takes ≡ true → K spare
     spare_known true spare h e = h.0
     spare_known false spare h e = absurd (cc)

@@ -40,7 +40,7 @@ use Rattle.lowered_numbering_laws.proofs.New.{IsGood, borrow_row, load_sound, re
 use Rattle.lowered_numbering_laws.proofs.New.{struct_extract_sound, tuple_extract_sound}
 use Rattle.lowered_numbering_laws.proofs.Sound.{IsSound, IsSoundInside}
 
-module _ (K : ValueId → Type 0) (T : Mention → Type 0) (M : Member → Type 0) (blocks functions : ℕ) 
+module _ (K : ValueId → Type 0) (T : Mention → Type 0) (M : Member → Type 0) (blocks functions : ℕ)
     (behind : (t u : TypeName) → target t ≡ Some u → is_object u ≡ true → T (mention Value t) → T (mention Value u)) where
   abbrev Good : Operand → Type 0
   Good x = IsGood K T M blocks functions x
@@ -103,10 +103,12 @@ module _ (K : ValueId → Type 0) (T : Mention → Type 0) (M : Member → Type 
 
     loads : (x : Operand) → i.operands ≡ x ∷ [] → Good x → IsAddress x → Inside (plain_load i) → (q : Qualifier)
         → Each Inside (loads_by d spare q i)
-    loads x only good a plain word.Copy =
-        (plain, subst (λ os. Each Inside (flat_map (retains_loaded d spare i.results) (option_to_list (slice_get os 0)))) (sym only)
-        (each_append Inside (retains_loaded d spare i.results x) []
-        (each_map (λ v. retain d (loaded_from x v)) K Inside (λ v h. retains (loaded_from x v) (good_loaded x v good a h)) i.results known) tt))
+    loads x only good a plain word.Copy = (
+      plain,
+      subst (λ os. Each Inside (flat_map (retains_loaded d spare i.results) (option_to_list (slice_get os 0)))) (sym only)
+          (each_append Inside (retains_loaded d spare i.results x) []
+          (each_map (λ v. retain d (loaded_from x v)) K Inside (λ v h. retains (loaded_from x v) (good_loaded x v good a h)) i.results known) tt),
+    )
     loads x only good a plain _ = (plain, tt)
 
     stores : (x y : Operand) → i.operands ≡ x ∷ y ∷ [] → Good y → IsAddress y → Inside (plain_store i) → (q : Qualifier) → (is_assign q ≡ true → K spare)
@@ -151,7 +153,7 @@ module _ (K : ValueId → Type 0) (T : Mention → Type 0) (M : Member → Type 
           subst (λ os. Each Inside (flat_map (extracts_fields d i.results) os)) (sym only)
           (each_append Inside (extracts_fields d i.results x) []
           (subst (λ ms. Each Inside (field_extracts x ms i.results)) (sym (members_of_operand d i x t))
-              (fields x good (map (member_of t.struct.name) t.fields) named i.results)) tt)
+          (fields x good (map (member_of t.struct.name) t.fields) named i.results)) tt)
 
       by : (o : Op) → i.op ≡ o → (takes_spare_by (lowering_of o) i ≡ true → K spare) → IsWell o
       by op.CopyValue e new =
@@ -173,9 +175,11 @@ module _ (K : ValueId → Type 0) (T : Mention → Type 0) (M : Member → Type 
           (refl, reworded_sound K T M blocks functions i op.LoadBorrow op.Load word.Plain e borrow_row refl s) i.qualifier
       by op.Store e new =
           let x = two_operands d f i k op.Store e (λ os. refl) in
-          stores x.bare x.operand x.both (good_second i x.bare x.operand s x.both x.typed) (stores_to d i x.bare x.operand x.both (keeps op.Store e))
-          (k.lowerable.inside.goes_on, reworded_sound K T M blocks functions i i.op i.op word.Plain refl (same_row i.op)
-              (ap (λ o. may_have o word.Plain) e) s) i.qualifier new
+          stores x.bare x.operand x.both (good_second i x.bare x.operand s x.both x.typed) (stores_to d i x.bare x.operand x.both (keeps op.Store e)) (
+            k.lowerable.inside.goes_on,
+            reworded_sound K T M blocks functions i i.op i.op word.Plain refl (same_row i.op)
+                (ap (λ o. may_have o word.Plain) e) s,
+          ) i.qualifier new
       by op.DestroyAddr e new =
           let x = one_operand d f i k op.DestroyAddr e (λ os. refl) in
           destroys x.operand x.only (good x) (destroys_at d i x.operand x.only (keeps op.DestroyAddr e)) (is_at_storage i) refl new

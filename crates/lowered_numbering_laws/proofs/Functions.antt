@@ -56,8 +56,8 @@ as_many_blocks : (d : Declarations) (f : Function) (spare : ℕ) (bs : List Bloc
 as_many_blocks d f spare [] = refl
 as_many_blocks d f spare (b ∷ bs) = ap suc (as_many_blocks d f (spare + length b.insts) bs)
 
-pub as_many_blocks_of_body : (d : Declarations) (f : Function) → length (lowered_body d f).blocks ≡ length f.blocks
-as_many_blocks_of_body d f =
+pub body_has_as_many : (d : Declarations) (f : Function) → length (lowered_body d f).blocks ≡ length f.blocks
+body_has_as_many d f =
     length-map (lowered_blocks d f) (renumbered_block (new_number (numbering_of d f))) ∙ as_many_blocks d f (length (values_of f.blocks)) f.blocks
 
 module _ (m : Module) (n : ℕ) (f : Function) (numbered : IsNumbered m) (typed : Typed m) (rings : HasNoRings m) (there : slice_get m.functions n ≡ Some f) where
@@ -96,7 +96,7 @@ module _ (m : Module) (n : ℕ) (f : Function) (numbered : IsNumbered m) (typed 
   old_known : Each IsKnown (values_of f.blocks)
   old_known =
       each_weaker (λ v. v.0 < 0 + length (values_of f.blocks)) IsKnown
-          (λ v lt. known_below v (let same : v.0 < 0 + length (values_of f.blocks) = lt in omega arith)) (values_of f.blocks)
+      (λ v lt. known_below v (let same : v.0 < 0 + length (values_of f.blocks) = lt in omega arith)) (values_of f.blocks)
       (counted_below 0 (values_of f.blocks) l.numbered.values)
 
   uses : (i : Inst) → IsInstInRange (length (values_of f.blocks)) (length f.blocks) (length m.functions) i
@@ -119,7 +119,7 @@ module _ (m : Module) (n : ℕ) (f : Function) (numbered : IsNumbered m) (typed 
   module _ (T : Mention → Type 0) (M : Member → Type 0) (mentioned : Each T (in_function f)) (named : Each M (function_members f))
       (behind : (t u : TypeName) → target t ≡ Some u → is_object u ≡ true → T (mention Value t) → T (mention Value u))
       (members : (t : TypeName) (fields : List Field) (struct : IsStruct d t fields) → IsPlacedType t
-          → Each (λ x. IsMemberSpelled x × M x) (map (member_of struct.name) fields)) where
+      → Each (λ x. IsMemberSpelled x × M x) (map (member_of struct.name) fields)) where
     abbrev Sound : (ValueId → Type 0) → Inst → Type 0
     Sound K i = IsSound K T M (length f.blocks) (length m.functions) i
 
@@ -166,17 +166,19 @@ module _ (m : Module) (n : ℕ) (f : Function) (numbered : IsNumbered m) (typed 
       inst_sound : (j : ℕ) (i : Inst) → slice_get b.insts j ≡ Some i → IsSoundInside IsKnown T M (length f.blocks) (length m.functions) i
       inst_sound j i e =
           let inside = each_at IsInside b.insts j i parts.insts e in
-          let here = in_front b.insts (b.terminator ∷ []) j i e in
-          (inside.goes_on, record {
-            parts = inside.parts;
-            literals = each_at HasLiterals b.insts j i literals.0 e;
-            spelled = each_at IsInstSpelled b.insts j i spelled.0 e;
-            types = each_at HasInstTypes b.insts j i types.insts.0 e;
-            limits = each_at IsInstInLimits b.insts j i block_in_limits.insts.0 e;
-            uses = uses i (each_at (IsInstInRange (length (values_of f.blocks)) (length f.blocks) (length m.functions)) b.insts j i used.0 e);
-            mentioned = inst_mentions j i here;
-            named = inst_named j i here;
-          })
+          let here = in_front b.insts (b.terminator ∷ []) j i e in (
+            inside.goes_on,
+            record {
+              parts = inside.parts;
+              literals = each_at HasLiterals b.insts j i literals.0 e;
+              spelled = each_at IsInstSpelled b.insts j i spelled.0 e;
+              types = each_at HasInstTypes b.insts j i types.insts.0 e;
+              limits = each_at IsInstInLimits b.insts j i block_in_limits.insts.0 e;
+              uses = uses i (each_at (IsInstInRange (length (values_of f.blocks)) (length f.blocks) (length m.functions)) b.insts j i used.0 e);
+              mentioned = inst_mentions j i here;
+              named = inst_named j i here;
+            },
+          )
 
       old_block : SoundBlock IsKnown b
       old_block =
@@ -203,7 +205,7 @@ module _ (m : Module) (n : ℕ) (f : Function) (numbered : IsNumbered m) (typed 
     body_sound =
         new_blocks (new_number (numbering_of d f)) IsKnown IsBelow T M (length f.blocks) (length m.functions) (λ v h. h) (lowered_blocks d f)
         (blocks_sound IsKnown T M (length f.blocks) (length m.functions) behind d f members (length (values_of f.blocks)) f.blocks
-            (known_blocks (length m.functions) d f l)
+        (known_blocks (length m.functions) d f l)
         (each_from (SoundBlock IsKnown) f.blocks old_block) old_known new_known)
 
     -- ---- what it is for the parts of numbered form
@@ -218,7 +220,7 @@ module _ (m : Module) (n : ℕ) (f : Function) (numbered : IsNumbered m) (typed 
     each_in_body P e = each_block (EachInBlock P) (in_block_each IsBelow T M (length f.blocks) (length m.functions) P e)
 
     as_many : length body.blocks ≡ length f.blocks
-    as_many = as_many_blocks_of_body d f
+    as_many = body_has_as_many d f
 
     as_defined : length (values_of body.blocks) ≡ length defined
     as_defined = ap length (renumbered_values (new_number (numbering_of d f)) (lowered_blocks d f)) ∙ length-map defined (new_number (numbering_of d f))
@@ -272,7 +274,7 @@ module _ (m : Module) (n : ℕ) (f : Function) (numbered : IsNumbered m) (typed 
     pub body_mentions : Each T (in_function body)
     body_mentions =
         each_append T (in_signature f.signature) (flat_map in_block body.blocks)
-            (each_parts T (in_signature f.signature) (flat_map in_block f.blocks) mentioned).0
+        (each_parts T (in_signature f.signature) (flat_map in_block f.blocks) mentioned).0
         (each_flat in_block (SoundBlock IsBelow) T (block_mentions IsBelow T M (length f.blocks) (length m.functions)) body.blocks body_sound)
 
     pub body_members : Each M (function_members body)

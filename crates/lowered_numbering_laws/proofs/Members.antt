@@ -137,4 +137,4 @@ module _ (m : Module) (numbered : IsNumbered m) where
     pub members_found : Each (IsNamed d) (map (member_of struct.name) fields)
     members_found =
         each_map (member_of struct.name) (λ x. IsNamed d (member_of struct.name x)) (IsNamed d) (λ x h. h) fields
-            (each_from (λ x. IsNamed d (member_of struct.name x)) fields named)
+        (each_from (λ x. IsNamed d (member_of struct.name x)) fields named)

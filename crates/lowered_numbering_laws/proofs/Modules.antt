@@ -33,7 +33,7 @@ use Rattle.run_typing_laws.proofs.Declared.{each_from}
 use Rattle.run_typing_laws.proofs.ListFacts.{each_map}
 use Rattle.run_typing_laws.proofs.Rows.Finding.{each_at}
 use Rattle.lowered_numbering_laws.specs.inner.Laws.{IsLoweredNumbered}
-use Rattle.lowered_numbering_laws.proofs.Functions.{as_many_blocks_of_body, body_limits, body_literals, body_numbered, body_parts, body_spelled, body_types}
+use Rattle.lowered_numbering_laws.proofs.Functions.{body_has_as_many, body_limits, body_literals, body_numbered, body_parts, body_spelled, body_types}
 use Rattle.lowered_numbering_laws.proofs.Members.{members_spelled}
 use Rattle.lowered_numbering_laws.proofs.Sizes.{each_of}
 
@@ -107,7 +107,7 @@ module _ (m : Module) (numbered : IsNumbered m) (typed : Typed m) (rings : HasNo
         → Each (λ x. IsMemberSpelled x × AnyMember x) (map (member_of struct.name) fields)
     members t fields struct placed =
         each_weaker IsMemberSpelled (λ x. IsMemberSpelled x × AnyMember x) (λ x h. (h, tt)) (map (member_of struct.name) fields)
-            (members_spelled m numbered t fields struct placed)
+        (members_spelled m numbered t fields struct placed)
 
     own : (P : Function → Type 0) → Each P m.functions → P f
     own P h = each_at P m.functions n f h there
@@ -115,25 +115,28 @@ module _ (m : Module) (numbered : IsNumbered m) (typed : Typed m) (rings : HasNo
     formed : f.form ≡ Ossa → IsFormed (lowered_body d f)
     formed owned = record {
       attributes = (own IsFormed numbered.functions).attributes;
-      external = (λ e. absurd (cc), λ none. (let differ : Ossa ≡ External = sym owned ∙ (own IsFormed numbered.functions).external.1
-      (no_blocks (lowered_body d f).blocks f.blocks (as_many_blocks_of_body d f) none) in absurd (cc)));
+      external = (
+        λ e. absurd (cc),
+        λ none. (let differ : Ossa ≡ External = sym owned ∙ (own IsFormed numbered.functions).external.1
+            (no_blocks (lowered_body d f).blocks f.blocks (body_has_as_many d f) none) in absurd (cc)),
+      );
     }
 
     pub function_numbered : IsFunctionNumbered (length m.functions) (lowered_function d f)
     function_numbered =
         by_form d f (IsFunctionNumbered (length m.functions))
-            (λ e. body_numbered m n f numbered typed rings there AnyType AnyMember mentioned named (λ t u a o h. tt) members)
+        (λ e. body_numbered m n f numbered typed rings there AnyType AnyMember mentioned named (λ t u a o h. tt) members)
         (λ e. own (IsFunctionNumbered (length m.functions)) numbered.numbering.functions)
 
     pub function_parts : FunctionHasParts (lowered_function d f)
     function_parts =
         by_form d f FunctionHasParts (λ e. body_parts m n f numbered typed rings there AnyType AnyMember mentioned named (λ t u a o h. tt) members)
-            (λ e. own FunctionHasParts numbered.parts)
+        (λ e. own FunctionHasParts numbered.parts)
 
     pub function_literals : EachInFunction HasLiterals (lowered_function d f)
     function_literals =
         by_form d f (EachInFunction HasLiterals)
-            (λ e. body_literals m n f numbered typed rings there AnyType AnyMember mentioned named (λ t u a o h. tt) members)
+        (λ e. body_literals m n f numbered typed rings there AnyType AnyMember mentioned named (λ t u a o h. tt) members)
         (λ e. own (EachInFunction HasLiterals) numbered.literals)
 
     pub function_spelled : IsFunctionSpelled (lowered_function d f)
@@ -144,7 +147,7 @@ module _ (m : Module) (numbered : IsNumbered m) (typed : Typed m) (rings : HasNo
     pub insts_spelled : EachInFunction IsInstSpelled (lowered_function d f)
     insts_spelled =
         by_form d f (EachInFunction IsInstSpelled)
-            (λ e. body_spelled m n f numbered typed rings there AnyType AnyMember mentioned named (λ t u a o h. tt) members)
+        (λ e. body_spelled m n f numbered typed rings there AnyType AnyMember mentioned named (λ t u a o h. tt) members)
         (λ e. own (EachInFunction IsInstSpelled) numbered.names.insts)
 
     pub function_types : HasFunctionTypes (lowered_function d f)

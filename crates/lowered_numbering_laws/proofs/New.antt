@@ -84,8 +84,13 @@ tuple_extract_row = takes op.TupleExtract refl refl refl refl refl refl (λ x. r
 
 counts_retain : Counts op.StrongRetain
 unfolding has_one_result
-counts_retain = record { takes = takes op.StrongRetain refl refl refl refl refl refl (λ x. refl) refl refl; no_member = refl; no_number = refl; no_result =
-    refl }
+counts_retain = record {
+  takes = takes op.StrongRetain refl refl refl refl refl refl (λ x. refl) refl refl;
+  no_member = refl;
+  no_number = refl;
+  no_result =
+      refl;
+}
 
 counts_retain_value : Counts op.RetainValue
 unfolding has_one_result
@@ -94,8 +99,13 @@ counts_retain_value =
 
 counts_release : Counts op.StrongRelease
 unfolding has_one_result
-counts_release = record { takes = takes op.StrongRelease refl refl refl refl refl refl (λ x. refl) refl refl; no_member = refl; no_number = refl; no_result =
-    refl }
+counts_release = record {
+  takes = takes op.StrongRelease refl refl refl refl refl refl (λ x. refl) refl refl;
+  no_member = refl;
+  no_number = refl;
+  no_result =
+      refl;
+}
 
 counts_release_value : Counts op.ReleaseValue
 unfolding has_one_result
@@ -246,7 +256,7 @@ module _ (K : ValueId → Type 0) (T : Mention → Type 0) (M : Member → Type 
   pub struct_extract_sound : (x : Operand) (m : Member) (v : ValueId) → IsGood x → IsMemberSpelled m → M m → Sound (struct_extract x m v)
   struct_extract_sound x m v good spelled named =
       made_sound op.StructExtract struct_extract_row (v ∷ []) x (Some m) None good (omega arith) (some_result op.StructExtract v) refl refl spelled tt
-          (named, tt)
+      (named, tt)
 
   is_element : (n : ℕ) → n ≤ 63 → (int_le (pos 0) (pos n) && int_le (pos n) (pos 63)) ≡ true
   is_element n le = and_from (int_le (pos 0) (pos n)) (int_le (pos n) (pos 63)) (le-leb 0 n (omega arith)) (le-leb n 63 le)
@@ -254,7 +264,7 @@ module _ (K : ValueId → Type 0) (T : Mention → Type 0) (M : Member → Type 
   pub tuple_extract_sound : (x : Operand) (n : ℕ) (v : ValueId) → IsGood x → n ≤ 63 → Sound (tuple_extract x n v)
   tuple_extract_sound x n v good le =
       made_sound op.TupleExtract tuple_extract_row (v ∷ []) x None (Some (pos n)) good (omega arith) (some_result op.TupleExtract v) refl refl tt
-          (is_element n le) tt
+      (is_element n le) tt
 
   -- ---- an instruction whose row changes for one alike, and whose word for another
 
@@ -279,7 +289,7 @@ module _ (K : ValueId → Type 0) (T : Mention → Type 0) (M : Member → Type 
     reworded_mentions =
         let tuple : Bool → List Mention = λ b. (if b then mention Unwritten (together (flat_map operand_types i.operands)) ∷ [] else []) in
         ap (λ b. if_there (if b then Slot else Object) i.ty ++ flat_map in_signature
-            (option_to_list i.signature) ++ flat_map in_operand i.operands ++ flat_map in_edge i.edges ++ in_tuple i)
+        (option_to_list i.signature) ++ flat_map in_operand i.operands ++ flat_map in_edge i.edges ++ in_tuple i)
         (ap may_have_storage e ∙ row.storage)
         ∙ ap (λ b. if_there (standing_in p) i.ty ++ flat_map in_signature
         (option_to_list i.signature) ++ flat_map in_operand i.operands ++ flat_map in_edge i.edges ++ tuple b)

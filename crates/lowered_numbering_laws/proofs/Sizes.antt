@@ -72,7 +72,7 @@ module _ (d : Declarations) (spare : ValueId) (i : Inst) (few_operands : length 
       let each : length (flat_map (retains_loaded d spare i.results) (operand_at 0 i)) ≤ 64 * length (operand_at 0 i) =
       flat_few (retains_loaded d spare i.results) 64
       (λ place. let same : length (retains_loaded d spare i.results place) ≡ length i.results =
-          length-map i.results (λ v. retain d (loaded_from place v)) in omega arith) (operand_at 0 i) in
+      length-map i.results (λ v. retain d (loaded_from place v)) in omega arith) (operand_at 0 i) in
       omega arith
   loads_few _ = omega arith
 
@@ -103,12 +103,12 @@ module _ (d : Declarations) (spare : ValueId) (i : Inst) (few_operands : length 
       let each : length (flat_map (extracts_fields d i.results) i.operands) ≤ 64 * length i.operands =
       flat_few (extracts_fields d i.results) 64
       (λ x. let le : length (extracts_fields d i.results x) ≤ length i.results =
-          fields_few x (flat_map (members_of_struct d) (option_to_list x.ty)) i.results in omega arith) i.operands in
+      fields_few x (flat_map (members_of_struct d) (option_to_list x.ty)) i.results in omega arith) i.operands in
       omega arith
   by_few lowering.ExtractsElements =
       let each : length (flat_map (extracts_elements i.results) i.operands) ≤ 64 * length i.operands =
       flat_few (extracts_elements i.results) 64
-          (λ x. let le : length (extracts_elements i.results x) ≤ length i.results = elements_few x 0 i.results in omega arith) i.operands in
+      (λ x. let le : length (extracts_elements i.results x) ≤ length i.results = elements_few x 0 i.results in omega arith) i.operands in
       omega arith
 
   pub becomes_few : length (becomes d spare i) ≤ 4096
@@ -163,15 +163,17 @@ each_flat_of g P h (x ∷ xs) = each_append P (g x) (flat_map g xs) (h x) (each_
 
 module _ (d : Declarations) (spare : ValueId) (i : Inst) where
   loads_none : (q : Qualifier) → Each TakesNone (loads_by d spare q i)
-  loads_none word.Copy =
-      (refl, each_flat_of (retains_loaded d spare i.results) TakesNone
-      (λ place. each_map_of (λ v. retain d (loaded_from place v)) TakesNone (λ v. retain_none d (loaded_from place v)) i.results) (operand_at 0 i))
+  loads_none word.Copy = (
+    refl,
+    each_flat_of (retains_loaded d spare i.results) TakesNone
+        (λ place. each_map_of (λ v. retain d (loaded_from place v)) TakesNone (λ v. retain_none d (loaded_from place v)) i.results) (operand_at 0 i),
+  )
   loads_none _ = (refl, tt)
 
   stores_none : i.op ≡ op.Store → (q : Qualifier) → Each TakesNone (stores_by d spare q i)
   stores_none e word.Assign =
       each_flat_of (assigns d spare i) TakesNone (λ place. (refl, (ap (λ o. takes_value o word.Plain) e, (release_none d (loaded_from place spare), tt))))
-          (operand_at 1 i)
+      (operand_at 1 i)
   stores_none e _ = (ap (λ o. takes_value o word.Plain) e, tt)
 
   abbrev taken : Bool → ℕ
@@ -252,7 +254,7 @@ module _ (d : Declarations) (f : Function) where
       insts_less (spare + 1) is k.1 in
       let values : length (New d f spare (i ∷ is)) ≡ (length spares + length kept) + length (New d f (spare + 1) is) =
       ap length (next_define d f spare i is k.0) ∙ length-append (spares ++ kept) (New d f (spare + 1) is)
-          ∙ ap (λ n. n + length (New d f (spare + 1) is)) (length-append spares kept) in
+      ∙ ap (λ n. n + length (New d f (spare + 1) is)) (length-append spares kept) in
       let takes : count_by inst_takes_value (new ++ Anew (spare + 1) is) ≡ count_by inst_takes_value new + count_by inst_takes_value (Anew (spare + 1) is) =
       counted_append new (Anew (spare + 1) is) in
       let less : cond (takes_spare i) 1 0 + count_by inst_takes_value new ≤ cond (inst_takes_value i) 1 0 = becomes_less d (value_with spare) i in

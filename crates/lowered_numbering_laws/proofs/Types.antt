@@ -152,12 +152,12 @@ module _ (m : Module) (numbered : IsNumbered m) (typed : Typed m) (rings : HasNo
     pub lowered_fine : Each (IsFine d) (in_function (lowered_function d f))
     lowered_fine =
         by_form d f (λ g. Each (IsFine d) (in_function g))
-            (λ e. body_mentions m n f numbered typed rings there (IsFine d) (IsNamed d) fine members_named (fine_behind d) members) (λ e. fine)
+        (λ e. body_mentions m n f numbered typed rings there (IsFine d) (IsNamed d) fine members_named (fine_behind d) members) (λ e. fine)
 
     pub lowered_named : Each (IsNamed d) (function_members (lowered_function d f))
     lowered_named =
         by_form d f (λ g. Each (IsNamed d) (function_members g))
-            (λ e. body_members m n f numbered typed rings there (IsFine d) (IsNamed d) fine members_named (fine_behind d) members)
+        (λ e. body_members m n f numbered typed rings there (IsFine d) (IsNamed d) fine members_named (fine_behind d) members)
         (λ e. members_named)
 
     pub lowered_well : IsWellNamed d (function (lowered_function d f))
@@ -205,7 +205,7 @@ module _ (m : Module) (numbered : IsNumbered m) (typed : Typed m) (rings : HasNo
             (each_weaker (IsFine d) (λ x. is_too_deep d x ≡ false) (λ x h. h.depth) xs fine_inside))) deep_parts.1;
         leaves = none_passes (has_too_many_leaves d) (flat_map in_decl m.decls ++ xs)
             (each_append (λ x. has_too_many_leaves d x ≡ false) (flat_map in_decl m.decls) xs
-                (each_fails (has_too_many_leaves d) (flat_map in_decl m.decls) large_inside.0)
+            (each_fails (has_too_many_leaves d) (flat_map in_decl m.decls) large_inside.0)
             (each_weaker (IsFine d) (λ x. has_too_many_leaves d x ≡ false) (λ x h. h.leaves) xs fine_inside));
       }
 

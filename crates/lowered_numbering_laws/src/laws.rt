@@ -1,7 +1,9 @@
 //! The laws of a lowered module's form, each on a call that does nothing. The lemmas behind them are in `proofs/`.
 
 ghost use Rattle.lowered_numbering_laws.specs.inner.Laws.{
-    AreTypesKept, DeclaresTheSame, IsLoweredNumbered,
+  AreTypesKept,
+  DeclaresTheSame,
+  IsLoweredNumbered,
 };
 
 /// A lowered module is in numbered form but for the limit on instructions, and no function of it is in ownership form.

@@ -100,7 +100,7 @@ module _ (d : Declarations) (f : Function) where
       (insts_become d (renamings_of f) spare b.insts)
   new_defines spare b k =
       ap₂ (λ vs ws. vs ++ ws) (args_define (renamings_of f) b.args)
-          (no_more (insts_become d (renamings_of f) spare b.insts) b.terminator k.terminator.no_results)
+      (no_more (insts_become d (renamings_of f) spare b.insts) b.terminator k.terminator.no_results)
 
   abbrev pub New : ℕ → List Inst → List ValueId
   New spare is = flat_map results_of (insts_become d (renamings_of f) spare is)
@@ -121,14 +121,14 @@ module _ (d : Declarations) (f : Function) where
   insts_cover spare (i ∷ is) k =
       subst (Covers own (flat_map results_of (i ∷ is))) (sym (next_define spare i is k.0))
       (covers_both own i.results _ (flat_map results_of is) (New (spare + 1) is) (spares_cover (takes_spare i) (value_with spare) i.results)
-          (insts_cover (spare + 1) is k.1))
+      (insts_cover (spare + 1) is k.1))
 
   block_covers : (spare : ℕ) (b : Block) → KnownBlock d f b → Covers own (defined_in b) (defined_in (block_becomes d (renamings_of f) spare b))
   block_covers spare b k =
       subst (λ vs. Covers own vs (defined_in (block_becomes d (renamings_of f) spare b))) (sym (old_defines b k))
       (subst (Covers own (map value_of b.args ++ flat_map results_of b.insts)) (sym (new_defines spare b k))
       (covers_both own (map value_of b.args) _ (flat_map results_of b.insts) (New spare b.insts) (covers_kept own (map value_of b.args))
-          (insts_cover spare b.insts k.insts)))
+      (insts_cover spare b.insts k.insts)))
 
   pub blocks_cover : (spare : ℕ) (bs : List Block) → Each (KnownBlock d f) bs
       → Covers own (values_of bs) (values_of (blocks_become d (renamings_of f) spare bs))
@@ -160,11 +160,11 @@ module _ (d : Declarations) (f : Function) where
         let spares : (spare + 1) + length is ≡ spare + suc (length is) = omega arith in
         subst (λ vs. Rises bound own old spare vs (old + length (flat_map results_of (i ∷ is))) (spare + suc (length is))) (sym (next_define spare i is k.0))
         (rises_along bound own old spare (old + length i.results) (spare + 1) (old + length (i.results ++ flat_map results_of is)) (spare + suc (length is)) _
-            (New (spare + 1) is)
+        (New (spare + 1) is)
         (inst_rises old spare i (takes_spare i) parts.0 (omega arith))
         (subst (λ n. Rises bound own (old + length i.results) (spare + 1) (New (spare + 1) is) n (spare + suc (length is))) end
         (subst (λ n. Rises bound own (old + length i.results) (spare + 1) (New (spare + 1) is)
-            ((old + length i.results) + length (flat_map results_of is)) n) spares
+        ((old + length i.results) + length (flat_map results_of is)) n) spares
         (insts_rise (old + length i.results) (spare + 1) is k.1 parts.1 (omega arith)))))
 
     block_rises : (old spare : ℕ) (b : Block) → KnownBlock d f b → AreCountedFrom old (defined_in b) → old + length (defined_in b) ≤ bound

@@ -75,7 +75,7 @@ chain_value defs n m (graph.one _ _ c) =
     one (value_of n) (value_of m) (has_value (operands_at defs (value_of n)) m (subst (λ xs. Contains xs m) (parts_are defs n) c))
 chain_value defs n m (graph.more _ k _ c h) =
     more (value_of n) (value_of k) (value_of m) (has_value (operands_at defs (value_of n)) k (subst (λ xs. Contains xs k) (parts_are defs n) c))
-        (chain_value defs k m h)
+    (chain_value defs k m h)
 
 module _ (defs : List Definition) (range : IsInRange defs) (none : HasNoRing defs) where
   abbrev known : ValueId → Option Facts

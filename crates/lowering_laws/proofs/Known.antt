@@ -102,7 +102,7 @@ module _ (d : Declarations) (f : Function) (i : Inst) (k : Known d f i) where
   kept e =
       let none : Renamed false = subst (λ b. Renamed (is_some (slice_get (cond b (map value_of i.operands) []) 0))) e k.named in
       kept_all (has_name (renamings_of f)) i.results
-          (each_weaker (λ v. is_other_name (renamings_of f) v ≡ false) (λ v. has_name (renamings_of f) v ≡ true) (λ v h. ap not h) i.results none)
+      (each_weaker (λ v. is_other_name (renamings_of f) v ≡ false) (λ v. has_name (renamings_of f) v ≡ true) (λ v h. ap not h) i.results none)
 
   pub gone : renames i.op ≡ true → (x : Operand) → i.operands ≡ x ∷ [] → filter (has_name (renamings_of f)) i.results ≡ []
   gone e x is =
@@ -110,7 +110,7 @@ module _ (d : Declarations) (f : Function) (i : Inst) (k : Known d f i) where
       subst (λ os. Renamed (is_some (slice_get (map value_of os) 0))) is
       (subst (λ b. Renamed (is_some (slice_get (cond b (map value_of i.operands) []) 0))) e k.named) in
       kept_none (has_name (renamings_of f)) i.results
-          (each_weaker (λ v. is_other_name (renamings_of f) v ≡ true) (λ v. has_name (renamings_of f) v ≡ false) (λ v h. ap not h) i.results some)
+      (each_weaker (λ v. is_other_name (renamings_of f) v ≡ true) (λ v. has_name (renamings_of f) v ≡ false) (λ v h. ap not h) i.results some)
 
 -- ---- operands by their row
 

@@ -1,5 +1,5 @@
 -- Facts on lists: what holds of each element, and lists that are counted.
-use Rattle.std.proofs.Common.{◌≡◌, ℕ, zero, suc, ◌+◌, ◌<◌, List, [], ◌∷◌, ◌++◌, length, refl, ap, subst, arith, Some}
+use Rattle.std.proofs.Common.{◌≡◌, ℕ, suc, ◌+◌, ◌<◌, List, [], ◌∷◌, ◌++◌, length, refl, subst, arith, Some}
 use Rattle.std.specs.Prelude.{slice_get}
 use Rattle.sil_ast.specs.declared.place.ValueId.{ValueId}
 use Rattle.numbered_form.specs.Lists.{Each}
@@ -36,8 +36,3 @@ counted_from n [] h = tt
 counted_from n (v ∷ vs) h =
     let first : v.0 ≡ n + 0 = h 0 v refl in
     (omega arith, counted_from (n + 1) vs (λ k w e. let at : w.0 ≡ n + suc k = h (suc k) w e in omega arith))
-
-pub counted_at : (n : ℕ) (vs : List ValueId) (k : ℕ) (v : ValueId) → AreCountedFrom n vs → slice_get vs k ≡ Some v → v.0 ≡ n + k
-counted_at n [] k v h e = absurd (cc)
-counted_at n (x ∷ vs) zero v h e = let same : x ≡ v = cc in let first : x.0 ≡ n = h.0 in let number : x.0 ≡ v.0 = ap (λ y. y.0) same in omega arith
-counted_at n (x ∷ vs) (suc k) v h e = let rest : v.0 ≡ (n + 1) + k = counted_at (n + 1) vs k v h.1 e in omega arith

@@ -143,7 +143,7 @@ module _ (d : Declarations) (f : Function) (spare : ValueId) (i : Inst) (k : Kno
   by op.Store e =
       let x = two_operands d f i k op.Store e (λ os. refl) in
       stores_define d spare i x.bare x.operand x.both i.qualifier
-          ∙ ap (λ vs. spare_values_by (is_assign i.qualifier) spare ++ vs) (sym (kept d f i k (ap renames e)))
+      ∙ ap (λ vs. spare_values_by (is_assign i.qualifier) spare ++ vs) (sym (kept d f i k (ap renames e)))
   by op.DestroyAddr e =
       let x = one op.DestroyAddr e (λ os. refl) in
       destroys_define d spare i x.operand x.only (no_results d f i k op.DestroyAddr e refl) (is_at_storage i)
@@ -154,7 +154,7 @@ module _ (d : Declarations) (f : Function) (spare : ValueId) (i : Inst) (k : Kno
   by op.DestructureTuple e =
       let x = one op.DestructureTuple e (λ os. refl) in
       ap (λ os. flat_map results_of (flat_map (extracts_elements i.results) os)) x.only ∙ elements_define x.operand 0 i.results
-          ∙ sym (kept d f i k (ap renames e))
+      ∙ sym (kept d f i k (ap renames e))
   by o e = append-nil i.results ∙ sym (kept d f i k (ap renames e))
 
   pub new_values : flat_map results_of (becomes d spare i) ≡ spare_values_by (takes_spare i) spare ++ own

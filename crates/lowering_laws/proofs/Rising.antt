@@ -84,13 +84,15 @@ module _ (bound : ℕ) (own : ValueId → Bool) where
   pub rising_apart : (old spare : ℕ) (vs : List ValueId) → bound ≤ spare → AreRising old spare vs → AreApart vs
   rising_apart old spare [] le h = tt
   rising_apart old spare (v ∷ vs) le (inl h) =
-      let lt : v.0 < bound = h.1 in
-      (differs v vs (behind_old v spare le lt vs (all_later (v.0 + 1) spare (v.0 + 1) spare (omega arith) (omega arith) vs h.3)),
-      rising_apart (v.0 + 1) spare vs le h.3)
+      let lt : v.0 < bound = h.1 in (
+        differs v vs (behind_old v spare le lt vs (all_later (v.0 + 1) spare (v.0 + 1) spare (omega arith) (omega arith) vs h.3)),
+        rising_apart (v.0 + 1) spare vs le h.3,
+      )
   rising_apart old spare (v ∷ vs) le (inr h) =
-      let from : spare ≤ v.0 = h.0 in
-      (differs v vs (behind_spare v old (omega arith) vs (all_later old (v.0 + 1) old (v.0 + 1) (omega arith) (omega arith) vs h.1)),
-      rising_apart old (v.0 + 1) vs (omega arith) h.1)
+      let from : spare ≤ v.0 = h.0 in (
+        differs v vs (behind_spare v old (omega arith) vs (all_later old (v.0 + 1) old (v.0 + 1) (omega arith) (omega arith) vs h.1)),
+        rising_apart old (v.0 + 1) vs (omega arith) h.1,
+      )
 
   -- each is an old value with a name of its own, or a spare one
   pub all_own : (old spare : ℕ) (vs : List ValueId) → bound ≤ spare → AreRising old spare vs → Each (λ v. (own v ≡ true) ⊎ (bound ≤ v.0)) vs

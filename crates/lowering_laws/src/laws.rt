@@ -1,7 +1,12 @@
 //! The laws of the names and numbers of lowered functions, each on a call that does nothing. The lemmas behind them are in `proofs/`.
 
 ghost use Rattle.lowering_laws.specs.inner.Laws.{
-    AreDefinedPlaced, AreLowerable, AreNewCounted, AreOldPlaced, HaveNoRings, NamesEnd,
+  AreDefinedPlaced,
+  AreLowerable,
+  AreNewCounted,
+  AreOldPlaced,
+  HaveNoRings,
+  NamesEnd,
 };
 
 /// Each function of a module that is numbered, typed and without a ring of names has what lowering asks.
