@@ -34,7 +34,7 @@ use Rattle.type_definitions.specs.Mentions.{Mention, block_members, function_mem
 use Rattle.type_definitions.specs.Mentions.{mention}
 use Rattle.type_definitions.specs.declared.standing.Standing.TheVariants.{Value}
 use Rattle.value_tables.proofs.Rows.{each_flat}
-use Rattle.lowering_laws.specs.Lowerable.{HasNoRings, IsLowerable}
+use Rattle.lowering_laws.specs.inner.Lowerable.{HasNoRings, IsLowerable}
 use Rattle.lowering_laws.specs.inner.Laws.{defined_by}
 use Rattle.lowering_laws.proofs.Known.{known_blocks}
 use Rattle.lowering_laws.proofs.Lists.{counted_below, each_weaker}

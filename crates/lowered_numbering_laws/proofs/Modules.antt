@@ -26,7 +26,7 @@ use Rattle.run_typing.specs.Runnable.{IsBodyInLimits, IsNearlyNumbered, IsNotOwn
 use Rattle.sil_types.specs.Typing.Typed.{Typed}
 use Rattle.type_definitions.specs.Declarations.{Declarations, declarations_of}
 use Rattle.type_definitions.specs.Mentions.{Mention, function_members, in_function}
-use Rattle.lowering_laws.specs.Lowerable.{HasNoRings}
+use Rattle.lowering_laws.specs.inner.Lowerable.{HasNoRings}
 use Rattle.lowering_laws.proofs.Lists.{each_weaker}
 use Rattle.lowering_laws.proofs.Structs.{IsStruct}
 use Rattle.run_typing_laws.proofs.Declared.{each_from}

@@ -27,7 +27,7 @@ use Rattle.type_definitions.specs.Rules.{is_misplaced, is_misplaced_value}
 use Rattle.type_definitions.specs.Rules.{is_misplaced_value_layer, is_no_member, is_too_deep, is_too_low, is_unknown}
 use Rattle.type_definitions.specs.declared.measure.Measure.{Measure}
 use Rattle.type_definitions.specs.declared.standing.Standing.TheVariants.{Value}
-use Rattle.lowering_laws.specs.Lowerable.{HasNoRings}
+use Rattle.lowering_laws.specs.inner.Lowerable.{HasNoRings}
 use Rattle.lowering_laws.proofs.Lists.{each_both, each_weaker}
 use Rattle.lowering_laws.proofs.Structs.{IsStruct}
 use Rattle.ownership_origins.proofs.Ranges.{all_from_each}

@@ -39,7 +39,7 @@ use Rattle.sil_types.specs.Typing.Values.{value_functions, value_types}
 use Rattle.type_definitions.specs.Declarations.{Declarations, declarations_of}
 use Rattle.lowering_model.specs.LoweredModules.{lowered, lowered_body, lowered_by, lowered_function}
 use Rattle.lowering_model.specs.Numbers.{new_number, numbering_of, renumbered_edge, renumbered_inst}
-use Rattle.lowering_laws.specs.Lowerable.{HasNoRings}
+use Rattle.lowering_laws.specs.inner.Lowerable.{HasNoRings}
 use Rattle.lowering_laws.proofs.Lowerable.{functions_are_lowerable}
 use Rattle.lowering_laws.proofs.Lists.{each_weaker}
 use Rattle.lowered_typing_laws.specs.inner.LoweredTyped.{LoweredIsTyped}

@@ -30,7 +30,7 @@ use Rattle.sil_types.specs.Typing.SwitchRules.{has_wrong_cases}
 use Rattle.sil_types.specs.Typing.Typed.{BreaksAtFunction, BreaksAtPoint, Typed, at_function, at_point, function, point}
 use Rattle.sil_types.specs.Typing.Values.{value_functions, value_types}
 use Rattle.type_definitions.specs.Declarations.{decl_of, declarations_of}
-use Rattle.lowering_laws.specs.Lowerable.{IsLowerable}
+use Rattle.lowering_laws.specs.inner.Lowerable.{IsLowerable}
 use Rattle.run_typing_laws.proofs.Declared.{each_append, each_from}
 use Rattle.run_typing_laws.proofs.Found.{each_at}
 use Rattle.run_typing_laws.proofs.ListFacts.{get_last}

@@ -21,7 +21,7 @@ use Rattle.type_definitions.specs.Declarations.{Declarations}
 use Rattle.point_checks.specs.Points.{IsAt}
 use Rattle.lowering_model.specs.Names.{is_other_name}
 use Rattle.run_typing_laws.proofs.Rows.Tables.{row_at, told_of_results}
-use Rattle.lowering_laws.specs.Lowerable.{IsLowerable, IsLowerableBlock, IsLowerableInst}
+use Rattle.lowering_laws.specs.inner.Lowerable.{IsLowerable, IsLowerableBlock, IsLowerableInst}
 use Rattle.lowering_laws.proofs.Lists.{each_weaker}
 use Rattle.run_typing_laws.proofs.Declared.{each_from}
 use Rattle.run_typing_laws.proofs.ListFacts.{empty_is}

@@ -20,7 +20,7 @@ use Rattle.sil_types.specs.Typing.RowTypes.{keeps_row}
 use Rattle.sil_types.specs.Typing.Typed.{BreaksAtPoint, Typed, at_point, operand_type, point, result_count}
 use Rattle.sil_types.specs.Typing.Values.{value_types}
 use Rattle.type_definitions.specs.Declarations.{Declarations, declarations_of}
-use Rattle.lowering_laws.specs.Lowerable.{HasNoRingIn, HasNoRings, IsLowerable, IsLowerableBlock, IsLowerableInst}
+use Rattle.lowering_laws.specs.inner.Lowerable.{HasNoRingIn, HasNoRings, IsLowerable, IsLowerableBlock, IsLowerableInst}
 use Rattle.lowering_laws.specs.inner.Laws.{AreLowerable}
 use Rattle.run_typing_laws.proofs.Declared.{each_from}
 use Rattle.run_typing_laws.proofs.Rows.Finding.{each_at, never_fails}

@@ -17,7 +17,7 @@ use Rattle.ownership_chains.specs.declared.definition.Definition.{Definition}
 use Rattle.ownership_origins.proofs.Counts.{are_of_values}
 use Rattle.ownership_origins.specs.Renamings.{renamings_of}
 use Rattle.type_definitions.specs.Declarations.{Declarations}
-use Rattle.lowering_laws.specs.Lowerable.{IsLowerable}
+use Rattle.lowering_laws.specs.inner.Lowerable.{IsLowerable}
 use Rattle.lowering_laws.specs.inner.Laws.{AreDefinedPlaced, AreNewCounted, AreOldPlaced, defined_by}
 use Rattle.lowering_laws.proofs.Covered.{blocks_cover, blocks_rise}
 use Rattle.lowering_laws.proofs.Ends.{names_end, stands_itself}

@@ -19,7 +19,7 @@ use Rattle.ownership_origins.specs.Renamings.{renamings_of}
 use Rattle.sil_cfg.specs.Items.{HasBlocks}
 use Rattle.type_definitions.specs.Declarations.{Declarations, declarations_of}
 use Rattle.lowering_model.specs.Numbers.{is_value}
-use Rattle.lowering_laws.specs.Lowerable.{HasNoRingIn}
+use Rattle.lowering_laws.specs.inner.Lowerable.{HasNoRingIn}
 use Rattle.lowering_laws.specs.inner.Laws.{HaveNoRings}
 use Rattle.lowering_laws.proofs.Covered.{any_cases}
 use Rattle.lowering_laws.proofs.Lowerable.{contained}

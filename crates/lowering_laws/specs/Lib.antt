@@ -1,2 +1,1 @@
-pub mod Lowerable
 pub mod inner

@@ -1,1 +1,2 @@
+pub mod Lowerable
 pub mod Laws

@@ -1,7 +1,7 @@
 -- What a lowered module keeps of the module that it was lowered from.
 use Rattle.std.specs.Prelude.{◌≡◌}
 use Rattle.sil_ast.specs.declared.module.Module.{Module}
-use Rattle.lowering_laws.specs.Lowerable.{HasNoRings}
+use Rattle.lowering_laws.specs.inner.Lowerable.{HasNoRings}
 use Rattle.lowering_model.specs.LoweredModules.{lowered}
 use Rattle.numbered_form.specs.Lists.{Each}
 use Rattle.numbered_form.specs.inner.NumberedForm.{IsNumbered}

@@ -3,7 +3,7 @@ use Rattle.numbered_form.specs.inner.NumberedForm.{IsNumbered}
 use Rattle.sil_ast.specs.declared.module.Module.{Module}
 use Rattle.sil_types.specs.Typing.Typed.{Typed}
 use Rattle.lowering_model.specs.LoweredModules.{lowered}
-use Rattle.lowering_laws.specs.Lowerable.{HasNoRings}
+use Rattle.lowering_laws.specs.inner.Lowerable.{HasNoRings}
 
 -- what lowering makes of a typed module is typed, where no value is another name of itself
 abbrev pub LoweredIsTyped : Type 0

@@ -14,7 +14,7 @@ use Rattle.ownership_origins.specs.Renamings.{renamings_of}
 use Rattle.sil_cfg.specs.Items.{HasBlocks}
 use Rattle.sil_types.specs.Typing.Typed.{Typed}
 use Rattle.type_definitions.specs.Declarations.{Declarations, declarations_of}
-use Rattle.lowering_laws.specs.Lowerable.{HasNoRings, HaveEnds, IsLowerable}
+use Rattle.lowering_laws.specs.inner.Lowerable.{HasNoRings, HaveEnds, IsLowerable}
 
 -- in a module that was read and typed, and in which no value is another name of itself, each function has what lowering asks
 abbrev pub AreLowerable : Type 0
