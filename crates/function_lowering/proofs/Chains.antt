@@ -34,7 +34,7 @@ module _ (renamings : List Definition) where
   stays zero v e = refl
   stays (suc n) v e = ap (unless_renamed (stands_within renamings n) v) e
 
-  along : (n : ℕ) (v w : ValueId) → renamed_from renamings v ≡ Some w → stands_within renamings (suc n) v ≡ stands_within renamings n w
+  pub along : (n : ℕ) (v w : ValueId) → renamed_from renamings v ≡ Some w → stands_within renamings (suc n) v ≡ stands_within renamings n w
   along n v w e = ap (unless_renamed (stands_within renamings n) v) e
 
   -- one step more at the end

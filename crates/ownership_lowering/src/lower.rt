@@ -13,12 +13,14 @@ pub fn lower(alloc: Global, c: &Checked) -> Result<Module, Exhausted>
     ensures { IfOk result (λ m. m ≡ lowered c.now) }
 {
     let m = c.module();
+    let vtables = m.vtables.try_clone(alloc)?;
+    let decls = m.decls.try_clone(alloc)?;
     let functions = lowered_functions(alloc, c.table(), m.functions.as_slice())?;
     Ok(Module {
         stage: m.stage,
         imports: m.imports,
-        decls: m.decls.try_clone(alloc)?,
+        decls,
         functions,
-        vtables: m.vtables.try_clone(alloc)?,
+        vtables,
     })
 }

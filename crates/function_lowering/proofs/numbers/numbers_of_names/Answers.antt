@@ -11,4 +11,4 @@ returns c v =
     (c.in_ok-add_numbers_behind.ensures
     ∙ ap₂ (λ xs n. xs ++ drop n places.numbers)
     (c.in_ok-add_standing_numbers.ensures ∙ ap₂ (λ xs ys. xs ++ map (number_where places) ys) c.in_ok-numbers.ensures c.as_slice.ensures.value)
-    (c.len-2.ensures ∙ sym noted.size)) v
+    (sym noted.size)) v

@@ -1,8 +1,15 @@
+use Rattle.std.proofs.Common.{◌∙◌, ap, subst, sym}
+use Rattle.sil_ast.specs.declared.module.Module.{Module}
+use Rattle.function_lowering.specs.inner.Lowerable.{AreLowerable}
 use Rattle.ownership_lowering.proofs.Accepted.{all_lowerable}
+use Rattle.ownership_lowering.proofs.Made.{lowered_from}
 use Rattle.ownership_lowering.proofs.lower.lower.Goals as goal
 
 pub lowered_functions-requires : goal.lowered_functions-requires
-lowered_functions-requires c = ?
+lowered_functions-requires c =
+    subst AreLowerable (sym (c.as_slice.ensures ∙ ap (λ (m : Module). m.functions) c.module-m.ensures.value)) (all_lowerable c.args.c.now c.module-m.ensures.verified)
 
 pub returns : goal.returns
-returns c = ?
+returns c =
+    lowered_from c.args.c.now c.module-m.result.now c.table.result.now c.in_ok-decls.decls c.in_ok-functions.functions c.as_slice.result.now c.in_ok-vtables.vtables
+    c.module-m.ensures.value c.table.ensures.copied c.in_ok-decls.ensures c.in_ok-vtables.ensures c.as_slice.ensures c.in_ok-functions.ensures
