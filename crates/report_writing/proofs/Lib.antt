@@ -1,4 +1,0 @@
-pub mod Members
-pub mod Forms
-pub mod Writable
-pub mod Below

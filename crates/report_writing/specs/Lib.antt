@@ -1,2 +1,0 @@
-pub mod RunOutcomes
-pub mod inner
