@@ -1,0 +1,35 @@
+-- A frame goes on in the state that a call left.
+use Rattle.std.proofs.Common.{◌≡◌, ℕ, List, [], ◌∷◌, true, Option, None, subst, sym}
+use Rattle.std.specs.declared.result.Result.{Result}
+use Rattle.machine_steps.specs.declared.frame.Frame.{Frame}
+use Rattle.machine_steps.specs.Operands.{is_there_in, put, unless_missing, with_all}
+use Rattle.machine_steps.specs.Views.{MachineView, Went}
+use Rattle.ready_code.specs.declared.function.ReadyModule.{ReadyModule}
+use Rattle.ready_code.specs.declared.op.ReadyOp.{ReadyOp}
+use Rattle.ready_code.specs.declared.local.Local.{Local}
+use Rattle.run_values.specs.declared.leaf.Leaf.{Leaf}
+use Rattle.sil_ast.specs.declared.place.ValueId.{ValueId}
+use Rattle.machine_state.specs.GoingOn.{GoesOn}
+use Rattle.machine_rows.specs.Performing.{PerformsIn}
+use Rattle.machine_state.specs.Went.{HasGone}
+use Rattle.machine_state.specs.declared.stop.Stop.{Stop}
+
+-- where every value is there that an instruction reads
+pub all_there : (found : Option ValueId) (st new : MachineView) (went : Went) (result : Result (Unit {0}) Stop) → None ≡ found →
+    HasGone went result new → HasGone (unless_missing found st went) result new
+all_there found st new went result is goes = subst (λ (v : Option ValueId). HasGone (unless_missing v st went) result new) is goes
+
+-- where the one value is there that it reads
+pub one_there : (st new : MachineView) (fr : Frame) (v : ValueId) (went : Went) (result : Result (Unit {0}) Stop) → is_there_in st fr v ≡ true →
+    HasGone went result new → HasGone (with_all st fr (v ∷ []) went) result new
+one_there st new fr v went result there goes = rw there goes
+
+-- a result that is given after a change
+pub gives_in : (fr : Frame) (to : Local) (ls : List Leaf) (after given new : MachineView) (result : Result (Unit {0}) Stop) → after ≡ given →
+    GoesOn after fr (put after fr to ls) result new → GoesOn given fr (put given fr to ls) result new
+gives_in fr to ls after given new result is goes = subst (λ (st : MachineView). GoesOn st fr (put st fr to ls) result new) is goes
+
+-- an instruction is performed, as one that it is equal to
+pub performed : (ready : ReadyModule) (bound : ℕ) (old new : MachineView) (fr : Frame) (o p : ReadyOp) (result : Result (Unit {0}) Stop) → p ≡ o →
+    PerformsIn ready bound old fr o result new → PerformsIn ready bound old fr p result new
+performed ready bound old new fr o p result is goes = subst (λ (x : ReadyOp). PerformsIn ready bound old fr x result new) (sym is) goes

@@ -1,0 +1,4 @@
+pub mod Forgotten
+pub mod GoingOn
+pub mod Options
+pub mod Phases

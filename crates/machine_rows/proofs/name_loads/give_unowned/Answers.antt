@@ -1,0 +1,13 @@
+use Rattle.std.proofs.Common.{[], ◌∷◌}
+use Rattle.heap_model.specs.HeapCalls.{retained}
+use Rattle.machine_steps.specs.Naming.{some_leaves}
+use Rattle.machine_steps.specs.Views.{MachineView}
+use Rattle.run_values.specs.declared.leaf.Leaf.TheVariants as leaf
+use Rattle.machine_rows.proofs.GoingOn.{gives_in}
+use Rattle.machine_rows.proofs.name_loads.give_unowned.Goals as goal
+
+pub returns-in_ok-retain_one-in-Some : goal.returns-in_ok-retain_one-in-Some
+returns-in_ok-retain_one-in-Some c = λ rest h.
+    let st = c.args.machine.now in
+    let given : MachineView = record st { heap = retained st.heap c.in-Some.object } in
+    rw c.in-Some.is (gives_in c.args.frame.now c.args.to (leaf.Object c.in-Some.object ∷ []) c.retain_one.new.self given _ _ c.in_ok-retain_one-in-Some.ensures c.give_leaf.ensures rest h)

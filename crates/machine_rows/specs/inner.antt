@@ -1,0 +1,2 @@
+pub mod LiveGiven
+pub mod Storing
