@@ -1,3 +1,2 @@
 pub mod CommandLines
-pub mod Laws
 pub mod inner

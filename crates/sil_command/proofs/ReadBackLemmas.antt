@@ -1,6 +1,6 @@
 -- For the law that what `print` writes reads back.
 use Rattle.std.proofs.Common.{◌≡◌, ℕ, List, arith}
-use Rattle.command_words.specs.Laws.{SayOneThing}
+use Rattle.command_words.specs.inner.Laws.{SayOneThing}
 use Rattle.sil_ast.specs.declared.module.Module.{Module}
 use Rattle.sil_grammar.specs.Spells.{Spells}
 use Rattle.sil_grammar.specs.inner.Laws.{AreSpelledNumbered}

@@ -1,6 +1,6 @@
 -- For the laws on refusals: what `check` writes of a module, and which texts are answered as no module.
 use Rattle.std.proofs.Common.{◌≡◌, ℕ, ◌≤◌, List, length, refl, sym, subst, arith}
-use Rattle.command_words.specs.Laws.{SayOneThing}
+use Rattle.command_words.specs.inner.Laws.{SayOneThing}
 use Rattle.sil_ast.specs.declared.module.Module.{Module}
 use Rattle.sil_grammar.specs.Refusals.{SpellsNone}
 use Rattle.sil_grammar.specs.Spells.{Spells}

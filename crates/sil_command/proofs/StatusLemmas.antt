@@ -1,7 +1,7 @@
 -- For the laws on statuses: which texts a mode answers with a status.
 use Rattle.std.proofs.Common.{◌≡◌, ◌↔◌, ◌⊎◌, inl, inr, ℕ, ◌≤◌, List, [], ◌∷◌, length, get_or, refl, sym, ap, subst, ◌∙◌, arith}
 use Rattle.std.specs.Prelude.{⊤}
-use Rattle.command_words.specs.Laws.{SayOneThing}
+use Rattle.command_words.specs.inner.Laws.{SayOneThing}
 use Rattle.sil_ast.specs.declared.module.Module.{Module}
 use Rattle.sil_grammar.specs.Spells.{Spells}
 use Rattle.sil_grammar.specs.inner.Laws.{AreSpelledOnce}

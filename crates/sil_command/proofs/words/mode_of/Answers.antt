@@ -2,7 +2,7 @@
 use Rattle.std.proofs.Common.{◌≡◌, ◌∙◌, sym, refl, ap, subst, subst₂, List, ℕ, map, Bor, Bool, true, false, true≢false, Option, Some, None, is_some, option_map}
 use Rattle.std.specs.Prelude.{MatchOption}
 use Rattle.command_words.specs.CommandLines.{Says}
-use Rattle.command_words.specs.Laws.{SayOneThing}
+use Rattle.command_words.specs.inner.Laws.{SayOneThing}
 use Rattle.sil_command.specs.declared.words.Mode.{Mode}
 use Rattle.sil_command.specs.Words.{AsksFor, IsCommandLine, word_of}
 use Rattle.sil_command.proofs.words.mode_of.Goals as goal
