@@ -21,11 +21,10 @@ use Rattle.sil_ast.specs.declared.module.Module.{Module}
 use Rattle.sil_ast.specs.declared.place.FuncId.{FuncId}
 use Rattle.sil_ast.specs.declared.place.PointId.{PointId}
 use Rattle.value_reading.specs.inner.Reading.{IsValueOf}
-use Rattle.count_machine.specs.declared.low_run.LowEnd.{LowEnd}
 use Rattle.count_machine.specs.declared.low_run.LowEnd.TheVariants as end
 use Rattle.count_machine.specs.declared.low_run.LowRun.{LowRun}
-use Rattle.count_machine.specs.LowRuns.{HeapIsAsTold, ending_told, left_after, outcome_of}
-use Rattle.count_machine.specs.inner.Stopped.{IsOutcomeOf, IsToldAs, TellsOf, inst_in, text_in}
+use Rattle.count_machine.specs.LowRuns.{HeapIsAsTold, ending_told, left_after}
+use Rattle.count_machine.specs.inner.Stopped.{IsToldAs, TellsOf, inst_in, text_in}
 
 module _ (m : Module) (s : Shape) (st : MachineView) where
   pub returned_told : (l : Local) (ls : List Leaf) (v : Val) → ls ≡ returned_leaves st l → IsValueOf s ls v → IsToldAs m s st (stop.Returned l) (end.Returned v)

@@ -12,12 +12,11 @@ use Rattle.ready_code.specs.declared.function.ReadyModule.{ReadyModule}
 use Rattle.ready_code.specs.ReadyModules.{IsReadyModule}
 use Rattle.run_typing.specs.Forms.{given_shape}
 use Rattle.run_typing.specs.RunTyped.{RunTyped}
-use Rattle.sil_ast.specs.declared.function.Function.{Function}
 use Rattle.sil_ast.specs.declared.module.Module.{Module}
 use Rattle.sil_ast.specs.declared.place.FuncId.{FuncId}
 use Rattle.type_definitions.specs.Declarations.{Declarations, declarations_of}
 use Rattle.count_machine.specs.declared.low_run.LowRun.{LowRun}
-use Rattle.count_machine.specs.LowRuns.{EndsAsTold, MayStartAt, outcome_of}
+use Rattle.count_machine.specs.LowRuns.{EndsAsTold, MayStartAt}
 use Rattle.count_machine.specs.inner.Stopped.{TellsOf}
 
 -- the machine is at the beginning of the entry function's ready code
