@@ -10,7 +10,7 @@ ghost use Rattle.count_machine.specs.inner.Stopped.{TellsOf};
 use crate::ending::ending_of;
 use crate::left::left_after;
 use crate::low_run::LowRun;
-use machine_engine::{Machine, Stop};
+use machine_engine::{Machine, Stop, run_to_end};
 use machine_laws::machine_runs_so;
 use machine_steps::RunEnd;
 use make_ready::make_ready;
@@ -39,7 +39,7 @@ pub fn run(
     machine_runs_so();
     let ready = make_ready(alloc, m, table)?;
     let mut machine = Machine::begin(alloc, table, &ready, entry)?;
-    match machine.run_to_end(&ready, turns) {
+    match run_to_end(&mut machine, &ready, turns) {
         Stop::Ends(stop) => {
             let entry = &m.functions.as_slice()[entry.0 as usize];
             told(alloc, m, table, entry, machine, stop)

@@ -27,13 +27,7 @@ pub fn gather_carried(
 }
 
 /// What was gathered is laid over the leaves of the frame to which it is carried.
-pub fn lay_carried(
-    leaves: &mut [Leaf],
-    moving: &[Leaf],
-    from: usize,
-    to: usize,
-    values: &[Carry],
-)
+pub fn lay_carried(leaves: &mut [Leaf], moving: &[Leaf], from: usize, to: usize, values: &[Carry])
     requires { moving.now ≡ flat_map (carried_from from leaves.old) values.now }
     ensures { leaves.new ≡ all_laid (carried_from from leaves.old) to values.now leaves.old }
 {

@@ -131,14 +131,7 @@ fn lay_blanks(leaves: &mut [Leaf], from: usize, count: usize)
 
 /// A case of an enum is laid over leaves: its tag, its payload, which are leaves of the list, and blank ones up to its size.
 #[inline]
-pub fn lay_case(
-    leaves: &mut [Leaf],
-    tag: u32,
-    from: usize,
-    count: usize,
-    size: usize,
-    to: usize,
-)
+pub fn lay_case(leaves: &mut [Leaf], tag: u32, from: usize, count: usize, size: usize, to: usize)
     ensures { let payload = take count (drop from leaves.old) in
         leaves.new ≡ laid_over to (Tag tag ∷ payload ++ replicate (size - (1 + length payload)) Blank) leaves.old }
 {

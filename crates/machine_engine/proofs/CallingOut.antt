@@ -13,10 +13,10 @@ use Rattle.machine_steps.specs.Views.{Goes, MachineView, Stops, Went}
 use Rattle.ready_code.specs.declared.local.Local.{Local}
 use Rattle.run_values.specs.declared.leaf.Leaf.{Leaf}
 use Rattle.sil_ast.specs.declared.place.FuncId.{FuncId}
-use Rattle.machine_engine.specs.Performing.{GoesOn}
-use Rattle.machine_engine.specs.Went.{HasGone}
-use Rattle.machine_engine.specs.declared.stop.Stop.{Stop}
-use Rattle.machine_engine.proofs.LaidOver.{laid_over-nil}
+use Rattle.machine_state.specs.GoingOn.{GoesOn}
+use Rattle.machine_state.specs.Went.{HasGone}
+use Rattle.machine_state.specs.declared.stop.Stop.{Stop}
+use Rattle.leaf_windows.proofs.LaidOver.{laid_over-nil}
 
 pub put_nothing : (st : MachineView) (fr : Frame) (to : Local) → put_there st fr to.value ≡ put st fr to []
 put_nothing st fr to = ap (λ (leaves : List Leaf). put_there (record st { leaves = leaves }) fr to.value) (sym (laid_over-nil (fr.leaves + to.at) st.leaves))

@@ -13,8 +13,8 @@ use Rattle.machine_steps.specs.declared.frame.Task.TheVariants.{Finishes}
 use Rattle.machine_steps.specs.Calling.{enter, new_frame, with_frame}
 use Rattle.machine_steps.specs.Steps.{calls_deinit, class_of, deinit_entered, deinit_step, finishes, no_class, with_object}
 use Rattle.machine_steps.specs.Views.{Goes, MachineView}
-use Rattle.machine_engine.specs.Went.{HasGone}
-use Rattle.machine_engine.specs.declared.stop.Stop.{Stop}
+use Rattle.machine_state.specs.Went.{HasGone}
+use Rattle.machine_state.specs.declared.stop.Stop.{Stop}
 use Rattle.machine_engine.proofs.Continuing.{enter-on}
 use Rattle.machine_engine.proofs.Leaving.{gone-along}
 

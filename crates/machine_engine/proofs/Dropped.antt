@@ -15,8 +15,8 @@ use Rattle.machine_steps.specs.declared.frame.Task.TheVariants as task
 use Rattle.machine_steps.specs.Operands.{faults}
 use Rattle.machine_steps.specs.Steps.{deinitialises, drops, drops_last, releases, releases_alive, still_dropping}
 use Rattle.machine_steps.specs.Views.{Goes, MachineView}
-use Rattle.machine_engine.specs.Went.{HasGone}
-use Rattle.machine_engine.specs.declared.stop.Stop.{Stop}
+use Rattle.machine_state.specs.Went.{HasGone}
+use Rattle.machine_state.specs.declared.stop.Stop.{Stop}
 use Rattle.machine_engine.proofs.Leaving.{gone-along}
 
 is_last : (b : Bool) → LastGone ≡ cond b LastGone Held → b ≡ true

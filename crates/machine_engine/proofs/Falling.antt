@@ -23,7 +23,7 @@ use Rattle.machine_steps.specs.Operands.{behind_op}
 use Rattle.machine_steps.specs.Steps as steps
 use Rattle.machine_steps.specs.Turning.{dropping}
 use Rattle.machine_steps.specs.Views.{Goes, MachineView}
-use Rattle.machine_engine.specs.Work.{drop_work, drops_in, left_in, left_of, longest, work}
+use Rattle.machine_engine.specs.inner.Work.{drop_work, drops_in, left_in, left_of, longest, work}
 use Rattle.machine_engine.proofs.Onward.{OnGoing, on-cond, on-enter, on-turn}
 use Rattle.machine_engine.proofs.Performing.{on-performs}
 use Rattle.machine_engine.proofs.Terminating.{on-ends}

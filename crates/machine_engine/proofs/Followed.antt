@@ -8,10 +8,10 @@ use Rattle.machine_steps.specs.Runs.{Leads, steps, went_on}
 use Rattle.machine_steps.specs.Steps.{class_of, machine_step, task_step}
 use Rattle.machine_steps.specs.Views.{Goes, MachineView, Stops, Went}
 use Rattle.machine_engine.specs.Led.{HasEnded, is_dropping}
-use Rattle.machine_engine.specs.Went.{HasGone}
-use Rattle.machine_engine.specs.Work.{drop_work, work}
-use Rattle.machine_engine.specs.declared.stop.Stop.{Stop}
-use Rattle.machine_engine.specs.declared.stop.Stop.TheVariants as stop
+use Rattle.machine_state.specs.Went.{HasGone}
+use Rattle.machine_engine.specs.inner.Work.{drop_work, work}
+use Rattle.machine_state.specs.declared.stop.Stop.{Stop}
+use Rattle.machine_state.specs.declared.stop.Stop.TheVariants as stop
 use Rattle.machine_engine.proofs.Falling.{deinit_step-fall, drops-fall, runs-fall}
 use Rattle.machine_engine.proofs.Onward.{OnGoing}
 

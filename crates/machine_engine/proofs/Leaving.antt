@@ -17,8 +17,8 @@ use Rattle.machine_steps.specs.Calling.{without_frame}
 use Rattle.machine_steps.specs.Ends.{awaited, ends_with, given_back, leaves_run, returns, returns_to, takes_edge}
 use Rattle.machine_steps.specs.Operands.{contents, faults, gives, int_among, is_there_in, objects_among, unless_missing, with_all}
 use Rattle.machine_steps.specs.Views.{MachineView, Went}
-use Rattle.machine_engine.specs.Went.{HasGone}
-use Rattle.machine_engine.specs.declared.stop.Stop.{Stop}
+use Rattle.machine_state.specs.Went.{HasGone}
+use Rattle.machine_state.specs.declared.stop.Stop.{Stop}
 
 module _ (result : Result (Unit {0}) Stop) (new : MachineView) where
   pub gone-along : (w v : Went) → v ≡ w → HasGone w result new → HasGone v result new

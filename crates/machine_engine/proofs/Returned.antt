@@ -8,10 +8,10 @@ use Rattle.machine_steps.specs.declared.frame.Task.TheVariants.{Runs}
 use Rattle.machine_steps.specs.Calling.{without_frame}
 use Rattle.machine_steps.specs.Operands.{contents, gives, go_on, laid_over, put, put_there}
 use Rattle.machine_steps.specs.Views.{MachineView}
-use Rattle.machine_engine.specs.Performing.{GoesOn}
-use Rattle.machine_engine.specs.Went.{HasGone}
-use Rattle.machine_engine.specs.declared.stop.Stop.{Stop}
-use Rattle.machine_engine.proofs.LaidOver.{laid, laid_is}
+use Rattle.machine_state.specs.GoingOn.{GoesOn}
+use Rattle.machine_state.specs.Went.{HasGone}
+use Rattle.machine_state.specs.declared.stop.Stop.{Stop}
+use Rattle.leaf_windows.proofs.LaidOver.{laid, laid_is}
 
 take-laid : {A : Type 0} (n from : ℕ) (xs ys : List A) → take n (laid from xs ys) ≡ laid from xs (take n ys)
 take-laid zero from xs ys = refl

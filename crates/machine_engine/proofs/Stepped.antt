@@ -6,8 +6,8 @@ use Rattle.ready_code.specs.declared.function.ReadyModule.{ReadyModule}
 use Rattle.machine_steps.specs.declared.frame.Task.{Task}
 use Rattle.machine_steps.specs.Steps.{machine_step, task_step}
 use Rattle.machine_steps.specs.Views.{MachineView}
-use Rattle.machine_engine.specs.Went.{HasGone}
-use Rattle.machine_engine.specs.declared.stop.Stop.{Stop}
+use Rattle.machine_state.specs.Went.{HasGone}
+use Rattle.machine_state.specs.declared.stop.Stop.{Stop}
 
 pub top-is : {A : Type 0} (xs : List A) (x : A) → Some x ≡ slice_get xs 0 → xs ≡ x ∷ drop 1 xs
 top-is [] x e = cc

@@ -15,9 +15,9 @@ use Rattle.machine_steps.specs.Runs.{Leads}
 use Rattle.machine_steps.specs.Steps.{acts, machine_step, runs_block, task_step}
 use Rattle.machine_steps.specs.Views.{Goes, MachineView}
 use Rattle.machine_engine.specs.Led.{HasLed, is_dropping}
-use Rattle.machine_engine.specs.Went.{HasGone}
-use Rattle.machine_engine.specs.Work.{work}
-use Rattle.machine_engine.specs.declared.stop.Stop.{Stop}
+use Rattle.machine_state.specs.Went.{HasGone}
+use Rattle.machine_engine.specs.inner.Work.{work}
+use Rattle.machine_state.specs.declared.stop.Stop.{Stop}
 use Rattle.machine_engine.proofs.Followed.{ended-on, going, leads-on, step-falls}
 use Rattle.machine_engine.proofs.Leaving.{gone-along}
 use Rattle.machine_engine.proofs.Performing.{on-performs}

@@ -10,7 +10,7 @@ use Rattle.machine_steps.specs.Views.{MachineView}
 use Rattle.ready_code.specs.declared.block.ReadyBlock.{ReadyBlock}
 use Rattle.ready_code.specs.declared.function.ReadyFunction.{ReadyFunction}
 use Rattle.ready_code.specs.declared.function.ReadyModule.{ReadyModule}
-use Rattle.machine_engine.specs.Work.{left_behind, left_in, left_of, longest, longest_in, longest_of, work}
+use Rattle.machine_engine.specs.inner.Work.{left_behind, left_in, left_of, longest, longest_in, longest_of, work}
 
 -- what is left of a task has a bound
 

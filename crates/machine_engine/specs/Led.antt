@@ -6,8 +6,8 @@ use Rattle.machine_steps.specs.declared.frame.Task.{Task}
 use Rattle.machine_steps.specs.declared.frame.Task.TheVariants.{Drops, Finishes, Runs}
 use Rattle.machine_steps.specs.Runs.{Leads}
 use Rattle.machine_steps.specs.Views.{Goes, MachineView, Stops}
-use Rattle.machine_engine.specs.declared.stop.Stop.{Stop}
-use Rattle.machine_engine.specs.declared.stop.Stop.TheVariants as stop
+use Rattle.machine_state.specs.declared.stop.Stop.{Stop}
+use Rattle.machine_state.specs.declared.stop.Stop.TheVariants as stop
 
 -- some steps led to a stop in this state; where there is no memory, nothing is said
 abbrev pub HasEnded : ReadyModule → ℕ → MachineView → Stop → MachineView → Type 0

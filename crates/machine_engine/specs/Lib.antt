@@ -1,10 +1,2 @@
-pub mod Carried
-pub mod Computed
-pub mod Grouped
 pub mod Led
-pub mod NameHeld
-pub mod Performing
-pub mod Raised
-pub mod Storing
-pub mod Went
-pub mod Work
+pub mod inner

@@ -17,7 +17,7 @@ pub(crate) fn block_at(ready: &ReadyModule, function: FuncId, block: u32) -> Opt
 }
 
 /// The instruction before which a frame stands.
-pub(crate) fn op_at<'a>(ready: &'a ReadyModule, frame: &Frame) -> Option<&'a ReadyOp>
+fn op_at<'a>(ready: &'a ReadyModule, frame: &Frame) -> Option<&'a ReadyOp>
     ensures { option_copied result ≡ op_at ready.now frame.now }
 {
     let block = block_at(ready, frame.function, frame.block)?;

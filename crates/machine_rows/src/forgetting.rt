@@ -15,7 +15,13 @@ use sil_ast::{Exhausted, Storage};
 
 /// Storage is emptied, and names its object no longer.
 #[inline]
-pub(crate) fn forget(machine: &mut Machine, frame: &Frame, storage: Storage, place: Address, leaf: Leaf)
+pub(crate) fn forget(
+    machine: &mut Machine,
+    frame: &Frame,
+    storage: Storage,
+    place: Address,
+    leaf: Leaf,
+)
     requires { LiesAlive machine.old.heap place.home }
     ensures { machine.new ≡ forgotten machine.old frame.now [] storage place leaf }
 {

@@ -13,7 +13,12 @@ use run_values::Leaf;
 
 /// The result is one leaf.
 #[inline]
-pub(crate) fn give_leaf(machine: &mut Machine, frame: &Frame, to: Local, leaf: Leaf) -> Result<(), Stop>
+pub(crate) fn give_leaf(
+    machine: &mut Machine,
+    frame: &Frame,
+    to: Local,
+    leaf: Leaf,
+) -> Result<(), Stop>
     ensures { GoesOn machine.old frame.now (put machine.old frame.now to (leaf ∷ [])) result machine.new }
 {
     machine.put_leaf(frame, to, leaf);
@@ -22,7 +27,12 @@ pub(crate) fn give_leaf(machine: &mut Machine, frame: &Frame, to: Local, leaf: L
 
 /// The result is what another value is.
 #[inline]
-pub(crate) fn give_copy(machine: &mut Machine, frame: &Frame, from: Local, to: Local) -> Result<(), Stop>
+pub(crate) fn give_copy(
+    machine: &mut Machine,
+    frame: &Frame,
+    from: Local,
+    to: Local,
+) -> Result<(), Stop>
     ensures { GoesOn machine.old frame.now (put machine.old frame.now to (contents machine.old frame.now from)) result machine.new }
 {
     machine.copy(frame, from, to);
@@ -55,7 +65,8 @@ pub(crate) fn give_computed(
 {
     match given {
         Computed::One(number) => give_leaf(machine, frame, to, Leaf::Int(number)),
-        Computed::Two(first, second) => give_two(machine,
+        Computed::Two(first, second) => give_two(
+            machine,
             frame,
             to,
             Leaf::Int(first),

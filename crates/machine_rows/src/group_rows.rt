@@ -35,7 +35,12 @@ fn missing_operand(machine: &Machine, frame: &Frame, operands: &[Local]) -> Opti
 }
 
 /// The result has others as its members.
-fn give_group(machine: &mut Machine, frame: &Frame, operands: &[Local], to: Local) -> Result<(), Stop>
+fn give_group(
+    machine: &mut Machine,
+    frame: &Frame,
+    operands: &[Local],
+    to: Local,
+) -> Result<(), Stop>
     ensures { GoesOn machine.old frame.now (put machine.old frame.now to (all_contents machine.old frame.now [] operands.now)) result machine.new }
 {
     machine.put_group(frame, operands, to)?;

@@ -21,4 +21,6 @@ pub use object_rows::{field_address, make_object};
 pub use reference_rows::{drop_operand, retain};
 pub use slot_rows::{make_slot, remove_slot};
 pub use store_rows::store;
-pub use value_rows::{compute, function_value, literal, look, member, member_address, same, trap_where_set};
+pub use value_rows::{
+    compute, function_value, literal, look, member, member_address, same, trap_where_set,
+};

@@ -21,7 +21,12 @@ use run_values::Leaf;
 use sil_ast::{ObjectId, Storage};
 
 /// What weak storage gives that names this object, if it is live.
-fn give_weak(machine: &mut Machine, frame: &Frame, to: Local, live: Option<ObjectId>) -> Result<(), Stop>
+fn give_weak(
+    machine: &mut Machine,
+    frame: &Frame,
+    to: Local,
+    live: Option<ObjectId>,
+) -> Result<(), Stop>
     requires { IfSome live (λ o. is_dead_in machine.old.heap o ≡ false) }
     ensures { GoesOver machine.old frame.now (weak_by machine.old frame.now to live) result machine.new }
 {
@@ -35,7 +40,12 @@ fn give_weak(machine: &mut Machine, frame: &Frame, to: Local, live: Option<Objec
 }
 
 /// What unowned storage gives that names this object, if it is live.
-fn give_unowned(machine: &mut Machine, frame: &Frame, to: Local, live: Option<ObjectId>) -> Result<(), Stop>
+fn give_unowned(
+    machine: &mut Machine,
+    frame: &Frame,
+    to: Local,
+    live: Option<ObjectId>,
+) -> Result<(), Stop>
     requires { IfSome live (λ o. is_dead_in machine.old.heap o ≡ false) }
     ensures { GoesOver machine.old frame.now (unowned_by machine.old frame.now to live) result machine.new }
 {

@@ -22,7 +22,12 @@ use run_values::Leaf;
 use sil_ast::Storage;
 
 /// Storage names the object of a leaf, which isn't dead, and the frame goes on.
-fn give_name(machine: &mut Machine, storage: Storage, place: Address, leaf: Leaf) -> Result<(), Stop>
+fn give_name(
+    machine: &mut Machine,
+    storage: Storage,
+    place: Address,
+    leaf: Leaf,
+) -> Result<(), Stop>
     requires alive { find (is_dead_in machine.old.heap) (object_in_leaf leaf) ≡ None }
     requires lies { LiesAlive machine.old.heap place.home }
     ensures { (fr : Frame) → GoesOver machine.old fr (λ rest. named_anew machine.old fr rest storage place leaf machine.old.heap) result machine.new }
@@ -81,8 +86,8 @@ fn store_held(
             }
             give_name(machine, storage, place, leaf)
         }
-        NameHeld::Full { leaf: held } => give_other_name(machine,
-            storage, first, place, leaf, held,
+        NameHeld::Full { leaf: held } => give_other_name(
+            machine, storage, first, place, leaf, held,
         ),
     }
 }

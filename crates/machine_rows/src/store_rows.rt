@@ -89,7 +89,8 @@ fn store_at(machine: &mut Machine, frame: &Frame, from: Local, place: Address) -
     ensures { GoesOver machine.old frame.now (stores_at machine.old frame.now from place) result machine.new }
 {
     match place.home {
-        Home::Slot { index, serial } => store_in_slot(machine,
+        Home::Slot { index, serial } => store_in_slot(
+            machine,
             frame,
             from,
             place.from,
@@ -97,7 +98,8 @@ fn store_at(machine: &mut Machine, frame: &Frame, from: Local, place: Address) -
             index,
             serial,
         ),
-        Home::Field { object, field } => store_in_field(machine,
+        Home::Field { object, field } => store_in_field(
+            machine,
             frame,
             from,
             place.from,

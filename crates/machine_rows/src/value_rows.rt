@@ -159,7 +159,8 @@ pub fn member_address(
     let Some(from) = whole.from.checked_add(from) else {
         return Err(Stop::Memory);
     };
-    give_address(machine,
+    give_address(
+        machine,
         frame,
         to,
         Address {

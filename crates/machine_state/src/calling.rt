@@ -28,11 +28,7 @@ impl Machine {
     }
 
     /// A new frame, with room for the values of the function, none of which is there yet.
-    pub fn add_frame(
-        &mut self,
-        function: FuncId,
-        f: &ReadyFunction,
-    ) -> Result<Frame, Exhausted>
+    pub fn add_frame(&mut self, function: FuncId, f: &ReadyFunction) -> Result<Frame, Exhausted>
         ensures frame { IfOk result (λ fr. fr ≡ new_frame self.old function) }
         ensures room { OnOk result (self.new ≡ with_frame self.old function f.now) }
     {
@@ -55,12 +51,7 @@ impl Machine {
     }
 
     /// Values of a frame become values of another one, or of itself, all at once.
-    pub fn carry(
-        &mut self,
-        from: &Frame,
-        to: &Frame,
-        values: &[Carry],
-    ) -> Result<(), Exhausted>
+    pub fn carry(&mut self, from: &Frame, to: &Frame, values: &[Carry]) -> Result<(), Exhausted>
         ensures { OnOk result (self.new ≡ carried self.old from.now to.now values.now) }
     {
         if values.len() == 1 {

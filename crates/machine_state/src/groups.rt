@@ -13,7 +13,12 @@ use sil_ast::Exhausted;
 
 impl Machine {
     /// A value becomes one that has others as its members.
-    pub fn put_group(&mut self, frame: &Frame, operands: &[Local], to: Local) -> Result<(), Exhausted>
+    pub fn put_group(
+        &mut self,
+        frame: &Frame,
+        operands: &[Local],
+        to: Local,
+    ) -> Result<(), Exhausted>
         ensures { OnOk result (self.new ≡ put self.old frame.now to (all_contents self.old frame.now [] operands.now)) }
     {
         gather_group(&mut self.moving, &self.leaves, frame.leaves, operands)?;

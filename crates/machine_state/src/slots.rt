@@ -109,7 +109,14 @@ impl Machine {
 
     /// A slot becomes what a value is, from a place among the leaves of slots on.
     #[inline]
-    pub fn put_in_slot(&mut self, frame: &Frame, from: Local, begin: usize, index: u32, slot: OpenSlot)
+    pub fn put_in_slot(
+        &mut self,
+        frame: &Frame,
+        from: Local,
+        begin: usize,
+        index: u32,
+        slot: OpenSlot,
+    )
         ensures { self.new ≡ record self.old {
           slots = set self.old.slots index (record slot { is_full = true });
           slot_leaves = laid_over begin (contents self.old frame.now from) self.old.slot_leaves;

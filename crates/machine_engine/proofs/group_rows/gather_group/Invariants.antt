@@ -1,7 +1,0 @@
-use Rattle.std.proofs.Common.{◌≡◌, take}
-use Rattle.std.specs.List.{flat_map}
-use Rattle.machine_engine.specs.Grouped.{leaves_from}
-use Rattle.machine_engine.proofs.group_rows.gather_group.Given as goal
-
-abbrev pub invariant-loop-local : goal.invariant-loop-local
-invariant-loop-local l = l.moving.items ≡ flat_map (leaves_from l.base l.leaves) (take l.local-index l.operands)

@@ -1,8 +1,0 @@
-use Rattle.std.proofs.Common.{arith}
-use Rattle.std.proofs.lemmas.Grind.{common_steps}
-use Rattle.machine_engine.proofs.CarriedLists.{carried-is}
-use Rattle.machine_engine.proofs.machine.Machine.carry.Goals as goal
-
-pub returns : goal.returns
-returns c =
-    rw (carried-is c.args.self.now c.args.from.now c.args.to.now c.args.values.now, ← c.self.view_is) (grind (arith, common_steps))
