@@ -1,6 +1,6 @@
 //! Lowers an accepted module. What becomes of its functions isn't said here.
 #![tactic(auto)]
 
-mod lower;
+mod lowering;
 
-pub use lower::lower;
+pub use lowering::lower;

@@ -3,7 +3,7 @@ use Rattle.sil_ast.specs.declared.module.Module.{Module}
 use Rattle.function_lowering.specs.inner.Lowerable.{AreLowerable}
 use Rattle.ownership_lowering.proofs.Accepted.{all_lowerable}
 use Rattle.ownership_lowering.proofs.Made.{lowered_from}
-use Rattle.ownership_lowering.proofs.lower.lower.Goals as goal
+use Rattle.ownership_lowering.proofs.lowering.lower.Goals as goal
 
 pub lowered_functions-requires : goal.lowered_functions-requires
 lowered_functions-requires c =
