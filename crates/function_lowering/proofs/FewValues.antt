@@ -123,7 +123,8 @@ module _ (d : Declarations) (renamings : List Definition) where
   insts_give spare [] h = omega arith
   insts_give spare (i ∷ is) h =
       let new = becomes d (value_with spare) i in
-      let both : results_in (new ++ insts_become d renamings (spare + 1) is) ≡ results_in new + results_in (insts_become d renamings (spare + 1) is) = one_after new (insts_become d renamings (spare + 1) is) in
+      let behind = insts_become d renamings (spare + 1) is in
+      let both : results_in (new ++ behind) ≡ results_in new + results_in behind = one_after new behind in
       let here = gives_by d (value_with spare) i h.0.operands h.0.results (lowering_of i.op) in
       let rest = insts_give (spare + 1) is h.1 in
       omega arith
