@@ -1,5 +1,5 @@
 -- Lowered code defines few values: of each instruction at most 4,160, and so no more than numbers can tell apart.
-use Rattle.std.proofs.Common.{◌≡◌, ℕ, suc, ◌+◌, ◌*◌, ◌<◌, ◌≤◌, ◌^◌, List, [], ◌∷◌, ◌++◌, length, map, refl, sym, ap, ◌∙◌, subst, arith, Bool, true, false, Option, Some, None}
+use Rattle.std.proofs.Common.{◌≡◌, ℕ, suc, ◌+◌, ◌*◌, ◌<◌, ◌≤◌, ◌^◌, List, [], ◌∷◌, ◌++◌, length, map, refl, ap, ◌∙◌, arith, Bool, true, false, Option, Some, None}
 use Rattle.std.specs.Prelude.{filter, slice_get}
 use Rattle.std.specs.List.{flat_map}
 use Rattle.std.specs.Option.{option_to_list}
@@ -28,8 +28,8 @@ use Rattle.lowering_model.specs.declared.lowering.Lowering.{Lowering}
 use Rattle.lowering_model.specs.declared.lowering.Lowering.TheVariants as lowering
 use Rattle.lowering_model.specs.Extracts.{element_extracts, extracts_elements, extracts_fields, field_extracts, members_of_struct}
 use Rattle.lowering_model.specs.LoweredBlocks.{args_become, block_becomes, blocks_become, has_own_name, insts_become, value_with, without_annotation}
-use Rattle.lowering_model.specs.LoweredInsts.{assigns, becomes, becomes_by, destroys_by, loads_by, lowering_of, operand_at, releases_at, retains_loaded, stores_by}
-use Rattle.lowering_model.specs.NewInsts.{loaded_from, release, retain}
+use Rattle.lowering_model.specs.LoweredInsts.{assigns, becomes, becomes_by, destroys_by, loads_by, lowering_of, releases_at, retains_loaded, stores_by}
+use Rattle.lowering_model.specs.NewInsts.{release, retain}
 
 -- how many values some instructions define
 abbrev results_in : List Inst → ℕ
@@ -123,7 +123,8 @@ module _ (d : Declarations) (renamings : List Definition) where
   insts_give spare [] h = omega arith
   insts_give spare (i ∷ is) h =
       let new = becomes d (value_with spare) i in
-      let both : results_in (new ++ insts_become d renamings (spare + 1) is) ≡ results_in new + results_in (insts_become d renamings (spare + 1) is) = one_after new (insts_become d renamings (spare + 1) is) in
+      let behind = insts_become d renamings (spare + 1) is in
+      let both : results_in (new ++ behind) ≡ results_in new + results_in behind = one_after new behind in
       let here = gives_by d (value_with spare) i h.0.operands h.0.results (lowering_of i.op) in
       let rest = insts_give (spare + 1) is h.1 in
       omega arith

@@ -1,13 +1,13 @@
 -- One note more.
-use Rattle.std.proofs.Common.{◌≡◌, ◌≢◌, ℕ, ◌<◌, ◌≤◌, List, length, get_or, set, refl, sym, ap, ◌∙◌, subst, arith, inl, inr, ◌⊎◌, Option, Some, None}
+use Rattle.std.proofs.Common.{◌≡◌, ◌≢◌, ◌<◌, List, length, get_or, set, refl, sym, ap, ◌∙◌, subst, inl, inr, ◌⊎◌, Option, Some, None}
 use Rattle.std.specs.Prelude.{IsSome}
 use Rattle.std.proofs.lemmas.Bool.{cases_eq}
 use Rattle.std.proofs.lemmas.List.{get_or-set_other, get_or-set_same}
-use Rattle.std.proofs.lemmas.Option.{none-some, same_Some}
+use Rattle.std.proofs.lemmas.Option.{same_Some}
 use Rattle.sil_ast.specs.declared.place.ValueId.{ValueId}
 use Rattle.ownership_chains.specs.declared.definition.Definition.{Definition}
 use Rattle.lowering_model.specs.Names.{stands_for}
-use Rattle.function_lowering.specs.inner.Standing.{AreNoted, AreRight, AreStillNoted, IsNoted, noted_at}
+use Rattle.function_lowering.specs.inner.Standing.{AreRight, IsNoted, noted_at}
 
 module _ (noted : List (Option ValueId)) (at end : ValueId) (room : at.0 < length noted) where
   abbrev pub with_note : List (Option ValueId)

@@ -1,5 +1,5 @@
 -- The new numbers that are composed of places and of notes are those of the definition.
-use Rattle.std.proofs.Common.{◌≡◌, ℕ, ◌+◌, ◌-◌, ◌<◌, ◌≤◌, List, ◌++◌, length, map, get_or, drop, refl, sym, ap, ◌∙◌, subst, arith, inl, inr, ◌⊎◌, Option, None}
+use Rattle.std.proofs.Common.{◌≡◌, ◌+◌, ◌-◌, ◌<◌, ◌≤◌, List, ◌++◌, length, map, get_or, drop, sym, ap, ◌∙◌, arith, inl, inr, ◌⊎◌, Option, None}
 use Rattle.std.proofs.Math.Path.{fun_ext}
 use Rattle.std.proofs.lemmas.Bool.{cases_lt}
 use Rattle.std.proofs.lemmas.List.{get_or-append_right, get_or-drop, get_or-map, get_or_append_left, length-map}
@@ -16,7 +16,7 @@ use Rattle.lowering_model.specs.Numbers.{new_number, numbering_of, place_among, 
 use Rattle.value_renumbering.specs.inner.NewNumbers.{number_in}
 use Rattle.value_renumbering.specs.declared.new_numbers.NewNumbers.{NewNumbers}
 use Rattle.function_lowering.specs.inner.Numbers.{number_where}
-use Rattle.function_lowering.specs.inner.Standing.{AreNoted, noted_at}
+use Rattle.function_lowering.specs.inner.Standing.{AreNoted}
 use Rattle.function_lowering.proofs.Chains.{beyond_itself}
 
 pub composed : (renamings : List Definition) (noted : List (Option ValueId)) (places : NewNumbers) (numbers : List ValueId) → AreNoted renamings noted

@@ -117,7 +117,8 @@ fn written_field(
     member: Member,
     value: ValueId,
 ) -> Result<Inst, Exhausted>
-    ensures { IfOk result (λ inst. inst ≡ insts.struct_extract (renumbered.renumbered_operand (number_in numbers.now) whole.now) member (number_in numbers.now value)) }
+    ensures { IfOk result (λ inst.
+        inst ≡ insts.struct_extract (renumbered.renumbered_operand (number_in numbers.now) whole.now) member (number_in numbers.now value)) }
 {
     let member = Boxed::new(alloc, member)?;
     let operand = renumbered_operand(alloc, numbers, whole)?;

@@ -1,6 +1,8 @@
-//! Lowers an accepted module. What becomes of its functions isn't said here.
+//! Lowers an accepted module to one that can be run. What becomes of its functions isn't said here.
 #![tactic(auto)]
 
-mod lower;
+mod laws;
+mod lowering;
 
-pub use lower::lower;
+pub use laws::accepted_lowers_runnable;
+pub use lowering::lower;

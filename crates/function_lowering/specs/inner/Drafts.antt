@@ -1,5 +1,5 @@
 -- The lowered code that drafts stand for, in the old names of values.
-use Rattle.std.specs.Prelude.{ℤ, [], ◌∷◌, List, Option, Some, None, map}
+use Rattle.std.specs.Prelude.{ℤ, [], ◌∷◌, List, Some, map}
 use Rattle.std.specs.Option.{option_copied}
 use Rattle.sil_ast.specs.declared.function.Block.{Block}
 use Rattle.sil_ast.specs.declared.inst.Inst.{Inst}

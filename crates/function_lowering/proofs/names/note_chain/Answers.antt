@@ -1,4 +1,4 @@
-use Rattle.std.proofs.Common.{◌≡◌, ◌<◌, ◌∙◌, arith, inl, inr, length, subst, sym, Option, Some}
+use Rattle.std.proofs.Common.{◌≡◌, ◌<◌, ◌∙◌, arith, inl, inr, length, subst, sym, Some}
 use Rattle.std.proofs.lemmas.Bool.{cases_eq}
 use Rattle.lowering_model.specs.Names.{renamed_from}
 use Rattle.function_lowering.specs.inner.Standing.{IsNoted}

@@ -1,4 +1,4 @@
-use Rattle.std.proofs.Common.{◌≡◌, ◌<◌, length}
+use Rattle.std.proofs.Common.{◌≡◌, ◌<◌}
 use Rattle.lowering_model.specs.Names.{stands_for}
 use Rattle.function_lowering.specs.inner.Standing.{AreRight, AreStillNoted, IsNoted}
 use Rattle.function_lowering.proofs.names.note_chain.Given as goal

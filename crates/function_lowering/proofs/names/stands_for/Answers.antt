@@ -1,6 +1,5 @@
-use Rattle.std.proofs.Common.{◌≡◌, ℕ, zero, suc, ◌+◌, ◌∙◌, arith, length, sym, Option, Some}
-use Rattle.lowering_model.specs.Names.{renamed_from, stands_within}
-use Rattle.lowering_model.specs.Names as names
+use Rattle.std.proofs.Common.{◌≡◌, zero, suc, ◌+◌, ◌∙◌, arith, length, sym, Some}
+use Rattle.lowering_model.specs.Names.{renamed_from}
 use Rattle.function_lowering.proofs.Chains.{along, same_end}
 use Rattle.function_lowering.proofs.names.stands_for.Goals as goal
 

@@ -1,4 +1,4 @@
-use Rattle.std.proofs.Common.{◌≡◌, ◌++◌, ◌∙◌, ap, ap₂, drop, map, sym}
+use Rattle.std.proofs.Common.{◌++◌, ◌∙◌, ap₂, drop, map, sym}
 use Rattle.function_lowering.specs.inner.Numbers.{number_where}
 use Rattle.function_lowering.proofs.Numbering.{composed}
 use Rattle.function_lowering.proofs.numbers.numbers_of_names.Goals as goal

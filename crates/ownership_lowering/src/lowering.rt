@@ -2,16 +2,22 @@
 
 ghost use Rattle.std.specs.Prelude.{◌≡◌, IfOk};
 ghost use Rattle.lowering_model.specs.LoweredModules.{lowered};
+ghost use Rattle.run_typing.specs.Runnable.{IsRunnable};
+ghost use Rattle.type_definitions.specs.Declarations.{declarations_of};
 
+use crate::laws::accepted_lowers_runnable;
 use function_lowering::lowered_functions;
 use sil_ast::{Exhausted, Module, TryClone};
 use sil_verifier::Checked;
 use std::alloc::Global;
 
-/// Lowers an accepted module. Fails where memory runs out.
+/// Lowers an accepted module. The lowered one can be run, and has the same declarations. Fails where memory runs out.
 pub fn lower(alloc: Global, c: &Checked) -> Result<Module, Exhausted>
-    ensures { IfOk result (λ m. m ≡ lowered c.now) }
+    ensures value { IfOk result (λ m. m ≡ lowered c.now) }
+    ensures runnable { IfOk result (λ m. IsRunnable m) }
+    ensures declarations { IfOk result (λ m. declarations_of m ≡ declarations_of c.now) }
 {
+    accepted_lowers_runnable();
     let m = c.module();
     let vtables = m.vtables.try_clone(alloc)?;
     let decls = m.decls.try_clone(alloc)?;
