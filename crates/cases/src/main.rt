@@ -4,15 +4,10 @@
 
 mod answer;
 mod ends;
-mod heap_calls;
-mod lowered_runs;
 mod marked;
-mod modules;
-mod run_lines;
 mod searches;
 mod tokens;
 mod typing;
-mod value_words;
 
 use answer::Answer;
 use ends::End;
@@ -78,9 +73,6 @@ fn answer_by(alloc: Global, words: &[&str], text: &[u8]) -> Result<Answer, Exhau
         [_name, "tokens"] => tokens::answer_on_tokens(alloc, text),
         [_name, "search"] => searches::answer_on_walks(alloc, text, false),
         [_name, "search", "together"] => searches::answer_on_walks(alloc, text, true),
-        [_name, "lowered-run", turns] => lowered_runs::answer_on_run(alloc, turns, text, true),
-        [_name, "lowered-end", turns] => lowered_runs::answer_on_run(alloc, turns, text, false),
-        [_name, "heap", calls @ ..] => heap_calls::answer_on_heap(alloc, calls, text),
         [_name, "read-faults", rest @ ..] => {
             ends::answer_on_faults(alloc, rest, text, End::Source)
         }

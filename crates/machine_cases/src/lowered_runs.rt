@@ -9,7 +9,6 @@ ghost use Rattle.run_typing.specs.Runnable.{IsNotOwned, IsRunnable};
 ghost use Rattle.type_definitions.specs.Rules.{AreDeclarationsOf};
 
 use crate::answer::{Answer, line};
-use crate::modules::{module_of, table_of};
 use crate::run_lines::answer_of_run;
 use argument_conventions::argument_count;
 use count_machine::run;
@@ -25,17 +24,15 @@ const TURNS: u32 = 1_000_000;
 pub fn answer_on_run(
     alloc: Global,
     turns: &str,
-    text: &[u8],
+    m: &Module,
+    table: &TypeTable,
     tells_events: bool,
-) -> Result<Answer, Exhausted> {
-    let Some(m) = module_of(alloc, text)? else {
-        return line(alloc, "not a module", 1);
-    };
-    let Some(table) = table_of(alloc, &m)? else {
-        return line(alloc, "no type table", 1);
-    };
-    if is_runnable(alloc, &m, &table)? {
-        run_main(alloc, turns, &m, &table, tells_events)
+) -> Result<Answer, Exhausted>
+    requires numbered { IsNumbered m.now }
+    requires table { AreDeclarationsOf table.now m.now }
+{
+    if is_runnable(alloc, m, table)? {
+        run_main(alloc, turns, m, table, tells_events)
     } else {
         line(alloc, "not typed and lowered", 1)
     }

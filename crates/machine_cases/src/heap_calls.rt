@@ -3,12 +3,12 @@
 ghost use Rattle.std.specs.Prelude.{◌≡◌, ◌<◌, ◌^◌, false, true};
 ghost use Rattle.heap_model.specs.HeapViews.{is_dead_in};
 
-use crate::answer::{Answer, add, line};
-use crate::modules::{module_of, table_of};
+use crate::answer::{Answer, add};
 use count_heap::{Heap, Totals};
 use heap_model::Released;
 use run_values::Phase;
 use sil_ast::{Exhausted, ObjectId};
+use sil_types::TypeTable;
 use std::alloc::Global;
 
 /// What a call gives.
@@ -30,14 +30,12 @@ const NOT_MADE: Given = Given::Word(" isn't made");
 
 /// A line for each word: the word, and what its call gives. `slots` and `totals` are words of their own, each other one is a
 /// call and a number: of a class behind `allocate`, and else of an object.
-pub fn answer_on_heap(alloc: Global, words: &[&str], text: &[u8]) -> Result<Answer, Exhausted> {
-    let Some(m) = module_of(alloc, text)? else {
-        return line(alloc, "not a module", 1);
-    };
-    let Some(table) = table_of(alloc, &m)? else {
-        return line(alloc, "no type table", 1);
-    };
-    let mut heap = Heap::new(alloc, &table)?;
+pub fn answer_on_heap(
+    alloc: Global,
+    words: &[&str],
+    table: &TypeTable,
+) -> Result<Answer, Exhausted> {
+    let mut heap = Heap::new(alloc, table)?;
     let mut written = String::new(alloc);
     for word in words {
         written.push_str(word)?;
