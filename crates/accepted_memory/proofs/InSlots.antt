@@ -1,0 +1,45 @@
+-- An address lies in its slot just while the slot is allocated: the same accesses turn both parts.
+use Rattle.std.proofs.Common.{◌≡◌, refl, sym, ◌∙◌, Bool, true, false, Option, Some, None}
+use Rattle.std.specs.Prelude.{option_and_then}
+use Rattle.memory_accesses.specs.Sources.{sources_of}
+use Rattle.memory_accesses.specs.declared.access.Access.{Access}
+use Rattle.memory_accesses.specs.declared.access.Access.TheVariants.{Allocates, Begins, Deallocates, Does, Ends, Given, Mentions}
+use Rattle.memory_parts.specs.Shown.{part_marks}
+use Rattle.memory_parts.specs.Switches.{is_same, when}
+use Rattle.memory_parts.specs.declared.part.Part.TheVariants.{Allocation, InSlot}
+use Rattle.ownership_kinds.specs.Facts.{facts_in}
+use Rattle.path_patterns.specs.declared.mark.Mark.{Mark}
+use Rattle.sil_ast.specs.declared.function.Function.{Function}
+use Rattle.sil_ast.specs.declared.place.ValueId.{ValueId}
+use Rattle.type_definitions.specs.Declarations.{Declarations}
+use Rattle.accepted_memory.specs.inner.Companions.{AreInSlots}
+use Rattle.accepted_memory.proofs.PartsFollowed.{parts_followed}
+use Rattle.accepted_memory.proofs.PartsTurned.{on_together, turn_by, turned_by_accesses}
+use Rattle.accepted_memory.proofs.Turning.{each_alike}
+
+-- a mark that comes in the same case, and turns in the same way
+pub when_alike : (b : Bool) (m n : Mark) → m.turns ≡ n.turns → option_and_then (λ m. m.turns) (when b m) ≡ option_and_then (λ m. m.turns) (when b n)
+when_alike true m n e = e
+when_alike false m n e = refl
+
+-- a mark that turns nothing
+pub when_quiet : (b : Bool) (m : Mark) → m.turns ≡ None → option_and_then (λ m. m.turns) (when b m) ≡ None
+when_quiet true m e = e
+when_quiet false m e = refl
+
+slot_turned : (d : Declarations) (f : Function) (address slot : ValueId) (a : Access) → turn_by d f (InSlot address slot) a ≡ turn_by d f (Allocation slot) a
+slot_turned d f address slot (Ends v) = refl
+slot_turned d f address slot (Begins v) = refl
+slot_turned d f address slot (Allocates v) = when_alike (is_same v slot) _ _ refl
+slot_turned d f address slot (Deallocates v) = when_alike (is_same v slot) _ _ refl
+slot_turned d f address slot (Given v content) = refl
+slot_turned d f address slot (Does x) = refl
+slot_turned d f address slot (Mentions v a) = when_quiet (is_same v address) _ refl
+
+pub in_slots : AreInSlots
+in_slots d f accepted address slot there too t h =
+    on_together f (part_marks (sources_of d f) (facts_in d f) f (InSlot address slot)) (part_marks (sources_of d f) (facts_in d f) f (Allocation slot))
+    (parts_followed d f accepted (InSlot address slot) there) (parts_followed d f accepted (Allocation slot) too)
+    (λ i on. turned_by_accesses d f (InSlot address slot) refl i on
+    ∙ each_alike (turn_by d f (InSlot address slot)) (turn_by d f (Allocation slot)) (slot_turned d f address slot) _ on
+    ∙ sym (turned_by_accesses d f (Allocation slot) refl i on)) t h

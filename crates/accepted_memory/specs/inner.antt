@@ -1,0 +1,2 @@
+pub mod PartTrails
+pub mod Companions
