@@ -1,0 +1,158 @@
+-- Scopes along the trails of an accepted function, and what they borrow from.
+use Rattle.std.proofs.Common.{◌≡◌, ℕ, ◌<◌, List, [], ◌∷◌, ◌++◌, append-nil, length, refl, sym, ap, ◌∙◌, arith, Bool, true, false, cond, not, ◌&&◌, ◌||◌, Option, Some, None}
+use Rattle.std.specs.Prelude.{◌==◌, filter_map, flat_map, option_and_then}
+use Rattle.std.specs.List.{cons_option, list_any}
+use Rattle.std.proofs.lemmas.Bool.{eqb-true, false≢true, true≢false}
+use Rattle.std.proofs.lemmas.Grind.{flat_map-append}
+use Rattle.std.proofs.lemmas.Option.{same_Some}
+use Rattle.borrow_scopes.specs.Scopes.{entry_of, is_scope, lent_bases, lost_entries, lost_with, mark_entries, returned, scope_entries, scopes_of, turned_by}
+use Rattle.holder_model.specs.Frames.{ends}
+use Rattle.item_operands.specs.Items.{item_defined, item_taken}
+use Rattle.item_operands.specs.declared.taken.Taken.{Taken}
+use Rattle.numbered_form.specs.Numbering.{values_of}
+use Rattle.ownership_chains.specs.Facts.{has, known_or, value_of}
+use Rattle.ownership_chains.specs.declared.facts.Facts.{Facts}
+use Rattle.ownership_kinds.specs.Facts.{facts_in}
+use Rattle.ownership_marks.specs.Marks.{begun, end_of, ended, marks_of, used}
+use Rattle.ownership_marks.specs.declared.mark.Mark.{Mark}
+use Rattle.ownership_marks.specs.declared.mark.MarkSort.{MarkSort}
+use Rattle.ownership_marks.specs.declared.mark.MarkSort.TheVariants.{Begin, End, Use}
+use Rattle.path_checks.specs.Entries.{marks_for, means}
+use Rattle.path_checks.specs.declared.entry.Entry.{Entry}
+use Rattle.sil_ast.specs.declared.function.Function.{Function}
+use Rattle.sil_ast.specs.declared.place.ValueId.{ValueId}
+use Rattle.sil_cfg.specs.Returns.{is_return}
+use Rattle.sil_cfg.specs.declared.item.Item.{Item}
+use Rattle.sil_rules.specs.declared.rule.Rule.TheVariants as rule
+use Rattle.run_trails.specs.inner.Switched.{switched_over}
+use Rattle.run_trails.proofs.SwitchedTrails.{are_followed}
+use Rattle.sil_verifier.specs.Shown.{scopes_in}
+use Rattle.accepted_trails.specs.inner.Lives.{AreBasesKept, AreScopesPassed}
+use Rattle.accepted_trails.specs.inner.Passing.{is_end}
+use Rattle.accepted_trails.proofs.LivesPassed.{same_value}
+use Rattle.accepted_trails.proofs.Passed.{AsksOff, ReadsMarks, passed}
+use Rattle.accepted_trails.proofs.Quiet.{entries_split, range_free}
+use Rattle.accepted_trails.proofs.Reading.{end_with, read_by}
+use Rattle.accepted_trails.proofs.Unbroken.{scopes_unbroken}
+
+read_own : (sort : MarkSort) (on c : Bool) → switched_over (turned_by sort ∷ []) on ≡ Some c → read_by true sort on ≡ Some c
+read_own End true c h = h
+read_own End false c h = h
+read_own Use true c h = h
+read_own Use false c h = h
+read_own Begin true c h = h
+read_own Begin false c h = h
+
+read_scope : (sort : MarkSort) (own scope on c : Bool) → (own ≡ true → scope ≡ true) →
+    switched_over (cond scope (cons_option (cond own (Some (turned_by sort)) None) []) []) on ≡ Some c → read_by own sort on ≡ Some c
+read_scope sort true true on c of h = read_own sort on c h
+read_scope sort true false on c of h = absurd (false≢true (of refl))
+read_scope sort false true on c of h = h
+read_scope sort false false on c of h = h
+
+scope_of : (s : ValueId) (m : Mark) (scope : Bool) → filter_map (means s.0) (cond scope (entry_of m ∷ []) []) ≡ cond scope (cons_option (means s.0 (entry_of m)) []) []
+scope_of s m true = refl
+scope_of s m false = refl
+
+or_first : (a b : Bool) → (a || b) ≡ false → a ≡ false
+or_first true b h = h
+or_first false b h = refl
+
+or_second : (a b : Bool) → (a || b) ≡ false → b ≡ false
+or_second true b h = absurd (true≢false h)
+or_second false b h = h
+
+neither : (a b : Bool) → a ≡ false → b ≡ false → (a || b) ≡ false
+neither a b h k = ap (λ x. x || b) h ∙ k
+
+module _ (facts : ValueId → Option Facts) (f : Function) (s : ValueId) (scope : is_scope f (known_or facts) s ≡ true) (count : ℕ) (is_value : s.0 < count) where
+  -- the scope's own marks
+  own_reads : (m : Mark) (on c : Bool) → switched_over (filter_map (means s.0) (scope_entries f (known_or facts) m)) on ≡ Some c → read_by (m.subject.0 == s.0) m.sort on ≡ Some c
+  own_reads m on c h =
+      read_scope m.sort (m.subject.0 == s.0) (is_scope f (known_or facts) m.subject) on c
+      (λ own. ap (is_scope f (known_or facts)) (same_value m.subject s (eqb-true m.subject.0 s.0 own)) ∙ scope)
+      (ap (λ ms. switched_over ms on) (sym (scope_of s m (is_scope f (known_or facts) m.subject))) ∙ h)
+
+  -- the ends of what it borrows from find it closed
+  lost_reads : (v : ValueId) (sort : MarkSort) (on c : Bool) → switched_over (filter_map (means s.0) (lost_with f (known_or facts) count v sort)) on ≡ Some c →
+      (c ≡ on) × (sort ≡ End → has (lent_bases f (known_or facts) s.0) v.0 ≡ true → on ≡ false)
+  lost_reads v End on c h =
+      let r = range_free rule.ConsumedWhileBorrowed (λ n. has (lent_bases f (known_or facts) n) v.0) s.0 0 count on c h in
+      (r.0, λ _ lent. r.1 (omega arith) (omega arith) lent)
+  lost_reads v Use on c h = (sym (same_Some on c h), λ e. absurd (let no : Use ≡ End = e in cc))
+  lost_reads v Begin on c h = (sym (same_Some on c h), λ e. absurd (let no : Begin ≡ End = e in cc))
+
+  reads : ReadsMarks s (mark_entries f (known_or facts) count)
+  reads m on c h =
+      let p = entries_split s.0 (scope_entries f (known_or facts) m) (lost_entries f (known_or facts) count m) on c h in
+      own_reads m on p.0 p.1 ∙ ap Some (sym (lost_reads m.subject m.sort p.0 c p.2).0)
+
+  asks : AsksOff s (returned f (known_or facts) count)
+  asks true on c h =
+      let r = range_free rule.ScopeLeft (λ n. is_scope f (known_or facts) (value_of n)) s.0 0 count on c h in
+      (r.0, λ _. r.1 (omega arith) (omega arith) scope)
+  asks false on c h = (sym (same_Some on c h), λ e. absurd (false≢true e))
+
+  module _ (b : ValueId) (lent : has (lent_bases f (known_or facts) s.0) b.0 ≡ true) where
+    -- an end that isn't the scope's, while it is open: it is of no base, and leaves the scope open
+    other_end : (x : Taken) (own : Bool) → (x.value.0 == s.0) ≡ own → own ≡ false → (c : Bool) →
+        switched_over (filter_map (means s.0) (mark_entries f (known_or facts) count (end_of x.value))) true ≡ Some c → (c ≡ true) × ((x.value.0 == b.0) ≡ false)
+    other_end x own is other c h =
+        let p = entries_split s.0 (scope_entries f (known_or facts) (end_of x.value)) (lost_entries f (known_or facts) count (end_of x.value)) true c h in
+        let read = own_reads (end_of x.value) true p.0 p.1 in
+        let open : true ≡ p.0 = same_Some true p.0 (ap (λ o. read_by o End true) (sym other ∙ sym is) ∙ read) in
+        let lost = lost_reads x.value End p.0 c p.2 in
+        (lost.0 ∙ sym open, no_base (x.value.0 == b.0) refl (λ e. open ∙ lost.1 refl (ap (has (lent_bases f (known_or facts) s.0)) (eqb-true x.value.0 b.0 e) ∙ lent)))
+      where
+        no_base : (o : Bool) → (x.value.0 == b.0) ≡ o → ((x.value.0 == b.0) ≡ true → true ≡ false) → o ≡ false
+        no_base true e h = h e
+        no_base false e h = refl
+
+    one_end : (x : Taken) (there : Bool) → ends facts x ≡ there → (there && (x.value.0 == s.0)) ≡ false → (c : Bool) →
+        switched_over (filter_map (means s.0) (flat_map (mark_entries f (known_or facts) count) (cond there (end_of x.value ∷ []) []))) true ≡ Some c →
+        (c ≡ true) × ((there && (x.value.0 == b.0)) ≡ false)
+    one_end x false e other c h = (sym (same_Some true c h), refl)
+    one_end x true e other c h =
+        other_end x (x.value.0 == s.0) refl other c
+        (ap (λ es. switched_over (filter_map (means s.0) es) true) (sym (append-nil (mark_entries f (known_or facts) count (end_of x.value)))) ∙ h)
+
+    no_ends : (xs : List Taken) (c : Bool) → switched_over (filter_map (means s.0) (flat_map (mark_entries f (known_or facts) count) (flat_map (ended facts) xs))) true ≡ Some c →
+        list_any (is_end facts s) xs ≡ false → list_any (is_end facts b) xs ≡ false
+    no_ends [] c h none = refl
+    no_ends (x ∷ xs) c h none =
+        let one = mark_entries f (known_or facts) count in
+        let p = entries_split s.0 (flat_map one (ended facts x)) (flat_map one (flat_map (ended facts) xs)) true c
+        (ap (λ es. switched_over (filter_map (means s.0) es) true) (sym (flat_map-append one (ended facts x) (flat_map (ended facts) xs))) ∙ h) in
+        let q = one_end x (ends facts x) refl (or_first (is_end facts s x) (list_any (is_end facts s) xs) none) p.0
+        (ap (λ ms. switched_over (filter_map (means s.0) (flat_map one ms)) true) (sym (end_with (facts x.value) x)) ∙ p.1) in
+        neither (is_end facts b x) (list_any (is_end facts b) xs) q.1
+        (no_ends xs c (ap (switched_over (filter_map (means s.0) (flat_map one (flat_map (ended facts) xs)))) (sym q.0) ∙ p.2)
+        (or_second (is_end facts s x) (list_any (is_end facts s) xs) none))
+
+    -- an item that the trail's marks let pass
+    kept_at : (i : Item) (c : Bool) → switched_over (marks_for s.0 (scopes_of count facts f) i) true ≡ Some c →
+        list_any (is_end facts s) (item_taken f i) ≡ false → list_any (is_end facts b) (item_taken f i) ≡ false
+    kept_at i c h none =
+        let one = mark_entries f (known_or facts) count in
+        let taken = item_taken f i in
+        let uses = flat_map (used facts) taken in
+        let begins = flat_map (begun facts) (item_defined f i) in
+        let p = entries_split s.0 (flat_map one (marks_of facts f i)) (returned f (known_or facts) count (is_return f i)) true c h in
+        let q = entries_split s.0 (flat_map one (flat_map (ended facts) taken ++ uses)) (flat_map one begins) true p.0
+        (ap (λ es. switched_over (filter_map (means s.0) es) true) (sym (flat_map-append one (flat_map (ended facts) taken ++ uses) begins)) ∙ p.1) in
+        let r = entries_split s.0 (flat_map one (flat_map (ended facts) taken)) (flat_map one uses) true q.0
+        (ap (λ es. switched_over (filter_map (means s.0) es) true) (sym (flat_map-append one (flat_map (ended facts) taken) uses)) ∙ q.1) in
+        no_ends taken r.0 r.1 none
+
+pub scopes_passed : AreScopesPassed
+scopes_passed d f accepted s is t i trail =
+    let follows = are_followed f accepted.once (marks_for s.0 (scopes_in d f)) (scopes_unbroken d f accepted.clean s) in
+    let count = length (values_of f.blocks) in
+    passed (facts_in d f) s f (mark_entries f (known_or (facts_in d f)) count) (returned f (known_or (facts_in d f)) count)
+    (reads (facts_in d f) f s is.scope count is.is_value) (asks (facts_in d f) f s is.scope count is.is_value) t i (follows t trail.1) (follows (i ∷ t) trail)
+
+pub bases_kept : AreBasesKept
+bases_kept d f accepted s b is lent t i trail open none =
+    let follows = are_followed f accepted.once (marks_for s.0 (scopes_in d f)) (scopes_unbroken d f accepted.clean s) (i ∷ t) trail in
+    kept_at (facts_in d f) f s is.scope (length (values_of f.blocks)) is.is_value b lent i follows.0
+    (ap (option_and_then (switched_over (marks_for s.0 (scopes_in d f) i))) (sym open) ∙ follows.1) none

@@ -1,0 +1,35 @@
+-- In a function of an accepted module no walk shows a value that isn't defined, or the life or scope of one broken.
+use Rattle.std.proofs.Common.{◌≡◌, ℕ, List, refl, length, None}
+use Rattle.sil_ast.specs.declared.function.Function.{Function}
+use Rattle.sil_ast.specs.declared.place.ValueId.{ValueId}
+use Rattle.path_checks.specs.Entries.{marks_for}
+use Rattle.ownership_kinds.specs.Facts.{facts_in}
+use Rattle.borrow_scopes.specs.Others.{other_of}
+use Rattle.value_availability.specs.Accesses.{accesses_of}
+use Rattle.type_definitions.specs.Declarations.{Declarations}
+use Rattle.typed_graph_laws.proofs.Functions.{graphs_by_blocks}
+use Rattle.sil_verifier.specs.Shown.{lives_in, scopes_in}
+use Rattle.sil_verifier.specs.Shown.IsShownIn.{life, scope, undefined}
+use Rattle.sil_verifier.specs.Values.{IsCleanIn}
+use Rattle.run_trails.specs.inner.Switched.{IsUnbroken}
+use Rattle.run_trails.proofs.RunPaths.{are_entered_once}
+use Rattle.accepted_trails.specs.inner.Accepted.{AreAccepted}
+
+module _ (d : Declarations) (f : Function) (clean : IsCleanIn d f) (v : ValueId) where
+  pub values_unbroken : IsUnbroken f (marks_for v.0 (accesses_of f))
+  values_unbroken rule walk point item h =
+      clean (record { rule = rule; subject = v; other = None; point = point; walk = walk }) (undefined refl (record { item = item; at = h }))
+
+  pub lives_unbroken : IsUnbroken f (marks_for v.0 (lives_in d f))
+  lives_unbroken rule walk point item h =
+      clean (record { rule = rule; subject = v; other = None; point = point; walk = walk }) (life refl (record { item = item; at = h }))
+
+  pub scopes_unbroken : IsUnbroken f (marks_for v.0 (scopes_in d f))
+  scopes_unbroken rule walk point item h =
+      clean (record { rule = rule; subject = v; other = other_of rule (facts_in d f) f v item; point = point; walk = walk }) (scope item refl h)
+
+pub are_accepted : AreAccepted
+are_accepted m n f verified body = record {
+  clean = λ s shown. verified.accepted.values (record { function = n; showing = s }) (record { within = f; is_body = body; shown = shown });
+  once = are_entered_once (length m.functions) f (graphs_by_blocks m n f verified.numbered verified.accepted.types.typed body.there body.body);
+}

@@ -1,0 +1,4 @@
+pub mod Accepted
+pub mod Defined
+pub mod Passing
+pub mod Lives

@@ -1,0 +1,4 @@
+pub mod RunTrails
+pub mod Switched
+pub mod Since
+pub mod Laws
