@@ -21,13 +21,13 @@ use Rattle.sil_types.specs.Typing.Values.{arg_type}
 use Rattle.type_definitions.specs.Declarations.{declarations_of}
 use Rattle.run_typing.specs.EndForms.{CaseForms, EndForms, arguments_at}
 use Rattle.run_typing.specs.Forms.{OfValue, forms_of}
-use Rattle.run_typing_laws.specs.WellTyped.{IsWellTyped}
+use Rattle.run_typing_laws.specs.inner.WellTyped.{IsWellTyped}
 use Rattle.run_typing_laws.proofs.EndFacts.{other_end, switched}
 use Rattle.run_typing_laws.proofs.FunctionFacts.{TypedFunction, TypedInst}
 use Rattle.run_typing_laws.proofs.MemberFacts.{enum_is}
 use Rattle.run_typing_laws.proofs.ShapeFacts.{same_types}
 use Rattle.run_typing_laws.proofs.SwitchFacts.{DefaultEdge, edge_chosen}
-use Rattle.owned_run_typing.specs.OwnedEnds.{OwnedCase, OwnedCaseForms, OwnedEndForms, also_lowered, cases}
+use Rattle.owned_run_typing.specs.inner.OwnedEnds.{OwnedCase, OwnedCaseForms, OwnedEndForms, also_lowered, cases}
 
 module _ (m : Module) (r : IsWellTyped m) (f : Function) (typed : TypedFunction m f) (i : Inst) (here : TypedInst m f i) where
   -- a default takes nothing, or the enum

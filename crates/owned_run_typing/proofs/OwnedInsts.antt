@@ -11,7 +11,7 @@ use Rattle.sil_ast.specs.declared.inst.Inst.{Inst}
 use Rattle.sil_ast.specs.declared.module.Module.{Module}
 use Rattle.sil_ast.specs.declared.place.PointId.{PointId}
 use Rattle.sil_types.specs.Typing.FormRules.{may_stand_owned}
-use Rattle.run_typing_laws.specs.WellTyped.{IsWellTyped}
+use Rattle.run_typing_laws.specs.inner.WellTyped.{IsWellTyped}
 use Rattle.run_typing_laws.proofs.CallFacts.{call_row}
 use Rattle.run_typing_laws.proofs.Rows.Builtins.{builtin}
 use Rattle.run_typing_laws.proofs.Rows.Groups.{enum, struct, tuple_of}
@@ -22,7 +22,7 @@ use Rattle.run_typing_laws.proofs.Rows.NamesOfObjects.{load_unowned, load_weak, 
 use Rattle.run_typing_laws.proofs.Rows.Plain.{alloc_ref, alloc_stack, cond_fail, dealloc_stack, debug_value, function_ref, integer_literal}
 use Rattle.run_typing_laws.proofs.Rows.Points.{is_at}
 use Rattle.run_typing_laws.proofs.Rows.Upcasts.{upcast_of}
-use Rattle.owned_run_typing.specs.OwnedTyped.{OwnedInst}
+use Rattle.owned_run_typing.specs.inner.OwnedTyped.{OwnedInst}
 use Rattle.owned_run_typing.proofs.OwnedRows.{OwnedRow, as_lowered, begin_borrow, copy_value, destroy_addr, destroy_value, destructure_struct, destructure_tuple, end_borrow, load, load_borrow, move_value, store}
 
 no_other_form : {P : Type 0} → false ≡ true → P

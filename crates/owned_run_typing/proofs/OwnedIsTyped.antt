@@ -22,7 +22,7 @@ use Rattle.run_typing_laws.proofs.ItemFacts.{item_is_of}
 use Rattle.run_typing_laws.proofs.Rows.Points.{is_at}
 use Rattle.run_typing_laws.proofs.ShapeFacts.{sizes}
 use Rattle.run_typing_laws.proofs.SignatureFacts.{entry_carried}
-use Rattle.owned_run_typing.specs.OwnedTyped.{OwnedIsTyped}
+use Rattle.owned_run_typing.specs.inner.OwnedTyped.{OwnedIsTyped}
 use Rattle.owned_run_typing.proofs.OwnedEndForms.{owned_ends}
 use Rattle.owned_run_typing.proofs.OwnedInsts.{owned_inst}
 

@@ -23,7 +23,7 @@ use Rattle.run_values.specs.Shapes.{Tuple, members_of, shape_of}
 use Rattle.run_typing.specs.EndForms.{operand_forms}
 use Rattle.run_typing.specs.Forms.{Form, OfPlace, OfValue, forms_of, has_no_storage}
 use Rattle.run_typing.specs.RowForms as lowered
-use Rattle.run_typing_laws.specs.WellTyped.{IsWellTyped}
+use Rattle.run_typing_laws.specs.inner.WellTyped.{IsWellTyped}
 use Rattle.run_typing_laws.proofs.MemberFacts.{struct_group, struct_named}
 use Rattle.run_typing_laws.proofs.Rows.Addresses.{element_target, struct_forms}
 use Rattle.run_typing_laws.proofs.Rows.Counting.{object_counted, placed_at}
@@ -37,7 +37,7 @@ use Rattle.run_typing_laws.proofs.Rows.NamesOfObjects.{destroy_storage}
 use Rattle.run_typing_laws.proofs.Rows.Shares.{Row, given_one, gives_form, of_parts, one_operand, taken_from}
 use Rattle.run_typing_laws.proofs.ShapeFacts.{tuple_shape}
 use Rattle.run_typing_laws.proofs.ValueForms.{value_forms}
-use Rattle.owned_run_typing.specs.OwnedRows.{IsReadOf, IsWriteOf, OwnedRowForms, again, also_lowered, copies, destroys, first, gives as gives_operand, lends, loads, members, reads, stores, takes as takes_it, trivial}
+use Rattle.owned_run_typing.specs.inner.OwnedRows.{IsReadOf, IsWriteOf, OwnedRowForms, again, also_lowered, copies, destroys, first, gives as gives_operand, lends, loads, members, reads, stores, takes as takes_it, trivial}
 
 -- the instruction's operands and results are those that its row has to do with
 abbrev pub OwnedRow : Module → Function → Inst → Type 0

@@ -1,3 +1,1 @@
-pub mod OwnedRows
-pub mod OwnedEnds
-pub mod OwnedTyped
+pub mod inner

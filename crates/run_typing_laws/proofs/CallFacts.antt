@@ -36,7 +36,7 @@ use Rattle.value_tables.specs.ValueRows.{rows_from}
 use Rattle.run_typing.specs.EndForms.{value_in}
 use Rattle.run_typing.specs.Forms.{OfFunction, OfValue, form_by, form_of, forms_of, given_shape}
 use Rattle.run_typing.specs.RowForms.{RowForms, calls, calls_out}
-use Rattle.run_typing_laws.specs.WellTyped.{IsWellTyped}
+use Rattle.run_typing_laws.specs.inner.WellTyped.{IsWellTyped}
 use Rattle.run_typing_laws.proofs.FunctionFacts.{TypedFunction, TypedInst, typed_function}
 use Rattle.run_typing_laws.proofs.Found.{both_first, not_false}
 use Rattle.run_typing_laws.proofs.ListFacts.{get_below, map_twice, maps_alike}

@@ -9,7 +9,7 @@ use Rattle.run_values.specs.Shapes.{Shape}
 use Rattle.type_definitions.specs.Declarations.{Declarations, declarations_of, inherits, is_class}
 use Rattle.type_definitions.specs.Lookups.{fields_of}
 use Rattle.run_typing.specs.Classes.{ClassesAreSound, is_a}
-use Rattle.run_typing_laws.specs.WellTyped.{IsWellTyped}
+use Rattle.run_typing_laws.specs.inner.WellTyped.{IsWellTyped}
 use Rattle.run_typing_laws.proofs.ClassChains.{fields_first, is_a_passes}
 use Rattle.run_typing_laws.proofs.Found.{same_name}
 use Rattle.run_typing_laws.proofs.TextClasses.{chains_end, class_placed, class_placed_once, names_once}

@@ -24,7 +24,7 @@ use Rattle.type_definitions.specs.Mentions as item
 use Rattle.type_definitions.specs.Rules.{IsWellNamed, has_unknown_owner, is_no_class, is_unknown}
 use Rattle.run_typing.specs.CallForms.{DeinitsAreTyped, IsDeinitOf}
 use Rattle.run_typing.specs.Forms.{OfValue}
-use Rattle.run_typing_laws.specs.WellTyped.{IsWellTyped}
+use Rattle.run_typing_laws.specs.inner.WellTyped.{IsWellTyped}
 use Rattle.run_typing_laws.proofs.FunctionFacts.{TypedFunction, typed_function}
 use Rattle.run_typing_laws.proofs.Found.{all_at, both_first, both_second, named_at, neither_second, not_false}
 use Rattle.run_typing_laws.proofs.Rows.Finding.{all_of_both, mapped_from, never_passes, passed}

@@ -32,7 +32,7 @@ use Rattle.type_definitions.specs.Mentions.{given_type}
 use Rattle.run_typing.specs.EndForms.{EndForms, branch, branches, cases, operand_forms, returns, unreachable, value_in}
 use Rattle.run_typing.specs.Forms.{OfValue, form_of, forms_of}
 use Rattle.run_typing.specs.Runnable.{IsNotOwned}
-use Rattle.run_typing_laws.specs.WellTyped.{IsWellTyped}
+use Rattle.run_typing_laws.specs.inner.WellTyped.{IsWellTyped}
 use Rattle.run_typing_laws.proofs.BlockFacts.{edge_forms, lowered_form}
 use Rattle.run_typing_laws.proofs.FunctionFacts.{TypedFunction, TypedInst}
 use Rattle.run_typing_laws.proofs.Found.{both_first, both_second, not_false}

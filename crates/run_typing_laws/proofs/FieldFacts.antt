@@ -23,7 +23,7 @@ use Rattle.type_definitions.specs.Rules.{is_class_type, is_misplaced, is_misplac
 use Rattle.run_typing.specs.FieldForms.{AreFieldsTyped, IsMeasuredField}
 use Rattle.run_typing.specs.StorageForms.{FieldShapeIs, named, plain}
 use Rattle.run_typing.specs.StorageForms.{IsNamed, unowned, weak}
-use Rattle.run_typing_laws.specs.WellTyped.{IsWellTyped}
+use Rattle.run_typing_laws.specs.inner.WellTyped.{IsWellTyped}
 use Rattle.run_typing_laws.proofs.ClassChains.{line_of}
 use Rattle.run_typing_laws.proofs.FieldShapes.{field_shapes_are}
 use Rattle.run_typing_laws.proofs.Found.{each_at, neither_first, neither_second, not_false}

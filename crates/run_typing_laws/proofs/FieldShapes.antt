@@ -14,7 +14,7 @@ use Rattle.holder_model.specs.ModuleShapes.{is_class as is_named}
 use Rattle.run_values.specs.Shapes.{Shape}
 use Rattle.type_definitions.specs.Declarations.{Declarations, declarations_of, is_class}
 use Rattle.type_definitions.specs.Lookups.{fields_of}
-use Rattle.run_typing_laws.specs.WellTyped.{IsWellTyped}
+use Rattle.run_typing_laws.specs.inner.WellTyped.{IsWellTyped}
 use Rattle.run_typing_laws.proofs.Found.{differs, other_name, same_name}
 use Rattle.run_typing_laws.proofs.TextClasses.{in_text, names_once}
 

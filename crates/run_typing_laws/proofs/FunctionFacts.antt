@@ -25,7 +25,7 @@ use Rattle.sil_types.specs.Typing.SwitchRules.{has_wrong_cases}
 use Rattle.sil_types.specs.Typing.Typed.{BreaksAtFunction, BreaksAtPoint, at_function, at_point, function, point}
 use Rattle.sil_types.specs.Typing.Values.{value_functions, value_types}
 use Rattle.type_definitions.specs.Declarations.{declarations_of}
-use Rattle.run_typing_laws.specs.WellTyped.{IsWellTyped}
+use Rattle.run_typing_laws.specs.inner.WellTyped.{IsWellTyped}
 use Rattle.run_typing_laws.proofs.Declared.{each_append}
 use Rattle.run_typing_laws.proofs.Found.{each_at, not_false}
 use Rattle.run_typing_laws.proofs.Rows.Points.{in_front}

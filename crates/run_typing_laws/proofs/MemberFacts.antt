@@ -25,7 +25,7 @@ use Rattle.type_definitions.specs.Lookups.{FoundField, Payload, case_payload, de
 use Rattle.type_definitions.specs.Lookups.{payload_in}
 use Rattle.type_definitions.specs.Lookups.{chain_fields}
 use Rattle.run_typing.specs.RowForms.{IsEnum, IsGroup, enum, struct}
-use Rattle.run_typing_laws.specs.WellTyped.{IsWellTyped}
+use Rattle.run_typing_laws.specs.inner.WellTyped.{IsWellTyped}
 use Rattle.run_typing_laws.proofs.ClassChains.{no_ancestors}
 use Rattle.run_typing_laws.proofs.FieldShapes.{field_shapes_are}
 use Rattle.run_typing_laws.proofs.Found.{both_first, both_second, name_is, position-map}

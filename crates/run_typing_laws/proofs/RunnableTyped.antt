@@ -3,7 +3,7 @@ use Rattle.std.proofs.Common.{Some}
 use Rattle.sil_ast.specs.declared.module.Module.{Module}
 use Rattle.run_typing.specs.RunTyped.{RunnableIsTyped}
 use Rattle.run_typing.specs.Runnable.{IsNotOwned, IsRunnable}
-use Rattle.run_typing_laws.specs.WellTyped.{IsWellTyped}
+use Rattle.run_typing_laws.specs.inner.WellTyped.{IsWellTyped}
 use Rattle.run_typing_laws.proofs.ClassFacts.{classes, fields_are_typed}
 use Rattle.run_typing_laws.proofs.DeinitFacts.{deinits}
 use Rattle.run_typing_laws.proofs.EndFacts.{ends, ends_take}

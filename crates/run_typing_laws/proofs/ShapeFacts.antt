@@ -16,7 +16,7 @@ use Rattle.type_definitions.specs.Declarations.{all_decls, declarations_of, decl
 use Rattle.type_definitions.specs.Rules.{is_class_layer, is_class_type}
 use Rattle.run_values.specs.Layers.{CaseLayer, decl_with, named_within, over}
 use Rattle.run_values.specs.Shapes.{Enum, FullCase, Integer, NoCase, PlainCase, Reference, Shape, Stored, Struct, Tuple, cases_of, members_of, shape_of, shape_with}
-use Rattle.run_typing_laws.specs.WellTyped.{IsWellTyped}
+use Rattle.run_typing_laws.specs.inner.WellTyped.{IsWellTyped}
 use Rattle.run_typing_laws.proofs.Declared.{class_found}
 use Rattle.run_typing_laws.proofs.Opened.{fold-Int, fold-Optional, fold-Tuple, fold-Unowned, fold-Weak}
 use Rattle.run_typing_laws.proofs.Whole.{no_ring, told_named}

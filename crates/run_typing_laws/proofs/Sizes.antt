@@ -18,7 +18,7 @@ use Rattle.type_definitions.specs.Declarations.{all_decls, declarations_of, inte
 use Rattle.run_values.specs.inner.Laws.{has_no_address, has_no_address_over, holds_no_address}
 use Rattle.run_typing.specs.RunTyped.{SizesAreMeasured}
 use Rattle.run_values.proofs.Sizes.{are_measured}
-use Rattle.run_typing_laws.specs.WellTyped.{IsWellTyped}
+use Rattle.run_typing_laws.specs.inner.WellTyped.{IsWellTyped}
 use Rattle.run_typing_laws.proofs.Opened.{Proved, by_layer, fold-Int, type_in, types_in}
 
 abbrev IsPlain : TypeName → Type 0

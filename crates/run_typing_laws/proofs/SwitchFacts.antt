@@ -33,7 +33,7 @@ use Rattle.type_definitions.specs.Declarations.{Declarations, declarations_of}
 use Rattle.type_definitions.specs.Lookups.{Payload}
 use Rattle.run_typing.specs.EndForms.{CaseForms, TakenCase, arguments_at, payload_forms}
 use Rattle.run_typing.specs.Forms.{OfValue, forms_of}
-use Rattle.run_typing_laws.specs.WellTyped.{IsWellTyped}
+use Rattle.run_typing_laws.specs.inner.WellTyped.{IsWellTyped}
 use Rattle.run_typing_laws.proofs.BlockFacts.{block_forms, block_there}
 use Rattle.run_typing_laws.proofs.FunctionFacts.{TypedFunction, TypedInst}
 use Rattle.run_typing_laws.proofs.Found.{both_first, both_second, neither_first, neither_second, not_false}

@@ -17,7 +17,7 @@ use Rattle.type_definitions.specs.Lookups.{class_at, class_named}
 use Rattle.type_definitions.specs.Mentions.{decl, function, items_of, mentioned_by, members_named_by, mentions_of, vtable}
 use Rattle.type_definitions.specs.Rules.{IsWellNamed, has_unknown_owner, is_no_class, is_of_unknown_class, is_too_deep, is_too_low, is_unknown}
 use Rattle.run_typing.specs.Classes.{is_a}
-use Rattle.run_typing_laws.specs.WellTyped.{IsWellTyped}
+use Rattle.run_typing_laws.specs.inner.WellTyped.{IsWellTyped}
 use Rattle.run_typing_laws.proofs.ClassChains.{ChainsEnd, line_of, line_split}
 use Rattle.run_typing_laws.proofs.Found.{all_at, fails_at, found, neither_second, not_false, place_once}
 

@@ -1,1 +1,1 @@
-pub mod WellTyped
+pub mod inner

@@ -17,7 +17,7 @@ use Rattle.sil_types.specs.Typing.Shapes.{is_nontrivial, is_object, target, wher
 use Rattle.run_values.specs.Shapes.{shape_of}
 use Rattle.run_typing.specs.Forms.{OfValue, has_no_storage}
 use Rattle.run_typing.specs.RowForms.{drops, retains}
-use Rattle.run_typing_laws.specs.WellTyped.{IsWellTyped}
+use Rattle.run_typing_laws.specs.inner.WellTyped.{IsWellTyped}
 use Rattle.run_typing_laws.proofs.ShapeFacts.{class_type_shape, no_storage_shape}
 use Rattle.run_typing_laws.proofs.Rows.Finding.{found_behind, where_found}
 use Rattle.run_typing_laws.proofs.Rows.Forms.{typed_form, value_form}

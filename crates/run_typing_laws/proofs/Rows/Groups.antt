@@ -27,7 +27,7 @@ use Rattle.run_values.specs.Layers.{CaseLayer}
 use Rattle.run_values.specs.Shapes.{Shape, Tuple, case_shapes, members_of, shape_of}
 use Rattle.run_typing.specs.Forms.{OfValue, forms_of}
 use Rattle.run_typing.specs.RowForms.{chooses_full, chooses_plain, groups, tuple}
-use Rattle.run_typing_laws.specs.WellTyped.{IsWellTyped}
+use Rattle.run_typing_laws.specs.inner.WellTyped.{IsWellTyped}
 use Rattle.run_typing_laws.proofs.MemberFacts.{case_found, enum_is, struct_group}
 use Rattle.run_typing_laws.proofs.ShapeFacts.{field_shape_of, tuple_shape}
 use Rattle.run_typing_laws.proofs.Sizes.{plain_type}

@@ -21,7 +21,7 @@ use Rattle.sil_types.specs.Typing.Values.{value_types}
 use Rattle.run_typing.specs.EndForms.{value_in}
 use Rattle.run_typing.specs.RunTyped.{InstIsTyped}
 use Rattle.run_typing.specs.Runnable.{IsNotOwned}
-use Rattle.run_typing_laws.specs.WellTyped.{IsWellTyped}
+use Rattle.run_typing_laws.specs.inner.WellTyped.{IsWellTyped}
 use Rattle.run_typing_laws.proofs.BlockFacts.{lowered_form}
 use Rattle.run_typing_laws.proofs.CallFacts.{call_row}
 use Rattle.run_typing_laws.proofs.FunctionFacts.{typed_function}

@@ -28,7 +28,7 @@ use Rattle.sil_types.specs.Typing.ResultCounts.{is_count_by, is_count_of}
 use Rattle.sil_types.specs.Typing.RowTypes.{MadeTypes, given_by, keeps_row, row_types}
 use Rattle.sil_types.specs.Typing.Values.{value_types}
 use Rattle.run_typing.specs.Forms.{form_by, forms_of}
-use Rattle.run_typing_laws.specs.WellTyped.{IsWellTyped}
+use Rattle.run_typing_laws.specs.inner.WellTyped.{IsWellTyped}
 use Rattle.run_typing_laws.proofs.Rows.Forms.{list_forms, one_form, typed_form}
 use Rattle.run_typing_laws.proofs.Rows.Mentioned.{operand_placed, type_placed}
 use Rattle.run_typing_laws.proofs.Rows.Points.{counted, has_literals, has_types, is_at, is_inside, keeps_form, operands_typed, results_counted}

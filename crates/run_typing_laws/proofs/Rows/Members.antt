@@ -22,7 +22,7 @@ use Rattle.run_values.specs.Shapes.{Reference, shape_of}
 use Rattle.run_typing.specs.Forms.{OfPlace, OfValue}
 use Rattle.run_typing.specs.RowForms.{member, member_address}
 use Rattle.run_typing.specs.RowForms as row
-use Rattle.run_typing_laws.specs.WellTyped.{IsWellTyped}
+use Rattle.run_typing_laws.specs.inner.WellTyped.{IsWellTyped}
 use Rattle.run_typing_laws.proofs.MemberFacts.{class_member, element_shape, struct_member}
 use Rattle.run_typing_laws.proofs.ShapeFacts.{class_shape}
 use Rattle.run_typing_laws.proofs.Rows.Addresses.{element_target, field_target}

@@ -24,7 +24,7 @@ use Rattle.run_values.specs.Shapes.{shape_of}
 use Rattle.run_typing.specs.EndForms.{operand_forms}
 use Rattle.run_typing.specs.Forms.{OfPlace, OfValue, forms_of, has_no_storage}
 use Rattle.run_typing.specs.RowForms.{loads, stores}
-use Rattle.run_typing_laws.specs.WellTyped.{IsWellTyped}
+use Rattle.run_typing_laws.specs.inner.WellTyped.{IsWellTyped}
 use Rattle.run_typing_laws.proofs.ShapeFacts.{no_storage_shape}
 use Rattle.run_typing_laws.proofs.Rows.Counting.{placed_at}
 use Rattle.run_typing_laws.proofs.Rows.Finding.{found_behind, where_found}

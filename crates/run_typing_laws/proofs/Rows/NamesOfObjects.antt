@@ -28,7 +28,7 @@ use Rattle.run_values.specs.Shapes.{Stored, shape_of}
 use Rattle.run_typing.specs.Forms.{OfPlace, OfValue}
 use Rattle.run_typing.specs.RowForms.{IsLoadOf, IsStoreOf, again, destroys_name, first, loads_name, reads, stores_name, takes}
 use Rattle.run_typing.specs.StorageForms.{IsNamed}
-use Rattle.run_typing_laws.specs.WellTyped.{IsWellTyped}
+use Rattle.run_typing_laws.specs.inner.WellTyped.{IsWellTyped}
 use Rattle.run_typing_laws.proofs.ShapeFacts.{class_type_shape, unowned_shape, weak_shape}
 use Rattle.run_typing_laws.proofs.Rows.Counting.{placed_at}
 use Rattle.run_typing_laws.proofs.Rows.Finding.{found_behind, passed}

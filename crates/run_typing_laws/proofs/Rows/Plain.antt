@@ -14,7 +14,7 @@ use Rattle.sil_types.specs.Typing.Shapes.{is_bit, is_integer, target, where_it}
 use Rattle.run_values.specs.Shapes.{Reference, shape_of}
 use Rattle.run_typing.specs.Forms.{OfFunction, OfPlace, OfValue, form_by}
 use Rattle.run_typing.specs.RowForms.{bit, function, literal, looks, object, removes, slot, traps}
-use Rattle.run_typing_laws.specs.WellTyped.{IsWellTyped}
+use Rattle.run_typing_laws.specs.inner.WellTyped.{IsWellTyped}
 use Rattle.run_typing_laws.proofs.ShapeFacts.{class_type_shape}
 use Rattle.run_typing_laws.proofs.Rows.Finding.{found_behind, if_some, mapped_from, some_of, where_found}
 use Rattle.run_typing_laws.proofs.Rows.Forms.{place_form, typed_form, value_form}

@@ -21,7 +21,7 @@ use Rattle.sil_types.specs.Typing.OperandTypes.{has_operand_types}
 use Rattle.sil_types.specs.Typing.ResultCounts.{has_wrong_result_count}
 use Rattle.sil_types.specs.Typing.Typed.{BreaksAtPoint, at_point, mixed_forms, operand_type, point, result_count}
 use Rattle.sil_types.specs.Typing.Values.{value_types}
-use Rattle.run_typing_laws.specs.WellTyped.{IsWellTyped}
+use Rattle.run_typing_laws.specs.inner.WellTyped.{IsWellTyped}
 use Rattle.run_typing_laws.proofs.Rows.Finding.{each_at, never_fails, never_passes}
 
 -- an element of the first list stands at its place in both

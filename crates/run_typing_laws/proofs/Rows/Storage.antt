@@ -14,7 +14,7 @@ use Rattle.sil_types.specs.Typing.Shapes.{is_object, is_object_layer, target, ta
 use Rattle.run_values.specs.Shapes.{Enum, FullCase, NoCase, PlainCase, shape_of}
 use Rattle.run_typing.specs.Forms.{has_no_storage}
 use Rattle.run_typing.specs.StorageForms.{FieldShapeIs, IsNamed, named, plain, unowned, weak}
-use Rattle.run_typing_laws.specs.WellTyped.{IsWellTyped}
+use Rattle.run_typing_laws.specs.inner.WellTyped.{IsWellTyped}
 use Rattle.run_typing_laws.proofs.ShapeFacts.{class_type_shape, no_storage_shape, optional_shape, unowned_shape, weak_shape}
 use Rattle.run_typing_laws.proofs.Rows.Layers.{is_optional, is_unowned, is_weak, out-Unowned, out-Weak}
 

@@ -20,7 +20,7 @@ use Rattle.sil_types.specs.Typing.Shapes.{name_in, where_it}
 use Rattle.run_values.specs.Shapes.{Reference}
 use Rattle.run_typing.specs.Forms.{OfValue}
 use Rattle.run_typing.specs.RowForms.{upcast}
-use Rattle.run_typing_laws.specs.WellTyped.{IsWellTyped}
+use Rattle.run_typing_laws.specs.inner.WellTyped.{IsWellTyped}
 use Rattle.run_typing_laws.proofs.Found.{name_is}
 use Rattle.run_typing_laws.proofs.ShapeFacts.{class_shape}
 use Rattle.run_typing_laws.proofs.TextClasses.{superclass_is_class}

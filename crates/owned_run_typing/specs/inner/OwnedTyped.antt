@@ -10,7 +10,7 @@ use Rattle.run_typing.specs.EndForms.{value_in}
 use Rattle.run_typing.specs.FieldForms.{AreFieldsTyped}
 use Rattle.run_typing.specs.Forms.{IsCarried, entry_forms, forms_of}
 use Rattle.run_typing.specs.RunTyped.{SizesAreMeasured}
-use Rattle.run_typing_laws.specs.WellTyped.{IsWellTyped}
+use Rattle.run_typing_laws.specs.inner.WellTyped.{IsWellTyped}
 use Rattle.sil_ast.specs.declared.function.Function.{Function}
 use Rattle.sil_ast.specs.declared.inst.Inst.{Inst}
 use Rattle.sil_ast.specs.declared.module.Module.{Module}
@@ -19,8 +19,8 @@ use Rattle.sil_cfg.specs.declared.item.Item.{Item}
 use Rattle.sil_cfg.specs.declared.item.Item.TheVariants as item
 use Rattle.sil_verifier.specs.Refusals.{IsOwned}
 use Rattle.type_definitions.specs.Declarations.{declarations_of}
-use Rattle.owned_run_typing.specs.OwnedEnds.{OwnedEndForms}
-use Rattle.owned_run_typing.specs.OwnedRows.{OwnedRowForms}
+use Rattle.owned_run_typing.specs.inner.OwnedEnds.{OwnedEndForms}
+use Rattle.owned_run_typing.specs.inner.OwnedRows.{OwnedRowForms}
 
 -- the instruction takes its operands, all of them and in their order, and they and its results are of the forms that its row has to do with
 pub record OwnedInst (m : Module) (f : Function) (p : PointId) (i : Inst) : Type 0 where
