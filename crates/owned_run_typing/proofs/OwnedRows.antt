@@ -71,17 +71,15 @@ written_by word.Assign = owned.again
 
 module _ (m : Module) (r : IsWellTyped m) (f : Function) (i : Inst) where
   -- the value of an object's type that an instruction takes
-  record IsTaken : Type 0 where
-    ty : TypeName
+  record IsTaken (ty : TypeName) : Type 0 where
     taken : operand_forms (declarations_of m) f i ≡ OfValue (shape_of (declarations_of m) ty) ∷ []
     value : typed_form (declarations_of m) ty ≡ OfValue (shape_of (declarations_of m) ty)
     holds_none : has_no_storage (shape_of (declarations_of m) ty) ≡ true
 
-  taken_object : (o : Op) → Known m f i o → are_of_parts (part.Typed ∷ []) i.operands ≡ true → (t : TypeName) → written 0 i ≡ Some t → is_object t ≡ true → IsTaken
+  taken_object : (o : Op) → Known m f i o → are_of_parts (part.Typed ∷ []) i.operands ≡ true → (t : TypeName) → written 0 i ≡ Some t → is_object t ≡ true → IsTaken t
   taken_object o k parts t is object =
       let counted = object_counted m r t object (placed_at m f i o k 0 t is) in
       record {
-        ty = t;
         taken = one_operand m f i o k parts t is ∙ ap (λ x. x ∷ []) counted.form;
         value = counted.form;
         holds_none = counted.holds_none;
@@ -140,18 +138,16 @@ module _ (m : Module) (r : IsWellTyped m) (f : Function) (i : Inst) where
       (owned.stores _ (store_operation i.qualifier) (ap effect_of k.op) (ap (λ o. operation_by (access_kind_of o) i.qualifier) k.op) (written_by i.qualifier) x.holds_none)
 
   -- the object behind the address that an instruction takes
-  record IsReached : Type 0 where
-    ty : TypeName
+  record IsReached (ty : TypeName) : Type 0 where
     taken : operand_forms (declarations_of m) f i ≡ OfPlace (shape_of (declarations_of m) ty) ∷ []
     value : typed_form (declarations_of m) ty ≡ OfValue (shape_of (declarations_of m) ty)
     holds_none : has_no_storage (shape_of (declarations_of m) ty) ≡ true
 
   reached : (o : Op) → Known m f i o → are_of_parts (part.Typed ∷ []) i.operands ≡ true → (t inner : TypeName) → written 0 i ≡ Some t → target t ≡ Some inner
-      → is_object inner ≡ true → IsReached
+      → is_object inner ≡ true → IsReached inner
   reached o k parts t inner is to object =
       let whole = object_place m r t inner (ap (where_it is_object) to ∙ passes object) (placed_at m f i o k 0 t is) in
       record {
-        ty = inner;
         taken = one_operand m f i o k parts t is ∙ ap (λ x. x ∷ []) whole.place;
         value = whole.value;
         holds_none = whole.holds_none;
