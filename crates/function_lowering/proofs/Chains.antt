@@ -50,7 +50,7 @@ module _ (renamings : List Definition) where
       inside = named_inside v w e
 
       at : (n : ℕ) → length renamings ≡ n → stands_within renamings n v ≡ stands_within renamings n w
-      at zero is = absurd (omega arith)
+      at zero is = let lt : v.0 < length renamings = inside in absurd (omega arith)
       at (suc n) is =
           let own : renamed_from renamings (stands_for renamings v) ≡ None = (ends_at renamings range none v inside).1 in
           let ended : renamed_from renamings (stands_within renamings n w) ≡ None =
