@@ -113,7 +113,8 @@ module _ (f : Function) (once : IsEnteredOnce f) where
       (Path-append (flow_of f) (reverse t) (i ∷ []) entry (spot_of f t) (spot_behind f i) (run_path t h.1) (spot_behind f i, next_moves t i h, refl))
 
 pub are_trails : AreTrails
-are_trails f once t i h =
+are_trails f once [] h = tt
+are_trails f once (i ∷ t) h =
     Trail-from_path (flow_of f) (reverse t ++ i ∷ []) (spot_behind f i) (some_pushed (reverse t) i)
     (subst (λ items. Path (flow_of f) entry items (spot_behind f i)) (reverse-append (i ∷ []) t) (run_path f once (i ∷ t) h))
 
