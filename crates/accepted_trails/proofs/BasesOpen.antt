@@ -1,13 +1,13 @@
 -- What an open scope borrows from stays held, or open, and is the one that was borrowed.
-use Rattle.std.proofs.Common.{◌≡◌, ℕ, List, [], ◌∷◌, ◌++◌, refl, sym, ap, ◌∙◌, subst, Bool, true, false, cond, not, ◌&&◌, ◌||◌, ◌⊎◌, inl, inr, Option, Some, None, eq-eqb}
+use Rattle.std.proofs.Common.{◌≡◌, List, [], ◌∷◌, refl, sym, ap, ◌∙◌, Bool, true, false, cond, not, ◌&&◌, ◌||◌, ◌⊎◌, inl, inr, Option, Some, None, eq-eqb}
 use Rattle.std.specs.Prelude.{◌==◌}
 use Rattle.std.specs.List.{list_any}
 use Rattle.std.proofs.lemmas.Bool.{and_parts, cases_Bool, eqb-true, false≢true, or_cases, true≢false}
-use Rattle.std.proofs.lemmas.Option.{none-some, same_Some}
+use Rattle.std.proofs.lemmas.Option.{same_Some}
 use Rattle.holder_model.specs.Frames.{has_any}
 use Rattle.item_operands.specs.Items.{item_defined, item_taken}
 use Rattle.lifetime_worklist.specs.inner.Runs.{IsOwned}
-use Rattle.ownership_chains.specs.Facts.{has, is_guaranteed, is_owned, known_or, value_of}
+use Rattle.ownership_chains.specs.Facts.{has, is_guaranteed, is_owned, known_or}
 use Rattle.ownership_chains.specs.declared.facts.Facts.{Facts}
 use Rattle.ownership_kinds.specs.Facts.{facts_in}
 use Rattle.ownership_marks.specs.Marks.{begin_of, begun, begun_with, is_own_base}
@@ -15,7 +15,6 @@ use Rattle.sil_ast.specs.declared.function.Function.{Function}
 use Rattle.sil_ast.specs.declared.place.ValueId.{ValueId}
 use Rattle.sil_cfg.specs.Items.{IsItem}
 use Rattle.sil_cfg.specs.declared.item.Item.{Item}
-use Rattle.type_definitions.specs.Declarations.{Declarations}
 use Rattle.type_definitions.specs.declared.kind.Kind.{Kind}
 use Rattle.type_definitions.specs.declared.kind.Kind.TheVariants as kind
 use Rattle.run_trails.specs.inner.RunTrails.{IsTurnedTrail}
@@ -24,7 +23,7 @@ use Rattle.run_trails.proofs.TurnedTrails.{turned_item, turned_older}
 use Rattle.accepted_trails.specs.inner.Bases.{AreBorrowedHeld, AreBorrowedOpen}
 use Rattle.accepted_trails.specs.inner.Defined.{makes}
 use Rattle.accepted_trails.specs.inner.Lives.{is_held, is_open}
-use Rattle.accepted_trails.specs.inner.Passing.{IsFoundRight, IsPassed, behind, is_begin, is_end, is_use, left_by, on_behind}
+use Rattle.accepted_trails.specs.inner.Passing.{IsFoundRight, IsPassed, behind, is_begin, is_end, is_use, left_by}
 use Rattle.accepted_trails.proofs.Tests.{any_weaker, either, first_of, or_right, or_second, same_value}
 use Rattle.accepted_trails.proofs.LivesPassed.{lives_passed}
 use Rattle.accepted_trails.proofs.ScopesPassed.{bases_kept, scopes_passed}

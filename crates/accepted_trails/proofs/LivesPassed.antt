@@ -1,5 +1,5 @@
 -- Owned values along the trails of an accepted function.
-use Rattle.std.proofs.Common.{◌≡◌, ℕ, ◌<◌, List, [], ◌∷◌, length, refl, sym, ap, ◌∙◌, arith, Bool, true, false, cond, Option, Some, None}
+use Rattle.std.proofs.Common.{ℕ, ◌<◌, ◌∷◌, length, sym, arith, true, false, Option}
 use Rattle.std.proofs.lemmas.Bool.{false≢true}
 use Rattle.std.proofs.lemmas.Option.{same_Some}
 use Rattle.lifetime_worklist.specs.Lives.{lives_by, returned, turned_by}

@@ -1,12 +1,12 @@
 -- What the next item takes is defined, since its operands find the switches of their values on.
-use Rattle.std.proofs.Common.{◌≡◌, ℕ, List, [], ◌∷◌, ◌++◌, length, map, refl, sym, ap, ◌∙◌, Bool, true, false, cond, ◌||◌, ◌⊎◌, inl, inr, Option, Some, None, eq-eqb}
+use Rattle.std.proofs.Common.{◌≡◌, List, [], ◌∷◌, ◌++◌, length, map, refl, sym, ap, ◌∙◌, Bool, true, false, cond, ◌||◌, Option, Some, None}
 use Rattle.std.specs.Prelude.{◌==◌, filter_map, option_and_then}
 use Rattle.std.specs.List.{cons_option, list_any}
 use Rattle.std.proofs.lemmas.Bool.{false≢true, or_cases}
 use Rattle.std.proofs.lemmas.List.Folds.{list_any-append}
 use Rattle.std.proofs.lemmas.Option.{none-some, same_Some}
 use Rattle.instruction_table.specs.Forms.{roles_of}
-use Rattle.item_operands.specs.Items.{arg_value, item_defined, item_taken, taken_along_in, taken_in}
+use Rattle.item_operands.specs.Items.{arg_value, taken_along_in, taken_in}
 use Rattle.item_operands.specs.Parts.{handover_in, item_arguments, item_edge, item_handover, item_inst, item_operands, item_results, operands_in}
 use Rattle.item_operands.specs.Roles.{consumed, conventions_in, roles_for, taken_each}
 use Rattle.item_operands.specs.declared.taken.Taken.{Taken}
@@ -28,7 +28,6 @@ use Rattle.run_trails.specs.inner.RunTrails.{IsTurnedTrail}
 use Rattle.run_trails.specs.inner.Switched.{IsFollowed, switched, switched_over}
 use Rattle.run_trails.proofs.SwitchedTrails.{are_followed}
 use Rattle.run_trails.proofs.TurnedTrails.{turned_older}
-use Rattle.accepted_trails.specs.inner.Accepted.{IsAcceptedIn}
 use Rattle.accepted_trails.specs.inner.Defined.{AreOperandsDefined, IsDefinedOn, IsTakenFrom, makes}
 use Rattle.accepted_trails.proofs.Quiet.{entries_split}
 use Rattle.accepted_trails.proofs.Tests.{each_among, each_of_both, either, or_more}

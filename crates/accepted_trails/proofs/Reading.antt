@@ -1,6 +1,6 @@
 -- What the marks of an item say of a value that they find on or off: first ends, then uses, then begins.
-use Rattle.std.proofs.Common.{◌≡◌, List, [], ◌∷◌, ◌++◌, map, refl, sym, ap, ◌∙◌, Bool, true, false, cond, not, ◌&&◌, ◌||◌, ◌⊎◌, inl, inr, Option, Some, None}
-use Rattle.std.specs.Prelude.{◌==◌, flat_map, option_and_then}
+use Rattle.std.proofs.Common.{◌≡◌, List, [], ◌∷◌, ◌++◌, map, refl, sym, ap, ◌∙◌, Bool, true, false, cond, not, ◌&&◌, ◌||◌, Option, Some, None}
+use Rattle.std.specs.Prelude.{◌==◌, flat_map}
 use Rattle.std.specs.List.{list_any}
 use Rattle.std.proofs.lemmas.Bool.{false≢true, or_cases}
 use Rattle.std.proofs.lemmas.Grind.{flat_map-append}
@@ -74,7 +74,6 @@ uses_with None x = tt
 uses_with (Some f) x = uses_by f.kind x f.bases
 
 -- ---- on or off
-
 
 on_more : (on here more : Bool) → ((on && not here) && not more) ≡ (on && not (here || more))
 on_more true true more = refl

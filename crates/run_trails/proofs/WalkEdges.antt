@@ -1,5 +1,5 @@
 -- The walk of a trail is of the edges that its items take.
-use Rattle.std.proofs.Common.{◌≡◌, ℕ, zero, suc, List, [], ◌∷◌, ◌++◌, append-nil, length, take, refl, sym, ap, ap₂, ◌∙◌, Bool, true, false, Option, Some, None, slice_get}
+use Rattle.std.proofs.Common.{◌≡◌, ℕ, zero, suc, List, [], ◌∷◌, ◌++◌, append-nil, length, take, refl, ap, ap₂, ◌∙◌, Bool, true, false, Option, Some, None, slice_get}
 use Rattle.std.specs.Prelude.{filter_map}
 use Rattle.std.specs.List.{cons_option}
 use Rattle.std.proofs.lemmas.List.Elements.{filter_map-append}
@@ -8,12 +8,12 @@ use Rattle.sil_ast.specs.declared.function.Function.{Function}
 use Rattle.sil_ast.specs.declared.inst.Inst.{Inst}
 use Rattle.sil_ast.specs.declared.place.EdgeId.{EdgeId}
 use Rattle.sil_ast.specs.declared.place.PointId.{PointId}
-use Rattle.sil_cfg.specs.Flow.{edge_to, items_at}
-use Rattle.sil_cfg.specs.Items.{ends_function, entry_of, exit_of, flow_of, insts_from, items_in, own_items, point_at}
-use Rattle.sil_cfg.specs.Walk.{end_from, last_block, passed}
+use Rattle.sil_cfg.specs.Flow.{items_at}
+use Rattle.sil_cfg.specs.Items.{ends_function, exit_of, flow_of, insts_from, items_in, point_at}
+use Rattle.sil_cfg.specs.Walk.{last_block, passed}
 use Rattle.sil_cfg.specs.declared.item.Item.{Item}
 use Rattle.sil_cfg.specs.declared.item.Item.TheVariants as item
-use Rattle.run_trails.specs.inner.RunTrails.{IsNext, edge_taken}
+use Rattle.run_trails.specs.inner.RunTrails.{edge_taken}
 use Rattle.run_trails.specs.inner.Laws.{AreAlongEdges, AreNext}
 
 abbrev TakesNone : List Item → Type 0

@@ -42,7 +42,8 @@ MakesAtStops f = (v : ValueId) (j : Item) → IsItem f j → makes f v j ≡ tru
 
 -- what opens a scope uses what the scope borrows from
 abbrev pub UsesBorrowed : Declarations → Function → Type 0
-UsesBorrowed d f = (s b : ValueId) (i : Item) → IsItem f i → makes f s i ≡ true → BorrowsFrom d f s b → list_any (is_use (facts_in d f) b) (item_taken f i) ≡ true
+UsesBorrowed d f = (s b : ValueId) (i : Item) → IsItem f i → makes f s i ≡ true → BorrowsFrom d f s b
+    → list_any (is_use (facts_in d f) b) (item_taken f i) ≡ true
 
 -- ---- operands
 
@@ -63,11 +64,12 @@ AreBasesAsMade = (d : Declarations) (f : Function) → IsAcceptedIn d f → HasB
 
 -- an Owned value that an open scope borrows is held, and is the one that was borrowed
 abbrev pub AreBorrowedHeld : Type 0
-AreBorrowedHeld = (d : Declarations) (f : Function) → IsAcceptedIn d f → UsesBorrowed d f → (s b : ValueId) → IsScopeIn d f s → IsOwnedIn d f b → BorrowsFrom d f s b
-    → (t : List Item) → IsTurnedTrail f t → is_open d f s t ≡ Some true → (is_held d f b t ≡ Some true) × (is_none_since (makes f b) (makes f s) t ≡ true)
+AreBorrowedHeld = (d : Declarations) (f : Function) → IsAcceptedIn d f → UsesBorrowed d f → (s b : ValueId) → IsScopeIn d f s → IsOwnedIn d f b
+    → BorrowsFrom d f s b → (t : List Item) → IsTurnedTrail f t → is_open d f s t ≡ Some true
+    → (is_held d f b t ≡ Some true) × (is_none_since (makes f b) (makes f s) t ≡ true)
 
 -- a scope from which an open one borrows is open, and is the one from which it borrowed
 abbrev pub AreBorrowedOpen : Type 0
-AreBorrowedOpen = (d : Declarations) (f : Function) → IsAcceptedIn d f → UsesBorrowed d f → (s b : ValueId) → IsScopeIn d f s → IsScopeIn d f b → IsBaseOf d f b b
-    → BorrowsFrom d f s b → (t : List Item) → IsTurnedTrail f t → is_open d f s t ≡ Some true
+AreBorrowedOpen = (d : Declarations) (f : Function) → IsAcceptedIn d f → UsesBorrowed d f → (s b : ValueId) → IsScopeIn d f s → IsScopeIn d f b
+    → IsBaseOf d f b b → BorrowsFrom d f s b → (t : List Item) → IsTurnedTrail f t → is_open d f s t ≡ Some true
     → (is_open d f b t ≡ Some true) × (is_none_since (makes f b) (makes f s) t ≡ true)
