@@ -1,13 +1,14 @@
 -- What the next item takes is defined, since its operands find the switches of their values on.
-use Rattle.std.proofs.Common.{◌≡◌, ℕ, List, [], ◌∷◌, ◌++◌, map, refl, sym, ap, ◌∙◌, Bool, true, false, cond, ◌||◌, ◌⊎◌, inl, inr, Option, Some, None, eq-eqb}
+use Rattle.std.proofs.Common.{◌≡◌, List, [], ◌∷◌, ◌++◌, length, map, refl, sym, ap, ◌∙◌, Bool, true, false, cond, ◌||◌, Option, Some, None}
 use Rattle.std.specs.Prelude.{◌==◌, filter_map, option_and_then}
 use Rattle.std.specs.List.{cons_option, list_any}
 use Rattle.std.proofs.lemmas.Bool.{false≢true, or_cases}
 use Rattle.std.proofs.lemmas.List.Folds.{list_any-append}
 use Rattle.std.proofs.lemmas.Option.{none-some, same_Some}
-use Rattle.item_operands.specs.Items.{arg_value, item_defined, item_taken, taken_along_in, taken_in}
-use Rattle.item_operands.specs.Parts.{item_arguments, item_edge, item_handover, item_inst, item_operands, item_results}
-use Rattle.item_operands.specs.Roles.{taken_each}
+use Rattle.instruction_table.specs.Forms.{roles_of}
+use Rattle.item_operands.specs.Items.{arg_value, taken_along_in, taken_in}
+use Rattle.item_operands.specs.Parts.{handover_in, item_arguments, item_edge, item_handover, item_inst, item_operands, item_results, operands_in}
+use Rattle.item_operands.specs.Roles.{consumed, conventions_in, roles_for, taken_each}
 use Rattle.item_operands.specs.declared.taken.Taken.{Taken}
 use Rattle.item_operands.specs.declared.taken.Treatment.{Treatment}
 use Rattle.numbered_form.specs.Lists.{Each}
@@ -23,12 +24,13 @@ use Rattle.sil_ast.specs.declared.place.ValueId.{ValueId}
 use Rattle.sil_cfg.specs.declared.item.Item.{Item}
 use Rattle.sil_rules.specs.declared.rule.Rule.TheVariants as rule
 use Rattle.value_availability.specs.Accesses.{accesses_of, begun, defined, used}
-use Rattle.run_trails.specs.inner.RunTrails.{IsRunTrail}
+use Rattle.run_trails.specs.inner.RunTrails.{IsTurnedTrail}
 use Rattle.run_trails.specs.inner.Switched.{IsFollowed, switched, switched_over}
 use Rattle.run_trails.proofs.SwitchedTrails.{are_followed}
-use Rattle.accepted_trails.specs.inner.Accepted.{IsAcceptedIn}
+use Rattle.run_trails.proofs.TurnedTrails.{turned_older}
 use Rattle.accepted_trails.specs.inner.Defined.{AreOperandsDefined, IsDefinedOn, IsTakenFrom, makes}
 use Rattle.accepted_trails.proofs.Quiet.{entries_split}
+use Rattle.accepted_trails.proofs.Tests.{each_among, each_of_both, either, or_more}
 use Rattle.accepted_trails.proofs.Unbroken.{values_unbroken}
 
 -- an operand of the value, or of another one
@@ -42,11 +44,6 @@ define_bits : (own on c : Bool) → switched_over (cons_option (cond own (Some (
 define_bits true on c h = sym (same_Some true c h)
 define_bits false on c h = sym (same_Some on c h)
 
-or_more : (here more on : Bool) → (more || (here || on)) ≡ ((here || more) || on)
-or_more true true on = refl
-or_more true false on = refl
-or_more false more on = refl
-
 abbrev is_of : ValueId → Operand → Bool
 is_of v o = o.value.0 == v.0
 
@@ -57,11 +54,7 @@ module _ (v : ValueId) where
       let s = entries_split v.0 (used o ∷ []) (map used os) on c h in
       let one = use_bits (o.value.0 == v.0) on s.0 s.1 in
       let more = uses_read os s.0 c s.2 in
-      (more.0 ∙ one.0, λ e. at one.1 (λ m. sym one.0 ∙ more.1 m) (or_cases (is_of v o) (list_any (is_of v) os) e))
-    where
-      at : {A B C : Type 0} → (A → C) → (B → C) → A ⊎ B → C
-      at f g (inl a) = f a
-      at f g (inr b) = g b
+      (more.0 ∙ one.0, λ e. either one.1 (λ m. sym one.0 ∙ more.1 m) (or_cases (is_of v o) (list_any (is_of v) os) e))
 
   defines_read : (vs : List ValueId) (on c : Bool) → switched_over (filter_map (means v.0) (map defined vs)) on ≡ Some c → c ≡ (has vs v.0 || on)
   defines_read [] on c h = sym (same_Some on c h)
@@ -97,38 +90,48 @@ module _ (v : ValueId) where
           λ e. sym first.0 ∙ second.1 e,
         )
 
-    module _ (follows : (t : List Item) → IsRunTrail f t → IsFollowed (marks_for v.0 (accesses_of f)) t) where
+    module _ (follows : (t : List Item) → IsTurnedTrail f t → IsFollowed (marks_for v.0 (accesses_of f)) t) where
       step_of : (t : List Item) (i : Item) (on c : Bool) → switched (marks_for v.0 (accesses_of f)) t ≡ Some on → switched (marks_for v.0 (accesses_of f)) (i ∷ t) ≡ Some c →
           switched_over (marks_for v.0 (accesses_of f) i) on ≡ Some c
       step_of t i on c was is = ap (option_and_then (switched_over (marks_for v.0 (accesses_of f) i))) (sym was) ∙ is
 
       -- the value's switch is on just where an item made it
-      on_where_made : (t : List Item) → IsRunTrail f t → switched (marks_for v.0 (accesses_of f)) t ≡ Some (list_any (makes f v) t)
+      on_where_made : (t : List Item) → IsTurnedTrail f t → switched (marks_for v.0 (accesses_of f)) t ≡ Some (list_any (makes f v) t)
       on_where_made [] h = refl
       on_where_made (i ∷ t) h =
           let is = follows (i ∷ t) h in
-          is.1 ∙ ap Some (item_read i (list_any (makes f v) t) is.0 (step_of t i (list_any (makes f v) t) is.0 (on_where_made t h.1) is.1)).0
+          let was = on_where_made t (turned_older f i t h) in
+          is.1 ∙ ap Some (item_read i (list_any (makes f v) t) is.0 (step_of t i (list_any (makes f v) t) is.0 was is.1)).0
 
-      next_defined : (t : List Item) (i : Item) → IsRunTrail f (i ∷ t) → (list_any (is_of v) (item_operands f i) ≡ true → IsDefinedOn f t v)
+      next_defined : (t : List Item) (i : Item) → IsTurnedTrail f (i ∷ t) → (list_any (is_of v) (item_operands f i) ≡ true → IsDefinedOn f t v)
           × (list_any (is_of v) (item_handover f i) ≡ true → IsDefinedOn f t v)
       next_defined t i h =
           let is = follows (i ∷ t) h in
-          let r = item_read i (list_any (makes f v) t) is.0 (step_of t i (list_any (makes f v) t) is.0 (on_where_made t h.1) is.1) in
+          let was = on_where_made t (turned_older f i t h) in
+          let r = item_read i (list_any (makes f v) t) is.0 (step_of t i (list_any (makes f v) t) is.0 was is.1) in
           (r.1, r.2)
-
-or_right : (a b : Bool) → b ≡ true → (a || b) ≡ true
-or_right true b e = refl
-or_right false b e = e
-
--- what holds of the value of each operand that is among the operands
-each_operand : (P : ValueId → Type 0) (os : List Operand) → ((o : Operand) → list_any (is_of o.value) os ≡ true → P o.value) → Each (λ o. P o.value) os
-each_operand P [] h = tt
-each_operand P (o ∷ os) h = (
-  h o (ap (λ b. b || list_any (is_of o.value) os) (eq-eqb o.value.0 o.value.0 refl)),
-  each_operand P os (λ x there. h x (or_right (is_of x.value o) (list_any (is_of x.value) os) there)),
-)
 
 taken_of : (P : ValueId → Type 0) (os : List Operand) (ts : List Treatment) → Each (λ o. P o.value) os → Each (λ (x : Taken). P x.value) (taken_each os ts)
 taken_of P [] ts h = tt
 taken_of P (o ∷ os) [] h = tt
 taken_of P (o ∷ os) (t ∷ ts) h = (h.0, taken_of P os ts h.1)
+
+taken_inst : (P : ValueId → Type 0) (o : Option Inst) → Each (λ o. P o.value) (operands_in o) → Each (λ (x : Taken). P x.value) (taken_in o)
+taken_inst P None h = tt
+taken_inst P (Some i) h = taken_of P i.operands (roles_for (roles_of i.op) (conventions_in i) (length i.operands)) h
+
+taken_handed : (P : ValueId → Type 0) (os : List Operand) → Each (λ o. P o.value) os → Each (λ (x : Taken). P x.value) (map consumed os)
+taken_handed P [] h = tt
+taken_handed P (o ∷ os) h = (h.0, taken_handed P os h.1)
+
+taken_edge : (P : ValueId → Type 0) (o : Option Edge) → Each (λ o. P o.value) (handover_in o) → Each (λ (x : Taken). P x.value) (taken_along_in o)
+taken_edge P None h = tt
+taken_edge P (Some e) h = taken_handed P e.args h
+
+pub operands_defined : AreOperandsDefined
+operands_defined d f accepted t i h =
+    let next = λ (v : ValueId). next_defined v f (are_followed f (marks_for v.0 (accesses_of f)) (values_unbroken d f accepted.clean v)) t i h in
+    let operands = each_among (λ (o : Operand). o.value) (λ o. IsDefinedOn f t o.value) (item_operands f i) (λ o among. (next o.value).0 among) in
+    let handed = each_among (λ (o : Operand). o.value) (λ o. IsDefinedOn f t o.value) (item_handover f i) (λ o among. (next o.value).1 among) in
+    each_of_both (IsTakenFrom f t) (taken_in (item_inst f i)) (taken_along_in (item_edge f i))
+    (taken_inst (IsDefinedOn f t) (item_inst f i) operands) (taken_edge (IsDefinedOn f t) (item_edge f i) handed)

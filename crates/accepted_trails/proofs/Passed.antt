@@ -1,9 +1,7 @@
 -- How the next item finds and leaves a value, where the value's switch reads the marks of the item.
-use Rattle.std.proofs.Common.{◌≡◌, List, [], ◌∷◌, ◌++◌, refl, sym, ap, ◌∙◌, Bool, true, false, ◌||◌, Option, Some}
+use Rattle.std.proofs.Common.{◌≡◌, List, [], ◌∷◌, ◌++◌, sym, ap, ◌∙◌, Bool, true, false, ◌||◌, Option, Some}
 use Rattle.std.specs.Prelude.{filter_map, flat_map, option_and_then}
 use Rattle.std.specs.List.{list_any}
-use Rattle.std.proofs.lemmas.Bool.{true≢false}
-use Rattle.holder_model.specs.Frames.{ends}
 use Rattle.item_operands.specs.Items.{item_defined, item_taken}
 use Rattle.ownership_chains.specs.declared.facts.Facts.{Facts}
 use Rattle.ownership_marks.specs.Marks.{begun, ended, marks_of, used}
@@ -15,13 +13,10 @@ use Rattle.sil_ast.specs.declared.place.ValueId.{ValueId}
 use Rattle.sil_cfg.specs.Returns.{is_return}
 use Rattle.sil_cfg.specs.declared.item.Item.{Item}
 use Rattle.run_trails.specs.inner.Switched.{IsFollowed, switched, switched_over}
-use Rattle.accepted_trails.specs.inner.Passing.{IsFoundRight, IsPassed, behind, is_begin, is_use, left_by}
+use Rattle.accepted_trails.specs.inner.Passing.{IsFoundRight, IsPassed, behind, is_begin, left_by}
 use Rattle.accepted_trails.proofs.Quiet.{entries_split}
+use Rattle.accepted_trails.proofs.Tests.{or_second}
 use Rattle.accepted_trails.proofs.Reading.{begins_found, begins_left, ends_found, ends_left, read, read_mark, read_split, uses_found}
-
-or_second : (a b : Bool) → (a || b) ≡ false → b ≡ false
-or_second true b h = absurd (true≢false h)
-or_second false b h = h
 
 -- what the marks of an item are to the value: those of its own as they are read, and others that turn nothing
 abbrev pub ReadsMarks : ValueId → (Mark → List Entry) → Type 0

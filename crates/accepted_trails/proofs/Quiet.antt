@@ -1,5 +1,5 @@
 -- Marks that items share, one for each value of a range that passes a test: they need the switch off, and turn nothing.
-use Rattle.std.proofs.Common.{◌≡◌, ◌≢◌, ℕ, zero, suc, ◌+◌, ◌<◌, ◌≤◌, List, [], ◌∷◌, ◌++◌, refl, sym, ap, ◌∙◌, arith, Bool, true, false, cond, ◌⊎◌, inl, inr, Option, Some, None}
+use Rattle.std.proofs.Common.{◌≡◌, ◌≢◌, ℕ, zero, suc, ◌+◌, ◌<◌, ◌≤◌, List, [], ◌∷◌, ◌++◌, refl, sym, ap, ◌∙◌, arith, Bool, true, false, cond, ◌⊎◌, inl, inr, Some, None}
 use Rattle.std.specs.Prelude.{◌==◌, filter_map, flat_map}
 use Rattle.std.specs.List.{cons_option, range_with_len}
 use Rattle.std.proofs.lemmas.Bool.{cases_eq, eq-eqb, false≢true}
@@ -9,7 +9,6 @@ use Rattle.sil_rules.specs.declared.rule.Rule.{Rule}
 use Rattle.path_checks.specs.Entries.{means}
 use Rattle.path_checks.specs.declared.entry.Entry.{Entry}
 use Rattle.path_patterns.specs.Marks.{needs_off}
-use Rattle.path_patterns.specs.declared.mark.Mark.{Mark}
 use Rattle.run_trails.specs.inner.Switched.{switched_by, switched_over}
 use Rattle.run_trails.proofs.AfterEach.{after_split}
 

@@ -1,6 +1,6 @@
 -- What the marks of an item say of a value that they find on or off: first ends, then uses, then begins.
-use Rattle.std.proofs.Common.{◌≡◌, List, [], ◌∷◌, ◌++◌, map, refl, sym, ap, ◌∙◌, Bool, true, false, cond, not, ◌&&◌, ◌||◌, ◌⊎◌, inl, inr, Option, Some, None}
-use Rattle.std.specs.Prelude.{◌==◌, flat_map, option_and_then}
+use Rattle.std.proofs.Common.{◌≡◌, List, [], ◌∷◌, ◌++◌, map, refl, sym, ap, ◌∙◌, Bool, true, false, cond, not, ◌&&◌, ◌||◌, Option, Some, None}
+use Rattle.std.specs.Prelude.{◌==◌, flat_map}
 use Rattle.std.specs.List.{list_any}
 use Rattle.std.proofs.lemmas.Bool.{false≢true, or_cases}
 use Rattle.std.proofs.lemmas.Grind.{flat_map-append}
@@ -19,6 +19,7 @@ use Rattle.type_definitions.specs.declared.kind.Kind.TheVariants as kind
 use Rattle.run_trails.specs.inner.Switched.{after_each}
 use Rattle.run_trails.proofs.AfterEach.{after_one, after_split}
 use Rattle.accepted_trails.specs.inner.Passing.{is_begin, is_end, is_use, on_behind}
+use Rattle.accepted_trails.proofs.Tests.{either, or_more}
 
 -- a mark of the value itself, or of another one
 abbrev pub read_by : Bool → MarkSort → Bool → Option Bool
@@ -74,19 +75,10 @@ uses_with (Some f) x = uses_by f.kind x f.bases
 
 -- ---- on or off
 
-either : {A B C : Type 0} → (A → C) → (B → C) → A ⊎ B → C
-either f g (inl a) = f a
-either f g (inr b) = g b
-
 on_more : (on here more : Bool) → ((on && not here) && not more) ≡ (on && not (here || more))
 on_more true true more = refl
 on_more true false more = refl
 on_more false here more = refl
-
-or_more : (here more on : Bool) → (more || (here || on)) ≡ ((here || more) || on)
-or_more true true on = refl
-or_more true false on = refl
-or_more false more on = refl
 
 -- an end, where there is one: it finds the value on, and leaves it off
 ends_bits : (there own on c : Bool) → cond there (read_by own End on) (Some on) ≡ Some c → (c ≡ (on && not (there && own))) × ((there && own) ≡ true → on ≡ true)

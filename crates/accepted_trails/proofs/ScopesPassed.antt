@@ -1,11 +1,11 @@
 -- Scopes along the trails of an accepted function, and what they borrow from.
-use Rattle.std.proofs.Common.{◌≡◌, ℕ, ◌<◌, List, [], ◌∷◌, ◌++◌, append-nil, length, refl, sym, ap, ◌∙◌, arith, Bool, true, false, cond, not, ◌&&◌, ◌||◌, Option, Some, None}
+use Rattle.std.proofs.Common.{◌≡◌, ℕ, ◌<◌, List, [], ◌∷◌, ◌++◌, append-nil, length, refl, sym, ap, ◌∙◌, arith, Bool, true, false, cond, ◌&&◌, Option, Some}
 use Rattle.std.specs.Prelude.{◌==◌, filter_map, flat_map, option_and_then}
-use Rattle.std.specs.List.{cons_option, list_any}
-use Rattle.std.proofs.lemmas.Bool.{eqb-true, false≢true, true≢false}
+use Rattle.std.specs.List.{list_any}
+use Rattle.std.proofs.lemmas.Bool.{eqb-true, false≢true}
 use Rattle.std.proofs.lemmas.Grind.{flat_map-append}
 use Rattle.std.proofs.lemmas.Option.{same_Some}
-use Rattle.borrow_scopes.specs.Scopes.{entry_of, is_scope, lent_bases, lost_entries, lost_with, mark_entries, returned, scope_entries, scopes_of, turned_by}
+use Rattle.borrow_scopes.specs.Scopes.{is_scope, lent_bases, lost_entries, lost_with, mark_entries, returned, scope_entries, scopes_of, turned_by}
 use Rattle.holder_model.specs.Frames.{ends}
 use Rattle.item_operands.specs.Items.{item_defined, item_taken}
 use Rattle.item_operands.specs.declared.taken.Taken.{Taken}
@@ -14,11 +14,9 @@ use Rattle.ownership_chains.specs.Facts.{has, known_or, value_of}
 use Rattle.ownership_chains.specs.declared.facts.Facts.{Facts}
 use Rattle.ownership_kinds.specs.Facts.{facts_in}
 use Rattle.ownership_marks.specs.Marks.{begun, end_of, ended, marks_of, used}
-use Rattle.ownership_marks.specs.declared.mark.Mark.{Mark}
 use Rattle.ownership_marks.specs.declared.mark.MarkSort.{MarkSort}
 use Rattle.ownership_marks.specs.declared.mark.MarkSort.TheVariants.{Begin, End, Use}
 use Rattle.path_checks.specs.Entries.{marks_for, means}
-use Rattle.path_checks.specs.declared.entry.Entry.{Entry}
 use Rattle.sil_ast.specs.declared.function.Function.{Function}
 use Rattle.sil_ast.specs.declared.place.ValueId.{ValueId}
 use Rattle.sil_cfg.specs.Returns.{is_return}
@@ -26,52 +24,28 @@ use Rattle.sil_cfg.specs.declared.item.Item.{Item}
 use Rattle.sil_rules.specs.declared.rule.Rule.TheVariants as rule
 use Rattle.run_trails.specs.inner.Switched.{switched_over}
 use Rattle.run_trails.proofs.SwitchedTrails.{are_followed}
+use Rattle.run_trails.proofs.TurnedTrails.{turned_older}
 use Rattle.sil_verifier.specs.Shown.{scopes_in}
 use Rattle.accepted_trails.specs.inner.Lives.{AreBasesKept, AreScopesPassed}
 use Rattle.accepted_trails.specs.inner.Passing.{is_end}
-use Rattle.accepted_trails.proofs.LivesPassed.{same_value}
+use Rattle.accepted_trails.proofs.OwnMarks.{TurnsAsRead, own_reads}
 use Rattle.accepted_trails.proofs.Passed.{AsksOff, ReadsMarks, passed}
 use Rattle.accepted_trails.proofs.Quiet.{entries_split, range_free}
 use Rattle.accepted_trails.proofs.Reading.{end_with, read_by}
+use Rattle.accepted_trails.proofs.Tests.{neither, or_first, or_second}
 use Rattle.accepted_trails.proofs.Unbroken.{scopes_unbroken}
 
-read_own : (sort : MarkSort) (on c : Bool) → switched_over (turned_by sort ∷ []) on ≡ Some c → read_by true sort on ≡ Some c
-read_own End true c h = h
-read_own End false c h = h
-read_own Use true c h = h
-read_own Use false c h = h
-read_own Begin true c h = h
-read_own Begin false c h = h
-
-read_scope : (sort : MarkSort) (own scope on c : Bool) → (own ≡ true → scope ≡ true) →
-    switched_over (cond scope (cons_option (cond own (Some (turned_by sort)) None) []) []) on ≡ Some c → read_by own sort on ≡ Some c
-read_scope sort true true on c of h = read_own sort on c h
-read_scope sort true false on c of h = absurd (false≢true (of refl))
-read_scope sort false true on c of h = h
-read_scope sort false false on c of h = h
-
-scope_of : (s : ValueId) (m : Mark) (scope : Bool) → filter_map (means s.0) (cond scope (entry_of m ∷ []) []) ≡ cond scope (cons_option (means s.0 (entry_of m)) []) []
-scope_of s m true = refl
-scope_of s m false = refl
-
-or_first : (a b : Bool) → (a || b) ≡ false → a ≡ false
-or_first true b h = h
-or_first false b h = refl
-
-or_second : (a b : Bool) → (a || b) ≡ false → b ≡ false
-or_second true b h = absurd (true≢false h)
-or_second false b h = h
-
-neither : (a b : Bool) → a ≡ false → b ≡ false → (a || b) ≡ false
-neither a b h k = ap (λ x. x || b) h ∙ k
+as_read : TurnsAsRead turned_by
+as_read End true c h = h
+as_read End false c h = h
+as_read Use true c h = h
+as_read Use false c h = h
+as_read Begin true c h = h
+as_read Begin false c h = h
 
 module _ (facts : ValueId → Option Facts) (f : Function) (s : ValueId) (scope : is_scope f (known_or facts) s ≡ true) (count : ℕ) (is_value : s.0 < count) where
-  -- the scope's own marks
-  own_reads : (m : Mark) (on c : Bool) → switched_over (filter_map (means s.0) (scope_entries f (known_or facts) m)) on ≡ Some c → read_by (m.subject.0 == s.0) m.sort on ≡ Some c
-  own_reads m on c h =
-      read_scope m.sort (m.subject.0 == s.0) (is_scope f (known_or facts) m.subject) on c
-      (λ own. ap (is_scope f (known_or facts)) (same_value m.subject s (eqb-true m.subject.0 s.0 own)) ∙ scope)
-      (ap (λ ms. switched_over ms on) (sym (scope_of s m (is_scope f (known_or facts) m.subject))) ∙ h)
+  scope_reads : ReadsMarks s (scope_entries f (known_or facts))
+  scope_reads = own_reads turned_by as_read (is_scope f (known_or facts)) s scope
 
   -- the ends of what it borrows from find it closed
   lost_reads : (v : ValueId) (sort : MarkSort) (on c : Bool) → switched_over (filter_map (means s.0) (lost_with f (known_or facts) count v sort)) on ≡ Some c →
@@ -85,7 +59,7 @@ module _ (facts : ValueId → Option Facts) (f : Function) (s : ValueId) (scope 
   reads : ReadsMarks s (mark_entries f (known_or facts) count)
   reads m on c h =
       let p = entries_split s.0 (scope_entries f (known_or facts) m) (lost_entries f (known_or facts) count m) on c h in
-      own_reads m on p.0 p.1 ∙ ap Some (sym (lost_reads m.subject m.sort p.0 c p.2).0)
+      scope_reads m on p.0 p.1 ∙ ap Some (sym (lost_reads m.subject m.sort p.0 c p.2).0)
 
   asks : AsksOff s (returned f (known_or facts) count)
   asks true on c h =
@@ -99,10 +73,10 @@ module _ (facts : ValueId → Option Facts) (f : Function) (s : ValueId) (scope 
         switched_over (filter_map (means s.0) (mark_entries f (known_or facts) count (end_of x.value))) true ≡ Some c → (c ≡ true) × ((x.value.0 == b.0) ≡ false)
     other_end x own is other c h =
         let p = entries_split s.0 (scope_entries f (known_or facts) (end_of x.value)) (lost_entries f (known_or facts) count (end_of x.value)) true c h in
-        let read = own_reads (end_of x.value) true p.0 p.1 in
-        let open : true ≡ p.0 = same_Some true p.0 (ap (λ o. read_by o End true) (sym other ∙ sym is) ∙ read) in
+        let read = scope_reads (end_of x.value) true p.0 p.1 in
+        let opened : true ≡ p.0 = same_Some true p.0 (ap (λ o. read_by o End true) (sym other ∙ sym is) ∙ read) in
         let lost = lost_reads x.value End p.0 c p.2 in
-        (lost.0 ∙ sym open, no_base (x.value.0 == b.0) refl (λ e. open ∙ lost.1 refl (ap (has (lent_bases f (known_or facts) s.0)) (eqb-true x.value.0 b.0 e) ∙ lent)))
+        (lost.0 ∙ sym opened, no_base (x.value.0 == b.0) refl (λ e. opened ∙ lost.1 refl (ap (has (lent_bases f (known_or facts) s.0)) (eqb-true x.value.0 b.0 e) ∙ lent)))
       where
         no_base : (o : Bool) → (x.value.0 == b.0) ≡ o → ((x.value.0 == b.0) ≡ true → true ≡ false) → o ≡ false
         no_base true e h = h e
@@ -146,13 +120,13 @@ module _ (facts : ValueId → Option Facts) (f : Function) (s : ValueId) (scope 
 
 pub scopes_passed : AreScopesPassed
 scopes_passed d f accepted s is t i trail =
-    let follows = are_followed f accepted.once (marks_for s.0 (scopes_in d f)) (scopes_unbroken d f accepted.clean s) in
+    let follows = are_followed f (marks_for s.0 (scopes_in d f)) (scopes_unbroken d f accepted.clean s) in
     let count = length (values_of f.blocks) in
     passed (facts_in d f) s f (mark_entries f (known_or (facts_in d f)) count) (returned f (known_or (facts_in d f)) count)
-    (reads (facts_in d f) f s is.scope count is.is_value) (asks (facts_in d f) f s is.scope count is.is_value) t i (follows t trail.1) (follows (i ∷ t) trail)
+    (reads (facts_in d f) f s is.scope count is.is_value) (asks (facts_in d f) f s is.scope count is.is_value) t i (follows t (turned_older f i t trail)) (follows (i ∷ t) trail)
 
 pub bases_kept : AreBasesKept
-bases_kept d f accepted s b is lent t i trail open none =
-    let follows = are_followed f accepted.once (marks_for s.0 (scopes_in d f)) (scopes_unbroken d f accepted.clean s) (i ∷ t) trail in
+bases_kept d f accepted s b is lent t i trail opened none =
+    let follows = are_followed f (marks_for s.0 (scopes_in d f)) (scopes_unbroken d f accepted.clean s) (i ∷ t) trail in
     kept_at (facts_in d f) f s is.scope (length (values_of f.blocks)) is.is_value b lent i follows.0
-    (ap (option_and_then (switched_over (marks_for s.0 (scopes_in d f) i))) (sym open) ∙ follows.1) none
+    (ap (option_and_then (switched_over (marks_for s.0 (scopes_in d f) i))) (sym opened) ∙ follows.1) none

@@ -1,5 +1,5 @@
 -- In a function of an accepted module no walk shows a value that isn't defined, or the life or scope of one broken.
-use Rattle.std.proofs.Common.{◌≡◌, ℕ, List, refl, length, None}
+use Rattle.std.proofs.Common.{refl, length, None}
 use Rattle.sil_ast.specs.declared.function.Function.{Function}
 use Rattle.sil_ast.specs.declared.place.ValueId.{ValueId}
 use Rattle.path_checks.specs.Entries.{marks_for}

@@ -1,5 +1,5 @@
 -- A run trail, the oldest item first, is a path of the function's flow.
-use Rattle.std.proofs.Common.{◌≡◌, ◌≢◌, ℕ, zero, suc, ◌<◌, ◌≤◌, List, [], ◌∷◌, ◌++◌, length, reverse, refl, sym, ap, ◌∙◌, subst, arith, inl, inr, Some, None, slice_get}
+use Rattle.std.proofs.Common.{◌≡◌, ℕ, ◌<◌, ◌≤◌, List, [], ◌∷◌, ◌++◌, length, reverse, refl, sym, subst, arith, inl, inr, Some, slice_get}
 use Rattle.std.specs.Prelude.{All}
 use Rattle.std.proofs.lemmas.List.{reverse-append}
 use Rattle.std.proofs.lemmas.List.Elements.{All-weaker}
@@ -13,7 +13,7 @@ use Rattle.sil_cfg.specs.declared.item.Item.{Item}
 use Rattle.sil_cfg.specs.declared.item.Item.TheVariants as item
 use Rattle.sil_cfg.proofs.Paths.{Leaves, Moves, Path, Path-append, Spot, Trail-from_path, entry, some_pushed}
 use Rattle.item_operands.specs.Parts.{edge_in, terminator_in}
-use Rattle.typed_graph_laws.specs.inner.Ready.{AvoidsEntry, HasFittingEdges, IsReadyForGraph}
+use Rattle.typed_graph_laws.specs.inner.Ready.{AvoidsEntry, HasFittingEdges}
 use Rattle.holder_model.specs.Edges.{edge_of}
 use Rattle.holder_model.specs.Standing.{behind, first_point, point_behind, target_of}
 use Rattle.run_trails.specs.inner.RunTrails.{ComesAt, IsEnteredOnce, IsNext, IsRunTrail, TakesEdge}
@@ -113,7 +113,8 @@ module _ (f : Function) (once : IsEnteredOnce f) where
       (Path-append (flow_of f) (reverse t) (i ∷ []) entry (spot_of f t) (spot_behind f i) (run_path t h.1) (spot_behind f i, next_moves t i h, refl))
 
 pub are_trails : AreTrails
-are_trails f once t i h =
+are_trails f once [] h = tt
+are_trails f once (i ∷ t) h =
     Trail-from_path (flow_of f) (reverse t ++ i ∷ []) (spot_behind f i) (some_pushed (reverse t) i)
     (subst (λ items. Path (flow_of f) entry items (spot_behind f i)) (reverse-append (i ∷ []) t) (run_path f once (i ∷ t) h))
 

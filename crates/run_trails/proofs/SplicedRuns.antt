@@ -1,5 +1,5 @@
 -- The law of splicing, said of run trails.
-use Rattle.std.proofs.Common.{◌≡◌, List, [], ◌∷◌, ◌++◌, reverse, refl, sym, ap, ◌∙◌, subst, arith, append_assoc, Bool, true, false}
+use Rattle.std.proofs.Common.{◌≡◌, List, [], ◌∷◌, ◌++◌, reverse, refl, sym, ap, ◌∙◌, arith, append_assoc, Bool, true, false}
 use Rattle.std.specs.Prelude.{not, ◌&&◌, ◌||◌}
 use Rattle.std.specs.List.{list_any}
 use Rattle.std.proofs.lemmas.Grind.{common_steps}
@@ -11,7 +11,6 @@ use Rattle.sil_cfg.specs.declared.item.Item.{Item}
 use Rattle.sil_cfg.proofs.SplicedTrails.{splices}
 use Rattle.run_trails.specs.inner.Since.{is_none_since}
 use Rattle.run_trails.specs.inner.Laws.{AreSpliced}
-use Rattle.run_trails.proofs.RunPaths.{are_trails}
 
 none_right : (p : Item → Bool) (u v : List Item) → list_any p (u ++ v) ≡ false → list_any p v ≡ false
 none_right p u v h = grind (arith, common_steps, list_any-append p u v)
@@ -50,6 +49,5 @@ module _ (p q : Item → Bool) where
       ∙ none_newer (reverse h.rest) (reverse before) h.second (none_reversed p h.rest none) (none_reversed q h.rest h.last_second) h.second_is
 
 pub are_spliced : AreSpliced
-are_spliced f once a b c ab bc t i h here =
-    let trail = are_trails f once t i h in
+are_spliced f a b c ab bc t i trail here =
     none_turned (is_at (flow_of f) a) (is_at (flow_of f) b) t (splices f a b c ab bc trail.0 (reverse t) i trail.1 here)

@@ -1,5 +1,5 @@
 -- A switch that no walk shows broken is followed along every run trail.
-use Rattle.std.proofs.Common.{◌≡◌, ℕ, zero, suc, List, [], ◌∷◌, ◌++◌, reverse, refl, sym, ap, ◌∙◌, subst, Bool, true, false, Option, Some, None}
+use Rattle.std.proofs.Common.{◌≡◌, ℕ, List, [], ◌∷◌, ◌++◌, reverse, refl, sym, ap, ◌∙◌, subst, Bool, true, false, Option, Some, None}
 use Rattle.std.specs.Prelude.{◌↔◌, cond, flat_map, option_and_then, unwrap_or}
 use Rattle.std.proofs.lemmas.Grind.{flat_map-append}
 use Rattle.std.proofs.lemmas.Bool.{false≢true}
@@ -21,10 +21,10 @@ use Rattle.path_patterns.specs.declared.mark.Mark.{Mark}
 use Rattle.path_patterns.specs.inner.Automaton.{fits, mark_step, turned}
 use Rattle.path_patterns.proofs.PatternsDecided.{break_sound}
 use Rattle.path_patterns.proofs.SwitchDecided.{switch_decides}
-use Rattle.run_trails.specs.inner.RunTrails.{IsEnteredOnce, IsRunTrail}
+use Rattle.run_trails.specs.inner.RunTrails.{IsTurnedTrail}
 use Rattle.run_trails.specs.inner.Switched.{IsFollowed, IsUnbroken, finds, switched, switched_by, switched_over}
 use Rattle.run_trails.specs.inner.Laws.{AreFollowed, AreOnWhereTurned}
-use Rattle.run_trails.proofs.RunPaths.{are_trails}
+use Rattle.run_trails.proofs.TurnedTrails.{turned_older}
 
 -- the automaton's states
 abbrev state_of : Bool → ℕ
@@ -91,22 +91,21 @@ module _ (marks : Item → List Mark) where
       subst (AreLeft (switched marks (i ∷ t))) (sym (run_next i t))
       (left_with (marks i) (marks_left (marks i)) (switched marks t) (run mark_step (Go 0) (along t)) (trail_left t))
 
-  module _ (f : Function) (once : IsEnteredOnce f) (unbroken : IsUnbroken f marks) where
-    not_broken : (t : List Item) (i : Item) → IsRunTrail f (i ∷ t) → IsFollowed marks t → switched marks (i ∷ t) ≡ None → ⊥
-    not_broken t i h was e =
+  module _ (f : Function) (unbroken : IsUnbroken f marks) where
+    not_broken : (t : List Item) (i : Item) → IsTurnedTrail f (i ∷ t) → IsFollowed marks t → switched marks (i ∷ t) ≡ None → ⊥
+    not_broken t i trail was e =
         let before = left_at was.0 (switched marks t) (run mark_step (Go 0) (along t)) was.1 (trail_left t) in
         let bad = broken_at (switched marks (i ∷ t)) (run mark_step (Go 0) (along (i ∷ t))) e (trail_left (i ∷ t)) in
         let here : run mark_step (Go (state_of was.0)) (marks i) ≡ Bad bad.0 = ap (λ r. run mark_step r (marks i)) (sym before) ∙ sym (run_next i t) ∙ bad.1 in
         let breaks = break_sound mark_step IsInPlace code_of switch_decides (along t) (marks i) (state_of was.0) bad.0 before here in
-        let trail = are_trails f once t i h in
         unbroken breaks.mark.rule trail.0 (point_of (flow_of f) i) i (record {
           point_is = refl;
           shows = record { before = reverse t; trail = trail.1; breaks = subst (FirstBreak IsInPlace code_of (along t) (marks i)) breaks.code_is breaks };
         })
 
-    pub followed : (t : List Item) → IsRunTrail f t → IsFollowed marks t
+    followed : (t : List Item) → IsTurnedTrail f t → IsFollowed marks t
     followed [] h = (false, refl)
-    followed (i ∷ t) h = at (switched marks (i ∷ t)) refl (followed t h.1)
+    followed (i ∷ t) h = at (switched marks (i ∷ t)) refl (followed t (turned_older f i t h))
       where
         at : (o : Option Bool) → switched marks (i ∷ t) ≡ o → IsFollowed marks t → IsFollowed marks (i ∷ t)
         at (Some on) e was = (on, e)
@@ -121,7 +120,7 @@ module _ (marks : Item → List Mark) where
   turned_on t false e = (λ h. absurd ((switch_decides (along t) 0 (needs_on rule.Undefined) (on_in t false e)).0 h), λ d. absurd (false≢true (same_Some false true (sym e ∙ d))))
 
 pub are_followed : AreFollowed
-are_followed f once marks unbroken t h = followed marks f once unbroken t h
+are_followed f marks unbroken t h = followed marks f unbroken t h
 
 pub are_on_where_turned : AreOnWhereTurned
 are_on_where_turned marks t h = turned_on marks t h.0 h.1

@@ -1,8 +1,11 @@
 //! The laws of run trails, each on a call that does nothing. The lemmas behind them are in `proofs/`.
 
 ghost use Rattle.run_trails.specs.inner.Laws.{
+  AreAlongEdges,
   AreEnteredOnce,
   AreFollowed,
+  AreNext,
+  AreOfItems,
   AreOnWhereTurned,
   AreSpliced,
   AreTrails,
@@ -13,12 +16,16 @@ pub fn entry_is_entered_once()
     ensures { AreEnteredOnce }
 {}
 
-/// A run trail with the item that comes next is a trail of the function, turned round.
+/// A run trail is a trail of the function, turned round. It is of items of the function, and along the edges that they take.
+/// What comes at the point where it stands comes next.
 pub fn run_trails_are_trails()
-    ensures { AreTrails }
+    ensures trails { AreTrails }
+    ensures items { AreOfItems }
+    ensures edges { AreAlongEdges }
+    ensures next { AreNext }
 {}
 
-/// Where no walk shows that marks break their switch, it is followed along every run trail, and is on where the marks turned it on.
+/// Where no walk shows that marks break their switch, it is followed along every trail, and is on where the marks turned it on.
 pub fn switches_are_followed()
     ensures followed { AreFollowed }
     ensures on { AreOnWhereTurned }

@@ -9,7 +9,7 @@ use Rattle.sil_ast.specs.declared.function.Function.{Function}
 use Rattle.sil_ast.specs.declared.place.ValueId.{ValueId}
 use Rattle.sil_cfg.specs.declared.item.Item.{Item}
 use Rattle.type_definitions.specs.Declarations.{Declarations}
-use Rattle.run_trails.specs.inner.RunTrails.{IsRunTrail}
+use Rattle.run_trails.specs.inner.RunTrails.{IsTurnedTrail}
 use Rattle.accepted_trails.specs.inner.Accepted.{IsAcceptedIn}
 
 -- the item makes the value
@@ -25,5 +25,5 @@ IsTakenFrom f t x = IsDefinedOn f t x.value
 
 -- what the next item takes is defined
 abbrev pub AreOperandsDefined : Type 0
-AreOperandsDefined = (d : Declarations) (f : Function) → IsAcceptedIn d f → (t : List Item) (i : Item) → IsRunTrail f (i ∷ t)
+AreOperandsDefined = (d : Declarations) (f : Function) → IsAcceptedIn d f → (t : List Item) (i : Item) → IsTurnedTrail f (i ∷ t)
     → Each (IsTakenFrom f t) (item_taken f i)

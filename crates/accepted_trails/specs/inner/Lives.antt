@@ -12,7 +12,7 @@ use Rattle.sil_ast.specs.declared.function.Function.{Function}
 use Rattle.sil_ast.specs.declared.place.ValueId.{ValueId}
 use Rattle.sil_cfg.specs.declared.item.Item.{Item}
 use Rattle.type_definitions.specs.Declarations.{Declarations}
-use Rattle.run_trails.specs.inner.RunTrails.{IsRunTrail}
+use Rattle.run_trails.specs.inner.RunTrails.{IsTurnedTrail}
 use Rattle.run_trails.specs.inner.Switched.{switched}
 use Rattle.sil_verifier.specs.Shown.{lives_in, scopes_in}
 use Rattle.accepted_trails.specs.inner.Accepted.{IsAcceptedIn}
@@ -43,16 +43,16 @@ BorrowsFrom d f s b = has (lent_bases f (known_or (facts_in d f)) s.0) b.0 ≡ t
 
 -- an Owned value is held where the next item ends or uses it, and not where it begins or a `return` stands
 abbrev pub AreLivesPassed : Type 0
-AreLivesPassed = (d : Declarations) (f : Function) → IsAcceptedIn d f → (v : ValueId) → IsOwnedIn d f v → (t : List Item) (i : Item) → IsRunTrail f (i ∷ t)
+AreLivesPassed = (d : Declarations) (f : Function) → IsAcceptedIn d f → (v : ValueId) → IsOwnedIn d f v → (t : List Item) (i : Item) → IsTurnedTrail f (i ∷ t)
     → IsPassed (facts_in d f) v (is_held d f v) f t i
 
 -- a scope is open where the next item ends or uses it, and not where it begins or a `return` stands
 abbrev pub AreScopesPassed : Type 0
-AreScopesPassed = (d : Declarations) (f : Function) → IsAcceptedIn d f → (s : ValueId) → IsScopeIn d f s → (t : List Item) (i : Item) → IsRunTrail f (i ∷ t)
+AreScopesPassed = (d : Declarations) (f : Function) → IsAcceptedIn d f → (s : ValueId) → IsScopeIn d f s → (t : List Item) (i : Item) → IsTurnedTrail f (i ∷ t)
     → IsPassed (facts_in d f) s (is_open d f s) f t i
 
 -- what an open scope borrows from doesn't end, unless the scope does
 abbrev pub AreBasesKept : Type 0
 AreBasesKept = (d : Declarations) (f : Function) → IsAcceptedIn d f → (s b : ValueId) → IsScopeIn d f s → BorrowsFrom d f s b
-    → (t : List Item) (i : Item) → IsRunTrail f (i ∷ t) → is_open d f s t ≡ Some true → list_any (is_end (facts_in d f) s) (item_taken f i) ≡ false
+    → (t : List Item) (i : Item) → IsTurnedTrail f (i ∷ t) → is_open d f s t ≡ Some true → list_any (is_end (facts_in d f) s) (item_taken f i) ≡ false
     → list_any (is_end (facts_in d f) b) (item_taken f i) ≡ false

@@ -42,7 +42,8 @@ module _ (facts : ValueId → Option Facts) (v : ValueId) where
     -- on behind the ends, where an operand uses it
     pub used : list_any is_use (item_taken f i) ≡ true → left_by f i on ≡ true
     -- off where it begins, behind the values that are made before
-    pub begun : (front rest : List ValueId) (w : ValueId) → item_defined f i ≡ front ++ w ∷ rest → is_begin w ≡ true → (list_any is_begin front || left_by f i on) ≡ false
+    pub begun : (front rest : List ValueId) (w : ValueId) → item_defined f i ≡ front ++ w ∷ rest → is_begin w ≡ true
+        → (list_any is_begin front || left_by f i on) ≡ false
     -- off where the item returns
     pub returned : is_return f i ≡ true → left_by f i on ≡ false
 

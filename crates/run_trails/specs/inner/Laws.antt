@@ -1,28 +1,42 @@
 -- The laws of run trails.
-use Rattle.std.specs.Prelude.{◌≡◌, ◌↔◌, ℕ, List, [], ◌∷◌, ◌++◌, flat_map, reverse, true, Some}
+use Rattle.std.specs.Prelude.{◌≡◌, ◌↔◌, ℕ, List, ◌∷◌, filter_map, flat_map, reverse, true, Some}
+use Rattle.numbered_form.specs.Lists.{Each}
 use Rattle.sil_ast.specs.declared.function.Function.{Function}
 use Rattle.sil_ast.specs.declared.place.EdgeId.{EdgeId}
-use Rattle.sil_cfg.specs.Items.{flow_of}
+use Rattle.sil_cfg.specs.Items.{IsItem, flow_of}
 use Rattle.sil_cfg.specs.Walk.{IsTrail}
 use Rattle.sil_cfg.specs.inner.Splice.{Precedes, Stop, is_at}
 use Rattle.sil_cfg.specs.declared.item.Item.{Item}
 use Rattle.path_patterns.specs.Switch.{IsOn}
 use Rattle.path_patterns.specs.declared.mark.Mark.{Mark}
+use Rattle.holder_model.specs.Standing.{stands_at}
 use Rattle.typed_graph_laws.specs.inner.Ready.{IsReadyForGraph}
-use Rattle.run_trails.specs.inner.RunTrails.{IsEnteredOnce, IsRunTrail}
+use Rattle.run_trails.specs.inner.RunTrails.{ComesAt, GoesOn, IsEnteredOnce, IsNext, IsRunTrail, IsTurnedTrail, edge_taken}
 use Rattle.run_trails.specs.inner.Since.{is_none_since}
 use Rattle.run_trails.specs.inner.Switched.{IsFollowed, IsUnbroken, switched}
 
 abbrev pub AreEnteredOnce : Type 0
 AreEnteredOnce = (functions : ℕ) (f : Function) → IsReadyForGraph functions f → IsEnteredOnce f
 
--- a trail with its next item, the oldest first, is one of the function, along some walk
+-- what comes at the point where a trail stands comes next
+abbrev pub AreNext : Type 0
+AreNext = (f : Function) (t : List Item) (i : Item) → GoesOn t → ComesAt f (stands_at f t) i → IsNext f t i
+
+-- the walk of a trail is of the edges that its items take
+abbrev pub AreAlongEdges : Type 0
+AreAlongEdges = (f : Function) (w : List EdgeId) (items : List Item) → IsTrail (flow_of f) w items → filter_map edge_taken items ≡ w
+
+-- the trails of frames are trails of their functions
 abbrev pub AreTrails : Type 0
-AreTrails = (f : Function) → IsEnteredOnce f → (t : List Item) (i : Item) → IsRunTrail f (i ∷ t) → (w : List EdgeId) × IsTrail (flow_of f) w (reverse t ++ i ∷ [])
+AreTrails = (f : Function) → IsEnteredOnce f → (t : List Item) → IsRunTrail f t → IsTurnedTrail f t
+
+-- of items of their functions
+abbrev pub AreOfItems : Type 0
+AreOfItems = (f : Function) (t : List Item) → IsTurnedTrail f t → Each (IsItem f) t
 
 -- where nothing is shown no mark breaks the switch
 abbrev pub AreFollowed : Type 0
-AreFollowed = (f : Function) → IsEnteredOnce f → (marks : Item → List Mark) → IsUnbroken f marks → (t : List Item) → IsRunTrail f t → IsFollowed marks t
+AreFollowed = (f : Function) (marks : Item → List Mark) → IsUnbroken f marks → (t : List Item) → IsTurnedTrail f t → IsFollowed marks t
 
 -- a switch that no mark broke is on where the marks turned it on
 abbrev pub AreOnWhereTurned : Type 0
@@ -30,5 +44,5 @@ AreOnWhereTurned = (marks : Item → List Mark) (t : List Item) → IsFollowed m
 
 -- where an a precedes each b and a b each c, no a has come since the last b where a c comes next
 abbrev pub AreSpliced : Type 0
-AreSpliced = (f : Function) → IsEnteredOnce f → (a b c : Stop) → Precedes (flow_of f) a b → Precedes (flow_of f) b c
-    → (t : List Item) (i : Item) → IsRunTrail f (i ∷ t) → is_at (flow_of f) c i ≡ true → is_none_since (is_at (flow_of f) a) (is_at (flow_of f) b) t ≡ true
+AreSpliced = (f : Function) (a b c : Stop) → Precedes (flow_of f) a b → Precedes (flow_of f) b c
+    → (t : List Item) (i : Item) → IsTurnedTrail f (i ∷ t) → is_at (flow_of f) c i ≡ true → is_none_since (is_at (flow_of f) a) (is_at (flow_of f) b) t ≡ true

@@ -1,9 +1,11 @@
 -- Trails as the frames of a run have them: the newest item first.
-use Rattle.std.specs.Prelude.{◌≡◌, ℕ, ◌<◌, List, [], ◌∷◌, All, None, Some, false, true, length}
+use Rattle.std.specs.Prelude.{◌≡◌, ℕ, ◌<◌, List, [], ◌∷◌, ◌++◌, All, None, Some, false, true, length, reverse, Option}
 use Rattle.sil_ast.specs.declared.function.Function.{Function}
 use Rattle.sil_ast.specs.declared.inst.Inst.{Inst}
+use Rattle.sil_ast.specs.declared.place.EdgeId.{EdgeId}
 use Rattle.sil_ast.specs.declared.place.PointId.{PointId}
-use Rattle.sil_cfg.specs.Items.{HasBlocks, ends_function}
+use Rattle.sil_cfg.specs.Items.{HasBlocks, ends_function, flow_of}
+use Rattle.sil_cfg.specs.Walk.{IsTrail}
 use Rattle.sil_cfg.specs.declared.item.Item.{Item}
 use Rattle.sil_cfg.specs.declared.item.Item.TheVariants as item
 use Rattle.item_operands.specs.Parts.{inst_at, terminator_of}
@@ -49,10 +51,30 @@ IsNext f (item.Inst p ∷ older) i = ComesAt f (behind f (item.Inst p)) i
 IsNext f (item.Edge e ∷ older) i = ComesAt f (behind f (item.Edge e)) i
 IsNext f (item.Exit p ∷ older) i = ⊥
 
+-- the trail has begun, and its newest item is no exit
+abbrev pub GoesOn : List Item → Type 0
+GoesOn [] = ⊥
+GoesOn (item.Entry ∷ older) = Unit {0}
+GoesOn (item.Inst p ∷ older) = Unit {0}
+GoesOn (item.Edge e ∷ older) = Unit {0}
+GoesOn (item.Exit p ∷ older) = ⊥
+
 -- each item may come where those before it lead
 abbrev pub IsRunTrail : Function → List Item → Type 0
 IsRunTrail f [] = Unit {0}
 IsRunTrail f (i ∷ t) = IsNext f t i × IsRunTrail f t
+
+-- the edge that an item takes
+abbrev pub edge_taken : Item → Option EdgeId
+edge_taken item.Entry = None
+edge_taken (item.Inst p) = None
+edge_taken (item.Edge e) = Some e
+edge_taken (item.Exit p) = None
+
+-- a trail of the function along some walk, turned round
+abbrev pub IsTurnedTrail : Function → List Item → Type 0
+IsTurnedTrail f [] = Unit {0}
+IsTurnedTrail f (i ∷ t) = (w : List EdgeId) × IsTrail (flow_of f) w (reverse t ++ i ∷ [])
 
 -- no edge goes back to the entry block
 abbrev pub IsEnteredOnce : Function → Type 0
