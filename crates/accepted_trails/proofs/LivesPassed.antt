@@ -12,7 +12,7 @@ use Rattle.ownership_marks.specs.declared.mark.MarkSort.TheVariants.{Begin, End,
 use Rattle.path_checks.specs.Entries.{marks_for}
 use Rattle.sil_ast.specs.declared.place.ValueId.{ValueId}
 use Rattle.sil_rules.specs.declared.rule.Rule.TheVariants as rule
-use Rattle.run_trails.proofs.SwitchedTrails.{are_followed}
+use Rattle.run_trails.proofs.SwitchedTrails.{followed_turned}
 use Rattle.run_trails.proofs.TurnedTrails.{turned_older}
 use Rattle.sil_verifier.specs.Shown.{lives_in}
 use Rattle.accepted_trails.specs.inner.Lives.{AreLivesPassed}
@@ -41,7 +41,7 @@ module _ (facts : ValueId → Option Facts) (v : ValueId) (owned : IsOwned facts
 
 pub lives_passed : AreLivesPassed
 lives_passed d f accepted v is t i trail =
-    let follows = are_followed f (marks_for v.0 (lives_in d f)) (lives_unbroken d f accepted.clean v) in
+    let follows = followed_turned f (marks_for v.0 (lives_in d f)) (lives_unbroken d f accepted.clean v) in
     let count = length (values_of f.blocks) in
     passed (facts_in d f) v f (lives_by (known_or (facts_in d f))) (returned (known_or (facts_in d f)) count)
     (reads (facts_in d f) v is.owned count is.is_value) (asks (facts_in d f) v is.owned count is.is_value) t i (follows t (turned_older f i t trail)) (follows (i ∷ t) trail)

@@ -26,7 +26,7 @@ use Rattle.sil_rules.specs.declared.rule.Rule.TheVariants as rule
 use Rattle.value_availability.specs.Accesses.{accesses_of, begun, defined, used}
 use Rattle.run_trails.specs.inner.RunTrails.{IsTurnedTrail}
 use Rattle.run_trails.specs.inner.Switched.{IsFollowed, switched, switched_over}
-use Rattle.run_trails.proofs.SwitchedTrails.{are_followed}
+use Rattle.run_trails.proofs.SwitchedTrails.{followed_turned}
 use Rattle.run_trails.proofs.TurnedTrails.{turned_older}
 use Rattle.accepted_trails.specs.inner.Defined.{AreOperandsDefined, IsDefinedOn, IsTakenFrom, makes}
 use Rattle.accepted_trails.proofs.Quiet.{entries_split}
@@ -130,7 +130,7 @@ taken_edge P (Some e) h = taken_handed P e.args h
 
 pub operands_defined : AreOperandsDefined
 operands_defined d f accepted t i h =
-    let next = λ (v : ValueId). next_defined v f (are_followed f (marks_for v.0 (accesses_of f)) (values_unbroken d f accepted.clean v)) t i h in
+    let next = λ (v : ValueId). next_defined v f (followed_turned f (marks_for v.0 (accesses_of f)) (values_unbroken d f accepted.clean v)) t i h in
     let operands = each_among (λ (o : Operand). o.value) (λ o. IsDefinedOn f t o.value) (item_operands f i) (λ o among. (next o.value).0 among) in
     let handed = each_among (λ (o : Operand). o.value) (λ o. IsDefinedOn f t o.value) (item_handover f i) (λ o among. (next o.value).1 among) in
     each_of_both (IsTakenFrom f t) (taken_in (item_inst f i)) (taken_along_in (item_edge f i))

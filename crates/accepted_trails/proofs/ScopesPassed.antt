@@ -23,7 +23,7 @@ use Rattle.sil_cfg.specs.Returns.{is_return}
 use Rattle.sil_cfg.specs.declared.item.Item.{Item}
 use Rattle.sil_rules.specs.declared.rule.Rule.TheVariants as rule
 use Rattle.run_trails.specs.inner.Switched.{switched_over}
-use Rattle.run_trails.proofs.SwitchedTrails.{are_followed}
+use Rattle.run_trails.proofs.SwitchedTrails.{followed_turned}
 use Rattle.run_trails.proofs.TurnedTrails.{turned_older}
 use Rattle.sil_verifier.specs.Shown.{scopes_in}
 use Rattle.accepted_trails.specs.inner.Lives.{AreBasesKept, AreScopesPassed}
@@ -120,13 +120,13 @@ module _ (facts : ValueId → Option Facts) (f : Function) (s : ValueId) (scope 
 
 pub scopes_passed : AreScopesPassed
 scopes_passed d f accepted s is t i trail =
-    let follows = are_followed f (marks_for s.0 (scopes_in d f)) (scopes_unbroken d f accepted.clean s) in
+    let follows = followed_turned f (marks_for s.0 (scopes_in d f)) (scopes_unbroken d f accepted.clean s) in
     let count = length (values_of f.blocks) in
     passed (facts_in d f) s f (mark_entries f (known_or (facts_in d f)) count) (returned f (known_or (facts_in d f)) count)
     (reads (facts_in d f) f s is.scope count is.is_value) (asks (facts_in d f) f s is.scope count is.is_value) t i (follows t (turned_older f i t trail)) (follows (i ∷ t) trail)
 
 pub bases_kept : AreBasesKept
 bases_kept d f accepted s b is lent t i trail opened none =
-    let follows = are_followed f (marks_for s.0 (scopes_in d f)) (scopes_unbroken d f accepted.clean s) (i ∷ t) trail in
+    let follows = followed_turned f (marks_for s.0 (scopes_in d f)) (scopes_unbroken d f accepted.clean s) (i ∷ t) trail in
     kept_at (facts_in d f) f s is.scope (length (values_of f.blocks)) is.is_value b lent i follows.0
     (ap (option_and_then (switched_over (marks_for s.0 (scopes_in d f) i))) (sym opened) ∙ follows.1) none

@@ -23,7 +23,8 @@ use Rattle.path_patterns.proofs.PatternsDecided.{break_sound}
 use Rattle.path_patterns.proofs.SwitchDecided.{switch_decides}
 use Rattle.run_trails.specs.inner.RunTrails.{IsTurnedTrail}
 use Rattle.run_trails.specs.inner.Switched.{IsFollowed, IsUnbroken, finds, switched, switched_by, switched_over}
-use Rattle.run_trails.specs.inner.Laws.{AreFollowed, AreOnWhereTurned}
+use Rattle.run_trails.specs.inner.Laws.{AreFollowed, AreFollowedTurned, AreOnWhereTurned}
+use Rattle.run_trails.proofs.RunPaths.{are_trails}
 use Rattle.run_trails.proofs.TurnedTrails.{turned_older}
 
 -- the automaton's states
@@ -119,8 +120,11 @@ module _ (marks : Item → List Mark) where
   turned_on t true e = (λ _. e, λ _. switch_decides (along t) 1 (needs_on rule.Undefined) (on_in t true e))
   turned_on t false e = (λ h. absurd ((switch_decides (along t) 0 (needs_on rule.Undefined) (on_in t false e)).0 h), λ d. absurd (false≢true (same_Some false true (sym e ∙ d))))
 
+pub followed_turned : AreFollowedTurned
+followed_turned f marks unbroken t h = followed marks f unbroken t h
+
 pub are_followed : AreFollowed
-are_followed f marks unbroken t h = followed marks f unbroken t h
+are_followed f once marks unbroken t h = followed_turned f marks unbroken t (are_trails f once t h)
 
 pub are_on_where_turned : AreOnWhereTurned
 are_on_where_turned marks t h = turned_on marks t h.0 h.1

@@ -4,6 +4,7 @@ ghost use Rattle.run_trails.specs.inner.Laws.{
   AreAlongEdges,
   AreEnteredOnce,
   AreFollowed,
+  AreFollowedTurned,
   AreNext,
   AreOfItems,
   AreOnWhereTurned,
@@ -27,6 +28,7 @@ pub fn run_trails_are_trails()
 
 /// Where no walk shows that marks break their switch, it is followed along every trail, and is on where the marks turned it on.
 pub fn switches_are_followed()
+    ensures turned { AreFollowedTurned }
     ensures followed { AreFollowed }
     ensures on { AreOnWhereTurned }
 {}

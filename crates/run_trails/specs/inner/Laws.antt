@@ -34,9 +34,13 @@ AreTrails = (f : Function) → IsEnteredOnce f → (t : List Item) → IsRunTrai
 abbrev pub AreOfItems : Type 0
 AreOfItems = (f : Function) (t : List Item) → IsTurnedTrail f t → Each (IsItem f) t
 
--- where nothing is shown no mark breaks the switch
+-- where nothing is shown no mark breaks the switch, on any trail
+abbrev pub AreFollowedTurned : Type 0
+AreFollowedTurned = (f : Function) (marks : Item → List Mark) → IsUnbroken f marks → (t : List Item) → IsTurnedTrail f t → IsFollowed marks t
+
+-- and so on the trails of frames
 abbrev pub AreFollowed : Type 0
-AreFollowed = (f : Function) (marks : Item → List Mark) → IsUnbroken f marks → (t : List Item) → IsTurnedTrail f t → IsFollowed marks t
+AreFollowed = (f : Function) → IsEnteredOnce f → (marks : Item → List Mark) → IsUnbroken f marks → (t : List Item) → IsRunTrail f t → IsFollowed marks t
 
 -- a switch that no mark broke is on where the marks turned it on
 abbrev pub AreOnWhereTurned : Type 0
