@@ -1,5 +1,5 @@
 -- Each access of the next item, and a `return`, finds each part of memory as it needs it.
-use Rattle.std.proofs.Common.{◌≡◌, List, [], ◌∷◌, ◌++◌, refl, sym, ap, ◌∙◌, subst, Bool, true, false, Option, Some, None}
+use Rattle.std.proofs.Common.{◌≡◌, List, [], ◌∷◌, ◌++◌, refl, sym, ap, ◌∙◌, Bool, Some}
 use Rattle.std.specs.Prelude.{cond, flat_map, option_and_then, option_to_list}
 use Rattle.std.proofs.lemmas.Grind.{flat_map-append}
 use Rattle.std.proofs.lemmas.List.{append_assoc}
@@ -17,7 +17,7 @@ use Rattle.type_definitions.specs.Declarations.{Declarations}
 use Rattle.run_trails.specs.inner.RunTrails.{IsRunTrail}
 use Rattle.run_trails.specs.inner.Switched.{switched, switched_by, switched_over}
 use Rattle.accepted_trails.specs.inner.Accepted.{IsAcceptedIn}
-use Rattle.accepted_memory.specs.inner.PartTrails.{AreAccessesRight, AreReturnsRight, IsFoundBy, IsPartOf, accesses_in, is_on, meant, on_behind}
+use Rattle.accepted_memory.specs.inner.PartTrails.{AreAccessesRight, AreReturnsRight, IsFoundBy, IsPartOf, accesses_in, is_on}
 use Rattle.accepted_memory.proofs.PartsFollowed.{parts_followed}
 use Rattle.accepted_memory.proofs.Switching.{and_then_some, mark_found, over_append}
 

@@ -1,8 +1,7 @@
 -- An address lies in a scope, and memory is lent, just while the scope is open: the same marks turn all of them.
-use Rattle.std.proofs.Common.{◌≡◌, refl, sym, ◌∙◌, Bool, true, false, Option, Some, None}
+use Rattle.std.proofs.Common.{◌≡◌, List, refl, sym, ◌∙◌, Bool, true, false, Some, None}
 use Rattle.std.specs.Prelude.{cond, length, option_and_then}
 use Rattle.memory_accesses.specs.Sources.{sources_of}
-use Rattle.memory_accesses.specs.declared.access.Access.{Access}
 use Rattle.memory_accesses.specs.declared.access.Access.TheVariants.{Deallocates, Does}
 use Rattle.memory_parts.specs.Loans.{disturbs}
 use Rattle.memory_parts.specs.Shown.{part_marks}

@@ -1,5 +1,5 @@
 -- An address lies in its slot just while the slot is allocated: the same accesses turn both parts.
-use Rattle.std.proofs.Common.{◌≡◌, refl, sym, ◌∙◌, Bool, true, false, Option, Some, None}
+use Rattle.std.proofs.Common.{◌≡◌, refl, sym, ◌∙◌, Bool, true, false, None}
 use Rattle.std.specs.Prelude.{option_and_then}
 use Rattle.memory_accesses.specs.Sources.{sources_of}
 use Rattle.memory_accesses.specs.declared.access.Access.{Access}
@@ -13,6 +13,7 @@ use Rattle.sil_ast.specs.declared.function.Function.{Function}
 use Rattle.sil_ast.specs.declared.place.ValueId.{ValueId}
 use Rattle.type_definitions.specs.Declarations.{Declarations}
 use Rattle.accepted_memory.specs.inner.Companions.{AreInSlots}
+use Rattle.accepted_memory.specs.inner.PartTrails.{accesses_in}
 use Rattle.accepted_memory.proofs.PartsFollowed.{parts_followed}
 use Rattle.accepted_memory.proofs.PartsTurned.{on_together, turn_by, turned_by_accesses}
 use Rattle.accepted_memory.proofs.Turning.{each_alike}
@@ -41,5 +42,5 @@ in_slots d f accepted address slot there too t h =
     on_together f (part_marks (sources_of d f) (facts_in d f) f (InSlot address slot)) (part_marks (sources_of d f) (facts_in d f) f (Allocation slot))
     (parts_followed d f accepted (InSlot address slot) there) (parts_followed d f accepted (Allocation slot) too)
     (λ i on. turned_by_accesses d f (InSlot address slot) refl i on
-    ∙ each_alike (turn_by d f (InSlot address slot)) (turn_by d f (Allocation slot)) (slot_turned d f address slot) _ on
+    ∙ each_alike (turn_by d f (InSlot address slot)) (turn_by d f (Allocation slot)) (slot_turned d f address slot) (accesses_in d f i) on
     ∙ sym (turned_by_accesses d f (Allocation slot) refl i on)) t h

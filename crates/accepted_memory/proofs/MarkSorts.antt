@@ -16,9 +16,9 @@ use Rattle.type_definitions.specs.declared.kind.Kind.TheVariants as kind
 abbrev pub IsOfSort : MarkSort → Mark → Type 0
 IsOfSort sort m = m.sort ≡ sort
 
-both : {P : Mark → Type 0} (xs ys : List Mark) → Each P xs → Each P ys → Each P (xs ++ ys)
-both [] ys a b = b
-both (x ∷ xs) ys a b = (a.0, both xs ys a.1 b)
+both : (sort : MarkSort) (xs ys : List Mark) → Each (IsOfSort sort) xs → Each (IsOfSort sort) ys → Each (IsOfSort sort) (xs ++ ys)
+both sort [] ys a b = b
+both sort (x ∷ xs) ys a b = (a.0, both sort xs ys a.1 b)
 
 where_so : (sort : MarkSort) (b : Bool) (m : Mark) → m.sort ≡ sort → Each (IsOfSort sort) (cond b (m ∷ []) [])
 where_so sort true m e = (e, tt)
@@ -61,12 +61,12 @@ begins_with (Some f) v = where_so Begin (is_own_base f.kind v f.bases) (begin_of
 module _ (facts : ValueId → Option Facts) where
   pub ends_are : (ts : List Taken) → Each (IsOfSort End) (flat_map (ended facts) ts)
   ends_are [] = tt
-  ends_are (t ∷ ts) = both (ended facts t) (flat_map (ended facts) ts) (ends_with (facts t.value) t) (ends_are ts)
+  ends_are (t ∷ ts) = both End (ended facts t) (flat_map (ended facts) ts) (ends_with (facts t.value) t) (ends_are ts)
 
   pub uses_are : (ts : List Taken) → Each (IsOfSort Use) (flat_map (used facts) ts)
   uses_are [] = tt
-  uses_are (t ∷ ts) = both (used facts t) (flat_map (used facts) ts) (uses_with (facts t.value) t) (uses_are ts)
+  uses_are (t ∷ ts) = both Use (used facts t) (flat_map (used facts) ts) (uses_with (facts t.value) t) (uses_are ts)
 
   pub begins_are : (vs : List ValueId) → Each (IsOfSort Begin) (flat_map (begun facts) vs)
   begins_are [] = tt
-  begins_are (v ∷ vs) = both (begun facts v) (flat_map (begun facts) vs) (begins_with (facts v) v) (begins_are vs)
+  begins_are (v ∷ vs) = both Begin (begun facts v) (flat_map (begun facts) vs) (begins_with (facts v) v) (begins_are vs)

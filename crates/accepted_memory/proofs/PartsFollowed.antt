@@ -1,5 +1,5 @@
 -- No part of memory is broken in an accepted function, so each is followed along its trails.
-use Rattle.std.proofs.Common.{◌≡◌, refl}
+use Rattle.std.proofs.Common.{refl}
 use Rattle.memory_accesses.specs.Sources.{sources_of}
 use Rattle.memory_parts.specs.Parts.{subject_of}
 use Rattle.memory_parts.specs.Shown.{other_of, part_marks}

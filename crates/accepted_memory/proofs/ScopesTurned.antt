@@ -1,8 +1,9 @@
 -- Where the marks of an item turn a scope: by the table of scopes, and by what the item does to a part of memory that goes by the scope.
-use Rattle.std.proofs.Common.{◌≡◌, ℕ, List, [], ◌∷◌, ◌++◌, refl, sym, ap, ◌∙◌, subst, Bool, true, false, Option, Some, None}
-use Rattle.std.specs.Prelude.{◌==◌, cond, flat_map, map, option_and_then, unwrap_or, length}
+use Rattle.std.proofs.Common.{◌≡◌, ℕ, List, [], ◌∷◌, ◌++◌, refl, sym, ap, ◌∙◌, Bool, true, false, Option, Some, None}
+use Rattle.std.specs.Prelude.{◌==◌, cond, flat_map, map, option_and_then, unwrap_or}
 use Rattle.std.specs.List.{range_with_len}
 use Rattle.std.proofs.lemmas.Bool.{eqb-true}
+use Rattle.std.proofs.lemmas.List.{append_assoc}
 use Rattle.borrow_scopes.specs.Scopes as scopes
 use Rattle.borrow_scopes.specs.Scopes.{is_scope, lent_bases, scopes_of}
 use Rattle.item_operands.specs.Items.{item_defined, item_taken}
@@ -259,6 +260,11 @@ module _ (s : ValueId) where
     pub turned_by_accesses : (sources : List Source) (facts : ValueId → Option Facts) (f : Function) (i : Item) (on : Bool)
         → turned_each turn (accesses_of sources facts f i) on ≡ turned_each scope_turn (marks_of facts f i) on
     turned_by_accesses sources facts f i on =
+        let ends : List Mark = flat_map (marks.ended facts) (item_taken f i) in
+        let uses : List Mark = flat_map (marks.used facts) (item_taken f i) in
+        let begins : List Mark = flat_map (marks.begun facts) (item_defined f i) in
+        let sorted : marks_of facts f i ≡ ends ++ (uses ++ begins) = append_assoc ends uses begins in
         accesses_turn sources facts f i on
-        ∙ marks_turn (flat_map (marks.ended facts) (item_taken f i)) (flat_map (marks.used facts) (item_taken f i)) (flat_map (marks.begun facts) (item_defined f i))
-        (ends_are facts (item_taken f i)) (uses_are facts (item_taken f i)) (begins_are facts (item_defined f i)) on
+        ∙ ap (λ ms. turned_each by_begin ms (turned_each by_end ms on)) sorted
+        ∙ marks_turn ends uses begins (ends_are facts (item_taken f i)) (uses_are facts (item_taken f i)) (begins_are facts (item_defined f i)) on
+        ∙ sym (ap (λ ms. turned_each scope_turn ms on) sorted)

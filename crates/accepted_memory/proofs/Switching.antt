@@ -7,11 +7,12 @@ use Rattle.run_trails.specs.inner.Switched.{finds, switched_by, switched_over}
 
 pub over_append : (xs ys : List Mark) (on : Bool) → switched_over (xs ++ ys) on ≡ option_and_then (switched_over ys) (switched_over xs on)
 over_append [] ys on = refl
-over_append (m ∷ xs) ys on = at (switched_by m on)
+over_append (m ∷ xs) ys on = at (switched_by m on) (over_append xs ys)
   where
-    at : (o : Option Bool) → option_and_then (switched_over (xs ++ ys)) o ≡ option_and_then (switched_over ys) (option_and_then (switched_over xs) o)
-    at None = refl
-    at (Some b) = over_append xs ys b
+    at : (o : Option Bool) → ((b : Bool) → switched_over (xs ++ ys) b ≡ option_and_then (switched_over ys) (switched_over xs b))
+        → option_and_then (switched_over (xs ++ ys)) o ≡ option_and_then (switched_over ys) (option_and_then (switched_over xs) o)
+    at None more = refl
+    at (Some b) more = more b
 
 -- what is followed through two steps is followed through the first
 pub and_then_some : {A B : Type 0} (go : A → Option B) (o : Option A) (y : B) → option_and_then go o ≡ Some y → (x : A) × (o ≡ Some x) × (go x ≡ Some y)

@@ -1,10 +1,10 @@
 -- Where a list of things turns a switch, each by its own turn.
-use Rattle.std.proofs.Common.{◌≡◌, List, [], ◌∷◌, ◌++◌, refl, sym, ap, ◌∙◌, Bool, Option, Some, None}
+use Rattle.std.proofs.Common.{◌≡◌, List, [], ◌∷◌, ◌++◌, refl, ap, ◌∙◌, Bool, Option, Some, None}
 use Rattle.std.specs.Prelude.{filter_map, flat_map, map, option_and_then, unwrap_or}
 use Rattle.std.specs.List.{cons_option}
 use Rattle.numbered_form.specs.Lists.{Each}
 use Rattle.path_patterns.specs.declared.mark.Mark.{Mark}
-use Rattle.accepted_memory.proofs.Switching.{turned_append, turned_over}
+use Rattle.accepted_memory.proofs.Switching.{turned_over}
 
 abbrev pub turned_each : {A : Type 0} → (A → Option Bool) → List A → Bool → Bool
 turned_each turn [] on = on
@@ -46,11 +46,12 @@ each_mapped turn into (x ∷ xs) on = each_mapped turn into xs (unwrap_or (turn 
 pub each_filtered : {A B : Type 0} (turn : B → Option Bool) (into : A → Option B) (xs : List A) (on : Bool)
     → turned_each turn (filter_map into xs) on ≡ turned_each (λ x. option_and_then turn (into x)) xs on
 each_filtered turn into [] on = refl
-each_filtered {A} {B} turn into (x ∷ xs) on = at (into x)
+each_filtered {A} {B} turn into (x ∷ xs) on = at (into x) (each_filtered turn into xs)
   where
-    at : (o : Option B) → turned_each turn (cons_option o (filter_map into xs)) on ≡ turned_each (λ x. option_and_then turn (into x)) xs (unwrap_or (option_and_then turn o) on)
-    at None = each_filtered turn into xs on
-    at (Some y) = each_filtered turn into xs (unwrap_or (turn y) on)
+    at : (o : Option B) → ((b : Bool) → turned_each turn (filter_map into xs) b ≡ turned_each (λ x. option_and_then turn (into x)) xs b)
+        → turned_each turn (cons_option o (filter_map into xs)) on ≡ turned_each (λ x. option_and_then turn (into x)) xs (unwrap_or (option_and_then turn o) on)
+    at None more = more on
+    at (Some y) more = more (unwrap_or (turn y) on)
 
 -- what holds of each of a list suffices
 pub each_where : {A : Type 0} (P : A → Type 0) (turn other : A → Option Bool) → ((x : A) → P x → turn x ≡ other x) → (xs : List A) → Each P xs → (on : Bool)

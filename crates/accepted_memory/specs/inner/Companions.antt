@@ -1,5 +1,5 @@
 -- Parts that are on together: an address and its slot; an address or a loan and its scope.
-use Rattle.std.specs.Prelude.{◌≡◌, List, Option}
+use Rattle.std.specs.Prelude.{◌≡◌, List}
 use Rattle.memory_parts.specs.declared.part.Part.TheVariants.{Allocation, InScope, InSlot, Lent}
 use Rattle.sil_ast.specs.declared.function.Function.{Function}
 use Rattle.sil_ast.specs.declared.place.ValueId.{ValueId}
@@ -12,7 +12,8 @@ use Rattle.accepted_memory.specs.inner.PartTrails.{IsPartOf, is_on}
 
 -- an address lies in its slot while the slot is allocated
 abbrev pub AreInSlots : Type 0
-AreInSlots = (d : Declarations) (f : Function) → IsAcceptedIn d f → (address slot : ValueId) → IsPartOf d f (InSlot address slot) → IsPartOf d f (Allocation slot)
+AreInSlots = (d : Declarations) (f : Function) → IsAcceptedIn d f → (address slot : ValueId)
+    → IsPartOf d f (InSlot address slot) → IsPartOf d f (Allocation slot)
     → (t : List Item) → IsRunTrail f t → is_on d f (InSlot address slot) t ≡ is_on d f (Allocation slot) t
 
 -- an address lies in a scope while the scope is open
