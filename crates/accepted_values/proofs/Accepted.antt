@@ -1,11 +1,14 @@
 -- What holds of a function with a body of an accepted module: it is typed, its values are counted, and no rule on kinds is broken.
-use Rattle.std.proofs.Common.{◌≡◌, ℕ, suc, ◌+◌, ◌<◌, ◌≤◌, List, [], ◌∷◌, length, length-append, refl, subst, arith, None, Some, ◌⊎◌, inl, inr}
+use Rattle.std.proofs.Common.{◌≡◌, ℕ, suc, ◌+◌, ◌<◌, ◌≤◌, List, [], ◌∷◌, length, length-append, refl, arith, true, false, None, Some, ◌⊎◌, inl, inr}
 use Rattle.std.specs.Prelude.{◌^◌, Contains, slice_get}
 use Rattle.std.proofs.lemmas.Bool.{cases_lt}
 use Rattle.sil_ast.specs.declared.function.Block.{Block}
+use Rattle.sil_ast.specs.declared.function.Form.{Form}
+use Rattle.sil_ast.specs.declared.function.Form.TheVariants.{Ossa, Lowered, External}
 use Rattle.sil_ast.specs.declared.function.Function.{Function}
 use Rattle.sil_ast.specs.declared.module.Module.{Module}
 use Rattle.sil_ast.specs.declared.place.ValueId.{ValueId}
+use Rattle.holder_model.specs.Frames.{has_any}
 use Rattle.lowering_laws.proofs.Lowerable.{contained}
 use Rattle.lowering_laws.proofs.Lists.{each_weaker}
 use Rattle.lowering_laws.proofs.Rings.{defined_somewhere, ring_inside}
@@ -23,12 +26,17 @@ use Rattle.point_checks.specs.inner.Numbered.{IsOfNumberedModule}
 use Rattle.rule_faults.specs.declared.fault.RuleFault.{RuleFault}
 use Rattle.run_typing.specs.Runnable.{IsBodyInLimits, IsNearlyNumbered, IsShort}
 use Rattle.run_typing_laws.proofs.FunctionFacts.{TypedFunction, typed_function}
+use Rattle.run_typing_laws.proofs.SignatureFacts.{inner_form}
 use Rattle.run_typing_laws.specs.WellTyped.{IsWellTyped}
 use Rattle.sil_rules.specs.declared.limits.TheConstants.{INSTRUCTIONS}
 use Rattle.sil_rules.specs.declared.rule.Rule.{Rule}
 use Rattle.sil_rules.specs.declared.rule.Rule.TheVariants as rule
+use Rattle.sil_types.specs.Typing.SignatureRules.{is_external}
+use Rattle.sil_types.specs.Typing.Typed.{at_function}
+use Rattle.sil_verifier.specs.Refusals.{IsLowered, lowered}
 use Rattle.sil_verifier.specs.Shown.IsShownIn.{kind}
 use Rattle.sil_verifier.specs.inner.Checked.{IsVerified}
+use Rattle.type_check.specs.Refusals.{fault_at}
 use Rattle.type_definitions.specs.Declarations.{Declarations, declarations_of}
 use Rattle.accepted_values.specs.inner.Known.{AreWellTyped, IsAcceptedBody, IsValue}
 
@@ -88,6 +96,19 @@ module _ (m : Module) (n : ℕ) (f : Function) (a : IsAcceptedBody m n f) where
 
   fault : Rule → ValueId → ℕ → ℕ → RuleFault
   fault r v b k = record { rule = r; subject = v; other = None; point = record { block = record { 0 = b }; index = k }; walk = [] }
+
+  -- it is in ownership form, since it has a body
+  pub in_ownership_form : f.form ≡ Ossa
+  in_ownership_form = at f.form refl
+    where
+      some : (bs : List Block) → 0 < length bs → has_any bs ≡ true
+      some [] lt = absurd (omega arith)
+      some (b ∷ bs) lt = refl
+
+      at : (o : Form) → f.form ≡ o → f.form ≡ Ossa
+      at Ossa e = e
+      at Lowered e = absurd (a.verified.accepted.types.owned (fault_at (at_function n) rule.MixedForms) (lowered n f a.body.there e))
+      at External e = let inner : is_external f.form ≡ false = inner_form m f typed (some f.blocks a.body.body) in cc
 
   -- 302 to 305
   pub has_kinds : HasKinds (declarations_of m) f

@@ -39,7 +39,7 @@ only_extracts ForwardedResult true e = cc
 only_extracts ForwardedResult false e = cc
 only_extracts OperandResult trivial e = refl
 
-extract_row : (o : Op) (os : List Operand) → result_kind_of o ≡ OperandResult → has_operands o os ≡ true → (x : Operand) × (os ≡ x ∷ [])
+pub extract_row : (o : Op) (os : List Operand) → result_kind_of o ≡ OperandResult → has_operands o os ≡ true → (x : Operand) × (os ≡ x ∷ [])
 extract_row op.StructExtract os e h = let it = one_operand is_typed os h in (it.0, it.1)
 extract_row op.TupleExtract os e h = let it = one_operand is_typed os h in (it.0, it.1)
 extract_row _ os e h = absurd (cc)

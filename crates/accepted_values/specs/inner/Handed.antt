@@ -93,7 +93,7 @@ kind_told (convention.Address c) = kind.Plain
 -- the argument is the one that the signature tells of
 pub record IsToldOf (d : Declarations) (f : Function) (told : Told) (a : BlockArg) : Type 0 where
   pub typed : a.ty ≡ argument_type told
-  pub facts : kind_at d f a.value ≡ kind_told told.convention
+  pub has_kind : kind_at d f a.value ≡ kind_told told.convention
 
 -- the arguments of the entry are those of the signature
 abbrev pub AreEntryTold : Type 0
