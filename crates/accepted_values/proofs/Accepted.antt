@@ -27,7 +27,7 @@ use Rattle.rule_faults.specs.declared.fault.RuleFault.{RuleFault}
 use Rattle.run_typing.specs.Runnable.{IsBodyInLimits, IsNearlyNumbered, IsShort}
 use Rattle.run_typing_laws.proofs.FunctionFacts.{TypedFunction, typed_function}
 use Rattle.run_typing_laws.proofs.SignatureFacts.{inner_form}
-use Rattle.run_typing_laws.specs.WellTyped.{IsWellTyped}
+use Rattle.run_typing_laws.specs.inner.WellTyped.{IsWellTyped}
 use Rattle.sil_rules.specs.declared.limits.TheConstants.{INSTRUCTIONS}
 use Rattle.sil_rules.specs.declared.rule.Rule.{Rule}
 use Rattle.sil_rules.specs.declared.rule.Rule.TheVariants as rule
@@ -94,7 +94,7 @@ module _ (m : Module) (n : ℕ) (f : Function) (a : IsAcceptedBody m n f) where
   pub of_numbered : IsOfNumberedModule f
   of_numbered = (m, a.verified.numbered, member)
 
-  fault : Rule → ValueId → ℕ → ℕ → RuleFault
+  abbrev fault : Rule → ValueId → ℕ → ℕ → RuleFault
   fault r v b k = record { rule = r; subject = v; other = None; point = record { block = record { 0 = b }; index = k }; walk = [] }
 
   -- it is in ownership form, since it has a body

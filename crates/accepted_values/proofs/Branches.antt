@@ -1,5 +1,5 @@
 -- What a branch hands over: its block's arguments take it over, one by one.
-use Rattle.std.proofs.Common.{◌≡◌, ℕ, zero, suc, ◌<◌, List, [], ◌∷◌, ◌++◌, length, map, refl, sym, ap, ap₂, ◌∙◌, subst, Bool, true, false, not, cond, ◌⊎◌, inl, inr, Option, Some, None}
+use Rattle.std.proofs.Common.{◌≡◌, ℕ, zero, suc, ◌<◌, List, [], ◌∷◌, ◌++◌, length, map, refl, sym, ap, ap₂, ◌∙◌, subst, arith, Bool, true, false, not, cond, ◌⊎◌, inl, inr, Option, Some, None}
 use Rattle.std.specs.Prelude.{◌&&◌, ◌==◌, Contains, is_none, slice_get}
 use Rattle.std.specs.List.{AllZip, flat_map, list_all}
 use Rattle.std.specs.Option.{option_to_list}
@@ -71,7 +71,7 @@ holds : (b : Bool) → (b ≡ false → ⊥) → b ≡ true
 holds true h = refl
 holds false h = absurd (h refl)
 
-owned_annotation : (k : ArgKind) → is_owned_annotation k ≡ true → k ≡ annotation.Owned
+pub owned_annotation : (k : ArgKind) → is_owned_annotation k ≡ true → k ≡ annotation.Owned
 owned_annotation annotation.Plain e = cc
 owned_annotation annotation.Owned e = refl
 owned_annotation annotation.Guaranteed e = cc

@@ -2,7 +2,7 @@
 use Rattle.std.proofs.Common.{◌≡◌, ℕ, ap, ◌∙◌, subst, Some}
 use Rattle.std.specs.Prelude.{slice_get}
 use Rattle.ownership_kinds.specs.Statics.{IsDefinedAt}
-use Rattle.ownership_kinds.specs.Statics.IsDefinedAt as defined
+use Rattle.ownership_kinds.specs.Statics.IsDefinedAt.{argument, result}
 use Rattle.point_checks.specs.Points.{IsAt}
 use Rattle.sil_ast.specs.Blocks.{args_in, args_of}
 use Rattle.sil_ast.specs.declared.function.BlockArg.{BlockArg}
@@ -23,7 +23,7 @@ pub defined_so : (m : Module) (n : ℕ) (f : Function) (v : ValueId) → IsAccep
 defined_so m n f v a lt = let point = defined_somewhere v f (counted m n f a) lt in by point.0 point.1 point.2
   where
     by : (b k : ℕ) → IsDefinedAt f v b k → IsDefined f v
-    by _ _ (defined.result b k i at c) = let place = stands i.results v c in a_result b k place.0 i v at place.1
-    by _ _ (defined.argument b block x is c e) =
+    by _ _ (result b k i at c) = let place = stands i.results v c in a_result b k place.0 i v at place.1
+    by _ _ (argument b block x is c e) =
         let place = stands block.args x c in
         subst (IsDefined f) e (an_argument b place.0 x (ap (λ o. slice_get (args_in o) place.0) is ∙ place.1))

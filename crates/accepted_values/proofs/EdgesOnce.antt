@@ -1,73 +1,79 @@
 -- Elements that pass a test at most once stand at one place, also in several lists together.
-use Rattle.std.proofs.Common.{◌≡◌, ℕ, zero, suc, ◌+◌, ◌<◌, ◌≤◌, List, [], ◌∷◌, ◌++◌, length, refl, sym, ap, ◌∙◌, subst, arith, Bool, true, false, cond, ◌⊎◌, inl, inr, Option, Some, None}
-use Rattle.std.specs.Prelude.{Contains, count_by, slice_get}
+use Rattle.std.proofs.Common.{◌≡◌, ℕ, zero, suc, ◌+◌, ◌<◌, ◌≤◌, List, [], ◌∷◌, ◌++◌, length, length-append, refl, sym, ap, ◌∙◌, subst, arith, Bool, true, false, cond, ◌⊎◌, inl, inr, Option, Some, None}
+use Rattle.std.specs.Prelude.{Contains, filter, slice_get}
 use Rattle.std.specs.List.{cons_option, filter_map, flat_map}
-use Rattle.std.proofs.lemmas.List.Elements.{Contains-append_cases, Contains-append_right}
+use Rattle.std.proofs.lemmas.List.Elements.{Contains-append_cases, Contains-append_right, filter-append}
 use Rattle.accepted_values.proofs.Counted.{nothing_in, stands}
 
 module _ {A : Type 0} (test : A → Bool) where
-  counted_both : (xs ys : List A) → count_by test (xs ++ ys) ≡ count_by test xs + count_by test ys
-  counted_both [] ys = omega arith
-  counted_both (x ∷ xs) ys = let rest : count_by test (xs ++ ys) ≡ count_by test xs + count_by test ys = counted_both xs ys in omega arith
+  -- how many pass
+  abbrev passing : List A → ℕ
+  passing xs = length (filter test xs)
 
-  -- one that passes counts
-  counts : (xs : List A) (k : ℕ) (x : A) → slice_get xs k ≡ Some x → test x ≡ true → 1 ≤ count_by test xs
-  counts [] k x e h = cc
-  counts (y ∷ xs) zero x e h =
-      let same : y ≡ x = cc in
-      let one : cond (test y) 1 0 ≡ 1 = ap (λ z. cond (test z) 1 0) same ∙ ap (λ b. cond b 1 0) h in
-      omega arith
-  counts (y ∷ xs) (suc k) x e h = let rest : 1 ≤ count_by test xs = counts xs k x e h in omega arith
+  both_pass : (xs ys : List A) → passing (xs ++ ys) ≡ passing xs + passing ys
+  both_pass xs ys = ap length (filter-append test xs ys) ∙ length-append (filter test xs) (filter test ys)
 
-  twice : (z x : A) (xs : List A) (l : ℕ) (y : A) → count_by test (z ∷ xs) ≤ 1 → z ≡ x → test x ≡ true → slice_get xs l ≡ Some y → test y ≡ true → ⊥
-  twice z x xs l y le same p h q =
-      let one : cond (test z) 1 0 ≡ 1 = ap (λ w. cond (test w) 1 0) same ∙ ap (λ b. cond b 1 0) p in
-      let more : 1 ≤ count_by test xs = counts xs l y h q in
-      omega arith
+  first_passes : (z x : A) (xs : List A) → z ≡ x → test x ≡ true → passing (z ∷ xs) ≡ suc (passing xs)
+  first_passes z x xs same h = ap (λ b. length (cond b (z ∷ filter test xs) (filter test xs))) (ap test same ∙ h)
 
-  once : (xs : List A) (k l : ℕ) (x y : A) → count_by test xs ≤ 1 → slice_get xs k ≡ Some x → slice_get xs l ≡ Some y → test x ≡ true → test y ≡ true → k ≡ l
+  passing_later : (z : A) (xs : List A) → passing xs ≤ passing (z ∷ xs)
+  passing_later z xs = at (test z)
+    where
+      at : (b : Bool) → passing xs ≤ length (cond b (z ∷ filter test xs) (filter test xs))
+      at true = omega arith
+      at false = omega arith
+
+  one_passes : (xs : List A) (k : ℕ) (x : A) → slice_get xs k ≡ Some x → test x ≡ true → 1 ≤ passing xs
+  one_passes [] k x e h = cc
+  one_passes (y ∷ xs) zero x e h = let same : y ≡ x = cc in let count = first_passes y x xs same h in omega (arith, count)
+  one_passes (y ∷ xs) (suc k) x e h = let rest = one_passes xs k x e h in let more = passing_later y xs in omega (arith, rest, more)
+
+  two_pass : (z x : A) (xs : List A) (l : ℕ) (y : A) → passing (z ∷ xs) ≤ 1 → z ≡ x → test x ≡ true → slice_get xs l ≡ Some y → test y ≡ true → ⊥
+  two_pass z x xs l y le same p h q = let count = first_passes z x xs same p in let more = one_passes xs l y h q in omega (arith, le, count, more)
+
+  once : (xs : List A) (k l : ℕ) (x y : A) → passing xs ≤ 1 → slice_get xs k ≡ Some x → slice_get xs l ≡ Some y → test x ≡ true → test y ≡ true → k ≡ l
   once [] k l x y le e h p q = cc
   once (z ∷ xs) zero zero x y le e h p q = refl
-  once (z ∷ xs) zero (suc l) x y le e h p q = absurd (twice z x xs l y le (cc) p h q)
-  once (z ∷ xs) (suc k) zero x y le e h p q = absurd (twice z y xs k x le (cc) q e p)
-  once (z ∷ xs) (suc k) (suc l) x y le e h p q = ap suc (once xs k l x y (omega arith) e h p q)
+  once (z ∷ xs) zero (suc l) x y le e h p q = absurd (two_pass z x xs l y le (cc) p h q)
+  once (z ∷ xs) (suc k) zero x y le e h p q = absurd (two_pass z y xs k x le (cc) q e p)
+  once (z ∷ xs) (suc k) (suc l) x y le e h p q = ap suc (once xs k l x y (let more = passing_later z xs in omega (arith, le, more)) e h p q)
 
   -- of several lists together
   module _ {B : Type 0} (g : B → List A) where
-    counts_in : (bs : List B) (k j : ℕ) (b : B) (x : A) → slice_get bs k ≡ Some b → slice_get (g b) j ≡ Some x → test x ≡ true → 1 ≤ count_by test (flat_map g bs)
-    counts_in [] k j b x e h p = cc
-    counts_in (c ∷ bs) zero j b x e h p =
+    one_passes_in : (bs : List B) (k j : ℕ) (b : B) (x : A) → slice_get bs k ≡ Some b → slice_get (g b) j ≡ Some x → test x ≡ true → 1 ≤ passing (flat_map g bs)
+    one_passes_in [] k j b x e h p = cc
+    one_passes_in (c ∷ bs) zero j b x e h p =
         let same : c ≡ b = cc in
-        let one : 1 ≤ count_by test (g c) = counts (g c) j x (ap (λ z. slice_get (g z) j) same ∙ h) p in
-        let both : count_by test (g c ++ flat_map g bs) ≡ count_by test (g c) + count_by test (flat_map g bs) = counted_both (g c) (flat_map g bs) in
-        omega arith
-    counts_in (c ∷ bs) (suc k) j b x e h p =
-        let one : 1 ≤ count_by test (flat_map g bs) = counts_in bs k j b x e h p in
-        let both : count_by test (g c ++ flat_map g bs) ≡ count_by test (g c) + count_by test (flat_map g bs) = counted_both (g c) (flat_map g bs) in
-        omega arith
+        let one = one_passes (g c) j x (ap (λ z. slice_get (g z) j) same ∙ h) p in
+        let both = both_pass (g c) (flat_map g bs) in
+        omega (arith, one, both)
+    one_passes_in (c ∷ bs) (suc k) j b x e h p =
+        let one = one_passes_in bs k j b x e h p in
+        let both = both_pass (g c) (flat_map g bs) in
+        omega (arith, one, both)
 
-    pub once_in : (bs : List B) (k l i j : ℕ) (b c : B) (x y : A) → count_by test (flat_map g bs) ≤ 1 → slice_get bs k ≡ Some b → slice_get bs l ≡ Some c
+    two_lists : (z : B) (bs : List B) (l i j : ℕ) (b c : B) (x y : A) → passing (flat_map g (z ∷ bs)) ≤ 1 → z ≡ b → slice_get bs l ≡ Some c
+        → slice_get (g b) i ≡ Some x → slice_get (g c) j ≡ Some y → test x ≡ true → test y ≡ true → ⊥
+    two_lists z bs l i j b c x y le same h s t p q =
+        let one = one_passes (g z) i x (ap (λ r. slice_get (g r) i) same ∙ s) p in
+        let more = one_passes_in bs l j c y h t q in
+        let both = both_pass (g z) (flat_map g bs) in
+        omega (arith, le, one, more, both)
+
+    pub once_in : (bs : List B) (k l i j : ℕ) (b c : B) (x y : A) → passing (flat_map g bs) ≤ 1 → slice_get bs k ≡ Some b → slice_get bs l ≡ Some c
         → slice_get (g b) i ≡ Some x → slice_get (g c) j ≡ Some y → test x ≡ true → test y ≡ true → (k ≡ l) × (i ≡ j)
     once_in [] k l i j b c x y le e h s t p q = cc
-    once_in (z ∷ bs) k l i j b c x y le e h s t p q = at k l e h
-      where
-        both : count_by test (g z ++ flat_map g bs) ≡ count_by test (g z) + count_by test (flat_map g bs)
-        both = counted_both (g z) (flat_map g bs)
-
-        here : (w : B) (u : ℕ) (v : A) → z ≡ w → slice_get (g w) u ≡ Some v → slice_get (g z) u ≡ Some v
-        here w u v same d = ap (λ r. slice_get (g r) u) same ∙ d
-
-        at : (k l : ℕ) → slice_get (z ∷ bs) k ≡ Some b → slice_get (z ∷ bs) l ≡ Some c → (k ≡ l) × (i ≡ j)
-        at zero zero e h = (refl, once (g z) i j x y (omega arith) (here b i x (cc) s) (here c j y (cc) t) p q)
-        at zero (suc l) e h =
-            absurd (let one : 1 ≤ count_by test (g z) = counts (g z) i x (here b i x (cc) s) p in
-            let more : 1 ≤ count_by test (flat_map g bs) = counts_in bs l j c y h t q in
-            omega arith)
-        at (suc k) zero e h =
-            absurd (let one : 1 ≤ count_by test (g z) = counts (g z) j y (here c j y (cc) t) q in
-            let more : 1 ≤ count_by test (flat_map g bs) = counts_in bs k i b x e s p in
-            omega arith)
-        at (suc k) (suc l) e h = let rest = once_in bs k l i j b c x y (omega arith) e h s t p q in (ap suc rest.0, rest.1)
+    once_in (z ∷ bs) zero zero i j b c x y le e h s t p q =
+        let both = both_pass (g z) (flat_map g bs) in
+        let one : z ≡ b = cc in
+        let other : z ≡ c = cc in
+        (refl, once (g z) i j x y (omega (arith, le, both)) (ap (λ r. slice_get (g r) i) one ∙ s) (ap (λ r. slice_get (g r) j) other ∙ t) p q)
+    once_in (z ∷ bs) zero (suc l) i j b c x y le e h s t p q = absurd (two_lists z bs l i j b c x y le (cc) h s t p q)
+    once_in (z ∷ bs) (suc k) zero i j b c x y le e h s t p q = absurd (two_lists z bs k j i c b y x le (cc) e t s q p)
+    once_in (z ∷ bs) (suc k) (suc l) i j b c x y le e h s t p q =
+        let both = both_pass (g z) (flat_map g bs) in
+        let rest = once_in bs k l i j b c x y (omega (arith, le, both)) e h s t p q in
+        (ap suc rest.0, rest.1)
 
 -- what several lists contain together stands in one of them
 pub from_all : {A B : Type 0} (g : B → List A) (bs : List B) (x : A) → Contains (flat_map g bs) x → (k : ℕ) × (b : B) × (slice_get bs k ≡ Some b) × Contains (g b) x

@@ -42,7 +42,7 @@ module _ (m : Module) (n : ℕ) (f : Function) (a : IsAcceptedBody m n f) where
   is_in : (v : ValueId) → IsValue f v → v.0 < length defs
   is_in v lt = let level : length defs ≡ length (values_of f.blocks) = as_many m n f a in omega arith
 
-  operand_is_value : (v w : ValueId) → IsValue f v → Contains (operands_at defs v) w → IsValue f w
+  pub operand_is_value : (v w : ValueId) → IsValue f v → Contains (operands_at defs v) w → IsValue f w
   operand_is_value v w lt c =
       let inside : w.0 < length defs = All-contains (λ x. x.0 < length defs) (operands_at defs v) w ((in_range m n f a).inside v (is_in v lt)) c in
       let level : length defs ≡ length (values_of f.blocks) = as_many m n f a in

@@ -11,7 +11,7 @@ use Rattle.item_operands.specs.Parts.{args_behind, edge_at, edge_in, inst_at, in
 use Rattle.numbered_form.specs.Insts.{insts_of}
 use Rattle.numbered_form.specs.Numbering.{AreCountedFrom, defined_in, results_of, values_of}
 use Rattle.ownership_kinds.specs.Statics.{IsDefinedAt}
-use Rattle.ownership_kinds.specs.Statics.IsDefinedAt as defined
+use Rattle.ownership_kinds.specs.Statics.IsDefinedAt.{argument as of_block, result as of_inst}
 use Rattle.point_checks.specs.Points.{IsAt}
 use Rattle.run_typing_laws.proofs.FunctionFacts.{TypedFunction}
 use Rattle.run_typing_laws.proofs.ItemFacts.{item_is_of}
@@ -27,7 +27,7 @@ use Rattle.sil_ast.specs.declared.place.EdgeId.{EdgeId}
 use Rattle.sil_ast.specs.declared.place.PointId.{PointId}
 use Rattle.sil_ast.specs.declared.place.ValueId.{ValueId}
 use Rattle.sil_cfg.specs.Flow.{edge_to}
-use Rattle.sil_cfg.specs.Items.{IsItem, flow_of, targets_in}
+use Rattle.sil_cfg.specs.Items.{IsItem, flow_of, point_at, targets_in}
 use Rattle.sil_cfg.specs.declared.item.Item.{Item}
 use Rattle.sil_cfg.specs.declared.item.Item.TheVariants.{Entry, Inst, Edge, Exit}
 use Rattle.sil_cfg.specs.inner.Splice.{Stop, into, is_at, item, same_item}
@@ -191,24 +191,26 @@ module _ (m : Module) (n : ℕ) (f : Function) (a : IsAcceptedBody m n f) where
         edge_makes f v d x.0 x.1 (subst (λ k. IsArgumentOf f k v) to c)
     makes_there _ (Exit q) (argument b lt c) is h = cc
 
-    at_result : (b k : ℕ) (i : inst.Inst) → IsAt f b k i → Contains i.results v → (s : Stop) × IsMadeAt f v s
-    at_result b k i at c = by (inside_or_last at.within.insts at.within.terminator i k at.is_inst)
+    -- a terminator has no results
+    pub at_point_of_result : (b k : ℕ) (i : inst.Inst) → IsAt f b k i → Contains i.results v → inst_at f (point_at b k) ≡ Some i
+    at_point_of_result b k i at c = by (inside_or_last at.within.insts at.within.terminator i k at.is_inst)
       where
-        by : (slice_get at.within.insts k ≡ Some i) ⊎ (at.within.terminator ≡ i) → (s : Stop) × IsMadeAt f v s
-        by (inl e) =
-            let p : PointId = record { block = record { 0 = b }; index = k } in
-            (item (Inst p), result p i (ap (λ o. inst_in o k) at.is_block ∙ e) c)
+        by : (slice_get at.within.insts k ≡ Some i) ⊎ (at.within.terminator ≡ i) → inst_at f (point_at b k) ≡ Some i
+        by (inl e) = ap (λ o. inst_in o k) at.is_block ∙ e
         by (inr same) =
             let end = (typed m n f a).ends b i (ap terminator_in at.is_block ∙ ap (λ t. Some t) same) in
             absurd (nothing_in v (subst (λ vs. Contains vs v) end.1.no_results c))
+
+    at_result : (b k : ℕ) (i : inst.Inst) → IsAt f b k i → Contains i.results v → (s : Stop) × IsMadeAt f v s
+    at_result b k i at c = (item (Inst (point_at b k)), result (point_at b k) i (at_point_of_result b k i at c) c)
 
     at_argument : (b : ℕ) → IsArgumentOf f b v → (s : Stop) × IsMadeAt f v s
     at_argument zero c = (item Entry, parameter c)
     at_argument (suc b) c = (into (suc b), argument (suc b) (omega arith) c)
 
     somewhere : (b k : ℕ) → IsDefinedAt f v b k → (s : Stop) × IsMadeAt f v s
-    somewhere _ _ (defined.result b k i at c) = at_result b k i at c
-    somewhere _ _ (defined.argument b block x is c e) =
+    somewhere _ _ (of_inst b k i at c) = at_result b k i at c
+    somewhere _ _ (of_block b block x is c e) =
         at_argument b (subst (λ o. Contains (map arg_value (args_in o)) v) (sym is) (subst (λ w. Contains (map arg_value block.args) w) e (contains_map arg_value block.args x c)))
 
   -- ---- an item's values are counted

@@ -56,6 +56,16 @@ zip_by_place R test (x ∷ xs) (y ∷ ys) e h =
     let both = and_parts (test y x) (all_pairs test ys xs) e in
     (h 0 x y refl refl both.0, zip_by_place R test xs ys both.1 (λ k. h (suc k)))
 
+-- each element of the first list has one at its place in the second
+pub pair_at : {A B : Type 0} (test : A → B → Bool) (xs : List A) (ys : List B) (k : ℕ) (x : A) → all_pairs test xs ys ≡ true → slice_get xs k ≡ Some x
+    → (y : B) × (slice_get ys k ≡ Some y) × (test x y ≡ true)
+pair_at test [] ys k x e at = cc
+pair_at test (z ∷ xs) [] k x e at = cc
+pair_at test (z ∷ xs) (y ∷ ys) zero x e at =
+    let same : z ≡ x = cc in
+    (y, refl, ap (λ w. test w y) (sym same) ∙ (and_parts (test z y) (all_pairs test xs ys) e).0)
+pair_at test (z ∷ xs) (y ∷ ys) (suc k) x e at = pair_at test xs ys k x (and_parts (test z y) (all_pairs test xs ys) e).1 at
+
 -- ---- conventions fit their types
 
 module _ (d : Declarations) where
@@ -143,7 +153,7 @@ module _ (m : Module) (n : ℕ) (f : Function) (a : IsAcceptedBody m n f) where
       ∙ ap (λ o. (told_by (length defs) x.value (facts_at d f) (operands_at defs x.value) o).kind) row.defined.origin
       ∙ tells (switch_to f 0) x.kind (is_trivial d x.ty) (length defs) x.value (operands_at defs x.value)
 
-  told_of : (k : ℕ) (t : Told) (x : BlockArg) → slice_get (arguments_of f.signature) k ≡ Some t → slice_get (args_of f 0) k ≡ Some x
+  pub told_of : (k : ℕ) (t : Told) (x : BlockArg) → slice_get (arguments_of f.signature) k ≡ Some t → slice_get (args_of f 0) k ≡ Some x
       → is_argument_for Ossa x t ≡ true → IsToldOf d f t x
   told_of k t x is at e =
       let both = and_parts (is_same_type x.ty (argument_type t)) (is_annotated_for Ossa x t.convention) e in
@@ -164,7 +174,7 @@ module _ (m : Module) (n : ℕ) (f : Function) (a : IsAcceptedBody m n f) where
       by convention.Guaranteed u e = ap (λ b. kind_of_origin (arg_definition_by true (switch_to f 0) annotation.Guaranteed b).origin) (nontrivial_so d u e)
       by (convention.Address c) u e = refl
 
-  entry_pairs : all_pairs (is_argument_for Ossa) (args_of f 0) (arguments_of f.signature) ≡ true
+  pub entry_pairs : all_pairs (is_argument_for Ossa) (args_of f 0) (arguments_of f.signature) ≡ true
   entry_pairs =
       let entry = (and_parts (has_fitting_conventions d f.signature) (has_entry_arguments f) (conventions_and_entry m f (typed m n f a))).1 in
       or_second (is_external Ossa) _ refl

@@ -179,7 +179,7 @@ module _ (m : Module) (n : ℕ) (f : Function) (a : IsAcceptedBody m n f) where
           by kind.Guaranteed = refl
           by kind.Plain = refl
 
-  owned_alike : (λ (v : ValueId). owns (kind_at d f v)) ≡ (λ (v : ValueId). is_owned (kind_in d f v))
+  owned_alike : ◌≡◌ {A = ValueId → Bool} (λ v. owns (kind_at d f v)) (λ v. is_owned (kind_in d f v))
   owned_alike = λ j v. owns_so v j
 
   may_end : (v : ValueId) → guarantees (kind_at d f v) ≡ false → MayEnd d f v

@@ -61,6 +61,7 @@ use Rattle.value_tables.specs.FirstValue.{first_value, value_of}
 use Rattle.accepted_values.specs.inner.Bases.{IsBaseOf}
 use Rattle.accepted_values.specs.inner.Handed.{AreSwitched, TakenBy, Takes, lends, owns, trivial}
 use Rattle.accepted_values.specs.inner.Known.{IsAcceptedBody, IsValue, facts_at, kind_at, type_in}
+use Rattle.accepted_values.specs.inner.Rows.{IsArgument}
 use Rattle.accepted_values.proofs.Accepted.{counted, has_kinds, typed}
 use Rattle.accepted_values.proofs.Based.{handed_on}
 use Rattle.accepted_values.proofs.Branches.{annotated_well, behind_entry, edge_leaves, known_end, owned_annotation, owned_argument, plain_argument}
@@ -214,6 +215,7 @@ module _ (m : Module) (n : ℕ) (f : Function) (a : IsAcceptedBody m n f) (e : E
             at zero lt = absurd (omega arith)
             at (suc b) lt = refl
 
+        row : IsArgument d f target 0 y
         row = argument_rows m n f target 0 y a there
 
         defined_so : arg_definition_by (is_zero target) (switch_to f target) y.kind (is_trivial d y.ty)

@@ -3,6 +3,7 @@ use Rattle.std.proofs.Common.{◌≡◌, ℕ, zero, suc, ◌+◌, ◌<◌, ◌�
 use Rattle.std.specs.Prelude.{◌||◌, ◌==◌, Contains, count_by, is_none, option_map, slice_get, if◌then◌else◌}
 use Rattle.std.specs.List.{filter_map, flat_map, list_all}
 use Rattle.std.proofs.lemmas.Bool.{eq-eqb, eqb-true}
+use Rattle.std.proofs.lemmas.List.Sums.{length-filter}
 use Rattle.instruction_table.specs.Forms.{ending_of}
 use Rattle.instruction_table.specs.declared.entries.Ending.{Ending}
 use Rattle.instruction_table.specs.declared.entries.Ending.TheVariants as ending
@@ -101,7 +102,7 @@ comes_from f n s e =
 one_edge : (f : Function) (b c k l n : ℕ) (t u : Inst) (x y : Edge) → Leaves f b k t x → Leaves f c l u y → incoming f n ≡ 1 → x.block.0 ≡ n → y.block.0 ≡ n
     → (b ≡ c) × (k ≡ l)
 one_edge f b c k l n t u x y from other alone to into =
-    once_in (is_to n) edges_of_block f.blocks b c k l from.block other.block x y (omega arith) from.is_block other.is_block
+    once_in (is_to n) edges_of_block f.blocks b c k l from.block other.block x y (let count = length-filter (is_to n) (edges_of f) in omega (arith, count, alone)) from.is_block other.is_block
     (ap (λ (z : Inst). slice_get z.edges k) from.ends ∙ from.there) (ap (λ (z : Inst). slice_get z.edges l) other.ends ∙ other.there)
     (eq-eqb x.block.0 n to) (eq-eqb y.block.0 n into)
 

@@ -126,17 +126,17 @@ module _ (count : ℕ) (v : ValueId) (at : ValueId → Facts) where
 
   -- ---- the kind
 
+  by_kind_owned : (ops : List ValueId) (k : Kind) → (by_kind count v at ops k).kind ≡ kind.Owned → by_kind count v at ops k ≡ facts_with kind.Owned (v ∷ [])
+  by_kind_owned ops kind.Owned e = refl
+  by_kind_owned ops kind.Guaranteed e = cc
+  by_kind_owned ops kind.Plain e = cc
+
   pub owned_told : (ops : List ValueId) (o : Origin) → (told_by count v at ops o).kind ≡ kind.Owned → told_by count v at ops o ≡ facts_with kind.Owned (v ∷ [])
   owned_told ops Owned e = refl
   owned_told ops Lender e = cc
   owned_told ops Plain e = cc
-  owned_told ops Forward e = by (forwarded at ops) e
-    where
-      by : (k : Kind) → (by_kind count v at ops k).kind ≡ kind.Owned → by_kind count v at ops k ≡ facts_with kind.Owned (v ∷ [])
-      by kind.Owned e = refl
-      by kind.Guaranteed e = cc
-      by kind.Plain e = cc
-  owned_told ops Same e = owned_told (take 1 ops) Forward e
+  owned_told ops Forward e = by_kind_owned ops (forwarded at ops) e
+  owned_told ops Same e = by_kind_owned (take 1 ops) (forwarded at (take 1 ops)) e
   owned_told ops Lent e = cc
   owned_told ops Address e = cc
 

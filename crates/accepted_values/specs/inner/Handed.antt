@@ -1,5 +1,5 @@
 -- What edges, calls and returns hand over: its kind, against that of the argument or the result that takes it.
-use Rattle.std.specs.Prelude.{◌≡◌, ◌⊎◌, ⊤, ⊥, ◌<◌, ℕ, List, [], ◌∷◌, true, false, Some, slice_get, is_none}
+use Rattle.std.specs.Prelude.{◌≡◌, ◌⊎◌, ⊤, ℕ, List, [], ◌∷◌, true, false, Some, slice_get, is_none}
 use Rattle.std.specs.List.{AllZip}
 use Rattle.argument_conventions.specs.Arguments.{Told, argument_type, arguments_of}
 use Rattle.argument_conventions.specs.declared.convention.ArgumentConvention.{ArgumentConvention}

@@ -12,7 +12,7 @@ use Rattle.ownership_chains.specs.Facts.{known_or, origin_at, told_by}
 use Rattle.ownership_chains.specs.declared.facts.Facts.{Facts}
 use Rattle.ownership_kinds.specs.Facts.{facts_in}
 use Rattle.ownership_origins.specs.Origins.{definitions_of}
-use Rattle.run_typing_laws.specs.WellTyped.{IsWellTyped}
+use Rattle.run_typing_laws.specs.inner.WellTyped.{IsWellTyped}
 use Rattle.sil_types.specs.Typing.Values.{type_at, value_types}
 use Rattle.sil_verifier.specs.Values.{IsBody}
 use Rattle.sil_verifier.specs.inner.Checked.{IsVerified}
