@@ -22,7 +22,6 @@ use Rattle.ownership_kinds.specs.Statics.IsBroken.{on_ring}
 use Rattle.ownership_origins.proofs.Counts.{are_of_values}
 use Rattle.ownership_origins.proofs.Ranges.{are_in_range}
 use Rattle.ownership_origins.specs.Origins.{definitions_of}
-use Rattle.point_checks.specs.inner.Numbered.{IsOfNumberedModule}
 use Rattle.rule_faults.specs.declared.fault.RuleFault.{RuleFault}
 use Rattle.run_typing.specs.Runnable.{IsBodyInLimits, IsNearlyNumbered, IsShort}
 use Rattle.run_typing_laws.proofs.FunctionFacts.{TypedFunction, typed_function}
@@ -90,12 +89,6 @@ module _ (m : Module) (n : ℕ) (f : Function) (a : IsAcceptedBody m n f) where
 
   pub member : Contains m.functions f
   member = contained m.functions n f a.body.there
-
-  pub of_numbered : IsOfNumberedModule f
-  of_numbered = (m, a.verified.numbered, member)
-
-  abbrev fault : Rule → ValueId → ℕ → ℕ → RuleFault
-  fault r v b k = record { rule = r; subject = v; other = None; point = record { block = record { 0 = b }; index = k }; walk = [] }
 
   -- it is in ownership form, since it has a body
   pub in_ownership_form : f.form ≡ Ossa

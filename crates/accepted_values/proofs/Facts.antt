@@ -2,7 +2,7 @@
 use Rattle.std.proofs.Common.{◌≡◌, ℕ, ◌+◌, ◌<◌, ◌≤◌, List, [], length, map, refl, sym, ap, ◌∙◌, subst, arith, Option, Some, None, ◌⊎◌, inl, inr, Bool, true, false}
 use Rattle.std.specs.Prelude.{All, Contains, nat_lt, option_map, slice_get, unwrap_or, if◌then◌else◌}
 use Rattle.std.specs.List.{range_with_len}
-use Rattle.std.proofs.lemmas.Bool.{cases_lt, le-ltb}
+use Rattle.std.proofs.lemmas.Bool.{cases_lt, le-ltb, lt-ltb}
 use Rattle.std.proofs.lemmas.List.Elements.{All-contains}
 use Rattle.std.proofs.lemmas.List.FromFn.{get_or-map-range_with_len, length-map-range_with_len}
 use Rattle.std.proofs.lemmas.Option.{slice_get-map, slice_get_past, unwrap_or-slice_get}
@@ -21,14 +21,13 @@ use Rattle.ownership_chains.specs.Steps.{told_in}
 use Rattle.ownership_chains.specs.declared.definition.Definition.{Definition}
 use Rattle.ownership_chains.specs.declared.facts.Facts.{Facts}
 use Rattle.ownership_kinds.specs.Facts.{facts_in}
-use Rattle.ownership_kinds.proofs.FactsTold.{facts_told as facts_are_told}
 use Rattle.ownership_origins.proofs.Counts.{are_of_values}
 use Rattle.ownership_origins.specs.Origins.{definitions_of}
 use Rattle.run_typing_laws.proofs.ItemFacts.{values_counted}
 use Rattle.type_definitions.specs.Declarations.{Declarations, declarations_of}
 use Rattle.type_definitions.specs.declared.kind.Kind.TheVariants as kind
 use Rattle.accepted_values.specs.inner.Known.{AreFactsKnown, AreRunFacts, IsAcceptedBody, IsValue, facts_at, told_in_function}
-use Rattle.accepted_values.proofs.Accepted.{as_many, in_range, no_ring, of_numbered}
+use Rattle.accepted_values.proofs.Accepted.{as_many, in_range, no_ring}
 
 -- ---- each value has facts
 
@@ -48,18 +47,21 @@ module _ (m : Module) (n : ℕ) (f : Function) (a : IsAcceptedBody m n f) where
       let level : length defs ≡ length (values_of f.blocks) = as_many m n f a in
       omega arith
 
+  told_within : (v : ValueId) → IsValue f v → facts_in d f v ≡ told_in defs (length defs) v
+  told_within v lt = ap (λ b. if b then told_in defs (length defs) v else None) (lt-ltb v.0 (length defs) (is_in v lt))
+
   -- what is known of a value is so
   pub known : (v : ValueId) → IsValue f v → AreFactsOf defs v (facts_at d f v)
   known v lt =
       let x = facts_without_ring defs (in_range m n f a) (no_ring m n f a) v (is_in v lt) in
       let so : AreFactsOf defs v x.0 = (told_in_time defs v x.0 (in_range m n f a) (is_in v lt)).1 x.1 in
-      let is : facts_in d f v ≡ Some x.0 = (facts_are_told d f v x.0 (of_numbered m n f a)).1 (lt, so) in
+      let is : facts_in d f v ≡ Some x.0 = told_within v lt ∙ x.1 in
       subst (AreFactsOf defs v) (sym (ap (λ (o : Option Facts). unwrap_or o (facts_with kind.Plain [])) is)) so
 
   pub told_so : (v : ValueId) → IsValue f v → facts_in d f v ≡ Some (told_in_function d f v)
   told_so v lt =
-      (facts_are_told d f v (told_in_function d f v) (of_numbered m n f a)).1
-      (lt, told v (facts_at d f) (λ w c. known w (operand_is_value v w lt c)))
+      told_within v lt
+      ∙ (told_in_time defs v (told_in_function d f v) (in_range m n f a) (is_in v lt)).0 (told v (facts_at d f) (λ w c. known w (operand_is_value v w lt c)))
 
   pub facts_so : (v : ValueId) → IsValue f v → facts_at d f v ≡ told_in_function d f v
   facts_so v lt = ap (λ (o : Option Facts). unwrap_or o (facts_with kind.Plain [])) (told_so v lt)

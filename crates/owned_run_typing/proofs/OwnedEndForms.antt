@@ -1,6 +1,6 @@
 -- Terminators in ownership form: a switch hands a default the whole enum, where its block takes it, and all else ends as in lowered form.
-use Rattle.std.proofs.Common.{◌≡◌, ℕ, List, [], ◌∷◌, map, refl, sym, ap, ◌∙◌, Bool, true, false, ◌⊎◌, inl, inr, Option, Some}
-use Rattle.std.specs.Prelude.{◌&&◌, slice_get}
+use Rattle.std.proofs.Common.{◌≡◌, ℕ, List, [], ◌∷◌, map, refl, sym, ap, ◌∙◌, true, false, ◌⊎◌, inl, inr, Option, Some}
+use Rattle.std.specs.Prelude.{not, slice_get}
 use Rattle.holder_model.specs.Edges.{is_default}
 use Rattle.instruction_table.specs.Forms.{ending_of, is_terminator}
 use Rattle.instruction_table.specs.declared.entries.Ending.TheVariants as ending
@@ -16,6 +16,8 @@ use Rattle.sil_ast.specs.declared.inst.Edge.{Edge}
 use Rattle.sil_ast.specs.declared.inst.Inst.{Inst}
 use Rattle.sil_ast.specs.declared.module.Module.{Module}
 use Rattle.sil_ast.specs.declared.type_name.TypeName.{TypeName}
+use Rattle.sil_types.specs.Typing.FormRules.{is_lowered}
+use Rattle.sil_types.specs.Typing.Same.{is_same_type}
 use Rattle.sil_types.specs.Typing.SwitchRules.{is_default_argument}
 use Rattle.sil_types.specs.Typing.Values.{arg_type}
 use Rattle.type_definitions.specs.Declarations.{declarations_of}
@@ -24,6 +26,7 @@ use Rattle.run_typing.specs.Forms.{OfValue, forms_of}
 use Rattle.run_typing_laws.specs.inner.WellTyped.{IsWellTyped}
 use Rattle.run_typing_laws.proofs.EndFacts.{other_end, switched}
 use Rattle.run_typing_laws.proofs.FunctionFacts.{TypedFunction, TypedInst}
+use Rattle.run_typing_laws.proofs.Found.{both_second}
 use Rattle.run_typing_laws.proofs.MemberFacts.{enum_is}
 use Rattle.run_typing_laws.proofs.ShapeFacts.{same_types}
 use Rattle.run_typing_laws.proofs.SwitchFacts.{DefaultEdge, edge_chosen}
@@ -33,11 +36,7 @@ module _ (m : Module) (r : IsWellTyped m) (f : Function) (typed : TypedFunction 
   -- a default takes nothing, or the enum
   default_takes : (t : TypeName) (args : List BlockArg) → is_default_argument f.form t args ≡ true → (args ≡ []) ⊎ (map arg_type args ≡ t ∷ [])
   default_takes t [] e = inl refl
-  default_takes t (a ∷ []) e = inr (ap (λ x. x ∷ []) (same_types a.ty t (second e)))
-    where
-      second : {b c : Bool} → (b && c) ≡ true → c ≡ true
-      second {true} {c} h = h
-      second {false} {c} h = cc
+  default_takes t (a ∷ []) e = inr (ap (λ x. x ∷ []) (same_types a.ty t (both_second (not (is_lowered f.form)) (is_same_type a.ty t) e)))
   default_takes t (a ∷ b ∷ more) e = cc
 
   case_forms : (t : TypeName) (c : CaseLayer Shape) (e : Edge) → CaseForms (declarations_of m) f c e ⊎ DefaultEdge m f t e

@@ -23,7 +23,8 @@ use Rattle.run_typing_laws.proofs.Rows.Plain.{alloc_ref, alloc_stack, cond_fail,
 use Rattle.run_typing_laws.proofs.Rows.Points.{is_at}
 use Rattle.run_typing_laws.proofs.Rows.Upcasts.{upcast_of}
 use Rattle.owned_run_typing.specs.inner.OwnedTyped.{OwnedInst}
-use Rattle.owned_run_typing.proofs.OwnedRows.{OwnedRow, as_lowered, begin_borrow, copy_value, destroy_addr, destroy_value, destructure_struct, destructure_tuple, end_borrow, load, load_borrow, move_value, store}
+use Rattle.owned_run_typing.proofs.OwnedRows.{OwnedRow, as_lowered, begin_borrow, copy_value, destroy_addr, destroy_value, destructure_struct, destructure_tuple}
+use Rattle.owned_run_typing.proofs.OwnedRows.{end_borrow, load, load_borrow, move_value, store}
 
 no_other_form : {P : Type 0} → false ≡ true → P
 no_other_form e = absurd (cc)

@@ -37,7 +37,8 @@ use Rattle.run_typing_laws.proofs.Rows.NamesOfObjects.{destroy_storage}
 use Rattle.run_typing_laws.proofs.Rows.Shares.{Row, given_one, gives_form, of_parts, one_operand, taken_from}
 use Rattle.run_typing_laws.proofs.ShapeFacts.{tuple_shape}
 use Rattle.run_typing_laws.proofs.ValueForms.{value_forms}
-use Rattle.owned_run_typing.specs.inner.OwnedRows.{IsReadOf, IsWriteOf, OwnedRowForms, again, also_lowered, copies, destroys, first, gives as gives_operand, lends, loads, members, reads, stores, takes as takes_it, trivial}
+use Rattle.owned_run_typing.specs.inner.OwnedRows as owned
+use Rattle.owned_run_typing.specs.inner.OwnedRows.{IsReadOf, IsWriteOf, OwnedRowForms}
 
 -- the instruction's operands and results are those that its row has to do with
 abbrev pub OwnedRow : Module → Function → Inst → Type 0
@@ -50,37 +51,35 @@ owned_row_of m f i xs ys e h row =
 
 -- one that stands in lowered form too
 pub as_lowered : (m : Module) (f : Function) (i : Inst) → Row m f i → OwnedRow m f i
-as_lowered m f i row = also_lowered _ _ row
+as_lowered m f i row = owned.also_lowered _ _ row
 
 read_by : (q : Qualifier) → IsReadOf (load_operation q)
-read_by word.Plain = reads
-read_by word.Copy = reads
-read_by word.Take = takes_it
-read_by word.Trivial = reads
-read_by word.Init = reads
-read_by word.Assign = reads
+read_by word.Plain = owned.reads
+read_by word.Copy = owned.reads
+read_by word.Take = owned.takes
+read_by word.Trivial = owned.reads
+read_by word.Init = owned.reads
+read_by word.Assign = owned.reads
 
 written_by : (q : Qualifier) → IsWriteOf (store_operation q)
-written_by word.Plain = again
-written_by word.Copy = again
-written_by word.Take = again
-written_by word.Trivial = trivial
-written_by word.Init = first
-written_by word.Assign = again
+written_by word.Plain = owned.again
+written_by word.Copy = owned.again
+written_by word.Take = owned.again
+written_by word.Trivial = owned.trivial
+written_by word.Init = owned.first
+written_by word.Assign = owned.again
 
 module _ (m : Module) (r : IsWellTyped m) (f : Function) (i : Inst) where
   -- the value of an object's type that an instruction takes
-  record IsTaken : Type 0 where
-    ty : TypeName
+  record IsTaken (ty : TypeName) : Type 0 where
     taken : operand_forms (declarations_of m) f i ≡ OfValue (shape_of (declarations_of m) ty) ∷ []
     value : typed_form (declarations_of m) ty ≡ OfValue (shape_of (declarations_of m) ty)
     holds_none : has_no_storage (shape_of (declarations_of m) ty) ≡ true
 
-  taken_object : (o : Op) → Known m f i o → are_of_parts (part.Typed ∷ []) i.operands ≡ true → (t : TypeName) → written 0 i ≡ Some t → is_object t ≡ true → IsTaken
+  taken_object : (o : Op) → Known m f i o → are_of_parts (part.Typed ∷ []) i.operands ≡ true → (t : TypeName) → written 0 i ≡ Some t → is_object t ≡ true → IsTaken t
   taken_object o k parts t is object =
       let counted = object_counted m r t object (placed_at m f i o k 0 t is) in
       record {
-        ty = t;
         taken = one_operand m f i o k parts t is ∙ ap (λ x. x ∷ []) counted.form;
         value = counted.form;
         holds_none = counted.holds_none;
@@ -94,7 +93,7 @@ module _ (m : Module) (r : IsWellTyped m) (f : Function) (i : Inst) where
       let it = given_one (where_it (is_nontrivial (declarations_of m)) (written 0 i)) k.keeps in
       let found = where_found (is_nontrivial (declarations_of m)) (written 0 i) it.0 it.1 in
       let x = taken_object op.CopyValue k (of_parts _ k.operands) it.0 found.0 (object_of it.0 found.1) in
-      owned_row_of m f i _ _ x.taken (gives_form m f i op.CopyValue k refl it.0 (ap gives it.1) ∙ ap (λ y. y ∷ []) x.value) (copies _ (ap effect_of k.op) x.holds_none)
+      owned_row_of m f i _ _ x.taken (gives_form m f i op.CopyValue k refl it.0 (ap gives it.1) ∙ ap (λ y. y ∷ []) x.value) (owned.copies _ (ap effect_of k.op) x.holds_none)
 
   pub move_value : Known m f i op.MoveValue → OwnedRow m f i
   move_value k =
@@ -102,7 +101,7 @@ module _ (m : Module) (r : IsWellTyped m) (f : Function) (i : Inst) where
       let found = where_found is_object (written 0 i) it.0 it.1 in
       let x = taken_object op.MoveValue k (of_parts _ k.operands) it.0 found.0 found.1 in
       owned_row_of m f i _ _ x.taken (gives_form m f i op.MoveValue k refl it.0 (ap gives it.1) ∙ ap (λ y. y ∷ []) x.value)
-      (gives_operand _ (ap effect_of k.op) x.holds_none)
+      (owned.gives _ (ap effect_of k.op) x.holds_none)
 
   pub begin_borrow : Known m f i op.BeginBorrow → OwnedRow m f i
   begin_borrow k =
@@ -110,47 +109,45 @@ module _ (m : Module) (r : IsWellTyped m) (f : Function) (i : Inst) where
       let found = where_found (is_nontrivial (declarations_of m)) (written 0 i) it.0 it.1 in
       let x = taken_object op.BeginBorrow k (of_parts _ k.operands) it.0 found.0 (object_of it.0 found.1) in
       owned_row_of m f i _ _ x.taken (gives_form m f i op.BeginBorrow k refl it.0 (ap gives it.1) ∙ ap (λ y. y ∷ []) x.value)
-      (gives_operand _ (ap effect_of k.op) x.holds_none)
+      (owned.gives _ (ap effect_of k.op) x.holds_none)
 
   pub destroy_value : Known m f i op.DestroyValue → OwnedRow m f i
   destroy_value k =
       let it = taken_from (where_it (is_nontrivial (declarations_of m)) (written 0 i)) k.keeps in
       let found = where_found (is_nontrivial (declarations_of m)) (written 0 i) it.0 it.1 in
       let x = taken_object op.DestroyValue k (of_parts _ k.operands) it.0 found.0 (object_of it.0 found.1) in
-      owned_row_of m f i _ [] x.taken (k.no_result refl) (also_lowered _ _ (lowered.drops _ (ap effect_of k.op) x.holds_none))
+      owned_row_of m f i _ [] x.taken (k.no_result refl) (owned.also_lowered _ _ (lowered.drops _ (ap effect_of k.op) x.holds_none))
 
   pub end_borrow : Known m f i op.EndBorrow → OwnedRow m f i
   end_borrow k =
       let it = taken_from (where_it (is_nontrivial (declarations_of m)) (written 0 i)) k.keeps in
       let found = where_found (is_nontrivial (declarations_of m)) (written 0 i) it.0 it.1 in
       let x = taken_object op.EndBorrow k (of_parts _ k.operands) it.0 found.0 (object_of it.0 found.1) in
-      owned_row_of m f i _ [] x.taken (k.no_result refl) (also_lowered _ _ (lowered.looks _ (ap effect_of k.op)))
+      owned_row_of m f i _ [] x.taken (k.no_result refl) (owned.also_lowered _ _ (lowered.looks _ (ap effect_of k.op)))
 
   pub load : Known m f i op.Load → OwnedRow m f i
   load k =
       let x = loaded m r f i k in
       owned_row_of m f i _ _ x.taken x.given
-      (loads _ (load_operation i.qualifier) (ap effect_of k.op) (ap (λ o. operation_by (access_kind_of o) i.qualifier) k.op) (read_by i.qualifier) x.holds_none)
+      (owned.loads _ (load_operation i.qualifier) (ap effect_of k.op) (ap (λ o. operation_by (access_kind_of o) i.qualifier) k.op) (read_by i.qualifier) x.holds_none)
 
   pub store : Known m f i op.Store → OwnedRow m f i
   store k =
       let x = stored m r f i k in
       owned_row_of m f i _ [] x.taken (k.no_result refl)
-      (stores _ (store_operation i.qualifier) (ap effect_of k.op) (ap (λ o. operation_by (access_kind_of o) i.qualifier) k.op) (written_by i.qualifier) x.holds_none)
+      (owned.stores _ (store_operation i.qualifier) (ap effect_of k.op) (ap (λ o. operation_by (access_kind_of o) i.qualifier) k.op) (written_by i.qualifier) x.holds_none)
 
   -- the object behind the address that an instruction takes
-  record IsReached : Type 0 where
-    ty : TypeName
+  record IsReached (ty : TypeName) : Type 0 where
     taken : operand_forms (declarations_of m) f i ≡ OfPlace (shape_of (declarations_of m) ty) ∷ []
     value : typed_form (declarations_of m) ty ≡ OfValue (shape_of (declarations_of m) ty)
     holds_none : has_no_storage (shape_of (declarations_of m) ty) ≡ true
 
   reached : (o : Op) → Known m f i o → are_of_parts (part.Typed ∷ []) i.operands ≡ true → (t inner : TypeName) → written 0 i ≡ Some t → target t ≡ Some inner
-      → is_object inner ≡ true → IsReached
+      → is_object inner ≡ true → IsReached inner
   reached o k parts t inner is to object =
       let whole = object_place m r t inner (ap (where_it is_object) to ∙ passes object) (placed_at m f i o k 0 t is) in
       record {
-        ty = inner;
         taken = one_operand m f i o k parts t is ∙ ap (λ x. x ∷ []) whole.place;
         value = whole.value;
         holds_none = whole.holds_none;
@@ -166,7 +163,7 @@ module _ (m : Module) (r : IsWellTyped m) (f : Function) (i : Inst) where
       let at = found_behind target (written 0 i) it.0 found.0 in
       let x = reached op.LoadBorrow k (of_parts _ k.operands) at.0 it.0 at.1 at.2 (object_of it.0 found.1) in
       owned_row_of m f i _ _ x.taken (gives_form m f i op.LoadBorrow k refl it.0 (ap gives it.1) ∙ ap (λ y. y ∷ []) x.value)
-      (loads _ _ (ap effect_of k.op) (ap (λ o. operation_by (access_kind_of o) i.qualifier) k.op) lends x.holds_none)
+      (owned.loads _ _ (ap effect_of k.op) (ap (λ o. operation_by (access_kind_of o) i.qualifier) k.op) owned.lends x.holds_none)
 
   -- an object, or what storage names
   pub destroy_addr : Known m f i op.DestroyAddr → OwnedRow m f i
@@ -175,24 +172,24 @@ module _ (m : Module) (r : IsWellTyped m) (f : Function) (i : Inst) where
       let it = taken_from (where_it test (option_and_then target (written 0 i))) k.keeps in
       let found = where_found test (option_and_then target (written 0 i)) it.0 it.1 in
       let at = found_behind target (written 0 i) it.0 found.0 in
-      by (is_nontrivial (declarations_of m) it.0) refl found.1 at.0 it.0 found.0 at.1 at.2
+      by it.0 at.0 (is_nontrivial (declarations_of m) it.0) refl found.1 found.0 at.1 at.2
     where
-      by : {u : TypeName} (b : Bool) → is_nontrivial (declarations_of m) u ≡ b → (b || is_storage u) ≡ true → (t inner : TypeName)
+      by : (u t : TypeName) (b : Bool) → is_nontrivial (declarations_of m) u ≡ b → (b || is_storage u) ≡ true
           → option_and_then target (written 0 i) ≡ Some u → written 0 i ≡ Some t → target t ≡ Some u → OwnedRow m f i
-      by {u} true is stored t inner placed at to =
+      by u t true is stored behind at to =
           let x = reached op.DestroyAddr k (of_parts _ k.operands) t u at to (object_of u is) in
-          owned_row_of m f i _ [] x.taken (k.no_result refl) (destroys _ (ap effect_of k.op) (ap (λ o. operation_by (access_kind_of o) i.qualifier) k.op) x.holds_none)
-      by {u} false is stored t inner placed at to =
-          as_lowered m f i (destroy_storage m r f i k (ap (λ o. passes is_storage o) placed ∙ stored))
+          owned_row_of m f i _ [] x.taken (k.no_result refl) (owned.destroys _ (ap effect_of k.op) (ap (λ o. operation_by (access_kind_of o) i.qualifier) k.op) x.holds_none)
+      by u t false is stored behind at to = as_lowered m f i (destroy_storage m r f i k (ap (passes is_storage) behind ∙ stored))
 
   pub destructure_struct : Known m f i op.DestructureStruct → OwnedRow m f i
   destructure_struct k =
       let made = some_of (given_by op.DestructureStruct (declarations_of m) i) k.keeps in
       let at = found_behind (λ t. option_map (map field_type) (fields_of_struct (declarations_of m) t)) (written 0 i) made.0 made.1 in
       let fields = mapped_from (map field_type) (fields_of_struct (declarations_of m) at.0) made.0 at.2 in
-      owned_row_of m f i _ _ (one_operand m f i op.DestructureStruct k (of_parts _ k.operands) at.0 at.1 ∙ ap (λ x. x ∷ []) (value_form (declarations_of m) at.0 (ap target_in (struct_named m at.0 fields.0 fields.1).2)))
+      owned_row_of m f i _ _
+      (one_operand m f i op.DestructureStruct k (of_parts _ k.operands) at.0 at.1 ∙ ap (λ x. x ∷ []) (value_form (declarations_of m) at.0 (ap target_in (struct_named m at.0 fields.0 fields.1).2)))
       (k.all_results refl made.0 made.1 ∙ ap (map (typed_form (declarations_of m))) (sym fields.2) ∙ struct_forms m r at.0 fields.0 fields.1)
-      (members _ _ (ap effect_of k.op) (struct_group m r at.0 fields.0 fields.1))
+      (owned.members _ _ (ap effect_of k.op) (struct_group m r at.0 fields.0 fields.1))
 
   pub destructure_tuple : Known m f i op.DestructureTuple → OwnedRow m f i
   destructure_tuple k =
@@ -204,7 +201,7 @@ module _ (m : Module) (r : IsWellTyped m) (f : Function) (i : Inst) where
       ∙ ap (λ t. typed_form (declarations_of m) t ∷ []) whole
       ∙ ap (λ x. x ∷ []) (value_form (declarations_of m) (type.Tuple made.0) (target-Tuple made.0) ∙ ap OfValue (tuple_shape m made.0)))
       (k.all_results refl made.0 made.1 ∙ value_forms (declarations_of m) made.0 (part_target at.0 made.0 at.1 at.2))
-      (members _ _ (ap effect_of k.op) (lowered.tuple _))
+      (owned.members _ _ (ap effect_of k.op) (lowered.tuple _))
     where
       part_target : (t : TypeName) (ts : List TypeName) → written 0 i ≡ Some t → elements t ≡ Some ts → (j : ℕ) (u : TypeName) → slice_get ts j ≡ Some u → target u ≡ None
       part_target t ts is parts j u there =

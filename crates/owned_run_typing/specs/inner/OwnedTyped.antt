@@ -11,13 +11,13 @@ use Rattle.run_typing.specs.FieldForms.{AreFieldsTyped}
 use Rattle.run_typing.specs.Forms.{IsCarried, entry_forms, forms_of}
 use Rattle.run_typing.specs.RunTyped.{SizesAreMeasured}
 use Rattle.run_typing_laws.specs.inner.WellTyped.{IsWellTyped}
+use Rattle.sil_ast.specs.declared.function.Form.TheVariants.{Lowered}
 use Rattle.sil_ast.specs.declared.function.Function.{Function}
 use Rattle.sil_ast.specs.declared.inst.Inst.{Inst}
 use Rattle.sil_ast.specs.declared.module.Module.{Module}
 use Rattle.sil_ast.specs.declared.place.PointId.{PointId}
 use Rattle.sil_cfg.specs.declared.item.Item.{Item}
 use Rattle.sil_cfg.specs.declared.item.Item.TheVariants as item
-use Rattle.sil_verifier.specs.Refusals.{IsOwned}
 use Rattle.type_definitions.specs.Declarations.{declarations_of}
 use Rattle.owned_run_typing.specs.inner.OwnedEnds.{OwnedEndForms}
 use Rattle.owned_run_typing.specs.inner.OwnedRows.{OwnedRowForms}
@@ -43,6 +43,10 @@ pub record OwnedTyped (m : Module) : Type 0 where
   pub fields : AreFieldsTyped m
   pub sizes : SizesAreMeasured (declarations_of m)
 
+-- no function is in lowered form
+abbrev pub HasNoLowered : Module → Type 0
+HasNoLowered m = (n : ℕ) (f : Function) → slice_get m.functions n ≡ Some f → f.form ≡ Lowered → ⊥
+
 -- a typed module in ownership form is typed in the words of a run
 abbrev pub OwnedIsTyped : Type 0
-OwnedIsTyped = (m : Module) → IsWellTyped m → IsOwned m → OwnedTyped m
+OwnedIsTyped = (m : Module) → IsWellTyped m → HasNoLowered m → OwnedTyped m
