@@ -103,6 +103,9 @@ module _ (m : Module) (n : ℕ) (f : Function) (a : IsAcceptedBody m n f) where
       at Lowered e = absurd (a.verified.accepted.types.owned (fault_at (at_function n) rule.MixedForms) (lowered n f a.body.there e))
       at External e = let inner : is_external f.form ≡ false = inner_form m f typed (some f.blocks a.body.body) in cc
 
+  abbrev fault : Rule → ValueId → ℕ → ℕ → RuleFault
+  fault r v b k = record { rule = r; subject = v; other = None; point = record { block = record { 0 = b }; index = k }; walk = [] }
+
   -- 302 to 305
   pub has_kinds : HasKinds (declarations_of m) f
   has_kinds r v b k broken =

@@ -1,7 +1,7 @@
 -- The bases of addresses lend themselves: no operand of an address is Owned.
 use Rattle.std.proofs.Common.{◌≡◌, ℕ, zero, suc, ◌<◌, List, [], ◌∷◌, length, map, refl, sym, ap, ap₂, ◌∙◌, subst, arith, Bool, true, false, not, cond, ◌⊎◌, inl, inr, Option, Some, None}
 use Rattle.std.specs.Prelude.{◌&&◌, ◌||◌, ◌==◌, Contains, is_some, option_and_then, option_map, slice_get}
-use Rattle.std.proofs.lemmas.Bool.{and_parts}
+use Rattle.std.proofs.lemmas.Bool.{and_parts, ne_eqb}
 use Rattle.std.proofs.lemmas.Option.{same_Some, slice_get-map}
 use Rattle.argument_conventions.specs.Arguments.{argument_type, arguments_of}
 use Rattle.argument_conventions.specs.declared.convention.ArgumentConvention.{ArgumentConvention}
@@ -131,8 +131,8 @@ module _ (m : Module) (i : Inst) where
   place_of_lowered _ _ (rows.stores_name w t o e named done is) k s h = cc
   place_of_lowered _ _ (rows.destroys_name w t e named done) k s h = cc
   place_of_lowered _ _ (rows.groups t ss e is) k s h = absurd (no_place _ s k (λ x. cc) h)
-  place_of_lowered _ _ (rows.chooses_plain t j c e enum place there none) k s h = absurd (no_place _ s k (λ x. cc) h)
-  place_of_lowered _ _ (rows.chooses_full t payload j c e enum place there full) k s h = absurd (no_place _ s k (λ x. cc) h)
+  place_of_lowered _ _ (rows.chooses_plain t j c e is place there none) k s h = absurd (no_place _ s k (λ x. cc) h)
+  place_of_lowered _ _ (rows.chooses_full t payload j c e is place there full) k s h = absurd (no_place _ s k (λ x. cc) h)
   place_of_lowered _ _ (rows.member t part j e number there) k s h = absurd (no_place _ s k (λ x. cc) h)
   place_of_lowered _ _ (rows.member_address t part j e number there) k s h = ap names_place e
   place_of_lowered _ _ (rows.field_address class named t j e is owner number there) k s h = ap names_place e
@@ -182,7 +182,7 @@ some_given None e = cc
 some_given (Some t) e = refl
 
 module _ (d : Declarations) (i : Inst) where
-  named_at : {A B : Type 0} (find : Member → TypeName → Option A) (g : A → TypeName) (at : Option TypeName)
+  named_at : {A : Type 0} (find : Member → TypeName → Option A) (g : A → TypeName) (at : Option TypeName)
       → is_some (option_map g (option_and_then (λ n. option_and_then (find n) at) i.member)) ≡ true → (t : TypeName) × (at ≡ Some t)
   named_at find g None e = by i.member e
     where
@@ -238,7 +238,7 @@ module _ (m : Module) (n : ℕ) (f : Function) (a : IsAcceptedBody m n f) where
   -- 210
   inner_argument : (b k : ℕ) (x : BlockArg) → slice_get (args_of f (suc b)) k ≡ Some x → target x.ty ≡ None
   unfolding lets_address_escape
-  inner_argument b k x at = no_address f.blocks (suc b) k x (typed m n f a).escapes refl at
+  inner_argument b k x at = no_address f.blocks (suc b) k x (typed m n f a).escapes (ne_eqb (suc b) 0 (λ e. omega arith)) at
 
   not_owned_place : (v : ValueId) → IsDefined f v → (t u : TypeName) → type_in d f v ≡ Some t → target t ≡ Some u → kind_at d f v ≡ kind.Owned → ⊥
   not_owned_place _ (a_result block index k i v here at) t u ty to e =

@@ -29,7 +29,7 @@ use Rattle.accepted_values.proofs.Told.{BaseFrom, addressed, base_from, into_tog
 
 -- ---- a Guaranteed value is lent by what lends itself
 
-lent_so : (defs : List Definition) (v : ValueId) (x : Facts) → AreFactsOf defs v x → x.kind ≡ kind.Guaranteed → (b : ℕ) → has x.bases b ≡ true
+pub lent_so : (defs : List Definition) (v : ValueId) (x : Facts) → AreFactsOf defs v x → x.kind ≡ kind.Guaranteed → (b : ℕ) → has x.bases b ≡ true
     → origin_at defs (value_of b) ≡ origin.Lender
 lent_so defs v _ (told _ at below) e b h =
     by (base_from (length defs) v at (operands_at defs v) (origin_at defs v) b h) (λ w c. lent_so defs w (at w) (below w c))

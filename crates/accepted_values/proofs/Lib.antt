@@ -18,3 +18,4 @@ pub mod EdgesOnce
 pub mod Switching
 pub mod Branches
 pub mod Switches
+pub mod Addresses

@@ -1,6 +1,6 @@
 //! The laws of the values of an accepted function, each on a call that does nothing. The lemmas behind them are in `proofs/`.
 
-ghost use Rattle.accepted_values.specs.inner.Bases.{AreBasesOfAddresses, AreFromOperands, AreHandedOn, AreLendersOwnBases, AreLentByLenders, AreOwnedOwnBases};
+ghost use Rattle.accepted_values.specs.inner.Bases.{AreAddressesOfLenders, AreBasesOfAddresses, AreFromOperands, AreHandedOn, AreLendersOwnBases, AreLentByLenders, AreOwnedOwnBases};
 ghost use Rattle.accepted_values.specs.inner.Handed.{AreCallsHanded, AreEntryTold, AreGiven, AreSwitched, AreTakenOver};
 ghost use Rattle.accepted_values.specs.inner.Known.{AreFactsKnown, AreRunFacts, AreWellTyped};
 ghost use Rattle.accepted_values.specs.inner.Making.{AreDistinct, AreItemsOf, AreMadeOnce, AreMadeSomewhere, AreMadeThere, AreParametersOfEntry};
@@ -75,6 +75,11 @@ pub fn lenders_are_own_bases()
 /// The bases of a Guaranteed value are borrows and `@guaranteed` arguments of the entry.
 pub fn guaranteed_are_lent()
     ensures { AreLentByLenders }
+{}
+
+/// The bases of an address are borrows and `@guaranteed` arguments of the entry.
+pub fn addresses_are_lent()
+    ensures { AreAddressesOfLenders }
 {}
 
 /// A base of a value is the value itself, or a base of one of its operands.
