@@ -1,6 +1,6 @@
 -- What holds of a function with a body of an accepted module: it is typed, its values are counted, and no rule on kinds is broken.
-use Rattle.std.proofs.Common.{◌≡◌, ℕ, suc, ◌+◌, ◌<◌, ◌≤◌, List, [], ◌∷◌, length, length-append, refl, arith, true, false, None, Some, ◌⊎◌, inl, inr}
-use Rattle.std.specs.Prelude.{◌^◌, Contains, slice_get}
+use Rattle.std.proofs.Common.{◌≡◌, ℕ, ◌+◌, ◌<◌, ◌≤◌, List, [], ◌∷◌, length, length-append, refl, arith, true, false, None, ◌⊎◌, inl, inr}
+use Rattle.std.specs.Prelude.{◌^◌, Contains}
 use Rattle.std.proofs.lemmas.Bool.{cases_lt}
 use Rattle.sil_ast.specs.declared.function.Block.{Block}
 use Rattle.sil_ast.specs.declared.function.Form.{Form}
@@ -17,26 +17,24 @@ use Rattle.numbered_form.specs.Lists.{Each}
 use Rattle.numbered_form.specs.Numbering.{AreCountedFrom, values_of}
 use Rattle.numbered_form.specs.inner.Limits.{IsFunctionInLimits}
 use Rattle.ownership_chains.specs.Chains.{HasNoRing, IsInRange}
-use Rattle.ownership_kinds.specs.Statics.{HasKinds, IsDefinedAt}
+use Rattle.ownership_kinds.specs.Statics.{HasKinds}
 use Rattle.ownership_kinds.specs.Statics.IsBroken.{on_ring}
 use Rattle.ownership_origins.proofs.Counts.{are_of_values}
 use Rattle.ownership_origins.proofs.Ranges.{are_in_range}
 use Rattle.ownership_origins.specs.Origins.{definitions_of}
 use Rattle.rule_faults.specs.declared.fault.RuleFault.{RuleFault}
-use Rattle.run_typing.specs.Runnable.{IsBodyInLimits, IsNearlyNumbered, IsShort}
+use Rattle.run_typing.specs.Runnable.{IsBodyInLimits, IsShort}
 use Rattle.run_typing_laws.proofs.FunctionFacts.{TypedFunction, typed_function}
 use Rattle.run_typing_laws.proofs.SignatureFacts.{inner_form}
-use Rattle.run_typing_laws.specs.inner.WellTyped.{IsWellTyped}
 use Rattle.sil_rules.specs.declared.limits.TheConstants.{INSTRUCTIONS}
 use Rattle.sil_rules.specs.declared.rule.Rule.{Rule}
 use Rattle.sil_rules.specs.declared.rule.Rule.TheVariants as rule
 use Rattle.sil_types.specs.Typing.SignatureRules.{is_external}
 use Rattle.sil_types.specs.Typing.Typed.{at_function}
-use Rattle.sil_verifier.specs.Refusals.{IsLowered, lowered}
+use Rattle.sil_verifier.specs.Refusals.{lowered}
 use Rattle.sil_verifier.specs.Shown.IsShownIn.{kind}
-use Rattle.sil_verifier.specs.inner.Checked.{IsVerified}
 use Rattle.type_check.specs.Refusals.{fault_at}
-use Rattle.type_definitions.specs.Declarations.{Declarations, declarations_of}
+use Rattle.type_definitions.specs.Declarations.{declarations_of}
 use Rattle.accepted_values.specs.inner.Known.{AreWellTyped, IsAcceptedBody, IsValue}
 
 -- ---- the limit on instructions holds of each block

@@ -1,6 +1,6 @@
 -- The bases of addresses lend themselves: no operand of an address is Owned.
-use Rattle.std.proofs.Common.{◌≡◌, ℕ, zero, suc, ◌<◌, List, [], ◌∷◌, length, map, refl, sym, ap, ap₂, ◌∙◌, subst, arith, Bool, true, false, not, cond, ◌⊎◌, inl, inr, Option, Some, None}
-use Rattle.std.specs.Prelude.{◌&&◌, ◌||◌, ◌==◌, Contains, is_some, option_and_then, option_map, slice_get}
+use Rattle.std.proofs.Common.{◌≡◌, ℕ, zero, suc, List, [], ◌∷◌, length, map, refl, sym, ap, ap₂, ◌∙◌, subst, arith, Bool, true, false, not, cond, inl, inr, Option, Some, None}
+use Rattle.std.specs.Prelude.{Contains, is_some, option_and_then, option_map, slice_get}
 use Rattle.std.proofs.lemmas.Bool.{and_parts, ne_eqb}
 use Rattle.std.proofs.lemmas.Option.{same_Some, slice_get-map}
 use Rattle.argument_conventions.specs.Arguments.{argument_type, arguments_of}
@@ -12,13 +12,10 @@ use Rattle.holder_model.specs.declared.row_effect.RowEffect.TheVariants as effec
 use Rattle.instruction_table.specs.Forms.{result_kind_of, roles_of}
 use Rattle.instruction_table.specs.declared.entries.ResultKind.{ResultKind}
 use Rattle.instruction_table.specs.declared.entries.ResultKind.TheVariants.{NoneResult, OwnedResult, ScopeResult, AddressResult, ForwardedResult, OperandResult}
-use Rattle.instruction_table.specs.declared.entries.Role.{Role}
 use Rattle.instruction_table.specs.declared.entries.Role.TheVariants as role
 use Rattle.instruction_table.specs.declared.op.Op.{Op}
 use Rattle.instruction_table.specs.declared.op.Op.TheVariants as op
-use Rattle.item_operands.specs.Parts.{inst_at}
 use Rattle.item_operands.specs.Roles.{by_row, conventions_in, roles_for, taken_as, taken_by, taken_each}
-use Rattle.item_operands.specs.declared.taken.Taken.{Taken}
 use Rattle.lowering_laws.proofs.Lowerable.{contained}
 use Rattle.numbered_form.specs.inner.Parts.{has_operands, is_typed}
 use Rattle.owned_run_typing.proofs.OwnedInsts.{owned_inst}
@@ -30,12 +27,11 @@ use Rattle.ownership_chains.specs.Facts.{AreFactsOf, has, origin_at, told, told_
 use Rattle.ownership_chains.specs.declared.definition.Definition.{Definition}
 use Rattle.ownership_chains.specs.declared.definition.Origin.TheVariants as origin
 use Rattle.ownership_chains.specs.declared.facts.Facts.{Facts}
-use Rattle.ownership_kinds.specs.Statics.{all_taken}
 use Rattle.ownership_origins.specs.Origins.{arg_definition_by, chain_operands, definitions_of, is_trivial_or_untyped, is_zero, result_origin}
 use Rattle.ownership_origins.specs.Switched.{switch_to}
 use Rattle.ownership_origins.specs.declared.switched.Switched.{Switched}
 use Rattle.point_checks.specs.Points.{IsAt}
-use Rattle.run_typing.specs.Forms.{Form, OfFunction, OfPlace, OfValue, form_by, form_of, form_with, forms_of}
+use Rattle.run_typing.specs.Forms.{Form, OfPlace, OfValue, form_by, form_of, form_with, forms_of}
 use Rattle.run_typing.specs.RowForms as rows
 use Rattle.run_typing.specs.RowForms.{RowForms}
 use Rattle.run_typing_laws.proofs.BlockFacts.{no_address}
@@ -63,13 +59,13 @@ use Rattle.sil_types.specs.Typing.OperandTypes.{is_as_written}
 use Rattle.sil_types.specs.Typing.RowTypes.{address_of, address_of_field, given_by, gives, type_of, written}
 use Rattle.sil_types.specs.Typing.Shapes.{element_of, is_object, struct_field, target}
 use Rattle.sil_types.specs.Typing.SignatureRules.{fits_by, is_argument_for}
-use Rattle.sil_types.specs.Typing.Values.{function_at, type_at, value_functions, value_types}
+use Rattle.sil_types.specs.Typing.Values.{function_at, value_functions, value_types}
 use Rattle.type_definitions.specs.Declarations.{Declarations, declarations_of}
 use Rattle.type_definitions.specs.Measures.{is_trivial}
 use Rattle.type_definitions.specs.declared.kind.Kind.{Kind}
 use Rattle.type_definitions.specs.declared.kind.Kind.TheVariants as kind
 use Rattle.value_tables.specs.FirstValue as values
-use Rattle.accepted_values.specs.inner.Bases.{AreAddressesOfLenders, IsBaseOf, IsLender}
+use Rattle.accepted_values.specs.inner.Bases.{AreAddressesOfLenders}
 use Rattle.accepted_values.specs.inner.Handed.{kind_told}
 use Rattle.accepted_values.specs.inner.Known.{IsAcceptedBody, IsValue, facts_at, kind_at, type_in}
 use Rattle.accepted_values.specs.inner.Operands.{MayLend, kind_by_row, kind_together}
@@ -79,7 +75,7 @@ use Rattle.accepted_values.proofs.Counted.{nothing_in, stands}
 use Rattle.accepted_values.proofs.Defined.{IsDefined, a_result, an_argument, defined_so}
 use Rattle.accepted_values.proofs.Facts.{known, operand_is_value}
 use Rattle.accepted_values.proofs.Made.{at_point_of_result}
-use Rattle.accepted_values.proofs.Parameters.{entry_pairs, fits, pair_at, told_fits, told_of}
+use Rattle.accepted_values.proofs.Parameters.{entry_pairs, pair_at, told_fits, told_of}
 use Rattle.accepted_values.proofs.Suited.{by_operand, result_kind, suits_at}
 use Rattle.accepted_values.proofs.TableRows.{argument_rows, result_rows}
 use Rattle.accepted_values.proofs.Told.{BaseFrom, addressed, base_from, itself, lent}
@@ -243,9 +239,9 @@ module _ (m : Module) (n : ℕ) (f : Function) (a : IsAcceptedBody m n f) where
   not_owned_place : (v : ValueId) → IsDefined f v → (t u : TypeName) → type_in d f v ≡ Some t → target t ≡ Some u → kind_at d f v ≡ kind.Owned → ⊥
   not_owned_place _ (a_result block index k i v here at) t u ty to e =
       let row = owned_inst m (well_typed m a.verified) n f a.body.there (point_at block index) i
-          (at_point_of_result m n f a v block index i here (contained i.results k v at)) (in_ownership_form m n f a) in
+      (at_point_of_result m n f a v block index i here (contained i.results k v at)) (in_ownership_form m n f a) in
       let form : slice_get (forms_of d f i.results) k ≡ Some (OfPlace (shape_of d u)) =
-          slice_get-map (form_of d f) i.results k ∙ ap (option_map (form_of d f)) at ∙ ap (λ x. Some x) (place_form_of v t u ty to) in
+      slice_get-map (form_of d f) i.results k ∙ ap (option_map (form_of d f)) at ∙ ap (λ x. Some x) (place_form_of v t u ty to) in
       let address = gives_address i.op (place_of_row m i _ _ row.row k (shape_of d u) form) in
       by (is_trivial_or_untyped d (type_in d f v))
       (sym e ∙ result_kind m n f a block index k i v here at ∙ ap (λ r. cond (is_trivial_or_untyped d (type_in d f v)) kind.Plain (kind_by_row r (kind_together d f i))) address)
@@ -300,7 +296,7 @@ module _ (m : Module) (n : ℕ) (f : Function) (a : IsAcceptedBody m n f) where
       by (of_part x t u only is to) c =
           let first : slice_get i.operands 0 ≡ Some x = ap (λ os. slice_get os 0) only in
           let ty = written_type d f x t (first_written d i x t only is)
-              (passes_at (is_as_written (value_types d f)) i.operands 0 x (operands_written m f i ((typed m n f a).insts block index i here)) first) in
+          (passes_at (is_as_written (value_types d f)) i.operands 0 x (operands_written m f i ((typed m n f a).insts block index i here)) first) in
           let same = only_one x only c in
           not_owned_place w (defined_so m n f w a (owned_value m n f a w owned)) t u (ap (type_in d f) (sym same) ∙ ty) to owned
   no_owned_operand _ w (an_argument b k x at) e c owned =

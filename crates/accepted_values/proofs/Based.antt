@@ -1,7 +1,7 @@
 -- The bases of values: which values are their own, and from which operands the others have theirs.
-use Rattle.std.proofs.Common.{◌≡◌, ℕ, zero, suc, ◌+◌, ◌<◌, ◌≤◌, List, [], ◌∷◌, length, map, take, refl, sym, ap, ◌∙◌, subst, arith, Bool, true, false, cond, ◌⊎◌, inl, inr, Option, Some, None}
-use Rattle.std.specs.Prelude.{Contains, nat_lt, slice_get, unwrap_or, if◌then◌else◌}
-use Rattle.std.proofs.lemmas.Bool.{cases_lt, le-ltb}
+use Rattle.std.proofs.Common.{◌≡◌, ℕ, ◌<◌, ◌≤◌, List, [], ◌∷◌, length, map, sym, ap, ◌∙◌, arith, true, false, ◌⊎◌, inl, inr, Some}
+use Rattle.std.specs.Prelude.{Contains, unwrap_or}
+use Rattle.std.proofs.lemmas.Bool.{cases_lt}
 use Rattle.std.proofs.lemmas.List.{length-map}
 use Rattle.std.proofs.lemmas.Option.{slice_get_past}
 use Rattle.sil_ast.specs.declared.function.Function.{Function}
@@ -14,7 +14,6 @@ use Rattle.ownership_chains.specs.declared.definition.Definition.{Definition}
 use Rattle.ownership_chains.specs.declared.definition.Origin.TheVariants as origin
 use Rattle.ownership_chains.specs.declared.facts.Facts.{Facts}
 use Rattle.ownership_kinds.specs.Facts.{facts_in}
-use Rattle.ownership_origins.proofs.Counts.{are_of_values}
 use Rattle.ownership_origins.specs.Origins.{definitions_of}
 use Rattle.type_definitions.specs.Declarations.{Declarations, declarations_of}
 use Rattle.type_definitions.specs.declared.kind.Kind.{Kind}
@@ -22,7 +21,7 @@ use Rattle.type_definitions.specs.declared.kind.Kind.TheVariants as kind
 use Rattle.accepted_values.specs.inner.Bases.{AreBasesOfAddresses, AreFromOperands, AreHandedOn, AreLendersOwnBases, AreLentByLenders, AreOwnedOwnBases, IsBaseOf, IsLender}
 use Rattle.accepted_values.specs.inner.Known.{IsAcceptedBody, IsValue, facts_at, kind_at, told_in_function}
 use Rattle.accepted_values.proofs.Accepted.{as_many}
-use Rattle.accepted_values.proofs.Borrowed.{borrow_is_value, lends, opened}
+use Rattle.accepted_values.proofs.Borrowed.{lends, opened}
 use Rattle.accepted_values.proofs.Extracts.{one_of_extract}
 use Rattle.accepted_values.proofs.Facts.{facts_so, known, told_so, value_or_none}
 use Rattle.accepted_values.proofs.Told.{BaseFrom, addressed, base_from, into_together, itself, lent, lent_on, owned_told}

@@ -1,9 +1,9 @@
 -- Scopes by their rows: a value that lends itself is the result of a borrow or a `@guaranteed` argument of the entry, and each borrow does.
-use Rattle.std.proofs.Common.{◌≡◌, ℕ, zero, suc, ◌+◌, ◌<◌, ◌≤◌, List, [], ◌∷◌, length, map, replicate, refl, sym, ap, ◌∙◌, subst, arith, Bool, true, false, not, cond, ◌⊎◌, inl, inr, Option, Some, None}
-use Rattle.std.specs.Prelude.{◌==◌, is_some, option_map, slice_get, unwrap_or}
+use Rattle.std.proofs.Common.{◌≡◌, ℕ, zero, suc, ◌+◌, ◌<◌, ◌≤◌, List, [], ◌∷◌, length, map, refl, sym, ap, ◌∙◌, subst, arith, Bool, true, false, not, cond, ◌⊎◌, inl, inr, Option, Some, None}
+use Rattle.std.specs.Prelude.{is_some, option_map, slice_get, unwrap_or}
 use Rattle.std.specs.List.{flat_map}
 use Rattle.std.proofs.lemmas.Bool.{and_parts, cases_lt, eqb-true, not-true}
-use Rattle.std.proofs.lemmas.List.{length-map, length-replicate}
+use Rattle.std.proofs.lemmas.List.{length-replicate}
 use Rattle.std.proofs.lemmas.Option.{slice_get-map, slice_get_past, slice_get_within}
 use Rattle.instruction_table.specs.Forms.{result_kind_of, results_of as count_of_row}
 use Rattle.instruction_table.specs.declared.entries.ResultKind.{ResultKind}
@@ -15,7 +15,6 @@ use Rattle.lowering_laws.proofs.Lists.{counted_split}
 use Rattle.numbered_form.specs.Insts.{insts_of}
 use Rattle.numbered_form.specs.Numbering.{AreCountedFrom, defined_in, results_of, value_of, values_of}
 use Rattle.ownership_chains.specs.Facts.{origin_at}
-use Rattle.ownership_chains.specs.declared.definition.Definition.{Definition}
 use Rattle.ownership_chains.specs.declared.definition.Origin.TheVariants as origin
 use Rattle.ownership_origins.specs.Origins.{arg_definition_by, definitions_of, is_trivial_or_untyped, is_zero, result_origin}
 use Rattle.ownership_origins.specs.Switched.{switch_to}
@@ -41,11 +40,10 @@ use Rattle.sil_types.specs.Typing.Shapes.{is_nontrivial, is_object, where_it}
 use Rattle.type_definitions.specs.Declarations.{Declarations, declarations_of}
 use Rattle.type_definitions.specs.Measures.{is_trivial}
 use Rattle.value_tables.proofs.Rows.{rows_count}
-use Rattle.value_tables.specs.Borrows.{arg_borrows, borrow_at, borrow_by, borrow_in, borrows, borrows_of, is_borrow, result_borrows}
+use Rattle.value_tables.specs.Borrows.{arg_borrows, borrow_at, borrow_by, borrows, borrows_of, is_borrow, result_borrows}
 use Rattle.value_tables.specs.declared.borrows.Borrow.{Borrow}
 use Rattle.value_tables.specs.declared.borrows.Borrow.TheVariants.{NoBorrow}
 use Rattle.accepted_values.specs.inner.Known.{IsAcceptedBody, IsValue}
-use Rattle.accepted_values.specs.inner.Rows.{IsArgument, IsResult}
 use Rattle.accepted_values.proofs.Accepted.{counted, typed}
 use Rattle.accepted_values.proofs.Counted.{number_at}
 use Rattle.accepted_values.proofs.Defined.{IsDefined, a_result, an_argument, defined_so}

@@ -1,16 +1,13 @@
 -- What a branch hands over: its block's arguments take it over, one by one.
-use Rattle.std.proofs.Common.{◌≡◌, ℕ, zero, suc, ◌<◌, List, [], ◌∷◌, ◌++◌, length, map, refl, sym, ap, ap₂, ◌∙◌, subst, arith, Bool, true, false, not, cond, ◌⊎◌, inl, inr, Option, Some, None}
-use Rattle.std.specs.Prelude.{◌&&◌, ◌==◌, Contains, is_none, slice_get}
+use Rattle.std.proofs.Common.{◌≡◌, ℕ, zero, suc, ◌<◌, List, [], ◌∷◌, ◌++◌, length, map, refl, sym, ap, ap₂, ◌∙◌, arith, Bool, true, false, ◌⊎◌, inl, inr, Option, Some, None}
+use Rattle.std.specs.Prelude.{◌==◌, is_none, slice_get}
 use Rattle.std.specs.List.{AllZip, flat_map, list_all}
 use Rattle.std.specs.Option.{option_to_list}
 use Rattle.std.proofs.lemmas.Bool.{and_parts}
 use Rattle.std.proofs.lemmas.List.Elements.{Contains-append_right}
 use Rattle.std.proofs.lemmas.Option.{same_Some}
 use Rattle.instruction_table.specs.Forms.{ending_of}
-use Rattle.instruction_table.specs.declared.entries.Ending.{Ending}
 use Rattle.instruction_table.specs.declared.entries.Ending.TheVariants as ending
-use Rattle.instruction_table.specs.declared.entries.Role.TheVariants as role
-use Rattle.instruction_table.specs.declared.op.Op.{Op}
 use Rattle.instruction_table.specs.declared.op.Op.TheVariants as op
 use Rattle.item_operands.specs.Parts.{edge_at, edge_in, terminator_in, terminator_of}
 use Rattle.item_operands.specs.Roles.{consumed, taken_along, taken_by}
@@ -21,15 +18,14 @@ use Rattle.ownership_chains.specs.Facts.{origin_at, told_by}
 use Rattle.ownership_chains.specs.declared.definition.Origin.TheVariants as origin
 use Rattle.ownership_chains.specs.declared.facts.Facts.{Facts}
 use Rattle.ownership_kinds.specs.Facts.{kind_in}
-use Rattle.ownership_kinds.specs.Statics.{all_taken, fits_block, is_annotated_well, is_owned_annotation}
+use Rattle.ownership_kinds.specs.Statics.{fits_block, is_annotated_well, is_owned_annotation}
 use Rattle.ownership_kinds.specs.Statics.IsBroken.{annotated}
 use Rattle.ownership_origins.specs.Origins.{arg_definition_by, definitions_of, is_trivial_or_untyped, is_zero}
 use Rattle.ownership_origins.specs.Switched.{switch_to}
-use Rattle.ownership_origins.specs.declared.switched.Switched.{Switched}
 use Rattle.point_checks.specs.Points.{IsAt}
 use Rattle.run_typing_laws.proofs.Found.{not_false}
 use Rattle.run_typing_laws.proofs.FunctionFacts.{TypedInst}
-use Rattle.run_typing_laws.proofs.Rows.Finding.{fails_at, never_fails, never_passes, passes_at, some_of}
+use Rattle.run_typing_laws.proofs.Rows.Finding.{fails_at, passes_at, some_of}
 use Rattle.run_typing_laws.proofs.ShapeFacts.{same_types}
 use Rattle.run_typing_laws.proofs.ValueForms.{edges_written}
 use Rattle.sil_ast.specs.Blocks.{args_in, args_of}
@@ -43,17 +39,15 @@ use Rattle.sil_ast.specs.declared.inst.Inst.{Inst}
 use Rattle.sil_ast.specs.declared.module.Module.{Module}
 use Rattle.sil_ast.specs.declared.operands.Operand.{Operand}
 use Rattle.sil_ast.specs.declared.place.EdgeId.{EdgeId}
-use Rattle.sil_ast.specs.declared.place.ValueId.{ValueId}
 use Rattle.sil_ast.specs.declared.type_name.TypeName.{TypeName}
 use Rattle.sil_rules.specs.declared.rule.Rule.TheVariants as rule
 use Rattle.sil_types.specs.Typing.EdgeRules.{goes_to_entry, has_block_types, has_wrong_edge_arguments, have_wrong_arguments_by, is_to_entry}
-use Rattle.sil_types.specs.Typing.OperandTypes.{are_as_written, edge_is_as_written, is_as_written}
+use Rattle.sil_types.specs.Typing.OperandTypes.{edge_is_as_written, is_as_written}
 use Rattle.sil_types.specs.Typing.RowTypes.{all_written}
 use Rattle.sil_types.specs.Typing.Same.{are_same_types, is_same_type}
 use Rattle.sil_types.specs.Typing.Values.{arg_type, value_types}
 use Rattle.type_definitions.specs.Declarations.{Declarations, declarations_of}
 use Rattle.type_definitions.specs.Measures.{is_trivial}
-use Rattle.type_definitions.specs.declared.kind.Kind.{Kind}
 use Rattle.type_definitions.specs.declared.kind.Kind.TheVariants as kind
 use Rattle.accepted_values.specs.inner.Handed.{AreTakenOver, Becomes, TakesOver}
 use Rattle.accepted_values.specs.inner.Known.{IsAcceptedBody, facts_at, kind_at, type_in}
@@ -62,7 +56,7 @@ use Rattle.accepted_values.proofs.Accepted.{counted, has_kinds, typed}
 use Rattle.accepted_values.proofs.Counted.{contains_map, in_all}
 use Rattle.accepted_values.proofs.Facts.{facts_so}
 use Rattle.accepted_values.proofs.Places.{argument_is_value}
-use Rattle.accepted_values.proofs.Suited.{plain_value, suits_at, trivial_so}
+use Rattle.accepted_values.proofs.Suited.{suits_at, trivial_so}
 use Rattle.accepted_values.proofs.Switching.{Leaves, no_switch}
 use Rattle.accepted_values.proofs.TableRows.{argument_rows}
 use Rattle.accepted_values.proofs.Written.{written_type}
@@ -124,8 +118,8 @@ module _ (m : Module) (n : ℕ) (f : Function) (a : IsAcceptedBody m n f) where
       let row = argument_rows m n f b k x a at in
       let defs = definitions_of d f in
       let is_owned : origin_at defs x.value ≡ origin.Owned =
-          row.defined.origin
-          ∙ ap₂ (λ c t. (arg_definition_by (is_zero b) (switch_to f b) c t).origin) e nontrivial in
+      row.defined.origin
+      ∙ ap₂ (λ c t. (arg_definition_by (is_zero b) (switch_to f b) c t).origin) e nontrivial in
       ap (λ (y : Facts). y.kind) (facts_so m n f a x.value (argument_is_value f (counted m n f a) b k x at))
       ∙ ap (λ o. (told_by (length defs) x.value (facts_at d f) (operands_at defs x.value) o).kind) is_owned
 

@@ -1,5 +1,5 @@
 -- What a call hands over: operands of the types and kinds that the signature tells of.
-use Rattle.std.proofs.Common.{◌≡◌, append-nil, ℕ, zero, suc, ◌<◌, List, [], ◌∷◌, ◌++◌, length, map, refl, sym, ap, ap₂, ◌∙◌, subst, Bool, true, false, not, Option, Some, None}
+use Rattle.std.proofs.Common.{◌≡◌, append-nil, ℕ, zero, suc, List, [], ◌∷◌, length, map, refl, sym, ap, ap₂, ◌∙◌, subst, Bool, true, Some}
 use Rattle.std.specs.Prelude.{◌&&◌, Contains, drop, option_map, slice_get}
 use Rattle.std.specs.List.{AllZip, flat_map}
 use Rattle.std.specs.Option.{option_to_list}
@@ -10,10 +10,8 @@ use Rattle.argument_conventions.specs.declared.convention.ArgumentConvention.{Ar
 use Rattle.argument_conventions.specs.declared.convention.ArgumentConvention.TheVariants as convention
 use Rattle.instruction_table.specs.Forms.{bare_operands_of, roles_of}
 use Rattle.instruction_table.specs.declared.entries.Role.TheVariants as role
-use Rattle.instruction_table.specs.declared.op.Op.{Op}
 use Rattle.instruction_table.specs.declared.op.Op.TheVariants as op
 use Rattle.item_operands.specs.Roles.{by_convention, by_row, conventions_by, conventions_in, role_handed, roles_for, taken_as, taken_by, taken_each}
-use Rattle.item_operands.specs.declared.taken.Taken.{Taken}
 use Rattle.item_operands.specs.declared.taken.Treatment.{Treatment}
 use Rattle.lowering_laws.proofs.Lowerable.{contained}
 use Rattle.ownership_kinds.specs.Statics.{all_taken}
@@ -26,9 +24,7 @@ use Rattle.sil_ast.specs.declared.function.Function.{Function}
 use Rattle.sil_ast.specs.declared.inst.Inst.{Inst}
 use Rattle.sil_ast.specs.declared.module.Module.{Module}
 use Rattle.sil_ast.specs.declared.operands.Operand.{Operand}
-use Rattle.sil_ast.specs.declared.place.ValueId.{ValueId}
 use Rattle.sil_ast.specs.declared.signature.Signature.{Signature}
-use Rattle.sil_ast.specs.declared.type_name.TypeName.{TypeName}
 use Rattle.sil_types.specs.Typing.OperandTypes.{are_as_asked_by, argument_types, has_type}
 use Rattle.sil_types.specs.Typing.Same.{all_pairs}
 use Rattle.sil_types.specs.Typing.Shapes.{is_object}

@@ -1,6 +1,6 @@
 -- An extract has one operand.
-use Rattle.std.proofs.Common.{◌≡◌, ℕ, List, [], ◌∷◌, length, map, take, refl, sym, ap, ◌∙◌, subst, Bool, true, false, Option}
-use Rattle.std.specs.Prelude.{Contains, slice_get}
+use Rattle.std.proofs.Common.{◌≡◌, ℕ, List, [], ◌∷◌, map, take, refl, sym, ap, ◌∙◌, subst, Bool, true, false, Option}
+use Rattle.std.specs.Prelude.{Contains}
 use Rattle.instruction_table.specs.Forms.{result_kind_of}
 use Rattle.instruction_table.specs.declared.entries.ResultKind.{ResultKind}
 use Rattle.instruction_table.specs.declared.entries.ResultKind.TheVariants.{NoneResult, OwnedResult, ScopeResult, AddressResult, ForwardedResult, OperandResult}
@@ -10,14 +10,13 @@ use Rattle.numbered_form.specs.inner.Parts.{has_operands, is_typed}
 use Rattle.ownership_chains.specs.Chains.{operands_at}
 use Rattle.ownership_chains.specs.Facts.{origin_at}
 use Rattle.ownership_chains.specs.declared.definition.Origin.TheVariants as origin
-use Rattle.ownership_origins.specs.Origins.{arg_definition_by, chain_operands, definitions_of, is_trivial_or_untyped, is_zero, result_origin}
+use Rattle.ownership_origins.specs.Origins.{arg_definition_by, chain_operands, definitions_of, is_zero, result_origin}
 use Rattle.ownership_origins.specs.Switched.{switch_to}
 use Rattle.ownership_origins.specs.declared.switched.Switched.{Switched}
 use Rattle.run_typing_laws.proofs.EndFacts.{one_operand}
 use Rattle.sil_ast.specs.declared.function.ArgKind.{ArgKind}
 use Rattle.sil_ast.specs.declared.function.ArgKind.TheVariants as annotation
 use Rattle.sil_ast.specs.declared.function.Function.{Function}
-use Rattle.sil_ast.specs.declared.inst.Inst.{Inst}
 use Rattle.sil_ast.specs.declared.module.Module.{Module}
 use Rattle.sil_ast.specs.declared.operands.Operand.{Operand}
 use Rattle.sil_ast.specs.declared.place.ValueId.{ValueId}

@@ -1,21 +1,19 @@
 -- The facts of values: each value has those that its origin tells by the facts of its operands, and a run is told just these.
-use Rattle.std.proofs.Common.{◌≡◌, ℕ, ◌+◌, ◌<◌, ◌≤◌, List, [], length, map, refl, sym, ap, ◌∙◌, subst, arith, Option, Some, None, ◌⊎◌, inl, inr, Bool, true, false}
-use Rattle.std.specs.Prelude.{All, Contains, nat_lt, option_map, slice_get, unwrap_or, if◌then◌else◌}
-use Rattle.std.specs.List.{range_with_len}
+use Rattle.std.proofs.Common.{◌≡◌, ℕ, ◌<◌, ◌≤◌, List, [], length, sym, ap, ◌∙◌, subst, arith, Option, Some, None, ◌⊎◌, inl, inr}
+use Rattle.std.specs.Prelude.{Contains, option_map, slice_get, unwrap_or, if◌then◌else◌}
 use Rattle.std.proofs.lemmas.Bool.{cases_lt, le-ltb, lt-ltb}
 use Rattle.std.proofs.lemmas.List.Elements.{All-contains}
 use Rattle.std.proofs.lemmas.List.FromFn.{get_or-map-range_with_len, length-map-range_with_len}
 use Rattle.std.proofs.lemmas.Option.{slice_get-map, slice_get_past, unwrap_or-slice_get}
 use Rattle.sil_ast.specs.declared.function.Function.{Function}
 use Rattle.sil_ast.specs.declared.module.Module.{Module}
-use Rattle.sil_ast.specs.declared.place.FuncId.{FuncId}
 use Rattle.sil_ast.specs.declared.place.ValueId.{ValueId}
 use Rattle.holder_model.specs.Calling.{value_count}
 use Rattle.holder_model.specs.ModuleFacts.{facts_of, facts_told, function_facts}
 use Rattle.lowering_laws.proofs.Ends.{facts_of as facts_without_ring}
 use Rattle.numbered_form.specs.Numbering.{values_of}
 use Rattle.ownership_chains.specs.Chains.{operands_at}
-use Rattle.ownership_chains.specs.Facts.{AreFactsOf, facts_with, known_or, origin_at, told, told_at, value_of}
+use Rattle.ownership_chains.specs.Facts.{AreFactsOf, facts_with, told, told_at, value_of}
 use Rattle.ownership_chains.proofs.Enough.{told_in_time}
 use Rattle.ownership_chains.specs.Steps.{told_in}
 use Rattle.ownership_chains.specs.declared.definition.Definition.{Definition}

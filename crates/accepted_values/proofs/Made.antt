@@ -1,6 +1,6 @@
 -- Which items make a value: those at one stop, and all of them lead to one point.
-use Rattle.std.proofs.Common.{◌≡◌, ℕ, zero, suc, ◌+◌, ◌<◌, List, [], ◌∷◌, ◌++◌, append-nil, length, map, refl, sym, ap, ap₂, ◌∙◌, subst, arith, Bool, true, false, Option, Some, None, ◌⊎◌, inl, inr}
-use Rattle.std.specs.Prelude.{◌&&◌, ◌==◌, ◌↔◌, Contains, IsTrue, option_map, slice_get, unwrap_or}
+use Rattle.std.proofs.Common.{◌≡◌, ℕ, zero, suc, ◌+◌, ◌<◌, List, [], ◌∷◌, ◌++◌, append-nil, length, map, refl, sym, ap, ap₂, ◌∙◌, subst, arith, true, false, Option, Some, None, ◌⊎◌, inl, inr}
+use Rattle.std.specs.Prelude.{◌&&◌, ◌==◌, Contains, option_map, slice_get, unwrap_or}
 use Rattle.std.proofs.lemmas.Bool.{and_parts, eq-eqb, eqb-false, eqb-true}
 use Rattle.std.specs.List.{flat_map}
 use Rattle.std.proofs.lemmas.List.{length-map}
@@ -9,11 +9,10 @@ use Rattle.holder_model.specs.Standing.{behind, first_point, point_behind, targe
 use Rattle.item_operands.specs.Items.{arg_value, item_defined}
 use Rattle.item_operands.specs.Parts.{args_behind, edge_at, edge_in, inst_at, inst_in, results_in, terminator_in, terminator_of}
 use Rattle.numbered_form.specs.Insts.{insts_of}
-use Rattle.numbered_form.specs.Numbering.{AreCountedFrom, defined_in, results_of, values_of}
+use Rattle.numbered_form.specs.Numbering.{AreCountedFrom, defined_in, results_of}
 use Rattle.ownership_kinds.specs.Statics.{IsDefinedAt}
 use Rattle.ownership_kinds.specs.Statics.IsDefinedAt.{argument as of_block, result as of_inst}
 use Rattle.point_checks.specs.Points.{IsAt}
-use Rattle.run_typing_laws.proofs.FunctionFacts.{TypedFunction}
 use Rattle.run_typing_laws.proofs.ItemFacts.{item_is_of}
 use Rattle.run_typing_laws.proofs.ListFacts.{get_below}
 use Rattle.run_typing_laws.proofs.Rows.Finding.{fails_at}
@@ -33,12 +32,11 @@ use Rattle.sil_cfg.specs.declared.item.Item.TheVariants.{Entry, Inst, Edge, Exit
 use Rattle.sil_cfg.specs.inner.Splice.{Stop, into, is_at, item, same_item}
 use Rattle.sil_types.specs.Typing.EdgeRules.{goes_to_entry, is_to_entry}
 use Rattle.lowering_laws.proofs.Lists.{counted_split}
-use Rattle.lowering_laws.proofs.Lowerable.{contained}
 use Rattle.lowering_laws.proofs.Rings.{defined_somewhere}
-use Rattle.accepted_values.specs.inner.Known.{IsAcceptedBody, IsValue}
+use Rattle.accepted_values.specs.inner.Known.{IsAcceptedBody}
 use Rattle.accepted_values.specs.inner.Making.{AreDistinct, AreItemsOf, AreMadeOnce, AreMadeSomewhere, AreMadeThere, AreParametersOfEntry, IsMadeAt, Makes, argument, parameter, result}
 use Rattle.accepted_values.proofs.Accepted.{counted, typed}
-use Rattle.accepted_values.proofs.Counted.{contains_map, counted_in, nothing_in, stands, stands_once}
+use Rattle.accepted_values.proofs.Counted.{contains_map, counted_in, nothing_in, stands_once}
 use Rattle.accepted_values.proofs.Places.{IsArgumentOf, arguments_once, no_argument_and_result, results_once}
 
 -- ---- the ways in which an item makes a value

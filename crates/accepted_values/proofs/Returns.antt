@@ -1,11 +1,9 @@
 -- What a `return` gives: a value that may end, of the type that the signature tells of.
-use Rattle.std.proofs.Common.{◌≡◌, ℕ, zero, suc, ◌<◌, List, [], ◌∷◌, length, replicate, refl, sym, ap, ap₂, ◌∙◌, subst, Bool, true, false, not, Option, Some, None}
-use Rattle.std.specs.Prelude.{Contains, option_and_then, option_map, slice_get}
+use Rattle.std.proofs.Common.{◌≡◌, ℕ, List, [], ◌∷◌, length, sym, ap, ◌∙◌, true, Option, Some}
+use Rattle.std.specs.Prelude.{option_and_then, option_map, slice_get}
 use Rattle.instruction_table.specs.Forms.{roles_of}
 use Rattle.instruction_table.specs.declared.entries.Role.TheVariants as role
-use Rattle.instruction_table.specs.declared.op.Op.{Op}
 use Rattle.instruction_table.specs.declared.op.Op.TheVariants as op
-use Rattle.item_operands.specs.Parts.{terminator_of}
 use Rattle.item_operands.specs.Roles.{by_row, conventions_in, roles_for, taken_as, taken_by, taken_each}
 use Rattle.lowering_laws.proofs.Lowerable.{contained}
 use Rattle.point_checks.specs.Points.{IsAt}
@@ -18,7 +16,6 @@ use Rattle.sil_ast.specs.declared.function.Function.{Function}
 use Rattle.sil_ast.specs.declared.inst.Inst.{Inst}
 use Rattle.sil_ast.specs.declared.module.Module.{Module}
 use Rattle.sil_ast.specs.declared.operands.Operand.{Operand}
-use Rattle.sil_ast.specs.declared.type_name.TypeName.{TypeName}
 use Rattle.sil_types.specs.Typing.OperandTypes.{is_as_written}
 use Rattle.sil_types.specs.Typing.RowTypes.{type_of, written}
 use Rattle.sil_types.specs.Typing.Same.{is_same_type}
@@ -26,7 +23,7 @@ use Rattle.sil_types.specs.Typing.SignatureRules.{differs_by, differs_from_signa
 use Rattle.sil_types.specs.Typing.Values.{value_functions, value_types}
 use Rattle.type_definitions.specs.Declarations.{Declarations, declarations_of}
 use Rattle.type_definitions.specs.Mentions.{given_type}
-use Rattle.accepted_values.specs.inner.Handed.{AreGiven, IsGiven}
+use Rattle.accepted_values.specs.inner.Handed.{AreGiven}
 use Rattle.accepted_values.specs.inner.Known.{IsAcceptedBody, type_in}
 use Rattle.accepted_values.specs.inner.Operands.{MayEnd}
 use Rattle.accepted_values.proofs.Accepted.{typed}

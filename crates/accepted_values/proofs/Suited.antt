@@ -1,5 +1,5 @@
 -- The kinds of operands by their roles, of what is forwarded, and of results.
-use Rattle.std.proofs.Common.{◌≡◌, ℕ, zero, suc, ◌<◌, List, [], ◌∷◌, ◌++◌, length, map, take, refl, sym, ap, ap₂, ◌∙◌, subst, Bool, true, false, not, cond, ◌⊎◌, inl, inr, Option, Some, None}
+use Rattle.std.proofs.Common.{◌≡◌, ℕ, List, [], ◌∷◌, length, map, take, refl, sym, ap, ap₂, ◌∙◌, Bool, true, false, cond, ◌⊎◌, inl, inr, Option, Some, None}
 use Rattle.std.specs.Prelude.{◌&&◌, ◌||◌, Contains, find, option_map, slice_get, unwrap_or}
 use Rattle.std.specs.List.{flat_map, list_any}
 use Rattle.std.proofs.lemmas.Bool.{not-false, or_parts}
@@ -246,11 +246,11 @@ module _ (m : Module) (n : ℕ) (f : Function) (a : IsAcceptedBody m n f) where
       unmixed : Unmixed (map value_of i.operands)
       unmixed some =
           let any : list_any (λ (o : Operand). is_owned (kind_in d f o.value)) i.operands ≡ true =
-              sym (ap (λ (test : ValueId → Bool). list_any (λ (o : Operand). test o.value) i.operands) owned_alike)
-              ∙ (sym (any_map (λ v. owns (kind_at d f v)) i.operands) ∙ some) in
+          sym (ap (λ (test : ValueId → Bool). list_any (λ (o : Operand). test o.value) i.operands) owned_alike)
+          ∙ (sym (any_map (λ v. owns (kind_at d f v)) i.operands) ∙ some) in
           let both : (forwards i && list_any (λ (o : Operand). is_owned (kind_in d f o.value)) i.operands) ≡ true = ap₂ (λ x y. x && y) e any in
           let none : find (λ v. is_guaranteed (kind_in d f v)) (map value_of i.operands) ≡ None =
-              ap (λ b. mixed_among (kind_in d f) b (map value_of i.operands)) (sym both) ∙ not_mixed block index i here in
+          ap (λ b. mixed_among (kind_in d f) b (map value_of i.operands)) (sym both) ∙ not_mixed block index i here in
           each_weaker (λ v. is_guaranteed (kind_in d f v) ≡ false) (λ v. guarantees (kind_at d f v) ≡ false) guarantees_so (map value_of i.operands)
           (find_none (λ v. is_guaranteed (kind_in d f v)) (map value_of i.operands) none)
 

@@ -1,12 +1,10 @@
 -- What a switch hands over: a payload or the whole enum, to the one argument of the block behind its edge.
-use Rattle.std.proofs.Common.{◌≡◌, ℕ, zero, suc, ◌<◌, List, [], ◌∷◌, ◌++◌, length, map, refl, sym, ap, ap₂, ◌∙◌, subst, arith, Bool, true, false, not, cond, ◌⊎◌, inl, inr, Option, Some, None}
-use Rattle.std.specs.Prelude.{◌&&◌, ◌||◌, ◌==◌, Contains, is_none, is_some, option_and_then, option_map, slice_get, unwrap_or}
-use Rattle.std.specs.List.{list_all, list_any}
+use Rattle.std.proofs.Common.{◌≡◌, ℕ, zero, suc, ◌<◌, List, [], ◌∷◌, length, map, refl, sym, ap, ap₂, ◌∙◌, subst, arith, Bool, true, false, not, inl, inr, Option, Some, None}
+use Rattle.std.specs.Prelude.{◌&&◌, ◌==◌, Contains, is_none, is_some, option_and_then, option_map, slice_get, unwrap_or}
+use Rattle.std.specs.List.{list_all}
 use Rattle.std.specs.Option.{option_to_list}
-use Rattle.std.proofs.lemmas.Bool.{and_parts, or_parts}
+use Rattle.std.proofs.lemmas.Bool.{and_parts}
 use Rattle.instruction_table.specs.Forms.{ending_of}
-use Rattle.instruction_table.specs.declared.entries.Ending.TheVariants as ending
-use Rattle.instruction_table.specs.declared.op.Op.{Op}
 use Rattle.instruction_table.specs.declared.op.Op.TheVariants as op
 use Rattle.item_operands.specs.Parts.{terminator_of}
 use Rattle.lowering_laws.proofs.Lowerable.{contained}
@@ -16,16 +14,14 @@ use Rattle.ownership_chains.specs.Facts.{facts_with, origin_at, told_by}
 use Rattle.ownership_chains.specs.declared.definition.Definition.{Definition}
 use Rattle.ownership_chains.specs.declared.definition.Origin.TheVariants as origin
 use Rattle.ownership_chains.specs.declared.facts.Facts.{Facts}
-use Rattle.ownership_kinds.specs.Facts.{facts_in, kind_in, kind_of_facts}
-use Rattle.ownership_kinds.specs.Statics.{fits_case, fits_default, fits_switch, is_annotated_well, is_guaranteed_annotation, is_lacking_default, lacks_argument, lacks_by, needs_argument, no_arguments}
+use Rattle.ownership_kinds.specs.Facts.{kind_in, kind_of_facts}
+use Rattle.ownership_kinds.specs.Statics.{fits_switch, is_annotated_well, is_guaranteed_annotation, is_lacking_default, lacks_argument, lacks_by, needs_argument, no_arguments}
 use Rattle.ownership_kinds.specs.Statics.IsBroken.{lacking}
 use Rattle.ownership_origins.specs.Origins.{arg_definition_by, definitions_of, is_trivial_or_untyped, is_zero}
 use Rattle.ownership_origins.specs.Switched.{switch_to, switched_by}
-use Rattle.ownership_origins.specs.declared.switched.Switched.{Switched}
-use Rattle.point_checks.specs.Points.{IsAt}
 use Rattle.run_typing_laws.proofs.FunctionFacts.{TypedInst}
 use Rattle.run_typing_laws.proofs.ListFacts.{or_second}
-use Rattle.run_typing_laws.proofs.Rows.Finding.{each_at, found_behind, mapped_from, never_passes, passes_at}
+use Rattle.run_typing_laws.proofs.Rows.Finding.{each_at, mapped_from, never_passes, passes_at}
 use Rattle.run_typing_laws.proofs.ShapeFacts.{same_types}
 use Rattle.run_typing_laws.proofs.SwitchFacts.{SwitchKept, switch_kept}
 use Rattle.run_typing_laws.proofs.ValueForms.{operands_written}

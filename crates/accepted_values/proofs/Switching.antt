@@ -1,7 +1,7 @@
 -- The switch that goes to a block: the one whose edge goes there, since no other edge does.
-use Rattle.std.proofs.Common.{◌≡◌, ℕ, zero, suc, ◌+◌, ◌<◌, ◌≤◌, List, [], ◌∷◌, ◌++◌, length, refl, sym, ap, ap₂, ◌∙◌, subst, arith, Bool, true, false, not, ◌⊎◌, inl, inr, Option, Some, None}
-use Rattle.std.specs.Prelude.{◌||◌, ◌==◌, Contains, count_by, is_none, option_map, slice_get, if◌then◌else◌}
-use Rattle.std.specs.List.{filter_map, flat_map, list_all}
+use Rattle.std.proofs.Common.{◌≡◌, ℕ, ◌<◌, refl, sym, ap, ap₂, ◌∙◌, subst, arith, Bool, true, false, Option, Some, None}
+use Rattle.std.specs.Prelude.{◌||◌, ◌==◌, Contains, option_map, slice_get, if◌then◌else◌}
+use Rattle.std.specs.List.{flat_map, list_all}
 use Rattle.std.proofs.lemmas.Bool.{eq-eqb, eqb-true}
 use Rattle.std.proofs.lemmas.List.Sums.{length-filter}
 use Rattle.instruction_table.specs.Forms.{ending_of}
@@ -13,10 +13,9 @@ use Rattle.item_operands.specs.Parts.{terminator_in}
 use Rattle.lowering_laws.proofs.Lowerable.{contained}
 use Rattle.ownership_origins.specs.Switched.{edge_to, switch_to, switched_by, switches_by, switches_from}
 use Rattle.ownership_origins.specs.declared.switched.Switched.{Switched}
-use Rattle.point_checks.specs.Points.{IsAt}
 use Rattle.run_typing_laws.proofs.Found.{neither_first, neither_second, not_false}
 use Rattle.run_typing_laws.proofs.FunctionFacts.{TypedInst}
-use Rattle.run_typing_laws.proofs.Rows.Finding.{mapped_from, passes_at}
+use Rattle.run_typing_laws.proofs.Rows.Finding.{passes_at}
 use Rattle.sil_ast.specs.declared.function.Block.{Block}
 use Rattle.sil_ast.specs.declared.function.Function.{Function}
 use Rattle.sil_ast.specs.declared.inst.Edge.{Edge}
@@ -25,7 +24,7 @@ use Rattle.sil_ast.specs.declared.module.Module.{Module}
 use Rattle.sil_ast.specs.declared.place.ValueId.{ValueId}
 use Rattle.sil_ast.specs.declared.type_name.TypeName.{TypeName}
 use Rattle.sil_types.specs.Typing.RowTypes.{written}
-use Rattle.sil_types.specs.Typing.SwitchRules.{edges_of, edges_of_block, has_wrong_cases, has_wrong_cases_by, incoming, is_alone, is_to, leaves_out_case, misfits_default, misfits_payload, names_other_case}
+use Rattle.sil_types.specs.Typing.SwitchRules.{edges_of, edges_of_block, has_wrong_cases_by, incoming, is_alone, is_to, leaves_out_case, misfits_default, misfits_payload, names_other_case}
 use Rattle.sil_types.specs.Typing.SwitchRules.{repeats_case, shares_block, switches_wrongly}
 use Rattle.type_definitions.specs.Declarations.{Declarations, declarations_of}
 use Rattle.value_tables.specs.FirstValue.{first_value}

@@ -1,5 +1,5 @@
 -- The rows of results and of arguments in the tables by value.
-use Rattle.std.proofs.Common.{◌≡◌, ℕ, zero, suc, ◌+◌, ◌<◌, List, [], ◌∷◌, length, map, replicate, refl, sym, ap, ◌∙◌, subst, arith, Option, Some, None}
+use Rattle.std.proofs.Common.{◌≡◌, ℕ, zero, suc, ◌<◌, List, [], ◌∷◌, length, map, replicate, refl, sym, ap, ◌∙◌, arith, Option, Some, None}
 use Rattle.std.specs.Prelude.{option_map, slice_get, unwrap_or}
 use Rattle.std.specs.List.{range_with_len}
 use Rattle.std.proofs.lemmas.List.{length-map, length-replicate}
@@ -22,7 +22,6 @@ use Rattle.sil_ast.specs.declared.function.Block.{Block}
 use Rattle.sil_ast.specs.declared.function.BlockArg.{BlockArg}
 use Rattle.sil_ast.specs.declared.function.Function.{Function}
 use Rattle.sil_ast.specs.declared.inst.Inst.{Inst}
-use Rattle.sil_ast.specs.declared.module.Module.{Module}
 use Rattle.sil_ast.specs.declared.place.ValueId.{ValueId}
 use Rattle.sil_types.specs.Typing.RowTypes.{made_types}
 use Rattle.sil_types.specs.Typing.Values.{arg_functions, arg_has, arg_types, result_functions, result_types}
@@ -30,7 +29,6 @@ use Rattle.type_definitions.specs.Declarations.{Declarations, declarations_of}
 use Rattle.value_tables.specs.Borrows.{arg_borrows, borrow_by, result_borrows}
 use Rattle.value_tables.specs.ValueRows.{value_rows}
 use Rattle.value_tables.specs.declared.borrows.Borrow.TheVariants.{NoBorrow}
-use Rattle.accepted_values.specs.inner.Known.{IsAcceptedBody}
 use Rattle.accepted_values.specs.inner.Rows.{AreArgumentRows, AreResultRows, IsArgument, IsDefinedBy, IsResult, source_of_argument}
 use Rattle.accepted_values.proofs.Accepted.{counted}
 

@@ -1,5 +1,5 @@
 -- The types of operands: those that are written at them, or asked by their row.
-use Rattle.std.proofs.Common.{◌≡◌, List, ap, sym, ◌∙◌, subst, true, Option, Some}
+use Rattle.std.proofs.Common.{◌≡◌, ap, sym, ◌∙◌, subst, true, Some}
 use Rattle.run_typing_laws.proofs.Rows.Finding.{passed}
 use Rattle.run_typing_laws.proofs.ShapeFacts.{same_types}
 use Rattle.sil_ast.specs.declared.function.Function.{Function}

@@ -1,5 +1,5 @@
 -- The bases of the values of an accepted function: Owned values, borrows and `@guaranteed` arguments of the entry are their own, and others have theirs from operands.
-use Rattle.std.specs.Prelude.{◌≡◌, ◌⊎◌, ◌<◌, ℕ, List, [], ◌∷◌, Contains, Some, true, length}
+use Rattle.std.specs.Prelude.{◌≡◌, ◌⊎◌, ◌<◌, ℕ, [], ◌∷◌, Contains, Some, true, length}
 use Rattle.ownership_chains.specs.Chains.{operands_at}
 use Rattle.ownership_chains.specs.Facts.{facts_with, has, origin_at}
 use Rattle.ownership_chains.specs.declared.definition.Origin.TheVariants as origin
@@ -10,7 +10,6 @@ use Rattle.sil_ast.specs.declared.function.Function.{Function}
 use Rattle.sil_ast.specs.declared.module.Module.{Module}
 use Rattle.sil_ast.specs.declared.place.ValueId.{ValueId}
 use Rattle.type_definitions.specs.Declarations.{Declarations, declarations_of}
-use Rattle.type_definitions.specs.declared.kind.Kind.{Kind}
 use Rattle.type_definitions.specs.declared.kind.Kind.TheVariants as kind
 use Rattle.value_tables.specs.Borrows.{is_borrow}
 use Rattle.accepted_values.specs.inner.Known.{IsAcceptedBody, IsValue, facts_at, kind_at}

@@ -1,16 +1,12 @@
 -- What edges, calls and returns hand over: its kind, against that of the argument or the result that takes it.
-use Rattle.std.specs.Prelude.{◌≡◌, ◌⊎◌, ⊤, ℕ, List, [], ◌∷◌, true, false, Some, slice_get, is_none}
+use Rattle.std.specs.Prelude.{◌≡◌, ◌⊎◌, ⊤, ℕ, List, [], ◌∷◌, true, Some, slice_get, is_none}
 use Rattle.std.specs.List.{AllZip}
 use Rattle.argument_conventions.specs.Arguments.{Told, argument_type, arguments_of}
 use Rattle.argument_conventions.specs.declared.convention.ArgumentConvention.{ArgumentConvention}
 use Rattle.argument_conventions.specs.declared.convention.ArgumentConvention.TheVariants as convention
 use Rattle.instruction_table.specs.declared.op.Op.TheVariants as op
 use Rattle.point_checks.specs.Points.{IsAt}
-use Rattle.instruction_table.specs.Forms.{ending_of}
-use Rattle.instruction_table.specs.declared.entries.Ending.TheVariants as ending
 use Rattle.item_operands.specs.Parts.{edge_at, terminator_of}
-use Rattle.ownership_chains.specs.Facts.{facts_with}
-use Rattle.ownership_kinds.specs.Facts.{facts_in}
 use Rattle.sil_ast.specs.Blocks.{args_of}
 use Rattle.sil_ast.specs.declared.function.BlockArg.{BlockArg}
 use Rattle.sil_ast.specs.declared.function.Function.{Function}

@@ -1,5 +1,5 @@
 -- What the tables by value say of the results of an instruction, and of the arguments of a block.
-use Rattle.std.specs.Prelude.{◌≡◌, ℕ, zero, suc, Option, Some, None, slice_get, unwrap_or}
+use Rattle.std.specs.Prelude.{◌≡◌, ℕ, zero, suc, Some, None, slice_get, unwrap_or}
 use Rattle.argument_conventions.specs.Arguments.{arguments_of}
 use Rattle.instruction_table.specs.Forms.{result_kind_of}
 use Rattle.memory_accesses.specs.Sources.{argument_source_or, result_source, source_at, sources_of}
