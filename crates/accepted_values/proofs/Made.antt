@@ -92,7 +92,9 @@ is_edge f e lt = at (slice_get f.blocks e.block.0) lt
   where
     at : (o : Option Block) → e.index < length (targets_in o) → (x : edge.Edge) × (edge_in (terminator_in o) e.index ≡ Some x)
     at None h = absurd (omega arith)
-    at (Some b) h = get_below b.terminator.edges e.index (let long : length (targets_in (Some b)) ≡ length b.terminator.edges = length-map b.terminator.edges (λ (y : edge.Edge). y.block.0) in omega arith)
+    at (Some b) h =
+        let long : length (targets_in (Some b)) ≡ length b.terminator.edges = length-map b.terminator.edges (λ (y : edge.Edge). y.block.0) in
+        get_below b.terminator.edges e.index (omega arith)
 
 same_point : (p q : PointId) → p.block.0 ≡ q.block.0 → p.index ≡ q.index → p ≡ q
 same_point p q b k = ap₂ (λ x y. let r : PointId = record { block = record { 0 = x }; index = y } in r) b k

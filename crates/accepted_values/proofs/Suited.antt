@@ -47,7 +47,8 @@ use Rattle.type_definitions.specs.declared.kind.Kind.TheVariants as kind
 use Rattle.value_tables.specs.Borrows.{is_borrow}
 use Rattle.value_tables.specs.FirstValue.{value_of}
 use Rattle.accepted_values.specs.inner.Known.{IsAcceptedBody, IsValue, facts_at, kind_at, type_in}
-use Rattle.accepted_values.specs.inner.Operands.{AreForwarded, AreResultsOfKinds, AreSuited, AreTrivialPlain, Forwards, HasNoOwner, MayEnd, MayLend, SuitsRole, kind_by_row, kind_of_result, kind_together}
+use Rattle.accepted_values.specs.inner.Operands.{AreForwarded, AreResultsOfKinds, AreSuited, AreTrivialPlain, Forwards, HasNoOwner, MayEnd, MayLend}
+use Rattle.accepted_values.specs.inner.Operands.{SuitsRole, kind_by_row, kind_of_result, kind_together}
 use Rattle.accepted_values.proofs.Accepted.{counted, has_kinds, typed}
 use Rattle.accepted_values.proofs.Counted.{in_all, nothing_in}
 use Rattle.accepted_values.proofs.Defined.{IsDefined, a_result, an_argument, defined_so}

@@ -152,7 +152,8 @@ module _ (m : Module) (n : ℕ) (f : Function) (a : IsAcceptedBody m n f) where
       at (Some s) is =
           let it = comes_from f e.block.0 s is in
           let place = one_edge f b it.block k it.index e.block.0 t it.terminator e it.edge from it.leaves (alone b k t e from switches) refl it.to in
-          let there : Leaves f b k it.terminator it.edge = subst (λ c. Leaves f c k it.terminator it.edge) (sym place.0) (subst (λ l. Leaves f it.block l it.terminator it.edge) (sym place.1) it.leaves) in
+          let there : Leaves f b k it.terminator it.edge =
+          subst (λ c. Leaves f c k it.terminator it.edge) (sym place.0) (subst (λ l. Leaves f it.block l it.terminator it.edge) (sym place.1) it.leaves) in
           let same = same_leaves f b k t it.terminator e it.edge from there in
           let so : Some (switched_by e v) ≡ Some s =
           ap (option_map (switched_by e)) (sym operand) ∙ ap₂ (λ i x. option_map (switched_by x) (first_value i)) same.0 same.1 ∙ it.made in

@@ -1,10 +1,36 @@
 //! The laws of the values of an accepted function, each on a call that does nothing. The lemmas behind them are in `proofs/`.
 
-ghost use Rattle.accepted_values.specs.inner.Bases.{AreAddressesOfLenders, AreBasesOfAddresses, AreFromOperands, AreHandedOn, AreLendersOwnBases, AreLentByLenders, AreOwnedOwnBases};
-ghost use Rattle.accepted_values.specs.inner.Handed.{AreCallsHanded, AreEntryTold, AreGiven, AreSwitched, AreTakenOver};
+ghost use Rattle.accepted_values.specs.inner.Bases.{
+  AreAddressesOfLenders,
+  AreBasesOfAddresses,
+  AreFromOperands,
+  AreHandedOn,
+  AreLendersOwnBases,
+  AreLentByLenders,
+  AreOwnedOwnBases,
+};
+ghost use Rattle.accepted_values.specs.inner.Handed.{
+  AreCallsHanded,
+  AreEntryTold,
+  AreGiven,
+  AreSwitched,
+  AreTakenOver,
+};
 ghost use Rattle.accepted_values.specs.inner.Known.{AreFactsKnown, AreRunFacts, AreWellTyped};
-ghost use Rattle.accepted_values.specs.inner.Making.{AreDistinct, AreItemsOf, AreMadeOnce, AreMadeSomewhere, AreMadeThere, AreParametersOfEntry};
-ghost use Rattle.accepted_values.specs.inner.Operands.{AreForwarded, AreResultsOfKinds, AreSuited, AreTrivialPlain};
+ghost use Rattle.accepted_values.specs.inner.Making.{
+  AreDistinct,
+  AreItemsOf,
+  AreMadeOnce,
+  AreMadeSomewhere,
+  AreMadeThere,
+  AreParametersOfEntry,
+};
+ghost use Rattle.accepted_values.specs.inner.Operands.{
+  AreForwarded,
+  AreResultsOfKinds,
+  AreSuited,
+  AreTrivialPlain,
+};
 ghost use Rattle.accepted_values.specs.inner.Rows.{AreArgumentRows, AreResultRows};
 
 /// An accepted module keeps the rules on types that a run relies on.

@@ -1,4 +1,5 @@
--- The bases of the values of an accepted function: Owned values, borrows and `@guaranteed` arguments of the entry are their own, and others have theirs from operands.
+-- The bases of the values of an accepted function: Owned values, borrows and `@guaranteed` arguments of the entry are their own,
+-- and others have theirs from operands.
 use Rattle.std.specs.Prelude.{◌≡◌, ◌⊎◌, ◌<◌, ℕ, [], ◌∷◌, Contains, Some, true, length}
 use Rattle.ownership_chains.specs.Chains.{operands_at}
 use Rattle.ownership_chains.specs.Facts.{facts_with, has, origin_at}
