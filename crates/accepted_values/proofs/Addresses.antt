@@ -1,5 +1,5 @@
 -- The bases of addresses lend themselves: no operand of an address is Owned.
-use Rattle.std.proofs.Common.{◌≡◌, ℕ, zero, suc, List, [], ◌∷◌, length, map, refl, sym, ap, ap₂, ◌∙◌, subst, arith, Bool, true, false, not, cond, inl, inr, Option, Some, None}
+use Rattle.std.proofs.Common.{◌≡◌, ℕ, zero, suc, List, [], ◌∷◌, length, map, refl, sym, ap, ap₂, ◌∙◌, subst, arith, Bool, true, false, not, cond, ◌⊎◌, inl, inr, Option, Some, None}
 use Rattle.std.specs.Prelude.{Contains, is_some, option_and_then, option_map, slice_get}
 use Rattle.std.proofs.lemmas.Bool.{and_parts, ne_eqb}
 use Rattle.std.proofs.lemmas.Option.{same_Some, slice_get-map}
@@ -23,7 +23,7 @@ use Rattle.owned_run_typing.specs.inner.OwnedRows as owned
 use Rattle.owned_run_typing.specs.inner.OwnedRows.{OwnedRowForms}
 use Rattle.ownership_chains.proofs.FactLemmas.{are_unique}
 use Rattle.ownership_chains.specs.Chains.{operands_at}
-use Rattle.ownership_chains.specs.Facts.{AreFactsOf, has, origin_at, told, told_by, value_of}
+use Rattle.ownership_chains.specs.Facts.{AreFactsOf, facts_with, has, origin_at, told, told_by, value_of}
 use Rattle.ownership_chains.specs.declared.definition.Definition.{Definition}
 use Rattle.ownership_chains.specs.declared.definition.Origin.TheVariants as origin
 use Rattle.ownership_chains.specs.declared.facts.Facts.{Facts}
@@ -68,12 +68,13 @@ use Rattle.value_tables.specs.FirstValue as values
 use Rattle.accepted_values.specs.inner.Bases.{AreAddressesOfLenders}
 use Rattle.accepted_values.specs.inner.Handed.{kind_told}
 use Rattle.accepted_values.specs.inner.Known.{IsAcceptedBody, IsValue, facts_at, kind_at, type_in}
+use Rattle.accepted_values.specs.inner.Nones.{AreAddressesPlain}
 use Rattle.accepted_values.specs.inner.Operands.{MayLend, kind_by_row, kind_together}
 use Rattle.accepted_values.proofs.Accepted.{in_ownership_form, typed, well_typed}
-use Rattle.accepted_values.proofs.Based.{based, lender, lent_so, owned_value}
+use Rattle.accepted_values.proofs.Based.{based, lender, lent_so}
 use Rattle.accepted_values.proofs.Counted.{nothing_in, stands}
 use Rattle.accepted_values.proofs.Defined.{IsDefined, a_result, an_argument, defined_so}
-use Rattle.accepted_values.proofs.Facts.{known, operand_is_value}
+use Rattle.accepted_values.proofs.Facts.{known, operand_is_value, value_or_none}
 use Rattle.accepted_values.proofs.Made.{at_point_of_result}
 use Rattle.accepted_values.proofs.Parameters.{entry_pairs, pair_at, told_fits, told_of}
 use Rattle.accepted_values.proofs.Suited.{by_operand, result_kind, suits_at}
@@ -213,53 +214,62 @@ module _ (m : Module) (n : ℕ) (f : Function) (a : IsAcceptedBody m n f) where
   abbrev defs : List Definition
   defs = definitions_of d f
 
-  -- ---- no Owned value is an address
+  -- ---- an address has no owner
 
   place_form_of : (v : ValueId) (t u : TypeName) → type_in d f v ≡ Some t → target t ≡ Some u → form_of d f v ≡ OfPlace (shape_of d u)
   place_form_of v t u ty at = ap (λ o. form_by d o (function_at (value_functions f) v.0)) ty ∙ ap (form_with d t) at
 
-  -- a parameter whose kind is Owned is a value
-  owned_parameter : (k : ℕ) (x : BlockArg) → slice_get (args_of f 0) k ≡ Some x → kind_at d f x.value ≡ kind.Owned → target x.ty ≡ None
-  owned_parameter k x at e =
+  -- a parameter that is a value, or has no owner
+  parameter_plain : (k : ℕ) (x : BlockArg) (u : TypeName) → slice_get (args_of f 0) k ≡ Some x → target x.ty ≡ Some u → kind_at d f x.value ≡ kind.Plain
+  parameter_plain k x u at to =
       let pair = pair_at (is_argument_for Ossa) (args_of f 0) (arguments_of f.signature) k x (entry_pairs m n f a) at in
       let so = told_of m n f a k pair.0 x pair.1 at pair.2 in
-      by pair.0.convention pair.0.ty (told_fits m f (typed m n f a) k pair.0 pair.1) (sym so.has_kind ∙ e) so.typed
+      by pair.0.convention pair.0.ty (told_fits m f (typed m n f a) k pair.0 pair.1) so.has_kind so.typed
     where
-      by : (c : ArgumentConvention) (t : TypeName) → fits_by d c t ≡ true → kind_told c ≡ kind.Owned → x.ty ≡ argument_type (record { convention = c; ty = t }) → target x.ty ≡ None
-      by convention.Plain t fit owned ty = cc
-      by convention.Owned t fit owned ty = ap target ty ∙ object_target t (and_parts (is_object t) (not (is_trivial d t)) fit).0
-      by convention.Guaranteed t fit owned ty = cc
-      by (convention.Address c) t fit owned ty = cc
+      no_object : {P : Type 0} (t : TypeName) → is_object t ≡ true → x.ty ≡ t → P
+      no_object t object same = let two : None ≡ Some u = sym (object_target t object) ∙ ap target (sym same) ∙ to in absurd (cc)
+
+      by : (c : ArgumentConvention) (t : TypeName) → fits_by d c t ≡ true → kind_at d f x.value ≡ kind_told c → x.ty ≡ argument_type (record { convention = c; ty = t })
+          → kind_at d f x.value ≡ kind.Plain
+      by convention.Plain t fit e ty = e
+      by convention.Owned t fit e ty = no_object t (and_parts (is_object t) (not (is_trivial d t)) fit).0 ty
+      by convention.Guaranteed t fit e ty = no_object t (and_parts (is_object t) (not (is_trivial d t)) fit).0 ty
+      by (convention.Address c) t fit e ty = e
 
   -- 210
   inner_argument : (b k : ℕ) (x : BlockArg) → slice_get (args_of f (suc b)) k ≡ Some x → target x.ty ≡ None
   unfolding lets_address_escape
   inner_argument b k x at = no_address f.blocks (suc b) k x (typed m n f a).escapes (ne_eqb (suc b) 0 (λ e. omega arith)) at
 
-  not_owned_place : (v : ValueId) → IsDefined f v → (t u : TypeName) → type_in d f v ≡ Some t → target t ≡ Some u → kind_at d f v ≡ kind.Owned → ⊥
-  not_owned_place _ (a_result block index k i v here at) t u ty to e =
+  place_plain : (v : ValueId) → IsDefined f v → (t u : TypeName) → type_in d f v ≡ Some t → target t ≡ Some u → kind_at d f v ≡ kind.Plain
+  place_plain _ (a_result block index k i v here at) t u ty to =
       let row = owned_inst m (well_typed m a.verified) n f a.body.there (point_at block index) i
-      (at_point_of_result m n f a v block index i here (contained i.results k v at)) (in_ownership_form m n f a) in
+          (at_point_of_result m n f a v block index i here (contained i.results k v at)) (in_ownership_form m n f a) in
       let form : slice_get (forms_of d f i.results) k ≡ Some (OfPlace (shape_of d u)) =
-      slice_get-map (form_of d f) i.results k ∙ ap (option_map (form_of d f)) at ∙ ap (λ x. Some x) (place_form_of v t u ty to) in
+          slice_get-map (form_of d f) i.results k ∙ ap (option_map (form_of d f)) at ∙ ap (λ x. Some x) (place_form_of v t u ty to) in
       let address = gives_address i.op (place_of_row m i _ _ row.row k (shape_of d u) form) in
-      by (is_trivial_or_untyped d (type_in d f v))
-      (sym e ∙ result_kind m n f a block index k i v here at ∙ ap (λ r. cond (is_trivial_or_untyped d (type_in d f v)) kind.Plain (kind_by_row r (kind_together d f i))) address)
+      result_kind m n f a block index k i v here at
+      ∙ ap (λ r. cond (is_trivial_or_untyped d (type_in d f v)) kind.Plain (kind_by_row r (kind_together d f i))) address
+      ∙ both_plain (is_trivial_or_untyped d (type_in d f v))
     where
-      by : (b : Bool) → kind.Owned ≡ cond b kind.Plain kind.Plain → ⊥
-      by true h = cc
-      by false h = cc
-  not_owned_place _ (an_argument b k x at) t u ty to e = by b at
+      both_plain : (b : Bool) → cond b kind.Plain kind.Plain ≡ kind.Plain
+      both_plain true = refl
+      both_plain false = refl
+  place_plain _ (an_argument b k x at) t u ty to = by b at
     where
       same : x.ty ≡ t
       same = same_Some x.ty t (sym (argument_rows m n f b k x a at).typed ∙ ty)
 
-      none : target x.ty ≡ None → ⊥
-      none h = let two : None ≡ Some u = sym h ∙ ap target same ∙ to in cc
+      by : (b : ℕ) → slice_get (args_of f b) k ≡ Some x → kind_at d f x.value ≡ kind.Plain
+      by zero at = parameter_plain k x u at (ap target same ∙ to)
+      by (suc b) at = let two : None ≡ Some u = sym (inner_argument b k x at) ∙ ap target same ∙ to in absurd (cc)
 
-      by : (b : ℕ) → slice_get (args_of f b) k ≡ Some x → ⊥
-      by zero at = none (owned_parameter k x at e)
-      by (suc b) at = none (inner_argument b k x at)
+  pub plain_place : (v : ValueId) (t u : TypeName) → type_in d f v ≡ Some t → target t ≡ Some u → kind_at d f v ≡ kind.Plain
+  plain_place v t u ty to = at (value_or_none d f v)
+    where
+      at : IsValue f v ⊎ (facts_at d f v ≡ facts_with kind.Plain []) → kind_at d f v ≡ kind.Plain
+      at (inl lt) = place_plain v (defined_so m n f v a lt) t u ty to
+      at (inr none) = ap (λ (x : Facts). x.kind) none
 
   -- ---- no operand of an address is Owned
 
@@ -298,7 +308,8 @@ module _ (m : Module) (n : ℕ) (f : Function) (a : IsAcceptedBody m n f) where
           let ty = written_type d f x t (first_written d i x t only is)
           (passes_at (is_as_written (value_types d f)) i.operands 0 x (operands_written m f i ((typed m n f a).insts block index i here)) first) in
           let same = only_one x only c in
-          not_owned_place w (defined_so m n f w a (owned_value m n f a w owned)) t u (ap (type_in d f) (sym same) ∙ ty) to owned
+          let two : kind.Plain ≡ kind.Owned = sym (plain_place w t u (ap (type_in d f) (sym same) ∙ ty) to) ∙ owned in
+          cc
   no_owned_operand _ w (an_argument b k x at) e c owned =
       let row = argument_rows m n f b k x a at in no_address_argument (is_zero b) (switch_to f b) x.kind _ (sym row.defined.origin ∙ e)
 
@@ -326,6 +337,9 @@ module _ (m : Module) (n : ℕ) (f : Function) (a : IsAcceptedBody m n f) where
       by (itself same (inr owned)) rest = cc
       by (lent less g w c k h) rest = cc
       by (addressed less o w c h) rest = from w o c h (rest w c h) (at w).kind refl
+
+pub addresses_plain : AreAddressesPlain
+addresses_plain m n f v t u a ty to = plain_place m n f a v t u ty to
 
 pub addresses_of_lenders : AreAddressesOfLenders
 addresses_of_lenders m n f v b a e h =

@@ -19,3 +19,4 @@ pub mod Switching
 pub mod Branches
 pub mod Switches
 pub mod Addresses
+pub mod Nones

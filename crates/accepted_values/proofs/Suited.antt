@@ -229,7 +229,7 @@ module _ (m : Module) (n : ℕ) (f : Function) (a : IsAcceptedBody m n f) where
       at None e = e
       at (Some v) e = absurd (has_kinds m n f a rule.MixedForwarding v block index (mixed v block index i here e))
 
-  forwarded_so : (block index : ℕ) (i : inst.Inst) → IsAt f block index i → forwards i ≡ true → Forwards d f (kind_together d f i) (map value_of i.operands)
+  pub forwarded_so : (block index : ℕ) (i : inst.Inst) → IsAt f block index i → forwards i ≡ true → Forwards d f (kind_together d f i) (map value_of i.operands)
   forwarded_so block index i here e = forwards_by (map value_of i.operands) unmixed
     where
       guarantees_so : (v : ValueId) → is_guaranteed (kind_in d f v) ≡ false → guarantees (kind_at d f v) ≡ false

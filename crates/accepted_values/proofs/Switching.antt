@@ -33,7 +33,7 @@ use Rattle.accepted_values.proofs.Accepted.{typed}
 use Rattle.accepted_values.proofs.Counted.{in_all}
 use Rattle.accepted_values.proofs.EdgesOnce.{from_all, from_kept, into_kept, none_first, once_in}
 
-only_switch : (o : Op) → ending_of o ≡ ending.Cases → o ≡ op.SwitchEnum
+pub only_switch : (o : Op) → ending_of o ≡ ending.Cases → o ≡ op.SwitchEnum
 only_switch op.SwitchEnum e = refl
 only_switch _ e = absurd (cc)
 
@@ -45,15 +45,15 @@ pub record Leaves (f : Function) (b k : ℕ) (t : Inst) (e : Edge) : Type 0 wher
   pub there : slice_get t.edges k ≡ Some e
 
 -- a switch whose edge goes to the block with this number
-record ComesFrom (f : Function) (n : ℕ) (s : Switched) : Type 0 where
-  block : ℕ
-  index : ℕ
-  terminator : Inst
-  edge : Edge
-  leaves : Leaves f block index terminator edge
-  switches : ending_of terminator.op ≡ ending.Cases
-  to : edge.block.0 ≡ n
-  made : option_map (switched_by edge) (first_value terminator) ≡ Some s
+pub record ComesFrom (f : Function) (n : ℕ) (s : Switched) : Type 0 where
+  pub block : ℕ
+  pub index : ℕ
+  pub terminator : Inst
+  pub edge : Edge
+  pub leaves : Leaves f block index terminator edge
+  pub switches : ending_of terminator.op ≡ ending.Cases
+  pub to : edge.block.0 ≡ n
+  pub made : option_map (switched_by edge) (first_value terminator) ≡ Some s
 
 edge_made : (n : ℕ) (t : Inst) (e : Edge) (s : Switched) → edge_to n t e ≡ Some s → (e.block.0 ≡ n) × (option_map (switched_by e) (first_value t) ≡ Some s)
 edge_made n t e s h = at (e.block.0 == n) refl h
@@ -82,7 +82,7 @@ made_by_edge n t s ending.Cases e c =
 made_by_edge n t s ending.Return e c = absurd (let lt : c.0 < 0 = c.1 in omega arith)
 made_by_edge n t s ending.Unreachable e c = absurd (let lt : c.0 < 0 = c.1 in omega arith)
 
-comes_from : (f : Function) (n : ℕ) (s : Switched) → switch_to f n ≡ Some s → ComesFrom f n s
+pub comes_from : (f : Function) (n : ℕ) (s : Switched) → switch_to f n ≡ Some s → ComesFrom f n s
 comes_from f n s e =
     let all = from_all (switches_from n) f.blocks s (contained (flat_map (switches_from n) f.blocks) 0 s e) in
     let it = made_by_edge n all.1.terminator s (ending_of all.1.terminator.op) refl all.3 in

@@ -25,6 +25,7 @@ ghost use Rattle.accepted_values.specs.inner.Making.{
   AreMadeThere,
   AreParametersOfEntry,
 };
+ghost use Rattle.accepted_values.specs.inner.Nones.{AreAddressesPlain, ArePlainTold};
 ghost use Rattle.accepted_values.specs.inner.Operands.{
   AreForwarded,
   AreResultsOfKinds,
@@ -141,6 +142,16 @@ pub fn results_have_kinds()
 /// A value of a trivial type, and one without a type, is Plain.
 pub fn trivial_are_plain()
     ensures { AreTrivialPlain }
+{}
+
+/// An address is Plain.
+pub fn addresses_are_plain()
+    ensures { AreAddressesPlain }
+{}
+
+/// A Plain value has no type, a trivial one or that of an address, or is made of Plain values alone.
+pub fn plain_values_are_told()
+    ensures { ArePlainTold }
 {}
 
 /// The arguments of the entry have the types and kinds that the signature tells of.
