@@ -30,10 +30,8 @@ use Rattle.sil_rules.specs.declared.limits.TheConstants.{INSTRUCTIONS}
 use Rattle.sil_rules.specs.declared.rule.Rule.{Rule}
 use Rattle.sil_rules.specs.declared.rule.Rule.TheVariants as rule
 use Rattle.sil_types.specs.Typing.SignatureRules.{is_external}
-use Rattle.sil_types.specs.Typing.Typed.{at_function}
 use Rattle.sil_verifier.specs.Refusals.{lowered}
 use Rattle.sil_verifier.specs.Shown.IsShownIn.{kind}
-use Rattle.type_check.specs.Refusals.{fault_at}
 use Rattle.type_definitions.specs.Declarations.{declarations_of}
 use Rattle.accepted_values.specs.inner.Known.{AreWellTyped, IsAcceptedBody, IsValue}
 
@@ -98,7 +96,7 @@ module _ (m : Module) (n : ℕ) (f : Function) (a : IsAcceptedBody m n f) where
 
       at : (o : Form) → f.form ≡ o → f.form ≡ Ossa
       at Ossa e = e
-      at Lowered e = absurd (a.verified.accepted.types.owned (fault_at (at_function n) rule.MixedForms) (lowered n f a.body.there e))
+      at Lowered e = absurd (a.verified.accepted.types.owned _ (lowered n f a.body.there e))
       at External e = let inner : is_external f.form ≡ false = inner_form m f typed (some f.blocks a.body.body) in cc
 
   abbrev fault : Rule → ValueId → ℕ → ℕ → RuleFault
