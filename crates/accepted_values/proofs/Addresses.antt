@@ -244,9 +244,9 @@ module _ (m : Module) (n : ℕ) (f : Function) (a : IsAcceptedBody m n f) where
   place_plain : (v : ValueId) → IsDefined f v → (t u : TypeName) → type_in d f v ≡ Some t → target t ≡ Some u → kind_at d f v ≡ kind.Plain
   place_plain _ (a_result block index k i v here at) t u ty to =
       let row = owned_inst m (well_typed m a.verified) n f a.body.there (point_at block index) i
-          (at_point_of_result m n f a v block index i here (contained i.results k v at)) (in_ownership_form m n f a) in
+      (at_point_of_result m n f a v block index i here (contained i.results k v at)) (in_ownership_form m n f a) in
       let form : slice_get (forms_of d f i.results) k ≡ Some (OfPlace (shape_of d u)) =
-          slice_get-map (form_of d f) i.results k ∙ ap (option_map (form_of d f)) at ∙ ap (λ x. Some x) (place_form_of v t u ty to) in
+      slice_get-map (form_of d f) i.results k ∙ ap (option_map (form_of d f)) at ∙ ap (λ x. Some x) (place_form_of v t u ty to) in
       let address = gives_address i.op (place_of_row m i _ _ row.row k (shape_of d u) form) in
       result_kind m n f a block index k i v here at
       ∙ ap (λ r. cond (is_trivial_or_untyped d (type_in d f v)) kind.Plain (kind_by_row r (kind_together d f i))) address

@@ -1,5 +1,5 @@
 -- Why a value has no owner: what instructions give that give no kind is of a trivial type, and what addresses they give are addresses.
-use Rattle.std.proofs.Common.{◌≡◌, ℕ, zero, suc, ◌<◌, List, [], ◌∷◌, length, map, refl, sym, ap, ap₂, ◌∙◌, subst, arith, Bool, true, false, not, cond, ◌⊎◌, inl, inr, Option, Some, None}
+use Rattle.std.proofs.Common.{◌≡◌, ℕ, zero, suc, ◌<◌, List, [], ◌∷◌, map, refl, sym, ap, ap₂, ◌∙◌, subst, arith, Bool, true, false, cond, Option, Some, None}
 use Rattle.std.specs.Prelude.{◌&&◌, ◌||◌, option_and_then, option_map, slice_get, unwrap_or, if◌then◌else◌}
 use Rattle.std.proofs.lemmas.Bool.{and_parts, false≢true}
 use Rattle.std.proofs.lemmas.Option.{same_Some}
@@ -15,7 +15,7 @@ use Rattle.item_operands.specs.Parts.{edge_in, terminator_in}
 use Rattle.numbered_form.specs.Lists.{Each}
 use Rattle.ownership_chains.specs.Facts.{forwarded, is_guaranteed, is_owned}
 use Rattle.ownership_kinds.specs.Facts.{kind_in}
-use Rattle.ownership_kinds.specs.Statics.{fits_block, forwards, forwards_by, is_annotated_well}
+use Rattle.ownership_kinds.specs.Statics.{fits_block, forwards_by, is_annotated_well}
 use Rattle.ownership_origins.specs.Origins.{is_trivial_or_untyped}
 use Rattle.ownership_origins.specs.Switched.{switch_to, switched_by}
 use Rattle.ownership_origins.specs.declared.switched.Switched.{Switched}
@@ -24,7 +24,6 @@ use Rattle.run_typing_laws.proofs.Rows.Finding.{mapped_from, where_found}
 use Rattle.run_typing_laws.proofs.Rows.Layers.{is_int, target-Address}
 use Rattle.run_typing_laws.proofs.ShapeFacts.{same_types}
 use Rattle.sil_ast.specs.Blocks.{args_of}
-use Rattle.sil_ast.specs.declared.function.Block.{Block}
 use Rattle.sil_ast.specs.declared.function.BlockArg.{BlockArg}
 use Rattle.sil_ast.specs.declared.function.Form.TheVariants.{Ossa}
 use Rattle.sil_ast.specs.declared.function.Function.{Function}
@@ -35,8 +34,8 @@ use Rattle.sil_ast.specs.declared.place.EdgeId.{EdgeId}
 use Rattle.sil_ast.specs.declared.place.ValueId.{ValueId}
 use Rattle.sil_ast.specs.declared.type_name.TypeName.{TypeName, TypeName-F, out-TypeName}
 use Rattle.sil_ast.specs.declared.type_name.TypeName.TheVariants as type
-use Rattle.sil_types.specs.Typing.Builtins.{Builtin, Sort, bit, builtin_named, builtin_operands, builtin_result, combining, comparing, integer, overflowing, result_by, sort_of}
-use Rattle.sil_types.specs.Typing.RowTypes.{MadeTypes, address_of, address_of_field, all_written, given_by, gives, gives_builtin, made_types, takes}
+use Rattle.sil_types.specs.Typing.Builtins.{Builtin, Sort, bit, builtin_named, builtin_operands, builtin_result, combining, comparing, overflowing, result_by, sort_of}
+use Rattle.sil_types.specs.Typing.RowTypes.{address_of, address_of_field, all_written, given_by, gives, gives_builtin, made_types, takes}
 use Rattle.sil_types.specs.Typing.Same.{are_same_types, is_same_type}
 use Rattle.sil_types.specs.Typing.Shapes.{field_address, stored_as, is_integer, is_integer_layer, is_object, target, where_it}
 use Rattle.sil_types.specs.Typing.SignatureRules.{fits_by, is_argument_for}
@@ -47,9 +46,9 @@ use Rattle.type_definitions.specs.declared.kind.Kind.TheVariants as kind
 use Rattle.type_measures.proofs.Agreement.{measure-Int, measure-Tuple}
 use Rattle.value_tables.specs.FirstValue.{first_value, value_of}
 use Rattle.accepted_values.specs.inner.Handed.{TakenBy, Takes, kind_told, lends, owns, trivial as is_trivial_payload}
-use Rattle.accepted_values.specs.inner.Known.{IsAcceptedBody, IsValue, facts_at, kind_at, type_in}
+use Rattle.accepted_values.specs.inner.Known.{IsAcceptedBody, facts_at, kind_at, type_in}
 use Rattle.accepted_values.specs.inner.Nones.{ArePlainTold, WhyPlain, address, made, trivial, untyped}
-use Rattle.accepted_values.specs.inner.Operands.{Forwards, HasNoOwner, kind_by_row, kind_of_result, kind_together}
+use Rattle.accepted_values.specs.inner.Operands.{Forwards, HasNoOwner, kind_by_row, kind_together}
 use Rattle.accepted_values.proofs.Accepted.{typed}
 use Rattle.accepted_values.proofs.Branches.{annotated_well, owned_annotation, owned_argument}
 use Rattle.accepted_values.proofs.Defined.{IsDefined, a_result, an_argument, defined_so}
@@ -57,7 +56,7 @@ use Rattle.accepted_values.proofs.Extracts.{extract_row}
 use Rattle.accepted_values.proofs.Parameters.{entry_pairs, pair_at, told_fits, told_of}
 use Rattle.accepted_values.proofs.Suited.{forwarded_so, result_kind}
 use Rattle.accepted_values.proofs.Switches.{switched}
-use Rattle.accepted_values.proofs.Switching.{ComesFrom, comes_from, only_switch}
+use Rattle.accepted_values.proofs.Switching.{comes_from, only_switch}
 use Rattle.accepted_values.proofs.TableRows.{argument_rows, result_rows}
 
 -- ---- what rows give
@@ -225,8 +224,8 @@ module _ (m : Module) (n : ℕ) (f : Function) (a : IsAcceptedBody m n f) where
       by : (o : Option Switched) → switch_to f b ≡ o → ⊥
       by None is =
           let fits : fits_block false x.kind ≡ true =
-              ap (λ t. fits_block t x.kind) (sym nontrivial)
-              ∙ ap (λ s. is_annotated_well (kind_in d f) s (is_trivial d x.ty) x.kind) (sym is) ∙ annotated_well m n f a b k x lt at in
+          ap (λ t. fits_block t x.kind) (sym nontrivial)
+          ∙ ap (λ s. is_annotated_well (kind_in d f) s (is_trivial d x.ty) x.kind) (sym is) ∙ annotated_well m n f a b k x lt at in
           let owned : kind.Owned ≡ kind.Plain = sym (owned_argument m n f a b k x at (owned_annotation x.kind fits) nontrivial) ∙ e in
           cc
       by (Some s) is = from_switch s is
