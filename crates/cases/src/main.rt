@@ -23,7 +23,13 @@ use typing::answer_on_types;
 fn main(rt: HostRuntime) -> ExitCode {
     let mut source = ReadSource::new(rt.reader());
     let mut out = WriteSink::new(io::writer(&rt));
-    ExitCode::from(run(&LibraryCalls, rt.alloc(), env::args(&rt), &mut source, &mut out))
+    ExitCode::from(run(
+        &LibraryCalls,
+        rt.alloc(),
+        env::args(&rt),
+        &mut source,
+        &mut out,
+    ))
 }
 
 /// The calls of libraries but those of the counting machine.

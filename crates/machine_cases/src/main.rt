@@ -24,7 +24,13 @@ use std::{env, io};
 fn main(rt: HostRuntime) -> ExitCode {
     let mut source = ReadSource::new(rt.reader());
     let mut out = WriteSink::new(io::writer(&rt));
-    ExitCode::from(run(&MachineCalls, rt.alloc(), env::args(&rt), &mut source, &mut out))
+    ExitCode::from(run(
+        &MachineCalls,
+        rt.alloc(),
+        env::args(&rt),
+        &mut source,
+        &mut out,
+    ))
 }
 
 /// The calls of the machine and of its heap, on the module that the text spells.
