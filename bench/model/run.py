@@ -9,10 +9,11 @@ The words, answers and statuses are those of `sil`; no rule is checked. Where th
 status is 99. A fault of the run by holders has one of the names in `holders.py`, one of the lowered run one of those in `counts.py`.
 
     bench/model/run.py cases FOLDER..
+    bench/model/run.py lowered FOLDER..
     bench/model/run.py examples FOLDER..
 
 `cases` compares with the files `stdin`, `args`, `stdout` and `status` in the folders below FOLDER, as far as their words are these modes
-without `--optimize`. `examples` compares with the comments at the heads of the modules in FOLDER, and says which rule refuses a module.
+without `--optimize`. `lowered` compares with the case files (`docs/CASES.md`) there that run a lowered text. `examples` compares with the comments at the heads of the modules in FOLDER, and says which rule refuses a module.
 """
 import pathlib
 import re
@@ -109,6 +110,31 @@ def cases(folders):
     return 1 if differ or not agree else 0
 
 
+def told_without_events(written):
+    return ''.join(line for line in written.splitlines(True) if not line.startswith(('call ', 'deinit ')))
+
+
+def lowered(folders):
+    agree = differ = left_out = 0
+    for file in sorted(file for folder in folders for file in pathlib.Path(folder).rglob('*.sil')):
+        source = file.read_text()
+        words, status, answered = re.match(r'// .*\n// words: (.*)\n// status: (.*)\n// answer:\n((?:// .*\n)*)', source).groups()
+        call, turns = words.split()
+        if status == '1':
+            left_out += 1
+            continue
+        wanted = ''.join(line[3:] for line in answered.splitlines(True))
+        got, ended = answer(['audit', '--turns', turns], source)
+        got = told_without_events(got) if call == 'lowered-end' else got
+        if (got, ended) == (wanted, int(status)):
+            agree += 1
+        else:
+            differ += 1
+            print(f'{file}: wanted\n{wanted}{status}, got\n{got}{ended}')
+    print(f'{agree} agree, {differ} differ, {left_out} left out')
+    return 1 if differ or not agree else 0
+
+
 # ---- examples
 
 class Head:
@@ -174,8 +200,9 @@ def examples(folders):
 
 
 def main():
-    if sys.argv[1:2] in (['cases'], ['examples']):
-        sys.exit((cases if sys.argv[1] == 'cases' else examples)(sys.argv[2:]))
+    compared = {'cases': cases, 'lowered': lowered, 'examples': examples}
+    if len(sys.argv) > 1 and sys.argv[1] in compared:
+        sys.exit(compared[sys.argv[1]](sys.argv[2:]))
     written, status = answer(sys.argv[1:], sys.stdin.read())
     sys.stdout.write(written if written is not None else 'not a command line\n')
     sys.exit(status)

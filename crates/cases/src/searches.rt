@@ -1,12 +1,10 @@
 //! What the searches answer, for one switch or for three together, on a function of these blocks.
 
-use crate::answer::{Answer, add, line};
 use crate::marked::{MARKS, Switch, Switches};
+use case_calls::{Answer, add, line, module_of};
 use reach_engine::{Found, FoundAll, search, search_all};
 use sil_ast::{BlockId, EdgeId, Exhausted, Function};
 use sil_cfg::{Graph, has_graph};
-use sil_grammar::{ReadRefusal, read};
-use sil_rules::limits;
 use std::alloc::{AllocError, Global};
 
 /// Where no walk is bad, the line `clean`, with the states in which a walk may enter each block; else the code, the point, and
@@ -16,14 +14,9 @@ pub fn answer_on_walks(
     blocks: &[u8],
     is_together: bool,
 ) -> Result<Answer, Exhausted> {
-    let text = module_of(alloc, blocks)?;
-    if limits::TEXT_BYTES < text.len() {
+    let text = text_around(alloc, blocks)?;
+    let Some(module) = module_of(alloc, text.as_slice())? else {
         return line(alloc, "not a module", 3);
-    }
-    let module = match read(alloc, text.as_slice()) {
-        Ok(module) => module,
-        Err(ReadRefusal::Memory) => return Err(Exhausted),
-        Err(_refusal) => return line(alloc, "not a module", 3),
     };
     let Some(f) = module.functions.get(0) else {
         return line(alloc, "no function", 3);
@@ -31,8 +24,8 @@ pub fn answer_on_walks(
     line(alloc, told(alloc, f, is_together)?.as_str(), 0)
 }
 
-/// A module whose function has these blocks behind the marks.
-fn module_of(alloc: Global, blocks: &[u8]) -> Result<Vec<u8>, AllocError> {
+/// The text of a module whose function has these blocks behind the marks.
+fn text_around(alloc: Global, blocks: &[u8]) -> Result<Vec<u8>, AllocError> {
     let mut text = Vec::from_slice(alloc, b"sil [ossa] @main : $@convention(thin) () -> () {\n")?;
     text.extend_from_slice(MARKS.as_bytes())?;
     text.extend_from_slice(blocks)?;

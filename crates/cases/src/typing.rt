@@ -1,27 +1,18 @@
 //! What the check of types answers to a text. It goes into lowered functions too, which `check` refuses as a whole.
 
-use crate::answer::{Answer, add, line};
+use case_calls::{Answer, add, line, module_of, table_of};
 use sil_ast::{Exhausted, FuncId, PointId};
-use sil_grammar::{ReadRefusal, read};
-use sil_rules::{Rule, limits};
-use sil_types::{TypeRefusal, TypeTable};
+use sil_rules::Rule;
 use std::alloc::{AllocError, Global};
 use type_check::{CheckRefusal, check};
 
 /// The line `typed` with status 0, or with status 1 what is wrong with the module.
 pub fn answer_on_types(alloc: Global, text: &[u8]) -> Result<Answer, Exhausted> {
-    if limits::TEXT_BYTES < text.len() {
+    let Some(module) = module_of(alloc, text)? else {
         return line(alloc, "not a module", 1);
-    }
-    let module = match read(alloc, text) {
-        Ok(module) => module,
-        Err(ReadRefusal::Memory) => return Err(Exhausted),
-        Err(_refusal) => return line(alloc, "not a module", 1),
     };
-    let table = match TypeTable::build(alloc, &module) {
-        Ok(table) => table,
-        Err(TypeRefusal::Memory) => return Err(Exhausted),
-        Err(_refusal) => return line(alloc, "no type table", 1),
+    let Some(table) = table_of(alloc, &module)? else {
+        return line(alloc, "no type table", 1);
     };
     match check(alloc, &module, &table) {
         Ok(()) => line(alloc, "typed", 0),

@@ -1,0 +1,62 @@
+//! A program that makes the call which its words name.
+
+use crate::answer::Answer;
+use sil_ast::Exhausted;
+use sil_io::{Sink, Source, read_all, write_all};
+use sil_rules::{Status, limits};
+use std::alloc::{AllocError, Global};
+use std::env::Args;
+use std::io;
+
+/// The calls that a program can make.
+pub trait Calls {
+    /// What the call that these words name answers to a text. The first of the words is the program's name.
+    fn answer(&self, alloc: Global, words: &[&str], text: &[u8]) -> Result<Answer, Exhausted>;
+}
+
+/// Answers what the words ask of the text in the source, and gives the status.
+pub fn run<C: Calls, S: Source, K: Sink>(
+    calls: &C,
+    alloc: Global,
+    args: io::Result<Args>,
+    source: &mut S,
+    out: &mut K,
+) -> u8 {
+    let Ok(args) = args else {
+        return Status::Usage.code();
+    };
+    let Ok(text) = read_all(alloc, source, limits::TEXT_BYTES) else {
+        return Status::ReadFault.code();
+    };
+    match answer_to(calls, alloc, args, text.as_slice()) {
+        Ok(answer) => match write_all(out, answer.written.as_slice()) {
+            Ok(()) => answer.status,
+            Err(_fault) => Status::WriteFault.code(),
+        },
+        Err(Exhausted) => Status::OutOfMemory.code(),
+    }
+}
+
+/// What the words ask of a text.
+fn answer_to<C: Calls>(
+    calls: &C,
+    alloc: Global,
+    args: Args,
+    text: &[u8],
+) -> Result<Answer, Exhausted> {
+    let mut words = Vec::new(alloc);
+    for word in args {
+        words.push(word)?;
+    }
+    let texts = texts_of(alloc, words.as_slice())?;
+    calls.answer(alloc, texts.as_slice(), text)
+}
+
+/// The texts of these words.
+fn texts_of<'a>(alloc: Global, words: &'a [String]) -> Result<Vec<&'a str>, AllocError> {
+    let mut texts = Vec::new(alloc);
+    for word in words {
+        texts.push(word.as_str())?;
+    }
+    Ok(texts)
+}
