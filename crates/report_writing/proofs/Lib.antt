@@ -1,0 +1,5 @@
+pub mod Told
+pub mod Parts
+pub mod Members
+pub mod Forms
+pub mod Cases
