@@ -3,3 +3,4 @@ pub mod Parts
 pub mod Members
 pub mod Forms
 pub mod Cases
+pub mod Shown

@@ -3,6 +3,7 @@ use Rattle.std.proofs.Common.{◌≡◌, ◌∙◌, ◌+◌, ◌<◌, ◌≤◌,
 use Rattle.std.proofs.Common.{add-one, append_assoc, append-nil, arith, codes, slice_get}
 use Rattle.std.specs.Prelude.{option_map}
 use Rattle.std.specs.List.{flat_map}
+use Rattle.std.proofs.lemmas.Grind.{common_steps}
 use Rattle.std.proofs.lemmas.List.{length-map, take_all}
 use Rattle.std.proofs.lemmas.Option.{slice_get-get_or, slice_get-map}
 use Rattle.holder_model.specs.declared.left_object.LeftObject.{LeftObject}
@@ -45,6 +46,9 @@ more_behind (w ∷ ws) (x ∷ vs) (suc i) v there =
     ap (λ l. behind_comma (w x) ++ l) (more_behind ws vs i v there)
     ∙ sym (append_assoc (behind_comma (w x)) (words_behind ws (take i vs)) (further (codes ", ") v (slice_get ws i)))
 
+behind_first : (i : ℕ) → separator_before (codes ", ") (suc i) ≡ codes ", "
+behind_first i = grind (arith, common_steps)
+
 more_words : (ws : List Writer) (vs : List Value) (i : ℕ) (v : Value) → slice_get vs i ≡ Some v
     → words ws (take (suc i) vs) ≡ words ws (take i vs) ++ further (separator_before (codes ", ") i) v (slice_get ws i)
 more_words ws [] i v there = cc
@@ -56,6 +60,7 @@ more_words (w ∷ ws) (x ∷ vs) zero v there =
 more_words (w ∷ ws) (x ∷ vs) (suc i) v there =
     ap (λ l. w x ++ l) (more_behind ws vs i v there)
     ∙ sym (append_assoc (w x) (words_behind ws (take i vs)) (further (codes ", ") v (slice_get ws i)))
+    ∙ ap (λ s. (w x ++ words_behind ws (take i vs)) ++ further s v (slice_get ws i)) (sym (behind_first i))
 
 module _ (d : Declarations) (left : List LeftObject) where
   as_further : (i : ℕ) (v : Value) (t : Option TypeName) → member_text d left i v t ≡ further (separator_before (codes ", ") i) v (option_map (text_of d left) t)
@@ -87,7 +92,7 @@ module _ (d : Declarations) (left : List LeftObject) where
     -- all of them
     pub all_members : (start put : List ℕ) → length members ≤ i → put ≡ start ++ so_far → put ≡ start ++ members_text d left ts (map value_of members)
     all_members start put past at_put =
-        at_put ∙ ap (λ vs. start ++ members_text d left ts vs) (take_all i (map value_of members) (omega (arith, length-map value_of members)))
+        at_put ∙ ap (λ vs. start ++ members_text d left ts vs) (take_all i (map value_of members) (omega (arith, length-map members value_of)))
 
   -- before the first one
   pub none_yet : (ts : List TypeName) (start : List ℕ) → start ≡ start ++ members_text d left ts []

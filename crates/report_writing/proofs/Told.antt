@@ -27,7 +27,8 @@ pub value-Group : (vs : List Val) → value_of (val.Group vs) ≡ grouped (map v
 value-Group vs = ap value_of (sym (rolls-Group vs)) ∙ fold-roll-Val Value value_over (Val-F.Group vs)
 
 pub value-Chosen : (k : ℕ) (payload : Option Val) → value_of (val.Chosen k payload) ≡ chosen k (option_map value_of payload)
-value-Chosen k payload = ap value_of (sym (rolls-Chosen k payload)) ∙ fold-roll-Val Value value_over (Val-F.Chosen k payload)
+value-Chosen k None = ap value_of (sym (rolls-Chosen k None)) ∙ fold-roll-Val Value value_over (Val-F.Chosen k None)
+value-Chosen k (Some v) = ap value_of (sym (rolls-Chosen k (Some v))) ∙ fold-roll-Val Value value_over (Val-F.Chosen k (Some v))
 
 mutual
   -- a value is told as one that stands for it

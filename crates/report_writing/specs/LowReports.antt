@@ -25,9 +25,9 @@ fault_line x = line (codes "fault " ++ fault_words x)
 -- S is the shape of what is returned
 module _ (m : Module) (S : Shape) where
   abbrev pub low_ending_lines : Ending LowFault → List LeftObject → List ℕ
-  low_ending_lines (Returned x) left = ending_lines m S (Returned x) left
-  low_ending_lines (Trapped t) left = ending_lines m S (Trapped t) left
-  low_ending_lines OutOfTurns left = ending_lines m S OutOfTurns left
+  low_ending_lines (Returned x) left = ending_lines {X = LowFault} m S (Returned x) left
+  low_ending_lines (Trapped t) left = ending_lines {X = LowFault} m S (Trapped t) left
+  low_ending_lines OutOfTurns left = ending_lines {X = LowFault} m S OutOfTurns left
   low_ending_lines (Faulted x) left = fault_line x
 
   abbrev pub low_report : Outcome LowFault → List ℕ

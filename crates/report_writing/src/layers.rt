@@ -93,8 +93,8 @@ fn declared_layer<'a>(table: &'a TypeTable, name: &Text) -> TypeLayer<'a>
 
 impl<'a> MemberTypes<'a> {
     /// The type of the i-th member.
-    pub(crate) fn get(self, i: usize) -> Option<&'a TypeName>
-        ensures { option_copied result ≡ slice_get (types_in self) i }
+    pub(crate) fn get(&self, i: usize) -> Option<&'a TypeName>
+        ensures { option_copied result ≡ slice_get (types_in self.now) i }
     {
         match self {
             MemberTypes::Fields(fields) => match fields.get(i) {
@@ -108,8 +108,8 @@ impl<'a> MemberTypes<'a> {
 
 impl<'a> CaseTypes<'a> {
     /// The case with this place, from 0.
-    pub(crate) fn get(self, index: u32) -> Option<CaseType<'a>>
-        ensures { option_map case_told result ≡ slice_get (cases_in self) index }
+    pub(crate) fn get(&self, index: u32) -> Option<CaseType<'a>>
+        ensures { option_map case_told result ≡ slice_get (cases_in self.now) index }
     {
         match self {
             CaseTypes::Declared(cases) => declared_case(cases, index),

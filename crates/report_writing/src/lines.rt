@@ -1,6 +1,6 @@
 //! The lines of a report but for that of a returned value.
 
-ghost use Rattle.std.specs.Prelude.{◌≡◌, ◌++◌, OnOk, codes};
+ghost use Rattle.std.specs.Prelude.{◌≡◌, ◌++◌, OnOk, codes, decimal};
 ghost use Rattle.std.specs.Fmt.{signed_decimal};
 ghost use Rattle.std.specs.List.{flat_map};
 ghost use Rattle.run_report.specs.ReportLines.{count_line, event_line, left_lines, name_of, object_line, phase_words, trap_words};
@@ -11,7 +11,7 @@ use crate::pieces::{push_bytes, push_decimal, push_separator, push_signed};
 use crate::values::push_object;
 use holder_model::{Event, LeftObject, Trap};
 use lowered_run::LowFault;
-use sil_ast::{Exhausted, FuncId, Module};
+use sil_ast::{Exhausted, FuncId, Module, ObjectId};
 
 pub(crate) fn push_events(
     out: &mut Vec<u8>,
@@ -85,13 +85,7 @@ pub(crate) fn push_fault(out: &mut Vec<u8>, fault: LowFault) -> Result<(), Exhau
     ensures { OnOk result (out.new.items ≡ out.old.items ++ fault_line fault) }
 {
     match fault {
-        LowFault::Underflow { object, count } => {
-            push_bytes(out, b"fault underflow #")?;
-            push_decimal(out, object.0)?;
-            push_bytes(out, b" count ")?;
-            push_decimal(out, count)?;
-            push_bytes(out, b"\n")
-        }
+        LowFault::Underflow { object, count } => push_underflow(out, object, count),
         LowFault::Dead { object } => {
             push_bytes(out, b"fault dead #")?;
             push_decimal(out, object.0)?;
@@ -105,6 +99,17 @@ pub(crate) fn push_fault(out: &mut Vec<u8>, fault: LowFault) -> Result<(), Exhau
         }
         LowFault::Slot => push_bytes(out, b"fault slot\n"),
     }
+}
+
+/// Puts `fault underflow #0 count 0`.
+fn push_underflow(out: &mut Vec<u8>, object: ObjectId, count: u64) -> Result<(), Exhausted>
+    ensures { OnOk result (out.new.items ≡ out.old.items ++ line (codes "fault underflow #" ++ decimal object.0 ++ codes " count " ++ decimal count)) }
+{
+    push_bytes(out, b"fault underflow #")?;
+    push_decimal(out, object.0)?;
+    push_bytes(out, b" count ")?;
+    push_decimal(out, count)?;
+    push_bytes(out, b"\n")
 }
 
 /// Puts how many objects are left, and a line for each.

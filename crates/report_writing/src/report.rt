@@ -24,11 +24,11 @@ pub fn write_report(
     m: &Module,
     table: &TypeTable,
     result_type: &TypeName,
-    outcome: RunOutcome<'_>,
+    outcome: &RunOutcome<'_>,
 ) -> Result<Text, Exhausted>
     requires runnable { IsRunnable m.now }
     requires of_it { table.now ≡ declarations_of m.now }
-    ensures { IfOk result (λ text. text ≡ low_report m.now (shape_of table.now result_type.now) (outcome_of outcome)) }
+    ensures { IfOk result (λ text. text ≡ low_report m.now (shape_of table.now result_type.now) (outcome_of outcome.now)) }
 {
     let mut out = Vec::new(alloc);
     let names = Names {
@@ -36,7 +36,7 @@ pub fn write_report(
         left: outcome.left,
     };
     push_events(&mut out, m, outcome.events)?;
-    push_ending(&mut out, names, result_type, outcome.ending)?;
+    push_ending(&mut out, &names, result_type, outcome.ending)?;
     push_counts(&mut out, outcome.retains, outcome.releases)?;
     Text::from_vec(alloc, out)
 }
@@ -44,12 +44,12 @@ pub fn write_report(
 /// Puts how the run ended, and after a return the objects that are left.
 fn push_ending(
     out: &mut Vec<u8>,
-    names: Names<'_>,
+    names: &Names<'_>,
     result_type: &TypeName,
     ending: &Ending,
 ) -> Result<(), Exhausted>
-    requires { AreOfRunnable names.table.now }
-    ensures { OnOk result (out.new.items ≡ out.old.items ++ ending_text names.table.now names.left.now result_type.now ending.now) }
+    requires { AreOfRunnable names.now.table.now }
+    ensures { OnOk result (out.new.items ≡ out.old.items ++ ending_text names.now.table.now names.now.left.now result_type.now ending.now) }
 {
     match ending {
         Ending::Returned(value) => push_returned(out, names, result_type, value),
@@ -62,12 +62,12 @@ fn push_ending(
 /// Puts the value that was returned, and the objects that are left.
 fn push_returned(
     out: &mut Vec<u8>,
-    names: Names<'_>,
+    names: &Names<'_>,
     result_type: &TypeName,
     value: &Val,
 ) -> Result<(), Exhausted>
-    requires { AreOfRunnable names.table.now }
-    ensures { OnOk result (out.new.items ≡ out.old.items ++ returned_text names.table.now names.left.now result_type.now value.now) }
+    requires { AreOfRunnable names.now.table.now }
+    ensures { OnOk result (out.new.items ≡ out.old.items ++ returned_text names.now.table.now names.now.left.now result_type.now value.now) }
 {
     push_bytes(out, b"returned ")?;
     push_value(out, names, value, result_type)?;

@@ -27,23 +27,23 @@ pub(crate) struct Names<'a> {
 #[cycle(write)]
 pub(crate) fn push_value(
     out: &mut Vec<u8>,
-    names: Names<'_>,
+    names: &Names<'_>,
     value: &Val,
     ty: &TypeName,
 ) -> Result<(), Exhausted>
-    requires { AreOfRunnable names.table.now }
-    ensures { OnOk result (out.new.items ≡ out.old.items ++ text_of names.table.now names.left.now ty.now (value_of value.now)) }
+    requires { AreOfRunnable names.now.table.now }
+    ensures { OnOk result (out.new.items ≡ out.old.items ++ text_of names.now.table.now names.now.left.now ty.now (value_of value.now)) }
 {
     match layer_of(names.table, ty) {
         TypeLayer::Integer => push_integer(out, value),
         TypeLayer::Reference => push_reference(out, names.left, value),
         TypeLayer::Group { name, types } => {
             push_bytes(out, name)?;
-            push_group(out, names, value, types)
+            push_group(out, names, value, &types)
         }
         TypeLayer::Enum { name, cases } => {
             push_bytes(out, name)?;
-            push_case(out, names, value, cases)
+            push_case(out, names, value, &cases)
         }
         TypeLayer::Unknown => Ok(()),
     }
@@ -53,12 +53,12 @@ pub(crate) fn push_value(
 #[cycle(write)]
 fn push_group(
     out: &mut Vec<u8>,
-    names: Names<'_>,
+    names: &Names<'_>,
     value: &Val,
-    types: MemberTypes<'_>,
+    types: &MemberTypes<'_>,
 ) -> Result<(), Exhausted>
-    requires { AreOfRunnable names.table.now }
-    ensures { OnOk result (out.new.items ≡ out.old.items ++ group_text names.table.now names.left.now (types_in types) (value_of value.now)) }
+    requires { AreOfRunnable names.now.table.now }
+    ensures { OnOk result (out.new.items ≡ out.old.items ++ group_text names.now.table.now names.now.left.now (types_in types.now) (value_of value.now)) }
 {
     match value {
         Val::Group(members) => {
@@ -74,12 +74,12 @@ fn push_group(
 #[cycle(write)]
 fn push_members(
     out: &mut Vec<u8>,
-    names: Names<'_>,
+    names: &Names<'_>,
     members: &[Val],
-    types: MemberTypes<'_>,
+    types: &MemberTypes<'_>,
 ) -> Result<(), Exhausted>
-    requires { AreOfRunnable names.table.now }
-    ensures { OnOk result (out.new.items ≡ out.old.items ++ members_text names.table.now names.left.now (types_in types) (map value_of members.now)) }
+    requires { AreOfRunnable names.now.table.now }
+    ensures { OnOk result (out.new.items ≡ out.old.items ++ members_text names.now.table.now names.now.left.now (types_in types.now) (map value_of members.now)) }
 {
     for (i, member) in members.iter().enumerate() {
         push_member(out, names, member, types.get(i), i)?;
@@ -91,13 +91,13 @@ fn push_members(
 #[cycle(write)]
 fn push_member(
     out: &mut Vec<u8>,
-    names: Names<'_>,
+    names: &Names<'_>,
     member: &Val,
     ty: Option<&TypeName>,
     i: usize,
 ) -> Result<(), Exhausted>
-    requires { AreOfRunnable names.table.now }
-    ensures { OnOk result (out.new.items ≡ out.old.items ++ member_text names.table.now names.left.now i (value_of member.now) (option_copied ty)) }
+    requires { AreOfRunnable names.now.table.now }
+    ensures { OnOk result (out.new.items ≡ out.old.items ++ member_text names.now.table.now names.now.left.now i (value_of member.now) (option_copied ty.entry)) }
 {
     match ty {
         Some(ty) => {
@@ -112,19 +112,19 @@ fn push_member(
 #[cycle(write)]
 fn push_case(
     out: &mut Vec<u8>,
-    names: Names<'_>,
+    names: &Names<'_>,
     value: &Val,
-    cases: CaseTypes<'_>,
+    cases: &CaseTypes<'_>,
 ) -> Result<(), Exhausted>
-    requires { AreOfRunnable names.table.now }
-    ensures { OnOk result (out.new.items ≡ out.old.items ++ case_text names.table.now names.left.now (cases_in cases) (value_of value.now)) }
+    requires { AreOfRunnable names.now.table.now }
+    ensures { OnOk result (out.new.items ≡ out.old.items ++ case_text names.now.table.now names.now.left.now (cases_in cases.now) (value_of value.now)) }
 {
     match value {
         Val::Chosen {
             case_index,
             payload,
         } => match cases.get(*case_index) {
-            Some(case) => push_chosen(out, names, payload, case),
+            Some(case) => push_chosen(out, names, payload, &case),
             None => Ok(()),
         },
         Val::Int(_) | Val::Object(_) | Val::Group(_) => Ok(()),
@@ -135,13 +135,13 @@ fn push_case(
 #[cycle(write)]
 fn push_chosen(
     out: &mut Vec<u8>,
-    names: Names<'_>,
+    names: &Names<'_>,
     payload: &Option<Boxed<Val>>,
-    case: CaseType<'_>,
+    case: &CaseType<'_>,
 ) -> Result<(), Exhausted>
-    requires { AreOfRunnable names.table.now }
+    requires { AreOfRunnable names.now.table.now }
     ensures { OnOk result (out.new.items ≡ out.old.items
-        ++ chosen_text names.table.now names.left.now (case_told case) (option_map value_of payload.now)) }
+        ++ chosen_text names.now.table.now names.now.left.now (case_told case.now) (option_map value_of payload.now)) }
 {
     push_bytes(out, b".")?;
     push_bytes(out, case.name)?;
@@ -155,12 +155,12 @@ fn push_chosen(
 #[cycle(write)]
 fn push_payload(
     out: &mut Vec<u8>,
-    names: Names<'_>,
+    names: &Names<'_>,
     payload: &Option<Boxed<Val>>,
     ty: &TypeName,
 ) -> Result<(), Exhausted>
-    requires { AreOfRunnable names.table.now }
-    ensures { OnOk result (out.new.items ≡ out.old.items ++ payload_text names.table.now names.left.now ty.now (option_map value_of payload.now)) }
+    requires { AreOfRunnable names.now.table.now }
+    ensures { OnOk result (out.new.items ≡ out.old.items ++ payload_text names.now.table.now names.now.left.now ty.now (option_map value_of payload.now)) }
 {
     match payload {
         Some(payload) => {
