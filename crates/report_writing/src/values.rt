@@ -79,7 +79,8 @@ fn push_members(
     types: &MemberTypes<'_>,
 ) -> Result<(), Exhausted>
     requires { AreOfRunnable names.now.table.now }
-    ensures { OnOk result (out.new.items ≡ out.old.items ++ members_text names.now.table.now names.now.left.now (types_in types.now) (map value_of members.now)) }
+    ensures { OnOk result (out.new.items ≡ out.old.items
+        ++ members_text names.now.table.now names.now.left.now (types_in types.now) (map value_of members.now)) }
 {
     for (i, member) in members.iter().enumerate() {
         push_member(out, names, member, types.get(i), i)?;
@@ -97,7 +98,8 @@ fn push_member(
     i: usize,
 ) -> Result<(), Exhausted>
     requires { AreOfRunnable names.now.table.now }
-    ensures { OnOk result (out.new.items ≡ out.old.items ++ member_text names.now.table.now names.now.left.now i (value_of member.now) (option_copied ty.entry)) }
+    ensures { OnOk result (out.new.items ≡ out.old.items
+        ++ member_text names.now.table.now names.now.left.now i (value_of member.now) (option_copied ty.entry)) }
 {
     match ty {
         Some(ty) => {
