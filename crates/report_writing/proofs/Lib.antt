@@ -4,3 +4,4 @@ pub mod Members
 pub mod Forms
 pub mod Cases
 pub mod Shown
+pub mod Reports
