@@ -6,8 +6,8 @@ use Rattle.sil_rules.specs.declared.status.Status.TheVariants.{Done, Refused, Us
 use Rattle.sil_rules.specs.Statuses.{code_of}
 use Rattle.sil_command.specs.Texts.{read_fault_text}
 use Rattle.sil_command.specs.declared.words.Mode.{Mode}
-use Rattle.sil_command.specs.declared.words.Mode.TheVariants.{Check, Print}
-use Rattle.sil_command.specs.Answers.{Answers, usage, in_mode, AnswersText, too_long, unread, spelled, AnswersModule, AnswersCheck, limit_passed, refused, accepted, AnswersPrint, printed}
+use Rattle.sil_command.specs.declared.words.Mode.TheVariants.{Check, Lower, Print}
+use Rattle.sil_command.specs.Answers.{Answers, usage, in_mode, AnswersText, too_long, unread, spelled, AnswersModule, AnswersChecked, AnswersWrong, limit_passed, refused, wrong, accepted, Writes, written}
 use Rattle.sil_command.specs.Ends.{Call, Ends, answered, read_failed, exhausted, whole, front, WritesAnswer, Exhausts, WritesWhole, WritesFrontOfAnswer, IsStatus}
 use Rattle.sil_command.proofs.Unread.{unread_status}
 
@@ -28,17 +28,22 @@ two_is = inr (inr (inl refl))
 eight_is : IsAnswerStatus (code_of Limit)
 eight_is = inr (inr (inr (inr refl)))
 
-check_status : (m : Module) (answer : List ℕ) (status : ℕ) → AnswersCheck m answer status → IsAnswerStatus status
-check_status m _ _ (refused x first rule) = one_is
-check_status m _ _ (limit_passed what first) = eight_is
-check_status m _ _ (accepted all) = zero_is
+wrong_status : (m : Module) (answer : List ℕ) (status : ℕ) → AnswersWrong m answer status → IsAnswerStatus status
+wrong_status m _ _ (refused x first rule) = one_is
+wrong_status m _ _ (limit_passed what first) = eight_is
 
-print_status : (m : Module) (answer : List ℕ) (status : ℕ) → AnswersPrint m answer status → IsAnswerStatus status
-print_status m _ _ printed = zero_is
+written_status : (text answer : List ℕ) (status : ℕ) → Writes text answer status → IsAnswerStatus status
+written_status text _ _ written = zero_is
+
+checked_status : (m : Module) (AnswersAccepted : List ℕ → ℕ → Type 0) → ((answer : List ℕ) (status : ℕ) → AnswersAccepted answer status → IsAnswerStatus status)
+    → (answer : List ℕ) (status : ℕ) → AnswersChecked m AnswersAccepted answer status → IsAnswerStatus status
+checked_status m A of_accepted answer status (wrong _ _ answers) = wrong_status m answer status answers
+checked_status m A of_accepted answer status (accepted _ _ all answers) = of_accepted answer status answers
 
 module_status : (mode : Mode) (m : Module) (answer : List ℕ) (status : ℕ) → AnswersModule mode m answer status → IsAnswerStatus status
-module_status Check m answer status answers = check_status m answer status answers
-module_status Print m answer status answers = print_status m answer status answers
+module_status Check m = checked_status m _ (written_status _)
+module_status Print m = written_status _
+module_status Lower m = checked_status m _ (written_status _)
 
 unread_is : (status : ℕ) → (status ≡ code_of NotAModule) ⊎ (status ≡ code_of Limit) → IsAnswerStatus status
 unread_is status (inl three) = inr (inr (inr (inl three)))

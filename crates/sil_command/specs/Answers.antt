@@ -4,6 +4,7 @@ use Rattle.sil_ast.specs.declared.module.Module.{Module}
 use Rattle.sil_grammar.specs.declared.refusal.ReadRefusal.{ReadRefusal}
 use Rattle.sil_grammar.specs.Refusals.{IsRefusalOf}
 use Rattle.sil_grammar.specs.Spells.{Spells}
+use Rattle.lowering_model.specs.LoweredModules.{lowered}
 use Rattle.sil_printer.specs.CanonicalModules.{canonical_text}
 use Rattle.sil_rules.specs.declared.limit_word.LimitWord.{LimitWord}
 use Rattle.sil_rules.specs.declared.limits.TheConstants.{TEXT_BYTES}
@@ -11,26 +12,32 @@ use Rattle.sil_rules.specs.declared.status.Status.TheVariants.{Done, Refused, Us
 use Rattle.sil_rules.specs.Statuses.{code_of}
 use Rattle.sil_verifier.specs.Findings.{Accepted, Finding, IsLimit, Refusal, limit}
 use Rattle.sil_command.specs.declared.words.Mode.{Mode}
-use Rattle.sil_command.specs.declared.words.Mode.TheVariants.{Check, Print}
+use Rattle.sil_command.specs.declared.words.Mode.TheVariants.{Check, Lower, Print}
 use Rattle.sil_command.specs.Words.{AsksFor, IsCommandLine}
 use Rattle.sil_command.specs.Reading.{AnswersRefusal}
 use Rattle.sil_command.specs.Texts.{usage_text, limit_text, type_limit_text, accepted_text}
 use Rattle.sil_command.specs.RefusalTexts.{refusal_text}
 
--- what `check` answers to a module: the first that is wrong with it, with a walk that shows it for a rule on walks; or else that it is accepted
-pub data AnswersCheck (m : Module) : List ℕ → ℕ → Type 0 where
-  refused : (x : Finding) → Refusal m x → (IsLimit x → ⊥) → AnswersCheck m (refusal_text m x) (code_of Refused)
-  limit_passed : (what : LimitWord) → Refusal m (limit what) → AnswersCheck m (type_limit_text what) (code_of Limit)
-  accepted : Accepted m → AnswersCheck m accepted_text (code_of Done)
+-- what is answered to a module that isn't accepted: the first that is wrong with it, with a walk that shows it for a rule on walks
+pub data AnswersWrong (m : Module) : List ℕ → ℕ → Type 0 where
+  refused : (x : Finding) → Refusal m x → (IsLimit x → ⊥) → AnswersWrong m (refusal_text m x) (code_of Refused)
+  limit_passed : (what : LimitWord) → Refusal m (limit what) → AnswersWrong m (type_limit_text what) (code_of Limit)
 
--- what `print` answers to a module: its canonical text, whatever rules it breaks
-pub data AnswersPrint (m : Module) : List ℕ → ℕ → Type 0 where
-  printed : AnswersPrint m (canonical_text m) (code_of Done)
+-- what a mode answers that checks the rules of a module, by what it answers to an accepted one
+pub data AnswersChecked (m : Module) (AnswersAccepted : List ℕ → ℕ → Type 0) : List ℕ → ℕ → Type 0 where
+  wrong : (answer : List ℕ) (status : ℕ) → AnswersWrong m answer status → AnswersChecked m AnswersAccepted answer status
+  accepted : (answer : List ℕ) (status : ℕ) → Accepted m → AnswersAccepted answer status → AnswersChecked m AnswersAccepted answer status
 
--- what each mode answers to a module
+-- the text is written, with status 0
+pub data Writes (text : List ℕ) : List ℕ → ℕ → Type 0 where
+  written : Writes text text (code_of Done)
+
+-- what each mode answers to a module: `check` that it is accepted; `print` its canonical text, whatever rules it breaks; and `lower` the
+-- canonical text of the lowered module
 abbrev pub AnswersModule : Mode → Module → List ℕ → ℕ → Type 0
-AnswersModule Check = AnswersCheck
-AnswersModule Print = AnswersPrint
+AnswersModule Check m = AnswersChecked m (Writes accepted_text)
+AnswersModule Print m = Writes (canonical_text m)
+AnswersModule Lower m = AnswersChecked m (Writes (canonical_text (lowered m)))
 
 -- the answer of a mode to a text; one that is too long or isn't read is answered alike in all modes
 pub data AnswersText (mode : Mode) (text : List ℕ) : List ℕ → ℕ → Type 0 where

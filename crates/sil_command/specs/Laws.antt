@@ -1,5 +1,5 @@
 -- What the answers of each mode tell of a text.
-use Rattle.std.specs.Prelude.{◌≡◌, ◌≢◌, ◌↔◌, ℕ, ◌≤◌, List, length, ⊤}
+use Rattle.std.specs.Prelude.{◌≡◌, ◌↔◌, ℕ, ◌≤◌, List, length, ⊤}
 use Rattle.sil_ast.specs.declared.module.Module.{Module}
 use Rattle.sil_grammar.specs.Refusals.{SpellsNone}
 use Rattle.sil_grammar.specs.Spells.{Spells}
@@ -8,7 +8,7 @@ use Rattle.sil_rules.specs.declared.status.Status.TheVariants.{Done, NotAModule}
 use Rattle.sil_rules.specs.Statuses.{code_of}
 use Rattle.sil_verifier.specs.Findings.{Accepted, Finding, Refusal}
 use Rattle.sil_command.specs.declared.words.Mode.{Mode}
-use Rattle.sil_command.specs.declared.words.Mode.TheVariants.{Check, Print}
+use Rattle.sil_command.specs.declared.words.Mode.TheVariants.{Check, Lower, Print}
 use Rattle.sil_command.specs.Words.{AsksFor}
 use Rattle.sil_command.specs.Answers.{Answers}
 use Rattle.sil_command.specs.RefusalTexts.{refusal_text}
@@ -23,11 +23,21 @@ AnswersExactly mode wanted IsSuch =
 abbrev pub AreAcceptedExactly : Type 0
 AreAcceptedExactly = AnswersExactly Check (code_of Done) Accepted
 
--- where `check` doesn't answer Done for a text that spells a module, it writes the first of all that is wrong with the module
+-- so does `lower`
+abbrev pub AreLoweredExactly : Type 0
+AreLoweredExactly = AnswersExactly Lower (code_of Done) Accepted
+
+-- all modes but `print` check the rules of a module
+abbrev pub ChecksRules : Mode → Type 0
+ChecksRules Check = ⊤
+ChecksRules Print = ⊥
+ChecksRules Lower = ⊤
+
+-- where a text spells a module that isn't accepted, these modes write the first of all that is wrong with the module
 abbrev pub AreRefusedForTheFirst : Type 0
 AreRefusedForTheFirst =
-    (words : List (List ℕ)) (text answer : List ℕ) (status : ℕ) → AsksFor words Check → length text ≤ TEXT_BYTES → Answers words text answer status
-    → (m : Module) → Spells m text → status ≢ code_of Done → (x : Finding) × Refusal m x × (answer ≡ refusal_text m x)
+    (words : List (List ℕ)) (mode : Mode) (text answer : List ℕ) (status : ℕ) → ChecksRules mode → AsksFor words mode → length text ≤ TEXT_BYTES
+    → Answers words text answer status → (m : Module) → Spells m text → (Accepted m → ⊥) → (x : Finding) × Refusal m x × (answer ≡ refusal_text m x)
 
 -- no mode answers NotAModule for a text that spells a module
 abbrev pub AreReportedRightly : Type 0

@@ -1,20 +1,24 @@
 //! The answer to a text: what is written, and the status. No byte is read or written here.
 
-ghost use Rattle.std.specs.Prelude.{◌≤◌, IfOk, length};
+ghost use Rattle.std.specs.Prelude.{◌≡◌, ◌≤◌, IfOk, length};
+ghost use Rattle.lowering_model.specs.LoweredModules.{lowered};
+ghost use Rattle.sil_printer.specs.CanonicalModules.{canonical_text};
 ghost use Rattle.sil_rules.specs.declared.limits.TheConstants.{TEXT_BYTES};
 ghost use Rattle.sil_rules.specs.Statuses.{code_of};
 ghost use Rattle.numbered_form.specs.inner.NumberedForm.{IsNumbered};
-ghost use Rattle.sil_command.specs.Answers.{AnswersCheck, AnswersModule, AnswersPrint, AnswersText};
+ghost use Rattle.sil_command.specs.declared.words.Mode.TheVariants.{Check, Lower};
+ghost use Rattle.sil_command.specs.Answers.{AnswersModule, AnswersText, Writes};
 
 use crate::reading::answer_refusal;
 use crate::texts;
 use crate::verified::answer_end;
 use crate::words::Mode;
+use ownership_lowering::lower;
 use sil_ast::{Exhausted, Module};
 use sil_grammar::read_owned;
 use sil_printer::print;
 use sil_rules::Status;
-use sil_verifier::verify;
+use sil_verifier::{Checked, verify};
 use std::alloc::Global;
 use std::mem::forget;
 
@@ -36,7 +40,7 @@ pub fn answer_to(alloc: Global, mode: Mode, text: Vec<u8>) -> Result<Answer, Exh
     }
 }
 
-/// A program answers one text and ends: the module's memory is left to the system.
+/// A program answers one text and ends: the module's memory is left to the system, here and below.
 fn answer_module(alloc: Global, mode: Mode, module: Module) -> Result<Answer, Exhausted>
     requires { IsNumbered «module» }
     ensures { IfOk result (λ a. AnswersModule mode «module» a.text.items (code_of a.status)) }
@@ -48,13 +52,13 @@ fn answer_module(alloc: Global, mode: Mode, module: Module) -> Result<Answer, Ex
             forget(module);
             answer
         }
+        Mode::Lower => lower_module(alloc, module),
     }
 }
 
-/// Verifies the module.
 fn check_module(alloc: Global, module: Module) -> Result<Answer, Exhausted>
     requires { IsNumbered «module» }
-    ensures { IfOk result (λ a. AnswersCheck «module» a.text.items (code_of a.status)) }
+    ensures { IfOk result (λ a. AnswersModule Check «module» a.text.items (code_of a.status)) }
 {
     match verify(alloc, module) {
         Ok(checked) => {
@@ -68,8 +72,31 @@ fn check_module(alloc: Global, module: Module) -> Result<Answer, Exhausted>
     }
 }
 
+fn lower_module(alloc: Global, module: Module) -> Result<Answer, Exhausted>
+    requires { IsNumbered «module» }
+    ensures { IfOk result (λ a. AnswersModule Lower «module» a.text.items (code_of a.status)) }
+{
+    match verify(alloc, module) {
+        Ok(checked) => {
+            let answer = print_lowered(alloc, &checked);
+            forget(checked);
+            answer
+        }
+        Err(end) => answer_end(alloc, end),
+    }
+}
+
+fn print_lowered(alloc: Global, checked: &Checked) -> Result<Answer, Exhausted>
+    ensures { IfOk result (λ a. Writes (canonical_text (lowered checked.now)) a.text.items (code_of a.status)) }
+{
+    let module = lower(alloc, checked)?;
+    let answer = print_module(alloc, &module);
+    forget(module);
+    answer
+}
+
 fn print_module(alloc: Global, module: &Module) -> Result<Answer, Exhausted>
-    ensures { IfOk result (λ a. AnswersPrint «module».now a.text.items (code_of a.status)) }
+    ensures { IfOk result (λ a. Writes (canonical_text «module».now) a.text.items (code_of a.status)) }
 {
     Ok(Answer {
         text: print(alloc, module)?.into_vec(alloc)?,

@@ -1,7 +1,7 @@
 //! What follows from the definition of answers, on calls that do nothing.
 
-ghost use Rattle.sil_command.specs.Laws.{AreAcceptedExactly, AreRefusedForTheFirst, AreReportedRightly};
-ghost use Rattle.sil_command.specs.Laws.{ArePrintedExactly, ArePrintedReadBack};
+ghost use Rattle.sil_command.specs.Laws.{AreAcceptedExactly, AreLoweredExactly, ArePrintedExactly, ArePrintedReadBack};
+ghost use Rattle.sil_command.specs.Laws.{AreRefusedForTheFirst, AreReportedRightly};
 
 use command_words::command_lines_say_one_thing;
 use printed_reading_laws::printed_modules_are_spelled;
@@ -17,7 +17,16 @@ pub fn accepted_exactly()
     accepted_where_nothing_is_found();
 }
 
-/// To a text that spells a module which isn't accepted `check` answers the first of all that is wrong with that module.
+/// `lower` answers a text that spells an accepted module with status 0, and one that is answered so spells such a module.
+pub fn lowered_exactly()
+    ensures { AreLoweredExactly }
+{
+    command_lines_say_one_thing();
+    spelled_once();
+    accepted_where_nothing_is_found();
+}
+
+/// To a text that spells a module which isn't accepted, all modes but `print` answer the first of all that is wrong with that module.
 pub fn refused_for_the_first()
     ensures { AreRefusedForTheFirst }
 {

@@ -13,7 +13,7 @@ mod verified;
 mod words;
 
 pub use laws::{
-    accepted_exactly, printed_exactly, printed_texts_read_back, refused_for_the_first,
-    reported_rightly,
+    accepted_exactly, lowered_exactly, printed_exactly, printed_texts_read_back,
+    refused_for_the_first, reported_rightly,
 };
 pub use top_call::command;

@@ -15,6 +15,8 @@ pub enum Mode {
     Check,
     /// Its canonical text is written, and no rule is checked.
     Print,
+    /// Its rules are checked, and what lowering makes of it is written.
+    Lower,
 }
 
 /// The mode that the words ask for, or none where they are no command line.
@@ -37,6 +39,7 @@ fn mode_named(word: &str) -> Option<Mode>
     match word {
         "check" => Some(Mode::Check),
         "print" => Some(Mode::Print),
+        "lower" => Some(Mode::Lower),
         _ => None,
     }
 }

@@ -1,0 +1,12 @@
+//! Runs accepted modules: lowers one, runs the lowered module from an entry function, and reports the run.
+//! What lowering makes, how a run goes and how a report is written, isn't said here.
+#![tactic(auto)]
+
+mod ending;
+mod entry;
+mod run_report;
+mod runner;
+
+pub use report_writing::Ending;
+pub use run_report::{RunReport, report_text};
+pub use runner::{RunEnd, run_checked};
