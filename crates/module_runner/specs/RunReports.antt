@@ -8,7 +8,7 @@ use Rattle.lowering_model.specs.LoweredModules.{lowered}
 use Rattle.machine_laws.specs.inner.Told.{all_left}
 use Rattle.numbered_form.specs.Names.{Name}
 use Rattle.report_writing.specs.LowReports.{low_report}
-use Rattle.report_writing.specs.RunOutcomes.{IsGivenType, ending_of}
+use Rattle.report_writing.specs.RunOutcomes.{ending_of}
 use Rattle.report_writing.specs.declared.outcome.Ending.TheVariants.{Returned}
 use Rattle.run_typing.specs.Runnable.{IsRunnable}
 use Rattle.run_values.specs.Shapes.{shape_of}
@@ -44,11 +44,10 @@ pub record HeapIsAsTold (r : RunReport) : Type 0 where
   pub releases : r.heap.releases ≡ r.releases
   pub left : (x : Val) → r.ending ≡ Returned x → r.left ≡ all_left r.heap
 
--- the module of the report can be run, the table is its own, and a function of it gives values of the type
+-- the module of the report can be run, and the table is its own
 pub record IsReportable (r : RunReport) : Type 0 where
   pub runnable : IsRunnable r.module
   pub of_it : r.table.now ≡ declarations_of r.module
-  pub given : IsGivenType r.module r.result_type
 
 -- the lines of the report
 abbrev pub text_of : RunReport → List ℕ

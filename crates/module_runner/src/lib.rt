@@ -4,9 +4,11 @@
 
 mod ending;
 mod entry;
+mod laws;
 mod run_report;
 mod runner;
 
+pub use laws::names_have_one_entry;
 pub use report_writing::Ending;
 pub use run_report::{RunReport, report_text};
 pub use runner::{RunEnd, run_checked};

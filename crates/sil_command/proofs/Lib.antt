@@ -3,5 +3,6 @@ pub mod EndLemmas
 pub mod ReadBackLemmas
 pub mod RefusalLemmas
 pub mod Refused
+pub mod RunLemmas
 pub mod StatusLemmas
 pub mod Unread

@@ -1,6 +1,9 @@
 -- For the laws on refusals: what `check` writes of a module, and which texts are answered as no module.
 use Rattle.std.proofs.Common.{◌≡◌, ℕ, ◌≤◌, List, length, refl, sym, subst, arith}
 use Rattle.command_words.specs.inner.Laws.{SayOneThing}
+use Rattle.holder_model.specs.States as ending
+use Rattle.holder_model.specs.States.{Ending}
+use Rattle.lowered_run.specs.declared.low_fault.LowFault.{LowFault}
 use Rattle.sil_ast.specs.declared.module.Module.{Module}
 use Rattle.sil_grammar.specs.Refusals.{SpellsNone}
 use Rattle.sil_grammar.specs.Spells.{Spells}
@@ -9,8 +12,8 @@ use Rattle.sil_rules.specs.declared.limits.TheConstants.{TEXT_BYTES}
 use Rattle.sil_rules.specs.declared.status.Status.TheVariants.{Done, NotAModule}
 use Rattle.sil_rules.specs.Statuses.{code_of}
 use Rattle.sil_command.specs.declared.words.Mode.{Mode}
-use Rattle.sil_command.specs.declared.words.Mode.TheVariants.{Check, Lower, Print}
-use Rattle.sil_command.specs.Answers.{AnswersChecked, AnswersModule, AnswersText, AnswersWrong, Writes, limit_passed, refused, wrong, accepted, written, too_long, unread, spelled}
+use Rattle.sil_command.specs.declared.words.Mode.TheVariants.{Check, Lower, Print, Run}
+use Rattle.sil_command.specs.Answers.{AnswersChecked, AnswersModule, AnswersRun, AnswersText, AnswersWrong, Writes, limit_passed, refused, wrong, accepted, written, no_entry, ran, status_of, too_long, unread, spelled}
 use Rattle.sil_command.specs.Laws.{AreRefusedForTheFirst, AreReportedRightly, ChecksRules}
 use Rattle.sil_command.specs.RefusalTexts.{refusal_text}
 use Rattle.sil_verifier.specs.Findings.{Accepted, Finding, Refusal, limit as found_limit}
@@ -34,6 +37,7 @@ mode_written : (mode : Mode) → ChecksRules mode → (m : Module) (answer : Lis
 mode_written Check checks m = first_written m _
 mode_written Print checks m = absurd checks
 mode_written Lower checks m = first_written m _
+mode_written (Run entry turns) checks m = first_written m _
 
 module _ (once : AreSpelledOnce) (mode : Mode) (checks : ChecksRules mode) (m : Module) where
   text_written : (text answer : List ℕ) (status : ℕ) → length text ≤ TEXT_BYTES → AnswersText mode text answer status → Spells m text
@@ -63,10 +67,21 @@ checked_reported m A no answer status (accepted _ _ all answers) three = no answ
 written_reported : (text : List ℕ) → IsNoReport (Writes text)
 written_reported text _ _ written three = omega arith
 
+ending_reported : (x : Ending LowFault) → code_of (status_of x) ≡ code_of NotAModule → ⊥
+ending_reported (ending.Returned x) three = omega arith
+ending_reported (ending.Trapped t) three = omega arith
+ending_reported ending.OutOfTurns three = omega arith
+ending_reported (ending.Faulted x) three = omega arith
+
+run_reported : (m : Module) (name : List ℕ) (bound : ℕ) → IsNoReport (AnswersRun m name bound)
+run_reported m name bound _ _ (no_entry none) three = omega arith
+run_reported m name bound _ _ (ran e f x entry ends) three = ending_reported x.ending three
+
 module_reported : (mode : Mode) (m : Module) → IsNoReport (AnswersModule mode m)
 module_reported Check m = checked_reported m _ (written_reported _)
 module_reported Print m = written_reported _
 module_reported Lower m = checked_reported m _ (written_reported _)
+module_reported (Run entry turns) m = checked_reported m _ (run_reported m entry turns)
 
 text_reported : (mode : Mode) (text answer : List ℕ) (status : ℕ) → AnswersText mode text answer status → status ≡ code_of NotAModule → SpellsNone text
 text_reported mode text _ _ (too_long long) three = absurd (omega arith)

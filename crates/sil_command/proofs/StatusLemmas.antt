@@ -1,5 +1,5 @@
 -- For the laws on statuses: which texts a mode answers with a status.
-use Rattle.std.proofs.Common.{◌≡◌, ◌↔◌, ◌⊎◌, inl, inr, ℕ, ◌≤◌, List, [], ◌∷◌, length, get_or, refl, sym, ap, subst, ◌∙◌, arith}
+use Rattle.std.proofs.Common.{◌≡◌, ◌↔◌, ◌⊎◌, inl, inr, ℕ, ◌≤◌, List, [], ◌∷◌, length, get_or, refl, sym, ap, ap₂, subst, subst₂, ◌∙◌, arith, Option, Some, None}
 use Rattle.std.specs.Prelude.{⊤}
 use Rattle.command_words.specs.inner.Laws.{SayOneThing}
 use Rattle.sil_ast.specs.declared.module.Module.{Module}
@@ -11,9 +11,9 @@ use Rattle.sil_rules.specs.declared.limits.TheConstants.{TEXT_BYTES}
 use Rattle.sil_rules.specs.declared.status.Status.TheVariants.{Done, NotAModule, Limit}
 use Rattle.sil_rules.specs.Statuses.{code_of}
 use Rattle.sil_command.specs.declared.words.Mode.{Mode}
-use Rattle.sil_command.specs.declared.words.Mode.TheVariants.{Check, Lower, Print}
+use Rattle.sil_command.specs.declared.words.Mode.TheVariants.{Check, Lower, Print, Run}
 use Rattle.sil_command.specs.Texts.{accepted_text}
-use Rattle.sil_command.specs.Words.{AsksFor, word_of}
+use Rattle.sil_command.specs.Words.{AsksFor, IsBoundBy, Takes, word_of}
 use Rattle.sil_command.specs.Answers.{Answers, usage, in_mode, AnswersText, too_long, unread, spelled, AnswersModule, AnswersChecked, AnswersWrong}
 use Rattle.sil_command.specs.Answers.{limit_passed, refused, wrong, accepted, Writes, written}
 use Rattle.sil_command.specs.Laws.{AnswersExactly, AreAcceptedExactly, AreLoweredExactly, ArePrintedExactly}
@@ -25,34 +25,52 @@ use Rattle.sil_command.proofs.Unread.{unread_none, unread_status}
 first_letter : Mode → ℕ
 first_letter mode = get_or (word_of mode) 0 0
 
--- a word names one mode alone
-one_mode : (mode other : Mode) → first_letter mode ≡ first_letter other → other ≡ mode
-one_mode Check Check same = refl
-one_mode Check Print same = absurd (omega arith)
-one_mode Check Lower same = absurd (omega arith)
-one_mode Print Check same = absurd (omega arith)
-one_mode Print Print same = refl
-one_mode Print Lower same = absurd (omega arith)
-one_mode Lower Check same = absurd (omega arith)
-one_mode Lower Print same = absurd (omega arith)
-one_mode Lower Lower same = refl
+one_bound : (turns : Option (List ℕ)) (bound other : ℕ) → IsBoundBy turns bound → IsBoundBy turns other → other ≡ bound
+one_bound None bound other is again = again ∙ sym is
+one_bound (Some digits) bound other is again = sym again.value ∙ is.value
+
+-- the same word and the same options are those of one mode
+one_mode : (mode other : Mode) (turns entry : Option (List ℕ)) → first_letter mode ≡ first_letter other → Takes mode turns entry → Takes other turns entry → other ≡ mode
+one_mode Check Check turns entry same takes again = refl
+one_mode Check Print turns entry same takes again = absurd (omega arith)
+one_mode Check Lower turns entry same takes again = absurd (omega arith)
+one_mode Check (Run name bound) turns entry same takes again = absurd (omega arith)
+one_mode Print Check turns entry same takes again = absurd (omega arith)
+one_mode Print Print turns entry same takes again = refl
+one_mode Print Lower turns entry same takes again = absurd (omega arith)
+one_mode Print (Run name bound) turns entry same takes again = absurd (omega arith)
+one_mode Lower Check turns entry same takes again = absurd (omega arith)
+one_mode Lower Print turns entry same takes again = absurd (omega arith)
+one_mode Lower Lower turns entry same takes again = refl
+one_mode Lower (Run name bound) turns entry same takes again = absurd (omega arith)
+one_mode (Run name bound) Check turns entry same takes again = absurd (omega arith)
+one_mode (Run name bound) Print turns entry same takes again = absurd (omega arith)
+one_mode (Run name bound) Lower turns entry same takes again = absurd (omega arith)
+one_mode (Run name bound) (Run other more) turns entry same takes again = ap₂ Run (again.1 ∙ sym takes.1) (one_bound turns bound more takes.0 again.0)
+
+-- the same words ask for one mode
+asks_for_one : SayOneThing → (words : List (List ℕ)) (mode other : Mode) → AsksFor words mode → AsksFor words other → other ≡ mode
+asks_for_one one words mode other asks again =
+    let same = one words _ _ _ _ _ _ asks.says again.says in
+    one_mode mode other asks.turns asks.entry (ap (λ word. get_or word 0 0) same.0) asks.takes
+    (subst₂ (λ t e. Takes other t e) (sym same.1) (sym same.2) again.takes)
 
 -- the answer to words that ask for a mode
 pub mode_answers : SayOneThing → (words : List (List ℕ)) (mode : Mode) (text answer : List ℕ) (status : ℕ) → AsksFor words mode → Answers words text answer status → AnswersText mode text answer status
 mode_answers one words mode text _ _ asks (usage none) = absurd (none (mode, asks))
 mode_answers one words mode text answer status asks (in_mode other _ _ again answers) =
-    subst (λ m. AnswersText m text answer status) (one_mode mode other (ap (λ word. get_or word 0 0) (one words _ _ _ _ _ _ asks again).0)) answers
+    subst (λ m. AnswersText m text answer status) (asks_for_one one words mode other asks again) answers
 
 -- where the status is none of those of a text that isn't read, it tells of a text what it tells of the module
 module _ (one : SayOneThing) (once : AreSpelledOnce) (mode : Mode) (wanted : ℕ) (IsSuch : Module → Type 0)
-    (tells : (m : Module) (answer : List ℕ) (status : ℕ) → AnswersModule mode m answer status → IsSuch m ↔ (status ≡ wanted))
+    (tells : (m : Module) (text : List ℕ) → Spells m text → (answer : List ℕ) (status : ℕ) → AnswersModule mode m answer status → IsSuch m ↔ (status ≡ wanted))
     (of_modules : (wanted ≡ code_of NotAModule → ⊥) × (wanted ≡ code_of Limit → ⊥)) where
   spelled_wanted : (text answer : List ℕ) (status : ℕ) → length text ≤ TEXT_BYTES → AnswersText mode text answer status
       → (m : Module) × Spells m text × IsSuch m → status ≡ wanted
   spelled_wanted text _ _ within (too_long long) known = absurd (omega arith)
   spelled_wanted text answer status within (unread reason _ _ inside refusal line) known = absurd (unread_none text reason answer status refusal line known.0 known.1)
   spelled_wanted text answer status within (spelled m _ _ inside spells answers) known =
-      (tells m answer status answers).0 (subst IsSuch (once text m known.0 spells known.1) known.2)
+      (tells m text spells answer status answers).0 (subst IsSuch (once text m known.0 spells known.1) known.2)
 
   wanted_spelled : (text answer : List ℕ) (status : ℕ) → AnswersText mode text answer status → status ≡ wanted → (m : Module) × Spells m text × IsSuch m
   wanted_spelled text _ _ (too_long long) is = absurd (of_modules.1 (sym is))
@@ -61,14 +79,14 @@ module _ (one : SayOneThing) (once : AreSpelledOnce) (mode : Mode) (wanted : ℕ
       unread_not : (status ≡ code_of NotAModule) ⊎ (status ≡ code_of Limit) → (m : Module) × Spells m text × IsSuch m
       unread_not (inl three) = absurd (of_modules.0 (sym is ∙ three))
       unread_not (inr eight) = absurd (of_modules.1 (sym is ∙ eight))
-  wanted_spelled text answer status (spelled m _ _ inside spells answers) is = (m, spells, (tells m answer status answers).1 is)
+  wanted_spelled text answer status (spelled m _ _ inside spells answers) is = (m, spells, (tells m text spells answer status answers).1 is)
 
-  answers_exactly : AnswersExactly mode wanted IsSuch
+  pub answers_exactly : AnswersExactly mode wanted IsSuch
   answers_exactly words text answer status asks within answers =
       let of_mode : AnswersText mode text answer status = mode_answers one words mode text answer status asks answers in
       (spelled_wanted text answer status within of_mode, wanted_spelled text answer status of_mode)
 
-wrong_done : AreAcceptedWhereNothingIsFound → (m : Module) (answer : List ℕ) (status : ℕ) → AnswersWrong m answer status → Accepted m ↔ (status ≡ code_of Done)
+pub wrong_done : AreAcceptedWhereNothingIsFound → (m : Module) (answer : List ℕ) (status : ℕ) → AnswersWrong m answer status → Accepted m ↔ (status ≡ code_of Done)
 wrong_done law m _ _ (refused x first rule) = (λ known. absurd ((law m).0 known x first.shown), λ zero. absurd (omega arith))
 wrong_done law m _ _ (limit_passed what first) = (λ known. absurd ((law m).0 known (found_limit what) first.shown), λ zero. absurd (omega arith))
 
@@ -85,11 +103,11 @@ printed_done : (m : Module) (answer : List ℕ) (status : ℕ) → Writes (canon
 printed_done m answer status answers = (λ known. written_done (canonical_text m) answer status answers, λ zero. tt)
 
 pub accepted_exactly : SayOneThing → AreSpelledOnce → AreAcceptedWhereNothingIsFound → AreAcceptedExactly
-accepted_exactly one once law = answers_exactly one once Check (code_of Done) Accepted (accepted_done law (λ m. accepted_text)) (λ e. omega arith, λ e. omega arith)
+accepted_exactly one once law = answers_exactly one once Check (code_of Done) Accepted (λ m text spells. accepted_done law (λ m. accepted_text) m) (λ e. omega arith, λ e. omega arith)
 
 pub printed_exactly : SayOneThing → AreSpelledOnce → ArePrintedExactly
-printed_exactly one once = answers_exactly one once Print (code_of Done) (λ m. ⊤) printed_done (λ e. omega arith, λ e. omega arith)
+printed_exactly one once = answers_exactly one once Print (code_of Done) (λ m. ⊤) (λ m text spells. printed_done m) (λ e. omega arith, λ e. omega arith)
 
 pub lowered_exactly : SayOneThing → AreSpelledOnce → AreAcceptedWhereNothingIsFound → AreLoweredExactly
 lowered_exactly one once law =
-    answers_exactly one once Lower (code_of Done) Accepted (accepted_done law (λ m. canonical_text (lowered m))) (λ e. omega arith, λ e. omega arith)
+    answers_exactly one once Lower (code_of Done) Accepted (λ m text spells. accepted_done law (λ m. canonical_text (lowered m)) m) (λ e. omega arith, λ e. omega arith)

@@ -6,10 +6,12 @@ ghost use Rattle.sil_printer.specs.CanonicalModules.{canonical_text};
 ghost use Rattle.sil_rules.specs.declared.limits.TheConstants.{TEXT_BYTES};
 ghost use Rattle.sil_rules.specs.Statuses.{code_of};
 ghost use Rattle.numbered_form.specs.inner.NumberedForm.{IsNumbered};
-ghost use Rattle.sil_command.specs.declared.words.Mode.TheVariants.{Check, Lower};
+ghost use Rattle.sil_command.specs.declared.words.Mode.TheVariants.{Check, Lower, Run};
 ghost use Rattle.sil_command.specs.Answers.{AnswersModule, AnswersText, Writes};
+ghost use Rattle.sil_command.specs.Words.{IsAskedFor};
 
 use crate::reading::answer_refusal;
+use crate::run_answer::answer_run;
 use crate::texts;
 use crate::verified::answer_end;
 use crate::words::Mode;
@@ -31,7 +33,8 @@ pub struct Answer {
 
 /// The answer of a mode to a text: to the module that it spells, or why it isn't read.
 pub fn answer_to(alloc: Global, mode: Mode, text: Vec<u8>) -> Result<Answer, Exhausted>
-    requires { length text.items ≤ TEXT_BYTES }
+    requires asked { IsAskedFor mode }
+    requires within { length text.items ≤ TEXT_BYTES }
     ensures { IfOk result (λ a. AnswersText mode text.items a.text.items (code_of a.status)) }
 {
     match read_owned(alloc, text) {
@@ -42,7 +45,8 @@ pub fn answer_to(alloc: Global, mode: Mode, text: Vec<u8>) -> Result<Answer, Exh
 
 /// A program answers one text and ends: the module's memory is left to the system, here and below.
 fn answer_module(alloc: Global, mode: Mode, module: Module) -> Result<Answer, Exhausted>
-    requires { IsNumbered «module» }
+    requires asked { IsAskedFor mode }
+    requires numbered { IsNumbered «module» }
     ensures { IfOk result (λ a. AnswersModule mode «module» a.text.items (code_of a.status)) }
 {
     match mode {
@@ -53,6 +57,7 @@ fn answer_module(alloc: Global, mode: Mode, module: Module) -> Result<Answer, Ex
             answer
         }
         Mode::Lower => lower_module(alloc, module),
+        Mode::Run { entry, turns } => run_module(alloc, module, entry.as_slice(), turns),
     }
 }
 
@@ -79,6 +84,26 @@ fn lower_module(alloc: Global, module: Module) -> Result<Answer, Exhausted>
     match verify(alloc, module) {
         Ok(checked) => {
             let answer = print_lowered(alloc, &checked);
+            forget(checked);
+            answer
+        }
+        Err(end) => answer_end(alloc, end),
+    }
+}
+
+fn run_module(
+    alloc: Global,
+    module: Module,
+    entry: &[u8],
+    turns: u32,
+) -> Result<Answer, Exhausted>
+    requires numbered { IsNumbered «module» }
+    requires some_turns { 1 ≤ turns }
+    ensures { IfOk result (λ a. AnswersModule (Run entry.now turns) «module» a.text.items (code_of a.status)) }
+{
+    match verify(alloc, module) {
+        Ok(checked) => {
+            let answer = answer_run(alloc, &checked, entry, turns);
             forget(checked);
             answer
         }

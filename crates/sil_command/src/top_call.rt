@@ -6,7 +6,7 @@ ghost use Rattle.sil_io.specs.Reading.{TakesWithin};
 ghost use Rattle.sil_rules.specs.declared.limits.TheConstants.{TEXT_BYTES};
 ghost use Rattle.sil_rules.specs.declared.status.Status.TheVariants.{ReadFault, WriteFault, OutOfMemory};
 ghost use Rattle.sil_rules.specs.Statuses.{code_of};
-ghost use Rattle.sil_command.specs.Words.{AsksFor, IsCommandLine};
+ghost use Rattle.sil_command.specs.Words.{AsksFor, IsAskedFor, IsCommandLine};
 ghost use Rattle.sil_command.specs.Texts.{read_fault_text};
 ghost use Rattle.sil_command.specs.Ends.{TakesText, Gains, GainsFront, WritesAnswer, Exhausts, WritesWhole};
 ghost use Rattle.sil_command.specs.Ends.{WritesFrontOfAnswer, IsStatus, FinishesText, call_between, Ends};
@@ -90,6 +90,7 @@ fn run<'a, S: Source, K: Sink>(
 
 /// Takes the text and answers it in this mode.
 fn answer_in<S: Source, K: Sink>(alloc: Global, mode: Mode, source: &mut S, out: &mut K) -> u8
+    requires { IsAskedFor mode }
     ensures ends { (words : List (List ℕ)) → AsksFor words mode → Ends (call_between words S.left S.gave S.faults
         source.old source.new K.held K.took K.refused K.faults out.old out.new) result }
     ensures takes { TakesWithin S.gave S.missed TEXT_BYTES source.old source.new }
