@@ -1,5 +1,5 @@
 -- The function with which a run begins: how it is found, and that a run of the lowered module may start at it.
-use Rattle.std.proofs.Common.{◌≡◌, ◌∙◌, ◌<◌, ◌&&◌, ℕ, Bool, true, false, not, true≢false, List, [], ◌∷◌, length, map, get_or, refl, sym, ap, position, Option, Some, None, option_map, slice_get, inl, inr, ◌⊎◌}
+use Rattle.std.proofs.Common.{◌≡◌, ◌∙◌, ◌<◌, ◌&&◌, ℕ, Bool, true, false, not, true≢false, List, [], ◌∷◌, length, map, get_or, refl, sym, ap, arith, position, Option, Some, None, option_map, slice_get, inl, inr, ◌⊎◌}
 use Rattle.std.specs.Prelude.{cond, nat_lt}
 use Rattle.std.specs.List.{position_or_len}
 use Rattle.std.specs.Str.{bytes_eq}

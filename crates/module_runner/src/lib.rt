@@ -9,6 +9,8 @@ mod run_report;
 mod runner;
 
 pub use laws::names_have_one_entry;
+pub use lowered_run::lowered_runs_end_once;
+pub use ownership_lowering::lower;
 pub use report_writing::Ending;
 pub use run_report::{RunReport, report_text};
 pub use runner::{RunEnd, run_checked};

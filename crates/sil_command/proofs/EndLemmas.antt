@@ -1,8 +1,8 @@
 -- What follows from how a call of the command ends: the clauses of the public call.
 use Rattle.std.proofs.Common.{◌≡◌, ◌⊎◌, inl, inr, ℕ, ◌<◌, List, refl, arith}
-use Rattle.holder_model.specs.States as ending
-use Rattle.holder_model.specs.States.{Ending}
-use Rattle.lowered_run.specs.declared.low_fault.LowFault.{LowFault}
+use Rattle.module_runner.specs.States as ending
+use Rattle.module_runner.specs.States.{Ending}
+use Rattle.module_runner.specs.LowFault.{LowFault}
 use Rattle.sil_ast.specs.declared.module.Module.{Module}
 use Rattle.sil_io.specs.Count.{MayFail}
 use Rattle.sil_rules.specs.declared.status.Status.TheVariants.{Done, Refused, Usage, NotAModule, ReadFault, WriteFault, Trapped, OutOfTurns, Limit, OutOfMemory, NoEntry, Faulted}

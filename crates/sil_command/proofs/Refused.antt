@@ -1,9 +1,9 @@
 -- For the laws on refusals: what `check` writes of a module, and which texts are answered as no module.
 use Rattle.std.proofs.Common.{◌≡◌, ℕ, ◌≤◌, List, length, refl, sym, subst, arith}
 use Rattle.command_words.specs.inner.Laws.{SayOneThing}
-use Rattle.holder_model.specs.States as ending
-use Rattle.holder_model.specs.States.{Ending}
-use Rattle.lowered_run.specs.declared.low_fault.LowFault.{LowFault}
+use Rattle.module_runner.specs.States as ending
+use Rattle.module_runner.specs.States.{Ending}
+use Rattle.module_runner.specs.LowFault.{LowFault}
 use Rattle.sil_ast.specs.declared.module.Module.{Module}
 use Rattle.sil_grammar.specs.Refusals.{SpellsNone}
 use Rattle.sil_grammar.specs.Spells.{Spells}

@@ -1,13 +1,13 @@
 -- For the laws on the statuses of `run`: which texts it answers with the status of an ending, and which with that of no entry function.
 use Rattle.std.proofs.Common.{◌≡◌, ◌↔◌, ◌⊎◌, ◌∙◌, inl, inr, ℕ, List, refl, ap, subst, arith}
 use Rattle.command_words.specs.inner.Laws.{SayOneThing}
-use Rattle.holder_model.specs.Outcomes.{Outcome}
-use Rattle.holder_model.specs.States as ending
-use Rattle.holder_model.specs.States.{Ending}
-use Rattle.lowered_run.specs.LowOutcomes.{LowEndsSo}
-use Rattle.lowered_run.specs.declared.low_fault.LowFault.{LowFault}
-use Rattle.lowered_run.specs.inner.Laws.{LoweredRunsEndOnce}
-use Rattle.lowering_model.specs.LoweredModules.{lowered}
+use Rattle.module_runner.specs.Outcomes.{Outcome}
+use Rattle.module_runner.specs.States as ending
+use Rattle.module_runner.specs.States.{Ending}
+use Rattle.module_runner.specs.LowOutcomes.{LowEndsSo}
+use Rattle.module_runner.specs.LowFault.{LowFault}
+use Rattle.module_runner.specs.Laws.{LoweredRunsEndOnce}
+use Rattle.module_runner.specs.LoweredModules.{lowered}
 use Rattle.module_runner.specs.Entries.{HasEntry, IsEntry}
 use Rattle.module_runner.specs.inner.Laws.{HaveOneEntry}
 use Rattle.numbered_form.specs.inner.NumberedForm.{IsNumbered}

@@ -3,7 +3,7 @@ use Rattle.std.proofs.Common.{◌≡◌, ◌↔◌, ◌⊎◌, inl, inr, ℕ, �
 use Rattle.std.specs.Prelude.{⊤}
 use Rattle.command_words.specs.inner.Laws.{SayOneThing}
 use Rattle.sil_ast.specs.declared.module.Module.{Module}
-use Rattle.lowering_model.specs.LoweredModules.{lowered}
+use Rattle.module_runner.specs.LoweredModules.{lowered}
 use Rattle.sil_grammar.specs.Spells.{Spells}
 use Rattle.sil_grammar.specs.inner.Laws.{AreSpelledOnce}
 use Rattle.sil_printer.specs.CanonicalModules.{canonical_text}

@@ -6,16 +6,16 @@ use Rattle.sil_ast.specs.declared.place.FuncId.{FuncId}
 use Rattle.sil_grammar.specs.declared.refusal.ReadRefusal.{ReadRefusal}
 use Rattle.sil_grammar.specs.Refusals.{IsRefusalOf}
 use Rattle.sil_grammar.specs.Spells.{Spells}
-use Rattle.holder_model.specs.Outcomes.{Outcome}
-use Rattle.holder_model.specs.States as ending
-use Rattle.holder_model.specs.States.{Ending}
-use Rattle.lowered_run.specs.LowOutcomes.{LowEndsSo}
-use Rattle.lowered_run.specs.declared.low_fault.LowFault.{LowFault}
-use Rattle.lowering_model.specs.LoweredModules.{lowered}
+use Rattle.module_runner.specs.Outcomes.{Outcome}
+use Rattle.module_runner.specs.States as ending
+use Rattle.module_runner.specs.States.{Ending}
+use Rattle.module_runner.specs.LowOutcomes.{LowEndsSo}
+use Rattle.module_runner.specs.LowFault.{LowFault}
+use Rattle.module_runner.specs.LoweredModules.{lowered}
 use Rattle.module_runner.specs.Entries.{HasEntry, IsEntry}
-use Rattle.report_writing.specs.LowReports.{low_report}
-use Rattle.run_typing.specs.Forms.{given_shape}
-use Rattle.type_definitions.specs.Declarations.{declarations_of}
+use Rattle.module_runner.specs.LowReports.{low_report}
+use Rattle.module_runner.specs.Forms.{given_shape}
+use Rattle.module_runner.specs.Declarations.{declarations_of}
 use Rattle.sil_printer.specs.CanonicalModules.{canonical_text}
 use Rattle.sil_rules.specs.declared.limit_word.LimitWord.{LimitWord}
 use Rattle.sil_rules.specs.declared.limits.TheConstants.{TEXT_BYTES}

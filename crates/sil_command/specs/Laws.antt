@@ -1,10 +1,10 @@
 -- What the answers of each mode tell of a text.
 use Rattle.std.specs.Prelude.{◌≡◌, ◌↔◌, ℕ, ◌≤◌, List, length, ⊤}
-use Rattle.holder_model.specs.Outcomes.{Outcome}
-use Rattle.holder_model.specs.States.{Ending}
-use Rattle.lowered_run.specs.LowOutcomes.{LowEndsSo}
-use Rattle.lowered_run.specs.declared.low_fault.LowFault.{LowFault}
-use Rattle.lowering_model.specs.LoweredModules.{lowered}
+use Rattle.module_runner.specs.Outcomes.{Outcome}
+use Rattle.module_runner.specs.States.{Ending}
+use Rattle.module_runner.specs.LowOutcomes.{LowEndsSo}
+use Rattle.module_runner.specs.LowFault.{LowFault}
+use Rattle.module_runner.specs.LoweredModules.{lowered}
 use Rattle.module_runner.specs.Entries.{HasEntry, IsEntry}
 use Rattle.sil_ast.specs.declared.function.Function.{Function}
 use Rattle.sil_ast.specs.declared.module.Module.{Module}

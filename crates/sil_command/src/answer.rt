@@ -1,7 +1,7 @@
 //! The answer to a text: what is written, and the status. No byte is read or written here.
 
 ghost use Rattle.std.specs.Prelude.{◌≡◌, ◌≤◌, IfOk, length};
-ghost use Rattle.lowering_model.specs.LoweredModules.{lowered};
+ghost use Rattle.module_runner.specs.LoweredModules.{lowered};
 ghost use Rattle.sil_printer.specs.CanonicalModules.{canonical_text};
 ghost use Rattle.sil_rules.specs.declared.limits.TheConstants.{TEXT_BYTES};
 ghost use Rattle.sil_rules.specs.Statuses.{code_of};
@@ -15,7 +15,7 @@ use crate::run_answer::answer_run;
 use crate::texts;
 use crate::verified::answer_end;
 use crate::words::Mode;
-use ownership_lowering::lower;
+use module_runner::lower;
 use sil_ast::{Exhausted, Module};
 use sil_grammar::read_owned;
 use sil_printer::print;
@@ -114,9 +114,9 @@ fn run_module(
 fn print_lowered(alloc: Global, checked: &Checked) -> Result<Answer, Exhausted>
     ensures { IfOk result (λ a. Writes (canonical_text (lowered checked.now)) a.text.items (code_of a.status)) }
 {
-    let module = lower(alloc, checked)?;
-    let answer = print_module(alloc, &module);
-    forget(module);
+    let lowered = lower(alloc, checked)?;
+    let answer = print_module(alloc, &lowered);
+    forget(lowered);
     answer
 }
 

@@ -4,8 +4,7 @@ ghost use Rattle.sil_command.specs.Laws.{AreAcceptedExactly, AreLoweredExactly, 
 ghost use Rattle.sil_command.specs.Laws.{AreRefusedForTheFirst, AreReportedRightly, AreRunExactly, HaveNoEntryExactly};
 
 use command_words::command_lines_say_one_thing;
-use lowered_run::lowered_runs_end_once;
-use module_runner::names_have_one_entry;
+use module_runner::{lowered_runs_end_once, names_have_one_entry};
 use printed_reading_laws::printed_modules_are_spelled;
 use sil_grammar::{spelled_modules_are_numbered, spelled_once};
 use sil_verifier::accepted_where_nothing_is_found;

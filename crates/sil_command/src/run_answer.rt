@@ -2,7 +2,7 @@
 
 ghost use Rattle.std.specs.Prelude.{◌≡◌, ◌≤◌, IfOk};
 ghost use Rattle.module_runner.specs.RunReports.{IsReportable, text_of};
-ghost use Rattle.report_writing.specs.RunOutcomes.{ending_of};
+ghost use Rattle.module_runner.specs.RunOutcomes.{ending_of};
 ghost use Rattle.sil_rules.specs.Statuses.{code_of};
 ghost use Rattle.sil_command.specs.Answers as answers;
 ghost use Rattle.sil_command.specs.Answers.{AnswersRun};

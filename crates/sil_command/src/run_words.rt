@@ -14,7 +14,7 @@ pub const BOUND_DIGITS: usize = 7;
 
 /// The bound on turns that the value of `--turns` gives, if it gives one.
 pub(crate) fn bound_of(value: Option<&str>) -> Option<u32>
-    ensures { MatchOption result ((n : ℕ) → ¬ IsBoundBy (option_map (λ v. v.now) value) n) (IsBoundBy (option_map (λ v. v.now) value)) }
+    ensures { MatchOption result ((n : ℕ) → ¬ IsBoundBy (option_map (λ v. v.now) value.entry) n) (IsBoundBy (option_map (λ v. v.now) value.entry)) }
 {
     match value {
         Some(digits) => written_bound(digits),
@@ -36,7 +36,7 @@ fn written_bound(digits: &str) -> Option<u32>
 
 /// The name that the value of `--entry` gives, and `main` without one.
 pub(crate) fn entry_name(value: Option<&str>) -> &str
-    ensures { result.now ≡ entry_by (option_map (λ v. v.now) value) }
+    ensures { result.now ≡ entry_by (option_map (λ v. v.now) value.entry) }
 {
     match value {
         Some(name) => name,

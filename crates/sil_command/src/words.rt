@@ -36,8 +36,8 @@ pub fn mode_of<'a>(alloc: Global, words: &'a [&'a str]) -> Result<Option<Mode>, 
 /// The mode that is said, if it takes the options that are given.
 fn mode_said(alloc: Global, said: CommandWords<'_>) -> Result<Option<Mode>, Exhausted>
     ensures { IfOk result (λ found. MatchOption found
-        ((mode : Mode) → said.mode.now ≡ word_of mode → ¬ Takes mode (option_map (λ v. v.now) said.turns) (option_map (λ v. v.now) said.entry))
-        (λ mode. (said.mode.now ≡ word_of mode) × Takes mode (option_map (λ v. v.now) said.turns) (option_map (λ v. v.now) said.entry))) }
+        ((mode : Mode) → said.entry.mode.now ≡ word_of mode → ¬ Takes mode (option_map (λ v. v.now) said.entry.turns) (option_map (λ v. v.now) said.entry.entry))
+        (λ mode. (said.entry.mode.now ≡ word_of mode) × Takes mode (option_map (λ v. v.now) said.entry.turns) (option_map (λ v. v.now) said.entry.entry))) }
 {
     if said.mode == "run" {
         return run_mode(alloc, said.turns, said.entry);
@@ -54,8 +54,8 @@ fn run_mode(
     entry: Option<&str>,
 ) -> Result<Option<Mode>, Exhausted>
     ensures { IfOk result (λ found. MatchOption found
-        ((mode : Mode) → word_of mode ≡ codes "run" → ¬ Takes mode (option_map (λ v. v.now) turns) (option_map (λ v. v.now) entry))
-        (λ mode. (word_of mode ≡ codes "run") × Takes mode (option_map (λ v. v.now) turns) (option_map (λ v. v.now) entry))) }
+        ((mode : Mode) → word_of mode ≡ codes "run" → ¬ Takes mode (option_map (λ v. v.now) turns.entry) (option_map (λ v. v.now) entry.entry))
+        (λ mode. (word_of mode ≡ codes "run") × Takes mode (option_map (λ v. v.now) turns.entry) (option_map (λ v. v.now) entry.entry))) }
 {
     let Some(turns) = bound_of(turns) else {
         return Ok(None);

@@ -1,6 +1,6 @@
 -- The answer of `lower` to a module.
 use Rattle.std.proofs.Common.{subst}
-use Rattle.lowering_model.specs.LoweredModules.{lowered}
+use Rattle.module_runner.specs.LoweredModules.{lowered}
 use Rattle.sil_printer.specs.CanonicalModules.{canonical_text}
 use Rattle.sil_command.specs.Answers.{Writes}
 use Rattle.sil_command.proofs.AnswerLemmas.{accepted_answer, wrong_answer}
