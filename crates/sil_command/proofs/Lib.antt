@@ -1,4 +1,5 @@
 pub mod AnswerLemmas
+pub mod Asked
 pub mod EndLemmas
 pub mod ReadBackLemmas
 pub mod RefusalLemmas

@@ -1,5 +1,5 @@
 -- For the laws on statuses: which texts a mode answers with a status.
-use Rattle.std.proofs.Common.{◌≡◌, ◌↔◌, ◌⊎◌, inl, inr, ℕ, ◌≤◌, List, [], ◌∷◌, length, get_or, refl, sym, ap, ap₂, subst, subst₂, ◌∙◌, arith, Option, Some, None}
+use Rattle.std.proofs.Common.{◌≡◌, ◌↔◌, ◌⊎◌, inl, inr, ℕ, ◌≤◌, List, length, refl, sym, subst, ◌∙◌, arith}
 use Rattle.std.specs.Prelude.{⊤}
 use Rattle.command_words.specs.inner.Laws.{SayOneThing}
 use Rattle.sil_ast.specs.declared.module.Module.{Module}
@@ -11,49 +11,16 @@ use Rattle.sil_rules.specs.declared.limits.TheConstants.{TEXT_BYTES}
 use Rattle.sil_rules.specs.declared.status.Status.TheVariants.{Done, NotAModule, Limit}
 use Rattle.sil_rules.specs.Statuses.{code_of}
 use Rattle.sil_command.specs.declared.words.Mode.{Mode}
-use Rattle.sil_command.specs.declared.words.Mode.TheVariants.{Check, Lower, Print, Run}
+use Rattle.sil_command.specs.declared.words.Mode.TheVariants.{Check, Lower, Print}
 use Rattle.sil_command.specs.Texts.{accepted_text}
-use Rattle.sil_command.specs.Words.{AsksFor, IsBoundBy, Takes, word_of}
+use Rattle.sil_command.specs.Words.{AsksFor}
 use Rattle.sil_command.specs.Answers.{Answers, usage, in_mode, AnswersText, too_long, unread, spelled, AnswersModule, AnswersChecked, AnswersWrong}
 use Rattle.sil_command.specs.Answers.{limit_passed, refused, wrong, accepted, Writes, written}
 use Rattle.sil_command.specs.Laws.{AnswersExactly, AreAcceptedExactly, AreLoweredExactly, ArePrintedExactly}
 use Rattle.sil_verifier.specs.Findings.{Accepted, limit as found_limit}
 use Rattle.sil_verifier.specs.inner.Laws.{AreAcceptedWhereNothingIsFound}
+use Rattle.sil_command.proofs.Asked.{asks_for_one}
 use Rattle.sil_command.proofs.Unread.{unread_none, unread_status}
-
--- the words of modes begin with letters of their own
-first_letter : Mode → ℕ
-first_letter mode = get_or (word_of mode) 0 0
-
-one_bound : (turns : Option (List ℕ)) (bound other : ℕ) → IsBoundBy turns bound → IsBoundBy turns other → other ≡ bound
-one_bound None bound other is again = again ∙ sym is
-one_bound (Some digits) bound other is again = sym again.value ∙ is.value
-
--- the same word and the same options are those of one mode
-one_mode : (mode other : Mode) (turns entry : Option (List ℕ)) → first_letter mode ≡ first_letter other → Takes mode turns entry → Takes other turns entry → other ≡ mode
-one_mode Check Check turns entry same takes again = refl
-one_mode Check Print turns entry same takes again = absurd (omega arith)
-one_mode Check Lower turns entry same takes again = absurd (omega arith)
-one_mode Check (Run name bound) turns entry same takes again = absurd (omega arith)
-one_mode Print Check turns entry same takes again = absurd (omega arith)
-one_mode Print Print turns entry same takes again = refl
-one_mode Print Lower turns entry same takes again = absurd (omega arith)
-one_mode Print (Run name bound) turns entry same takes again = absurd (omega arith)
-one_mode Lower Check turns entry same takes again = absurd (omega arith)
-one_mode Lower Print turns entry same takes again = absurd (omega arith)
-one_mode Lower Lower turns entry same takes again = refl
-one_mode Lower (Run name bound) turns entry same takes again = absurd (omega arith)
-one_mode (Run name bound) Check turns entry same takes again = absurd (omega arith)
-one_mode (Run name bound) Print turns entry same takes again = absurd (omega arith)
-one_mode (Run name bound) Lower turns entry same takes again = absurd (omega arith)
-one_mode (Run name bound) (Run other more) turns entry same takes again = ap₂ Run (again.1 ∙ sym takes.1) (one_bound turns bound more takes.0 again.0)
-
--- the same words ask for one mode
-asks_for_one : SayOneThing → (words : List (List ℕ)) (mode other : Mode) → AsksFor words mode → AsksFor words other → other ≡ mode
-asks_for_one one words mode other asks again =
-    let same = one words _ _ _ _ _ _ asks.says again.says in
-    one_mode mode other asks.turns asks.entry (ap (λ word. get_or word 0 0) same.0) asks.takes
-    (subst₂ (λ t e. Takes other t e) (sym same.1) (sym same.2) again.takes)
 
 -- the answer to words that ask for a mode
 pub mode_answers : SayOneThing → (words : List (List ℕ)) (mode : Mode) (text answer : List ℕ) (status : ℕ) → AsksFor words mode → Answers words text answer status → AnswersText mode text answer status
