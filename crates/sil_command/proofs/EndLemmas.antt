@@ -5,8 +5,8 @@ use Rattle.module_runner.specs.States.{Ending}
 use Rattle.module_runner.specs.LowFault.{LowFault}
 use Rattle.sil_ast.specs.declared.module.Module.{Module}
 use Rattle.sil_io.specs.Count.{MayFail}
-use Rattle.sil_rules.specs.declared.status.Status.TheVariants.{Done, Refused, Usage, NotAModule, ReadFault, WriteFault, Trapped, OutOfTurns, Limit, OutOfMemory, NoEntry, Faulted}
-use Rattle.sil_rules.specs.Statuses.{code_of}
+use Rattle.sil_command.specs.declared.status.Status.TheVariants.{Done, Refused, Usage, NotAModule, ReadFault, WriteFault, Trapped, OutOfTurns, Limit, OutOfMemory, NoEntry, Faulted}
+use Rattle.sil_command.specs.Statuses.{code_of}
 use Rattle.sil_command.specs.Texts.{read_fault_text}
 use Rattle.sil_command.specs.declared.words.Mode.{Mode}
 use Rattle.sil_command.specs.declared.words.Mode.TheVariants.{Check, Lower, Print, Run}

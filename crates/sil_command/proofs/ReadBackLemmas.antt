@@ -5,8 +5,8 @@ use Rattle.sil_ast.specs.declared.module.Module.{Module}
 use Rattle.sil_grammar.specs.Spells.{Spells}
 use Rattle.sil_grammar.specs.inner.Laws.{AreSpelledNumbered}
 use Rattle.printed_reading_laws.specs.inner.Laws.{ArePrintedSpelled}
-use Rattle.sil_rules.specs.declared.status.Status.TheVariants.{Done}
-use Rattle.sil_rules.specs.Statuses.{code_of}
+use Rattle.sil_command.specs.declared.status.Status.TheVariants.{Done}
+use Rattle.sil_command.specs.Statuses.{code_of}
 use Rattle.sil_command.specs.declared.words.Mode.TheVariants.{Print}
 use Rattle.sil_command.specs.Answers.{AnswersText, too_long, unread, spelled, Writes, written}
 use Rattle.sil_printer.specs.CanonicalModules.{canonical_text}

@@ -16,8 +16,8 @@ use Rattle.sil_ast.specs.declared.module.Module.{Module}
 use Rattle.sil_ast.specs.declared.place.FuncId.{FuncId}
 use Rattle.sil_grammar.specs.Spells.{Spells}
 use Rattle.sil_grammar.specs.inner.Laws.{AreSpelledNumbered, AreSpelledOnce}
-use Rattle.sil_rules.specs.declared.status.Status.TheVariants.{Refused, Limit, NoEntry}
-use Rattle.sil_rules.specs.Statuses.{code_of}
+use Rattle.sil_command.specs.declared.status.Status.TheVariants.{Refused, Limit, NoEntry}
+use Rattle.sil_command.specs.Statuses.{code_of}
 use Rattle.sil_verifier.specs.Findings.{Accepted, limit as found_limit}
 use Rattle.sil_verifier.specs.inner.Laws.{AreAcceptedWhereNothingIsFound}
 use Rattle.sil_command.specs.declared.words.Mode.TheVariants.{Run}

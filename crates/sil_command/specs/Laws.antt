@@ -12,9 +12,9 @@ use Rattle.sil_ast.specs.declared.place.FuncId.{FuncId}
 use Rattle.sil_grammar.specs.Refusals.{SpellsNone}
 use Rattle.sil_grammar.specs.Spells.{Spells}
 use Rattle.sil_rules.specs.declared.limits.TheConstants.{TEXT_BYTES}
-use Rattle.sil_rules.specs.declared.status.Status.{Status}
-use Rattle.sil_rules.specs.declared.status.Status.TheVariants.{Done, NotAModule, NoEntry}
-use Rattle.sil_rules.specs.Statuses.{code_of}
+use Rattle.sil_command.specs.declared.status.Status.{Status}
+use Rattle.sil_command.specs.declared.status.Status.TheVariants.{Done, NotAModule, NoEntry}
+use Rattle.sil_command.specs.Statuses.{code_of}
 use Rattle.sil_verifier.specs.Findings.{Accepted, Finding, Refusal}
 use Rattle.sil_command.specs.declared.words.Mode.{Mode}
 use Rattle.sil_command.specs.declared.words.Mode.TheVariants.{Check, Lower, Print, Run}

@@ -3,7 +3,7 @@
 ghost use Rattle.std.specs.Prelude.{◌≡◌, ◌≤◌, IfOk};
 ghost use Rattle.module_runner.specs.RunReports.{IsReportable, text_of};
 ghost use Rattle.module_runner.specs.RunOutcomes.{ending_of};
-ghost use Rattle.sil_rules.specs.Statuses.{code_of};
+ghost use Rattle.sil_command.specs.Statuses.{code_of};
 ghost use Rattle.sil_command.specs.Answers as answers;
 ghost use Rattle.sil_command.specs.Answers.{AnswersRun};
 
@@ -11,7 +11,7 @@ use crate::answer::Answer;
 use crate::texts;
 use module_runner::{Ending, RunEnd, RunReport, report_text, run_checked};
 use sil_ast::Exhausted;
-use sil_rules::Status;
+use crate::status::Status;
 use sil_verifier::Checked;
 use std::alloc::Global;
 use std::mem::forget;

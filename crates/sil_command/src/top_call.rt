@@ -4,8 +4,8 @@ ghost use Rattle.std.specs.Prelude.{◌≡◌, ◌⊎◌, ◌<◌, ℕ, List, ma
 ghost use Rattle.sil_io.specs.Count.{MayFail};
 ghost use Rattle.sil_io.specs.Reading.{TakesWithin};
 ghost use Rattle.sil_rules.specs.declared.limits.TheConstants.{TEXT_BYTES};
-ghost use Rattle.sil_rules.specs.declared.status.Status.TheVariants.{ReadFault, WriteFault, OutOfMemory};
-ghost use Rattle.sil_rules.specs.Statuses.{code_of};
+ghost use Rattle.sil_command.specs.declared.status.Status.TheVariants.{ReadFault, WriteFault, OutOfMemory};
+ghost use Rattle.sil_command.specs.Statuses.{code_of};
 ghost use Rattle.sil_command.specs.Words.{AsksFor, IsAskedFor, IsCommandLine};
 ghost use Rattle.sil_command.specs.Texts.{read_fault_text};
 ghost use Rattle.sil_command.specs.Ends.{TakesText, Gains, GainsFront, WritesAnswer, Exhausts, WritesWhole};
@@ -16,7 +16,8 @@ use crate::texts;
 use crate::words::{Mode, mode_of};
 use sil_ast::Exhausted;
 use sil_io::{ReadEnd, Sink, Source, read_all, write_all};
-use sil_rules::{Status, limits};
+use crate::status::Status;
+use sil_rules::limits;
 use std::alloc::Global;
 
 /// Does what the words ask for: reads a text from the source, writes one answer to the sink, and answers the status.

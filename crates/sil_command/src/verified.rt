@@ -2,8 +2,8 @@
 
 ghost use Rattle.std.specs.Prelude.{◌≡◌, IfOk};
 ghost use Rattle.sil_ast.specs.declared.module.Module as any;
-ghost use Rattle.sil_rules.specs.declared.status.Status.TheVariants as status;
-ghost use Rattle.sil_rules.specs.Statuses.{code_of};
+ghost use Rattle.sil_command.specs.declared.status.Status.TheVariants as status;
+ghost use Rattle.sil_command.specs.Statuses.{code_of};
 ghost use Rattle.sil_verifier.specs.inner.Ends.{IsVerifyEnd};
 ghost use Rattle.sil_command.specs.Answers.{AnswersWrong};
 ghost use Rattle.sil_command.specs.inner.ReportTexts.{report_text};
@@ -12,7 +12,8 @@ ghost use Rattle.sil_command.specs.Texts.{type_limit_text};
 use crate::answer::Answer;
 use crate::{refusal_lines, texts};
 use sil_ast::{Exhausted, Module};
-use sil_rules::{LimitWord, Status};
+use crate::status::Status;
+use sil_rules::LimitWord;
 use sil_verifier::{Refusal, VerifyEnd};
 use std::alloc::Global;
 use std::mem::forget;

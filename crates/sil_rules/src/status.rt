@@ -18,18 +18,10 @@ pub enum Status {
     ReadFault,
     /// A write failed.
     WriteFault,
-    /// The run ended with a trap.
-    Trapped,
-    /// The run ended at its bound on turns.
-    OutOfTurns,
     /// A limit is passed.
     Limit,
     /// Memory ran out.
     OutOfMemory,
-    /// The module has no entry function of the name.
-    NoEntry,
-    /// The run ended with a fault.
-    Faulted,
 }
 
 impl Status {
@@ -44,12 +36,8 @@ impl Status {
             Status::NotAModule => 3,
             Status::ReadFault => 4,
             Status::WriteFault => 5,
-            Status::Trapped => 6,
-            Status::OutOfTurns => 7,
             Status::Limit => 8,
             Status::OutOfMemory => 9,
-            Status::NoEntry => 10,
-            Status::Faulted => 12,
         }
     }
 }

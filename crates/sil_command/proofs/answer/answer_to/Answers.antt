@@ -1,5 +1,5 @@
 -- The answer to a text, by how it was read.
-use Rattle.sil_rules.specs.Statuses.{code_of}
+use Rattle.sil_command.specs.Statuses.{code_of}
 use Rattle.sil_command.proofs.AnswerLemmas.{read_answer, unread_answer}
 use Rattle.sil_command.proofs.answer.answer_to.Goals as goal
 

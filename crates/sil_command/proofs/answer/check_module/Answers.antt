@@ -1,7 +1,7 @@
 -- The answer of `check` to an accepted module.
 use Rattle.std.proofs.Common.{sym, subst, ◌∙◌}
-use Rattle.sil_rules.specs.declared.status.Status.TheVariants.{Done}
-use Rattle.sil_rules.specs.Statuses.{code_of}
+use Rattle.sil_command.specs.declared.status.Status.TheVariants.{Done}
+use Rattle.sil_command.specs.Statuses.{code_of}
 use Rattle.sil_command.specs.Answers.{Writes, accepted, written}
 use Rattle.sil_command.specs.Texts.{accepted_text}
 use Rattle.sil_command.proofs.AnswerLemmas.{wrong_answer}

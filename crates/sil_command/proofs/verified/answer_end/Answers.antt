@@ -1,7 +1,7 @@
 -- The text and the status for each end of the verifier but want of memory.
 use Rattle.std.proofs.Common.{sym, ap, subst, ◌∙◌}
-use Rattle.sil_rules.specs.declared.status.Status.TheVariants.{Refused, Limit}
-use Rattle.sil_rules.specs.Statuses.{code_of}
+use Rattle.sil_command.specs.declared.status.Status.TheVariants.{Refused, Limit}
+use Rattle.sil_command.specs.Statuses.{code_of}
 use Rattle.sil_verifier.specs.inner.Ends.{IsVerifyEnd}
 use Rattle.sil_command.specs.Answers.{AnswersWrong, refused, limit_passed}
 use Rattle.sil_command.specs.inner.ReportTexts.{report_text}
