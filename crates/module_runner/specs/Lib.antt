@@ -10,4 +10,5 @@ pub use Rattle.lowering_model.specs.LoweredModules
 pub use Rattle.report_writing.specs.LowReports
 pub use Rattle.report_writing.specs.RunOutcomes
 pub use Rattle.run_typing.specs.Forms
+pub use Rattle.run_values.specs.Shapes
 pub use Rattle.type_definitions.specs.Declarations

@@ -1,7 +1,6 @@
 //! The run of an accepted module.
 
-ghost use Rattle.std.specs.Prelude.{◌≡◌, ◌≤◌, ◌↔◌, Err, IfOk};
-ghost use Rattle.holder_model.specs.Outcomes.{may_start};
+ghost use Rattle.std.specs.Prelude.{◌≡◌, ◌≤◌, ◌↔◌, ℕ, Err, IfOk, List};
 ghost use Rattle.type_definitions.specs.Mentions as mentions;
 ghost use Rattle.module_runner.specs.Entries.{HasEntry, IsEntry};
 ghost use Rattle.module_runner.specs.RunReports.{HeapIsAsTold, IsReportable, TellsOfRun, TellsOfRunFrom};
@@ -56,7 +55,7 @@ fn run_from<'c>(
 ) -> Result<RunReport<'c>, Exhausted>
     requires entry { (name : List ℕ) × IsEntry c.now name entry.id entry.function.now }
     requires some_turns { 1 ≤ turns }
-    ensures run { IfOk result (TellsOfRunFrom c.now entry.id entry.function.now turns) }
+    ensures run { IfOk result (TellsOfRunFrom c.now entry.entry.id entry.entry.function.now turns) }
     ensures heap { IfOk result HeapIsAsTold }
     ensures reportable { IfOk result IsReportable }
 {

@@ -4,6 +4,7 @@ pub mod EndLemmas
 pub mod ReadBackLemmas
 pub mod RefusalLemmas
 pub mod Refused
+pub mod RunAnswers
 pub mod RunLemmas
 pub mod StatusLemmas
 pub mod Unread
