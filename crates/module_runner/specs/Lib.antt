@@ -1,5 +1,4 @@
 pub mod Entries
-pub mod RunReports
 pub mod inner
 pub use Rattle.holder_model.specs.Outcomes
 pub use Rattle.holder_model.specs.States
@@ -9,6 +8,6 @@ pub use Rattle.lowered_run.specs.inner.Laws
 pub use Rattle.lowering_model.specs.LoweredModules
 pub use Rattle.report_writing.specs.LowReports
 pub use Rattle.report_writing.specs.RunOutcomes
-pub use Rattle.run_typing.specs.Forms
+pub use Rattle.type_definitions.specs.Mentions
 pub use Rattle.run_values.specs.Shapes
 pub use Rattle.type_definitions.specs.Declarations

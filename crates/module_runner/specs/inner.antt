@@ -1,3 +1,4 @@
 pub mod Endings
 pub mod Entries
 pub mod Laws
+pub mod RunReports

@@ -2,7 +2,7 @@
 
 ghost use Rattle.std.specs.Prelude.{◌≡◌, IfOk};
 ghost use Rattle.report_writing.specs.RunOutcomes as told;
-ghost use Rattle.module_runner.specs.RunReports.{IsReportable, outcome_of, text_of};
+ghost use Rattle.module_runner.specs.inner.RunReports.{IsReportable, outcome_of, text_of};
 
 use count_heap::Heap;
 use holder_model::{Event, LeftObject};

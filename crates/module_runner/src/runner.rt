@@ -3,7 +3,7 @@
 ghost use Rattle.std.specs.Prelude.{◌≡◌, ◌≤◌, ◌↔◌, ℕ, Err, IfOk, List};
 ghost use Rattle.type_definitions.specs.Mentions as mentions;
 ghost use Rattle.module_runner.specs.Entries.{HasEntry, IsEntry};
-ghost use Rattle.module_runner.specs.RunReports.{HeapIsAsTold, IsReportable, TellsOfRun, TellsOfRunFrom};
+ghost use Rattle.module_runner.specs.inner.RunReports.{HeapIsAsTold, IsReportable, TellsOfRun, TellsOfRunFrom};
 ghost use Rattle.module_runner.specs.declared.runner.RunEnd.TheVariants.{NoEntry};
 
 use crate::ending::reported;

@@ -2,11 +2,11 @@
 use Rattle.std.proofs.Common.{◌≡◌, ◌∙◌, ◌≤◌, ℕ, List, Option, Some, None, Result, ap, arith, subst, sym}
 use Rattle.std.specs.Prelude.{IfOk}
 use Rattle.module_runner.specs.Declarations.{declarations_of}
-use Rattle.module_runner.specs.Forms.{given_shape}
 use Rattle.module_runner.specs.LowReports.{low_report}
 use Rattle.module_runner.specs.LoweredModules.{lowered}
+use Rattle.module_runner.specs.Mentions.{given_type}
 use Rattle.module_runner.specs.RunOutcomes.{ending_of}
-use Rattle.module_runner.specs.RunReports.{TellsOfRun, outcome_of, text_of}
+use Rattle.module_runner.specs.inner.RunReports.{TellsOfRun, outcome_of, text_of}
 use Rattle.module_runner.specs.Shapes.{shape_of}
 use Rattle.module_runner.specs.declared.run_report.RunReport.{RunReport}
 use Rattle.sil_ast.specs.declared.module.Module.{Module}
@@ -26,7 +26,7 @@ pub some_turns : (entry : List ℕ) (bound : ℕ) → IsAskedFor (Run entry boun
 some_turns entry bound (words, asks) = bound_some asks.turns bound asks.takes.0
 
 module _ (m : Module) (name : List ℕ) (bound : ℕ) (report : RunReport) (tells : TellsOfRun m name bound report) where
-  text_told : text_of report ≡ low_report (lowered m) (given_shape (declarations_of (lowered m)) tells.function) (outcome_of report)
+  text_told : text_of report ≡ low_report (lowered m) (shape_of (declarations_of (lowered m)) (given_type tells.function.signature)) (outcome_of report)
   text_told =
       ap (λ k. low_report k (shape_of (declarations_of k) report.result_type) (outcome_of report)) tells.tells.module
       ∙ ap (λ t. low_report (lowered m) (shape_of (declarations_of (lowered m)) t) (outcome_of report)) tells.tells.result_type

@@ -14,7 +14,8 @@ use Rattle.module_runner.specs.LowFault.{LowFault}
 use Rattle.module_runner.specs.LoweredModules.{lowered}
 use Rattle.module_runner.specs.Entries.{HasEntry, IsEntry}
 use Rattle.module_runner.specs.LowReports.{low_report}
-use Rattle.module_runner.specs.Forms.{given_shape}
+use Rattle.module_runner.specs.Mentions.{given_type}
+use Rattle.module_runner.specs.Shapes.{shape_of}
 use Rattle.module_runner.specs.Declarations.{declarations_of}
 use Rattle.sil_printer.specs.CanonicalModules.{canonical_text}
 use Rattle.sil_rules.specs.declared.limit_word.LimitWord.{LimitWord}
@@ -56,7 +57,7 @@ status_of (ending.Faulted x) = Faulted
 pub data AnswersRun (m : Module) (name : List ℕ) (bound : ℕ) : List ℕ → ℕ → Type 0 where
   no_entry : (HasEntry m name → ⊥) → AnswersRun m name bound (no_entry_text name) (code_of NoEntry)
   ran : (e : FuncId) (f : Function) (x : Outcome LowFault) → IsEntry m name e f → LowEndsSo (lowered m) e bound x
-      → AnswersRun m name bound (low_report (lowered m) (given_shape (declarations_of (lowered m)) f) x) (code_of (status_of x.ending))
+      → AnswersRun m name bound (low_report (lowered m) (shape_of (declarations_of (lowered m)) (given_type f.signature)) x) (code_of (status_of x.ending))
 
 -- what each mode answers to a module: `check` that it is accepted; `print` its canonical text, whatever rules it breaks; `lower` the
 -- canonical text of the lowered module; and `run` the report of its run

@@ -1,7 +1,7 @@
 //! The answer of `run` to an accepted module: the report of its run, or that it has no entry function of the name.
 
 ghost use Rattle.std.specs.Prelude.{◌≡◌, ◌≤◌, IfOk};
-ghost use Rattle.module_runner.specs.RunReports.{IsReportable, text_of};
+ghost use Rattle.module_runner.specs.inner.RunReports.{IsReportable, text_of};
 ghost use Rattle.module_runner.specs.RunOutcomes.{ending_of};
 ghost use Rattle.sil_command.specs.Statuses.{code_of};
 ghost use Rattle.sil_command.specs.Answers as answers;
