@@ -9,6 +9,7 @@ use argument_conventions::argument_count;
 use sil_ast::{FuncId, Function, Module};
 
 /// A function of a module with which a run may begin.
+#[derive(Clone, Copy)]
 pub(crate) struct Entry<'m> {
     pub(crate) id: FuncId,
     pub(crate) function: &'m Function,

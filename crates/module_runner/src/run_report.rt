@@ -50,5 +50,5 @@ pub fn report_text(alloc: Global, r: &RunReport<'_>) -> Result<Text, Exhausted>
     requires { IsReportable r.now }
     ensures { IfOk result (λ text. text ≡ text_of r.now) }
 {
-    write_report(alloc, &r.module, r.table, &r.result_type, r.outcome())
+    write_report(alloc, &r.module, r.table, &r.result_type, &r.outcome())
 }
