@@ -1,0 +1,57 @@
+-- The values that a program has: what each stands for, form by form, and that a value told to a program is that value again.
+use Rattle.std.proofs.Common.{◌≡◌, ◌∙◌, ℕ, ℤ, List, [], ◌++◌, None, Some, Option, map, refl, sym, ap, ap₂}
+use Rattle.std.specs.Prelude.{option_map}
+use Rattle.std.specs.List.{flat_map}
+use Rattle.holder_model.specs.Outcomes.{Outcome}
+use Rattle.holder_model.specs.States.{Ending, Faulted, OutOfTurns, Returned, Trapped}
+use Rattle.holder_model.specs.declared.left_object.LeftObject.{LeftObject}
+use Rattle.lowered_run.specs.declared.low_fault.LowFault.{LowFault}
+use Rattle.run_report.specs.ReportLines.{count_line, ending_lines, event_line, report}
+use Rattle.run_values.specs.Shapes.{Shape}
+use Rattle.run_values.specs.Values.{Value, Values, Int, Object, Group, Case, Full, NoValue, More, chosen, grouped, val_of, vals_of, values_of}
+use Rattle.run_values.specs.declared.value.Val.{Val, Val-F, fold-roll-Val}
+use Rattle.run_values.specs.declared.value.Val.TheVariants as val
+use Rattle.run_values.specs.declared.value.Val.TheVariants.{rolls-Int, rolls-Object, rolls-Group, rolls-Chosen}
+use Rattle.sil_ast.specs.declared.module.Module.{Module}
+use Rattle.sil_ast.specs.declared.place.ObjectId.{ObjectId}
+use Rattle.report_writing.specs.LowReports.{low_ending_lines, low_report}
+use Rattle.report_writing.specs.RunOutcomes.{value_of, value_over}
+
+pub value-Int : (n : ℤ) → value_of (val.Int n) ≡ Int n
+value-Int n = ap value_of (sym (rolls-Int n)) ∙ fold-roll-Val Value value_over (Val-F.Int n)
+
+pub value-Object : (o : ObjectId) → value_of (val.Object o) ≡ Object o
+value-Object o = ap value_of (sym (rolls-Object o)) ∙ fold-roll-Val Value value_over (Val-F.Object o)
+
+pub value-Group : (vs : List Val) → value_of (val.Group vs) ≡ grouped (map value_of vs)
+value-Group vs = ap value_of (sym (rolls-Group vs)) ∙ fold-roll-Val Value value_over (Val-F.Group vs)
+
+pub value-Chosen : (k : ℕ) (payload : Option Val) → value_of (val.Chosen k payload) ≡ chosen k (option_map value_of payload)
+value-Chosen k None = ap value_of (sym (rolls-Chosen k None)) ∙ fold-roll-Val Value value_over (Val-F.Chosen k None)
+value-Chosen k (Some v) = ap value_of (sym (rolls-Chosen k (Some v))) ∙ fold-roll-Val Value value_over (Val-F.Chosen k (Some v))
+
+mutual
+  -- a value is told as one that stands for it
+  pub value_told : (x : Value) → value_of (val_of x) ≡ x
+  value_told (Int n) = value-Int n
+  value_told (Object o) = value-Object o
+  value_told (Group members) = value-Group (vals_of members) ∙ ap Group (values_told members)
+  value_told (Case index) = value-Chosen index None
+  value_told (Full index payload) = value-Chosen index (Some (val_of payload)) ∙ ap (Full index) (value_told payload)
+
+  pub values_told : (xs : Values) → values_of (map value_of (vals_of xs)) ≡ xs
+  values_told NoValue = refl
+  values_told (More x xs) = ap₂ More (value_told x) (values_told xs)
+
+-- where a run doesn't end in a fault, its report is as that of any run
+
+same_lines : (m : Module) (S : Shape) (e : Ending LowFault) (left : List LeftObject) → ((x : LowFault) → e ≡ Faulted x → ⊥)
+    → low_ending_lines m S e left ≡ ending_lines m S e left
+same_lines m S (Returned x) left other = refl
+same_lines m S (Trapped t) left other = refl
+same_lines m S OutOfTurns left other = refl
+same_lines m S (Faulted x) left other = absurd (other x refl)
+
+pub report_without_fault : (m : Module) (S : Shape) (o : Outcome LowFault) → ((x : LowFault) → o.ending ≡ Faulted x → ⊥) → low_report m S o ≡ report m S o
+report_without_fault m S o other =
+    ap (λ l. flat_map (event_line m) o.events ++ l ++ count_line o.retains o.releases) (same_lines m S o.ending o.left other)

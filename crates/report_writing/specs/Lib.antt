@@ -1,0 +1,3 @@
+pub mod RunOutcomes
+pub mod LowReports
+pub mod inner

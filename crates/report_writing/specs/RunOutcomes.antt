@@ -1,0 +1,31 @@
+-- What an outcome stands for, as a program has it.
+use Rattle.holder_model.specs.Outcomes.{Outcome}
+use Rattle.holder_model.specs.States as ending
+use Rattle.lowered_run.specs.declared.low_fault.LowFault.{LowFault}
+use Rattle.run_values.specs.Values.{Value, chosen, grouped}
+use Rattle.run_values.specs.Values as value
+use Rattle.run_values.specs.declared.value.Val.{Val, Val-F, fold-Val}
+use Rattle.run_values.specs.declared.value.Val.TheOpen.{Int, Object, Group, Chosen}
+use Rattle.report_writing.specs.declared.outcome.Ending.{Ending}
+use Rattle.report_writing.specs.declared.outcome.Ending.TheVariants.{Returned, Trap, OutOfTurns, Fault}
+use Rattle.report_writing.specs.declared.outcome.RunOutcome.{RunOutcome}
+
+abbrev pub value_over : Val-F Value → Value
+value_over (Int n) = value.Int n
+value_over (Object o) = value.Object o
+value_over (Group members) = grouped members
+value_over (Chosen case_index payload) = chosen case_index payload
+
+-- the value that a program has
+abbrev pub value_of : Val → Value
+value_of v = fold-Val Value value_over v
+
+abbrev pub ending_of : Ending → ending.Ending LowFault
+ending_of (Returned v) = ending.Returned (value_of v)
+ending_of (Trap t) = ending.Trapped t
+ending_of OutOfTurns = ending.OutOfTurns
+ending_of (Fault x) = ending.Faulted x
+
+-- the outcome that a program has
+abbrev pub outcome_of : RunOutcome → Outcome LowFault
+outcome_of r = record { events = r.events.now; ending = ending_of r.ending.now; left = r.left.now; retains = r.retains; releases = r.releases }
