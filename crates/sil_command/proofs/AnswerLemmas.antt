@@ -77,11 +77,15 @@ read_answer (Err e) text_of status_of mode within spells answer = tt
 
 -- what a mode answers that checks rules, by what is answered to a module that isn't accepted, and to one that is
 module _ (AnswersAccepted : List ℕ → ℕ → Type 0) {E : Type 0} (r : Result Answer E) {m : Module} where
-  pub wrong_answer : IfOk r (λ a. AnswersWrong m a.text.items (code_of a.status)) → IfOk r (λ a. AnswersChecked m AnswersAccepted a.text.items (code_of a.status))
-  wrong_answer = IfOk-weaker r (λ a. AnswersWrong m a.text.items (code_of a.status)) (λ a. AnswersChecked m AnswersAccepted a.text.items (code_of a.status)) (λ a answers. wrong _ _ answers)
+  -- what is answered is told so
+  abbrev Tells : (List ℕ → ℕ → Type 0) → Answer → Type 0
+  Tells Told a = Told a.text.items (code_of a.status)
 
-  pub accepted_answer : Accepted m → IfOk r (λ a. AnswersAccepted a.text.items (code_of a.status)) → IfOk r (λ a. AnswersChecked m AnswersAccepted a.text.items (code_of a.status))
-  accepted_answer all = IfOk-weaker r (λ a. AnswersAccepted a.text.items (code_of a.status)) (λ a. AnswersChecked m AnswersAccepted a.text.items (code_of a.status)) (λ a answers. accepted _ _ all answers)
+  pub wrong_answer : IfOk r (Tells (AnswersWrong m)) → IfOk r (Tells (AnswersChecked m AnswersAccepted))
+  wrong_answer = IfOk-weaker r (Tells (AnswersWrong m)) (Tells (AnswersChecked m AnswersAccepted)) (λ a answers. wrong _ _ answers)
+
+  pub accepted_answer : Accepted m → IfOk r (Tells AnswersAccepted) → IfOk r (Tells (AnswersChecked m AnswersAccepted))
+  accepted_answer all = IfOk-weaker r (Tells AnswersAccepted) (Tells (AnswersChecked m AnswersAccepted)) (λ a answers. accepted _ _ all answers)
 
 -- what is told of a line and a status is told of a result with that line and that status
 pub told_line : {E : Type 0} (Told : List ℕ → ℕ → Type 0) (r : Result Answer E) (status : Status) {text : List ℕ} → Told text (code_of status)

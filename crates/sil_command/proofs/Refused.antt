@@ -13,7 +13,8 @@ use Rattle.sil_command.specs.declared.status.Status.TheVariants.{Done, NotAModul
 use Rattle.sil_command.specs.Statuses.{code_of}
 use Rattle.sil_command.specs.declared.words.Mode.{Mode}
 use Rattle.sil_command.specs.declared.words.Mode.TheVariants.{Check, Lower, Print, Run}
-use Rattle.sil_command.specs.Answers.{AnswersChecked, AnswersModule, AnswersRun, AnswersText, AnswersWrong, Writes, limit_passed, refused, wrong, accepted, written, no_entry, ran, status_of, too_long, unread, spelled}
+use Rattle.sil_command.specs.Answers.{AnswersChecked, AnswersModule, AnswersRun, AnswersText, AnswersWrong, Writes, status_of}
+use Rattle.sil_command.specs.Answers.{limit_passed, refused, wrong, accepted, written, no_entry, ran, too_long, unread, spelled}
 use Rattle.sil_command.specs.Laws.{AreRefusedForTheFirst, AreReportedRightly, ChecksRules}
 use Rattle.sil_command.specs.RefusalTexts.{refusal_text}
 use Rattle.sil_verifier.specs.Findings.{Accepted, Finding, Refusal, limit as found_limit}

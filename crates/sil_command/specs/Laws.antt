@@ -44,7 +44,8 @@ RunsTo name bound s m =
 -- `run` answers with the status of an ending just for the texts that spell an accepted module whose run ends so
 abbrev pub AreRunExactly : Type 0
 AreRunExactly =
-    (name : List ℕ) (bound : ℕ) (x : Ending LowFault) → AnswersExactly (Run name bound) (code_of (status_of x)) (λ m. Accepted m × RunsTo name bound (status_of x) m)
+    (name : List ℕ) (bound : ℕ) (x : Ending LowFault)
+    → AnswersExactly (Run name bound) (code_of (status_of x)) (λ m. Accepted m × RunsTo name bound (status_of x) m)
 
 -- and with NoEntry just for those that spell an accepted module without such a function
 abbrev pub HaveNoEntryExactly : Type 0

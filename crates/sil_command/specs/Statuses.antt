@@ -1,8 +1,8 @@
 -- The numbers with which the process ends.
 use Rattle.std.specs.Prelude.{ℕ}
 use Rattle.sil_command.specs.declared.status.Status.{Status}
-use Rattle.sil_command.specs.declared.status.Status.TheVariants.{Done, Refused, Usage, NotAModule, ReadFault, WriteFault, Trapped, OutOfTurns, Limit, OutOfMemory}
-use Rattle.sil_command.specs.declared.status.Status.TheVariants.{NoEntry, Faulted}
+use Rattle.sil_command.specs.declared.status.Status.TheVariants.{Done, Refused, Usage, NotAModule, ReadFault, WriteFault, Trapped, OutOfTurns}
+use Rattle.sil_command.specs.declared.status.Status.TheVariants.{Limit, OutOfMemory, NoEntry, Faulted}
 
 abbrev pub code_of : Status → ℕ
 code_of Done = 0

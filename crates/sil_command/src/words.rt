@@ -36,7 +36,8 @@ pub fn mode_of<'a>(alloc: Global, words: &'a [&'a str]) -> Result<Option<Mode>, 
 /// The mode that is said, if it takes the options that are given.
 fn mode_said(alloc: Global, said: CommandWords<'_>) -> Result<Option<Mode>, Exhausted>
     ensures { IfOk result (λ found. MatchOption found
-        ((mode : Mode) → said.entry.mode.now ≡ word_of mode → ¬ Takes mode (option_map (λ v. v.now) said.entry.turns) (option_map (λ v. v.now) said.entry.entry))
+        ((mode : Mode) → said.entry.mode.now ≡ word_of mode
+            → ¬ Takes mode (option_map (λ v. v.now) said.entry.turns) (option_map (λ v. v.now) said.entry.entry))
         (λ mode. (said.entry.mode.now ≡ word_of mode) × Takes mode (option_map (λ v. v.now) said.entry.turns) (option_map (λ v. v.now) said.entry.entry))) }
 {
     if said.mode == "run" {
