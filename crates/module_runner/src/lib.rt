@@ -5,12 +5,12 @@
 mod ending;
 mod entry;
 mod laws;
-mod run_report;
+mod report;
 mod runner;
 
 pub use laws::names_have_one_entry;
 pub use lowered_run::lowered_runs_end_once;
 pub use ownership_lowering::lower;
 pub use report_writing::Ending;
-pub use run_report::{RunReport, report_text};
+pub use report::{RunReport, report_text};
 pub use runner::{RunEnd, run_checked};

@@ -8,7 +8,7 @@ ghost use Rattle.module_runner.specs.declared.runner.RunEnd.TheVariants.{NoEntry
 
 use crate::ending::reported;
 use crate::entry::{Entry, entry_named};
-use crate::run_report::RunReport;
+use crate::report::RunReport;
 use count_machine::{LowRun, run};
 use ownership_lowering::lower;
 use sil_ast::{Boxed, Exhausted, Given, List, Signature, TryClone, TypeName};

@@ -8,7 +8,7 @@ use Rattle.module_runner.specs.Mentions.{given_type}
 use Rattle.module_runner.specs.RunOutcomes.{ending_of}
 use Rattle.module_runner.specs.inner.RunReports.{TellsOfRun, outcome_of, text_of}
 use Rattle.module_runner.specs.Shapes.{shape_of}
-use Rattle.module_runner.specs.declared.run_report.RunReport.{RunReport}
+use Rattle.module_runner.specs.declared.report.RunReport.{RunReport}
 use Rattle.sil_ast.specs.declared.module.Module.{Module}
 use Rattle.sil_command.specs.Answers.{AnswersRun, ran, status_of}
 use Rattle.sil_command.specs.Statuses.{code_of}
@@ -28,7 +28,7 @@ some_turns entry bound (words, asks) = bound_some asks.turns bound asks.takes.0
 module _ (m : Module) (name : List ℕ) (bound : ℕ) (report : RunReport) (tells : TellsOfRun m name bound report) where
   text_told : text_of report ≡ low_report (lowered m) (shape_of (declarations_of (lowered m)) (given_type tells.function.signature)) (outcome_of report)
   text_told =
-      ap (λ k. low_report k (shape_of (declarations_of k) report.result_type) (outcome_of report)) tells.tells.module
+      ap (λ k. low_report k (shape_of (declarations_of k) report.result_type) (outcome_of report)) tells.tells.ran
       ∙ ap (λ t. low_report (lowered m) (shape_of (declarations_of (lowered m)) t) (outcome_of report)) tells.tells.result_type
 
   pub reported_answer : {E : Type 0} (r : Result Answer E) → IfOk r (λ a. a.text.items ≡ text_of report)

@@ -1,6 +1,5 @@
 -- What a report tells of a run.
 use Rattle.std.specs.Prelude.{◌≡◌, ℕ, List}
-use Rattle.heap_model.specs.HeapViews.{HeapView}
 use Rattle.holder_model.specs.Outcomes.{Outcome}
 use Rattle.lowered_run.specs.declared.low_fault.LowFault.{LowFault}
 use Rattle.lowered_run.specs.LowOutcomes.{LowEndsSo}
@@ -19,7 +18,7 @@ use Rattle.sil_ast.specs.declared.place.FuncId.{FuncId}
 use Rattle.type_definitions.specs.Declarations.{declarations_of}
 use Rattle.type_definitions.specs.Mentions.{given_type}
 use Rattle.module_runner.specs.Entries.{IsEntry}
-use Rattle.module_runner.specs.declared.run_report.RunReport.{RunReport}
+use Rattle.module_runner.specs.declared.report.RunReport.{RunReport}
 
 -- the outcome that is reported
 abbrev pub outcome_of : RunReport → Outcome LowFault
@@ -27,7 +26,7 @@ outcome_of r = record { events = r.events; ending = ending_of r.ending; left = r
 
 -- the report tells of the run of the lowered module from this function, for this bound on turns
 pub record TellsOfRunFrom (m : Module) (e : FuncId) (f : Function) (bound : ℕ) (r : RunReport) : Type 0 where
-  pub module : r.module ≡ lowered m
+  pub ran : r.module ≡ lowered m
   pub result_type : r.result_type ≡ given_type f.signature
   pub ends : LowEndsSo (lowered m) e bound (outcome_of r)
 
